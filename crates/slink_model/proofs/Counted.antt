@@ -4,6 +4,7 @@ use Rattle.std.proofs.Common.{[], ◌∷◌, ◌++◌, length, length-drop, map,
 use Rattle.std.proofs.Common.{Some, None, slice_get}
 use Rattle.std.specs.Option.{option_and_then}
 use Rattle.std.proofs.lemmas.List.{take-append-le}
+use Rattle.std.proofs.lemmas.Option.{slice_get_within}
 use Rattle.slink_wire.specs.declared.request.Request.{Request}
 use Rattle.slink_wire.specs.declared.request.Request.TheVariants as requests
 use Rattle.slink_wire.specs.Packet.{packet_bytes}
@@ -34,7 +35,7 @@ use Rattle.slink_model.proofs.Counts.{EndsIn}
 use Rattle.slink_feed.proofs.Prefixed.{wanted_reported, packet_long}
 use Rattle.slink_feed.proofs.Received.{begun_none}
 use Rattle.slink_model.proofs.Items.{carried_here, carried_there}
-use Rattle.slink_feed.proofs.Items.{is_within, put_here, put_there, same_or_not}
+use Rattle.slink_feed.proofs.Items.{put_here, put_there, same_or_not}
 use Rattle.slink_model.proofs.Lined.{IsAnswered, asks_more}
 use Rattle.slink_feed.proofs.OneReading.{IsRest}
 use Rattle.slink_model.proofs.OneWorld.{reported_events}
@@ -141,7 +142,7 @@ module _ (places : Places) (differ : Differ places) (codes_are : (k : ℕ) (p : 
         let v : Wanted = record { place = found.1.place; next = Some x } in
         let becomes : ws ≡ set t.wants k (Some v) = ap (λ (o : Option Wanted). next_set o t.wants k x) found.2 in
         let lt : k < length t.wants =
-        is_within t.wants k (Some found.1) (want_slot (slice_get t.wants k) found.1 found.2) in
+        slice_get_within t.wants k (Some found.1) (want_slot (slice_get t.wants k) found.1 found.2) in
         let next_k : next_at ws k ≡ Some x = ap (λ (y : Wants). next_at y k) becomes
         ∙ ap (option_and_then (λ (z : Wanted). z.next)) (put_here t.wants k (Some v) None lt) in
         let next_i : (i : ℕ) → i ≢ k → next_at ws i ≡ next_at t.wants i =

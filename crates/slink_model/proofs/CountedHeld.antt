@@ -5,6 +5,7 @@ use Rattle.std.proofs.Common.{append-nil, append_assoc, length, length-append, l
 use Rattle.std.proofs.Common.{Option, Some, None, option_map, slice_get}
 use Rattle.std.proofs.lemmas.Bool.Decides.{leb_tells}
 use Rattle.std.proofs.lemmas.List.{length-map}
+use Rattle.std.proofs.lemmas.Option.{slice_get_within}
 use Rattle.slink_wire.specs.Place.{Fields, IsField}
 use Rattle.slink_feed.specs.declared.dialogue.Ending.TheVariants as endings
 use Rattle.slink_feed.specs.declared.dialogue.Event.{Event}
@@ -36,7 +37,6 @@ use Rattle.slink_model.proofs.CountedShape.{AreFacts, LinkFacts, matched_prefix,
 use Rattle.slink_model.proofs.CountedWorld.{IsWorld, counted_streamed, facts_of, next_world, opening_shown}
 use Rattle.slink_model.proofs.CountedWorld.{the_counted_world}
 use Rattle.slink_model.proofs.Counting.{item_some, whole_or}
-use Rattle.slink_feed.proofs.Items.{is_within}
 use Rattle.slink_model.proofs.OneWorld.{Keeps, linked_or, step_keeps}
 use Rattle.slink_model.proofs.Pushed.{one_more}
 use Rattle.slink_model.proofs.Shaking.{AreOfPlace, AreSent, Shakes, asks_end, asks_number, asks_place, has_none}
@@ -182,7 +182,7 @@ module _ (places : Places) (f : Numbers) where
   held_packets (Carried j n r ∷ is) t g p sent matched wide linked =
       let x : Talk × Event = reported j (n % 2 ^ 24) r t in
       let h : on_item t.stage (Carried j n r) t ≡ x = ap (λ (s : Stage). on_item s (Carried j n r) t) p in
-      let within : j < length places = is_within places j matched.0.0 matched.0.1 in
+      let within : j < length places = slice_get_within places j matched.0.0 matched.0.1 in
       let lt : j < length g.held = omega (arith, within, wide) in
       let more : Gained = with_event f x.1 g in
       let rest : HoldsMore more.held is (with_events f (events_upon x.0 is) more).held =

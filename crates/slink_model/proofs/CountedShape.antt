@@ -2,6 +2,7 @@
 use Rattle.std.proofs.Common.{◌≡◌, ℕ, ◌+◌, ◌-◌, ◌*◌, ◌<◌, ◌≤◌, inl, inr, zero, suc, refl, sym, ap, subst, ◌∙◌, arith}
 use Rattle.std.proofs.Common.{Bool, true, false, ◌&&◌, not, List, [], ◌∷◌, ◌++◌, append_assoc, length, replicate}
 use Rattle.std.proofs.Common.{Option, Some, None, option_map, slice_get}
+use Rattle.std.proofs.lemmas.Option.{slice_get_within}
 use Rattle.slink_wire.specs.Place.{Fields}
 use Rattle.slink_feed.specs.declared.dialogue.Stage.{Stage}
 use Rattle.slink_feed.specs.declared.dialogue.Stage.TheVariants.{Unlinked, Station, Number, Packets, Ended}
@@ -23,7 +24,7 @@ use Rattle.slink_model.specs.World.{written}
 use Rattle.slink_model.proofs.CountedRead.{unlinked_upon}
 use Rattle.slink_model.proofs.Counting.{after_more, left_after, whole_or}
 use Rattle.slink_model.proofs.Counts.{EndsIn}
-use Rattle.slink_feed.proofs.Items.{is_within, within_is}
+use Rattle.slink_feed.proofs.Items.{within_is}
 use Rattle.slink_model.proofs.OneWorld.{linked_or}
 use Rattle.slink_model.proofs.Requested.{also_at}
 use Rattle.slink_model.proofs.Shaking.{AreCalled, AreOfPlace, AreSent, IsBorne, IsSent, Shakes, asks_end, asks_number}
@@ -265,7 +266,7 @@ module _ (places : Places) (talk : Talk) (called : AreCalled places talk.wants) 
       (slice_get places (k + 1)) w (called.alike (k + 1)) want in
       reply_read (Station (k + 1)) one (subst AwaitsReply (sym stage) tt)
       (let r : replies_at places talk.stage ≡ 2 * k + 1 = ap (replies_at places) stage in
-      omega (arith, r)) (is_within places (k + 1) q.0 q.1) none
+      omega (arith, r)) (slice_get_within places (k + 1) q.0 q.1) none
 
   by_shakes : Shakes talk f.phase f.taken f.way its → Result its
   by_shakes (asks_place k w stage want ready asks none) = nothing none

@@ -2,6 +2,8 @@
 use Rattle.std.proofs.Common.{◌≡◌, ℕ, ◌+◌, ◌-◌, ◌%◌, ◌^◌, ◌<◌, ◌≤◌, inl, inr, zero, suc, refl, sym, ap, subst, ◌∙◌}
 use Rattle.std.proofs.Common.{arith, List, [], ◌∷◌, ◌++◌, append_assoc, length, length-append, Option, Some, None}
 use Rattle.std.proofs.Common.{slice_get}
+use Rattle.std.proofs.lemmas.Option.{slice_get_within}
+use Rattle.std.proofs.lemmas.List.{length_push}
 use Rattle.slink_feed.specs.declared.grant.Grant.{Grant}
 use Rattle.slink_model.specs.Ties.{AreNext, Holds, IsNear, IsFirst, IsOnWay}
 use Rattle.slink_model.specs.World.{or_else}
@@ -31,11 +33,6 @@ pub get_more : (xs ys : List (List ℕ)) (i : ℕ) (r : List ℕ) → slice_get 
 get_more [] ys i r h = absurd (let bad : None ≡ Some r = h in cc bad)
 get_more (x ∷ xs) ys zero r h = h
 get_more (x ∷ xs) ys (suc i) r h = get_more xs ys i r h
-
-pub get_within : (xs : List (List ℕ)) (i : ℕ) (r : List ℕ) → slice_get xs i ≡ Some r → i < length xs
-get_within [] i r h = absurd (let bad : None ≡ Some r = h in cc bad)
-get_within (x ∷ xs) zero r h = omega arith
-get_within (x ∷ xs) (suc i) r h = let more : i < length xs = get_within xs i r h in omega (arith, more)
 
 -- The record after the last one held is held too.
 pub holds_next : (first n : ℕ) (F : List (List ℕ)) (next : Option ℕ) (held : List (List ℕ)) (start : Option ℕ)
@@ -103,10 +100,6 @@ next_sent first F n p [] r e at a = let same : p ≡ n = omega (arith, e) in
     (same, subst (λ m. slice_get F (m - first) ≡ Some r) same at, tt)
 next_sent first F n p (i ∷ is) r e at a = (a.0, a.1, next_sent first F (n + 1) p is r (omega (arith, e)) at a.2)
 
-more_one : (rest : List (ℕ × List ℕ)) (i : ℕ × List ℕ) → length (rest ++ i ∷ []) ≡ length rest + 1
-more_one [] i = omega arith
-more_one (j ∷ rest) i = let more : length (rest ++ i ∷ []) ≡ length rest + 1 = more_one rest i in omega (arith, more)
-
 first_more : (start sent : Option ℕ) (n p : ℕ) (rest : List (ℕ × List ℕ)) (r : List ℕ) → p ≡ n + length rest
     → IsFirst start sent n rest → IsFirst start (or_else sent (Some p)) n (rest ++ (p, r) ∷ [])
 first_more (Some s) sent n p rest r e f = tt
@@ -121,7 +114,7 @@ way_sent few first F held start sent g h rest r e at w = (
   w.0,
   w.1,
   next_sent first F w.0 g.position rest r w.3 at w.2,
-  omega (arith, e, w.3, more_one rest (g.position, r)),
+  omega (arith, e, w.3, length_push rest (g.position, r)),
   w.4,
   first_more start sent w.0 g.position rest r w.3 w.5,
 )
@@ -194,7 +187,7 @@ delivered first F next held start sent g n r rest wanted h w =
     let few : ℕ → Type 0 = λ x. first + length F < x + 2 ^ 24 in
     let at : slice_get F (n - first) ≡ Some r = subst (λ m. slice_get F (m - first) ≡ Some r) (sym w.2.0) w.2.1 in
     let from : first ≤ n = omega (arith, w.1, w.2.0) in
-    let lt : n - first < length F = get_within F (n - first) r at in
+    let lt : n - first < length F = slice_get_within F (n - first) r at in
     let near : IsNear few n start (length held) = subst (λ m. IsNear few m start (length held)) (sym w.2.0) w.4 in
     let same : (s : ℕ) → start ≡ Some s → n ≡ s + length held =
     here_if first n F next held start (omega (arith, from, lt)) wanted h near in

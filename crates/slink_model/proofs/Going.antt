@@ -4,6 +4,7 @@ use Rattle.std.proofs.Common.{[]}
 use Rattle.std.proofs.Common.{◌∷◌, ◌++◌, length, length-append, append_assoc, get_or, drop, Option, Some, None}
 use Rattle.std.proofs.Common.{slice_get}
 use Rattle.std.proofs.lemmas.Bool.{cases_lt}
+use Rattle.std.proofs.lemmas.Option.{slice_get_within}
 use Rattle.slink_wire.specs.Packet.{IsPacket, packet_bytes}
 use Rattle.slink_wire.specs.Place.{Bears, Fields, IsField}
 use Rattle.slink_wire.proofs.Bearing.{one_place}
@@ -20,7 +21,7 @@ use Rattle.slink_model.specs.Slice.{IsSchedule, LackFew, LacksFew}
 use Rattle.slink_model.specs.Ties.{AreNext, AreWhole, Holds, IsLinkTied, IsOnWay, Item, Accepted, Refused, Greeted}
 use Rattle.slink_model.specs.Ties.{Carried, Finished, LinkTies, Places, WorldTies, carried_of, of_place, way_bytes}
 use Rattle.slink_model.specs.World.{AllHappen, Differ, LinkState, WorldState, number_at, opening}
-use Rattle.slink_model.proofs.Following.{get_within, near_alike}
+use Rattle.slink_model.proofs.Following.{near_alike}
 use Rattle.slink_model.proofs.Items.{carried_here, carried_there}
 use Rattle.slink_feed.proofs.Items.{same_or_not, within_is}
 use Rattle.slink_model.proofs.Linked.{any}
@@ -150,7 +151,7 @@ goes_next first F held next sent s None i rest other few holds way suited many =
 goes_next first F held next sent s (Some g) i rest other few holds way suited many =
     let n : ℕ = way.0 in
     let same : suited.0 ≡ n = omega (arith, suited.2, way.3, many) in
-    let lt : n - first < length F = get_within F (n - first) i.1 way.2.1 in
+    let lt : n - first < length F = slice_get_within F (n - first) i.1 way.2.1 in
     let alike : n % 2 ^ 24 ≡ (s + length held) % 2 ^ 24 = ap (λ x. x % 2 ^ 24) (sym same)
     ∙ suited.3 ((s + length held) % 2 ^ 24) holds.4 in
     let is : n ≡ s + length held = elim way.4 [

@@ -2,13 +2,13 @@
 use Rattle.std.proofs.Common.{◌≡◌, ℕ, ◌≤◌, refl, sym, ap, ◌∙◌, arith, List, [], ◌∷◌, ◌++◌}
 use Rattle.std.proofs.Common.{append_assoc, length, length-append, take, take_all}
 use Rattle.std.proofs.lemmas.List.{append_cancel_left, length-take-le}
+use Rattle.std.proofs.lemmas.Bool.{both_ways}
 use Rattle.slink_wire.specs.declared.lines.What.{What}
 use Rattle.slink_wire.specs.declared.lines.What.TheVariants.{More, Line, TooLong}
 use Rattle.slink_wire.specs.Lines.{lines_of}
 use Rattle.slink_wire.specs.Written.{AreLines, IsLine, SpellsPrefix, written_bytes}
 use Rattle.slink_wire.specs.Taking.{Yields}
 use Rattle.slink_wire.proofs.WrittenBack.{prefix_spelled, none_quiet}
-use Rattle.slink_wire.proofs.Stepped.{never}
 
 pub bytes_more : (lines : List (List ℕ)) (line : List ℕ)
     → written_bytes (lines ++ line ∷ []) ≡ written_bytes lines ++ (line ++ 13 ∷ 10 ∷ [])
@@ -110,7 +110,7 @@ more_called line taken piece way TooLong a tells =
     let reported : SpellsPrefix (taken ++ piece) (a.before ++ line ∷ []) =
     prefix_spelled (a.before ++ line ∷ []) (taken ++ piece) way a.are_lines (append_assoc taken piece way
     ∙ a.written) in
-    absurd (never (lines_of (taken ++ piece)).is_too_long tells.1 reported.3)
+    absurd (both_ways (lines_of (taken ++ piece)).is_too_long reported.3 tells.1)
 
 -- nothing is reported any more
 pub more_answered : (taken piece way : List ℕ) (what : What) → IsAnswered taken (piece ++ way)
@@ -132,4 +132,4 @@ more_answered taken piece way (Line l) a tells =
 more_answered taken piece way TooLong a tells =
     let reported : SpellsPrefix (taken ++ piece) a.before =
     prefix_spelled a.before (taken ++ piece) way a.are_lines (append_assoc taken piece way ∙ a.written) in
-    absurd (never (lines_of (taken ++ piece)).is_too_long tells.1 reported.3)
+    absurd (both_ways (lines_of (taken ++ piece)).is_too_long reported.3 tells.1)

@@ -1,6 +1,7 @@
 -- Bytes that are taken piece by piece.
 use Rattle.std.proofs.Common.{◌≡◌, ℕ, ◌+◌, ◌≤◌, zero, suc, refl, sym, ap, subst, ◌∙◌, arith, List, [], ◌∷◌, ◌++◌}
 use Rattle.std.proofs.Common.{append-nil, length, take, drop}
+use Rattle.std.proofs.lemmas.List.{drop_all}
 use Rattle.slink_wire.specs.declared.reply.Reply.{Reply}
 use Rattle.slink_wire.specs.Reply.{reply_bytes}
 use Rattle.slink_feed.specs.Listening.{IsLinked}
@@ -23,12 +24,6 @@ at_offset [] (suc n) used = let more : suc n + used ≡ suc (n + used) = omega a
 at_offset (b ∷ bs) (suc n) used = let more : suc n + used ≡ suc (n + used) = omega arith in at_offset bs n used
     ∙ ap (λ k. take used (drop n bs) ++ drop k (b ∷ bs)) (sym more)
 
-pub nothing_left : (bytes : List ℕ) (start : ℕ) → length bytes ≤ start → drop start bytes ≡ []
-nothing_left [] zero past = refl
-nothing_left [] (suc n) past = refl
-nothing_left (b ∷ bs) zero past = absurd (omega (arith, past))
-nothing_left (b ∷ bs) (suc n) past = nothing_left bs n (omega (arith, past))
-
 pub serves_more : (feed : List Window) (s now last : Standing) (bytes : List ℕ) (start used : ℕ) (way on all : List ℕ)
     (reply : Reply) → Takes feed s (take used (drop start bytes)) now reply → on ≡ way ++ reply_bytes reply
     → Serves feed now (drop (start + used) bytes) on last all → Serves feed s (drop start bytes) way last all
@@ -40,12 +35,12 @@ serves_more feed s now last bytes start used way on all reply takes e more =
 pub serves_all : (feed : List Window) (s : Standing) (bytes : List ℕ) (start : ℕ) (way : List ℕ) → length bytes ≤ start
     → Serves feed s (drop start bytes) way s way
 serves_all feed s bytes start way past =
-    subst (λ (b : List ℕ). Serves feed s b way s way) (sym (nothing_left bytes start past)) (none_served s way)
+    subst (λ (b : List ℕ). Serves feed s b way s way) (sym (drop_all start bytes past)) (none_served s way)
 
 pub reads_all : (first_sent : Numbers) (t : Taking) (bytes : List ℕ) (start : ℕ) → length bytes ≤ start
     → Reads first_sent t (drop start bytes) t
 reads_all first_sent t bytes start past =
-    subst (λ (b : List ℕ). Reads first_sent t b t) (sym (nothing_left bytes start past)) (none_read t)
+    subst (λ (b : List ℕ). Reads first_sent t b t) (sym (drop_all start bytes past)) (none_read t)
 
 pub rest_lost : (first_sent : Numbers) (t : Taking) (bytes : List ℕ) → ¬ (IsLinked t.client.talk.stage)
     → Reads first_sent t bytes t

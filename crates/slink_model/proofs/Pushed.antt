@@ -12,8 +12,9 @@ use Rattle.slink_feed.specs.Window.{Window, with_record}
 use Rattle.slink_model.specs.World.{AllHappen, Happens, IsOf, Lists, WorldState, empty_window, opening, pushed_to}
 use Rattle.slink_model.specs.World.{with_one}
 use Rattle.std.proofs.lemmas.Bool.Decides.{eqb_tells}
+use Rattle.std.proofs.lemmas.Option.{slice_get_within}
 use Rattle.slink_model.proofs.Worlds.{nothing_at}
-use Rattle.slink_feed.proofs.Items.{is_within, same_or_not, set_here, set_there, within_is}
+use Rattle.slink_feed.proofs.Items.{same_or_not, set_here, set_there, within_is}
 
 -- a list and a ring for each station
 record IsWide (count : ℕ) (w : WorldState) : Type 0 where
@@ -75,7 +76,7 @@ push count w u j b lt wide is =
 
 moves : (places : List (Fields × Option ℕ)) (w u : WorldState) (step : Step) → IsOf places step
     → IsWide (length places) w → Happens w step u → Moves (length places) w step u
-moves places w u (Append j b) of wide h = push (length places) w u j b (is_within places j of.0 of.1) wide h
+moves places w u (Append j b) of wide h = push (length places) w u j b (slice_get_within places j of.0 of.1) wide h
 moves places w u Connect of wide h =
     stays (length places) w u Connect (λ k. refl) (ap (λ (x : WorldState). x.windows) h.becomes)
     (ap (λ (x : WorldState). x.pushed) h.becomes) wide

@@ -7,7 +7,7 @@ use Rattle.std.specs.List.{AllByRecursion, concat}
 use Rattle.std.specs.Simd.{first_chunks}
 use Rattle.std.proofs.Math.Nat.{mul-div_cancel_left}
 use Rattle.std.proofs.Math.Seq.{drop-append_seam, take-append_seam}
-use Rattle.std.proofs.lemmas.List.{length-drop, length-take-le}
+use Rattle.std.proofs.lemmas.List.{length-drop, length-take-le, nil_from_length}
 use Rattle.std.proofs.lemmas.Bool.Decides.{eqb_tells}
 use Rattle.mseed_record.specs.Header.{key_at}
 use Rattle.mseed_record.specs.Record.{IsRecord}
@@ -44,11 +44,6 @@ module _ {X : Type 0} (P : X → Type 0) where
   pub in_turn : (xs : List X) → All P xs → AllByRecursion P xs
   in_turn [] h = tt
   in_turn (x ∷ xs) h = (h 0 x (omega arith), in_turn xs (λ i d lt. h (suc i) d (omega (arith, lt))))
-
-all_joined : {X : Type 0} (P : X → Type 0) (xs ys : List X) → AllByRecursion P xs → AllByRecursion P ys
-    → AllByRecursion P (xs ++ ys)
-all_joined P [] ys h k = k
-all_joined P (x ∷ xs) ys h k = (h.0, all_joined P xs ys h.1 k)
 
 -- records of one length, cut out of their bytes
 long_as : (rs : List (List ℕ)) → AllByRecursion (λ (r : List ℕ). length r ≡ 512) rs
@@ -302,13 +297,9 @@ part_held assembled parts s t records held some among (inr is) =
       part = parts s t among.0 held among.1 is.views reads is.are_views both.1;
     }
 
-nothing : (xs : List (List ℕ)) → length xs ≡ 0 → xs ≡ []
-nothing [] e = refl
-nothing (x ∷ xs) e = absurd (omega (arith, e))
-
 pub empty_is : (xs : List (List ℕ)) → true ≡ (length xs == 0) → xs ≡ []
 empty_is xs h = elim (eqb_tells (length xs) 0) [
-  | inl same ↦ nothing xs same.1
+  | inl same ↦ nil_from_length xs same.1
   | inr other ↦ absurd (let bad : true ≡ false = h ∙ other.0 in cc bad)
 ]
 
@@ -388,10 +379,6 @@ came s setup steps rs all w held t is run same h = (
   subst (λ (ss : List Step). AllHappen (opening setup) ss w) is run,
   subst (λ (hs : List (List ℕ)). IsHeldAs t s rs hs) same h,
 )
-
-pub if_ok : {X E : Type 0} (r : Result X E) (P Q : X → Type 0) → ((x : X) → P x → Q x) → IfOk r P → IfOk r Q
-if_ok (Ok x) P Q f p = f x p
-if_ok (Err e) P Q f p = tt
 
 -- the packed bytes, cut into records
 abbrev pub AreOfOneLength : Type 0

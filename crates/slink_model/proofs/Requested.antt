@@ -12,7 +12,6 @@ use Rattle.slink_wire.specs.Command.{IsCommand, folded, words}
 use Rattle.slink_wire.specs.Place.{Fields, IsField, matches}
 use Rattle.slink_wire.specs.Request.{IsShort, request_line, requested}
 use Rattle.slink_wire.specs.Written.{IsLine}
-use Rattle.slink_wire.proofs.Cuts.{both}
 use Rattle.slink_wire.proofs.RequestLines.{data_line, fetch_line}
 use Rattle.slink_wire.proofs.Requests.{data_written, end_written, fetch_written, station_written}
 use Rattle.slink_wire.proofs.Written.{one_command}
@@ -25,7 +24,7 @@ use Rattle.slink_feed.specs.Session.{State, answered}
 use Rattle.slink_feed.specs.Window.{Window}
 use Rattle.slink_model.specs.World.{Differ}
 use Rattle.slink_feed.proofs.Items.{one_value}
-use Rattle.std.proofs.lemmas.Bool.{and_from, false_from_ne_true}
+use Rattle.std.proofs.lemmas.Bool.{and_from, false_from_ne_true, and_parts}
 
 pub number_line : (mode : Mode) (number : Option ℕ) → IsLine (request_line (numbered mode number))
 number_line modes.Data number = data_line number
@@ -82,7 +81,7 @@ matches_itself place = and_from (bytes_eq place.station place.station) (bytes_eq
 matched : (place other : Fields) → matches place other.station (Some other.network) ≡ true → place ≡ other
 matched place other h =
     let parts : (bytes_eq place.station other.station ≡ true) × (bytes_eq place.network other.network ≡ true) =
-    both (bytes_eq place.station other.station) (bytes_eq place.network other.network) h in
+    and_parts (bytes_eq place.station other.station) (bytes_eq place.network other.network) h in
     ap (λ (s : List ℕ). record { station = s; network = place.network })
     ((bytes_eq-Decides place.station other.station).0 parts.0)
     ∙ ap (λ (n : List ℕ). record { station = other.station; network = n })

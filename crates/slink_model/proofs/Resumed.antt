@@ -18,10 +18,11 @@ use Rattle.slink_feed.specs.Window.{Shows, Window, ahead_of, oldest_of, resolve_
 use Rattle.slink_model.specs.World.{AllHappen, LinkState, WorldState, number_at, opening}
 use Rattle.slink_model.proofs.Following.{near_alike}
 use Rattle.slink_model.proofs.Items.{held_to}
-use Rattle.slink_feed.proofs.Items.{is_within, oldest_is, one_value}
+use Rattle.slink_feed.proofs.Items.{oldest_is, one_value}
 use Rattle.slink_model.proofs.Linked.{any}
 use Rattle.slink_model.proofs.Worlds.{last_lacks, ties_after}
 use Rattle.std.proofs.lemmas.Bool.{and_from}
+use Rattle.std.proofs.lemmas.Option.{slice_get_within}
 use Rattle.slink_model.proofs.Resolved.{ahead_alike}
 
 resumed_there : (w : Window) (n : ℕ) → oldest_of w ≤ n → n ≤ w.next → resumed w n ≡ Some n
@@ -77,7 +78,7 @@ granted_is modes.Fetch w n past lacking near = resume_at w n past lacking near (
 pub resumes_at : (places : Places) (first : ℕ) (w : WorldState) → WorldTies places first w → LacksFew first w
     → Resumes w
 resumes_at places first w t lacks k start ring mode s held here =
-    let lt : k < length places = omega (arith, is_within w.windows k ring here, t.long.0) in
+    let lt : k < length places = omega (arith, slice_get_within w.windows k ring here, t.long.0) in
     let shown : (v : Window) × (slice_get w.windows k ≡ Some v) × Shows v first (get_or w.pushed k [])
     × (v.capacity ≤ 1000000) = t.shown k lt in
     let one : shown.0 ≡ ring = one_value (slice_get w.windows k) shown.0 ring shown.1 here in

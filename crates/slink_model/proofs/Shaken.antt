@@ -13,7 +13,7 @@ use Rattle.slink_wire.specs.Lines.{IsHeld}
 use Rattle.slink_wire.specs.Place.{Bears, Fields, IsField}
 use Rattle.slink_wire.specs.Request.{request_bytes, request_line}
 use Rattle.slink_wire.proofs.Bearing.{bears_passes, one_place}
-use Rattle.slink_wire.proofs.Cuts.{Lacks, both}
+use Rattle.slink_wire.proofs.Cuts.{Lacks}
 use Rattle.slink_wire.proofs.Packets.{read_back}
 use Rattle.slink_feed.specs.declared.dialogue.Ending.{Ending}
 use Rattle.slink_feed.specs.declared.dialogue.Ending.TheVariants as endings
@@ -40,7 +40,7 @@ use Rattle.slink_model.specs.World.{Differ, Reads, Numbers, Taking, none_read, n
 use Rattle.slink_feed.proofs.Prefixed.{wanted_reported, packet_long}
 use Rattle.slink_feed.proofs.Received.{begun_none}
 use Rattle.slink_model.proofs.Items.{carried_here, carried_there}
-use Rattle.slink_feed.proofs.Items.{is_within, put_here, put_there, same_or_not}
+use Rattle.slink_feed.proofs.Items.{put_here, put_there, same_or_not}
 use Rattle.slink_wire.proofs.WrittenBack.{nothing_left}
 use Rattle.slink_model.proofs.Lined.{IsAnswered, asks_more}
 use Rattle.slink_feed.proofs.OneReading.{one_prefix, seen_same}
@@ -50,13 +50,14 @@ use Rattle.slink_model.proofs.Shaking.{AreCalled, AreOfPlace, AreSent, Flows, Is
 use Rattle.slink_model.proofs.Shaking.{asks_end, asks_number, asks_place, has_none, has_number, has_place, streams}
 use Rattle.slink_model.proofs.Taken.{matched_is, same_client}
 use Rattle.slink_feed.proofs.Wholes.{begun_no_whole, one_whole}
-use Rattle.std.proofs.lemmas.Bool.{false_from_ne_true}
+use Rattle.std.proofs.lemmas.Bool.{false_from_ne_true, and_parts}
+use Rattle.std.proofs.lemmas.Option.{slice_get_within}
 
 lacks_byte : (bytes : List ℕ) (j : ℕ) → Lacks 10 bytes → slice_get bytes j ≡ Some 10 → ⊥
 lacks_byte [] j lacks is = let bad : None ≡ Some 10 = is in cc bad
 lacks_byte (x ∷ xs) zero lacks is =
     let parts : (not (x == 10) ≡ true) × (list_all (λ b. not (b == 10)) xs ≡ true) =
-    both (not (x == 10)) (list_all (λ b. not (b == 10)) xs) lacks in
+    and_parts (not (x == 10)) (list_all (λ b. not (b == 10)) xs) lacks in
     let same : x ≡ 10 = cc is in
     elim (eqb_tells x 10) [
       | inl lf ↦ let bad : false ≡ true = sym (ap not lf.0) ∙ parts.0 in
@@ -64,7 +65,7 @@ lacks_byte (x ∷ xs) zero lacks is =
       | inr other ↦ other.1 same
     ]
 lacks_byte (x ∷ xs) (suc j) lacks is =
-    lacks_byte xs j (both (not (x == 10)) (list_all (λ b. not (b == 10)) xs) lacks).1 is
+    lacks_byte xs j (and_parts (not (x == 10)) (list_all (λ b. not (b == 10)) xs) lacks).1 is
 
 pub lacks_end : (bytes : List ℕ) → Lacks 10 bytes → LacksEnd bytes
 lacks_end bytes lacks i cr lf = lacks_byte bytes (i + 1) lacks lf
@@ -161,7 +162,7 @@ module _ (places : Places) (differ : Differ places) (codes_are : (k : ℕ) (p : 
       let v : Wanted = record { place = w.place; next = Some x } in
       let ws : Wants = set wants k (Some v) in
       let becomes : with_next wants k x ≡ ws = ap (λ (o : Option Wanted). next_set o wants k x) is in
-      let lt : k < length wants = is_within wants k (Some w) (want_slot (slice_get wants k) w is) in
+      let lt : k < length wants = slice_get_within wants k (Some w) (want_slot (slice_get wants k) w is) in
       let want_k : want_at ws k ≡ Some v = put_here wants k (Some v) None lt in
       let want_i : (i : ℕ) → i ≢ k → want_at ws i ≡ want_at wants i = λ i ne. put_there wants k i (Some v) None ne in
       subst (AreCalled places) (sym becomes) (record {
@@ -367,7 +368,7 @@ module _ (places : Places) (differ : Differ places) (codes_are : (k : ℕ) (p : 
         let becomes : ws ≡ set t.client.talk.wants k (Some (record { place = found.1.place; next = Some x })) =
         ap (λ (o : Option Wanted). next_set o t.client.talk.wants k x) found.2 in
         let lt : k < length t.client.talk.wants =
-        is_within t.client.talk.wants k (Some found.1)
+        slice_get_within t.client.talk.wants k (Some found.1)
         (want_slot (slice_get t.client.talk.wants k) found.1 found.2) in
         let next_k : next_at ws k ≡ Some x = ap (λ (y : Wants). next_at y k) becomes
         ∙ ap (option_and_then (λ (z : Wanted). z.next))

@@ -32,6 +32,7 @@ use Rattle.slink_model.specs.Ties.{items_of, of_place, way_bytes}
 use Rattle.slink_feed.specs.Window.{Window}
 use Rattle.slink_model.specs.World.{Differ}
 use Rattle.slink_feed.proofs.Reached.{grant_set}
+use Rattle.slink_feed.proofs.Stands.{closed_or}
 use Rattle.slink_model.proofs.Commanded.{leaves}
 use Rattle.slink_model.proofs.Items.{flow_more, reply_carries, reply_items}
 use Rattle.slink_model.proofs.Lined.{IsAnswered, IsAsking, IsRead, more_answered, more_called, nothing, the_line}
@@ -450,13 +451,6 @@ module _ (places : Places) (differ : Differ places) (codes : (k : ℕ) (p : Fiel
       held =
       streamed s now (taken ++ piece) rest way items reply what stage not_before sent
       (more_answered taken piece rest what (reported awake) tells).1 is f held
-
-  pub closed_or : (phase : Phase) → (phase ≡ Closed) ⊎ ¬ (phase ≡ Closed)
-  closed_or Fresh = inr (λ e. let bad : Fresh ≡ Closed = e in cc bad)
-  closed_or (Chosen k) = inr (λ e. let bad : Chosen k ≡ Closed = e in cc bad)
-  closed_or (Granted k) = inr (λ e. let bad : Granted k ≡ Closed = e in cc bad)
-  closed_or Streaming = inr (λ e. let bad : Streaming ≡ Closed = e in cc bad)
-  closed_or Closed = inl refl
 
   before_open : (phase p : Phase) → phase ≡ p → IsBefore p → phase ≡ Closed → ⊥
   before_open phase p is before shut = subst IsBefore (sym is ∙ shut) before

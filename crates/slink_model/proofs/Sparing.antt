@@ -3,7 +3,7 @@ use Rattle.std.proofs.Common.{◌≡◌, ℕ, ◌+◌, ◌-◌, ◌%◌, ◌^◌
 use Rattle.std.proofs.Common.{◌∙◌, arith, Bool, true, false, ◌==◌, if◌then◌else◌, List, [], ◌∷◌, ◌++◌, append-nil}
 use Rattle.std.proofs.Common.{length, length-append, map, replicate, set, take, drop, take-append-drop, Option, Some}
 use Rattle.std.proofs.Common.{None, option_map, slice_get, codes}
-use Rattle.std.proofs.lemmas.Option.{slice_get-map}
+use Rattle.std.proofs.lemmas.Option.{slice_get-map, slice_get_within}
 use Rattle.slink_wire.specs.declared.request.Request.TheVariants as requests
 use Rattle.slink_wire.specs.Packet.{packet_bytes}
 use Rattle.slink_wire.specs.Place.{Bears, Fields, IsField}
@@ -31,7 +31,8 @@ use Rattle.slink_model.specs.World.{AllHappen, Both, Connects, Differ, Happens, 
 use Rattle.slink_model.specs.World.{WorldState, empty_window, opening, pushed_to, written, sent_on, taking}
 use Rattle.slink_model.proofs.Answering.{stays_quiet}
 use Rattle.slink_model.proofs.Items.{carried_here, carried_there, carries_none, flow_more, of_more}
-use Rattle.slink_feed.proofs.Items.{get_drop, get_here, get_there, is_within, one_value, put_here, put_there}
+use Rattle.slink_feed.proofs.Fitting.{none_at}
+use Rattle.slink_feed.proofs.Items.{get_drop, get_here, get_there, one_value, put_here, put_there}
 use Rattle.slink_feed.proofs.Items.{same_or_not, within_is}
 use Rattle.slink_model.proofs.Lined.{IsAnswered, begins_asking}
 use Rattle.slink_wire.proofs.RequestLines.{station_line}
@@ -42,7 +43,7 @@ use Rattle.slink_model.proofs.Shaking.{LinkTalks}
 use Rattle.slink_model.proofs.Shaking.{Shakes, asks_end, asks_number, asks_place, has_none, has_number, has_place}
 use Rattle.slink_model.proofs.Shaking.{serves_talks, streams}
 use Rattle.slink_feed.proofs.Wanting.{short_all}
-use Rattle.slink_model.proofs.Worlds.{AreOf, each_of, none_granted, none_wanted, sound_more}
+use Rattle.slink_model.proofs.Worlds.{AreOf, each_of, none_wanted, sound_more}
 use Rattle.slink_model.proofs.Linked.{slot_within}
 
 pub matched_more : (places : Places) (xs ys : List Item) → AreOfPlace places xs → AreOfPlace places ys
@@ -259,7 +260,7 @@ module _ (places : Places) (differ : Differ places) (codes_are : (k : ℕ) (p : 
   ring_more feed k b v here long bears r =
       let now : List Window = set feed k (with_record v b) in
       let at_k : slice_get now k ≡ Some (with_record v b) =
-      get_here feed k (with_record v b) (is_within feed k v here) in
+      get_here feed k (with_record v b) (slice_get_within feed k v here) in
       let sound : AreSound v.place (v.records ++ b ∷ []) =
       sound_more v.place v.records b long bears (r.sound k v here) in
       let shown : AreSound v.place (with_record v b).records =
@@ -314,7 +315,7 @@ module _ (places : Places) (differ : Differ places) (codes_are : (k : ℕ) (p : 
           flow = refl;
           matched = tt;
           suited = λ k. subst (λ (o : Option Grant). IsSuited (next_at talk.wants k) o [])
-              (sym (ap (λ (s : State). grant_at s.grants k) state ∙ none_granted places 0 16 k)) refl;
+              (sym (ap (λ (s : State). grant_at s.grants k) state ∙ none_at 16 k)) refl;
         };
         shakes = asks_place 0 first.0 refl first.1 (inl (refl, ap (λ (s : State). s.phase) state))
             (begins_asking (request_line (requests.Station first.0.place))

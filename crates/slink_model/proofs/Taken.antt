@@ -23,11 +23,11 @@ use Rattle.slink_model.specs.Ties.{way_bytes}
 use Rattle.slink_model.specs.World.{Differ, Reads, Lists, Numbers, Taking, none_read, noted, number_at, or_else}
 use Rattle.slink_model.specs.World.{piece_read, piece_lost, with_first, with_one}
 use Rattle.slink_model.proofs.Items.{carried_here, carried_there}
-use Rattle.slink_feed.proofs.Items.{is_within, one_value, put_here, put_there, same_or_not, set_here, set_there}
+use Rattle.slink_feed.proofs.Items.{one_value, put_here, put_there, same_or_not, set_here, set_there}
 use Rattle.slink_feed.proofs.Items.{within_is}
 use Rattle.slink_model.proofs.Outcomes.{outcome}
 use Rattle.slink_model.proofs.Following.{delivered, way_started}
-use Rattle.std.proofs.lemmas.Option.{same_Some}
+use Rattle.std.proofs.lemmas.Option.{same_Some, slice_get_within}
 
 module _ {X : Type 0} (p : X → Bool) where
   abbrev Passes : List X → ℕ → ℕ → Type 0
@@ -194,7 +194,7 @@ module _ (places : Places) (first : ℕ) (pushed : Lists) (state : State) (first
       let start_j : number_at start' j ≡ or_else (number_at start j) (number_at first_sent j) =
       put_here start j (or_else (number_at start j) (number_at first_sent j)) None (omega (arith, lt, c.long.1)) in
       let want_j : want_at ws j ≡ Some v =
-      put_here client.talk.wants j (Some v) None (is_within client.talk.wants j (Some w) has) in
+      put_here client.talk.wants j (Some v) None (slice_get_within client.talk.wants j (Some w) has) in
       let next_j : next_at ws j ≡ Some ((n + 1) % 2 ^ 24) = ap (option_and_then (λ (x : Wanted). x.next)) want_j
       ∙ ap (λ x. Some x) (let e : m ≡ (n + 1) % 2 ^ 24 = omega arith in e) in
       let holds_j : Holds first F (next_at ws j) (get_or held' j []) (number_at start' j)
@@ -306,7 +306,7 @@ module _ (places : Places) (first : ℕ) (pushed : Lists) (state : State) (first
       c.wanted j b.0 (ap (λ o. unwrap_or o None) b.1) in
       let same : k ≡ j = differ k j q.0 pw.0 q.1 pw.1 (one_place r q.0.0 pw.0.0 matched.1 (subst (Bears r) pw.2 b.2)) in
       taken_at client new held start way left j n r rest b.0 pw.0 top.0 c (is ∙ ap (λ i. Carried i n r ∷ rest) same)
-      flow (is_within places j pw.0 pw.1) pw.1 pw.2 b.1
+      flow (slice_get_within places j pw.0 pw.1) pw.1 pw.2 b.1
       (subst (λ i. grant_at state.grants i ≡ Some top.0) same top.1) wanted wants holes none
 
   outcome_ties : (client new : Listening) (held held' : Lists) (start start' : Numbers) (way piece left : List ℕ)

@@ -3,7 +3,7 @@ use Rattle.std.proofs.Common.{◌≡◌, All, ◌≢◌, ℕ, ◌+◌, ◌-◌, 
 use Rattle.std.proofs.Common.{◌∙◌, arith, List, [], ◌∷◌, ◌++◌, length, length-set, set, get_or, take, drop}
 use Rattle.std.proofs.Common.{take-append-drop, map, replicate, Option, Some, None, option_map, slice_get}
 use Rattle.std.proofs.lemmas.List.{get_or_default, length-map}
-use Rattle.std.proofs.lemmas.Option.{slice_get-map, same_Some}
+use Rattle.std.proofs.lemmas.Option.{slice_get-map, same_Some, slice_get_within}
 use Rattle.slink_wire.specs.Place.{Bears, Fields}
 use Rattle.slink_feed.specs.declared.dialogue.Wanted.{Wanted}
 use Rattle.slink_feed.specs.declared.grant.Grant.{Grant}
@@ -23,7 +23,8 @@ use Rattle.slink_feed.specs.Window.{Shows, Window, with_record}
 use Rattle.slink_model.specs.World.{AllHappen, Both, Connects, Differ, Happens, IsRead, IsOf, IsServed, LinkState}
 use Rattle.slink_model.specs.World.{Lists, Numbers, WorldState, empty_window, number_at, opening, pushed_to, sent_on}
 use Rattle.slink_model.specs.World.{taking, with_one}
-use Rattle.slink_feed.proofs.Items.{at_number, get_here, get_there, is_within, one_value, same_or_not, set_here}
+use Rattle.slink_feed.proofs.Fitting.{none_at}
+use Rattle.slink_feed.proofs.Items.{at_number, get_here, get_there, one_value, same_or_not, set_here}
 use Rattle.slink_feed.proofs.Items.{set_there, shows_more, within_is}
 use Rattle.slink_model.proofs.Linked.{any, sent_link}
 use Rattle.slink_model.proofs.Outcomes.{place_written}
@@ -91,7 +92,7 @@ module _ (places : Places) (first : ℕ) where
   append_ties : (w : WorldState) (k : ℕ) (b : List ℕ) → IsOf places (Append k b) → length b ≡ 512
       → WorldTies places first w → WorldTies places first (pushed_to w k b (slice_get w.windows k))
   append_ties w k b of long t =
-      let lt : k < length places = is_within places k of.0 of.1 in
+      let lt : k < length places = slice_get_within places k of.0 of.1 in
       let ring : (v : Window) × (slice_get w.windows k ≡ Some v) × Shows v first (get_or w.pushed k [])
       × (v.capacity ≤ 1000000) = t.shown k lt in
       let now : Lists = with_one w.pushed k b in
@@ -173,11 +174,6 @@ module _ (places : Places) (first : ℕ) where
   linked_ties w (Some m) t l = with_link w (Some m) t l
 
   -- Connect
-  pub none_granted : (n k : ℕ) → grant_at (replicate n None) k ≡ None
-  none_granted zero k = refl
-  none_granted (suc n) zero = refl
-  none_granted (suc n) (suc k) = none_granted n k
-
   none_sent : (n k : ℕ) → number_at (replicate n None) k ≡ None
   none_sent zero k = refl
   none_sent (suc n) zero = refl
@@ -207,7 +203,7 @@ module _ (places : Places) (first : ℕ) where
             within = λ k _. refl;
             places_are = λ k lt. subst (λ (o : Option Grant). IsOnWay any first (get_or w.pushed k [])
                 (get_or w.held k []) (number_at w.start k) (number_at (replicate 16 None) k) o [])
-                (sym (ap (λ (gs : Grants). grant_at gs k) grants ∙ none_granted 16 k)) refl;
+                (sym (ap (λ (gs : Grants). grant_at gs k) grants ∙ none_at 16 k)) refl;
             room = refl;
           },
         );

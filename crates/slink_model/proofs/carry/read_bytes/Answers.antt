@@ -1,8 +1,8 @@
 use Rattle.std.proofs.Common.{◌≡◌, ◌∙◌, ap, sym, subst, arith, ◌+◌, ◌++◌, drop, take}
+use Rattle.std.proofs.lemmas.List.{take_rest}
 use Rattle.slink_model.specs.World.{Reads, Taking, lists_of, with_client}
 use Rattle.slink_model.proofs.Pieces.{at_offset, reads_all, rest_lost}
 use Rattle.slink_model.proofs.carry.read_bytes.Goals as goal
-use Rattle.mseed_stream.proofs.Splits.{tail_is}
 
 pub loop-offset-preserved : goal.loop-offset-preserved
 loop-offset-preserved c = record {
@@ -13,7 +13,7 @@ loop-offset-preserved c = record {
       (with_client c.loop-offset.client (lists_of c.loop-offset.held) c.loop-offset.start.items
       c.loop-offset.to_server.items) bytes last)
       (ap (λ piece. take c.read_piece-used.result.0 piece ++ drop (c.loop-offset.offset + c.read_piece-used.result.0)
-      c.args.bytes.now) (tail_is c.args.bytes.now c.loop-offset.offset)
+      c.args.bytes.now) (take_rest c.args.bytes.now c.loop-offset.offset)
       ∙ sym (at_offset c.args.bytes.now c.loop-offset.offset c.read_piece-used.result.0))
       (c.read_piece-used.ensures.reads c.args.first_sent.now (lists_of c.loop-offset.held) c.loop-offset.start.items
       c.loop-offset.to_server.items (drop (c.loop-offset.offset + c.read_piece-used.result.0) c.args.bytes.now) last

@@ -1,8 +1,8 @@
 use Rattle.std.proofs.Common.{◌∙◌, ap, subst, arith, ◌++◌, take}
+use Rattle.std.proofs.lemmas.List.{take_rest}
 use Rattle.slink_feed.specs.Serving.{Takes}
 use Rattle.slink_model.proofs.Pieces.{serves_all, serves_more}
 use Rattle.slink_model.proofs.carry.serve_bytes.Goals as goal
-use Rattle.mseed_stream.proofs.Splits.{tail_is}
 
 pub loop-start-preserved : goal.loop-start-preserved
 loop-start-preserved c = record {
@@ -12,7 +12,7 @@ loop-start-preserved c = record {
       (serves_more c.args.feed.now c.loop-start.session c.take-used.new.self last c.args.bytes.now c.loop-start.start
       c.take-used.result.0 c.loop-start.to_client.items c.add_bytes.new.queue.items all c.take-used.result.1
       (subst (λ piece. Takes c.args.feed.now c.loop-start.session (take c.take-used.result.0 piece)
-      c.take-used.new.self c.take-used.result.1) (tail_is c.args.bytes.now c.loop-start.start)
+      c.take-used.new.self c.take-used.result.1) (take_rest c.args.bytes.now c.loop-start.start)
       (record {
         held = c.take-used.ensures.held;
         answers = c.take-used.ensures.answers;

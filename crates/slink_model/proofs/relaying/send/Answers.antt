@@ -1,8 +1,9 @@
 use Rattle.std.proofs.Common.{◌≡◌, ◌∙◌, ◌^◌, ℕ, List, arith}
+use Rattle.std.proofs.lemmas.Result.{IfOk-weaker}
 use Rattle.slink_model.specs.World.{seen}
 use Rattle.slink_model.specs.Relay.{ComesThrough, IsHeldAs, fed}
 use Rattle.slink_model.specs.private.Relaying.{IsAmong}
-use Rattle.slink_model.proofs.Relayed.{came, fed_are_of, fed_few, held_among, held_are_few, if_ok}
+use Rattle.slink_model.proofs.Relayed.{came, fed_are_of, fed_few, held_among, held_are_few}
 use Rattle.slink_model.proofs.relaying.send.Goals as goal
 
 same_steps : (c : goal.After-deref) → c.deref.result.now ≡ fed c.args.steps.now c.args.records.now
@@ -60,7 +61,7 @@ returns-clause-ok c =
     relayable.channel c.args.steps.now c.args.records.now c.deref.result.now (seen c.in-Ok.world)
     c.first_of.result.now c.requires.reads relayable.each same ofs run (c.in-Ok.ensures.brief run few)
     c.first_of.ensures in
-    if_ok c.put_together.result (λ t. (records : List (List ℕ))
+    IfOk-weaker c.put_together.result (λ t. (records : List (List ℕ))
     → IsAmong c.args.series.now records c.first_of.result.now
     → IsHeldAs t c.args.series.now records c.first_of.result.now)
     (λ t. ComesThrough t c.args.series.now c.args.setup.now c.args.steps.now c.args.records.now)

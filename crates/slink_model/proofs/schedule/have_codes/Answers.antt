@@ -1,7 +1,8 @@
 use Rattle.std.proofs.Common.{◌≡◌, ◌∙◌, ◌<◌, ℕ, List, Option, Some, ap, inl, inr, subst, arith, get_or, length}
 use Rattle.std.proofs.Common.{slice_get}
+use Rattle.std.proofs.lemmas.Option.{slice_get_within}
 use Rattle.slink_wire.specs.Place.{Fields, IsField}
-use Rattle.slink_feed.proofs.Items.{is_within, one_value, same_or_not}
+use Rattle.slink_feed.proofs.Items.{one_value, same_or_not}
 use Rattle.slink_model.proofs.Stepping.{got}
 use Rattle.slink_model.proofs.schedule.have_codes.Goals as goal
 
@@ -24,7 +25,7 @@ loop-place-preserved c = λ k p lt here.
 pub returns : goal.returns
 returns c = λ k p here. c.loop-place.invariant k p (omega (
   arith,
-  is_within c.args.setup.now.places.items k p here,
+  slice_get_within c.args.setup.now.places.items k p here,
   c.loop-place-test.false,
   ap length c.as_slice-place-items.ensures.value,
 )) here
