@@ -10,7 +10,8 @@ use Rattle.mseed_steim.specs.Frames.{DataWord, words_from, word_at, code_at}
 use Rattle.mseed_steim.specs.Packing.{IsFullest, PacksRun}
 use Rattle.byteorder.specs.Numbers.{length-bytes_high_first}
 use Rattle.mseed_steim.proofs.Written.{with_bytes, length_with, word_with, codes_written}
-use Rattle.mseed_steim.proofs.Filling.{Filling, filling_none, filling_past, filling_more, words_same, word_zero}
+use Rattle.mseed_steim.specs.private.Pushing.{Filling, Coding, Pushing}
+use Rattle.mseed_steim.proofs.Filling.{filling_none, filling_past, filling_more, words_same, word_zero}
 
 -- frames of the same words are filled with the same
 filling_same : (s : Scheme) (ds : List ℤ) (p q : List ℕ) (index used words : ℕ) → ((k : ℕ) → word_at q k ≡ word_at p k)
@@ -29,15 +30,6 @@ filling_same s ds p q index used words same f =
       constants = (same 1 ∙ f.constants.0, same 2 ∙ f.constants.1);
       codes = λ k h. code k ∙ f.codes k h;
     }
-
--- With the codes in their place, the frames are filled up to a word; behind it they hold nothing.
-pub record Coding (s : Scheme) (ds : List ℤ) (p : List ℕ) (head codes index used words : ℕ) : Type 0 where
-  pub whole : List ℕ
-  pub same : (k : ℕ) → word_at whole k ≡ cond (eqb k head) codes (word_at p k)
-  pub filling : Filling s ds whole index used words
-  pub zeros : (k : ℕ) → index ≤ k → word_at p k ≡ 0
-  pub at : head ≡ 16 * ((index - 1) / 16)
-  pub long : length whole ≡ length p
 
 -- at first
 pub coding_none : (s : Scheme) (ds : List ℤ) (p : List ℕ) (n : ℕ) → p ≡ replicate n 0 → Coding s ds p 0 0 3 0 0
@@ -117,11 +109,6 @@ pub coded : (s : Scheme) (ds : List ℤ) (p q : List ℕ) (head codes index used
     → Filling s ds q index used words
 coded s ds p q head codes index used words f says =
     filling_same s ds f.whole q index used words (λ k. says k ∙ sym (f.same k)) f.filling
-
--- The codes of the frame that is being filled are at hand, side by side; where they stand, nothing is behind the last.
-pub record Pushing (s : Scheme) (ds : List ℤ) (p : List ℕ) (head codes index used : ℕ) : Type 0 where
-  pub coding : Coding s ds p head (codes * 2 ^ (30 - 2 * ((index - 1) % 16))) index used (index - 3 - (index - 1) / 16)
-  pub small : codes < 2 ^ (2 * ((index - 1) % 16) + 2)
 
 -- at first
 pub pushing_none : (s : Scheme) (ds : List ℤ) (p : List ℕ) (n : ℕ) → p ≡ replicate n 0 → Pushing s ds p 0 0 3 0

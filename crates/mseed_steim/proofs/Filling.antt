@@ -12,6 +12,7 @@ use Rattle.mseed_steim.specs.Frames.{DataWord, data_word, words_from, data_words
 use Rattle.mseed_steim.specs.Runs.{SpellsRun}
 use Rattle.mseed_steim.specs.Packing.{IsFullest, PacksRun, IsEmptyWord, IsTooLargeAt, IsFirstTooLarge, IsFewest}
 use Rattle.mseed_steim.specs.Packing.{IsFarthest, LeavesRoom}
+use Rattle.mseed_steim.specs.private.Pushing.{Filling}
 use Rattle.mseed_steim.proofs.Walking.{words_none, words_skip, words_step}
 use Rattle.mseed_steim.proofs.Packs.{run_more, run_prefix, prefix_spelled, first_large, taken_not_large}
 use Rattle.mseed_steim.proofs.Fewest.{is_fewest, is_farthest, no_room}
@@ -92,17 +93,6 @@ words_empty p k (suc n) h =
     (λ (plain : k % 16 ≡ 0 → ⊥). subst (λ (ws : List DataWord). AllByRecursion IsEmptyWord ws)
     (sym (words_step p k n plain)) (h k (omega arith) (omega arith) plain, later))
     (cases_eq (k % 16) 0)
-
--- The words before a place hold what was packed, and all else is 0.
-pub record Filling (s : Scheme) (ds : List ℤ) (p : List ℕ) (index used words : ℕ) : Type 0 where
-  pub from : 3 ≤ index
-  pub inside : used ≤ length ds
-  pub count : length (words_from p 3 (index - 3)) ≡ words
-  pub run : PacksRun s (words_from p 3 (index - 3)) ds (drop used ds)
-  pub no_codes : (k : ℕ) → index ≤ k → code_at p k ≡ 0
-  pub no_words : (k : ℕ) → index ≤ k → k % 16 ≢ 0 → word_at p k ≡ 0
-  pub constants : (word_at p 1 ≡ 0) × (word_at p 2 ≡ 0)
-  pub codes : (k : ℕ) → (k < 3) ⊎ (k % 16 ≡ 0) → code_at p k ≡ 0
 
 -- at first
 get_zero : (n i : ℕ) → get_or {A = ℕ} (replicate n 0) i 0 ≡ 0

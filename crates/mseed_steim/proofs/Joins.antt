@@ -1,8 +1,9 @@
 -- Differences side by side in a word.
 use Rattle.std.proofs.Common.{◌≡◌, ℕ, zero, suc, ◌+◌, ◌-◌, ◌*◌, ◌/◌, ◌%◌, ◌^◌, ◌<◌, ◌≤◌, List, [], ◌∷◌, ◌++◌, length}
-use Rattle.std.proofs.Common.{take, get_or, ℤ, pos, negsuc, arith, refl, ap, sym, subst, ⊎_elim, if◌then◌else◌, nat_lt}
+use Rattle.std.proofs.Common.{map, take, get_or, ℤ, pos, negsuc, arith, refl, ap, sym, subst, ⊎_elim, if◌then◌else◌, nat_lt}
 use Rattle.std.proofs.Common.{◌∙◌, length-append, bit_and, bit_or, Fits, w16, w32, of_z, to_z, FitsSigned, lit<}
 use Rattle.std.proofs.Common.{zero-add}
+use lib.Lanes.{sum_l}
 use Rattle.std.proofs.Math.Nat.{pow-le-pow_right, mod-eq_of_lt, mul-le-mul_left, add-mul, mul-add, mul_assoc, mul-suc}
 use Rattle.std.proofs.Math.Nat.{mul-zero}
 use Rattle.std.proofs.lemmas.Nat.{one_shl, and_mask, or_shifted, pow_pos, pow-add, shl_whole, shr_below, mod_below}
@@ -11,7 +12,8 @@ use Rattle.std.proofs.lemmas.Bool.{cases_lt, lt-ltb, le-ltb}
 use Rattle.std.proofs.lemmas.Int.{to_z-of_z}
 use Rattle.std.proofs.lemmas.List.{take_more, take_all, length-take, length-take-le, get_or-take}
 use Rattle.mseed_steim.specs.Spelling.{residue, positional}
-use Rattle.mseed_steim.specs.private.Ahead.{bits_of}
+use Rattle.mseed_steim.specs.declared.layout.LayoutTwo.{LayoutTwo}
+use Rattle.mseed_steim.specs.private.Ahead.{bits_of, paired, IsLayoutTwo}
 use Rattle.mseed_steim.specs.private.Rows.{place_of}
 use Rattle.mseed_steim.proofs.Words.{positional_lt, residue_lt}
 
@@ -65,31 +67,21 @@ half_digit : (w : ℕ) (d : ℤ) → w ≤ 16 → FitsSigned w16 d → of_z w16 
 half_digit w (pos n) h f = refl
 half_digit w (negsuc n) h f = low_bits 16 w n h (omega (arith, f.sfits))
 
--- a digit of numbers of 16 bits, in one of 32
-pub digit_in : (w : ℕ) (d m : ℤ) → w ≤ 15 → FitsSigned w16 d → m ≡ pos (2 ^ w - 1)
-    → of_z w32 (to_z w32 (of_z w32 (to_z w16 (bit_and (of_z w16 d) (of_z w16 m))))) ≡ residue (2 ^ w) d
-digit_in w d m h f e =
+-- a digit of numbers of 16 bits
+pub half_digit_of : (w : ℕ) (d m : ℤ) → w ≤ 15 → FitsSigned w16 d → m ≡ pos (2 ^ w - 1)
+    → to_z w16 (bit_and (of_z w16 d) (of_z w16 m)) ≡ pos (residue (2 ^ w) d)
+half_digit_of w d m h f e =
     let r = residue (2 ^ w) d in
     let most : 2 ^ w ≤ 2 ^ 15 = pow-le-pow_right (lit< tt) h in
     let small : r < 32768 = omega (arith, residue_lt (2 ^ w) d (pow_pos w), most) in
     let digit : bit_and (of_z w16 d) (of_z w16 m) ≡ r = ap (λ (x : ℤ). bit_and (of_z w16 d) (of_z w16 x)) e
     ∙ and_mask (of_z w16 d) w ∙ half_digit w d (omega (arith, h)) f in
     let short : to_z w16 r ≡ pos r = rw (lt-ltb r 32768 small) refl in
-    let long : to_z w32 r ≡ pos r = rw (lt-ltb r 2147483648 (omega (arith, small))) refl in
-    ap (λ (x : ℕ). of_z w32 (to_z w32 (of_z w32 (to_z w16 x)))) digit
-    ∙ ap (λ (x : ℤ). of_z w32 (to_z w32 (of_z w32 x))) short ∙ ap (λ (x : ℤ). of_z w32 x) long
+    ap (λ (x : ℕ). to_z w16 x) digit ∙ short
 
-bits_are : (z : ℤ) → of_z w32 z ≡ bits_of z
+pub bits_are : (z : ℤ) → of_z w32 z ≡ bits_of z
 bits_are (pos n) = refl
 bits_are (negsuc n) = omega arith
-
--- the bits of a number of 16, in one of 32
-pub bits_in : (z : ℤ) → FitsSigned w16 z
-    → of_z w32 (to_z w32 (of_z w32 (to_z w16 (of_z w16 z)))) ≡ bits_of z
-bits_in z f =
-    let long : FitsSigned w32 z = record { sfits = omega (arith, f.sfits) } in
-    ap (λ (x : ℤ). of_z w32 (to_z w32 (of_z w32 x))) (to_z-of_z w16 z f)
-    ∙ ap (λ (x : ℤ). of_z w32 x) (to_z-of_z w32 z long) ∙ bits_are z
 
 pub joined_more : (w : ℕ) (ds : List ℤ) (i word digit : ℕ) → 0 < w → w ≤ 32 → w * length ds ≤ 32 → i < length ds
     → word ≡ positional w (take i ds) → FitsSigned w32 (get_or ds i (pos 0)) → digit ≡ of_z w32 (get_or ds i (pos 0))
@@ -256,3 +248,42 @@ dnib_joined (suc d) w ds h room apart =
     let below : positional w ds < 2 ^ 30 = let most : 2 ^ (w * length ds) ≤ 2 ^ 30 =
     pow-le-pow_right (lit< tt) (apart (omega arith)) in omega (arith, positional_lt w ds, most) in
     rw small (or_shifted (suc d) 30 (positional w ds) below)
+
+-- both are of 32 bits
+pub dnib_below : (dnib w : ℕ) (ds : List ℤ) → dnib < 4 → w * length ds ≤ 32 → (0 < dnib → w * length ds ≤ 30)
+    → dnib * 1073741824 + positional w ds < 4294967296
+dnib_below zero w ds h room apart =
+    let most : 2 ^ (w * length ds) ≤ 2 ^ 32 = pow-le-pow_right (lit< tt) room in
+    omega (arith, positional_lt w ds, most)
+dnib_below (suc d) w ds h room apart =
+    let most : 2 ^ (w * length ds) ≤ 2 ^ 30 = pow-le-pow_right (lit< tt) (apart (omega arith)) in
+    omega (arith, positional_lt w ds, most, h)
+
+sums_are : (h p q r s word : ℕ)
+    → word ≡ ((((0 + p) % 4294967296 + q) % 4294967296 + r) % 4294967296 + s) % 4294967296
+    → ((p + h) % 4294967296 + ((q + 0) % 4294967296 + ((r + 0) % 4294967296 + ((s + 0) % 4294967296 + 0)))) % 4294967296
+    ≡ (h + word) % 4294967296
+sums_are h p q r s word e = omega (arith, e)
+
+-- what the pairs of a word count for, with the dnib beside the first
+pub parts_joined : (layout : LayoutTwo) (cut : List ℤ) → IsLayoutTwo layout → 0 < layout.row.width
+    → layout.row.width ≤ 32 → layout.row.width * layout.row.count ≤ 32 → layout.row.count ≤ 8
+    → layout.row.count ≤ length cut
+    → sum_l (map (λ pair. (paired layout cut pair + get_or layout.heads pair 0) % 4294967296) (0 ∷ 1 ∷ 2 ∷ 3 ∷ []))
+    % 4294967296
+    ≡ (layout.row.dnib * 1073741824 + positional layout.row.width (take layout.row.count cut)) % 4294967296
+parts_joined layout cut is p l room few inside =
+    let w = layout.row.width in
+    let n = layout.row.count in
+    let weight : ℕ → ℕ = λ i. bits_of (get_or layout.weights i (pos 0)) in
+    let one = placed_pair w n 0 cut 0 (weight 0) (weight 1) (get_or layout.counts 0 0) p l room inside
+    (placed_none w n cut) (is.places 0 (omega arith)) (is.places 1 (omega arith)) in
+    let two = placed_pair w n 2 cut _ (weight 2) (weight 3) (get_or layout.counts 1 0) p l room inside
+    one (is.places 2 (omega arith)) (is.places 3 (omega arith)) in
+    let three = placed_pair w n 4 cut _ (weight 4) (weight 5) (get_or layout.counts 2 0) p l room inside
+    two (is.places 4 (omega arith)) (is.places 5 (omega arith)) in
+    let four = placed_pair w n 6 cut _ (weight 6) (weight 7) (get_or layout.counts 3 0) p l room inside
+    three (is.places 6 (omega arith)) (is.places 7 (omega arith)) in
+    let word = placed_all w n cut 8 _ few four in
+    rw is.heads (sums_are (layout.row.dnib * 1073741824) (paired layout cut 0) (paired layout cut 1)
+    (paired layout cut 2) (paired layout cut 3) (positional w (take n cut)) (sym word))

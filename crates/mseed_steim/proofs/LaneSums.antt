@@ -1,9 +1,9 @@
 -- Sums of lanes, modulo 2^32.
 use Rattle.std.proofs.Common.{◌≡◌, ℕ, zero, suc, ◌+◌, ◌-◌, ◌*◌, ◌%◌, ◌^◌, ◌<◌, ◌≤◌, List, [], ◌∷◌, length, map, get_or}
-use Rattle.std.proofs.Common.{refl, sym, ap, ◌∙◌, arith, Fits, w32}
+use Rattle.std.proofs.Common.{◌++◌, subst, refl, sym, ap, ◌∙◌, arith, Fits, w32}
 use Rattle.std.proofs.lemmas.Simd.{pick_l_whole, zip2_of_maps, map-map, sum_dots}
 use Rattle.std.specs.List.{range_with_len}
-use lib.Lanes.{all_below, zip2, sum_l, fold_l, dots, Each1}
+use lib.Lanes.{all_below, pair_sums, zip2, sum_l, fold_l, dots, Each1}
 use lib.Dec.{T}
 use lib.ListN.{replicate}
 use Rattle.mseed_steim.specs.private.Lanes.{words}
@@ -48,6 +48,51 @@ fold_sum_0 xs = fold_sum 0 xs ∙ omega arith
 -- a list of 64, spelled
 pub spelled : (xs : List ℕ) → length xs ≡ 64 → xs ≡ map (λ k. get_or xs k 0) (range_with_len 0 64)
 spelled xs e = sym (pick_l_whole 0 xs 64 e)
+
+-- and one of four
+pub spelled_four : (xs : List ℕ) → length xs ≡ 4
+    → xs ≡ get_or xs 0 0 ∷ get_or xs 1 0 ∷ get_or xs 2 0 ∷ get_or xs 3 0 ∷ []
+spelled_four xs e = sym (pick_l_whole 0 xs 4 e)
+
+-- two and two of four lists' items, and two and two of these
+abbrev Sums : List ℕ → List ℕ → List ℕ → List ℕ → Type 0
+Sums a b c d =
+    map (λ n. n % 4294967296) (pair_sums (map (λ n. n % 4294967296) (pair_sums (a ++ b))
+    ++ map (λ n. n % 4294967296) (pair_sums (c ++ d))))
+    ≡ sum_l a % 4294967296 ∷ sum_l b % 4294967296 ∷ sum_l c % 4294967296 ∷ sum_l d % 4294967296 ∷ []
+
+four_added : (x y z t : ℕ) → ((x + y) % 4294967296 + (z + t) % 4294967296) % 4294967296
+    ≡ (x + (y + (z + (t + 0)))) % 4294967296
+four_added x y z t = omega arith
+
+sums_spelled : (a b c d e f g h i j k l m n o p : ℕ)
+    → Sums (a ∷ b ∷ c ∷ d ∷ []) (e ∷ f ∷ g ∷ h ∷ []) (i ∷ j ∷ k ∷ l ∷ []) (m ∷ n ∷ o ∷ p ∷ [])
+sums_spelled a b c d e f g h i j k l m n o p =
+    let first = four_added a b c d in
+    let second = four_added e f g h in
+    let third = four_added i j k l in
+    let fourth = four_added m n o p in
+    cc (first, second, third, fourth)
+
+pub sums_of_four : (a b c d x y : List ℕ) → length a ≡ 4 → length b ≡ 4 → length c ≡ 4 → length d ≡ 4
+    → x ≡ map (λ n. n % 4294967296) (pair_sums (a ++ b)) → y ≡ map (λ n. n % 4294967296) (pair_sums (c ++ d))
+    → map (λ n. n % 4294967296) (pair_sums (x ++ y))
+    ≡ sum_l a % 4294967296 ∷ sum_l b % 4294967296 ∷ sum_l c % 4294967296 ∷ sum_l d % 4294967296 ∷ []
+sums_of_four a b c d x y e f g h i j =
+    let item : List ℕ → ℕ → ℕ = λ xs k. get_or xs k 0 in
+    let all = sums_spelled (item a 0) (item a 1) (item a 2) (item a 3) (item b 0) (item b 1) (item b 2) (item b 3)
+    (item c 0) (item c 1) (item c 2) (item c 3) (item d 0) (item d 1) (item d 2) (item d 3) in
+    let spelled : (xs : List ℕ) → List ℕ = λ xs. item xs 0 ∷ item xs 1 ∷ item xs 2 ∷ item xs 3 ∷ [] in
+    let one : Sums a (spelled b) (spelled c) (spelled d) =
+    subst (λ (l : List ℕ). Sums l (spelled b) (spelled c) (spelled d)) (sym (spelled_four a e)) all in
+    let two : Sums a b (spelled c) (spelled d) =
+    subst (λ (l : List ℕ). Sums a l (spelled c) (spelled d)) (sym (spelled_four b f)) one in
+    let three : Sums a b c (spelled d) =
+    subst (λ (l : List ℕ). Sums a b l (spelled d)) (sym (spelled_four c g)) two in
+    let four : Sums a b c d = subst (λ (l : List ℕ). Sums a b c l) (sym (spelled_four d h)) three in
+    ap (λ (l : List ℕ). map (λ n. n % 4294967296) (pair_sums (l ++ y))) i
+    ∙ ap (λ (l : List ℕ). map (λ n. n % 4294967296) (pair_sums (map (λ n. n % 4294967296) (pair_sums (a ++ b)) ++ l))) j
+    ∙ four
 
 -- sums over the words
 pub sums_plus : (f g : ℕ → ℕ) (ws : List ℕ) → sum_l (map (λ w. f w + g w) ws) ≡ sum_l (map f ws) + sum_l (map g ws)

@@ -29,48 +29,60 @@ layouts_two none = eight (λ k. 2 ≤ k → InTwo none k)
       row = refl;
       short = omega arith;
       masks = eight _ refl refl refl refl refl refl refl refl;
+      small = eight _ (omega arith) (omega arith) (omega arith) (omega arith) (omega arith) (omega arith) (omega arith)
+          (omega arith);
       code = refl;
-      head = refl;
+      heads = refl;
       places = eight _ refl refl refl refl refl refl refl refl;
     }))
     (λ _. by_two none 3 _ refl refl (record {
       row = refl;
       short = omega arith;
       masks = eight _ refl refl refl refl refl refl refl refl;
+      small = eight _ (omega arith) (omega arith) (omega arith) (omega arith) (omega arith) (omega arith) (omega arith)
+          (omega arith);
       code = refl;
-      head = refl;
+      heads = refl;
       places = eight _ refl refl refl refl refl refl refl refl;
     }))
     (λ _. by_two none 4 _ refl refl (record {
       row = refl;
       short = omega arith;
       masks = eight _ refl refl refl refl refl refl refl refl;
+      small = eight _ (omega arith) (omega arith) (omega arith) (omega arith) (omega arith) (omega arith) (omega arith)
+          (omega arith);
       code = refl;
-      head = refl;
+      heads = refl;
       places = eight _ refl refl refl refl refl refl refl refl;
     }))
     (λ _. by_two none 5 _ refl refl (record {
       row = refl;
       short = omega arith;
       masks = eight _ refl refl refl refl refl refl refl refl;
+      small = eight _ (omega arith) (omega arith) (omega arith) (omega arith) (omega arith) (omega arith) (omega arith)
+          (omega arith);
       code = refl;
-      head = refl;
+      heads = refl;
       places = eight _ refl refl refl refl refl refl refl refl;
     }))
     (λ _. by_two none 6 _ refl refl (record {
       row = refl;
       short = omega arith;
       masks = eight _ refl refl refl refl refl refl refl refl;
+      small = eight _ (omega arith) (omega arith) (omega arith) (omega arith) (omega arith) (omega arith) (omega arith)
+          (omega arith);
       code = refl;
-      head = refl;
+      heads = refl;
       places = eight _ refl refl refl refl refl refl refl refl;
     }))
     (λ _. by_two none 7 _ refl refl (record {
       row = refl;
       short = omega arith;
       masks = eight _ refl refl refl refl refl refl refl refl;
+      small = eight _ (omega arith) (omega arith) (omega arith) (omega arith) (omega arith) (omega arith) (omega arith)
+          (omega arith);
       code = refl;
-      head = refl;
+      heads = refl;
       places = eight _ refl refl refl refl refl refl refl refl;
     }))
 

@@ -31,6 +31,7 @@ pub mod RowHalves
 pub mod Rows
 pub mod Widths
 pub mod Joins
+pub mod Halves
 pub mod Fullest
 pub mod Packs
 pub mod Fewest

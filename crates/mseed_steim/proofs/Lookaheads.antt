@@ -3,9 +3,11 @@ use Rattle.std.proofs.Common.{◌≡◌, ℕ, ℤ, ◌+◌, ◌-◌, ◌<◌, �
 use Rattle.std.proofs.Common.{sym, subst, ◌∙◌, ⊎_elim, replicate, zero, suc}
 use Rattle.std.proofs.lemmas.Bool.{cases_lt}
 use Rattle.std.proofs.lemmas.List.{drop-drop, drop-append-le, get_or_append_left, length-append, length-drop}
-use Rattle.std.proofs.lemmas.List.{take-append-le}
+use Rattle.std.proofs.lemmas.List.{take-append-le, take_rest}
 use Rattle.mseed_steim.specs.declared.ahead.Lookahead.{Lookahead}
 use Rattle.mseed_steim.specs.declared.scheme.Scheme.{Scheme}
+use Rattle.mseed_steim.specs.declared.scheme.Scheme.TheVariants.{Two}
+use Rattle.mseed_steim.specs.private.Four.{known_from}
 use Rattle.mseed_steim.specs.Lookahead.{IsAhead, AreCut, IsCut, IsLookahead, taken}
 use Rattle.mseed_steim.specs.Packing.{CanSpell}
 use Rattle.mseed_steim.specs.Spelling.{IsWithin}
@@ -181,3 +183,25 @@ known_first s known ds more long is = record {
         (λ (a : i + known.place < 57). omega (arith, a, long))
         (λ (b : 57 ≤ i + known.place). absurd (omega (arith, some, is.none (i + known.place) b l)))
         (cases_lt (i + known.place) 57)
+
+-- what is known where two or more are held, and behind the word that takes as many
+pub held_here : (known : Lookahead) (place held : ℕ) (ds : List ℤ) → IsLookahead Two (known_from known place) ds
+    → held ≡ get_or known.most place 0 → 2 ≤ held
+    → ((held < 8) × (place + 8 ≤ 64)) × (IsAhead Two ds held × AreCut ds (drop place known.cut)
+    × IsLookahead Two (known_from known (place + held)) (drop held ds))
+held_here known place held ds is e some =
+    let here = known_here Two (known_from known place) ds is in
+    let ahead : IsAhead Two ds held = subst (λ (n : ℕ). IsAhead Two ds n) (sym e) here.0 in
+    let early = known_early Two (known_from known place) ds held is e some in
+    let few = (ahead some).0 in (
+      (omega (arith, few), omega (arith, early)),
+      (
+        ahead,
+        subst (λ (n : ℕ). IsCut Two n ds (drop place known.cut)) (sym e) here.1 refl some,
+        known_next Two known.most known.cut place held ds is (omega (arith, few, early)),
+      ),
+    )
+
+-- the rest of a list whose length is known
+pub rest_long : (n at : ℕ) (xs : List ℤ) → length xs ≡ n → take (n - at) (drop at xs) ≡ drop at xs
+rest_long n at xs long = subst (λ (m : ℕ). take (m - at) (drop at xs) ≡ drop at xs) long (take_rest xs at)

@@ -9,3 +9,5 @@ pub mod Unpacked
 pub mod Sums
 pub mod Rows
 pub mod Ahead
+pub mod Four
+pub mod Pushing

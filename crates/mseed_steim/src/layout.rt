@@ -1,18 +1,21 @@
 //! How the rows of the table lay their differences out in a word, and words of them that are joined at once.
 
 ghost use Rattle.std.specs.Prelude.{◌≡◌, ◌*◌, ◌+◌, ◌%◌, ◌^◌, ◌<◌, ◌≤◌, List, ℤ, Some, length, pos, slice_index_or};
-ghost use Rattle.std.specs.Prelude.{take};
+ghost use Rattle.std.specs.Prelude.{[], ◌∷◌, map, take};
 ghost use Rattle.mseed_steim.specs.Lookahead.{AreCut, IsAhead, IsCut, taken};
-ghost use Rattle.mseed_steim.specs.private.Ahead.{IsLayoutOne, IsLayoutTwo, bits_of};
+ghost use Rattle.mseed_steim.specs.private.Ahead.{IsLayoutOne, IsLayoutTwo, bits_of, paired, size_of};
 ghost use Rattle.mseed_steim.specs.Packing.{IsFullest};
 ghost use Rattle.mseed_steim.specs.private.Rows.{row_for};
-ghost use Rattle.mseed_steim.specs.Spelling.{positional, residue};
+ghost use Rattle.mseed_steim.specs.Spelling.{positional};
+ghost use Rattle.std.specs.Simd.Lanes.{Each1, sum_l};
 ghost use Rattle.mseed_steim.specs.declared.row.Row.{Row};
 ghost use Rattle.mseed_steim.specs.declared.scheme.Scheme.TheVariants.{One, Two};
 
+use crate::lanes::sum_of;
 use crate::row::Row;
 use crate::scheme::Scheme;
 use crate::unpack::{LANES, lanes_of};
+use std::simd::prelude::*;
 
 /// How the differences of a row of Steim-1 are joined.
 struct LayoutOne {
@@ -34,13 +37,13 @@ struct LayoutTwo {
     weights: [i16; LANES],
     /// What each pair counts for. That and the weights are such that a difference behind the last counts for nothing.
     counts: [u32; LANES / 2],
+    /// The dnib where it stands in a word, beside the first pair.
+    heads: [u32; LANES / 2],
     row: Row,
     /// The code, as wide as those of a frame.
     code: u32,
-    /// The dnib where it stands in a word.
-    head: u32,
     /// As in the other.
-    spare: [u128; 3],
+    spare: [u128; 2],
 }
 
 /// The layout of a row of Steim-1: its code, how many differences it has and of how many bits, and the rest.
@@ -68,6 +71,7 @@ macro_rules! layout_two {
             masks: [$mask; LANES],
             weights: $weights,
             counts: $counts,
+            heads: [$head, 0, 0, 0],
             row: Row {
                 code: $code,
                 dnib: $dnib,
@@ -75,8 +79,7 @@ macro_rules! layout_two {
                 width: $width,
             },
             code: $code,
-            head: $head,
-            spare: [0; 3],
+            spare: [0; 2],
         }
     };
 }
@@ -149,35 +152,54 @@ fn join_one(layout: &LayoutOne, diffs: &[i32]) -> u32
     word
 }
 
-/// What a difference counts for in its pair.
+/// The bits of some numbers, of 32 each.
 #[inline(always)]
-fn weighed(layout: &LayoutTwo, cut: &[i16], index: usize) -> u32
-    requires layout { IsLayoutTwo layout.now }
-    requires lane { index < 8 }
-    requires inside { index < length cut.now }
-    ensures { result ≡ residue (2 ^ layout.now.row.width) (slice_index_or cut.now index (pos 0))
-        * bits_of (slice_index_or layout.now.weights index (pos 0)) % 2 ^ 32 }
+fn bits_of(numbers: i16x8) -> u32x8
+    ensures { Each1 (λ z. size_of z < 32768) numbers → result ≡ map bits_of numbers }
 {
-    let digit = i32::from(cut[index] & layout.masks[index]).cast_unsigned();
-    digit.wrapping_mul(i32::from(layout.weights[index]).cast_unsigned())
+    u32x8::from_le_bytes(numbers.cast::<i32>().to_le_bytes())
 }
 
-/// The first of eight or more numbers of 16 bits, as many as a row of Steim-2 has.
+/// The first eight of some numbers.
 #[inline(always)]
-fn join_two(layout: &LayoutTwo, cut: &[i16]) -> u32
-    requires eight { 8 ≤ length cut.now }
-    requires layout { IsLayoutTwo layout.now }
-    ensures { result ≡ positional layout.now.row.width (take layout.now.row.count cut.now) }
+fn first_eight(numbers: &[i16]) -> [i16; LANES]
+    requires { 8 ≤ length numbers.now }
+    ensures value { result ≡ take 8 numbers.now }
+    ensures small { Each1 (λ z. size_of z < 32768) result }
 {
-    let mut word = 0u32;
-    for pair in 0..LANES / 2 {
-        // In this order LLVM has one instruction for both products and their sum.
-        let second = weighed(layout, cut, 2 * pair + 1);
-        let first = weighed(layout, cut, 2 * pair);
-        let both = second.wrapping_add(first);
-        word = word.wrapping_add(both.wrapping_mul(layout.counts[pair]));
-    }
-    word
+    [
+        numbers[0], numbers[1], numbers[2], numbers[3], numbers[4], numbers[5], numbers[6],
+        numbers[7],
+    ]
+}
+
+/// What each pair of the first of eight or more numbers of 16 bits counts for in a word; the first of them with the dnib.
+#[inline(always)]
+fn parts_of(layout: &LayoutTwo, cut: &[i16]) -> u32x4
+    requires layout { IsLayoutTwo layout.now }
+    requires eight { 8 ≤ length cut.now }
+    ensures { result ≡ map (λ pair. (paired layout.now cut.now pair + slice_index_or layout.now.heads pair 0) % 2 ^ 32)
+        (0 ∷ 1 ∷ 2 ∷ 3 ∷ []) }
+{
+    let digits = i16x8::from_array(first_eight(cut)) & i16x8::from_array(layout.masks);
+    let weighed = bits_of(digits) * bits_of(i16x8::from_array(layout.weights));
+    // In this form LLVM has one instruction for both products and their sum.
+    let both = weighed.swizzle::<4>([1, 3, 5, 7]) + weighed.swizzle::<4>([0, 2, 4, 6]);
+    both * u32x4::from_array(layout.counts) + u32x4::from_array(layout.heads)
+}
+
+/// The fullest word of Steim-2, where it is known ahead, by the differences cut off at 16 bits: what its pairs count
+/// for, and its code.
+#[inline(always)]
+pub(crate) fn parts_two(most: usize, cut: &[i16]) -> (u32x4, u32)
+    requires some { 2 ≤ most }
+    requires few { most < 8 }
+    requires eight { 8 ≤ length cut.now }
+    ensures { (ds : List ℤ) → IsAhead Two ds most → AreCut ds cut.now
+        → IsFullest Two ds result.1 (sum_l result.0 % 2 ^ 32) most }
+{
+    let layout = layout_two(most);
+    (parts_of(layout, cut), layout.code)
 }
 
 /// The fullest word of Steim-1, where it is known ahead: its code, its bits and how many differences it takes.
@@ -209,9 +231,8 @@ fn word_two(most: usize, cut: &[i16]) -> (u32, u32, usize)
     ensures { (ds : List ℤ) → IsAhead Two ds most → AreCut ds cut.now
         → IsFullest Two ds result.0 result.1 result.2 }
 {
-    let layout = layout_two(most);
-    let word = layout.head | join_two(layout, cut);
-    (layout.code, word, most)
+    let (parts, code) = parts_two(most, cut);
+    (code, sum_of(parts), most)
 }
 
 /// The fullest word, where it is known ahead; in Steim-2 by the differences cut off at 16 bits.

@@ -10,6 +10,7 @@ mod differences;
 mod ends;
 mod fault;
 mod form;
+mod four;
 mod frame;
 mod group;
 mod keep;

@@ -1,6 +1,6 @@
 //! Differences packed into words that are as full as words can be.
 
-ghost use Rattle.std.specs.Prelude.{◌≡◌, ◌⊎◌, ◌↔◌, ℕ, ◌+◌, ◌-◌, ◌*◌, ◌%◌, ◌^◌, ◌<◌, ◌≤◌, ◌==◌, if◌then◌else◌};
+ghost use Rattle.std.specs.Prelude.{◌≡◌, ◌≢◌, ◌⊎◌, ◌↔◌, ℕ, ◌+◌, ◌-◌, ◌*◌, ◌%◌, ◌^◌, ◌<◌, ◌≤◌, ◌==◌, if◌then◌else◌};
 ghost use Rattle.std.specs.Prelude.{Err, IfOk};
 ghost use Rattle.std.specs.Prelude.{MatchResult, List, ℤ, ◌++◌, length, take, drop};
 ghost use Rattle.std.specs.List.{AllByRecursion};
@@ -11,9 +11,12 @@ ghost use Rattle.mseed_steim.specs.Frames.{code_at, data_words, word_at, word_co
 ghost use Rattle.mseed_steim.specs.Packing.{IsEmptyWord, IsFarthest, IsFewest, IsFirstTooLarge, IsFullest};
 ghost use Rattle.mseed_steim.specs.Packing.{IsTooLargeAt, LeavesRoom, PacksRun};
 ghost use Rattle.mseed_steim.specs.Runs.{SpellsRun};
+ghost use Rattle.mseed_steim.specs.private.Four.{AreFullest};
+ghost use Rattle.mseed_steim.specs.private.Pushing.{Pushing};
 
 use crate::ahead::{KNOWN, Lookahead, look};
 use crate::data_words::{FRAME, WORD};
+use crate::four::{FOUR, FourWords, four_ahead};
 use crate::layout::word_ahead;
 use crate::row::{fullest_row, word_of};
 use crate::scheme::Scheme;
@@ -108,6 +111,32 @@ fn codes_to(codes: u32, index: usize) -> u32
     codes << (30 - 2 * ((index - 1) % FRAME) as u32)
 }
 
+/// Writes a data word, and puts its code behind those of the frame: all of these.
+#[inline(always)]
+fn push_word(frames: &mut [u8], index: usize, codes: u32, code: u32, word: u32) -> u32
+    requires room { 4 * (index + 1) ≤ length frames.old }
+    ensures { (scheme : Scheme) (ds : List ℤ) (head used count : ℕ) → index % 16 ≢ 0
+        → Pushing scheme ds frames.old head codes index used → IsFullest scheme (drop used ds) code word count
+        → Pushing scheme ds frames.new head result (index + 1) (used + count) }
+{
+    write_word(frames, index, word);
+    with_code(codes, code)
+}
+
+/// The same of four words.
+#[inline(always)]
+fn push_four(frames: &mut [u8], index: usize, codes: u32, four: &FourWords) -> u32
+    requires room { 4 * (index + 4) ≤ length frames.old }
+    ensures { (scheme : Scheme) (ds : List ℤ) (head used : ℕ) → 0 < index % 16 → index % 16 ≤ 12
+        → Pushing scheme ds frames.old head codes index used → AreFullest scheme (drop used ds) four.now
+        → Pushing scheme ds frames.new head result (index + 4) (used + four.now.count) }
+{
+    let codes = push_word(frames, index, codes, four.first.0, four.first.1);
+    let codes = push_word(frames, index + 1, codes, four.second.0, four.second.1);
+    let codes = push_word(frames, index + 2, codes, four.third.0, four.third.1);
+    push_word(frames, index + 3, codes, four.fourth.0, four.fourth.1)
+}
+
 /// As [`pack_words_ahead`], for one scheme.
 #[inline(always)]
 fn pack_run(
@@ -132,8 +161,19 @@ fn pack_run(
     let mut left = diffs;
     let mut start = known.begin(diffs.len());
     let mut place = start;
+    // Whether four words may be known ahead from there.
+    let mut by_fours = true;
     'filling: loop {
         while index < head + FRAME {
+            if by_fours && index + FOUR <= head + FRAME {
+                if let Some(four) = four_ahead(scheme, known, place) {
+                    codes = push_four(frames, index, codes, &four);
+                    place += four.count;
+                    index += FOUR;
+                    continue;
+                }
+                by_fours = false;
+            }
             let held = usize::from(known.most[place]);
             if held < 2 {
                 let at = place - start;
@@ -145,6 +185,7 @@ fn pack_run(
                     start = 0;
                     place = 0;
                     look(scheme, left, &mut known.most, &mut known.cut);
+                    by_fours = true;
                     continue;
                 }
             }
@@ -157,8 +198,7 @@ fn pack_run(
                 let index = diffs.len() - left.len() + (place - start);
                 return Err(TooLargeAt { index });
             };
-            write_word(frames, index, word);
-            codes = with_code(codes, code);
+            codes = push_word(frames, index, codes, code, word);
             place += count;
             index += 1;
         }

@@ -1,11 +1,12 @@
 -- How many differences words hold, by the sizes of single differences, and how they are joined.
 use Rattle.std.specs.Prelude.{◌≡◌, ◌↔◌, ℕ, ◌+◌, ◌-◌, ◌*◌, ◌/◌, ◌%◌, ◌^◌, ◌<◌, ◌≤◌, nat_lt, if◌then◌else◌}
-use Rattle.std.specs.Prelude.{List, ℤ, pos, negsuc, slice_index_or, Some}
+use Rattle.std.specs.Prelude.{List, [], ◌∷◌, ℤ, pos, negsuc, slice_index_or, Some}
 use Rattle.mseed_steim.specs.declared.row.Row.{Row}
 use Rattle.mseed_steim.specs.declared.layout.LayoutOne.{LayoutOne}
 use Rattle.mseed_steim.specs.declared.layout.LayoutTwo.{LayoutTwo}
 use Rattle.mseed_steim.specs.private.Rows.{row_for, place_of, AreMasks, ArePlaces}
 use Rattle.mseed_steim.specs.declared.scheme.Scheme.{Scheme}
+use Rattle.mseed_steim.specs.Spelling.{residue}
 use Rattle.mseed_steim.specs.declared.scheme.Scheme.TheVariants.{One, Two}
 
 -- the number, or the one below its opposite: the bits that it takes but for its sign
@@ -52,14 +53,24 @@ abbrev pub bits_of : ℤ → ℕ
 bits_of (pos n) = n
 bits_of (negsuc n) = 4294967295 - n
 
+-- what a difference counts for in its pair, and the pair in its word
+abbrev pub weighed : LayoutTwo → List ℤ → ℕ → ℕ
+weighed layout cut i = residue (2 ^ layout.row.width) (slice_index_or cut i (pos 0))
+    * bits_of (slice_index_or layout.weights i (pos 0)) % 2 ^ 32
+
+abbrev pub paired : LayoutTwo → List ℤ → ℕ → ℕ
+paired layout cut pair = (weighed layout cut (2 * pair + 1) + weighed layout cut (2 * pair)) % 2 ^ 32
+    * slice_index_or layout.counts pair 0 % 2 ^ 32
+
 -- A row's bits of one difference, 15 at the most, its code, and its dnib where it stands in a word; by a weight and by
 -- what its pair counts for, each difference counts for what it does where they are side by side.
 pub record IsLayoutTwo (layout : LayoutTwo) : Type 0 where
   pub row : row_for Two layout.row.count ≡ Some layout.row
   pub short : layout.row.width ≤ 15
   pub masks : (i : ℕ) → i < 8 → slice_index_or layout.masks i (pos 0) ≡ pos (2 ^ layout.row.width - 1)
+  pub small : (i : ℕ) → i < 8 → size_of (slice_index_or layout.weights i (pos 0)) < 32768
   pub code : layout.code ≡ layout.row.code
-  pub head : layout.head ≡ layout.row.dnib * 2 ^ 30
+  pub heads : layout.heads ≡ layout.row.dnib * 2 ^ 30 ∷ 0 ∷ 0 ∷ 0 ∷ []
   pub places : (i : ℕ) → i < 8
       → bits_of (slice_index_or layout.weights i (pos 0)) * slice_index_or layout.counts (i / 2) 0 % 2 ^ 32
       ≡ place_of layout.row.width layout.row.count i

@@ -7,18 +7,16 @@ use Rattle.mseed_steim.specs.Packing.{IsFullest, IsTooLargeAt, IsFirstTooLarge, 
 use Rattle.mseed_steim.specs.Lookahead.{IsAhead, IsCut, IsLookahead}
 use Rattle.mseed_steim.proofs.Packs.{refused_packed}
 use Rattle.mseed_steim.proofs.Rows.{spelled_code}
-use Rattle.mseed_steim.proofs.Filling.{Filling, filled, filling_refused}
+use Rattle.mseed_steim.specs.private.Four.{AreFullest}
+use Rattle.mseed_steim.specs.private.Pushing.{Filling, Pushing}
+use Rattle.mseed_steim.proofs.Filling.{filled, filling_refused}
 use Rattle.mseed_steim.proofs.Held.{fullest_few}
-use Rattle.mseed_steim.proofs.Lookaheads.{known_at, known_early, known_here, known_next}
-use Rattle.mseed_steim.proofs.Coding.{Pushing, pushing_none, pushing_past, pushing_more, pushed}
+use Rattle.mseed_steim.proofs.Lookaheads.{known_at, known_early, known_here, known_next, rest_long}
+use Rattle.mseed_steim.proofs.Coding.{pushing_none, pushing_past, pushed}
 use Rattle.mseed_steim.proofs.pack.pack_run.Goals.{else-held-lt2, else-loop-index-test+then-index-frames}
 use Rattle.mseed_steim.proofs.pack.pack_run.Goals.{then-held-lt2+else-at-left+else-place-ge-KNOWN}
 use Rattle.mseed_steim.proofs.pack.pack_run.Goals.{then-loop-index-test+then-held-lt2+then-at-left}
 use Rattle.mseed_steim.proofs.pack.pack_run.Goals as goal
-
--- the rest of a list whose length is known
-rest_long : (n at : ℕ) (xs : List ℤ) → length xs ≡ n → take (n - at) (drop at xs) ≡ drop at xs
-rest_long n at xs long = subst (λ (m : ℕ). take (m - at) (drop at xs) ≡ drop at xs) long (take_rest xs at)
 
 -- those from a place on, of the last ones
 rest_of : (ds left : List ℤ) (at : ℕ) → left ≡ drop (length ds - length left) ds
@@ -77,10 +75,10 @@ filling-preserved c =
     let first : c.loop-index.index % 16 ≡ 0 = omega (arith, begin, from, end) in
     let more : c.loop-index.index ≢ length c.loop-index.frames / 4 = c.if-index-frames.false in
     record {
-      pushing = pushing_past c.args.scheme c.args.diffs.now c.loop-index.frames c.write_word-in-filling.new.frames
+      pushing = pushing_past c.args.scheme c.args.diffs.now c.loop-index.frames c.write_word.new.frames
           c.filling.head c.loop-index.codes c.loop-index.index
           (length c.args.diffs.now - length c.loop-index.left.now + (c.loop-index.place - c.loop-index.start)) first
-          c.write_word-in-filling.ensures c.loop-index.invariant.pushing;
+          c.write_word.ensures c.loop-index.invariant.pushing;
       left = c.loop-index.invariant.left;
       known = c.loop-index.invariant.known;
       order = c.loop-index.invariant.order;
@@ -90,7 +88,7 @@ filling-preserved c =
         end,
         more,
         c.loop-index.invariant.frame,
-        c.write_word-in-filling.auto.frames,
+        c.write_word.auto.frames,
         c.loop-index.auto.frames,
         c.filling.auto.frames,
         c.fill.ensures.len,
@@ -139,8 +137,8 @@ next_word-requires-clause-cut c =
     (subst (λ (m : ℕ). IsCut c.args.scheme m (drop at left) (drop place cut)) (sym c.from-held.ensures)
     (known_here c.args.scheme _ (drop at left) c.loop-index.invariant.known).1))
 
-pub returns-in_default : goal.returns-in_default
-returns-in_default c =
+pub returns-in_default-next_word : goal.returns-in_default-next_word
+returns-in_default-next_word c =
     let s = c.args.scheme in
     let ds = c.args.diffs.now in
     let left = c.loop-index.left.now in
@@ -150,7 +148,7 @@ returns-in_default c =
     let rest : take (length left - at) (drop at left) ≡ drop used ds = take_rest left at
     ∙ rest_of ds left at c.loop-index.invariant.left in
     let large : IsTooLargeAt s (drop used ds) 0 =
-    subst (λ (xs : List ℤ). IsTooLargeAt s xs 0) rest c.in_default.ensures.refused in
+    subst (λ (xs : List ℤ). IsTooLargeAt s xs 0) rest c.in_default-next_word.ensures.refused in
     let same : length coding.whole ≡ length c.loop-index.frames = coding.long in
     let begin = coding.at in
     let from = coding.filling.from in
@@ -175,6 +173,45 @@ returns-in_default c =
       known = tt;
     }
 
+pub overflow_add-place : goal.overflow_add-place
+overflow_add-place c =
+    let at = c.loop-index.place - c.loop-index.start in
+    let known = c.in-Some.ensures (drop at c.loop-index.left.now) c.loop-index.invariant.known in
+    record { fits = omega (arith, known.1.place) }
+
+pub loop-index-preserved-in-Some : goal.loop-index-preserved-in-Some
+loop-index-preserved-in-Some c =
+    let s = c.args.scheme in
+    let ds = c.args.diffs.now in
+    let left = c.loop-index.left.now in
+    let start = c.loop-index.start in
+    let at = c.loop-index.place - start in
+    let count = c.in-Some.four.count in
+    let used = length ds - length left + at in
+    let rest : drop at left ≡ drop used ds = rest_of ds left at c.loop-index.invariant.left in
+    let found = c.in-Some.ensures (drop at left) c.loop-index.invariant.known in
+    let full : AreFullest s (drop used ds) c.in-Some.four =
+    subst (λ (xs : List ℤ). AreFullest s xs c.in-Some.four) rest found.0 in
+    let coding = c.loop-index.invariant.pushing.coding in
+    let begin = coding.at in
+    let from = coding.filling.from in
+    let low : 0 < c.loop-index.index % 16 = omega (arith, begin, from, c.if-index-head.true) in
+    let high : c.loop-index.index % 16 ≤ 12 = omega (arith, begin, from, c.if-index-head.true) in
+    let order = c.loop-index.invariant.order in
+    let on : at + count ≡ c.loop-index.place + count - start = omega (arith, order) in
+    let more : used + count ≡ length ds - length left + (c.loop-index.place + count - start) = omega (arith, order) in
+    record {
+      pushing = subst (λ (n : ℕ). Pushing s ds c.push_four-codes.new.frames c.filling.head
+          c.push_four-codes.result (c.loop-index.index + 4) n) more
+          (c.push_four-codes.ensures s ds c.filling.head used low high c.loop-index.invariant.pushing full);
+      left = c.loop-index.invariant.left;
+      known = subst (λ (xs : List ℤ).
+          IsLookahead s (known_at c.loop-index.known.most c.loop-index.known.cut (c.loop-index.place + count)) xs)
+          (drop-drop count at left ∙ ap (λ (n : ℕ). drop n left) on) found.1;
+      order = omega (arith, order);
+      frame = omega (arith, c.loop-index.invariant.frame, c.push_four-codes.auto.frames);
+    }
+
 pub loop-index-preserved : goal.loop-index-preserved
 loop-index-preserved c =
     let s = c.args.scheme in
@@ -188,13 +225,10 @@ loop-index-preserved c =
     let rest : next ≡ drop used ds = take_rest left at ∙ rest_of ds left at c.loop-index.invariant.left in
     let full : IsFullest s (drop used ds) c.in-Ok.code c.in-Ok.word count =
     subst (λ (xs : List ℤ). IsFullest s xs c.in-Ok.code c.in-Ok.word count) rest c.in-Ok.ensures.fullest in
-    let small = spelled_code s c.in-Ok.code c.in-Ok.word (take count (drop used ds)) full.spelled in
     let coding = c.loop-index.invariant.pushing.coding in
     let begin = coding.at in
     let from = coding.filling.from in
     let plain : c.loop-index.index % 16 ≢ 0 = λ e. absurd (omega (arith, e, begin, from, c.loop-index-test.true)) in
-    let room : 4 * (c.loop-index.index + 1) ≤ length c.write_word.new.frames =
-    omega (arith, c.write_word.auto.frames, c.loop-index-test.true, c.loop-index.invariant.frame) in
     let few = fullest_few s next c.in-Ok.code c.in-Ok.word count c.in-Ok.ensures.fullest in
     let early : c.loop-index.place < 57 = elim c.if-held-lt2.branch [
       | then-held-lt2+else-at-left+else-place-ge-KNOWN w ↦ omega (arith, w.if-place-ge-KNOWN.false)
@@ -206,12 +240,9 @@ loop-index-preserved c =
     let on : at + count ≡ c.loop-index.place + count - start = omega (arith, order) in
     let more : used + count ≡ length ds - length left + (c.loop-index.place + count - start) = omega (arith, order) in
     record {
-      pushing = subst (λ (n : ℕ). Pushing s ds c.write_word.new.frames c.filling.head
-          c.with_code-codes.result (c.loop-index.index + 1) n) more
-          (pushing_more s ds c.loop-index.frames c.write_word.new.frames c.filling.head
-          c.loop-index.codes c.loop-index.index used c.in-Ok.code c.in-Ok.word count c.with_code-codes.result
-          plain room small c.loop-index.invariant.pushing full c.write_word.ensures
-          c.with_code-codes.ensures);
+      pushing = subst (λ (n : ℕ). Pushing s ds c.push_word-codes.new.frames c.filling.head
+          c.push_word-codes.result (c.loop-index.index + 1) n) more
+          (c.push_word-codes.ensures s ds c.filling.head used count plain c.loop-index.invariant.pushing full);
       left = c.loop-index.invariant.left;
       known = subst (λ (xs : List ℤ).
           IsLookahead s (known_at c.loop-index.known.most c.loop-index.known.cut (c.loop-index.place + count)) xs)
@@ -219,7 +250,7 @@ loop-index-preserved c =
           (known_next s c.loop-index.known.most c.loop-index.known.cut c.loop-index.place count (drop at left)
           c.loop-index.invariant.known (omega (arith, early, few)));
       order = omega (arith, order);
-      frame = omega (arith, c.loop-index.invariant.frame, c.write_word.auto.frames);
+      frame = omega (arith, c.loop-index.invariant.frame, c.push_word-codes.auto.frames);
     }
 
 pub returns : goal.returns

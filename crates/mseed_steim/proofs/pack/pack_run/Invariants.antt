@@ -1,7 +1,7 @@
 use Rattle.std.proofs.Common.{◌≡◌, ℕ, ℤ, List, ◌≤◌, ◌+◌, ◌-◌, ◌*◌, ◌/◌, if◌then◌else◌, drop, length, nat_lt}
 use Rattle.mseed_steim.specs.declared.scheme.Scheme.{Scheme}
 use Rattle.mseed_steim.specs.Lookahead.{IsLookahead}
-use Rattle.mseed_steim.proofs.Coding.{Pushing}
+use Rattle.mseed_steim.specs.private.Pushing.{Pushing}
 use Rattle.mseed_steim.proofs.Lookaheads.{known_at}
 use Rattle.mseed_steim.proofs.pack.pack_run.Given as goal
 

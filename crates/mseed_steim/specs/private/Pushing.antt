@@ -1,0 +1,31 @@
+-- Frames that are filled word by word, where the codes of the frame that is being filled aren't written yet.
+use Rattle.std.specs.Prelude.{◌≡◌, ◌≢◌, ◌⊎◌, ℕ, ℤ, ◌+◌, ◌-◌, ◌*◌, ◌/◌, ◌%◌, ◌^◌, ◌<◌, ◌≤◌, ◌==◌, if◌then◌else◌, List}
+use Rattle.std.specs.Prelude.{length, drop}
+use Rattle.mseed_steim.specs.declared.scheme.Scheme.{Scheme}
+use Rattle.mseed_steim.specs.Frames.{words_from, word_at, code_at}
+use Rattle.mseed_steim.specs.Packing.{PacksRun}
+
+-- The words before a place hold what was packed, and all else is 0.
+pub record Filling (s : Scheme) (ds : List ℤ) (p : List ℕ) (index used words : ℕ) : Type 0 where
+  pub from : 3 ≤ index
+  pub inside : used ≤ length ds
+  pub count : length (words_from p 3 (index - 3)) ≡ words
+  pub run : PacksRun s (words_from p 3 (index - 3)) ds (drop used ds)
+  pub no_codes : (k : ℕ) → index ≤ k → code_at p k ≡ 0
+  pub no_words : (k : ℕ) → index ≤ k → k % 16 ≢ 0 → word_at p k ≡ 0
+  pub constants : (word_at p 1 ≡ 0) × (word_at p 2 ≡ 0)
+  pub codes : (k : ℕ) → (k < 3) ⊎ (k % 16 ≡ 0) → code_at p k ≡ 0
+
+-- With the codes in their place, the frames are filled up to a word; behind it they hold nothing.
+pub record Coding (s : Scheme) (ds : List ℤ) (p : List ℕ) (head codes index used words : ℕ) : Type 0 where
+  pub whole : List ℕ
+  pub same : (k : ℕ) → word_at whole k ≡ (if k == head then codes else word_at p k)
+  pub filling : Filling s ds whole index used words
+  pub zeros : (k : ℕ) → index ≤ k → word_at p k ≡ 0
+  pub at : head ≡ 16 * ((index - 1) / 16)
+  pub long : length whole ≡ length p
+
+-- The codes of the frame that is being filled are at hand, side by side; where they stand, nothing is behind the last.
+pub record Pushing (s : Scheme) (ds : List ℤ) (p : List ℕ) (head codes index used : ℕ) : Type 0 where
+  pub coding : Coding s ds p head (codes * 2 ^ (30 - 2 * ((index - 1) % 16))) index used (index - 3 - (index - 1) / 16)
+  pub small : codes < 2 ^ (2 * ((index - 1) % 16) + 2)
