@@ -36,7 +36,12 @@ fn elapsed_at(rate: Rate, index: usize) -> u128
     ensures value { result ≡ periods (ratio_of rate) index }
     ensures bound { result ≤ 2 ^ 115 }
 {
-    index as u128 * u128::from(rate.den()) * SECOND / u128::from(rate.num())
+    let micros = index as u128 * u128::from(rate.den()) * SECOND;
+    // Mostly 64 bits hold it, and one division of the processor's does.
+    match u64::try_from(micros) {
+        Ok(few) => u128::from(few / u64::from(rate.num())),
+        Err(_) => micros / u128::from(rate.num()),
+    }
 }
 
 /// The time that is written for an instant.
