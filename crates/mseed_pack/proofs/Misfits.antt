@@ -1,11 +1,11 @@
 -- What is found of a series' samples.
 use Rattle.std.proofs.Common.{◌*◌, ◌%◌, ◌^◌, max, negsuc, FitsSigned, w32, of_z}
-use Rattle.std.proofs.Common.{◌≡◌, ◌≢◌, ◌↔◌, ◌<◌, ◌+◌, ℕ, zero, suc, ℤ, ◌-ℤ◌, List, [], length, take, get_or, pos, Bool}
-use Rattle.std.proofs.Common.{true, false, eqb, sym, subst, ap, ◌∙◌, arith, refl, All}
+use Rattle.std.proofs.Common.{◌≡◌, ◌↔◌, ◌<◌, ◌+◌, ℕ, zero, suc, ℤ, ◌-ℤ◌, List, length, take, get_or, pos}
+use Rattle.std.proofs.Common.{false, sym, subst, ap, ◌∙◌, arith, refl, All}
 use Rattle.std.specs.Prelude.{IsTrue}
-use Rattle.std.proofs.lemmas.Bool.{false≢true, eq-eqb, eqb-true}
+use Rattle.std.proofs.lemmas.Bool.{false≢true}
 use Rattle.std.proofs.lemmas.Int.{ints}
-use Rattle.std.proofs.lemmas.List.{nil_from_length, length-take-le, take-take, get_or-take}
+use Rattle.std.proofs.lemmas.List.{length-take-le, take-take, get_or-take}
 use Rattle.std.proofs.lemmas.List.Elements.{All-from_get_or, All-get_or, All-more, All-take}
 use native.Mathlib.Numerals.{unary_clauses}
 use Rattle.mseed_steim.specs.Spelling.{IsWithin}
@@ -15,14 +15,6 @@ use Rattle.mseed_pack.specs.Stretches.{differences}
 use Rattle.mseed_pack.specs.declared.options.Encoding.{Encoding}
 use Rattle.mseed_pack.specs.declared.options.Encoding.TheVariants.{Int16, Int32, Steim1, Steim2}
 use Rattle.mseed_pack.proofs.Differences.{difference_at, first_difference, length-differences}
-
-pub some_samples : (xs : List ℤ) → false ≡ eqb (length xs) 0 → xs ≢ []
-some_samples xs f none =
-    let long : length xs ≡ 0 = ap (λ (zs : List ℤ). length zs) none in
-    false≢true (f ∙ eq-eqb (length xs) 0 long)
-
-pub empty_samples : (xs : List ℤ) → true ≡ eqb (length xs) 0 → xs ≡ []
-empty_samples xs none = nil_from_length xs (eqb-true (length xs) 0 (sym none))
 
 -- what would be found isn't so
 pub not_so : {P : Type 0} → (P → IsTrue false) → ¬ P

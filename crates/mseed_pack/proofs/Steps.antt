@@ -215,19 +215,6 @@ next_is steps size span next d h more p b a e =
     next_from steps h.passed h.left size span next d h.parts h.count h.before h.behind h.end_is h.added_is
     h.added_bound more p b a e
 
--- a leap second stands at the end of each span before the last
-passed_inside : (passed left : List (ℕ × LeapStep)) (size : ℕ) (span : Span) → length passed ≡ span.passed
-    → span.end ≡ end_by left size → span.end < size → span.passed < length (passed ++ left)
-passed_inside passed [] size span count e more = absurd (omega (arith, e, more))
-passed_inside passed (x ∷ left) size span count e more = omega (arith, count, length-append passed (x ∷ left))
-
-pub some_left : (steps : List (ℕ × LeapStep)) (size : ℕ) (span : Span) → IsSpan steps size span
-    → span.end < size → span.passed < length steps
-some_left steps size span h more =
-    let inside = passed_inside h.passed h.left size span h.count h.end_is more in
-    let long : length steps ≡ length (h.passed ++ h.left) = ap (λ (xs : List (ℕ × LeapStep)). length xs) h.parts in
-    omega (arith, inside, long)
-
 -- a span has some samples, and ends within all
 pub end_inside : (steps : List (ℕ × LeapStep)) (size : ℕ) (span : Span) → IsSpan steps size span
     → span.begin < size → (span.begin < span.end) × (span.end ≤ size)

@@ -1,5 +1,5 @@
 -- The samples of a record are the sums of its differences.
-use Rattle.std.proofs.Common.{◌≡◌, ℕ, zero, suc, List, [], ◌∷◌, length, take, drop, refl, ap, subst, arith, ℤ, ◌+ℤ◌}
+use Rattle.std.proofs.Common.{◌≡◌, ℕ, zero, suc, List, [], ◌∷◌, take, drop, subst, arith, ℤ, ◌+ℤ◌}
 use Rattle.std.proofs.Common.{◌-ℤ◌, Some}
 use Rattle.std.specs.Prelude.{slice_get}
 use Rattle.std.proofs.lemmas.Int.{ints}
@@ -38,12 +38,3 @@ starts (x ∷ xs) zero (suc n) first e =
     let same = first_is x first xs e in
     (same, subst (λ (z : ℤ). Adds z (take n (differences_from x xs)) (take n xs)) same (adds x xs n))
 starts (x ∷ xs) (suc k) (suc n) first e = starts_from x xs k (suc n) first e
-
-length-from : (before : ℤ) (xs : List ℤ) → length (differences_from before xs) ≡ length xs
-length-from before [] = refl
-length-from before (x ∷ xs) = ap suc (length-from x xs)
-
--- there's one for each sample
-pub length-differences : (xs : List ℤ) → length (differences xs) ≡ length xs
-length-differences [] = refl
-length-differences (x ∷ xs) = ap suc (length-from x xs)

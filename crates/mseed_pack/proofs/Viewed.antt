@@ -114,11 +114,6 @@ held spells Steim2 left samples frames payload slice h =
     framed spells Steim2 Steim2s left samples frames payload slice slice.fit h
 
 -- a record of 4096 bytes at the most has fewer than 2^16 samples
-few_integers : (width : ℕ) (left : ℕ) (samples : List ℤ) (zeros payload : List ℕ) → 0 < width → payload ≡ zeros
-    → length samples ≤ length zeros → length payload ≤ 4096 → length samples < 2 ^ 16
-few_integers width left samples zeros payload some e h few = let same = ap (λ (xs : List ℕ). length xs) e in
-    omega (arith, same, h, few)
-
 few_frames : (scheme : Scheme) (left samples : List ℤ) (frames : ℕ) (payload : List ℕ) → length samples ≤ length left
     → HoldsFrames scheme left samples frames payload → length payload ≤ 4096 → length samples < 2 ^ 16
 few_frames scheme left samples frames payload within h few =

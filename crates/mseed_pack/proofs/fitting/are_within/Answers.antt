@@ -1,7 +1,6 @@
-use Rattle.std.proofs.Common.{◌≡◌, ◌↔◌, ◌<◌, ◌*◌, w32, pos, get_or, length, rules, arith, subst, All, ℤ, List, to_z}
-use Rattle.std.proofs.Common.{of_z, IsTrue}
+use Rattle.std.proofs.Common.{◌≡◌, ◌↔◌, ◌<◌, ◌*◌, w32, pos, get_or, rules, subst, ℤ, to_z}
+use Rattle.std.proofs.Common.{of_z}
 use Rattle.std.proofs.lemmas.Int.{to_z-of_z}
-use Rattle.std.proofs.lemmas.List.{take_all}
 use Rattle.mseed_pack.specs.private.Filling.{IsUnder}
 use Rattle.mseed_pack.proofs.Misfits.{under_more}
 use Rattle.mseed_pack.proofs.fitting.are_within.Goals as goal
