@@ -18,6 +18,7 @@ use crate::audits::Memory;
 use crate::channel::Channel;
 use mseed_record::Codes;
 use std::alloc::{Allocator, Global};
+use std::cmp::Ordering;
 use std::collections::BTreeMap;
 use std::collections::btree_map::Entry;
 use std::marker::Model;
@@ -192,12 +193,12 @@ impl<A: Allocator + Copy> ChannelList<A> {
     fn near(&self, codes: Codes) -> Option<usize>
         ensures { IfSome result (λ i. place_of (same_key codes) self.now ≡ Some i) }
     {
+        if let Some(index) = self.look(self.last, codes) {
+            return Some(index);
+        }
         let next = self.last.saturating_add(1);
         let next = if next < self.channels.len() { next } else { 0 };
-        match self.look(self.last, codes) {
-            Some(index) => Some(index),
-            None => self.look(next, codes),
-        }
+        self.look(next, codes)
     }
 
     /// Returns an index, if it is the channel's.
@@ -206,8 +207,12 @@ impl<A: Allocator + Copy> ChannelList<A> {
         ensures { IfSome result (λ i. place_of (same_key codes) self.now ≡ Some i) }
     {
         match self.channels.get(index) {
-            Some((key, _)) if *key == codes => Some(index),
-            _ => None,
+            // Codes are ordered by two words, which is faster than to compare twelve bytes.
+            Some((key, _)) => match key.cmp(&codes) {
+                Ordering::Equal => Some(index),
+                _ => None,
+            },
+            None => None,
         }
     }
 
