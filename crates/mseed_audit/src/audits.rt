@@ -7,6 +7,7 @@ ghost use Rattle.mseed_steim.specs.Reading.{count_of};
 ghost use Rattle.mseed_audit.specs.Audit.{AreChannels};
 ghost use Rattle.mseed_audit.specs.Channels.{Added, Placed, numbered, records_of};
 ghost use Rattle.mseed_audit.specs.private.ChannelState.{IsLearnt};
+ghost use Rattle.mseed_audit.specs.private.Gathered.{IsAdded};
 ghost use Rattle.mseed_audit.specs.Reported.{IsFoundBehind};
 ghost use Rattle.mseed_audit.specs.Verdict.{AreVerdicts, AreVerdictsAmong};
 
@@ -183,9 +184,8 @@ impl<A: Allocator + Copy> Audit<A> {
         }
     }
 
-    /// [`Audit::add_judged`] of a record of which this was learnt.
-    #[cold]
-    #[inline(never)]
+    /// [`Audit::add_judged`] of a record of which this was learnt. Nothing is passed on where nothing was.
+    #[inline(always)]
     pub(crate) fn add_learnt(
         &mut self,
         view: &RecordView,
@@ -194,19 +194,36 @@ impl<A: Allocator + Copy> Audit<A> {
     ) -> Result<Option<Why>, Memory>
         requires few { self.old.added < 2 ^ 40 }
         requires learnt { IsLearnt examined (view_of view.now) }
-        ensures among { (ps : List Placed) (count : ℕ) → IsAuditAmong self.old ps count → OnOk result
-            (IsAuditAmong self.new (ps ++ record {
-              view = view_of view.now;
-              offset = offset;
-              number = self.old.added + 1;
-            }
-            ∷ []) (count + 1)) }
-        ensures found { (ps : List Placed) (count : ℕ) → IsAuditAmong self.old ps count
-            → IfOk result (λ why. IsFoundBehind ps (view_of view.now) why) }
-        ensures number { OnOk result (self.new.added ≡ self.old.added + 1) }
-        ensures unchanged { OnErr result (self.new ≡ self.old) }
-        ensures memory { (count_of (view_of view.now) ≡ 0)
-            ⊎ HoldsKey self.old (key_at (view_of view.now).bytes) → IsOk result }
+        ensures { IsAdded result (view_of view.now) offset self.old self.new }
+    {
+        match examined {
+            Some(examined) => self.add_found(view, offset, Some(examined)),
+            None => self.add_unlearnt(view, offset),
+        }
+    }
+
+    /// [`Audit::add_judged`] of a record of which nothing was learnt.
+    #[cold]
+    #[inline(never)]
+    fn add_unlearnt(&mut self, view: &RecordView, offset: u64) -> Result<Option<Why>, Memory>
+        requires { self.old.added < 2 ^ 40 }
+        ensures { IsAdded result (view_of view.now) offset self.old self.new }
+    {
+        self.add_found(view, offset, None)
+    }
+
+    /// [`Audit::add_learnt`], out of the loop over records.
+    #[cold]
+    #[inline(never)]
+    fn add_found(
+        &mut self,
+        view: &RecordView,
+        offset: u64,
+        examined: Option<Examined>,
+    ) -> Result<Option<Why>, Memory>
+        requires few { self.old.added < 2 ^ 40 }
+        requires learnt { IsLearnt examined (view_of view.now) }
+        ensures { IsAdded result (view_of view.now) offset self.old self.new }
     {
         let number = self.added + 1;
         let why = self.roster.add(view, number, offset, examined)?;

@@ -143,7 +143,7 @@ impl Channel {
         ensures unchanged { OnErr result (self.new ≡ self.old) }
         ensures learnt { IfErr result (λ examined. IsLearnt examined (view_of view.now)) }
     {
-        let end = sound_end(self.findings.tail(), view)?;
+        let end = sound_end(&self.findings, view)?;
         self.records += 1;
         self.samples += u64::from(end.samples);
         self.findings.end_with(end);
@@ -296,16 +296,16 @@ fn look_at(view: &RecordView) -> Result<Examined, Why>
     Ok(Examined { tail, fault })
 }
 
-/// The end of a record of which nothing is found, by the end of the channel's record before it.
+/// The end of a record of which nothing is found, by what was found of the channel's records before it.
 ///
 /// # Errors
 ///
 /// What was learnt of the record, where something is found of it.
 #[inline(always)]
-fn sound_end(before: Option<Tail>, view: &RecordView) -> Result<Tail, Option<Examined>>
+fn sound_end(findings: &Findings, view: &RecordView) -> Result<Tail, Option<Examined>>
     requires { 0 < count_of (view_of view.now) }
     ensures tail { IfOk result (λ tail. IsTailOf (Some tail) (view_of view.now)) }
-    ensures sound { IfOk result (λ tail. (b : Option View) → IsTailBefore before b
+    ensures sound { IfOk result (λ tail. (b : Option View) → IsTailBefore (tail_in findings.now) b
         → IsFound b (view_of view.now) None) }
     ensures learnt { IfErr result (λ examined. IsLearnt examined (view_of view.now)) }
 {
@@ -313,7 +313,7 @@ fn sound_end(before: Option<Tail>, view: &RecordView) -> Result<Tail, Option<Exa
         return Err(None);
     };
     match examined.fault {
-        None if examined.tail.follows(before) => Ok(examined.tail),
+        None if examined.tail.follows(findings.tail()) => Ok(examined.tail),
         _ => Err(Some(examined)),
     }
 }

@@ -314,7 +314,10 @@ fn judge<A: Allocator + Copy, C: Choice, O, P: Report<O>>(
 {
     let answer = choice.answer(view);
     if let Answer::AskedFor = answer {
-        let why = audit.add_judged(view, offset)?;
+        let why = match audit.add_sound(view) {
+            Ok(()) => return report.add(view, None),
+            Err(examined) => audit.add_learnt(view, offset, examined)?,
+        };
         return report.add(view, finding_at(audit.added(), offset, why));
     }
     audit.pass();

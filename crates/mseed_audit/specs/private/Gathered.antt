@@ -1,7 +1,10 @@
 -- Statements of the records that an audit reads, and of what it reports of them: no public contract cites them.
-use Rattle.std.specs.Prelude.{◌≡◌, ℕ, ◌+◌, ◌<◌, List, [], ◌∷◌, ◌++◌, length, Option, Some, None, Result, Ok, Err}
+use Rattle.std.specs.Prelude.{◌≡◌, ◌⊎◌, ℕ, ◌+◌, ◌<◌, List, [], ◌∷◌, ◌++◌, length, Option, Some, None, Result, Ok, Err}
+use Rattle.std.specs.Prelude.{IfOk, IsOk, OnErr, OnOk}
 use Rattle.std.specs.List.{count_by}
+use Rattle.mseed_record.specs.Header.{key_at}
 use Rattle.mseed_record.specs.View.{View}
+use Rattle.mseed_steim.specs.Reading.{count_of}
 use Rattle.mseed_stream.specs.Calls.{WritesOn}
 use Rattle.mseed_stream.specs.Device.{BytesRead, BytesWritten}
 use Rattle.mseed_stream.specs.Gathered.{AreGathered, EmittedPart}
@@ -13,17 +16,27 @@ use Rattle.mseed_audit.specs.declared.audits.Memory.{Memory as NoRoom}
 use Rattle.mseed_audit.specs.declared.each.EachFault.{EachFault}
 use Rattle.mseed_audit.specs.declared.each.EachFault.TheVariants.{Write, Memory}
 use Rattle.mseed_audit.specs.declared.finding.Finding.{Finding}
+use Rattle.mseed_audit.specs.declared.finding.Why.{Why}
 use Rattle.mseed_audit.specs.declared.passed.Passed.{Passed}
 use Rattle.mseed_audit.specs.declared.summary.Gathered.{Gathered}
 use Rattle.mseed_audit.specs.declared.summary.SelectedSummary.{SelectedSummary}
 use Rattle.mseed_audit.specs.declared.summary.Step.{Step}
 use Rattle.mseed_audit.specs.declared.summary.Step.TheVariants.{Taken as OneMore, Ended}
-use Rattle.mseed_audit.specs.Audit.{Held, IsAuditAmong}
+use Rattle.mseed_audit.specs.Audit.{Held, HoldsKey, IsAuditAmong}
 use Rattle.mseed_audit.specs.Channels.{Placed, added_from}
-use Rattle.mseed_audit.specs.Reported.{Reported, AreReported}
+use Rattle.mseed_audit.specs.Reported.{Reported, AreReported, IsFoundBehind}
 use Rattle.mseed_audit.specs.Scope.{asked, asked_of}
 use Rattle.mseed_audit.specs.Summary.{AuditedIn, IsGatheredIn, IsSummaryIn, text_in}
 use Rattle.mseed_audit.specs.Text.{reported_lines}
+
+-- a record more was added, of which this is found; without memory the audit is as it was
+pub record IsAdded {E : Type 0} (r : Result (Option Why) E) (v : View) (offset : ℕ) (old new : Held) : Type 0 where
+  pub among : (ps : List Placed) (count : ℕ) → IsAuditAmong old ps count → OnOk r (IsAuditAmong new
+      (ps ++ record { view = v; offset = offset; number = old.added + 1 } ∷ []) (count + 1))
+  pub found : (ps : List Placed) (count : ℕ) → IsAuditAmong old ps count → IfOk r (λ why. IsFoundBehind ps v why)
+  pub number : OnOk r (new.added ≡ old.added + 1)
+  pub unchanged : OnErr r (new ≡ old)
+  pub memory : (count_of v ≡ 0) ⊎ HoldsKey old (key_at v.bytes) → IsOk r
 
 -- so many of these records were passed
 pub record IsPassed (s : Selection) (p : Passed) (views : List View) : Type 0 where

@@ -1,10 +1,12 @@
-use Rattle.std.proofs.Common.{◌≡◌, Option, Some, None, subst, ◌∙◌}
+use Rattle.std.proofs.Common.{◌≡◌, Option, Some, None, ap, subst, sym, ◌∙◌}
 use Rattle.mseed_time.specs.Rate.{Ratio}
 use Rattle.mseed_record.specs.View.{View}
 use Rattle.mseed_record.specs.Viewing.{view_of}
 use Rattle.mseed_steim.specs.declared.fault.ReadFault.{ReadFault}
+use Rattle.mseed_audit.specs.declared.tail.Tail.{Tail}
+use Rattle.mseed_audit.specs.Audit.{tail_in}
 use Rattle.mseed_audit.specs.Judging.{known_rate}
-use Rattle.mseed_audit.specs.private.ChannelState.{IsReadTo}
+use Rattle.mseed_audit.specs.private.ChannelState.{IsReadTo, break_after}
 use Rattle.mseed_audit.proofs.Judged.{after_either, found_whole}
 use Rattle.mseed_audit.proofs.channel.sound_end.Goals as goal
 
@@ -16,4 +18,6 @@ returns-in-None-clause-sound c = λ b before.
     let known : known_rate v ≡ Some next = examined.tail.rate in
     let whole : IsReadTo v None = subst (λ (f : Option ReadFault). IsReadTo v f) c.in-None.is examined.read in
     found_whole b v next whole.0 None known whole.1.0 whole.1.1
-    (after_either c.args.before c.in-Ok.examined.tail b v before examined.tail ∙ c.follows.ensures c.if-follows.true)
+    (after_either (tail_in c.args.findings.now) c.in-Ok.examined.tail b v before examined.tail
+    ∙ ap (λ (t : Option Tail). break_after t c.in-Ok.examined.tail) (sym c.tail.ensures)
+    ∙ c.follows.ensures c.if-follows.true)
