@@ -66,20 +66,20 @@ apart_set test (x ∷ es) v apart =
     apart_by (test x.0) x es (set_value test es v) v apart.0 apart.1
     (places_stay (same_key x.0) test es v ∙ apart.0) (apart_set test es v apart.1)
 
-none_behind : (test : List ℕ → Bool) (es : List (List ℕ × Channel)) (x : List ℕ × Channel)
+none_after : (test : List ℕ → Bool) (es : List (List ℕ × Channel)) (x : List ℕ × Channel)
     → place_of test es ≡ None → test x.0 ≡ false → place_of test (es ++ x ∷ []) ≡ None
-none_behind test [] x none miss = miss_by (test x.0) None None miss refl
-none_behind test (e ∷ es) x none miss =
+none_after test [] x none miss = miss_by (test x.0) None None miss refl
+none_after test (e ∷ es) x none miss =
     miss_by (test e.0) (place_of test (es ++ x ∷ [])) None
     (missed_by (test e.0) (place_of test es) none)
-    (none_behind test es x (none_by (test e.0) (place_of test es) none) miss)
+    (none_after test es x (none_by (test e.0) (place_of test es) none) miss)
 
 -- a new channel stands after the others
 pub apart_push : (es : List (List ℕ × Channel)) (x : List ℕ × Channel) → AreApart es
     → place_of (same_key x.0) es ≡ None → AreApart (es ++ x ∷ [])
 apart_push [] x apart none = (refl, tt)
 apart_push (e ∷ es) x apart none = (
-  none_behind (same_key e.0) es x apart.0
+  none_after (same_key e.0) es x apart.0
       (same_back e.0 x.0 ∙ missed_by (same_key x.0 e.0) (place_of (same_key x.0) es) none),
   apart_push es x apart.1 (none_by (same_key x.0 e.0) (place_of (same_key x.0) es) none),
 )

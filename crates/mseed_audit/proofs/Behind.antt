@@ -32,26 +32,26 @@ end_more offset [] v = refl
 end_more offset (w ∷ vs) v = end_more (offset + length w.bytes) vs v
 
 -- a record after all others
-pub behind : (offset : ℕ) (vs : List View) (v : View)
+pub added_after : (offset : ℕ) (vs : List View) (v : View)
     → added_from offset (vs ++ v ∷ []) ≡ added_from offset vs ++ record { view = v; offset = end_of offset vs } ∷ []
-behind offset [] v = refl
-behind offset (w ∷ vs) v =
+added_after offset [] v = refl
+added_after offset (w ∷ vs) v =
     let here : Added = record { view = w; offset = offset } in
-    ap (λ (xs : List Added). here ∷ xs) (behind (offset + length w.bytes) vs v)
+    ap (λ (xs : List Added). here ∷ xs) (added_after (offset + length w.bytes) vs v)
 
 as_many : (offset : ℕ) (vs : List View) → length (added_from offset vs) ≡ length vs
 as_many offset [] = refl
 as_many offset (v ∷ vs) = omega (arith, as_many (offset + length v.bytes) vs)
 
 -- the channel's records with one more record after all
-one_behind : (key : List ℕ) (vs : List View) (v : View) → records_of key (added_from 0 (vs ++ v ∷ []))
+records_after : (key : List ℕ) (vs : List View) (v : View) → records_of key (added_from 0 (vs ++ v ∷ []))
     ≡ with_record key (records_of key (added_from 0 vs))
     (record { view = v; offset = end_of 0 vs; number = length vs + 1 })
-one_behind key vs v =
+records_after key vs v =
     let added : List Added = added_from 0 vs in
     let last : Added = record { view = v; offset = end_of 0 vs } in
     let number : 1 + length added ≡ length vs + 1 = omega (arith, as_many 0 vs) in
-    ap (λ (xs : List Added). records_of key xs) (behind 0 vs v) ∙ records_more key added last
+    ap (λ (xs : List Added). records_of key xs) (added_after 0 vs v) ∙ records_more key added last
     ∙ ap (λ (n : ℕ). with_record key (records_of key added) (placed_at last n)) number
 
 -- the records that a loop has passed, with one more
@@ -97,7 +97,7 @@ stands_next key rs n r offset old new h is at before step =
     ∙ ap (λ (k : ℕ). with_record key ps (record { view = view_of r; offset = k; number = n + 1 })) (sym at) in
     let all : records_of key (added_from 0 (map view_of (take (n + 1) rs))) ≡ with_record key ps
     (record { view = view_of r; offset = offset; number = n + 1 }) =
-    ap (λ (ws : List View). records_of key (added_from 0 ws)) (passed rs n r h is) ∙ one_behind key vs (view_of r)
+    ap (λ (ws : List View). records_of key (added_from 0 ws)) (passed rs n r h is) ∙ records_after key vs (view_of r)
     ∙ same in
     subst (λ (qs : List Placed). StandsAt new qs) (sym all) (step ps before)
 

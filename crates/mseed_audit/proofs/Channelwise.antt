@@ -202,21 +202,21 @@ module _ (s : Selection) (free : HasNoWindow s) where
       at key = by_key key (matching s key) refl
 
   -- ---- what is reported
-  abbrev told : List Reported → List Reported
-  told ts = filter (λ t. matching s (key_at t.view.bytes)) ts
+  abbrev chosen : List Reported → List Reported
+  chosen ts = filter (λ t. matching s (key_at t.view.bytes)) ts
 
   -- what is found of a record that is asked for, and of another
-  told_at : (p : Placed) (why : Option Why) (rest : List Reported) → test p ≡ true
-      → told (reported_at p why ++ rest) ≡ reported_at p why ++ told rest
-  told_at p None rest e = refl
-  told_at p (Some why) rest e =
+  chosen_at : (p : Placed) (why : Option Why) (rest : List Reported) → test p ≡ true
+      → chosen (reported_at p why ++ rest) ≡ reported_at p why ++ chosen rest
+  chosen_at p None rest e = refl
+  chosen_at p (Some why) rest e =
       let m : matching s (key_at p.view.bytes) ≡ true = sym (asks_so s free p.view) ∙ e in
       rw m refl
 
-  told_past : (p : Placed) (why : Option Why) (rest : List Reported) → test p ≡ false
-      → told (reported_at p why ++ rest) ≡ told rest
-  told_past p None rest e = refl
-  told_past p (Some why) rest e =
+  chosen_past : (p : Placed) (why : Option Why) (rest : List Reported) → test p ≡ false
+      → chosen (reported_at p why ++ rest) ≡ chosen rest
+  chosen_past p None rest e = refl
+  chosen_past p (Some why) rest e =
       let m : matching s (key_at p.view.bytes) ≡ false = sym (asks_so s free p.view) ∙ e in
       rw m refl
 
@@ -238,19 +238,19 @@ module _ (s : Selection) (free : HasNoWindow s) where
       (channel_without key p [] (differ s free key p.view false true e m false≢true))
       ∙ append-nil (channel_in key all))
 
-  told_alike : HasOneFault → Excludes → (some all ps : List Placed) (ts us : List Reported) → AreAlike some all
-      → AreReported some (wanted ps) ts → AreReported all ps us → ts ≡ told us
-  told_alike only excludes some all [] ts us alike (none _) (none _) = refl
-  told_alike only excludes some all (p ∷ ps) ts us alike are (one _ _ _ why rest h later) =
+  chosen_alike : HasOneFault → Excludes → (some all ps : List Placed) (ts us : List Reported) → AreAlike some all
+      → AreReported some (wanted ps) ts → AreReported all ps us → ts ≡ chosen us
+  chosen_alike only excludes some all [] ts us alike (none _) (none _) = refl
+  chosen_alike only excludes some all (p ∷ ps) ts us alike are (one _ _ _ why rest h later) =
       go (test p) refl
-      (λ e. told_alike only excludes some (all ++ p ∷ []) ps ts rest (alike_past some all p e alike)
+      (λ e. chosen_alike only excludes some (all ++ p ∷ []) ps ts rest (alike_past some all p e alike)
       (subst (λ (qs : List Placed). AreReported some qs ts) (wanted_without p ps e) are) later)
-      (λ others latter. told_alike only excludes (some ++ p ∷ []) (all ++ p ∷ []) ps others rest
+      (λ others latter. chosen_alike only excludes (some ++ p ∷ []) (all ++ p ∷ []) ps others rest
       (alike_with some all p alike) latter later)
     where
       one_so : test p ≡ true
-          → ((others : List Reported) → AreReported (some ++ p ∷ []) (wanted ps) others → others ≡ told rest)
-          → (fs : List Reported) → AreReported some (p ∷ wanted ps) fs → fs ≡ told (reported_at p why ++ rest)
+          → ((others : List Reported) → AreReported (some ++ p ∷ []) (wanted ps) others → others ≡ chosen rest)
+          → (fs : List Reported) → AreReported some (p ∷ wanted ps) fs → fs ≡ chosen (reported_at p why ++ rest)
       one_so e next fs (one _ _ _ other others k latter) =
           let m : matching s (key_at p.view.bytes) ≡ true = sym (asks_so s free p.view) ∙ e in
           let found : IsFoundOf (channel_in (key_at p.view.bytes) all) p.view other =
@@ -258,19 +258,19 @@ module _ (s : Selection) (free : HasNoWindow s) where
           let same : other ≡ why =
           of_one only excludes (channel_in (key_at p.view.bytes) all) p.view other why found h in
           ap (λ (w : Option Why). reported_at p w ++ others) same
-          ∙ ap (λ (gs : List Reported). reported_at p why ++ gs) (next others latter) ∙ sym (told_at p why rest e)
+          ∙ ap (λ (gs : List Reported). reported_at p why ++ gs) (next others latter) ∙ sym (chosen_at p why rest e)
 
-      go : (b : Bool) → test p ≡ b → (test p ≡ false → ts ≡ told rest)
-          → ((others : List Reported) → AreReported (some ++ p ∷ []) (wanted ps) others → others ≡ told rest)
-          → ts ≡ told (reported_at p why ++ rest)
+      go : (b : Bool) → test p ≡ b → (test p ≡ false → ts ≡ chosen rest)
+          → ((others : List Reported) → AreReported (some ++ p ∷ []) (wanted ps) others → others ≡ chosen rest)
+          → ts ≡ chosen (reported_at p why ++ rest)
       go true e past_so next =
           one_so e next ts (subst (λ (qs : List Placed). AreReported some qs ts) (wanted_with p ps e) are)
-      go false e past_so next = past_so e ∙ sym (told_past p why rest e)
+      go false e past_so next = past_so e ∙ sym (chosen_past p why rest e)
 
   pub reported_alike : HasOneFault → Excludes → HasOneInput → (h : BytesRead) (a : AuditedEachIn (asked s) h)
-      (b : AuditedEach h) → a.reported ≡ told b.reported
+      (b : AuditedEach h) → a.reported ≡ chosen b.reported
   reported_alike only excludes input h a b =
       let views : a.audited.views ≡ b.audited.views =
       (input h a.audited.views b.audited.views a.audited.end b.audited.end a.audited.all b.audited.all).0 in
-      told_alike only excludes [] [] (placed_of b.audited.views) a.reported b.reported (λ key m. refl)
+      chosen_alike only excludes [] [] (placed_of b.audited.views) a.reported b.reported (λ key m. refl)
       (subst (λ (vs : List View). AreReported [] (asked_of s vs) a.reported) views a.are_reported) b.are_reported

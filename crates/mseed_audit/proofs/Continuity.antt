@@ -79,14 +79,14 @@ no_finding p None rest e = (refl, e)
 no_finding p (Some why) rest e = cc
 
 -- records after another of which nothing is found
-behind_sound : HaveOneReading → (b : View) (rate : Ratio) (ps : List Placed) (found : List Finding)
+later_sound : HaveOneReading → (b : View) (rate : Ratio) (ps : List Placed) (found : List Finding)
     → known_rate b ≡ Some rate → AreFindings (Some b) ps found → found ≡ []
     → AllByRecursion IsSound (views_in ps) × AllNeighbours Follows (b ∷ views_in ps)
-behind_sound single b rate [] found known (none _) e = (tt, tt)
-behind_sound single b rate (p ∷ ps) found known (one _ _ _ why rest h later) e =
+later_sound single b rate [] found known (none _) e = (tt, tt)
+later_sound single b rate (p ∷ ps) found known (one _ _ _ why rest h later) e =
     let parts : (why ≡ None) × (rest ≡ []) = no_finding p why rest e in
     let here = found_none single (Some b) p.view why h parts.0 in
-    let more = behind_sound single p.view here.1.0 ps rest here.1.1.0 later parts.1 in
+    let more = later_sound single p.view here.1.0 ps rest here.1.1.0 later parts.1 in
     ((here.0, more.0), (follows_after b p.view rate here.1.0 known here.1.1.0 here.1.1.1, more.1))
 
 run_continuous : HaveOneReading → (first : Placed) (rest : List Placed) (found : List Finding)
@@ -94,7 +94,7 @@ run_continuous : HaveOneReading → (first : Placed) (rest : List Placed) (found
 run_continuous single first rest found (one _ _ _ why others h later) e =
     let parts : (why ≡ None) × (others ≡ []) = no_finding first why others e in
     let here = found_none single None first.view why h parts.0 in
-    let more = behind_sound single first.view here.1.0 rest others here.1.1.0 later parts.1 in
+    let more = later_sound single first.view here.1.0 rest others here.1.1.0 later parts.1 in
     record { some = λ no. cc; each = (here.0, more.0); follow = more.1 }
 
 none_more : (p : Placed) (why : Option Why) (rest : List Finding) → why ≡ None → rest ≡ []
@@ -102,14 +102,14 @@ none_more : (p : Placed) (why : Option Why) (rest : List Finding) → why ≡ No
 none_more p why rest e k = ap (λ (w : Option Why). finding_at p w ++ rest) e ∙ k
 
 -- nothing is found of sound records that follow one another
-behind_none : Excludes → (b : View) (ps : List Placed) (found : List Finding) → AreFindings (Some b) ps found
+later_none : Excludes → (b : View) (ps : List Placed) (found : List Finding) → AreFindings (Some b) ps found
     → AllByRecursion IsSound (views_in ps)
     → AllNeighbours Follows (b ∷ views_in ps) → found ≡ []
-behind_none excludes b [] found (none _) each follow = refl
-behind_none excludes b (p ∷ ps) found (one _ _ _ why rest h later) each follow =
+later_none excludes b [] found (none _) each follow = refl
+later_none excludes b (p ∷ ps) found (one _ _ _ why rest h later) each follow =
     none_more p why rest
     (none_found (Some b) p.view why excludes h each.0 (λ next known. after_none b p.view next follow.0 known))
-    (behind_none excludes p.view ps rest later each.1 follow.1)
+    (later_none excludes p.view ps rest later each.1 follow.1)
 
 none_continuous : Excludes → (ps : List Placed) (found : List Finding) → AreFindings None ps found
     → IsContinuous (views_in ps) → found ≡ []
@@ -117,7 +117,7 @@ none_continuous excludes [] found (none _) h = refl
 none_continuous excludes (p ∷ ps) found (one _ _ _ why rest k later) h =
     none_more p why rest
     (none_found None p.view why excludes k h.each.0 (λ next known. refl))
-    (behind_none excludes p.view ps rest later h.each.1 h.follow)
+    (later_none excludes p.view ps rest later h.each.1 h.follow)
 
 pub verdict_exact : HaveOneReading → Excludes → (verdict : Verdict) (ps : List Placed) → IsVerdict verdict ps
     → (IsTrue (says_continuous verdict) ↔ IsContinuous (views_in ps))

@@ -1,5 +1,5 @@
 -- The lines of records with a finding, as they are gathered, written, and followed by the audit's text.
-use Rattle.std.proofs.Common.{◌≡◌, ℕ, ◌++◌, List, [], refl, sym, ap, ◌∙◌, subst, arith, inl, inr, Option, Ok, Err}
+use Rattle.std.proofs.Common.{◌≡◌, ℕ, ◌+◌, ◌++◌, List, [], refl, sym, ap, ◌∙◌, subst, inl, inr, Option, Ok, Err}
 use Rattle.mseed_record.specs.View.{View}
 use Rattle.mseed_stream.specs.Calls.{WritesOn}
 use Rattle.mseed_stream.specs.Device.{BytesRead, BytesWritten}
@@ -20,14 +20,14 @@ use Rattle.mseed_audit.specs.Summary.{text_in}
 use Rattle.mseed_audit.specs.Text.{reported_lines}
 use Rattle.mseed_audit.specs.Reported.{Reported, AreReported}
 use Rattle.mseed_audit.proofs.Outcomes.{timed}
-use Rattle.mseed_audit.proofs.Telling.{lines_behind}
+use Rattle.mseed_audit.proofs.Telling.{lines_after}
 
 -- lines were added to what is gathered
 pub gathered_reported : (first old : BytesWritten) (text next : List ℕ) (reported more : List Reported)
     → AreGathered first old text (reported_lines reported) → next ≡ text ++ reported_lines more
     → AreGathered first old next (reported_lines (reported ++ more))
 gathered_reported first old text next reported more before e =
-    subst (λ (xs : List ℕ). AreGathered first old next xs) (sym (lines_behind reported more))
+    subst (λ (xs : List ℕ). AreGathered first old next xs) (sym (lines_after reported more))
     (gathered_more first old old text next (reported_lines reported) (reported_lines more) before
     (subst (λ (xs : List ℕ). AreGathered old old next xs) e (gathered_all old next)))
 
@@ -93,7 +93,7 @@ pub lined_in_part : (first old new : BytesWritten) (held holds keeps : Option (L
     → AreLinedInPart first new held keeps apart last reported
 lined_in_part first old new held holds keeps apart later last taken text reported before cut writes = record {
   part = part_of first old new text (reported_lines reported) before.lines (taken, (cut.part, cut.text));
-  failed = omega (arith, before.fine, cut.failed);
+  failed = cut.failed ∙ ap (λ (n : ℕ). n + 1) before.fine;
   writes = writes_on first old new held holds keeps apart later last before.writes writes;
 }
 
@@ -163,7 +163,7 @@ pub each_short : (s : Selection) {h : BytesRead} (taken : ℕ) (found : Selected
 each_short s taken found views reported first old new text whole f are before same cut =
     let a : AuditedEachIn (asked s) _ = reported_also s found views reported text whole f are in
     let tail : List ℕ = text_in (asked s) f.audited in (
-      omega (arith, same, cut.failed),
+      cut.failed ∙ ap (λ (n : ℕ). n + 1) same,
       inr (
         a,
         cut_part first old new taken text (reported_lines reported) tail before

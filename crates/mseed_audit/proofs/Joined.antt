@@ -66,13 +66,13 @@ pub holds_more : (codes : List ℕ) (start : ℤ) (rate : Rate) (vs : List View)
       steps = old.steps ++ step_at (length old.samples + length more) step;
     }
     → HoldsAll codes start rate (vs ++ v ∷ []) new
-holds_more codes start rate vs v more step old new before whole bears e =
+holds_more codes start rate vs v more step old new before whole step_is e =
     let at : 0 + length old.samples + count_of v ≡ length old.samples + length more =
     omega (arith, count_is v more whole) in
     let next : steps_from 0 (vs ++ v ∷ []) ≡ steps_from 0 vs ++ step_at (length old.samples + length more) step =
     steps_next 0 vs old.samples v before.samples
     ∙ ap (λ (n : ℕ). steps_from 0 vs ++ step_at n (step_in (leap_of v.bytes))) at
-    ∙ ap (λ (o : Option LeapStep). steps_from 0 vs ++ step_at (length old.samples + length more) o) (sym bears) in
+    ∙ ap (λ (o : Option LeapStep). steps_from 0 vs ++ step_at (length old.samples + length more) o) (sym step_is) in
     let all : HoldsAll codes start rate (vs ++ v ∷ [])
     (record old {
       samples = old.samples ++ more;
@@ -122,6 +122,6 @@ pub pushed : (old : Trace) (samples more : List ℤ) (steps : List (ℕ × LeapS
       steps = old.steps ++ step_at (length old.samples + length more) (Some step);
     }
 pushed old samples more steps place step e at f =
-    let behind : place ≡ length old.samples + length more = at ∙ ap (λ (xs : List ℤ). length xs) e
+    let place_is : place ≡ length old.samples + length more = at ∙ ap (λ (xs : List ℤ). length xs) e
     ∙ length-append old.samples more in
-    rw (e, f, behind) refl
+    rw (e, f, place_is) refl

@@ -12,8 +12,8 @@ pub joined_one : ((v : View) → HasOneReading v) → (vs : List View) (s t : Li
 joined_one single [] _ _ none none = refl
 joined_one single (v ∷ vs) _ _ (one _ _ samples rest is later) (one _ _ others more are latter) =
     let here : samples ≡ others = single v samples others is.0 are.0 in
-    let behind : rest ≡ more = joined_one single vs rest more later latter in
-    λ i. here i ++ behind i
+    let after : rest ≡ more = joined_one single vs rest more later latter in
+    λ i. here i ++ after i
 
 same_first : (v w : View) (vs ws : List View) → v ∷ vs ≡ w ∷ ws → v ≡ w
 same_first v w vs ws e = cc
@@ -45,11 +45,11 @@ no_later place size [] back (t ∷ others) rest bad other e good not_good =
     (good.0, good.1, tt)))
 no_later place size (s ∷ prefix) back (t ∷ others) rest bad other e good not_good =
     let same : t ≡ s = cc in
-    let behind : prefix ++ bad ∷ back ≡ others ++ other ∷ rest = cc in
+    let after : prefix ++ bad ∷ back ≡ others ++ other ∷ rest = cc in
     let moved : (place < s.0) × (s.0 ≤ size) × AreStepsFrom s.0 size others =
     subst (λ (u : ℕ × LeapStep). (place < u.0) × (u.0 ≤ size) × AreStepsFrom u.0 size others) same good in
     let fewer : length others ≤ length prefix =
-    no_later s.0 size prefix back others rest bad other behind moved.2 (λ all. not_good (moved.0, moved.1, all)) in
+    no_later s.0 size prefix back others rest bad other after moved.2 (λ all. not_good (moved.0, moved.1, all)) in
     omega (arith, fewer)
 
 pub bad_one : (size : ℕ) (steps : List (ℕ × LeapStep)) (i j : ℕ) → IsBadStep size steps i → IsBadStep size steps j

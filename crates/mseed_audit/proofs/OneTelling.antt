@@ -27,7 +27,7 @@ use Rattle.mseed_audit.proofs.Maps.{same_is}
 use Rattle.mseed_audit.proofs.More.{placed_at}
 use Rattle.mseed_audit.proofs.OneAudit.{HasOneInput, audited_one, text_one}
 use Rattle.mseed_audit.proofs.OneVerdict.{HasOneFault, found_one, findings_same}
-use Rattle.mseed_audit.proofs.Telling.{lines_behind}
+use Rattle.mseed_audit.proofs.Telling.{lines_after}
 
 pub of_one : HasOneFault → Excludes → (channel : List Placed) (v : View) (a b : Option Why) → IsFoundOf channel v a
     → IsFoundOf channel v b → a ≡ b
@@ -223,6 +223,6 @@ telling_prefix only excludes added more reported all first whole =
     (subst (λ (ps : List Placed). AreReported [] ps all) numbers.1 whole) in
     let same : parts.0 ≡ reported = telling_one only excludes added parts.0 reported parts.2 first in (
       reported_lines parts.1,
-      ap reported_lines parts.3 ∙ lines_behind parts.0 parts.1
+      ap reported_lines parts.3 ∙ lines_after parts.0 parts.1
           ∙ ap (λ (ts : List Reported). reported_lines ts ++ reported_lines parts.1) same,
     )

@@ -79,7 +79,7 @@ longer key i (e ∷ ps) none = longer_by (slice_cmp nat_cmp key e.0) key i e ps 
 pub placed_push : (ps more : Places) (es fs : Entries) (key : List ℕ) (c : Channel) → ArePlaced ps es
     → fs ≡ es ++ (key, c) ∷ [] → lookup (same_key key) es ≡ None → more ≡ put ps key (length es)
     → IsStrictlySortedBy (slice_cmp nat_cmp) (keys_of more) → ArePlaced more fs
-placed_push ps more es fs key c are behind none is ascending =
+placed_push ps more es fs key c are entered none is ascending =
     let next : Entries = es ++ (key, c) ∷ [] in
     let size : length next ≡ length es + 1 = length-append es ((key, c) ∷ []) in
     let below : All (λ i. i < length next) (values_of ps) =
@@ -94,7 +94,7 @@ placed_push ps more es fs key c are behind none is ascending =
     are.places.each key ∙ no_place (same_key key) es none in
     let one_more : length more ≡ suc (length ps) =
     ap (λ (qs : Places). length qs) is ∙ longer key (length es) ps absent in
-    subst (λ (gs : Entries). ArePlaced more gs) (sym behind) (record {
+    subst (λ (gs : Entries). ArePlaced more gs) (sym entered) (record {
       places = record {
         each = λ other. places_more ps more es key c are.places none updated other;
         within = subst (λ (qs : Places). All (λ i. i < length next) (values_of qs)) (sym is)

@@ -9,7 +9,7 @@ use Rattle.std.specs.Ordering.{nat_cmp}
 use Rattle.std.specs.Cmp.Lexicographic.{slice_cmp}
 use Rattle.std.specs.List.Sorted.{IsStrictlySortedBy}
 use Rattle.std.proofs.lemmas.Bool.{false≢true}
-use Rattle.std.proofs.lemmas.Option.{slice_get_read, slice_get-get_or}
+use Rattle.std.proofs.lemmas.Option.{same_Some, slice_get_read, slice_get-get_or}
 use Rattle.std.proofs.lemmas.List.{map-append}
 use Rattle.std.proofs.lemmas.List.Elements.{All-push}
 use Rattle.std.proofs.lemmas.Map.{length-set_value, lookup-set_value}
@@ -28,10 +28,6 @@ use Rattle.mseed_audit.proofs.Steps.{stands_more, some_is}
 slice_get_some : {X : Type 0} (xs : List X) (i : ℕ) → i < length xs → is_some (slice_get xs i) ≡ true
 slice_get_some [] i l = absurd (omega (arith, l))
 slice_get_some {X = X} (x ∷ xs) i l = ap (λ (o : Option X). is_some o) (slice_get-get_or (x ∷ xs) i x l)
-
--- the number in an answer
-number_in : (i j : ℕ) → Some i ≡ Some j → i ≡ j
-number_in i j e = ap (λ (o : Option ℕ). unwrap_or o 0) e
 
 same_some_by : (b : Bool) (v : Channel) (o : Option ℕ) (found : Option Channel) → is_some o ≡ is_some found
     → is_some (cond b (Some 0) (option_map suc o)) ≡ is_some (cond b (Some v) found)
@@ -60,11 +56,11 @@ at_by : (b : Bool) (x : List ℕ × Channel) (es : List (List ℕ × Channel)) (
     → cond b (Some 0) (option_map suc o) ≡ Some i
     → cond b (Some x.1) found ≡ option_map (λ (e : List ℕ × Channel). e.1) (slice_get (x ∷ es) i)
 at_by true x es found o i later e = ap (λ (n : ℕ). option_map (λ (e : List ℕ × Channel). e.1) (slice_get (x ∷ es) n))
-    (number_in 0 i e)
+    (same_Some 0 i e)
 at_by false x es found None i later e = absurd (cc e)
 at_by false x es found (Some j) i later e =
     later j refl ∙ ap (λ (n : ℕ). option_map (λ (e : List ℕ × Channel). e.1) (slice_get (x ∷ es) n))
-    (number_in (suc j) i e)
+    (same_Some (suc j) i e)
 
 -- what is kept at a place
 pub kept_at : (test : List ℕ → Bool) (es : List (List ℕ × Channel)) (i : ℕ) → place_of test es ≡ Some i
@@ -74,9 +70,9 @@ kept_at test (x ∷ es) i e = at_by (test x.0) x es (lookup test es) (place_of t
 
 within_by : (b : Bool) (n : ℕ) (o : Option ℕ) (i : ℕ) → ((j : ℕ) → o ≡ Some j → j < n)
     → cond b (Some 0) (option_map suc o) ≡ Some i → i < suc n
-within_by true n o i later e = omega (arith, number_in 0 i e)
+within_by true n o i later e = omega (arith, same_Some 0 i e)
 within_by false n None i later e = absurd (cc e)
-within_by false n (Some j) i later e = omega (arith, later j refl, number_in (suc j) i e)
+within_by false n (Some j) i later e = omega (arith, later j refl, same_Some (suc j) i e)
 
 -- a place is one of as many as there are channels
 pub place_within : (test : List ℕ → Bool) (es : List (List ℕ × Channel)) (i : ℕ) → place_of test es ≡ Some i
@@ -89,10 +85,10 @@ set_by : (b : Bool) (x : List ℕ × Channel) (es next : List (List ℕ × Chann
     → cond b (Some 0) (option_map suc o) ≡ Some i
     → set (x ∷ es) i ((get_or (x ∷ es) i d).0, v) ≡ cond b ((x.0, v) ∷ es) (x ∷ next)
 set_by true x es next o i d v later e =
-    ap (λ (n : ℕ). set (x ∷ es) n ((get_or (x ∷ es) n d).0, v)) (sym (number_in 0 i e))
+    ap (λ (n : ℕ). set (x ∷ es) n ((get_or (x ∷ es) n d).0, v)) (sym (same_Some 0 i e))
 set_by false x es next None i d v later e = absurd (cc e)
 set_by false x es next (Some j) i d v later e =
-    ap (λ (n : ℕ). set (x ∷ es) n ((get_or (x ∷ es) n d).0, v)) (sym (number_in (suc j) i e))
+    ap (λ (n : ℕ). set (x ∷ es) n ((get_or (x ∷ es) n d).0, v)) (sym (same_Some (suc j) i e))
     ∙ ap (λ (fs : List (List ℕ × Channel)). x ∷ fs) (later j refl)
 
 -- what is kept at a place becomes something else
@@ -126,12 +122,12 @@ first_by : (b : Bool) → b ≡ true → cond {A = Option ℕ} b (Some 0) None �
 first_by b e = ap (λ (c : Bool). cond {A = Option ℕ} c (Some 0) None) e
 
 -- a new channel stands after the others
-pub place_behind : (test : List ℕ → Bool) (es : List (List ℕ × Channel)) (x : List ℕ × Channel)
+pub place_after : (test : List ℕ → Bool) (es : List (List ℕ × Channel)) (x : List ℕ × Channel)
     → place_of test es ≡ None → test x.0 ≡ true → place_of test (es ++ x ∷ []) ≡ Some (length es)
-place_behind test [] x none hit = first_by (test x.0) hit
-place_behind test (e ∷ es) x none hit =
+place_after test [] x none hit = first_by (test x.0) hit
+place_after test (e ∷ es) x none hit =
     next_by (test e.0) (place_of test es) (place_of test (es ++ x ∷ [])) (length es)
-    (λ n. place_behind test es x n hit) none
+    (λ n. place_after test es x n hit) none
 
 -- and no other channel moves
 pub places_before : (test : List ℕ → Bool) (es : List (List ℕ × Channel)) (x : List ℕ × Channel) → test x.0 ≡ false
@@ -145,11 +141,11 @@ kept_by : (b : Bool) (v w : Channel) (found next : Option Channel) → (found �
 kept_by true v w found next later e = absurd (cc e)
 kept_by false v w found next later e = later e
 
-kept_behind : (test : List ℕ → Bool) (es : List (List ℕ × Channel)) (x : List ℕ × Channel) → lookup test es ≡ None
+kept_after : (test : List ℕ → Bool) (es : List (List ℕ × Channel)) (x : List ℕ × Channel) → lookup test es ≡ None
     → test x.0 ≡ true → lookup test (es ++ x ∷ []) ≡ Some x.1
-kept_behind test [] x none hit = ap (λ (b : Bool). cond b (Some x.1) None) hit
-kept_behind test (e ∷ es) x none hit =
-    kept_by (test e.0) e.1 x.1 (lookup test es) (lookup test (es ++ x ∷ [])) (λ n. kept_behind test es x n hit) none
+kept_after test [] x none hit = ap (λ (b : Bool). cond b (Some x.1) None) hit
+kept_after test (e ∷ es) x none hit =
+    kept_by (test e.0) e.1 x.1 (lookup test es) (lookup test (es ++ x ∷ [])) (λ n. kept_after test es x n hit) none
 
 kept_before : (test : List ℕ → Bool) (es : List (List ℕ × Channel)) (x : List ℕ × Channel) → test x.0 ≡ false
     → lookup test (es ++ x ∷ []) ≡ lookup test es
@@ -165,7 +161,7 @@ kept_more es code c none key = go (same_key key code) refl
   where
     go : (b : Bool) → same_key key code ≡ b
         → lookup (same_key key) (es ++ (code, c) ∷ []) ≡ cond b (Some c) (lookup (same_key key) es)
-    go true e = kept_behind (same_key key) es (code, c)
+    go true e = kept_after (same_key key) es (code, c)
         (ap (λ (k : List ℕ). lookup (same_key k) es) (same_is key code e) ∙ none) e
     go false e = kept_before (same_key key) es (code, c) e
 
@@ -184,7 +180,7 @@ places_more places more es code c are none kept key = go (same_key code key) ref
         let gone : place_of (same_key key) es ≡ None =
         ap (λ (k : List ℕ). place_of (same_key k) es) (same_is key code back) ∙ no_place (same_key code) es none in
         kept key ∙ (ap (λ (b : Bool). cond b (Some (length es)) (lookup (same_key key) places)) e
-        ∙ sym (place_behind (same_key key) es (code, c) gone back))
+        ∙ sym (place_after (same_key key) es (code, c) gone back))
     go false e =
         let back : same_key key code ≡ false = same_back key code ∙ e in
         kept key ∙ (ap (λ (b : Bool). cond b (Some (length es)) (lookup (same_key key) places)) e
@@ -405,10 +401,10 @@ found_at test es i c place is = kept_at test es i place ∙ is
 with_by : (b : Bool) (x : List ℕ × Channel) (es next : List (List ℕ × Channel)) (o : Option ℕ) (i : ℕ) (v : Channel)
     → ((j : ℕ) → o ≡ Some j → with_channel es j v ≡ next) → cond b (Some 0) (option_map suc o) ≡ Some i
     → with_channel (x ∷ es) i v ≡ cond b ((x.0, v) ∷ es) (x ∷ next)
-with_by true x es next o i v later e = ap (λ (n : ℕ). with_channel (x ∷ es) n v) (sym (number_in 0 i e))
+with_by true x es next o i v later e = ap (λ (n : ℕ). with_channel (x ∷ es) n v) (sym (same_Some 0 i e))
 with_by false x es next None i v later e = absurd (cc e)
 with_by false x es next (Some j) i v later e =
-    ap (λ (n : ℕ). with_channel (x ∷ es) n v) (sym (number_in (suc j) i e))
+    ap (λ (n : ℕ). with_channel (x ∷ es) n v) (sym (same_Some (suc j) i e))
     ∙ ap (λ (fs : List (List ℕ × Channel)). x ∷ fs) (later j refl)
 
 -- what is kept of the channel at a place is what is kept at its key

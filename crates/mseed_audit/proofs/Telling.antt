@@ -34,17 +34,17 @@ reported_snoc earlier [] p why reported (none _) found =
     subst (λ (ts : List Reported). AreReported earlier (p ∷ []) ts) (append-nil (reported_at p why))
     (one earlier p [] why [] here (none (earlier ++ p ∷ [])))
 reported_snoc earlier (q ∷ ps) p why reported (one _ _ _ first rest h later) found =
-    let behind : IsFoundBehind ((earlier ++ q ∷ []) ++ ps) p.view why =
+    let found_after : IsFoundBehind ((earlier ++ q ∷ []) ++ ps) p.view why =
     subst (λ (qs : List Placed). IsFoundBehind qs p.view why) (sym (append_assoc earlier (q ∷ []) ps)) found in
     subst (λ (ts : List Reported). AreReported earlier (q ∷ (ps ++ p ∷ [])) ts)
     (sym (append_assoc (reported_at q first) rest (reported_at p why)))
     (one earlier q (ps ++ p ∷ []) first (rest ++ reported_at p why) h
-    (reported_snoc (earlier ++ q ∷ []) ps p why rest later behind))
+    (reported_snoc (earlier ++ q ∷ []) ps p why rest later found_after))
 
 -- and their lines
-pub lines_behind : (ts us : List Reported) → reported_lines (ts ++ us) ≡ reported_lines ts ++ reported_lines us
-lines_behind [] us = refl
-lines_behind (t ∷ ts) us = ap (λ (xs : List ℕ). reported_line t ++ xs) (lines_behind ts us)
+pub lines_after : (ts us : List Reported) → reported_lines (ts ++ us) ≡ reported_lines ts ++ reported_lines us
+lines_after [] us = refl
+lines_after (t ∷ ts) us = ap (λ (xs : List ℕ). reported_line t ++ xs) (lines_after ts us)
     ∙ sym (append_assoc (reported_line t) (reported_lines ts) (reported_lines us))
 
 -- ---- one more record

@@ -12,7 +12,7 @@ use crate::verdict::Verdict;
 use mseed_record::{Codes, RecordView};
 use mseed_steim::ReadFault;
 use mseed_stream::StreamFault;
-use mseed_text::{Line, push_fault_line, push_line};
+use mseed_text::{LONGEST_LINE, Line, push_fault_line, push_line};
 use mseed_time::{Micros, Ratio, show_time};
 use std::alloc::{AllocError, Allocator};
 
@@ -73,7 +73,7 @@ pub fn push_verdict_line<A: Allocator>(
 /// Puts the line of a channel.
 #[inline(always)]
 fn put_verdict_line(line: &mut Line, codes: &Codes, verdict: &Verdict)
-    requires { length line.old + 169 ≤ 256 }
+    requires { length line.old + 169 ≤ LONGEST_LINE }
     ensures { line.new ≡ line.old ++ verdict_line codes.now verdict.now }
 {
     line.put_name(codes);
@@ -91,7 +91,7 @@ fn put_verdict_line(line: &mut Line, codes: &Codes, verdict: &Verdict)
 /// Puts what follows the name of a continuous channel.
 #[inline(always)]
 fn put_continuous(line: &mut Line, start: Micros, rate: Ratio, records: u64, samples: u64)
-    requires { length line.old + 144 ≤ 256 }
+    requires { length line.old + 144 ≤ LONGEST_LINE }
     ensures { line.new ≡ line.old ++ continuous_words start rate records samples }
 {
     line.put(b" continuous ");
@@ -108,7 +108,7 @@ fn put_continuous(line: &mut Line, start: Micros, rate: Ratio, records: u64, sam
 /// Puts what follows the name of a broken channel.
 #[inline(always)]
 fn put_broken(line: &mut Line, first: &Finding, count: u64)
-    requires { length line.old + 154 ≤ 256 }
+    requires { length line.old + 154 ≤ LONGEST_LINE }
     ensures { line.new ≡ line.old ++ broken_words first.now count }
 {
     line.put(b" broken findings ");
@@ -146,7 +146,7 @@ pub(crate) fn push_reported_line<A: Allocator>(
 /// Puts the line of a record with a finding.
 #[inline(always)]
 fn put_reported_line(line: &mut Line, view: &RecordView, finding: &Finding)
-    requires { length line.old + 152 ≤ 256 }
+    requires { length line.old + 152 ≤ LONGEST_LINE }
     ensures { line.new ≡ line.old ++ reported_line (record { view = view_of view.now; finding = finding.now }) }
 {
     line.put_count(finding.offset);
@@ -186,7 +186,7 @@ pub fn push_total_line<A: Allocator>(
 
 /// Puts the text of a finding at the end of a line: at most 53 bytes.
 pub fn put_why(line: &mut Line, why: &Why)
-    requires room { length line.old + 53 ≤ 256 }
+    requires room { length line.old + 53 ≤ LONGEST_LINE }
     ensures text { line.new ≡ line.old ++ why_text why.now }
     ensures most { length line.new ≤ length line.old + 53 }
 {
@@ -212,7 +212,7 @@ pub fn put_why(line: &mut Line, why: &Why)
 
 /// Puts the text of samples that can't be read.
 fn put_read_fault(line: &mut Line, fault: &ReadFault)
-    requires { length line.old + 53 ≤ 256 }
+    requires { length line.old + 53 ≤ LONGEST_LINE }
     ensures text { line.new ≡ line.old ++ read_text fault.now }
     ensures most { length line.new ≤ length line.old + 53 }
 {
@@ -245,7 +245,7 @@ fn put_read_fault(line: &mut Line, fault: &ReadFault)
 
 /// Puts the text of samples that don't end on their constant.
 fn put_last_differs(line: &mut Line, found: i32, constant: i32)
-    requires { length line.old + 53 ≤ 256 }
+    requires { length line.old + 53 ≤ LONGEST_LINE }
     ensures text { line.new ≡ line.old ++ read_text (LastDiffers found constant) }
     ensures most { length line.new ≤ length line.old + 53 }
 {
@@ -257,7 +257,7 @@ fn put_last_differs(line: &mut Line, found: i32, constant: i32)
 
 /// Puts a sample.
 fn put_sample(line: &mut Line, sample: i32)
-    requires { length line.old + 20 ≤ 256 }
+    requires { length line.old + 20 ≤ LONGEST_LINE }
     ensures text { line.new ≡ line.old ++ signed_decimal sample }
     ensures most { length line.new ≤ length line.old + 20 }
 {
