@@ -1,4 +1,4 @@
--- What the words of the command line ask for.
+-- What the arguments of the command line ask for.
 use Rattle.std.specs.Prelude.{⊤, ◌≡◌, ◌≢◌, ◌≤◌, ◌==◌, ◌^◌, ℕ, zero, suc, List, [], ◌∷◌, if◌then◌else◌, Bool, true}
 use Rattle.std.specs.Prelude.{false, Option, Some, None, option_and_then, option_map, codes}
 use Rattle.std.specs.Str.{bytes_eq}
@@ -24,11 +24,11 @@ use Rattle.mseed_words.specs.declared.request.Packing.{Packing}
 use Rattle.mseed_words.specs.declared.refusal.Refusal.{Refusal}
 use Rattle.mseed_words.specs.declared.refusal.Refusal.TheVariants as refusal
 
--- why `clap` refuses the words, a call for help included; none where it takes them
+-- why `clap` refuses the arguments, a call for help included; none where it takes them
 abbrev pub faults_in : List Text → Kinds
 faults_in words = fault_of the_command words
 
--- what it reads from words that it takes
+-- what it reads from arguments that it takes
 abbrev pub entries_in : List Text → List Row
 entries_in words = matches_of the_command words
 
@@ -85,11 +85,8 @@ packing_of rows =
     else None
 
 -- two commands take nothing besides
-abbrev pub showing_of : List Row → Option Request
-showing_of rows = if has_only (names_of_records []) rows then Some Show else None
-
-abbrev pub selecting_of : List Row → Option Request
-selecting_of rows = if has_only (names_of_records []) rows then Some Select else None
+abbrev pub plain_of : Request → List Row → Option Request
+plain_of request rows = if has_only (names_of_records []) rows then Some request else None
 
 -- what an audit writes: with a line for each finding or without, the text of the audit or its part
 abbrev pub auditing_by : Bool → Bool → Request
@@ -153,8 +150,8 @@ abbrev pub request_named : Text → List Row → Option Request
 request_named word rows =
     if bytes_eq word (codes "audit") then auditing_of rows
     else if bytes_eq word (codes "join") then joining_of rows
-    else if bytes_eq word (codes "show") then showing_of rows
-    else if bytes_eq word (codes "select") then selecting_of rows
+    else if bytes_eq word (codes "show") then plain_of Show rows
+    else if bytes_eq word (codes "select") then plain_of Select rows
     else if bytes_eq word (codes "repack") then packing_of rows
     else if bytes_eq word (codes "serve") then serving_by (asks (codes "live") rows) rows
     else if bytes_eq word (codes "fetch") then option_map Fetch (fetching_of rows) else None
@@ -183,7 +180,8 @@ CanBeCalled (Serve serving) = CanServe serving
 CanBeCalled (Live live) = CanServeLive live
 CanBeCalled (Fetch fetching) = CanFetch fetching
 
--- what is requested, of which records, where the words say, and of which files: of none where standard input is read
+-- what is requested, of which records, where the arguments say, and of which files: of none where standard input is
+-- read
 pub record Requested : Type 0 where
   pub request : Request
   pub asked : Option Selection
@@ -204,7 +202,7 @@ command_with (Some request) rows = command_by request (asked_of request rows) (f
 abbrev pub command_of : List Row → Option Requested
 command_of rows = command_with (request_of rows) rows
 
--- the words ask for this, of these records, and of these files
+-- the arguments ask for this, of these records, and of these files
 pub record AsksFor (words : List Text) (request : Request) (asked : Option Selection) (files : List Text) : Type 0 where
   pub taken : faults_in words ≡ []
   pub command_is : command_of (entries_in words) ≡ Some (requested request asked files)
@@ -224,7 +222,7 @@ IsUnasked refusal.Memory asked = ⊤
 abbrev pub AreRefused : List Text → Type 0
 AreRefused words = faults_in words ≢ []
 
--- why words request nothing: the words decide which of the first two it is; memory may be refused whatever they are
+-- why arguments request nothing: they decide which of the first two it is; memory may be refused whatever they are
 abbrev pub IsRefusal : List Text → Refusal → Type 0
 IsRefusal words (refusal.Text text) = AreRefused words
 IsRefusal words refusal.NoRequest = AsksForNothing words

@@ -1,4 +1,4 @@
-//! What the words of the command line ask for.
+//! What the arguments of the command line ask for.
 ghost use Rattle.std.specs.Prelude.{◌≡◌, ◌≤◌, Err, IfErr, IfOk, IfSome, List, None, OnOk, Some, [], map, option_map};
 ghost use Rattle.clap.specs.Matches.{found_of};
 ghost use Rattle.clap.specs.Walk.{Text, rows_of};
@@ -11,7 +11,7 @@ ghost use Rattle.mseed_words.specs.Words.{command_of, encoding_in};
 ghost use Rattle.mseed_words.specs.Words.{encoding_named, entries_in, expected_by, expected_in, exponent_by};
 ghost use Rattle.mseed_words.specs.Words.{exponent_in, faults_in, joining_by, joining_of, joining_with, packing_by};
 ghost use Rattle.mseed_words.specs.Words.{packing_of, packing_with, request_named, request_of, requested};
-ghost use Rattle.mseed_words.specs.Words.{selecting_of, serving_by, showing_of};
+ghost use Rattle.mseed_words.specs.Words.{plain_of, serving_by};
 ghost use Rattle.mseed_select.specs.Selecting.{selection_of};
 
 use crate::feed_words::{fetching_of, live_serving_of, serving_of};
@@ -27,8 +27,16 @@ use clap::{ArgMatches, Error};
 use mseed_pack::Encoding;
 use std::alloc::Global;
 
-/// Reads the words of a command line, those after the program's name: what they request, of which records, and of which
-/// files. For a word that isn't text another one has to stand that can be no word.
+// The names that a command takes that can be met with some of the records alone, and these.
+macro_rules! names_of_records {
+    ($($further:literal),*) => {
+        &["command", "place", "channels", "from", "until", $($further),*]
+    };
+}
+
+/// Reads the arguments of a command line, those after the program's name, and returns the command that they request:
+/// what is done, with which records, and of which files. Where an argument isn't text, a text has to stand in its place
+/// that no argument can be.
 ///
 /// # Errors
 ///
@@ -75,11 +83,11 @@ fn command_of<'a>(alloc: Global, matches: &ArgMatches<'a>) -> Result<Command<'a>
     }
 }
 
-/// The files of what is requested: the further words, where it takes files.
+/// The files of what is requested: the further arguments, where it takes files.
 ///
 /// # Errors
 ///
-/// `NoRequest` where the further words can't be files, and `Memory` where there is no room for them.
+/// `NoRequest` where the further arguments can't be files, and `Memory` where there is no room for them.
 fn files_of<'a>(
     alloc: Global,
     request: &Request,
@@ -104,7 +112,7 @@ fn files_of<'a>(
     }
 }
 
-/// What `clap` finds among the words.
+/// What `clap` finds among the arguments.
 ///
 /// # Errors
 ///
@@ -118,7 +126,7 @@ fn matches_of<'a>(alloc: Global, words: &'a [&'a str]) -> Result<ArgMatches<'a>,
     command(alloc)?.try_get_matches_from(words)
 }
 
-/// Why words are refused for which `clap` has an error: for want of memory, or with its text.
+/// Why arguments are refused for which `clap` has an error: for want of memory, or with its text.
 fn refusal_of(alloc: Global, error: &Error) -> Refusal
     ensures { (words : List Text) → HasKind (faults_in words) error.now → IsRefusal words result }
 {
@@ -150,8 +158,8 @@ fn request_named(word: &str, matches: &ArgMatches<'_>) -> Option<Request>
     match word {
         "audit" => auditing_of(matches),
         "join" => joining_of(matches),
-        "show" => showing_of(matches),
-        "select" => selecting_of(matches),
+        "show" => plain_of(Request::Show, matches),
+        "select" => plain_of(Request::Select, matches),
         "repack" => packing_of(matches),
         "serve" => serving_by(asks(matches, "live"), matches),
         "fetch" => Some(Request::Fetch(fetching_of(matches)?)),
@@ -190,12 +198,7 @@ fn has_audit_names(matches: &ArgMatches<'_>, part: bool) -> bool
     if part {
         has_only(matches, &["command", "place", "each", "part"])
     } else {
-        has_only(
-            matches,
-            &[
-                "command", "place", "channels", "from", "until", "each", "part",
-            ],
-        )
+        has_only(matches, names_of_records!("each", "part"))
     }
 }
 
@@ -277,25 +280,14 @@ fn expected_by(number: u32) -> Option<Option<u64>>
     }
 }
 
-/// The command that lists takes its word, files, and which records.
-fn showing_of(matches: &ArgMatches<'_>) -> Option<Request>
-    ensures value { result ≡ showing_of (rows_of (found_of matches.now)) }
+/// A request that takes the command, files, and which records, and nothing else.
+fn plain_of(request: Request, matches: &ArgMatches<'_>) -> Option<Request>
+    requires { CanBeCalled request }
+    ensures value { result ≡ plain_of request (rows_of (found_of matches.now)) }
     ensures range { IfSome result CanBeCalled }
 {
-    if has_only(matches, &["command", "place", "channels", "from", "until"]) {
-        Some(Request::Show)
-    } else {
-        None
-    }
-}
-
-/// The command that selects takes its word, files, and which records.
-fn selecting_of(matches: &ArgMatches<'_>) -> Option<Request>
-    ensures value { result ≡ selecting_of (rows_of (found_of matches.now)) }
-    ensures range { IfSome result CanBeCalled }
-{
-    if has_only(matches, &["command", "place", "channels", "from", "until"]) {
-        Some(Request::Select)
+    if has_only(matches, names_of_records!()) {
+        Some(request)
     } else {
         None
     }
@@ -308,17 +300,7 @@ fn packing_of(matches: &ArgMatches<'_>) -> Option<Request>
 {
     if !has_only(
         matches,
-        &[
-            "command",
-            "place",
-            "channels",
-            "from",
-            "until",
-            "length",
-            "encoding",
-            "stretches",
-            "leave",
-        ],
+        names_of_records!("length", "encoding", "stretches", "leave"),
     ) {
         return None;
     }
