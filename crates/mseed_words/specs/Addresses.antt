@@ -1,4 +1,4 @@
--- Where a feed leads, and how long a link may be silent, as the words of the command line say.
+-- Where a feed leads, and how long a link may be silent, as the arguments of the command line say.
 use Rattle.std.specs.Prelude.{ℕ, Bool, ◌≤◌, ◌==◌, ◌&&◌, ◌||◌, nat_le, nat_lt, [], ◌∷◌, length, if◌then◌else◌}
 use Rattle.std.specs.Prelude.{Option, Some, None, option_and_then}
 use Rattle.std.specs.Char.{is_ascii_alphabetic, is_ascii_alphanumeric}

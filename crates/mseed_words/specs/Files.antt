@@ -1,4 +1,4 @@
--- The files that the words of a command line name.
+-- The files that the arguments of a command line name.
 use Rattle.std.specs.Prelude.{◌&&◌, Bool, true, false, not, List, [], ◌∷◌, if◌then◌else◌, Option, Some, None, codes}
 use Rattle.std.specs.Str.{bytes_eq}
 use Rattle.clap.specs.Walk.{Row, Text}
@@ -8,7 +8,7 @@ use Rattle.mseed_words.specs.declared.request.Request.TheVariants.{Audit, AuditE
 use Rattle.mseed_words.specs.declared.request.Request.TheVariants.{Join, JoinEach, JoinPart, Show, Select}
 use Rattle.mseed_words.specs.declared.request.Request.TheVariants.{Repack, RepackStretches, Serve, Live, Fetch}
 
--- further words are files, but of serving and fetching, where they are places
+-- further arguments are files, but of serving and fetching, where they are places
 abbrev pub takes_files : Request → Bool
 takes_files Audit = true
 takes_files AuditEach = true

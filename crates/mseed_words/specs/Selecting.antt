@@ -1,4 +1,4 @@
--- Which records the words of a command line ask for.
+-- Which records the arguments of a command line ask for.
 use Rattle.std.specs.Prelude.{Bool, true, false, ◌||◌, List, if◌then◌else◌, ℤ, int_lt, codes}
 use Rattle.std.specs.Prelude.{Option, Some, None, is_some, option_map}
 use Rattle.clap.specs.Walk.{Row, Text, first_of}
@@ -66,7 +66,7 @@ takes_selection (Serve serving) = false
 takes_selection (Live live) = false
 takes_selection (Fetch fetching) = false
 
--- which records something is requested of, where the words say: else of all
+-- which records something is requested of, where the arguments say: else of all
 abbrev pub asked_by : Bool → List Row → Option (Option Selection)
 asked_by false rows = Some None
 asked_by true rows = if is_selective rows then option_map Some (selection_in rows) else Some None

@@ -1,4 +1,4 @@
-//! What the words of the two commands of a feed ask for.
+//! What the arguments of the two commands of a feed ask for.
 ghost use Rattle.std.specs.Prelude.{◌≡◌, ◌<◌, ◌^◌, ◌∷◌, IfSome, map, option_map};
 ghost use Rattle.clap.specs.Matches.{found_of};
 ghost use Rattle.clap.specs.Walk.{rows_of};

@@ -1,11 +1,11 @@
-//! The files that the words of a command line name.
+//! The files that the arguments of a command line name.
 ghost use Rattle.std.specs.Prelude.{◌≡◌, map};
 ghost use Rattle.mseed_words.specs.Files.{can_be_files, is_unfit, takes_files};
 
 use crate::found::is_among;
 use crate::request::Request;
 
-/// Whether further words of a request are files.
+/// Whether further arguments of a request are files.
 pub(crate) fn takes_files(request: &Request) -> bool
     ensures { result ≡ takes_files request.now }
 {
@@ -15,7 +15,7 @@ pub(crate) fn takes_files(request: &Request) -> bool
     )
 }
 
-/// Whether words can name files: none is empty, and standard input is named once at most.
+/// Whether arguments can name files: none is empty, and standard input is named once at most.
 pub(crate) fn can_be_files(words: &[&str]) -> bool
     ensures { result ≡ can_be_files (map (λ w. w.now) words.now) }
 {

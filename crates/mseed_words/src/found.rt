@@ -1,4 +1,4 @@
-//! What `clap` found among the words.
+//! What `clap` found among the arguments.
 ghost use Rattle.std.specs.Prelude.{◌≡◌, map, option_map};
 ghost use Rattle.std.specs.List.{list_any};
 ghost use Rattle.std.specs.Str.{bytes_eq};
@@ -37,7 +37,7 @@ pub(crate) fn asks(matches: &ArgMatches<'_>, name: &str) -> bool
     }
 }
 
-/// Whether the words gave nothing but what is named so: a flag that isn't set wasn't given.
+/// Whether the arguments gave nothing but what is named so: a flag that isn't set wasn't given.
 pub(crate) fn has_only(matches: &ArgMatches<'_>, names: &[&str]) -> bool
     ensures { result ≡ has_only (map (λ n. n.now) names.now) (rows_of (found_of matches.now)) }
 {

@@ -1,4 +1,4 @@
-//! Where a feed leads, and how long a link may be silent, as the words of the command line say.
+//! Where a feed leads, and how long a link may be silent, as the arguments of the command line say.
 ghost use Rattle.std.specs.Prelude.{◌≡◌, ◌≤◌, ◌==◌, IfSome, option_map};
 ghost use Rattle.std.specs.List.{after_first, before_first, list_all, list_any};
 ghost use Rattle.std.specs.Char.{is_ascii_alphabetic};

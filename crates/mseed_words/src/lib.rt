@@ -1,4 +1,4 @@
-//! What the words of a command line request.
+//! What the arguments of a command line request.
 #![tactic(auto)]
 
 mod feed_words;

@@ -1,4 +1,4 @@
-//! Numbers as the words of the command line spell them.
+//! Numbers as the arguments of the command line spell them.
 ghost use Rattle.std.specs.Prelude.{◌≡◌, ◌≤◌, ◌<◌, ◌^◌, IfSome, option_map};
 ghost use Rattle.std.specs.List.{list_all};
 ghost use Rattle.std.specs.Char.{is_ascii_hexdigit};

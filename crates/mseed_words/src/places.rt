@@ -46,8 +46,8 @@ impl Places {
         self.count
     }
 
-    /// The places in the order of the words, each with the number of the record that is wanted first of it, where one
-    /// is given.
+    /// The places in the order of the arguments, each with the number of the record that is wanted first of it, where
+    /// one is given.
     pub fn as_slice(&self) -> &[(Place, Option<u32>)]
         ensures { result.now ≡ self.now }
     {

@@ -4,14 +4,14 @@ use mseed_pack::Encoding;
 use mseed_select::Selector;
 use slink_wire::{Address, Host, Timeout};
 
-/// What the words of a command line request, of which records, and of which files.
+/// What the arguments of a command line request, of which records, and of which files.
 #[derive(Drop)]
 pub struct Command<'a> {
     /// What is done.
     pub request: Request,
-    /// Which records of the input it is done with, where the words say: else with all of them.
+    /// Which records of the input it is done with, where the arguments say: else with all of them.
     pub selector: Option<Selector<'a>>,
-    /// The words that name the files whose bytes, one after another, are the input; `-` is standard input. Without
+    /// The arguments that name the files whose bytes, one after another, are the input; `-` is standard input. Without
     /// one standard input is read.
     pub files: Vec<&'a str>,
 }

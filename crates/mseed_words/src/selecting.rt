@@ -1,4 +1,4 @@
-//! Which records the words of a command line ask for.
+//! Which records the arguments of a command line ask for.
 ghost use Rattle.std.specs.Prelude.{◌≡◌, option_map};
 ghost use Rattle.clap.specs.Matches.{found_of};
 ghost use Rattle.clap.specs.Walk.{rows_of};
@@ -12,7 +12,7 @@ use clap::ArgMatches;
 use mseed_select::{Patterns, Selector, read_time};
 use mseed_time::Micros;
 
-/// Which records something is requested of, where the words say; `None` where what they say is none that there is.
+/// Which records something is requested of, where the arguments say; `None` where what they say is none that there is.
 pub(crate) fn asked_of<'a>(
     request: &Request,
     matches: &ArgMatches<'a>,
