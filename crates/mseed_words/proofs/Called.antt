@@ -17,7 +17,7 @@ use Rattle.mseed_words.specs.Numbers.{is_digit, value_of}
 use Rattle.mseed_words.specs.Words.{encoding_in, exponent_in, packing_by, packing_names, packing_of, packing_with}
 use Rattle.mseed_words.specs.declared.request.Packing.{Packing}
 
--- a digit behind others
+-- a digit after others
 value_more : (xs : Text) (c : ℕ) → value_of (xs ++ c ∷ []) ≡ value_of xs * 10 + (c - 48)
 value_more [] c = omega arith
 value_more (x ∷ xs) c =

@@ -116,8 +116,8 @@ twice_at t p ts rest true same has later =
     ∙ (rw (same_sym p.0 t.0, same) (or_true (has_place t.0 ts))) in
     ap (λ (b : Bool). not b && are_different (ts ++ p ∷ rest)) here
 twice_at t p ts rest false other has later =
-    let behind : has_place p.0 ts ≡ true = rw other at has in
-    rw (later behind) (and_false (not (has_place t.0 (ts ++ p ∷ rest))))
+    let among : has_place p.0 ts ≡ true = rw other at has in
+    rw (later among) (and_false (not (has_place t.0 (ts ++ p ∷ rest))))
 
 twice : (taken : List Called) (p : Called) (rest : List Called) → has_place p.0 taken ≡ true
     → are_different (taken ++ p ∷ rest) ≡ false

@@ -23,7 +23,7 @@ code_is width code e =
     let two = both _ _ one.1 in
     (leb-true _ _ one.0, leb-true _ _ two.0, two.1)
 
--- the first underscore of what is spelled stands behind the network's code
+-- the first underscore of what is spelled stands after the network's code
 cut : (net sta : List ℕ) → IsCode 2 net → (before_first (λ c. c == 95) (net ++ 95 ∷ sta) ≡ net)
     × (after_first (λ c. c == 95) (net ++ 95 ∷ sta) ≡ sta)
 cut net sta code =

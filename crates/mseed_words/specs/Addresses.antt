@@ -30,14 +30,14 @@ address_with _ _ _ _ = None
 abbrev pub before_dot : Text → Text
 before_dot text = before_first (λ c. c == 46) text
 
-abbrev pub behind_dot : Text → Text
-behind_dot text = after_first (λ c. c == 46) text
+abbrev pub after_dot : Text → Text
+after_dot text = after_first (λ c. c == 46) text
 
 -- an IPv4 address: four numbers with dots between them
 abbrev pub address_in : Text → Option Address
 address_in text =
-    address_with (octet_in (before_dot text)) (octet_in (before_dot (behind_dot text)))
-    (octet_in (before_dot (behind_dot (behind_dot text)))) (octet_in (behind_dot (behind_dot (behind_dot text))))
+    address_with (octet_in (before_dot text)) (octet_in (before_dot (after_dot text)))
+    (octet_in (before_dot (after_dot (after_dot text)))) (octet_in (after_dot (after_dot (after_dot text))))
 
 -- a letter, a digit, `-`, `.` or `_`
 abbrev pub is_in_name : ℕ → Bool

@@ -45,13 +45,13 @@ called_with (Some place) None = Some (place, None)
 called_with (Some place) (Some digits) = option_map (λ number. (place, Some number)) (hexadecimal_in digits)
 
 -- what stands after the first colon, where there is one
-abbrev pub behind_colon : Text → Option Text
-behind_colon word =
+abbrev pub after_colon : Text → Option Text
+after_colon word =
     if nat_lt (position_or_len (λ c. c == 58) word) (length word) then Some (after_first (λ c. c == 58) word) else None
 
 -- `NET_STA`, or `NET_STA:HEX`
 abbrev pub numbered_in : Text → Option Called
-numbered_in word = called_with (place_in (before_first (λ c. c == 58) word)) (behind_colon word)
+numbered_in word = called_with (place_in (before_first (λ c. c == 58) word)) (after_colon word)
 
 -- a further place: `NET_STA`, or, where it can have a number, `NET_STA:HEX` as well
 abbrev pub called_in : Naming → Text → Option Called

@@ -27,7 +27,7 @@ takes_files (Fetch fetching) = false
 
 -- a word that can't name a file before others: `-`, which is standard input, where it's named again; an empty word
 abbrev pub is_unfit : Text → List Text → Bool
-is_unfit word behind = if bytes_eq word (codes "-") then is_among behind (codes "-") else bytes_eq word (codes "")
+is_unfit word rest = if bytes_eq word (codes "-") then is_among rest (codes "-") else bytes_eq word (codes "")
 
 abbrev pub can_be_files : List Text → Bool
 can_be_files [] = true

@@ -29,11 +29,11 @@ pub(crate) fn can_be_files(words: &[&str]) -> bool
 
 /// Whether a word can't name a file before others: standard input where it's named again, or an empty word.
 #[tactic(auto, using(crate::proofs::Called::named))]
-fn is_unfit(word: &str, behind: &[&str]) -> bool
-    ensures { result ≡ is_unfit word.now (map (λ w. w.now) behind.now) }
+fn is_unfit(word: &str, rest: &[&str]) -> bool
+    ensures { result ≡ is_unfit word.now (map (λ w. w.now) rest.now) }
 {
     if word == "-" {
-        return is_among("-", behind);
+        return is_among("-", rest);
     }
     word == ""
 }

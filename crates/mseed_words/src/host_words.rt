@@ -148,10 +148,10 @@ fn address_with(
 /// What stands before the first dot, and what stands after it.
 fn cut(text: &str) -> (&str, &str)
     ensures before { result.0.now ≡ before_first (λ c. c == 46) text.now }
-    ensures behind { result.1.now ≡ after_first (λ c. c == 46) text.now }
+    ensures after { result.1.now ≡ after_first (λ c. c == 46) text.now }
 {
     match text.split_once('.') {
-        Some((before, behind)) => (before, behind),
+        Some((before, after)) => (before, after),
         None => (text, ""),
     }
 }

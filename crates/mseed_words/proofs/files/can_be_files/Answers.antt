@@ -10,7 +10,7 @@ use Rattle.mseed_words.proofs.files.can_be_files.Goals as goal
 slice_on : (words : List (Bor Text)) (i : ℕ) → take (length words - i) (drop i words) ≡ drop i words
 slice_on words i = take_all (length words - i) (drop i words) (omega (arith, length-drop i words))
 
--- the next word and those behind it
+-- the next word and those after it
 next : (words : List (Bor Text)) (i : ℕ) (d : Bor Text) (unfit : Bool) → i < length words
     → unfit ≡ is_unfit (get_or words i d).now
     (map (λ (w : Bor Text). w.now) (take (length words - (i + 1)) (drop (i + 1) words)))
