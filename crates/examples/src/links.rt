@@ -37,7 +37,7 @@ pub fn fetch_thrice<N: Net + Clock, W: Sink, E: Sink>(
         port: 18_000,
         tries: 3,
         timeout: Timeout { seconds: 600 },
-        tell_next: false,
+        report_next: false,
         client,
     };
     fetch(net, &mut plan, output, errors)

@@ -37,17 +37,17 @@ refused A s read old new status run =
 
 -- a client fetched up to an end
 abbrev Ends : Listening → Listening → Bool → ℕ → BytesWritten → BytesWritten → BytesWritten → BytesWritten → Type 0
-Ends first last tells status a b x y =
+Ends first last reports status a b x y =
     (end : FetchEnd) × (got : HasFetched end first last a b) × (status ≡ fetch_status end)
-    × ReportsOfAll tells end got.records first.talk.wants last.talk.wants x y
+    × ReportsOfAll reports end got.records first.talk.wants last.talk.wants x y
 
 -- by the plan of what was requested
-pub fetched : (f : Fetching) (first last : Listening) (tells : Bool) (status : ℕ) (a b x y : BytesWritten)
-    → first ≡ first_client f → tells ≡ f.tell_next → Ends first last tells status a b x y
+pub fetched : (f : Fetching) (first last : Listening) (reports : Bool) (status : ℕ) (a b x y : BytesWritten)
+    → first ≡ first_client f → reports ≡ f.report_next → Ends first last reports status a b x y
     → HasFetchedRequested f status a b x y
-fetched f first last tells status a b x y is same ends =
-    let client : Ends (first_client f) last tells status a b x y =
-    subst (λ (l : Listening). Ends l last tells status a b x y) is ends in
-    let all : Ends (first_client f) last f.tell_next status a b x y =
+fetched f first last reports status a b x y is same ends =
+    let client : Ends (first_client f) last reports status a b x y =
+    subst (λ (l : Listening). Ends l last reports status a b x y) is ends in
+    let all : Ends (first_client f) last f.report_next status a b x y =
     subst (λ (t : Bool). Ends (first_client f) last t status a b x y) same client in
     record { end = all.0; last = last; fetched = all.1; status_is = all.2; reports = all.3 }

@@ -33,5 +33,5 @@ pub record HasFetchedRequested (fetching : Fetching) (status : ℕ)
   pub last : Listening
   pub fetched : HasFetched end (first_client fetching) last written_old written_new
   pub status_is : status ≡ fetch_status end
-  pub reports : ReportsOfAll fetching.tell_next end fetched.records (first_client fetching).talk.wants last.talk.wants
+  pub reports : ReportsOfAll fetching.report_next end fetched.records (first_client fetching).talk.wants last.talk.wants
       reported_old reported_new

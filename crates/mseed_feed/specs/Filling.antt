@@ -57,7 +57,7 @@ pub record IsForeign (serving : Serving) (number : ℕ) (h : BytesRead) : Type 0
   pub other : ¬ (IsOfFeed (served serving) view.bytes)
   pub number_is : number ≡ length before + 1
 
--- The input ended with a fault, behind records that are all the feed's.
+-- The input ended with a fault, after records that are all the feed's.
 pub record IsBrokenOff (serving : Serving) (fault : StreamFault) (h : BytesRead) : Type 0 where
   pub views : List View
   pub all : AreAllViews h views (Some fault)

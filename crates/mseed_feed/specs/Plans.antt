@@ -59,5 +59,5 @@ pub record IsFetchPlan (fetching : Fetching) (plan : FetchPlan) : Type 0 where
   pub port : plan.port ≡ fetching.server.port
   pub tries : plan.tries ≡ fetching.tries
   pub timeout : plan.timeout ≡ fetching.server.timeout
-  pub tell_next : plan.tell_next ≡ fetching.tell_next
+  pub report_next : plan.report_next ≡ fetching.report_next
   pub client : plan.client ≡ first_client fetching

@@ -55,7 +55,7 @@ pub fn plan_fetch(fetching: &Fetching) -> FetchPlan
         port: fetching.server.port,
         tries: fetching.tries,
         timeout: fetching.server.timeout,
-        tell_next: fetching.tell_next,
+        report_next: fetching.report_next,
         client: client_of(fetching),
     }
 }

@@ -103,8 +103,8 @@ serving_with (Some listener) (Some connections) (Some capacity) (Some first) (So
 serving_with _ _ _ _ _ = None
 
 abbrev pub fetching_with : Option (Endpoint Host) → Option ℕ → Option (List Called) → Bool → Bool → Option Fetching
-fetching_with (Some server) (Some tries) (Some places) tell_next holes =
-    Some (record { server = server; tries = tries; places = places; tell_next = tell_next; holes = holes })
+fetching_with (Some server) (Some tries) (Some places) report_next holes =
+    Some (record { server = server; tries = tries; places = places; report_next = report_next; holes = holes })
 fetching_with _ _ _ _ _ = None
 
 -- what the commands of a feed take, each with these

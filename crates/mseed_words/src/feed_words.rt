@@ -174,13 +174,13 @@ fn fetching_with(
     server: Option<Endpoint<Host>>,
     tries: Option<u32>,
     places: Option<Places>,
-    tell_next: bool,
+    report_next: bool,
     holes: bool,
 ) -> Option<Fetching>
     requires server { IfSome server IsEndpoint }
     requires tries { IfSome tries IsCount }
     requires places { IfSome places ArePlaces }
-    ensures value { result ≡ fetching_with server tries places tell_next holes }
+    ensures value { result ≡ fetching_with server tries places report_next holes }
     ensures range { IfSome result CanFetch }
 {
     match (server, tries, places) {
@@ -188,7 +188,7 @@ fn fetching_with(
             server,
             tries,
             places,
-            tell_next,
+            report_next,
             holes,
         }),
         _ => None,

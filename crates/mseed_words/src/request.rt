@@ -119,7 +119,7 @@ pub struct Fetching {
     /// given.
     pub places: Places,
     /// Whether standard error is informed of the first record of each place and, at the end, how to go on.
-    pub tell_next: bool,
+    pub report_next: bool,
     /// Whether records after a hole are taken.
     pub holes: bool,
 }

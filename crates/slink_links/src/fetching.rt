@@ -43,7 +43,7 @@ pub enum FetchEnd {
 /// seconds; a received record begins anew.
 ///
 /// Returns the exit status: 0, or 2 with a line on `errors` that says why not all came. Before each record that
-/// comes after a hole a line is written there; with `tell_next` also before the first record of each station, and, at
+/// comes after a hole a line is written there; with `report_next` also before the first record of each station, and, at
 /// the end, the arguments of a fetch that goes on.
 pub fn fetch_all<D: Dial, P: Pause, W: Sink, E: Sink>(
     client: &mut Client,
@@ -52,7 +52,7 @@ pub fn fetch_all<D: Dial, P: Pause, W: Sink, E: Sink>(
     waits: &mut P,
     output: &mut W,
     errors: &mut E,
-    tell_next: bool,
+    report_next: bool,
 ) -> u8
     requires { AreOut 0 (D.calls dialler.old) (D.failures dialler.old) (D.given_back dialler.old) }
     ensures dials { D.calls dialler.new ≤ D.calls dialler.old + tries }
@@ -66,22 +66,22 @@ pub fn fetch_all<D: Dial, P: Pause, W: Sink, E: Sink>(
         × HasReadEach end client.old client.new (D.given_back dialler.old) (D.given_back dialler.new)
         (W.written output.old) (W.written output.new)
         × (result ≡ fetch_status end)
-        × ReportsOfAll tell_next end fetched.records client.old.talk.wants client.new.talk.wants (E.written errors.old)
-        (E.written errors.new)
+        × ReportsOfAll report_next end fetched.records client.old.talk.wants client.new.talk.wants
+        (E.written errors.old) (E.written errors.new)
         × HasPaused end client.old client.new (W.written output.old) (W.written output.new)
         (calls_of (D.calls dialler.old) (D.given_back dialler.old) (P.called waits.old))
         (calls_of (D.calls dialler.new) (D.given_back dialler.new) (P.called waits.new)) }
     // Where nothing more is requested, standard error takes the line of the end alone.
-    ensures quiet { tell_next ≡ false → client.old.talk.holes ≡ false
+    ensures quiet { report_next ≡ false → client.old.talk.holes ≡ false
         → (end : FetchEnd) × (result ≡ fetch_status end)
         × ReportsOfFetch end (E.written errors.old) (E.written errors.new) }
     // Each link was given back before the next one was dialled.
     ensures out { AreOut 0 (D.calls dialler.new) (D.failures dialler.new) (D.given_back dialler.new) }
 {
-    let mut reporter = Reporter::new(client, tell_next);
+    let mut reporter = Reporter::new(client, report_next);
     let end = fetch_links(client, tries, dialler, waits, output, errors, &mut reporter);
     report_end(end, errors);
-    report_next_of(tell_next, &reporter, client, end, errors);
+    report_next_of(report_next, &reporter, client, end, errors);
     fetch_status(end)
 }
 

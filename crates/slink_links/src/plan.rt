@@ -30,7 +30,7 @@ pub struct FetchPlan {
     /// How long the server may be silent.
     pub timeout: Timeout,
     /// Whether standard error is informed of the first record of each station and, at the end, of what is wanted next.
-    pub tell_next: bool,
+    pub report_next: bool,
     /// A new client, for the stations that were requested.
     pub client: Client,
 }

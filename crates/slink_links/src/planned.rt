@@ -50,19 +50,19 @@ pub fn fetch_planned<D: Dial, P: Pause, W: Sink, E: Sink>(
         × HasReadEach end plan.old.client plan.new.client (D.given_back dialler.old) (D.given_back dialler.new)
         (W.written output.old) (W.written output.new)
         × (result ≡ fetch_status end)
-        × ReportsOfAll plan.old.tell_next end fetched.records plan.old.client.talk.wants plan.new.client.talk.wants
+        × ReportsOfAll plan.old.report_next end fetched.records plan.old.client.talk.wants plan.new.client.talk.wants
         (E.written errors.old) (E.written errors.new)
         × HasPaused end plan.old.client plan.new.client (W.written output.old) (W.written output.new)
         (calls_of (D.calls dialler.old) (D.given_back dialler.old) (P.called waits.old))
         (calls_of (D.calls dialler.new) (D.given_back dialler.new) (P.called waits.new)) }
     // Where nothing more is requested, standard error takes the line of the end alone.
-    ensures quiet { plan.old.tell_next ≡ false → plan.old.client.talk.holes ≡ false
+    ensures quiet { plan.old.report_next ≡ false → plan.old.client.talk.holes ≡ false
         → (end : FetchEnd) × (result ≡ fetch_status end)
         × ReportsOfFetch end (E.written errors.old) (E.written errors.new) }
     ensures out { AreOut 0 (D.calls dialler.new) (D.failures dialler.new) (D.given_back dialler.new) }
 {
     let tries = u64::from(plan.tries);
-    let tell_next = plan.tell_next;
+    let report_next = plan.report_next;
     fetch_all(
         &mut plan.client,
         tries,
@@ -70,6 +70,6 @@ pub fn fetch_planned<D: Dial, P: Pause, W: Sink, E: Sink>(
         waits,
         output,
         errors,
-        tell_next,
+        report_next,
     )
 }

@@ -343,10 +343,10 @@ pub fn fetch<N: Net + Clock, W: Sink, E: Sink>(
     ensures end { (end : FetchEnd)
         × (fetched : HasFetched end plan.old.client plan.new.client (W.written output.old) (W.written output.new))
         × (result ≡ fetch_status end)
-        × ReportsOfAll plan.old.tell_next end fetched.records plan.old.client.talk.wants plan.new.client.talk.wants
+        × ReportsOfAll plan.old.report_next end fetched.records plan.old.client.talk.wants plan.new.client.talk.wants
         (E.written errors.old) (E.written errors.new) }
     // Where nothing more is requested, standard error takes the line of the end alone.
-    ensures quiet { plan.old.tell_next ≡ false → plan.old.client.talk.holes ≡ false
+    ensures quiet { plan.old.report_next ≡ false → plan.old.client.talk.holes ≡ false
         → (end : FetchEnd) × (result ≡ fetch_status end)
         × ReportsOfFetch end (E.written errors.old) (E.written errors.new) }
 {

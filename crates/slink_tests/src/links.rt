@@ -251,7 +251,7 @@ fn plan_of(client: Client, tries: u32, seconds: u32) -> FetchPlan {
         port: 0,
         tries,
         timeout: Timeout { seconds },
-        tell_next: false,
+        report_next: false,
         client,
     }
 }

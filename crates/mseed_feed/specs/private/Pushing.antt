@@ -25,7 +25,7 @@ pub record IsPushedAlso (serving : Serving) (old new : BytesRead) (c : Standing)
   pub filled : HasFilled serving new c feed (views ++ view ∷ [])
   pub called : old.calls < new.calls
 
--- What comes next of an input, behind these records: one more, its end, or what is wrong.
+-- What comes next of an input, after these records: one more, its end, or what is wrong.
 abbrev pub IsNextPushed : Serving → Result Step InputFault → List View → BytesRead → BytesRead → Standing → List Window
     → Type 0
 IsNextPushed serving (Ok Pushed) views old new c feed = IsPushedAlso serving old new c feed views

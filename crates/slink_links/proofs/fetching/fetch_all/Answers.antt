@@ -12,7 +12,7 @@ returns-clause-end g c = (
   c.fetch_links-end.ensures.dialled,
   c.fetch_links-end.ensures.read,
   c.fetch_status.ensures,
-  all_reported c.args.tell_next c.fetch_links-end.result c.args.client.now c.fetch_links-end.new.client
+  all_reported c.args.report_next c.fetch_links-end.result c.args.client.now c.fetch_links-end.new.client
       c.new-reporter.result.reporting c.fetch_links-end.new.reporter.reporting (g.W.Sink.written c.args.output.now)
       (g.W.Sink.written c.fetch_links-end.new.output) (g.E.Sink.written c.args.errors.now)
       (g.E.Sink.written c.fetch_links-end.new.errors) (g.E.Sink.written c.report_end.new.errors)
@@ -29,7 +29,7 @@ returns-clause-quiet g c = λ uncalled plain.
     let before = g.E.Sink.written c.args.errors.now in
     let after = g.E.Sink.written c.report_next_of.new.errors in
     let all =
-    all_reported c.args.tell_next c.fetch_links-end.result c.args.client.now c.fetch_links-end.new.client
+    all_reported c.args.report_next c.fetch_links-end.result c.args.client.now c.fetch_links-end.new.client
     c.new-reporter.result.reporting c.fetch_links-end.new.reporter.reporting (g.W.Sink.written c.args.output.now)
     (g.W.Sink.written c.fetch_links-end.new.output) (g.E.Sink.written c.args.errors.now)
     (g.E.Sink.written c.fetch_links-end.new.errors) (g.E.Sink.written c.report_end.new.errors)
