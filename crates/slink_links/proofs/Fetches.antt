@@ -38,7 +38,7 @@ use Rattle.slink_links.specs.declared.fetching.FetchEnd.{FetchEnd}
 use Rattle.slink_links.specs.declared.fetching.FetchEnd.TheVariants.{Done, Refused, BadFeed, WriteFailed, LinkFailed}
 use Rattle.slink_links.specs.Fetched.{AreTaken, HasFetched, HasReadEach, HasReadLink, HasReadLinks, HasTurned}
 use Rattle.slink_links.specs.Fetched.{IsTurnBy, WasFetchedOver}
-use Rattle.slink_links.specs.Fetched.{HaveMoved, IsFetchedOver, IsReading, IsUnended, StandsAt, StandsBy}
+use Rattle.slink_links.specs.Fetched.{HaveMoved, IsFetchedOver, IsReading, IsUnended, Reaches, ReachesBy}
 use Rattle.slink_links.specs.Fetched.{FetchesReporting, end_by, failures_by, over_none, over_one_more, over_the_last}
 
 -- What a sink accepted, stated of an equal list.
@@ -117,9 +117,9 @@ linked_unended (Number k) linked = tt
 linked_unended Packets linked = tt
 linked_unended (Ended ending) linked = absurd linked
 
--- By a step that no device failed in, the client goes on, stands at an end, or is to have another link.
+-- By a step that no device failed in, the client goes on, has reached an end, or is to have another link.
 stands_stopped : (ending : Ending) (old new : Listening) → new.talk.stage ≡ Ended ending
-    → StandsBy (end_by (Ok (turn_of ending))) old new
+    → ReachesBy (end_by (Ok (turn_of ending))) old new
 stands_stopped endings.End old new at = at
 stands_stopped (endings.Refused k) old new at = (k, at)
 stands_stopped (endings.Gap k want got) old new at = (endings.Gap k want got, at, tt)
@@ -127,7 +127,7 @@ stands_stopped endings.Garbage old new at = (endings.Garbage, at, tt)
 stands_stopped endings.Foreign old new at = (endings.Foreign, at, tt)
 
 stands_turn : (bytes : List ℕ) (stage : Stage) (old new : Listening) → new.talk.stage ≡ stage → ¬ (stage ≡ Unlinked)
-    → (bytes ≡ [] → IsUnended new.talk.stage) → StandsBy (end_by (Ok (turn_after bytes stage))) old new
+    → (bytes ≡ [] → IsUnended new.talk.stage) → ReachesBy (end_by (Ok (turn_after bytes stage))) old new
 stands_turn [] stage old new at some unended = inl (unended refl)
 stands_turn (b ∷ bs) Unlinked old new at some unended = absurd (some refl)
 stands_turn (b ∷ bs) (Station k) old new at some unended = subst IsLinked (sym at) tt
@@ -216,7 +216,7 @@ turned_ok turn old new s0 s1 w0 w1 h0 h1 f reading linked =
       reported = d.reported;
       reads = d.takes.reads;
       emitted = all emitted;
-      stands = subst (λ end. StandsBy end old new) (sym by)
+      reached = subst (λ end. ReachesBy end old new) (sym by)
           (stands_turn f.bytes new.talk.stage old new refl some
           (unended_none old new f.bytes d.takes.taken d.reported reading (linked_unended old.talk.stage linked)
           d.takes.reads d.takes.prefix));
@@ -235,7 +235,7 @@ turned_err faults.Read old new s0 s1 w0 w1 h0 h1 f reading linked =
       reported = [];
       reads = subst (ReadsOn old [] []) (sym client) (on_none old);
       emitted = subst (TakesRecords [] w0) (sym output) (takes_none w0);
-      stands = inl (subst (λ (now : Listening). IsUnended now.talk.stage) (sym client)
+      reached = inl (subst (λ (now : Listening). IsUnended now.talk.stage) (sym client)
           (linked_unended old.talk.stage linked));
       failures = ap (λ (w : BytesWritten). w.failures) output ∙ omega arith;
     }
@@ -250,7 +250,7 @@ turned_err (faults.Write n) old new s0 s1 w0 w1 h0 h1 f reading linked =
       reads = x.takes.reads;
       emitted = subst (λ rs. TakesRecords rs w0 w1) (sym (unwritten_none x.reported x.last n x.failing.part x.beyond))
           (all emitted);
-      stands = inl (linked_unended new.talk.stage x.linked);
+      reached = inl (linked_unended new.talk.stage x.linked);
       failures = emitted.failures ∙ omega arith;
     }
 turned_err (faults.Output n) old new s0 s1 w0 w1 h0 h1 f reading linked =
@@ -261,7 +261,7 @@ turned_err (faults.Output n) old new s0 s1 w0 w1 h0 h1 f reading linked =
       reported = x.reported ++ x.last ∷ [];
       reads = x.takes.reads;
       emitted = left_unwritten x.reported x.last n w0 w1 x.failing x.beyond;
-      stands = linked_unended new.talk.stage x.linked;
+      reached = linked_unended new.talk.stage x.linked;
       failures = x.failing.failures;
     }
 
@@ -292,18 +292,18 @@ turned_none now read written linked = record {
   reported = [];
   reads = on_none now;
   emitted = takes_none written;
-  stands = linked;
+  reached = linked;
   failures = omega arith;
 }
 
-stands_on : (end : Option FetchEnd) (a b c : Listening) → IsLinked b.talk.stage → StandsBy end b c → StandsBy end a c
-stands_on None a b c linked stands = stands
-stands_on (Some Done) a b c linked stands = stands
-stands_on (Some Refused) a b c linked stands = stands
-stands_on (Some BadFeed) a b c linked stands = stands
-stands_on (Some WriteFailed) a b c linked stands = stands
-stands_on (Some LinkFailed) a b c linked stands =
-    elim stands [
+reached_on : (end : Option FetchEnd) (a b c : Listening) → IsLinked b.talk.stage → ReachesBy end b c → ReachesBy end a c
+reached_on None a b c linked reached = reached
+reached_on (Some Done) a b c linked reached = reached
+reached_on (Some Refused) a b c linked reached = reached
+reached_on (Some BadFeed) a b c linked reached = reached
+reached_on (Some WriteFailed) a b c linked reached = reached
+reached_on (Some LinkFailed) a b c linked reached =
+    elim reached [
       | inl now ↦ inl now
       | inr same ↦ inl (subst (λ (now : Listening). IsUnended now.talk.stage) (sym same)
           (linked_unended b.talk.stage linked))
@@ -321,7 +321,7 @@ turned_both end a b c h i j s t u p q =
       reads = on_both a b c p.bytes q.bytes p.reported q.reported p.reads q.reads;
       emitted = subst (λ rs. TakesRecords rs s u) (sym (records_both p.reported q.reported))
           (takes_both s t u (records_reported p.reported) (records_reported q.reported) emitted q.emitted);
-      stands = stands_on end a b c p.stands q.stands;
+      reached = reached_on end a b c p.reached q.reached;
       failures = omega (arith, p.failures, q.failures);
     }
 
@@ -334,7 +334,7 @@ turned_out a b h i s t p = record {
   reported = p.reported;
   reads = p.reads;
   emitted = p.emitted;
-  stands = inl (linked_unended b.talk.stage p.stands);
+  reached = inl (linked_unended b.talk.stage p.reached);
   failures = p.failures;
 }
 
@@ -376,14 +376,14 @@ moved_by : (holes : Bool) (old new : Wants) (records : List Numbered) → HasRep
 moved_by holes old new records reported plain k n short at =
     reported_far old new records k n (subst (λ (h : Bool). HasReported h old new records) plain reported) short at
 
-stands_linked : (end : FetchEnd) (old now new : Listening) → IsUnended now.talk.stage → StandsAt end now new
-    → StandsAt end old new
-stands_linked Done old now new unended stands = stands
-stands_linked Refused old now new unended stands = stands
-stands_linked BadFeed old now new unended stands = stands
-stands_linked WriteFailed old now new unended stands = stands
-stands_linked LinkFailed old now new unended stands =
-    elim stands [
+reached_linked : (end : FetchEnd) (old now new : Listening) → IsUnended now.talk.stage → Reaches end now new
+    → Reaches end old new
+reached_linked Done old now new unended reached = reached
+reached_linked Refused old now new unended reached = reached
+reached_linked BadFeed old now new unended reached = reached
+reached_linked WriteFailed old now new unended reached = reached
+reached_linked LinkFailed old now new unended reached =
+    elim reached [
       | inl there ↦ inl there
       | inr same ↦ inl (subst (λ (x : Listening). IsUnended x.talk.stage) (sym same) unended)
     ]
@@ -403,7 +403,7 @@ fetched_link end old now new event h i s t says reads p =
       moved = moved_by old.talk.holes old.talk.wants new.talk.wants (records_reported p.reported) reported;
       holes = kept_link now.talk p.bytes p.reported new all ∙ same;
       emitted = p.emitted;
-      stands = stands_linked end old now new (connected_unended old.talk now.talk event says) p.stands;
+      reached = reached_linked end old now new (connected_unended old.talk now.talk event says) p.reached;
       failures = p.failures;
     }
 
@@ -434,7 +434,7 @@ fetched_reporting end old now new event a b says f p =
         moved = moved_by old.talk.holes old.talk.wants new.talk.wants p.records reported;
         holes = f.holes;
         emitted = p.handed_over.emitted;
-        stands = f.stands;
+        reached = f.reached;
         failures = f.failures;
       };
       handed_over = p.handed_over;
@@ -449,18 +449,18 @@ fetched_none now a = record {
     moved = moved_by now.talk.holes now.talk.wants now.talk.wants [] (reported_none now.talk.holes now.talk.wants);
     holes = refl;
     emitted = takes_none a.output;
-    stands = inr refl;
+    reached = inr refl;
     failures = omega arith;
   };
   handed_over = handed_over_none a;
 }
 
-stands_after : (end : FetchEnd) (a b c : Listening) → StandsAt LinkFailed a b → StandsAt end b c → StandsAt end a c
-stands_after Done a b c before stands = stands
-stands_after Refused a b c before stands = stands
-stands_after BadFeed a b c before stands = stands
-stands_after WriteFailed a b c before stands = stands
-stands_after LinkFailed a b c before stands = elim stands [
+reached_after : (end : FetchEnd) (a b c : Listening) → Reaches LinkFailed a b → Reaches end b c → Reaches end a c
+reached_after Done a b c before reached = reached
+reached_after Refused a b c before reached = reached
+reached_after BadFeed a b c before reached = reached
+reached_after WriteFailed a b c before reached = reached
+reached_after LinkFailed a b c before reached = elim reached [
   | inl there ↦ inl there
   | inr same ↦ subst (λ (x : Listening). IsUnended x.talk.stage ⊎ (x ≡ a)) (sym same) before
 ]
@@ -483,7 +483,7 @@ fetched_both end a b c s t u x y =
         moved = moved_by a.talk.holes a.talk.wants c.talk.wants (p.records ++ q.records) reported;
         holes = q.holes ∙ p.holes;
         emitted = takes_both s.output t.output u.output p.records q.records emitted q.emitted;
-        stands = stands_after end a b c p.stands q.stands;
+        reached = reached_after end a b c p.reached q.reached;
         failures = omega (arith, p.failures, q.failures);
       };
       handed_over = handed_over_both p.records q.records s t u x.handed_over fine y.handed_over;

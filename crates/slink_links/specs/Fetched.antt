@@ -48,13 +48,13 @@ IsUnended (Number k) = Unit {0}
 IsUnended Packets = Unit {0}
 IsUnended (Ended ending) = ⊥
 
--- What the client stands at by each end. Where the links failed it has come to no end of the last one, or had none.
-abbrev pub StandsAt : FetchEnd → Listening → Listening → Type 0
-StandsAt Done old new = new.talk.stage ≡ Ended endings.End
-StandsAt Refused old new = (k : ℕ) × (new.talk.stage ≡ Ended (endings.Refused k))
-StandsAt BadFeed old new = (ending : Ending) × (new.talk.stage ≡ Ended ending) × IsBad ending
-StandsAt WriteFailed old new = IsUnended new.talk.stage
-StandsAt LinkFailed old new = IsUnended new.talk.stage ⊎ (new ≡ old)
+-- What stage the client reached by each end. Where the links failed it has come to no end of the last one, or had none.
+abbrev pub Reaches : FetchEnd → Listening → Listening → Type 0
+Reaches Done old new = new.talk.stage ≡ Ended endings.End
+Reaches Refused old new = (k : ℕ) × (new.talk.stage ≡ Ended (endings.Refused k))
+Reaches BadFeed old new = (ending : Ending) × (new.talk.stage ≡ Ended ending) × IsBad ending
+Reaches WriteFailed old new = IsUnended new.talk.stage
+Reaches LinkFailed old new = IsUnended new.talk.stage ⊎ (new ≡ old)
 
 -- how often the output failed by then
 abbrev pub output_failures : FetchEnd → ℕ
@@ -95,7 +95,7 @@ pub record HasFetched (end : FetchEnd) (old new : Listening) (written_old writte
   pub moved : HaveMoved old.talk.holes old.talk.wants new.talk.wants records
   pub holes : new.talk.holes ≡ old.talk.holes
   pub emitted : TakesRecords records written_old written_new
-  pub stands : StandsAt end old new
+  pub reached : Reaches end old new
   pub failures : written_new.failures ≡ written_old.failures + output_failures end
 
 -- Links were fetched over so, and standard error was informed of the records before the output accepted them.
@@ -153,9 +153,9 @@ end_by (Err (faults.Write count)) = Some LinkFailed
 end_by (Err (faults.Output count)) = Some WriteFailed
 
 -- by an end, or while there is none
-abbrev pub StandsBy : Option FetchEnd → Listening → Listening → Type 0
-StandsBy None old new = IsLinked new.talk.stage
-StandsBy (Some end) old new = StandsAt end old new
+abbrev pub ReachesBy : Option FetchEnd → Listening → Listening → Type 0
+ReachesBy None old new = IsLinked new.talk.stage
+ReachesBy (Some end) old new = Reaches end old new
 
 abbrev pub failures_by : Option FetchEnd → ℕ
 failures_by None = 0
@@ -175,7 +175,7 @@ pub record HasTurned (end : Option FetchEnd) (old new : Listening) (read_old rea
   pub reported : List Event
   pub reads : ReadsOn old bytes reported new
   pub emitted : TakesRecords (records_reported reported) written_old written_new
-  pub stands : StandsBy end old new
+  pub reached : ReachesBy end old new
   pub failures : written_new.failures ≡ written_old.failures + failures_by end
 
 -- There is something that the client has read.
