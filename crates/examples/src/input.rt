@@ -1,8 +1,8 @@
 //! Calls of `mseed_input`.
 use mseed_files::{Chain, Named};
 use mseed_input::{
-    Blame, Watched, blame_by, blame_of, report_fault, report_number, tell_blame, tell_no_memory,
-    tell_unreadable, texts_of, word_of,
+    Blame, Watched, blame_by, blame_of, report_blame, report_fault, report_no_memory, report_number,
+    report_unreadable, texts_of, word_of,
 };
 use mseed_stream::{Sink, Source, StreamFault};
 use std::alloc::{AllocError, Global};
@@ -39,20 +39,20 @@ pub fn is_wrong(end: &Option<StreamFault>) -> bool {
 }
 
 /// Reports in which of the files that arguments name a fault lies that ended their bytes, after no record.
-pub fn tell_fault_of<E: Sink>(
+pub fn report_fault_of<E: Sink>(
     alloc: Global,
     words: &[&[u8]],
     fault: &StreamFault,
     errors: &mut E,
 ) -> Result<(), AllocError> {
     let chain = Chain::new(alloc, Named { words })?;
-    tell_blame(alloc, errors, words, &chain, blame_of(fault), Ok(0));
+    report_blame(alloc, errors, words, &chain, blame_of(fault), Ok(0));
     Ok(())
 }
 
 /// Reports that the file that an argument names can't be read, and, where it can't be looked at, that memory was
 /// refused.
-pub fn tell_unread<E: Sink>(
+pub fn report_unread<E: Sink>(
     alloc: Global,
     word: &[u8],
     looked: Result<bool, AllocError>,
@@ -60,8 +60,8 @@ pub fn tell_unread<E: Sink>(
 ) {
     match looked {
         Ok(true) => {}
-        Ok(false) => tell_unreadable(alloc, errors, word),
-        Err(AllocError) => tell_no_memory(errors),
+        Ok(false) => report_unreadable(alloc, errors, word),
+        Err(AllocError) => report_no_memory(errors),
     }
 }
 

@@ -2,7 +2,7 @@
 use Rattle.std.specs.Prelude.{◌≡◌, ◌⊎◌, ℕ, List, [], Option, Result, Err}
 use Rattle.std.specs.declared.alloc.AllocError.{AllocError}
 use Rattle.mseed_files.specs.Standing.{Standing}
-use Rattle.mseed_input.specs.Files.{Names, TellsBlame, TellsName, cannot_read}
+use Rattle.mseed_input.specs.Files.{Names, ReportsBlame, ReportsName, cannot_read}
 use Rattle.mseed_select.specs.Selection.{Selection}
 use Rattle.mseed_stream.specs.Device.{BytesWritten}
 use Rattle.mseed_feed.specs.Commands.{HasFetchedRequested, HasServedInput}
@@ -24,9 +24,9 @@ pub data HasRun (request : Request) (asked : Option Selection) (files : List (Li
       → HasRun request asked files status old new
   over_files : (ended : Ended) (reported : BytesWritten) (last : Result ℕ AllocError) (names : Names) (chain : Standing)
       → HasCarriedOut request asked ended old (streams new.input new.output reported) → status ≡ ended.status
-      → TellsBlame ended.blame last names chain reported new.errors → HasRun request asked files status old new
+      → ReportsBlame ended.blame last names chain reported new.errors → HasRun request asked files status old new
   unreadable : (name : List ℕ) → new.output ≡ old.output → status ≡ 2
-      → TellsName (cannot_read name) old.errors new.errors → HasRun request asked files status old new
+      → ReportsName (cannot_read name) old.errors new.errors → HasRun request asked files status old new
 
 -- the arguments request nothing, or there was no memory for them, as this says, and nothing was written on the output
 abbrev pub IsRefusedBy : (Result Command ℕ → BytesWritten → BytesWritten → Type 0) → ℕ → Streams → Streams → Type 0

@@ -18,11 +18,11 @@ abbrev pub write_failed : List ℕ
 write_failed = codes "mseed: write failed\n"
 
 -- lines were written, one after another
-abbrev pub TellsLines : List (List ℕ) → BytesWritten → BytesWritten → Type 0
-TellsLines [] old new = new ≡ old
-TellsLines (line ∷ []) old new = Tells line old new
-TellsLines (line ∷ next ∷ lines) old new =
-    (between : BytesWritten) × (Tells line old between × TellsLines (next ∷ lines) between new)
+abbrev pub ReportsLines : List (List ℕ) → BytesWritten → BytesWritten → Type 0
+ReportsLines [] old new = new ≡ old
+ReportsLines (line ∷ []) old new = Tells line old new
+ReportsLines (line ∷ next ∷ lines) old new =
+    (between : BytesWritten) × (Tells line old between × ReportsLines (next ∷ lines) between new)
 
 -- what a command comes to at its end: its status, its lines on standard error, and what is wrong with its input
 pub record Report : Type 0 where
@@ -39,7 +39,7 @@ with_line status line blame = record { status = status; lines = line ∷ []; bla
 -- it ended so
 abbrev pub EndsBy : Report → Ended → BytesWritten → BytesWritten → Type 0
 EndsBy report ended old new =
-    (ended.status ≡ report.status) × (ended.blame ≡ report.blame) × TellsLines report.lines old new
+    (ended.status ≡ report.status) × (ended.blame ≡ report.blame) × ReportsLines report.lines old new
 
 -- the exit status of an audit that was written: 2 for a fault of the input, else 1 for a broken channel, else 0
 abbrev pub summary_status : Summary → ℕ

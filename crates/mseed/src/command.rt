@@ -23,7 +23,7 @@ use crate::ending::{
 };
 use crate::outcome::{BAD_COMMAND, Ended};
 use mseed_audit::{audit, audit_each, audit_each_selected, audit_selected};
-use mseed_input::tell_no_memory;
+use mseed_input::report_no_memory;
 use mseed_join::{Form, audit_part, audit_part_each, join, join_each};
 use mseed_pack::Options;
 use mseed_repack::{repack, repack_selected, repack_selected_stretches, repack_stretches};
@@ -275,6 +275,6 @@ pub fn refuse_memory<E: Sink>(errors: &mut E) -> u8
     ensures status { result ≡ 2 }
     ensures reported { Tells no_memory (E.written errors.old) (E.written errors.new) }
 {
-    tell_no_memory(errors);
+    report_no_memory(errors);
     FAULT
 }

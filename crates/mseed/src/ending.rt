@@ -3,7 +3,7 @@ ghost use Rattle.std.specs.Prelude.{◌≡◌, nat_lt, if◌then◌else◌, Ok};
 ghost use Rattle.mseed_input.specs.Blame.{blame_by};
 ghost use Rattle.mseed.specs.Done.{EndsShow, end_status};
 ghost use Rattle.mseed.specs.Joined.{EndsJoin};
-ghost use Rattle.mseed.specs.Outcome.{EndsAudit, EndsEach, TellsLines, summary_status};
+ghost use Rattle.mseed.specs.Outcome.{EndsAudit, EndsEach, ReportsLines, summary_status};
 ghost use Rattle.mseed.specs.Repacked.{EndsRepack};
 ghost use Rattle.mseed.specs.Restretched.{EndsStretches};
 ghost use Rattle.mseed.specs.Selected.{EndsSelect, EndsSelectedAudit, EndsSelectedEach, EndsSelectedShow, end_lines};
@@ -76,7 +76,7 @@ pub fn audited_some<E: Sink>(outcome: Result<SelectedSummary, AuditFault>, error
 {
     match outcome {
         Ok(found) => {
-            tell_untimed(found.without_time, errors);
+            report_untimed(found.without_time, errors);
             ended_by(&found.summary)
         }
         Err(AuditFault::Write(_)) => Ended::with(write_failed(errors)),
@@ -94,7 +94,7 @@ pub fn audited_each_some<E: Sink>(
 {
     match outcome {
         Ok(found) => {
-            tell_untimed(found.without_time, errors);
+            report_untimed(found.without_time, errors);
             ended_by(&found.summary)
         }
         Err(EachFault::Write) => Ended::with(write_failed(errors)),
@@ -133,7 +133,7 @@ pub fn shown_some<E: Sink>(outcome: Result<Shown, ShowFault>, errors: &mut E) ->
 {
     match outcome {
         Ok(found) => {
-            tell_untimed(found.without_time, errors);
+            report_untimed(found.without_time, errors);
             ended_at(&found.end)
         }
         Err(ShowFault::Write) => Ended::with(write_failed(errors)),
@@ -195,12 +195,12 @@ pub fn selected<E: Sink>(outcome: Result<Selected, SelectFault>, errors: &mut E)
 }
 
 /// Reports how many of the records lack a time, and with what fault the input ended, if with one.
-#[tactic(auto, using(crate::proofs::Lines::both_told))]
+#[tactic(auto, using(crate::proofs::Lines::both_reported))]
 fn selected_to<E: Sink>(selected: Selected, errors: &mut E) -> Ended
     ensures { EndsSelect (Ok selected) result (E.written errors.old) (E.written errors.new) }
 {
-    tell_untimed(selected.without_time, errors);
-    let status = tell_end(&selected.end, errors);
+    report_untimed(selected.without_time, errors);
+    let status = report_end(&selected.end, errors);
     Ended {
         status,
         blame: blame_by(&selected.end),
@@ -208,8 +208,8 @@ fn selected_to<E: Sink>(selected: Selected, errors: &mut E) -> Ended
 }
 
 /// Reports how many records lack a time, where some do.
-fn tell_untimed<E: Sink>(count: u64, errors: &mut E)
-    ensures { TellsLines (untimed_lines count) (E.written errors.old) (E.written errors.new) }
+fn report_untimed<E: Sink>(count: u64, errors: &mut E)
+    ensures { ReportsLines (untimed_lines count) (E.written errors.old) (E.written errors.new) }
 {
     if count > 0 {
         report_number(errors, b"mseed: ", count, b" records without a time\n");
@@ -217,9 +217,9 @@ fn tell_untimed<E: Sink>(count: u64, errors: &mut E)
 }
 
 /// Reports with what fault an input ended, if with one, and returns the exit status.
-fn tell_end<E: Sink>(end: &Option<StreamFault>, errors: &mut E) -> u8
+fn report_end<E: Sink>(end: &Option<StreamFault>, errors: &mut E) -> u8
     ensures status { result ≡ end_status end.now }
-    ensures lines { TellsLines (end_lines end.now) (E.written errors.old) (E.written errors.new) }
+    ensures lines { ReportsLines (end_lines end.now) (E.written errors.old) (E.written errors.new) }
 {
     match end {
         None => DONE,

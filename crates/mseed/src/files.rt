@@ -9,7 +9,7 @@ ghost use Rattle.mseed.specs.Streams.{streams};
 
 use crate::command::run;
 use mseed_files::{Chain, Named, find_unreadable};
-use mseed_input::{Watched, tell_blame, tell_unreadable, word_of};
+use mseed_input::{Watched, report_blame, report_unreadable, word_of};
 use mseed_stream::{Buffered, Sink};
 use mseed_words::{Command, Request};
 use slink_links::FAULT;
@@ -107,7 +107,7 @@ fn run_over_files<W: Sink, E: Sink>(
     if let Some(index) = find_unreadable(rt, &names)
         && let Some(name) = names.get(index)
     {
-        tell_unreadable(rt.alloc(), errors, name);
+        report_unreadable(rt.alloc(), errors, name);
         return Ok(FAULT);
     }
     let mut chain = Chain::new(rt.alloc(), Named { words: &names })?;
@@ -117,7 +117,7 @@ fn run_over_files<W: Sink, E: Sink>(
     let ended = run(rt.alloc(), command, &mut input, output, errors);
     let last = input.last_size();
     drop(input);
-    tell_blame(rt.alloc(), errors, &names, &chain, ended.blame, last);
+    report_blame(rt.alloc(), errors, &names, &chain, ended.blame, last);
     Ok(ended.status)
 }
 

@@ -5,7 +5,7 @@ ghost use Rattle.mseed_feed.specs.Plans.{fill_text};
 ghost use Rattle.mseed_input.specs.Files.{no_memory};
 ghost use Rattle.mseed_stream.specs.Telling.{Tells};
 
-use mseed_input::{report_fault, report_number, tell_no_memory};
+use mseed_input::{report_fault, report_no_memory, report_number};
 use mseed_stream::{Sink, StreamFault, report};
 use slink_feed::InputFault;
 use slink_links::FAULT;
@@ -15,7 +15,7 @@ pub(crate) fn report_filling<E: Sink>(errors: &mut E, fault: &InputFault)
     ensures { Tells (fill_text fault.now) (E.written errors.old) (E.written errors.new) }
 {
     match fault {
-        InputFault::Stream(StreamFault::Memory) => tell_no_memory(errors),
+        InputFault::Stream(StreamFault::Memory) => report_no_memory(errors),
         InputFault::Stream(fault) => report_fault(errors, fault),
         InputFault::Foreign(number) => {
             report_number(
@@ -33,7 +33,7 @@ pub(crate) fn refuse_memory<E: Sink>(errors: &mut E) -> u8
     ensures status { result ≡ 2 }
     ensures reported { Tells no_memory (E.written errors.old) (E.written errors.new) }
 {
-    tell_no_memory(errors);
+    report_no_memory(errors);
     FAULT
 }
 

@@ -32,7 +32,7 @@ pub fn report_number<'a, E: Sink>(errors: &mut E, before: &'a [u8], number: u64,
 }
 
 /// Reports that memory was refused: to a command, or for the words of the command line.
-pub fn tell_no_memory<E: Sink>(errors: &mut E)
+pub fn report_no_memory<E: Sink>(errors: &mut E)
     ensures { Tells no_memory (E.written errors.old) (E.written errors.new) }
 {
     report(errors, b"mseed: no memory\n");
