@@ -47,14 +47,7 @@ pub named : (names : List (Bor Text)) (id : Text)
 named [] id = refl
 named (n ∷ ns) id = ap (λ (b : Bool). bytes_eq n.now id || b) (named ns id)
 
--- nothing left, or one word and the others
-pub left_none : (p : Text → Bool) (xs : List Text) → slice_get xs 0 ≡ None → list_all p xs ≡ true
-left_none p [] e = refl
-left_none p (x ∷ xs) e = absurd (some_none x e)
-  where
-    some_none : (x : Text) → Some x ≡ None → ⊥
-    some_none x e = cc
-
+-- one word and the others
 pub left_some : (p : Text → Bool) (xs : List Text) (x : Text) → slice_get xs 0 ≡ Some x
     → list_all p xs ≡ (p x && list_all p (drop 1 xs))
 left_some p [] x e = absurd (none_some x e)

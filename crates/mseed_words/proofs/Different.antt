@@ -6,24 +6,13 @@ use Rattle.std.specs.Prelude.{nat_le, option_and_then, option_map, bytes_eq}
 use Rattle.std.proofs.lemmas.Slice.Eq.{bytes_eq-Decides}
 use Rattle.clap.proofs.WalkLemmas.{both}
 use Rattle.slink_wire.specs.Place.{Fields}
-use Rattle.mseed_words.specs.Places.{Called, all_there, are_different, can_be_places, has_place, is_same, places_of}
+use Rattle.mseed_words.specs.Places.{Called, all_there, are_different, can_be_places, has_place, is_same}
 
 -- what the places that are there come to, with those that are left
 abbrev pub with_rest : List Called → List (Option Called) → Option (List Called)
 with_rest taken left =
     option_and_then (λ (rest : List Called). cond (can_be_places (taken ++ rest)) (Some (taken ++ rest)) None)
     (all_there left)
-
-pub begins : (first : Called) (left : List (Option Called))
-    → with_rest (first ∷ []) left ≡ places_of (Some first ∷ left)
-begins first left = go (all_there left)
-  where
-    go : (o : Option (List Called))
-        → option_and_then (λ (rest : List Called). cond (can_be_places (first ∷ rest)) (Some (first ∷ rest)) None) o
-        ≡ option_and_then (λ (places : List Called). cond (can_be_places places) (Some places) None)
-        (option_map (λ places. first ∷ places) o)
-    go None = refl
-    go (Some rest) = refl
 
 -- one more that is there
 pub one_more : (taken : List Called) (p : Called) (left : List (Option Called))
@@ -38,10 +27,6 @@ one_more taken p left = go (all_there left)
     go None = refl
     go (Some rest) = ap (λ (all : List Called). cond (can_be_places all) (Some all) None)
         (sym (append_assoc taken (p ∷ []) rest))
-
--- one that lacks
-pub one_lacks : (taken : List Called) (left : List (Option Called)) → with_rest taken (None ∷ left) ≡ None
-one_lacks taken left = refl
 
 -- none is left
 pub all_taken : (taken : List Called) → length taken ≤ 16 → are_different taken ≡ true → with_rest taken [] ≡ Some taken

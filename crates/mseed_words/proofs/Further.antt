@@ -1,5 +1,5 @@
 -- The further words of a command line, and the files that they are.
-use Rattle.std.proofs.Common.{◌≡◌, [], Bool, true, false, List, None, Option, Some, ap, map, option_map, refl}
+use Rattle.std.proofs.Common.{◌≡◌, [], Bool, true, List, None, Option, Some, ap, map, option_map, refl}
 use Rattle.std.proofs.Common.{unwrap_or, ◌∙◌, sym, if◌then◌else◌}
 use Rattle.std.specs.Borrow.{Bor}
 use Rattle.clap.specs.Walk.{Row, Text}
@@ -15,11 +15,6 @@ pub further_is : (found : Option (Bor (List (Bor Text)))) (none : Bor (List (Bor
     → texts_of (unwrap_or found none) ≡ unwrap_or (option_map texts_of found) []
 further_is None none e = e
 further_is (Some words) none e = refl
-
--- no file, where none can be named
-pub no_files : (request : Request) (rows : List Row) (takes : Bool) → takes ≡ takes_files request → takes ≡ false
-    → files_of request rows ≡ Some []
-no_files request rows takes is fails = ap (λ (b : Bool). files_by (named_by b rows)) (sym is ∙ fails)
 
 -- the further words, where they can be files
 pub all_files : (request : Request) (rows : List Row) (takes can : Bool) (words : List Text)

@@ -4,26 +4,14 @@ use Rattle.std.specs.Str.{bytes_eq}
 use Rattle.clap.specs.Walk.{Row, Text}
 use Rattle.mseed_words.specs.Found.{further_in, is_among}
 use Rattle.mseed_words.specs.declared.request.Request.{Request}
-use Rattle.mseed_words.specs.declared.request.Request.TheVariants.{Audit, AuditEach, AuditPart, AuditPartEach}
-use Rattle.mseed_words.specs.declared.request.Request.TheVariants.{Join, JoinEach, JoinPart, Show, Select}
-use Rattle.mseed_words.specs.declared.request.Request.TheVariants.{Repack, RepackStretches, Serve, Live, Fetch}
+use Rattle.mseed_words.specs.declared.request.Request.TheVariants.{Serve, Live, Fetch}
 
 -- further arguments are files, but of serving and fetching, where they are places
 abbrev pub takes_files : Request → Bool
-takes_files Audit = true
-takes_files AuditEach = true
-takes_files AuditPart = true
-takes_files AuditPartEach = true
-takes_files (Join joining) = true
-takes_files (JoinEach joining) = true
-takes_files (JoinPart joining) = true
-takes_files Show = true
-takes_files Select = true
-takes_files (Repack packing) = true
-takes_files (RepackStretches packing leave) = true
 takes_files (Serve serving) = false
 takes_files (Live live) = false
 takes_files (Fetch fetching) = false
+takes_files request = true
 
 -- a word that can't name a file before others: `-`, which is standard input, where it's named again; an empty word
 abbrev pub is_unfit : Text → List Text → Bool

@@ -6,9 +6,8 @@ use Rattle.mseed_select.specs.Pattern.{are_patterns}
 use Rattle.mseed_select.specs.Selection.{Selection}
 use Rattle.mseed_select.specs.Word.{time_of}
 use Rattle.mseed_words.specs.declared.request.Request.{Request}
-use Rattle.mseed_words.specs.declared.request.Request.TheVariants.{Audit, AuditEach, AuditPart, AuditPartEach}
-use Rattle.mseed_words.specs.declared.request.Request.TheVariants.{Join, JoinEach, JoinPart, Show, Select}
-use Rattle.mseed_words.specs.declared.request.Request.TheVariants.{Repack, RepackStretches, Serve, Live, Fetch}
+use Rattle.mseed_words.specs.declared.request.Request.TheVariants.{Audit, AuditEach, Show, Select, Repack}
+use Rattle.mseed_words.specs.declared.request.Request.TheVariants.{RepackStretches}
 
 -- patterns of channels, where a text is given
 abbrev pub channels_in : Option Text → Option (Option Text)
@@ -53,18 +52,11 @@ is_selective rows =
 abbrev pub takes_selection : Request → Bool
 takes_selection Audit = true
 takes_selection AuditEach = true
-takes_selection AuditPart = false
-takes_selection AuditPartEach = false
-takes_selection (Join joining) = false
-takes_selection (JoinEach joining) = false
-takes_selection (JoinPart joining) = false
 takes_selection Show = true
 takes_selection Select = true
 takes_selection (Repack packing) = true
 takes_selection (RepackStretches packing leave) = true
-takes_selection (Serve serving) = false
-takes_selection (Live live) = false
-takes_selection (Fetch fetching) = false
+takes_selection request = false
 
 -- which records something is requested of, where the arguments say: else of all
 abbrev pub asked_by : Bool → List Row → Option (Option Selection)

@@ -165,20 +165,12 @@ request_of rows = request_by (first_of (codes "command") rows) rows
 
 -- records of 128 to 4096 bytes; a feed that can be
 abbrev pub CanBeCalled : Request → Type 0
-CanBeCalled Audit = ⊤
-CanBeCalled AuditEach = ⊤
-CanBeCalled AuditPart = ⊤
-CanBeCalled AuditPartEach = ⊤
-CanBeCalled (Join joining) = ⊤
-CanBeCalled (JoinEach joining) = ⊤
-CanBeCalled (JoinPart joining) = ⊤
-CanBeCalled Show = ⊤
-CanBeCalled Select = ⊤
 CanBeCalled (Repack packing) = (7 ≤ packing.exponent) × (packing.exponent ≤ 12)
 CanBeCalled (RepackStretches packing leave) = (7 ≤ packing.exponent) × (packing.exponent ≤ 12)
 CanBeCalled (Serve serving) = CanServe serving
 CanBeCalled (Live live) = CanServeLive live
 CanBeCalled (Fetch fetching) = CanFetch fetching
+CanBeCalled request = ⊤
 
 -- what is requested, of which records, where the arguments say, and of which files: of none where standard input is
 -- read
