@@ -1,8 +1,7 @@
 //! What is reported of the files that words name.
-ghost use Rattle.std.specs.Prelude.{◌≡◌, ◌++◌, IfOk, map, option_map};
+ghost use Rattle.std.specs.Prelude.{◌≡◌, ◌++◌, IfOk, map};
 ghost use Rattle.mseed_input.specs.Files.{IsReportedPlace, ReportsBlame, ReportsFault, ReportsFile, ReportsName};
-ghost use Rattle.mseed_input.specs.Files.{ReportsPlace, ReportsWord, cannot_read, fault_in, last_of, no_memory};
-ghost use Rattle.mseed_input.specs.Files.{printed_byte, word_at};
+ghost use Rattle.mseed_input.specs.Files.{ReportsPlace, cannot_read, fault_in, last_of, no_memory, printed_byte};
 ghost use Rattle.mseed_stream.specs.Telling.{Tells};
 
 use crate::blame::Blame;
@@ -28,7 +27,9 @@ pub fn report_blame<E: Sink, O: Open>(
     match blame {
         Blame::Nothing => {}
         Blame::Read => report_failed_file(alloc, errors, names, chain.failed()),
-        Blame::Fault(offset) => report_faulty_file(alloc, errors, names, chain, offset, last, offset),
+        Blame::Fault(offset) => report_faulty_file(
+            alloc, errors, names, chain, offset, last, offset,
+        ),
         Blame::Cut(offset) => {
             let reached = offset.saturating_sub(1);
             report_faulty_file(alloc, errors, names, chain, offset, last, reached);
@@ -37,34 +38,22 @@ pub fn report_blame<E: Sink, O: Open>(
 }
 
 /// Reports which file failed, if one did.
-fn report_failed_file<E: Sink>(alloc: Global, errors: &mut E, names: &[&[u8]], failed: Option<usize>)
+fn report_failed_file<E: Sink>(
+    alloc: Global,
+    errors: &mut E,
+    names: &[&[u8]],
+    failed: Option<usize>,
+)
     ensures { ReportsFile failed names.now cannot_read (E.written errors.old) (E.written errors.new) }
 {
-    match failed {
-        Some(file) => report_unreadable_word(alloc, errors, word_at(names, file)),
-        None => {}
+    if let Some(file) = failed
+        && let Some(word) = names.get(file)
+    {
+        report_unreadable(alloc, errors, word);
     }
 }
 
-/// The word of this number, if there is one.
-fn word_at<'a>(names: &[&'a [u8]], file: usize) -> Option<&'a [u8]>
-    ensures { option_map (λ name. name.now) result ≡ word_at names.now file }
-{
-    names.get(file).copied()
-}
-
-/// Reports that the file that a word names can't be read, if there is one.
-fn report_unreadable_word<E: Sink>(alloc: Global, errors: &mut E, word: Option<&[u8]>)
-    ensures { ReportsWord (option_map (λ w. w.now) word.entry) cannot_read (E.written errors.old)
-        (E.written errors.new) }
-{
-    match word {
-        Some(word) => report_unreadable(alloc, errors, word),
-        None => {}
-    }
-}
-
-/// Reports where a fault is reported that lies at an offset, after a record of `last` bytes.
+/// Reports in which file a fault lies that is found at an offset, after a record of `last` bytes.
 fn report_faulty_file<E: Sink, O: Open>(
     alloc: Global,
     errors: &mut E,
@@ -116,24 +105,14 @@ fn place_to_report<O: Open>(
     Some(if end.file == before.file { own } else { before })
 }
 
-/// Reports that a fault lies in a file, and where.
+/// Reports that a fault lies in a file, and where, if it lies in one.
 fn report_place<E: Sink>(alloc: Global, errors: &mut E, names: &[&[u8]], place: Option<Place>)
     ensures { ReportsPlace place names.now (E.written errors.old) (E.written errors.new) }
 {
-    match place {
-        Some(place) => report_fault_in_word(alloc, errors, word_at(names, place.file), place.offset),
-        None => {}
-    }
-}
-
-/// Reports that a fault lies in the file that a word names, after so many bytes of it, if there is one.
-fn report_fault_in_word<E: Sink>(alloc: Global, errors: &mut E, word: Option<&[u8]>, offset: u64)
-    ensures { ReportsWord (option_map (λ w. w.now) word.entry) (fault_in offset) (E.written errors.old)
-        (E.written errors.new) }
-{
-    match word {
-        Some(word) => report_fault_in(alloc, errors, word, offset),
-        None => {}
+    if let Some(place) = place
+        && let Some(word) = names.get(place.file)
+    {
+        report_fault_in(alloc, errors, word, place.offset);
     }
 }
 
