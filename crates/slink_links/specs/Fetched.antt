@@ -58,27 +58,18 @@ Reaches LinkFailed old new = IsUnended new.talk.stage ⊎ (new ≡ old)
 
 -- how often the output failed by then
 abbrev pub output_failures : FetchEnd → ℕ
-output_failures Done = 0
-output_failures Refused = 0
-output_failures BadFeed = 0
 output_failures WriteFailed = 1
-output_failures LinkFailed = 0
+output_failures end = 0
 
 -- The links failed where all tries were used up. At another end some were made, and no more.
 abbrev pub HasDialled : FetchEnd → ℕ → ℕ → ℕ → Type 0
-HasDialled Done tries old new = (old < new) × (new ≤ old + tries)
-HasDialled Refused tries old new = (old < new) × (new ≤ old + tries)
-HasDialled BadFeed tries old new = (old < new) × (new ≤ old + tries)
-HasDialled WriteFailed tries old new = (old < new) × (new ≤ old + tries)
 HasDialled LinkFailed tries old new = new ≡ old + tries
+HasDialled end tries old new = (old < new) × (new ≤ old + tries)
 
 -- the exit status
 abbrev pub fetch_status : FetchEnd → ℕ
 fetch_status Done = 0
-fetch_status Refused = 2
-fetch_status BadFeed = 2
-fetch_status WriteFailed = 2
-fetch_status LinkFailed = 2
+fetch_status end = 2
 
 -- the line on standard error, or none
 abbrev pub ReportsOfFetch : FetchEnd → BytesWritten → BytesWritten → Type 0
@@ -105,11 +96,8 @@ pub record FetchesReporting (end : FetchEnd) (old new : Listening) (before after
 
 -- whether the last record wasn't taken whole
 abbrev pub is_unwritten : FetchEnd → Bool
-is_unwritten Done = false
-is_unwritten Refused = false
-is_unwritten BadFeed = false
 is_unwritten WriteFailed = true
-is_unwritten LinkFailed = false
+is_unwritten end = false
 
 -- the arguments of a fetch that goes on, where they are requested
 abbrev pub next_lines : Bool → Wants → List (List ℕ)
@@ -133,14 +121,8 @@ pub record ReportsOfAll (firsts : Bool) (end : FetchEnd) (records : List Numbere
 
 -- how a fetch ends by the event at which a client stopped
 abbrev pub stopped_by : Event → FetchEnd
-stopped_by events.None = BadFeed
-stopped_by (events.Say line) = BadFeed
-stopped_by (events.Record k number bytes) = BadFeed
-stopped_by events.End = BadFeed
 stopped_by (events.Refused k) = Refused
-stopped_by (events.Gap k want got) = BadFeed
-stopped_by events.Garbage = BadFeed
-stopped_by events.Foreign = BadFeed
+stopped_by event = BadFeed
 
 -- how it ends by what a step with a link comes to, if it ends
 abbrev pub end_by : Result Turn LinkFault → Option FetchEnd

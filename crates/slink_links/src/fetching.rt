@@ -121,8 +121,7 @@ fn fetch_status(end: FetchEnd) -> u8
 {
     match end {
         FetchEnd::Done => DONE,
-        FetchEnd::Refused | FetchEnd::BadFeed | FetchEnd::WriteFailed | FetchEnd::LinkFailed =>
-            FAULT,
+        _ => FAULT,
     }
 }
 
@@ -130,10 +129,7 @@ fn fetch_status(end: FetchEnd) -> u8
 fn is_unwritten(end: FetchEnd) -> bool
     ensures { result ≡ is_unwritten end }
 {
-    match end {
-        FetchEnd::WriteFailed => true,
-        FetchEnd::Done | FetchEnd::Refused | FetchEnd::BadFeed | FetchEnd::LinkFailed => false,
-    }
+    matches!(end, FetchEnd::WriteFailed)
 }
 
 /// Fetches over one link after another, waits between them, and answers how it ended.
