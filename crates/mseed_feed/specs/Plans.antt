@@ -3,7 +3,7 @@ use Rattle.std.specs.Prelude.{◌≡◌, ℕ, List, ◌++◌, Result, Ok, Err, c
 use Rattle.mseed_input.specs.Files.{no_memory}
 use Rattle.mseed_stream.specs.Device.{BytesRead, BytesWritten}
 use Rattle.mseed_stream.specs.Telling.{Tells}
-use Rattle.mseed_stream.specs.declared.fault.StreamFault.TheVariants.{Frame, Truncated, Read, Turns, Memory}
+use Rattle.mseed_stream.specs.declared.fault.StreamFault.TheVariants.{Memory}
 use Rattle.mseed_text.specs.Fault.{fault_line}
 use Rattle.slink_feed.specs.Listening.{Listening, new_client}
 use Rattle.slink_feed.specs.Window.{Window}
@@ -18,11 +18,8 @@ use Rattle.mseed_words.specs.declared.request.Serving.{Serving}
 
 -- why a feed isn't filled further
 abbrev pub fill_text : InputFault → List ℕ
-fill_text (Stream (Frame n f)) = codes "mseed: " ++ fault_line (Frame n f)
-fill_text (Stream (Truncated n have)) = codes "mseed: " ++ fault_line (Truncated n have)
-fill_text (Stream (Read n)) = codes "mseed: " ++ fault_line (Read n)
-fill_text (Stream (Turns n)) = codes "mseed: " ++ fault_line (Turns n)
 fill_text (Stream Memory) = no_memory
+fill_text (Stream fault) = codes "mseed: " ++ fault_line fault
 fill_text (Foreign number) = codes "mseed: record " ++ decimal number ++ codes " is not of this feed\n"
 
 -- the feed, and the values that were requested

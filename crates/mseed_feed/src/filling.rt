@@ -15,7 +15,7 @@ ghost use Rattle.mseed_words.specs.declared.request.Serving.{Serving};
 use mseed_stream::{Cutter, Source, StreamFault};
 use mseed_words::Serving;
 use slink_feed::{Feed, InputFault, Ring};
-use std::alloc::{Allocator, Global};
+use std::alloc::Allocator;
 
 /// What comes next of an input.
 #[derive(Clone, Copy)]
@@ -92,7 +92,11 @@ fn answer(taken: Result<usize, InputFault>) -> Result<Step, InputFault>
 }
 
 /// The feed before the first record.
-fn open<A: Allocator + Copy>(alloc: A, serving: &Serving) -> Result<Feed<A>, InputFault>
+///
+/// # Errors
+///
+/// `Stream` where an allocation was refused.
+pub(crate) fn open<A: Allocator + Copy>(alloc: A, serving: &Serving) -> Result<Feed<A>, InputFault>
     requires { CanServe serving.now }
     ensures ok { IfOk result (λ feed. feed ≡ feed_of serving.now []) }
     ensures err { IfErr result (λ fault. fault ≡ InputFault.Stream StreamFault.Memory) }
@@ -105,17 +109,4 @@ fn open<A: Allocator + Copy>(alloc: A, serving: &Serving) -> Result<Feed<A>, Inp
         feed.add_other(ring);
     }
     Ok(feed)
-}
-
-/// The feed before the first record, of the heap.
-///
-/// # Errors
-///
-/// `Stream` where an allocation was refused.
-pub(crate) fn open_feed(alloc: Global, serving: &Serving) -> Result<Feed, InputFault>
-    requires { CanServe serving.now }
-    ensures ok { IfOk result (λ feed. feed ≡ feed_of serving.now []) }
-    ensures err { IfErr result (λ fault. fault ≡ InputFault.Stream StreamFault.Memory) }
-{
-    open(alloc, serving)
 }

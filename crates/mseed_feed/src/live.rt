@@ -10,7 +10,7 @@ ghost use Rattle.mseed_words.specs.FeedWords.{CanServeLive};
 ghost use Rattle.mseed_feed.specs.Filling.{feed_of};
 ghost use Rattle.mseed_feed.specs.Live.{EndsWith, HasEnded, HasServed, HasServedTcp};
 
-use crate::filling::open_feed;
+use crate::filling::open;
 use crate::refusal::{link_failed, refuse_memory, report_filling};
 use mseed_stream::Sink;
 use mseed_words::LiveServing;
@@ -103,7 +103,7 @@ fn server_of(alloc: Global, live: &LiveServing) -> Result<Server, AllocError>
     ensures sound { IfOk result IsSound }
     ensures clients { IfOk result (λ server. length server.links ≡ live.now.clients) }
 {
-    match open_feed(alloc, &live.serving) {
+    match open(alloc, &live.serving) {
         Ok(feed) => Server::new(alloc, feed, live.clients as usize),
         Err(_) => Err(AllocError),
     }
