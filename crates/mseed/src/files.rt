@@ -1,5 +1,5 @@
 //! A command over its input: standard input, or the files that its arguments name.
-ghost use Rattle.std.specs.Prelude.{◌≡◌, [], IfErr, IfOk, map, option_map, true};
+ghost use Rattle.std.specs.Prelude.{◌≡◌, IfErr, IfOk, map, option_map, true};
 ghost use Rattle.mseed_select.specs.Selecting.{selection_of};
 ghost use Rattle.mseed_stream.specs.Device.{BytesRead, nothing_read};
 ghost use Rattle.mseed_words.specs.Files.{takes_files};
@@ -13,6 +13,7 @@ use mseed_input::{Watched, report_blame, report_unreadable, word_of};
 use mseed_stream::{Buffered, Sink};
 use mseed_words::{Command, Request};
 use slink_links::FAULT;
+use std::alloc::{AllocError, Global};
 use std::io;
 use std::io::BufReader;
 
@@ -43,35 +44,9 @@ pub fn run_over_named<W: Sink, E: Sink>(
     ensures unwritten { IfErr result (λ _. W.written output.new ≡ W.written output.old) }
     ensures unreported { IfErr result (λ _. E.written errors.new ≡ E.written errors.old) }
 {
-    if command.files.is_empty() {
-        run_over_input(rt, command, output, errors)
-    } else {
-        run_over_files(rt, command, words, output, errors)
+    if !command.files.is_empty() {
+        return run_over_files(rt, command, words, output, errors);
     }
-}
-
-/// Carries out a command over standard input, and returns the exit status.
-///
-/// # Errors
-///
-/// `OutOfMemory` where there is no room for a buffer. Nothing was read or written then.
-fn run_over_input<W: Sink, E: Sink>(
-    rt: &HostRuntime,
-    command: &Command<'_>,
-    output: &mut W,
-    errors: &mut E,
-) -> io::Result<u8>
-    requires called { CanBeCalled command.now.request }
-    requires reads { takes_files command.now.request ≡ true }
-    requires no_file { command.now.files.items ≡ [] }
-    ensures ok { IfOk result (λ status. (read : BytesRead)
-        × HasRun command.now.request (option_map selection_of command.now.selector)
-        (map (λ file. file.now) command.now.files.items) status
-        (streams nothing_read (W.written output.old) (E.written errors.old))
-        (streams read (W.written output.new) (E.written errors.new))) }
-    ensures unwritten { IfErr result (λ _. W.written output.new ≡ W.written output.old) }
-    ensures unreported { IfErr result (λ _. E.written errors.new ≡ E.written errors.old) }
-{
     let mut input = Buffered::new(BufReader::with_capacity(rt.alloc(), ROOM, rt.reader())?);
     Ok(run(rt.alloc(), command, &mut input, output, errors).status)
 }
@@ -100,10 +75,7 @@ fn run_over_files<W: Sink, E: Sink>(
     ensures unwritten { IfErr result (λ _. W.written output.new ≡ W.written output.old) }
     ensures unreported { IfErr result (λ _. E.written errors.new ≡ E.written errors.old) }
 {
-    let mut names = Vec::new(rt.alloc());
-    for file in &command.files {
-        names.push(word_of(file, words))?;
-    }
+    let names = names_of(rt.alloc(), &command.files, words)?;
     if let Some(index) = find_unreadable(rt, &names)
         && let Some(name) = names.get(index)
     {
@@ -119,6 +91,23 @@ fn run_over_files<W: Sink, E: Sink>(
     drop(input);
     report_blame(rt.alloc(), errors, &names, &chain, ended.blame, last);
     Ok(ended.status)
+}
+
+/// The arguments as they were given, by the texts that stand for them.
+///
+/// # Errors
+///
+/// Where there was no room for them.
+fn names_of<'a>(
+    alloc: Global,
+    files: &[&'a str],
+    words: &'a [Vec<u8>],
+) -> Result<Vec<&'a [u8]>, AllocError> {
+    let mut names = Vec::new(alloc);
+    for file in files {
+        names.push(word_of(file, words))?;
+    }
+    Ok(names)
 }
 
 /// Whether what is requested reads an archive: joining reads parts, in which no record lies.
