@@ -9,9 +9,7 @@ use Rattle.mseed_words.specs.declared.request.Fetching.{Fetching}
 use Rattle.mseed_words.specs.declared.request.LiveServing.{LiveServing}
 use Rattle.mseed_words.specs.declared.request.Request.{Request}
 use Rattle.mseed_words.specs.declared.request.Serving.{Serving}
-use Rattle.mseed_words.specs.declared.request.Request.TheVariants.{Audit, AuditEach, AuditPart, AuditPartEach}
-use Rattle.mseed_words.specs.declared.request.Request.TheVariants.{Join, JoinEach, JoinPart, Show, Select}
-use Rattle.mseed_words.specs.declared.request.Request.TheVariants.{Repack, RepackStretches, Serve, Live, Fetch}
+use Rattle.mseed_words.specs.declared.request.Request.TheVariants.{Serve, Live, Fetch}
 use Rattle.mseed.specs.Asked.{IsAsked, LacksMemory}
 use Rattle.mseed.specs.Effect.{HasDone, HasEffect, HasRun}
 use Rattle.mseed.specs.Streams.{Streams, streams}
@@ -19,20 +17,10 @@ use Rattle.mseed.specs.Streams.{Streams, streams}
 pub done : (r : Request) (asked : Option Selection) (files : List (List ℕ)) (status : ℕ) (old new : Streams)
     → ((s : Serving) → r ≡ Serve s → ⊥) → ((l : LiveServing) → r ≡ Live l → ⊥) → ((f : Fetching) → r ≡ Fetch f → ⊥)
     → HasRun r asked files status old new → HasDone r asked files status old new
-done Audit asked files status old new _ _ _ run = run
-done AuditEach asked files status old new _ _ _ run = run
-done AuditPart asked files status old new _ _ _ run = run
-done AuditPartEach asked files status old new _ _ _ run = run
-done (Join by) asked files status old new _ _ _ run = run
-done (JoinEach by) asked files status old new _ _ _ run = run
-done (JoinPart by) asked files status old new _ _ _ run = run
-done Show asked files status old new _ _ _ run = run
-done Select asked files status old new _ _ _ run = run
-done (Repack packing) asked files status old new _ _ _ run = run
-done (RepackStretches packing leave) asked files status old new _ _ _ run = run
 done (Serve s) asked files status old new other _ _ run = absurd (other s refl)
 done (Live l) asked files status old new _ other _ run = absurd (other l refl)
 done (Fetch f) asked files status old new _ _ other run = absurd (other f refl)
+done r asked files status old new _ _ _ run = run
 
 pub done_over : (E : Type 0) (r : Request) (asked : Option Selection) (files : List (List ℕ)) (result : Result ℕ E)
     (w0 w1 e0 e1 : BytesWritten) → ((s : Serving) → r ≡ Serve s → ⊥) → ((l : LiveServing) → r ≡ Live l → ⊥)

@@ -3,9 +3,8 @@ use Rattle.std.proofs.Common.{◌≡◌, Bool, Some, None, refl}
 use Rattle.mseed_select.specs.Selection.{Selection}
 use Rattle.mseed_words.specs.declared.request.Packing.{Packing}
 use Rattle.mseed_words.specs.declared.request.Request.{Request}
-use Rattle.mseed_words.specs.declared.request.Request.TheVariants.{Audit, AuditEach, AuditPart, AuditPartEach}
-use Rattle.mseed_words.specs.declared.request.Request.TheVariants.{Join, JoinEach, JoinPart, Show, Select}
-use Rattle.mseed_words.specs.declared.request.Request.TheVariants.{Repack, RepackStretches, Serve, Live, Fetch}
+use Rattle.mseed_words.specs.declared.request.Request.TheVariants.{Audit, AuditEach, Show, Select, Repack}
+use Rattle.mseed_words.specs.declared.request.Request.TheVariants.{RepackStretches}
 use Rattle.mseed.specs.Run.{HasCarriedOut}
 use Rattle.mseed.specs.Streams.{Streams}
 use Rattle.mseed.specs.declared.outcome.Ended.{Ended}
@@ -17,15 +16,8 @@ pub all_the_same : (r : Request) (s : Selection) (ended : Ended) (old new : Stre
     → HasCarriedOut r (Some s) ended old new
 all_the_same Audit s ended old new other _ _ _ _ _ done = absurd (other refl)
 all_the_same AuditEach s ended old new _ other _ _ _ _ done = absurd (other refl)
-all_the_same AuditPart s ended old new _ _ _ _ _ _ done = done
-all_the_same AuditPartEach s ended old new _ _ _ _ _ _ done = done
-all_the_same (Join by) s ended old new _ _ _ _ _ _ done = done
-all_the_same (JoinEach by) s ended old new _ _ _ _ _ _ done = done
-all_the_same (JoinPart by) s ended old new _ _ _ _ _ _ done = done
 all_the_same Show s ended old new _ _ other _ _ _ done = absurd (other refl)
 all_the_same Select s ended old new _ _ _ other _ _ done = absurd (other refl)
 all_the_same (Repack p) s ended old new _ _ _ _ other _ done = absurd (other p refl)
 all_the_same (RepackStretches p leave) s ended old new _ _ _ _ _ other done = absurd (other p leave refl)
-all_the_same (Serve serving) s ended old new _ _ _ _ _ _ done = absurd done
-all_the_same (Live live) s ended old new _ _ _ _ _ _ done = absurd done
-all_the_same (Fetch fetching) s ended old new _ _ _ _ _ _ done = absurd done
+all_the_same r s ended old new _ _ _ _ _ _ done = done

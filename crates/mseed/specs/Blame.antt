@@ -12,22 +12,14 @@ use Rattle.mseed_input.specs.declared.blame.Blame.TheVariants as blames
 -- of parts that weren't joined: a bad line lies where it begins; a wrong number of parts lies nowhere
 abbrev pub join_blame : JoinsFault → Blame
 join_blame (joins.Line number offset) = blames.Fault offset
-join_blame (joins.Count parts due) = blames.Nothing
 join_blame (joins.Stream fault) = blame_of fault
-join_blame joins.Write = blames.Nothing
-join_blame joins.Memory = blames.Nothing
+join_blame fault = blames.Nothing
 
 -- of an archive that wasn't packed anew
 abbrev pub packing_blame : RepackFault → Blame
 packing_blame (packing.Stream fault) = blame_of fault
-packing_blame (packing.Broken key) = blames.Nothing
-packing_blame (packing.Misfit key fault) = blames.Nothing
-packing_blame packing.Write = blames.Nothing
-packing_blame packing.Memory = blames.Nothing
+packing_blame fault = blames.Nothing
 
 abbrev pub stretches_blame : StretchesFault → Blame
 stretches_blame (stretches.Stream fault) = blame_of fault
-stretches_blame (stretches.Broken key) = blames.Nothing
-stretches_blame (stretches.Misfit key number fault) = blames.Nothing
-stretches_blame stretches.Write = blames.Nothing
-stretches_blame stretches.Memory = blames.Nothing
+stretches_blame fault = blames.Nothing

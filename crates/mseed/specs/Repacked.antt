@@ -30,11 +30,8 @@ refusal_text Memory = no_memory
 
 -- its exit status
 abbrev pub refusal_status : RepackFault → ℕ
-refusal_status (Stream fault) = 2
 refusal_status (Broken key) = 1
-refusal_status (Misfit key fault) = 2
-refusal_status Write = 2
-refusal_status Memory = 2
+refusal_status fault = 2
 
 -- with no line where all was packed
 abbrev pub repack_report : {U : Type 0} → Result U RepackFault → Report

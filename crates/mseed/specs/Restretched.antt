@@ -24,11 +24,8 @@ stretches_text Memory = no_memory
 
 -- its exit status
 abbrev pub stretches_status : StretchesFault → ℕ
-stretches_status (Stream fault) = 2
 stretches_status (Broken key) = 1
-stretches_status (Misfit key number fault) = 2
-stretches_status Write = 2
-stretches_status Memory = 2
+stretches_status fault = 2
 
 -- the exit status where all was written but what was left out
 abbrev pub left_status : Left → ℕ

@@ -57,13 +57,14 @@ select_report (Err Memory) = with_line 2 no_memory Nothing
 abbrev pub EndsSelect : Result Selected SelectFault → Ended → BytesWritten → BytesWritten → Type 0
 EndsSelect outcome ended old new = EndsBy (select_report outcome) ended old new
 
+-- how many records lack a time, where the input's fault is in what was written
+abbrev pub untimed_report : ℕ → ℕ → Option StreamFault → Report
+untimed_report status count end = record { status = status; lines = untimed_lines count; blame = blame_by end }
+
 -- an audit of the records that are asked for
 abbrev pub selected_audit_report : Result SelectedSummary AuditFault → Report
-selected_audit_report (Ok found) = record {
-  status = summary_status found.summary;
-  lines = untimed_lines found.without_time;
-  blame = blame_by found.summary.end;
-}
+selected_audit_report (Ok found) =
+    untimed_report (summary_status found.summary) found.without_time found.summary.end
 selected_audit_report (Err (audits.Write taken)) = with_line 2 write_failed Nothing
 selected_audit_report (Err audits.Memory) = with_line 2 no_memory Nothing
 
@@ -72,11 +73,8 @@ EndsSelectedAudit outcome ended old new = EndsBy (selected_audit_report outcome)
 
 -- and one that reports each finding
 abbrev pub selected_each_report : Result SelectedSummary EachFault → Report
-selected_each_report (Ok found) = record {
-  status = summary_status found.summary;
-  lines = untimed_lines found.without_time;
-  blame = blame_by found.summary.end;
-}
+selected_each_report (Ok found) =
+    untimed_report (summary_status found.summary) found.without_time found.summary.end
 selected_each_report (Err each.Write) = with_line 2 write_failed Nothing
 selected_each_report (Err each.Memory) = with_line 2 no_memory Nothing
 
@@ -85,11 +83,7 @@ EndsSelectedEach outcome ended old new = EndsBy (selected_each_report outcome) e
 
 -- a listing of them
 abbrev pub selected_show_report : Result Shown ShowFault → Report
-selected_show_report (Ok found) = record {
-  status = end_status found.end;
-  lines = untimed_lines found.without_time;
-  blame = blame_by found.end;
-}
+selected_show_report (Ok found) = untimed_report (end_status found.end) found.without_time found.end
 selected_show_report (Err shows.Write) = with_line 2 write_failed Nothing
 selected_show_report (Err shows.Memory) = with_line 2 no_memory Nothing
 

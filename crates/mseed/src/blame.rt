@@ -13,7 +13,7 @@ pub fn join_blame(fault: &JoinsFault) -> Blame
     match fault {
         JoinsFault::Line { offset, .. } => Blame::Fault(*offset),
         JoinsFault::Stream(fault) => blame_of(fault),
-        JoinsFault::Count(..) | JoinsFault::Write | JoinsFault::Memory => Blame::Nothing,
+        _ => Blame::Nothing,
     }
 }
 
@@ -23,10 +23,7 @@ pub fn packing_blame(fault: &RepackFault) -> Blame
 {
     match fault {
         RepackFault::Stream(fault) => blame_of(fault),
-        RepackFault::Broken(_)
-        | RepackFault::Misfit(..)
-        | RepackFault::Write
-        | RepackFault::Memory => Blame::Nothing,
+        _ => Blame::Nothing,
     }
 }
 
@@ -36,9 +33,6 @@ pub fn stretches_blame(fault: &StretchesFault) -> Blame
 {
     match fault {
         StretchesFault::Stream(fault) => blame_of(fault),
-        StretchesFault::Broken(_)
-        | StretchesFault::Misfit(..)
-        | StretchesFault::Write
-        | StretchesFault::Memory => Blame::Nothing,
+        _ => Blame::Nothing,
     }
 }
