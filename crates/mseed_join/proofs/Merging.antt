@@ -17,7 +17,7 @@ use Rattle.mseed_audit.proofs.Maps.{same_back, same_is, same_itself}
 use Rattle.mseed_parts.specs.Joining.{channel_then, moved_channel}
 use Rattle.mseed_parts.specs.Parts.{Held, IsAscending, IsJoint, channels_alone, counts_alone, kept_of, one_channel}
 use Rattle.mseed_parts.proofs.Adding.{Entries, HasAt, held, joined_none, new_joined, there_joined}
-use Rattle.mseed_join.proofs.Readable.{past_head}
+use Rattle.mseed_parts.proofs.Turns.{past_head}
 
 abbrev order : List ℕ → List ℕ → Ordering
 order = slice_cmp nat_cmp
@@ -143,7 +143,7 @@ absent (d ∷ done) x rest s =
   where
     by : (b : Bool) → same_key x.0 d.0 ≡ b → kept_of x.0 done ≡ None → cond b (Some d.1) (kept_of x.0 done) ≡ None
     by true e none =
-        absurd (none_some (kept_of x.0 (done ++ x ∷ rest)) (past_head d (done ++ x ∷ rest) x.0 s e)
+        absurd (none_some (kept_of x.0 (done ++ x ∷ rest)) (past_head x.0 d (done ++ x ∷ rest) s e)
         (some_in done x rest))
     by false e none = none
 

@@ -10,9 +10,8 @@ use Rattle.std.specs.Cmp.Lexicographic.{slice_cmp}
 use Rattle.std.proofs.lemmas.Bool.{and_parts, ltb-true}
 use Rattle.std.proofs.lemmas.List.{get_or-drop, length-drop}
 use Rattle.std.proofs.lemmas.List.Elements.{All-append, All-drop, All-from_get_or, All-take, recursion_from_All}
-use Rattle.std.proofs.lemmas.Map.{lookup-none}
-use Rattle.std.proofs.lemmas.Map.Entries.{lookup_head, lookup_tail, none_past_head}
-use Rattle.std.proofs.lemmas.Map.Keys.{sorted_tail, IsDistinct-from_sorted}
+use Rattle.std.proofs.lemmas.Map.Entries.{lookup_head, lookup_tail}
+use Rattle.std.proofs.lemmas.Map.Keys.{sorted_tail}
 use Rattle.mseed_time.specs.Btime.{IsInstant}
 use Rattle.mseed_time.specs.declared.order.Order.{Order}
 use Rattle.mseed_record.specs.Chain.{next_at, type_at}
@@ -45,8 +44,9 @@ use Rattle.mseed_audit.specs.declared.tail.Tail.{Tail}
 use Rattle.mseed_audit.specs.Audit.{AreCounted, IsHead, IsHeadOf, IsTail, IsTailOf, Stands, StandsAt, head_in, tail_in}
 use Rattle.mseed_audit.specs.Channels.{Placed, added_from, is_of, numbered, records_of, same_key, sample_count}
 use Rattle.mseed_audit.specs.Verdict.{AreFindings, finding_at, none, one}
-use Rattle.mseed_audit.proofs.Maps.{keys_alike, same_is, same_itself}
+use Rattle.mseed_audit.proofs.Maps.{same_is, same_itself}
 use Rattle.mseed_parts.specs.Parts.{IsAscending, bytes_in as size_of, kept_of}
+use Rattle.mseed_parts.proofs.Turns.{past_head}
 use Rattle.mseed_join.specs.AuditPart.{AuditedPart}
 use Rattle.mseed_join.specs.Headline.{IsWithinLimits}
 use Rattle.mseed_join.specs.Lines.{HasChannelLine, HasFaultLine, HasFinding, HasFindings, HasFrameFault, HasHead}
@@ -233,18 +233,12 @@ module _ (key : List ℕ) (n size : ℕ) (few : n < 2 ^ 40) (small : size < 2 ^ 
       }
 
 -- ---- what is kept of each key
-pub past_head : (x : List ℕ × Channel) (rest : List (List ℕ × Channel)) (key : List ℕ) → IsAscending (x ∷ rest)
-    → same_key key x.0 ≡ true → kept_of key rest ≡ None
-past_head x rest key s e =
-    lookup-none (same_key key) rest
-    (none_past_head keys_alike key x rest (IsDistinct-from_sorted (slice_cmp nat_cmp) _ s) e)
-
 behind_head : (x : List ℕ × Channel) (rest : List (List ℕ × Channel)) (key : List ℕ) (c : Channel)
     → IsAscending (x ∷ rest) → kept_of key rest ≡ Some c → kept_of key (x ∷ rest) ≡ Some c
 behind_head x rest key c s is = by (same_key key x.0) refl
   where
     by : (b : Bool) → same_key key x.0 ≡ b → kept_of key (x ∷ rest) ≡ Some c
-    by true e = absurd (cc (past_head x rest key s e, is))
+    by true e = absurd (cc (past_head key x rest s e, is))
     by false e = lookup_tail (same_key key) x rest e ∙ is
 
 each_kept : (P : List ℕ → Channel → Type 0) (es : List (List ℕ × Channel)) → IsAscending es

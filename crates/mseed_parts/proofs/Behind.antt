@@ -20,6 +20,7 @@ use Rattle.mseed_audit.specs.declared.channel.Head.{Head}
 use Rattle.mseed_audit.specs.declared.tail.Tail.{Tail}
 use Rattle.mseed_parts.specs.Joining.{border_why, found_at, border_of, findings_with, channel_then, channel_joined}
 use Rattle.mseed_audit.specs.Audit.{IsHead, IsHeadOf, IsTail, IsTailOf, head_in, tail_in, AreCounted, Stands, StandsAt}
+use Rattle.mseed_audit.proofs.Lasts.{last_snoc}
 
 -- a record has one finding
 abbrev pub HaveOneFinding : Type 0
@@ -118,10 +119,6 @@ findings_append before (p ∷ ps) qs found further (one _ _ _ why rest h later) 
     (sym (append_assoc (finding_at p why) rest further))
     (one before p (ps ++ qs) why (rest ++ further) h
     (findings_append (Some p.view) ps qs rest further later k))
-
-last_snoc : (before : Option View) (ps : List Placed) (p : Placed) → last_of before (ps ++ p ∷ []) ≡ Some p.view
-last_snoc before [] p = refl
-last_snoc before (q ∷ ps) p = last_snoc (Some q.view) ps p
 
 pub last_is : (ps prefix : List Placed) (last : Placed) → ps ≡ prefix ++ last ∷ [] → last_of None ps ≡ Some last.view
 last_is ps prefix last e = ap (λ (qs : List Placed). last_of None qs) e ∙ last_snoc None prefix last

@@ -13,9 +13,8 @@ use Rattle.std.proofs.lemmas.List.Filters.{length-filter_both}
 use Rattle.std.proofs.lemmas.List.Sorted.{IsPermutation-append, IsPermutation-append_comm, IsPermutation-append_right}
 use Rattle.std.proofs.lemmas.List.Sorted.{IsPermutation-filter_both, IsPermutation-refl, IsPermutation-sym}
 use Rattle.std.proofs.lemmas.List.Sorted.{IsPermutation-trans, length_permutation}
-use Rattle.std.proofs.lemmas.Map.{lookup-none}
-use Rattle.std.proofs.lemmas.Map.Entries.{lookup_head, lookup_tail, none_past_head}
-use Rattle.std.proofs.lemmas.Map.Keys.{sorted_tail, IsDistinct-from_sorted}
+use Rattle.std.proofs.lemmas.Map.Entries.{lookup_head, lookup_tail}
+use Rattle.std.proofs.lemmas.Map.Keys.{sorted_tail}
 use Rattle.mseed_record.specs.View.{View}
 use Rattle.mseed_audit.specs.declared.channel.Channel.{Channel}
 use Rattle.mseed_audit.specs.declared.channel.Head.{Head}
@@ -23,7 +22,7 @@ use Rattle.mseed_audit.specs.declared.finding.Finding.{Finding}
 use Rattle.mseed_audit.specs.Audit.{head_in}
 use Rattle.mseed_audit.specs.Channels.{added_from, same_key}
 use Rattle.mseed_audit.specs.Reported.{Reported, AreReportedOf}
-use Rattle.mseed_audit.proofs.Maps.{keys_alike, same_back, same_is, same_itself}
+use Rattle.mseed_audit.proofs.Maps.{same_back, same_is, same_itself}
 use Rattle.mseed_parts.specs.Borders.{border_at, border_with, borders_with}
 use Rattle.mseed_parts.specs.Joining.{border_between, moved_channel}
 use Rattle.mseed_parts.specs.Notices.{AreMerged, HaveBytes, Notice, border_notice, border_notices, moved_notices}
@@ -32,6 +31,7 @@ use Rattle.mseed_parts.specs.Parts.{Held, IsAscending, IsPartOf, kept_of}
 use Rattle.mseed_parts.proofs.Adding.{Entries}
 use Rattle.mseed_parts.proofs.Behind.{HaveOneFinding}
 use Rattle.mseed_parts.proofs.Noticing.{border_in, border_is_in, reported_at_key, with_key}
+use Rattle.mseed_parts.proofs.Turns.{past_head}
 use Rattle.mseed_parts.proofs.Rising.{reported_rise}
 
 -- ---- the borders of one channel among all
@@ -81,12 +81,6 @@ none_with key a (x ∷ es) e = by (same_key key x.0) refl (λ gone. none_with ke
     by true same later = absurd (not_some x.1 (sym (lookup_head (same_key key) x es same) ∙ e))
     by false same later =
         parted key a x es false same ∙ later (sym (lookup_tail (same_key key) x es same) ∙ e)
-
-past_head : (key : List ℕ) (x : List ℕ × Channel) (es : Entries) → IsAscending (x ∷ es) → same_key key x.0 ≡ true
-    → kept_of key es ≡ None
-past_head key x es s e =
-    lookup-none (same_key key) es
-    (none_past_head keys_alike key x es (IsDistinct-from_sorted (slice_cmp nat_cmp) _ s) e)
 
 -- of one that is there, or isn't
 borders_by_key : (key : List ℕ) (a : Held) (es : Entries) → IsAscending es
