@@ -35,6 +35,22 @@ use Rattle.slink_live.proofs.Reported.{left_last, links_last, updates_closes, up
 use Rattle.slink_live.proofs.Reported.{rest_closes, rest_empty, rest_wants, awake_rest, interest_last, unreported_none}
 use Rattle.slink_live.proofs.Reported.{unreported_one}
 
+-- what a link that took bytes was told, and which it is
+module _ (j : ℕ) (new : Option LinkState) (log mid : List Happening) where
+  taken_some : (o : Option LinkState) → HasTaken j o new log mid → is_some new ≡ is_some o
+  taken_some None h = ap is_some h.0
+  taken_some (Some l) h = ap is_some h.1
+
+  taken_unreported : (o : Option LinkState) → HasTaken j o new log mid → IsUnreported j log mid
+  taken_unreported None h = unreported_none j log mid h.1
+  taken_unreported (Some l) h =
+      unreported_one j log mid (Emitted j (take h.0 l.pending)) (λ k ne w. refl) (λ b. refl) (λ b. refl) h.2
+
+  taken_goes : (o : Option LinkState) → HasTaken j o new log mid → (start : List Window)
+      → Goes (IsClosedRightly start) log mid
+  taken_goes None h start = goes_same h.1
+  taken_goes (Some l) h start = goes_one (Emitted j (take h.0 l.pending)) tt h.2
+
 -- A call saw the link in a slot, and the rings of the input.
 module _ {s0 s : ServerState} (same : s0 ≡ s) (j : ℕ) (lt : j < length s0.links) (sound : IsSound s)
     {feed : List Window} {o : Option LinkState} (rings : feed ≡ s0.intake.feed) (link : o ≡ get_or s0.links j o)
@@ -116,24 +132,9 @@ module _ {s0 s : ServerState} (same : s0 ≡ s) (j : ℕ) (lt : j < length s0.li
   pub taken_awake : {t : ServerState} {log mid last : List Happening} → HasTaken j o new log mid
       → Updates j seen_after t mid last → KeepsAwake s t log last
   taken_awake {t} {log} {mid} {last} h updates =
-      awake_in (awake_by s0 j new t log mid last (taken_some o h ∙ ap is_some stood) (taken_unreported o h)
-      (taken_goes o h) (λ start v. (taken_keeps {s0 = s0} {s = s0} refl j lt new (sound_in same sound) link h).serving
-      start v)
-      updates)
-    where
-      taken_some : (x : Option LinkState) → HasTaken j x new log mid → is_some new ≡ is_some x
-      taken_some None g = ap is_some g.0
-      taken_some (Some l) g = ap is_some g.1
-
-      taken_unreported : (x : Option LinkState) → HasTaken j x new log mid → IsUnreported j log mid
-      taken_unreported None g = unreported_none j log mid g.1
-      taken_unreported (Some l) g =
-          unreported_one j log mid (Emitted j (take g.0 l.pending)) (λ k ne w. refl) (λ b. refl) (λ b. refl) g.2
-
-      taken_goes : (x : Option LinkState) → HasTaken j x new log mid → (start : List Window)
-          → Goes (IsClosedRightly start) log mid
-      taken_goes None g start = goes_same g.1
-      taken_goes (Some l) g start = goes_one (Emitted j (take g.0 l.pending)) tt g.2
+      awake_in (awake_by s0 j new t log mid last (taken_some j new log mid o h ∙ ap is_some stood)
+      (taken_unreported j new log mid o h) (taken_goes j new log mid o h)
+      (λ start v. (taken_keeps {s0 = s0} {s = s0} refl j lt new (sound_in same sound) link h).serving start v) updates)
 
 -- a link that had room has all, and goes on to have it
 if_rested : (s : ServerState) (j : ℕ) (o new : Option LinkState) (log mid : List Happening) → IsAwake s log
@@ -154,24 +155,11 @@ pub rested_awake : {s0 s t : ServerState} (same : s0 ≡ s) (j : ℕ) → j < le
 rested_awake {s0} {s} {t} same j lt sound {o} link new {log} {mid} {last} h room updates =
     let stands : o ≡ get_or s0.links j None = link ∙ sym (get_or_default s0.links j None o lt) in
     subst (λ (x : ServerState). KeepsAwake x t log last) same
-    (awake_rest s0 j new t log mid last (taken_some o h ∙ ap is_some stands) (taken_unreported o h) (taken_goes o h)
+    (awake_rest s0 j new t log mid last (taken_some j new log mid o h ∙ ap is_some stands)
+    (taken_unreported j new log mid o h) (taken_goes j new log mid o h)
     (λ start v. (taken_keeps {s0 = s0} {s = s0} refl j lt new (sound_in same sound) link h).serving start v)
     (λ a. updates (subst (IfRested s0.intake.feed) (sym (get_or-set_same s0.links j new None lt))
     (if_rested s0 j o new log mid a stands h room))))
-  where
-    taken_some : (x : Option LinkState) → HasTaken j x new log mid → is_some new ≡ is_some x
-    taken_some None g = ap is_some g.0
-    taken_some (Some l) g = ap is_some g.1
-
-    taken_unreported : (x : Option LinkState) → HasTaken j x new log mid → IsUnreported j log mid
-    taken_unreported None g = unreported_none j log mid g.1
-    taken_unreported (Some l) g =
-        unreported_one j log mid (Emitted j (take g.0 l.pending)) (λ k ne w. refl) (λ b. refl) (λ b. refl) g.2
-
-    taken_goes : (x : Option LinkState) → HasTaken j x new log mid → (start : List Window)
-        → Goes (IsClosedRightly start) log mid
-    taken_goes None g start = goes_same g.1
-    taken_goes (Some l) g start = goes_one (Emitted j (take g.0 l.pending)) tt g.2
 
 -- A call saw a link to which nothing more is due.
 module _ {s0 s : ServerState} (same : s0 ≡ s) (j : ℕ) (lt : j < length s0.links) {o : Option LinkState}
