@@ -1,7 +1,7 @@
 -- What a session gave so far, and which of the bytes it accepted were answered.
 use Rattle.std.proofs.Common.{◌≡◌, ◌≢◌, ℕ, ◌+◌, ◌-◌, ◌*◌, ◌≤◌, ◌<◌, ◌⊎◌, zero, suc, refl, sym, ap, subst, ◌∙◌, arith}
 use Rattle.std.proofs.Common.{inl, inr, if◌then◌else◌, List, [], ◌∷◌, ◌++◌, append_assoc, append-nil, length}
-use Rattle.std.proofs.Common.{length-append, replicate, take, drop, Result, Err, IfErr}
+use Rattle.std.proofs.Common.{length-append, length-take, replicate, take, take-append-drop, drop, Result, Err, IfErr}
 use Rattle.std.proofs.lemmas.Bool.Decides.{eqb_tells}
 use Rattle.slink_wire.specs.declared.reply.Reply.{Reply}
 use Rattle.slink_wire.specs.declared.reply.Reply.TheVariants as replies
@@ -9,6 +9,8 @@ use Rattle.slink_wire.specs.Reply.{reply_bytes}
 use Rattle.slink_feed.specs.declared.session.Phase.TheVariants.{Closed}
 use Rattle.slink_feed.specs.declared.session.Sent.{Sent}
 use Rattle.slink_feed.specs.declared.session.Sent.TheVariants as sents
+use Rattle.slink_feed.specs.declared.session.Unsent.{Unsent}
+use Rattle.slink_feed.specs.declared.session.Unsent.TheVariants as unsents
 use Rattle.slink_feed.specs.declared.turn.LinkFault.{LinkFault}
 use Rattle.slink_feed.specs.declared.turn.LinkFault.TheVariants as faults
 use Rattle.slink_feed.specs.private.Replying.{HasFailed, HasGiven, HasSent, IsReplyFault, IsWritten, IsWriteFault}
@@ -16,7 +18,7 @@ use Rattle.slink_feed.specs.private.Replying.{IsSendFault, IsUnwritten}
 use Rattle.slink_feed.specs.private.Replying.{waits_after}
 use Rattle.slink_feed.specs.Rounds.{Attending, FailsToSend, Gives, HasWaited, all_sent, place_after}
 use Rattle.slink_feed.specs.Serving.{Serves, Standing, Takes, none_served, piece_served}
-use Rattle.slink_feed.specs.Session.{AreReached, State, sent, sent_bytes}
+use Rattle.slink_feed.specs.Session.{AreReached, State, sent, sent_bytes, sent_without}
 use Rattle.slink_feed.specs.Turns.{Emitted}
 use Rattle.slink_feed.specs.Window.{Window}
 use Rattle.slink_feed.proofs.Deliveries.{prefix_further, piece_is, emitted_further, emitted_none}
@@ -243,20 +245,10 @@ reply_short replies.Ok = omega arith
 reply_short replies.Error = omega arith
 reply_short replies.Hello = omega arith
 
-pub prefix : (xs : List ℕ) (n : ℕ) → xs ≡ take n xs ++ drop n xs
-prefix xs zero = refl
-prefix [] (suc n) = refl
-prefix (x ∷ xs) (suc n) = ap (λ s. x ∷ s) (prefix xs n)
-
-length_prefix : (xs : List ℕ) (n : ℕ) → n < length xs → length (take n xs) ≡ n
-length_prefix xs zero lt = refl
-length_prefix [] (suc n) lt = absurd (omega (arith, lt))
-length_prefix (x ∷ xs) (suc n) lt = ap suc (length_prefix xs n (omega (arith, lt)))
-
 split_piece : (bytes : List ℕ) (start used : ℕ)
     → bytes ≡ (take start bytes ++ take used (take (length bytes - start) (drop start bytes))) ++ drop (start + used)
     bytes
-split_piece bytes start used = prefix bytes (start + used)
+split_piece bytes start used = sym (take-append-drop (start + used) bytes)
     ∙ ap (λ s. s ++ drop (start + used) bytes) (sym (piece_is bytes start used))
 
 module _ (feed : List Window) (old now new : Attending) (bytes : List ℕ) (start before written used : ℕ) (reply : Reply)
@@ -306,7 +298,8 @@ module _ (feed : List Window) (old now new : Attending) (bytes : List ℕ) (star
       arith,
       ap length cut.written.bytes,
       length-append now.written.bytes (take cut.more (reply_bytes reply)),
-      length_prefix (reply_bytes reply) cut.more cut.written.part,
+      length-take cut.more (reply_bytes reply),
+      cut.written.part,
       cut.count,
       so_far.counted,
     );
@@ -317,6 +310,19 @@ module _ (feed : List Window) (old now new : Attending) (bytes : List ℕ) (star
   not_replied faults.Read cut = absurd cut
   not_replied (faults.Write after) cut = unreplied after cut
   not_replied (faults.Output after) cut = absurd cut
+
+-- where no record is sent, no packet is, and few bytes are
+pub no_packet : (unsent : Unsent) (bytes : List ℕ) → sent_without unsent ≢ sents.Packet bytes
+no_packet unsents.Wait bytes e = cc e
+no_packet unsents.Done bytes e = cc e
+no_packet unsents.Overrun bytes e = cc e
+no_packet unsents.Closed bytes e = cc e
+
+pub few_without : (unsent : Unsent) → length (sent_bytes (sent_without unsent)) ≤ 520
+few_without unsents.Wait = omega arith
+few_without unsents.Done = omega arith
+few_without unsents.Overrun = omega arith
+few_without unsents.Closed = omega arith
 
 -- the fault that a `?` passes on
 pub passed_on : {T : Type 0} (r : Result T LinkFault) (fault : LinkFault) (P : LinkFault → Type 0)

@@ -1,6 +1,6 @@
 -- A session stands for the stream that its link brought.
 use Rattle.std.proofs.Common.{◌≡◌, ℕ, ◌+◌, ◌-◌, ◌<◌, ◌⊎◌, inl, inr, zero, suc, refl, sym, ap, subst, ◌∙◌}
-use Rattle.std.proofs.Common.{arith, true, false, List, [], ◌∷◌, ◌++◌, append-nil, length, length-append}
+use Rattle.std.proofs.Common.{arith, false, List, [], ◌∷◌, ◌++◌, append-nil, length, length-append}
 use Rattle.std.proofs.Common.{take, Result, Ok, Err}
 use Rattle.std.specs.Prelude.{IfErr, IfOk}
 use Rattle.std.proofs.lemmas.Bool.{both_ways}

@@ -1,6 +1,6 @@
 -- Bytes that are taken piece by piece.
 use Rattle.std.proofs.Common.{◌≡◌, ℕ, ◌+◌, ◌≤◌, zero, suc, refl, sym, ap, subst, ◌∙◌, arith, List, [], ◌∷◌, ◌++◌}
-use Rattle.std.proofs.Common.{append-nil, length, take, drop}
+use Rattle.std.proofs.Common.{append-nil, length, take, take-append-drop, drop}
 use Rattle.std.proofs.lemmas.List.{drop_all}
 use Rattle.slink_wire.specs.declared.reply.Reply.{Reply}
 use Rattle.slink_wire.specs.Reply.{reply_bytes}
@@ -8,7 +8,6 @@ use Rattle.slink_feed.specs.Listening.{IsLinked}
 use Rattle.slink_feed.specs.Serving.{Serves, Standing, Takes, none_served, piece_served}
 use Rattle.slink_feed.specs.Window.{Window}
 use Rattle.slink_model.specs.World.{Reads, Numbers, Taking, none_read, piece_lost}
-use Rattle.slink_feed.proofs.Sendoffs.{prefix}
 
 nothing : (used : ℕ) → ◌≡◌ {A = List ℕ} (take used []) []
 nothing zero = refl
@@ -18,7 +17,7 @@ nothing (suc n) = refl
 pub at_offset : (bytes : List ℕ) (start used : ℕ)
     → drop start bytes ≡ take used (drop start bytes) ++ drop (start + used) bytes
 at_offset bytes zero used = let none : zero + used ≡ used = omega arith in
-    prefix bytes used ∙ ap (λ n. take used bytes ++ drop n bytes) (sym none)
+    sym (take-append-drop used bytes) ∙ ap (λ n. take used bytes ++ drop n bytes) (sym none)
 at_offset [] (suc n) used = let more : suc n + used ≡ suc (n + used) = omega arith in
     sym (ap (λ xs. xs ++ drop (suc n + used) []) (nothing used) ∙ ap (λ k. drop k []) more)
 at_offset (b ∷ bs) (suc n) used = let more : suc n + used ≡ suc (n + used) = omega arith in at_offset bs n used

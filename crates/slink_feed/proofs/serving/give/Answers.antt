@@ -1,27 +1,13 @@
-use Rattle.std.proofs.Common.{◌≡◌, ◌≤◌, ℕ, List, length, arith, rules, subst}
+use Rattle.std.proofs.Common.{ℕ, List, rules, subst}
 use Rattle.std.proofs.lemmas.Result.{err_from_is_err_and}
 use Rattle.slink_wire.specs.Packet.{packet_bytes}
 use Rattle.slink_feed.specs.declared.session.Sent.TheVariants.{Packet}
-use Rattle.slink_feed.specs.declared.session.Unsent.{Unsent}
-use Rattle.slink_feed.specs.declared.session.Unsent.TheVariants.{Closed, Done, Overrun, Wait}
 use Rattle.slink_feed.specs.Attending.{attending}
 use Rattle.slink_feed.specs.private.Replying.{FailsToGive, IsWriteFault, IsWritten}
 use Rattle.slink_feed.specs.Rounds.{Attending}
-use Rattle.slink_feed.specs.Session.{sent_bytes, sent_without}
-use Rattle.slink_feed.proofs.Sendoffs.{passed_on}
+use Rattle.slink_feed.specs.Session.{sent_without}
+use Rattle.slink_feed.proofs.Sendoffs.{few_without, no_packet, passed_on}
 use Rattle.slink_feed.proofs.serving.give.Goals as goal
-
-no_packet : (u : Unsent) (bytes : List ℕ) → sent_without u ≡ Packet bytes → ⊥
-no_packet Wait bytes e = cc
-no_packet Done bytes e = cc
-no_packet Overrun bytes e = cc
-no_packet Closed bytes e = cc
-
-few_without : (u : Unsent) → length (sent_bytes (sent_without u)) ≤ 520
-few_without Wait = omega arith
-few_without Done = omega arith
-few_without Overrun = omega arith
-few_without Closed = omega arith
 
 pub returns-in_err-written-in-Ok-clause-fault : goal.returns-in_err-written-in-Ok-clause-fault
 returns-in_err-written-in-Ok-clause-fault g c =
@@ -78,27 +64,3 @@ returns-in_ok-after-in-Err-clause-ok g c = record {
   waited_is = c.count_waits.ensures;
   few = λ bytes is. absurd (no_packet c.in-Err.unsent bytes is);
 }
-
-pub returns-in_err-written-in-Ok-clause-fits : goal.returns-in_err-written-in-Ok-clause-fits
-returns-in_err-written-in-Ok-clause-fits g c = c.next_record.ensures.fits
-
-pub returns-in_err-written-in-Ok-clause-stands : goal.returns-in_err-written-in-Ok-clause-stands
-returns-in_err-written-in-Ok-clause-stands g c = c.next_record.ensures.stands
-
-pub returns-in_err-after-in-Err-clause-fits : goal.returns-in_err-after-in-Err-clause-fits
-returns-in_err-after-in-Err-clause-fits g c = c.next_record.ensures.fits
-
-pub returns-in_err-after-in-Err-clause-stands : goal.returns-in_err-after-in-Err-clause-stands
-returns-in_err-after-in-Err-clause-stands g c = c.next_record.ensures.stands
-
-pub returns-in_ok-written-in-Ok-clause-fits : goal.returns-in_ok-written-in-Ok-clause-fits
-returns-in_ok-written-in-Ok-clause-fits g c = c.next_record.ensures.fits
-
-pub returns-in_ok-written-in-Ok-clause-stands : goal.returns-in_ok-written-in-Ok-clause-stands
-returns-in_ok-written-in-Ok-clause-stands g c = c.next_record.ensures.stands
-
-pub returns-in_ok-after-in-Err-clause-fits : goal.returns-in_ok-after-in-Err-clause-fits
-returns-in_ok-after-in-Err-clause-fits g c = c.next_record.ensures.fits
-
-pub returns-in_ok-after-in-Err-clause-stands : goal.returns-in_ok-after-in-Err-clause-stands
-returns-in_ok-after-in-Err-clause-stands g c = c.next_record.ensures.stands

@@ -1,3 +1,4 @@
+use Rattle.std.proofs.Common.{◌≤◌, ◌^◌, rules}
 use Rattle.slink_feed.specs.Attending.{IsServeFault, attending}
 use Rattle.slink_feed.specs.Rounds.{Attending}
 use Rattle.slink_feed.proofs.Attended.{all_sent_and_closed, attends_as, fails_as, sending_failed, stays}
@@ -56,3 +57,9 @@ returns-clause-fits g c = c.answer_once.ensures.fits
 
 pub returns-clause-stands : goal.returns-clause-stands
 returns-clause-stands g c = c.answer_once.ensures.stands
+
+pub answer_once-requires : goal.answer_once-requires
+answer_once-requires g c =
+    let awake = c.if-is_closed.ensures.no in
+    let few : c.in_ok-written.written ≤ 2 ^ 40 = c.in_ok-written.ensures.ok.few in
+    search rules

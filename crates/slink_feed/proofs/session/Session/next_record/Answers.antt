@@ -35,6 +35,4 @@ invariant_of-self g c = λ awake.
     c.args.feed.now _ _ c.args.k c.next_record.ensures.sent c.next_record.ensures.unsent awake)
 
 pub returns-clause-stands : goal.returns-clause-stands
-returns-clause-stands g c = λ awake.
-    c.self.invariant (open_before_next (λ r. Packet (packet_bytes r.0 r.1.now)) sent_without c.next_record.result
-    c.args.feed.now _ _ c.args.k c.next_record.ensures.sent c.next_record.ensures.unsent awake)
+returns-clause-stands g c = invariant_of-self g c

@@ -11,5 +11,4 @@ invariant_of-self g c = λ awake.
     c.self.invariant (open_before c.args.feed.now _ _ c.args.k _ c.packet.ensures.sent awake)
 
 pub returns-clause-stands : goal.returns-clause-stands
-returns-clause-stands g c = λ awake.
-    c.self.invariant (open_before c.args.feed.now _ _ c.args.k _ c.packet.ensures.sent awake)
+returns-clause-stands g c = invariant_of-self g c
