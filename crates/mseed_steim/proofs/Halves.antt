@@ -1,10 +1,11 @@
 -- Numbers of 16 bits in lanes of 32.
 use Rattle.std.proofs.Common.{◌≡◌, ℕ, ℤ, zero, suc, ◌+◌, ◌*◌, ◌%◌, ◌/◌, ◌<◌, List, [], ◌∷◌, length, map, refl, ap, ◌∙◌}
-use Rattle.std.proofs.Common.{◌++◌, ◌^◌, ◌-◌, ◌≤◌, bit_and, get_or, lit<, sym, arith, subst, pos, negsuc, of_z, to_z, w16, w32, FitsSigned}
+use Rattle.std.proofs.Common.{◌++◌, ◌^◌, ◌-◌, ◌≤◌, bit_and, get_or, lit<, sym, arith, subst, pos, negsuc, of_z, to_z}
+use Rattle.std.proofs.Common.{w16, w32, FitsSigned}
 use Rattle.std.proofs.lemmas.Int.{to_z-of_z}
 use Rattle.std.proofs.lemmas.List.{length-map}
 use lib.Lanes.{number_l, digits_l, Each1, zip2, chunk, pick_l}
-use Rattle.std.proofs.lemmas.Simd.{Each1-from_get_or, get_or-chunk, length-chunk, pick_l-range_with_len, pick_l_whole}
+use Rattle.std.proofs.lemmas.Simd.{pick_l-range_with_len, pick_l_whole}
 use Rattle.std.proofs.lemmas.Nat.{pow_pos}
 use Rattle.std.proofs.Math.Nat.{pow-le-pow_right}
 use Rattle.mseed_steim.specs.Spelling.{residue}
@@ -43,7 +44,8 @@ pub widened : (zs : List ℤ) → Each1 (λ z. size_of z < 32768) zs
 widened [] h = refl
 widened (z ∷ zs) h =
     let later = widened zs h.1 in
-    let here : of_z w32 (to_z w16 (of_z w16 z)) ≡ bits_of z = ap (of_z w32) (to_z-of_z w16 z (fits z h.0)) ∙ bits_are z in
+    let here : of_z w32 (to_z w16 (of_z w16 z)) ≡ bits_of z = ap (of_z w32) (to_z-of_z w16 z (fits z h.0))
+    ∙ bits_are z in
     rw here (ap (λ (ns : List ℕ). bits_of z ∷ ns) later)
 
 bits_small : (z : ℤ) → size_of z < 32768 → bits_of z < 4294967296
@@ -77,7 +79,8 @@ low_digits w (d ∷ ds) (m ∷ ms) h f e long =
     let here = low_digit w d m h f.0 e.0 in
     cc (here, later)
 
-pub digits_small : (w : ℕ) (ds : List ℤ) → w ≤ 15 → Each1 (λ z. size_of z < 32768) (map (λ d. pos (residue (2 ^ w) d)) ds)
+pub digits_small : (w : ℕ) (ds : List ℤ) → w ≤ 15
+    → Each1 (λ z. size_of z < 32768) (map (λ d. pos (residue (2 ^ w) d)) ds)
 digits_small w [] h = tt
 digits_small w (d ∷ ds) h =
     let most : 2 ^ w ≤ 2 ^ 15 = pow-le-pow_right (lit< tt) h in
@@ -97,12 +100,6 @@ eight_of xs h = sym (pick_l-range_with_len (pos 0) xs 0 8 h)
 pub small_of : (z : ℤ) → FitsSigned w16 z → size_of z < 32768
 small_of (pos n) h = h.sfits
 small_of (negsuc n) h = h.sfits
-
-pub small_in : (n : ℕ) (zs : List ℤ) → n ≤ length zs → ((i : ℕ) → size_of (get_or zs i (pos 0)) < 32768)
-    → Each1 (λ z. size_of z < 32768) (chunk 0 n zs)
-small_in n zs h each = Each1-from_get_or (λ z. size_of z < 32768) (chunk 0 n zs) (pos 0)
-    (λ i less. subst (λ (z : ℤ). size_of z < 32768)
-    (sym (get_or-chunk 0 n zs i (pos 0) (omega (arith, less, length-chunk 0 n zs (omega (arith, h)))))) (each (0 + i)))
 
 pub same_again : (zs : List ℤ) → Each1 (λ z. size_of z < 32768) zs → map (to_z w16) (map (of_z w16) zs) ≡ zs
 same_again [] h = refl

@@ -1,8 +1,8 @@
 -- Differences side by side in a word.
 use Rattle.std.proofs.Common.{◌≡◌, ℕ, zero, suc, ◌+◌, ◌-◌, ◌*◌, ◌/◌, ◌%◌, ◌^◌, ◌<◌, ◌≤◌, List, [], ◌∷◌, ◌++◌, length}
-use Rattle.std.proofs.Common.{map, take, get_or, ℤ, pos, negsuc, arith, refl, ap, sym, subst, ⊎_elim, if◌then◌else◌, nat_lt}
+use Rattle.std.proofs.Common.{map, take, get_or, ℤ, pos, negsuc, arith, refl, ap, sym, subst, ⊎_elim, if◌then◌else◌}
 use Rattle.std.proofs.Common.{◌∙◌, length-append, bit_and, bit_or, Fits, w16, w32, of_z, to_z, FitsSigned, lit<}
-use Rattle.std.proofs.Common.{zero-add}
+use Rattle.std.proofs.Common.{nat_lt, zero-add}
 use lib.Lanes.{sum_l}
 use Rattle.std.proofs.Math.Nat.{pow-le-pow_right, mod-eq_of_lt, mul-le-mul_left, add-mul, mul-add, mul_assoc, mul-suc}
 use Rattle.std.proofs.Math.Nat.{mul-zero}

@@ -173,7 +173,8 @@ fn first_eight(numbers: &[i16]) -> [i16; LANES]
     ]
 }
 
-/// What each pair of the first of eight or more numbers of 16 bits counts for in a word; the first of them with the dnib.
+/// What each pair of the first of eight or more numbers of 16 bits counts for in a word; the first of them with the
+/// dnib.
 #[inline(always)]
 fn parts_of(layout: &LayoutTwo, cut: &[i16]) -> u32x4
     requires layout { IsLayoutTwo layout.now }

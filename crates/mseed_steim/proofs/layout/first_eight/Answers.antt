@@ -27,6 +27,27 @@ returns c =
       value = sym (eight_of xs c.requires);
       small = (
         small_of _ a,
-        (small_of _ b, (small_of _ d, (small_of _ e, (small_of _ f, (small_of _ g, (small_of _ h, (small_of _ i, tt))))))),
+        (
+          small_of _ b,
+          (
+            small_of _ d,
+            (
+              small_of _ e,
+              (
+                small_of _ f,
+                (
+                  small_of _ g,
+                  (
+                    small_of _ h,
+                    (
+                      small_of _ i,
+                      tt,
+                    ),
+                  ),
+                ),
+              ),
+            ),
+          ),
+        ),
       );
     })

@@ -1,5 +1,5 @@
-use Rattle.std.proofs.Common.{◌≡◌, ◌≤◌, ◌<◌, ◌+◌, ◌%◌, ◌^◌, ◌∙◌, ◌∷◌, [], ℕ, ℤ, List, ap, arith, get_or, length, map, take}
-use Rattle.std.proofs.Common.{of_z, pos, refl, rules, subst, sym, to_z, w16}
+use Rattle.std.proofs.Common.{◌≡◌, ◌≤◌, ◌<◌, ◌+◌, ◌%◌, ◌^◌, ◌∙◌, ◌∷◌, [], ℕ, ℤ, List, ap, arith, get_or, length, map}
+use Rattle.std.proofs.Common.{pos, refl, rules, subst, sym}
 use Rattle.std.proofs.lemmas.Simd.{Each1-from_get_or}
 use lib.Lanes.{Each1}
 use Rattle.mseed_steim.specs.Spelling.{residue}

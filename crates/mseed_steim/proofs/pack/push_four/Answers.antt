@@ -33,4 +33,5 @@ returns c = λ s ds head used low high f are.
     (subst (λ (xs : List ℤ). IsFullest s xs four.fourth.0 four.fourth.1 four.fourth.2) at_e are.fourth) in
     let count : used + a + b + d + four.fourth.2 ≡ used + four.count = omega (arith, are.count) in
     subst (λ (n : ℕ). Pushing s ds c.push_word.new.frames head c.push_word.result (index + 4) n) count
-    (subst (λ (i : ℕ). Pushing s ds c.push_word.new.frames head c.push_word.result i (used + a + b + d + four.fourth.2)) four_on all)
+    (subst (λ (i : ℕ).
+    Pushing s ds c.push_word.new.frames head c.push_word.result i (used + a + b + d + four.fourth.2)) four_on all)
