@@ -11,7 +11,7 @@ use lib.Lanes.{sum_l}
 use Rattle.mseed_steim.specs.declared.scheme.Scheme.{Scheme}
 use Rattle.mseed_steim.specs.declared.scheme.Scheme.TheVariants.{One, Two}
 use Rattle.mseed_steim.specs.declared.differences.BadWordAt.{BadWordAt}
-use Rattle.mseed_steim.specs.declared.frame.Lanes.{Lanes}
+use Rattle.mseed_steim.specs.declared.frame.MovedLanes.{MovedLanes}
 use Rattle.mseed_steim.specs.private.Moves.{Adds, MovesBy, Tells}
 use Rattle.mseed_steim.specs.private.Digits.{digits, differences_of}
 use Rattle.mseed_steim.specs.Frames.{DataWord, data_word, word_at, code_at, words_from}
@@ -292,7 +292,7 @@ reads_all One p f k from = reads_by One _ _ p f k from rows_all_one zeros_all_on
 reads_all Two p f k from = reads_by Two _ _ p f k from rows_all_two zeros_all_two
 
 -- what is counted and added up of the frame is what its words move by
-pub told_by : (s : Scheme) (p f begin : List ℕ) (k from : ℕ) (lanes : Lanes) → Begins begin from
+pub told_by : (s : Scheme) (p f begin : List ℕ) (k from : ℕ) (lanes : MovedLanes) → Begins begin from
     → f ≡ take 64 (drop (64 * k) p) → ((i : ℕ) → get_or f i 0 < 256) → Adds s f from lanes
     → Tells s (words_from p (16 * k + from) (16 - from)) lanes
 told_by s p f begin k from lanes begins e h a = λ few.

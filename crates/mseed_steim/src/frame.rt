@@ -17,7 +17,7 @@ use std::simd::prelude::*;
 
 /// What the differences of a frame are in all, in lanes.
 #[derive(Clone, Copy)]
-pub(crate) struct Lanes {
+pub(crate) struct MovedLanes {
     /// How many there are; 128 and more where a word is bad or too wide.
     count: u32,
     /// The lanes come to 128 times their sum.
@@ -194,7 +194,7 @@ fn coarse_of(a: u8x16, c: u8x16, rows: u8x16) -> u32x4
 
 /// The differences of a Steim-2 frame.
 #[inline(always)]
-fn frame_two(frame: &[u8; 64], begin: Rows) -> Lanes
+fn frame_two(frame: &[u8; 64], begin: Rows) -> MovedLanes
     ensures { (from : ℕ) → Begins begin from → Adds Two frame.now from result }
 {
     // the top bit of each difference turned over, so that it stands for what it is more than the least
@@ -213,7 +213,7 @@ fn frame_two(frame: &[u8; 64], begin: Rows) -> Lanes
     // all of them 128-fold, so that what is divided is one number, and comes out even
     let coarse = shifted(minus(coarse, least_coarse), 15);
     let raised = plus(plus(shifted(ones, 7), fine), coarse);
-    Lanes {
+    MovedLanes {
         count: counted(rows, COUNT_TWO),
         by: minus(raised, shifted(least, 10)),
     }
@@ -255,7 +255,7 @@ fn high_of(a: u8x16, c: u8x16, rows: u8x16) -> u32x4
 
 /// The differences of a Steim-1 frame.
 #[inline(always)]
-fn frame_one(frame: &[u8; 64], begin: Rows) -> Lanes
+fn frame_one(frame: &[u8; 64], begin: Rows) -> MovedLanes
     ensures { (from : ℕ) → Begins begin from → Adds One frame.now from result }
 {
     let (upper, lower) = (rows_one!(128, 128), rows_one!(128, 0));
@@ -264,7 +264,7 @@ fn frame_one(frame: &[u8; 64], begin: Rows) -> Lanes
     let high = high_of(a, c, rows);
     let least = tally(rows, rows_one!(1, 128));
     let raised = plus(low, shifted(high, 8));
-    Lanes {
+    MovedLanes {
         count: counted(rows, COUNT_ONE),
         by: shifted(minus(raised, shifted(least, 9)), 7),
     }
@@ -272,7 +272,7 @@ fn frame_one(frame: &[u8; 64], begin: Rows) -> Lanes
 
 /// The differences of a frame's words from word 1, 3 or 4 on, by its scheme.
 #[inline(always)]
-fn frame_lanes(scheme: Scheme, frame: &[u8; 64], begin: Rows) -> Lanes
+fn frame_lanes(scheme: Scheme, frame: &[u8; 64], begin: Rows) -> MovedLanes
     ensures { (p : List ℕ) (k from : ℕ) → Begins begin from → frame.now ≡ take 64 (drop (64 * k) p)
         → Tells scheme (words_from p (16 * k + from) (16 - from)) result }
 {

@@ -4,7 +4,7 @@ use Rattle.std.specs.Prelude.{length, slice_index, ℤ, pos, ◌+ℤ◌, Ok}
 use Rattle.std.specs.Prelude.{drop, take, slice_index_or}
 use Rattle.std.specs.Simd.Lanes.{sum_l}
 use Rattle.mseed_steim.specs.declared.scheme.Scheme.{Scheme}
-use Rattle.mseed_steim.specs.declared.frame.Lanes.{Lanes}
+use Rattle.mseed_steim.specs.declared.frame.MovedLanes.{MovedLanes}
 use Rattle.mseed_steim.specs.declared.frame.TheConstants.{REACH}
 use Rattle.mseed_steim.specs.Frames.{DataWord}
 use Rattle.mseed_steim.specs.private.Items.{items_of}
@@ -29,12 +29,12 @@ Raises x by = (w : ℕ) × ((l : ℕ) × ((pos w ≡ by +ℤ pos l) × ((x + 128
 
 -- the differences of the frame's words are as many as it counts, and their sum is its own; 128 and more are counted
 -- where a word is bad or has one of 30 or 32 bits
-pub record Adds (scheme : Scheme) (frame : List ℕ) (from : ℕ) (lanes : Lanes) : Type 0 where
+pub record Adds (scheme : Scheme) (frame : List ℕ) (from : ℕ) (lanes : MovedLanes) : Type 0 where
   pub count : lanes.count ≡ sum_l (map (λ w. slice_index (counts_of scheme) (row_at frame from w)) words)
   pub by : lanes.count < 128 → Raises (sum_l lanes.by) (sum_z (map (moved scheme frame from) words))
 
 -- the lanes tell what the words move by; given where none of them is bad or holds a difference of 30 or 32 bits
-abbrev pub Tells : Scheme → List DataWord → Lanes → Type 0
+abbrev pub Tells : Scheme → List DataWord → MovedLanes → Type 0
 Tells scheme words lanes =
     lanes.count < 128 → (by : ℤ) × (Raises (sum_l lanes.by) by × MovesBy scheme words lanes.count by REACH)
 
