@@ -196,10 +196,6 @@ pub past_head : (p : List ℕ) (k end : ℕ) → k < end → k % 16 ≡ 0
 past_head p k end h head = let more : end - k ≡ suc (end - (k + 1)) = omega arith in
     rw more (sym (words_skip p k (end - (k + 1)) head))
 
-pub past_none : (ws : List DataWord) → begins_empty ws ≡ false → past_empty ws ≡ ws
-past_none [] e = refl
-past_none (w ∷ ws) e = rw e refl
-
 -- all that is known of the codes of the frame in which words begin
 abbrev pub IsAt : List ℕ → ℕ → ℕ → ℕ → Type 0
 IsAt p codes from end = from < end → (from % 16 ≢ 0) × (codes ≡ word_at p (16 * (from / 16)))

@@ -72,12 +72,6 @@ all_ends keep n s out r places e = ⊎_elim
     (λ (some : s.met ≡ n → ⊥). rw (e ∙ fold_short n s some) tt)
     (cases_eq s.met n)
 
--- there is a place for each sample, where anything is kept
-pub has_places : (keep : Option (ℤ → ℤ → ℤ)) (n m : ℕ) (out : List ℤ) → length out ≡ places_for keep n → m ≤ n
-    → HasPlaces keep m out
-has_places None n m out e h = tt
-has_places (Some keep) n m out e h = let long : length out ≡ n = e in omega (arith, long, h)
-
 -- what is put in its places is kept
 pub puts_kept : (keep : Option (ℤ → ℤ → ℤ)) (n : ℕ) (s next : Sum) (before after : List ℤ)
     (put : (ℤ → ℤ → ℤ) → List ℤ) (items behind : List (Result ℤ BadWordAt))
@@ -125,11 +119,6 @@ first_span m (d ∷ ds) = ⊎_elim
 pub length-with_first : (m : ℕ) (z : ℤ) (ds : List ℤ) → length (with_first m z ds) ≡ length ds
 length-with_first m z [] = refl
 length-with_first m z (d ∷ ds) = refl
-
-pub first_put : (m count : ℕ) (z : ℤ) (d : ℤ) (ds : List ℤ) → m ≡ 0
-    → take count (z ∷ ds) ≡ with_first m z (take count (d ∷ ds))
-first_put m zero z d ds e = refl
-first_put m (suc count) z d ds e = rw (eq-eqb m 0 e) refl
 
 pub first_same : (m : ℕ) (z : ℤ) (ds : List ℤ) → (m ≡ 0 → ⊥) → ds ≡ with_first m z ds
 first_same m z [] e = refl

@@ -25,12 +25,6 @@ append_cases (x ∷ xs) ys (a ∷ hs) bs e =
     (λ (h : (m : List ℤ) × ((xs ≡ hs ++ m) × (bs ≡ m ++ ys))). inr (h.0, (cc (first, h.1.0), h.1.1)))
     (append_cases xs ys hs bs rest)
 
-spelled_word : (ds : List ℤ) → CanSpell Two ds → (w : DataWord) × SpellsRun Two (w ∷ []) ds
-spelled_word ds can = (
-  record { frame = 0; place = 0; code = can.0; bits = can.1.0 },
-  (ds, ([], (sym (append-nil ds), (can.1.1, refl)))),
-)
-
 -- as many words spell what is left where a prefix of the differences goes
 abbrev SpelledBy : ℕ → List ℤ → Type 0
 SpelledBy n ds = (us : List DataWord) × ((length us ≤ n) × SpellsRun Two us ds)

@@ -112,11 +112,6 @@ pub integers_over : (order : Order) (w : ℕ) (p : List ℕ) (n i : ℕ) → n �
 unfolding integers
 integers_over order w p n i h = let none : n - i ≡ 0 = omega arith in rw none refl
 
-pub integers_begin : (order : Order) (w : ℕ) (p : List ℕ) (n : ℕ)
-    → integers order w p (w * 0) (n - 0) ≡ integers order w p 0 n
-integers_begin order w p n = let zeroth : w * 0 ≡ 0 = omega arith in let all : n - 0 ≡ n = omega arith in
-    rw (zeroth, all) refl
-
 pub filled : (order : Order) (width : Width) (p : List ℕ) (n : ℕ) (out : List ℤ) → ((i : ℕ) → get_or p i 0 < 256)
     → bytes_of width * n ≤ length p → out ≡ integers order (bytes_of width) p 0 n
     → IsPayloadReading (Integers width) order p n out

@@ -23,7 +23,6 @@ pub mod FrameSums
 pub mod FrameOne
 pub mod Far
 pub mod FrameNear
-pub mod Near
 pub mod FrameItems
 pub mod Raised
 pub mod FirstRun

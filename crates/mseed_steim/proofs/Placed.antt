@@ -143,13 +143,6 @@ payload_steps s p out first more ss octets some constant unpacked sums =
     starts_steps first sums.differences out (items_of s sums.rest) more ss same (sym long) (omega (arith, long, some))
     (subst (λ (x : ℤ). StartsAndAdds x sums.differences ss) (sym constant) sums.sums)
 
--- the samples of a record are sums of its payload
-pub record_sums : (v : View) (s : Scheme) (p : List ℕ) (n : ℕ) (ss : List ℤ) → HoldsIn v (Frames s) p
-    → n ≡ count_of v → IsWhole v ss → AreSums s p n ss
-record_sums v s p n ss holds places whole =
-    let read = same_payload v (Frames s) ss holds.1 whole.0 in
-    rw (holds.4, places) read.1
-
 -- a frame's differences, put behind those before them
 pub put_on : (s : Scheme) (p begin frame : List ℕ) (i met rest count places : ℕ) (out after : List ℤ)
     → i < length p / 64 → Begins begin (data_in 0 i) → frame ≡ take 64 (drop (64 * i) p)

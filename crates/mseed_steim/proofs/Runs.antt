@@ -218,17 +218,3 @@ fault_one s p n f g (last_differs prefix' last b all' not') (overflow prefix sum
 fault_one s p n f g (last_differs prefix last a all not) (last_differs prefix' last' b all' not') =
     ap (λ (z : ℤ). LastDiffers z (last_constant p))
     (last_one prefix last prefix' last' (sums_one s p n (prefix ++ last ∷ []) (prefix' ++ last' ∷ []) a b))
-
--- sums within 32 bits leave one fault alone: that the last isn't the constant
-pub fault_of_sums : (s : Scheme) (p : List ℕ) (n : ℕ) (ss : List ℤ) (f : ReadFault) → AreSums s p n ss
-    → All IsSample ss → IsFrameFault s p n f
-    → (prefix : List ℤ) × ((last : ℤ)
-    × ((ss ≡ prefix ++ last ∷ []) × (last ≢ last_constant p) × (f ≡ LastDiffers last (last_constant p))))
-fault_of_sums s p n ss f a all (short ds h less) = absurd (not_short s p n ss ds a h less)
-fault_of_sums s p n ss f a all (bad_word before bad after es cut k less none) =
-    absurd (not_bad s p n ss before bad after es a cut k less none)
-fault_of_sums s p n ss f a all (overflow prefix sum rest b all' not) =
-    absurd (not_in prefix sum rest
-    (subst (λ (xs : List ℤ). All IsSample xs) (sums_one s p n ss (prefix ++ sum ∷ rest) a b) all) not)
-fault_of_sums s p n ss f a all (last_differs prefix last b all' not) =
-    (prefix, (last, (sums_one s p n ss (prefix ++ last ∷ []) a b, not, refl)))

@@ -249,9 +249,6 @@ last_of_four l xs long =
     let all : (((l +ℤ f.a) +ℤ f.b) +ℤ f.c) +ℤ f.d ≡ l +ℤ total (f.a ∷ f.b ∷ f.c ∷ f.d ∷ []) = omega (arith, ints) in
     rw f.same all
 
-pub sum_near : (l : ℤ) (xs : List ℤ) → nat_abs l + span xs < 2 ^ 31 → FitsSigned w32 (l +ℤ total xs)
-sum_near l xs near = near_signed (l +ℤ total xs) (omega (arith, near, abs_sum l (total xs), total_near xs))
-
 -- the differences, and zeros behind them
 span_zeros : (n : ℕ) → span (replicate n (pos 0)) ≡ 0
 span_zeros zero = refl

@@ -87,11 +87,6 @@ take_most zero xs = omega arith
 take_most (suc m) [] = omega arith
 take_most (suc m) (x ∷ xs) = let later = take_most m xs in omega (arith, later)
 
-pub take_shorter : {A : Type 0} (m : ℕ) (xs : List A) → length (take m xs) ≤ length xs
-take_shorter zero xs = omega arith
-take_shorter (suc m) [] = omega arith
-take_shorter (suc m) (x ∷ xs) = let later = take_shorter m xs in omega (arith, later)
-
 pub length-first_chunks : (n : ℕ) (p : List ℕ) → length (first_chunks 64 n p) ≡ n
 length-first_chunks zero p = refl
 length-first_chunks (suc n) p = ap suc (length-first_chunks n (drop 64 p))

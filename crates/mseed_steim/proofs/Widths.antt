@@ -26,21 +26,6 @@ size_within (negsuc n) w h = omega (arith, ints, h.0)
 pub within_by : (z : ℤ) (size : ℕ) → size ≡ size_of z → (w : ℕ) → (size < 2 ^ (w - 1)) ↔ IsWithin w z
 within_by z size e = λ w. (λ h. within z w (rw e at h), λ h. rw e (size_within z w h))
 
--- the code's way to it
-pub size_not : (z : ℤ) → FitsSigned w32 z → lt_z (to_z w32 (of_z w32 z)) (pos 0) ≡ true
-    → nat_abs (to_z w32 (4294967295 - of_z w32 z)) ≡ size_of z
-size_not (pos n) f e = absurd (not_below n (subst (λ (z : ℤ). lt_z z (pos 0) ≡ true) (to_z-of_z w32 (pos n) f) e))
-size_not (negsuc n) f e =
-    let small : n < 2 ^ 31 = size_small (negsuc n) f in
-    let other : 4294967295 - (2 ^ 32 - suc n) ≡ n = omega (arith, small) in
-    rw (other, lt-ltb n (2 ^ 31) small) refl
-
-pub size_same : (z : ℤ) → FitsSigned w32 z → lt_z (to_z w32 (of_z w32 z)) (pos 0) ≡ false
-    → nat_abs (to_z w32 (of_z w32 z)) ≡ size_of z
-size_same (pos n) f e = rw (to_z-of_z w32 (pos n) f) refl
-size_same (negsuc n) f e = let below : lt_z (negsuc n) (pos 0) ≡ false =
-    subst (λ (z : ℤ). lt_z z (pos 0) ≡ false) (to_z-of_z w32 (negsuc n) f) e in cc
-
 -- a number of 32 bits
 pub fits_within : (z : ℤ) → FitsSigned w32 z → IsWithin 32 z
 fits_within z f = within z 32 (size_small z f)
