@@ -177,8 +177,8 @@ takes Two most some few =
     (plain Two 6 _ refl refl) (plain Two 7 _ refl refl) most (omega (arith, few)) some
 
 -- What is held tells the best row.
-pub is_ahead : (s : Scheme) (ds : List ℤ) (held : List ℕ) (i most : ℕ) → 64 ≤ length ds → i < 57
-    → ((x : ℕ) → x < 64 → get_or held x 0 ≡ most_with s (near_size s (get_or ds x (pos 0)))) → IsMost held i most
+pub is_ahead : (s : Scheme) (ds : List ℤ) (held : List ℕ) (i most : ℕ) → 128 ≤ length ds → i < 121
+    → ((x : ℕ) → x < 128 → get_or held x 0 ≡ most_with s (near_size s (get_or ds x (pos 0)))) → IsMost held i most
     → IsAhead s (drop i ds) most
 is_ahead s ds held i most long early says is some =
     let xs = drop i ds in
@@ -238,12 +238,12 @@ is_ahead s ds held i most long early says is some =
     seven_most Two most h = omega (arith, h)
 
 -- those behind a place of which something is reported are cut off
-pub cut_from : (s : Scheme) (ds : List ℤ) (most : List ℕ) (cut : List ℤ) → length cut ≡ 64
-    → ((i : ℕ) → 57 ≤ i → i < 80 → get_or most i 0 ≡ 0) → (s ≡ Two → AreSame 64 ds cut)
-    → (i : ℕ) → i < 80 → IsCut s (get_or most i 0) (drop i ds) (drop i cut)
+pub cut_from : (s : Scheme) (ds : List ℤ) (most : List ℕ) (cut : List ℤ) → length cut ≡ 128
+    → ((i : ℕ) → 121 ≤ i → i < 144 → get_or most i 0 ≡ 0) → (s ≡ Two → AreSame 128 ds cut)
+    → (i : ℕ) → i < 144 → IsCut s (get_or most i 0) (drop i ds) (drop i cut)
 cut_from s ds most cut long none same i h two some =
-    let early : i < 57 = ⊎_elim (λ (a : i < 57). a) (λ (b : 57 ≤ i). absurd (omega (arith, some, none i b h)))
-    (cases_lt i 57) in (
+    let early : i < 121 = ⊎_elim (λ (a : i < 121). a) (λ (b : 121 ≤ i). absurd (omega (arith, some, none i b h)))
+    (cases_lt i 121) in (
       omega (arith, early, long, length-drop i cut),
       λ j l within. get_or-drop i cut j (pos 0) ∙ same two (i + j) (omega (arith, early, l))
           (rw (get_or-drop i ds j (pos 0)) at within) ∙ sym (get_or-drop i ds j (pos 0)),

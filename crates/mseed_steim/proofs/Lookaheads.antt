@@ -31,29 +31,29 @@ pub uncut : (s : Scheme) (ds cut : List ℤ) (most : ℕ) → most < 2 → IsCut
 uncut s ds cut most less two some = absurd (omega (arith, less, some))
 
 -- nothing is reported
-pub known_none : (s : Scheme) (ds cut : List ℤ) (place : ℕ) → place ≤ 64
-    → IsLookahead s (known_at (replicate 80 0) cut place) ds
+pub known_none : (s : Scheme) (ds cut : List ℤ) (place : ℕ) → place ≤ 128
+    → IsLookahead s (known_at (replicate 144 0) cut place) ds
 known_none s ds cut place h = record {
   place = h;
-  ahead = λ i l. let none = zero_at 80 (i + place) in nothing s (drop i ds) _ (omega (arith, none));
-  none = λ i low h. zero_at 80 i;
-  cut = λ i l. let none = zero_at 80 (i + place) in uncut s (drop i ds) (drop (i + place) cut) _ (omega (arith, none));
+  ahead = λ i l. let none = zero_at 144 (i + place) in nothing s (drop i ds) _ (omega (arith, none));
+  none = λ i low h. zero_at 144 i;
+  cut = λ i l. let none = zero_at 144 (i + place) in uncut s (drop i ds) (drop (i + place) cut) _ (omega (arith, none));
 }
 
 -- nothing is known of the last places
 pub known_past : (s : Scheme) (known : Lookahead) (ds others : List ℤ) → IsLookahead s known others
-    → IsLookahead s (known_at known.most known.cut 57) ds
+    → IsLookahead s (known_at known.most known.cut 121) ds
 known_past s known ds others is = record {
   place = omega arith;
-  ahead = λ i l. let none = is.none (i + 57) (omega arith) l in nothing s (drop i ds) _ (omega (arith, none));
+  ahead = λ i l. let none = is.none (i + 121) (omega arith) l in nothing s (drop i ds) _ (omega (arith, none));
   none = is.none;
-  cut = λ i l. let none = is.none (i + 57) (omega arith) l in
-      uncut s (drop i ds) (drop (i + 57) known.cut) _ (omega (arith, none));
+  cut = λ i l. let none = is.none (i + 121) (omega arith) l in
+      uncut s (drop i ds) (drop (i + 121) known.cut) _ (omega (arith, none));
 }
 
 -- it's known as well from a later place on
 pub known_next : (s : Scheme) (most : List ℕ) (cut : List ℤ) (place count : ℕ) (ds : List ℤ)
-    → IsLookahead s (known_at most cut place) ds → place + count ≤ 64
+    → IsLookahead s (known_at most cut place) ds → place + count ≤ 128
     → IsLookahead s (known_at most cut (place + count)) (drop count ds)
 known_next s most cut place count ds is h = record {
   place = h;
@@ -74,17 +74,17 @@ pub known_here : (s : Scheme) (known : Lookahead) (ds : List ℤ) → IsLookahea
     × IsCut s (get_or known.most known.place 0) ds (drop known.place known.cut)
 known_here s known ds is =
     let same : 0 + known.place ≡ known.place = omega arith in
-    let inside : 0 + known.place < 80 = omega (arith, is.place) in (
+    let inside : 0 + known.place < 144 = omega (arith, is.place) in (
       subst (λ (n : ℕ). IsAhead s ds (get_or known.most n 0)) same (is.ahead 0 inside),
       subst (λ (n : ℕ). IsCut s (get_or known.most n 0) ds (drop n known.cut)) same (is.cut 0 inside),
     )
 
 -- where two or more are held, the place is one of which something is known
 pub known_early : (s : Scheme) (known : Lookahead) (ds : List ℤ) (held : ℕ) → IsLookahead s known ds
-    → held ≡ get_or known.most known.place 0 → 2 ≤ held → known.place < 57
-known_early s known ds held is e some = ⊎_elim (λ (h : known.place < 57). h)
-    (λ (h : 57 ≤ known.place). absurd (omega (arith, some, e, is.none known.place h (omega (arith, is.place)))))
-    (cases_lt known.place 57)
+    → held ≡ get_or known.most known.place 0 → 2 ≤ held → known.place < 121
+known_early s known ds held is e some = ⊎_elim (λ (h : known.place < 121). h)
+    (λ (h : 121 ≤ known.place). absurd (omega (arith, some, e, is.none known.place h (omega (arith, is.place)))))
+    (cases_lt known.place 121)
 
 -- No word takes more where more differences follow: it has seven at the most.
 ahead_more : (s : Scheme) (ds more : List ℤ) (most : ℕ) → IsAhead s ds most → IsAhead s (ds ++ more) most
@@ -169,7 +169,7 @@ few_cut s ds more cut i most room is two some =
     (subst (λ (xs : List ℤ). AreCut xs cut) (rest_more ds more i few) (is two some))
 
 -- What is known of differences is known of the first of them, where these are as many as are looked at.
-pub known_first : (s : Scheme) (known : Lookahead) (ds more : List ℤ) → 64 ≤ length ds
+pub known_first : (s : Scheme) (known : Lookahead) (ds more : List ℤ) → 128 ≤ length ds
     → IsLookahead s known (ds ++ more) → IsLookahead s known ds
 known_first s known ds more long is = record {
   place = is.place;
@@ -178,16 +178,16 @@ known_first s known ds more long is = record {
   cut = λ i l two some. few_cut s ds more _ i _ (eight_left i l some) (is.cut i l) two some;
 }
   where
-    eight_left : (i : ℕ) → i + known.place < 80 → 2 ≤ get_or known.most (i + known.place) 0 → i + 8 ≤ length ds
+    eight_left : (i : ℕ) → i + known.place < 144 → 2 ≤ get_or known.most (i + known.place) 0 → i + 8 ≤ length ds
     eight_left i l some = ⊎_elim
-        (λ (a : i + known.place < 57). omega (arith, a, long))
-        (λ (b : 57 ≤ i + known.place). absurd (omega (arith, some, is.none (i + known.place) b l)))
-        (cases_lt (i + known.place) 57)
+        (λ (a : i + known.place < 121). omega (arith, a, long))
+        (λ (b : 121 ≤ i + known.place). absurd (omega (arith, some, is.none (i + known.place) b l)))
+        (cases_lt (i + known.place) 121)
 
 -- what is known where two or more are held, and behind the word that takes as many
 pub held_here : (known : Lookahead) (place held : ℕ) (ds : List ℤ) → IsLookahead Two (known_from known place) ds
     → held ≡ get_or known.most place 0 → 2 ≤ held
-    → ((held < 8) × (place + 8 ≤ 64)) × (IsAhead Two ds held × AreCut ds (drop place known.cut)
+    → ((held < 8) × (place + 8 ≤ 128)) × (IsAhead Two ds held × AreCut ds (drop place known.cut)
     × IsLookahead Two (known_from known (place + held)) (drop held ds))
 held_here known place held ds is e some =
     let here = known_here Two (known_from known place) ds is in

@@ -34,9 +34,9 @@ IsCut scheme most ds cut = scheme ≡ Two → 2 ≤ most → AreCut ds cut
 
 -- What is kept is so of the differences that come next, from its place on. Of its last places nothing is known.
 pub record IsLookahead (scheme : Scheme) (known : Lookahead) (ds : List ℤ) : Type 0 where
-  pub place : known.place ≤ 64
-  pub ahead : (i : ℕ) → i + known.place < 80
+  pub place : known.place ≤ 128
+  pub ahead : (i : ℕ) → i + known.place < 144
       → IsAhead scheme (drop i ds) (slice_index_or known.most (i + known.place) 0)
-  pub none : (i : ℕ) → 57 ≤ i → i < 80 → slice_index_or known.most i 0 ≡ 0
-  pub cut : (i : ℕ) → i + known.place < 80 → IsCut scheme (slice_index_or known.most (i + known.place) 0) (drop i ds)
+  pub none : (i : ℕ) → 121 ≤ i → i < 144 → slice_index_or known.most i 0 ≡ 0
+  pub cut : (i : ℕ) → i + known.place < 144 → IsCut scheme (slice_index_or known.most (i + known.place) 0) (drop i ds)
       (drop (i + known.place) known.cut)

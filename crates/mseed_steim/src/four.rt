@@ -46,7 +46,7 @@ fn sums_of(a: u32x4, b: u32x4, c: u32x4, d: u32x4) -> [u32; 4]
 fn held_at(known: &Lookahead, place: usize) -> Option<usize>
     requires known { (ds : List ℤ) × IsLookahead Two (known_from known.now place) ds }
     ensures some { IfSome result (λ held. (2 ≤ held) × (held < 8)) }
-    ensures early { IfSome result (λ _. place + 8 ≤ 64) }
+    ensures early { IfSome result (λ _. place + 8 ≤ 128) }
     ensures known { IfSome result (λ held. (ds : List ℤ) → IsLookahead Two (known_from known.now place) ds
         → IsAhead Two ds held × AreCut ds (drop place known.now.cut)
         × IsLookahead Two (known_from known.now (place + held)) (drop held ds)) }

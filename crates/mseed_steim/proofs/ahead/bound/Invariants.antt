@@ -4,7 +4,7 @@ use Rattle.mseed_steim.proofs.ahead.bound.Given as goal
 
 abbrev pub invariant-loop-turn : goal.invariant-loop-turn
 invariant-loop-turn l = record {
-  room : length l.held ≡ 80;
+  room : length l.held ≡ 144;
   done : (i : ℕ) → i < 16 * l.turn → IsMost l.fn.held i (get_or l.held i 0);
   rest : (i : ℕ) → 16 * l.turn ≤ i → get_or l.held i 0 ≡ get_or l.fn.held i 0;
 }

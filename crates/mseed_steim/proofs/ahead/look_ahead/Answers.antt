@@ -30,7 +30,7 @@ loop-index-preserved c = record {
       (λ e. absurd (omega (arith, e, l))) ∙ c.loop-index.invariant.none i b l)
       (λ (m : c.loop-index.index ≤ i).
       let same : i ≡ c.loop-index.index = omega (arith, m, h) in
-      let long : length c.loop-index.most ≡ 80 = search rules in
+      let long : length c.loop-index.most ≡ 144 = search rules in
       subst (λ (n : ℕ). get_or (slice_set c.loop-index.most c.loop-index.index 0) n 0 ≡ 0) (sym same)
       (get_or-set_same c.loop-index.most c.loop-index.index 0 0 (omega (arith, long, c.loop-index-test.true))))
       (cases_lt i c.loop-index.index);
@@ -38,13 +38,13 @@ loop-index-preserved c = record {
 
 pub returns : goal.returns
 returns c =
-    let none : (i : ℕ) → 57 ≤ i → i < 80 → get_or c.loop-index.most i 0 ≡ 0 =
+    let none : (i : ℕ) → 121 ≤ i → i < 144 → get_or c.loop-index.most i 0 ≡ 0 =
     λ i b h. c.loop-index.invariant.none i b (omega (arith, h, c.loop-index-test.false)) in record {
       ahead = λ i h. ⊎_elim
-          (λ (a : i < 57). c.loop-index.invariant.ahead i a)
-          (λ (b : 57 ≤ i). subst (λ (x : ℕ). IsAhead c.args.scheme (drop i c.args.diffs.now) x) (sym (none i b h))
+          (λ (a : i < 121). c.loop-index.invariant.ahead i a)
+          (λ (b : 121 ≤ i). subst (λ (x : ℕ). IsAhead c.args.scheme (drop i c.args.diffs.now) x) (sym (none i b h))
           (λ some. absurd (omega (arith, some))))
-          (cases_lt i 57);
+          (cases_lt i 121);
       none = none;
       cut = c.put_sizes.ensures.cut;
     }

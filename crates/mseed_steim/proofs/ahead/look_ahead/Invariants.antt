@@ -4,6 +4,6 @@ use Rattle.mseed_steim.proofs.ahead.look_ahead.Given as goal
 
 abbrev pub invariant-loop-index : goal.invariant-loop-index
 invariant-loop-index l = record {
-  ahead : (i : ℕ) → i < 57 → IsAhead l.fn.scheme (drop i l.fn.diffs) (get_or l.most i 0);
-  none : (i : ℕ) → 57 ≤ i → i < l.index → get_or l.most i 0 ≡ 0;
+  ahead : (i : ℕ) → i < 121 → IsAhead l.fn.scheme (drop i l.fn.diffs) (get_or l.most i 0);
+  none : (i : ℕ) → 121 ≤ i → i < l.index → get_or l.most i 0 ≡ 0;
 }

@@ -26,7 +26,7 @@ loop-index-init c =
           (omega (arith, h, c.requires.few))));
       none = λ i low h which. ⊎_elim
           (λ (l : i < length ds - 7). absurd (omega (arith, l, low)))
-          (λ (m : 57 ≤ i). c.look_ahead.ensures.none i m h) which;
+          (λ (m : 121 ≤ i). c.look_ahead.ensures.none i m h) which;
     }
 
 pub loop-index-preserved : goal.loop-index-preserved
@@ -42,19 +42,19 @@ loop-index-preserved c =
       cut = λ i h. subst (λ (x : ℕ). IsCut s x (drop i ds) (drop i c.look_ahead.new.cut)) (other i h)
           (c.loop-index.invariant.cut i h);
       none = λ i low h which.
-          let long : length most ≡ 80 = search rules in
+          let long : length most ≡ 144 = search rules in
           let set : index ≡ i → get_or (slice_set most index 0) i 0 ≡ 0 = λ same.
           subst (λ (n : ℕ). get_or (slice_set most index 0) n 0 ≡ 0) same
           (get_or-set_same most index 0 0 (omega (arith, long, c.loop-index-test.true))) in
-          let kept : (i < index) ⊎ (57 ≤ i) → get_or (slice_set most index 0) i 0 ≡ 0 = λ w.
+          let kept : (i < index) ⊎ (121 ≤ i) → get_or (slice_set most index 0) i 0 ≡ 0 = λ w.
           get_or-set_other most index i 0 0
           (λ e. ⊎_elim (λ (a : i < index). absurd (omega (arith, a, e)))
-          (λ (b : 57 ≤ i). absurd (omega (arith, b, e, c.loop-index-test.true))) w)
+          (λ (b : 121 ≤ i). absurd (omega (arith, b, e, c.loop-index-test.true))) w)
           ∙ c.loop-index.invariant.none i low h w in
           ⊎_elim
           (λ (l : i < index + 1). ⊎_elim (λ (a : i < index). kept (inl a))
           (λ (b : index ≤ i). set (omega (arith, l, b))) (cases_lt i index))
-          (λ (m : 57 ≤ i). kept (inr m)) which;
+          (λ (m : 121 ≤ i). kept (inr m)) which;
     }
 
 pub returns : goal.returns
@@ -64,10 +64,10 @@ returns c =
     let most = c.loop-index.most in
     let cut = c.look_ahead.new.cut in
     let same : (i : ℕ) → i ≡ i + 0 = λ i. omega arith in
-    let none : (i : ℕ) → length ds - 7 ≤ i → i < 80 → get_or most i 0 ≡ 0 = λ i low h.
+    let none : (i : ℕ) → length ds - 7 ≤ i → i < 144 → get_or most i 0 ≡ 0 = λ i low h.
     c.loop-index.invariant.none i low h (⊎_elim
-    (λ (a : i < 57). inl (omega (arith, a, c.loop-index-test.false)))
-    (λ (b : 57 ≤ i). inr b) (cases_lt i 57)) in
+    (λ (a : i < 121). inl (omega (arith, a, c.loop-index-test.false)))
+    (λ (b : 121 ≤ i). inr b) (cases_lt i 121)) in
     record {
       place = omega arith;
       ahead = λ i h. subst (λ (n : ℕ). IsAhead s (drop i ds) (get_or most n 0)) (same i) (⊎_elim

@@ -7,5 +7,5 @@ invariant-loop-index l = record {
   ahead : (i : ℕ) → i < length l.fn.diffs - 7 → IsAhead l.fn.scheme (drop i l.fn.diffs) (get_or l.most i 0);
   cut : (i : ℕ) → i < length l.fn.diffs - 7
       → IsCut l.fn.scheme (get_or l.most i 0) (drop i l.fn.diffs) (drop i l.cut);
-  none : (i : ℕ) → length l.fn.diffs - 7 ≤ i → i < 80 → (i < l.index) ⊎ (57 ≤ i) → get_or l.most i 0 ≡ 0;
+  none : (i : ℕ) → length l.fn.diffs - 7 ≤ i → i < 144 → (i < l.index) ⊎ (121 ≤ i) → get_or l.most i 0 ≡ 0;
 }

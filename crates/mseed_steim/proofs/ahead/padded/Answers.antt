@@ -3,5 +3,5 @@ use Rattle.mseed_steim.proofs.ahead.padded.Goals as goal
 
 pub returns : goal.returns
 returns c =
-    let zeros = drop (length c.args.diffs.now) (replicate 64 (pos 0)) in
+    let zeros = drop (length c.args.diffs.now) (replicate 128 (pos 0)) in
     (zeros, ap (λ (xs : List ℤ). xs ++ zeros) c.copy_from_slice.ensures.after)

@@ -6,7 +6,7 @@ use Rattle.mseed_steim.proofs.ahead.put_cut.Given as goal
 
 abbrev pub invariant-loop-index : goal.invariant-loop-index
 invariant-loop-index l = record {
-  room : length l.cut ≡ 64;
+  room : length l.cut ≡ 128;
   same : AreSame l.index l.diffs l.cut;
   done : (i : ℕ) → i < l.index → size_of (get_or l.cut i (pos 0)) ≡ near_size Two (get_or l.diffs i (pos 0));
 }

@@ -4,6 +4,6 @@ use Rattle.mseed_steim.proofs.ahead.put_most.Given as goal
 
 abbrev pub invariant-loop-turn : goal.invariant-loop-turn
 invariant-loop-turn l = record {
-  room : length l.most ≡ 80;
+  room : length l.most ≡ 144;
   done : (i : ℕ) → i < 16 * l.turn → get_or l.most i 0 ≡ most_with l.scheme (get_or l.sizes i 0);
 }

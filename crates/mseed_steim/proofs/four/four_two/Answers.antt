@@ -1,4 +1,5 @@
-use Rattle.std.proofs.Common.{◌≡◌, ◌+◌, ◌-◌, ◌%◌, ◌∙◌, ◌∷◌, [], ℕ, ℤ, List, ap, arith, drop, get_or, length, rules, refl, subst, sym, take}
+use Rattle.std.proofs.Common.{◌≡◌, ◌+◌, ◌-◌, ◌%◌, ◌∙◌, ◌∷◌, [], ℕ, ℤ, List, ap, arith, drop, get_or, length, rules}
+use Rattle.std.proofs.Common.{refl, subst, sym, take}
 use Rattle.std.proofs.lemmas.List.{drop-drop}
 use lib.Lanes.{sum_l}
 use Rattle.mseed_steim.specs.declared.scheme.Scheme.TheVariants.{Two}
@@ -44,9 +45,9 @@ returns c = λ ds is.
     let two = c.in_ok-two.ensures.known (drop a ds) one.2 in
     let three = c.in_ok-three.ensures.known (drop b (drop a ds)) two.2 in
     let four = c.in_ok-four.ensures.known (drop d (drop b (drop a ds))) three.2 in
-    let long : length cut ≡ 64 = search rules in
-    let at : (i : ℕ) (xs : List ℤ) → AreCut xs (drop i cut) → AreCut xs (take (64 - i) (drop i cut)) =
-    λ i xs h. subst (λ (ys : List ℤ). AreCut xs ys) (sym (rest_long 64 i cut long)) h in
+    let long : length cut ≡ 128 = search rules in
+    let at : (i : ℕ) (xs : List ℤ) → AreCut xs (drop i cut) → AreCut xs (take (128 - i) (drop i cut)) =
+    λ i xs h. subst (λ (ys : List ℤ). AreCut xs ys) (sym (rest_long 128 i cut long)) h in
     let sums = sum_l c.parts_two-code_a.result.0 % 4294967296 ∷ sum_l c.parts_two-code_b.result.0 % 4294967296
     ∷ sum_l c.parts_two-code_c.result.0 % 4294967296 ∷ sum_l c.parts_two-code_d.result.0 % 4294967296 ∷ [] in
     let bits : (i : ℕ) → get_or c.sums_of-words.result i 0 ≡ get_or sums i 0 =

@@ -130,9 +130,9 @@ next_word-requires-clause-cut c =
     let cut = c.loop-index.known.cut in
     let place = c.loop-index.place in
     let held = c.from-held.result in
-    let long : length cut ≡ 64 = search rules in
+    let long : length cut ≡ 128 = search rules in
     subst (λ (xs : List ℤ). IsCut c.args.scheme held (take (length left - at) (drop at left)) xs)
-    (sym (rest_long 64 place cut long))
+    (sym (rest_long 128 place cut long))
     (subst (λ (xs : List ℤ). IsCut c.args.scheme held xs (drop place cut)) (sym (take_rest left at))
     (subst (λ (m : ℕ). IsCut c.args.scheme m (drop at left) (drop place cut)) (sym c.from-held.ensures)
     (known_here c.args.scheme _ (drop at left) c.loop-index.invariant.known).1))
@@ -230,7 +230,7 @@ loop-index-preserved c =
     let from = coding.filling.from in
     let plain : c.loop-index.index % 16 ≢ 0 = λ e. absurd (omega (arith, e, begin, from, c.loop-index-test.true)) in
     let few = fullest_few s next c.in-Ok.code c.in-Ok.word count c.in-Ok.ensures.fullest in
-    let early : c.loop-index.place < 57 = elim c.if-held-lt2.branch [
+    let early : c.loop-index.place < 121 = elim c.if-held-lt2.branch [
       | then-held-lt2+else-at-left+else-place-ge-KNOWN w ↦ omega (arith, w.if-place-ge-KNOWN.false)
       | else-held-lt2 w ↦ known_early s (known_at c.loop-index.known.most c.loop-index.known.cut c.loop-index.place)
           (drop at left) c.from-held.result c.loop-index.invariant.known c.from-held.ensures

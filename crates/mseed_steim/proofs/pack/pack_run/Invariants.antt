@@ -27,4 +27,4 @@ invariant-loop-index l =
 
 -- a word is filled, or what lies ahead is looked at behind the last place that is known
 abbrev pub decreases-loop-index : goal.decreases-loop-index
-decreases-loop-index l = 2 * (length l.frames - l.index) + (if nat_lt l.place 57 then 0 else 1)
+decreases-loop-index l = 2 * (length l.frames - l.index) + (if nat_lt l.place 121 then 0 else 1)

@@ -9,9 +9,9 @@ returns-then-self-lt2 c = λ s ds more long is. known_past s c.args.self.now ds 
 
 pub returns-else-self-lt2 : goal.returns-else-self-lt2
 returns-else-self-lt2 c = λ s ds more long is.
-    let enough : 64 ≤ length ds = elim c.if-count-lt-AHEAD.branch [
+    let enough : 128 ≤ length ds = elim c.if-count-lt-AHEAD.branch [
       | then-count-lt-AHEAD w ↦ absurd (false≢true
-          (sym c.if-self-lt2.false ∙ w.value-is ∙ lt-ltb c.args.count 64 w.if-count-lt-AHEAD.true))
+          (sym c.if-self-lt2.false ∙ w.value-is ∙ lt-ltb c.args.count 128 w.if-count-lt-AHEAD.true))
       | else-count-lt-AHEAD w ↦ omega (arith, w.if-count-lt-AHEAD.false, long)
     ] in
     let first = known_first s c.args.self.now ds more enough is in
