@@ -20,6 +20,9 @@ use mseed_record::{Codes, RecordView};
 use std::alloc::{AllocError, Allocator};
 use std::cmp::Ordering;
 
+/// How many channels' numbers are remembered by the hash of their codes.
+const GUESSES: usize = 64;
+
 /// The index of each channel's first record, and, for each record with samples, the index of its channel's next one;
 /// or, where there is none, how many records there are.
 #[derive(Drop)]
@@ -83,59 +86,72 @@ fn lay(
     requires nexts { length nexts.old ≡ length views.now }
     ensures { AreTrails views.now channels.now firsts.new nexts.new }
 {
-    let mut likely = 0;
+    let mut guesses = [0; GUESSES];
     for turn in 0..views.len() {
         let index = views.len() - 1 - turn;
-        likely = lead_to(&views[index], index, channels, likely, firsts, nexts);
+        lead_to(&views[index], index, channels, &mut guesses, firsts, nexts);
     }
 }
 
-/// Puts a record before those of its channel. That is likely the channel with this number, the one of the record after
-/// it: in an archive a channel's records often follow one another. Returns its channel's number, or, where it has no
-/// channel, the likely one.
+/// Puts a record before those of its channel, where it has one.
 fn lead_to(
     view: &RecordView,
     index: usize,
     channels: &[(Codes, Verdict)],
-    likely: usize,
+    guesses: &mut [usize; GUESSES],
     firsts: &mut [usize],
     nexts: &mut [usize],
-) -> usize
+)
     requires ascending { IsStrictlySortedBy (slice_cmp nat_cmp) (keys_of channels.now) }
     requires firsts { length firsts.old ≡ length channels.now }
     requires inside { index < length nexts.old }
-    ensures trails { (rs : List RecordView) → index < length rs → view.now ≡ slice_index_or rs index view.now
+    ensures { (rs : List RecordView) → index < length rs → view.now ≡ slice_index_or rs index view.now
         → AreTrailsFrom (index + 1) rs channels.now firsts.old nexts.old
         → AreTrailsFrom index rs channels.now firsts.new nexts.new }
 {
     if view.samples() == 0 {
-        return likely;
+        return;
     }
-    match find_channel(channels, view.codes(), likely) {
-        Some(number) => {
-            nexts[index] = firsts[number];
-            firsts[number] = index;
-            number
-        }
-        None => likely,
+    if let Some(number) = find_channel(channels, view.codes(), guesses) {
+        nexts[index] = firsts[number];
+        firsts[number] = index;
     }
 }
 
-/// Returns the number of the channel with these codes, where there is one. The likely one is looked at first.
-fn find_channel(channels: &[(Codes, Verdict)], codes: Codes, likely: usize) -> Option<usize>
+/// Returns the number of the channel with these codes, where there is one. It is looked for first where their hash says
+/// that it was found before.
+fn find_channel(
+    channels: &[(Codes, Verdict)],
+    codes: Codes,
+    guesses: &mut [usize; GUESSES],
+) -> Option<usize>
     requires { IsStrictlySortedBy (slice_cmp nat_cmp) (keys_of channels.now) }
     ensures inside { IfSome result (λ number. number < length channels.now) }
     ensures some { IfSome result (λ number.
         (c : Channel) → same_key (slice_index_or channels.now number c).0 codes ≡ true) }
     ensures none { IfNone result (All (λ c. same_key c.0 codes ≡ false) channels.now) }
 {
-    if has_codes(channels, likely, codes) {
-        return Some(likely);
+    let hash = hash_of(&codes) % GUESSES;
+    let guess = guesses[hash];
+    if has_codes(channels, guess, codes) {
+        return Some(guess);
     }
     match channels.binary_search_by_key(&codes, |channel| channel.0) {
-        Ok(number) => Some(number),
+        Ok(number) => {
+            guesses[hash] = number;
+            Some(number)
+        }
         Err(_) => None,
     }
+}
+
+/// Returns a number by which codes mostly differ.
+#[inline(always)]
+fn hash_of(codes: &Codes) -> usize {
+    let [a, b, c, d, e, f, g, h, i, j, k, l] = *codes.key();
+    let front = u64::from_le_bytes([a, b, c, d, e, f, g, h]);
+    let back = u32::from_le_bytes([i, j, k, l]);
+    ((front ^ u64::from(back)).wrapping_mul(0x9e37_79b9_7f4a_7c15) >> 58) as usize
 }
 
 /// Returns whether there is a channel with this number, and it has these codes.

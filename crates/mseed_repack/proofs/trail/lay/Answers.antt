@@ -23,11 +23,11 @@ loop-turn-preserved c =
     c.loop-turn.nexts) before c.loop-turn.invariant.trails in
     record {
       trails =
-          subst (λ (m : ℕ). AreTrailsFrom m c.args.views.now c.args.channels.now c.lead_to-likely.new.firsts
-          c.lead_to-likely.new.nexts) after
-          (c.lead_to-likely.ensures.trails c.args.views.now inside c.index-views-index.is so_far);
-      firsts = omega (arith, c.lead_to-likely.auto.firsts, c.loop-turn.invariant.firsts);
-      nexts = omega (arith, c.lead_to-likely.auto.nexts, c.loop-turn.invariant.nexts);
+          subst (λ (m : ℕ). AreTrailsFrom m c.args.views.now c.args.channels.now c.lead_to.new.firsts
+          c.lead_to.new.nexts) after
+          (c.lead_to.ensures c.args.views.now inside c.index-views-index.is so_far);
+      firsts = omega (arith, c.lead_to.auto.firsts, c.loop-turn.invariant.firsts);
+      nexts = omega (arith, c.lead_to.auto.nexts, c.loop-turn.invariant.nexts);
     }
 
 pub returns : goal.returns

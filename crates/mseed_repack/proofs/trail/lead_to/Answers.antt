@@ -10,10 +10,8 @@ use Rattle.mseed_repack.proofs.trail.lead_to.Goals as goal
 pub returns-then-samples-eq0 : goal.returns-then-samples-eq0
 returns-then-samples-eq0 c =
     let none : count_of (view_of c.args.view.now) ≡ 0 = omega (arith, c.samples.ensures, c.if-samples-eq0.true) in
-    record {
-      trails = λ rs lt is h. trails_silent rs c.args.channels.now c.args.index c.args.firsts.now
-          c.args.nexts.now c.args.view.now none lt is h;
-    }
+    λ rs lt is h. trails_silent rs c.args.channels.now c.args.index c.args.firsts.now c.args.nexts.now c.args.view.now
+    none lt is h
 
 pub returns-in-Some : goal.returns-in-Some
 returns-in-Some c =
@@ -24,20 +22,15 @@ returns-in-Some c =
     (c.in-Some.ensures.some d) in
     let some : 0 < count_of (view_of c.args.view.now) =
     omega (arith, c.samples.ensures, c.if-samples-eq0.false) in
-    record {
-      trails = λ rs lt is h.
-          trails_more rs c.args.channels.now c.args.index c.in-Some.number c.args.firsts.now c.args.nexts.now
-          c.args.view.now c.requires.ascending c.in-Some.ensures.inside c.requires.firsts c.requires.inside some
-          found lt is h;
-    }
+    λ rs lt is h.
+    trails_more rs c.args.channels.now c.args.index c.in-Some.number c.args.firsts.now c.args.nexts.now
+    c.args.view.now c.requires.ascending c.in-Some.ensures.inside c.requires.firsts c.requires.inside some found lt is h
 
-pub returns-in-None : goal.returns-in-None
-returns-in-None c =
+pub returns-in_default : goal.returns-in_default
+returns-in_default c =
     let none : All (λ (d : Channel). same_key d.0 (key_at (view_of c.args.view.now).bytes) ≡ false)
     c.args.channels.now =
     subst (λ (key : List ℕ). All (λ (d : Channel). same_key d.0 key ≡ false) c.args.channels.now) c.codes.ensures
-    c.in-None.ensures.none in
-    record {
-      trails = λ rs lt is h. trails_foreign rs c.args.channels.now c.args.index c.args.firsts.now
-          c.args.nexts.now c.args.view.now none lt is h;
-    }
+    c.in_default.ensures.none in
+    λ rs lt is h. trails_foreign rs c.args.channels.now c.args.index c.args.firsts.now c.args.nexts.now c.args.view.now
+    none lt is h
