@@ -4,7 +4,9 @@ ghost use Rattle.mseed_record.specs.Viewing.{view_of};
 ghost use Rattle.mseed_audit.specs.Channels.{added_from};
 ghost use Rattle.mseed_audit.specs.Verdict.{AreVerdicts};
 ghost use Rattle.mseed_repack.specs.private.Archives.{AreSoundAlone, has_own};
+ghost use Rattle.mseed_repack.specs.private.Reading.{steps_of};
 
+use crate::reading::step_count;
 use mseed_audit::{Audit, Memory, Verdicts, Why};
 use mseed_record::RecordView;
 use mseed_steim::one_reading;
@@ -17,6 +19,8 @@ pub(crate) struct Judged<A: Allocator> {
     pub(crate) verdicts: Verdicts<A>,
     /// Whether no record has a finding of its own.
     pub(crate) sound: bool,
+    /// How many leap seconds happened during the records.
+    pub(crate) steps: usize,
 }
 
 /// What the audit says of some records.
@@ -31,14 +35,17 @@ pub(crate) fn judge_records<A: Allocator + Copy>(
     requires { length views.now < 2 ^ 40 }
     ensures verdicts { IfOk result (λ judged. AreVerdicts (added_from 0 (map view_of views.now)) judged.verdicts) }
     ensures sound { IfOk result (λ judged. judged.sound ≡ true → AreSoundAlone (map view_of views.now)) }
+    ensures steps { IfOk result (λ judged. judged.steps ≡ steps_of (map view_of views.now)) }
 {
     one_reading();
     let mut audit = Audit::new(alloc);
     let mut offset = 0;
     let mut sound = true;
+    let mut steps = 0;
     for (index, view) in views.iter().enumerate() {
         let begin = offset;
         offset += view.bytes().len() as u64;
+        steps += step_count(view);
         match audit.add_judged(view, begin) {
             Ok(why) => {
                 if has_own(why) {
@@ -51,6 +58,7 @@ pub(crate) fn judge_records<A: Allocator + Copy>(
     Ok(Judged {
         verdicts: audit.finish(),
         sound,
+        steps,
     })
 }
 

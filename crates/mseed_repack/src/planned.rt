@@ -7,10 +7,10 @@ ghost use Rattle.mseed_repack.specs.Repack.{AreContinuous};
 ghost use Rattle.mseed_repack.specs.declared.stretching.Cutting.TheVariants.{Whole};
 ghost use Rattle.mseed_repack.specs.private.Archives.{AreSoundAlone};
 ghost use Rattle.mseed_repack.specs.private.Planning.{AreReady};
+ghost use Rattle.mseed_repack.specs.private.Reading.{steps_of};
 ghost use Rattle.mseed_repack.specs.private.Trails.{AreLaid};
 
 use crate::plan::Plan;
-use crate::reading::count_steps;
 use crate::room::blank_steps;
 use crate::standing::{Standing, stand_all};
 use crate::stretching::Cutting;
@@ -36,8 +36,8 @@ pub(crate) struct Planned<A: Allocator> {
     pub(crate) steps: Vec<(u64, LeapStep), A>,
 }
 
-/// How the records of an archive are packed, each channel's cut so, by what the audit says of the channels, and whether
-/// no record has a finding of its own. A channel that isn't to be cut is continuous.
+/// How the records of an archive are packed, each channel's cut so, by what the audit says of the channels, whether no
+/// record has a finding of its own, and how many leap seconds happened. A channel that isn't to be cut is continuous.
 ///
 /// # Errors
 ///
@@ -47,12 +47,14 @@ pub(crate) fn plan_archive<A: Allocator + Copy>(
     views: &[RecordView],
     channels: &[(Codes, Verdict)],
     sound: bool,
+    step_count: usize,
     cutting: Cutting,
     options: &Options,
 ) -> Result<Planned<A>, AllocError>
     requires few { length views.now ≤ 2 ^ 40 }
     requires verdicts { AreVerdicts (added_from 0 (map view_of views.now)) channels.now }
     requires sound { sound ≡ true → AreSoundAlone (map view_of views.now) }
+    requires steps { step_count ≡ steps_of (map view_of views.now) }
     requires whole { cutting ≡ Whole → AreContinuous (map view_of views.now) channels.now }
     ensures laid { IfOk result (λ planned.
         AreLaid views.now channels.now planned.trails.firsts.items planned.trails.nexts.items) }
@@ -61,7 +63,7 @@ pub(crate) fn plan_archive<A: Allocator + Copy>(
         (map (λ own. own.items) planned.plans.items)) }
 {
     let trails = lay_trails(alloc, views, channels)?;
-    let mut steps = blank_steps(alloc, count_steps(views))?;
+    let mut steps = blank_steps(alloc, step_count)?;
     let mut samples = Vec::new(alloc);
     let mut plans = Vec::new(alloc);
     let standings = stand_all(

@@ -108,7 +108,7 @@ pub(crate) fn count_steps(views: &[RecordView]) -> usize
 }
 
 /// Returns how many leap seconds happened during a record: one, or none.
-fn step_count(view: &RecordView) -> usize
+pub(crate) fn step_count(view: &RecordView) -> usize
     ensures value { result ≡ step_count (view_of view.now) }
     ensures bound { result ≤ 1 }
 {

@@ -95,6 +95,7 @@ fn repack_records<A: Allocator + Copy, W: Sink>(
         views,
         channels,
         judged.sound,
+        judged.steps,
         Cutting::Whole,
         options,
     )?;

@@ -99,6 +99,7 @@ fn restretch_records<A: Allocator + Copy, W: Sink, E: Sink>(
         views,
         channels,
         judged.sound,
+        judged.steps,
         Cutting::Stretches,
         options,
     )?;

@@ -3,6 +3,7 @@ use Rattle.std.proofs.lemmas.Bool.{false≢true}
 use Rattle.mseed_record.specs.Viewing.{view_of}
 use Rattle.mseed_audit.specs.Channels.{added_from, numbered}
 use Rattle.mseed_audit.proofs.Behind.{few_bytes, end_next}
+use Rattle.mseed_repack.proofs.ReadChannels.{steps_next}
 use Rattle.mseed_repack.proofs.Repacks.{audit_next}
 use Rattle.mseed_repack.proofs.Sound.{sound_next}
 use Rattle.mseed_repack.proofs.judging.judge_records.Goals as goal
@@ -32,4 +33,6 @@ loop-index-preserved g c =
             c.index-views-index.is (c.in-Ok.ensures.found earlier inv.0) (sym c.has_own.ensures ∙ w.if-has_own.false)
             (inv.4 (sym w.sound-is ∙ sound))
       ],
+      omega (arith, steps_next rs n r below c.index-views-index.is, inv.5, c.step_count-steps.ensures.value),
+      omega (arith, inv.6, c.step_count-steps.ensures.bound),
     )

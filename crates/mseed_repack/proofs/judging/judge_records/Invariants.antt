@@ -4,6 +4,7 @@ use Rattle.mseed_audit.specs.Channels.{added_from}
 use Rattle.mseed_audit.specs.Audit.{IsAuditOf}
 use Rattle.mseed_audit.proofs.Behind.{end_of}
 use Rattle.mseed_repack.specs.private.Archives.{AreSoundAlone}
+use Rattle.mseed_repack.specs.private.Reading.{steps_of}
 use Rattle.mseed_repack.proofs.judging.judge_records.Given as goal
 
 abbrev pub invariant-loop-index : goal.invariant-loop-index
@@ -11,3 +12,4 @@ invariant-loop-index g l =
     IsAuditOf l.audit (added_from 0 (map view_of (take l.index l.views))) × (l.audit.added ≡ l.index)
     × (l.offset ≡ end_of 0 (map view_of (take l.index l.views))) × (l.offset ≤ 2 ^ 20 * l.index)
     × (l.sound ≡ true → AreSoundAlone (map view_of (take l.index l.views)))
+    × (l.steps ≡ steps_of (map view_of (take l.index l.views))) × (l.steps ≤ l.index)
