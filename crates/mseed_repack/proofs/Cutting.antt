@@ -48,10 +48,6 @@ few_more {left = left} {rest = rest} {s = s} h e =
     let inside = h.inside in
     omega (arith, size, count, inside)
 
-pub sound_next : {ns : List ℕ} {all left rest : List View} {s : Stretch} {v : View}
-    → IsCutSo ns all left s → left ≡ v ∷ rest → IsSound v
-sound_next h e = (subst (λ (vs : List View). AllByRecursion IsSound vs) e h.sound).0
-
 -- the next record goes on with it
 pub cut_on : {ns : List ℕ} {all left rest : List View} {s new : Stretch} {v : View}
     → (h : IsCutSo ns all left s) → left ≡ v ∷ rest → GoesOn h.own v → IsStretchOf new (h.own ++ v ∷ [])

@@ -29,7 +29,8 @@ pub enum Left {
     Misfit,
 }
 
-/// Returns why an archive with such channels is refused, unless these are left out.
+/// Returns why an archive with such channels is refused, unless these are left out: the first that is broken, else the
+/// first that doesn't fit.
 pub(crate) fn refusal_unless(
     leave: bool,
     channels: &[(Codes, Verdict)],
@@ -44,16 +45,6 @@ pub(crate) fn refusal_unless(
     if leave {
         return None;
     }
-    refusal(channels, standings)
-}
-
-/// Returns why an archive with such channels is refused: the first that is broken, else the first that doesn't fit.
-fn refusal(channels: &[(Codes, Verdict)], standings: &[Standing]) -> Option<StretchesFault>
-    requires { length standings.now ≡ length channels.now }
-    ensures some { IfSome result (λ fault. (o : Options) (views : List View)
-        → AreStandings o views channels.now standings.now → IsFirstRefused o views channels.now fault) }
-    ensures fit { IfNone result (AllByRecursion IsFit standings.now) }
-{
     if let Some(number) = first_broken(standings) {
         return Some(StretchesFault::Broken(channels[number].0));
     }

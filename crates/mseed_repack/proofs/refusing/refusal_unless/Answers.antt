@@ -5,7 +5,7 @@ use Rattle.mseed_repack.specs.Repack.{Channel}
 use Rattle.mseed_repack.specs.private.Restretching.{IsFirstRefused}
 use Rattle.mseed_repack.specs.declared.stretches_fault.StretchesFault.TheVariants.{Broken, Misfit}
 use Rattle.mseed_repack.proofs.Standings.{all_fit, refused_broken, refused_misfit}
-use Rattle.mseed_repack.proofs.refusing.refusal.Goals as goal
+use Rattle.mseed_repack.proofs.refusing.refusal_unless.Goals as goal
 
 pub returns-in-Some-clause-some : goal.returns-in-Some-clause-some
 returns-in-Some-clause-some c = λ o views all.
@@ -25,6 +25,6 @@ returns-in-Some-first_misfit-clause-some c = λ o views all.
     c.in_default.ensures.none found.ensures.before all)
 
 pub returns-in-None-clause-fit : goal.returns-in-None-clause-fit
-returns-in-None-clause-fit c =
+returns-in-None-clause-fit c = λ _.
     recursion_from_All IsFit c.args.standings.now
     (all_fit c.args.standings.now c.in_default.ensures.none c.in-None.ensures.none)
