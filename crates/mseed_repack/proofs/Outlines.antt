@@ -1,20 +1,23 @@
 -- What is known of a channel's samples, record by record.
 use Rattle.std.proofs.Common.{◌≡◌, ℕ, ℤ, ◌+◌, ◌≤◌, List, [], ◌∷◌, ◌++◌, length, take, refl, sym, ap, subst, ◌∙◌}
-use Rattle.std.proofs.Common.{arith, All}
+use Rattle.std.proofs.Common.{arith, All, Option, None, Some, append-nil, append_assoc}
+use Rattle.std.specs.List.{AllByRecursion}
 use Rattle.std.proofs.lemmas.List.{take_all, length-append}
 use Rattle.std.proofs.lemmas.List.Elements.{All-append, All-nil}
 use Rattle.mseed_time.specs.declared.outcome.LeapStep.{LeapStep}
 use Rattle.mseed_record.specs.View.{View, leap_of}
 use Rattle.mseed_steim.specs.Reading.{count_of, IsWhole}
 use Rattle.mseed_steim.specs.Spelling.{IsWithin}
+use Rattle.mseed_audit.specs.Follows.{IsSound}
 use Rattle.mseed_audit.specs.Judging.{step_in}
 use Rattle.mseed_audit.specs.Series.{step_at}
 use Rattle.mseed_audit.proofs.Joined.{count_is}
 use Rattle.mseed_repack.specs.private.Outline.{IsKnown, IsOutline}
-use Rattle.mseed_repack.specs.private.Reading.{AreOf, step_count}
+use Rattle.mseed_repack.specs.private.Reading.{AreOf, samples_of, step_count, steps_of}
 use Rattle.mseed_repack.specs.declared.outline.Nearness.{Nearness}
+use Rattle.mseed_repack.specs.declared.outline.Nearness.TheVariants.{Unknown}
 use Rattle.mseed_repack.proofs.Near.{whole_within}
-use Rattle.mseed_repack.proofs.ReadChannels.{IsRead, read_more, read_none}
+use Rattle.mseed_repack.proofs.ReadChannels.{IsRead, read_more, read_none, samples_append}
 
 -- what is known of the samples of these records, as if they had been read
 pub record IsOutlined (key : List ℕ) (vs : List View) (m k : ℕ) (nearness : Nearness)
@@ -56,6 +59,27 @@ outlined_more key vs v m k m' k' near near' s ss ss' h whole count steps bears k
       within = All-append (IsWithin 32) xs s h.within (whole_within v s whole);
       known = known xs s h.known whole;
     }
+
+no_step : (o : Option LeapStep) (m : ℕ) → length (step_at 0 o) ≡ 0 → step_at m o ≡ []
+no_step None m e = refl
+no_step (Some step) m e = absurd (omega (arith, e))
+
+-- records that bear no leap second, and have so many samples
+pub outlined_on : (key : List ℕ) (us vs : List View) (ss : List (ℕ × LeapStep))
+    → IsOutlined key us (samples_of us) 0 Unknown ss → AllByRecursion IsSound vs → steps_of vs ≡ 0
+    → IsOutlined key (us ++ vs) (samples_of (us ++ vs)) 0 Unknown ss
+outlined_on key us [] ss h sound none =
+    subst (λ (ws : List View). IsOutlined key ws (samples_of ws) 0 Unknown ss) (sym (append-nil us)) h
+outlined_on key us (v ∷ vs) ss h sound none =
+    let here : step_count v ≡ 0 = omega (arith, none) in
+    let m : ℕ = samples_of (us ++ v ∷ []) in
+    let count : m ≡ samples_of us + count_of v = (let both = samples_append us (v ∷ []) in omega (arith, both)) in
+    let bears : step_at m (step_in (leap_of v.bytes)) ≡ [] = no_step (step_in (leap_of v.bytes)) m here in
+    let more : IsOutlined key (us ++ v ∷ []) m 0 Unknown ss =
+    outlined_more key us v (samples_of us) 0 m 0 Unknown Unknown sound.0.samples ss ss h sound.0.whole count (sym bears)
+    (omega (arith, here)) (λ xs s known whole. tt) in
+    subst (λ (ws : List View). IsOutlined key ws (samples_of ws) 0 Unknown ss) (append_assoc us (v ∷ []) vs)
+    (outlined_on key (us ++ v ∷ []) vs ss more sound.1 (omega (arith, none, here)))
 
 pub outline_is : (key : List ℕ) (vs : List View) (m k : ℕ) (near : Nearness) (ss : List (ℕ × LeapStep))
     → IsOutlined key vs m k near ss → IsOutline key vs m k near ss

@@ -72,8 +72,8 @@ plans_end ps vs k past = ap (λ (qs : List Plan). stretches_by (counts_of qs) vs
 -- a stretch goes its way in more room, and whatever the sequence number is
 pub goes_on : (encoding other : Encoding) (room next : ℕ) (way : Way) (s : List View) → other ≡ encoding → room ≤ next
     → GoesBy encoding room way s → GoesBy other next way s
-goes_on encoding other room next Frames s e le goes =
-    subst (λ (f : Encoding). GoesBy f next Frames s) (sym e) goes
+goes_on encoding other room next (Frames count) s e le goes =
+    subst (λ (f : Encoding). GoesBy f next (Frames count) s) (sym e) goes
 goes_on encoding other room next Listed s e le fits = omega (arith, fits, le)
 
 pub each_goes_on : (encoding : Encoding) (room next : ℕ) (ps : List Plan) (ss : List (List View)) → room ≤ next

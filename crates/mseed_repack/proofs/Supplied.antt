@@ -27,7 +27,7 @@ use Rattle.mseed_pack.specs.declared.series_head.SeriesHead.{SeriesHead}
 use Rattle.mseed_repack.specs.Repack.{StretchFits}
 use Rattle.mseed_repack.specs.private.Outline.{AreNear, IsKnown, IsOutline, last_behind, says_near}
 use Rattle.mseed_repack.specs.private.Reading.{IsSoundWalk}
-use Rattle.mseed_repack.specs.private.Supplying.{AreUnread, AreSteimOf, IsLast, IsSupplied, IsUnpackable}
+use Rattle.mseed_repack.specs.private.Supplying.{AreUnread, IsLast, IsSupplied, IsUnpackable}
 use Rattle.mseed_repack.specs.declared.outline.Nearness.{Nearness}
 use Rattle.mseed_repack.specs.declared.outline.Nearness.TheVariants.{Empty, Near, Unknown}
 use Rattle.mseed_repack.proofs.Near.{ends_on, last_append}
@@ -428,18 +428,6 @@ unread_by {vs = vs} {nearness = nearness} start rate h sound says unpackable = r
       (near_known nearness h.samples says h.known);
 }
 
-pub steim_of : {key : List ℕ} {vs : List View} {count bears : ℕ} {nearness : Nearness}
-    {steps : List (ℕ × LeapStep)} (start : ℤ) (rate : Rate) → IsOutline key vs count bears nearness steps
-    → AreUnread vs → AreSteimOf key vs count (take bears steps)
-steim_of start rate h unread = record {
-  unpackable = unread.unpackable;
-  samples = h.samples;
-  are = h.are;
-  near = unread.near h.samples (h.are start rate).samples;
-  count_is = h.count_is;
-  places = h.places;
-}
-
 -- ---- what a call of the supply comes to
 abbrev Given : {S : Type 0} → (S → Type 0) → (S → List View) → S → ℤ → List ℤ → ℕ → ℕ → List ℤ → ℕ → List ℤ → ℕ
     → Type 0
@@ -548,25 +536,33 @@ last_given {last = last} {given = given} h done some =
 
 -- what packing from a supply wants to know, of records of Steim frames that fit as a series
 pub record HasSupply {S : Type 0} (leads : S → Type 0) (left : S → List View) (rest : S) (first : ℤ) (room : List ℤ)
-    (samples : List ℤ) (o : Options) (s : Trace) : Type 0 where
+    (head : SeriesHead) (o : Options) : Type 0 where
+  pub samples : List ℤ
   pub supplied : IsSupplied leads left rest first room 0 0 samples 0
-  pub first_is : get_or samples 0 (pos 0) ≡ first
-  pub series : IsSeriesOf s (left rest)
-  pub fits : Fits s o
+  pub count : length samples ≡ head.count
+  pub first_is : get_or samples 0 (pos 0) ≡ head.first
+  pub series : IsSeriesOf (headed head samples) (left rest)
+  pub fits : Fits (headed head samples) o
 
-pub has_supply : {S : Type 0} {leads : S → Type 0} {left : S → List View} {rest : S} {count : ℕ}
-    {steps : List (ℕ × LeapStep)} (head : SeriesHead) (o : Options) (room : List ℤ)
-    (h : AreSteimOf head.codes (left rest) count steps) → IsSoundWalk leads left rest
-    → IsSeriesOf (headed head h.samples) (left rest) → 7056 ≤ length room
+pub has_supply : {S : Type 0} {leads : S → Type 0} {left : S → List View} {rest : S} {count bears : ℕ}
+    {nearness : Nearness} {steps : List (ℕ × LeapStep)} (head : SeriesHead) (first : ℤ) (o : Options) (room : List ℤ)
+    (h : IsOutline head.codes (left rest) count bears nearness steps) → AreUnread (left rest)
+    → IsSoundWalk leads left rest → IsSeriesOf (headed head h.samples) (left rest) → head.count ≡ count
+    → 7056 ≤ length room → first ≡ head.first
     → ((xs : List ℤ) → AreJoined (left rest) xs → get_or xs 0 (pos 0) ≡ head.first) → StretchFits o (left rest)
     → ((s t : Trace) (vs : List View) → IsSeriesOf s vs → IsSeriesOf t vs → s ≡ t)
-    → HasSupply leads left rest head.first room h.samples o (headed head h.samples)
-has_supply {left = left} {rest = rest} head o room h walks series fits is can one_series =
+    → HasSupply leads left rest first room head o
+has_supply {leads = leads} {left = left} {rest = rest} head first o room h unread walks series size fits kept is can
+    one_series =
     let joined : AreJoined (left rest) h.samples = (h.are head.start head.rate).samples in
-    let trace : Trace = headed head h.samples in
+    let supplied : IsSupplied leads left rest head.first room 0 0 h.samples 0 =
+    supplied_first walks unread.unpackable fits joined (unread.near h.samples joined) (is h.samples joined) in
     record {
-      supplied = supplied_first walks h.unpackable fits joined h.near (is h.samples joined);
+      samples = h.samples;
+      supplied = subst (λ (z : ℤ). IsSupplied leads left rest z room 0 0 h.samples 0) (sym kept) supplied;
+      count = sym (size ∙ h.count_is);
       first_is = is h.samples joined;
       series = series;
-      fits = subst (λ (s : Trace). Fits s o) (one_series can.trace trace (left rest) can.series series) can.fits;
+      fits = subst (λ (s : Trace). Fits s o)
+          (one_series can.trace (headed head h.samples) (left rest) can.series series) can.fits;
     }

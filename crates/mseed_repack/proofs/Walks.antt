@@ -1,12 +1,13 @@
 -- Records that a walk has gone over.
 use Rattle.std.proofs.Common.{◌≡◌, ℕ, ◌+◌, ◌≤◌, ℤ, List, [], ◌∷◌, ◌++◌, refl, sym, ap, subst, ◌∙◌, arith}
-use Rattle.std.proofs.Common.{append_assoc, append-nil, drop, length, length-append, ◌-◌, ◌*◌, ◌<◌}
+use Rattle.std.proofs.Common.{append_assoc, append-nil, drop, length, length-append, ◌-◌, ◌*◌, ◌<◌, Bool, true}
 use Rattle.std.specs.List.{AllByRecursion}
 use Rattle.std.proofs.lemmas.List.{drop-drop, drop_all}
 use Rattle.mseed_time.specs.declared.outcome.LeapStep.{LeapStep}
 use Rattle.mseed_record.specs.View.{View}
 use Rattle.mseed_steim.specs.Reading.{count_of}
 use Rattle.mseed_repack.specs.private.Reading.{samples_of, step_count, steps_of}
+use Rattle.mseed_repack.specs.private.Supplying.{IsUnpackable}
 use Rattle.mseed_repack.specs.declared.outline.Nearness.{Nearness}
 use Rattle.mseed_repack.proofs.Outlines.{IsOutlined}
 use Rattle.mseed_repack.proofs.ReadChannels.{IsRead, samples_append, steps_append}
@@ -77,9 +78,10 @@ steps_so_far h = omega (arith, so_far steps_of steps_append h)
 abbrev pub AreReadSo : ℕ → ℕ → List ℤ → List (ℕ × LeapStep) → List View → Type 0
 AreReadSo m k samples steps vs = (key : List ℕ) → IsRead key vs m k samples steps
 
-abbrev pub AreOutlinedSo : ℕ → ℕ → Nearness → List (ℕ × LeapStep) → List View → Type 0
-AreOutlinedSo m k nearness steps vs =
+abbrev pub AreOutlinedSo : ℕ → ℕ → Nearness → Bool → List (ℕ × LeapStep) → List View → Type 0
+AreOutlinedSo m k nearness unpackable steps vs =
     (m ≤ 65_535 * length vs) × ((key : List ℕ) → IsOutlined key vs m k nearness steps)
+    × (unpackable ≡ true → AllByRecursion IsUnpackable vs)
 
 -- there are no more records before one that is left than there are in all
 pub few_so_far : {P : List View → Type 0} {all rest : List View} {v : View} → (h : IsNext P all v rest)

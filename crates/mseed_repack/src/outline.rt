@@ -1,7 +1,7 @@
 //! What is known of records before their samples are read.
 ghost use Rattle.std.specs.Prelude.{◌≡◌, ◌<◌, ◌≤◌, ◌+◌, ◌++◌, ◌^◌, ◌-ℤ◌, [], All, IfSome, List, ℕ, ℤ, length, take};
-ghost use Rattle.std.specs.Prelude.{◌↔◌, IsTrue};
-ghost use Rattle.std.specs.Bool.{OnTrue};
+ghost use Rattle.std.specs.Prelude.{◌↔◌, IsTrue, true};
+ghost use Rattle.std.specs.List.{AllByRecursion};
 ghost use Rattle.mseed_record.specs.View.{leap_of};
 ghost use Rattle.mseed_record.specs.Viewing.{view_of};
 ghost use Rattle.mseed_steim.specs.Reading.{count_of, IsWhole};
@@ -10,10 +10,12 @@ ghost use Rattle.mseed_steim.specs.Spelling.{IsWithin};
 ghost use Rattle.mseed_audit.specs.Follows.{IsSound};
 ghost use Rattle.mseed_audit.specs.Judging.{step_in};
 ghost use Rattle.mseed_audit.specs.Series.{step_at};
-ghost use Rattle.mseed_repack.specs.private.Outline.{AreHeld, AreNear, IsKnown, IsOutline, is_held};
+ghost use Rattle.mseed_repack.specs.private.Outline.{AreNear, IsKnown, IsOutline};
 ghost use Rattle.mseed_repack.specs.private.Reading.{CanBeRead, samples_of, step_count};
+ghost use Rattle.mseed_repack.specs.private.Supplying.{IsUnpackable};
 
 use crate::reading::put_step;
+use crate::unpacking::is_unpackable;
 use crate::walk::Walk;
 use mseed_pack::Encoding;
 use mseed_record::RecordView;
@@ -31,12 +33,14 @@ pub(crate) enum Nearness {
     Unknown,
 }
 
-/// How many samples and leap seconds some records have, and whether their samples are near one another.
+/// How many samples and leap seconds some records have, whether their samples are near one another, and whether each
+/// record can be unpacked.
 #[derive(Clone, Copy)]
 pub(crate) struct Outline {
     pub(crate) samples: usize,
     pub(crate) steps: usize,
     pub(crate) nearness: Nearness,
+    pub(crate) unpackable: bool,
 }
 
 /// What is known of samples before the first one, where they are to be written in this encoding. To integers nothing
@@ -62,17 +66,43 @@ pub(crate) fn outline_records<'a, R: Walk<'a>>(
         result.samples result.steps result.nearness steps.new }
     ensures samples { result.samples ≡ samples_of (R.left records) }
     ensures steps_inside { result.steps ≤ length steps.new }
+    ensures unpackable { result.unpackable ≡ true → AllByRecursion IsUnpackable (R.left records) }
 {
     let mut outline = Outline {
         samples: 0,
         steps: 0,
         nearness: before,
+        unpackable: !matches!(before, Nearness::Unknown),
     };
     let mut rest = records;
     while let Some(view) = rest.next() {
         outline = outline_record(&view, outline, steps);
     }
     outline
+}
+
+/// The outline of some records that have so many samples, whose nearness isn't asked for. Where the list has no room for
+/// a leap second there is none, and no record is looked at.
+pub(crate) fn outline_counted<'a, R: Walk<'a>>(
+    records: R,
+    samples: usize,
+    steps: &mut [(u64, LeapStep)],
+) -> Outline
+    requires read { CanBeRead R.leads R.left records (length steps.old) }
+    requires count { samples ≡ samples_of (R.left records) }
+    ensures outline { (key : List ℕ) → IsOutline key (R.left records)
+        result.samples result.steps result.nearness steps.new }
+    ensures steps_inside { result.steps ≤ length steps.new }
+{
+    if steps.is_empty() {
+        return Outline {
+            samples,
+            steps: 0,
+            nearness: Nearness::Unknown,
+            unpackable: false,
+        };
+    }
+    outline_records(records, Nearness::Unknown, steps)
 }
 
 /// The outline with one more record, which is sound.
@@ -91,12 +121,14 @@ pub(crate) fn outline_record(
     ensures steps_count { result.steps ≡ before.steps + step_count (view_of view.now) }
     ensures nearness { (xs s : List ℤ) → IsKnown before.nearness xs → IsWhole (view_of view.now) s
         → IsKnown result.nearness (xs ++ s) }
+    ensures unpackable { result.unpackable ≡ true → (before.unpackable ≡ true) × IsUnpackable (view_of view.now) }
 {
     let samples = before.samples + usize::from(view.samples());
     Outline {
         samples,
         steps: put_step(view.leap().step(), samples, before.steps, steps),
         nearness: nearness_with(before.nearness, view),
+        unpackable: before.unpackable && is_unpackable(view),
     }
 }
 
@@ -142,16 +174,4 @@ fn is_near(before: i32, sample: i32) -> bool
 {
     let difference = i64::from(sample) - i64::from(before);
     -0x2000_0000 <= difference && difference < 0x2000_0000
-}
-
-/// Whether an encoding surely holds samples of which this is known.
-pub(crate) fn is_held(nearness: Nearness, encoding: Encoding) -> bool
-    ensures value { result ≡ is_held nearness encoding }
-    ensures held { OnTrue result ((xs : List ℤ) → All (IsWithin 32) xs → IsKnown nearness xs → AreHeld encoding xs) }
-{
-    match encoding {
-        Encoding::Int16 => false,
-        Encoding::Int32 => true,
-        Encoding::Steim1 | Encoding::Steim2 => matches!(nearness, Nearness::Near(_)),
-    }
 }

@@ -4,8 +4,8 @@
 #[derive(Clone, Copy)]
 pub(crate) enum Way {
     /// From frames to frames: each record is unpacked where its differences are wanted, and no list is made of the
-    /// samples.
-    Frames,
+    /// samples, of which there are so many.
+    Frames(usize),
     /// By a list of its samples.
     Listed,
 }

@@ -1,7 +1,6 @@
 //! The series of some records: how it begins, whether it can be packed, and how it is written.
 ghost use Rattle.std.specs.Prelude.{◌≡◌, ◌≢◌, ◌<◌, ◌≤◌, ℤ, List, length, pos, slice_index_or, All, IfOk, IfSome};
-ghost use Rattle.std.specs.Prelude.{IsTrue, Some};
-ghost use Rattle.std.specs.List.{AllByRecursion};
+ghost use Rattle.std.specs.Prelude.{ℕ, IsTrue, Some, true};
 ghost use Rattle.mseed_record.specs.View.{View};
 ghost use Rattle.mseed_steim.specs.Spelling.{IsWithin};
 ghost use Rattle.mseed_audit.specs.Series.{AreJoined, IsSeriesOf};
@@ -9,17 +8,17 @@ ghost use Rattle.mseed_pack.specs.Options.{IsSteim};
 ghost use Rattle.mseed_pack.specs.Traces.{headed, trace_of};
 ghost use Rattle.mseed_repack.specs.private.Outline.{AreHeld, IsKnown, says_near};
 ghost use Rattle.mseed_repack.specs.private.Reading.{AreOf, CanBeRead, IsSoundWalk, samples_of};
-ghost use Rattle.mseed_repack.specs.private.Supplying.{AreUnread, IsUnpackable};
+ghost use Rattle.mseed_repack.specs.private.Supplying.{AreUnread};
 ghost use Rattle.mseed_repack.specs.private.Planning.{AreOfAny, GoesBy, IsBegunBy, IsFitting, IsStretchWritten};
 ghost use Rattle.mseed_repack.specs.Repack.{StretchFits};
 ghost use Rattle.mseed_repack.specs.declared.plan.Way.TheVariants.{Frames};
 ghost use Rattle.mseed_repack.specs.declared.series.Fitting.TheVariants.{Fits};
 
-use crate::outline::{Nearness, is_held, nearness_before, outline_records};
+use crate::outline::{Nearness, Outline, nearness_before, outline_counted, outline_records};
 use crate::plan::Way;
 use crate::reading::read_records;
 use crate::room::make_room;
-use crate::unpacking::{Unpacking, are_unpackable, first_sample, know_room};
+use crate::unpacking::{Unpacking, first_sample, know_room};
 use crate::walk::Walk;
 use mseed_audit::one_series;
 use mseed_pack::{
@@ -57,7 +56,8 @@ pub(crate) fn fit_series<'a, A: Allocator + Copy, R: Walk<'a>>(
     ensures fitting { IfOk result (λ fitting.
         IsFitting options.now (length samples.new.items) (R.left records) fitting) }
     ensures grown { IfOk result (λ _. length samples.old.items ≤ length samples.new.items) }
-    ensures kept { IfOk result (λ fitting. fitting ≡ Fits Frames → samples.new.items ≡ samples.old.items) }
+    ensures kept { IfOk result (λ fitting.
+        (count : ℕ) → fitting ≡ Fits (Frames count) → samples.new.items ≡ samples.old.items) }
     // The list grows to no more than this series has.
     ensures exact { IfOk result (λ _. length samples.old.items < length samples.new.items
         → length samples.new.items ≡ samples_of (R.left records)) }
@@ -67,9 +67,9 @@ pub(crate) fn fit_series<'a, A: Allocator + Copy, R: Walk<'a>>(
     if let Err(fault) = fit_head(&head) {
         return Ok(Fitting::Misfits(fault));
     }
-    let held = held_way(records, outline.nearness, options.encoding);
-    if let Some(Way::Frames) = held {
-        return Ok(Fitting::Fits(Way::Frames));
+    let held = held_way(&outline, options.encoding);
+    if let Some(Way::Frames(count)) = held {
+        return Ok(Fitting::Fits(Way::Frames(count)));
     }
     make_room(alloc, samples, outline.samples)?;
     match held {
@@ -78,29 +78,25 @@ pub(crate) fn fit_series<'a, A: Allocator + Copy, R: Walk<'a>>(
     }
 }
 
-/// Returns which way a series goes whose samples the encoding surely holds, before they are read. It goes from frames
-/// to frames where its records are Steim, and so is what is written, each sample is near the one before it, and no
-/// record has more differences than there is room for.
-fn held_way<'a, R: Walk<'a>>(records: R, nearness: Nearness, encoding: Encoding) -> Option<Way>
-    requires { R.leads records }
+/// Returns which way a series of this outline goes whose samples the encoding surely holds, before they are read. It
+/// goes from frames to frames where its records are Steim, and so is what is written, each sample is near the one before
+/// it, and no record has more differences than there is room for.
+fn held_way(outline: &Outline, encoding: Encoding) -> Option<Way>
     ensures held { IfSome result (λ _.
-        (xs : List ℤ) → All (IsWithin 32) xs → IsKnown nearness xs → AreHeld encoding xs) }
-    ensures encoding { result ≡ Some Frames → IsSteim encoding }
-    ensures unpackable { result ≡ Some Frames → AllByRecursion IsUnpackable (R.left records) }
-    ensures near { result ≡ Some Frames → IsTrue (says_near nearness) }
+        (xs : List ℤ) → All (IsWithin 32) xs → IsKnown outline.now.nearness xs → AreHeld encoding xs) }
+    ensures frames { (count : ℕ) → result ≡ Some (Frames count) → IsSteim encoding × (outline.now.unpackable ≡ true)
+        × IsTrue (says_near outline.now.nearness) × (count ≡ outline.now.samples) }
 {
-    if !is_held(nearness, encoding) {
-        return None;
-    }
-    match encoding {
-        Encoding::Steim1 | Encoding::Steim2 => {
-            if are_unpackable(records) {
-                Some(Way::Frames)
+    match (encoding, outline.nearness) {
+        (Encoding::Int32, _) => Some(Way::Listed),
+        (Encoding::Steim1 | Encoding::Steim2, Nearness::Near(_)) => {
+            if outline.unpackable {
+                Some(Way::Frames(outline.samples))
             } else {
                 Some(Way::Listed)
             }
         }
-        Encoding::Int16 | Encoding::Int32 => Some(Way::Listed),
+        _ => None,
     }
 }
 
@@ -114,7 +110,7 @@ fn fit_read<'a, R: Walk<'a>>(
     requires read { CanBeRead R.leads R.left records (length steps.old) }
     requires samples_fit { samples_of (R.left records) ≤ length samples.old }
     ensures fitting { IsFitting options.now (length samples.old) (R.left records) result }
-    ensures listed { result ≢ Fits Frames }
+    ensures listed { (count : ℕ) → result ≢ Fits (Frames count) }
 {
     let stretch = beginning(records);
     let read = read_records(records, samples, steps);
@@ -146,18 +142,21 @@ pub(crate) fn pack_series<'a, R: Walk<'a>, W: Sink>(
     ensures { IsStretchWritten options.now (R.left records) result (W.written output.old) (W.written output.new) }
 {
     match way {
-        Way::Frames => pack_unread(records, options, steps, unpacking, packer, output),
+        Way::Frames(count) => {
+            pack_unread(records, count, options, steps, unpacking, packer, output)
+        }
         Way::Listed => pack_read(records, options, samples, steps, packer, output),
     }
 }
 
-/// Writes the records of a series that goes from frames to frames: no list is made of its samples.
+/// Writes the records of a series that goes from frames to frames, and has so many samples: no list is made of these.
 ///
 /// # Errors
 ///
 /// `Failed` where the output failed: a part was written.
 fn pack_unread<'a, R: Walk<'a>, W: Sink>(
     records: R,
+    count: usize,
     options: &Options,
     steps: &mut [(u64, LeapStep)],
     unpacking: &mut Unpacking<'a, R>,
@@ -167,11 +166,12 @@ fn pack_unread<'a, R: Walk<'a>, W: Sink>(
     requires read { CanBeRead R.leads R.left records (length steps.old) }
     requires steim { IsSteim options.now.encoding }
     requires unread { AreUnread (R.left records) }
+    requires count { count ≡ samples_of (R.left records) }
     requires fits { StretchFits options.now (R.left records) }
     ensures { IsStretchWritten options.now (R.left records) result (W.written output.old) (W.written output.new) }
 {
     one_series();
-    let borne = outline_records(records, Nearness::Unknown, steps);
+    let borne = outline_counted(records, count, steps);
     let head = head_of(records, borne.samples, &steps[..borne.steps]);
     know_room(&unpacking.room);
     unpacking.rest = records;

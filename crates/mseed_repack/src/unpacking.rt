@@ -105,22 +105,8 @@ pub(crate) fn know_room(room: &[i32; ROOM])
     ensures { length room.now ≡ 7056 }
 {}
 
-/// Whether each of some records can be unpacked in the room.
-pub(crate) fn are_unpackable<'a, R: Walk<'a>>(records: R) -> bool
-    requires { R.leads records }
-    ensures { IsTrue result ↔ AllByRecursion IsUnpackable (R.left records) }
-{
-    let mut rest = records;
-    while let Some(view) = rest.next() {
-        if !is_unpackable(&view) {
-            return false;
-        }
-    }
-    true
-}
-
 /// Whether a record is of Steim frames, and has no more differences than there is room for.
-fn is_unpackable(view: &RecordView) -> bool
+pub(crate) fn is_unpackable(view: &RecordView) -> bool
     ensures { IsTrue result ↔ IsUnpackable (view_of view.now) }
 {
     if usize::from(view.samples()) > ROOM {

@@ -8,7 +8,6 @@ use Rattle.mseed_audit.specs.Series.{AreSteps}
 use Rattle.mseed_pack.specs.Fitting.{IsDifferenceOf, IsSampleOf}
 use Rattle.mseed_pack.specs.Stretches.{differences}
 use Rattle.mseed_pack.specs.declared.options.Encoding.{Encoding}
-use Rattle.mseed_pack.specs.declared.options.Encoding.TheVariants.{Int16, Int32, Steim1, Steim2}
 use Rattle.mseed_repack.specs.private.Reading.{AreOf}
 use Rattle.mseed_repack.specs.declared.outline.Nearness.{Nearness}
 use Rattle.mseed_repack.specs.declared.outline.Nearness.TheVariants.{Empty, Near, Unknown}
@@ -42,13 +41,6 @@ abbrev pub says_near : Nearness → Bool
 says_near Empty = false
 says_near (Near last) = true
 says_near Unknown = false
-
--- whether an encoding surely holds them: integers of 32 bits hold any, either Steim those that are near
-abbrev pub is_held : Nearness → Encoding → Bool
-is_held nearness Int16 = false
-is_held nearness Int32 = true
-is_held nearness Steim1 = says_near nearness
-is_held nearness Steim2 = says_near nearness
 
 -- The samples of these records are so many numbers of 32 bits, of which this is known, and their leap seconds are the
 -- first so many of a list.

@@ -1,14 +1,12 @@
 -- Differences that go from frames to frames.
 use Rattle.std.specs.Prelude.{⊤, ◌≡◌, ℕ, ◌+◌, ◌-◌, ◌≤◌, List, [], ◌∷◌, ◌++◌, length, take, drop, ℤ}
 use Rattle.std.specs.List.{AllByRecursion}
-use Rattle.mseed_time.specs.declared.outcome.LeapStep.{LeapStep}
 use Rattle.mseed_record.specs.View.{View}
 use Rattle.mseed_steim.specs.Reading.{IsSteim, count_of}
 use Rattle.mseed_audit.specs.Follows.{IsSound}
-use Rattle.mseed_audit.specs.Series.{AreJoined, AreSteps}
+use Rattle.mseed_audit.specs.Series.{AreJoined}
 use Rattle.mseed_pack.specs.Stretches.{differences}
 use Rattle.mseed_repack.specs.private.Outline.{AreNear, last_behind}
-use Rattle.mseed_repack.specs.private.Reading.{AreOf}
 
 -- the last of the samples that were unpacked; or, where none was yet, the first of those that come
 abbrev pub IsLast : ℤ → List ℤ → List ℤ → Type 0
@@ -16,8 +14,7 @@ IsLast last [] [] = ⊤
 IsLast last [] (y ∷ behind) = y ≡ last
 IsLast last (x ∷ unpacked) behind = last_behind x unpacked ≡ last
 
--- Of samples that are near one another so many differences were given. A walk leads to the records that weren't
--- unpacked
+-- Of samples that are near one another so many differences were given. A walk leads to the records that weren't unpacked
 -- yet; of those that were, a room holds the differences that weren't given.
 pub record IsSupplied {S : Type 0} (leads : S → Type 0) (left : S → List View) (rest : S) (last : ℤ) (room : List ℤ)
     (at end : ℕ) (samples : List ℤ) (given : ℕ) : Type 0 where
@@ -39,15 +36,6 @@ pub record IsSupplied {S : Type 0} (leads : S → Type 0) (left : S → List Vie
 -- a record is of Steim frames, and has no more differences than there is room for
 abbrev pub IsUnpackable : View → Type 0
 IsUnpackable v = IsSteim v × (count_of v ≤ 7056)
-
--- records that can be unpacked so have so many samples, near one another, and these leap seconds
-pub record AreSteimOf (key : List ℕ) (vs : List View) (count : ℕ) (steps : List (ℕ × LeapStep)) : Type 0 where
-  pub unpackable : AllByRecursion IsUnpackable vs
-  pub samples : List ℤ
-  pub are : AreOf key vs samples steps
-  pub near : AreNear samples
-  pub count_is : count ≡ length samples
-  pub places : AreSteps count steps
 
 -- records that go from frames to frames: each can be unpacked so, and their samples are near one another
 pub record AreUnread (vs : List View) : Type 0 where

@@ -10,7 +10,7 @@ use Rattle.mseed_repack.proofs.numbering.pack_stretches.Goals as goal
 
 -- what is read where no plan is left
 abbrev none_left : Plan
-none_left = record { records = 0; way = Frames }
+none_left = record { records = 0; way = Frames 0 }
 
 pub loop-plan-init : goal.loop-plan-init
 loop-plan-init g c = (

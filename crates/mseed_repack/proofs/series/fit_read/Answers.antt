@@ -10,7 +10,7 @@ returns-in-Ok g c = record {
         c.read_records-read.ensures.read) c.in-Ok.ensures.fits,
     c.requires.samples_fit,
   );
-  listed = λ e. cc;
+  listed = λ count e. cc;
 }
 
 pub returns-in-Err : goal.returns-in-Err
@@ -18,5 +18,5 @@ returns-in-Err g c = record {
   fitting = series_misfits c.args.options.now (g.R.Walk.left c.args.records) (trace_of c.series_of-series.result)
       c.in-Err.fault (c.series_of-series.ensures.series (g.R.Walk.left c.args.records) c.beginning-stretch.ensures
       c.read_records-read.ensures.read) c.in-Err.ensures.fault;
-  listed = λ e. cc;
+  listed = λ count e. cc;
 }

@@ -33,18 +33,20 @@ returns-in-Some-Frames-clause-fitting g c =
     let encoding = c.args.options.now.encoding in
     let near = c.outline_records-outline.result.nearness in
     let h = c.outline_records-outline.ensures.outline head.codes in
-    let is : c.held_way-held.result ≡ Some Frames =
+    let is : c.held_way-held.result ≡ Some (Frames c.in-Some-Frames.count) =
     c.in-Some-Frames.is
     ∙ ap (λ (w : Way). Some w) (rw c.in-Some-Frames.is at c.in-Some-Frames.field-0-is) in
+    let goes = c.held_way-held.ensures.frames c.in-Some-Frames.count is in
     let held = subst (λ (r : Option Way). IfSome r (λ _. (xs : List ℤ) → All (IsWithin 32) xs → IsKnown near xs
     → AreHeld encoding xs)) is c.held_way-held.ensures.held in (
       series_held c.args.options.now (g.R.Walk.left c.args.records) head h.samples
           (c.head_of-head.ensures.series h.samples h.are) (sym (c.head_of-head.ensures.count ∙ h.count_is))
           (held h.samples h.within h.known) c.in_default.ensures.fits,
       (
-        c.held_way-held.ensures.encoding is,
-        unread_by head.start head.rate h c.requires.walks.sound (c.held_way-held.ensures.near is)
-            (c.held_way-held.ensures.unpackable is),
+        goes.0,
+        unread_by head.start head.rate h c.requires.walks.sound goes.2
+            (c.outline_records-outline.ensures.unpackable goes.1),
+        goes.3 ∙ c.outline_records-outline.ensures.samples,
       ),
     )
 
@@ -71,7 +73,7 @@ returns-in-None-clause-fitting g c =
     (subst (λ (n : ℕ). IsFitting o n vs c.fit_read.result) same c.fit_read.ensures.fitting)
 
 pub returns-in-None-clause-kept : goal.returns-in-None-clause-kept
-returns-in-None-clause-kept g c = λ e. absurd (c.fit_read.ensures.listed e)
+returns-in-None-clause-kept g c = λ count e. absurd (c.fit_read.ensures.listed count e)
 
 pub returns-in-Some-clause-exact : goal.returns-in-Some-clause-exact
 returns-in-Some-clause-exact g c = λ grew.

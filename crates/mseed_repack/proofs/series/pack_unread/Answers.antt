@@ -1,67 +1,45 @@
-use Rattle.std.proofs.Common.{◌≡◌, arith, rules, sym, subst, to_z, of_z, w32, ◌∙◌, ℤ}
+use Rattle.std.proofs.Common.{arith, rules, to_z, of_z, w32}
 use Rattle.std.proofs.lemmas.Int.{to_z-of_z}
 use Rattle.mseed_pack.specs.Traces.{headed}
-use Rattle.mseed_repack.specs.private.Supplying.{IsSupplied}
 use Rattle.mseed_repack.proofs.Planning.{emitted_part, emitted_stretch}
 use Rattle.mseed_repack.proofs.Stretched.{head_places}
-use Rattle.mseed_repack.proofs.Supplied.{has_supply, steim_of}
+use Rattle.mseed_repack.proofs.Supplied.{has_supply}
 use Rattle.mseed_repack.proofs.series.pack_unread.Goals as goal
 
 pub pack_supplied-requires : goal.pack_supplied-requires
 pack_supplied-requires g c =
     let head = c.head_of-head.result in
-    let h = steim_of head.start head.rate (c.outline_records-borne.ensures.outline head.codes) c.requires.unread in
-    let first : to_z w32 (of_z w32 head.first) ≡ head.first = to_z-of_z w32 _ (search rules) in
-    let p = has_supply head c.args.options.now c.args.unpacking.now.room h c.requires.read.walks
-    (c.head_of-head.ensures.series h.samples h.are) (omega (arith, c.know_room.ensures)) c.head_of-head.ensures.first
-    c.requires.fits c.one_series.ensures.series in
+    let h = c.outline_counted-borne.ensures.outline head.codes in
+    let p = has_supply head (to_z w32 (of_z w32 head.first)) c.args.options.now c.args.unpacking.now.room h
+    c.requires.unread c.requires.read.walks (c.head_of-head.ensures.series h.samples h.are)
+    c.head_of-head.ensures.count (omega (arith, c.know_room.ensures)) (to_z-of_z w32 _ (search rules))
+    c.head_of-head.ensures.first c.requires.fits c.one_series.ensures.series in
     record {
       steim = c.requires.steim;
       steps = head_places _ _ _ _ c.head_of-head.ensures.count c.head_of-head.ensures.steps h.places;
-      supplied = (
-        h.samples,
-        record {
-          supplied = subst (λ (z : ℤ). IsSupplied g.R.Walk.leads g.R.Walk.left c.args.records z
-              c.args.unpacking.now.room 0 0 h.samples 0) (sym first) p.supplied;
-          count = sym (c.head_of-head.ensures.count ∙ h.count_is);
-          first = p.first_is;
-          fits = p.fits;
-        },
-      );
+      supplied = (p.samples, record { supplied = p.supplied; count = p.count; first = p.first_is; fits = p.fits });
     }
 
 pub returns-in-Ok : goal.returns-in-Ok
 returns-in-Ok g c =
     let head = c.head_of-head.result in
-    let h = steim_of head.start head.rate (c.outline_records-borne.ensures.outline head.codes) c.requires.unread in
-    let first : to_z w32 (of_z w32 head.first) ≡ head.first = to_z-of_z w32 _ (search rules) in
-    let p = has_supply head c.args.options.now c.args.unpacking.now.room h c.requires.read.walks
-    (c.head_of-head.ensures.series h.samples h.are) (omega (arith, c.know_room.ensures)) c.head_of-head.ensures.first
-    c.requires.fits c.one_series.ensures.series in
-    emitted_stretch c.args.options.now (g.R.Walk.left c.args.records) (headed head h.samples) c.in-Ok.count
+    let h = c.outline_counted-borne.ensures.outline head.codes in
+    let p = has_supply head (to_z w32 (of_z w32 head.first)) c.args.options.now c.args.unpacking.now.room h
+    c.requires.unread c.requires.read.walks (c.head_of-head.ensures.series h.samples h.are)
+    c.head_of-head.ensures.count (omega (arith, c.know_room.ensures)) (to_z-of_z w32 _ (search rules))
+    c.head_of-head.ensures.first c.requires.fits c.one_series.ensures.series in
+    emitted_stretch c.args.options.now (g.R.Walk.left c.args.records) (headed head p.samples) c.in-Ok.count
     (g.W.Sink.written c.args.output.now) (g.W.Sink.written c.pack_supplied.new.sink) p.series
-    (c.in-Ok.ensures.ok h.samples (record {
-      supplied = subst (λ (z : ℤ). IsSupplied g.R.Walk.leads g.R.Walk.left c.args.records z
-          c.args.unpacking.now.room 0 0 h.samples 0) (sym first) p.supplied;
-      count = sym (c.head_of-head.ensures.count ∙ h.count_is);
-      first = p.first_is;
-      fits = p.fits;
-    }))
+    (c.in-Ok.ensures.ok p.samples (record { supplied = p.supplied; count = p.count; first = p.first_is; fits = p.fits }))
 
 pub returns-in-Err : goal.returns-in-Err
 returns-in-Err g c =
     let head = c.head_of-head.result in
-    let h = steim_of head.start head.rate (c.outline_records-borne.ensures.outline head.codes) c.requires.unread in
-    let first : to_z w32 (of_z w32 head.first) ≡ head.first = to_z-of_z w32 _ (search rules) in
-    let p = has_supply head c.args.options.now c.args.unpacking.now.room h c.requires.read.walks
-    (c.head_of-head.ensures.series h.samples h.are) (omega (arith, c.know_room.ensures)) c.head_of-head.ensures.first
-    c.requires.fits c.one_series.ensures.series in
-    emitted_part c.args.options.now (g.R.Walk.left c.args.records) (headed head h.samples) c.in-Err.field-0
+    let h = c.outline_counted-borne.ensures.outline head.codes in
+    let p = has_supply head (to_z w32 (of_z w32 head.first)) c.args.options.now c.args.unpacking.now.room h
+    c.requires.unread c.requires.read.walks (c.head_of-head.ensures.series h.samples h.are)
+    c.head_of-head.ensures.count (omega (arith, c.know_room.ensures)) (to_z-of_z w32 _ (search rules))
+    c.head_of-head.ensures.first c.requires.fits c.one_series.ensures.series in
+    emitted_part c.args.options.now (g.R.Walk.left c.args.records) (headed head p.samples) c.in-Err.field-0
     (g.W.Sink.written c.args.output.now) (g.W.Sink.written c.pack_supplied.new.sink) p.series
-    (c.in-Err.ensures.err h.samples (record {
-      supplied = subst (λ (z : ℤ). IsSupplied g.R.Walk.leads g.R.Walk.left c.args.records z
-          c.args.unpacking.now.room 0 0 h.samples 0) (sym first) p.supplied;
-      count = sym (c.head_of-head.ensures.count ∙ h.count_is);
-      first = p.first_is;
-      fits = p.fits;
-    }))
+    (c.in-Err.ensures.err p.samples (record { supplied = p.supplied; count = p.count; first = p.first_is; fits = p.fits }))
