@@ -1,8 +1,8 @@
 -- An encoding and its code.
 use Rattle.std.proofs.Common.{◌≡◌, ◌∙◌, ap, refl, sym, Option, Some, unwrap_or}
 use Rattle.mseed_pack.specs.Options.{code_of, encoding_of}
-use Rattle.mseed_pack.specs.declared.options.Encoding.{Encoding}
-use Rattle.mseed_pack.specs.declared.options.Encoding.TheVariants.{Int16, Int32, Steim1, Steim2}
+use Rattle.mseed_steim.specs.declared.encoding.Encoding.{Encoding}
+use Rattle.mseed_steim.specs.declared.encoding.Encoding.TheVariants.{Int16, Int32, Steim1, Steim2}
 
 back : (e : Encoding) → encoding_of (code_of e) ≡ Some e
 back Int16 = refl

@@ -10,8 +10,8 @@ use Rattle.mseed_audit.specs.Series.{Trace}
 use Rattle.mseed_pack.specs.declared.batch.Job.{Job}
 use Rattle.mseed_pack.specs.declared.frames.Frames.{Frames}
 use Rattle.mseed_pack.specs.declared.listed.Listed.{Listed}
-use Rattle.mseed_pack.specs.declared.options.Encoding.{Encoding}
-use Rattle.mseed_pack.specs.declared.options.Encoding.TheVariants.{Int16, Int32, Steim1, Steim2}
+use Rattle.mseed_steim.specs.declared.encoding.Encoding.{Encoding}
+use Rattle.mseed_steim.specs.declared.encoding.Encoding.TheVariants.{Int16, Int32, Steim1, Steim2}
 use Rattle.mseed_pack.specs.declared.payloads.Payloads.{Payloads}
 use Rattle.mseed_pack.specs.declared.series_view.SeriesView.{SeriesView}
 use Rattle.mseed_pack.specs.Fitting.{Fits, IsDifferenceOf, IsSampleOf}

@@ -12,8 +12,8 @@ use Rattle.mseed_steim.specs.Spelling.{Spells, empty, row}
 use Rattle.mseed_steim.specs.Frames.{DataWord, data_words}
 use Rattle.mseed_steim.specs.Packing.{IsEmptyWord, IsFewest, PacksRun}
 use Rattle.mseed_audit.specs.Series.{Trace}
-use Rattle.mseed_pack.specs.declared.options.Encoding.{Encoding}
-use Rattle.mseed_pack.specs.declared.options.Encoding.TheVariants.{Steim2}
+use Rattle.mseed_steim.specs.declared.encoding.Encoding.{Encoding}
+use Rattle.mseed_steim.specs.declared.encoding.Encoding.TheVariants.{Steim2}
 use Rattle.mseed_pack.specs.declared.options.Options.{Options}
 use Rattle.mseed_pack.specs.FewestWords.{words_in_use, HasFewestWords}
 use Rattle.mseed_pack.specs.Packing.{Piece, HoldsFrames, HoldsSamples, IsPacked}

@@ -12,8 +12,8 @@ use Rattle.mseed_steim.specs.Spelling.{IsWithin}
 use Rattle.mseed_pack.specs.private.Filling.{IsUnder}
 use Rattle.mseed_pack.specs.Fitting.{IsDifferenceOf}
 use Rattle.mseed_pack.specs.Stretches.{differences}
-use Rattle.mseed_pack.specs.declared.options.Encoding.{Encoding}
-use Rattle.mseed_pack.specs.declared.options.Encoding.TheVariants.{Int16, Int32, Steim1, Steim2}
+use Rattle.mseed_steim.specs.declared.encoding.Encoding.{Encoding}
+use Rattle.mseed_steim.specs.declared.encoding.Encoding.TheVariants.{Int16, Int32, Steim1, Steim2}
 use Rattle.mseed_pack.proofs.Differences.{difference_at, first_difference, length-differences}
 
 -- what would be found isn't so

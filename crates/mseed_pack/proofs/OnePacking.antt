@@ -17,8 +17,8 @@ use Rattle.mseed_steim.specs.Frames.{DataWord, data_word, data_words, is_data, w
 use Rattle.mseed_steim.specs.Frames.{last_constant}
 use Rattle.mseed_steim.specs.Packing.{IsEmptyWord, PacksRun, contents}
 use Rattle.mseed_audit.specs.Series.{Trace}
-use Rattle.mseed_pack.specs.declared.options.Encoding.{Encoding}
-use Rattle.mseed_pack.specs.declared.options.Encoding.TheVariants.{Int16, Int32, Steim1, Steim2}
+use Rattle.mseed_steim.specs.declared.encoding.Encoding.{Encoding}
+use Rattle.mseed_steim.specs.declared.encoding.Encoding.TheVariants.{Int16, Int32, Steim1, Steim2}
 use Rattle.mseed_pack.specs.declared.options.Options.{Options}
 use Rattle.mseed_pack.specs.Packing.{Piece, ArePlaced, IsHeaderOf, HoldsIntegers, HoldsFrames, HoldsSamples, IsPacked}
 use Rattle.mseed_pack.specs.Packing.{PacksUpTo, IsPacking}

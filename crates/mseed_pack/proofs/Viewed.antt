@@ -33,8 +33,8 @@ use Rattle.mseed_steim.specs.Samples.{form_of, IsSample, StartsAndAdds, IsPayloa
 use Rattle.mseed_steim.specs.Reading.{count_of, IsWhole}
 use Rattle.mseed_audit.specs.Judging.{step_in, known_rate, rate_unless}
 use Rattle.mseed_audit.specs.Series.{Trace}
-use Rattle.mseed_pack.specs.declared.options.Encoding.{Encoding}
-use Rattle.mseed_pack.specs.declared.options.Encoding.TheVariants.{Int16, Int32, Steim1, Steim2}
+use Rattle.mseed_steim.specs.declared.encoding.Encoding.{Encoding}
+use Rattle.mseed_steim.specs.declared.encoding.Encoding.TheVariants.{Int16, Int32, Steim1, Steim2}
 use Rattle.mseed_pack.specs.declared.options.Options.{Options}
 use Rattle.mseed_pack.specs.Options.{code_of}
 use Rattle.mseed_pack.specs.Clock.{instant_at}

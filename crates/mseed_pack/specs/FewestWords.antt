@@ -6,7 +6,7 @@ use Rattle.mseed_steim.specs.Packing.{IsFewest}
 use Rattle.mseed_audit.specs.Series.{Trace}
 use Rattle.mseed_pack.specs.Packing.{IsPacking, Piece}
 use Rattle.mseed_pack.specs.Stretches.{differences}
-use Rattle.mseed_pack.specs.declared.options.Encoding.TheVariants.{Steim2}
+use Rattle.mseed_steim.specs.declared.encoding.Encoding.TheVariants.{Steim2}
 use Rattle.mseed_pack.specs.declared.options.Options.{Options}
 
 -- the data words in use: those whose code isn't 00

@@ -4,8 +4,8 @@ use Rattle.mseed_time.specs.Naming.{IsOutside}
 use Rattle.mseed_time.specs.Ratios.{ratio_of}
 use Rattle.mseed_steim.specs.Spelling.{IsWithin}
 use Rattle.mseed_audit.specs.Series.{Trace}
-use Rattle.mseed_pack.specs.declared.options.Encoding.{Encoding}
-use Rattle.mseed_pack.specs.declared.options.Encoding.TheVariants.{Int16, Int32, Steim1, Steim2}
+use Rattle.mseed_steim.specs.declared.encoding.Encoding.{Encoding}
+use Rattle.mseed_steim.specs.declared.encoding.Encoding.TheVariants.{Int16, Int32, Steim1, Steim2}
 use Rattle.mseed_pack.specs.declared.options.Options.{Options}
 use Rattle.mseed_pack.specs.declared.fault.PackFault.{PackFault}
 use Rattle.mseed_pack.specs.declared.fault.PackFault.TheVariants.{Empty, RateTooHigh, TimeOutOfRange, SampleTooLarge}

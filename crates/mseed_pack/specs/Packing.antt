@@ -11,8 +11,8 @@ use Rattle.mseed_steim.specs.Spelling.{residue}
 use Rattle.mseed_steim.specs.Frames.{code_at, data_words, first_constant, last_constant, word_count}
 use Rattle.mseed_steim.specs.Packing.{IsEmptyWord, PacksRun}
 use Rattle.mseed_audit.specs.Series.{Trace}
-use Rattle.mseed_pack.specs.declared.options.Encoding.{Encoding}
-use Rattle.mseed_pack.specs.declared.options.Encoding.TheVariants.{Int16, Int32, Steim1, Steim2}
+use Rattle.mseed_steim.specs.declared.encoding.Encoding.{Encoding}
+use Rattle.mseed_steim.specs.declared.encoding.Encoding.TheVariants.{Int16, Int32, Steim1, Steim2}
 use Rattle.mseed_pack.specs.declared.options.Options.{Options}
 use Rattle.mseed_pack.specs.Options.{code_of}
 use Rattle.mseed_pack.specs.Clock.{instant_at}

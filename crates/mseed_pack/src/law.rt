@@ -12,7 +12,7 @@ ghost use Rattle.mseed_audit.specs.Series.{Trace, AreSteps, IsSeries, IsSeriesOf
 ghost use Rattle.mseed_audit.specs.Verdict.{IsVerdict, says_continuous};
 ghost use Rattle.mseed_pack.specs.declared.fault.PackFault.{PackFault};
 ghost use Rattle.mseed_pack.specs.declared.options.Options.{Options};
-ghost use Rattle.mseed_pack.specs.declared.options.Encoding.TheVariants.{Steim2};
+ghost use Rattle.mseed_steim.specs.declared.encoding.Encoding.TheVariants.{Steim2};
 ghost use Rattle.mseed_pack.specs.FewestWords.{HasFewestWords};
 ghost use Rattle.mseed_pack.specs.Fitting.{Fits, IsMisfit};
 ghost use Rattle.mseed_pack.specs.Prefixes.{ArePrefixes, HaveTakenPrefixes};

@@ -1,7 +1,7 @@
 //! Samples of a list.
 ghost use Rattle.std.specs.Prelude.{◌≡◌, ◌<◌, ◌≤◌, ◌+◌, length, pos, slice_index_or, slice_range, All};
 ghost use Rattle.mseed_steim.specs.Spelling.{IsWithin};
-ghost use Rattle.mseed_pack.specs.declared.options.Encoding.{Encoding};
+ghost use Rattle.mseed_steim.specs.declared.encoding.Encoding.{Encoding};
 ghost use Rattle.mseed_pack.specs.Fitting.{IsDifferenceOf};
 ghost use Rattle.mseed_pack.specs.Options.{IsSteim};
 ghost use Rattle.mseed_pack.specs.Stretches.{differences};

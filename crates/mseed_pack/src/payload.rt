@@ -19,7 +19,7 @@ pub(crate) struct Left {
 /// How the samples of a series are put into payloads, one behind another, from a supply.
 pub(crate) trait Filler<S> {
     ghost use Rattle.std.specs.Prelude.{◌≡◌, ◌+◌, ℕ, ℤ, List};
-    ghost use Rattle.mseed_pack.specs.declared.options.Encoding.{Encoding};
+    ghost use Rattle.mseed_steim.specs.declared.encoding.Encoding.{Encoding};
     ghost use Rattle.mseed_pack.specs.private.Filling.{AreFrames, AreLeft, AreTaken, IsFilled};
 
     /// With this supply, it goes on in this encoding at this place of these samples.

@@ -15,7 +15,7 @@ use Rattle.mseed_pack.specs.Fitting.{Fits}
 use Rattle.mseed_pack.specs.Outcome.{IsTrace}
 use Rattle.mseed_pack.specs.Packing.{IsPacking}
 use Rattle.mseed_pack.specs.ReadBack.{ReadsAs}
-use Rattle.mseed_pack.specs.declared.options.Encoding.{Encoding}
+use Rattle.mseed_steim.specs.declared.encoding.Encoding.{Encoding}
 use Rattle.mseed_pack.specs.declared.options.Options.{Options}
 use Rattle.mseed_pack.proofs.Traced.{is_trace, kept_views}
 use Rattle.mseed_repack.specs.ByStretches.{AreStandings, AreStretched, EachRestretching, WroteFitting, kept_of}

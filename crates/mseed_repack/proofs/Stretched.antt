@@ -7,7 +7,7 @@ use Rattle.mseed_audit.specs.Series.{AreSteps, Trace, IsSeriesOf}
 use Rattle.mseed_stretches.specs.declared.stretch.Stretch.{Stretch}
 use Rattle.mseed_pack.specs.Stretches.{differences}
 use Rattle.mseed_pack.specs.Fitting.{Fits, IsDifferenceOf, IsMisfit, IsSampleOf}
-use Rattle.mseed_pack.specs.declared.options.Encoding.{Encoding}
+use Rattle.mseed_steim.specs.declared.encoding.Encoding.{Encoding}
 use Rattle.mseed_pack.specs.declared.fault.PackFault.{PackFault}
 use Rattle.mseed_pack.specs.Traces.{headed}
 use Rattle.mseed_pack.specs.declared.options.Options.{Options}

@@ -10,4 +10,5 @@ pub mod Nearness
 pub mod Packing
 pub mod Packed
 pub mod Lookahead
+pub mod Encoding
 pub mod private

@@ -11,7 +11,7 @@ use Rattle.std.proofs.Math.Nat.{pow-suc, mul_assoc}
 use Rattle.std.proofs.lemmas.List.{length-append}
 use Rattle.clap.specs.Facts.{Entry}
 use Rattle.clap.specs.Walk.{Row, Text, first_of, row_of}
-use Rattle.mseed_pack.specs.declared.options.Encoding.{Encoding}
+use Rattle.mseed_steim.specs.declared.encoding.Encoding.{Encoding}
 use Rattle.mseed_words.specs.Found.{asks, has_only, is_among}
 use Rattle.mseed_words.specs.Numbers.{is_digit, value_of}
 use Rattle.mseed_words.specs.Words.{encoding_in, exponent_in, packing_by, packing_names, packing_of, packing_with}

@@ -6,8 +6,8 @@ use Rattle.clap.specs.Walk.{Row, Text, first_of}
 use Rattle.clap.specs.Simple.{matches_of}
 use Rattle.clap.specs.Kinds.{Kinds}
 use Rattle.clap.specs.Faults.{fault_of}
-use Rattle.mseed_pack.specs.declared.options.Encoding.{Encoding}
-use Rattle.mseed_pack.specs.declared.options.Encoding.TheVariants.{Int16, Int32, Steim1, Steim2}
+use Rattle.mseed_steim.specs.declared.encoding.Encoding.{Encoding}
+use Rattle.mseed_steim.specs.declared.encoding.Encoding.TheVariants.{Int16, Int32, Steim1, Steim2}
 use Rattle.mseed_words.specs.Options.{the_command}
 use Rattle.mseed_select.specs.Selection.{Selection}
 use Rattle.mseed_words.specs.Files.{files_of}

@@ -1,6 +1,6 @@
 //! What a command line requests.
 use crate::places::Places;
-use mseed_pack::Encoding;
+use mseed_steim::Encoding;
 use mseed_select::Selector;
 use slink_wire::{Address, Host, Timeout};
 

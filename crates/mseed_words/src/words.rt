@@ -24,7 +24,7 @@ use crate::request::{Command, Joining, Packing, Request};
 use crate::selecting::asked_of;
 use clap::error::ErrorKind;
 use clap::{ArgMatches, Error};
-use mseed_pack::Encoding;
+use mseed_steim::Encoding;
 use std::alloc::Global;
 
 // The names that a command takes that can be met with some of the records alone, and these.

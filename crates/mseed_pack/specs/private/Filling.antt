@@ -7,8 +7,8 @@ use Rattle.mseed_steim.specs.Spelling.{IsWithin, residue}
 use Rattle.mseed_pack.specs.declared.frames.Frames.{Frames}
 use Rattle.mseed_pack.specs.declared.integers.Width.{Width}
 use Rattle.mseed_pack.specs.declared.listed.Listed.{Listed}
-use Rattle.mseed_pack.specs.declared.options.Encoding.{Encoding}
-use Rattle.mseed_pack.specs.declared.options.Encoding.TheVariants.{Int16, Int32, Steim1, Steim2}
+use Rattle.mseed_steim.specs.declared.encoding.Encoding.{Encoding}
+use Rattle.mseed_steim.specs.declared.encoding.Encoding.TheVariants.{Int16, Int32, Steim1, Steim2}
 use Rattle.mseed_pack.specs.declared.payload.Filled.{Filled}
 use Rattle.mseed_pack.specs.declared.payload.Left.{Left}
 use Rattle.mseed_pack.specs.declared.payloads.Payloads.{Payloads}

@@ -7,7 +7,7 @@ use Rattle.mseed_audit.specs.Series.{AreStepsFrom}
 use Rattle.mseed_pack.specs.declared.batch.Batch.{Batch}
 use Rattle.mseed_pack.specs.declared.batch.Job.{Job}
 use Rattle.mseed_pack.specs.declared.batch.Place.{Place}
-use Rattle.mseed_pack.specs.declared.options.Encoding.{Encoding}
+use Rattle.mseed_steim.specs.declared.encoding.Encoding.{Encoding}
 use Rattle.mseed_pack.specs.declared.listed.Listed.{Listed}
 use Rattle.mseed_pack.specs.declared.payloads.Payloads.{Payloads}
 use Rattle.mseed_pack.specs.declared.span.Span.{Span}

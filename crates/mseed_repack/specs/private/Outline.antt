@@ -7,7 +7,7 @@ use Rattle.mseed_steim.specs.Spelling.{IsWithin}
 use Rattle.mseed_audit.specs.Series.{AreSteps}
 use Rattle.mseed_pack.specs.Fitting.{IsDifferenceOf, IsSampleOf}
 use Rattle.mseed_pack.specs.Stretches.{differences}
-use Rattle.mseed_pack.specs.declared.options.Encoding.{Encoding}
+use Rattle.mseed_steim.specs.declared.encoding.Encoding.{Encoding}
 use Rattle.mseed_repack.specs.private.Reading.{AreOf}
 use Rattle.mseed_repack.specs.declared.outline.Nearness.{Nearness}
 use Rattle.mseed_repack.specs.declared.outline.Nearness.TheVariants.{Empty, Near, Unknown}

@@ -11,7 +11,7 @@ use Rattle.mseed_stretches.specs.Stretches.{AreStretches, IsFirstStretch}
 use Rattle.mseed_stretches.specs.declared.stretch.Stretch.{Stretch}
 use Rattle.mseed_pack.specs.declared.fault.PackFault.{PackFault}
 use Rattle.mseed_pack.specs.Options.{IsSteim}
-use Rattle.mseed_pack.specs.declared.options.Encoding.{Encoding}
+use Rattle.mseed_steim.specs.declared.encoding.Encoding.{Encoding}
 use Rattle.mseed_pack.specs.declared.options.Options.{Options}
 use Rattle.mseed_repack.specs.private.Reading.{AreOf, samples_of, steps_of}
 use Rattle.mseed_repack.specs.private.Supplying.{AreUnread}

@@ -3,7 +3,7 @@ use Rattle.std.specs.List.{AllByRecursion}
 use Rattle.mseed_audit.specs.Series.{Trace}
 use Rattle.mseed_pack.specs.FewestWords.{HasFewestWords}
 use Rattle.mseed_pack.specs.Packing.{IsPacking}
-use Rattle.mseed_pack.specs.declared.options.Encoding.TheVariants.{Steim2}
+use Rattle.mseed_steim.specs.declared.encoding.Encoding.TheVariants.{Steim2}
 use Rattle.mseed_pack.proofs.packing.pack.Goals as goal
 
 pub returns-clause-fewest : goal.returns-clause-fewest

@@ -1,5 +1,5 @@
 use Rattle.std.proofs.Common.{◌+◌, sym, subst}
-use Rattle.mseed_pack.specs.declared.options.Encoding.{Encoding}
+use Rattle.mseed_steim.specs.declared.encoding.Encoding.{Encoding}
 use Rattle.mseed_pack.specs.private.Filling.{GoesOnIn, IsFilled}
 use Rattle.mseed_pack.proofs.frames.FramesFiller.fill.Goals as goal
 

@@ -1,6 +1,6 @@
 use Rattle.std.proofs.Common.{◌≡◌, ◌+◌, ◌-◌, ℕ, ℤ, List, length, sym, subst, arith}
 use Rattle.std.specs.Prelude.{slice_range}
-use Rattle.mseed_pack.specs.declared.options.Encoding.{Encoding}
+use Rattle.mseed_steim.specs.declared.encoding.Encoding.{Encoding}
 use Rattle.mseed_pack.specs.declared.payload.Filled.{Filled}
 use Rattle.mseed_pack.specs.declared.payload.Left.{Left}
 use Rattle.mseed_pack.specs.Packing.{HoldsIntegers}
