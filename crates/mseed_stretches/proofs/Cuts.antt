@@ -1,27 +1,27 @@
 -- Records are cut into stretches in one way.
 use Rattle.std.proofs.Common.{◌≡◌, List, [], ◌∷◌, ◌++◌, refl, sym, ap, subst, ◌∙◌, append_assoc, append-nil}
 use Rattle.mseed_record.specs.View.{View}
-use Rattle.mseed_stretches.specs.Stretches.{AllGoOn, AreStretches, AreStretchesUpTo, EndsBefore, IsFirstStretch}
+use Rattle.mseed_stretches.specs.Stretches.{AllGoOn, AreStretches, EndsBefore, IsFirstStretch}
 use Rattle.mseed_stretches.specs.Stretches.{IsStretch}
 
--- behind records that both begin with, one doesn't end where the other goes on
-same_behind : (b s t rest others : List View) → AllGoOn b s → EndsBefore (b ++ s) rest → AllGoOn b t
+-- after records that both begin with, one doesn't end where the other goes on
+same_after : (b s t rest others : List View) → AllGoOn b s → EndsBefore (b ++ s) rest → AllGoOn b t
     → EndsBefore (b ++ t) others → s ++ rest ≡ t ++ others → (s ≡ t) × (rest ≡ others)
-same_behind b [] [] rest others go ends on end e = (refl, e)
-same_behind b [] (y ∷ t) rest others go ends on end e =
+same_after b [] [] rest others go ends on end e = (refl, e)
+same_after b [] (y ∷ t) rest others go ends on end e =
     let done : EndsBefore b rest = subst (λ (vs : List View). EndsBefore vs rest) (append-nil b) ends in
     let stops : EndsBefore b (y ∷ (t ++ others)) = subst (λ (vs : List View). EndsBefore b vs) e done in
     absurd (stops on.0)
-same_behind b (x ∷ s) [] rest others go ends on end e =
+same_after b (x ∷ s) [] rest others go ends on end e =
     let stops : EndsBefore b (x ∷ (s ++ rest)) =
     subst (λ (vs : List View). EndsBefore b vs) (sym e)
     (subst (λ (vs : List View). EndsBefore vs others) (append-nil b) end) in
     absurd (stops go.0)
-same_behind b (x ∷ s) (y ∷ t) rest others go ends on end e =
+same_after b (x ∷ s) (y ∷ t) rest others go ends on end e =
     let first : x ≡ y = cc in
     let back : s ++ rest ≡ t ++ others = cc in
     let same : (s ≡ t) × (rest ≡ others) =
-    same_behind (b ++ x ∷ []) s t rest others go.1
+    same_after (b ++ x ∷ []) s t rest others go.1
     (subst (λ (vs : List View). EndsBefore vs rest) (sym (append_assoc b (x ∷ []) s)) ends)
     (subst (λ (v : View). AllGoOn (b ++ v ∷ []) t) (sym first) on.1)
     (subst (λ (vs : List View). EndsBefore vs others)
@@ -37,7 +37,7 @@ one_first vs (x ∷ s) (y ∷ t) rest others a b =
     let first : x ≡ y = cc in
     let back : s ++ rest ≡ t ++ others = cc in
     let same : (s ≡ t) × (rest ≡ others) =
-    same_behind (x ∷ []) s t rest others a.stretch a.ends
+    same_after (x ∷ []) s t rest others a.stretch a.ends
     (subst (λ (v : View). AllGoOn (v ∷ []) t) (sym first) b.stretch)
     (subst (λ (v : View). EndsBefore (v ∷ t) others) (sym first) b.ends) back in
     (λ i. first i ∷ same.0 i, same.1)
@@ -53,14 +53,6 @@ one_list vs [] (t ∷ ts) a (rest, (first, more)) = absurd (stretch_some t rest 
 one_list vs (s ∷ ss) [] (rest, (first, more)) b = absurd (stretch_some s rest first.stretch (sym b ∙ first.parts))
 one_list vs (s ∷ ss) (t ∷ ts) (rest, (first, more)) (others, (second, further)) =
     let same : (s ≡ t) × (rest ≡ others) = one_first vs s t rest others first second in
-    let behind : ss ≡ ts = one_list rest ss ts more
+    let after : ss ≡ ts = one_list rest ss ts more
     (subst (λ (us : List View). AreStretches us ts) (sym same.1) further) in
-    λ i. same.0 i ∷ behind i
-
--- one more stretch
-pub stretches_more : (vs : List View) (ss : List (List View)) (s left rest : List View) → AreStretchesUpTo vs ss left
-    → IsFirstStretch left s rest → AreStretchesUpTo vs (ss ++ s ∷ []) rest
-stretches_more vs [] s left rest e first =
-    (rest, (subst (λ (us : List View). IsFirstStretch us s rest) (sym e) first, refl))
-stretches_more vs (t ∷ ts) s left rest (next, (begin, more)) first =
-    (next, (begin, stretches_more next ts s left rest more first))
+    λ i. same.0 i ∷ after i

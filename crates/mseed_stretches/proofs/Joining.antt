@@ -5,6 +5,7 @@ use Rattle.std.proofs.Common.{◌-ℤ◌, ◌*ℤ◌, unsigned_abs, arith, refl,
 use Rattle.std.proofs.lemmas.Bool.{false≢true}
 use Rattle.std.proofs.lemmas.Int.{ints}
 use Rattle.std.specs.List.{AllByRecursion}
+use Rattle.std.proofs.lemmas.Option.{same_Some}
 use Rattle.mseed_time.specs.declared.fault.TimeFault.{TimeFault}
 use Rattle.mseed_time.specs.Join.{Joins, step_of}
 use Rattle.mseed_time.specs.Rate.{Ratio, SameRate, rate_of}
@@ -21,9 +22,6 @@ use Rattle.mseed_stretches.proofs.Runs.{added_append, last_snoc, samples_append}
 
 -- of a rate both numbers count
 
-some_is : (r s : Ratio) → Some r ≡ Some s → r ≡ s
-some_is r s e = cc
-
 product : (a b : ℕ) → 0 < suc a * suc b
 product a b = omega arith
 
@@ -31,17 +29,17 @@ both_by : (f m : ℤ) (r : Ratio) → rate_of f m ≡ Some r → (0 < r.num) × 
 both_by (pos zero) m r e = cc
 both_by (pos (suc f)) (pos zero) r e = cc
 both_by (pos (suc f)) (pos (suc m)) r e =
-    subst (λ (s : Ratio). (0 < s.num) × (0 < s.den)) (some_is (record { num = suc f * suc m; den = 1 }) r e)
+    subst (λ (s : Ratio). (0 < s.num) × (0 < s.den)) (same_Some (record { num = suc f * suc m; den = 1 }) r e)
     (product f m, omega arith)
 both_by (pos (suc f)) (negsuc m) r e =
-    subst (λ (s : Ratio). (0 < s.num) × (0 < s.den)) (some_is (record { num = suc f; den = suc m }) r e)
+    subst (λ (s : Ratio). (0 < s.num) × (0 < s.den)) (same_Some (record { num = suc f; den = suc m }) r e)
     (omega arith, omega arith)
 both_by (negsuc f) (pos zero) r e = cc
 both_by (negsuc f) (pos (suc m)) r e =
-    subst (λ (s : Ratio). (0 < s.num) × (0 < s.den)) (some_is (record { num = suc m; den = suc f }) r e)
+    subst (λ (s : Ratio). (0 < s.num) × (0 < s.den)) (same_Some (record { num = suc m; den = suc f }) r e)
     (omega arith, omega arith)
 both_by (negsuc f) (negsuc m) r e =
-    subst (λ (s : Ratio). (0 < s.num) × (0 < s.den)) (some_is (record { num = 1; den = suc f * suc m }) r e)
+    subst (λ (s : Ratio). (0 < s.num) × (0 < s.den)) (same_Some (record { num = 1; den = suc f * suc m }) r e)
     (omega arith, product f m)
 
 unless_some : (o : Option TimeFault) (rate : Option Ratio) (r : Ratio) → rate_unless o rate ≡ Some r → rate ≡ Some r
@@ -52,7 +50,7 @@ pub both_some : (v : View) (r : Ratio) → known_rate v ≡ Some r → (0 < r.nu
 both_some v r e = both_by (factor_at v.order v.bytes) (multiplier_at v.order v.bytes) r
     (unless_some (time_fault_of v) (rate_in v) r e)
 
--- A record that is on time behind others, by a rate and a start, and has that rate itself.
+-- A record that is on time after others, by a rate and a start, and has that rate itself.
 pub record Stands (rate : Ratio) (start : ℤ) (before : List View) (b : View) : Type 0 where
   pub own : Ratio
   pub known : known_rate b ≡ Some own
@@ -79,7 +77,7 @@ added_one before b =
 pub samples_one : (before : List View) (b : View) → samples_of (before ++ b ∷ []) ≡ samples_of before + count_of b
 samples_one before b = let all = samples_append before (b ∷ []) in omega (arith, all)
 
--- the next record is on time behind them and this one
+-- the next record is on time after them and this one
 next_on_time : (rate next : Ratio) (first : View) (rest before : List View) (b v : View)
     → first ∷ rest ≡ before ++ b ∷ [] → GoesOnAt rate next first rest v
     → IsOnTime (start_of first) (samples_of before + count_of b) rate
@@ -112,7 +110,7 @@ next_joins rate own start n added b v some same near far =
 pub going : (rate : Ratio) (first : View) (rest : List View) (v : View) → known_rate first ≡ Some rate
     → GoesOn (first ∷ rest) v → (next : Ratio) × GoesOnAt rate next first rest v
 going rate first rest v known (other, (next, go)) =
-    let same : other ≡ rate = some_is other rate (sym go.rate_is ∙ known) in
+    let same : other ≡ rate = same_Some other rate (sym go.rate_is ∙ known) in
     (next, subst (λ (r : Ratio). GoesOnAt r next first rest v) same go)
 
 follows_next : (rate next : Ratio) (first : View) (rest before : List View) (b v : View) → known_rate first ≡ Some rate

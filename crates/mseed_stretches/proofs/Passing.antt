@@ -1,8 +1,8 @@
 -- A stretch that is cut from the start of records, record by record.
-use Rattle.std.proofs.Common.{◌≡◌, ℕ, suc, ◌+◌, ◌≤◌, ◌<◌, List, [], ◌∷◌, ◌++◌, length, take, drop, get_or, map, arith}
+use Rattle.std.proofs.Common.{◌≡◌, ℕ, suc, ◌+◌, ◌<◌, List, [], ◌∷◌, ◌++◌, length, take, drop, get_or, map, arith}
 use Rattle.std.proofs.Common.{sym, ap, subst, ◌∙◌, append_assoc, append-nil}
 use Rattle.std.proofs.Math.Seq.{drop-cons}
-use Rattle.std.proofs.lemmas.List.{drop_all, map-append, map_more, take-append-drop}
+use Rattle.std.proofs.lemmas.List.{map-append, map_more, take-append-drop}
 use Rattle.mseed_record.specs.View.{View}
 use Rattle.mseed_record.specs.Viewing.{view_of}
 use Rattle.mseed_record.specs.declared.view.RecordView.{RecordView}
@@ -26,16 +26,6 @@ pub record IsPassed (rs : List RecordView) (s : Stretch) (n : ℕ) : Type 0 wher
   pub kept : IsStretchOf s (map view_of (take n rs))
   pub is : IsStretch (map view_of (take n rs))
   pub records_is : s.records ≡ n
-
-pub passed_first : (r : RecordView) (rs : List RecordView) (s : Stretch) → IsStretchOf s (view_of r ∷ [])
-    → s.records ≡ 1 → IsPassed (r ∷ rs) s 1
-passed_first r rs s kept e = record { kept = kept; is = tt; records_is = e }
-
-pub passed_one : (rs : List RecordView) (r : RecordView) (s : Stretch) → 0 < length rs → r ≡ get_or rs 0 r
-    → IsStretchOf s (view_of r ∷ []) → s.records ≡ 1 → IsPassed rs s 1
-passed_one [] r s some is kept e = absurd (omega (arith, some))
-passed_one (q ∷ rs) r s some is kept e =
-    passed_first q rs s (subst (λ (p : RecordView). IsStretchOf s (view_of p ∷ [])) is kept) e
 
 pub passed_more : (rs : List RecordView) (n : ℕ) (r : RecordView) (s new : Stretch) → n < length rs
     → r ≡ get_or rs n r → IsPassed rs s n → GoesOn (map view_of (take n rs)) (view_of r)
@@ -70,15 +60,3 @@ cut_before rs n r s lt is h stops =
     drop-cons rs n r lt ∙ ap (λ (q : RecordView). q ∷ drop (suc n) rs) (sym is) in
     cut_at rs s n h
     (subst (λ (qs : List RecordView). EndsBefore (map view_of (take n rs)) (map view_of qs)) (sym next) stops)
-
--- or with the last one
-pub cut_last : (rs : List RecordView) (n : ℕ) (s : Stretch) → length rs ≤ n → IsPassed rs s n
-    → IsFirstStretch (map view_of rs) (map view_of (take s.records rs)) (map view_of (drop s.records rs))
-cut_last rs n s le h =
-    cut_at rs s n h
-    (subst (λ (qs : List RecordView). EndsBefore (map view_of (take n rs)) (map view_of qs))
-    (sym (drop_all n rs le)) tt)
-
-pub kept_at : (rs : List RecordView) (n : ℕ) (s : Stretch) → IsPassed rs s n
-    → IsStretchOf s (map view_of (take s.records rs))
-kept_at rs n s h = subst (λ (m : ℕ). IsStretchOf s (map view_of (take m rs))) (sym h.records_is) h.kept

@@ -1,4 +1,4 @@
--- Records one behind another: their counts, and the last of them.
+-- Records one after another: their counts, and the last of them.
 use Rattle.std.proofs.Common.{◌≡◌, ◌+◌, List, [], ◌∷◌, ◌++◌, ◌+ℤ◌, refl, arith}
 use Rattle.std.proofs.lemmas.Int.{ints}
 use Rattle.mseed_record.specs.View.{View}

@@ -1,9 +1,10 @@
 -- What is kept of a stretch, with one more record.
 use Rattle.std.proofs.Common.{◌≡◌, ◌↔◌, ℕ, ◌+◌, List, [], ◌∷◌, ◌++◌, true, false, IsTrue}
-use Rattle.std.proofs.Common.{Some, None, ℤ, ◌+ℤ◌, arith, sym, ap, subst, ◌∙◌}
+use Rattle.std.proofs.Common.{Some, ℤ, ◌+ℤ◌, arith, sym, ap, subst, ◌∙◌}
 use Rattle.std.proofs.lemmas.Bool.{false≢true}
 use Rattle.std.proofs.lemmas.Int.{ints}
 use Rattle.std.proofs.lemmas.List.{length-append}
+use Rattle.std.proofs.lemmas.Option.{same_Some}
 use Rattle.mseed_time.specs.Join.{step_of}
 use Rattle.mseed_time.specs.Rate.{Ratio, SameRate}
 use Rattle.mseed_time.specs.declared.rate.Rate.{Rate}
@@ -54,19 +55,6 @@ stretch_more s new (first ∷ rest) v is more =
       closed_is = subst (λ (w : View). IsTrue new.closed ↔ (leap_of w.bytes ≡ Both)) (sym last) more.closed_is;
     }
 
--- a stretch whose last record bears both leap flags is done
-pub closed_ends : (s : Stretch) (vs : List View) (v : View) → s.closed ≡ true → IsStretchOf s vs → ¬ (GoesOn vs v)
-closed_ends s [] v closed is go = go
-closed_ends s (first ∷ rest) v closed is (rate, (next, go)) = go.one_step (is.closed_is.0 closed)
-
--- no record whose time or rate isn't known goes on
-pub unknown_ends : (vs : List View) (v : View) → known_rate v ≡ None → ¬ (GoesOn vs v)
-unknown_ends [] v none go = go
-unknown_ends (first ∷ rest) v none (rate, (next, go)) = let e : None ≡ Some next = sym none ∙ go.next_is in cc
-
-some_is : (r s : Ratio) → Some r ≡ Some s → r ≡ s
-some_is r s e = cc
-
 -- else its rate and its start decide
 
 pub next_goes : (s : Stretch) (vs : List View) (v : View) (next : Ratio) (start : ℤ) → s.closed ≡ false
@@ -97,8 +85,8 @@ pub goes_next : (s : Stretch) (vs : List View) (v : View) (next : Ratio) (start 
     → known_rate v ≡ Some next → start ≡ start_of v → IsStretchOf s vs → GoesOn vs v → IsNext s next start
 goes_next s [] v next start known at is go = absurd go
 goes_next s (first ∷ rest) v next start known at is (rate, (other, go)) =
-    let own : rate ≡ ratio_of s.rate = some_is rate (ratio_of s.rate) (sym go.rate_is ∙ is.rate_is) in
-    let its : other ≡ next = some_is other next (sym go.next_is ∙ known) in
+    let own : rate ≡ ratio_of s.rate = same_Some rate (ratio_of s.rate) (sym go.rate_is ∙ is.rate_is) in
+    let its : other ≡ next = same_Some other next (sym go.next_is ∙ known) in
     record {
       same = subst (λ (r : Ratio). SameRate r next) own (subst (λ (r : Ratio). SameRate rate r) its go.same);
       on_time =

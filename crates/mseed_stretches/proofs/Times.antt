@@ -22,10 +22,10 @@ stands_at rate first rest before b [] (w ∷ []) back v known e stands more at =
 stands_at rate first rest before b [] (w ∷ (u ∷ us)) back v known e stands more at = cc
 stands_at rate first rest before b (x ∷ vs) (w ∷ leading) back v known e stands more at =
     let here : b ≡ w = cc in
-    let behind : x ∷ vs ≡ leading ++ v ∷ back = cc in
+    let after : x ∷ vs ≡ leading ++ v ∷ back = cc in
     let next = going rate first rest x known more.0 in
     let later = stands_at rate first (rest ++ x ∷ []) (before ++ b ∷ []) x vs leading back v known
-    (ap (λ (us : List View). us ++ x ∷ []) e) (stands_next rate next.0 first rest before b x e next.1) more.1 behind in
+    (ap (λ (us : List View). us ++ x ∷ []) e) (stands_next rate next.0 first rest before b x e next.1) more.1 after in
     let all : (before ++ b ∷ []) ++ leading ≡ before ++ w ∷ leading =
     append_assoc before (b ∷ []) leading ∙ ap (λ (u : View). before ++ u ∷ leading) here in
     subst (λ (us : List View). Stands rate (start_of first) us v) all later

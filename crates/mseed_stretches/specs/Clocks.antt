@@ -9,7 +9,7 @@ use Rattle.mseed_stretches.specs.Stretches.{added_by, last_of, samples_of}
 use Rattle.mseed_stretches.specs.declared.stretch.Stretch.{Stretch}
 
 -- of the first record its channel, start and rate, the counts of all, the microseconds that their leap seconds added,
--- and whether the last one bears both leap flags
+-- and whether the last one has both leap flags
 pub record IsStretchAt (s : Stretch) (first : View) (rest : List View) : Type 0 where
   pub codes_is : s.codes ≡ key_at first.bytes
   pub start_is : s.start ≡ start_of first

@@ -23,13 +23,13 @@ added_by (v ∷ vs) = step_of (step_in (leap_of v.bytes)) +ℤ added_by vs
 abbrev pub IsOnTime : ℤ → ℕ → Ratio → ℤ → ℤ → Type 0
 IsOnTime start n rate added next = 4 * unsigned_abs (drift_of start n rate added next) ≤ rate.den * 10 ^ 6
 
--- the last of a record and those behind it
+-- the last of a record and those after it
 abbrev pub last_of : View → List View → View
 last_of v [] = v
 last_of v (w ∷ ws) = last_of w ws
 
 -- The records of a stretch so far, the first and the rest, are followed by a record of the same rate that begins on
--- time, and the last of them tells which leap second it bears.
+-- time, and the last of them says which leap second it carries.
 pub record GoesOnAt (rate next : Ratio) (first : View) (rest : List View) (v : View) : Type 0 where
   pub rate_is : known_rate first ≡ Some rate
   pub next_is : known_rate v ≡ Some next
@@ -42,12 +42,12 @@ abbrev pub GoesOn : List View → View → Type 0
 GoesOn [] v = ⊥
 GoesOn (first ∷ rest) v = (rate : Ratio) × ((next : Ratio) × GoesOnAt rate next first rest v)
 
--- behind these records each next one goes on with all before it
+-- after these records each next one goes on with all before it
 abbrev pub AllGoOn : List View → List View → Type 0
 AllGoOn before [] = ⊤
 AllGoOn before (v ∷ vs) = GoesOn before v × AllGoOn (before ++ v ∷ []) vs
 
--- a stretch: there is a record, and each behind it goes on with those before
+-- a stretch: there is a record, and each after it goes on with those before
 abbrev pub IsStretch : List View → Type 0
 IsStretch [] = ⊥
 IsStretch (v ∷ vs) = AllGoOn (v ∷ []) vs
@@ -72,12 +72,12 @@ AreStretchesUpTo vs (s ∷ ss) left = (rest : List View) × (IsFirstStretch vs s
 abbrev pub AreStretches : List View → List (List View) → Type 0
 AreStretches vs ss = AreStretchesUpTo vs ss []
 
--- The exact instant of the sample behind n others, in microseconds times num: n periods behind the first one, which
+-- The exact instant of the sample after n others, in microseconds times num: n periods after the first one, which
 -- began at `start`, less what the leap seconds before it added.
 abbrev pub instant_times : ℤ → ℕ → Ratio → ℤ → ℤ
 instant_times start n rate added = start *ℤ pos rate.num +ℤ pos (n * rate.den * 10 ^ 6) -ℤ added *ℤ pos rate.num
 
--- The sample of a record behind n others of it, where these records stand before it in its stretch, is no further than
+-- The sample of a record after n others of it, where these records stand before it in its stretch, is no further than
 -- a quarter of its period from where the record has it; the rate is that of the stretch's first record.
 abbrev pub StaysNear : Ratio → ℤ → List View → View → ℕ → Type 0
 StaysNear rate start before v n = 4

@@ -61,7 +61,7 @@ impl Stretch {
             records: 1,
             samples: u64::from(view.samples()),
             added: step_micros(view.leap().step()),
-            closed: bears_both(view),
+            closed: has_both(view),
         }
     }
 
@@ -104,7 +104,7 @@ impl Stretch {
             records: self.records + 1,
             samples: self.samples + u64::from(view.samples()),
             added: self.added + step_micros(view.leap().step()),
-            closed: bears_both(view),
+            closed: has_both(view),
         }
     }
 }
@@ -138,7 +138,7 @@ fn is_one_rate(rate: Rate, next: Rate) -> bool
 }
 
 /// Returns whether a record has both leap flags, so that nobody can say which leap second happened.
-fn bears_both(view: &RecordView) -> bool
+fn has_both(view: &RecordView) -> bool
     ensures { IsTrue result ↔ (leap_of (view_of view.now).bytes ≡ Both) }
 {
     matches!(view.leap(), Leap::Both)

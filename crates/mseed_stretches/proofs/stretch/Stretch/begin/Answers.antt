@@ -18,5 +18,5 @@ returns-clause-stretch c =
       records_is = refl;
       samples_is = omega (arith, c.samples.ensures, c.from.ensures);
       added_is = omega (arith, ints, step, c.step_micros.ensures.low, c.step_micros.ensures.high);
-      closed_is = c.bears_both.ensures;
+      closed_is = c.has_both.ensures;
     }

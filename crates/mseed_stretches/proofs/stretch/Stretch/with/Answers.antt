@@ -19,5 +19,5 @@ returns-clause-stretch c =
       samples_is = omega (arith, c.samples.ensures, c.from.ensures);
       added_is = summed s.added c.step_micros.result s.records s.added_low s.added_high s.few
           c.step_micros.ensures.low c.step_micros.ensures.high ∙ ap (λ (z : ℤ). s.added +ℤ z) step;
-      closed_is = c.bears_both.ensures;
+      closed_is = c.has_both.ensures;
     })
