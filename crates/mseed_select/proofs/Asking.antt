@@ -3,6 +3,7 @@ use Rattle.std.proofs.Common.{◌≡◌, ◌≢◌, ◌⊎◌, ℕ, ◌-◌, ◌
 use Rattle.std.proofs.Common.{◌&&◌, inl, inr, Option, Some, None, ℤ, pos, ◌+ℤ◌, ◌-ℤ◌, ◌*ℤ◌}
 use Rattle.std.proofs.Common.{◌≤ℤ◌, ◌<ℤ◌}
 use Rattle.std.specs.Prelude.{int_le, int_lt}
+use Rattle.std.proofs.lemmas.Bool.{and_from, and_parts}
 use Rattle.std.proofs.lemmas.Int.{ints}
 use Rattle.std.specs.Bool.{Decides}
 use Rattle.mseed_time.specs.Join.{drift_of}
@@ -16,7 +17,6 @@ use Rattle.mseed_select.specs.Selection.{answer_by, answer_in, answer_of, asks_f
 use Rattle.mseed_select.specs.Selection.{lasts_to, rate_in, reaches, start_fault}
 use Rattle.mseed_select.specs.declared.answer.Answer.{Answer}
 use Rattle.mseed_select.specs.declared.answer.Answer.TheVariants.{AskedFor, Left, NoTime}
-use Rattle.mseed_select.proofs.Fitting.{both}
 use Rattle.mseed_select.proofs.Matched.{channels_back, channels_yes}
 
 -- ---- the window
@@ -57,26 +57,23 @@ by_known : (fault : Option TimeFault) (b : Bool) → fault ≢ None → answer_b
 by_known (Some fault) b ne = refl
 by_known None b ne = absurd (ne refl)
 
-all_true : (a b : Bool) → a ≡ true → b ≡ true → (a && b) ≡ true
-all_true a b e h = ap (λ (x : Bool). x && b) e ∙ h
-
 window_yes : (from until : Option ℤ) (v : View) → answer_in from until v ≡ AskedFor → IsInWindow from until v
 window_yes None None v e = tt
 window_yes None (Some until) v e =
     let h = by_asked (start_fault v) (reaches None v && begins_before (Some until) v) e in
-    let w = both (reaches None v) (begins_before (Some until) v) h.1 in
+    let w = and_parts (reaches None v) (begins_before (Some until) v) h.1 in
     (h.0, tt, (begins_decides (Some until) v).0 w.1)
 window_yes (Some from) until v e =
     let h = by_asked (start_fault v) (reaches (Some from) v && begins_before until v) e in
-    let w = both (reaches (Some from) v) (begins_before until v) h.1 in
+    let w = and_parts (reaches (Some from) v) (begins_before until v) h.1 in
     (h.0, (reaches_decides (Some from) v).0 w.0, (begins_decides until v).0 w.1)
 
 window_back : (from until : Option ℤ) (v : View) → IsInWindow from until v → answer_in from until v ≡ AskedFor
 window_back None None v w = refl
 window_back None (Some until) v w = by_back (start_fault v) (reaches None v && begins_before (Some until) v) w.0
-    (all_true (reaches None v) (begins_before (Some until) v) refl ((begins_decides (Some until) v).1 w.2))
+    (and_from (reaches None v) (begins_before (Some until) v) refl ((begins_decides (Some until) v).1 w.2))
 window_back (Some from) until v w = by_back (start_fault v) (reaches (Some from) v && begins_before until v) w.0
-    (all_true (reaches (Some from) v) (begins_before until v) ((reaches_decides (Some from) v).1 w.1)
+    (and_from (reaches (Some from) v) (begins_before until v) ((reaches_decides (Some from) v).1 w.1)
     ((begins_decides until v).1 w.2))
 
 window_unknown : (from until : Option ℤ) (v : View) → answer_in from until v ≡ NoTime

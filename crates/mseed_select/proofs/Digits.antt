@@ -1,13 +1,13 @@
 -- Numbers by their digits.
 use Rattle.std.proofs.Common.{◌≡◌, ℕ, zero, suc, ◌+◌, ◌-◌, ◌*◌, ◌^◌, ◌<◌, ◌≤◌, sym, ap, ◌∙◌, arith, Bool, true}
 use Rattle.std.proofs.Common.{List, [], ◌∷◌, length, take, get_or, ◌&&◌, cond, Some, None}
+use Rattle.std.proofs.lemmas.Bool.{and_parts}
 use Rattle.std.proofs.lemmas.Bool.Decides.{nat_tests}
 use Rattle.std.proofs.lemmas.Grind.{pow_more}
 use Rattle.std.proofs.lemmas.List.Sums.{fold_more}
 use Rattle.std.proofs.Math.Nat.{pow-le-pow_right}
 use Rattle.mseed_time.specs.Btime.{is_within}
 use Rattle.mseed_select.specs.Word.{are_digits, fraction_of, number_of}
-use Rattle.mseed_select.proofs.Fitting.{both}
 
 pub within_is : (low high n : ℕ) → is_within low high n ≡ true → (low ≤ n) × (n ≤ high)
 within_is low high n h = (grind (arith, nat_tests), grind (arith, nat_tests))
@@ -16,8 +16,8 @@ within_is low high n h = (grind (arith, nat_tests), grind (arith, nat_tests))
 pub digit_at : (xs : List ℕ) (i : ℕ) → are_digits xs ≡ true → i < length xs
     → (48 ≤ get_or xs i 0) × (get_or xs i 0 ≤ 57)
 digit_at [] i all h = absurd (omega (arith, h))
-digit_at (x ∷ xs) zero all h = within_is 48 57 x (both (is_within 48 57 x) (are_digits xs) all).0
-digit_at (x ∷ xs) (suc i) all h = digit_at xs i (both (is_within 48 57 x) (are_digits xs) all).1 (omega (arith, h))
+digit_at (x ∷ xs) zero all h = within_is 48 57 x (and_parts (is_within 48 57 x) (are_digits xs) all).0
+digit_at (x ∷ xs) (suc i) all h = digit_at xs i (and_parts (is_within 48 57 x) (are_digits xs) all).1 (omega (arith, h))
 
 -- five digits give less than 100,000
 pub small : (n i : ℕ) → n < 10 ^ i → i ≤ 5 → n < 100_000

@@ -1,25 +1,14 @@
 -- A field fits a code exactly where the test says so.
-use Rattle.std.proofs.Common.{◌≡◌, ◌≢◌, ℕ, refl, sym, ap, ◌∙◌, arith, Bool, true, false, cond, ◌&&◌, ◌||◌}
+use Rattle.std.proofs.Common.{◌≡◌, ◌≢◌, ℕ, refl, sym, ap, ◌∙◌, arith, Bool, true, false, ◌&&◌, ◌||◌}
 use Rattle.std.proofs.Common.{List, [], ◌∷◌, ◌++◌, length, get_or, drop, eqb, inl, inr, eq-eqb, ◌≤◌}
+use Rattle.std.proofs.lemmas.Bool.{and_parts, cond-false, cond-true}
 use Rattle.std.proofs.lemmas.Bool.Decides.{eqb_tells}
 use Rattle.std.specs.Bool.{Decides}
 use Rattle.mseed_select.specs.Pattern.{Fits, Takes, any_rest, after_one, fits}
 
-pub both : (a b : Bool) → (a && b) ≡ true → (a ≡ true) × (b ≡ true)
-both true b h = (refl, h)
-both false b h = absurd (let c : false ≡ true = h in cc c)
-
 pub or_true : (b : Bool) → (b || true) ≡ true
 or_true true = refl
 or_true false = refl
-
-pick_yes : (b x y : Bool) → b ≡ true → cond b x y ≡ x
-pick_yes true x y h = refl
-pick_yes false x y h = absurd (let c : false ≡ true = h in cc c)
-
-pick_no : (b x y : Bool) → b ≡ false → cond b x y ≡ y
-pick_no false x y h = refl
-pick_no true x y h = absurd (let c : true ≡ false = h in cc c)
 
 -- a code that begins with some characters, after which a test holds
 abbrev HoldsAfter : (List ℕ → Bool) → (List ℕ → Type 0) → List ℕ → Type 0
@@ -46,7 +35,7 @@ any_back test (x ∷ taken) rest e =
 one_yes : (c : ℕ) (test : List ℕ → Bool) (code : List ℕ) → after_one c test code ≡ true → HoldsAfter test (Takes c) code
 one_yes c test [] e = absurd (let f : false ≡ true = e in cc f)
 one_yes c test (x ∷ xs) e =
-    let h : ((eqb c 63 || eqb c x) ≡ true) × (test xs ≡ true) = both (eqb c 63 || eqb c x) (test xs) e in
+    let h : ((eqb c 63 || eqb c x) ≡ true) × (test xs ≡ true) = and_parts (eqb c 63 || eqb c x) (test xs) e in
     let takes : Takes c (x ∷ []) = elim (eqb_tells c 63) [
       | inl mark ↦ inr (inl (mark.1, refl))
       | inr other ↦ elim (eqb_tells c x) [
@@ -79,13 +68,14 @@ fits_yes [] (x ∷ xs) e = elim (eqb_tells (length (x ∷ xs)) 0) [
 fits_yes (c ∷ cs) code e = elim (eqb_tells c 42) [
   | inl star ↦
       let any : any_rest (λ rest. fits cs rest) code ≡ true =
-      sym (pick_yes (eqb c 42) (any_rest (λ rest. fits cs rest) code) (after_one c (λ rest. fits cs rest) code) star.0)
+      sym (cond-true (eqb c 42) (any_rest (λ rest. fits cs rest) code) (after_one c (λ rest. fits cs rest) code) star.0)
       ∙ e in
       let r = any_yes (λ rest. fits cs rest) code any in
       (r.0, (r.1.0, (r.1.1.0, inr (inr star.1), fits_yes cs r.1.0 r.1.1.2)))
   | inr other ↦
       let one : after_one c (λ rest. fits cs rest) code ≡ true =
-      sym (pick_no (eqb c 42) (any_rest (λ rest. fits cs rest) code) (after_one c (λ rest. fits cs rest) code) other.0)
+      sym (cond-false (eqb c 42) (any_rest (λ rest. fits cs rest) code) (after_one c (λ rest. fits cs rest) code)
+      other.0)
       ∙ e in
       let r = one_yes c (λ rest. fits cs rest) code one in
       (r.0, (r.1.0, (r.1.1.0, r.1.1.1, fits_yes cs r.1.0 r.1.1.2)))
@@ -100,11 +90,11 @@ fits_back (c ∷ cs) code f =
     let holds : fits cs rest ≡ true = fits_back cs rest f.1.1.2 in
     elim (eqb_tells c 42) [
       | inl star ↦
-          pick_yes (eqb c 42) (any_rest (λ rest. fits cs rest) code) (after_one c (λ rest. fits cs rest) code) star.0
+          cond-true (eqb c 42) (any_rest (λ rest. fits cs rest) code) (after_one c (λ rest. fits cs rest) code) star.0
           ∙ ap (λ (xs : List ℕ). any_rest (λ rest. fits cs rest) xs) is
           ∙ any_back (λ rest. fits cs rest) taken rest holds
       | inr other ↦
-          pick_no (eqb c 42) (any_rest (λ rest. fits cs rest) code) (after_one c (λ rest. fits cs rest) code) other.0
+          cond-false (eqb c 42) (any_rest (λ rest. fits cs rest) code) (after_one c (λ rest. fits cs rest) code) other.0
           ∙ ap (λ (xs : List ℕ). after_one c (λ rest. fits cs rest) xs) is
           ∙ one_back c (λ rest. fits cs rest) taken rest f.1.1.1 other.1 holds
     ]
@@ -135,5 +125,5 @@ pub fits_one : (field code : List ℕ) → 1 ≤ length field → get_or field 0
     && fits (drop 1 field) (drop 1 code))
 fits_one [] code h ne some = absurd (omega (arith, h))
 fits_one (c ∷ cs) [] h ne some = absurd (omega (arith, some))
-fits_one (c ∷ cs) (x ∷ xs) h ne some = pick_no (eqb c 42) (any_rest (λ rest. fits cs rest) (x ∷ xs))
+fits_one (c ∷ cs) (x ∷ xs) h ne some = cond-false (eqb c 42) (any_rest (λ rest. fits cs rest) (x ∷ xs))
     (after_one c (λ rest. fits cs rest) (x ∷ xs)) (other_star c ne)

@@ -1,27 +1,22 @@
 -- A pattern matches a channel exactly where the test says so.
-use Rattle.std.proofs.Common.{◌≡◌, ℕ, refl, sym, ap, ◌∙◌, arith, Bool, true, false, ◌&&◌, List, [], ◌∷◌, length, eqb}
-use Rattle.std.proofs.Common.{inl, inr, Option, Some, None, codes}
+use Rattle.std.proofs.Common.{◌≡◌, ℕ, refl, ap, ◌∙◌, arith, Bool, true, false, ◌&&◌, List, [], ◌∷◌, length, eqb}
+use Rattle.std.proofs.Common.{Option, Some, None, codes}
 use Rattle.std.specs.Bool.{Decides}
 use Rattle.std.specs.List.{Any}
-use Rattle.std.proofs.lemmas.Bool.Decides.{Decides-and, Decides-or, eqb_tells}
+use Rattle.std.proofs.lemmas.Bool.{and_parts, eqb-true}
+use Rattle.std.proofs.lemmas.Bool.Decides.{Decides-and, Decides-or}
 use Rattle.std.proofs.lemmas.List.Folds.{Any-from_list_any, list_any-from_Any}
 use Rattle.mseed_select.specs.Pattern.{FitsLocation, IsOfChannels, Matches, channel_of, fields_in, fits, fits_fields}
 use Rattle.mseed_select.specs.Pattern.{fits_location, is_dashes, is_of_channels, location_of, matches, network_of}
 use Rattle.mseed_select.specs.Pattern.{patterns_in, station_of}
-use Rattle.mseed_select.proofs.Fitting.{both, fits_decides}
-
-eqb_yes : (a b : ℕ) → eqb a b ≡ true → a ≡ b
-eqb_yes a b e = elim (eqb_tells a b) [
-  | inl same ↦ same.1
-  | inr other ↦ absurd (let f : true ≡ false = sym e ∙ other.0 in cc f)
-]
+use Rattle.mseed_select.proofs.Fitting.{fits_decides}
 
 dashes_yes : (field : List ℕ) → is_dashes field ≡ true → field ≡ codes "--"
 dashes_yes [] e = absurd (let f : false ≡ true = e in cc f)
 dashes_yes (a ∷ []) e = absurd (let f : false ≡ true = e in cc f)
 dashes_yes (a ∷ b ∷ []) e =
-    let h : (eqb a 45 ≡ true) × (eqb b 45 ≡ true) = both (eqb a 45) (eqb b 45) e in
-    ap (λ (x : ℕ). x ∷ b ∷ []) (eqb_yes a 45 h.0) ∙ ap (λ (x : ℕ). 45 ∷ x ∷ []) (eqb_yes b 45 h.1)
+    let h : (eqb a 45 ≡ true) × (eqb b 45 ≡ true) = and_parts (eqb a 45) (eqb b 45) e in
+    ap (λ (x : ℕ). x ∷ b ∷ []) (eqb-true a 45 h.0) ∙ ap (λ (x : ℕ). 45 ∷ x ∷ []) (eqb-true b 45 h.1)
 dashes_yes (a ∷ b ∷ c ∷ cs) e = absurd (let f : false ≡ true = e in cc f)
 
 dashes_decides : (field : List ℕ) → Decides (is_dashes field) (field ≡ codes "--")
@@ -29,7 +24,7 @@ dashes_decides field = (dashes_yes field, λ e. ap (λ (cs : List ℕ). is_dashe
 
 none_yes : (code : List ℕ) → eqb (length code) 0 ≡ true → code ≡ []
 none_yes [] e = refl
-none_yes (c ∷ cs) e = absurd (omega (arith, eqb_yes (length (c ∷ cs)) 0 e))
+none_yes (c ∷ cs) e = absurd (omega (arith, eqb-true (length (c ∷ cs)) 0 e))
 
 none_decides : (code : List ℕ) → Decides (eqb (length code) 0) (code ≡ [])
 none_decides code = (none_yes code, λ e. ap (λ (cs : List ℕ). eqb (length cs) 0) e)
@@ -52,13 +47,13 @@ matches_by (n ∷ s ∷ l ∷ []) pattern key e h = absurd (let f : false ≡ tr
 matches_by (n ∷ s ∷ l ∷ c ∷ []) pattern key e h =
     let one : (fits n (network_of key) ≡ true) × ((fits s (station_of key)
     && (fits_location l (location_of key) && fits c (channel_of key))) ≡ true) =
-    both (fits n (network_of key))
+    and_parts (fits n (network_of key))
     (fits s (station_of key) && (fits_location l (location_of key) && fits c (channel_of key))) h in
     let two : (fits s (station_of key) ≡ true)
     × ((fits_location l (location_of key) && fits c (channel_of key)) ≡ true) =
-    both (fits s (station_of key)) (fits_location l (location_of key) && fits c (channel_of key)) one.1 in
+    and_parts (fits s (station_of key)) (fits_location l (location_of key) && fits c (channel_of key)) one.1 in
     let three : (fits_location l (location_of key) ≡ true) × (fits c (channel_of key) ≡ true) =
-    both (fits_location l (location_of key)) (fits c (channel_of key)) two.1 in record {
+    and_parts (fits_location l (location_of key)) (fits c (channel_of key)) two.1 in record {
       network = n;
       station = s;
       location = l;

@@ -1,15 +1,12 @@
 -- A field's piece up to its first `*` is best put as far to the front as it fits.
-use Rattle.std.proofs.Common.{◌≡◌, ◌≢◌, ◌⊎◌, ℕ, refl, sym, ap, ◌∙◌, arith, Bool, true, false, cond, ◌&&◌, ◌||◌}
+use Rattle.std.proofs.Common.{◌≡◌, ◌≢◌, ℕ, refl, sym, ap, ◌∙◌, arith, Bool, true, false, cond, ◌&&◌, ◌||◌}
 use Rattle.std.proofs.Common.{List, [], ◌∷◌, length, get_or, drop, eqb, inl, inr, ◌≤◌}
+use Rattle.std.proofs.lemmas.Bool.{and_parts, or_cases}
 use Rattle.mseed_select.specs.Pattern.{any_rest, after_one, fits}
 use Rattle.mseed_select.specs.declared.matching.Piece.{Piece}
 use Rattle.mseed_select.specs.declared.matching.Piece.TheVariants.{Whole, Fails, Star}
 use Rattle.mseed_select.specs.private.Pieces.{IsLeft, IsPiece}
-use Rattle.mseed_select.proofs.Fitting.{both, fits_one, or_true, other_star, two_stars}
-
-either : (a b : Bool) → (a || b) ≡ true → (a ≡ true) ⊎ (b ≡ true)
-either true b e = inl refl
-either false b e = inr e
+use Rattle.mseed_select.proofs.Fitting.{fits_one, or_true, other_star, two_stars}
 
 -- a test that holds of a code holds of some rest of it
 any_first : (test : List ℕ → Bool) (code : List ℕ) → test code ≡ true → any_rest test code ≡ true
@@ -24,8 +21,8 @@ later_one : (c : ℕ) (test : List ℕ → Bool) (xs : List ℕ) → any_rest (�
     → any_rest test xs ≡ true
 later_one c test [] e = absurd (let f : false ≡ true = e in cc f)
 later_one c test (x ∷ xs) e =
-    elim (either ((eqb c 63 || eqb c x) && test xs) (any_rest (λ rest. after_one c test rest) xs) e) [
-      | inl here ↦ any_more test x xs (any_first test xs (both (eqb c 63 || eqb c x) (test xs) here).1)
+    elim (or_cases ((eqb c 63 || eqb c x) && test xs) (any_rest (λ rest. after_one c test rest) xs) e) [
+      | inl here ↦ any_more test x xs (any_first test xs (and_parts (eqb c 63 || eqb c x) (test xs) here).1)
       | inr there ↦ any_more test x xs (later_one c test xs there)
     ]
 
