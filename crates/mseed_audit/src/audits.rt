@@ -1,6 +1,6 @@
 //! The audit of records as they come, and the verdicts that it ends with.
 ghost use Rattle.std.specs.Prelude.{◌≡◌, ◌≢◌, ◌↔◌, ◌⊎◌, ◌<◌, ◌+◌, ◌^◌, List, [], ◌∷◌, ◌++◌, OnOk, OnErr, IfOk, IsOk};
-ghost use Rattle.std.specs.Prelude.{ℕ, IfErr, IsTrue, None};
+ghost use Rattle.std.specs.Prelude.{ℕ, IfErr, IsTrue, None, Ok};
 ghost use Rattle.mseed_record.specs.Header.{key_at};
 ghost use Rattle.mseed_record.specs.Viewing.{view_of};
 ghost use Rattle.mseed_steim.specs.Reading.{count_of};
@@ -134,16 +134,8 @@ impl<A: Allocator + Copy> Audit<A> {
     #[inline(always)]
     pub(crate) fn add_sound(&mut self, view: &RecordView) -> Result<(), Option<Examined>>
         requires { self.old.added < 2 ^ 40 }
-        ensures among { OnOk result ((ps : List Placed) (count offset : ℕ) → IsAuditAmong self.old ps count
-            → IsAuditAmong self.new (ps ++ record {
-              view = view_of view.now;
-              offset = offset;
-              number = self.old.added + 1;
-            }
-            ∷ []) (count + 1)) }
-        ensures sound { OnOk result ((ps : List Placed) (count : ℕ) → IsAuditAmong self.old ps count
-            → IsFoundBehind ps (view_of view.now) None) }
-        ensures number { OnOk result (self.new.added ≡ self.old.added + 1) }
+        ensures added { OnOk result ((offset : ℕ)
+            → IsAdded (Ok None) (view_of view.now) offset self.old self.new) }
         ensures unchanged { OnErr result (self.new ≡ self.old) }
         ensures learnt { IfErr result (λ examined. IsLearnt examined (view_of view.now)) }
     {

@@ -30,7 +30,7 @@ use Rattle.mseed_audit.specs.Summary.{AuditedIn, IsGatheredIn, IsSummaryIn, text
 use Rattle.mseed_audit.specs.Text.{reported_lines}
 
 -- a record more was added, of which this is found; without memory the audit is as it was
-pub record IsAdded {E : Type 0} (r : Result (Option Why) E) (v : View) (offset : ℕ) (old new : Held) : Type 0 where
+pub record IsAdded (r : Result (Option Why) NoRoom) (v : View) (offset : ℕ) (old new : Held) : Type 0 where
   pub among : (ps : List Placed) (count : ℕ) → IsAuditAmong old ps count → OnOk r (IsAuditAmong new
       (ps ++ record { view = v; offset = offset; number = old.added + 1 } ∷ []) (count + 1))
   pub found : (ps : List Placed) (count : ℕ) → IsAuditAmong old ps count → IfOk r (λ why. IsFoundBehind ps v why)

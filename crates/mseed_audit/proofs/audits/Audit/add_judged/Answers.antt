@@ -6,17 +6,20 @@ use Rattle.mseed_audit.specs.private.Gathered.{IsAdded}
 use Rattle.mseed_audit.proofs.More.{audit_all, audit_all_ok}
 use Rattle.mseed_audit.proofs.audits.Audit.add_judged.Goals as goal
 
-pub returns-in-Ok-clause-among : goal.returns-in-Ok-clause-among
-returns-in-Ok-clause-among g c = λ ps count is. c.in-Ok.ensures.among ps count c.args.offset is
-
-pub returns-in-Ok-clause-adds : goal.returns-in-Ok-clause-adds
-returns-in-Ok-clause-adds g c = λ added is.
-    audit_all c.args.self.now c.add_sound.new.self added
-    (record { view = view_of c.args.view.now; offset = c.args.offset }) is
-    (returns-in-Ok-clause-among g c (numbered 1 added) (length added) is)
-
-pub returns-in-Ok-clause-found : goal.returns-in-Ok-clause-found
-returns-in-Ok-clause-found g c = λ added is. c.in-Ok.ensures.sound (numbered 1 added) (length added) is
+pub returns-in-Ok : goal.returns-in-Ok
+returns-in-Ok g c =
+    let more = c.in-Ok.ensures.added c.args.offset in record {
+      adds = λ added is.
+          audit_all c.args.self.now c.add_sound.new.self added
+          (record { view = view_of c.args.view.now; offset = c.args.offset }) is
+          (more.among (numbered 1 added) (length added) is);
+      among = more.among;
+      found = λ added is. more.found (numbered 1 added) (length added) is;
+      found_among = more.found;
+      number = more.number;
+      unchanged = more.unchanged;
+      memory = more.memory;
+    }
 
 pub returns-in-Err : goal.returns-in-Err
 returns-in-Err g c =
