@@ -9,7 +9,7 @@ use Rattle.slink_feed.specs.declared.dialogue.Ending.{Ending}
 use Rattle.slink_feed.specs.declared.dialogue.Ending.TheVariants as endings
 use Rattle.slink_feed.specs.declared.dialogue.Event.{Event}
 use Rattle.slink_feed.specs.declared.dialogue.Stage.{Stage}
-use Rattle.slink_feed.specs.declared.dialogue.Stage.TheVariants.{Unlinked, Station, Number, Packets, Ended}
+use Rattle.slink_feed.specs.declared.dialogue.Stage.TheVariants.{Unlinked, Ended}
 use Rattle.slink_feed.specs.declared.dialogue.Wanted.{Wanted}
 use Rattle.slink_feed.specs.declared.turn.LinkFault.{LinkFault}
 use Rattle.slink_feed.specs.declared.turn.LinkFault.TheVariants as faults
@@ -111,29 +111,24 @@ reading_on old new bytes reported reading on =
     (reading.0, reading.1 ++ bytes, reading.2 ++ reported, on reading.0 reading.1 reading.2 reading.3)
 
 linked_unended : (stage : Stage) → IsLinked stage → IsUnended stage
-linked_unended Unlinked linked = tt
-linked_unended (Station k) linked = tt
-linked_unended (Number k) linked = tt
-linked_unended Packets linked = tt
 linked_unended (Ended ending) linked = absurd linked
+linked_unended stage linked = tt
 
 -- By a step that no device failed in, the client goes on, has reached an end, or is to have another link.
-stands_stopped : (ending : Ending) (old new : Listening) → new.talk.stage ≡ Ended ending
+reached_stopped : (ending : Ending) (old new : Listening) → new.talk.stage ≡ Ended ending
     → ReachesBy (end_by (Ok (turn_of ending))) old new
-stands_stopped endings.End old new at = at
-stands_stopped (endings.Refused k) old new at = (k, at)
-stands_stopped (endings.Gap k want got) old new at = (endings.Gap k want got, at, tt)
-stands_stopped endings.Garbage old new at = (endings.Garbage, at, tt)
-stands_stopped endings.Foreign old new at = (endings.Foreign, at, tt)
+reached_stopped endings.End old new at = at
+reached_stopped (endings.Refused k) old new at = (k, at)
+reached_stopped (endings.Gap k want got) old new at = (endings.Gap k want got, at, tt)
+reached_stopped endings.Garbage old new at = (endings.Garbage, at, tt)
+reached_stopped endings.Foreign old new at = (endings.Foreign, at, tt)
 
-stands_turn : (bytes : List ℕ) (stage : Stage) (old new : Listening) → new.talk.stage ≡ stage → ¬ (stage ≡ Unlinked)
+reached_turn : (bytes : List ℕ) (stage : Stage) (old new : Listening) → new.talk.stage ≡ stage → ¬ (stage ≡ Unlinked)
     → (bytes ≡ [] → IsUnended new.talk.stage) → ReachesBy (end_by (Ok (turn_after bytes stage))) old new
-stands_turn [] stage old new at some unended = inl (unended refl)
-stands_turn (b ∷ bs) Unlinked old new at some unended = absurd (some refl)
-stands_turn (b ∷ bs) (Station k) old new at some unended = subst IsLinked (sym at) tt
-stands_turn (b ∷ bs) (Number k) old new at some unended = subst IsLinked (sym at) tt
-stands_turn (b ∷ bs) Packets old new at some unended = subst IsLinked (sym at) tt
-stands_turn (b ∷ bs) (Ended ending) old new at some unended = stands_stopped ending old new at
+reached_turn [] stage old new at some unended = inl (unended refl)
+reached_turn (b ∷ bs) Unlinked old new at some unended = absurd (some refl)
+reached_turn (b ∷ bs) (Ended ending) old new at some unended = reached_stopped ending old new at
+reached_turn (b ∷ bs) stage old new at some unended = subst IsLinked (sym at) tt
 
 -- What a link gave is taken whole while there is no end.
 some_end : (end : FetchEnd) → Some end ≡ None → ⊥
@@ -142,18 +137,14 @@ some_end end e = cc
 never_goes : (ending : Ending) → end_by (Ok (turn_of ending)) ≡ None → ⊥
 never_goes endings.End e = some_end Done e
 never_goes (endings.Refused k) e = some_end Refused e
-never_goes (endings.Gap k want got) e = some_end BadFeed e
-never_goes endings.Garbage e = some_end BadFeed e
-never_goes endings.Foreign e = some_end BadFeed e
+never_goes ending e = some_end BadFeed e
 
 goes_linked : (bytes : List ℕ) (stage : Stage) → ¬ (stage ≡ Unlinked) → end_by (Ok (turn_after bytes stage)) ≡ None
     → IsLinked stage
 goes_linked [] stage some e = absurd (some_end LinkFailed e)
 goes_linked (b ∷ bs) Unlinked some e = absurd (some refl)
-goes_linked (b ∷ bs) (Station k) some e = tt
-goes_linked (b ∷ bs) (Number k) some e = tt
-goes_linked (b ∷ bs) Packets some e = tt
 goes_linked (b ∷ bs) (Ended ending) some e = absurd (never_goes ending e)
+goes_linked (b ∷ bs) stage some e = tt
 
 prefix_taken : (end : Option FetchEnd) (before after : BytesRead) (bytes taken : List ℕ)
     → after.bytes ≡ before.bytes ++ bytes → IsPrefixOf taken bytes → (end ≡ None → taken ≡ bytes)
@@ -179,18 +170,12 @@ taken_both end a b c xs ys p q =
 
 fine_stopped : (ending : Ending) → failures_by (end_by (Ok (turn_of ending))) ≡ 0
 fine_stopped endings.End = refl
-fine_stopped (endings.Refused k) = refl
-fine_stopped (endings.Gap k want got) = refl
-fine_stopped endings.Garbage = refl
-fine_stopped endings.Foreign = refl
+fine_stopped ending = refl
 
 fine_turn : (bytes : List ℕ) (stage : Stage) → failures_by (end_by (Ok (turn_after bytes stage))) ≡ 0
 fine_turn [] stage = refl
-fine_turn (b ∷ bs) Unlinked = refl
-fine_turn (b ∷ bs) (Station k) = refl
-fine_turn (b ∷ bs) (Number k) = refl
-fine_turn (b ∷ bs) Packets = refl
 fine_turn (b ∷ bs) (Ended ending) = fine_stopped ending
+fine_turn (b ∷ bs) stage = refl
 
 unended_none : (old new : Listening) (bytes taken : List ℕ) (reported : List Event) → IsReading old
     → IsUnended old.talk.stage → ReadsOn old taken reported new → IsPrefixOf taken bytes → bytes ≡ []
@@ -217,7 +202,7 @@ turned_ok turn old new s0 s1 w0 w1 h0 h1 f reading linked =
       reads = d.takes.reads;
       emitted = all emitted;
       reached = subst (λ end. ReachesBy end old new) (sym by)
-          (stands_turn f.bytes new.talk.stage old new refl some
+          (reached_turn f.bytes new.talk.stage old new refl some
           (unended_none old new f.bytes d.takes.taken d.reported reading (linked_unended old.talk.stage linked)
           d.takes.reads d.takes.prefix));
       failures = emitted.failures ∙ let none : failures_by (end_by (Ok turn)) ≡ 0 =
@@ -297,17 +282,13 @@ turned_none now read written linked = record {
 }
 
 reached_on : (end : Option FetchEnd) (a b c : Listening) → IsLinked b.talk.stage → ReachesBy end b c → ReachesBy end a c
-reached_on None a b c linked reached = reached
-reached_on (Some Done) a b c linked reached = reached
-reached_on (Some Refused) a b c linked reached = reached
-reached_on (Some BadFeed) a b c linked reached = reached
-reached_on (Some WriteFailed) a b c linked reached = reached
 reached_on (Some LinkFailed) a b c linked reached =
     elim reached [
       | inl now ↦ inl now
       | inr same ↦ inl (subst (λ (now : Listening). IsUnended now.talk.stage) (sym same)
           (linked_unended b.talk.stage linked))
     ]
+reached_on end a b c linked reached = reached
 
 -- one step after another
 pub turned_both : (end : Option FetchEnd) (a b c : Listening) (h i j : BytesRead) (s t u : BytesWritten)
@@ -378,15 +359,12 @@ moved_by holes old new records reported plain k n short at =
 
 reached_linked : (end : FetchEnd) (old now new : Listening) → IsUnended now.talk.stage → Reaches end now new
     → Reaches end old new
-reached_linked Done old now new unended reached = reached
-reached_linked Refused old now new unended reached = reached
-reached_linked BadFeed old now new unended reached = reached
-reached_linked WriteFailed old now new unended reached = reached
 reached_linked LinkFailed old now new unended reached =
     elim reached [
       | inl there ↦ inl there
       | inr same ↦ inl (subst (λ (x : Listening). IsUnended x.talk.stage) (sym same) unended)
     ]
+reached_linked end old now new unended reached = reached
 
 -- a link, from its first byte on
 pub fetched_link : (end : FetchEnd) (old now new : Listening) (event : Event) (h i : BytesRead) (s t : BytesWritten)
@@ -456,14 +434,11 @@ fetched_none now a = record {
 }
 
 reached_after : (end : FetchEnd) (a b c : Listening) → Reaches LinkFailed a b → Reaches end b c → Reaches end a c
-reached_after Done a b c before reached = reached
-reached_after Refused a b c before reached = reached
-reached_after BadFeed a b c before reached = reached
-reached_after WriteFailed a b c before reached = reached
 reached_after LinkFailed a b c before reached = elim reached [
   | inl there ↦ inl there
   | inr same ↦ subst (λ (x : Listening). IsUnended x.talk.stage ⊎ (x ≡ a)) (sym same) before
 ]
+reached_after end a b c before reached = reached
 
 -- one link after another
 pub fetched_both : (end : FetchEnd) (a b c : Listening) (s t u : Outputs) → FetchesReporting LinkFailed a b s t
