@@ -16,7 +16,7 @@ use Rattle.mseed_stream.specs.Standing.{Standing}
 use Rattle.mseed_stream.specs.Cutting.{IfEnds, failed_by}
 use Rattle.mseed_stream.specs.Walk.{AreAllViews, HasHandedOut, IfGoesOn, bytes_in}
 use Rattle.mseed_stream.specs.declared.fault.StreamFault.{StreamFault}
-use Rattle.mseed_stream.specs.declared.fault.StreamFault.TheVariants.{Frame, Truncated, Read, Turns, Memory}
+use Rattle.mseed_stream.specs.declared.fault.StreamFault.TheVariants.{Memory}
 use Rattle.slink_wire.specs.Place.{Bears, Fields}
 use Rattle.slink_wire.proofs.Bearing.{bears_fails, one_place, passes_bears}
 use Rattle.slink_wire.proofs.Cuts.{both}
@@ -330,11 +330,8 @@ not_pushed s (Err e) Q fault views old h c new is q wrong =
 pub broken_off : (X : Type 0) (s : Serving) (fault : StreamFault) (h : BytesRead) (views : List View)
     → AreOfFeed (served s) (bytes_in views) → IfEnds {X = X} (Err fault) (AreAllViews h views (Some fault))
     → h.failures ≡ failed_by {X = X} (Err fault) → IsFilling s (Err (Stream fault)) h
-broken_off X s (Frame n f) h views each all failed = record { views = views; all = all; each = each }
-broken_off X s (Truncated n have) h views each all failed = record { views = views; all = all; each = each }
-broken_off X s (Read n) h views each all failed = record { views = views; all = all; each = each }
-broken_off X s (Turns n) h views each all failed = record { views = views; all = all; each = each }
 broken_off X s Memory h views each all failed = failed
+broken_off X s fault h views each all failed = record { views = views; all = all; each = each }
 
 pub number_of : {n : ℕ} (views : List View) → n ≡ length views → n + 1 ≡ length views + 1
 number_of views is = ap (λ (m : ℕ). m + 1) is

@@ -11,7 +11,7 @@ use Rattle.mseed_stream.specs.Archive.{IsArchive}
 use Rattle.mseed_stream.specs.Device.{BytesRead}
 use Rattle.mseed_stream.specs.Walk.{AreAllViews, bytes_in}
 use Rattle.mseed_stream.specs.declared.fault.StreamFault.{StreamFault}
-use Rattle.mseed_stream.specs.declared.fault.StreamFault.TheVariants.{Frame, Truncated, Read, Turns, Memory}
+use Rattle.mseed_stream.specs.declared.fault.StreamFault.TheVariants.{Memory}
 use Rattle.mseed_stream.proofs.OneInput.{archive_is, one_input}
 use Rattle.slink_wire.specs.Place.{Fields}
 use Rattle.slink_feed.specs.Intake.{IsOfFeed}
@@ -132,11 +132,8 @@ not_clean a e = cc
 -- an input's fault, unless it is of memory
 broken : (s : Serving) (h : BytesRead) (f : StreamFault) → IsFilling s (Err (Stream f)) h
     → (f ≡ Memory) ⊎ IsBrokenOff s f h
-broken s h (Frame n f) p = inr p
-broken s h (Truncated n have) p = inr p
-broken s h (Read n) p = inr p
-broken s h (Turns n) p = inr p
 broken s h Memory p = inl refl
+broken s h f p = inr p
 
 -- An input that ended with a fault came to nothing else, unless it is of memory.
 one_broken : (s : Serving) (h : BytesRead) (f : StreamFault) (b : Result (List Window) InputFault) → IsBrokenOff s f h

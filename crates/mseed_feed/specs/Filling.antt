@@ -5,7 +5,7 @@ use Rattle.mseed_record.specs.View.{View}
 use Rattle.mseed_stream.specs.Device.{BytesRead}
 use Rattle.mseed_stream.specs.Walk.{AreAllViews, AreViews, bytes_in}
 use Rattle.mseed_stream.specs.declared.fault.StreamFault.{StreamFault}
-use Rattle.mseed_stream.specs.declared.fault.StreamFault.TheVariants.{Frame, Truncated, Read, Turns, Memory}
+use Rattle.mseed_stream.specs.declared.fault.StreamFault.TheVariants.{Memory}
 use Rattle.slink_wire.specs.Place.{Fields}
 use Rattle.slink_feed.specs.Intake.{IsOfFeed, is_of}
 use Rattle.slink_feed.specs.Window.{Window, window}
@@ -66,11 +66,8 @@ pub record IsBrokenOff (serving : Serving) (fault : StreamFault) (h : BytesRead)
 -- What filling a feed comes to: what is wrong first decides.
 abbrev pub IsFilling : Serving → Result (List Window) InputFault → BytesRead → Type 0
 IsFilling serving (Ok feed) h = IsFilled serving feed h
-IsFilling serving (Err (Stream (Frame n f))) h = IsBrokenOff serving (Frame n f) h
-IsFilling serving (Err (Stream (Truncated n have))) h = IsBrokenOff serving (Truncated n have) h
-IsFilling serving (Err (Stream (Read n))) h = IsBrokenOff serving (Read n) h
-IsFilling serving (Err (Stream (Turns n))) h = IsBrokenOff serving (Turns n) h
 IsFilling serving (Err (Stream Memory)) h = h.failures ≡ 0
+IsFilling serving (Err (Stream fault)) h = IsBrokenOff serving fault h
 IsFilling serving (Err (Foreign number)) h = IsForeign serving number h
 
 -- It comes to nothing else, but where memory was refused.
