@@ -13,7 +13,6 @@ use mseed_input::{Watched, report_blame, report_unreadable, word_of};
 use mseed_stream::{Buffered, Sink};
 use mseed_words::{Command, Request};
 use slink_links::FAULT;
-use std::alloc::{AllocError, Global};
 use std::io;
 use std::io::BufReader;
 
@@ -75,7 +74,10 @@ fn run_over_files<W: Sink, E: Sink>(
     ensures unwritten { IfErr result (λ _. W.written output.new ≡ W.written output.old) }
     ensures unreported { IfErr result (λ _. E.written errors.new ≡ E.written errors.old) }
 {
-    let names = names_of(rt.alloc(), &command.files, words)?;
+    let mut names = Vec::new(rt.alloc());
+    for file in &command.files {
+        names.push(word_of(file, words))?;
+    }
     if let Some(index) = find_unreadable(rt, &names)
         && let Some(name) = names.get(index)
     {
@@ -91,23 +93,6 @@ fn run_over_files<W: Sink, E: Sink>(
     drop(input);
     report_blame(rt.alloc(), errors, &names, &chain, ended.blame, last);
     Ok(ended.status)
-}
-
-/// The arguments as they were given, by the texts that stand for them.
-///
-/// # Errors
-///
-/// Where there was no room for them.
-fn names_of<'a>(
-    alloc: Global,
-    files: &[&'a str],
-    words: &'a [Vec<u8>],
-) -> Result<Vec<&'a [u8]>, AllocError> {
-    let mut names = Vec::new(alloc);
-    for file in files {
-        names.push(word_of(file, words))?;
-    }
-    Ok(names)
 }
 
 /// Whether what is requested reads an archive: joining reads parts, in which no record lies.
