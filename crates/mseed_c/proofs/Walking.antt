@@ -96,8 +96,6 @@ ends_at (Not fault) bytes ahead rows room p e more s = (more, subst (λ (xs : Li
 pub ends_reported : (stop : Stop) (bytes : List ℕ) (rows room : ℕ) (p : Progress) (needed : ℕ)
     → EndsWalk stop bytes rows room p
     → EndsWalk stop bytes rows room (record { rows = p.rows; offset = p.offset; filled = p.filled; needed = needed })
-ends_reported Rows bytes rows room p needed e = e
 ends_reported (Room places) bytes rows room p needed e =
     (e.0, record { view = e.1.view; at = e.1.at; count = e.1.count; fewer = e.1.fewer })
-ends_reported (Short k) bytes rows room p needed e = e
-ends_reported (Not fault) bytes rows room p needed e = e
+ends_reported stop bytes rows room p needed e = e

@@ -80,25 +80,17 @@ number first = record { first = first; second = 0; found = pos 0; constant = pos
 
 -- of a record whose samples can't be read: those of its reason
 abbrev pub detail_of_read : ReadFault → Detail
-detail_of_read Memory = number 0
-detail_of_read Blockette100 = number 0
 detail_of_read (Encoding code) = number code
-detail_of_read LittleSteim = number 0
-detail_of_read DataOffset = number 0
 detail_of_read (Short found) = number found
 detail_of_read (BadWord frame word) = record { first = frame; second = word; found = pos 0; constant = pos 0 }
 detail_of_read (Overflow index) = number index
 detail_of_read (LastDiffers found constant) = record { first = 0; second = 0; found = found; constant = constant }
+detail_of_read fault = number 0
 
 -- how many places or bytes a stop asks for, or the exponent that is out of its range
 abbrev pub needed_by_frame : FrameFault → ℕ
-needed_by_frame NotData = 0
-needed_by_frame Order = 0
-needed_by_frame Chain = 0
-needed_by_frame No1000 = 0
 needed_by_frame (Length exponent) = exponent
-needed_by_frame Outside = 0
-needed_by_frame Version3 = 0
+needed_by_frame fault = 0
 
 abbrev pub needed_by : Stop → ℕ
 needed_by Rows = 0
@@ -114,9 +106,6 @@ detail_of (Err (Stopped stop)) = number (needed_by stop)
 
 -- which sample a misfit names; 0 where it names none
 abbrev pub index_of : PackFault → ℕ
-index_of (Write taken) = 0
-index_of Empty = 0
-index_of RateTooHigh = 0
-index_of TimeOutOfRange = 0
 index_of (SampleTooLarge index) = index
 index_of (DifferenceTooLarge index) = index
+index_of fault = 0

@@ -36,9 +36,7 @@ IsTaken v old new (Ok n) = IsFilled v old new n
 IsTaken v old new (Err (Read fault)) =
     (0 < count_of v) × IsFault v fault × (count_of v ≤ length new) × (drop (count_of v) new ≡ drop (count_of v) old)
 IsTaken v old new (Err (Stopped (Room n))) = (n ≡ count_of v) × (length new < n) × (new ≡ old)
-IsTaken v old new (Err (Stopped Rows)) = ⊥
-IsTaken v old new (Err (Stopped (Short k))) = ⊥
-IsTaken v old new (Err (Stopped (Not fault))) = ⊥
+IsTaken v old new (Err (Stopped stop)) = ⊥
 
 -- the same of the record that begins the bytes, or why there's none; then all stays
 abbrev pub IsDecoded : List ℕ → List ℤ → List ℤ → Result ℕ SampleFault → Type 0

@@ -156,10 +156,7 @@ fn detail_of_read(fault: ReadFault) -> Detail
             constant,
             ..number(0)
         },
-        ReadFault::Blockette100
-        | ReadFault::LittleSteim
-        | ReadFault::DataOffset
-        | ReadFault::Memory => number(0),
+        _ => number(0),
     }
 }
 
@@ -209,9 +206,6 @@ pub(crate) fn index_of(fault: PackFault) -> usize
 {
     match fault {
         PackFault::SampleTooLarge(index) | PackFault::DifferenceTooLarge(index) => index,
-        PackFault::Empty
-        | PackFault::RateTooHigh
-        | PackFault::TimeOutOfRange
-        | PackFault::Write(_) => 0,
+        _ => 0,
     }
 }
