@@ -18,8 +18,8 @@ use Rattle.mseed_parts.specs.Parts.{Held, IsAscending, kept_of, IsJoint, one_cha
 use Rattle.mseed_parts.proofs.Adding.{Entries, held, joined_none}
 
 -- after an entry nothing is kept at its key
-pub past_head : (key : List ℕ) (x : List ℕ × Channel) (rest : Entries) → IsAscending (x ∷ rest) → same_key key x.0 ≡ true
-    → kept_of key rest ≡ None
+pub past_head : (key : List ℕ) (x : List ℕ × Channel) (rest : Entries) → IsAscending (x ∷ rest)
+    → same_key key x.0 ≡ true → kept_of key rest ≡ None
 past_head key x rest s e =
     lookup-none (same_key key) rest
     (none_past_head keys_alike key x rest (IsDistinct-from_sorted (slice_cmp nat_cmp) _ s) e)

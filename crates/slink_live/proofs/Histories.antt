@@ -52,7 +52,8 @@ module _ (start : List Window) (k : ℕ) where
       (subst (λ (s : Standing). IsServed start k log (Some (history s t.ring t.produced t.emitted))) m.0 served))
 
   module _ (log last : List Happening) (new : Option LinkState) where
-    pub history_stays : (o : Option LinkState) → new ≡ o → last ≡ log → IsHistory start k o log → IsHistory start k new last
+    pub history_stays : (o : Option LinkState) → new ≡ o → last ≡ log → IsHistory start k o log
+        → IsHistory start k new last
     history_stays o same now s =
         subst (IsHistory start k new) (sym now) (subst (λ (x : Option LinkState). IsHistory start k x log) (sym same) s)
 

@@ -16,7 +16,8 @@ use Rattle.slink_live.specs.History.{IsNew, elsewhere}
 use Rattle.slink_live.specs.private.Calling.{HasFilled, HasReceived, HasTaken}
 use Rattle.slink_live.specs.Turns.{Closes, IsReport}
 use Rattle.slink_live.specs.private.Keeping.{KeepsServing}
-use Rattle.slink_live.proofs.Histories.{filled_history, gone_history, received_history, opened_history, history_stays, taken_history}
+use Rattle.slink_live.proofs.Histories.{filled_history, gone_history, received_history, opened_history, history_stays}
+use Rattle.slink_live.proofs.Histories.{taken_history}
 
 -- what the input gave
 pub input_append : (xs ys : List Happening) → input_of (xs ++ ys) ≡ input_of xs ++ input_of ys

@@ -46,9 +46,10 @@ pub data Asks (feed : List Window) (s : Standing) (ring : ℕ) (way : List ℕ) 
       → IsTurn feed now.state turn k → sent feed now.state k ≡ (last.state, answer) → last.held ≡ now.held
       → all ≡ on ++ sent_bytes answer → Asks feed s ring way last (k + 1) all
 
--- What happened comes to this in a slot: no link stands there, or this is the history of the one that does. A link comes
--- where none stands. What it says is answered by its session, as slink_feed has it, from the rings as the input made
--- them so far; packets may be requested of its session at any time, in turns; and of all that, the link takes a prefix.
+-- What happened comes to this in a slot: no link stands there, or this is the history of the one that does. A link
+-- comes where none stands. What it says is answered by its session, as slink_feed has it, from the rings as the input
+-- made them so far; packets may be requested of its session at any time, in turns; and of all that, the link takes a
+-- prefix.
 pub data IsServed (start : List Window) (k : ℕ) : List Happening → Option History → Type 0 where
   no_event : IsServed start k [] None
   elsewhere : (before now : List Happening) (h : Happening) (o : Option History) → IsServed start k before o
