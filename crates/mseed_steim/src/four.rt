@@ -43,32 +43,43 @@ fn sums_of(a: u32x4, b: u32x4, c: u32x4, d: u32x4) -> [u32; 4]
 
 /// How many differences the word at a place takes, where that is known and more than one.
 #[inline(always)]
-fn held_at(known: &Lookahead, place: usize) -> Option<usize>
-    requires known { (ds : List ℤ) × IsLookahead Two (known_from known.now place) ds }
-    ensures some { IfSome result (λ held. (2 ≤ held) × (held < 8)) }
-    ensures early { IfSome result (λ _. place + 8 ≤ 128) }
-    ensures known { IfSome result (λ held. (ds : List ℤ) → IsLookahead Two (known_from known.now place) ds
-        → IsAhead Two ds held × AreCut ds (drop place known.now.cut)
-        × IsLookahead Two (known_from known.now (place + held)) (drop held ds)) }
+fn held_at(known: &Lookahead, place: usize) -> usize
+    requires { (ds : List ℤ) × IsLookahead Two (known_from known.now place) ds }
+    ensures few { result < 256 }
+    ensures held { 2 ≤ result → (result < 8) × (place + 8 ≤ 128) }
+    ensures known { 2 ≤ result → (ds : List ℤ) → IsLookahead Two (known_from known.now place) ds
+        → IsAhead Two ds result × AreCut ds (drop place known.now.cut)
+        × IsLookahead Two (known_from known.now (place + result)) (drop result ds) }
 {
-    let held = usize::from(known.most[place]);
-    if held < 2 { None } else { Some(held) }
+    usize::from(known.most[place])
 }
 
 /// The next four words of Steim-2 from a place on, where so many are known ahead.
 #[inline(always)]
 fn four_two(known: &Lookahead, place: usize) -> Option<FourWords>
-    requires known { (ds : List ℤ) × IsLookahead Two (known_from known.now place) ds }
+    requires { (ds : List ℤ) × IsLookahead Two (known_from known.now place) ds }
     ensures { IfSome result (λ four. (ds : List ℤ) → IsLookahead Two (known_from known.now place) ds
         → AreFullest Two ds four × IsLookahead Two (known_from known.now (place + four.count)) (drop four.count ds)) }
 {
-    let one = held_at(known, place)?;
+    let one = held_at(known, place);
+    if one < 2 {
+        return None;
+    }
     let second = place + one;
-    let two = held_at(known, second)?;
+    let two = held_at(known, second);
+    if two < 2 {
+        return None;
+    }
     let third = second + two;
-    let three = held_at(known, third)?;
+    let three = held_at(known, third);
+    if three < 2 {
+        return None;
+    }
     let fourth = third + three;
-    let four = held_at(known, fourth)?;
+    let four = held_at(known, fourth);
+    if four < 2 {
+        return None;
+    }
     let (a, code_a) = parts_two(one, &known.cut[place..]);
     let (b, code_b) = parts_two(two, &known.cut[second..]);
     let (c, code_c) = parts_two(three, &known.cut[third..]);

@@ -11,7 +11,7 @@ ghost use Rattle.mseed_steim.specs.Frames.{code_at, data_words, word_at, word_co
 ghost use Rattle.mseed_steim.specs.Packing.{IsEmptyWord, IsFarthest, IsFewest, IsFirstTooLarge, IsFullest};
 ghost use Rattle.mseed_steim.specs.Packing.{IsTooLargeAt, LeavesRoom, PacksRun};
 ghost use Rattle.mseed_steim.specs.Runs.{SpellsRun};
-ghost use Rattle.mseed_steim.specs.private.Four.{AreFullest};
+ghost use Rattle.mseed_steim.specs.private.Four.{AreFullest, known_from};
 ghost use Rattle.mseed_steim.specs.private.Pushing.{Pushing};
 
 use crate::ahead::{KNOWN, Lookahead, look};
@@ -137,6 +137,57 @@ fn push_four(frames: &mut [u8], index: usize, codes: u32, four: &FourWords) -> u
     push_word(frames, index + 3, codes, four.fourth.0, four.fourth.1)
 }
 
+/// How far a frame is filled.
+#[derive(Clone, Copy)]
+struct Reached {
+    /// The index of the next word.
+    index: usize,
+    /// The codes of the frame's words before it, side by side.
+    codes: u32,
+    /// The place of the next difference in what is known.
+    place: usize,
+}
+
+/// Fills a frame further by four words at once, as long as four are known ahead and have room before its end.
+#[inline(always)]
+fn push_fours(
+    scheme: Scheme,
+    known: &Lookahead,
+    frames: &mut [u8],
+    end: usize,
+    reached: Reached,
+) -> Reached
+    requires room { 4 * end ≤ length frames.old }
+    requires whole { end % 16 ≡ 0 }
+    requires inside { reached.index ≤ end }
+    requires begun { end < reached.index + 16 }
+    requires known { (ds : List ℤ) × IsLookahead scheme (known_from known.now reached.place) ds }
+    ensures inside { result.index ≤ end }
+    ensures moves { ((result.index ≡ reached.index) × (result.place ≡ reached.place)) ⊎ (reached.index < result.index) }
+    ensures pushed { (ds : List ℤ) (head used : ℕ) → Pushing scheme ds frames.old head reached.codes reached.index used
+        → IsLookahead scheme (known_from known.now reached.place) (drop used ds)
+        → (count : ℕ) × ((result.place ≡ reached.place + count)
+        × Pushing scheme ds frames.new head result.codes result.index (used + count)
+        × IsLookahead scheme (known_from known.now result.place) (drop (used + count) ds)) }
+{
+    let mut index = reached.index;
+    let mut codes = reached.codes;
+    let mut place = reached.place;
+    while index + FOUR <= end {
+        let Some(four) = four_ahead(scheme, known, place) else {
+            break;
+        };
+        codes = push_four(frames, index, codes, &four);
+        place += four.count;
+        index += FOUR;
+    }
+    Reached {
+        index,
+        codes,
+        place,
+    }
+}
+
 /// As [`pack_words_ahead`], for one scheme.
 #[inline(always)]
 fn pack_run(
@@ -161,19 +212,17 @@ fn pack_run(
     let mut left = diffs;
     let mut start = known.begin(diffs.len());
     let mut place = start;
-    // Whether four words may be known ahead from there.
-    let mut by_fours = true;
     'filling: loop {
+        let reached = Reached {
+            index,
+            codes,
+            place,
+        };
+        let reached = push_fours(scheme, known, frames, head + FRAME, reached);
+        index = reached.index;
+        codes = reached.codes;
+        place = reached.place;
         while index < head + FRAME {
-            if by_fours && index + FOUR <= head + FRAME {
-                if let Some(four) = four_ahead(scheme, known, place) {
-                    codes = push_four(frames, index, codes, &four);
-                    place += four.count;
-                    index += FOUR;
-                    continue;
-                }
-                by_fours = false;
-            }
             let held = usize::from(known.most[place]);
             if held < 2 {
                 let at = place - start;
@@ -183,9 +232,16 @@ fn pack_run(
                 if KNOWN <= place {
                     left = &left[at..];
                     start = 0;
-                    place = 0;
                     look(scheme, left, &mut known.most, &mut known.cut);
-                    by_fours = true;
+                    let reached = Reached {
+                        index,
+                        codes,
+                        place: 0,
+                    };
+                    let reached = push_fours(scheme, known, frames, head + FRAME, reached);
+                    index = reached.index;
+                    codes = reached.codes;
+                    place = reached.place;
                     continue;
                 }
             }

@@ -9,42 +9,41 @@ use Rattle.mseed_steim.specs.private.Four.{known_from}
 use Rattle.mseed_steim.proofs.Lookaheads.{rest_long}
 use Rattle.mseed_steim.proofs.four.four_two.Goals as goal
 
-pub held_at-requires-2 : goal.held_at-requires-2
-held_at-requires-2 c =
-    let one = c.in_ok-one.ensures.known c.requires.known.0 c.requires.known.1 in
-    record { known = (drop c.in_ok-one.one c.requires.known.0, one.2) }
+pub held_at-two-requires : goal.held_at-two-requires
+held_at-two-requires c =
+    let one = c.held_at-one.ensures.known (omega (arith, c.if-one-lt2.false)) c.requires.0 c.requires.1 in
+    (drop c.held_at-one.result c.requires.0, one.2)
 
-pub held_at-requires-3 : goal.held_at-requires-3
-held_at-requires-3 c =
-    let one = c.in_ok-one.ensures.known c.requires.known.0 c.requires.known.1 in
-    let two = c.in_ok-two.ensures.known (drop c.in_ok-one.one c.requires.known.0) one.2 in
-    record { known = (drop c.in_ok-two.two (drop c.in_ok-one.one c.requires.known.0), two.2) }
+pub held_at-three-requires : goal.held_at-three-requires
+held_at-three-requires c =
+    let one = c.held_at-one.ensures.known (omega (arith, c.if-one-lt2.false)) c.requires.0 c.requires.1 in
+    let two = c.held_at-two.ensures.known (omega (arith, c.if-two-lt2.false)) (drop c.held_at-one.result c.requires.0)
+    one.2 in
+    (drop c.held_at-two.result (drop c.held_at-one.result c.requires.0), two.2)
 
-pub held_at-requires-4 : goal.held_at-requires-4
-held_at-requires-4 c =
-    let one = c.in_ok-one.ensures.known c.requires.known.0 c.requires.known.1 in
-    let two = c.in_ok-two.ensures.known (drop c.in_ok-one.one c.requires.known.0) one.2 in
-    let three = c.in_ok-three.ensures.known (drop c.in_ok-two.two (drop c.in_ok-one.one c.requires.known.0)) two.2 in
-    record {
-      known = (
-        drop c.in_ok-three.three (drop c.in_ok-two.two (drop c.in_ok-one.one c.requires.known.0)),
-        three.2,
-      );
-    }
+pub held_at-four-requires : goal.held_at-four-requires
+held_at-four-requires c =
+    let one = c.held_at-one.ensures.known (omega (arith, c.if-one-lt2.false)) c.requires.0 c.requires.1 in
+    let two = c.held_at-two.ensures.known (omega (arith, c.if-two-lt2.false)) (drop c.held_at-one.result c.requires.0)
+    one.2 in
+    let three = c.held_at-three.ensures.known (omega (arith, c.if-three-lt2.false))
+    (drop c.held_at-two.result (drop c.held_at-one.result c.requires.0)) two.2 in
+    (drop c.held_at-three.result (drop c.held_at-two.result (drop c.held_at-one.result c.requires.0)), three.2)
 
 pub returns : goal.returns
 returns c = λ ds is.
     let known = c.args.known.now in
     let cut = known.cut in
     let place = c.args.place in
-    let a = c.in_ok-one.one in
-    let b = c.in_ok-two.two in
-    let d = c.in_ok-three.three in
-    let e = c.in_ok-four.four in
-    let one = c.in_ok-one.ensures.known ds is in
-    let two = c.in_ok-two.ensures.known (drop a ds) one.2 in
-    let three = c.in_ok-three.ensures.known (drop b (drop a ds)) two.2 in
-    let four = c.in_ok-four.ensures.known (drop d (drop b (drop a ds))) three.2 in
+    let a = c.held_at-one.result in
+    let b = c.held_at-two.result in
+    let d = c.held_at-three.result in
+    let e = c.held_at-four.result in
+    let one = c.held_at-one.ensures.known (omega (arith, c.if-one-lt2.false)) ds is in
+    let two = c.held_at-two.ensures.known (omega (arith, c.if-two-lt2.false)) (drop a ds) one.2 in
+    let three = c.held_at-three.ensures.known (omega (arith, c.if-three-lt2.false)) (drop b (drop a ds)) two.2 in
+    let four = c.held_at-four.ensures.known (omega (arith, c.if-four-lt2.false)) (drop d (drop b (drop a ds)))
+    three.2 in
     let long : length cut ≡ 128 = search rules in
     let at : (i : ℕ) (xs : List ℤ) → AreCut xs (drop i cut) → AreCut xs (take (128 - i) (drop i cut)) =
     λ i xs h. subst (λ (ys : List ℤ). AreCut xs ys) (sym (rest_long 128 i cut long)) h in

@@ -1,18 +1,19 @@
-use Rattle.std.proofs.Common.{◌≡◌, ◌≢◌, ◌⊎◌, ℕ, ℤ, ◌+◌, ◌-◌, ◌*◌, ◌/◌, ◌%◌, ◌<◌, ◌≤◌, ◌∙◌, List, arith, ap, sym, subst}
+use Rattle.std.proofs.Common.{◌≡◌, ◌≢◌, ◌⊎◌, ℕ, ℤ, ◌+◌, ◌-◌, ◌/◌, ◌%◌, ◌<◌, ◌≤◌, ◌∙◌, List, arith, ap, sym, subst}
 use Rattle.std.proofs.Common.{inl, inr, drop, length, rules, take, refl}
 use Rattle.std.proofs.lemmas.List.{take_rest, length-drop, drop-drop}
 use Rattle.mseed_steim.specs.declared.pack.Packed.{Packed}
 use Rattle.mseed_steim.specs.Frames.{word_count}
 use Rattle.mseed_steim.specs.Packing.{IsFullest, IsTooLargeAt, IsFirstTooLarge, LeavesRoom}
+use Rattle.mseed_steim.specs.declared.scheme.Scheme.{Scheme}
 use Rattle.mseed_steim.specs.Lookahead.{IsAhead, IsCut, IsLookahead}
 use Rattle.mseed_steim.proofs.Packs.{refused_packed}
-use Rattle.mseed_steim.proofs.Rows.{spelled_code}
-use Rattle.mseed_steim.specs.private.Four.{AreFullest}
+use Rattle.mseed_steim.specs.private.Four.{known_from}
 use Rattle.mseed_steim.specs.private.Pushing.{Filling, Pushing}
 use Rattle.mseed_steim.proofs.Filling.{filled, filling_refused}
 use Rattle.mseed_steim.proofs.Held.{fullest_few}
 use Rattle.mseed_steim.proofs.Lookaheads.{known_at, known_early, known_here, known_next, rest_long}
 use Rattle.mseed_steim.proofs.Coding.{pushing_none, pushing_past, pushed}
+use Rattle.mseed_steim.proofs.pack.pack_run.Invariants.{Begun}
 use Rattle.mseed_steim.proofs.pack.pack_run.Goals.{else-held-lt2, else-loop-index-test+then-index-frames}
 use Rattle.mseed_steim.proofs.pack.pack_run.Goals.{then-held-lt2+else-at-left+else-place-ge-KNOWN}
 use Rattle.mseed_steim.proofs.pack.pack_run.Goals.{then-loop-index-test+then-held-lt2+then-at-left}
@@ -40,31 +41,52 @@ filling-init c =
       frame = omega (arith, c.fill.ensures.len, c.requires.some, c.requires.whole);
     }
 
+-- what holds once words were written by fours
+fours_begun : (s : Scheme) (ds left : List ℤ) (frames : List ℕ) (head codes index : ℕ) (most : List ℕ)
+    (cut : List ℤ) (start before place count : ℕ) → left ≡ drop (length ds - length left) ds → start ≤ before
+    → place ≡ before + count
+    → Pushing s ds frames head codes index (length ds - length left + (before - start) + count)
+    → IsLookahead s (known_at most cut place) (drop (length ds - length left + (before - start) + count) ds)
+    → head + 16 ≤ length frames / 4 → Begun s ds frames head codes index left most cut start place
+fours_begun s ds left frames head codes index most cut start before place count is order on pushing known frame =
+    let used = length ds - length left + (before - start) + count in
+    let same : used ≡ length ds - length left + (place - start) = omega (arith, order, on) in
+    record {
+      pushing = subst (λ (n : ℕ). Pushing s ds frames head codes index n) same pushing;
+      left = is;
+      known = subst (λ (xs : List ℤ). IsLookahead s (known_at most cut place) xs)
+          (ap (λ (n : ℕ). drop n ds) same ∙ sym (rest_of ds left (place - start) is)) known;
+      order = omega (arith, order, on);
+      frame = frame;
+    }
+
 pub loop-index-preserved-then-place-ge-KNOWN : goal.loop-index-preserved-then-place-ge-KNOWN
 loop-index-preserved-then-place-ge-KNOWN c =
     let s = c.args.scheme in
     let ds = c.args.diffs.now in
     let left = c.loop-index.left.now in
     let at = c.loop-index.place - c.loop-index.start in
-    let rest : take (length left - at) (drop at left) ≡ drop at left = take_rest left at in
+    let next = take (length left - at) (drop at left) in
+    let rest : next ≡ drop at left = take_rest left at in
     let inside = c.loop-index.invariant.pushing.coding.filling.inside in
-    let long : length (take (length left - at) (drop at left)) ≡ length left - at =
-    ap (λ (xs : List ℤ). length xs) rest ∙ length-drop at left in
+    let long : length next ≡ length left - at = ap (λ (xs : List ℤ). length xs) rest ∙ length-drop at left in
     let whole : length left ≡ length ds - (length ds - length left) =
     ap (λ (xs : List ℤ). length xs) c.loop-index.invariant.left ∙ length-drop (length ds - length left) ds in
-    let used : length ds - length left + at ≡ length ds - length (take (length left - at) (drop at left)) =
-    omega (arith, long, whole, inside) in
-    let next : length ds - length left + at ≡ length ds - length (take (length left - at) (drop at left)) + (0 - 0) =
-    omega (arith, used) in
-    record {
-      pushing = subst (λ (n : ℕ).
-          Pushing s ds c.loop-index.frames c.filling.head c.loop-index.codes c.loop-index.index n) next
-          c.loop-index.invariant.pushing;
-      left = rest ∙ rest_of ds left at c.loop-index.invariant.left ∙ ap (λ (n : ℕ). drop n ds) used;
-      known = c.look.ensures;
-      order = omega arith;
-      frame = c.loop-index.invariant.frame;
-    }
+    let used : length ds - length left + at ≡ length ds - length next = omega (arith, long, whole, inside) in
+    let more : length ds - length left + at ≡ length ds - length next + (0 - 0) = omega (arith, used) in
+    let left_is : next ≡ drop (length ds - length next) ds = rest ∙ rest_of ds left at c.loop-index.invariant.left
+    ∙ ap (λ (n : ℕ). drop n ds) used in
+    let pushing = subst (λ (n : ℕ).
+    Pushing s ds c.loop-index.frames c.filling.head c.loop-index.codes c.loop-index.index n) more
+    c.loop-index.invariant.pushing in
+    let plain : length ds - length next ≡ length ds - length next + (0 - 0) = omega arith in
+    let known = subst (λ (xs : List ℤ). IsLookahead s (known_at c.look.new.most c.look.new.cut 0) xs)
+    (left_is ∙ ap (λ (n : ℕ). drop n ds) plain) c.look.ensures in
+    let fours = c.push_fours-reached-then-place-ge-KNOWN in
+    let pushed = fours.ensures.pushed ds c.filling.head (length ds - length next + (0 - 0)) pushing known in
+    fours_begun s ds next fours.new.frames c.filling.head fours.result.codes fours.result.index c.look.new.most
+    c.look.new.cut 0 0 fours.result.place pushed.0 left_is (omega arith) pushed.1.0 pushed.1.1 pushed.1.2
+    (omega (arith, c.loop-index.invariant.frame, fours.auto.frames))
 
 pub filling-preserved : goal.filling-preserved
 filling-preserved c =
@@ -137,8 +159,8 @@ next_word-requires-clause-cut c =
     (subst (λ (m : ℕ). IsCut c.args.scheme m (drop at left) (drop place cut)) (sym c.from-held.ensures)
     (known_here c.args.scheme _ (drop at left) c.loop-index.invariant.known).1))
 
-pub returns-in_default-next_word : goal.returns-in_default-next_word
-returns-in_default-next_word c =
+pub returns-in_default : goal.returns-in_default
+returns-in_default c =
     let s = c.args.scheme in
     let ds = c.args.diffs.now in
     let left = c.loop-index.left.now in
@@ -148,7 +170,7 @@ returns-in_default-next_word c =
     let rest : take (length left - at) (drop at left) ≡ drop used ds = take_rest left at
     ∙ rest_of ds left at c.loop-index.invariant.left in
     let large : IsTooLargeAt s (drop used ds) 0 =
-    subst (λ (xs : List ℤ). IsTooLargeAt s xs 0) rest c.in_default-next_word.ensures.refused in
+    subst (λ (xs : List ℤ). IsTooLargeAt s xs 0) rest c.in_default.ensures.refused in
     let same : length coding.whole ≡ length c.loop-index.frames = coding.long in
     let begin = coding.at in
     let from = coding.filling.from in
@@ -173,44 +195,23 @@ returns-in_default-next_word c =
       known = tt;
     }
 
-pub overflow_add-place : goal.overflow_add-place
-overflow_add-place c =
-    let at = c.loop-index.place - c.loop-index.start in
-    let known = c.in-Some.ensures (drop at c.loop-index.left.now) c.loop-index.invariant.known in
-    record { fits = omega (arith, known.1.place) }
-
-pub loop-index-preserved-in-Some : goal.loop-index-preserved-in-Some
-loop-index-preserved-in-Some c =
+pub loop-index-init : goal.loop-index-init
+loop-index-init c =
     let s = c.args.scheme in
     let ds = c.args.diffs.now in
-    let left = c.loop-index.left.now in
-    let start = c.loop-index.start in
-    let at = c.loop-index.place - start in
-    let count = c.in-Some.four.count in
+    let left = c.filling.left.now in
+    let start = c.filling.start in
+    let at = c.filling.place - start in
     let used = length ds - length left + at in
-    let rest : drop at left ≡ drop used ds = rest_of ds left at c.loop-index.invariant.left in
-    let found = c.in-Some.ensures (drop at left) c.loop-index.invariant.known in
-    let full : AreFullest s (drop used ds) c.in-Some.four =
-    subst (λ (xs : List ℤ). AreFullest s xs c.in-Some.four) rest found.0 in
-    let coding = c.loop-index.invariant.pushing.coding in
-    let begin = coding.at in
-    let from = coding.filling.from in
-    let low : 0 < c.loop-index.index % 16 = omega (arith, begin, from, c.if-index-head.true) in
-    let high : c.loop-index.index % 16 ≤ 12 = omega (arith, begin, from, c.if-index-head.true) in
-    let order = c.loop-index.invariant.order in
-    let on : at + count ≡ c.loop-index.place + count - start = omega (arith, order) in
-    let more : used + count ≡ length ds - length left + (c.loop-index.place + count - start) = omega (arith, order) in
-    record {
-      pushing = subst (λ (n : ℕ). Pushing s ds c.push_four-codes.new.frames c.filling.head
-          c.push_four-codes.result (c.loop-index.index + 4) n) more
-          (c.push_four-codes.ensures s ds c.filling.head used low high c.loop-index.invariant.pushing full);
-      left = c.loop-index.invariant.left;
-      known = subst (λ (xs : List ℤ).
-          IsLookahead s (known_at c.loop-index.known.most c.loop-index.known.cut (c.loop-index.place + count)) xs)
-          (drop-drop count at left ∙ ap (λ (n : ℕ). drop n left) on) found.1;
-      order = omega (arith, order);
-      frame = omega (arith, c.loop-index.invariant.frame, c.push_four-codes.auto.frames);
-    }
+    let rest : drop at left ≡ drop used ds = rest_of ds left at c.filling.invariant.left in
+    let known = subst (λ (xs : List ℤ). IsLookahead s (known_from c.filling.known c.filling.place) xs) rest
+    c.filling.invariant.known in
+    let pushed = c.push_fours-reached.ensures.pushed ds c.filling.head used c.filling.invariant.pushing known in
+    let order = c.filling.invariant.order in
+    fours_begun s ds left c.push_fours-reached.new.frames c.filling.head c.push_fours-reached.result.codes
+    c.push_fours-reached.result.index c.filling.known.most c.filling.known.cut start c.filling.place
+    c.push_fours-reached.result.place pushed.0 c.filling.invariant.left order pushed.1.0 pushed.1.1 pushed.1.2
+    (omega (arith, c.filling.invariant.frame, c.push_fours-reached.auto.frames))
 
 pub loop-index-preserved : goal.loop-index-preserved
 loop-index-preserved c =
