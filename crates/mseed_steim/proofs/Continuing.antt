@@ -1,5 +1,5 @@
 -- A walk that goes on, step by step.
-use Rattle.std.proofs.Common.{◌≡◌, ◌⊎◌, ⊎_elim, ℕ, zero, suc, ◌+◌, ◌-◌, ◌<◌, ◌≤◌, ◌^◌, List, [], ◌∷◌, ◌++◌, map}
+use Rattle.std.proofs.Common.{◌≡◌, ◌⊎◌, ⊎_elim, ℕ, suc, ◌+◌, ◌-◌, ◌<◌, ◌≤◌, ◌^◌, List, [], ◌∷◌, ◌++◌, map}
 use Rattle.std.proofs.Common.{take, drop, length}
 use Rattle.std.proofs.Common.{ℤ, pos, ◌+ℤ◌, nat_abs, Option, Some, None, Result, Ok, Err, arith, refl, ap, sym, subst}
 use Rattle.std.proofs.Common.{◌∙◌, inl, inr, append_assoc}
@@ -11,7 +11,7 @@ use Rattle.mseed_steim.specs.declared.fault.ReadFault.{ReadFault}
 use Rattle.mseed_steim.specs.declared.keep.Taken.{Taken}
 use Rattle.mseed_steim.specs.declared.sum.Sum.{Sum}
 use Rattle.mseed_steim.specs.private.Lanes.{span, total}
-use Rattle.mseed_steim.specs.private.Sums.{Continues, HasPlaces, IsCounted, Puts, Walks, fold, in_places, kept_along}
+use Rattle.mseed_steim.specs.private.Sums.{Continues, IsCounted, Puts, Walks, fold, in_places, kept_along}
 use Rattle.mseed_steim.specs.private.Sums.{kept_in, met_in, places_for, with_first}
 use Rattle.mseed_steim.proofs.Far.{goes_far, keeps_far}
 use Rattle.mseed_steim.proofs.Folds.{fold_done, fold_first, fold_short}

@@ -9,7 +9,6 @@ use Rattle.std.proofs.Math.Nat.{mul-zero}
 use Rattle.std.proofs.lemmas.Nat.{one_shl, and_mask, or_shifted, pow_pos, pow-add, shl_whole, shr_below, mod_below}
 use Rattle.std.proofs.lemmas.Nat.{mod_low, div-add-mod', mul-mod_first, mul-mod_second}
 use Rattle.std.proofs.lemmas.Bool.{cases_lt, lt-ltb, le-ltb}
-use Rattle.std.proofs.lemmas.Int.{to_z-of_z}
 use Rattle.std.proofs.lemmas.List.{take_more, take_all, length-take, length-take-le, get_or-take}
 use Rattle.mseed_steim.specs.Spelling.{residue, positional}
 use Rattle.mseed_steim.specs.declared.layout.LayoutTwo.{LayoutTwo}

@@ -8,19 +8,15 @@ use Rattle.std.proofs.Math.Seq.{take-length}
 use Rattle.std.proofs.lemmas.Int.{ints}
 use Rattle.std.proofs.lemmas.List.{length-take-le, map-append, take-append-drop, take-take}
 use borrow.Rule.Slice.PartMut.{put_mid}
-use Rattle.mseed_record.specs.View.{View}
 use Rattle.mseed_steim.specs.declared.differences.BadWordAt.{BadWordAt}
-use Rattle.mseed_steim.specs.declared.form.Form.TheVariants.{Frames}
 use Rattle.mseed_steim.specs.declared.scheme.Scheme.{Scheme}
 use Rattle.mseed_steim.specs.Frames.{DataWord, data_words, first_constant, words_from, word_count}
-use Rattle.mseed_steim.specs.Reading.{count_of, HoldsIn, IsWhole}
 use Rattle.mseed_steim.specs.Samples.{Adds, AreSums, StartsAndAdds, differences_from, steps_of}
 use Rattle.mseed_steim.specs.private.Digits.{differences_of}
 use Rattle.mseed_steim.specs.private.Items.{items_of}
 use Rattle.mseed_steim.specs.private.Lanes.{Begins}
 use Rattle.mseed_steim.specs.private.Unpacked.{AreUnpacked, data_in, left_from}
 use Rattle.mseed_steim.proofs.Given.{IsWord, all_after, prefix_words, words_small}
-use Rattle.mseed_steim.proofs.Laws.{same_payload}
 use Rattle.mseed_steim.proofs.Summed.{put_next}
 use Rattle.mseed_steim.proofs.Walking.{frames_cut, items_group}
 use Rattle.std.specs.List.{AllByRecursion}

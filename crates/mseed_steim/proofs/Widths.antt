@@ -1,10 +1,9 @@
 -- The bits that a number takes in two's complement.
-use Rattle.std.proofs.Common.{◌≡◌, ◌↔◌, ℕ, suc, ◌-◌, ◌^◌, ◌<◌, ℤ, pos, negsuc, arith, refl, subst, FitsSigned, w32}
-use Rattle.std.proofs.Common.{to_z, of_z, true, false, ltb}
+use Rattle.std.proofs.Common.{◌≡◌, ◌↔◌, ℕ, ◌-◌, ◌^◌, ◌<◌, ℤ, pos, negsuc, arith, FitsSigned, w32}
+use Rattle.std.proofs.Common.{true, ltb}
 use lib.Signed.{lt_z}
-use lib.IntN.{nat_abs}
-use Rattle.std.proofs.lemmas.Bool.{lt-ltb, ltb-true}
-use Rattle.std.proofs.lemmas.Int.{ints, to_z-of_z}
+use Rattle.std.proofs.lemmas.Bool.{ltb-true}
+use Rattle.std.proofs.lemmas.Int.{ints}
 use Rattle.mseed_steim.specs.Spelling.{IsWithin}
 use Rattle.mseed_steim.specs.private.Ahead.{size_of}
 

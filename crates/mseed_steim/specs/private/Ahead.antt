@@ -1,7 +1,6 @@
 -- How many differences words hold, by the sizes of single differences, and how they are joined.
 use Rattle.std.specs.Prelude.{◌≡◌, ◌↔◌, ℕ, ◌+◌, ◌-◌, ◌*◌, ◌/◌, ◌%◌, ◌^◌, ◌<◌, ◌≤◌, nat_lt, if◌then◌else◌}
 use Rattle.std.specs.Prelude.{List, [], ◌∷◌, ℤ, pos, negsuc, slice_index_or, Some}
-use Rattle.mseed_steim.specs.declared.row.Row.{Row}
 use Rattle.mseed_steim.specs.declared.layout.LayoutOne.{LayoutOne}
 use Rattle.mseed_steim.specs.declared.layout.LayoutTwo.{LayoutTwo}
 use Rattle.mseed_steim.specs.private.Rows.{row_for, place_of, AreMasks, ArePlaces}

@@ -1,4 +1,4 @@
-use Rattle.std.proofs.Common.{◌≡◌, ◌≤◌, ◌<◌, ◌+◌, ◌%◌, ◌^◌, ◌∙◌, ◌∷◌, [], ℕ, ℤ, List, ap, arith, get_or, length, map}
+use Rattle.std.proofs.Common.{◌≡◌, ◌<◌, ◌+◌, ◌%◌, ◌^◌, ◌∙◌, ◌∷◌, [], ℕ, ℤ, List, ap, arith, get_or, length, map}
 use Rattle.std.proofs.Common.{pos, refl, rules, subst, sym}
 use Rattle.std.proofs.lemmas.Simd.{Each1-from_get_or}
 use lib.Lanes.{Each1}
