@@ -30,14 +30,14 @@ all_back : {X : Type 0} (P : X → Type 0) (xs ys : List X) → AllByRecursion P
 all_back P [] ys h = h
 all_back P (x ∷ xs) ys h = all_back P xs ys h.1
 
-neighbours_behind : {X : Type 0} (R : X → X → Type 0) (x : X) (xs : List X) → AllNeighbours R (x ∷ xs)
+neighbours_after : {X : Type 0} (R : X → X → Type 0) (x : X) (xs : List X) → AllNeighbours R (x ∷ xs)
     → AllNeighbours R xs
-neighbours_behind R x [] h = tt
-neighbours_behind R x (y ∷ ys) h = h.1
+neighbours_after R x [] h = tt
+neighbours_after R x (y ∷ ys) h = h.1
 
 neighbours_back : {X : Type 0} (R : X → X → Type 0) (xs ys : List X) → AllNeighbours R (xs ++ ys) → AllNeighbours R ys
 neighbours_back R [] ys h = h
-neighbours_back R (x ∷ xs) ys h = neighbours_back R xs ys (neighbours_behind R x (xs ++ ys) h)
+neighbours_back R (x ∷ xs) ys h = neighbours_back R xs ys (neighbours_after R x (xs ++ ys) h)
 
 neighbours_prefix : {X : Type 0} (R : X → X → Type 0) (xs ys : List X) → AllNeighbours R (xs ++ ys) → AllNeighbours R xs
 neighbours_prefix R [] ys h = tt

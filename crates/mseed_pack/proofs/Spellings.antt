@@ -17,9 +17,9 @@ residue_lt m (pos n) h = mod-lt n h
 residue_lt m (negsuc n) h = omega (arith, h)
 
 -- bytes before it move the places on
-pub from_behind : (prefix xs : List ℕ) (n : ℕ) → big_from (length prefix) n (prefix ++ xs) ≡ big_from 0 n xs
-from_behind [] xs n = refl
-from_behind (a ∷ prefix) xs n = big_from-cons (length prefix) n a (prefix ++ xs) ∙ from_behind prefix xs n
+pub from_after : (prefix xs : List ℕ) (n : ℕ) → big_from (length prefix) n (prefix ++ xs) ≡ big_from 0 n xs
+from_after [] xs n = refl
+from_after (a ∷ prefix) xs n = big_from-cons (length prefix) n a (prefix ++ xs) ∙ from_after prefix xs n
 
 -- the bytes of an integer
 abbrev pub bytes_of : ℕ → ℤ → List ℕ
@@ -31,7 +31,7 @@ length-bytes_of width z = length-bytes_high_first width (residue (2 ^ (8 * width
 read_back : (width : ℕ) (prefix : List ℕ) (z : ℤ) (rest : List ℕ)
     → big_from (length prefix) width (prefix ++ (bytes_of width z ++ rest)) ≡ residue (2 ^ (8 * width)) z
 read_back width prefix z rest =
-    from_behind prefix (bytes_of width z ++ rest) width
+    from_after prefix (bytes_of width z ++ rest) width
     ∙ big_number-reads_back width (residue (2 ^ (8 * width)) z) rest
     (rw (pow256 width) (residue_lt (2 ^ (8 * width)) z (pow_pos (8 * width))))
 

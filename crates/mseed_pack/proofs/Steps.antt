@@ -133,25 +133,25 @@ at_end : (xs : List (ℕ × LeapStep)) (size n : ℕ) → n ≡ end_by xs size
 at_end [] size n e = refl
 at_end (x ∷ xs) size n e = let here : eqb x.0 n ≡ true = eq-eqb x.0 n (sym e) in rw here refl
 
-behind_parts : (s : Trace) (span : Span) (n : ℕ) → (h : IsSpan s.steps (length s.samples) span)
+after_parts : (s : Trace) (span : Span) (n : ℕ) → (h : IsSpan s.steps (length s.samples) span)
     → span.begin < n
     → step_behind s n ≡ option_map (λ (x : ℕ × LeapStep). x.1) (find (λ (x : ℕ × LeapStep). eqb x.0 n) h.left)
-behind_parts s span n h low =
+after_parts s span n h low =
     ap (λ (xs : List (ℕ × LeapStep)). option_map (λ (x : ℕ × LeapStep). x.1)
     (find (λ (x : ℕ × LeapStep). eqb x.0 n) xs)) h.parts
     ∙ ap (λ (o : Option (ℕ × LeapStep)). option_map (λ (x : ℕ × LeapStep). x.1) o)
     (at_passed h.passed h.left span.begin n h.before low)
 
-pub none_behind : (s : Trace) (span : Span) (n : ℕ) → IsSpan s.steps (length s.samples) span
+pub none_after : (s : Trace) (span : Span) (n : ℕ) → IsSpan s.steps (length s.samples) span
     → span.begin < n → n < span.end → step_behind s n ≡ None
-none_behind s span n h low high =
-    behind_parts s span n h low ∙ at_prefix h.left (length s.samples) n (omega (arith, high, h.end_is))
+none_after s span n h low high =
+    after_parts s span n h low ∙ at_prefix h.left (length s.samples) n (omega (arith, high, h.end_is))
     span.begin h.behind
 
-pub one_behind : (s : Trace) (span : Span) (n : ℕ) → (h : IsSpan s.steps (length s.samples) span)
+pub one_after : (s : Trace) (span : Span) (n : ℕ) → (h : IsSpan s.steps (length s.samples) span)
     → span.begin < n → n ≡ span.end → step_behind s n ≡ kind_by h.left
-one_behind s span n h low e =
-    behind_parts s span n h low ∙ at_end h.left (length s.samples) n (e ∙ h.end_is)
+one_after s span n h low e =
+    after_parts s span n h low ∙ at_end h.left (length s.samples) n (e ∙ h.end_is)
 
 -- all are before a later sample, too, and one more
 before_more : (xs : List (ℕ × LeapStep)) (x : ℕ × LeapStep) (a : ℕ) → AllByRecursion (λ (y : ℕ × LeapStep). y.0 ≤ a) xs

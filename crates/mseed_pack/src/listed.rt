@@ -52,7 +52,7 @@ fn put_differences(samples: &[i32], first: usize, out: &mut [i32])
     }
     out[0] = difference_at(samples, first);
     for index in 1..out.len() {
-        out[index] = difference_behind(samples, first + index);
+        out[index] = difference_after(samples, first + index);
     }
 }
 
@@ -65,12 +65,12 @@ fn difference_at(samples: &[i32], index: usize) -> i32
     if index == 0 {
         0
     } else {
-        difference_behind(samples, index)
+        difference_after(samples, index)
     }
 }
 
 /// The difference of a sample from the one that stands before it.
-fn difference_behind(samples: &[i32], index: usize) -> i32
+fn difference_after(samples: &[i32], index: usize) -> i32
     requires some { 0 < index }
     requires inside { index < length samples.now }
     requires fits { IsWithin 32 (slice_index_or (differences samples.now) index (pos 0)) }

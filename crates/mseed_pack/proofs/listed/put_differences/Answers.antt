@@ -24,8 +24,8 @@ loop-index-init c =
     (to_z-of_z w32 c.difference_at.result (record { sfits = c.difference_at.type_inv }) ∙ c.difference_at.ensures
     ∙ ap (λ (n : ℕ). get_or ds n (pos 0)) first) (λ k h. absurd (omega (arith, h)))
 
-pub difference_behind-requires : goal.difference_behind-requires
-difference_behind-requires c =
+pub difference_after-requires : goal.difference_after-requires
+difference_after-requires c =
     let l = c.loop-index in
     let inside : c.args.first + l.index < length c.args.samples.now =
     omega (
@@ -47,8 +47,8 @@ loop-index-preserved c =
     let l = c.loop-index in
     put_more (differences c.args.samples.now) l.out c.args.first l.index _
     (omega (arith, l.auto.out, c.loop-index-test.true))
-    (to_z-of_z w32 c.difference_behind.result (record { sfits = c.difference_behind.type_inv })
-    ∙ c.difference_behind.ensures) l.invariant
+    (to_z-of_z w32 c.difference_after.result (record { sfits = c.difference_after.type_inv })
+    ∙ c.difference_after.ensures) l.invariant
 
 pub returns : goal.returns
 returns c =

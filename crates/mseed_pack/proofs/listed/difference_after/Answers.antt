@@ -4,7 +4,7 @@ use Rattle.std.proofs.lemmas.Int.{to_z-of_z}
 use Rattle.mseed_steim.specs.Spelling.{IsWithin}
 use Rattle.mseed_pack.specs.Stretches.{differences}
 use Rattle.mseed_pack.proofs.Differences.{difference_at, within_fits}
-use Rattle.mseed_pack.proofs.listed.difference_behind.Goals as goal
+use Rattle.mseed_pack.proofs.listed.difference_after.Goals as goal
 
 is : (xs : List ℤ) (index : ℕ) → index ≢ 0 → index < length xs
     → get_or (differences xs) index (pos 0) ≡ get_or xs index (pos 0) -ℤ get_or xs (index - 1) (pos 0)
