@@ -92,18 +92,18 @@ lay_one laws o next n s records on is fits packed =
       ),
     )
 
-laid_behind : (ss : List (List View)) (s ws own : List View) → AreLaid ss ws → IsLaid s own
+laid_after : (ss : List (List View)) (s ws own : List View) → AreLaid ss ws → IsLaid s own
     → AreLaid (ss ++ s ∷ []) (ws ++ own)
-laid_behind [] s ws own e h =
+laid_after [] s ws own e h =
     (own, ([], (ap (λ (us : List View). us ++ own) e ∙ sym (append-nil own), h, refl)))
-laid_behind (t ∷ ts) s ws own (mine, (rest, (parts, here, more))) h = (
+laid_after (t ∷ ts) s ws own (mine, (rest, (parts, here, more))) h = (
   mine,
   (
     rest ++ own,
     (
       ap (λ (us : List View). us ++ own) parts ∙ append_assoc mine rest own,
       here,
-      laid_behind ts s rest own more h,
+      laid_after ts s rest own more h,
     ),
   ),
 )
@@ -119,7 +119,7 @@ all_laid laws o _ _ sound fit (packed_more ss s records others next packed on he
     (each_at_back (StretchFits o) ss (s ∷ []) fit).0 here in (
       before.0 ++ last.0,
       (
-        laid_behind ss s before.0 last.0 before.1.0 last.1.0,
+        laid_after ss s before.0 last.0 before.1.0 last.1.0,
         map-append (λ (v : View). v.bytes) before.0 last.0 ∙ (λ i. before.1.1 i ++ last.1.1 i),
       ),
     )
@@ -170,20 +170,20 @@ record IsInside (leading : List View) (b v : View) (back s rest : List View) : T
 
 record IsBetween (leading : List View) (b v : View) (back s rest : List View) : Type 0 where
   parts : s ≡ leading ++ b ∷ []
-  parts_behind : rest ≡ v ∷ back
+  parts_after : rest ≡ v ∷ back
 
 record IsLater (leading : List View) (b v : View) (back s rest : List View) : Type 0 where
   further : List View
   parts : leading ≡ s ++ further
-  parts_behind : rest ≡ further ++ b ∷ (v ∷ back)
+  parts_after : rest ≡ further ++ b ∷ (v ∷ back)
 
 where_is : (leading : List View) (b v : View) (back s rest : List View) → leading ++ b ∷ (v ∷ back) ≡ s ++ rest
     → IsInside leading b v back s rest ⊎ (IsBetween leading b v back s rest ⊎ IsLater leading b v back s rest)
-where_is leading b v back [] rest e = inr (inr (record { further = leading; parts = refl; parts_behind = sym e }))
+where_is leading b v back [] rest e = inr (inr (record { further = leading; parts = refl; parts_after = sym e }))
 where_is [] b v back (x ∷ []) rest e =
     let here : b ≡ x = cc in
     let there : v ∷ back ≡ rest = cc in
-    inr (inl (record { parts = λ i. sym here i ∷ []; parts_behind = sym there }))
+    inr (inl (record { parts = λ i. sym here i ∷ []; parts_after = sym there }))
 where_is [] b v back (x ∷ (y ∷ s)) rest e =
     let here : b ≡ x = cc in
     let there : v ∷ back ≡ y ∷ (s ++ rest) = cc in
@@ -197,9 +197,9 @@ where_is (w ∷ leading) b v back (x ∷ s) rest e =
     inl (record { behind = h.behind; parts = λ i. sym here i ∷ h.parts i }))
     (λ (k : IsBetween leading b v back s rest ⊎ IsLater leading b v back s rest). inr (⊎_elim
     (λ (h : IsBetween leading b v back s rest).
-    inl (record { parts = λ i. sym here i ∷ h.parts i; parts_behind = h.parts_behind }))
+    inl (record { parts = λ i. sym here i ∷ h.parts i; parts_after = h.parts_after }))
     (λ (h : IsLater leading b v back s rest).
-    inr (record { further = h.further; parts = λ i. here i ∷ h.parts i; parts_behind = h.parts_behind }))
+    inr (record { further = h.further; parts = λ i. here i ∷ h.parts i; parts_after = h.parts_after }))
     k))
     (where_is leading b v back s rest there)
 
@@ -209,12 +209,12 @@ neighbours_at R [] b v back h = h.0
 neighbours_at R (x ∷ []) b v back h = h.1.0
 neighbours_at R (x ∷ (y ∷ leading)) b v back h = neighbours_at R (y ∷ leading) b v back h.1
 
-neighbours_behind : {X : Type 0} (R : X → X → Type 0) (xs ys : List X) → AllNeighbours R (xs ++ ys)
+neighbours_after : {X : Type 0} (R : X → X → Type 0) (xs ys : List X) → AllNeighbours R (xs ++ ys)
     → AllNeighbours R ys
-neighbours_behind R [] ys h = h
-neighbours_behind R (x ∷ []) [] h = tt
-neighbours_behind R (x ∷ []) (y ∷ ys) h = h.1
-neighbours_behind R (x ∷ (z ∷ xs)) ys h = neighbours_behind R (z ∷ xs) ys h.1
+neighbours_after R [] ys h = h
+neighbours_after R (x ∷ []) [] h = tt
+neighbours_after R (x ∷ []) (y ∷ ys) h = h.1
+neighbours_after R (x ∷ (z ∷ xs)) ys h = neighbours_after R (z ∷ xs) ys h.1
 
 neighbours_joined : {X : Type 0} (R : X → X → Type 0) (xs : List X) (b v : X) (ys : List X)
     → AllNeighbours R (xs ++ b ∷ []) → R b v → AllNeighbours R (v ∷ ys) → AllNeighbours R (xs ++ b ∷ (v ∷ ys))
@@ -411,7 +411,7 @@ at_border : (ws own others rest tail : List View) (b v : View) (h : AreBordering
     → rest ≡ others ++ tail → ws ≡ h.before ++ h.last ∷ (h.next ∷ (h.behind ++ tail))
 at_border ws own others rest tail b v h e f =
     e ∙ (λ i. h.parts i ++ rest) ∙ append_assoc h.before (h.last ∷ []) rest
-    ∙ ap (λ (us : List View). h.before ++ h.last ∷ us) (f ∙ (λ i. h.parts_behind i ++ tail))
+    ∙ ap (λ (us : List View). h.before ++ h.last ∷ us) (f ∙ (λ i. h.parts_after i ++ tail))
 
 own_size : (s own : List View) → IsLaid s own → samples_of own ≡ samples_of s
 own_size s own h =
@@ -453,7 +453,7 @@ find {R} {why} shows vs (s ∷ ss) ws leading b v back (left, (first, cut)) (own
     ⊎_elim inside (λ (k : IsBetween leading b v back s left ⊎ IsLater leading b v back s left).
     ⊎_elim between (λ (h : IsLater leading b v back s left).
     later s own leading back left rest ws b v here parts h
-    (find shows left ss rest h.further b v back cut more r h.parts_behind)) k)
+    (find shows left ss rest h.further b v back cut more r h.parts_after)) k)
     (where_is leading b v back s left (sym e ∙ first.parts))
   where
     inside : IsInside leading b v back s left → IsFoundBehind why (samples_of (leading ++ b ∷ [])) (start_of v) ws
@@ -464,7 +464,7 @@ find {R} {why} shows vs (s ∷ ss) ws leading b v back (left, (first, cut)) (own
 
     between : IsBetween leading b v back s left → IsFoundBehind why (samples_of (leading ++ b ∷ [])) (start_of v) ws
     between h =
-        let next = next_laid left v back ss rest h.parts_behind cut more in
+        let next = next_laid left v back ss rest h.parts_after cut more in
         let at = bordering s leading next.further own next.own b v here next.here h.parts in
         let found = shows.found b v at.last at.next r at.border in
         record {
@@ -521,9 +521,9 @@ all_follow laws vs ((w ∷ s) ∷ ((v ∷ t) ∷ ts)) ws close (left, (first, cu
     let at = bordering (w ∷ s) end.before t own more.0 end.last v here more.1.1.1 end.parts in
     let behind : AllNeighbours Follows rest =
     all_follow laws left ((v ∷ t) ∷ ts) rest
-    (neighbours_behind IsClose (w ∷ s) left (subst (λ (us : List View). AllNeighbours IsClose us) first.parts close))
+    (neighbours_after IsClose (w ∷ s) left (subst (λ (us : List View). AllNeighbours IsClose us) first.parts close))
     cut more in
-    let next : rest ≡ at.next ∷ (at.behind ++ more.1.0) = more.1.1.0 ∙ (λ i. at.parts_behind i ++ more.1.0) in
+    let next : rest ≡ at.next ∷ (at.behind ++ more.1.0) = more.1.1.0 ∙ (λ i. at.parts_after i ++ more.1.0) in
     subst (λ (us : List View). AllNeighbours Follows us)
     (sym (at_border ws own more.0 rest more.1.0 end.last v at parts more.1.1.0))
     (neighbours_joined Follows at.before at.last at.next (at.behind ++ more.1.0)

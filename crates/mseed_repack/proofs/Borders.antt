@@ -218,7 +218,7 @@ pub record AreBordering (b v : View) (own others : List View) : Type 0 where
   pub next : View
   pub behind : List View
   pub parts : own ≡ before ++ last ∷ []
-  pub parts_behind : others ≡ next ∷ behind
+  pub parts_after : others ≡ next ∷ behind
   pub border : IsBorder b v last next
 
 -- the first record that was written of a stretch
@@ -284,7 +284,7 @@ bordering s before others (w ∷ ws) written b v h k e =
       next = begins.next;
       behind = begins.behind;
       parts = ends.parts;
-      parts_behind = begins.parts;
+      parts_after = begins.parts;
       border = record {
         rate = rate;
         rate_is = ends.is.rate;

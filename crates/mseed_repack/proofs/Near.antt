@@ -17,7 +17,7 @@ use Rattle.mseed_steim.specs.Samples.{AreEnds, BeginsWith, IsPayloadReading, byt
 use Rattle.mseed_steim.specs.Spelling.{IsWithin}
 use Rattle.mseed_steim.proofs.Rows.{within_wider}
 use Rattle.mseed_pack.specs.Stretches.{differences_from}
-use Rattle.mseed_repack.specs.private.Outline.{AreNear, IsKnown, last_behind}
+use Rattle.mseed_repack.specs.private.Outline.{AreNear, IsKnown, last_after}
 use Rattle.mseed_repack.specs.declared.outline.Nearness.TheVariants.{Near}
 
 zero_near : IsWithin 30 (pos 0)
@@ -50,22 +50,22 @@ payload_within (Frames scheme) order payload n ss h = h.2
 pub whole_within : (v : View) (s : List ℤ) → IsWhole v s → All (IsWithin 32) s
 whole_within v s whole = payload_within whole.0.form v.payload_order (payload_of v) (count_of v) s whole.0.spelled
 
-behind_near : (before last : ℤ) (xs ys : List ℤ) → AllByRecursion (IsWithin 30) (differences_from before xs)
-    → last_behind before xs ≡ last
+after_near : (before last : ℤ) (xs ys : List ℤ) → AllByRecursion (IsWithin 30) (differences_from before xs)
+    → last_after before xs ≡ last
     → AllByRecursion (IsWithin 30) (differences_from last ys)
     → AllByRecursion (IsWithin 30) (differences_from before (xs ++ ys))
-behind_near before last [] ys a e b = subst (λ (z : ℤ). AllByRecursion (IsWithin 30) (differences_from z ys)) (sym e) b
-behind_near before last (x ∷ xs) ys a e b = (a.0, behind_near x last xs ys a.1 e b)
+after_near before last [] ys a e b = subst (λ (z : ℤ). AllByRecursion (IsWithin 30) (differences_from z ys)) (sym e) b
+after_near before last (x ∷ xs) ys a e b = (a.0, after_near x last xs ys a.1 e b)
 
-pub last_append : (before : ℤ) (xs ys : List ℤ) → last_behind before (xs ++ ys) ≡ last_behind (last_behind before xs) ys
+pub last_append : (before : ℤ) (xs ys : List ℤ) → last_after before (xs ++ ys) ≡ last_after (last_after before xs) ys
 last_append before [] ys = refl
 last_append before (x ∷ xs) ys = last_append x xs ys
 
-last_at : (x : ℤ) (xs : List ℤ) (last : ℤ) → slice_get (x ∷ xs) (length xs) ≡ Some last → last_behind x xs ≡ last
+last_at : (x : ℤ) (xs : List ℤ) (last : ℤ) → slice_get (x ∷ xs) (length xs) ≡ Some last → last_after x xs ≡ last
 last_at x [] last e = cc
 last_at x (y ∷ ys) last e = last_at y ys last e
 
-pub ends_on : (ends : Ends) (x : ℤ) (xs : List ℤ) → AreEnds ends (x ∷ xs) → last_behind x xs ≡ ends.last
+pub ends_on : (ends : Ends) (x : ℤ) (xs : List ℤ) → AreEnds ends (x ∷ xs) → last_after x xs ≡ ends.last
 ends_on ends x xs h =
     let at : length (x ∷ xs) - 1 ≡ length xs = omega arith in
     last_at x xs ends.last (subst (λ (n : ℕ). slice_get (x ∷ xs) n ≡ Some ends.last) at h.1)
@@ -87,5 +87,5 @@ known_more ends last (x ∷ xs) (y ∷ s) known h near step =
     let is : y ≡ ends.first = cc in
     let here : IsWithin 30 (y -ℤ last) = subst (λ (z : ℤ). IsWithin 30 (z -ℤ last)) (sym is) step in (
       last_append x xs (y ∷ s) ∙ ends_on ends y s h,
-      (zero_near, behind_near x last xs (y ∷ s) known.1.1 known.0 (here, near.1)),
+      (zero_near, after_near x last xs (y ∷ s) known.1.1 known.0 (here, near.1)),
     )

@@ -35,9 +35,9 @@ past : (x : Channel) (whole ys : List Channel) → All (λ k. slice_cmp nat_cmp 
     → AllByRecursion (λ (y : Channel). lookup (same_key y.0) (x ∷ whole) ≡ Some y.1) ys
 past x whole [] low h = tt
 past x whole (y ∷ ys) low h =
-    let behind_x : List ℕ → Type 0 = λ k. slice_cmp nat_cmp x.0 k ≡ Less in (
-      lookup_tail (same_key y.0) x whole (apart x.0 y.0 (All-head behind_x y.0 (keys_of ys) low)) ∙ h.0,
-      past x whole ys (All-tail behind_x y.0 (keys_of ys) low) h.1,
+    let after_x : List ℕ → Type 0 = λ k. slice_cmp nat_cmp x.0 k ≡ Less in (
+      lookup_tail (same_key y.0) x whole (apart x.0 y.0 (All-head after_x y.0 (keys_of ys) low)) ∙ h.0,
+      past x whole ys (All-tail after_x y.0 (keys_of ys) low) h.1,
     )
 
 pub found : (cs : List Channel) → IsStrictlySortedBy (slice_cmp nat_cmp) (keys_of cs)

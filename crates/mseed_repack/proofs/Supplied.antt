@@ -25,7 +25,7 @@ use Rattle.mseed_pack.specs.Traces.{headed}
 use Rattle.mseed_pack.specs.declared.options.Options.{Options}
 use Rattle.mseed_pack.specs.declared.series_head.SeriesHead.{SeriesHead}
 use Rattle.mseed_repack.specs.Repack.{StretchFits}
-use Rattle.mseed_repack.specs.private.Outline.{AreNear, IsKnown, IsOutline, last_behind, says_near}
+use Rattle.mseed_repack.specs.private.Outline.{AreNear, IsKnown, IsOutline, last_after, says_near}
 use Rattle.mseed_repack.specs.private.Reading.{IsSoundWalk}
 use Rattle.mseed_repack.specs.private.Supplying.{AreUnread, IsLast, IsSupplied, IsUnpackable}
 use Rattle.mseed_repack.specs.declared.outline.Nearness.{Nearness}
@@ -59,7 +59,7 @@ first_set before d out (x ∷ s) some e is =
     ap (λ (xs : List ℤ). set xs 0 d) e ∙ ap (λ (z : ℤ). z ∷ differences_in x s) first
     ∙ ap (λ (ds : List ℤ). (x -ℤ before) ∷ ds) (same_differences x s)
 
-pub last_is_end : (before : ℤ) (ends : Ends) (s : List ℤ) → AreEnds ends s → last_behind before s ≡ ends.last
+pub last_is_end : (before : ℤ) (ends : Ends) (s : List ℤ) → AreEnds ends s → last_after before s ≡ ends.last
 last_is_end before ends [] h = let none : slice_get {X = ℤ} [] 0 ≡ Some ends.first = h.0 in cc
 last_is_end before ends (x ∷ s) h = ends_on ends x s h
 
@@ -68,7 +68,7 @@ only_one v s t sound whole other = sound.only t other.0 ∙ sym (sound.only s wh
 
 -- ---- differences of samples, part by part
 from_append : (before : ℤ) (xs ys : List ℤ)
-    → differences_from before (xs ++ ys) ≡ differences_from before xs ++ differences_from (last_behind before xs) ys
+    → differences_from before (xs ++ ys) ≡ differences_from before xs ++ differences_from (last_after before xs) ys
 from_append before [] ys = refl
 from_append before (x ∷ xs) ys = ap (λ (ds : List ℤ). (x -ℤ before) ∷ ds) (from_append x xs ys)
 
@@ -79,38 +79,38 @@ from_length before (x ∷ xs) = ap (λ (n : ℕ). suc n) (from_length x xs)
 none_between : (y last : ℤ) → y ≡ last → pos 0 ≡ y -ℤ last
 none_between y last e = omega (arith, ints, e)
 
-behind_are : (last : ℤ) (xs behind : List ℤ) → IsLast last xs behind
+after_are : (last : ℤ) (xs behind : List ℤ) → IsLast last xs behind
     → drop (length xs) (differences (xs ++ behind)) ≡ differences_from last behind
-behind_are last [] [] h = refl
-behind_are last [] (y ∷ behind) h =
+after_are last [] [] h = refl
+after_are last [] (y ∷ behind) h =
     ap (λ (z : ℤ). z ∷ differences_from y behind) (none_between y last h)
-behind_are last (x ∷ xs) behind h =
+after_are last (x ∷ xs) behind h =
     ap (λ (ds : List ℤ). drop (length xs) ds) (from_append x xs behind)
-    ∙ ap (λ (n : ℕ). drop n (differences_from x xs ++ differences_from (last_behind x xs) behind))
+    ∙ ap (λ (n : ℕ). drop n (differences_from x xs ++ differences_from (last_after x xs) behind))
     (sym (from_length x xs))
-    ∙ drop-append_seam (differences_from x xs) (differences_from (last_behind x xs) behind)
+    ∙ drop-append_seam (differences_from x xs) (differences_from (last_after x xs) behind)
     ∙ ap (λ (z : ℤ). differences_from z behind) h
 
 first_are : (last : ℤ) (s more : List ℤ) → take (length s) (differences_from last (s ++ more)) ≡ differences_from last s
 first_are last s more =
     ap (λ (ds : List ℤ). take (length s) ds) (from_append last s more)
-    ∙ ap (λ (n : ℕ). take n (differences_from last s ++ differences_from (last_behind last s) more))
+    ∙ ap (λ (n : ℕ). take n (differences_from last s ++ differences_from (last_after last s) more))
     (sym (from_length last s))
-    ∙ take-append_seam (differences_from last s) (differences_from (last_behind last s) more)
+    ∙ take-append_seam (differences_from last s) (differences_from (last_after last s) more)
 
 near_from : (before last : ℤ) (xs behind : List ℤ)
-    → AllByRecursion (IsWithin 30) (differences_from before (xs ++ behind)) → last_behind before xs ≡ last
+    → AllByRecursion (IsWithin 30) (differences_from before (xs ++ behind)) → last_after before xs ≡ last
     → AllByRecursion (IsWithin 30) (differences_from last behind)
 near_from before last [] behind near e =
     subst (λ (z : ℤ). AllByRecursion (IsWithin 30) (differences_from z behind)) e near
 near_from before last (x ∷ xs) behind near e = near_from x last xs behind near.1 e
 
-near_behind : (last : ℤ) (xs behind : List ℤ) → IsLast last xs behind → AreNear (xs ++ behind)
+near_after : (last : ℤ) (xs behind : List ℤ) → IsLast last xs behind → AreNear (xs ++ behind)
     → AllByRecursion (IsWithin 30) (differences_from last behind)
-near_behind last [] [] h near = tt
-near_behind last [] (y ∷ behind) h near =
+near_after last [] [] h near = tt
+near_after last [] (y ∷ behind) h near =
     (subst (λ (z : ℤ). IsWithin 30 z) (none_between y last h) near.0, near.1)
-near_behind last (x ∷ xs) behind h near = near_from x last xs behind near.1 h
+near_after last (x ∷ xs) behind h near = near_from x last xs behind near.1 h
 
 near_first : (last : ℤ) (s more : List ℤ) → AllByRecursion (IsWithin 30) (differences_from last (s ++ more))
     → AllByRecursion (IsWithin 30) (differences_from last s)
@@ -118,11 +118,11 @@ near_first last [] more near = tt
 near_first last (x ∷ s) more near = (near.0, near_first x s more near.1)
 
 last_more : (last next : ℤ) (xs s more : List ℤ) → IsLast last xs (s ++ more) → 0 < length s
-    → last_behind last s ≡ next → IsLast next (xs ++ s) more
+    → last_after last s ≡ next → IsLast next (xs ++ s) more
 last_more last next [] [] more h some e = absurd (omega (arith, some))
 last_more last next [] (y ∷ s) more h some e = e
 last_more last next (x ∷ xs) s more h some e =
-    last_append x xs s ∙ ap (λ (z : ℤ). last_behind z s) h ∙ e
+    last_append x xs s ∙ ap (λ (z : ℤ). last_after z s) h ∙ e
 
 -- ---- the next record
 joined_next : (v : View) (vs : List View) (samples : List ℤ) → AreJoined (v ∷ vs) samples
@@ -178,7 +178,7 @@ next_of_supply {left = left} {next = next} {last = last} {room = room} {at = at}
       s = s;
       whole = found.1.1.0;
       long = count_is v s found.1.1.0;
-      near = near_first last s more (near_behind last h.unpacked (s ++ more) last_is all_near);
+      near = near_first last s more (near_after last h.unpacked (s ++ more) last_is all_near);
       all_near = h.near;
       unpacked = h.unpacked;
       more = more;
@@ -200,7 +200,7 @@ next_are {last = last} {samples = samples} {given = given} {v = v} h out e =
     let place : drop given (differences samples) ≡ differences_from last all =
     ap (λ (n : ℕ). drop n (differences samples)) h.given_is
     ∙ ap (λ (zs : List ℤ). drop (length h.unpacked) (differences zs)) h.parts
-    ∙ behind_are last h.unpacked all h.last_is in
+    ∙ after_are last h.unpacked all h.last_is in
     e ∙ sym (first_are last h.s h.more)
     ∙ ap (λ (n : ℕ). take n (differences_from last all)) h.long
     ∙ ap (λ (ds : List ℤ). take (count_of v) ds) (sym place)
@@ -222,7 +222,7 @@ sizes h =
 -- it was unpacked: into its place, or into the room
 pub supplied_past : {S : Type 0} {leads : S → Type 0} {left : S → List View} {next : S} {last : ℤ}
     {room samples : List ℤ} {given : ℕ} {v : View} (h : HasNext left next last room samples given v) (then : ℤ)
-    (at end : ℕ) → leads next → last_behind last h.s ≡ then → at ≤ end → end ≤ at → end ≤ length room
+    (at end : ℕ) → leads next → last_after last h.s ≡ then → at ≤ end → end ≤ at → end ≤ length room
     → IsSupplied leads left next then room at end samples (given + count_of v)
 supplied_past {last = last} {samples = samples} {given = given} {v = v} h then at end led e order empty inside =
     let none : end - at ≡ 0 = omega (arith, empty) in
@@ -245,7 +245,7 @@ supplied_past {last = last} {samples = samples} {given = given} {v = v} h then a
 
 pub supplied_here : {S : Type 0} {leads : S → Type 0} {left : S → List View} {next : S} {last : ℤ}
     {room samples : List ℤ} {given : ℕ} {v : View} (h : HasNext left next last room samples given v) (then : ℤ)
-    (now : List ℤ) → leads next → last_behind last h.s ≡ then → length now ≡ length room
+    (now : List ℤ) → leads next → last_after last h.s ≡ then → length now ≡ length room
     → take (count_of v) now ≡ differences_from last h.s
     → IsSupplied leads left next then now 0 (count_of v) samples given
 supplied_here {left = left} {next = next} {last = last} {room = room} {samples = samples} {given = given} {v = v} h then
@@ -446,7 +446,7 @@ pub record_given : {S : Type 0} {leads : S → Type 0} {left : S → List View} 
     {at end given : ℕ} {samples : List ℤ} {v : View} → IsSupplied leads left rest last room at end samples given
     → end ≤ at → left rest ≡ v ∷ left next → leads next → (then : ℤ) (d more : List ℤ) (n : ℕ) → n ≡ count_of v
     → ((s : List ℤ) → IsWhole v s → d ≡ differences_from last s)
-    → ((s : List ℤ) → IsWhole v s → last_behind last s ≡ then)
+    → ((s : List ℤ) → IsWhole v s → last_after last s ≡ then)
     → Given leads left next then room at end samples given (d ++ more) n
 record_given {left = left} {next = next} {last = last} {room = room} {at = at} {end = end} {given = given} {samples =
     samples} {v = v} h empty e led
@@ -467,7 +467,7 @@ pub room_given : {S : Type 0} {leads : S → Type 0} {left : S → List View} {r
     {at end given : ℕ} {samples : List ℤ} {v : View} → IsSupplied leads left rest last room at end samples given
     → end ≤ at → left rest ≡ v ∷ left next → leads next → (then : ℤ) (d out : List ℤ) (count n : ℕ)
     → count ≡ count_of v → ((s : List ℤ) → IsWhole v s → d ≡ differences_from last s)
-    → ((s : List ℤ) → IsWhole v s → last_behind last s ≡ then) → n ≡ min (length out) (count - 0)
+    → ((s : List ℤ) → IsWhole v s → last_after last s ≡ then) → n ≡ min (length out) (count - 0)
     → take n out ≡ take n (drop 0 (d ++ drop count room))
     → Given leads left next then (d ++ drop count room) n count samples given out n
 room_given {leads = leads} {left = left} {next = next} {last = last} {room = room} {given = given} {samples = samples}
@@ -512,7 +512,7 @@ supplied_still {left = left} {room = room} {at = at} {end = end} {given = given}
     })
 
 -- the last of those that were given
-last_at : (x : ℤ) (xs behind : List ℤ) → get_or (x ∷ xs ++ behind) (length xs) (pos 0) ≡ last_behind x xs
+last_at : (x : ℤ) (xs behind : List ℤ) → get_or (x ∷ xs ++ behind) (length xs) (pos 0) ≡ last_after x xs
 last_at x [] behind = refl
 last_at x (y ∷ xs) behind = last_at y xs behind
 

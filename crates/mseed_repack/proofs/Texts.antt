@@ -46,8 +46,8 @@ prefix_more : (part text tail : List ℕ) → IsPrefixOf part text → IsPrefixO
 prefix_more part text tail (rest, e) =
     (rest ++ tail, ap (λ (t : List ℕ). t ++ tail) e ∙ append_assoc part rest tail)
 
-prefix_behind : (before part text : List ℕ) → IsPrefixOf part text → IsPrefixOf (before ++ part) (before ++ text)
-prefix_behind before part text (rest, e) =
+prefix_after : (before part text : List ℕ) → IsPrefixOf part text → IsPrefixOf (before ++ part) (before ++ text)
+prefix_after before part text (rest, e) =
     (rest, ap (λ (t : List ℕ). before ++ t) e ∙ sym (append_assoc before part rest))
 
 pub part_prefix : {X : Type 0} (Own Part : X → List ℕ → Type 0) → HasOne Own → AreParts Own Part → (xs : List X)
@@ -59,7 +59,7 @@ part_prefix Own Part one parts (x ∷ xs) text part (own, (rest, a)) (inr (its, 
     let same : own ≡ its = one x own its a.1 b.1 in
     subst (λ (t : List ℕ). IsPrefixOf t text) (sym b.0)
     (subst (λ (t : List ℕ). IsPrefixOf (its ++ left) t) (sym (a.0 ∙ ap (λ (ys : List ℕ). ys ++ rest) same))
-    (prefix_behind its left rest (part_prefix Own Part one parts xs rest left a.2 b.2)))
+    (prefix_after its left rest (part_prefix Own Part one parts xs rest left a.2 b.2)))
 
 -- Of two parts of the text one is a prefix of the other, where this is so of two of one thing's.
 abbrev pub Either : List ℕ → List ℕ → Type 0
@@ -68,9 +68,9 @@ Either part other = IsPrefixOf part other ⊎ IsPrefixOf other part
 abbrev pub AreEither : {X : Type 0} → (X → List ℕ → Type 0) → Type 0
 AreEither {X} Part = (x : X) (part other : List ℕ) → Part x part → Part x other → Either part other
 
-behind_both : (before xs ys : List ℕ) → Either xs ys → Either (before ++ xs) (before ++ ys)
-behind_both before xs ys (inl f) = inl (prefix_behind before xs ys f)
-behind_both before xs ys (inr f) = inr (prefix_behind before ys xs f)
+after_both : (before xs ys : List ℕ) → Either xs ys → Either (before ++ xs) (before ++ ys)
+after_both before xs ys (inl f) = inl (prefix_after before xs ys f)
+after_both before xs ys (inr f) = inr (prefix_after before ys xs f)
 
 pub either_part : {X : Type 0} (Own Part : X → List ℕ → Type 0) → HasOne Own → AreParts Own Part → AreEither Part
     → (xs : List X) (t u : List ℕ) → IsTextUpTo Own Part xs t → IsTextUpTo Own Part xs u → Either t u
@@ -84,15 +84,15 @@ either_part Own Part one parts either (x ∷ xs) t u (inr (own, (rest, a))) (inr
     let same : own ≡ its = one x own its a.1 b.1 in
     subst (λ (z : List ℕ). Either z u) (sym (a.0 ∙ ap (λ (ys : List ℕ). ys ++ rest) same))
     (subst (λ (z : List ℕ). Either (its ++ rest) z) (sym b.0)
-    (behind_both its rest left (either_part Own Part one parts either xs rest left a.2 b.2)))
+    (after_both its rest left (either_part Own Part one parts either xs rest left a.2 b.2)))
 
 -- What was written, thing by thing.
 
 -- what is written behind a text
-pub behind_text : {P Q : List ℕ → Type 0} {n : ℕ} {first old new : BytesWritten} (R : List ℕ → Type 0)
+pub after_text : {P Q : List ℕ → Type 0} {n : ℕ} {first old new : BytesWritten} (R : List ℕ → Type 0)
     → Wrote P 0 first old → Wrote Q n old new
     → ((text own : List ℕ) → P text → Q own → R (text ++ own)) → Wrote R n first new
-behind_text {first = first} R before one both = record {
+after_text {first = first} R before one both = record {
   text = before.text ++ one.text;
   text_is = both before.text one.text before.text_is one.text_is;
   bytes = one.bytes ∙ ap (λ (xs : List ℕ). xs ++ one.text) before.bytes ∙ append_assoc first.bytes before.text one.text;
@@ -104,7 +104,7 @@ pub wrote_more : {X : Type 0} {first old new : BytesWritten} (Own : X → List �
     → Wrote (AreTexts Own xs) 0 first old → Wrote (Own x) 0 old new
     → Wrote (AreTexts Own (xs ++ x ∷ [])) 0 first new
 wrote_more Own xs x before one =
-    behind_text (AreTexts Own (xs ++ x ∷ [])) before one (λ text own is its. texts_more Own xs x text own is its)
+    after_text (AreTexts Own (xs ++ x ∷ [])) before one (λ text own is its. texts_more Own xs x text own is its)
 
 upto_at : {X : Type 0} (Own Part : X → List ℕ → Type 0) (xs back : List X) (x : X) (before own : List ℕ)
     → AreTexts Own xs before → Part x own → IsTextUpTo Own Part (xs ++ x ∷ back) (before ++ own)
@@ -125,5 +125,5 @@ pub wrote_part : {X : Type 0} {first old new : BytesWritten} (Own Part : X → L
     (x : X) (all : List X) → all ≡ xs ++ x ∷ back → Wrote (AreTexts Own xs) 0 first old → Wrote (Part x) 1 old new
     → Wrote (IsTextUpTo Own Part all) 1 first new
 wrote_part {X} Own Part xs back x all e before one =
-    behind_text (IsTextUpTo Own Part all) before one (λ text own is its.
+    after_text (IsTextUpTo Own Part all) before one (λ text own is its.
     subst (λ (ys : List X). IsTextUpTo Own Part ys (text ++ own)) (sym e) (upto_at Own Part xs back x text own is its))

@@ -109,9 +109,9 @@ next_on key rs n nexts r lt is of nexts_are =
     ∙ ap (λ (vs : List View). view_of r ∷ vs) (nexts_are n r (omega arith) lt is own).none
     ∙ ap (λ (q : RecordView). view_of q ∷ channel_in key (map view_of (drop (get_or nexts n 0) rs))) is
 
-pub nexts_behind : (key : List ℕ) (rs : List RecordView) (from at : ℕ) (nexts : List ℕ) → from ≤ at
+pub nexts_after : (key : List ℕ) (rs : List RecordView) (from at : ℕ) (nexts : List ℕ) → from ≤ at
     → AreNexts key rs from nexts → AreNexts key rs at nexts
-nexts_behind key rs from at nexts le h = λ i r low lt is of. h i r (omega (arith, le, low)) lt is of
+nexts_after key rs from at nexts le h = λ i r low lt is of. h i r (omega (arith, le, low)) lt is of
 
 one_record : (rs : List RecordView) (n : ℕ) (q r : RecordView) → n < length rs → q ≡ get_or rs n q → r ≡ get_or rs n r
     → q ≡ r

@@ -35,8 +35,8 @@ use Rattle.mseed_repack.specs.Repack.{Channel, records_in}
 after_none : (b v : View) → (h : Follows b v) → why_after (Some b) v h.1.0 ≡ None
 after_none b v h = ap (λ (r : Option Ratio). why_from b r v h.1.0) h.1.1.before_is ∙ between_none b v h.0 h.1.0 h.1.1
 
-found_behind : (b v : View) → IsSound v → Follows b v → IsFound (Some b) v None
-found_behind b v sound h =
+found_after : (b v : View) → IsSound v → Follows b v → IsFound (Some b) v None
+found_after b v sound h =
     subst (λ (w : Option Why). IsFound (Some b) v w) (after_none b v h)
     (by_after h.1.0 h.1.1.next_is sound.samples sound.whole)
 
@@ -48,11 +48,11 @@ found_first : (v : View) → IsSound v → IsFound None v None
 found_first v sound = let rate = rate_of_first (known_rate v) sound.timed in
     by_after rate.0 rate.1 sound.samples sound.whole
 
-none_behind : (b : View) (ps : List Placed) → AllByRecursion IsSound (views_in ps)
+none_after : (b : View) (ps : List Placed) → AllByRecursion IsSound (views_in ps)
     → AllNeighbours Follows (b ∷ views_in ps) → AreFindings (Some b) ps []
-none_behind b [] each follow = none (Some b)
-none_behind b (p ∷ ps) each follow =
-    one (Some b) p ps None [] (found_behind b p.view each.0 follow.0) (none_behind p.view ps each.1 follow.1)
+none_after b [] each follow = none (Some b)
+none_after b (p ∷ ps) each follow =
+    one (Some b) p ps None [] (found_after b p.view each.0 follow.0) (none_after p.view ps each.1 follow.1)
 
 -- a rate that is known is the one that the factor and the multiplier give
 known_as : (fault : Option TimeFault) (rate : Option Ratio) (other : Ratio) → IsSome (rate_unless fault rate)
@@ -83,7 +83,7 @@ verdict_of s (p ∷ ps) continuous series =
           refl,
           record {
             findings = one None p ps None [] (found_first p.view continuous.each.0)
-                (none_behind p.view ps continuous.each.1 continuous.follow);
+                (none_after p.view ps continuous.each.1 continuous.follow);
             start_is = series.start ∙ ap start_of (sym same);
             rate_is = rate_as p.view s.rate continuous.each.0
                 (series.factor ∙ ap (λ (v : View). factor_at v.order v.bytes) (sym same))

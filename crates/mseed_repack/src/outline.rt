@@ -81,8 +81,8 @@ pub(crate) fn outline_records<'a, R: Walk<'a>>(
     outline
 }
 
-/// The outline of some records that have so many samples, whose nearness isn't asked for. Where the list has no room for
-/// a leap second there is none, and no record is looked at.
+/// The outline of some records that have so many samples, whose nearness isn't asked for. Where the list has no room
+/// for a leap second there is none, and no record is looked at.
 pub(crate) fn outline_counted<'a, R: Walk<'a>>(
     records: R,
     samples: usize,

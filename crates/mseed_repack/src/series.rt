@@ -79,8 +79,8 @@ pub(crate) fn fit_series<'a, A: Allocator + Copy, R: Walk<'a>>(
 }
 
 /// Returns which way a series of this outline goes whose samples the encoding surely holds, before they are read. It
-/// goes from frames to frames where its records are Steim, and so is what is written, each sample is near the one before
-/// it, and no record has more differences than there is room for.
+/// goes from frames to frames where its records are Steim, and so is what is written, each sample is near the one
+/// before it, and no record has more differences than there is room for.
 fn held_way(outline: &Outline, encoding: Encoding) -> Option<Way>
     ensures held { IfSome result (λ _.
         (xs : List ℤ) → All (IsWithin 32) xs → IsKnown outline.now.nearness xs → AreHeld encoding xs) }

@@ -8,7 +8,7 @@ ghost use Rattle.mseed_steim.specs.Spelling.{IsWithin};
 ghost use Rattle.mseed_audit.specs.Follows.{IsSound};
 ghost use Rattle.mseed_audit.specs.Series.{AreJoined};
 ghost use Rattle.mseed_pack.specs.Stretches.{differences_from};
-ghost use Rattle.mseed_repack.specs.private.Outline.{last_behind};
+ghost use Rattle.mseed_repack.specs.private.Outline.{last_after};
 ghost use Rattle.mseed_repack.specs.private.Reading.{IsSoundWalk};
 ghost use Rattle.mseed_repack.specs.private.Supplying.{IsSupplied, IsUnpackable};
 
@@ -136,7 +136,7 @@ fn unpack(view: &RecordView<'_>, before: i32, out: &mut [i32]) -> i32
     requires near { (s : List ℤ) → IsWhole (view_of view.now) s
         → AllByRecursion (IsWithin 30) (differences_from before s) }
     ensures differences { (s : List ℤ) → IsWhole (view_of view.now) s → out.new ≡ differences_from before s }
-    ensures last { (s : List ℤ) → IsWhole (view_of view.now) s → last_behind before s ≡ result }
+    ensures last { (s : List ℤ) → IsWhole (view_of view.now) s → last_after before s ≡ result }
 {
     unpack_differences(view, out);
     out[0] = difference_of(out[0], before);

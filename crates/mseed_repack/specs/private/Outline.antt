@@ -13,14 +13,14 @@ use Rattle.mseed_repack.specs.declared.outline.Nearness.{Nearness}
 use Rattle.mseed_repack.specs.declared.outline.Nearness.TheVariants.{Empty, Near, Unknown}
 
 -- the last of some numbers, or else the one before them
-abbrev pub last_behind : ℤ → List ℤ → ℤ
-last_behind before [] = before
-last_behind before (x ∷ xs) = last_behind x xs
+abbrev pub last_after : ℤ → List ℤ → ℤ
+last_after before [] = before
+last_after before (x ∷ xs) = last_after x xs
 
 -- there is a last number, and it is this one
 abbrev pub EndsOn : ℤ → List ℤ → Type 0
 EndsOn last [] = ⊥
-EndsOn last (x ∷ xs) = last_behind x xs ≡ last
+EndsOn last (x ∷ xs) = last_after x xs ≡ last
 
 -- each number is the one before it plus a difference of 30 bits, the widest of a Steim-2 word (SEED manual, appendix B)
 abbrev pub AreNear : List ℤ → Type 0

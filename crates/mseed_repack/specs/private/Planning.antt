@@ -65,8 +65,8 @@ pub record IsReadable (places : ℕ) (s : List View) : Type 0 where
   pub few : length s ≤ 2 ^ 40
   pub steps_fit : steps_of s ≤ places
 
--- A stretch goes this way: from frames to frames, where its records can, and it has so many samples; or by a list, where
--- there is room for them.
+-- A stretch goes this way: from frames to frames, where its records can, and it has so many samples; or by a list,
+-- where there is room for them.
 abbrev pub GoesBy : Encoding → ℕ → Way → List View → Type 0
 GoesBy encoding room (Frames count) s = IsSteim encoding × AreUnread s × (count ≡ samples_of s)
 GoesBy encoding room Listed s = samples_of s ≤ room

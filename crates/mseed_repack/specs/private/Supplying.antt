@@ -6,16 +6,16 @@ use Rattle.mseed_steim.specs.Reading.{IsSteim, count_of}
 use Rattle.mseed_audit.specs.Follows.{IsSound}
 use Rattle.mseed_audit.specs.Series.{AreJoined}
 use Rattle.mseed_pack.specs.Stretches.{differences}
-use Rattle.mseed_repack.specs.private.Outline.{AreNear, last_behind}
+use Rattle.mseed_repack.specs.private.Outline.{AreNear, last_after}
 
 -- the last of the samples that were unpacked; or, where none was yet, the first of those that come
 abbrev pub IsLast : ℤ → List ℤ → List ℤ → Type 0
 IsLast last [] [] = ⊤
 IsLast last [] (y ∷ behind) = y ≡ last
-IsLast last (x ∷ unpacked) behind = last_behind x unpacked ≡ last
+IsLast last (x ∷ unpacked) behind = last_after x unpacked ≡ last
 
--- Of samples that are near one another so many differences were given. A walk leads to the records that weren't unpacked
--- yet; of those that were, a room holds the differences that weren't given.
+-- Of samples that are near one another so many differences were given. A walk leads to the records that weren't
+-- unpacked yet; of those that were, a room holds the differences that weren't given.
 pub record IsSupplied {S : Type 0} (leads : S → Type 0) (left : S → List View) (rest : S) (last : ℤ) (room : List ℤ)
     (at end : ℕ) (samples : List ℤ) (given : ℕ) : Type 0 where
   pub led : leads rest

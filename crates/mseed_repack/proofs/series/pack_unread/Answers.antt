@@ -30,7 +30,12 @@ returns-in-Ok g c =
     c.head_of-head.ensures.first c.requires.fits c.one_series.ensures.series in
     emitted_stretch c.args.options.now (g.R.Walk.left c.args.records) (headed head p.samples) c.in-Ok.count
     (g.W.Sink.written c.args.output.now) (g.W.Sink.written c.pack_supplied.new.sink) p.series
-    (c.in-Ok.ensures.ok p.samples (record { supplied = p.supplied; count = p.count; first = p.first_is; fits = p.fits }))
+    (c.in-Ok.ensures.ok p.samples (record {
+      supplied = p.supplied;
+      count = p.count;
+      first = p.first_is;
+      fits = p.fits;
+    }))
 
 pub returns-in-Err : goal.returns-in-Err
 returns-in-Err g c =
@@ -42,4 +47,9 @@ returns-in-Err g c =
     c.head_of-head.ensures.first c.requires.fits c.one_series.ensures.series in
     emitted_part c.args.options.now (g.R.Walk.left c.args.records) (headed head p.samples) c.in-Err.field-0
     (g.W.Sink.written c.args.output.now) (g.W.Sink.written c.pack_supplied.new.sink) p.series
-    (c.in-Err.ensures.err p.samples (record { supplied = p.supplied; count = p.count; first = p.first_is; fits = p.fits }))
+    (c.in-Err.ensures.err p.samples (record {
+      supplied = p.supplied;
+      count = p.count;
+      first = p.first_is;
+      fits = p.fits;
+    }))

@@ -1,7 +1,7 @@
 use Rattle.std.proofs.Common.{◌∙◌, arith, get_or, map, refl, sym}
 use Rattle.mseed_record.specs.Viewing.{view_of}
 use Rattle.mseed_audit.proofs.Behind.{views_are}
-use Rattle.mseed_repack.proofs.Trails.{nexts_behind, trail_at}
+use Rattle.mseed_repack.proofs.Trails.{nexts_after, trail_at}
 use Rattle.mseed_repack.proofs.archive.Archive.trail.Goals as goal
 
 pub returns : goal.returns
@@ -19,7 +19,7 @@ returns c =
       codes_are = refl;
       led = record {
         of = trail.first_is.of;
-        nexts_are = nexts_behind channel.0 rs 0 first a.nexts.now (omega arith) trail.nexts_are;
+        nexts_are = nexts_after channel.0 rs 0 first a.nexts.now (omega arith) trail.nexts_are;
         nexts_count = laid.nexts_count;
       };
       records_are = sym trail.first_is.none ∙ sym (views_are channel.0 (map view_of rs));
