@@ -1,16 +1,15 @@
 //! What is known of records before their samples are read.
-ghost use Rattle.std.specs.Prelude.{◌≡◌, ◌<◌, ◌≤◌, ◌+◌, ◌++◌, ◌^◌, ◌-ℤ◌, [], All, IfSome, List, ℕ, ℤ, length, take};
+ghost use Rattle.std.specs.Prelude.{◌≡◌, ◌<◌, ◌≤◌, ◌+◌, ◌++◌, ◌^◌, ◌-ℤ◌, [], All, List, ℕ, ℤ, length, take};
 ghost use Rattle.std.specs.Prelude.{◌↔◌, IsTrue, true};
 ghost use Rattle.std.specs.List.{AllByRecursion};
 ghost use Rattle.mseed_record.specs.View.{leap_of};
 ghost use Rattle.mseed_record.specs.Viewing.{view_of};
 ghost use Rattle.mseed_steim.specs.Reading.{count_of, IsWhole};
-ghost use Rattle.mseed_steim.specs.Samples.{AreEnds};
 ghost use Rattle.mseed_steim.specs.Spelling.{IsWithin};
 ghost use Rattle.mseed_audit.specs.Follows.{IsSound};
 ghost use Rattle.mseed_audit.specs.Judging.{step_in};
 ghost use Rattle.mseed_audit.specs.Series.{step_at};
-ghost use Rattle.mseed_repack.specs.private.Outline.{AreNear, IsKnown, IsOutline};
+ghost use Rattle.mseed_repack.specs.private.Outline.{IsKnown, IsOutline};
 ghost use Rattle.mseed_repack.specs.private.Reading.{CanBeRead, samples_of, step_count};
 ghost use Rattle.mseed_repack.specs.private.Supplying.{IsUnpackable};
 
@@ -19,7 +18,7 @@ use crate::unpacking::is_unpackable;
 use crate::walk::Walk;
 use mseed_pack::Encoding;
 use mseed_record::RecordView;
-use mseed_steim::{Ends, ends_of, is_surely_near};
+use mseed_steim::near_ends;
 use mseed_time::LeapStep;
 
 /// Whether each sample of some records is near the one before it: by no more than a Steim-2 word can say.
@@ -153,18 +152,6 @@ fn nearness_with(before: Nearness, view: &RecordView) -> Nearness
             }
         }
         Nearness::Unknown => Nearness::Unknown,
-    }
-}
-
-/// The first and the last sample of a sound record whose samples are surely near one another.
-fn near_ends(view: &RecordView) -> Option<Ends>
-    requires { IsSound (view_of view.now) }
-    ensures { IfSome result (λ ends. (s : List ℤ) → IsWhole (view_of view.now) s → AreEnds ends s × AreNear s) }
-{
-    if is_surely_near(view) {
-        Some(ends_of(view))
-    } else {
-        None
     }
 }
 

@@ -1,6 +1,6 @@
 //! What is known of a record's samples before they are read.
 
-ghost use Rattle.std.specs.Prelude.{◌≡◌, ◌≢◌, ◌↔◌, ◌<◌, ◌≤◌, ◌+◌, ◌-◌, ◌*◌, ◌/◌, ◌%◌, ◌^◌, ℕ, List, ℤ, IfOk, IfErr};
+ghost use Rattle.std.specs.Prelude.{◌≡◌, ◌≢◌, ◌↔◌, ◌<◌, ◌≤◌, ◌+◌, ◌-◌, ◌*◌, ◌/◌, ◌%◌, ◌^◌, ℕ, List, ℤ, IfOk, IfErr, IfSome, IsSome};
 ghost use Rattle.std.specs.Prelude.{length, IsTrue};
 ghost use Rattle.std.specs.Bool.{OnTrue};
 ghost use Rattle.mseed_record.specs.Viewing.{view_of};
@@ -71,6 +71,35 @@ pub fn is_surely_near(view: &RecordView<'_>) -> bool
         payload,
         usize::from(view.samples()),
     )
+}
+
+/// The first and the last of a record's samples, where it shows before they are read that each is the one before it plus
+/// a difference of 30 bits, as [`is_surely_near`] says. The record is known to have a reading that ends on its constants.
+pub fn near_ends(view: &RecordView<'_>) -> Option<Ends>
+    requires { (s : List ℤ) × IsWhole (view_of view.now) s }
+    // The words or integers show it.
+    ensures shown { IsSome result ↔ ShowsNear (view_of view.now) }
+    // Where they do, these are the ends, and the samples are near one another.
+    ensures ends { IfSome result (λ ends. (s : List ℤ) → IsWhole (view_of view.now) s → AreEnds ends s × AreNear s) }
+{
+    let Ok((form, payload)) = payload_of(view) else {
+        return None;
+    };
+    let samples = usize::from(view.samples());
+    let order = view.payload_order();
+    if !shows_near(form, order, payload, samples) {
+        return None;
+    }
+    match form {
+        Form::Integers(width) => match check_integers(payload, width, order, samples) {
+            Ok(ends) => Some(ends),
+            Err(_) => unreachable!(),
+        },
+        Form::Frames(_) => match constants_of(payload) {
+            Some(ends) => Some(ends),
+            None => unreachable!(),
+        },
+    }
 }
 
 /// Whether the words or integers of a payload show it.

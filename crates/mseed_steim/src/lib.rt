@@ -34,7 +34,7 @@ pub use ahead::Lookahead;
 pub use check::check_samples;
 pub use differences::{BadWordAt, Differences};
 pub use encoding::Encoding;
-pub use ends::{ends_of, is_surely_near};
+pub use ends::{ends_of, is_surely_near, near_ends};
 pub use fault::{Ends, ReadFault};
 pub use known::unpack_differences;
 pub use law::{

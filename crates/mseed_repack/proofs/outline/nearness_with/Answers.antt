@@ -4,7 +4,7 @@ use Rattle.mseed_steim.specs.Spelling.{IsWithin}
 use Rattle.mseed_repack.specs.private.Outline.{IsKnown}
 use Rattle.mseed_repack.specs.declared.outline.Nearness.{Nearness}
 use Rattle.mseed_repack.specs.declared.outline.Nearness.TheVariants.{Near}
-use Rattle.mseed_repack.proofs.Near.{known_first, known_more}
+use Rattle.mseed_repack.proofs.Near.{known_first, known_more, near_by}
 use Rattle.mseed_repack.proofs.outline.nearness_with.Goals as goal
 
 -- the last sample is kept in 32 bits
@@ -12,17 +12,21 @@ as_kept : (last : ℤ) (xs : List ℤ) → to_z w32 (of_z w32 last) ≡ last →
     → IsKnown (Near (to_z w32 (of_z w32 last))) xs
 as_kept last xs same known = subst (λ (z : ℤ). IsKnown (Near z) xs) (sym same) known
 
+pub near_ends-requires : goal.near_ends-requires
+near_ends-requires c = (c.requires.samples, c.requires.whole)
+
 pub returns-in-Empty : goal.returns-in-Empty
 returns-in-Empty c = λ xs s known whole.
     let ends = c.in-Some.ends in
-    let found = c.in-Some.ensures s whole in
+    let found = c.in-Some.ensures.ends s whole in
     as_kept ends.last (xs ++ s) (to_z-of_z w32 _ (search rules))
-    (known_first ends xs s (subst (λ (n : Nearness). IsKnown n xs) c.in-Empty.is known) found.0 found.1)
+    (known_first ends xs s (subst (λ (n : Nearness). IsKnown n xs) c.in-Empty.is known) found.0
+    (near_by s found.1))
 
 pub returns-then-is_near : goal.returns-then-is_near
 returns-then-is_near c = λ xs s known whole.
     let ends = c.in-Some.ends in
-    let found = c.in-Some.ensures s whole in
+    let found = c.in-Some.ensures.ends s whole in
     let before = subst (λ (n : Nearness). IsKnown n xs) c.in-Near.is known in
     let first : to_z w32 (of_z w32 ends.first) ≡ ends.first = to_z-of_z w32 _ (search rules) in
     let last : to_z w32 (of_z w32 c.in-Near.last) ≡ c.in-Near.last = to_z-of_z w32 _ (search rules) in
@@ -30,4 +34,4 @@ returns-then-is_near c = λ xs s known whole.
     subst (λ (z : ℤ). IsWithin 30 (z -ℤ c.in-Near.last)) first
     (subst (λ (z : ℤ). IsWithin 30 (to_z w32 (of_z w32 ends.first) -ℤ z)) last (c.if-is_near.ensures.0 refl)) in
     as_kept ends.last (xs ++ s) (to_z-of_z w32 _ (search rules))
-    (known_more ends c.in-Near.last xs s before found.0 found.1 step)
+    (known_more ends c.in-Near.last xs s before found.0 (near_by s found.1) step)
