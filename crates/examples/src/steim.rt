@@ -7,8 +7,8 @@ use mseed_record::RecordView;
 use mseed_steim::{
     BadWord, BadWordAt, Differences, Lookahead, ReadFault, Scheme, TooLarge, TooLargeAt,
     check_samples, ends_of, fill_differences, fill_samples, is_steim, is_surely_near, least_words,
-    pack_word, pack_words, pack_words_ahead, read_samples, unpack_differences, unpack_word,
-    widen_bytes,
+    near_ends, pack_word, pack_words, pack_words_ahead, read_samples, unpack_differences,
+    unpack_word, widen_bytes,
 };
 use std::alloc::Allocator;
 
@@ -78,6 +78,16 @@ pub fn steps_of_checked(view: &RecordView, steps: &mut [i32])
 /// Whether Steim-2 holds a record's samples, as far as that shows before they are read.
 pub fn is_surely_packed(record: &RecordView) -> bool {
     is_surely_near(record)
+}
+
+/// How far a record that was checked goes up, from its first sample to its last, where Steim-2 surely holds its samples.
+pub fn rise_of_checked(view: &RecordView) -> Option<i64>
+    requires { (s : List ℤ) × IsWhole (view_of view.now) s }
+{
+    match near_ends(view) {
+        Some(ends) => Some(i64::from(ends.last) - i64::from(ends.first)),
+        None => None,
+    }
 }
 
 /// The first difference of a payload's words in Steim-1, or where a bad word stands before it.
