@@ -24,7 +24,7 @@ CRATES = {
     "mseed_stream": (2, "devices, the cutter"),
     "mseed_text": (2, "lines of text"),
     "mseed_select": (3, "records that are asked for"),
-    "mseed_audit": (1.5, "findings, verdicts, text"),
+    "mseed_audit": (1, "findings, verdicts, text"),
     "mseed_parts": (0, "parts of audits, joined"),
     "mseed_join": (0, "the text of parts"),
     "mseed_show": (0, "the listing of records"),
@@ -40,7 +40,7 @@ CRATES = {
     "mseed_c": (0, "the calls for C"),
     "mseed_files": (2.75, "files, one after another"),
     "mseed_input": (3, "files of an input, by name"),
-    "mseed_words": (4, "what a command line requests"),
+    "mseed_words": (2, "what a command line requests"),
     "mseed_feed": (4, "serving and fetching as commands"),
     "mseed": (2, "the command"),
 }

@@ -5,7 +5,7 @@ ghost use Rattle.mseed_steim.specs.Reading.{IsSteim, IsWhole, count_of};
 
 use mseed_record::RecordView;
 use mseed_steim::{
-    BadWord, BadWordAt, Differences, Lookahead, ReadFault, Scheme, TooLarge, TooLargeAt,
+    BadWord, BadWordAt, Differences, Encoding, Lookahead, ReadFault, Scheme, TooLarge, TooLargeAt,
     check_samples, ends_of, fill_differences, fill_samples, is_steim, is_surely_near, least_words,
     near_ends, pack_word, pack_words, pack_words_ahead, read_samples, unpack_differences,
     unpack_word, widen_bytes,
@@ -34,6 +34,14 @@ pub fn sum_of_samples<A: Allocator + Drop>(
         sum = sum.saturating_add(i64::from(*sample));
     }
     Ok(sum)
+}
+
+/// Whether samples of this code are read in Steim-2.
+pub fn is_of_steim_2(code: u8) -> bool {
+    match Encoding::of(code) {
+        Some(encoding) => encoding.code() == Encoding::Steim2.code(),
+        None => false,
+    }
 }
 
 /// Fills in the samples of a record that has exactly 100.
@@ -80,7 +88,7 @@ pub fn is_surely_packed(record: &RecordView) -> bool {
     is_surely_near(record)
 }
 
-/// How far a record that was checked goes up, from its first sample to its last, where Steim-2 surely holds its samples.
+/// How far a record that was checked goes up, from its first sample to its last, where Steim-2 surely holds them.
 pub fn rise_of_checked(view: &RecordView) -> Option<i64>
     requires { (s : List ℤ) × IsWhole (view_of view.now) s }
 {

@@ -1,7 +1,7 @@
 //! What is known of a record's samples before they are read.
 
-ghost use Rattle.std.specs.Prelude.{◌≡◌, ◌≢◌, ◌↔◌, ◌<◌, ◌≤◌, ◌+◌, ◌-◌, ◌*◌, ◌/◌, ◌%◌, ◌^◌, ℕ, List, ℤ, IfOk, IfErr, IfSome, IsSome};
-ghost use Rattle.std.specs.Prelude.{length, IsTrue};
+ghost use Rattle.std.specs.Prelude.{◌≡◌, ◌≢◌, ◌↔◌, ◌<◌, ◌≤◌, ◌+◌, ◌-◌, ◌*◌, ◌/◌, ◌%◌, ◌^◌, ℕ, List, ℤ, IfOk, IfErr};
+ghost use Rattle.std.specs.Prelude.{length, IfSome, IsSome, IsTrue};
 ghost use Rattle.std.specs.Bool.{OnTrue};
 ghost use Rattle.mseed_record.specs.Viewing.{view_of};
 ghost use Rattle.mseed_steim.specs.Frames.{AreOctets, word_at, word_count};
@@ -73,8 +73,9 @@ pub fn is_surely_near(view: &RecordView<'_>) -> bool
     )
 }
 
-/// The first and the last of a record's samples, where it shows before they are read that each is the one before it plus
-/// a difference of 30 bits, as [`is_surely_near`] says. The record is known to have a reading that ends on its constants.
+/// The first and the last of a record's samples, where it shows before they are read that each is the one before it
+/// plus a difference of 30 bits, as [`is_surely_near`] says. The record is known to have a reading that ends on its
+/// constants.
 pub fn near_ends(view: &RecordView<'_>) -> Option<Ends>
     requires { (s : List ℤ) × IsWhole (view_of view.now) s }
     // The words or integers show it.
