@@ -1,7 +1,7 @@
 //! What a command line requests.
 use crate::places::Places;
-use mseed_steim::Encoding;
 use mseed_select::Selector;
+use mseed_steim::Encoding;
 use slink_wire::{Address, Host, Timeout};
 
 /// What the arguments of a command line request, of which records, and of which files.

@@ -6,4 +6,4 @@ use Rattle.mseed_record.proofs.header.are_digits.Goals as goal
 pub returns : goal.returns
 returns c =
     OnTrue_from _ _ (λ e. six_digits is_above lowered c.args.bytes.now c.requires c.type_inv.bytes refl
-        (eqb-true _ _ e))
+    (eqb-true _ _ e))

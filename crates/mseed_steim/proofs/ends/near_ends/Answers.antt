@@ -18,7 +18,7 @@ near : (v : View) (form : Form) (o : Order) (p : List ℕ) (n : ℕ) → HoldsIn
     → o ≡ v.payload_order → AreOctets p → IsSurelyNear form o p n → (s : List ℤ) → IsWhole v s → AreNear s
 near v form o p n held count order octets surely = near_whole v form p n held count
     (subst (λ (q : Order). (s : List ℤ) → IsPayloadReading form q p n s → AreNear s) order
-        (λ s read. shown_near form o p n s octets surely read))
+    (λ s read. shown_near form o p n s octets surely read))
 
 pub unreachable-requires : goal.unreachable-requires
 unreachable-requires c =
@@ -41,21 +41,24 @@ returns-in-Ok-check_integers-clause-ends c s whole =
     let answer = payload_answer (view_of c.args.view.now) (Integers c.in-Integers.width) c.in-Ok.payload.now _ _
     c.check_integers.result c.requires.1.0.some (rw c.in-Integers.is at c.in-Ok.ensures.held)
     (c.from-samples.ensures ∙ c.samples.ensures) c.payload_order-order.ensures c.check_integers.ensures in
-    let ends = rw c.in-Ok-check_integers.is at (answer_ends (view_of c.args.view.now) c.check_integers.result answer) in
-    (ends s whole, near (view_of c.args.view.now) c.in-Ok.form c.payload_order-order.result c.in-Ok.payload.now
-        c.from-samples.result c.in-Ok.ensures.held (c.from-samples.ensures ∙ c.samples.ensures)
-        c.payload_order-order.ensures c.shows_near.ensures.octets
-        (c.shows_near.ensures.shown.0 c.if-not-shows_near.false) s whole)
+    let found = answer_ends (view_of c.args.view.now) c.check_integers.result answer in
+    let ends = rw c.in-Ok-check_integers.is at found in (
+      ends s whole,
+      near (view_of c.args.view.now) c.in-Ok.form c.payload_order-order.result c.in-Ok.payload.now
+          c.from-samples.result c.in-Ok.ensures.held (c.from-samples.ensures ∙ c.samples.ensures)
+          c.payload_order-order.ensures c.shows_near.ensures.octets
+          (c.shows_near.ensures.shown.0 c.if-not-shows_near.false) s whole,
+    )
 
 pub returns-in-Some-clause-ends : goal.returns-in-Some-clause-ends
 returns-in-Some-clause-ends c =
     let held : HoldsIn (view_of c.args.view.now) (Frames c.in-Frames.field-0) c.in-Ok.payload.now =
     rw c.in-Frames.is at c.in-Ok.ensures.held in
     λ s whole. (
-        constants_end (view_of c.args.view.now) c.in-Frames.field-0 c.in-Ok.payload.now c.in-Some.ends held
-        c.in-Some.ensures.first c.in-Some.ensures.last s whole,
-        near (view_of c.args.view.now) c.in-Ok.form c.payload_order-order.result c.in-Ok.payload.now
-        c.from-samples.result c.in-Ok.ensures.held (c.from-samples.ensures ∙ c.samples.ensures)
-        c.payload_order-order.ensures c.shows_near.ensures.octets
-        (c.shows_near.ensures.shown.0 c.if-not-shows_near.false) s whole,
-      )
+      constants_end (view_of c.args.view.now) c.in-Frames.field-0 c.in-Ok.payload.now c.in-Some.ends held
+          c.in-Some.ensures.first c.in-Some.ensures.last s whole,
+      near (view_of c.args.view.now) c.in-Ok.form c.payload_order-order.result c.in-Ok.payload.now
+          c.from-samples.result c.in-Ok.ensures.held (c.from-samples.ensures ∙ c.samples.ensures)
+          c.payload_order-order.ensures c.shows_near.ensures.octets
+          (c.shows_near.ensures.shown.0 c.if-not-shows_near.false) s whole,
+    )
