@@ -5,8 +5,8 @@ use mseed_pack::Options;
 use mseed_record::RecordView;
 use mseed_repack::{
     ChannelFault, RepackFault, StretchesFault, misfit_number, repack, repack_channel,
-    repack_selected, repack_selected_stretches, repack_stretches, tell_broken, tell_misfit,
-    tell_without_time,
+    repack_selected, repack_selected_stretches, repack_stretches, report_broken, report_misfit,
+    report_without_time,
 };
 use mseed_select::Selector;
 use mseed_stream::Counted;
@@ -91,7 +91,7 @@ pub fn packed_of_selected_as_far(
 /// The line that says that three records lack a time.
 pub fn line_of_three(alloc: Global) -> Vec<u8> {
     let mut line = Counted::new(Vec::new(alloc));
-    tell_without_time(3, &mut line);
+    report_without_time(3, &mut line);
     line.into_inner()
 }
 
@@ -99,9 +99,9 @@ pub fn line_of_three(alloc: Global) -> Vec<u8> {
 pub fn line_of_refusal(alloc: Global, fault: &StretchesFault) -> Vec<u8> {
     let mut line = Counted::new(Vec::new(alloc));
     match fault {
-        StretchesFault::Broken(channel) => tell_broken(channel, &mut line),
+        StretchesFault::Broken(channel) => report_broken(channel, &mut line),
         StretchesFault::Misfit(channel, number, fault) => {
-            tell_misfit(channel, *number, *fault, &mut line)
+            report_misfit(channel, *number, *fault, &mut line)
         }
         StretchesFault::Stream(_) | StretchesFault::Write | StretchesFault::Memory => {}
     }

@@ -14,7 +14,7 @@ use mseed_input::{report_fault, report_number};
 use mseed_join::JoinsFault;
 use mseed_pack::PackFault;
 use mseed_record::Codes;
-use mseed_repack::{RepackFault, StretchesFault, misfit_number, tell_broken, tell_misfit};
+use mseed_repack::{RepackFault, StretchesFault, misfit_number, report_broken, report_misfit};
 use mseed_stream::{Sink, StreamFault, report};
 use mseed_text::Line;
 use slink_links::FAULT;
@@ -42,7 +42,7 @@ pub fn refuse_to_stretch<E: Sink>(errors: &mut E, fault: &StretchesFault) -> u8
         StretchesFault::Stream(fault) => refuse_input(errors, fault),
         StretchesFault::Broken(channel) => refuse_broken(errors, channel),
         StretchesFault::Misfit(channel, number, fault) => {
-            tell_misfit(channel, *number, *fault, errors);
+            report_misfit(channel, *number, *fault, errors);
             FAULT
         }
         StretchesFault::Write => write_failed(errors),
@@ -97,7 +97,7 @@ fn refuse_broken<E: Sink>(errors: &mut E, channel: &Codes) -> u8
     ensures status { result ≡ 1 }
     ensures reported { Tells (broken_line channel.now) (E.written errors.old) (E.written errors.new) }
 {
-    tell_broken(channel, errors);
+    report_broken(channel, errors);
     BROKEN
 }
 

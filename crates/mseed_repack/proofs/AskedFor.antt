@@ -14,7 +14,7 @@ use Rattle.mseed_stream.specs.Walk.{bytes_in}
 use Rattle.mseed_select.specs.Select.{selected_bytes}
 use Rattle.mseed_select.specs.Selection.{Selection, asks_for}
 use Rattle.mseed_pack.specs.declared.options.Options.{Options}
-use Rattle.mseed_repack.specs.ByStretches.{TellsEach, silent}
+use Rattle.mseed_repack.specs.ByStretches.{ReportsEach, silent}
 use Rattle.mseed_repack.specs.Repack.{IsWhole}
 use Rattle.mseed_repack.specs.Selected.{IsRepackedAlone, IsRestretchedAlone, IsSelectedRepacking}
 use Rattle.mseed_repack.specs.Selected.{IsSelectedRestretching, read_of, without_time_line}
@@ -117,12 +117,12 @@ asked_whole s h rs kept whole e =
     (whole_kept s h (map view_of rs) whole)
 
 -- what is told of how many lack a time
-pub none_lacks : (count : ℕ) (s : BytesWritten) → count ≤ 0 → TellsEach (without_time_lines count) s s
+pub none_lacks : (count : ℕ) (s : BytesWritten) → count ≤ 0 → ReportsEach (without_time_lines count) s s
 none_lacks zero s h = silent s
 none_lacks (suc n) s h = absurd (omega (arith, h))
 
 pub some_lack : (count : ℕ) (old new : BytesWritten) → 0 < count → Tells (without_time_line count) old new
-    → TellsEach (without_time_lines count) old new
+    → ReportsEach (without_time_lines count) old new
 some_lack zero old new h told = absurd (omega (arith, h))
 some_lack (suc n) old new h told = tells_one (without_time_line (suc n)) old new told
 

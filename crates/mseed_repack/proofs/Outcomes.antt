@@ -8,7 +8,7 @@ use Rattle.mseed_stream.specs.Device.{BytesRead, BytesWritten}
 use Rattle.mseed_pack.specs.declared.fault.PackFault.{PackFault}
 use Rattle.mseed_pack.specs.declared.options.Options.{Options}
 use Rattle.mseed_repack.specs.Repack.{AreContinuous, AreTexts, Channel, IsArchiveOf, IsRepacking, IsTextUpTo, Wrote}
-use Rattle.mseed_repack.specs.ByStretches.{IsFit, IsRestretching, TellsEach, left_of, lines_of}
+use Rattle.mseed_repack.specs.ByStretches.{IsFit, IsRestretching, ReportsEach, left_of, lines_of}
 use Rattle.mseed_repack.specs.private.Planning.{AreReady, IsPartOn, IsTextOn, StandsAs, planned}
 use Rattle.mseed_repack.specs.private.Restretching.{IsNoMisfit}
 use Rattle.mseed_repack.specs.declared.fault.RepackFault.TheVariants.{Misfit as MisfitChannel, Write}
@@ -66,7 +66,7 @@ module _ (o : Options) (room places : ℕ) (views : List View) (cs : List Channe
 
   pub restretched : (leave : Bool) (h : BytesRead) (old new first last : BytesWritten) → IsArchiveOf h views cs
       → AreReady Stretches o room places views cs ss ls → (leave ≡ false → AllByRecursion IsFit ss)
-      → TellsEach (lines_of cs ss) first last → Wrote (AreTexts (IsTextOn o) (planned views cs ls)) 0 old new
+      → ReportsEach (lines_of cs ss) first last → Wrote (AreTexts (IsTextOn o) (planned views cs ls)) 0 old new
       → IsRestretching o leave (Ok (left_of ss)) h old new first last
   restretched leave h old new first last archive ready fit told wrote =
       let texts = wrote_as (λ text is. kept_texts Stretches o room places views cs ss ls text ready is) wrote in
@@ -75,7 +75,7 @@ module _ (o : Options) (room places : ℕ) (views : List View) (cs : List Channe
 
   pub restretched_in_part : (leave : Bool) (h : BytesRead) (old new first last : BytesWritten)
       → IsArchiveOf h views cs → AreReady Stretches o room places views cs ss ls
-      → (leave ≡ false → AllByRecursion IsFit ss) → TellsEach (lines_of cs ss) first last
+      → (leave ≡ false → AllByRecursion IsFit ss) → ReportsEach (lines_of cs ss) first last
       → Wrote (IsTextUpTo (IsTextOn o) (IsPartOn o) (planned views cs ls)) 1 old new
       → IsRestretching o leave (Err StretchesWrite) h old new first last
   restretched_in_part leave h old new first last archive ready fit told wrote =

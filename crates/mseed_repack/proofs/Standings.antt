@@ -15,7 +15,7 @@ use Rattle.mseed_pack.specs.declared.options.Options.{Options}
 use Rattle.mseed_pack.specs.declared.fault.PackFault.{PackFault}
 use Rattle.mseed_repack.specs.Repack.{Channel, IsArchiveOf, IsFirst, Wrote, records_in}
 use Rattle.mseed_repack.specs.Restretch.{ChannelFits, ChannelMisfits}
-use Rattle.mseed_repack.specs.ByStretches.{AreFound, AreStandings, IsFit, IsRestretching, Stands, TellsEach, WroteKept}
+use Rattle.mseed_repack.specs.ByStretches.{AreFound, AreStandings, IsFit, IsRestretching, Stands, ReportsEach, WroteKept}
 use Rattle.mseed_repack.specs.ByStretches.{also, kept_of, line_of, lines_of, silent}
 use Rattle.mseed_repack.specs.private.Reading.{channel_in, steps_of}
 use Rattle.mseed_repack.specs.private.Restretching.{IsFirstRefused, IsNoMisfit, IsUnbroken}
@@ -97,7 +97,7 @@ steps_gathered key vs views room e le =
 pub wrote_kept : {P : List Channel → List ℕ → Type 0} {failures : ℕ} {o : Options} {leave : Bool} {views : List View}
     {cs : List Channel} {ss : List Standing} {old new reported_old reported_new : BytesWritten}
     → AreStandings o views cs ss → (leave ≡ false → AllByRecursion IsFit ss)
-    → TellsEach (lines_of cs ss) reported_old reported_new → Wrote (P (kept_of cs ss)) failures old new
+    → ReportsEach (lines_of cs ss) reported_old reported_new → Wrote (P (kept_of cs ss)) failures old new
     → WroteKept P failures o leave views cs ss old new reported_old reported_new
 wrote_kept are whole reported wrote = record { are = are; whole = whole; reported = reported; wrote = wrote }
 
@@ -185,23 +185,23 @@ lines_next (d ∷ ds) (t ∷ ts) (suc k) c s lt size at =
     ∙ sym (append_assoc (line_of d.0 t) (lines_of (take k ds) (take k ts)) (line_of c.0 (get_or ts k s)))
 
 -- lines that are reported behind others
-tells_append : (leading back : List (List ℕ)) (old between new : BytesWritten) → TellsEach leading old between
-    → TellsEach back between new → TellsEach (leading ++ back) old new
+tells_append : (leading back : List (List ℕ)) (old between new : BytesWritten) → ReportsEach leading old between
+    → ReportsEach back between new → ReportsEach (leading ++ back) old new
 tells_append leading _ old _ _ a (silent s) =
-    subst (λ (ls : List (List ℕ)). TellsEach ls old s) (sym (append-nil leading)) a
+    subst (λ (ls : List (List ℕ)). ReportsEach ls old s) (sym (append-nil leading)) a
 tells_append leading _ old between _ a (also lines line _ middle new b reported) =
-    subst (λ (ls : List (List ℕ)). TellsEach ls old new) (append_assoc leading lines (line ∷ []))
+    subst (λ (ls : List (List ℕ)). ReportsEach ls old new) (append_assoc leading lines (line ∷ []))
     (also (leading ++ lines) line old middle new (tells_append leading lines old between middle a b) reported)
 
-pub tells_one : (line : List ℕ) (old new : BytesWritten) → Tells line old new → TellsEach (line ∷ []) old new
+pub tells_one : (line : List ℕ) (old new : BytesWritten) → Tells line old new → ReportsEach (line ∷ []) old new
 tells_one line old new reported = also [] line old old new (silent old) reported
 
 pub tells_next : (cs : List Channel) (ss : List Standing) (k : ℕ) (c : Channel) (s : Standing)
     (first old new : BytesWritten) → k < length cs → length ss ≡ length cs → c ≡ get_or cs k c
-    → TellsEach (lines_of (take k cs) (take k ss)) first old → TellsEach (line_of c.0 (get_or ss k s)) old new
-    → TellsEach (lines_of (take (k + 1) cs) (take (k + 1) ss)) first new
+    → ReportsEach (lines_of (take k cs) (take k ss)) first old → ReportsEach (line_of c.0 (get_or ss k s)) old new
+    → ReportsEach (lines_of (take (k + 1) cs) (take (k + 1) ss)) first new
 tells_next cs ss k c s first old new lt size at before one =
-    subst (λ (ls : List (List ℕ)). TellsEach ls first new) (sym (lines_next cs ss k c s lt size at))
+    subst (λ (ls : List (List ℕ)). ReportsEach ls first new) (sym (lines_next cs ss k c s lt size at))
     (tells_append (lines_of (take k cs) (take k ss)) (line_of c.0 (get_or ss k s)) first old new before one)
 
 -- where all were looked at, what holds of those holds of all

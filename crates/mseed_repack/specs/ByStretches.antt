@@ -116,10 +116,10 @@ lines_of (c ∷ cs) [] = []
 lines_of (c ∷ cs) (s ∷ ss) = line_of c.0 s ++ lines_of cs ss
 
 -- lines are reported one after another, each as far as the device takes it
-pub data TellsEach : List (List ℕ) → BytesWritten → BytesWritten → Type 0 where
-  silent : (s : BytesWritten) → TellsEach [] s s
-  also : (lines : List (List ℕ)) (line : List ℕ) (old between new : BytesWritten) → TellsEach lines old between
-      → Tells line between new → TellsEach (lines ++ line ∷ []) old new
+pub data ReportsEach : List (List ℕ) → BytesWritten → BytesWritten → Type 0 where
+  silent : (s : BytesWritten) → ReportsEach [] s s
+  also : (lines : List (List ℕ)) (line : List ℕ) (old between new : BytesWritten) → ReportsEach lines old between
+      → Tells line between new → ReportsEach (lines ++ line ∷ []) old new
 
 -- Of the channels that fit a text was written of which this is so; and the others were reported, unless there was to be
 -- none.
@@ -128,7 +128,7 @@ pub record WroteKept (P : List Channel → List ℕ → Type 0) (failures : ℕ)
     (old new reported_old reported_new : BytesWritten) : Type 0 where
   pub are : AreStandings o views channels standings
   pub whole : leave ≡ false → AllByRecursion IsFit standings
-  pub reported : TellsEach (lines_of channels standings) reported_old reported_new
+  pub reported : ReportsEach (lines_of channels standings) reported_old reported_new
   pub wrote : Wrote (P (kept_of channels standings)) failures old new
 
 -- What was written by stretches: of each channel that fits its stretches' records.

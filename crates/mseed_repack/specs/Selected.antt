@@ -9,7 +9,7 @@ use Rattle.mseed_select.specs.Select.{selected_bytes}
 use Rattle.mseed_select.specs.Selection.{Selection, lacks_time}
 use Rattle.mseed_pack.specs.declared.options.Options.{Options}
 use Rattle.mseed_repack.specs.Repack.{IsRepacking, IsUnread, IsWhole}
-use Rattle.mseed_repack.specs.ByStretches.{IsRestretching, TellsEach}
+use Rattle.mseed_repack.specs.ByStretches.{IsRestretching, ReportsEach}
 use Rattle.mseed_repack.specs.declared.fault.RepackFault.{RepackFault}
 use Rattle.mseed_repack.specs.declared.fault.RepackFault.TheVariants.{Stream, Broken, Misfit, Write, Memory}
 use Rattle.mseed_repack.specs.declared.refusing.Left.{Left}
@@ -40,7 +40,7 @@ pub record IsSoOfSelected (P : BytesRead → BytesWritten → Type 0) (s : Selec
   pub views : List View
   pub whole : IsWhole h views
   pub between : BytesWritten
-  pub told : TellsEach (without_time_lines (count_by (lacks_time s) views)) reported between
+  pub told : ReportsEach (without_time_lines (count_by (lacks_time s) views)) reported between
   pub is_so : P (read_of (selected_bytes s views)) between
 
 -- packing the records anew that are asked for comes to what packing an archive of them alone does

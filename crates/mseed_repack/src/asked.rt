@@ -4,7 +4,7 @@ ghost use Rattle.std.specs.List.{count_by, filter};
 ghost use Rattle.mseed_record.specs.Viewing.{view_of};
 ghost use Rattle.mseed_select.specs.Selecting.{selection_of};
 ghost use Rattle.mseed_select.specs.Selection.{asks_for, lacks_time};
-ghost use Rattle.mseed_repack.specs.ByStretches.{TellsEach};
+ghost use Rattle.mseed_repack.specs.ByStretches.{ReportsEach};
 ghost use Rattle.mseed_repack.specs.Selected.{without_time_lines};
 
 use mseed_record::RecordView;
@@ -21,11 +21,11 @@ pub(crate) fn keep_asked<A: Allocator, E: Sink>(
     errors: &mut E,
 )
     ensures kept { views.new.items ≡ filter (λ r. asks_for (selection_of selector.now) (view_of r)) views.old.items }
-    ensures told { TellsEach (without_time_lines
+    ensures told { ReportsEach (without_time_lines
         (count_by (lacks_time (selection_of selector.now)) (map view_of views.old.items)))
         (E.written errors.old) (E.written errors.new) }
 {
-    tell_without_time(count_without_time(views, selector), errors);
+    report_without_time(count_without_time(views, selector), errors);
     views.retain(|view| matches!(selector.asks_for(view), Answer::AskedFor));
 }
 
@@ -44,8 +44,8 @@ fn count_without_time(views: &[RecordView], selector: &Selector<'_>) -> u64
 
 /// Writes a line to `errors` that says how many records of the channels that are asked for lack a time, so that nobody
 /// can say whether they lie in the window; where there are none, it writes nothing. A failure of `errors` is ignored.
-pub fn tell_without_time<E: Sink>(count: u64, errors: &mut E)
-    ensures { TellsEach (without_time_lines count) (E.written errors.old) (E.written errors.new) }
+pub fn report_without_time<E: Sink>(count: u64, errors: &mut E)
+    ensures { ReportsEach (without_time_lines count) (E.written errors.old) (E.written errors.new) }
 {
     if count > 0 {
         let mut line = Line::new();

@@ -27,14 +27,14 @@ mod trail;
 mod unpacking;
 mod walk;
 
-pub use asked::tell_without_time;
+pub use asked::report_without_time;
 pub use channel::repack_channel;
 pub use channel_fault::ChannelFault;
 pub use fault::RepackFault;
 pub use law::{
     borders_are_kept, one_channel_packing, one_repacking, repacked_reads_back, stretches_read_back,
 };
-pub use refusing::{Left, misfit_number, tell_broken, tell_misfit};
+pub use refusing::{Left, misfit_number, report_broken, report_misfit};
 pub use repacking::{repack, repack_selected};
 pub use restretching::{repack_selected_stretches, repack_stretches};
 pub use standing::Standing;

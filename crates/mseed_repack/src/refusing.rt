@@ -5,7 +5,7 @@ ghost use Rattle.std.specs.List.{AllByRecursion};
 ghost use Rattle.mseed_record.specs.View.{View};
 ghost use Rattle.mseed_stream.specs.Telling.{Tells};
 ghost use Rattle.mseed_pack.specs.declared.options.Options.{Options};
-ghost use Rattle.mseed_repack.specs.ByStretches.{AreStandings, IsFit, TellsEach, left_of, lines_of, misfit_line};
+ghost use Rattle.mseed_repack.specs.ByStretches.{AreStandings, IsFit, ReportsEach, left_of, lines_of, misfit_line};
 ghost use Rattle.mseed_repack.specs.ByStretches.{broken_line, line_of, misfit_number, worse_of};
 ghost use Rattle.mseed_repack.specs.private.Restretching.{IsFirstRefused, IsNoMisfit, IsUnbroken};
 ghost use Rattle.mseed_repack.specs.declared.standing.Standing.{Standing};
@@ -91,32 +91,32 @@ pub(crate) fn first_misfit(standings: &[Standing]) -> Option<(usize, u64, PackFa
 }
 
 /// Writes a line to `errors` for each channel that is left out, which says why, in the order of their keys.
-pub(crate) fn tell_left<E: Sink>(
+pub(crate) fn report_left<E: Sink>(
     channels: &[(Codes, Verdict)],
     standings: &[Standing],
     errors: &mut E,
 )
     requires { length standings.now ≡ length channels.now }
-    ensures { TellsEach (lines_of channels.now standings.now) (E.written errors.old) (E.written errors.new) }
+    ensures { ReportsEach (lines_of channels.now standings.now) (E.written errors.old) (E.written errors.new) }
 {
     for (number, channel) in channels.iter().enumerate() {
-        tell_standing(&channel.0, &standings[number], errors);
+        report_standing(&channel.0, &standings[number], errors);
     }
 }
 
 /// Writes a line to `errors` that says why a channel is left out, where it is.
-fn tell_standing<E: Sink>(channel: &Codes, standing: &Standing, errors: &mut E)
-    ensures { TellsEach (line_of channel.now standing.now) (E.written errors.old) (E.written errors.new) }
+fn report_standing<E: Sink>(channel: &Codes, standing: &Standing, errors: &mut E)
+    ensures { ReportsEach (line_of channel.now standing.now) (E.written errors.old) (E.written errors.new) }
 {
     match *standing {
         Standing::Fit => {}
-        Standing::Broken => tell_broken(channel, errors),
-        Standing::Misfit(stretch, fault) => tell_misfit(channel, stretch, fault, errors),
+        Standing::Broken => report_broken(channel, errors),
+        Standing::Misfit(stretch, fault) => report_misfit(channel, stretch, fault, errors),
     }
 }
 
 /// Writes a line to `errors` that says that a channel is broken. A failure of `errors` is ignored.
-pub fn tell_broken<E: Sink>(channel: &Codes, errors: &mut E)
+pub fn report_broken<E: Sink>(channel: &Codes, errors: &mut E)
     ensures { Tells (broken_line channel.now) (E.written errors.old) (E.written errors.new) }
 {
     let mut line = Line::new();
@@ -128,7 +128,7 @@ pub fn tell_broken<E: Sink>(channel: &Codes, errors: &mut E)
 
 /// Writes a line to `errors` that says which stretch of a channel can't be packed, by its number, from 1, and why, by
 /// [`misfit_number`]. A failure of `errors` is ignored.
-pub fn tell_misfit<E: Sink>(channel: &Codes, stretch: u64, fault: PackFault, errors: &mut E)
+pub fn report_misfit<E: Sink>(channel: &Codes, stretch: u64, fault: PackFault, errors: &mut E)
     ensures { Tells (misfit_line channel.now stretch fault) (E.written errors.old) (E.written errors.new) }
 {
     let mut line = Line::new();

@@ -47,7 +47,7 @@ pub fn repack<A: Allocator + Copy, R: Source, W: Sink>(
 
 /// Packs those records of the archive anew that are asked for, as [`repack`] does an archive of them alone: whole, and
 /// whatever the others hold. Before that it writes to `errors` how many lack a time, as
-/// [`tell_without_time`](crate::tell_without_time) does.
+/// [`report_without_time`](crate::report_without_time) does.
 ///
 /// # Errors
 ///

@@ -11,7 +11,7 @@ use crate::asked::keep_asked;
 use crate::judging::judge_records;
 use crate::packing::pack_channels;
 use crate::planned::plan_archive;
-use crate::refusing::{Left, left_of, refusal_unless, tell_left};
+use crate::refusing::{Left, left_of, refusal_unless, report_left};
 use crate::stretches_fault::StretchesFault;
 use crate::stretching::Cutting;
 use mseed_pack::Options;
@@ -50,7 +50,7 @@ pub fn repack_stretches<A: Allocator + Copy, R: Source, W: Sink, E: Sink>(
 
 /// Packs those records of the archive anew that are asked for, as [`repack_stretches`] does an archive of them alone:
 /// whole, and whatever the others hold. Before that it writes to `errors` how many lack a time, as
-/// [`tell_without_time`](crate::tell_without_time) does.
+/// [`report_without_time`](crate::report_without_time) does.
 ///
 /// # Errors
 ///
@@ -106,7 +106,7 @@ fn restretch_records<A: Allocator + Copy, W: Sink, E: Sink>(
     if let Some(fault) = refusal_unless(leave, channels, &planned.standings) {
         return Err(fault);
     }
-    tell_left(channels, &planned.standings, errors);
+    report_left(channels, &planned.standings, errors);
     match pack_channels(
         &planned.trails.archive(views, channels),
         &planned.plans,

@@ -4,4 +4,4 @@ pub returns-in-Broken-clause-reported : goal.returns-in-Broken-clause-reported
 returns-in-Broken-clause-reported g c = rw c.in-Broken.is c.refuse_broken.ensures.reported
 
 pub returns-in-Misfit-clause-reported : goal.returns-in-Misfit-clause-reported
-returns-in-Misfit-clause-reported g c = rw c.in-Misfit.is c.tell_misfit.ensures
+returns-in-Misfit-clause-reported g c = rw c.in-Misfit.is c.report_misfit.ensures

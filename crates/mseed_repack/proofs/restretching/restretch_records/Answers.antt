@@ -12,8 +12,8 @@ refusal_unless-requires g c =
     as_found c.args.options.now _ _ (map view_of c.args.views.now) c.as_slice-channels.result.now _ _ Stretches _
     c.deref.ensures.value c.in_ok-planned.ensures.ready
 
-pub tell_left-requires : goal.tell_left-requires
-tell_left-requires g c =
+pub report_left-requires : goal.report_left-requires
+report_left-requires g c =
     as_found c.args.options.now _ _ (map view_of c.args.views.now) c.as_slice-channels.result.now _ _ Stretches _
     c.deref-2.ensures.value c.in_ok-planned.ensures.ready
 
@@ -44,16 +44,16 @@ returns-in-Ok g c = λ read whole.
     rw (c.left_of.ensures, c.deref-in-Ok.ensures.value)
     (restretched c.args.options.now _ _ (map view_of c.args.views.now) c.as_slice-channels.result.now _ _ c.args.leave
     read (g.W.Sink.written c.args.output.now) (g.W.Sink.written c.pack_channels.new.output)
-    (g.E.Sink.written c.args.errors.now) (g.E.Sink.written c.tell_left.new.errors)
+    (g.E.Sink.written c.args.errors.now) (g.E.Sink.written c.report_left.new.errors)
     (archive_of whole c.in_ok-judged.ensures.verdicts c.as_slice-channels.ensures) c.in_ok-planned.ensures.ready
-    (rw c.deref.ensures.value at c.in_default.ensures.fit) (rw c.deref-2.ensures.value at c.tell_left.ensures)
+    (rw c.deref.ensures.value at c.in_default.ensures.fit) (rw c.deref-2.ensures.value at c.report_left.ensures)
     (rw (c.archive.ensures.views, c.archive.ensures.channels, c.deref-3.ensures.value) at c.in-Ok.ensures.ok))
 
 pub returns : goal.returns
 returns g c = λ read whole.
     restretched_in_part c.args.options.now _ _ (map view_of c.args.views.now) c.as_slice-channels.result.now _ _
     c.args.leave read (g.W.Sink.written c.args.output.now) (g.W.Sink.written c.pack_channels.new.output)
-    (g.E.Sink.written c.args.errors.now) (g.E.Sink.written c.tell_left.new.errors)
+    (g.E.Sink.written c.args.errors.now) (g.E.Sink.written c.report_left.new.errors)
     (archive_of whole c.in_ok-judged.ensures.verdicts c.as_slice-channels.ensures) c.in_ok-planned.ensures.ready
-    (rw c.deref.ensures.value at c.in_default.ensures.fit) (rw c.deref-2.ensures.value at c.tell_left.ensures)
+    (rw c.deref.ensures.value at c.in_default.ensures.fit) (rw c.deref-2.ensures.value at c.report_left.ensures)
     (rw (c.archive.ensures.views, c.archive.ensures.channels, c.deref-3.ensures.value) at c.in-Err.ensures.err)

@@ -1,6 +1,6 @@
 use Rattle.std.proofs.Common.{◌∙◌, List, ℕ, subst}
 use Rattle.mseed_stream.specs.Telling.{Tells}
-use Rattle.mseed_repack.proofs.refusing.tell_broken.Goals as goal
+use Rattle.mseed_repack.proofs.refusing.report_broken.Goals as goal
 
 pub returns : goal.returns
 returns g c =

@@ -1,7 +1,7 @@
 use Rattle.std.proofs.Common.{◌∙◌, List, ℕ, subst}
 use Rattle.mseed_stream.specs.Telling.{Tells}
 use Rattle.mseed_repack.proofs.AskedFor.{none_lacks, some_lack}
-use Rattle.mseed_repack.proofs.asked.tell_without_time.Goals as goal
+use Rattle.mseed_repack.proofs.asked.report_without_time.Goals as goal
 
 pub returns-else-count-gt0 : goal.returns-else-count-gt0
 returns-else-count-gt0 g c = none_lacks c.args.count (g.E.Sink.written c.args.errors.now) c.if-count-gt0.false

@@ -1,6 +1,6 @@
 use Rattle.mseed_repack.specs.ByStretches.{broken_line, misfit_line, silent}
 use Rattle.mseed_repack.proofs.Standings.{tells_one}
-use Rattle.mseed_repack.proofs.refusing.tell_standing.Goals as goal
+use Rattle.mseed_repack.proofs.refusing.report_standing.Goals as goal
 
 pub returns-in-Fit : goal.returns-in-Fit
 returns-in-Fit g c = rw c.in-Fit.is (silent (g.E.Sink.written c.args.errors.now))
@@ -8,11 +8,11 @@ returns-in-Fit g c = rw c.in-Fit.is (silent (g.E.Sink.written c.args.errors.now)
 pub returns-in-Broken : goal.returns-in-Broken
 returns-in-Broken g c =
     let reported = tells_one (broken_line c.args.channel.now) (g.E.Sink.written c.args.errors.now)
-    (g.E.Sink.written c.tell_broken.new.errors) c.tell_broken.ensures in
+    (g.E.Sink.written c.report_broken.new.errors) c.report_broken.ensures in
     rw c.in-Broken.is reported
 
 pub returns-in-Misfit : goal.returns-in-Misfit
 returns-in-Misfit g c =
     let reported = tells_one (misfit_line c.args.channel.now c.in-Misfit.stretch c.in-Misfit.fault)
-    (g.E.Sink.written c.args.errors.now) (g.E.Sink.written c.tell_misfit.new.errors) c.tell_misfit.ensures in
+    (g.E.Sink.written c.args.errors.now) (g.E.Sink.written c.report_misfit.new.errors) c.report_misfit.ensures in
     rw c.in-Misfit.is reported
