@@ -1,7 +1,7 @@
 -- Lines on standard error, one after another.
 use Rattle.std.proofs.Common.{List, ℕ, [], ◌∷◌, ◌++◌, sym, subst}
 use Rattle.mseed_stream.specs.Device.{BytesWritten}
-use Rattle.mseed_stream.specs.Telling.{Tells}
+use Rattle.mseed_stream.specs.LineWritten.{WritesLine}
 use Rattle.mseed.specs.Outcome.{ReportsLines}
 
 -- some lines, and then others
@@ -10,7 +10,7 @@ pub both_reported : (lines more : List (List ℕ)) (old between new : BytesWritt
 both_reported [] more old between new first then =
     subst (λ (s : BytesWritten). ReportsLines more s new) first then
 both_reported (line ∷ []) [] old between new first then =
-    subst (λ (s : BytesWritten). Tells line old s) (sym then) first
+    subst (λ (s : BytesWritten). WritesLine line old s) (sym then) first
 both_reported (line ∷ []) (next ∷ more) old between new first then = (between, (first, then))
 both_reported (line ∷ next ∷ lines) more old between new first then =
     (first.0, (first.1.0, both_reported (next ∷ lines) more first.0 between new first.1.1 then))

@@ -3,7 +3,7 @@ use Rattle.std.specs.Prelude.{◌≡◌, ◌⊎◌, List, ℕ, map, Option, opti
 use Rattle.mseed_select.specs.Selecting.{selection_of}
 use Rattle.mseed_select.specs.Selection.{Selection}
 use Rattle.mseed_stream.specs.Device.{BytesWritten}
-use Rattle.mseed_stream.specs.Telling.{Tells}
+use Rattle.mseed_stream.specs.LineWritten.{WritesLine}
 use Rattle.mseed_words.specs.declared.request.Command.{Command}
 use Rattle.mseed_words.specs.declared.request.Request.{Request}
 use Rattle.mseed.specs.Done.{bad_value}
@@ -20,7 +20,7 @@ IsAsked request asked files (Err status) old new = ⊥
 -- the words ask for nothing that there is
 abbrev pub HasRefusedRequest : Result Command ℕ → BytesWritten → BytesWritten → Type 0
 HasRefusedRequest (Ok command) old new = ⊥
-HasRefusedRequest (Err status) old new = (status ≡ 3) × Tells bad_value old new
+HasRefusedRequest (Err status) old new = (status ≡ 3) × WritesLine bad_value old new
 
 -- the words aren't those of a command line; the text on standard error is that of `clap`
 abbrev pub HasRefusedWords : Result Command ℕ → BytesWritten → BytesWritten → Type 0
@@ -30,7 +30,7 @@ HasRefusedWords (Err status) old new = status ≡ 3
 -- there was no memory for the words
 abbrev pub LacksMemory : Result Command ℕ → BytesWritten → BytesWritten → Type 0
 LacksMemory (Ok command) old new = ⊥
-LacksMemory (Err status) old new = (status ≡ 2) × Tells no_memory old new
+LacksMemory (Err status) old new = (status ≡ 2) × WritesLine no_memory old new
 
 -- this came of it, unless there was no memory for the words
 abbrev pub UnlessMemoryLacks : (Result Command ℕ → BytesWritten → BytesWritten → Type 0) → Result Command ℕ

@@ -2,7 +2,7 @@
 use Rattle.std.specs.Prelude.{◌≡◌, ℕ, List, Option, Some, None, Result, Ok, Err, codes, string_bytes}
 use Rattle.mseed_stream.specs.Device.{BytesWritten}
 use Rattle.mseed_stream.specs.declared.fault.StreamFault.{StreamFault}
-use Rattle.mseed_stream.specs.Telling.{Tells}
+use Rattle.mseed_stream.specs.LineWritten.{WritesLine}
 use Rattle.mseed_input.specs.Blame.{blame_by}
 use Rattle.mseed_input.specs.Files.{no_memory}
 use Rattle.mseed.specs.Outcome.{EndsBy, Report, with_line, without_line, write_failed}
@@ -33,6 +33,6 @@ bad_value = codes "mseed: bad value\n"
 
 -- why the words request nothing: the status, and the line, which is the text that the refusal has
 abbrev pub EndsRefused : Refusal → ℕ → BytesWritten → BytesWritten → Type 0
-EndsRefused (Text text) status old new = (status ≡ 3) × Tells (string_bytes text) old new
-EndsRefused NoRequest status old new = (status ≡ 3) × Tells bad_value old new
-EndsRefused NoMemory status old new = (status ≡ 2) × Tells no_memory old new
+EndsRefused (Text text) status old new = (status ≡ 3) × WritesLine (string_bytes text) old new
+EndsRefused NoRequest status old new = (status ≡ 3) × WritesLine bad_value old new
+EndsRefused NoMemory status old new = (status ≡ 2) × WritesLine no_memory old new

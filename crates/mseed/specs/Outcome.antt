@@ -1,7 +1,7 @@
 -- How a command ends: by a status and, where it failed, by lines on standard error.
 use Rattle.std.specs.Prelude.{◌≡◌, ℕ, List, [], ◌∷◌, nat_lt, if◌then◌else◌, Result, Ok, Err, codes, is_some}
 use Rattle.mseed_stream.specs.Device.{BytesWritten}
-use Rattle.mseed_stream.specs.Telling.{Tells}
+use Rattle.mseed_stream.specs.LineWritten.{WritesLine}
 use Rattle.mseed_audit.specs.declared.summary.Summary.{Summary}
 use Rattle.mseed_audit.specs.declared.summary.AuditFault.{AuditFault}
 use Rattle.mseed_audit.specs.declared.summary.AuditFault.TheVariants.{Write, Memory}
@@ -20,9 +20,9 @@ write_failed = codes "mseed: write failed\n"
 -- lines were written, one after another
 abbrev pub ReportsLines : List (List ℕ) → BytesWritten → BytesWritten → Type 0
 ReportsLines [] old new = new ≡ old
-ReportsLines (line ∷ []) old new = Tells line old new
+ReportsLines (line ∷ []) old new = WritesLine line old new
 ReportsLines (line ∷ next ∷ lines) old new =
-    (between : BytesWritten) × (Tells line old between × ReportsLines (next ∷ lines) between new)
+    (between : BytesWritten) × (WritesLine line old between × ReportsLines (next ∷ lines) between new)
 
 -- what a command comes to at its end: its status, its lines on standard error, and what is wrong with its input
 pub record Report : Type 0 where

@@ -5,7 +5,7 @@ ghost use Rattle.mseed_join.specs.declared.joining.Form.{Form};
 ghost use Rattle.mseed_select.specs.Selecting.{selection_of};
 ghost use Rattle.mseed_select.specs.Selection.{Selection};
 ghost use Rattle.mseed_stream.specs.Device.{nothing_read};
-ghost use Rattle.mseed_stream.specs.Telling.{Tells};
+ghost use Rattle.mseed_stream.specs.LineWritten.{WritesLine};
 ghost use Rattle.mseed_words.specs.Files.{takes_files};
 ghost use Rattle.mseed_words.specs.Words.{AreRefused, AsksFor, AsksForNothing, CanBeCalled};
 ghost use Rattle.mseed_words.specs.declared.request.Request.{Request};
@@ -244,7 +244,7 @@ fn options_of(packing: Packing) -> Options
 /// Reports that the output failed, and returns the exit status.
 pub fn write_failed<E: Sink>(errors: &mut E) -> u8
     ensures status { result ≡ 2 }
-    ensures reported { Tells write_failed (E.written errors.old) (E.written errors.new) }
+    ensures reported { WritesLine write_failed (E.written errors.old) (E.written errors.new) }
 {
     report(errors, b"mseed: write failed\n");
     FAULT
@@ -264,7 +264,7 @@ fn refuse<E: Sink>(errors: &mut E, refusal: &Refusal) -> u8
 /// Reports a bad command line, and returns the exit status.
 fn refuse_line<E: Sink>(errors: &mut E, line: &[u8]) -> u8
     ensures status { result ≡ 3 }
-    ensures reported { Tells line.now (E.written errors.old) (E.written errors.new) }
+    ensures reported { WritesLine line.now (E.written errors.old) (E.written errors.new) }
 {
     report(errors, line);
     BAD_COMMAND
@@ -273,7 +273,7 @@ fn refuse_line<E: Sink>(errors: &mut E, line: &[u8]) -> u8
 /// Reports that memory was refused, to a command or for the arguments of the command line, and returns the exit status.
 pub fn refuse_memory<E: Sink>(errors: &mut E) -> u8
     ensures status { result ≡ 2 }
-    ensures reported { Tells no_memory (E.written errors.old) (E.written errors.new) }
+    ensures reported { WritesLine no_memory (E.written errors.old) (E.written errors.new) }
 {
     report_no_memory(errors);
     FAULT

@@ -2,7 +2,7 @@
 //! is reported whatever memory there is.
 ghost use Rattle.std.specs.Prelude.{◌≡◌, ◌++◌, codes};
 ghost use Rattle.mseed_repack.specs.ByStretches.{broken_line};
-ghost use Rattle.mseed_stream.specs.Telling.{Tells};
+ghost use Rattle.mseed_stream.specs.LineWritten.{WritesLine};
 ghost use Rattle.mseed_text.specs.Fault.{fault_line};
 ghost use Rattle.mseed.specs.Joined.{join_fault_text};
 ghost use Rattle.mseed.specs.Repacked.{misfit_text, refusal_status, refusal_text};
@@ -22,7 +22,7 @@ use slink_links::FAULT;
 /// Reports why an archive wasn't packed anew, and returns the exit status: a broken channel is no fault.
 pub fn refuse_to_repack<E: Sink>(errors: &mut E, fault: &RepackFault) -> u8
     ensures status { result ≡ refusal_status fault.now }
-    ensures reported { Tells (refusal_text fault.now) (E.written errors.old) (E.written errors.new) }
+    ensures reported { WritesLine (refusal_text fault.now) (E.written errors.old) (E.written errors.new) }
 {
     match fault {
         RepackFault::Stream(fault) => refuse_input(errors, fault),
@@ -36,7 +36,7 @@ pub fn refuse_to_repack<E: Sink>(errors: &mut E, fault: &RepackFault) -> u8
 /// Reports why an archive wasn't packed anew by stretches, and returns the exit status: a broken channel is no fault.
 pub fn refuse_to_stretch<E: Sink>(errors: &mut E, fault: &StretchesFault) -> u8
     ensures status { result ≡ stretches_status fault.now }
-    ensures reported { Tells (stretches_text fault.now) (E.written errors.old) (E.written errors.new) }
+    ensures reported { WritesLine (stretches_text fault.now) (E.written errors.old) (E.written errors.new) }
 {
     match fault {
         StretchesFault::Stream(fault) => refuse_input(errors, fault),
@@ -53,7 +53,7 @@ pub fn refuse_to_stretch<E: Sink>(errors: &mut E, fault: &StretchesFault) -> u8
 /// Reports why parts weren't joined, and returns the exit status.
 pub fn refuse_to_join<E: Sink>(errors: &mut E, fault: &JoinsFault) -> u8
     ensures status { result ≡ 2 }
-    ensures reported { Tells (join_fault_text fault.now) (E.written errors.old) (E.written errors.new) }
+    ensures reported { WritesLine (join_fault_text fault.now) (E.written errors.old) (E.written errors.new) }
 {
     match fault {
         JoinsFault::Line { number, .. } => {
@@ -70,7 +70,7 @@ pub fn refuse_to_join<E: Sink>(errors: &mut E, fault: &JoinsFault) -> u8
 /// Reports how many parts were read, and that another number of them was expected, and returns the exit status.
 fn refuse_count<E: Sink>(errors: &mut E, parts: u64, expected: u64) -> u8
     ensures status { result ≡ 2 }
-    ensures reported { Tells (join_fault_text (JoinsFault.Count parts expected)) (E.written errors.old)
+    ensures reported { WritesLine (join_fault_text (JoinsFault.Count parts expected)) (E.written errors.old)
         (E.written errors.new) }
 {
     let mut line = Line::new();
@@ -86,7 +86,7 @@ fn refuse_count<E: Sink>(errors: &mut E, parts: u64, expected: u64) -> u8
 /// Reports with what fault the input ended, and returns the exit status.
 pub fn refuse_input<E: Sink>(errors: &mut E, fault: &StreamFault) -> u8
     ensures status { result ≡ 2 }
-    ensures reported { Tells (codes "mseed: " ++ fault_line fault.now) (E.written errors.old) (E.written errors.new) }
+    ensures reported { WritesLine (codes "mseed: " ++ fault_line fault.now) (E.written errors.old) (E.written errors.new) }
 {
     report_fault(errors, fault);
     FAULT
@@ -95,7 +95,7 @@ pub fn refuse_input<E: Sink>(errors: &mut E, fault: &StreamFault) -> u8
 /// Reports that a channel is broken, and returns the exit status.
 fn refuse_broken<E: Sink>(errors: &mut E, channel: &Codes) -> u8
     ensures status { result ≡ 1 }
-    ensures reported { Tells (broken_line channel.now) (E.written errors.old) (E.written errors.new) }
+    ensures reported { WritesLine (broken_line channel.now) (E.written errors.old) (E.written errors.new) }
 {
     report_broken(channel, errors);
     BROKEN
@@ -104,7 +104,7 @@ fn refuse_broken<E: Sink>(errors: &mut E, channel: &Codes) -> u8
 /// Reports why a channel can't be packed, by the number of the reason, and returns the exit status.
 fn refuse_unfit<E: Sink>(errors: &mut E, channel: &Codes, fault: PackFault) -> u8
     ensures status { result ≡ 2 }
-    ensures reported { Tells (misfit_text channel.now fault) (E.written errors.old) (E.written errors.new) }
+    ensures reported { WritesLine (misfit_text channel.now fault) (E.written errors.old) (E.written errors.new) }
 {
     let mut line = Line::new();
     line.put(b"mseed: ");

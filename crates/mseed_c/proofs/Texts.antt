@@ -4,7 +4,7 @@ use Rattle.std.proofs.Common.{Result, Ok, Err, IfSome}
 use Rattle.std.specs.Result.{result_ok}
 use Rattle.std.specs.Io.KnownBytes.{IsAtEnd}
 use Rattle.mseed_stream.specs.Device.{BytesRead, BytesWritten, nothing_read}
-use Rattle.mseed_stream.specs.Cutting.{TellsMore}
+use Rattle.mseed_stream.specs.Cutting.{GivesMore}
 use Rattle.mseed_audit.specs.declared.summary.Summary.{Summary}
 use Rattle.mseed_c.specs.Audited.{IsReadOf, IsShown, status_of, totals_of}
 use Rattle.mseed_c.specs.Lent.{read_by, lent_by, left_of}
@@ -14,11 +14,11 @@ use Rattle.mseed_c.specs.declared.auditing.Totals.{Totals}
 use Rattle.mseed_c.specs.declared.lent.Lent.{Lent}
 
 read_of : (bytes : List ℕ) (old new : Lent) → read_by old ≡ nothing_read → left_of old ≡ Some bytes
-    → TellsMore (read_by old) (read_by new) (left_of old) (left_of new)
+    → GivesMore (read_by old) (read_by new) (left_of old) (left_of new)
     → ((read_by new).is_at_end ≡ true → IsAtEnd (left_of new)) → IsReadOf bytes (read_by new)
 read_of bytes old new read left tells known =
-    let P : BytesRead → Type 0 = λ h. TellsMore h (read_by new) (left_of old) (left_of new) in
-    let Q : Option (List ℕ) → Type 0 = λ o. TellsMore nothing_read (read_by new) o (left_of new) in
+    let P : BytesRead → Type 0 = λ h. GivesMore h (read_by new) (left_of old) (left_of new) in
+    let Q : Option (List ℕ) → Type 0 = λ o. GivesMore nothing_read (read_by new) o (left_of new) in
     let t = subst Q left (subst P read tells) in
     record {
       rest = lent_by new;
@@ -30,7 +30,7 @@ read_of bytes old new read left tells known =
 pub shown : (Says : BytesRead → Summary → List ℕ → Type 0) (bytes room after : List ℕ) (old new : Lent)
     (summary : Summary) (text held : List ℕ) (totals : Totals) (status : ℕ)
     → read_by old ≡ nothing_read → left_of old ≡ Some bytes
-    → TellsMore (read_by old) (read_by new) (left_of old) (left_of new)
+    → GivesMore (read_by old) (read_by new) (left_of old) (left_of new)
     → ((read_by new).is_at_end ≡ true → IsAtEnd (left_of new))
     → Says (read_by new) summary text → held ≡ text
     → after ≡ overwritten held room → totals ≡ totals_of summary (length held) → status ≡ status_of summary

@@ -1,7 +1,7 @@
 -- What serving the records of an archive and fetching come to: the exit status, and what was written.
 use Rattle.std.specs.Prelude.{◌≡◌, ℕ, List, Result, Ok, Err}
 use Rattle.mseed_stream.specs.Device.{BytesRead, BytesWritten}
-use Rattle.mseed_stream.specs.Telling.{Tells}
+use Rattle.mseed_stream.specs.LineWritten.{WritesLine}
 use Rattle.slink_feed.specs.Listening.{Listening}
 use Rattle.slink_feed.specs.Window.{Window}
 use Rattle.slink_feed.specs.declared.input.InputFault.{InputFault}
@@ -16,7 +16,7 @@ use Rattle.mseed_feed.specs.Plans.{fill_text, first_client}
 -- by what filling the feed came to: it was served; or status 2, and the line of what is wrong with the input
 abbrev pub IsServedBy : Result (List Window) InputFault → ℕ → BytesWritten → BytesWritten → Type 0
 IsServedBy (Ok feed) status old new = HasServed status old new
-IsServedBy (Err fault) status old new = (status ≡ 2) × Tells (fill_text fault) old new
+IsServedBy (Err fault) status old new = (status ≡ 2) × WritesLine (fill_text fault) old new
 
 -- A feed was filled by what was read of an input, which decides it but for memory, and served where it could be.
 pub record HasServedInput (serving : Serving) (read : BytesRead) (status : ℕ) (old new : BytesWritten) : Type 0 where

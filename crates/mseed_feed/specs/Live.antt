@@ -2,7 +2,7 @@
 use Rattle.std.specs.Prelude.{◌≡◌, ℕ, ◌^◌, ◌≤◌, Bool, true, List, codes}
 use Rattle.std.specs.List.{AllByRecursion}
 use Rattle.mseed_stream.specs.Device.{BytesWritten}
-use Rattle.mseed_stream.specs.Telling.{Tells}
+use Rattle.mseed_stream.specs.LineWritten.{WritesLine}
 use Rattle.slink_wire.specs.Place.{Fields}
 use Rattle.slink_feed.specs.Intake.{places_of}
 use Rattle.slink_feed.specs.Window.{Window}
@@ -21,7 +21,7 @@ CanNumber feed = AllByRecursion (λ w. w.next ≤ 2 ^ 62) feed
 -- may have been cut off, since the device failed, and standard error got its line.
 pub data EndsWith (s : ServerState) (has_failed : Bool) (due status : ℕ) (old new : BytesWritten) : Type 0 where
   to_the_end : IsFinished s → status ≡ due → new ≡ old → EndsWith s has_failed due status old new
-  cut_off : has_failed ≡ true → status ≡ 2 → Tells (codes "mseed: link failed\n") old new
+  cut_off : has_failed ≡ true → status ≡ 2 → WritesLine (codes "mseed: link failed\n") old new
       → EndsWith s has_failed due status old new
 
 -- The input came to its end, where a record ends. Or it is wrong, and is read no further: standard error got the line
@@ -30,11 +30,11 @@ pub data HasEnded (places : List Fields) (s : ServerState) (has_failed : Bool) (
     (old new : BytesWritten) : Type 0 where
   input_ended : EndsWith s has_failed 0 status old new → HasEnded places s has_failed log status old new
   input_wrong : (fault : InputFault) (reported : BytesWritten) → IsInputFault places (input_of log) fault
-      → Tells (fill_text fault) old reported → EndsWith s has_failed 2 status reported new
+      → WritesLine (fill_text fault) old reported → EndsWith s has_failed 2 status reported new
       → HasEnded places s has_failed log status old new
   for_long : (fault last : InputFault) (reported : BytesWritten) → IsInputFault places (input_of log) fault
-      → Tells (fill_text fault) old reported → IsInputFault places (input_of log) last → status ≡ 2
-      → Tells (codes "mseed: link failed\n") reported new → HasEnded places s has_failed log status old new
+      → WritesLine (fill_text fault) old reported → IsInputFault places (input_of log) last → status ≡ 2
+      → WritesLine (codes "mseed: link failed\n") reported new → HasEnded places s has_failed log status old new
 
 -- The rings were filled by what the input gave, and each link was served from them by a session of its own, as the log
 -- of all that happened says; or there was no memory for rings or links.
@@ -42,11 +42,11 @@ pub data HasServed (feed : List Window) (has_failed : Bool) (log : List Happenin
     : Type 0 where
   served : (s : ServerState) → IsServing feed s log → HasEnded (places_of feed) s has_failed log status old new
       → HasServed feed has_failed log status old new
-  no_room : status ≡ 2 → Tells no_memory old new → HasServed feed has_failed log status old new
+  no_room : status ≡ 2 → WritesLine no_memory old new → HasServed feed has_failed log status old new
 
 -- Over TCP: so it was, whatever happened; or the port couldn't be had, or there was no memory for the device.
 pub data HasServedTcp (feed : List Window) (status : ℕ) (old new : BytesWritten) : Type 0 where
   over_links : (has_failed : Bool) (log : List Happening) → HasServed feed has_failed log status old new
       → HasServedTcp feed status old new
-  no_port : status ≡ 2 → Tells (codes "mseed: link failed\n") old new → HasServedTcp feed status old new
-  no_device : status ≡ 2 → Tells no_memory old new → HasServedTcp feed status old new
+  no_port : status ≡ 2 → WritesLine (codes "mseed: link failed\n") old new → HasServedTcp feed status old new
+  no_device : status ≡ 2 → WritesLine no_memory old new → HasServedTcp feed status old new

@@ -2,7 +2,7 @@
 use Rattle.std.specs.Prelude.{◌≡◌, ℕ, List, ◌++◌, Result, Ok, Err, codes, decimal}
 use Rattle.mseed_input.specs.Files.{no_memory}
 use Rattle.mseed_stream.specs.Device.{BytesRead, BytesWritten}
-use Rattle.mseed_stream.specs.Telling.{Tells}
+use Rattle.mseed_stream.specs.LineWritten.{WritesLine}
 use Rattle.mseed_stream.specs.declared.fault.StreamFault.TheVariants.{Memory}
 use Rattle.mseed_text.specs.Fault.{fault_line}
 use Rattle.slink_feed.specs.Listening.{Listening, new_client}
@@ -36,7 +36,7 @@ abbrev pub IsPlannedBy : {A : Type 0} → Serving → Result (List Window) Input
 IsPlannedBy serving (Ok feed) (Ok plan) old new = IsServePlan serving feed plan × (new ≡ old)
 IsPlannedBy serving (Ok feed) (Err status) old new = ⊥
 IsPlannedBy serving (Err fault) (Ok plan) old new = ⊥
-IsPlannedBy serving (Err fault) (Err status) old new = (status ≡ 2) × Tells (fill_text fault) old new
+IsPlannedBy serving (Err fault) (Err status) old new = (status ≡ 2) × WritesLine (fill_text fault) old new
 
 -- what `serve` comes to before it opens a socket; the input decides it, but for memory
 pub record IsServeRun {A : Type 0} (serving : Serving) (result : Result (ServePlan A) ℕ) (read : BytesRead)

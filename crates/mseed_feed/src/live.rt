@@ -1,6 +1,6 @@
 //! Serving the records of an input to many clients at once, while they come.
 ghost use Rattle.std.specs.Prelude.{◌≡◌, ◌⊎◌, [], List, IfErr, IfOk, codes, length, true};
-ghost use Rattle.mseed_stream.specs.Telling.{Tells};
+ghost use Rattle.mseed_stream.specs.LineWritten.{WritesLine};
 ghost use Rattle.slink_feed.specs.Intake.{places_of};
 ghost use Rattle.slink_feed.specs.Window.{Window};
 ghost use Rattle.slink_live.specs.Happening.{input_of};

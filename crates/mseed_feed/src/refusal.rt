@@ -3,7 +3,7 @@
 ghost use Rattle.std.specs.Prelude.{◌≡◌, codes};
 ghost use Rattle.mseed_feed.specs.Plans.{fill_text};
 ghost use Rattle.mseed_input.specs.Files.{no_memory};
-ghost use Rattle.mseed_stream.specs.Telling.{Tells};
+ghost use Rattle.mseed_stream.specs.LineWritten.{WritesLine};
 
 use mseed_input::{report_fault, report_no_memory, report_number};
 use mseed_stream::{Sink, StreamFault, report};
@@ -12,7 +12,7 @@ use slink_links::FAULT;
 
 /// Reports why a feed isn't filled further.
 pub(crate) fn report_filling<E: Sink>(errors: &mut E, fault: &InputFault)
-    ensures { Tells (fill_text fault.now) (E.written errors.old) (E.written errors.new) }
+    ensures { WritesLine (fill_text fault.now) (E.written errors.old) (E.written errors.new) }
 {
     match fault {
         InputFault::Stream(StreamFault::Memory) => report_no_memory(errors),
@@ -31,7 +31,7 @@ pub(crate) fn report_filling<E: Sink>(errors: &mut E, fault: &InputFault)
 /// Reports that memory was refused, and returns the exit status.
 pub(crate) fn refuse_memory<E: Sink>(errors: &mut E) -> u8
     ensures status { result ≡ 2 }
-    ensures reported { Tells no_memory (E.written errors.old) (E.written errors.new) }
+    ensures reported { WritesLine no_memory (E.written errors.old) (E.written errors.new) }
 {
     report_no_memory(errors);
     FAULT
@@ -40,7 +40,7 @@ pub(crate) fn refuse_memory<E: Sink>(errors: &mut E) -> u8
 /// Reports that a link failed, and returns the exit status.
 pub(crate) fn link_failed<E: Sink>(errors: &mut E) -> u8
     ensures status { result ≡ 2 }
-    ensures reported { Tells (codes "mseed: link failed\n") (E.written errors.old) (E.written errors.new) }
+    ensures reported { WritesLine (codes "mseed: link failed\n") (E.written errors.old) (E.written errors.new) }
 {
     report(errors, b"mseed: link failed\n");
     FAULT

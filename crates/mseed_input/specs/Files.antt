@@ -5,7 +5,7 @@ use Rattle.std.specs.Prelude.{if◌then◌else◌, Option, Some, None, Result, O
 use Rattle.mseed_files.specs.Standing.{IsPlace, Standing}
 use Rattle.mseed_files.specs.declared.place.Place.{Place}
 use Rattle.mseed_stream.specs.Device.{BytesWritten}
-use Rattle.mseed_stream.specs.Telling.{Tells}
+use Rattle.mseed_stream.specs.LineWritten.{WritesLine}
 use Rattle.mseed_input.specs.declared.blame.Blame.{Blame}
 use Rattle.mseed_input.specs.declared.blame.Blame.TheVariants.{Nothing, Read, Fault, Cut}
 
@@ -30,7 +30,7 @@ fault_in offset word = codes "mseed: fault in " ++ map printed_byte word ++ plac
 
 -- the line was written, or there was no memory for it
 abbrev pub ReportsName : List ℕ → BytesWritten → BytesWritten → Type 0
-ReportsName line old new = Tells line old new ⊎ Tells no_memory old new
+ReportsName line old new = WritesLine line old new ⊎ WritesLine no_memory old new
 
 -- so many words name files
 abbrev pub Names : Type 0
@@ -79,7 +79,7 @@ last_of offset size = if size == 0 then None else Some (offset - size)
 -- by the length of the record before, if that is known: else there was no memory to know it
 abbrev pub ReportsFault : {E : Type 0} → Result ℕ E → ℕ → ℕ → Names → Standing → BytesWritten
     → BytesWritten → Type 0
-ReportsFault (Err lacks) offset reached names s old new = Tells no_memory old new
+ReportsFault (Err lacks) offset reached names s old new = WritesLine no_memory old new
 ReportsFault (Ok size) offset reached names s old new =
     (place : Option Place) × IsReportedPlace s offset (last_of offset size) reached place
     × ReportsPlace place names old new

@@ -2,7 +2,7 @@
 ghost use Rattle.std.specs.Prelude.{◌≡◌, ◌++◌, IfOk, map};
 ghost use Rattle.mseed_input.specs.Files.{IsReportedPlace, ReportsBlame, ReportsFault, ReportsFile, ReportsName};
 ghost use Rattle.mseed_input.specs.Files.{ReportsPlace, cannot_read, fault_in, last_of, no_memory, printed_byte};
-ghost use Rattle.mseed_stream.specs.Telling.{Tells};
+ghost use Rattle.mseed_stream.specs.LineWritten.{WritesLine};
 
 use crate::blame::Blame;
 use crate::lines::report_no_memory;

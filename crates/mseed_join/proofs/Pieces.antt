@@ -6,7 +6,7 @@ use Rattle.std.specs.List.Sorted.{IsStrictlySortedBy}
 use Rattle.std.specs.Option.{option_map}
 use Rattle.mseed_record.specs.View.{View}
 use Rattle.std.specs.Io.KnownBytes.{Consumes, IsAtEnd}
-use Rattle.mseed_stream.specs.Cutting.{TellsMore}
+use Rattle.mseed_stream.specs.Cutting.{GivesMore}
 use Rattle.mseed_stream.specs.Device.{BytesRead, nothing_read}
 use Rattle.mseed_stream.specs.declared.fault.StreamFault.{StreamFault}
 use Rattle.mseed_audit.specs.declared.channel.Channel.{Channel}
@@ -168,5 +168,5 @@ read_by archive h reported (Some rest) same takes done = record {
 }
 
 pub read_of : (archive : List ℕ) (h : BytesRead) (left : Option (List ℕ))
-    → TellsMore nothing_read h (Some archive) left → (h.is_at_end ≡ true → IsAtEnd left) → IsReadOf archive h
+    → GivesMore nothing_read h (Some archive) left → (h.is_at_end ≡ true → IsAtEnd left) → IsReadOf archive h
 read_of archive h left reported done = read_by archive h reported.0 left reported.1 reported.2 done

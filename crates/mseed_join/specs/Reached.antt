@@ -3,7 +3,7 @@ use Rattle.std.specs.Prelude.{⊤, ◌≡◌, ◌+◌, ℕ, List, [], ◌∷◌,
 use Rattle.std.specs.Prelude.{Option, Some, None, ◌⊎◌}
 use Rattle.std.specs.List.{AllByRecursion}
 use Rattle.mseed_stream.specs.Device.{BytesWritten}
-use Rattle.mseed_stream.specs.Telling.{Tells}
+use Rattle.mseed_stream.specs.LineWritten.{WritesLine}
 use Rattle.mseed_stream.specs.declared.fault.StreamFault.{StreamFault}
 use Rattle.mseed_audit.specs.declared.channel.Channel.{Channel}
 use Rattle.mseed_text.specs.Fault.{fault_line}
@@ -90,7 +90,7 @@ passed_lines false ws = []
 -- lines were written, each as far as the device accepted it
 pub data AreReported : List (List ℕ) → BytesWritten → BytesWritten → Type 0 where
   none : (s : BytesWritten) → AreReported [] s s
-  one : (line : List ℕ) (lines : List (List ℕ)) (old now new : BytesWritten) → Tells line old now
+  one : (line : List ℕ) (lines : List (List ℕ)) (old now new : BytesWritten) → WritesLine line old now
       → AreReported lines now new → AreReported (line ∷ lines) old new
 
 -- ---- what was read

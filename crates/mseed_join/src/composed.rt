@@ -1,7 +1,7 @@
 //! Laws: what parts say of the archives one after another.
 ghost use Rattle.std.specs.Prelude.{◌≡◌, ◌<◌, ◌^◌, ◌++◌, Bool, List, ℕ, Option, Some, false, length, take, true};
 ghost use Rattle.std.specs.Io.KnownBytes.{IsAtEnd};
-ghost use Rattle.mseed_stream.specs.Cutting.{TellsMore};
+ghost use Rattle.mseed_stream.specs.Cutting.{GivesMore};
 ghost use Rattle.mseed_stream.specs.Device.{BytesRead, nothing_read};
 ghost use Rattle.mseed_audit.specs.Each.{AuditedEach};
 ghost use Rattle.mseed_audit.specs.Summary.{Audited};
@@ -33,7 +33,7 @@ pub fn joined_audit()
 
     // What a source gave that is known to have left an archive, and nothing once it is at its end, was read of it.
     ensures read { (archive : List ℕ) (h : BytesRead) (left : Option (List ℕ))
-        → TellsMore nothing_read h (Some archive) left → (h.is_at_end ≡ true → IsAtEnd left) → IsReadOf archive h }
+        → GivesMore nothing_read h (Some archive) left → (h.is_at_end ≡ true → IsAtEnd left) → IsReadOf archive h }
 
     // What was read to its end ends by its bytes alone.
     ensures at_end { (h : BytesRead) (a : Audited h) → h.is_at_end ≡ true → EndsByBytes a.end }

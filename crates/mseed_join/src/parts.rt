@@ -2,7 +2,7 @@
 ghost use Rattle.std.specs.Prelude.{◌≡◌, []};
 ghost use Rattle.mseed_stream.specs.Calls.{ReadsOn};
 ghost use Rattle.mseed_stream.specs.Device.{nothing_read};
-ghost use Rattle.mseed_stream.specs.Telling.{Tells};
+ghost use Rattle.mseed_stream.specs.LineWritten.{WritesLine};
 ghost use Rattle.mseed_join.specs.ReadParts.{IsReadOutcome};
 ghost use Rattle.mseed_join.specs.Reached.{AreReported, passed_line};
 ghost use Rattle.mseed_join.specs.private.Bordered.{IsReading};
@@ -110,7 +110,7 @@ fn tell_passed<E: Sink>(errors: &mut E, reported: &Reported)
 
 /// Reports the fault with which the part of this number ends.
 fn tell_fault<E: Sink>(errors: &mut E, part: u64, fault: &StreamFault)
-    ensures { Tells (passed_line part fault.now) (E.written errors.old) (E.written errors.new) }
+    ensures { WritesLine (passed_line part fault.now) (E.written errors.old) (E.written errors.new) }
 {
     let mut line = Line::new();
     line.put(b"mseed: part ");

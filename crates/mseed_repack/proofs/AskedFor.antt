@@ -9,7 +9,7 @@ use Rattle.mseed_record.specs.View.{View, IsView}
 use Rattle.mseed_record.specs.Viewing.{view_of}
 use Rattle.mseed_record.specs.declared.view.RecordView.{RecordView}
 use Rattle.mseed_stream.specs.Device.{BytesRead, BytesWritten}
-use Rattle.mseed_stream.specs.Telling.{Tells}
+use Rattle.mseed_stream.specs.LineWritten.{WritesLine}
 use Rattle.mseed_stream.specs.Walk.{bytes_in}
 use Rattle.mseed_select.specs.Select.{selected_bytes}
 use Rattle.mseed_select.specs.Selection.{Selection, asks_for}
@@ -121,7 +121,7 @@ pub none_lacks : (count : ℕ) (s : BytesWritten) → count ≤ 0 → ReportsEac
 none_lacks zero s h = silent s
 none_lacks (suc n) s h = absurd (omega (arith, h))
 
-pub some_lack : (count : ℕ) (old new : BytesWritten) → 0 < count → Tells (without_time_line count) old new
+pub some_lack : (count : ℕ) (old new : BytesWritten) → 0 < count → WritesLine (without_time_line count) old new
     → ReportsEach (without_time_lines count) old new
 some_lack zero old new h told = absurd (omega (arith, h))
 some_lack (suc n) old new h told = tells_one (without_time_line (suc n)) old new told

@@ -6,7 +6,7 @@ use Rattle.std.proofs.lemmas.List.{get_or_default, take_all}
 use Rattle.std.proofs.lemmas.List.Elements.{All-from_recursion, All-take, recursion_from_All}
 use Rattle.mseed_record.specs.View.{View}
 use Rattle.mseed_stream.specs.Device.{BytesRead, BytesWritten}
-use Rattle.mseed_stream.specs.Telling.{Tells}
+use Rattle.mseed_stream.specs.LineWritten.{WritesLine}
 use Rattle.mseed_audit.specs.Channels.{added_from}
 use Rattle.mseed_audit.specs.Follows.{IsSound}
 use Rattle.mseed_audit.specs.Verdict.{AreVerdicts, says_continuous}
@@ -193,7 +193,7 @@ tells_append leading _ old between _ a (also lines line _ middle new b reported)
     subst (λ (ls : List (List ℕ)). ReportsEach ls old new) (append_assoc leading lines (line ∷ []))
     (also (leading ++ lines) line old middle new (tells_append leading lines old between middle a b) reported)
 
-pub tells_one : (line : List ℕ) (old new : BytesWritten) → Tells line old new → ReportsEach (line ∷ []) old new
+pub tells_one : (line : List ℕ) (old new : BytesWritten) → WritesLine line old new → ReportsEach (line ∷ []) old new
 tells_one line old new reported = also [] line old old new (silent old) reported
 
 pub tells_next : (cs : List Channel) (ss : List Standing) (k : ℕ) (c : Channel) (s : Standing)

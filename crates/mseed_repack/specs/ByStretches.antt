@@ -4,7 +4,7 @@ use Rattle.std.specs.Prelude.{codes, decimal}
 use Rattle.std.specs.List.{AllByRecursion}
 use Rattle.mseed_record.specs.View.{View}
 use Rattle.mseed_stream.specs.Device.{BytesRead, BytesWritten}
-use Rattle.mseed_stream.specs.Telling.{Tells}
+use Rattle.mseed_stream.specs.LineWritten.{WritesLine}
 use Rattle.mseed_stream.specs.declared.fault.StreamFault.{StreamFault}
 use Rattle.mseed_stream.specs.declared.fault.StreamFault.TheVariants.{Memory as NoMemory}
 use Rattle.mseed_audit.specs.Follows.{IsSound}
@@ -119,7 +119,7 @@ lines_of (c ∷ cs) (s ∷ ss) = line_of c.0 s ++ lines_of cs ss
 pub data ReportsEach : List (List ℕ) → BytesWritten → BytesWritten → Type 0 where
   silent : (s : BytesWritten) → ReportsEach [] s s
   also : (lines : List (List ℕ)) (line : List ℕ) (old between new : BytesWritten) → ReportsEach lines old between
-      → Tells line between new → ReportsEach (lines ++ line ∷ []) old new
+      → WritesLine line between new → ReportsEach (lines ++ line ∷ []) old new
 
 -- Of the channels that fit a text was written of which this is so; and the others were reported, unless there was to be
 -- none.

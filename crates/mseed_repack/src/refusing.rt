@@ -3,7 +3,7 @@ ghost use Rattle.std.specs.Prelude.{◌≡◌, ◌<◌, ◌≤◌, List, length,
 ghost use Rattle.std.specs.Prelude.{slice_index_or};
 ghost use Rattle.std.specs.List.{AllByRecursion};
 ghost use Rattle.mseed_record.specs.View.{View};
-ghost use Rattle.mseed_stream.specs.Telling.{Tells};
+ghost use Rattle.mseed_stream.specs.LineWritten.{WritesLine};
 ghost use Rattle.mseed_pack.specs.declared.options.Options.{Options};
 ghost use Rattle.mseed_repack.specs.ByStretches.{AreStandings, IsFit, ReportsEach, left_of, lines_of, misfit_line};
 ghost use Rattle.mseed_repack.specs.ByStretches.{broken_line, line_of, misfit_number, worse_of};
@@ -117,7 +117,7 @@ fn report_standing<E: Sink>(channel: &Codes, standing: &Standing, errors: &mut E
 
 /// Writes a line to `errors` that says that a channel is broken. A failure of `errors` is ignored.
 pub fn report_broken<E: Sink>(channel: &Codes, errors: &mut E)
-    ensures { Tells (broken_line channel.now) (E.written errors.old) (E.written errors.new) }
+    ensures { WritesLine (broken_line channel.now) (E.written errors.old) (E.written errors.new) }
 {
     let mut line = Line::new();
     line.put(b"mseed: ");
@@ -129,7 +129,7 @@ pub fn report_broken<E: Sink>(channel: &Codes, errors: &mut E)
 /// Writes a line to `errors` that says which stretch of a channel can't be packed, by its number, from 1, and why, by
 /// [`misfit_number`]. A failure of `errors` is ignored.
 pub fn report_misfit<E: Sink>(channel: &Codes, stretch: u64, fault: PackFault, errors: &mut E)
-    ensures { Tells (misfit_line channel.now stretch fault) (E.written errors.old) (E.written errors.new) }
+    ensures { WritesLine (misfit_line channel.now stretch fault) (E.written errors.old) (E.written errors.new) }
 {
     let mut line = Line::new();
     line.put(b"mseed: ");

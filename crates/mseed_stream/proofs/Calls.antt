@@ -6,11 +6,11 @@ use Rattle.std.proofs.lemmas.Bool.{false≢true}
 use Rattle.std.proofs.lemmas.List.{append_cancel_left}
 use Rattle.std.specs.Io.KnownBytes.{Appends}
 use Rattle.mseed_stream.specs.Calls.{ReadsOn, TakesMore, WritesOn}
-use Rattle.mseed_stream.specs.Cutting.{TellsMore}
+use Rattle.mseed_stream.specs.Cutting.{GivesMore}
 use Rattle.mseed_stream.specs.Device.{BytesRead, BytesWritten}
 
 -- what was read by two calls
-pub tells_on : (a b c : BytesRead) (p q r : Option (List ℕ)) → TellsMore a b p q → TellsMore b c q r → TellsMore a c p r
+pub tells_on : (a b c : BytesRead) (p q r : Option (List ℕ)) → GivesMore a b p q → GivesMore b c q r → GivesMore a c p r
 tells_on a b c p q r one two = (
   one.0 ++ two.0,
   two.1 ∙ (ap (λ (xs : List ℕ). xs ++ two.0) one.1 ∙ append_assoc a.bytes one.0 two.0),
@@ -31,7 +31,7 @@ pub takes_none : (s : BytesWritten) (p : Option (List ℕ)) → TakesMore s s p 
 takes_none s p = ([], sym (append-nil s.bytes), Appends-nil p)
 
 -- a call that reads on after others
-pub reads_on : (a b c : BytesRead) (p q r : Option (List ℕ)) (x y z : BytesWritten) → TellsMore a b p q → y ≡ x
+pub reads_on : (a b c : BytesRead) (p q r : Option (List ℕ)) (x y z : BytesWritten) → GivesMore a b p q → y ≡ x
     → ReadsOn b c q r y z → ReadsOn a c p r x z
 reads_on a b c p q r x y z more beside one = record {
   more = tells_on a b c p q r more one.more;

@@ -1,7 +1,7 @@
 -- What a call keeps of the source that it reads, and of the sink that it writes.
 use Rattle.std.specs.Prelude.{◌≡◌, true, ℕ, List, ◌++◌, Option}
 use Rattle.std.specs.Io.KnownBytes.{Appends, IsAtEnd}
-use Rattle.mseed_stream.specs.Cutting.{TellsMore}
+use Rattle.mseed_stream.specs.Cutting.{GivesMore}
 use Rattle.mseed_stream.specs.Device.{BytesRead, BytesWritten}
 
 -- what more a sink accepted, and what it's known to hold
@@ -12,7 +12,7 @@ TakesMore old new held holds = (more : List ℕ) × (new.bytes ≡ old.bytes ++ 
 -- accepted, where it is a sink as well.
 pub record ReadsOn (old new : BytesRead) (left rest : Option (List ℕ)) (apart later : BytesWritten) : Type 0 where
   -- What the source is known to have left is what was read of it..
-  pub more : TellsMore old new left rest
+  pub more : GivesMore old new left rest
   -- ..up to its end where the input is at its end.
   pub known : new.is_at_end ≡ true → IsAtEnd rest
   -- What it accepted stays as it was.

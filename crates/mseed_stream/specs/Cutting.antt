@@ -93,8 +93,8 @@ lent_whole h bytes = record {
 }
 
 -- what more a source gave, and what it's known to have left
-abbrev pub TellsMore : BytesRead → BytesRead → Option (List ℕ) → Option (List ℕ) → Type 0
-TellsMore old new left rest = (more : List ℕ) × (new.bytes ≡ old.bytes ++ more) × Consumes left rest more
+abbrev pub GivesMore : BytesRead → BytesRead → Option (List ℕ) → Option (List ℕ) → Type 0
+GivesMore old new left rest = (more : List ℕ) × (new.bytes ≡ old.bytes ++ more) × Consumes left rest more
 
 -- whether less was read before a result than was requested: at the input's end, a failed read and the last read
 abbrev pub is_short : {X : Type 0} → Result X StreamFault → Bool → Bool
@@ -175,7 +175,7 @@ IfEnds (Err Memory) P = ⊤
 pub record IsNextAnswer {X : Type 0} (result : Result (Option X) StreamFault) (c : Standing) (old new : BytesRead)
     (left rest : Option (List ℕ)) : Type 0 where
   -- What was read before stays, and what the source is known to have left is what was read of it..
-  pub more : TellsMore old new left rest
+  pub more : GivesMore old new left rest
   -- ..up to its end where the input is at its end.
   pub known : c.answer ≡ None → new.is_at_end ≡ true → IsAtEnd rest
   -- There is no further record where the input ended after the last.

@@ -9,7 +9,7 @@ pub mod Fault
 pub mod Gathered
 pub mod Split
 pub mod Standing
-pub mod Telling
+pub mod LineWritten
 pub mod Walk
 pub mod Whole
 pub mod private

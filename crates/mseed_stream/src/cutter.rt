@@ -10,7 +10,7 @@ ghost use Rattle.mseed_record.specs.Viewing.{view_of};
 ghost use Rattle.mseed_record.specs.declared.framer.Scan.TheVariants.{Need, Record};
 ghost use Rattle.mseed_stream.specs.Device.{read_also, nothing_read};
 ghost use Rattle.mseed_stream.specs.Archive.{HasRecords};
-ghost use Rattle.mseed_stream.specs.Cutting.{IsRead, IsAlong, IsStop, TellsMore, IsNextAnswer, asks_of, count_of};
+ghost use Rattle.mseed_stream.specs.Cutting.{IsRead, IsAlong, IsStop, GivesMore, IsNextAnswer, asks_of, count_of};
 ghost use Rattle.mseed_stream.specs.Cutting.{held_of, read_from, moves_by, answer_of, kept_of, IfEnds, IsAhead};
 ghost use Rattle.mseed_stream.specs.Cutting.{lent_whole};
 ghost use Rattle.mseed_stream.specs.Walk.{HasHandedOut, AreAllViews, IfGoesOn, end_of};
@@ -324,7 +324,7 @@ impl<A: Allocator> Cutter<A> {
     fn cut<R: Source>(&mut self, source: &mut R) -> Result<bool, StreamFault>
         requires { MayCut (R.read source.old) self.old }
         ensures cut { IsCut result self.old self.new (R.read source.old) (R.read source.new) }
-        ensures more { TellsMore (R.read source.old) (R.read source.new) (R.remaining source.old)
+        ensures more { GivesMore (R.read source.old) (R.read source.new) (R.remaining source.old)
             (R.remaining source.new) }
         ensures known { (R.read source.new).is_at_end ≡ true → IsAtEnd (R.remaining source.new) }
         ensures beside { R.beside source.new ≡ R.beside source.old }
@@ -397,7 +397,7 @@ impl<A: Allocator> Cutter<A> {
         requires most { needed ≤ LONGEST_RECORD }
         requires going_on { (R.read source.old).is_at_end ≡ false }
         ensures read { IsRead (R.read source.new) self.new }
-        ensures more { TellsMore (R.read source.old) (R.read source.new) (R.remaining source.old)
+        ensures more { GivesMore (R.read source.old) (R.read source.new) (R.remaining source.old)
             (R.remaining source.new) }
         ensures stays { (self.new.offset ≡ self.old.offset) × (self.new.is_lent ≡ false)
             × (self.new.answer ≡ self.old.answer) }

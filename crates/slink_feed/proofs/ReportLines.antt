@@ -6,7 +6,7 @@ use Rattle.std.proofs.Common.{None}
 use Rattle.std.proofs.Common.{◌-◌, ◌<◌, drop, get_or, length, length-drop, take, take_all, slice_get, unwrap_or}
 use Rattle.std.proofs.lemmas.Bool.Decides.{eqb_tells}
 use Rattle.mseed_stream.specs.Device.{BytesWritten}
-use Rattle.mseed_stream.specs.Telling.{Tells}
+use Rattle.mseed_stream.specs.LineWritten.{WritesLine}
 use Rattle.slink_wire.specs.Place.{Fields}
 use Rattle.slink_feed.specs.declared.dialogue.Event.{Event}
 use Rattle.slink_feed.specs.declared.dialogue.Event.TheVariants as events
@@ -19,9 +19,9 @@ use Rattle.slink_feed.specs.Reported.{record_in}
 use Rattle.slink_feed.proofs.Reporting.{lines_both}
 
 -- a line, by its text
-pub reported_line : (line text : List ℕ) (a b : BytesWritten) → line ≡ text → Tells line a b
+pub reported_line : (line text : List ℕ) (a b : BytesWritten) → line ≡ text → WritesLine line a b
     → AreReported (text ∷ []) a b
-reported_line line text a b same tells = one text [] a b b (subst (λ l. Tells l a b) same tells) (none b)
+reported_line line text a b same tells = one text [] a b b (subst (λ l. WritesLine l a b) same tells) (none b)
 
 pub other_reported : (place : Fields) (o : Option ℕ) (want got : ℕ) (a b : BytesWritten) → o ≡ Some want → want ≢ got
     → AreReported (hole_line place want got ∷ []) a b → AreReported (if_other place o got) a b

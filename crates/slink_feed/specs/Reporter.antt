@@ -2,7 +2,7 @@
 use Rattle.std.specs.Prelude.{ℕ, Bool, true, false, ◌+◌, ◌%◌, ◌^◌, ◌==◌, List, [], ◌∷◌, ◌++◌, codes, replicate}
 use Rattle.std.specs.Prelude.{drop, Option, Some, None, slice_get, slice_set, unwrap_or, if◌then◌else◌}
 use Rattle.mseed_stream.specs.Device.{BytesWritten}
-use Rattle.mseed_stream.specs.Telling.{Tells}
+use Rattle.mseed_stream.specs.LineWritten.{WritesLine}
 use Rattle.slink_wire.specs.Hexadecimal.{hexadecimal}
 use Rattle.slink_wire.specs.Place.{Fields, code_in, label_of}
 use Rattle.slink_feed.specs.declared.dialogue.Wanted.{Wanted}
@@ -12,7 +12,7 @@ use Rattle.slink_feed.specs.Dialogue.{Wants, want_at, with_next}
 -- Lines were written, each as far as the device accepted it.
 pub data AreReported : List (List ℕ) → BytesWritten → BytesWritten → Type 0 where
   none : (now : BytesWritten) → AreReported [] now now
-  one : (line : List ℕ) (lines : List (List ℕ)) (old now new : BytesWritten) → Tells line old now
+  one : (line : List ℕ) (lines : List (List ℕ)) (old now new : BytesWritten) → WritesLine line old now
       → AreReported lines now new → AreReported (line ∷ lines) old new
 
 -- what is reported of records: which number each station wants next, of which stations the first record is to be

@@ -1,6 +1,6 @@
 //! What is reported on standard error of the records of a fetch, and of what it wants next.
 ghost use Rattle.std.specs.Prelude.{◌≡◌, ◌+◌, ◌++◌, ◌<◌, ◌≤◌, true, false, length, slice_get, unwrap_or};
-ghost use Rattle.mseed_stream.specs.Telling.{Tells};
+ghost use Rattle.mseed_stream.specs.LineWritten.{WritesLine};
 ghost use Rattle.slink_feed.specs.Dialogue.{want_at, with_next};
 ghost use Rattle.slink_feed.specs.Reporter.{AreReported, first_line, first_lines, hole_line, hole_lines, if_other};
 ghost use Rattle.slink_feed.specs.Reporter.{lines_at};
@@ -292,7 +292,7 @@ impl Reporter {
     /// Reports the arguments of a `fetch` that goes on with what a client wants. Where the output `failed`, the last
     /// record that was reported is wanted again.
     pub fn report_next<E: Sink>(&self, client: &Client, failed: bool, errors: &mut E)
-        ensures { Tells (next_line_of (wants_left failed self.now.reporting.last client.now.talk.wants))
+        ensures { WritesLine (next_line_of (wants_left failed self.now.reporting.last client.now.talk.wants))
             (E.written errors.old) (E.written errors.new) }
     {
         let wants = self.wants_left(client, failed);

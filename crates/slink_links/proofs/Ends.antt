@@ -1,7 +1,7 @@
 -- What is reported at the end of a fetch.
 use Rattle.std.proofs.Common.{◌≡◌, ◌∙◌, refl, ap, subst, sym, Bool, true, false, ℕ, List, [], ◌∷◌, Option}
 use Rattle.mseed_stream.specs.Device.{BytesWritten}
-use Rattle.mseed_stream.specs.Telling.{Tells}
+use Rattle.mseed_stream.specs.LineWritten.{WritesLine}
 use Rattle.slink_feed.specs.Delivered.{Numbered}
 use Rattle.slink_feed.specs.Dialogue.{Wants}
 use Rattle.slink_feed.specs.Listening.{Listening}
@@ -16,7 +16,7 @@ use Rattle.slink_links.specs.Fetched.{FetchesReporting, ReportsOfAll, ReportsOfF
 
 -- the arguments of a fetch that goes on, where they are requested
 pub next_reported : (called failed unwritten : Bool) (last : Option (ℕ × ℕ)) (wants : Wants) (a b : BytesWritten)
-    → called ≡ true → failed ≡ unwritten → Tells (next_line_of (wants_left failed last wants)) a b
+    → called ≡ true → failed ≡ unwritten → WritesLine (next_line_of (wants_left failed last wants)) a b
     → AreReported (next_lines called (wants_left unwritten last wants)) a b
 next_reported called failed unwritten last wants a b set same tells =
     subst (λ (t : Bool). AreReported (next_lines t (wants_left unwritten last wants)) a b) (sym set)

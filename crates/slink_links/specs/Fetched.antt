@@ -24,7 +24,7 @@ use Rattle.slink_feed.specs.Reported.{HasReported, numbers_at, records_reported}
 use Rattle.slink_feed.specs.Turns.{Emitted, EmittedPrefix}
 use Rattle.slink_links.specs.declared.fetching.FetchEnd.{FetchEnd}
 use Rattle.slink_links.specs.declared.fetching.FetchEnd.TheVariants.{Done, Refused, BadFeed, WriteFailed, LinkFailed}
-use Rattle.mseed_stream.specs.Telling.{Tells}
+use Rattle.mseed_stream.specs.LineWritten.{WritesLine}
 use Rattle.slink_links.specs.Pauses.{pauses_from}
 
 -- Where the client doesn't go past holes, the number that a station wanted moved by how many records of it there are.
@@ -74,10 +74,10 @@ fetch_status end = 2
 -- the line on standard error, or none
 abbrev pub ReportsOfFetch : FetchEnd → BytesWritten → BytesWritten → Type 0
 ReportsOfFetch Done old new = new ≡ old
-ReportsOfFetch Refused old new = Tells (codes "mseed: refused\n") old new
-ReportsOfFetch BadFeed old new = Tells (codes "mseed: bad feed\n") old new
-ReportsOfFetch WriteFailed old new = Tells (codes "mseed: write failed\n") old new
-ReportsOfFetch LinkFailed old new = Tells (codes "mseed: link failed\n") old new
+ReportsOfFetch Refused old new = WritesLine (codes "mseed: refused\n") old new
+ReportsOfFetch BadFeed old new = WritesLine (codes "mseed: bad feed\n") old new
+ReportsOfFetch WriteFailed old new = WritesLine (codes "mseed: write failed\n") old new
+ReportsOfFetch LinkFailed old new = WritesLine (codes "mseed: link failed\n") old new
 
 -- Links were fetched over, up to an end: a client reported these records, and the output accepted them.
 pub record HasFetched (end : FetchEnd) (old new : Listening) (written_old written_new : BytesWritten) : Type 0 where

@@ -12,7 +12,7 @@ use Rattle.slink_feed.specs.Window.{Window}
 use Rattle.slink_feed.specs.declared.session.Phase.TheVariants.{Fresh}
 use Rattle.slink_feed.specs.declared.turn.LinkFault.{LinkFault}
 use Rattle.slink_feed.specs.declared.turn.Turn.TheVariants.{Goes, Closed}
-use Rattle.mseed_stream.specs.Telling.{Tells}
+use Rattle.mseed_stream.specs.LineWritten.{WritesLine}
 
 -- a call of the link failed
 abbrev pub has_failed : BytesRead → BytesWritten → Bool
@@ -65,5 +65,5 @@ pub record HasServedEach (feed : List Window) (before after : List Exchange) : T
 -- the exit status, and what standard error accepted
 pub data HasServed (status : ℕ) (reported_old reported_new : BytesWritten) : Type 0 where
   all_went_well : status ≡ 0 → reported_new ≡ reported_old → HasServed status reported_old reported_new
-  something_failed : status ≡ 2 → Tells (codes "mseed: link failed\n") reported_old reported_new
+  something_failed : status ≡ 2 → WritesLine (codes "mseed: link failed\n") reported_old reported_new
       → HasServed status reported_old reported_new

@@ -1,13 +1,13 @@
 use Rattle.std.proofs.Common.{◌≡◌, ◌+◌, ◌-◌, ◌≤◌, ◌^◌, [], length, true, false, if◌then◌else◌}
 use Rattle.std.specs.Io.KnownBytes.{IsAtEnd}
-use Rattle.mseed_stream.specs.Cutting.{IsRead, IsReadTo, TellsMore}
+use Rattle.mseed_stream.specs.Cutting.{IsRead, IsReadTo, GivesMore}
 use Rattle.mseed_stream.proofs.cutter.Cutter.cut.Given as goal
 
 abbrev pub invariant-stops : goal.invariant-stops
 invariant-stops g l = record {
   read : IsRead (g.R.Source.read l.source) l.self;
   not_lent : l.self.is_lent ≡ false;
-  more : TellsMore (g.R.Source.read l.fn.source) (g.R.Source.read l.source) (g.R.Source.remaining l.fn.source)
+  more : GivesMore (g.R.Source.read l.fn.source) (g.R.Source.read l.source) (g.R.Source.remaining l.fn.source)
       (g.R.Source.remaining l.source);
   offset : l.self.offset ≡ l.fn.self.offset;
   answer : l.self.answer ≡ l.fn.self.answer;

@@ -1,6 +1,6 @@
 use Rattle.std.proofs.Common.{◌≡◌, ◌-◌, ◌≤◌, ◌<◌, take, length, false, vec_len}
 use Rattle.mseed_record.specs.Framer.{IsFramerOf}
-use Rattle.mseed_stream.specs.Cutting.{IsRead, TellsMore}
+use Rattle.mseed_stream.specs.Cutting.{IsRead, GivesMore}
 use Rattle.mseed_stream.proofs.cutter.Cutter.fill.Given as goal
 
 abbrev pub invariant-loop-self : goal.invariant-loop-self
@@ -14,7 +14,7 @@ invariant-loop-self g l = let c = l.self-inside in record {
     answer = c.ending;
   });
   not_lent : c.is_lent ≡ false;
-  more : TellsMore (g.R.Source.read l.fn.source) (g.R.Source.read l.source) (g.R.Source.remaining l.fn.source)
+  more : GivesMore (g.R.Source.read l.fn.source) (g.R.Source.read l.source) (g.R.Source.remaining l.fn.source)
       (g.R.Source.remaining l.source);
   offset : c.offset ≡ l.fn.self.offset;
   answer : c.ending ≡ l.fn.self.answer;

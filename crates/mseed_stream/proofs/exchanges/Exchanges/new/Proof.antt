@@ -3,7 +3,7 @@ use Rattle.std.proofs.Common.{[], ◌∷◌, refl}
 use mir.Val.{vstruct, vnil}
 use types.Kit.{ ! }
 use Rattle.mseed_stream.proofs.Made.{makes}
-use Rattle.mseed_stream.proofs.Tells.{tells_last}
+use Rattle.mseed_stream.proofs.WritesLine.{tells_last}
 use Rattle.mseed_stream.specs.contracts.exchanges.Exchanges as T
 use Rattle.mseed_stream.specs.contracts.exchanges.Exchanges.new as f
 use Rattle.mseed_stream.proofs.exchanges.Exchanges.new.Statement.{statement}

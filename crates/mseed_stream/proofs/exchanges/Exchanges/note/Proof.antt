@@ -15,7 +15,7 @@ use denote.Ref.{MutRef, ShrRef, mut_vals, mut_Tells, shr_vals, shr_Tells}
 use denote.Signature.{plain, shr_ref_to}
 use denote.Steps.{nothing, opens, closes}
 use denote.Triple.Walked.{Stays, walk_of, stay_dropped, Goes-dropped, stay_ref, Goes-ref, ends_at}
-use Rattle.mseed_stream.proofs.Tells.{tells_last}
+use Rattle.mseed_stream.proofs.WritesLine.{tells_last}
 use Rattle.mseed_stream.specs.contracts.exchanges.Exchanges.note as f
 use Rattle.mseed_stream.proofs.exchanges.Exchanges.note.Statement.{statement}
 use Rattle.mseed_stream.proofs.exchanges.Exchanges.note.Code as code

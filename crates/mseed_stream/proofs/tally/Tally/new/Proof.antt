@@ -3,7 +3,7 @@ use Rattle.std.proofs.Common.{[], ◌∷◌, refl}
 use mir.Val.{vstruct, vnil}
 use types.Kit.{◌$◌, ! }
 use Rattle.mseed_stream.proofs.Made.{makes}
-use Rattle.mseed_stream.proofs.Tells.{tells, tells_last}
+use Rattle.mseed_stream.proofs.WritesLine.{tells, tells_last}
 use Rattle.mseed_stream.specs.contracts.tally.Tally as T
 use Rattle.mseed_stream.specs.contracts.tally.Tally.new as f
 use Rattle.mseed_stream.proofs.tally.Tally.new.Statement.{statement}

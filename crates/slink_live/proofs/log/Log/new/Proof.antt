@@ -3,7 +3,7 @@ use Rattle.std.proofs.Common.{[], ◌∷◌, refl}
 use mir.Val.{vstruct, vnil}
 use types.Kit.{ ! }
 use Rattle.mseed_stream.proofs.Made.{makes}
-use Rattle.mseed_stream.proofs.Tells.{tells_last}
+use Rattle.mseed_stream.proofs.WritesLine.{tells_last}
 use Rattle.slink_live.specs.contracts.log.Log as T
 use Rattle.slink_live.specs.contracts.log.Log.new as f
 use Rattle.slink_live.proofs.log.Log.new.Statement.{statement}

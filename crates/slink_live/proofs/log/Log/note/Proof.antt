@@ -16,7 +16,7 @@ use denote.Slice.{ShrSlice, shr_slice_vals, shr_slice_Tells}
 use denote.Signature.{plain, shr_slice_of}
 use denote.Steps.{nothing, opens, closes}
 use denote.Triple.Walked.{Stays, walk_of, stay_dropped, Goes-dropped, stay_ref, Goes-ref, ends_at}
-use Rattle.mseed_stream.proofs.Tells.{tells_last}
+use Rattle.mseed_stream.proofs.WritesLine.{tells_last}
 use Rattle.slink_live.specs.Happening.{happening}
 use Rattle.slink_live.specs.contracts.log.Log.note as f
 use Rattle.slink_live.proofs.log.Log.note.Statement.{statement}
