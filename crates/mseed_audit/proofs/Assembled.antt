@@ -26,7 +26,7 @@ use Rattle.mseed_audit.specs.Judging.{rate_in, rate_unless, time_fault_of}
 use Rattle.mseed_audit.specs.private.ChannelState.{IsFirstRate}
 use Rattle.mseed_audit.specs.Series.{Trace, AreJoined, steps_from, HoldsAll, IsSeriesOf, IsSeries}
 use Rattle.mseed_audit.specs.Verdict.{IsVerdict}
-use Rattle.mseed_audit.proofs.Behind.{views_are}
+use Rattle.mseed_audit.proofs.Following.{views_are}
 use Rattle.mseed_audit.proofs.Finished.{AreExact}
 use Rattle.mseed_audit.proofs.ChannelState.{stands_verdict}
 use Rattle.mseed_audit.proofs.Maps.{same_is}

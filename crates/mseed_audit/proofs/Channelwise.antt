@@ -28,7 +28,7 @@ use Rattle.mseed_audit.proofs.Continuity.{Excludes}
 use Rattle.mseed_audit.proofs.Maps.{same_is}
 use Rattle.mseed_audit.proofs.OneAudit.{HasOneInput}
 use Rattle.mseed_audit.proofs.OneList.{verdict_at}
-use Rattle.mseed_audit.proofs.OneTelling.{channel_without, of_one, of_some, samples_of}
+use Rattle.mseed_audit.proofs.OneReport.{channel_without, of_one, of_some, samples_of}
 use Rattle.mseed_audit.proofs.OneVerdict.{HasOneFault}
 
 -- ---- a record is asked for by its channel alone

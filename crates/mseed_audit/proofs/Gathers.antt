@@ -20,7 +20,7 @@ use Rattle.mseed_audit.specs.Summary.{text_in}
 use Rattle.mseed_audit.specs.Text.{reported_lines}
 use Rattle.mseed_audit.specs.Reported.{Reported, AreReported}
 use Rattle.mseed_audit.proofs.Outcomes.{timed}
-use Rattle.mseed_audit.proofs.Telling.{lines_after}
+use Rattle.mseed_audit.proofs.Reporting.{lines_after}
 
 -- lines were added to what is gathered
 pub gathered_reported : (first old : BytesWritten) (text next : List ℕ) (reported more : List Reported)

@@ -2,7 +2,7 @@ pub mod Apart
 pub mod ByKey
 pub mod Alike
 pub mod Assembled
-pub mod Behind
+pub mod Following
 pub mod Between
 pub mod Continuity
 pub mod Counts
@@ -19,13 +19,13 @@ pub mod OneMore
 pub mod OneAudit
 pub mod OneList
 pub mod OneSeries
-pub mod OneTelling
+pub mod OneReport
 pub mod OneVerdict
 pub mod Outcomes
 pub mod Placed
 pub mod Places
 pub mod Rosters
 pub mod Steps
-pub mod Telling
+pub mod Reporting
 pub mod Views
 pub mod Channelwise

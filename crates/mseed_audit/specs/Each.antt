@@ -82,7 +82,7 @@ IsLinesFaultIn scope Memory h old new =
     (new.failures ≡ old.failures) × EndsInLinesIn scope (EmittedFirst old new) h
 
 -- by the outcome: the audit, how the input ends, and how many bytes the records have; the last lines are left in a text
-abbrev pub IsTelling : Result (Held × Option StreamFault × ℕ) EachFault → BytesRead → BytesWritten → BytesWritten
+abbrev pub IsReporting : Result (Held × Option StreamFault × ℕ) EachFault → BytesRead → BytesWritten → BytesWritten
     → List ℕ → Type 0
-IsTelling (Ok found) h old new text = HasLinesIn whole found.0 found.1 found.2 h old new text
-IsTelling (Err fault) h old new text = IsLinesFaultIn whole fault h old new
+IsReporting (Ok found) h old new text = HasLinesIn whole found.0 found.1 found.2 h old new text
+IsReporting (Err fault) h old new text = IsLinesFaultIn whole fault h old new

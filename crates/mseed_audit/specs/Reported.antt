@@ -23,8 +23,8 @@ pub record IsFoundOf (channel : List Placed) (v : View) (why : Option Why) : Typ
   pub judged : 0 < count_of v → IsFound (last_of None channel) v why
 
 -- what is found of a record after these records of the archive
-abbrev pub IsFoundBehind : List Placed → View → Option Why → Type 0
-IsFoundBehind earlier v why = IsFoundOf (channel_in (key_at v.bytes) earlier) v why
+abbrev pub IsFoundAfter : List Placed → View → Option Why → Type 0
+IsFoundAfter earlier v why = IsFoundOf (channel_in (key_at v.bytes) earlier) v why
 
 -- a record with a finding
 pub record Reported : Type 0 where
@@ -45,7 +45,7 @@ reported_at p (Some why) = record {
 pub data AreReported : List Placed → List Placed → List Reported → Type 0 where
   none : (earlier : List Placed) → AreReported earlier [] []
   one : (earlier : List Placed) (p : Placed) (ps : List Placed) (why : Option Why) (reported : List Reported)
-      → IsFoundBehind earlier p.view why
+      → IsFoundAfter earlier p.view why
       → AreReported (earlier ++ p ∷ []) ps reported → AreReported earlier (p ∷ ps) (reported_at p why ++ reported)
 
 -- what is reported of all records of an archive

@@ -8,7 +8,7 @@ ghost use Rattle.mseed_audit.specs.Audit.{AreChannels};
 ghost use Rattle.mseed_audit.specs.Channels.{Added, Placed, numbered, records_of};
 ghost use Rattle.mseed_audit.specs.private.ChannelState.{IsLearnt};
 ghost use Rattle.mseed_audit.specs.private.Gathered.{IsAdded};
-ghost use Rattle.mseed_audit.specs.Reported.{IsFoundBehind};
+ghost use Rattle.mseed_audit.specs.Reported.{IsFoundAfter};
 ghost use Rattle.mseed_audit.specs.Verdict.{AreVerdicts, AreVerdictsAmong};
 
 use crate::channel::{Channel, Examined};
@@ -162,9 +162,9 @@ impl<A: Allocator + Copy> Audit<A> {
             }
             ∷ []) (count + 1)) }
         ensures found { (added : List Added) → IsAuditOf self.old added
-            → IfOk result (λ why. IsFoundBehind (numbered 1 added) (view_of view.now) why) }
+            → IfOk result (λ why. IsFoundAfter (numbered 1 added) (view_of view.now) why) }
         ensures found_among { (ps : List Placed) (count : ℕ) → IsAuditAmong self.old ps count
-            → IfOk result (λ why. IsFoundBehind ps (view_of view.now) why) }
+            → IfOk result (λ why. IsFoundAfter ps (view_of view.now) why) }
         ensures number { OnOk result (self.new.added ≡ self.old.added + 1) }
         ensures unchanged { OnErr result (self.new ≡ self.old) }
         ensures memory { (count_of (view_of view.now) ≡ 0)

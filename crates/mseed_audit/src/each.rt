@@ -2,7 +2,7 @@
 ghost use Rattle.std.specs.Prelude.{◌≡◌, []};
 ghost use Rattle.mseed_stream.specs.Calls.{ReadsOn, WritesOn};
 ghost use Rattle.mseed_stream.specs.Device.{nothing_read};
-ghost use Rattle.mseed_audit.specs.Each.{IsEachOutcome, IsTelling};
+ghost use Rattle.mseed_audit.specs.Each.{IsEachOutcome, IsReporting};
 ghost use Rattle.mseed_audit.specs.Selected.{IsEachSelectedOutcome};
 
 use crate::audits::{Audit, Memory};
@@ -105,7 +105,7 @@ pub fn gather_each<A: Allocator + Copy, R: Source, W: Sink>(
 ) -> Result<(Audit<A>, Option<StreamFault>, u64), EachFault>
     requires read { R.read source.old ≡ nothing_read }
     requires text { text.old.items ≡ [] }
-    ensures reported { IsTelling result (R.read source.new) (W.written sink.old) (W.written sink.new) text.new.items }
+    ensures reported { IsReporting result (R.read source.new) (W.written sink.old) (W.written sink.new) text.new.items }
 
     // What the source is known to have left is what was read of it, up to its end where the input is at its end.
     ensures reads { ReadsOn (R.read source.old) (R.read source.new) (R.remaining source.old) (R.remaining source.new)

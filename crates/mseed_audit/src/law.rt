@@ -80,7 +80,7 @@ pub fn one_audit()
 }
 
 /// What is reported of an archive's records is determined, and what was read has one text that reports it.
-pub fn one_telling()
+pub fn one_report()
     ensures reported { (added : List Added) (a b : List Reported) → AreReportedOf added a → AreReportedOf added b
         → a ≡ b }
     ensures text { (h : BytesRead) (a b : AuditedEach h) → each_text a ≡ each_text b }

@@ -87,8 +87,8 @@ pub record IsMergedTo (before archive : List ℕ) (reported : List Notice) (foun
       → IsPermutation (notices_of first ++ (moved_notices a.part.records a.part.bytes reported ++ border_notices found))
       (notices_of whole)
 
-abbrev pub HaveOneTelling : Type 0
-HaveOneTelling = (added : List Added) (a b : List Reported) → AreReportedOf added a → AreReportedOf added b → a ≡ b
+abbrev pub HaveOneReport : Type 0
+HaveOneReport = (added : List Added) (a b : List Reported) → AreReportedOf added a → AreReportedOf added b → a ≡ b
 
 -- the same part, and the same bytes
 abbrev as_joint : (bytes : List ℕ) (a joint : Written) → a ≡ joint → IsSoFar bytes a → IsSoFar bytes joint
@@ -108,7 +108,7 @@ as_bytes bytes others a same so = record {
 }
 
 -- nothing is after
-ends_here : HaveOneTelling → (before : List ℕ) (a joint : Written) (so : IsSoFar before a) → a ≡ joint
+ends_here : HaveOneReport → (before : List ℕ) (a joint : Written) (so : IsSoFar before a) → a ≡ joint
     → IsMergedTo before [] [] [] a joint so
 ends_here single before a joint so same = record {
   all = as_joint (before ++ []) a joint same (as_bytes before (before ++ []) a (sym (append-nil before)) so);
@@ -249,7 +249,7 @@ more_pieces add_up add archive others before reported found rest a b joint so h 
           (piece add before a so h p known first mid.0 one near) (m.merged mid.0 whole mid.1 all));
     }
 
-merge_all : HaveOneTelling → AddUp → AddFindings → HaveOneJoint → (archive before : List ℕ) (ws befores : List Written)
+merge_all : HaveOneReport → AddUp → AddFindings → HaveOneJoint → (archive before : List ℕ) (ws befores : List Written)
     (reported : List Notice) (found : List Border) (a joint : Written) (so : IsSoFar before a)
     → AreReportedApart archive ws reported → a.end ≡ None → AreJoined nothing befores a
     → AreJoined a (counted false ws) joint
@@ -304,7 +304,7 @@ parted_of_reported _ _ _ (last archive h a read by) = AreParted.last archive h a
 parted_of_reported _ _ _ (more archive others h a ws reported read end apart) =
     AreParted.more archive others h a.parted ws read end (parted_of_reported others ws reported apart)
 
-pub each_says : HaveOneTelling → AddUp → AddFindings → HaveOneJoint → HaveVerdicts → HaveOneVerdicts
+pub each_says : HaveOneReport → AddUp → AddFindings → HaveOneJoint → HaveVerdicts → HaveOneVerdicts
     → (archive : List ℕ) (ws : List Written) (reported : List Notice) (found : List Border) (joint : Written)
     (h : BytesRead) (a : AuditedEach h) → AreReportedApart archive ws reported → IsJointOf false ws joint
     → AreBordersOf false ws found → IsReadOf archive h → EndsByBytes a.audited.end → SaysEach reported found joint a

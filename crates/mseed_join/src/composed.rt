@@ -16,7 +16,7 @@ ghost use Rattle.mseed_join.specs.HeadlineEach.{AreReportedApart, SaysEach};
 ghost use Rattle.mseed_join.specs.Joined.{IsBadLine, IsJointOf};
 ghost use Rattle.mseed_join.specs.Written.{HasText, Spells, Written, part_text, texts};
 
-use mseed_audit::{channels_have_verdicts, one_list_of_verdicts, one_telling};
+use mseed_audit::{channels_have_verdicts, one_list_of_verdicts, one_report};
 use mseed_parts::{findings_add_up, joined_in_turn, joining_laws, one_part, parts_add_up};
 
 /// The joint part of archives, of which each but the last ends without a fault, says what the audit of the archives
@@ -66,7 +66,7 @@ pub fn joined_each()
     parts_add_up();
     findings_add_up();
     joining_laws();
-    one_telling();
+    one_report();
     channels_have_verdicts();
     one_list_of_verdicts();
 }

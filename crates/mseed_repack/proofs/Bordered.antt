@@ -38,7 +38,7 @@ use Rattle.mseed_pack.proofs.Followed.{AreAt, are_views, bytes_in, continuous_at
 use Rattle.mseed_pack.proofs.ReadBack.{HaveOneViews}
 use Rattle.mseed_pack.proofs.Traced.{is_trace}
 use Rattle.mseed_pack.proofs.Viewed.{HeadersReadBack, PackedSpells}
-use Rattle.mseed_repack.specs.Borders.{AreReadAs, IsClose, IsFar, IsFoundBehind, KeepsBorders, LeavesGap, MissesBy}
+use Rattle.mseed_repack.specs.Borders.{AreReadAs, IsClose, IsFar, IsFoundAfter, KeepsBorders, LeavesGap, MissesBy}
 use Rattle.mseed_repack.specs.Borders.{Overlaps}
 use Rattle.mseed_repack.specs.Repack.{IsStretchPacked, StretchFits}
 use Rattle.mseed_repack.specs.Restretch.{ArePackedOn, ChannelFits, IsChannelPacked, IsNumberedOn}
@@ -420,8 +420,8 @@ own_size s own h =
 -- what is found behind a stretch
 later : {why : ℕ → Why} (s own leading back left rest ws : List View) (b v : View) → IsLaid s own → ws ≡ own ++ rest
     → (h : IsLater leading b v back s left)
-    → IsFoundBehind why (samples_of (h.further ++ b ∷ [])) (start_of v) rest
-    → IsFoundBehind why (samples_of (leading ++ b ∷ [])) (start_of v) ws
+    → IsFoundAfter why (samples_of (h.further ++ b ∷ [])) (start_of v) rest
+    → IsFoundAfter why (samples_of (leading ++ b ∷ [])) (start_of v) ws
 later s own leading back left rest ws b v here parts h there =
     let own_is : samples_of own ≡ samples_of s = own_size s own here in
     let mine : samples_of ((own ++ there.before) ++ there.last ∷ [])
@@ -447,7 +447,7 @@ later s own leading back left rest ws b v here parts h there =
 
 find : {R : View → View → Type 0} {why : ℕ → Why} → Shows R why → (vs : List View) (ss : List (List View))
     (ws leading : List View) (b v : View) (back : List View) → AreStretchesUpTo vs ss [] → AreLaid ss ws → R b v
-    → vs ≡ leading ++ b ∷ (v ∷ back) → IsFoundBehind why (samples_of (leading ++ b ∷ [])) (start_of v) ws
+    → vs ≡ leading ++ b ∷ (v ∷ back) → IsFoundAfter why (samples_of (leading ++ b ∷ [])) (start_of v) ws
 find shows vs [] ws leading b v back cut all r e = absurd (nothing_there leading b (v ∷ back) (sym cut ∙ e))
 find {R} {why} shows vs (s ∷ ss) ws leading b v back (left, (first, cut)) (own, (rest, (parts, here, more))) r e =
     ⊎_elim inside (λ (k : IsBetween leading b v back s left ⊎ IsLater leading b v back s left).
@@ -456,13 +456,13 @@ find {R} {why} shows vs (s ∷ ss) ws leading b v back (left, (first, cut)) (own
     (find shows left ss rest h.further b v back cut more r h.parts_after)) k)
     (where_is leading b v back s left (sym e ∙ first.parts))
   where
-    inside : IsInside leading b v back s left → IsFoundBehind why (samples_of (leading ++ b ∷ [])) (start_of v) ws
+    inside : IsInside leading b v back s left → IsFoundAfter why (samples_of (leading ++ b ∷ [])) (start_of v) ws
     inside h =
         let all : AllNeighbours Follows (leading ++ b ∷ (v ∷ h.behind)) =
         subst (λ (us : List View). AllNeighbours Follows us) h.parts (continuous s here.sound here.stretch).follow in
         absurd (shows.apart b v r (neighbours_at Follows leading b v h.behind all))
 
-    between : IsBetween leading b v back s left → IsFoundBehind why (samples_of (leading ++ b ∷ [])) (start_of v) ws
+    between : IsBetween leading b v back s left → IsFoundAfter why (samples_of (leading ++ b ∷ [])) (start_of v) ws
     between h =
         let next = next_laid left v back ss rest h.parts_after cut more in
         let at = bordering s leading next.further own next.own b v here next.here h.parts in
@@ -606,16 +606,16 @@ written_on laws o vs records views fits packed some close =
 pub gap_written : Layers → (o : Options) (vs : List View) (records : List (List ℕ)) (leading : List View) (b v : View)
     (back : List View) → AllByRecursion IsView vs → ChannelFits o vs → IsChannelPacked o vs records
     → vs ≡ leading ++ b ∷ (v ∷ back) → LeavesGap b v
-    → AreReadAs (IsFoundBehind (λ us. Gap us) (samples_of (leading ++ b ∷ [])) (start_of v)) records
+    → AreReadAs (IsFoundAfter (λ us. Gap us) (samples_of (leading ++ b ∷ [])) (start_of v)) records
 gap_written laws o vs records leading b v back views fits packed e gap =
-    read_as laws o vs records (IsFoundBehind (λ us. Gap us) (samples_of (leading ++ b ∷ [])) (start_of v)) views fits
+    read_as laws o vs records (IsFoundAfter (λ us. Gap us) (samples_of (leading ++ b ∷ [])) (start_of v)) views fits
     packed (λ ss ws cut all. (keeps_borders laws vs ss ws cut all).gap leading b v back e gap)
 
 pub overlap_written : Layers → (o : Options) (vs : List View) (records : List (List ℕ)) (leading : List View)
     (b v : View) (back : List View) → AllByRecursion IsView vs → ChannelFits o vs → IsChannelPacked o vs records
     → vs ≡ leading ++ b ∷ (v ∷ back) → Overlaps b v
-    → AreReadAs (IsFoundBehind (λ us. Overlap us) (samples_of (leading ++ b ∷ [])) (start_of v)) records
+    → AreReadAs (IsFoundAfter (λ us. Overlap us) (samples_of (leading ++ b ∷ [])) (start_of v)) records
 overlap_written laws o vs records leading b v back views fits packed e overlap =
-    read_as laws o vs records (IsFoundBehind (λ us. Overlap us) (samples_of (leading ++ b ∷ [])) (start_of v)) views
+    read_as laws o vs records (IsFoundAfter (λ us. Overlap us) (samples_of (leading ++ b ∷ [])) (start_of v)) views
     fits
     packed (λ ss ws cut all. (keeps_borders laws vs ss ws cut all).overlap leading b v back e overlap)

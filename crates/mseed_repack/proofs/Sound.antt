@@ -14,7 +14,7 @@ use Rattle.mseed_steim.specs.Reading.{count_of}
 use Rattle.mseed_audit.specs.Channels.{Placed, same_key}
 use Rattle.mseed_audit.specs.Follows.{IsSound}
 use Rattle.mseed_audit.specs.Judging.{IsFound, time, rate, read, after}
-use Rattle.mseed_audit.specs.Reported.{IsFoundBehind, last_of}
+use Rattle.mseed_audit.specs.Reported.{IsFoundAfter, last_of}
 use Rattle.mseed_audit.specs.Reported.{channel_in as channel_in_placed}
 use Rattle.mseed_audit.specs.declared.finding.Why.{Why}
 use Rattle.mseed_audit.proofs.Continuity.{HaveOneReading}
@@ -48,7 +48,7 @@ sound_in key (v ∷ vs) all = by (nat_lt 0 (count_of v)) refl (same_key key (key
 
 -- and so are those that a loop has passed, with one more
 pub sound_next : HaveOneReading → (rs : List RecordView) (n : ℕ) (r : RecordView) (earlier : List Placed)
-    (why : Option Why) → n < length rs → r ≡ get_or rs n r → IsFoundBehind earlier (view_of r) why
+    (why : Option Why) → n < length rs → r ≡ get_or rs n r → IsFoundAfter earlier (view_of r) why
     → has_own why ≡ false → AreSoundAlone (map view_of (take n rs)) → AreSoundAlone (map view_of (take (n + 1) rs))
 sound_next single rs n r earlier why lt is found none before =
     let next : map view_of (take (n + 1) rs) ≡ map view_of (take n rs) ++ view_of r ∷ [] =

@@ -53,7 +53,7 @@ pub record AreReadAs (P : List View → Type 0) (records : List (List ℕ)) : Ty
 
 -- Behind so many samples a record begins at this instant, and this is found of it: a gap, or an overlap, of so many
 -- microseconds.
-pub record IsFoundBehind (why : ℕ → Why) (samples : ℕ) (start : ℤ) (views : List View) : Type 0 where
+pub record IsFoundAfter (why : ℕ → Why) (samples : ℕ) (start : ℤ) (views : List View) : Type 0 where
   pub before : List View
   pub last : View
   pub next : View
@@ -68,9 +68,9 @@ pub record IsFoundBehind (why : ℕ → Why) (samples : ℕ) (start : ℤ) (view
 pub record KeepsBorders (vs written : List View) : Type 0 where
   pub continuous : vs ≢ [] → AllNeighbours IsClose vs → IsContinuous written
   pub gap : (leading : List View) (b v : View) (back : List View) → vs ≡ leading ++ b ∷ (v ∷ back) → LeavesGap b v
-      → IsFoundBehind (λ us. Gap us) (samples_of (leading ++ b ∷ [])) (start_of v) written
+      → IsFoundAfter (λ us. Gap us) (samples_of (leading ++ b ∷ [])) (start_of v) written
   pub overlap : (leading : List View) (b v : View) (back : List View) → vs ≡ leading ++ b ∷ (v ∷ back) → Overlaps b v
-      → IsFoundBehind (λ us. Overlap us) (samples_of (leading ++ b ∷ [])) (start_of v) written
+      → IsFoundAfter (λ us. Overlap us) (samples_of (leading ++ b ∷ [])) (start_of v) written
 
 -- the text is an archive of these channels and no others, and keeps the borders of each
 pub record IsArchiveKept (views : List View) (kept : List Channel) (text : List ℕ) : Type 0 where

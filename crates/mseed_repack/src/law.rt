@@ -9,7 +9,7 @@ ghost use Rattle.mseed_pack.specs.declared.options.Options.{Options};
 ghost use Rattle.mseed_stream.specs.Device.{BytesRead, BytesWritten};
 ghost use Rattle.mseed_repack.specs.OneRepacking.{ComeToOne};
 ghost use Rattle.mseed_repack.specs.ReadBack.{IsReadBack};
-ghost use Rattle.mseed_repack.specs.Borders.{AreReadAs, IsClose, IsFoundBehind, IsStretchedArchive, LeavesGap};
+ghost use Rattle.mseed_repack.specs.Borders.{AreReadAs, IsClose, IsFoundAfter, IsStretchedArchive, LeavesGap};
 ghost use Rattle.mseed_repack.specs.Borders.{Overlaps};
 ghost use Rattle.mseed_repack.specs.ByStretches.{AreStretched, EachRestretching};
 ghost use Rattle.mseed_repack.specs.Repack.{Channel, IsRepacking};
@@ -95,12 +95,12 @@ pub fn borders_are_kept()
     ensures gap { (o : Options) (vs : List View) (records : List (List ℕ)) (leading : List View) (b v : View)
         (back : List View) → AllByRecursion IsView vs → ChannelFits o vs → IsChannelPacked o vs records
         → vs ≡ leading ++ b ∷ (v ∷ back) → LeavesGap b v
-        → AreReadAs (IsFoundBehind (λ us. Gap us) (samples_of (leading ++ b ∷ [])) (start_of v)) records }
+        → AreReadAs (IsFoundAfter (λ us. Gap us) (samples_of (leading ++ b ∷ [])) (start_of v)) records }
     // And an overlap, where one begins so early.
     ensures overlap { (o : Options) (vs : List View) (records : List (List ℕ)) (leading : List View) (b v : View)
         (back : List View) → AllByRecursion IsView vs → ChannelFits o vs → IsChannelPacked o vs records
         → vs ≡ leading ++ b ∷ (v ∷ back) → Overlaps b v
-        → AreReadAs (IsFoundBehind (λ us. Overlap us) (samples_of (leading ++ b ∷ [])) (start_of v)) records }
+        → AreReadAs (IsFoundAfter (λ us. Overlap us) (samples_of (leading ++ b ∷ [])) (start_of v)) records }
     // What is written of an archive is an archive of the channels that fit, and so is each of them in it.
     ensures archive { EachRestretching IsStretchedArchive }
 {

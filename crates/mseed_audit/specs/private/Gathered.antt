@@ -24,7 +24,7 @@ use Rattle.mseed_audit.specs.declared.summary.Step.{Step}
 use Rattle.mseed_audit.specs.declared.summary.Step.TheVariants.{Taken as OneMore, Ended}
 use Rattle.mseed_audit.specs.Audit.{Held, HoldsKey, IsAuditAmong}
 use Rattle.mseed_audit.specs.Channels.{Placed, added_from}
-use Rattle.mseed_audit.specs.Reported.{Reported, AreReported, IsFoundBehind}
+use Rattle.mseed_audit.specs.Reported.{Reported, AreReported, IsFoundAfter}
 use Rattle.mseed_audit.specs.Scope.{asked, asked_of}
 use Rattle.mseed_audit.specs.Summary.{AuditedIn, IsGatheredIn, IsSummaryIn, text_in}
 use Rattle.mseed_audit.specs.Text.{reported_lines}
@@ -33,7 +33,7 @@ use Rattle.mseed_audit.specs.Text.{reported_lines}
 pub record IsAdded (r : Result (Option Why) NoRoom) (v : View) (offset : ℕ) (old new : Held) : Type 0 where
   pub among : (ps : List Placed) (count : ℕ) → IsAuditAmong old ps count → OnOk r (IsAuditAmong new
       (ps ++ record { view = v; offset = offset; number = old.added + 1 } ∷ []) (count + 1))
-  pub found : (ps : List Placed) (count : ℕ) → IsAuditAmong old ps count → IfOk r (λ why. IsFoundBehind ps v why)
+  pub found : (ps : List Placed) (count : ℕ) → IsAuditAmong old ps count → IfOk r (λ why. IsFoundAfter ps v why)
   pub number : OnOk r (new.added ≡ old.added + 1)
   pub unchanged : OnErr r (new ≡ old)
   pub memory : (count_of v ≡ 0) ⊎ HoldsKey old (key_at v.bytes) → IsOk r

@@ -5,7 +5,7 @@ use Rattle.mseed_record.specs.declared.view.RecordView.{RecordView}
 use Rattle.mseed_record.specs.View.{View}
 use Rattle.mseed_record.specs.Viewing.{view_of}
 use Rattle.mseed_audit.specs.Channels.{is_of}
-use Rattle.mseed_audit.proofs.Behind.{kept_next, sound_at}
+use Rattle.mseed_audit.proofs.Following.{kept_next, sound_at}
 use Rattle.mseed_audit.proofs.Joined.{holds_none, holds_same}
 use Rattle.mseed_audit.proofs.assembly.assemble.Goals as goal
 use Rattle.mseed_audit.proofs.assembly.assemble.Goals.{then-is_of+in_ok-append_record, else-is_of}

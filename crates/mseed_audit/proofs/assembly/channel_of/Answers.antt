@@ -1,5 +1,5 @@
 use Rattle.mseed_record.specs.declared.view.RecordView.{RecordView}
-use Rattle.mseed_audit.proofs.Behind.{offset_next, stands_next}
+use Rattle.mseed_audit.proofs.Following.{offset_next, stands_next}
 use Rattle.mseed_audit.proofs.assembly.channel_of.Goals as goal
 
 pub loop-index-preserved : goal.loop-index-preserved

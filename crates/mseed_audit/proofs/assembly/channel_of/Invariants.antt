@@ -3,7 +3,7 @@ use Rattle.mseed_record.specs.Viewing.{view_of}
 use Rattle.mseed_audit.specs.Channels.{added_from, records_of}
 use Rattle.mseed_audit.specs.Audit.{StandsAt}
 use Rattle.mseed_audit.specs.private.ChannelState.{IsBounded}
-use Rattle.mseed_audit.proofs.Behind.{end_of}
+use Rattle.mseed_audit.proofs.Following.{end_of}
 use Rattle.mseed_audit.proofs.assembly.channel_of.Given as goal
 
 abbrev pub invariant-loop-index : goal.invariant-loop-index

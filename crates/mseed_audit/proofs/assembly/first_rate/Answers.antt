@@ -8,7 +8,7 @@ use Rattle.mseed_audit.specs.Judging.{rate_in}
 use Rattle.mseed_audit.specs.Channels.{is_of}
 use Rattle.mseed_audit.specs.private.ChannelState.{IsFirstRate}
 use Rattle.mseed_audit.proofs.Assembled.{first_there}
-use Rattle.mseed_audit.proofs.Behind.{kept_next}
+use Rattle.mseed_audit.proofs.Following.{kept_next}
 use Rattle.mseed_audit.proofs.Judged.{none_unless}
 use Rattle.mseed_audit.proofs.assembly.first_rate.Goals as goal
 

@@ -1,4 +1,4 @@
-use Rattle.mseed_audit.proofs.OneTelling.{telling_count, telling_findings, telling_prefix}
+use Rattle.mseed_audit.proofs.OneReport.{telling_count, telling_findings, telling_prefix}
 use Rattle.mseed_audit.proofs.law.findings_reported.Goals as goal
 
 pub returns-clause-channel : goal.returns-clause-channel

@@ -6,7 +6,7 @@ use Rattle.mseed_stream.proofs.Calls.{reads_on}
 use Rattle.mseed_audit.specs.declared.passed.Passed.{Passed}
 use Rattle.mseed_audit.specs.Reported.{none}
 use Rattle.mseed_audit.specs.Scope.{asked_of}
-use Rattle.mseed_audit.proofs.Telling.{report_on}
+use Rattle.mseed_audit.proofs.Reporting.{report_on}
 use Rattle.mseed_audit.proofs.Views.{added_length}
 use Rattle.mseed_audit.proofs.summary.gather_with.Goals as goal
 

@@ -5,7 +5,7 @@ use Rattle.mseed_audit.specs.Audit.{Held}
 use Rattle.mseed_audit.specs.declared.finding.Why.{Why}
 use Rattle.mseed_audit.specs.private.Gathered.{IsAdded}
 use Rattle.mseed_audit.specs.Reported.{reported_at}
-use Rattle.mseed_audit.proofs.Telling.{judged_passed, judged_reported, not_asked}
+use Rattle.mseed_audit.proofs.Reporting.{judged_passed, judged_reported, not_asked}
 use Rattle.mseed_audit.proofs.summary.judge.Goals as goal
 
 pub returns-in-Ok : goal.returns-in-Ok

@@ -5,7 +5,7 @@ use Rattle.mseed_stream.specs.Device.{BytesRead}
 use Rattle.mseed_stream.specs.Walk.{AreViews, HasHandedOut}
 use Rattle.mseed_stream.proofs.Calls.{reads_none}
 use Rattle.mseed_stream.proofs.Handed.{views_stay}
-use Rattle.mseed_audit.proofs.Telling.{next_none}
+use Rattle.mseed_audit.proofs.Reporting.{next_none}
 use Rattle.mseed_audit.proofs.Views.{reads_whole}
 use Rattle.mseed_audit.proofs.summary.take_next.Goals as goal
 

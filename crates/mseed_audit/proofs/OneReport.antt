@@ -27,7 +27,7 @@ use Rattle.mseed_audit.proofs.Maps.{same_is}
 use Rattle.mseed_audit.proofs.More.{placed_at}
 use Rattle.mseed_audit.proofs.OneAudit.{HasOneInput, audited_one, text_one}
 use Rattle.mseed_audit.proofs.OneVerdict.{HasOneFault, found_one, findings_same}
-use Rattle.mseed_audit.proofs.Telling.{lines_after}
+use Rattle.mseed_audit.proofs.Reporting.{lines_after}
 
 pub of_one : HasOneFault → Excludes → (channel : List Placed) (v : View) (a b : Option Why) → IsFoundOf channel v a
     → IsFoundOf channel v b → a ≡ b

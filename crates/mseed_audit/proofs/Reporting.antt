@@ -20,22 +20,22 @@ use Rattle.mseed_audit.specs.Audit.{Held, IsAuditAmong}
 use Rattle.mseed_audit.specs.Scope.{asked_of}
 use Rattle.mseed_audit.specs.private.Gathered.{HasReport, IsJudged, IsNext}
 use Rattle.mseed_audit.specs.Text.{reported_line, reported_lines}
-use Rattle.mseed_audit.specs.Reported.{Reported, AreReported, IsFoundBehind, none, one, reported_at}
+use Rattle.mseed_audit.specs.Reported.{Reported, AreReported, IsFoundAfter, none, one, reported_at}
 use Rattle.mseed_audit.proofs.More.{placed_next}
 use Rattle.mseed_audit.proofs.Views.{asked_at, judged_also}
 
 pub reported_snoc : (earlier ps : List Placed) (p : Placed) (why : Option Why) (reported : List Reported)
     → AreReported earlier ps reported
-    → IsFoundBehind (earlier ++ ps) p.view why
+    → IsFoundAfter (earlier ++ ps) p.view why
     → AreReported earlier (ps ++ p ∷ []) (reported ++ reported_at p why)
 reported_snoc earlier [] p why reported (none _) found =
-    let here : IsFoundBehind earlier p.view why =
-    subst (λ (qs : List Placed). IsFoundBehind qs p.view why) (append-nil earlier) found in
+    let here : IsFoundAfter earlier p.view why =
+    subst (λ (qs : List Placed). IsFoundAfter qs p.view why) (append-nil earlier) found in
     subst (λ (ts : List Reported). AreReported earlier (p ∷ []) ts) (append-nil (reported_at p why))
     (one earlier p [] why [] here (none (earlier ++ p ∷ [])))
 reported_snoc earlier (q ∷ ps) p why reported (one _ _ _ first rest h later) found =
-    let found_after : IsFoundBehind ((earlier ++ q ∷ []) ++ ps) p.view why =
-    subst (λ (qs : List Placed). IsFoundBehind qs p.view why) (sym (append_assoc earlier (q ∷ []) ps)) found in
+    let found_after : IsFoundAfter ((earlier ++ q ∷ []) ++ ps) p.view why =
+    subst (λ (qs : List Placed). IsFoundAfter qs p.view why) (sym (append_assoc earlier (q ∷ []) ps)) found in
     subst (λ (ts : List Reported). AreReported earlier (q ∷ (ps ++ p ∷ [])) ts)
     (sym (append_assoc (reported_at q first) rest (reported_at p why)))
     (one earlier q (ps ++ p ∷ []) first (rest ++ reported_at p why) h
@@ -67,7 +67,7 @@ pub judged_asked : (s : Selection) (bytes : List ℕ) (offset : ℕ) (views : Li
     → answer ≡ AskedFor → AreViews bytes offset views → IsJudged s held p Before views
     → ((ps : List Placed) (count : ℕ) → IsAuditAmong held ps count
     → IsAuditAmong next (ps ++ placed_next held v offset ∷ []) (count + 1))
-    → ((ps : List Placed) (count : ℕ) → IsAuditAmong held ps count → IsFoundBehind ps v why)
+    → ((ps : List Placed) (count : ℕ) → IsAuditAmong held ps count → IsFoundAfter ps v why)
     → ((reported : List Reported) → Before reported
     → After (reported ++ reported_at (placed_next held v offset) why))
     → IsJudged s next p After (views ++ v ∷ [])
@@ -78,7 +78,7 @@ judged_asked s bytes offset views v held next p answer why Before After is asked
     let one : asked_at s n ≡ n ∷ [] = ap (λ (a : Answer). if is_asked a then n ∷ [] else []) here in
     let lacks : lacks_time s v ≡ false = ap is_without_time here in
     let size : length (asked_at s n) ≡ 1 = ap (λ (qs : List Placed). length qs) one in
-    let found : IsFoundBehind ps v why = finds ps (length (added_from 0 views)) judged.audit in
+    let found : IsFoundAfter ps v why = finds ps (length (added_from 0 views)) judged.audit in
     let report : HasReport (ps ++ n ∷ []) After = record {
       reported = judged.report.reported ++ reported_at n why;
       are_reported = reported_snoc [] ps n why judged.report.reported judged.report.are_reported found;
@@ -97,7 +97,7 @@ pub judged_reported : {E : Type 0} (r : Result (Unit {0}) E) (s : Selection) (by
     → more ≡ reported_at (placed_next held v offset) why → AreViews bytes offset views → IsJudged s held p Before views
     → ((ps : List Placed) (count : ℕ) → IsAuditAmong held ps count
     → IsAuditAmong next (ps ++ placed_next held v offset ∷ []) (count + 1))
-    → ((ps : List Placed) (count : ℕ) → IsAuditAmong held ps count → IsFoundBehind ps v why)
+    → ((ps : List Placed) (count : ℕ) → IsAuditAmong held ps count → IsFoundAfter ps v why)
     → ((reported : List Reported) → Before reported → MatchResult r (λ _. After (reported ++ more))
     (λ _. After reported))
     → MatchResult r (λ _. IsJudged s next p After (views ++ v ∷ [])) (λ _. HasReport (asked_of s views) After)
