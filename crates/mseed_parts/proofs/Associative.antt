@@ -12,7 +12,7 @@ use Rattle.mseed_parts.specs.Joining.{moved_head, moved_finding, moved_findings,
 use Rattle.mseed_parts.specs.Joining.{border_of, findings_with, findings_behind, channel_then, channel_joined}
 use Rattle.mseed_audit.specs.Audit.{head_in, tail_in}
 use Rattle.mseed_parts.specs.Parts.{Held, kept_of, IsJoint}
-use Rattle.mseed_parts.proofs.Behind.{head_with, tail_with}
+use Rattle.mseed_parts.proofs.Following.{head_with, tail_with}
 use Rattle.mseed_parts.proofs.Joined.{same_held}
 use Rattle.mseed_parts.proofs.Moving.{head_moves, tail_moves}
 

@@ -16,7 +16,7 @@ use Rattle.mseed_parts.specs.Joining.{moved_head, moved_finding, moved_findings,
 use Rattle.mseed_audit.specs.Audit.{IsHeadOf, IsTailOf, head_in, tail_in, AreCounted, Stands, StandsAt}
 use Rattle.mseed_parts.specs.Parts.{Held, IsAscending, kept_of, IsPartOf, IsJoint}
 use Rattle.mseed_parts.proofs.Adding.{joined_none}
-use Rattle.mseed_parts.proofs.Behind.{HaveOneFinding, last_is, stands_joined}
+use Rattle.mseed_parts.proofs.Following.{HaveOneFinding, last_is, stands_joined}
 use Rattle.mseed_parts.proofs.Moving.{stands_at_moved}
 use Rattle.mseed_parts.proofs.Placing.{moved, bytes_append, records_append}
 

@@ -1,6 +1,6 @@
 pub mod Adding
 pub mod Associative
-pub mod Behind
+pub mod Following
 pub mod Extended
 pub mod Joined
 pub mod Keeping
@@ -9,6 +9,6 @@ pub mod Moving
 pub mod Noticing
 pub mod Placing
 pub mod Rising
-pub mod Telling
+pub mod Reporting
 pub mod Turns
 pub mod Within

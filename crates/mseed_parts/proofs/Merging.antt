@@ -29,7 +29,7 @@ use Rattle.mseed_parts.specs.Notices.{AreMerged, HaveBytes, Notice, border_notic
 use Rattle.mseed_parts.specs.Notices.{notices_of}
 use Rattle.mseed_parts.specs.Parts.{Held, IsAscending, IsPartOf, kept_of}
 use Rattle.mseed_parts.proofs.Adding.{Entries}
-use Rattle.mseed_parts.proofs.Behind.{HaveOneFinding}
+use Rattle.mseed_parts.proofs.Following.{HaveOneFinding}
 use Rattle.mseed_parts.proofs.Noticing.{border_in, border_is_in, reported_at_key, with_key}
 use Rattle.mseed_parts.proofs.Turns.{past_head}
 use Rattle.mseed_parts.proofs.Rising.{reported_rise}

@@ -22,11 +22,11 @@ use Rattle.mseed_parts.specs.Borders.{Border, border_at, border_with}
 use Rattle.mseed_parts.specs.Joining.{border_between, border_of, border_why, found_at, moved_channel, moved_head}
 use Rattle.mseed_parts.specs.Notices.{Notice, border_notices, moved_notice, moved_notices, notice_of, notices_of}
 use Rattle.mseed_parts.specs.Parts.{Held, IsPartOf, kept_of}
-use Rattle.mseed_parts.proofs.Behind.{HaveOneFinding, last_is}
+use Rattle.mseed_parts.proofs.Following.{HaveOneFinding, last_is}
 use Rattle.mseed_parts.proofs.Moving.{head_moves, stands_at_moved}
 use Rattle.mseed_parts.proofs.Placing.{moved, records_append}
-use Rattle.mseed_parts.proofs.Telling.{AreReportedIn, none, border_reported, key_of, moved_reported, reported_append}
-use Rattle.mseed_parts.proofs.Telling.{reported_border, reported_moved, reported_one, telling_channel}
+use Rattle.mseed_parts.proofs.Reporting.{AreReportedIn, none, border_reported, key_of, moved_reported, reported_append}
+use Rattle.mseed_parts.proofs.Reporting.{reported_border, reported_moved, reported_one, telling_channel}
 
 -- ---- those with a key
 abbrev pub with_key : List ℕ → List Notice → List Notice

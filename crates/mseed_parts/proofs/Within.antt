@@ -18,7 +18,7 @@ use Rattle.mseed_parts.specs.Joining.{findings_with, channel_then}
 use Rattle.mseed_audit.specs.Audit.{head_in, tail_in}
 use Rattle.mseed_parts.specs.Parts.{HeadFits, FirstFits, Moves, CountFits, CountsFit, IsWithin, AreWithin, kept_of}
 use Rattle.mseed_parts.proofs.Adding.{Entries}
-use Rattle.mseed_parts.proofs.Behind.{head_with}
+use Rattle.mseed_parts.proofs.Following.{head_with}
 
 -- what went up and didn't pass it
 heads_fit : (d e : ℕ) (h : Option Head) → HeadFits d e h → HeadFits 0 0 (option_map (moved_head d e) h)

@@ -11,7 +11,7 @@ use Rattle.mseed_record.specs.Viewing.{view_of}
 use Rattle.mseed_stream.specs.Device.{BytesWritten}
 use Rattle.mseed_audit.specs.Channels.{is_of}
 use Rattle.mseed_audit.specs.Follows.{IsSound}
-use Rattle.mseed_audit.proofs.Behind.{views_are}
+use Rattle.mseed_audit.proofs.Following.{views_are}
 use Rattle.mseed_pack.specs.declared.fault.PackFault.{PackFault}
 use Rattle.mseed_pack.specs.declared.options.Options.{Options}
 use Rattle.mseed_repack.specs.Repack.{AreContinuous, AreTexts, CanBePacked, CantBePacked, Channel, IsFirst, IsTextUpTo}

@@ -25,7 +25,7 @@ use Rattle.mseed_audit.specs.Series.{Trace, IsSeriesOf}
 use Rattle.mseed_audit.specs.Verdict.{AreVerdicts, IsVerdictAt, says_continuous}
 use Rattle.mseed_audit.specs.declared.verdict.Verdict.{Verdict}
 use Rattle.mseed_audit.proofs.Assembled.{first_key}
-use Rattle.mseed_audit.proofs.Behind.{views_are}
+use Rattle.mseed_audit.proofs.Following.{views_are}
 use Rattle.mseed_audit.proofs.Maps.{same_itself}
 use Rattle.mseed_pack.specs.Fitting.{Fits}
 use Rattle.mseed_pack.specs.Outcome.{IsTrace}

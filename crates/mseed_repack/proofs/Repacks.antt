@@ -22,7 +22,7 @@ use Rattle.mseed_audit.specs.Follows.{IsContinuous}
 use Rattle.mseed_audit.specs.Verdict.{AreVerdicts, IsExactAt, says_continuous}
 use Rattle.mseed_audit.specs.declared.verdict.Verdict.{Verdict}
 use Rattle.mseed_audit.specs.Audit.{Held, IsAuditOf}
-use Rattle.mseed_audit.proofs.Behind.{end_of}
+use Rattle.mseed_audit.proofs.Following.{end_of}
 use Rattle.mseed_audit.proofs.Maps.{same_back, same_itself}
 use Rattle.mseed_repack.specs.Repack.{AreContinuous, Channel, IsFirst, records_in}
 

@@ -16,7 +16,7 @@ use Rattle.mseed_record.specs.View.{View, IsView}
 use Rattle.mseed_stream.specs.Device.{BytesRead}
 use Rattle.mseed_stream.specs.Walk.{bytes_in}
 use Rattle.mseed_audit.specs.Channels.{is_of}
-use Rattle.mseed_audit.proofs.Behind.{views_are}
+use Rattle.mseed_audit.proofs.Following.{views_are}
 use Rattle.mseed_pack.specs.declared.options.Options.{Options}
 use Rattle.mseed_pack.proofs.Archived.{all_kept, key_of}
 use Rattle.mseed_pack.proofs.Traced.{kept_views}

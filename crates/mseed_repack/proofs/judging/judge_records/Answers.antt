@@ -2,7 +2,7 @@ use Rattle.std.proofs.Common.{◌≤◌, ◌+◌, ◌^◌, ℕ, List, length, ma
 use Rattle.std.proofs.lemmas.Bool.{false≢true}
 use Rattle.mseed_record.specs.Viewing.{view_of}
 use Rattle.mseed_audit.specs.Channels.{added_from, numbered}
-use Rattle.mseed_audit.proofs.Behind.{few_bytes, end_next}
+use Rattle.mseed_audit.proofs.Following.{few_bytes, end_next}
 use Rattle.mseed_repack.proofs.ReadChannels.{steps_next}
 use Rattle.mseed_repack.proofs.Repacks.{audit_next}
 use Rattle.mseed_repack.proofs.Sound.{sound_next}

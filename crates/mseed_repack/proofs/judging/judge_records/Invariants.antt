@@ -2,7 +2,7 @@ use Rattle.std.proofs.Common.{◌≡◌, ◌≤◌, ◌*◌, ◌^◌, map, take,
 use Rattle.mseed_record.specs.Viewing.{view_of}
 use Rattle.mseed_audit.specs.Channels.{added_from}
 use Rattle.mseed_audit.specs.Audit.{IsAuditOf}
-use Rattle.mseed_audit.proofs.Behind.{end_of}
+use Rattle.mseed_audit.proofs.Following.{end_of}
 use Rattle.mseed_repack.specs.private.Archives.{AreSoundAlone}
 use Rattle.mseed_repack.specs.private.Reading.{steps_of}
 use Rattle.mseed_repack.proofs.judging.judge_records.Given as goal

@@ -1,6 +1,6 @@
 use Rattle.std.proofs.Common.{◌∙◌, arith, get_or, map, refl, sym}
 use Rattle.mseed_record.specs.Viewing.{view_of}
-use Rattle.mseed_audit.proofs.Behind.{views_are}
+use Rattle.mseed_audit.proofs.Following.{views_are}
 use Rattle.mseed_repack.proofs.Trails.{nexts_after, trail_at}
 use Rattle.mseed_repack.proofs.archive.Archive.trail.Goals as goal
 

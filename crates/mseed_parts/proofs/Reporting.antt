@@ -17,10 +17,10 @@ use Rattle.mseed_audit.specs.Reported.{Reported, AreReported, AreReportedOf, IsF
 use Rattle.mseed_audit.specs.Reported.{reported_at, reported_with, none as nothing_reported, one as one_reported}
 use Rattle.mseed_audit.specs.Verdict.{finding_at}
 use Rattle.mseed_audit.proofs.Maps.{same_is}
-use Rattle.mseed_audit.proofs.OneTelling.{channel_with, channel_without, last_with, last_without, of_some}
-use Rattle.mseed_audit.proofs.OneTelling.{reported_elsewhere, samples_of}
+use Rattle.mseed_audit.proofs.OneReport.{channel_with, channel_without, last_with, last_without, of_some}
+use Rattle.mseed_audit.proofs.OneReport.{reported_elsewhere, samples_of}
 use Rattle.mseed_parts.specs.Joining.{border_of, moved_finding}
-use Rattle.mseed_parts.proofs.Behind.{HaveOneFinding, found_behind}
+use Rattle.mseed_parts.proofs.Following.{HaveOneFinding, found_behind}
 use Rattle.mseed_parts.proofs.Placing.{moved, told_moved}
 
 -- what is reported of a channel's records after another, each judged by the one just before it
