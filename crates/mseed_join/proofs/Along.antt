@@ -13,11 +13,11 @@ use Rattle.mseed_join.specs.declared.joint.Reported.{Reported}
 use Rattle.mseed_join.specs.declared.reader.Reader.{Reader}
 use Rattle.mseed_join.specs.Joined.{AreLines, Begins, HasNoEnd, IsBadLine, IsJointOf, IsOfOneLine}
 use Rattle.mseed_join.specs.Lines.{Line, counts_line, header_line}
-use Rattle.mseed_join.specs.Reached.{Behind, Stage, IsStage, none, begun, whole, part_behind, AreReported}
-use Rattle.mseed_join.specs.Reached.{parts_at, passed_lines, start, text_behind}
+use Rattle.mseed_join.specs.Reached.{OpenPart, Stage, IsStage, none, begun, whole, open_part, AreReported}
+use Rattle.mseed_join.specs.Reached.{parts_at, passed_lines, start, open_text}
 use Rattle.mseed_join.specs.ReadParts.{written_of}
 use Rattle.mseed_join.specs.Written.{Written, Spells, channel_lines, part_text, texts}
-use Rattle.mseed_join.specs.private.Along.{HasEnded, IsAlong, IsBadBehind, IsFailedAt, IsStoppedAt, can_end, is_over}
+use Rattle.mseed_join.specs.private.Along.{HasEnded, IsAlong, IsBadAfter, IsFailedAt, IsStoppedAt, can_end, is_over}
 use Rattle.mseed_join.specs.private.LineReading.{GoesOn, Grows, IsLineAhead, IsOpen, IsReadBy, LiesAhead, LinesRead}
 use Rattle.mseed_join.specs.private.Taking.{IsPlace, IsReadTo, IsTaken}
 use Rattle.mseed_join.proofs.Ahead.{IsAhead, ahead, too_long}
@@ -37,19 +37,19 @@ texts_few : (ws : List Written) → length ws ≤ length (texts ws)
 texts_few [] = omega arith
 texts_few (w ∷ ws) = omega (arith, texts_few ws, part_some w, length-append (part_text w) (texts ws))
 
-behind_few : (b : Behind) → length (part_behind b) ≤ length (text_behind b)
-behind_few none = omega arith
-behind_few (begun channels) = omega (arith, length-append header_line (channel_lines channels))
-behind_few (whole w) = part_some w
+open_few : (b : OpenPart) → length (open_part b) ≤ length (open_text b)
+open_few none = omega arith
+open_few (begun channels) = omega (arith, length-append header_line (channel_lines channels))
+open_few (whole w) = part_some w
 
 pub parts_few : (lines : List ℕ) (s : Stage) → IsStage lines s → length (parts_at s) ≤ length lines
 parts_few lines s i = omega (
   arith,
   ap length i.text,
-  length-append (texts s.over) (text_behind s.behind),
-  length-append s.over (part_behind s.behind),
+  length-append (texts s.over) (open_text s.open),
+  length-append s.over (open_part s.open),
   texts_few s.over,
-  behind_few s.behind,
+  open_few s.open,
 )
 
 -- ---- what was passed begins a text
@@ -57,28 +57,28 @@ texts_append : (ws vs : List Written) → texts (ws ++ vs) ≡ texts ws ++ texts
 texts_append = rows_append part_text texts refl (λ w ws. refl)
 
 -- with which the last part would be over
-abbrev rest_of : Behind → List ℕ
+abbrev rest_of : OpenPart → List ℕ
 rest_of none = []
 rest_of (begun channels) = counts_line 0 0
 rest_of (whole w) = []
 
-behind_whole : (b : Behind) → text_behind b ++ rest_of b ≡ texts (part_behind b)
-behind_whole none = refl
-behind_whole (begun channels) =
+open_whole : (b : OpenPart) → open_text b ++ rest_of b ≡ texts (open_part b)
+open_whole none = refl
+open_whole (begun channels) =
     let text : List ℕ = header_line ++ channel_lines channels ++ counts_line 0 0 in
     sym (append-nil text) ∙ sym (append-nil (text ++ [])) ∙ sym (append-nil (text ++ [] ++ []))
-behind_whole (whole w) = refl
+open_whole (whole w) = refl
 
-completes : (lines : List ℕ) (s : Stage) → IsStage lines s → lines ++ rest_of s.behind ≡ texts (parts_at s)
+completes : (lines : List ℕ) (s : Stage) → IsStage lines s → lines ++ rest_of s.open ≡ texts (parts_at s)
 completes lines s i =
-    ap (λ (t : List ℕ). t ++ rest_of s.behind) i.text
-    ∙ append_assoc (texts s.over) (text_behind s.behind) (rest_of s.behind)
-    ∙ ap (λ (t : List ℕ). texts s.over ++ t) (behind_whole s.behind)
-    ∙ sym (texts_append s.over (part_behind s.behind))
+    ap (λ (t : List ℕ). t ++ rest_of s.open) i.text
+    ∙ append_assoc (texts s.over) (open_text s.open) (rest_of s.open)
+    ∙ ap (λ (t : List ℕ). texts s.over ++ t) (open_whole s.open)
+    ∙ sym (texts_append s.over (open_part s.open))
 
 pub begins : {A : Type 0} → (lines : List ℕ) (s : Stage) (j : Joint A) → IsReadTo lines s j → Begins j.past lines
 begins lines s j r = record {
-  rest = rest_of s.behind;
+  rest = rest_of s.open;
   parts = parts_at s;
   spells = record { text = completes lines s r.stage; each = r.stage.each };
   joint = written_of j.so_far;
@@ -86,7 +86,7 @@ begins lines s j r = record {
 }
 
 -- ---- at the input's end
-over_rest : (place : Place) (b : Behind) → IsPlace place b → can_end place ≡ true → rest_of b ≡ []
+over_rest : (place : Place) (b : OpenPart) → IsPlace place b → can_end place ≡ true → rest_of b ≡ []
 over_rest Start none p e = refl
 over_rest Start (begun channels) p e = absurd p
 over_rest Start (whole w) p e = absurd p
@@ -95,7 +95,7 @@ over_rest (Whole bytes has) none p e = absurd p
 over_rest (Whole bytes has) (begun channels) p e = absurd p
 over_rest (Whole bytes has) (whole w) p e = refl
 
-open_rest : (place : Place) (b : Behind) → IsPlace place b → can_end place ≡ false → 0 < length (rest_of b)
+open_rest : (place : Place) (b : OpenPart) → IsPlace place b → can_end place ≡ false → 0 < length (rest_of b)
 open_rest Start b p e = absurd (let no : true ≡ false = e in cc no)
 open_rest (Channels last) none p e = absurd p
 open_rest (Channels last) (begun channels) p e = omega arith
@@ -106,7 +106,7 @@ pub ended : {A : Type 0} → (lines : List ℕ) (s : Stage) (j : Joint A) → Is
     → Spells lines (parts_at s)
 ended lines s j r e = record {
   text = sym (append-nil lines)
-      ∙ ap (λ (t : List ℕ). lines ++ t) (sym (over_rest j.place s.behind r.place e))
+      ∙ ap (λ (t : List ℕ). lines ++ t) (sym (over_rest j.place s.open r.place e))
       ∙ completes lines s r.stage;
   each = r.stage.each;
 }
@@ -121,13 +121,13 @@ lacks lines s j r e ws sp = by a.others a.text a.are a.runs
     by : (xs : List Line) → [] ≡ lines_text xs → AreAll xs → Runs s xs a.at → ⊥
     by [] t l runs =
         let same : parts_at s ≡ ws = ap parts_at runs ∙ a.parts_are in
-        let whole_text : lines ++ rest_of s.behind ≡ lines =
+        let whole_text : lines ++ rest_of s.open ≡ lines =
         completes lines s r.stage ∙ ap texts same ∙ sym sp.text in
         absurd (omega (
           arith,
           ap length whole_text,
-          length-append lines (rest_of s.behind),
-          open_rest j.place s.behind r.place e,
+          length-append lines (rest_of s.open),
+          open_rest j.place s.open r.place e,
         ))
     by (x ∷ xs) t l runs = nothing_first x (lines_text xs) l.0 (sym t)
 
@@ -205,7 +205,7 @@ stops past h now s lines j l = record {
 pub wrong_line : {A : Type 0} → (past : Bool) (h now : BytesRead) (s : Stage) (lines : LinesRead) (j : Joint A)
     (n : ℕ) → (l : IsLooked past h now s lines j) → IsOfOneLine (take n lines.held)
     → (Begins past (l.by.passed ++ take n lines.held) → ⊥)
-    → IsBadBehind past h now s (lines.lines + 1) (length l.by.passed)
+    → IsBadAfter past h now s (lines.lines + 1) (length l.by.passed)
 wrong_line past h now s lines j n l one refused = record {
   stopped = stops past h now s lines j l;
   bad = IsBadLine.wrong l.by.passed (take n lines.held) (drop n lines.held) lines.lines
@@ -234,7 +234,7 @@ fails past h now s lines j l held = record {
 
 long_line : {A : Type 0} → (past : Bool) (h now : BytesRead) (s : Stage) (lines : LinesRead) (j : Joint A)
     → (l : IsLooked past h now s lines j) → HasNoEnd (take 512 lines.held) → 512 ≤ length lines.held
-    → IsBadBehind past h now s (lines.lines + 1) (length l.by.passed)
+    → IsBadAfter past h now s (lines.lines + 1) (length l.by.passed)
 long_line past h now s lines j l no_end long =
     wrong_line past h now s lines j 512 l (IsOfOneLine.begun (take 512 lines.held) no_end)
     (too_long past s l.by.passed (take 512 lines.held) l.read.stage no_end
@@ -242,7 +242,7 @@ long_line past h now s lines j l no_end long =
 
 unended_line : {A : Type 0} → (past : Bool) (h now : BytesRead) (s : Stage) (lines : LinesRead) (j : Joint A)
     → (l : IsLooked past h now s lines j) → now.is_at_end ≡ true → HasNoEnd lines.held → lines.held ≢ []
-    → IsBadBehind past h now s (lines.lines + 1) (length l.by.passed)
+    → IsBadAfter past h now s (lines.lines + 1) (length l.by.passed)
 unended_line past h now s lines j l at_end no_end some = record {
   stopped = stops past h now s lines j l;
   bad = IsBadLine.unended l.by.passed lines.held lines.lines at_end refl l.by.lines
@@ -273,7 +273,7 @@ stops_all past h now s lines j l held = record {
 
 lacking : {A : Type 0} → (past : Bool) (h now : BytesRead) (s : Stage) (lines : LinesRead) (j : Joint A)
     → (l : IsLooked past h now s lines j) → now.is_at_end ≡ true → lines.held ≡ [] → can_end j.place ≡ false
-    → IsBadBehind past h now s (lines.lines + 1) (length l.by.passed)
+    → IsBadAfter past h now s (lines.lines + 1) (length l.by.passed)
 lacking past h now s lines j l at_end held e = record {
   stopped = stops_all past h now s lines j l held;
   bad = IsBadLine.lacks lines.lines at_end l.by.lines (begun_so past h now s lines j l)
@@ -303,7 +303,7 @@ over_at past h now s r Nothing l lies e = has_ended past h now s r l lies.0 lies
 
 pub bad_at : {A : Type 0} → (past : Bool) (h now : BytesRead) (s : Stage) (lines : LinesRead) (j : Joint A) (a : Ahead)
     → (l : IsLooked past h now s lines j) → LiesAhead a lines now.is_at_end → a ≢ WholeLine
-    → is_over a j.place ≡ false → IsBadBehind past h now s (lines.lines + 1) (length l.by.passed)
+    → is_over a j.place ≡ false → IsBadAfter past h now s (lines.lines + 1) (length l.by.passed)
 bad_at past h now s lines j WholeLine l lies other e = absurd (other refl)
 bad_at past h now s lines j TooLong l lies other e = long_line past h now s lines j l lies.0 lies.1
 bad_at past h now s lines j Unended l lies other e = unended_line past h now s lines j l lies.0 lies.1 lies.2
@@ -330,17 +330,17 @@ line_taken past h now s t line lines after j r tells l same held c goes taken =
 -- it begins where what was passed ends
 pub bad_next : (past : Bool) (h now : BytesRead) (s : Stage) (lines : LinesRead) (by : IsReadBy h now lines)
     (n offset : ℕ) → n ≡ lines.lines → offset + length lines.held ≡ lines.bytes
-    → IsBadBehind past h now s (lines.lines + 1) (length by.passed) → IsBadBehind past h now s (n + 1) offset
+    → IsBadAfter past h now s (lines.lines + 1) (length by.passed) → IsBadAfter past h now s (n + 1) offset
 bad_next past h now s lines by n offset same place bad =
     let there : offset ≡ length by.passed = omega (arith, place, by.bytes) in
-    subst (λ (m : ℕ). IsBadBehind past h now s (n + 1) m) (sym there)
-    (subst (λ (k : ℕ). IsBadBehind past h now s (k + 1) (length by.passed)) (sym same) bad)
+    subst (λ (m : ℕ). IsBadAfter past h now s (n + 1) m) (sym there)
+    (subst (λ (k : ℕ). IsBadAfter past h now s (k + 1) (length by.passed)) (sym same) bad)
 
 -- a whole line that is refused
 pub whole_line : {A : Type 0} → (past : Bool) (h now : BytesRead) (s : Stage) (lines : LinesRead) (j : Joint A)
     (line : List ℕ) → (l : IsLooked past h now s lines j) → IsLineAhead lines.size lines.held
     → line ≡ take lines.size lines.held → (Begins j.past (l.by.passed ++ line) → ⊥)
-    → IsBadBehind past h now s (lines.lines + 1) (length l.by.passed)
+    → IsBadAfter past h now s (lines.lines + 1) (length l.by.passed)
 whole_line past h now s lines j line l a same refused =
     let whole_one : IsOfOneLine (take lines.size lines.held) =
     subst IsOfOneLine (sym a.line.2) (IsOfOneLine.whole a.line.0 a.line.1) in

@@ -37,7 +37,7 @@ use Rattle.mseed_audit.specs.declared.tail.Tail.{Tail}
 use Rattle.mseed_join.specs.Lines.{leap_text, head_text, tail_text, text_or_none, findings_text, channel_line}
 use Rattle.mseed_join.specs.Lines.{counts_line, faults_line, IsWord, HasHead, HasTail, HasReadFault, HasWhy, HasFinding}
 use Rattle.mseed_join.specs.Lines.{HasFindings, HasChannelLine, HasCountsLine, HasFaultsLine, HasFrameFault}
-use Rattle.mseed_join.specs.Lines.{HasFaultLine, IsFaultBehind}
+use Rattle.mseed_join.specs.Lines.{HasFaultLine, IsFaultAfter}
 use Rattle.mseed_join.specs.private.Reading.{after, number_at, ratio_at, start_at, sample_at, leap_at, some_head_at}
 use Rattle.mseed_join.specs.private.Reading.{some_tail_at, head_at, tail_at, time_at, read_fault_at, why_at, first_at}
 use Rattle.mseed_join.specs.private.Reading.{counted_findings_at, findings_at, channel_at, counts_at, faults_at}
@@ -294,7 +294,7 @@ frame_fault_back Outside rest l e = refl
 frame_fault_back Version3 rest l e = refl
 
 -- what fails is read by its words, whatever the offset
-stream_fault_back : (f : StreamFault) (bytes : ℕ) (rest : List ℕ) → IsFaultBehind bytes f → Ends rest
+stream_fault_back : (f : StreamFault) (bytes : ℕ) (rest : List ℕ) → IsFaultAfter bytes f → Ends rest
     → stream_fault_at bytes (fault_words f ++ rest) ≡ Some (f, rest)
 unfolding stream_fault_at
 stream_fault_back (Frame offset NotData) bytes rest l e = rw (frame_fault_back NotData rest l.1 e, l.0) refl

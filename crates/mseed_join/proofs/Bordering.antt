@@ -12,7 +12,7 @@ use Rattle.mseed_join.specs.Borders.{border_with, borders_with}
 use Rattle.mseed_join.specs.Joined.{AreJoined, IsJointOf, IsNext, counted, counted_by, moved_fault, nothing}
 use Rattle.mseed_join.specs.Lines.{Line, header, channel, counts, faults, fault}
 use Rattle.mseed_join.specs.Written.{Written}
-use Rattle.mseed_join.specs.Reached.{Behind, none, begun, whole, IsWhere, begun_part, part_behind, parts_at}
+use Rattle.mseed_join.specs.Reached.{OpenPart, none, begun, whole, IsWhere, begun_part, open_part, parts_at}
 use Rattle.mseed_join.specs.private.Steps.{May, goes, counted_part, with_faults, with_end}
 use Rattle.mseed_join.proofs.Machine.{Entries, rows_append}
 use Rattle.mseed_join.proofs.Stepping.{LeavesKept, kept_none, leaves_kept}
@@ -200,8 +200,8 @@ begins past ws h j found b = by h.end refl
         (sym (counted_on past ws (begun_part [] ∷ []) h n j))
         (found_behind [] (counted past ws) h (begun_part []) found b j)
 
-pub header_borders : (past : Bool) (over : List Written) (b : Behind) (h : Written) → May b header
-    → IsJointOf past (over ++ part_behind b) h → (found : List Border) → AreBordersOf past (over ++ part_behind b) found
+pub header_borders : (past : Bool) (over : List Written) (b : OpenPart) (h : Written) → May b header
+    → IsJointOf past (over ++ open_part b) h → (found : List Border) → AreBordersOf past (over ++ open_part b) found
     → AreBordersOf past (parts_at (goes over b header)) (found ++ [])
 header_borders past over none h m j found b =
     let same : over ++ [] ≡ over = append-nil over in
@@ -218,9 +218,9 @@ IsNoHeader (counts n l) = ⊤
 IsNoHeader (faults n) = ⊤
 IsNoHeader (fault l f) = ⊤
 
-pub skips_borders : (past : Bool) (over : List Written) (b : Behind) (x : Line) (h : Written) (f : StreamFault)
-    → IsWhere over b → May b x → IsNoHeader x → h.end ≡ Some f → IsJointOf past (over ++ part_behind b) h
-    → (found : List Border) → AreBordersOf past (over ++ part_behind b) found
+pub skips_borders : (past : Bool) (over : List Written) (b : OpenPart) (x : Line) (h : Written) (f : StreamFault)
+    → IsWhere over b → May b x → IsNoHeader x → h.end ≡ Some f → IsJointOf past (over ++ open_part b) h
+    → (found : List Border) → AreBordersOf past (over ++ open_part b) found
     → AreBordersOf past (parts_at (goes over b x)) (found ++ [])
 skips_borders past over none header h f v m p n j found b = absurd p
 skips_borders past over none (channel key c) h f v m p n j found b = absurd m
@@ -267,9 +267,9 @@ ending_channels : (past : Bool) (w : Written) (f : StreamFault)
 ending_channels true w f = refl
 ending_channels false w f = refl
 
-pub ends_borders : (past : Bool) (over : List Written) (b : Behind) (x : Line) (h : Written)
-    → IsWhere over b → May b x → IsEnding x → h.end ≡ None → IsJointOf past (over ++ part_behind b) h
-    → (found : List Border) → AreBordersOf past (over ++ part_behind b) found
+pub ends_borders : (past : Bool) (over : List Written) (b : OpenPart) (x : Line) (h : Written)
+    → IsWhere over b → May b x → IsEnding x → h.end ≡ None → IsJointOf past (over ++ open_part b) h
+    → (found : List Border) → AreBordersOf past (over ++ open_part b) found
     → AreBordersOf past (parts_at (goes over b x)) (found ++ [])
 ends_borders past over none header h v m p n j found b = absurd p
 ends_borders past over none (channel key c) h v m p n j found b = absurd p
@@ -310,10 +310,10 @@ same_border a h key c left =
     λ i. border_at key (head_in c.findings)
     (border_between (left.kept i) (moved_channel (left.records i) (left.bytes i) c))
 
-pub channel_borders : HaveOneJoint → (past : Bool) (over : List Written) (b : Behind) (key : List ℕ) (c : Channel)
+pub channel_borders : HaveOneJoint → (past : Bool) (over : List Written) (b : OpenPart) (key : List ℕ) (c : Channel)
     (h : Written) (reported : List Border) → May b (channel key c) → h.end ≡ None
     → reported ≡ border_with h.part (key, c)
-    → IsJointOf past (over ++ part_behind b) h → (found : List Border) → AreBordersOf past (over ++ part_behind b) found
+    → IsJointOf past (over ++ open_part b) h → (found : List Border) → AreBordersOf past (over ++ open_part b) found
     → AreBordersOf past (parts_at (goes over b (channel key c))) (found ++ reported)
 channel_borders only past over none key c h reported m n is j found b = absurd m
 channel_borders only past over (begun cs) key c h reported m n is j found b =

@@ -36,7 +36,7 @@ use Rattle.mseed_audit.specs.declared.tail.Tail.{Tail}
 use Rattle.mseed_join.specs.Joined.{HasNoEnd}
 use Rattle.mseed_join.specs.Lines.{hex_digit, key_text, ratio_text, leap_text, head_text, tail_text, text_or_none}
 use Rattle.mseed_join.specs.Lines.{first_text, findings_text, IsWord, HasHead, HasTail, HasReadFault, HasWhy}
-use Rattle.mseed_join.specs.Lines.{HasFinding, HasFindings, HasFrameFault, IsFaultBehind, Line, header, channel, counts}
+use Rattle.mseed_join.specs.Lines.{HasFinding, HasFindings, HasFrameFault, IsFaultAfter, Line, header, channel, counts}
 use Rattle.mseed_join.specs.Lines.{faults, fault, text_of_line, IsLine}
 use Rattle.mseed_join.proofs.Backwards.{instant_within}
 use Rattle.mseed_join.proofs.Digits.{IsWithin}
@@ -203,7 +203,7 @@ frame_fault (Length exponent) l = two (codes "length ") (decimal exponent) refl 
 frame_fault Outside l = refl
 frame_fault Version3 l = refl
 
-stream_fault : (bytes : ℕ) (f : StreamFault) → IsFaultBehind bytes f → plain (fault_words f) ≡ true
+stream_fault : (bytes : ℕ) (f : StreamFault) → IsFaultAfter bytes f → plain (fault_words f) ≡ true
 stream_fault bytes (Frame offset f) l = frame_fault f l.1
 stream_fault bytes (Truncated offset have) l = two (codes "truncated ") (decimal have) refl (count have l.1)
 stream_fault bytes (Read offset) l = refl

@@ -10,7 +10,7 @@ use Rattle.mseed_text.specs.Fault.{end_line, fault_line}
 use Rattle.mseed_join.specs.Lines.{Line, header, channel, counts, faults, fault, text_of_line, IsLine, header_line}
 use Rattle.mseed_join.specs.Lines.{counts_line, faults_line, HasChannelLine, HasFaultLine}
 use Rattle.mseed_join.specs.Written.{Written, HasText, channel_lines, part_text, texts}
-use Rattle.mseed_join.specs.Reached.{Behind, none, begun, whole, Stage, part_behind, text_behind}
+use Rattle.mseed_join.specs.Reached.{OpenPart, none, begun, whole, Stage, open_part, open_text}
 use Rattle.mseed_join.specs.private.Steps.{May, to}
 use Rattle.mseed_join.proofs.Ended.{IsEnded, ended, same_line}
 use Rattle.mseed_join.proofs.OneLine.{line_one}
@@ -47,10 +47,10 @@ abbrev pub all_rows : List Written → List Line
 all_rows [] = []
 all_rows (w ∷ ws) = part_rows w ++ all_rows ws
 
-abbrev pub rows_behind : Behind → List Line
-rows_behind none = []
-rows_behind (begun channels) = header ∷ rows channels
-rows_behind (whole w) = part_rows w
+abbrev pub open_rows : OpenPart → List Line
+open_rows none = []
+open_rows (begun channels) = header ∷ rows channels
+open_rows (whole w) = part_rows w
 
 -- ---- their texts
 pub rows_append : {X : Type 0} (row : X → List ℕ) (text : List X → List ℕ) → text [] ≡ []
@@ -96,10 +96,10 @@ pub texts_are : (ws : List Written) → lines_text (all_rows ws) ≡ texts ws
 texts_are [] = refl
 texts_are (w ∷ ws) = text_append (part_rows w) (all_rows ws) ∙ (λ i. part_text_is w i ++ texts_are ws i)
 
-pub behind_text_is : (b : Behind) → lines_text (rows_behind b) ≡ text_behind b
-behind_text_is none = refl
-behind_text_is (begun channels) = ap (λ (t : List ℕ). header_line ++ t) (rows_text channels)
-behind_text_is (whole w) = part_text_is w
+pub open_text_is : (b : OpenPart) → lines_text (open_rows b) ≡ open_text b
+open_text_is none = refl
+open_text_is (begun channels) = ap (λ (t : List ℕ). header_line ++ t) (rows_text channels)
+open_text_is (whole w) = part_text_is w
 
 -- ---- and their ranges
 rows_are : (es : Entries) → AllByRecursion (λ (e : List ℕ × Channel). HasChannelLine e.0 e.1) es → AreAll (rows es)
@@ -130,10 +130,10 @@ pub texts_all : (ws : List Written) → AllByRecursion HasText ws → AreAll (al
 texts_all [] h = tt
 texts_all (w ∷ ws) h = All-append IsLine (part_rows w) (all_rows ws) (part_are w h.0) (texts_all ws h.1)
 
-pub behind_all : (b : Behind) → AllByRecursion HasText (part_behind b) → AreAll (rows_behind b)
-behind_all none h = tt
-behind_all (begun channels) h = (tt, rows_are channels h.0.channels)
-behind_all (whole w) h = part_are w h.0
+pub open_all : (b : OpenPart) → AllByRecursion HasText (open_part b) → AreAll (open_rows b)
+open_all none h = tt
+open_all (begun channels) h = (tt, rows_are channels h.0.channels)
+open_all (whole w) h = part_are w h.0
 
 -- ---- bytes are the lines of one list
 -- what lies after lines that begin a text
@@ -180,7 +180,7 @@ leaves (x ∷ xs) (y ∷ ys) rest p q e =
 -- ---- how reading goes along lines
 abbrev pub Runs : Stage → List Line → Stage → Type 0
 Runs s [] t = s ≡ t
-Runs s (x ∷ xs) t = May s.behind x × Runs (to s x) xs t
+Runs s (x ∷ xs) t = May s.open x × Runs (to s x) xs t
 
 pub runs_on : (s m t : Stage) (xs ys : List Line) → Runs s xs m → Runs m ys t → Runs s (xs ++ ys) t
 runs_on s m t [] ys p q = subst (λ (n : Stage). Runs n ys t) (sym p) q

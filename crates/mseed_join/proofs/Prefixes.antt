@@ -16,7 +16,7 @@ use Rattle.mseed_audit.specs.declared.channel.Findings.TheVariants.{Nothing, Cou
 use Rattle.mseed_audit.specs.declared.channel.Head.{Head}
 use Rattle.mseed_audit.specs.declared.tail.Tail.{Tail}
 use Rattle.mseed_join.specs.Lines.{key_text, leap_text, head_text, tail_text, text_or_none, first_text}
-use Rattle.mseed_join.specs.Lines.{findings_text, channel_line, counts_line, faults_line, IsFaultBehind}
+use Rattle.mseed_join.specs.Lines.{findings_text, channel_line, counts_line, faults_line, IsFaultAfter}
 use Rattle.mseed_join.proofs.Digits.{Ends}
 
 abbrev pub ratio_then : Ratio → List ℕ → List ℕ
@@ -139,7 +139,7 @@ fault_leading (Turns offset) t = simp append_assoc
 fault_leading Memory t = absurd t
 
 -- after so many bytes
-pub fault_of : (f : StreamFault) (bytes : ℕ) → IsFaultBehind bytes f
+pub fault_of : (f : StreamFault) (bytes : ℕ) → IsFaultAfter bytes f
     → fault_line f ≡ codes "fault at " ++ (decimal bytes ++ (codes " " ++ (fault_words f ++ codes "\n")))
 fault_of (Frame offset f) bytes l = fault_leading (Frame offset f) tt
     ∙ ap (λ (n : ℕ). fault_then n (Frame offset f)) l.0

@@ -17,7 +17,7 @@ use Rattle.mseed_join.specs.Lines.{channel_line, counts_line, faults_line, HasCh
 use Rattle.mseed_join.specs.Lines.{HasFaultsLine, HasFaultLine}
 use Rattle.mseed_join.specs.Written.{Written}
 use Rattle.mseed_join.specs.Joined.{AreJoined, Begins, HasNoEnd, none as no_more, nothing}
-use Rattle.mseed_join.specs.Reached.{Behind, none, begun, whole, Stage, begun_part, part_behind, start}
+use Rattle.mseed_join.specs.Reached.{OpenPart, none, begun, whole, Stage, begun_part, open_part, start}
 use Rattle.mseed_join.specs.declared.joint.Joint.{Joint}
 use Rattle.mseed_join.specs.declared.joint.LineFault.{LineFault}
 use Rattle.mseed_join.specs.declared.joint.LineFault.TheVariants.{Bad, Memory}
@@ -25,7 +25,7 @@ use Rattle.mseed_join.specs.declared.joint.Place.{Place}
 use Rattle.mseed_join.specs.declared.joint.Place.TheVariants.{Start, Channels, Whole}
 use Rattle.mseed_join.specs.declared.joint.Reported.{Reported}
 use Rattle.mseed_join.specs.private.Steps.{May, to}
-use Rattle.mseed_join.specs.private.Taking.{IsBehindKey, IsLastKey, IsLineStep, IsPlace, IsReadTo, IsStep, IsTaken}
+use Rattle.mseed_join.specs.private.Taking.{IsAfterKey, IsLastKey, IsLineStep, IsPlace, IsReadTo, IsStep, IsTaken}
 use Rattle.mseed_join.proofs.Ahead.{IsNextLine, next_line}
 use Rattle.mseed_join.proofs.Machine.{Entries}
 use Rattle.mseed_join.proofs.Pieces.{of_nothing}
@@ -54,7 +54,7 @@ unfolding IsStrictlySortedBy
 single key c = (tt, tt)
 
 in_order : (last : Option (List ℕ)) (cs : Entries) (key : List ℕ) (c : Channel) → IsLastKey last cs → IsAscending cs
-    → IsBehindKey last key → IsAscending (cs ++ (key, c) ∷ [])
+    → IsAfterKey last key → IsAscending (cs ++ (key, c) ∷ [])
 in_order None cs key c l s b = subst (λ (es : Entries). IsAscending (es ++ (key, c) ∷ [])) (sym l) (single key c)
 in_order (Some last) cs key c l s b =
     subst (λ (es : Entries). IsAscending (es ++ (key, c) ∷ [])) (sym l.2)
@@ -72,7 +72,7 @@ two_last [] d e s = first_two d [] e s
 two_last (f ∷ cs) d e s = two_last cs d e s.1
 
 out_of_order : (last : Option (List ℕ)) (cs : Entries) (key : List ℕ) (c : Channel) → IsLastKey last cs
-    → IsAscending (cs ++ (key, c) ∷ []) → IsBehindKey last key
+    → IsAscending (cs ++ (key, c) ∷ []) → IsAfterKey last key
 out_of_order None cs key c l s = tt
 out_of_order (Some last) cs key c l s =
     two_last l.0 (last, l.1) (key, c) (subst (λ (es : Entries). IsAscending (es ++ (key, c) ∷ [])) l.2 s)
@@ -89,58 +89,58 @@ step_line lines s x line (Err Memory) old new e h = tt
 abbrev pub IsEndedLine : List ℕ → Type 0
 IsEndedLine line = (body : List ℕ) × HasNoEnd body × (line ≡ body ++ codes "\n")
 
-row_place : {A : Type 0} → (j : Joint A) (last : Option (List ℕ)) (b : Behind) → j.place ≡ Channels last
+row_place : {A : Type 0} → (j : Joint A) (last : Option (List ℕ)) (b : OpenPart) → j.place ≡ Channels last
     → IsPlace j.place b → IsPlace (Channels last) b
 row_place j last b e p = subst (λ (q : Place). IsPlace q b) e p
 
-channel_may : (last : Option (List ℕ)) (over : List Written) (b : Behind) (key : List ℕ) (c : Channel)
-    → IsPlace (Channels last) b → HaveTexts (over ++ part_behind b)
-    → IsBehindKey last key → May b (channel key c)
+channel_may : (last : Option (List ℕ)) (over : List Written) (b : OpenPart) (key : List ℕ) (c : Channel)
+    → IsPlace (Channels last) b → HaveTexts (over ++ open_part b)
+    → IsAfterKey last key → May b (channel key c)
 channel_may last over none key c p h k = absurd p
 channel_may last over (begun cs) key c p h k =
     in_order last cs key c p (texts_behind over (begun_part cs ∷ []) h).0.ascending k
 channel_may last over (whole w) key c p h k = absurd p
 
-channel_must : (last : Option (List ℕ)) (b : Behind) (key : List ℕ) (c : Channel) → IsPlace (Channels last) b
-    → May b (channel key c) → IsBehindKey last key
+channel_must : (last : Option (List ℕ)) (b : OpenPart) (key : List ℕ) (c : Channel) → IsPlace (Channels last) b
+    → May b (channel key c) → IsAfterKey last key
 channel_must last none key c p m = absurd p
 channel_must last (begun cs) key c p m = out_of_order last cs key c p m
 channel_must last (whole w) key c p m = absurd p
 
-counts_may : (last : Option (List ℕ)) (b : Behind) (n l : ℕ) → IsPlace (Channels last) b → May b (counts n l)
+counts_may : (last : Option (List ℕ)) (b : OpenPart) (n l : ℕ) → IsPlace (Channels last) b → May b (counts n l)
 counts_may last none n l p = absurd p
 counts_may last (begun cs) n l p = tt
 counts_may last (whole w) n l p = absurd p
 
 pub row_taken : {A : Type 0} → (old new : Joint A) (last : Option (List ℕ)) (line : List ℕ) (key : List ℕ)
     (c : Channel) (r : Result Reported LineFault) → old.place ≡ Channels last → line ≡ channel_line key c
-    → HasChannelLine key c → IsBehindKey last key
-    → ((lines : List ℕ) (s : Stage) → IsReadTo lines s old → IsLine (channel key c) → May s.behind (channel key c)
+    → HasChannelLine key c → IsAfterKey last key
+    → ((lines : List ℕ) (s : Stage) → IsReadTo lines s old → IsLine (channel key c) → May s.open (channel key c)
     → IsStep lines s (channel key c) r old new)
     → (lines : List ℕ) (s : Stage) → IsReadTo lines s old → IsLineStep lines s line r old new
 row_taken old new last line key c r at is fits behind step lines s q =
     step_line lines s (channel key c) line r old new is (step lines s q fits
-    (channel_may last s.over s.behind key c (row_place old last s.behind at q.place) q.stage.each behind))
+    (channel_may last s.over s.open key c (row_place old last s.open at q.place) q.stage.each behind))
 
 pub row_refused : {A : Type 0} → (old : Joint A) (last : Option (List ℕ)) (line : List ℕ) (key : List ℕ) (c : Channel)
-    → old.place ≡ Channels last → line ≡ channel_line key c → HasChannelLine key c → (IsBehindKey last key → ⊥)
+    → old.place ≡ Channels last → line ≡ channel_line key c → HasChannelLine key c → (IsAfterKey last key → ⊥)
     → (lines : List ℕ) (s : Stage) → IsReadTo lines s old → Begins old.past (lines ++ line) → ⊥
 row_refused old last line key c at is fits never lines s q b =
     let h : IsHere old.past s (channel key c) =
     next_here old.past s lines (channel key c) q.stage fits
     (subst (λ (t : List ℕ). Begins old.past (lines ++ t)) is b) in
-    never (channel_must last s.behind key c (row_place old last s.behind at q.place) h.may)
+    never (channel_must last s.open key c (row_place old last s.open at q.place) h.may)
 
 pub row_counted : {A : Type 0} → (old new : Joint A) (last : Option (List ℕ)) (line : List ℕ) (n l : ℕ)
     (r : Result Reported LineFault) → old.place ≡ Channels last → line ≡ counts_line n l → HasCountsLine n l
-    → ((lines : List ℕ) (s : Stage) → IsReadTo lines s old → IsLine (counts n l) → May s.behind (counts n l)
+    → ((lines : List ℕ) (s : Stage) → IsReadTo lines s old → IsLine (counts n l) → May s.open (counts n l)
     → IsStep lines s (counts n l) r old new)
     → (lines : List ℕ) (s : Stage) → IsReadTo lines s old → IsLineStep lines s line r old new
 row_counted old new last line n l r at is fits step lines s q =
     step_line lines s (counts n l) line r old new is (step lines s q fits
-    (counts_may last s.behind n l (row_place old last s.behind at q.place)))
+    (counts_may last s.open n l (row_place old last s.open at q.place)))
 
-no_row : (last : Option (List ℕ)) (line : List ℕ) (b : Behind) (x : Line) → IsPlace (Channels last) b → IsLine x
+no_row : (last : Option (List ℕ)) (line : List ℕ) (b : OpenPart) (x : Line) → IsPlace (Channels last) b → IsLine x
     → text_of_line x ≡ line → May b x
     → ((key : List ℕ) (c : Channel) → HasChannelLine key c → line ≢ channel_line key c)
     → ((n l : ℕ) → HasCountsLine n l → line ≢ counts_line n l) → ⊥
@@ -158,43 +158,43 @@ pub row_unknown : {A : Type 0} → (old : Joint A) (last : Option (List ℕ)) (l
     → (lines : List ℕ) (s : Stage) → IsReadTo lines s old → Begins old.past (lines ++ line) → ⊥
 row_unknown old last line at ends f g lines s q b =
     let n : IsNextLine old.past s line = next_line old.past s lines ends.0 line q.stage ends.1 ends.2 b in
-    no_row last line s.behind n.x (row_place old last s.behind at q.place) n.is_line n.text n.may f g
+    no_row last line s.open n.x (row_place old last s.open at q.place) n.is_line n.text n.may f g
 
 -- ---- after the counts
-whole_place : {A : Type 0} → (j : Joint A) (l : ℕ) (has : Bool) (b : Behind) → j.place ≡ Whole l has
+whole_place : {A : Type 0} → (j : Joint A) (l : ℕ) (has : Bool) (b : OpenPart) → j.place ≡ Whole l has
     → IsPlace j.place b → IsPlace (Whole l has) b
 whole_place j l has b e p = subst (λ (q : Place). IsPlace q b) e p
 
-fault_may : (l : ℕ) (has : Bool) (b : Behind) (f : StreamFault) → IsPlace (Whole l has) b → May b (fault l f)
+fault_may : (l : ℕ) (has : Bool) (b : OpenPart) (f : StreamFault) → IsPlace (Whole l has) b → May b (fault l f)
 fault_may l has none f p = absurd p
 fault_may l has (begun cs) f p = absurd p
 fault_may l has (whole w) f p = sym p.0
 
-faults_may : (l : ℕ) (b : Behind) (n : ℕ) → IsPlace (Whole l false) b → May b (faults n)
+faults_may : (l : ℕ) (b : OpenPart) (n : ℕ) → IsPlace (Whole l false) b → May b (faults n)
 faults_may l none n p = absurd p
 faults_may l (begun cs) n p = absurd p
 faults_may l (whole w) n p = p.1
 
 pub ending_fault : {A : Type 0} → (old new : Joint A) (l : ℕ) (has : Bool) (line : List ℕ) (f : StreamFault)
     (r : Result Reported LineFault) → old.place ≡ Whole l has → line ≡ fault_line f → HasFaultLine l f
-    → ((lines : List ℕ) (s : Stage) → IsReadTo lines s old → IsLine (fault l f) → May s.behind (fault l f)
+    → ((lines : List ℕ) (s : Stage) → IsReadTo lines s old → IsLine (fault l f) → May s.open (fault l f)
     → IsStep lines s (fault l f) r old new)
     → (lines : List ℕ) (s : Stage) → IsReadTo lines s old → IsLineStep lines s line r old new
 ending_fault old new l has line f r at is fits step lines s q =
     step_line lines s (fault l f) line r old new is (step lines s q fits
-    (fault_may l has s.behind f (whole_place old l has s.behind at q.place)))
+    (fault_may l has s.open f (whole_place old l has s.open at q.place)))
 
 pub ending_faults : {A : Type 0} → (old new : Joint A) (l : ℕ) (line : List ℕ) (n : ℕ)
     (r : Result Reported LineFault) → old.place ≡ Whole l false → line ≡ faults_line n → HasFaultsLine n
-    → ((lines : List ℕ) (s : Stage) → IsReadTo lines s old → IsLine (faults n) → May s.behind (faults n)
+    → ((lines : List ℕ) (s : Stage) → IsReadTo lines s old → IsLine (faults n) → May s.open (faults n)
     → IsStep lines s (faults n) r old new)
     → (lines : List ℕ) (s : Stage) → IsReadTo lines s old → IsLineStep lines s line r old new
 ending_faults old new l line n r at is fits step lines s q =
     step_line lines s (faults n) line r old new is (step lines s q fits
-    (faults_may l s.behind n (whole_place old l false s.behind at q.place)))
+    (faults_may l s.open n (whole_place old l false s.open at q.place)))
 
 -- a header, or nothing
-header_may : (place : Place) (b : Behind) → IsPlace place b → ((last : Option (List ℕ)) → place ≡ Channels last → ⊥)
+header_may : (place : Place) (b : OpenPart) → IsPlace place b → ((last : Option (List ℕ)) → place ≡ Channels last → ⊥)
     → May b header
 header_may place none p never = tt
 header_may Start (begun cs) p never = absurd p
@@ -210,7 +210,7 @@ IsNoOther (Whole l false) line =
     ((f : StreamFault) → HasFaultLine l f → line ≢ fault_line f) × ((n : ℕ) → HasFaultsLine n → line ≢ faults_line n)
 IsNoOther (Whole l true) line = (f : StreamFault) → HasFaultLine l f → line ≢ fault_line f
 
-no_ending : (place : Place) (line : List ℕ) (b : Behind) (x : Line) → IsPlace place b → IsLine x
+no_ending : (place : Place) (line : List ℕ) (b : OpenPart) (x : Line) → IsPlace place b → IsLine x
     → text_of_line x ≡ line → May b x → line ≢ header_line → IsNoOther place line → ⊥
 no_ending place line b header p i e m f o = f (sym e)
 no_ending place line none (channel k c) p i e m f o = absurd m
@@ -234,7 +234,7 @@ no_ending (Whole k true) line (whole w) (fault l x) p i e m f o =
     o x (subst (λ (n : ℕ). HasFaultLine n x) (sym (p.0 ∙ m)) i) (sym e)
 
 abbrev pub IsHeaderStep : {A : Type 0} → Result Reported LineFault → Joint A → Joint A → Type 0
-IsHeaderStep r old new = (lines : List ℕ) (s : Stage) → IsReadTo lines s old → May s.behind header
+IsHeaderStep r old new = (lines : List ℕ) (s : Stage) → IsReadTo lines s old → May s.open header
     → OnOk r (IsStep lines s header r old new)
 
 pub header_or_none : {A : Type 0} → (old new : Joint A) (place : Place) (line : List ℕ) (r : Result Reported LineFault)
@@ -244,10 +244,10 @@ pub header_or_none : {A : Type 0} → (old new : Joint A) (place : Place) (line 
     → (lines : List ℕ) (s : Stage) → IsReadTo lines s old → IsLineStep lines s line r old new
 header_or_none old new place line (Ok reported) at never ends step is bad other lines s q =
     step_line lines s header line (Ok reported) old new is (step lines s q
-    (header_may place s.behind (subst (λ (p : Place). IsPlace p s.behind) at q.place) never))
+    (header_may place s.open (subst (λ (p : Place). IsPlace p s.open) at q.place) never))
 header_or_none old new place line (Err Bad) at never ends step is bad other lines s q = λ b.
     let n : IsNextLine old.past s line = next_line old.past s lines ends.0 line q.stage ends.1 ends.2 b in
-    no_ending place line s.behind n.x (subst (λ (p : Place). IsPlace p s.behind) at q.place) n.is_line n.text n.may
+    no_ending place line s.open n.x (subst (λ (p : Place). IsPlace p s.open) at q.place) n.is_line n.text n.may
     bad.1 other
 header_or_none old new place line (Err Memory) at never ends step is bad other lines s q = tt
 

@@ -33,7 +33,7 @@ use Rattle.mseed_audit.specs.declared.channel.Head.{Head}
 use Rattle.mseed_audit.specs.declared.tail.Tail.{Tail}
 use Rattle.mseed_join.specs.Lines.{key_text, ratio_text, leap_text, head_text, tail_text, text_or_none, first_text}
 use Rattle.mseed_join.specs.Lines.{findings_text, IsWord, HasHead, HasTail, HasReadFault, HasWhy, HasFinding}
-use Rattle.mseed_join.specs.Lines.{HasFindings, HasFrameFault, IsFaultBehind, Line, header, channel, counts, faults}
+use Rattle.mseed_join.specs.Lines.{HasFindings, HasFrameFault, IsFaultAfter, Line, header, channel, counts, faults}
 use Rattle.mseed_join.specs.Lines.{fault, text_of_line, IsLine}
 use Rattle.mseed_join.proofs.Digits.{IsWithin}
 use Rattle.mseed_join.proofs.Backwards.{instant_within}
@@ -203,7 +203,7 @@ frame_fault (Length exponent) l =
 frame_fault Outside l = omega arith
 frame_fault Version3 l = omega arith
 
-stream_fault : (bytes : ℕ) (f : StreamFault) → IsFaultBehind bytes f → length (fault_words f) ≤ 29
+stream_fault : (bytes : ℕ) (f : StreamFault) → IsFaultAfter bytes f → length (fault_words f) ≤ 29
 stream_fault bytes (Frame offset f) l = frame_fault f l.1
 stream_fault bytes (Truncated offset have) l =
     two (codes "truncated ") (decimal have) 10 19 (omega arith) (number have l.1)

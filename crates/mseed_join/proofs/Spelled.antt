@@ -38,7 +38,7 @@ use Rattle.mseed_audit.specs.declared.tail.Tail.{Tail}
 use Rattle.mseed_join.specs.Lines.{key_text, leap_text, head_text, tail_text, text_or_none, findings_text, channel_line}
 use Rattle.mseed_join.specs.Lines.{counts_line, faults_line, IsWord, HasHead, HasTail, HasReadFault, HasWhy, HasFinding}
 use Rattle.mseed_join.specs.Lines.{HasFindings, HasChannelLine, HasCountsLine, HasFaultsLine, HasFrameFault}
-use Rattle.mseed_join.specs.Lines.{HasFaultLine, IsFaultBehind}
+use Rattle.mseed_join.specs.Lines.{HasFaultLine, IsFaultAfter}
 use Rattle.mseed_join.specs.private.Reading.{◌>>=◌, else_by, after, word_at, named_at, number_at, number_after}
 use Rattle.mseed_join.specs.private.Reading.{counted_at, ratio_at, start_at, sample_at, leap_at, some_head_at}
 use Rattle.mseed_join.specs.private.Reading.{some_tail_at, or_none_at, head_at, tail_at, time_at, bad_word_at}
@@ -95,14 +95,14 @@ named_spelled text (x ∷ xs) bytes y e =
     (named_spelled text xs bytes y)
 
 -- a number after a word
-record IsBehind (word : List ℕ) (largest : ℕ) (bytes : List ℕ) (x : ℕ × List ℕ) : Type 0 where
+record IsAfter (word : List ℕ) (largest : ℕ) (bytes : List ℕ) (x : ℕ × List ℕ) : Type 0 where
   is : bytes ≡ word ++ (decimal x.0 ++ x.1)
   bounded : x.0 ≤ largest
 
 behind_spelled : (word : List ℕ) (largest : ℕ) (bytes : List ℕ) (x : ℕ × List ℕ) → largest < 10 ^ 64
-    → number_after word largest bytes ≡ Some x → IsBehind word largest bytes x
+    → number_after word largest bytes ≡ Some x → IsAfter word largest bytes x
 behind_spelled word largest bytes x few e =
-    bind_then (IsBehind word largest bytes x) (after word bytes) _ x e (λ rest first more.
+    bind_then (IsAfter word largest bytes x) (after word bytes) _ x e (λ rest first more.
     let n : IsNumber largest rest x = number_behind largest rest x few more in record {
       is = leading word bytes rest (decimal x.0 ++ x.1) (word_behind word bytes rest first) n.is;
       bounded = n.bounded;
@@ -111,7 +111,7 @@ behind_spelled word largest bytes x few e =
 -- a count after a word, and the steps after it
 count_then : {B : Type 0} (P : Type 0) (word bytes : List ℕ) (f : ℕ × List ℕ → Option B) (y : B)
     → (number_after word (2 ^ 63 - 1) bytes >>= f) ≡ Some y
-    → ((x : ℕ × List ℕ) → IsBehind word (2 ^ 63 - 1) bytes x → f x ≡ Some y → P) → P
+    → ((x : ℕ × List ℕ) → IsAfter word (2 ^ 63 - 1) bytes x → f x ≡ Some y → P) → P
 count_then P word bytes f y e k = bind_then P (number_after word (2 ^ 63 - 1) bytes) f y e (λ x is more.
     k x (behind_spelled word (2 ^ 63 - 1) bytes x (omega arith) is) more)
 
@@ -120,7 +120,7 @@ counted_spelled : {X : Type 0} (text : X → List ℕ) (Fits : X → Type 0) (wo
     → (bytes : List ℕ) (y : X × List ℕ) → counted_at word largest made bytes ≡ Some y → IsRead text Fits bytes y
 counted_spelled {X} text Fits word largest made few is fits bytes y e =
     bind_then (IsRead text Fits bytes y) (number_after word largest bytes) _ y e (λ n first more.
-    let b : IsBehind word largest bytes n = behind_spelled word largest bytes n few first in
+    let b : IsAfter word largest bytes n = behind_spelled word largest bytes n few first in
     subst (λ (z : X × List ℕ). IsRead text Fits bytes z) (same_Some (made n.0, n.1) y more)
     (b.is ∙ sym (append_assoc word (decimal n.0) n.1) ∙ ap (λ (w : List ℕ). w ++ n.1) (is n.0), fits n.0 b.bounded))
 
@@ -209,7 +209,7 @@ some_tail_spelled bytes y e =
     bind_then P (ratio_at r2) _ y e3 (λ rate is4 e4. bind_then P (after (codes " ") rate.1) _ y e4 (λ r3 is5 e5.
     bind_then P (leap_at r3) _ y e5 (λ leap is6 e6.
     let s = start_spelled bytes start is1 in
-    let n : IsBehind (codes " ") (2 ^ 16 - 1) start.1 samples =
+    let n : IsAfter (codes " ") (2 ^ 16 - 1) start.1 samples =
     behind_spelled (codes " ") (2 ^ 16 - 1) start.1 samples (omega arith) is2 in
     let r = ratio_spelled r2 rate is4 in
     let l = leap_spelled r3 leap is6 in
@@ -456,7 +456,7 @@ unfolding faults_at
 faults_spelled bytes y e =
     bind_then ((bytes ≡ faults_line y) × HasFaultsLine y) (number_after (codes "faults ") (2 ^ 63 - 1) bytes) _ y e
     (λ n is more.
-    let b : IsBehind (codes "faults ") (2 ^ 63 - 1) bytes n =
+    let b : IsAfter (codes "faults ") (2 ^ 63 - 1) bytes n =
     behind_spelled (codes "faults ") (2 ^ 63 - 1) bytes n (omega arith) is in
     let made = cond_some (nat_lt 0 n.0 && ends n.1) n.0 y more in
     let both = and_parts (nat_lt 0 n.0) (ends n.1) made.0 in
@@ -482,20 +482,20 @@ frame_fault_spelled bytes y e =
 
 framed_spelled : (offset : ℕ) (bytes : List ℕ) (y : StreamFault × List ℕ)
     → (frame_fault_at bytes >>= λ fault. Some (Frame offset fault.0, fault.1)) ≡ Some y
-    → IsRead fault_words (λ f. IsFaultBehind offset f) bytes y
+    → IsRead fault_words (λ f. IsFaultAfter offset f) bytes y
 framed_spelled offset bytes y e =
-    bind_then (IsRead fault_words (λ f. IsFaultBehind offset f) bytes y) (frame_fault_at bytes) _ y e (λ fault is more.
+    bind_then (IsRead fault_words (λ f. IsFaultAfter offset f) bytes y) (frame_fault_at bytes) _ y e (λ fault is more.
     let f = frame_fault_spelled bytes fault is in
-    subst (λ (z : StreamFault × List ℕ). IsRead fault_words (λ g. IsFaultBehind offset g) bytes z)
+    subst (λ (z : StreamFault × List ℕ). IsRead fault_words (λ g. IsFaultAfter offset g) bytes z)
     (same_Some (Frame offset fault.0, fault.1) y more) (f.0, (refl, f.1)))
 
 stream_fault_spelled : (offset : ℕ) (bytes : List ℕ) (y : StreamFault × List ℕ) → stream_fault_at offset bytes ≡ Some y
-    → IsRead fault_words (λ f. IsFaultBehind offset f) bytes y
+    → IsRead fault_words (λ f. IsFaultAfter offset f) bytes y
 unfolding stream_fault_at
 stream_fault_spelled offset bytes y e =
-    let P : Type 0 = IsRead fault_words (λ f. IsFaultBehind offset f) bytes y in
-    let word = word_spelled fault_words (λ f. IsFaultBehind offset f) in
-    else_then P _ _ y e (counted_spelled fault_words (λ f. IsFaultBehind offset f) (codes "truncated ") (2 ^ 63 - 1)
+    let P : Type 0 = IsRead fault_words (λ f. IsFaultAfter offset f) bytes y in
+    let word = word_spelled fault_words (λ f. IsFaultAfter offset f) in
+    else_then P _ _ y e (counted_spelled fault_words (λ f. IsFaultAfter offset f) (codes "truncated ") (2 ^ 63 - 1)
     (λ have. Truncated offset have) (omega arith) (λ n. refl) (λ n l. (refl, omega (arith, l))) bytes y) (λ e2.
     else_then P _ _ y e2 (word (codes "read") (Read offset) refl refl bytes y) (λ e3.
     else_then P _ _ y e3 (word (codes "turns") (Turns offset) refl refl bytes y) (framed_spelled offset bytes y)))

@@ -16,7 +16,7 @@ use Rattle.mseed_parts.specs.Joining.{moved_channel, channel_joined}
 use Rattle.mseed_parts.specs.Parts.{Held, IsAscending, IsJoint, Fits, FitsAt, kept_of, channels_alone, one_channel}
 use Rattle.mseed_parts.specs.Parts.{counts_alone}
 use Rattle.mseed_parts.proofs.Adding.{joined_none}
-use Rattle.mseed_join.specs.Lines.{Line, text_of_line, IsLine, IsFaultBehind}
+use Rattle.mseed_join.specs.Lines.{Line, text_of_line, IsLine, IsFaultAfter}
 use Rattle.mseed_join.specs.Written.{Written}
 use Rattle.mseed_join.specs.Joined.{none as no_more, one, IsNext, IsJointOf, counted, moved_fault, nothing}
 use Rattle.mseed_join.specs.Reached.{Stage, begun_part, parts_at, passed_lines}
@@ -185,7 +185,7 @@ passed_joint over w f h k j e free fit part_same sum end_none =
     (same_part l.before w h (record { part = w.part; faults = w.faults + 1; end = None }) k l.next refl part_same
     (omega (arith, sum, l.next.faults)) (omega (arith, sum, fit)) end_none)
 
-behind_is : (d e b : ℕ) (f : StreamFault) → IsFaultBehind b f → e ≡ d + b → fault_after e f ≡ moved_fault d f
+behind_is : (d e b : ℕ) (f : StreamFault) → IsFaultAfter b f → e ≡ d + b → fault_after e f ≡ moved_fault d f
 behind_is d e b (Frame offset x) l s = let same : e ≡ d + offset = omega (arith, l.0, s) in ap (λ n. Frame n x) same
 behind_is d e b (Truncated offset have) l s =
     let same : e ≡ d + offset = omega (arith, l.0, s) in ap (λ n. Truncated n have) same
@@ -194,7 +194,7 @@ behind_is d e b (Turns offset) l s = let same : e ≡ d + offset = omega (arith,
 behind_is d e b Memory l s = refl
 
 pub ended_joint : (over : List Written) (w : Written) (f : StreamFault) (h k : Written)
-    → IsJointOf false (over ++ w ∷ []) h → w.end ≡ None → h.end ≡ None → IsFaultBehind w.part.bytes f
+    → IsJointOf false (over ++ w ∷ []) h → w.end ≡ None → h.end ≡ None → IsFaultAfter w.part.bytes f
     → k.part ≡ h.part → k.faults ≡ h.faults → k.end ≡ Some (fault_after h.part.bytes f)
     → IsJointOf false (over ++ with_end w f ∷ []) k
 ended_joint over w f h k j e free is part_same faults_same ends =
@@ -206,8 +206,8 @@ ended_joint over w f h k j e free is part_same faults_same ends =
 
 -- ---- a line that was taken
 pub taken : {A : Type 0} → (lines : List ℕ) (s : Stage) (x : Line) (tells : Reported) (old new : Joint A)
-    → IsReadTo lines s old → IsLine x → May s.behind x
-    → IsJointOf new.past (parts_at (to s x)) (written_of new.so_far) → IsPlace new.place (to s x).behind
+    → IsReadTo lines s old → IsLine x → May s.open x
+    → IsJointOf new.past (parts_at (to s x)) (written_of new.so_far) → IsPlace new.place (to s x).open
     → new.parts ≡ length (parts_at (to s x))
     → passed_lines old.past (parts_at (to s x)) ≡ passed_lines old.past (parts_at s) ++ passed_by tells
     → ((found : List Border) → AreBordersOf old.past (parts_at s) found

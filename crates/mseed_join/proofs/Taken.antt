@@ -13,7 +13,7 @@ use Rattle.mseed_join.specs.Lines.{channel_line, counts_line, faults_line, HasCh
 use Rattle.mseed_join.specs.Written.{Written, HasText, channel_lines, part_text, texts}
 use Rattle.mseed_join.specs.Joined.{AreJoined, none as no_more, one, IsNext, IsJointOf, counted, counted_by}
 use Rattle.mseed_join.specs.Joined.{moved_fault, nothing}
-use Rattle.mseed_join.specs.Reached.{Behind, none, begun, whole, Stage, begun_part, part_behind, parts_at, text_behind}
+use Rattle.mseed_join.specs.Reached.{OpenPart, none, begun, whole, Stage, begun_part, open_part, parts_at, open_text}
 use Rattle.mseed_join.specs.Reached.{IsStage, IsWhere, passed_from, passed_lines, passed_line, passed_of}
 use Rattle.mseed_join.specs.private.Steps.{May, to, goes, counted_part, with_faults, with_end}
 use Rattle.mseed_join.proofs.Machine.{Entries}
@@ -40,8 +40,8 @@ rows_one (d ∷ cs) key c =
 abbrev leading : Written → List ℕ
 leading w = header_line ++ channel_lines w.part.channels ++ counts_line w.part.records w.part.bytes
 
-text_more : (over : List Written) (b : Behind) (x : Line) → IsWhere over b → May b x
-    → texts over ++ text_behind b ++ text_of_line x ≡ texts (goes over b x).over ++ text_behind (goes over b x).behind
+text_more : (over : List Written) (b : OpenPart) (x : Line) → IsWhere over b → May b x
+    → texts over ++ open_text b ++ text_of_line x ≡ texts (goes over b x).over ++ open_text (goes over b x).open
 text_more over none header w m =
     (λ i. append-nil (texts over) i ++ sym (append-nil header_line) i)
 text_more over none (channel k c) w m = absurd m
@@ -90,8 +90,8 @@ empty_text = record {
   end = tt;
 }
 
-each_more : (over : List Written) (b : Behind) (x : Line) → IsLine x → IsWhere over b → May b x
-    → HaveTexts (over ++ part_behind b) → HaveTexts (parts_at (goes over b x))
+each_more : (over : List Written) (b : OpenPart) (x : Line) → IsLine x → IsWhere over b → May b x
+    → HaveTexts (over ++ open_part b) → HaveTexts (parts_at (goes over b x))
 each_more over none header l w m h =
     All-append HasText over (begun_part [] ∷ []) (texts_before over [] h) (empty_text, tt)
 each_more over none (channel k c) l w m h = absurd m
@@ -143,8 +143,8 @@ each_more over (whole v) (fault k f) l w m h =
       tt,
     )) tt
 
-where_more : (over : List Written) (b : Behind) (x : Line) → IsWhere over b → May b x
-    → IsWhere (goes over b x).over (goes over b x).behind
+where_more : (over : List Written) (b : OpenPart) (x : Line) → IsWhere over b → May b x
+    → IsWhere (goes over b x).over (goes over b x).open
 where_more over none header w m = tt
 where_more over none (channel k c) w m = absurd m
 where_more over none (counts n l) w m = absurd m
@@ -162,12 +162,12 @@ where_more over (whole v) (faults n) w m = w
 where_more over (whole v) (fault l f) w m =
     inr (record { parts = over; last = with_end v f; fault = f; are = refl; ends = refl })
 
-pub stage_more : (lines : List ℕ) (s : Stage) (x : Line) → IsStage lines s → IsLine x → May s.behind x
+pub stage_more : (lines : List ℕ) (s : Stage) (x : Line) → IsStage lines s → IsLine x → May s.open x
     → IsStage (lines ++ text_of_line x) (to s x)
 stage_more lines s x i l m = record {
-  text = ap (λ (t : List ℕ). t ++ text_of_line x) i.text ∙ text_more s.over s.behind x i.is_where m;
-  each = each_more s.over s.behind x l i.is_where m i.each;
-  is_where = where_more s.over s.behind x i.is_where m;
+  text = ap (λ (t : List ℕ). t ++ text_of_line x) i.text ∙ text_more s.over s.open x i.is_where m;
+  each = each_more s.over s.open x l i.is_where m i.each;
+  is_where = where_more s.over s.open x i.is_where m;
 }
 
 -- ---- the joint part
@@ -195,7 +195,7 @@ pub last_is : (past : Bool) (over : List Written) (w h : Written) → w.end ≡ 
 last_is past over w h e n j = by (split past over (w ∷ []) h j)
   where
     by : IsSplit past nothing over (w ∷ []) h → IsLast past over w h
-    by s = cases s.behind
+    by s = cases s.open
       where
         cases : ((s.before.end ≡ None) × AreJoined s.before (counted past (w ∷ [])) h)
             ⊎ ((f : StreamFault) × (s.before.end ≡ Some f) × (s.before ≡ h)) → IsLast past over w h
@@ -213,7 +213,7 @@ pub before_is : (past : Bool) (over : List Written) (w h : Written) (f : StreamF
 before_is past over w h f e n j = by (split past over (w ∷ []) h j)
   where
     by : IsSplit past nothing over (w ∷ []) h → IsJointOf past over h
-    by s = cases s.behind
+    by s = cases s.open
       where
         cases : ((s.before.end ≡ None) × AreJoined s.before (counted past (w ∷ [])) h)
             ⊎ ((x : StreamFault) × (s.before.end ≡ Some x) × (s.before ≡ h)) → IsJointOf past over h
@@ -267,9 +267,9 @@ passed_silent true ws w e =
     ∙ ap (λ (o : Option StreamFault). passed_from 1 ws ++ (passed_of (1 + length ws) o ++ [])) e
     ∙ append-nil (passed_from 1 ws)
 
-pub passed_same : (past : Bool) (over : List Written) (b : Behind) (x : Line) → IsWhere over b → May b x
+pub passed_same : (past : Bool) (over : List Written) (b : OpenPart) (x : Line) → IsWhere over b → May b x
     → ((bytes : ℕ) (f : StreamFault) → x ≡ fault bytes f → ⊥)
-    → passed_lines past (parts_at (goes over b x)) ≡ passed_lines past (over ++ part_behind b) ++ []
+    → passed_lines past (parts_at (goes over b x)) ≡ passed_lines past (over ++ open_part b) ++ []
 passed_same past over none header w m o =
     passed_silent past over (begun_part []) refl
     ∙ ap (λ (ws : List Written). passed_lines past ws) (sym (append-nil over))

@@ -168,17 +168,17 @@ HasFrameFault Outside = ⊤
 HasFrameFault Version3 = ⊤
 
 -- a fault after so many bytes; a want of memory isn't one
-abbrev pub IsFaultBehind : ℕ → StreamFault → Type 0
-IsFaultBehind bytes (Frame offset fault) = (offset ≡ bytes) × HasFrameFault fault
-IsFaultBehind bytes (Truncated offset have) = (offset ≡ bytes) × (have < 2 ^ 63)
-IsFaultBehind bytes (Read offset) = offset ≡ bytes
-IsFaultBehind bytes (Turns offset) = offset ≡ bytes
-IsFaultBehind bytes Memory = ⊥
+abbrev pub IsFaultAfter : ℕ → StreamFault → Type 0
+IsFaultAfter bytes (Frame offset fault) = (offset ≡ bytes) × HasFrameFault fault
+IsFaultAfter bytes (Truncated offset have) = (offset ≡ bytes) × (have < 2 ^ 63)
+IsFaultAfter bytes (Read offset) = offset ≡ bytes
+IsFaultAfter bytes (Turns offset) = offset ≡ bytes
+IsFaultAfter bytes Memory = ⊥
 
 -- a fault after so many bytes has a line
 pub record HasFaultLine (bytes : ℕ) (fault : StreamFault) : Type 0 where
   pub bytes_fit : bytes < 2 ^ 63
-  pub is : IsFaultBehind bytes fault
+  pub is : IsFaultAfter bytes fault
 
 -- ---- the lines of all kinds
 pub data Line : Type 0 where

@@ -14,39 +14,39 @@ use Rattle.mseed_join.specs.Written.{HasText, Written, channel_lines, part_text,
 
 -- ---- how far parts were read
 -- what stands after the parts that are over
-pub data Behind : Type 0 where
-  none : Behind
+pub data OpenPart : Type 0 where
+  none : OpenPart
   -- a header, and these channels
-  begun : List (List ℕ × Channel) → Behind
+  begun : List (List ℕ × Channel) → OpenPart
   -- a part that can be over; or the number of faults comes next, if it isn't there, or the fault
-  whole : Written → Behind
+  whole : Written → OpenPart
 
 -- the parts that are over, and what stands after them
 pub record Stage : Type 0 where
   pub over : List Written
-  pub behind : Behind
+  pub open : OpenPart
 
 -- nothing was read
 abbrev pub start : Stage
-start = record { over = []; behind = none }
+start = record { over = []; open = none }
 
 -- a part of these channels, of which no counts were read
 abbrev pub begun_part : List (List ℕ × Channel) → Written
 begun_part channels = record { part = channels_alone channels; faults = 0; end = None }
 
-abbrev pub part_behind : Behind → List Written
-part_behind none = []
-part_behind (begun channels) = begun_part channels ∷ []
-part_behind (whole w) = w ∷ []
+abbrev pub open_part : OpenPart → List Written
+open_part none = []
+open_part (begun channels) = begun_part channels ∷ []
+open_part (whole w) = w ∷ []
 
 -- all parts so far, with the one that has begun
 abbrev pub parts_at : Stage → List Written
-parts_at s = s.over ++ part_behind s.behind
+parts_at s = s.over ++ open_part s.open
 
-abbrev pub text_behind : Behind → List ℕ
-text_behind none = []
-text_behind (begun channels) = header_line ++ channel_lines channels
-text_behind (whole w) = part_text w
+abbrev pub open_text : OpenPart → List ℕ
+open_text none = []
+open_text (begun channels) = header_line ++ channel_lines channels
+open_text (whole w) = part_text w
 
 -- no part stands there, or the last ends with a fault
 pub record EndsByFault (over : List Written) : Type 0 where
@@ -57,16 +57,16 @@ pub record EndsByFault (over : List Written) : Type 0 where
   pub ends : last.end ≡ Some fault
 
 -- nothing can go on but what is over: a part without a fault is over until the next begins
-abbrev pub IsWhere : List Written → Behind → Type 0
+abbrev pub IsWhere : List Written → OpenPart → Type 0
 IsWhere over none = (over ≡ []) ⊎ EndsByFault over
 IsWhere over (begun channels) = ⊤
 IsWhere over (whole w) = w.end ≡ None
 
 -- these lines are parts up to here
 pub record IsStage (lines : List ℕ) (s : Stage) : Type 0 where
-  pub text : lines ≡ texts s.over ++ text_behind s.behind
+  pub text : lines ≡ texts s.over ++ open_text s.open
   pub each : AllByRecursion HasText (parts_at s)
-  pub is_where : IsWhere s.over s.behind
+  pub is_where : IsWhere s.over s.open
 
 -- ---- faults that are passed
 -- the line of the fault with which the part of this number ends

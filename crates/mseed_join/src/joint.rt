@@ -7,7 +7,7 @@ ghost use Rattle.mseed_join.specs.Lines.{IsLine, Line, header_line};
 ghost use Rattle.mseed_join.specs.Reached.{Stage, start};
 ghost use Rattle.mseed_join.specs.private.Along.{can_end};
 ghost use Rattle.mseed_join.specs.private.Steps.{May};
-ghost use Rattle.mseed_join.specs.private.Taking.{IsBehindKey, IsLineStep, IsReadTo, IsStep, border_by, fault_after};
+ghost use Rattle.mseed_join.specs.private.Taking.{IsAfterKey, IsLineStep, IsReadTo, IsStep, border_by, fault_after};
 ghost use Rattle.mseed_join.specs.private.Taking.{passed_by};
 
 use crate::lines::{read_channel_line, read_counts_line, read_fault_line, read_faults_line};
@@ -145,7 +145,7 @@ impl<A: Allocator + Copy> Joint<A> {
     /// Takes the first line of a part.
     fn take_header(&mut self, line: &[u8]) -> Result<Reported, LineFault>
         requires { self.old.parts < 2 ^ 63 }
-        ensures step { (lines : List ℕ) (s : Stage) → IsReadTo lines s self.old → May s.behind Line.header
+        ensures step { (lines : List ℕ) (s : Stage) → IsReadTo lines s self.old → May s.open Line.header
             → OnOk result (IsStep lines s Line.header result self.old self.new) }
         ensures line { OnOk result (line.now ≡ header_line) }
         ensures bad { IfErr result (λ fault. (fault ≡ LineFault.Bad) × (line.now ≢ header_line)) }
@@ -206,7 +206,7 @@ impl<A: Allocator + Copy> Joint<A> {
     /// Takes a channel that is in order.
     fn take_channel(&mut self, codes: Codes, channel: &Channel) -> Result<Reported, LineFault>
         ensures { (lines : List ℕ) (s : Stage) → IsReadTo lines s self.old → IsLine (Line.channel codes channel.now)
-            → May s.behind (Line.channel codes channel.now)
+            → May s.open (Line.channel codes channel.now)
             → IsStep lines s (Line.channel codes channel.now) result self.old self.new }
     {
         joined_in_turn();
@@ -231,7 +231,7 @@ impl<A: Allocator + Copy> Joint<A> {
     /// Takes the counts.
     fn take_counts(&mut self, records: u64, bytes: u64) -> Result<Reported, LineFault>
         ensures { (lines : List ℕ) (s : Stage) → IsReadTo lines s self.old → IsLine (Line.counts records bytes)
-            → May s.behind (Line.counts records bytes)
+            → May s.open (Line.counts records bytes)
             → IsStep lines s (Line.counts records bytes) result self.old self.new }
     {
         joined_in_turn();
@@ -254,7 +254,7 @@ impl<A: Allocator + Copy> Joint<A> {
     fn take_faults(&mut self, faults: u64, bytes: u64) -> Result<Reported, LineFault>
         requires { self.old.place ≡ Place.Whole bytes false }
         ensures { (lines : List ℕ) (s : Stage) → IsReadTo lines s self.old → IsLine (Line.faults faults)
-            → May s.behind (Line.faults faults)
+            → May s.open (Line.faults faults)
             → IsStep lines s (Line.faults faults) result self.old self.new }
     {
         joining_laws();
@@ -278,7 +278,7 @@ impl<A: Allocator + Copy> Joint<A> {
     /// Takes the fault with which a part of so many bytes ends.
     fn take_fault(&mut self, fault: StreamFault, bytes: u64) -> Result<Reported, LineFault>
         ensures { (lines : List ℕ) (s : Stage) → IsReadTo lines s self.old → IsLine (Line.fault bytes fault)
-            → May s.behind (Line.fault bytes fault)
+            → May s.open (Line.fault bytes fault)
             → IsStep lines s (Line.fault bytes fault) result self.old self.new }
     {
         joining_laws();
@@ -319,7 +319,7 @@ fn fault_after(bytes: u64, fault: &StreamFault) -> StreamFault
 
 /// Returns whether a channel's key is after that of the last.
 fn is_after(last: Option<Codes>, codes: Codes) -> bool
-    ensures { IsTrue result ↔ IsBehindKey last codes }
+    ensures { IsTrue result ↔ IsAfterKey last codes }
 {
     match last {
         Some(last) => match last.cmp(&codes) {

@@ -56,7 +56,7 @@ pub record HasEnded {A : Type 0} (past : Bool) (h now : BytesRead) (s : Stage) (
   pub number : r.joint.parts ≡ length (parts_at s)
 
 -- a bad line, after those that were passed
-pub record IsBadBehind (past : Bool) (h now : BytesRead) (s : Stage) (k offset : ℕ) : Type 0 where
+pub record IsBadAfter (past : Bool) (h now : BytesRead) (s : Stage) (k offset : ℕ) : Type 0 where
   pub stopped : IsStoppedAt h now s
   pub bad : IsBadLine past stopped.bytes now.is_at_end k offset
   pub behind : k ≡ stopped.count + 1
@@ -73,7 +73,7 @@ abbrev pub IsNextStep : {A : Type 0} → Bool → BytesRead → Stage → Result
 IsNextStep past h s (Ok (Some reported)) now r =
     (t : Stage) × (IsAlong past h now t r × IsReportedMore past s t reported × (now.is_at_end ≡ false))
 IsNextStep past h s (Ok None) now r = HasEnded past h now s r
-IsNextStep past h s (Err (BadLine k offset)) now r = IsBadBehind past h now s k offset
+IsNextStep past h s (Err (BadLine k offset)) now r = IsBadAfter past h now s k offset
 IsNextStep past h s (Err (Count parts due)) now r = ⊥
 IsNextStep past h s (Err (Stream fault)) now r = IsStreamFault fault h now × IsFailedAt past h now s
 IsNextStep past h s (Err Memory) now r = IsStoppedAt h now s

@@ -4,11 +4,11 @@ use Rattle.mseed_stream.specs.declared.fault.StreamFault.{StreamFault}
 use Rattle.mseed_audit.specs.declared.channel.Channel.{Channel}
 use Rattle.mseed_parts.specs.Parts.{IsAscending}
 use Rattle.mseed_join.specs.Lines.{Line, header, channel, counts, faults, fault}
-use Rattle.mseed_join.specs.Reached.{Behind, none, begun, whole, Stage}
+use Rattle.mseed_join.specs.Reached.{OpenPart, none, begun, whole, Stage}
 use Rattle.mseed_join.specs.Written.{Written}
 
 -- this line can stand here
-abbrev pub May : Behind → Line → Type 0
+abbrev pub May : OpenPart → Line → Type 0
 May none header = ⊤
 May none (channel key c) = ⊥
 May none (counts records bytes) = ⊥
@@ -39,25 +39,25 @@ abbrev pub with_end : Written → StreamFault → Written
 with_end w f = record { part = w.part; faults = w.faults; end = Some f }
 
 -- and then reading is so far
-abbrev pub goes : List Written → Behind → Line → Stage
-goes over none header = record { over = over; behind = begun [] }
-goes over none (channel key c) = record { over = over; behind = none }
-goes over none (counts records bytes) = record { over = over; behind = none }
-goes over none (faults n) = record { over = over; behind = none }
-goes over none (fault bytes f) = record { over = over; behind = none }
-goes over (begun channels) header = record { over = over; behind = none }
-goes over (begun channels) (channel key c) = record { over = over; behind = begun (channels ++ (key, c) ∷ []) }
+abbrev pub goes : List Written → OpenPart → Line → Stage
+goes over none header = record { over = over; open = begun [] }
+goes over none (channel key c) = record { over = over; open = none }
+goes over none (counts records bytes) = record { over = over; open = none }
+goes over none (faults n) = record { over = over; open = none }
+goes over none (fault bytes f) = record { over = over; open = none }
+goes over (begun channels) header = record { over = over; open = none }
+goes over (begun channels) (channel key c) = record { over = over; open = begun (channels ++ (key, c) ∷ []) }
 goes over (begun channels) (counts records bytes) = record {
   over = over;
-  behind = whole (counted_part channels records bytes);
+  open = whole (counted_part channels records bytes);
 }
-goes over (begun channels) (faults n) = record { over = over; behind = none }
-goes over (begun channels) (fault bytes f) = record { over = over; behind = none }
-goes over (whole w) header = record { over = over ++ w ∷ []; behind = begun [] }
-goes over (whole w) (channel key c) = record { over = over; behind = none }
-goes over (whole w) (counts records bytes) = record { over = over; behind = none }
-goes over (whole w) (faults n) = record { over = over; behind = whole (with_faults w n) }
-goes over (whole w) (fault bytes f) = record { over = over ++ with_end w f ∷ []; behind = none }
+goes over (begun channels) (faults n) = record { over = over; open = none }
+goes over (begun channels) (fault bytes f) = record { over = over; open = none }
+goes over (whole w) header = record { over = over ++ w ∷ []; open = begun [] }
+goes over (whole w) (channel key c) = record { over = over; open = none }
+goes over (whole w) (counts records bytes) = record { over = over; open = none }
+goes over (whole w) (faults n) = record { over = over; open = whole (with_faults w n) }
+goes over (whole w) (fault bytes f) = record { over = over ++ with_end w f ∷ []; open = none }
 
 abbrev pub to : Stage → Line → Stage
-to s x = goes s.over s.behind x
+to s x = goes s.over s.open x

@@ -17,7 +17,7 @@ use Rattle.mseed_join.specs.declared.joint.Reported.TheVariants.{Nothing, Border
 use Rattle.mseed_join.specs.Borders.{AreBordersOf, Border}
 use Rattle.mseed_join.specs.Joined.{Begins, IsJointOf}
 use Rattle.mseed_join.specs.Lines.{Line, text_of_line}
-use Rattle.mseed_join.specs.Reached.{Behind, none, begun, whole, Stage, parts_at, IsStage, passed_line, passed_lines}
+use Rattle.mseed_join.specs.Reached.{OpenPart, none, begun, whole, Stage, parts_at, IsStage, passed_line, passed_lines}
 use Rattle.mseed_join.specs.ReadParts.{written_of}
 use Rattle.mseed_join.specs.private.Steps.{to}
 
@@ -28,16 +28,16 @@ IsLastKey (Some key) channels =
     (before : List (List ℕ × Channel)) × (c : Channel) × (channels ≡ before ++ (key, c) ∷ [])
 
 -- a key is after that of the last channel
-abbrev pub IsBehindKey : Option (List ℕ) → List ℕ → Type 0
-IsBehindKey None key = ⊤
-IsBehindKey (Some last) key = slice_cmp nat_cmp last key ≡ Less
+abbrev pub IsAfterKey : Option (List ℕ) → List ℕ → Type 0
+IsAfterKey None key = ⊤
+IsAfterKey (Some last) key = slice_cmp nat_cmp last key ≡ Less
 
 -- whether the number of faults passed was read
 abbrev pub IsRead : Bool → ℕ → Type 0
 IsRead false n = n ≡ 0
 IsRead true n = 0 < n
 
-abbrev pub IsPlace : Place → Behind → Type 0
+abbrev pub IsPlace : Place → OpenPart → Type 0
 IsPlace Start none = ⊤
 IsPlace Start (begun channels) = ⊥
 IsPlace Start (whole w) = ⊥
@@ -52,7 +52,7 @@ IsPlace (Whole bytes has_faults) (whole w) = (bytes ≡ w.part.bytes) × IsRead 
 pub record IsReadTo {A : Type 0} (lines : List ℕ) (s : Stage) (j : Joint A) : Type 0 where
   pub stage : IsStage lines s
   pub joint : IsJointOf j.past (parts_at s) (written_of j.so_far)
-  pub place : IsPlace j.place s.behind
+  pub place : IsPlace j.place s.open
   pub number : j.parts ≡ length (parts_at s)
 
 -- ---- what is reported of a line
