@@ -99,7 +99,7 @@ pub fn has_number(head: &[u8; 8], wanted: u32) -> bool {
 }
 
 /// The digits of the number after one.
-pub fn digits_behind(number: u32) -> [u8; 6]
+pub fn digits_after(number: u32) -> [u8; 6]
     requires { number < 2 ^ 24 }
 {
     six_digits(number + 1)

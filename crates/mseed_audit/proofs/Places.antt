@@ -85,9 +85,9 @@ last_within place size [] le h = le
 last_within place size (s ∷ ss) le h = last_within s.0 size ss h.1 h.2
 
 -- one more, just past some samples that are new
-pub steps_behind : (m n place : ℕ) (old new : List (ℕ × LeapStep)) (step : LeapStep) → m < n → place ≡ n
+pub steps_after : (m n place : ℕ) (old new : List (ℕ × LeapStep)) (step : LeapStep) → m < n → place ≡ n
     → AreSteps m old → new ≡ old ++ (place, step) ∷ [] → AreSteps n new
-steps_behind m n place old new step lt at h e =
+steps_after m n place old new step lt at h e =
     let last : place_of 0 old ≤ m = last_within 0 m old (omega arith) h in
     let all : AreSteps n (old ++ (place, step) ∷ []) =
     steps_more 0 n old (place, step) (steps_wider 0 m n old (omega (arith, lt)) h) (omega (arith, last, lt, at))

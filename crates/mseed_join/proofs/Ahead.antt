@@ -17,7 +17,7 @@ use Rattle.mseed_join.proofs.Machine.{AreAll, Entries, LeavesLines, Runs, all_ro
 use Rattle.mseed_join.proofs.Machine.{open_text_is, leaves, lines_text, open_rows, runs_rest, text_append}
 use Rattle.mseed_join.proofs.Machine.{texts_all, texts_are}
 use Rattle.mseed_join.proofs.Running.{Extends, GoesOn, HaveTexts, all_run, extends, stage_runs, texts_before}
-use Rattle.mseed_join.proofs.Running.{texts_behind}
+use Rattle.mseed_join.proofs.Running.{texts_after}
 use Rattle.mseed_join.proofs.Shorts.{short}
 use Rattle.mseed_join.proofs.Stepping.{LeavesKept, kept_none, kept_there, leaves_kept}
 use Rattle.mseed_join.proofs.Sums.{HaveOneJoint, IsFirst, IsSplit, first_of, joined_one, some_none, split}
@@ -30,7 +30,7 @@ stage_all : (s : Stage) (lines : List ℕ) → IsStage lines s → AreAll (all_r
 stage_all s lines i =
     All-append IsLine (all_rows s.over) (open_rows s.open)
     (texts_all s.over (texts_before s.over (open_part s.open) i.each))
-    (open_all s.open (texts_behind s.over (open_part s.open) i.each))
+    (open_all s.open (texts_after s.over (open_part s.open) i.each))
 
 stage_text : (s : Stage) (lines : List ℕ) → IsStage lines s
     → lines_text (all_rows s.over ++ open_rows s.open) ≡ lines

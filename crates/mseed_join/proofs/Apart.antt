@@ -26,7 +26,7 @@ use Rattle.mseed_join.specs.Headline.{AreParted, EndsByBytes, IsReadOf, SaysAudi
 use Rattle.mseed_join.specs.HeadlineEach.{AreReportedApart, SaysEach, last, more, none as none_apart}
 use Rattle.mseed_join.specs.Joined.{AreJoined, IsJointOf, IsNext, counted, counted_by, moved_fault, nothing}
 use Rattle.mseed_join.specs.Written.{Written}
-use Rattle.mseed_join.proofs.Bordering.{IsFirstOf, first_found, joined_behind, none_found}
+use Rattle.mseed_join.proofs.Bordering.{IsFirstOf, first_found, joined_after, none_found}
 use Rattle.mseed_join.proofs.Cuts.{IsKnown, known, one_known}
 use Rattle.mseed_join.proofs.Pieces.{AddUp, HaveOneVerdicts, HaveVerdicts, IsSoFar, at_first, counted_last, further}
 use Rattle.mseed_join.proofs.Pieces.{joined_more, of_nothing, says}
@@ -284,7 +284,7 @@ merge_all single add_up add only _ before _ befores _ found a joint so
     more_pieces add_up add archive others before reported found c.rest a b joint so h p now refl first.1.0 c.are
     (merge_all single add_up add only others (before ++ archive) ws (befores ++ w ∷ []) reported c.rest b joint now
     apart
-    goes_on (joined_behind nothing befores a w b joined first.1.0) first.1.1 c.more)
+    goes_on (joined_after nothing befores a w b joined first.1.0) first.1.1 c.more)
 
 -- ---- their lines
 pub reported_text : (reported : List Reported) → notice_lines (notices_of reported) ≡ reported_lines reported

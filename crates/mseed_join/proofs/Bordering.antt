@@ -351,14 +351,14 @@ pub found_one : HaveOneJoint → (past : Bool) (ws : List Written) (found other 
 found_one only past ws found other b d = found_one_from only [] (counted past ws) found other b d
 
 -- one part more, joined to others
-pub joined_behind : (n : Written) (ts : List Written) (b v c : Written) → AreJoined n ts b → IsNext b v c
+pub joined_after : (n : Written) (ts : List Written) (b v c : Written) → AreJoined n ts b → IsNext b v c
     → AreJoined n (ts ++ v ∷ []) c
-joined_behind n [] b v c i next =
+joined_after n [] b v c i next =
     subst (λ (d : Written). AreJoined d (v ∷ []) c) (sym (none_of n b i))
     (AreJoined.one b v c c [] next (AreJoined.none c))
-joined_behind n (t ∷ ts) b v c i next =
+joined_after n (t ∷ ts) b v c i next =
     let g : IsFirst n t ts b = first_of n t b ts i in
-    AreJoined.one n t g.between c (ts ++ v ∷ []) g.next (joined_behind g.between ts b v c g.more next)
+    AreJoined.one n t g.between c (ts ++ v ∷ []) g.next (joined_after g.between ts b v c g.more next)
 
 -- and there is one list where the parts can be joined
 some_found : (before ws : List Written) (a h : Written) → AreJoined nothing before a → AreJoined a ws h
@@ -367,7 +367,7 @@ some_found before [] a h j k = ([], AreBorders.none before)
 some_found before (w ∷ ws) a h j k =
     let f : IsFirst a w ws h = first_of a w h ws k in
     let more = some_found (before ++ w ∷ []) ws f.between h
-    (joined_behind nothing before a w f.between j f.next) f.more in
+    (joined_after nothing before a w f.between j f.next) f.more in
     (borders_with a.part w.part.channels ++ more.0, AreBorders.one before a w ws more.0 j more.1)
 
 pub found_some : (past : Bool) (ws : List Written) (h : Written) → IsJointOf past ws h

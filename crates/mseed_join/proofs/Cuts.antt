@@ -178,10 +178,10 @@ known_none = record {
 }
 
 -- an archive after another, which ends without a fault
-pub known_behind : (first second : List ℕ) (xs ys : List View) (before end : Option StreamFault) → before ≡ None
+pub known_after : (first second : List ℕ) (xs ys : List View) (before end : Option StreamFault) → before ≡ None
     → IsKnown first xs before → IsKnown second ys end
     → IsKnown (first ++ second) (xs ++ ys) (option_map (moved_fault (size_of xs)) end)
-known_behind first second xs ys before end none a b =
+known_after first second xs ys before end none a b =
     let whole : IsCut first xs [] =
     subst (λ (rest : List ℕ). IsCut first xs rest) (none_left (size_of xs) a.rest before a.ends none) a.cut in
     record {

@@ -79,9 +79,9 @@ module _ (above less : ℕ → ℕ → ℕ) (bytes : List ℕ) (room : 16 ≤ le
         digit_at k (run_in_chunk_fails is_other bytes 0 16 (count_trailing_zeros 64 others) 0 room counted k
         (omega arith) (omega (arith, l)))
 
-    pub other_behind : count_trailing_zeros 64 others ≢ 16
+    pub other_after : count_trailing_zeros 64 others ≢ 16
         → is_digit (get_or bytes (count_trailing_zeros 64 others) 0) ≡ false
-    other_behind l =
+    other_after l =
         other_at (count_trailing_zeros 64 others)
         (ap (λ (k : ℕ). is_other (get_or bytes k 0)) (omega arith)
         ∙ run_in_chunk_stops is_other bytes 0 16 (count_trailing_zeros 64 others) 0 room counted

@@ -23,8 +23,8 @@ bind_some None f y e = absurd (none-some y e)
 bind_some (Some x) f y e = (x, (refl, e))
 
 -- ---- words
-pub word_behind : (word bytes rest : List ℕ) → after word bytes ≡ Some rest → bytes ≡ word ++ rest
-word_behind word bytes rest e = by (pointwise nat_eq (take (length word) bytes) word) refl e
+pub word_after : (word bytes rest : List ℕ) → after word bytes ≡ Some rest → bytes ≡ word ++ rest
+word_after word bytes rest e = by (pointwise nat_eq (take (length word) bytes) word) refl e
   where
     by : (b : Bool) → pointwise nat_eq (take (length word) bytes) word ≡ b
         → cond b (Some (drop (length word) bytes)) None ≡ Some rest → bytes ≡ word ++ rest
@@ -128,18 +128,18 @@ grows n (b ∷ bs) = by (is_digit b) (grows (10 * n + (b - 48)) bs)
     by true h = omega (arith, h)
     by false h = omega arith
 
-digit_behind : (n b : ℕ) → 0 < n → 48 ≤ b → b ≤ 57 → 10 * n + (b - 48) < 10 ^ 64
+digit_after : (n b : ℕ) → 0 < n → 48 ≤ b → b ≤ 57 → 10 * n + (b - 48) < 10 ^ 64
     → decimal (10 * n + (b - 48)) ≡ decimal n ++ b ∷ []
-digit_behind n b some l h few =
+digit_after n b some l h few =
     let m : ℕ = 10 * n + (b - 48) in
     let leading : m / 10 ≡ n = omega (arith, l, h) in
     let last : 48 + m % 10 ≡ b = omega (arith, l, h) in
     decimal_step_wide m (omega (arith, some)) few ∙ (λ i. decimal (leading i) ++ last i ∷ [])
 
-more_behind : (n : ℕ) (bs : List ℕ) → 0 < n → (more_at n bs).0 < 10 ^ 64
+more_after : (n : ℕ) (bs : List ℕ) → 0 < n → (more_at n bs).0 < 10 ^ 64
     → decimal n ++ bs ≡ decimal (more_at n bs).0 ++ (more_at n bs).1
-more_behind n [] some few = refl
-more_behind n (b ∷ bs) some few = by (is_digit b) refl (more_behind (10 * n + (b - 48)) bs (omega (arith, some))) few
+more_after n [] some few = refl
+more_after n (b ∷ bs) some few = by (is_digit b) refl (more_after (10 * n + (b - 48)) bs (omega (arith, some))) few
   where
     by : (t : Bool) → is_digit b ≡ t → ((more_at (10 * n + (b - 48)) bs).0 < 10 ^ 64
         → decimal (10 * n + (b - 48)) ++ bs
@@ -150,7 +150,7 @@ more_behind n (b ∷ bs) some few = by (is_digit b) refl (more_behind (10 * n + 
         (cond t (more_at (10 * n + (b - 48)) bs) (n, b ∷ bs)).1
     by true e later small =
         let more : decimal (10 * n + (b - 48)) ≡ decimal n ++ b ∷ [] =
-        digit_behind n b some (is_low b e) (is_high b e) (omega (arith, grows (10 * n + (b - 48)) bs, small)) in
+        digit_after n b some (is_low b e) (is_high b e) (omega (arith, grows (10 * n + (b - 48)) bs, small)) in
         sym (append_assoc (decimal n) (b ∷ []) bs) ∙ ap (λ (ds : List ℕ). ds ++ bs) (sym more) ∙ later small
     by false e later small = refl
 
@@ -197,7 +197,7 @@ number_behind largest (b ∷ bs) x few e = by (nat_eq b 48) refl (is_digit b) re
         subst (λ (y : ℕ × List ℕ). IsNumber largest (b ∷ bs) y) read.0
         (record {
           is = ap (λ (ds : List ℕ). ds ++ bs) (sym one)
-              ∙ more_behind (b - 48) bs counts (omega (arith, read.1, few));
+              ∙ more_after (b - 48) bs counts (omega (arith, read.1, few));
           bounded = read.1;
         })
     by false k false d h = absurd (cc h)
@@ -309,11 +309,11 @@ integer_back below above (negsuc n) rest low high l e =
 abbrev pub IsInteger : ℕ → ℕ → List ℕ → ℤ × List ℕ → Type 0
 IsInteger below above bytes x = (bytes ≡ signed_decimal x.0 ++ x.1) × IsWithin below above x.0
 
-pub integer_behind : (below above : ℕ) (bytes : List ℕ) (x : ℤ × List ℕ) → below < 10 ^ 64 → above < 10 ^ 64
+pub integer_after : (below above : ℕ) (bytes : List ℕ) (x : ℤ × List ℕ) → below < 10 ^ 64 → above < 10 ^ 64
     → integer_at below above bytes ≡ Some x → IsInteger below above bytes x
 unfolding integer_at
-integer_behind below above [] x low high e = absurd (cc e)
-integer_behind below above (b ∷ bs) x low high e = by (nat_eq b 45) refl e
+integer_after below above [] x low high e = absurd (cc e)
+integer_after below above (b ∷ bs) x low high e = by (nat_eq b 45) refl e
   where
     less : (y : ℕ × List ℕ) → IsNumber below bs y → b ≡ 45 → negated y ≡ Some x → IsInteger below above (b ∷ bs) x
     less (zero, rest) is k h = absurd (cc h)

@@ -71,9 +71,9 @@ count : (n : ℕ) → n < 2 ^ 63 → plain (decimal n) ≡ true
 count n l = number n (omega (arith, l))
 
 -- a count after something, and a word and something more after it
-behind_count : (a w b : List ℕ) (n : ℕ) → plain a ≡ true → n < 2 ^ 63 → plain w ≡ true → plain b ≡ true
+after_count : (a w b : List ℕ) (n : ℕ) → plain a ≡ true → n < 2 ^ 63 → plain w ≡ true → plain b ≡ true
     → plain (a ++ decimal n ++ w ++ b) ≡ true
-behind_count a w b n p few q r =
+after_count a w b n p few q r =
     two (a ++ decimal n ++ w) b (two (a ++ decimal n) w (two a (decimal n) p (count n few)) q) r
 
 signed : (below above : ℕ) (z : ℤ) → below < 10 ^ 63 → above < 10 ^ 63 → IsWithin below above z
@@ -142,7 +142,7 @@ read_fault LittleSteim l = refl
 read_fault DataOffset l = refl
 read_fault (Short found) l = two (codes "short ") (decimal found) refl (count found l)
 read_fault (BadWord frame w) l =
-    behind_count (codes "badword ") (codes " ") (decimal w) frame refl l.0 refl (count w l.1)
+    after_count (codes "badword ") (codes " ") (decimal w) frame refl l.0 refl (count w l.1)
 read_fault (Overflow index) l = two (codes "overflow ") (decimal index) refl (count index l)
 read_fault (LastDiffers found constant) l =
     two (codes "lastdiffers " ++ signed_decimal found ++ codes " ") (signed_decimal constant)
@@ -161,7 +161,7 @@ why (Overlap us) l = two (codes "overlap ") (decimal us) refl (number us (omega 
 
 first : (f : Finding) → HasFinding f → plain (first_text f) ≡ true
 first f fits =
-    behind_count (codes "first " ++ decimal f.number ++ codes " ") (codes " ") (why_text f.why) f.offset
+    after_count (codes "first " ++ decimal f.number ++ codes " ") (codes " ") (why_text f.why) f.offset
     (two (codes "first " ++ decimal f.number) (codes " ")
     (two (codes "first ") (decimal f.number) refl (count f.number fits.number)) refl) fits.offset refl
     (why f.why fits.why)
@@ -180,7 +180,7 @@ findings (Counted n f h t) fits =
     let a : List ℕ = text_or_none head_text h in
     let b : List ℕ = text_or_none tail_text t in
     let c : List ℕ = codes " head " ++ a ++ codes " tail " ++ b in
-    behind_count (c ++ codes " findings ") (codes " ") (first_text f) n
+    after_count (c ++ codes " findings ") (codes " ") (first_text f) n
     (two c (codes " findings ") (ends a b (some_head h fits.3) (some_tail t fits.4)) refl) fits.1 refl (first f fits.2)
 
 nibble : (n : ℕ) → nat_eq (hex_digit n) 10 ≡ false
@@ -225,7 +225,7 @@ ended (channel k c) l = record {
   is_plain =
       two (key_text k ++ codes " records " ++ decimal c.records ++ codes " samples " ++ decimal c.samples)
       (findings_text c.findings)
-      (behind_count (key_text k ++ codes " records ") (codes " samples ") (decimal c.samples) c.records
+      (after_count (key_text k ++ codes " records ") (codes " samples ") (decimal c.samples) c.records
       (two (key_text k) (codes " records ") (key k) refl) l.records refl (count c.samples l.samples))
       (findings c.findings l.findings);
   is = refl;
@@ -233,7 +233,7 @@ ended (channel k c) l = record {
 ended (counts records bytes) l = record {
   body = codes "records " ++ decimal records ++ codes " bytes " ++ decimal bytes;
   is_plain =
-      behind_count (codes "records ") (codes " bytes ") (decimal bytes) records refl l.records_fit refl
+      after_count (codes "records ") (codes " bytes ") (decimal bytes) records refl l.records_fit refl
       (count bytes l.bytes_fit);
   is = refl;
 }
@@ -246,7 +246,7 @@ ended (faults (suc n)) l = record {
 ended (fault bytes f) l = record {
   body = codes "fault at " ++ decimal bytes ++ codes " " ++ fault_words f;
   is_plain =
-      behind_count (codes "fault at ") (codes " ") (fault_words f) bytes refl l.bytes_fit refl
+      after_count (codes "fault at ") (codes " ") (fault_words f) bytes refl l.bytes_fit refl
       (stream_fault bytes f l.is);
   is = fault_of f bytes l.is ∙ joined (codes "fault at ") (decimal bytes) (fault_words f);
 }
@@ -269,8 +269,8 @@ no_end_there b bs p e =
     let yes : nat_eq b 10 ≡ true = grind (arith, nat_tests) in
     false≢true (ap (λ (t : Bool). cond t false (plain bs)) (sym yes) ∙ p)
 
-pub plain_behind : (b : ℕ) (bs : List ℕ) → plain (b ∷ bs) ≡ true → plain bs ≡ true
-plain_behind b bs p = by (nat_eq b 10) p
+pub plain_after : (b : ℕ) (bs : List ℕ) → plain (b ∷ bs) ≡ true → plain bs ≡ true
+plain_after b bs p = by (nat_eq b 10) p
   where
     by : (t : Bool) → cond t false (plain bs) ≡ true → plain bs ≡ true
     by true e = absurd (false≢true e)
@@ -284,7 +284,7 @@ same_line (a ∷ p) [] r s f g e = let one : a ≡ 10 = cc (e) in absurd (no_end
 same_line (a ∷ p) (b ∷ q) r s f g e =
     let one : a ≡ b = cc (e) in
     let more : p ++ 10 ∷ r ≡ q ++ 10 ∷ s = cc (e) in
-    let same = same_line p q r s (plain_behind a p f) (plain_behind b q g) more in
+    let same = same_line p q r s (plain_after a p f) (plain_after b q g) more in
     ((λ i. one i ∷ same.0 i), same.1)
 
 -- bytes without an LF reach no further than the line that they begin
@@ -293,8 +293,8 @@ within_line [] q r s f e = omega arith
 within_line (a ∷ p) [] r s f e = let one : a ≡ 10 = cc (e) in absurd (no_end_there a p f one)
 within_line (a ∷ p) (b ∷ q) r s f e =
     let more : p ++ r ≡ q ++ 10 ∷ s = cc (e) in
-    omega (arith, within_line p q r s (plain_behind a p f) more)
+    omega (arith, within_line p q r s (plain_after a p f) more)
 
 pub no_end_from : (bytes : List ℕ) → plain bytes ≡ true → HasNoEnd bytes
 no_end_from [] p = tt
-no_end_from (b ∷ bs) p = (no_end_there b bs p, no_end_from bs (plain_behind b bs p))
+no_end_from (b ∷ bs) p = (no_end_there b bs p, no_end_from bs (plain_after b bs p))

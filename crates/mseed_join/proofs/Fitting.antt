@@ -26,7 +26,7 @@ use Rattle.mseed_join.specs.Headline.{AreParted, EndsByBytes, IsReadOf, last, mo
 use Rattle.mseed_join.specs.Joined.{AreJoined, IsJointOf, IsNext, counted, counted_by, moved_fault, none, nothing, one}
 use Rattle.mseed_join.specs.Lines.{HasChannelLine, HasFindings, HasHead}
 use Rattle.mseed_join.specs.Written.{Written}
-use Rattle.mseed_join.proofs.Cuts.{IsKnown, known, known_behind, known_none, one_known}
+use Rattle.mseed_join.proofs.Cuts.{IsKnown, known, known_after, known_none, one_known}
 use Rattle.mseed_join.proofs.Merging.{JoinsChannel, JoinsCounts, JoinsNone, joint_of}
 use Rattle.mseed_join.proofs.Parting.{sizes}
 use Rattle.mseed_join.proofs.Pieces.{AddUp, IsSoFar, at_first, counted_last, further, of_nothing}
@@ -186,7 +186,7 @@ module _ (add_up : AddUp) (first : JoinsNone) (joins : JoinsChannel) (counts : J
       let later = whole_of others ws parted in
       let clear : p.audited.end ≡ None = sym p.end ∙ end in (
         option_map (moved_fault (size_of p.audited.views)) later.0,
-        known_behind archive others p.audited.views (views_of others ws parted) p.audited.end later.0 clear
+        known_after archive others p.audited.views (views_of others ws parted) p.audited.end later.0 clear
             (known archive h p.audited.views p.audited.end read p.audited.all
             (subst EndsByBytes (sym clear) tt)) later.1,
       )

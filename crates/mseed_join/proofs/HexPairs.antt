@@ -133,10 +133,10 @@ abbrev pub Reads : List ℕ → List ℕ → Type 0
 Reads bytes x = (n : ℕ) (done : List ℕ)
     → bytes_at (suc (suc (suc (suc n)))) done bytes ≡ bytes_at n (done ++ x) (drop 8 bytes)
 
-reads_behind : (bytes x : List ℕ) (at : ℕ) → Reads (take (length bytes - at) (drop at bytes)) x → (n : ℕ)
+reads_after : (bytes x : List ℕ) (at : ℕ) → Reads (take (length bytes - at) (drop at bytes)) x → (n : ℕ)
     (done : List ℕ) → bytes_at (suc (suc (suc (suc n)))) done (drop at bytes)
     ≡ bytes_at n (done ++ x) (drop (at + 8) bytes)
-reads_behind bytes x at reads n done =
+reads_after bytes x at reads n done =
     ap (λ (xs : List ℕ). bytes_at (suc (suc (suc (suc n)))) done xs) (sym (take_rest bytes at))
     ∙ reads n done
     ∙ ap (λ (xs : List ℕ). bytes_at n (done ++ x) xs)
@@ -144,10 +144,10 @@ reads_behind bytes x at reads n done =
 
 pub eight_read : (bytes x y : List ℕ) → Reads bytes x → Reads (take (length bytes - 8) (drop 8 bytes)) y
     → bytes_at 12 [] bytes ≡ bytes_at 4 (x ++ y) (drop 16 bytes)
-eight_read bytes x y first second = first 8 [] ∙ reads_behind bytes y 8 second 4 x
+eight_read bytes x y first second = first 8 [] ∙ reads_after bytes y 8 second 4 x
 
 pub key_read : (bytes x y z : List ℕ) → Reads bytes x → Reads (take (length bytes - 8) (drop 8 bytes)) y
     → Reads (take (length bytes - 16) (drop 16 bytes)) z
     → bytes_at 12 [] bytes ≡ Some ((x ++ y) ++ z, drop 24 bytes)
 key_read bytes x y z first second third =
-    eight_read bytes x y first second ∙ reads_behind bytes z 16 third 0 (x ++ y)
+    eight_read bytes x y first second ∙ reads_after bytes z 16 third 0 (x ++ y)

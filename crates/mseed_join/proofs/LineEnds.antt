@@ -97,9 +97,9 @@ no_end_farther bytes at place within lacks found =
     )
 
 -- the first LF, looked for after bytes that have none
-pub first_is_behind : (bytes : List ℕ) (at : ℕ) → at ≤ length bytes → HasNoEnd (take at bytes)
+pub first_is_after : (bytes : List ℕ) (at : ℕ) → at ≤ length bytes → HasNoEnd (take at bytes)
     → first_end bytes ≡ at + first_end (drop at bytes)
-first_is_behind bytes at within lacks =
+first_is_after bytes at within lacks =
     ap first_end (sym (take-append-drop at bytes))
     ∙ first_behind (take at bytes) (drop at bytes) lacks
     ∙ ap (λ (n : ℕ). n + first_end (drop at bytes)) (omega (arith, length-take at bytes))
@@ -110,23 +110,23 @@ pub found_behind : (bytes : List ℕ) (at k : ℕ) → at ≤ length bytes → H
 found_behind bytes at k within lacks some =
     let there = found_is (drop at bytes) k
     (subst (λ (xs : List ℕ). position (λ b. b == 10) xs ≡ Some k) (take_rest bytes at) some) in
-    let whole : first_end bytes ≡ at + k = omega (arith, first_is_behind bytes at within lacks, there.0) in
+    let whole : first_end bytes ≡ at + k = omega (arith, first_is_after bytes at within lacks, there.0) in
     elim (leb_tells (suc (first_end bytes)) (length bytes)) [
       | inl inside ↦ ap Some (sym whole) ∙ ap (λ t. cond t (Some (first_end bytes)) None) (sym inside.0)
       | inr past ↦ absurd (omega (arith, past.1, whole, there.1, length-drop at bytes))
     ]
 
-pub nowhere_behind : (bytes : List ℕ) (at : ℕ) → at ≤ length bytes → HasNoEnd (take at bytes)
+pub nowhere_after : (bytes : List ℕ) (at : ℕ) → at ≤ length bytes → HasNoEnd (take at bytes)
     → position (λ b. b == 10) (take (length bytes - at) (drop at bytes)) ≡ None
     → None ≡ position (λ b. b == 10) bytes
-nowhere_behind bytes at within lacks nowhere =
+nowhere_after bytes at within lacks nowhere =
     elim (leb_tells (suc (first_end bytes)) (length bytes)) [
       | inl there ↦ elim (leb_tells (suc (first_end (drop at bytes))) (length (drop at bytes))) [
         | inl inside ↦ absurd (let e : Some (first_end (drop at bytes)) ≡ None =
             ap (λ t. cond t (Some (first_end (drop at bytes))) None) (sym inside.0)
             ∙ subst (λ (xs : List ℕ). position (λ b. b == 10) xs ≡ None) (take_rest bytes at) nowhere in cc e)
         | inr behind ↦ absurd
-            (omega (arith, there.1, behind.1, first_is_behind bytes at within lacks, length-drop at bytes))
+            (omega (arith, there.1, behind.1, first_is_after bytes at within lacks, length-drop at bytes))
       ]
       | inr past ↦ ap (λ t. cond t (Some (first_end bytes)) None) (sym past.0)
     ]

@@ -24,7 +24,7 @@ use Rattle.mseed_join.specs.Joined.{AreJoined, IsJointOf, IsNext, counted, count
 use Rattle.mseed_join.specs.Joined.{verdict_at}
 use Rattle.mseed_join.specs.Lines.{faults_line}
 use Rattle.mseed_join.specs.Written.{Written}
-use Rattle.mseed_join.proofs.Cuts.{IsKnown, known, known_behind, known_none, one_known}
+use Rattle.mseed_join.proofs.Cuts.{IsKnown, known, known_after, known_none, one_known}
 use Rattle.mseed_join.proofs.Sums.{none_of}
 
 -- ---- what parts are joined, one by one
@@ -62,7 +62,7 @@ further add_up before archive a b h p so clear read by next =
     known archive h p.audited.views p.audited.end read p.audited.all (subst EndsByBytes p.end by) in
     let behind : IsKnown (before ++ archive) (so.views ++ p.audited.views)
     (option_map (moved_fault (size_of so.views)) p.audited.end) =
-    known_behind before archive so.views p.audited.views a.end p.audited.end clear so.are_known here in
+    known_after before archive so.views p.audited.views a.end p.audited.end clear so.are_known here in
     let end : option_map (moved_fault (size_of so.views)) p.audited.end ≡ b.end =
     (λ i. option_map (moved_fault (sym so.part.bytes i)) (sym p.end i)) ∙ sym next.end in
     record {

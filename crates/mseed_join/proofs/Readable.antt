@@ -233,9 +233,9 @@ module _ (key : List ℕ) (n size : ℕ) (few : n < 2 ^ 40) (small : size < 2 ^ 
       }
 
 -- ---- what is kept of each key
-behind_head : (x : List ℕ × Channel) (rest : List (List ℕ × Channel)) (key : List ℕ) (c : Channel)
+after_head : (x : List ℕ × Channel) (rest : List (List ℕ × Channel)) (key : List ℕ) (c : Channel)
     → IsAscending (x ∷ rest) → kept_of key rest ≡ Some c → kept_of key (x ∷ rest) ≡ Some c
-behind_head x rest key c s is = by (same_key key x.0) refl
+after_head x rest key c s is = by (same_key key x.0) refl
   where
     by : (b : Bool) → same_key key x.0 ≡ b → kept_of key (x ∷ rest) ≡ Some c
     by true e = absurd (cc (past_head key x rest s e, is))
@@ -248,7 +248,7 @@ each_kept P [] s f = tt
 each_kept P (e ∷ es) s f = (
   f e.0 e.1 (lookup_head (same_key e.0) e es (same_itself e.0)),
   each_kept P es (sorted_tail (slice_cmp nat_cmp) e.0 (keys_of es) s)
-      (λ key c is. f key c (behind_head e es key c s is)),
+      (λ key c is. f key c (after_head e es key c s is)),
 )
 
 -- ---- the end

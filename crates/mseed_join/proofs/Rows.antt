@@ -29,7 +29,7 @@ use Rattle.mseed_join.specs.private.Taking.{IsAfterKey, IsLastKey, IsLineStep, I
 use Rattle.mseed_join.proofs.Ahead.{IsNextLine, next_line}
 use Rattle.mseed_join.proofs.Machine.{Entries}
 use Rattle.mseed_join.proofs.Pieces.{of_nothing}
-use Rattle.mseed_join.proofs.Running.{AllKeys, HaveTexts, last_key, texts_behind}
+use Rattle.mseed_join.proofs.Running.{AllKeys, HaveTexts, last_key, texts_after}
 use Rattle.mseed_join.proofs.Steps.{IsHere, next_here}
 
 -- ---- keys in order
@@ -98,7 +98,7 @@ channel_may : (last : Option (List ℕ)) (over : List Written) (b : OpenPart) (k
     → IsAfterKey last key → May b (channel key c)
 channel_may last over none key c p h k = absurd p
 channel_may last over (begun cs) key c p h k =
-    in_order last cs key c p (texts_behind over (begun_part cs ∷ []) h).0.ascending k
+    in_order last cs key c p (texts_after over (begun_part cs ∷ []) h).0.ascending k
 channel_may last over (whole w) key c p h k = absurd p
 
 channel_must : (last : Option (List ℕ)) (b : OpenPart) (key : List ℕ) (c : Channel) → IsPlace (Channels last) b

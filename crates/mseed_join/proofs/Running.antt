@@ -145,9 +145,9 @@ pub texts_before : (ws vs : List Written) → HaveTexts (ws ++ vs) → HaveTexts
 texts_before [] vs h = tt
 texts_before (w ∷ ws) vs h = (h.0, texts_before ws vs h.1)
 
-pub texts_behind : (ws vs : List Written) → HaveTexts (ws ++ vs) → HaveTexts vs
-texts_behind [] vs h = h
-texts_behind (w ∷ ws) vs h = texts_behind ws vs h.1
+pub texts_after : (ws vs : List Written) → HaveTexts (ws ++ vs) → HaveTexts vs
+texts_after [] vs h = h
+texts_after (w ∷ ws) vs h = texts_after ws vs h.1
 
 -- a header goes from after any parts to their being over
 header_runs : (at : Stage) → IsReady at.open → to at header ≡ record { over = parts_at at; open = begun [] }
@@ -169,7 +169,7 @@ ended_runs : (ws : List Written) (w : Written) (f : StreamFault) → HaveTexts (
     → Runs start (all_rows (ws ++ w ∷ [])) (record { over = ws ++ w ∷ []; open = none })
 ended_runs ws w f h e =
     let r : RunsAll start ws = parts_run start ws tt (texts_before ws (w ∷ []) h) in
-    let has : HasText w = (texts_behind ws (w ∷ []) h).0 in
+    let has : HasText w = (texts_after ws (w ∷ []) h).0 in
     let last : Runs r.at (part_rows w) (record { over = ws ++ w ∷ []; open = none }) =
     subst (λ (t : Stage). Runs r.at (part_rows w) t)
     (ap (λ (o : Option StreamFault). open_by (parts_at r.at) w o) e
@@ -192,7 +192,7 @@ stage_runs over none h (inr q) =
     (ended_runs q.parts q.last q.fault (subst HaveTexts q.are texts) q.ends))
 stage_runs over (begun channels) h w =
     let r : RunsAll start over = parts_run start over tt (texts_before over (begun_part channels ∷ []) h) in
-    let has : HasText (begun_part channels) = (texts_behind over (begun_part channels ∷ []) h).0 in
+    let has : HasText (begun_part channels) = (texts_after over (begun_part channels ∷ []) h).0 in
     let first : to r.at header ≡ record { over = over; open = begun [] } =
     header_runs r.at r.ready ∙ ap (λ (vs : List Written). record { over = vs; open = begun [] }) r.parts in
     runs_on start r.at (record { over = over; open = begun channels }) (all_rows over) (header ∷ rows channels)
@@ -203,7 +203,7 @@ stage_runs over (begun channels) h w =
     )
 stage_runs over (whole v) h w =
     let r : RunsAll start over = parts_run start over tt (texts_before over (v ∷ []) h) in
-    let has : HasText v = (texts_behind over (v ∷ []) h).0 in
+    let has : HasText v = (texts_after over (v ∷ []) h).0 in
     let last : Runs r.at (part_rows v) (record { over = over; open = whole v }) =
     subst (λ (t : Stage). Runs r.at (part_rows v) t)
     (ap (λ (o : Option StreamFault). open_by (parts_at r.at) v o) w

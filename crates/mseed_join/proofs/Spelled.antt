@@ -45,7 +45,7 @@ use Rattle.mseed_join.specs.private.Reading.{some_tail_at, or_none_at, head_at, 
 use Rattle.mseed_join.specs.private.Reading.{last_differs_at, read_fault_at, timed_at, why_at, first_at}
 use Rattle.mseed_join.specs.private.Reading.{counted_findings_at, findings_at, ends, key_at, channel_at, counts_at}
 use Rattle.mseed_join.specs.private.Reading.{faults_at, frame_fault_at, stream_fault_at, fault_at}
-use Rattle.mseed_join.proofs.Digits.{word_behind, IsNumber, number_behind, IsWithin, IsInteger, integer_behind}
+use Rattle.mseed_join.proofs.Digits.{word_after, IsNumber, number_behind, IsWithin, IsInteger, integer_after}
 use Rattle.mseed_join.proofs.Prefixes.{ratio_then, head_then, head_leading, tail_then, tail_leading, first_then}
 use Rattle.mseed_join.proofs.Prefixes.{findings_then, nothing_leading, counted_leading, channel_leading, counts_leading}
 use Rattle.mseed_join.proofs.Prefixes.{faults_leading, fault_words, fault_then, fault_of, bad_word_leading}
@@ -84,7 +84,7 @@ word_spelled : {X : Type 0} (text : X → List ℕ) (Fits : X → Type 0) (word 
 word_spelled {X} text Fits word x is fits bytes y e =
     bind_then (IsRead text Fits bytes y) (after word bytes) _ y e (λ rest read more.
     subst (λ (z : X × List ℕ). IsRead text Fits bytes z) (same_Some (x, rest) y more)
-    (word_behind word bytes rest read ∙ ap (λ (w : List ℕ). w ++ rest) is, fits))
+    (word_after word bytes rest read ∙ ap (λ (w : List ℕ). w ++ rest) is, fits))
 
 -- one of these words
 named_spelled : {X : Type 0} (text : X → List ℕ) (xs : List X) (bytes : List ℕ) (y : X × List ℕ)
@@ -99,12 +99,12 @@ record IsAfter (word : List ℕ) (largest : ℕ) (bytes : List ℕ) (x : ℕ × 
   is : bytes ≡ word ++ (decimal x.0 ++ x.1)
   bounded : x.0 ≤ largest
 
-behind_spelled : (word : List ℕ) (largest : ℕ) (bytes : List ℕ) (x : ℕ × List ℕ) → largest < 10 ^ 64
+after_spelled : (word : List ℕ) (largest : ℕ) (bytes : List ℕ) (x : ℕ × List ℕ) → largest < 10 ^ 64
     → number_after word largest bytes ≡ Some x → IsAfter word largest bytes x
-behind_spelled word largest bytes x few e =
+after_spelled word largest bytes x few e =
     bind_then (IsAfter word largest bytes x) (after word bytes) _ x e (λ rest first more.
     let n : IsNumber largest rest x = number_behind largest rest x few more in record {
-      is = leading word bytes rest (decimal x.0 ++ x.1) (word_behind word bytes rest first) n.is;
+      is = leading word bytes rest (decimal x.0 ++ x.1) (word_after word bytes rest first) n.is;
       bounded = n.bounded;
     })
 
@@ -113,14 +113,14 @@ count_then : {B : Type 0} (P : Type 0) (word bytes : List ℕ) (f : ℕ × List 
     → (number_after word (2 ^ 63 - 1) bytes >>= f) ≡ Some y
     → ((x : ℕ × List ℕ) → IsAfter word (2 ^ 63 - 1) bytes x → f x ≡ Some y → P) → P
 count_then P word bytes f y e k = bind_then P (number_after word (2 ^ 63 - 1) bytes) f y e (λ x is more.
-    k x (behind_spelled word (2 ^ 63 - 1) bytes x (omega arith) is) more)
+    k x (after_spelled word (2 ^ 63 - 1) bytes x (omega arith) is) more)
 
 counted_spelled : {X : Type 0} (text : X → List ℕ) (Fits : X → Type 0) (word : List ℕ) (largest : ℕ) (made : ℕ → X)
     → largest < 10 ^ 64 → ((n : ℕ) → word ++ decimal n ≡ text (made n)) → ((n : ℕ) → n ≤ largest → Fits (made n))
     → (bytes : List ℕ) (y : X × List ℕ) → counted_at word largest made bytes ≡ Some y → IsRead text Fits bytes y
 counted_spelled {X} text Fits word largest made few is fits bytes y e =
     bind_then (IsRead text Fits bytes y) (number_after word largest bytes) _ y e (λ n first more.
-    let b : IsAfter word largest bytes n = behind_spelled word largest bytes n few first in
+    let b : IsAfter word largest bytes n = after_spelled word largest bytes n few first in
     subst (λ (z : X × List ℕ). IsRead text Fits bytes z) (same_Some (made n.0, n.1) y more)
     (b.is ∙ sym (append_assoc word (decimal n.0) n.1) ∙ ap (λ (w : List ℕ). w ++ n.1) (is n.0), fits n.0 b.bounded))
 
@@ -140,7 +140,7 @@ ratio_spelled bytes y e =
     let some = and_parts (nat_lt 0 num.0) (nat_lt 0 den.0) made.0 in
     subst (λ (z : Ratio × List ℕ). (bytes ≡ ratio_then z.0 z.1) × IsRatio z.0) made.1 (
       leading (decimal num.0) bytes num.1 (codes "/" ++ (decimal den.0 ++ den.1)) n.is
-          (leading (codes "/") num.1 rest (decimal den.0 ++ den.1) (word_behind (codes "/") num.1 rest are) d.is),
+          (leading (codes "/") num.1 rest (decimal den.0 ++ den.1) (word_after (codes "/") num.1 rest are) d.is),
       record {
         num_counts = counts num.0 some.0;
         num_bound = n.bounded;
@@ -156,7 +156,7 @@ within_instant (negsuc n) l = (omega (arith, ints, l), omega (arith, ints, l))
 start_spelled : (bytes : List ℕ) (y : ℤ × List ℕ) → start_at bytes ≡ Some y → IsRead signed_decimal IsInstant bytes y
 start_spelled bytes y e =
     let i : IsInteger 5_364_662_400_000_000 7_258_118_399_999_999 bytes y =
-    integer_behind 5_364_662_400_000_000 7_258_118_399_999_999 bytes y (omega arith) (omega arith) e in
+    integer_after 5_364_662_400_000_000 7_258_118_399_999_999 bytes y (omega arith) (omega arith) e in
     (i.0, within_instant y.0 i.1)
 
 within_word : (z : ℤ) → IsWithin (2 ^ 31) (2 ^ 31 - 1) z → IsWord z
@@ -166,7 +166,7 @@ within_word (negsuc n) l = l
 sample_spelled : (bytes : List ℕ) (y : ℤ × List ℕ) → sample_at bytes ≡ Some y → IsRead signed_decimal IsWord bytes y
 sample_spelled bytes y e =
     let i : IsInteger (2 ^ 31) (2 ^ 31 - 1) bytes y =
-    integer_behind (2 ^ 31) (2 ^ 31 - 1) bytes y (omega arith) (omega arith) e in
+    integer_after (2 ^ 31) (2 ^ 31 - 1) bytes y (omega arith) (omega arith) e in
     (i.0, within_word y.0 i.1)
 
 leap_spelled : (bytes : List ℕ) (y : Leap × List ℕ) → leap_at bytes ≡ Some y → IsRead leap_text Any bytes y
@@ -188,9 +188,9 @@ some_head_spelled bytes y e =
     let s = start_spelled r2 start is4 in
     let r = ratio_spelled r3 rate is6 in
     let h : Head = record { number = number.0; offset = offset.0; start = start.0; rate = rate.0 } in
-    let t5 = leading (codes " ") start.1 r3 (ratio_then rate.0 rate.1) (word_behind (codes " ") start.1 r3 is5) r.0 in
+    let t5 = leading (codes " ") start.1 r3 (ratio_then rate.0 rate.1) (word_after (codes " ") start.1 r3 is5) r.0 in
     let t4 = leading (signed_decimal start.0) r2 start.1 _ s.0 t5 in
-    let t3 = leading (codes " ") offset.1 r2 _ (word_behind (codes " ") offset.1 r2 is3) t4 in
+    let t3 = leading (codes " ") offset.1 r2 _ (word_after (codes " ") offset.1 r2 is3) t4 in
     let t2 = o.is ∙ ap (λ (z : List ℕ). codes " " ++ (decimal offset.0 ++ z)) t3 in
     let t1 : bytes ≡ head_then h rate.1 = leading (decimal number.0) bytes number.1 _ n.is t2 in
     let fits : HasHead h =
@@ -210,15 +210,15 @@ some_tail_spelled bytes y e =
     bind_then P (leap_at r3) _ y e5 (λ leap is6 e6.
     let s = start_spelled bytes start is1 in
     let n : IsAfter (codes " ") (2 ^ 16 - 1) start.1 samples =
-    behind_spelled (codes " ") (2 ^ 16 - 1) start.1 samples (omega arith) is2 in
+    after_spelled (codes " ") (2 ^ 16 - 1) start.1 samples (omega arith) is2 in
     let r = ratio_spelled r2 rate is4 in
     let l = leap_spelled r3 leap is6 in
     let t : Tail = record { start = start.0; samples = samples.0; rate = rate.0; leap = leap.0 } in
     let made = cond_some (nat_lt 0 samples.0) (t, leap.1) y e6 in
-    let t5 = leading (codes " ") rate.1 r3 (leap_text leap.0 ++ leap.1) (word_behind (codes " ") rate.1 r3 is5) l.0 in
+    let t5 = leading (codes " ") rate.1 r3 (leap_text leap.0 ++ leap.1) (word_after (codes " ") rate.1 r3 is5) l.0 in
     let t4 : r2 ≡ ratio_then rate.0 (codes " " ++ (leap_text leap.0 ++ leap.1)) =
     r.0 ∙ ap (λ (z : List ℕ). ratio_then rate.0 z) t5 in
-    let t3 = leading (codes " ") samples.1 r2 _ (word_behind (codes " ") samples.1 r2 is3) t4 in
+    let t3 = leading (codes " ") samples.1 r2 _ (word_after (codes " ") samples.1 r2 is3) t4 in
     let t2 = n.is ∙ ap (λ (z : List ℕ). codes " " ++ (decimal samples.0 ++ z)) t3 in
     let t1 : bytes ≡ tail_then t leap.1 = leading (signed_decimal start.0) bytes start.1 _ s.0 t2 in
     let fits : HasTail t = record {
@@ -284,9 +284,9 @@ last_differs_spelled bytes y e =
     bind_then P (sample_at r2) _ y e3 (λ constant is4 e4.
     let f = sample_spelled r1 found is2 in
     let c = sample_spelled r2 constant is4 in
-    let t3 = leading (codes " ") found.1 r2 _ (word_behind (codes " ") found.1 r2 is3) c.0 in
+    let t3 = leading (codes " ") found.1 r2 _ (word_after (codes " ") found.1 r2 is3) c.0 in
     let t2 = leading (signed_decimal found.0) r1 found.1 _ f.0 t3 in
-    let t1 = leading (codes "lastdiffers ") bytes r1 _ (word_behind (codes "lastdiffers ") bytes r1 is1) t2 in
+    let t1 = leading (codes "lastdiffers ") bytes r1 _ (word_after (codes "lastdiffers ") bytes r1 is1) t2 in
     subst (λ (z : ReadFault × List ℕ). IsRead read_text HasReadFault bytes z)
     (same_Some (LastDiffers found.0 constant.0, constant.1) y e4)
     (t1 ∙ sym (last_differs_leading found.0 constant.0 constant.1), (f.1, c.1))))))
@@ -314,7 +314,7 @@ timed_spelled bytes y e =
     bind_then P (after (codes "time ") bytes) _ y e (λ r1 is1 e1. bind_then P (time_at r1) _ y e1 (λ fault is2 e2.
     let f = time_spelled r1 fault is2 in
     let t1 : bytes ≡ why_text (Time fault.0) ++ fault.1 =
-    leading (codes "time ") bytes r1 _ (word_behind (codes "time ") bytes r1 is1) f.0 in
+    leading (codes "time ") bytes r1 _ (word_after (codes "time ") bytes r1 is1) f.0 in
     subst (λ (z : Why × List ℕ). IsRead why_text HasWhy bytes z) (same_Some (Time fault.0, fault.1) y e2) (t1, tt)))
 
 unread_spelled : (bytes : List ℕ) (y : Why × List ℕ)
@@ -348,7 +348,7 @@ first_spelled bytes y e =
     bind_then P (after (codes " ") offset.1) _ y e2 (λ r3 is3 e3. bind_then P (why_at r3) _ y e3 (λ why is4 e4.
     let w = why_spelled r3 why is4 in
     let f : Finding = record { number = number.0; offset = offset.0; why = why.0 } in
-    let t3 = leading (codes " ") offset.1 r3 (why_text why.0 ++ why.1) (word_behind (codes " ") offset.1 r3 is3) w.0 in
+    let t3 = leading (codes " ") offset.1 r3 (why_text why.0 ++ why.1) (word_after (codes " ") offset.1 r3 is3) w.0 in
     let t2 : number.1 ≡ codes " " ++ (decimal offset.0 ++ (codes " " ++ (why_text why.0 ++ why.1))) =
     o.is ∙ ap (λ (z : List ℕ). codes " " ++ (decimal offset.0 ++ z)) t3 in
     let t1 : bytes ≡ first_then f why.1 = n.is ∙ ap (λ (z : List ℕ). codes " first " ++ (decimal number.0 ++ z)) t2 in
@@ -392,10 +392,10 @@ findings_spelled bytes y e =
     let f = counted_findings_spelled count.0 head.0 tail.0 count.1 y e5 (omega (arith, c.bounded)) h.1 t.1 in
     let t4 : r3 ≡ text_or_none tail_text tail.0 ++ (codes " findings " ++ (decimal count.0 ++ count.1)) =
     leading (text_or_none tail_text tail.0) r3 tail.1 _ t.0 c.is in
-    let t3 = leading (codes " tail ") head.1 r3 _ (word_behind (codes " tail ") head.1 r3 is3) t4 in
+    let t3 = leading (codes " tail ") head.1 r3 _ (word_after (codes " tail ") head.1 r3 is3) t4 in
     let t2 = leading (text_or_none head_text head.0) r1 head.1 _ h.0 t3 in
     let t1 : bytes ≡ findings_then head.0 tail.0 count.0 count.1 =
-    leading (codes " head ") bytes r1 _ (word_behind (codes " head ") bytes r1 is1) t2 in
+    leading (codes " head ") bytes r1 _ (word_after (codes " head ") bytes r1 is1) t2 in
     (t1 ∙ f.0, f.1))))))
 
 -- ---- whole lines
@@ -457,7 +457,7 @@ faults_spelled bytes y e =
     bind_then ((bytes ≡ faults_line y) × HasFaultsLine y) (number_after (codes "faults ") (2 ^ 63 - 1) bytes) _ y e
     (λ n is more.
     let b : IsAfter (codes "faults ") (2 ^ 63 - 1) bytes n =
-    behind_spelled (codes "faults ") (2 ^ 63 - 1) bytes n (omega arith) is in
+    after_spelled (codes "faults ") (2 ^ 63 - 1) bytes n (omega arith) is in
     let made = cond_some (nat_lt 0 n.0 && ends n.1) n.0 y more in
     let both = and_parts (nat_lt 0 n.0) (ends n.1) made.0 in
     let some : 0 < n.0 = counts n.0 both.0 in
@@ -514,7 +514,7 @@ fault_spelled bytes offset y e =
     let there : at.0 ≡ offset = same at.0 offset both.0 in
     let t3 : r2 ≡ fault_words fault.0 ++ codes "\n" =
     f.0 ∙ ap (λ (z : List ℕ). fault_words fault.0 ++ z) (ended fault.1 both.1) in
-    let t2 = leading (codes " ") at.1 r2 _ (word_behind (codes " ") at.1 r2 is2) t3 in
+    let t2 = leading (codes " ") at.1 r2 _ (word_after (codes " ") at.1 r2 is2) t3 in
     let t1 : bytes ≡ fault_then at.0 fault.0 =
     a.is ∙ ap (λ (z : List ℕ). codes "fault at " ++ (decimal at.0 ++ z)) t2 in
     let fits : HasFaultLine offset fault.0 = record { bytes_fit = omega (arith, there, a.bounded); is = f.1 } in

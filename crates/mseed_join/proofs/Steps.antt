@@ -481,6 +481,6 @@ fault_refused only old p free x limit l lines s r is m b =
         passed_fit only old.past over (written_of old.so_far) free h.parts h.joint h.is_joint w x h.extends_to.0 p v j
         h.extends_to.1
 
-pub some_behind : (y : StreamFault) (m n : ℕ) (x : StreamFault) → y ≡ fault_after m x → m ≡ n
+pub some_after : (y : StreamFault) (m n : ℕ) (x : StreamFault) → y ≡ fault_after m x → m ≡ n
     → Some y ≡ Some (fault_after n x)
-some_behind y m n x e k = ap (λ (z : StreamFault). Some z) (e ∙ ap (λ (i : ℕ). fault_after i x) k)
+some_after y m n x e k = ap (λ (z : StreamFault). Some z) (e ∙ ap (λ (i : ℕ). fault_after i x) k)

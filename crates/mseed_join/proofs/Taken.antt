@@ -17,7 +17,7 @@ use Rattle.mseed_join.specs.Reached.{OpenPart, none, begun, whole, Stage, begun_
 use Rattle.mseed_join.specs.Reached.{IsStage, IsWhere, passed_from, passed_lines, passed_line, passed_of}
 use Rattle.mseed_join.specs.private.Steps.{May, to, goes, counted_part, with_faults, with_end}
 use Rattle.mseed_join.proofs.Machine.{Entries}
-use Rattle.mseed_join.proofs.Running.{HaveTexts, texts_before, texts_behind}
+use Rattle.mseed_join.proofs.Running.{HaveTexts, texts_before, texts_after}
 use Rattle.mseed_join.proofs.Sums.{IsFirst, IsSplit, first_of, none_of, some_none, split, glue, stop}
 
 -- ---- the text
@@ -100,7 +100,7 @@ each_more over none (faults n) l w m h = absurd m
 each_more over none (fault k f) l w m h = absurd m
 each_more over (begun cs) header l w m h = absurd m
 each_more over (begun cs) (channel k c) l w m h =
-    let has : HasText (begun_part cs) = (texts_behind over (begun_part cs ∷ []) h).0 in
+    let has : HasText (begun_part cs) = (texts_after over (begun_part cs ∷ []) h).0 in
     All-append HasText over (begun_part (cs ++ (k, c) ∷ []) ∷ []) (texts_before over (begun_part cs ∷ []) h) (
       record {
         ascending = m;
@@ -112,7 +112,7 @@ each_more over (begun cs) (channel k c) l w m h =
       tt,
     )
 each_more over (begun cs) (counts n k) l w m h =
-    let has : HasText (begun_part cs) = (texts_behind over (begun_part cs ∷ []) h).0 in
+    let has : HasText (begun_part cs) = (texts_after over (begun_part cs ∷ []) h).0 in
     All-append HasText over (counted_part cs n k ∷ []) (texts_before over (begun_part cs ∷ []) h) (
       record { ascending = has.ascending; channels = has.channels; counts = l; faults = has.faults; end = tt },
       tt,
@@ -124,13 +124,13 @@ each_more over (whole v) header l w m h =
 each_more over (whole v) (channel k c) l w m h = absurd m
 each_more over (whole v) (counts n k) l w m h = absurd m
 each_more over (whole v) (faults n) l w m h =
-    let has : HasText v = (texts_behind over (v ∷ []) h).0 in
+    let has : HasText v = (texts_after over (v ∷ []) h).0 in
     All-append HasText over (with_faults v n ∷ []) (texts_before over (v ∷ []) h) (
       record { ascending = has.ascending; channels = has.channels; counts = has.counts; faults = l.fit; end = has.end },
       tt,
     )
 each_more over (whole v) (fault k f) l w m h =
-    let has : HasText v = (texts_behind over (v ∷ []) h).0 in
+    let has : HasText v = (texts_after over (v ∷ []) h).0 in
     All-append HasText (over ++ with_end v f ∷ []) []
     (All-append HasText over (with_end v f ∷ []) (texts_before over (v ∷ []) h) (
       record {

@@ -22,7 +22,7 @@ use Rattle.mseed_pack.specs.Clock.{added_before, instant_at}
 use Rattle.mseed_pack.specs.Fitting.{IsTooFast, Fits}
 use Rattle.mseed_pack.specs.Outcome.{IsTrace}
 use Rattle.mseed_pack.specs.Packing.{Piece, ArePlaced, IsPacked}
-use Rattle.mseed_pack.specs.Stretches.{step_behind}
+use Rattle.mseed_pack.specs.Stretches.{step_after}
 use Rattle.mseed_pack.proofs.Leaps.{later, passes, all_left, none_left}
 use Rattle.mseed_pack.proofs.Neighbours.{joins}
 use Rattle.mseed_pack.proofs.Viewed.{HeadersReadBack, PackedSpells, IsAt, at}
@@ -98,7 +98,7 @@ steps_at s are first (v ∷ vs) samples size h =
     let pass = passes 0 (length s.samples) s.steps first n are is.some is.within in
     ap (λ (k : ℕ). step_at (first + k) (step_in (leap_of v.bytes)) ++ steps_from (first + k) vs) is.count
     ∙ ap (λ (o : Option LeapStep). step_at (first + n) o ++ steps_from (first + n) vs) is.step
-    ∙ ap (λ (ts : List (ℕ × LeapStep)). step_at (first + n) (step_behind s (first + n)) ++ ts) rest
+    ∙ ap (λ (ts : List (ℕ × LeapStep)). step_at (first + n) (step_after s (first + n)) ++ ts) rest
     ∙ sym pass.left
 
 -- each has one reading
@@ -144,7 +144,7 @@ follows_at : (s : Trace) → IsTrace s → ¬ (IsTooFast s) → (first : ℕ) (b
 follows_at s trace slow first b v samples next x y =
     let rate = ratio_of s.rate in
     let n = length samples in
-    let step = step_behind s (first + n) in
+    let step = step_after s (first + n) in
     let pass = passes 0 (length s.samples) s.steps first n trace.steps x.some x.within in
     let some = some_num s.rate.factor s.rate.multiplier trace.factor_counts trace.multiplier_counts in
     let exact : Joins (instant_at s first) n rate step

@@ -24,7 +24,7 @@ use Rattle.mseed_pack.specs.Packing.{Piece, ArePlaced, IsHeaderOf, HoldsIntegers
 use Rattle.mseed_pack.specs.Packing.{PacksUpTo, IsPacking}
 use Rattle.mseed_pack.specs.Clock.{instant_at}
 use Rattle.mseed_pack.specs.Prefixes.{ArePrefixes}
-use Rattle.mseed_pack.specs.Stretches.{left_of, flags_of, step_behind}
+use Rattle.mseed_pack.specs.Stretches.{left_of, flags_of, step_after}
 use Rattle.mseed_pack.proofs.Followed.{samples_in}
 use Rattle.mseed_pack.proofs.Spellings.{bytes_of, length-all}
 use Rattle.mseed_pack.proofs.SamePayload.{Octets, same_payload}
@@ -232,7 +232,7 @@ same_header name s o p q f g a b number first count frames h k =
     let exponent = h.exponent ∙ sym k.exponent in
     let in_use = h.frames_is ∙ frames ∙ sym k.frames_is in
     let place : p.first + length p.samples ≡ q.first + length q.samples = omega (arith, first, count) in
-    let activity = h.activity ∙ ap (λ (n : ℕ). flags_of (step_behind s n)) place ∙ sym k.activity in
+    let activity = h.activity ∙ ap (λ (n : ℕ). flags_of (step_after s n)) place ∙ sym k.activity in
     λ i. record {
       sequence = sequence i;
       key = key i;

@@ -147,7 +147,7 @@ is_part same s part before held after views reads are series =
       later = inner.later;
       samples = outer.parts ∙ ap (λ (xs : List ℤ). outer.older ++ xs) (inner.parts ∙ (λ i. middle i ++ inner.later));
       before_it = (cut.prefix, cut.first, outer.first);
-      behind_it = (cut.back, cut.second, inner.second);
+      after_it = (cut.back, cut.second, inner.second);
       codes = series.codes ∙ sym (first_of_channel s series.first series.rest views series.parts
           (of_channel s before held after views reads are));
     }

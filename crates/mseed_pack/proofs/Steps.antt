@@ -14,7 +14,7 @@ use Rattle.mseed_time.specs.Join.{step_of}
 use Rattle.mseed_audit.specs.Series.{Trace, AreStepsFrom}
 use Rattle.mseed_pack.specs.declared.span.Span.{Span}
 use Rattle.mseed_pack.specs.Clock.{added_before}
-use Rattle.mseed_pack.specs.Stretches.{span_end, step_behind}
+use Rattle.mseed_pack.specs.Stretches.{span_end, step_after}
 use Rattle.mseed_pack.specs.private.Standing.{end_by, IsSpan}
 
 le_true : (a b : ℕ) → a ≤ b → leb a b ≡ true
@@ -135,7 +135,7 @@ at_end (x ∷ xs) size n e = let here : eqb x.0 n ≡ true = eq-eqb x.0 n (sym e
 
 after_parts : (s : Trace) (span : Span) (n : ℕ) → (h : IsSpan s.steps (length s.samples) span)
     → span.begin < n
-    → step_behind s n ≡ option_map (λ (x : ℕ × LeapStep). x.1) (find (λ (x : ℕ × LeapStep). eqb x.0 n) h.left)
+    → step_after s n ≡ option_map (λ (x : ℕ × LeapStep). x.1) (find (λ (x : ℕ × LeapStep). eqb x.0 n) h.left)
 after_parts s span n h low =
     ap (λ (xs : List (ℕ × LeapStep)). option_map (λ (x : ℕ × LeapStep). x.1)
     (find (λ (x : ℕ × LeapStep). eqb x.0 n) xs)) h.parts
@@ -143,13 +143,13 @@ after_parts s span n h low =
     (at_passed h.passed h.left span.begin n h.before low)
 
 pub none_after : (s : Trace) (span : Span) (n : ℕ) → IsSpan s.steps (length s.samples) span
-    → span.begin < n → n < span.end → step_behind s n ≡ None
+    → span.begin < n → n < span.end → step_after s n ≡ None
 none_after s span n h low high =
     after_parts s span n h low ∙ at_prefix h.left (length s.samples) n (omega (arith, high, h.end_is))
     span.begin h.behind
 
 pub one_after : (s : Trace) (span : Span) (n : ℕ) → (h : IsSpan s.steps (length s.samples) span)
-    → span.begin < n → n ≡ span.end → step_behind s n ≡ kind_by h.left
+    → span.begin < n → n ≡ span.end → step_after s n ≡ kind_by h.left
 one_after s span n h low e =
     after_parts s span n h low ∙ at_end h.left (length s.samples) n (e ∙ h.end_is)
 

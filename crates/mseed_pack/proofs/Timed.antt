@@ -16,7 +16,7 @@ use Rattle.mseed_pack.specs.Fitting.{Fits}
 use Rattle.mseed_pack.specs.Outcome.{IsTrace}
 use Rattle.mseed_pack.specs.Packing.{IsPacking}
 use Rattle.mseed_pack.specs.ReadBack.{AreViewsOf, HaveSamples, IsTimedFrom, is_among, moved}
-use Rattle.mseed_pack.specs.Stretches.{step_behind}
+use Rattle.mseed_pack.specs.Stretches.{step_after}
 use Rattle.mseed_pack.proofs.Archived.{halves}
 use Rattle.mseed_pack.proofs.Followed.{AreAt, are_views, joined_at, laid, samples_in}
 use Rattle.mseed_pack.proofs.Leaps.{before, later, passes}
@@ -81,7 +81,7 @@ steps_on s are first (v ∷ vs) samples h =
     let same : first + n + length h.1.0 ≡ end = omega (arith, whole) in
     let rest = steps_on s are (first + n) vs h.1.0 h.1.1.2 in
     let pass = passes 0 (length s.samples) s.steps first n are is.some is.within in
-    let here = step_at (first + n) (step_behind s (first + n)) in
+    let here = step_at (first + n) (step_after s (first + n)) in
     let own : steps_from first (v ∷ vs) ≡ here ++ steps_from (first + n) vs =
     ap (λ (k : ℕ). step_at (first + k) (step_in (leap_of v.bytes)) ++ steps_from (first + k) vs) is.count
     ∙ ap (λ (o : Option LeapStep). step_at (first + n) o ++ steps_from (first + n) vs) is.step in

@@ -41,7 +41,7 @@ use Rattle.mseed_pack.specs.Clock.{instant_at}
 use Rattle.mseed_pack.specs.Fitting.{IsSampleOf, Fits}
 use Rattle.mseed_pack.specs.Outcome.{IsTrace}
 use Rattle.mseed_pack.specs.Packing.{Piece, HoldsFrames, HoldsSamples, IsPacked}
-use Rattle.mseed_pack.specs.Stretches.{differences, span_end, left_of, flags_of, step_behind}
+use Rattle.mseed_pack.specs.Stretches.{differences, span_end, left_of, flags_of, step_after}
 use Rattle.mseed_pack.proofs.Counted.{few_words, run_seven}
 use Rattle.mseed_pack.proofs.Spellings.{begins, length-all}
 use Rattle.mseed_pack.proofs.Leaps.{end_in}
@@ -176,7 +176,7 @@ pub record IsAt (s : Trace) (first : ℕ) (v : View) (samples : List ℤ) : Type
   pub rate : known_rate v ≡ Some (ratio_of s.rate)
   pub start : start_of v ≡ instant_at s first
   pub count : count_of v ≡ length samples
-  pub step : step_in (leap_of v.bytes) ≡ step_behind s (first + length samples)
+  pub step : step_in (leap_of v.bytes) ≡ step_after s (first + length samples)
   pub reported : leap_of v.bytes ≢ Both
   pub whole : IsWhole v samples
 
@@ -269,10 +269,10 @@ at headers spells s o p trace fits here k =
     let slice = slice_of s o p fits here k in
     let factor : factor_at v.order v.bytes ≡ s.rate.factor = back.factor ∙ k.fields.factor in
     let multiplier : multiplier_at v.order v.bytes ≡ s.rate.multiplier = back.multiplier ∙ k.fields.multiplier in
-    let flags : activity_at v.bytes ≡ flags_of (step_behind s (p.first + length p.samples)) =
+    let flags : activity_at v.bytes ≡ flags_of (step_after s (p.first + length p.samples)) =
     back.activity ∙ k.fields.activity in
-    let leap : leap_of v.bytes ≡ leap_by (flags_of (step_behind s (p.first + length p.samples))) = ap leap_by flags in
-    let tells = reported (step_behind s (p.first + length p.samples)) in
+    let leap : leap_of v.bytes ≡ leap_by (flags_of (step_after s (p.first + length p.samples))) = ap leap_by flags in
+    let tells = reported (step_after s (p.first + length p.samples)) in
     let within = short s p k.within in
     let some = k.some in
     record {

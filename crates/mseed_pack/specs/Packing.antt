@@ -16,7 +16,7 @@ use Rattle.mseed_steim.specs.declared.encoding.Encoding.TheVariants.{Int16, Int3
 use Rattle.mseed_pack.specs.declared.options.Options.{Options}
 use Rattle.mseed_pack.specs.Options.{code_of}
 use Rattle.mseed_pack.specs.Clock.{instant_at}
-use Rattle.mseed_pack.specs.Stretches.{left_of, flags_of, step_behind}
+use Rattle.mseed_pack.specs.Stretches.{left_of, flags_of, step_after}
 
 -- A record of a packing: how many records and how many samples stand before it, its samples, and its bytes.
 pub record Piece : Type 0 where
@@ -43,7 +43,7 @@ pub record IsHeaderOf (s : Trace) (o : Options) (p : Piece) (frames : ℕ) (h : 
   pub encoding : h.encoding ≡ code_of o.encoding
   pub exponent : h.exponent ≡ o.exponent
   pub frames_is : h.frames ≡ frames
-  pub activity : h.activity ≡ flags_of (step_behind s (p.first + length p.samples))
+  pub activity : h.activity ≡ flags_of (step_after s (p.first + length p.samples))
 
 -- Integers in so many bytes each, big-endian two's complement, one behind another, until `left` of them are there or no
 -- room is left for another; zeros behind them. There are no frames.

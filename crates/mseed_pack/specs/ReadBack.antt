@@ -61,7 +61,7 @@ pub record IsPartOf (s : Trace) (before after : List (List ℕ)) (part : Trace) 
   pub later : List ℤ
   pub samples : s.samples ≡ older ++ (part.samples ++ later)
   pub before_it : HaveSamples before older
-  pub behind_it : HaveSamples after later
+  pub after_it : HaveSamples after later
   pub codes : part.codes ≡ s.codes
 
 -- the leap second stands behind more than so many samples, and not more than so many

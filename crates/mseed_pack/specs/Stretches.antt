@@ -33,6 +33,6 @@ flags_of (Some Plus) = 16
 flags_of (Some Minus) = 32
 
 -- the leap second with so many samples before it
-abbrev pub step_behind : Trace → ℕ → Option LeapStep
-step_behind s place = option_map (λ (step : ℕ × LeapStep). step.1)
+abbrev pub step_after : Trace → ℕ → Option LeapStep
+step_after s place = option_map (λ (step : ℕ × LeapStep). step.1)
     (find (λ (step : ℕ × LeapStep). step.0 == place) s.steps)

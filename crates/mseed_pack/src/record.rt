@@ -5,7 +5,7 @@ ghost use Rattle.mseed_pack.specs.Fitting.{HasTimeOutside};
 ghost use Rattle.mseed_pack.specs.Packing.{IsHeaderOf};
 ghost use Rattle.mseed_pack.specs.Traces.{headed};
 ghost use Rattle.mseed_pack.specs.private.Standing.{CanGoOn, IsRecorded, IsSpan};
-ghost use Rattle.mseed_pack.specs.Stretches.{flags_of, step_behind};
+ghost use Rattle.mseed_pack.specs.Stretches.{flags_of, step_after};
 
 use crate::batch::{Job, Place};
 use crate::clock::time_at;
@@ -38,7 +38,7 @@ fn flags_at(head: &SeriesHead, span: Span, end: usize) -> u8
     requires begin { span.begin < end }
     requires within { end ≤ span.end }
     ensures { (samples : List ℤ) → length samples ≡ head.now.count
-        → result ≡ flags_of (step_behind (headed head.now samples) end) }
+        → result ≡ flags_of (step_after (headed head.now samples) end) }
 {
     if end < span.end {
         return 0;

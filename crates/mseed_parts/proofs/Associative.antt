@@ -9,7 +9,7 @@ use Rattle.mseed_audit.specs.declared.channel.Findings.TheVariants.{Nothing, Cou
 use Rattle.mseed_audit.specs.declared.channel.Head.{Head}
 use Rattle.mseed_audit.specs.declared.tail.Tail.{Tail}
 use Rattle.mseed_parts.specs.Joining.{moved_head, moved_finding, moved_findings, moved_channel, border_why, found_at}
-use Rattle.mseed_parts.specs.Joining.{border_of, findings_with, findings_behind, channel_then, channel_joined}
+use Rattle.mseed_parts.specs.Joining.{border_of, findings_with, findings_after, channel_then, channel_joined}
 use Rattle.mseed_audit.specs.Audit.{head_in, tail_in}
 use Rattle.mseed_parts.specs.Parts.{Held, kept_of, IsJoint}
 use Rattle.mseed_parts.proofs.Following.{head_with, tail_with}
@@ -68,7 +68,7 @@ with_moved d e (Counted m first head t) (Counted n next h tail) None = refl
 with_moved d e (Counted m first head t) (Counted n next h tail) (Some f) = refl
 
 findings_moved : (d e : ℕ) (a b : Findings)
-    → moved_findings d e (findings_behind a b) ≡ findings_behind (moved_findings d e a) (moved_findings d e b)
+    → moved_findings d e (findings_after a b) ≡ findings_after (moved_findings d e a) (moved_findings d e b)
 findings_moved d e a b =
     let border : option_map (moved_finding d e) (border_of (tail_in a) (head_in b))
     ≡ border_of (tail_in (moved_findings d e a)) (head_in (moved_findings d e b)) =
@@ -77,9 +77,9 @@ findings_moved d e a b =
     with_moved d e a b (border_of (tail_in a) (head_in b))
     ∙ ap (λ (f : Option Finding). findings_with (moved_findings d e a) (moved_findings d e b) f) border
 
-behind_moved : (d e : ℕ) (c o : Channel)
+after_moved : (d e : ℕ) (c o : Channel)
     → moved_channel d e (channel_then c o) ≡ channel_then (moved_channel d e c) (moved_channel d e o)
-behind_moved d e c o =
+after_moved d e c o =
     ap (λ (f : Findings). record { records = c.records + o.records; samples = c.samples + o.samples; findings = f })
     (findings_moved d e c.findings o.findings)
 
@@ -123,7 +123,7 @@ with_assoc (Counted k x p q) (Counted m y r s) (Counted n z t u) None (Some g) =
 with_assoc (Counted k x p q) (Counted m y r s) (Counted n z t u) (Some f) None = more _ _ x _ _ (omega arith)
 with_assoc (Counted k x p q) (Counted m y r s) (Counted n z t u) (Some f) (Some g) = more _ _ x _ _ (omega arith)
 
-findings_assoc : (a b c : Findings) → findings_behind (findings_behind a b) c ≡ findings_behind a (findings_behind b c)
+findings_assoc : (a b c : Findings) → findings_after (findings_after a b) c ≡ findings_after a (findings_after b c)
 findings_assoc a b c =
     let one : Option Finding = border_of (tail_in a) (head_in b) in
     let two : Option Finding = border_of (tail_in b) (head_in c) in
@@ -132,8 +132,8 @@ findings_assoc a b c =
     ∙ ap (λ (h : Option Head). findings_with a (findings_with b c two) (border_of (tail_in a) h))
     (sym (head_with b c two))
 
-behind_assoc : (a b c : Channel) → channel_then (channel_then a b) c ≡ channel_then a (channel_then b c)
-behind_assoc a b c =
+after_assoc : (a b c : Channel) → channel_then (channel_then a b) c ≡ channel_then a (channel_then b c)
+after_assoc a b c =
     let records : a.records + b.records + c.records ≡ a.records + (b.records + c.records) = omega arith in
     let samples : a.samples + b.samples + c.samples ≡ a.samples + (b.samples + c.samples) = omega arith in
     λ i. record {
@@ -151,14 +151,14 @@ kept_assoc d e f g None None (Some c) = ap (λ (k : Channel). Some k) (channel_t
 kept_assoc d e f g None (Some b) None = refl
 kept_assoc d e f g None (Some b) (Some c) =
     ap (λ (k : Channel). Some (channel_then (moved_channel d e b) k)) (channel_twice d e f g c)
-    ∙ ap (λ (k : Channel). Some k) (sym (behind_moved d e b (moved_channel f g c)))
+    ∙ ap (λ (k : Channel). Some k) (sym (after_moved d e b (moved_channel f g c)))
 kept_assoc d e f g (Some a) None None = refl
 kept_assoc d e f g (Some a) None (Some c) = ap (λ (k : Channel). Some (channel_then a k)) (channel_twice d e f g c)
 kept_assoc d e f g (Some a) (Some b) None = refl
 kept_assoc d e f g (Some a) (Some b) (Some c) =
     ap (λ (k : Channel). Some (channel_then (channel_then a (moved_channel d e b)) k)) (channel_twice d e f g c)
-    ∙ ap (λ (k : Channel). Some k) (behind_assoc a (moved_channel d e b) (moved_channel d e (moved_channel f g c)))
-    ∙ ap (λ (k : Channel). Some (channel_then a k)) (sym (behind_moved d e b (moved_channel f g c)))
+    ∙ ap (λ (k : Channel). Some k) (after_assoc a (moved_channel d e b) (moved_channel d e (moved_channel f g c)))
+    ∙ ap (λ (k : Channel). Some (channel_then a k)) (sym (after_moved d e b (moved_channel f g c)))
 
 pub joint_assoc : (a b c ab bc left right : Held) → IsJoint a b ab → IsJoint ab c left → IsJoint b c bc
     → IsJoint a bc right → left ≡ right

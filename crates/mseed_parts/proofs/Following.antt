@@ -66,18 +66,18 @@ pub record IsFoundNext (t : Option Tail) (b : View) (h : Option Head) (q : Place
   pub found : IsFound (Some b) q.view further
   pub is : finding_at q further ≡ option_to_list (border_of t h) ++ finding_at q why
 
-own_behind : HaveOneFinding → (b : View) (q : Placed) (why : Option Why) (own : Why) → IsFound None q.view (Some own)
+own_after : HaveOneFinding → (b : View) (q : Placed) (why : Option Why) (own : Why) → IsFound None q.view (Some own)
     → IsFound None q.view why → IsFound (Some b) q.view why
-own_behind only b q why own alone k =
+own_after only b q why own alone k =
     let is : why ≡ Some own = only None q.view why (Some own) k alone in
     subst (λ (x : Option Why). IsFound (Some b) q.view x) (sym is) (own_found (Some b) q.view why own k is)
 
 pub found_behind : HaveOneFinding → (t : Option Tail) (b : View) (h : Option Head) (q : Placed) (why : Option Why)
     → IsTailOf t b → IsHeadOf h q → IsFound None q.view why → IsFoundNext t b h q why
 found_behind only None b None q why tail head k =
-    record { further = why; found = own_behind only b q why head.0 head.1 k; is = refl }
+    record { further = why; found = own_after only b q why head.0 head.1 k; is = refl }
 found_behind only (Some t) b None q why tail head k =
-    record { further = why; found = own_behind only b q why head.0 head.1 k; is = refl }
+    record { further = why; found = own_after only b q why head.0 head.1 k; is = refl }
 found_behind only None b (Some h) q why tail head k =
     let is : why ≡ None = only None q.view why None k head.sound in
     let nothing : why_after (Some b) q.view h.rate ≡ why =
@@ -208,9 +208,9 @@ all_found only c o ps qs s t =
     (sym t.begins) behind) in
     findings_append None ps qs s.found (option_to_list border ++ t.found) s.are_found further
 
-pub stands_behind : HaveOneFinding → (c o : Channel) (ps qs : List Placed) → Stands c ps → Stands o qs
+pub stands_after : HaveOneFinding → (c o : Channel) (ps qs : List Placed) → Stands c ps → Stands o qs
     → Stands (channel_then c o) (ps ++ qs)
-stands_behind only c o ps qs s t =
+stands_after only c o ps qs s t =
     let border : Option Finding = border_of (tail_in c.findings) (head_in o.findings) in record {
       records = omega (arith, s.records, t.records, length-append ps qs);
       samples = omega (arith, s.samples, t.samples, samples_append ps qs);
@@ -232,4 +232,4 @@ pub stands_joined : HaveOneFinding → (c o : Option Channel) (ps qs : List Plac
 stands_joined only None o ps qs s t = subst (λ (rs : List Placed). StandsAt o (rs ++ qs)) (sym s) t
 stands_joined only (Some c) None ps qs s t =
     subst (λ (rs : List Placed). Stands c rs) (sym (append-nil ps) ∙ ap (λ (rs : List Placed). ps ++ rs) (sym t)) s
-stands_joined only (Some c) (Some o) ps qs s t = stands_behind only c o ps qs s t
+stands_joined only (Some c) (Some o) ps qs s t = stands_after only c o ps qs s t

@@ -175,9 +175,9 @@ before_kept n a p key =
     (option_map (moved_channel (p.records i) (p.bytes i)) (kept_of key a.channels)))
     ∙ kept_still (kept_of key a.channels))
 
-behind_kept : (n a : Held) → IsPartOf n [] → (key : List ℕ) → kept_of key a.channels
+after_kept : (n a : Held) → IsPartOf n [] → (key : List ℕ) → kept_of key a.channels
     ≡ channel_joined (kept_of key a.channels) (option_map (moved_channel a.records a.bytes) (kept_of key n.channels))
-behind_kept n a p key =
+after_kept n a p key =
     sym (ap (λ (o : Option Channel). channel_joined (kept_of key a.channels)
     (option_map (moved_channel a.records a.bytes) o)) (nothing_kept n p key) ∙ joined_none (kept_of key a.channels))
 
@@ -190,11 +190,11 @@ unit_before n a p s =
       each = before_kept n a p;
     }
 
-pub unit_behind : (n a : Held) → IsPartOf n [] → IsAscending a.channels → IsJoint a n a
-unit_behind n a p s =
+pub unit_after : (n a : Held) → IsPartOf n [] → IsAscending a.channels → IsJoint a n a
+unit_after n a p s =
     record {
       records = omega (arith, p.records);
       bytes = omega (arith, p.bytes);
       ascending = s;
-      each = behind_kept n a p;
+      each = after_kept n a p;
     }

@@ -123,9 +123,9 @@ none_reported [] reported e (none _) = refl
 none_reported (p ∷ ps) reported e are = cc (e)
 
 -- after none, and before none
-reported_behind : (ps qs : List Placed) (reported further : List Reported) → ps ≡ [] → AreReportedIn None ps reported
+reported_after : (ps qs : List Placed) (reported further : List Reported) → ps ≡ [] → AreReportedIn None ps reported
     → AreReportedIn None qs further → AreReportedIn None (ps ++ qs) (reported ++ further)
-reported_behind ps qs reported further e are more =
+reported_after ps qs reported further e are more =
     subst (λ (rs : List Placed). AreReportedIn None (rs ++ qs) (reported ++ further)) (sym e)
     (subst (λ (ts : List Reported). AreReportedIn None qs (ts ++ further)) (sym (none_reported ps reported e are)) more)
 
@@ -171,12 +171,12 @@ reported_joined : HaveOneFinding → (key : List ℕ) (c o : Option Channel) (ps
     → AreReportedIn None ps reported → AreReportedIn None qs further → IsReportedWith key c o ps qs reported further
 reported_joined only key None None ps qs reported further s t keys are more = record {
   between = [];
-  all = reported_behind ps qs reported further s are more;
+  all = reported_after ps qs reported further s are more;
   notices = refl;
 }
 reported_joined only key None (Some o) ps qs reported further s t keys are more = record {
   between = [];
-  all = reported_behind ps qs reported further s are more;
+  all = reported_after ps qs reported further s are more;
   notices = ap border_notices (sym (no_border key (head_in o.findings)));
 }
 reported_joined only key (Some c) None ps qs reported further s t keys are more = record {

@@ -49,9 +49,9 @@ placed_moved d e n o (v ∷ vs) =
     (omega arith)
     ∙ placed_moved d e (n + 1) (o + length v.bytes) vs)
 
-pub placed_behind : (xs ys : List View)
+pub placed_after : (xs ys : List View)
     → placed 1 0 (xs ++ ys) ≡ placed 1 0 xs ++ map (moved (length xs) (bytes_in xs)) (placed 1 0 ys)
-placed_behind xs ys =
+placed_after xs ys =
     placed_append 1 0 xs ys
     ∙ ap (λ (ps : List Placed). placed 1 0 xs ++ ps)
     (placed_at (1 + length xs) (length xs + 1) (0 + bytes_in xs) (bytes_in xs + 0) ys (omega arith) (omega arith)
@@ -85,7 +85,7 @@ module _ (key : List ℕ) where
   pub records_append : (xs ys : List View) → records_of key (added_from 0 (xs ++ ys))
       ≡ records_of key (added_from 0 xs) ++ map (moved (length xs) (bytes_in xs)) (records_of key (added_from 0 ys))
   records_append xs ys =
-      ap (λ (ps : List Placed). filter test ps) (placed_behind xs ys)
+      ap (λ (ps : List Placed). filter test ps) (placed_after xs ys)
       ∙ kept_append (placed 1 0 xs) (map (moved (length xs) (bytes_in xs)) (placed 1 0 ys))
       ∙ ap (λ (ps : List Placed). filter test (placed 1 0 xs) ++ ps)
       (kept_moved (length xs) (bytes_in xs) (placed 1 0 ys))

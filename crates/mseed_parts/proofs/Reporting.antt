@@ -142,10 +142,10 @@ border_is : (q : Placed) (o : Option Finding) → border_reported q o ≡ map (n
 border_is q None = refl
 border_is q (Some f) = refl
 
-reported_behind : (q : Placed) (further why : Option Why) (o : Option Finding)
+reported_after : (q : Placed) (further why : Option Why) (o : Option Finding)
     → finding_at q further ≡ option_to_list o ++ finding_at q why
     → reported_at q further ≡ border_reported q o ++ reported_at q why
-reported_behind q further why o e = reported_is q further ∙ ap (λ (fs : List Finding). map (noted q) fs) e
+reported_after q further why o e = reported_is q further ∙ ap (λ (fs : List Finding). map (noted q) fs) e
     ∙ map-append (noted q) (option_to_list o) (finding_at q why)
     ∙ sym (λ i. border_is q o i ++ reported_is q why i)
 
@@ -156,6 +156,6 @@ pub reported_border : HaveOneFinding → (t : Option Tail) (b : View) (h : Optio
 reported_border only t b h q qs reported tail head (one _ _ _ why rest k later) =
     let f = found_behind only t b h q why tail head k in
     subst (λ (ts : List Reported). AreReportedIn (Some b) (q ∷ qs) ts)
-    (ap (λ (ts : List Reported). ts ++ rest) (reported_behind q f.further why (border_of t h) f.is)
+    (ap (λ (ts : List Reported). ts ++ rest) (reported_after q f.further why (border_of t h) f.is)
     ∙ append_assoc (border_reported q (border_of t h)) (reported_at q why) rest)
     (one (Some b) q qs f.further rest f.found later)

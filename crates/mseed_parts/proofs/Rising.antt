@@ -9,7 +9,7 @@ use Rattle.mseed_audit.specs.declared.finding.Why.{Why}
 use Rattle.mseed_audit.specs.Channels.{Placed, added_from, numbered}
 use Rattle.mseed_audit.specs.Reported.{Reported, AreReported, AreReportedOf, reported_at, none, one}
 use Rattle.mseed_parts.specs.Notices.{AreMerged, HaveBytes, Notice, RiseFrom, notices_of}
-use Rattle.mseed_parts.proofs.Placing.{placed_behind}
+use Rattle.mseed_parts.proofs.Placing.{placed_after}
 
 rise_before : (least lower : ℕ) (ns : List Notice) → lower ≤ least → RiseFrom least ns → RiseFrom lower ns
 rise_before least lower [] le rise = tt
@@ -47,7 +47,7 @@ pub reported_first : (xs ys : List View) (whole : List Reported) → AreReported
     → (first : List Reported) × AreReportedOf (added_from 0 xs) first
 reported_first xs ys whole are =
     reported_prefix [] (numbered 1 (added_from 0 xs)) _ whole
-    (subst (λ (ps : List Placed). AreReported [] ps whole) (placed_behind xs ys) are)
+    (subst (λ (ps : List Placed). AreReported [] ps whole) (placed_after xs ys) are)
 
 -- ---- two lists are merged in one way
 abbrev IsIn : List Notice → Notice → Type 0

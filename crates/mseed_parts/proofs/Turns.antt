@@ -108,9 +108,9 @@ none_before None o e = refl
 none_before (Some c) None e = cc (e)
 none_before (Some c) (Some o) e = cc (e)
 
-some_behind : (b : Bool) (c : Channel) (o : Option Channel) → IsSome o → IsSome (cond b (Some c) o)
-some_behind true c o h = refl
-some_behind false c o h = h
+some_after : (b : Bool) (c : Channel) (o : Option Channel) → IsSome o → IsSome (cond b (Some c) o)
+some_after true c o h = refl
+some_after false c o h = h
 
 -- the first that is left fits, where all do
 pub first_fits : (b now : Held) (x : List ℕ × Channel) (rest : Entries)
@@ -152,7 +152,7 @@ turns_more a b now next x rest t j f = record {
       (none_before (kept_of key now.channels)
       (option_map (moved_channel now.records now.bytes) (kept_of key (one_channel x.0 x.1).channels))
       (sym (j.each key) ∙ e));
-  among = λ key h. t.among key (some_behind (same_key key x.0) x.1 (kept_of key rest) h);
+  among = λ key h. t.among key (some_after (same_key key x.0) x.1 (kept_of key rest) h);
 }
 
 -- where nothing is kept yet at the key of the first that is left, it is a new one

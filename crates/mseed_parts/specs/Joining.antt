@@ -51,15 +51,15 @@ findings_with (Counted m first head t) (Nothing h tail) (Some border) = Counted 
 findings_with (Counted m first head t) (Counted n next h tail) None = Counted (m + n) first head tail
 findings_with (Counted m first head t) (Counted n next h tail) (Some border) = Counted (m + (1 + n)) first head tail
 
-abbrev pub findings_behind : Findings → Findings → Findings
-findings_behind a b = findings_with a b (border_of (tail_in a) (head_in b))
+abbrev pub findings_after : Findings → Findings → Findings
+findings_after a b = findings_with a b (border_of (tail_in a) (head_in b))
 
 -- a channel, and its further records after
 abbrev pub channel_then : Channel → Channel → Channel
 channel_then c o = record {
   records = c.records + o.records;
   samples = c.samples + o.samples;
-  findings = findings_behind c.findings o.findings;
+  findings = findings_after c.findings o.findings;
 }
 
 -- of a channel something is kept in both, in one or in neither

@@ -47,7 +47,7 @@ pub fn findings_add_up()
 pub fn joining_laws()
     ensures one { (a b h g : Held) → IsJoint a b h → IsJoint a b g → h ≡ g }
     ensures unit_before { (n a : Held) → IsPartOf n [] → IsAscending a.channels → IsJoint n a a }
-    ensures unit_behind { (n a : Held) → IsPartOf n [] → IsAscending a.channels → IsJoint a n a }
+    ensures unit_after { (n a : Held) → IsPartOf n [] → IsAscending a.channels → IsJoint a n a }
     ensures associative { (a b c ab bc left right : Held) → IsJoint a b ab → IsJoint ab c left → IsJoint b c bc
         → IsJoint a bc right → left ≡ right }
 {}

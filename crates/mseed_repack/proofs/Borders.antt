@@ -23,7 +23,7 @@ use Rattle.mseed_stretches.proofs.Times.{stands_at}
 use Rattle.mseed_pack.specs.Clock.{added_before, instant_at}
 use Rattle.mseed_pack.specs.Fitting.{IsTooFast}
 use Rattle.mseed_pack.specs.Outcome.{IsTrace}
-use Rattle.mseed_pack.specs.Stretches.{step_behind}
+use Rattle.mseed_pack.specs.Stretches.{step_after}
 use Rattle.mseed_pack.proofs.Followed.{AreAt, series_at}
 use Rattle.mseed_pack.proofs.Leaps.{passes}
 use Rattle.mseed_pack.proofs.Viewed.{IsAt}
@@ -175,7 +175,7 @@ past s own h first begin e t some =
     let trace : Trace = h.trace in
     let rate : Ratio = ratio_of trace.rate in
     let n : ℕ = length e.samples in
-    let step : Option LeapStep = step_behind trace (e.place + n) in
+    let step : Option LeapStep = step_after trace (e.place + n) in
     let pass = passes 0 (length trace.samples) trace.steps e.place n h.is.steps e.is.some e.is.within in
     let by = rounded trace.start t (added_before trace.steps e.place) (step_of step) e.place n rate.num rate.den some in
     let size : e.place + n ≡ samples_of s = e.end_is ∙ sym (joined_samples s trace.samples h.series.samples) in

@@ -11,7 +11,7 @@ use Rattle.mseed_audit.specs.Channels.{is_of}
 use Rattle.mseed_audit.specs.Judging.{step_in}
 use Rattle.mseed_audit.specs.Series.{AreSteps, step_at}
 use Rattle.mseed_audit.proofs.Joined.{count_is, holds_more, holds_none}
-use Rattle.mseed_audit.proofs.Places.{steps_behind, steps_kept}
+use Rattle.mseed_audit.proofs.Places.{steps_after, steps_kept}
 use Rattle.mseed_repack.specs.private.Reading.{AreOf, channel_in, samples_of, step_count, steps_of}
 
 -- what of the lists was read of these records
@@ -67,7 +67,7 @@ read_none key samples steps = record {
 places_more : (o : Option LeapStep) (m n : ℕ) (old new : List (ℕ × LeapStep)) → m < n → AreSteps m old
     → new ≡ old ++ step_at n o → AreSteps n new
 places_more None m n old new less h e = steps_kept m n old new (omega (arith, less)) h (e ∙ append-nil old)
-places_more (Some step) m n old new less h e = steps_behind m n n old new step less refl h e
+places_more (Some step) m n old new less h e = steps_after m n n old new step less refl h e
 
 -- one more record
 pub read_more : (key : List ℕ) (vs : List View) (v : View) (m k m' k' : ℕ) (xs xs' s : List ℤ)

@@ -192,11 +192,11 @@ behind g begin from (inr (inr h)) none = rw h.0 (omega (
   none 2 (omega (arith, h.0)),
 ))
 
-behind_z : (g : ℕ → ℤ) (begin : List ℕ) (from : ℕ) → Begins begin from → ((j : ℕ) → j < from → g j ≡ pos 0)
+after_z : (g : ℕ → ℤ) (begin : List ℕ) (from : ℕ) → Begins begin from → ((j : ℕ) → j < from → g j ≡ pos 0)
     → sum_z (map g words) ≡ sum_z (map g (range_with_len from (16 - from)))
 unfolding words
-behind_z g begin from (inl h) none = rw h.0 (omega (arith, ints, none 0 (omega (arith, h.0))))
-behind_z g begin from (inr (inl h)) none = rw h.0 (omega (
+after_z g begin from (inl h) none = rw h.0 (omega (arith, ints, none 0 (omega (arith, h.0))))
+after_z g begin from (inr (inl h)) none = rw h.0 (omega (
   arith,
   ints,
   none 0 (omega (arith, h.0)),
@@ -205,7 +205,7 @@ behind_z g begin from (inr (inl h)) none = rw h.0 (omega (
   none 2 (omega (arith, h.0)),
   none 3 (omega (arith, h.0)),
 ))
-behind_z g begin from (inr (inr h)) none = rw h.0 (omega (
+after_z g begin from (inr (inr h)) none = rw h.0 (omega (
   arith,
   ints,
   none 0 (omega (arith, h.0)),
@@ -230,7 +230,7 @@ moves s counts widths p f begin k from count by begins reads count_is by_is near
     let counted = behind (count_at counts f from) begin from begins reads.empty in
     let spans = behind (λ w. span (group_at counts widths f from w)) begin from begins (λ j less. ap span (none j less))
     in
-    let totals = behind_z (λ w. total (group_at counts widths f from w)) begin from begins
+    let totals = after_z (λ w. total (group_at counts widths f from w)) begin from begins
     (λ j less. ap total (none j less)) in
     let all = found s counts widths p f k from reads (16 - from) from low.0 (omega arith) (omega (arith, low.1))
     (omega (arith, few, count_is, counted)) in (

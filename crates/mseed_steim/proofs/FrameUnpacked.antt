@@ -63,19 +63,19 @@ spelled s p f k from reads good (suc n) j some behind end rest =
     ∙ ap (λ (xs : List (Result ℤ BadWordAt)). xs ++ items_of s rest) (sym (map-append Ok group others))
 
 -- no word before the first has any
-behind_4 : (s : Scheme) (p f : List ℕ) (k : ℕ) → Reads s (all_counts s) (all_widths s) p f k 4
+after_4 : (s : Scheme) (p f : List ℕ) (k : ℕ) → Reads s (all_counts s) (all_widths s) p f k 4
     → unpacked s f 4 1 15 ≡ unpacked s f 4 4 12
 unfolding unpacked
-behind_4 s p f k reads =
+after_4 s p f k reads =
     let n1 = none_at (all_counts s) (all_widths s) f 4 1 (reads.empty 1 (omega arith)) in
     let n2 = none_at (all_counts s) (all_widths s) f 4 2 (reads.empty 2 (omega arith)) in
     let n3 = none_at (all_counts s) (all_widths s) f 4 3 (reads.empty 3 (omega arith)) in
     rw (n1, n2, n3) refl
 
-behind_3 : (s : Scheme) (p f : List ℕ) (k : ℕ) → Reads s (all_counts s) (all_widths s) p f k 3
+after_3 : (s : Scheme) (p f : List ℕ) (k : ℕ) → Reads s (all_counts s) (all_widths s) p f k 3
     → unpacked s f 3 1 15 ≡ unpacked s f 3 3 13
 unfolding unpacked
-behind_3 s p f k reads =
+after_3 s p f k reads =
     let n1 = none_at (all_counts s) (all_widths s) f 3 1 (reads.empty 1 (omega arith)) in
     let n2 = none_at (all_counts s) (all_widths s) f 3 2 (reads.empty 2 (omega arith)) in
     rw (n1, n2) refl
@@ -89,10 +89,10 @@ all_spelled s p f begin k from (inl h) e octets =
     rw h.0 (λ good. spelled s p f k 1 (reads_all s p f k 1 e octets) good 15 1 (omega arith) (omega arith) refl)
 all_spelled s p f begin k from (inr (inl h)) e octets = rw h.0 (λ good.
     let reads = reads_all s p f k 4 e octets in
-    rw (behind_4 s p f k reads) (spelled s p f k 4 reads good 12 4 (omega arith) (omega arith) refl))
+    rw (after_4 s p f k reads) (spelled s p f k 4 reads good 12 4 (omega arith) (omega arith) refl))
 all_spelled s p f begin k from (inr (inr h)) e octets = rw h.0 (λ good.
     let reads = reads_all s p f k 3 e octets in
-    rw (behind_3 s p f k reads) (spelled s p f k 3 reads good 13 3 (omega arith) (omega arith) refl))
+    rw (after_3 s p f k reads) (spelled s p f k 3 reads good 13 3 (omega arith) (omega arith) refl))
 
 -- how far they go in all
 span_unpacked : (s : Scheme) (f : List ℕ) (from n j : ℕ)

@@ -69,10 +69,10 @@ pub prefix_words : (before after : List DataWord) → AllByRecursion IsWord (bef
 prefix_words [] after h = tt
 prefix_words (w ∷ ws) after h = (h.0, prefix_words ws after h.1)
 
-word_behind : (before : List DataWord) (bad : DataWord) (after : List DataWord)
+word_after : (before : List DataWord) (bad : DataWord) (after : List DataWord)
     → AllByRecursion IsWord (before ++ bad ∷ after) → bad.bits < 2 ^ 32
-word_behind [] bad after h = h.0
-word_behind (w ∷ ws) bad after h = word_behind ws bad after h.1
+word_after [] bad after h = h.0
+word_after (w ∷ ws) bad after h = word_after ws bad after h.1
 
 -- a word that spells nothing is the last
 stops : (s : Scheme) (bad : DataWord) (after : List DataWord) (o : Option (List ℤ)) → bad.bits < 2 ^ 32
@@ -103,7 +103,7 @@ given_items s ws items h (broken before bad after ds cut run fails e) =
     let prefix : items_of s (before ++ bad ∷ after) ≡ map Ok ds ++ items_of s (bad ∷ after) =
     all_after s before ds (prefix_words before (bad ∷ after) there) run (bad ∷ after) in
     let last : items_of s (bad ∷ after) ≡ Err (place_of bad) ∷ [] =
-    bad_items s bad after (word_behind before bad after there) fails in
+    bad_items s bad after (word_after before bad after there) fails in
     rw cut (e ∙ sym (prefix ∙ ap (λ (xs : List (Result ℤ BadWordAt)). map Ok ds ++ xs) last))
 
 -- the words of a payload have 32 bits

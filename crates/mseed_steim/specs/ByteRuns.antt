@@ -31,15 +31,15 @@ past_empty [] = []
 past_empty (w ∷ ws) = if w.code == 0 then past_empty ws else w ∷ ws
 
 -- the words behind a run that begins them; where it is empty, behind the first
-abbrev pub behind_run : List DataWord → List DataWord → List DataWord
-behind_run [] words = drop 1 words
-behind_run (w ∷ ws) words = drop (length (w ∷ ws)) words
+abbrev pub after_run : List DataWord → List DataWord → List DataWord
+after_run [] words = drop 1 words
+after_run (w ∷ ws) words = drop (length (w ∷ ws)) words
 
 -- The words that aren't unpacked yet once an item has come of them: those behind a run that is next, or behind one
 -- word; after a bad word none.
-abbrev pub words_behind : Result ℤ BadWordAt → List DataWord → List DataWord
-words_behind (Ok d) words = behind_run (byte_run (past_empty words)) (past_empty words)
-words_behind (Err at) words = []
+abbrev pub words_after : Result ℤ BadWordAt → List DataWord → List DataWord
+words_after (Ok d) words = after_run (byte_run (past_empty words)) (past_empty words)
+words_after (Err at) words = []
 
 -- Where a run is what comes next of the words, the item is the first of the differences that it spells, and the
 -- others are ready.

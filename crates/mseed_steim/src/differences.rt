@@ -6,7 +6,7 @@ ghost use Rattle.std.specs.Iterator.{UpTo, YieldsFirst, MakesProgress, at_most, 
 ghost use Rattle.std.specs.Iterator.SizeHint.{IsWithinCount};
 ghost use Rattle.mseed_steim.specs.declared.differences.BadWordAt.{BadWordAt};
 ghost use Rattle.mseed_steim.specs.declared.scheme.Scheme.{Scheme};
-ghost use Rattle.mseed_steim.specs.ByteRuns.{UnpacksRun, past_empty, words_behind};
+ghost use Rattle.mseed_steim.specs.ByteRuns.{UnpacksRun, past_empty, words_after};
 ghost use Rattle.mseed_steim.specs.Frames.{data_words};
 ghost use Rattle.mseed_steim.specs.private.Items.{items_of};
 ghost use Rattle.mseed_steim.specs.Left.{most_left};
@@ -75,7 +75,7 @@ fn unpack_next(
     requires { ready.old ≡ [] }
     ensures step { IsStep scheme words.old result words.new ready.new }
     ensures run { IfSome result (λ item. UnpacksRun words.old item ready.new) }
-    ensures words { IfSome result (λ item. words.new ≡ words_behind item words.old) }
+    ensures words { IfSome result (λ item. words.new ≡ words_after item words.old) }
 {
     pass_empty(words);
     let bytes = words.take_bytes();
@@ -146,7 +146,7 @@ impl<'a> Iterator for Differences<'a> {
         // A run of words of code 01 in one frame is unpacked at once: after its first difference the rest is ready.
         ensures run { IfSome result (λ item. self.old.ready ≡ [] → UnpacksRun self.old.words item self.new.ready) }
         ensures words { IfSome result (λ item. self.old.ready ≡ []
-            → self.new.words ≡ words_behind item self.old.words) }
+            → self.new.words ≡ words_after item self.old.words) }
         // What is ready is given before another word is unpacked.
         ensures given { IfSome result (λ item. self.old.ready ≢ []
             → (map Ok self.old.ready ≡ item ∷ map Ok self.new.ready) × (self.new.words ≡ self.old.words)) }

@@ -54,11 +54,11 @@ all_behind first old new text lines tail before written =
     ∙ ap (λ (xs : List ℕ). first.bytes ++ xs) (behind first old text lines tail before)
 
 -- or the first bytes of it
-taken_behind : (first old new : BytesWritten) (text lines tail : List ℕ) (n : ℕ)
+taken_after : (first old new : BytesWritten) (text lines tail : List ℕ) (n : ℕ)
     (before : AreGathered first old text lines)
     → new.bytes ≡ old.bytes ++ take n (text ++ tail)
     → new.bytes ≡ first.bytes ++ take (length before.taken + n) (lines ++ tail)
-taken_behind first old new text lines tail n before taken =
+taken_after first old new text lines tail n before taken =
     taken ∙ ap (λ (xs : List ℕ). xs ++ take n (text ++ tail)) before.bytes
     ∙ append_assoc first.bytes before.taken (take n (text ++ tail))
     ∙ ap (λ (xs : List ℕ). first.bytes ++ xs) (sym (take-append-add before.taken (text ++ tail) n))
@@ -67,16 +67,16 @@ taken_behind first old new text lines tail n before taken =
 pub first_behind : (first old new : BytesWritten) (text lines tail : List ℕ) → AreGathered first old text lines
     → EmittedFirst old new (text ++ tail) → EmittedFirst first new (lines ++ tail)
 first_behind first old new text lines tail before emitted =
-    (length before.taken + emitted.0, taken_behind first old new text lines tail emitted.0 before emitted.1)
+    (length before.taken + emitted.0, taken_after first old new text lines tail emitted.0 before emitted.1)
 
-pub part_behind : (first old new : BytesWritten) (text lines tail : List ℕ) → AreGathered first old text lines
+pub part_after : (first old new : BytesWritten) (text lines tail : List ℕ) → AreGathered first old text lines
     → EmittedPart old new (text ++ tail) → EmittedPart first new (lines ++ tail)
-part_behind first old new text lines tail before emitted =
+part_after first old new text lines tail before emitted =
     let size : length before.taken + length (text ++ tail) ≡ length (lines ++ tail) =
     sym (length-append before.taken (text ++ tail))
     ∙ ap (λ (xs : List ℕ). length xs) (behind first old text lines tail before) in (
       length before.taken + emitted.0,
-      (omega (arith, emitted.1.0, size), taken_behind first old new text lines tail emitted.0 before emitted.1.1),
+      (omega (arith, emitted.1.0, size), taken_after first old new text lines tail emitted.0 before emitted.1.1),
     )
 
 -- with nothing after
@@ -89,14 +89,14 @@ pub part_of : (first old new : BytesWritten) (text lines : List ℕ) → AreGath
     → EmittedPart old new text → EmittedPart first new lines
 part_of first old new text lines before =
     none_behind (EmittedPart old new) (EmittedPart first new) text lines
-    (part_behind first old new text lines [] before)
+    (part_after first old new text lines [] before)
 
 -- the output failed as it took some of what is gathered: that is a part of the whole
 pub cut_part : (first old new : BytesWritten) (taken : ℕ) (text lines tail : List ℕ)
     → AreGathered first old text lines
     → IsCutOff taken (text ++ tail) old new → EmittedPart first new (lines ++ tail)
 cut_part first old new taken text lines tail before cut =
-    part_behind first old new text lines tail before (taken, (cut.part, cut.text))
+    part_after first old new text lines tail before (taken, (cut.part, cut.text))
 
 -- all that was gathered was written
 pub all_written : (old new : BytesWritten) (text rest : List ℕ) → AreGathered old new rest text → rest ≡ []

@@ -42,9 +42,9 @@ passed c size = record c { offset = c.offset + size; prefix = []; is_lent = fals
 abbrev pub behind : Standing → ℕ → Standing
 behind c size = record c { offset = c.offset + size; reads = c.reads + 2 }
 
-stands_behind : (here old : Standing) (size : ℕ) → here ≡ record old { prefix = held_of old; is_lent = false }
+stands_after : (here old : Standing) (size : ℕ) → here ≡ record old { prefix = held_of old; is_lent = false }
     → held_of old ≡ [] → behind here size ≡ passed old size
-stands_behind here old size is none =
+stands_after here old size is none =
     ap (λ (s : Standing). behind s size) is
     ∙ ap (λ (xs : List ℕ). let s : Standing = record old {
       offset = old.offset + size;
@@ -58,7 +58,7 @@ pub stands_passed : (P : BytesRead → Standing → Type 0) (new : BytesRead) (h
     (now : BytesRead) → here ≡ record old { prefix = held_of old; is_lent = false } → held_of old ≡ [] → new ≡ now
     → P now (passed old size) → P new (behind here size)
 stands_passed P new here old size now is none read holds =
-    subst (λ (s : Standing). P new s) (sym (stands_behind here old size is none))
+    subst (λ (s : Standing). P new s) (sym (stands_after here old size is none))
     (subst (λ (h : BytesRead). P h (passed old size)) (sym read) holds)
 
 passed_read : (h : BytesRead) (c : Standing) (bytes : List ℕ) → IsRead h c → held_of c ≡ [] → c.reads + 2 ≤ 2 ^ 40

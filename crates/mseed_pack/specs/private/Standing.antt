@@ -75,7 +75,7 @@ pub record IsRecorded {F S : Type 0} (stands : F → S → Encoding → List ℤ
     samples = slice_range samples place.first (place.first + count);
     bytes = bytes;
   })
-  pub stands_behind : stands filler supply job.options.now.encoding samples (place.first + count)
+  pub stands_after : stands filler supply job.options.now.encoding samples (place.first + count)
 
 -- so many bytes of records from a place on were put over a room, as many of them as it has
 pub record IsFilledTo (job : Job) (payloads : Payloads) (list : Listed) (place : Place) (batch : Batch)

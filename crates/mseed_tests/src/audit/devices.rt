@@ -137,7 +137,7 @@ fn reads_one_byte_a_call(rt: HostRuntime) {
 }
 
 /// Whether a reader that fails once is read so far, and then to its end.
-fn fails_behind(rt: &impl Abort, alloc: Global, reported: usize, rest: &[u8]) -> bool {
+fn fails_after(rt: &impl Abort, alloc: Global, reported: usize, rest: &[u8]) -> bool {
     let mut source = hello_failing_behind(reported);
     let fault = read_all(alloc, &mut source).err();
     let bytes = read_all(alloc, &mut source).expect(rt, "bytes");
@@ -149,7 +149,7 @@ fn says_where_a_read_failed(rt: HostRuntime) {
     let hello = b"hello".as_slice();
     for reported in 0..6 {
         assert!(rt;
-            fails_behind(&rt, rt.alloc(), reported, &hello[reported..]),
+            fails_after(&rt, rt.alloc(), reported, &hello[reported..]),
             "behind {reported} bytes"
         );
     }

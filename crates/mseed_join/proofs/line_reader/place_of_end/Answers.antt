@@ -1,5 +1,5 @@
 use Rattle.std.proofs.Common.{sym, ◌∙◌}
-use Rattle.mseed_join.proofs.LineEnds.{found_behind, nowhere_behind}
+use Rattle.mseed_join.proofs.LineEnds.{found_behind, nowhere_after}
 use Rattle.mseed_join.proofs.line_reader.place_of_end.Goals as goal
 
 pub returns-in-Some : goal.returns-in-Some
@@ -8,6 +8,6 @@ returns-in-Some c = found_behind c.args.bytes.now c.pass_lanes-passed.result c.i
     (sym c.place_one_by_one.ensures ∙ c.in-Some.is)
 
 pub returns-in-None : goal.returns-in-None
-returns-in-None c = nowhere_behind c.args.bytes.now c.pass_lanes-passed.result
+returns-in-None c = nowhere_after c.args.bytes.now c.pass_lanes-passed.result
     c.pass_lanes-passed.ensures.within c.pass_lanes-passed.ensures.lacks
     (sym c.place_one_by_one.ensures ∙ c.in-None.is)

@@ -1,5 +1,5 @@
 use Rattle.std.proofs.Common.{◌≤◌, length, refl, arith}
-use Rattle.mseed_join.proofs.DigitLanes.{all_digits, digits_before, few_digits, is_above, lowered, other_behind}
+use Rattle.mseed_join.proofs.DigitLanes.{all_digits, digits_before, few_digits, is_above, lowered, other_after}
 use Rattle.mseed_join.proofs.numbers.digits_ahead.Goals as goal
 
 pub returns-then-others-eq0-clause-digits : goal.returns-then-others-eq0-clause-digits
@@ -25,4 +25,4 @@ returns-clause-digits c =
 pub returns-clause-ends : goal.returns-clause-ends
 returns-clause-ends c other _ =
     let room : 16 ≤ length c.args.bytes.now = omega (arith, c.if-bytes-lt-FEW.false) in
-    other_behind is_above lowered c.args.bytes.now room c.type_inv.bytes refl c.if-others-eq0.false other
+    other_after is_above lowered c.args.bytes.now room c.type_inv.bytes refl c.if-others-eq0.false other

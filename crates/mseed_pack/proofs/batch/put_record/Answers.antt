@@ -49,5 +49,5 @@ returns-clause-to g c = λ xs on.
         first = c.args.place.first + n;
       }) n c.write_record-count.new.out refl refl
           (omega (arith, c.write_record-count.ensures.within, at.ensures.most, all)) one.packed;
-      stands_next = one.stands_behind;
+      stands_next = one.stands_after;
     }

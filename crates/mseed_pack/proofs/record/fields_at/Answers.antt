@@ -5,7 +5,7 @@ use Rattle.mseed_time.specs.Parts.{parts_of}
 use Rattle.mseed_time.specs.Ratios.{ratio_of}
 use Rattle.mseed_pack.specs.Clock.{instant_at}
 use Rattle.mseed_pack.specs.Traces.{headed}
-use Rattle.mseed_pack.specs.Stretches.{flags_of, step_behind}
+use Rattle.mseed_pack.specs.Stretches.{flags_of, step_after}
 use Rattle.mseed_pack.proofs.Steps.{end_most}
 use Rattle.mseed_pack.proofs.Times.{reading_in}
 use Rattle.mseed_pack.proofs.record.fields_at.Goals as goal
@@ -46,5 +46,5 @@ returns-clause-fields c = λ xs samples bytes count e.
       exponent = refl;
       frames_is = refl;
       activity = c.flags_at-activity.ensures xs count
-          ∙ ap (λ (n : ℕ). flags_of (step_behind (headed h xs) (place.first + n))) (sym e);
+          ∙ ap (λ (n : ℕ). flags_of (step_after (headed h xs) (place.first + n))) (sym e);
     }

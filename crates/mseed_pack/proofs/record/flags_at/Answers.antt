@@ -2,7 +2,7 @@ use Rattle.std.proofs.Common.{◌≡◌, ◌<◌, ◌≤◌, ℕ, ℤ, List, get
 use Rattle.mseed_time.specs.declared.outcome.LeapStep.{LeapStep}
 use Rattle.mseed_time.specs.declared.outcome.LeapStep.TheVariants.{Plus, Minus}
 use Rattle.mseed_pack.specs.Traces.{headed}
-use Rattle.mseed_pack.specs.Stretches.{flags_of, step_behind}
+use Rattle.mseed_pack.specs.Stretches.{flags_of, step_after}
 use Rattle.mseed_pack.specs.declared.series_head.SeriesHead.{SeriesHead}
 use Rattle.mseed_pack.specs.declared.span.Span.{Span}
 use Rattle.mseed_pack.specs.private.Standing.{IsSpan}
@@ -30,7 +30,7 @@ returns-then-span-head c = λ xs count.
 kind_at : (h : SeriesHead) (xs : List ℤ) (span : Span) (end : ℕ) (kind : LeapStep) → length xs ≡ h.count
     → IsSpan h.steps.now h.count span → span.begin < end → end ≤ span.end
     → span.end ≤ end → span.passed < length h.steps.now
-    → (get_or h.steps.now span.passed (0, Plus)).1 ≡ kind → step_behind (headed h xs) end ≡ Some kind
+    → (get_or h.steps.now span.passed (0, Plus)).1 ≡ kind → step_after (headed h xs) end ≡ Some kind
 kind_at h xs span end kind count is_span begin within there some is =
     let standing = span_of h xs span count is_span in
     one_after (headed h xs) span end standing begin (omega (arith, within, there))

@@ -71,5 +71,5 @@ returns-in-Ok-clause-recorded g c = λ xs on.
             (subst (λ (l : List ℤ). HoldsSamples o.encoding l mine filled.frames c.fill-filled.new.payload)
             (sym left_is) done.0);
       };
-      stands_behind = done.1;
+      stands_after = done.1;
     }

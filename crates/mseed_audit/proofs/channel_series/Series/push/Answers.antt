@@ -1,7 +1,7 @@
 use Rattle.std.proofs.Common.{◌≡◌, length, refl, arith}
 use Rattle.mseed_record.specs.Viewing.{view_of}
 use Rattle.mseed_audit.proofs.Joined.{some_more, pushed}
-use Rattle.mseed_audit.proofs.Places.{steps_behind, steps_kept}
+use Rattle.mseed_audit.proofs.Places.{steps_after, steps_kept}
 use Rattle.mseed_audit.proofs.channel_series.Series.push.Goals as goal
 
 pub invariant_of-self-in-Continue-branch-2 : goal.invariant_of-self-in-Continue-branch-2
@@ -9,7 +9,7 @@ invariant_of-self-in-Continue-branch-2 g c =
     let added = c.in_ok-append_samples.ensures.added in
     let more = some_more (view_of c.args.view.now) c.self.inside.samples.items added.0
     c.append_samples.new.samples.items added.1.0 added.1.1 in
-    steps_behind (length c.self.inside.samples.items) (length c.append_samples.new.samples.items) c.len.result
+    steps_after (length c.self.inside.samples.items) (length c.append_samples.new.samples.items) c.len.result
     c.self.inside.steps.items c.push.new.self.items c.in-Some.step
     more (omega (arith, c.len.ensures)) c.self.invariant c.in_ok-push.ensures.items
 

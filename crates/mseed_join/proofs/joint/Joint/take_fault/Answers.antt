@@ -1,6 +1,6 @@
 use Rattle.std.proofs.Common.{refl}
 use Rattle.std.proofs.lemmas.Bool.{false≢true}
-use Rattle.mseed_join.proofs.Steps.{fault_kept, fault_passed, fault_refused, fault_skipped, some_behind}
+use Rattle.mseed_join.proofs.Steps.{fault_kept, fault_passed, fault_refused, fault_skipped, some_after}
 use Rattle.mseed_join.proofs.joint.Joint.take_fault.Goals as goal
 
 pub returns-in-Some : goal.returns-in-Some
@@ -9,7 +9,7 @@ returns-in-Some g c = fault_skipped c.args.self.now _ c.in-Some.is c.args.bytes 
 pub returns-then-not-self : goal.returns-then-not-self
 returns-then-not-self g c =
     fault_kept c.args.self.now _ c.if-not-self.true c.in-None.is c.args.fault refl refl
-    (some_behind _ _ _ c.args.fault c.fault_after.ensures c.bytes.ensures) c.args.bytes
+    (some_after _ _ _ c.args.fault c.fault_after.ensures c.bytes.ensures) c.args.bytes
 
 pub returns-in-Ok : goal.returns-in-Ok
 returns-in-Ok g c =
