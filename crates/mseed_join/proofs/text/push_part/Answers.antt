@@ -1,5 +1,5 @@
 use Rattle.std.proofs.Common.{◌≡◌, List, ℕ, OnOk, subst}
-use Rattle.mseed_text.proofs.Prefixes.{prefix_behind, prefix_trans}
+use Rattle.mseed_text.proofs.Prefixes.{prefix_from, prefix_trans}
 use Rattle.mseed_join.proofs.Channels.{part_lines}
 use Rattle.mseed_join.proofs.text.push_part.Goals as goal
 
@@ -14,15 +14,15 @@ returns-clause-ok g c =
 
 pub returns-in_err-push_channels-clause-prefix : goal.returns-in_err-push_channels-clause-prefix
 returns-in_err-push_channels-clause-prefix g c =
-    prefix_behind _ _ _ _ c.in_ok-extend_from_slice.ensures.items c.push_channels.ensures.prefix
+    prefix_from _ _ _ _ c.in_ok-extend_from_slice.ensures.items c.push_channels.ensures.prefix
 
 pub returns-in_err-push_counts_line-clause-prefix : goal.returns-in_err-push_counts_line-clause-prefix
 returns-in_err-push_counts_line-clause-prefix g c =
-    prefix_behind _ _ _ _ c.in_ok-extend_from_slice.ensures.items
+    prefix_from _ _ _ _ c.in_ok-extend_from_slice.ensures.items
     (prefix_trans _ _ _ c.push_channels.ensures.prefix c.push_counts_line.ensures.prefix)
 
 pub returns-clause-prefix : goal.returns-clause-prefix
 returns-clause-prefix g c =
     let counts = prefix_trans _ _ _ c.push_channels.ensures.prefix c.push_counts_line.ensures.prefix in
-    prefix_behind _ _ _ _ c.in_ok-extend_from_slice.ensures.items
+    prefix_from _ _ _ _ c.in_ok-extend_from_slice.ensures.items
     (prefix_trans _ _ _ counts c.push_faults.ensures.prefix)
