@@ -15,7 +15,7 @@ use Rattle.slink_feed.specs.Attending.{Attends, GoesOn, IsServeFault, RepliesToA
 use Rattle.slink_feed.specs.Attending.{attending, is_at_end, is_closed, replies}
 use Rattle.slink_feed.specs.private.Replying.{HasSent, IsReplyFault, IsSendFault}
 use Rattle.slink_feed.specs.Rounds.{Attending}
-use Rattle.slink_feed.specs.Serving.{Standing}
+use Rattle.slink_feed.specs.Serving.{SessionState}
 use Rattle.slink_feed.specs.Turns.{failed_once, is_empty, reported_once}
 use Rattle.slink_feed.specs.Window.{Window}
 
@@ -89,7 +89,7 @@ module _ (feed : List Window) (old : Attending) (before : BytesRead) where
   all_sent_and_closed new after count sent shut same = is_closed sent.sends shut same
 
   -- a read leaves what the link accepted as it was
-  module _ (session : Standing) (sent_written written : BytesWritten) (count : ℕ)
+  module _ (session : SessionState) (sent_written written : BytesWritten) (count : ℕ)
       (sent : HasSent feed old (attending session sent_written) count) (unshut : session.state.phase ≢ Closed)
       (same : written ≡ sent_written) where
     goes_on : GoesOn feed old (attending session written)

@@ -27,7 +27,7 @@ use Rattle.slink_feed.specs.Connection.{fails_now, no_turn, turn_taken}
 use Rattle.slink_feed.specs.Rounds.{Attending, Gives, SendsAll, all_sent, place_after}
 use Rattle.slink_feed.specs.Running.{HasStream, Stands, StandsFor}
 use Rattle.slink_feed.specs.Sending.{AreCalled, AreShown, Called, IsReadFrom, packet_in, packets_of}
-use Rattle.slink_feed.specs.Serving.{Answers, IsAnswer, Serves, Standing, Takes, none_served, piece_served}
+use Rattle.slink_feed.specs.Serving.{Answers, IsAnswer, Serves, SessionState, Takes, none_served, piece_served}
 use Rattle.slink_feed.specs.Session.{IsBefore, State, has_sent_all, answered_in, at_next, grant_at, in_streaming}
 use Rattle.slink_feed.specs.Session.{packet_at}
 use Rattle.slink_feed.specs.Session.{reply_at_next, sent, sent_bytes, sent_in, sent_of}
@@ -213,18 +213,18 @@ streaming p (inl on) awake = on
 streaming p (inr shut) awake = absurd (awake shut)
 
 -- What lines leave of a session that streams.
-record ReadOn (s last : Standing) (way all : List ℕ) : Type 0 where
+record ReadOn (s last : SessionState) (way all : List ℕ) : Type 0 where
   read : IsReadFrom s.state last.state
   quiet : all ≡ way
   stream : HasStream last
 
 module _ (feed : List Window) where
-  piece_read_on : (u now : Standing) (piece : List ℕ) (reply : Reply) → Takes feed u piece now reply
+  piece_read_on : (u now : SessionState) (piece : List ℕ) (reply : Reply) → Takes feed u piece now reply
       → IsOn u.state.phase → HasStream u → ReadOn u now [] (reply_bytes reply)
   piece_read_on u now piece reply takes on stream = elim (open_or u.state.phase) [
     | inl shut ↦ let same : (reply ≡ written.Nothing) × (now ≡ u) = takes.closed shut in
         record {
-          read = inl (ap (λ (x : Standing). x.state) same.1);
+          read = inl (ap (λ (x : SessionState). x.state) same.1);
           quiet = ap reply_bytes same.0;
           stream = subst HasStream (sym same.1) stream;
         }
@@ -239,7 +239,7 @@ module _ (feed : List Window) where
         }
   ]
 
-  read_all_on : (s : Standing) (bytes way : List ℕ) (last : Standing) (all : List ℕ)
+  read_all_on : (s : SessionState) (bytes way : List ℕ) (last : SessionState) (all : List ℕ)
       → Serves feed s bytes way last all → IsOn s.state.phase → HasStream s → ReadOn s last way all
   read_all_on s bytes way last all (none_served u w) on stream =
       record { read = inl refl; quiet = refl; stream = stream }
@@ -391,7 +391,7 @@ fails_wrote feeds a b (fails_later x now y feed more before after turn one rest)
     )
 
 -- a session that stands, stands for a stream
-stream_of : (s : Standing) → Stands s → HasStream s
+stream_of : (s : SessionState) → Stands s → HasStream s
 stream_of s stands = elim (open_or s.state.phase) [
   | inl shut ↦ ([], λ awake. absurd (awake shut))
   | inr awake ↦ let some : (stream : List ℕ) × StandsFor s stream = stands awake in (some.0, λ _. some.1.0)

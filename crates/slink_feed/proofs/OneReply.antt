@@ -16,7 +16,7 @@ use Rattle.slink_wire.proofs.Written.{one_command}
 use Rattle.slink_wire.proofs.Spelled.{checked, continued, lines_byte, lines_cr, with_cr}
 use Rattle.slink_feed.specs.declared.session.Phase.{Phase}
 use Rattle.slink_feed.specs.declared.session.Phase.TheVariants.{Closed}
-use Rattle.slink_feed.specs.Serving.{Answers, IsAnswer, Serves, Standing, Takes, none_served, piece_served}
+use Rattle.slink_feed.specs.Serving.{Answers, IsAnswer, Serves, SessionState, Takes, none_served, piece_served}
 use Rattle.slink_feed.specs.Session.{State, answered, answered_in, ended, reply_at_next}
 use Rattle.slink_feed.specs.Window.{Window}
 use Rattle.slink_feed.proofs.Closing.{Open, held_same, open_or, shut_on}
@@ -171,7 +171,7 @@ module _ (feed : List Window) where
       )
 
   -- What a session comes to in bytes after a stream.
-  record Ran (s : Standing) (stream bytes way : List ℕ) (last : Standing) (all : List ℕ) : Type 0 where
+  record Ran (s : SessionState) (stream bytes way : List ℕ) (last : SessionState) (all : List ℕ) : Type 0 where
     prefix : List ℕ
     left : List ℕ
     split : bytes ≡ prefix ++ left
@@ -183,7 +183,7 @@ module _ (feed : List Window) where
     ends : (last.state.phase ≡ Closed) ⊎ ((left ≡ []) × IsHeld last.held (stream ++ bytes))
 
   -- nothing was taken
-  ran_none : (s last : Standing) (stream bytes way all : List ℕ) → (lines_of stream).is_too_long ≡ false → last ≡ s
+  ran_none : (s last : SessionState) (stream bytes way all : List ℕ) → (lines_of stream).is_too_long ≡ false → last ≡ s
       → all ≡ way → (last.state.phase ≡ Closed) ⊎ ((bytes ≡ []) × IsHeld last.held (stream ++ bytes))
       → Ran s stream bytes way last all
   ran_none s last stream bytes way all fits same none ends = record {
@@ -194,7 +194,7 @@ module _ (feed : List Window) where
     reported = ap (λ b. (lines_of b).lines) (append-nil stream) ∙ sym (append-nil (lines_of stream).lines);
     out = [];
     comes = subst (λ t. Comes t s.state [] last.state []) (sym (ap (λ b. (lines_of b).is_too_long) (append-nil stream)
-        ∙ fits)) (ap (λ (x : Standing). x.state) same, refl);
+        ∙ fits)) (ap (λ (x : SessionState). x.state) same, refl);
     sent = none ∙ sym (append-nil way);
     ends = ends;
   }
@@ -213,7 +213,7 @@ module _ (feed : List Window) where
             ∙ sym (append_assoc reply p.1 (reply_bytes (ended p.0).1)),
       )
 
-  module _ (u now last : Standing) (stream piece others way all : List ℕ) (reply : Reply) where
+  module _ (u now last : SessionState) (stream piece others way all : List ℕ) (reply : Reply) where
     -- a piece that reported nothing
     ran_more : (now.state ≡ u.state) × (reply ≡ written.Nothing) → Yields More stream (stream ++ piece)
         → Ran now (stream ++ piece) others (way ++ reply_bytes reply) last all
@@ -267,7 +267,7 @@ module _ (feed : List Window) where
     ran_over : ended u.state ≡ (now.state, reply) → Yields TooLong stream (stream ++ piece)
         → (last ≡ now) × (all ≡ way ++ reply_bytes reply) → Ran u stream (piece ++ others) way last all
     ran_over done tells rest =
-        let at_last : last.state ≡ (ended u.state).0 = ap (λ (x : Standing). x.state) rest.0
+        let at_last : last.state ≡ (ended u.state).0 = ap (λ (x : SessionState). x.state) rest.0
         ∙ sym (ap (λ (z : State × Reply). z.0) done) in
         record {
           prefix = piece;
@@ -298,7 +298,7 @@ module _ (feed : List Window) where
         ran_over is tells (shut_on feed now others (way ++ reply_bytes reply) last all more
         (ap (λ (z : State × Reply). z.0.phase) (sym is)))
 
-  ran : (s : Standing) (bytes way : List ℕ) (last : Standing) (all stream : List ℕ) → Serves feed s bytes way last all
+  ran : (s : SessionState) (bytes way : List ℕ) (last : SessionState) (all stream : List ℕ) → Serves feed s bytes way last all
       → (Open s.state.phase → IsHeld s.held stream) → (lines_of stream).is_too_long ≡ false
       → Ran s stream bytes way last all
   ran s bytes way last all stream (none_served u w) held fits = elim (open_or u.state.phase) [
@@ -312,7 +312,7 @@ module _ (feed : List Window) where
             × (sent ≡ w) = shut_on feed u bs w v sent
             (piece_served u now v bs piece others w sent reply split takes more)
             shut in
-            ran_none u v stream bs w sent fits same.0 same.1 (inl (ap (λ (x : Standing). x.state.phase) same.0 ∙ shut)))
+            ran_none u v stream bs w sent fits same.0 same.1 (inl (ap (λ (x : SessionState). x.state.phase) same.0 ∙ shut)))
         | inr awake ↦ (let answer : Answers feed u.state stream (stream ++ piece) now.state reply = takes.answers stream
             awake (held awake) in
             subst (λ b. Ran u stream b w v sent) (sym split)
@@ -322,7 +322,7 @@ module _ (feed : List Window) where
       ]
 
   -- of two runs the one that accepted no more
-  ran_further : (s a b : Standing) (stream bytes way x y : List ℕ) (p : Ran s stream bytes way a x)
+  ran_further : (s a b : SessionState) (stream bytes way x y : List ℕ) (p : Ran s stream bytes way a x)
       (q : Ran s stream bytes way b y) → (z : List ℕ) × (q.prefix ≡ p.prefix ++ z)
       → (a.state ≡ b.state) × (p.out ≡ q.out)
   ran_further s a b stream bytes way x y p q far =
@@ -377,17 +377,17 @@ module _ (feed : List Window) where
           ∙ append-nil ls) d))
 
   -- what is held of a session that isn't closed
-  held_open : (a : Standing) (stream bytes : List ℕ) (left : List ℕ) → (a.state.phase ≡ Closed)
+  held_open : (a : SessionState) (stream bytes : List ℕ) (left : List ℕ) → (a.state.phase ≡ Closed)
       ⊎ ((left ≡ []) × IsHeld a.held (stream ++ bytes)) → Open a.state.phase → IsHeld a.held (stream ++ bytes)
   held_open a stream bytes left (inl shut) awake = absurd (awake shut)
   held_open a stream bytes left (inr all) awake = all.1
 
-  pub record Same (a b : Standing) (x y : List ℕ) : Type 0 where
+  pub record Same (a b : SessionState) (x y : List ℕ) : Type 0 where
     pub state : a.state ≡ b.state
     pub held : Open a.state.phase → a.held ≡ b.held
     pub out : x ≡ y
 
-  pub served_once : (s a b : Standing) (stream bytes way x y : List ℕ) → (Open s.state.phase → IsHeld s.held stream)
+  pub served_once : (s a b : SessionState) (stream bytes way x y : List ℕ) → (Open s.state.phase → IsHeld s.held stream)
       → (lines_of stream).is_too_long ≡ false → Serves feed s bytes way a x → Serves feed s bytes way b y → Same a b x y
   served_once s a b stream bytes way x y held fits p q =
       let r : Ran s stream bytes way a x = ran s bytes way a x stream p held fits in
@@ -553,11 +553,11 @@ module _ (feed : List Window) where
         ∙ (ap (λ m. lines ++ m) (on.over tells.1).0 ∙ append-nil lines)) is
 
   -- So a session is cut off whose reply was written in part.
-  record CutIn (s : Standing) (stream bytes way : List ℕ) (v : State) (reply : Reply) (all : List ℕ) : Type 0 where
+  record CutIn (s : SessionState) (stream bytes way : List ℕ) (v : State) (reply : Reply) (all : List ℕ) : Type 0 where
     cut : Cut s.state (grows stream bytes).more v reply
     sent : all ≡ way ++ cut.out
 
-  cut_in : (s u last : Standing) (stream bytes prefix piece rest way all : List ℕ) (reply : Reply) (n : ℕ)
+  cut_in : (s u last : SessionState) (stream bytes prefix piece rest way all : List ℕ) (reply : Reply) (n : ℕ)
       → (Open s.state.phase → IsHeld s.held stream) → (lines_of stream).is_too_long ≡ false
       → bytes ≡ prefix ++ (piece ++ rest)
       → Serves feed s prefix way u all → Takes feed u piece last reply → n < length (reply_bytes reply)
@@ -585,14 +585,14 @@ module _ (feed : List Window) where
             })
       ]
     where
-      still_open : (a : Standing) (stream0 bytes0 left : List ℕ) → (a.state.phase ≡ Closed)
+      still_open : (a : SessionState) (stream0 bytes0 left : List ℕ) → (a.state.phase ≡ Closed)
           ⊎ ((left ≡ []) × IsHeld a.held (stream0 ++ bytes0)) → Open a.state.phase
           → (left ≡ []) × IsHeld a.held (stream0 ++ bytes0)
       still_open a stream0 bytes0 left (inl shut) awake = absurd (awake shut)
       still_open a stream0 bytes0 left (inr all0) awake = all0
 
   -- Such sessions came to the same, where as many bytes were written.
-  pub cut_in_once : (s u w a b : Standing) (stream bytes f p z g q y way all other : List ℕ) (r t : Reply) (m n : ℕ)
+  pub cut_in_once : (s u w a b : SessionState) (stream bytes f p z g q y way all other : List ℕ) (r t : Reply) (m n : ℕ)
       → (Open s.state.phase → IsHeld s.held stream) → (lines_of stream).is_too_long ≡ false
       → bytes ≡ f ++ (p ++ z) → Serves feed s f way u all → Takes feed u p a r → m < length (reply_bytes r)
       → bytes ≡ g ++ (q ++ y) → Serves feed s g way w other → Takes feed w q b t → n < length (reply_bytes t)

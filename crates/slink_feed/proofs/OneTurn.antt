@@ -20,7 +20,7 @@ use Rattle.slink_feed.specs.Attending.{at_send, is_at_end, is_closed, replies}
 use Rattle.slink_feed.specs.Connection.{AreAlike, EmittedAlike}
 use Rattle.slink_feed.specs.Rounds.{Attending, FailsToSend, Gives, HasWaited, SendsAll, all_sent, place_after}
 use Rattle.slink_feed.specs.Running.{Stands, StandsFor}
-use Rattle.slink_feed.specs.Serving.{Serves, Standing}
+use Rattle.slink_feed.specs.Serving.{Serves, SessionState}
 use Rattle.slink_feed.specs.Session.{State, has_sent_all, at_next, grant_at, packet_at, sent, sent_bytes, sent_in}
 use Rattle.slink_feed.specs.Session.{sent_of}
 use Rattle.slink_feed.specs.Turns.{reported_once}
@@ -342,7 +342,7 @@ replied_alike : (feed : List Window) (old m n a b : Attending) (bytes more : Lis
 replied_alike feed old m n a b bytes more stands g h same p q =
     let beyond : SentAlike old m n = sent_alike feed old m n stands g h in
     let other : Serves feed m.session bytes m.written.bytes b.session b.written.bytes =
-    subst (位 (s : Standing). Serves feed s bytes m.written.bytes b.session b.written.bytes) beyond.session
+    subst (位 (s : SessionState). Serves feed s bytes m.written.bytes b.session b.written.bytes) beyond.session
     (subst (位 w. Serves feed n.session bytes w b.session b.written.bytes) (sym beyond.alike.bytes)
     (subst (位 bs. Serves feed n.session bs n.written.bytes b.session b.written.bytes) same q.serves)) in
     let one : Same feed a.session b.session a.written.bytes b.written.bytes =
@@ -391,7 +391,7 @@ cut_alike : (feed : List Window) (old m n a b : Attending) (bytes more : List 鈩
 cut_alike feed old m n a b bytes more count stands g h same p q long short =
     let beyond : SentAlike old m n = sent_alike feed old m n stands g h in
     let other : Serves feed m.session q.prefix m.written.bytes q.before.session q.before.written.bytes =
-    subst (位 (s : Standing). Serves feed s q.prefix m.written.bytes q.before.session q.before.written.bytes)
+    subst (位 (s : SessionState). Serves feed s q.prefix m.written.bytes q.before.session q.before.written.bytes)
     beyond.session
     (subst (位 w. Serves feed n.session q.prefix w q.before.session q.before.written.bytes) (sym beyond.alike.bytes)
     q.replies.serves) in

@@ -17,7 +17,7 @@ use Rattle.slink_feed.specs.private.Replying.{HasFailed, HasGiven, HasSent, IsRe
 use Rattle.slink_feed.specs.private.Replying.{IsSendFault, IsUnwritten}
 use Rattle.slink_feed.specs.private.Replying.{waits_after}
 use Rattle.slink_feed.specs.Rounds.{Attending, FailsToSend, Gives, HasWaited, all_sent, place_after}
-use Rattle.slink_feed.specs.Serving.{Serves, Standing, Takes, none_served, piece_served}
+use Rattle.slink_feed.specs.Serving.{Serves, SessionState, Takes, none_served, piece_served}
 use Rattle.slink_feed.specs.Session.{AreReached, State, sent, sent_bytes, sent_without}
 use Rattle.slink_feed.specs.Turns.{Emitted}
 use Rattle.slink_feed.specs.Window.{Window}
@@ -227,7 +227,7 @@ nothing_replied feed s bytes before = record {
   few = omega arith;
 }
 
-serves_piece : (feed : List Window) (s now last : Standing) (bytes piece way on : List ℕ) (reply : Reply)
+serves_piece : (feed : List Window) (s now last : SessionState) (bytes piece way on : List ℕ) (reply : Reply)
     → Serves feed s bytes way now on → Takes feed now piece last reply
     → Serves feed s (bytes ++ piece) way last (on ++ reply_bytes reply)
 serves_piece feed s now last bytes piece way on reply (none_served t w) takes =

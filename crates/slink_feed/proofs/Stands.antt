@@ -14,7 +14,7 @@ use Rattle.slink_feed.specs.declared.session.Phase.TheVariants.{Fresh, Chosen, G
 use Rattle.slink_feed.specs.declared.session.Sent.{Sent}
 use Rattle.slink_feed.specs.declared.session.Sent.TheVariants as sents
 use Rattle.slink_feed.specs.Running.{Stands, StandsFor}
-use Rattle.slink_feed.specs.Serving.{Answers, IsAnswer, Standing, Takes, TakesWhole}
+use Rattle.slink_feed.specs.Serving.{Answers, IsAnswer, SessionState, Takes, TakesWhole}
 use Rattle.slink_feed.specs.Session.{State, sent, sent_in}
 use Rattle.slink_feed.specs.Window.{Window}
 
@@ -56,7 +56,7 @@ takes_some stream bytes zero some short whole =
     (subst (λ s. Yields whole.0 stream s) (append-nil stream) whole.1) whole.2)
 takes_some stream bytes (suc n) some short whole = omega arith
 
-pub piece_taken : (old : Standing) (bytes : List ℕ) (used : ℕ) → 0 < length bytes → Stands old
+pub piece_taken : (old : SessionState) (bytes : List ℕ) (used : ℕ) → 0 < length bytes → Stands old
     → ((stream : List ℕ) → ¬ (old.state.phase ≡ Closed) → IsHeld old.held stream
     → TakesWhole stream (stream ++ take used bytes) used (length bytes))
     → (old.state.phase ≡ Closed → used ≡ length bytes) → 0 < used
@@ -75,11 +75,11 @@ short_after feed s new before after reply unshut (Line line) tells answer = tell
 short_after feed s new before after reply unshut TooLong tells answer =
     absurd (unshut (sym (ap (λ (p : State × Reply). p.0.phase) answer)))
 
-pub still_stands : (feed : List Window) (old new : Standing) (piece : List ℕ) (reply : Reply) → Stands old
+pub still_stands : (feed : List Window) (old new : SessionState) (piece : List ℕ) (reply : Reply) → Stands old
     → Takes feed old piece new reply → Stands new
 still_stands feed old new piece reply stands takes unshut =
     let unshut_before : ¬ (old.state.phase ≡ Closed) =
-    λ shut. unshut (ap (λ (s : Standing). s.state.phase) (takes.closed shut).1 ∙ shut) in
+    λ shut. unshut (ap (λ (s : SessionState). s.state.phase) (takes.closed shut).1 ∙ shut) in
     let s : (stream : List ℕ) × StandsFor old stream = stands unshut_before in
     let held : IsHeld new.held (s.0 ++ piece) = takes.held s.0 unshut_before s.1.0 in
     let answers : Answers feed old.state s.0 (s.0 ++ piece) new.state reply = takes.answers s.0 unshut_before s.1.0 in (
@@ -92,6 +92,6 @@ still_stands feed old new piece reply stands takes unshut =
     )
 
 -- a session that has taken nothing
-pub new_stands : (s : Standing) → IsHeld s.held [] → Stands s
+pub new_stands : (s : SessionState) → IsHeld s.held [] → Stands s
 unfolding lines_of
 new_stands s held unshut = ([], (held, held.1))

@@ -9,7 +9,7 @@ use Rattle.slink_feed.specs.declared.turn.LinkFault.TheVariants as faults
 use Rattle.slink_feed.specs.declared.turn.Turn.{Turn}
 use Rattle.slink_feed.specs.declared.turn.Turn.TheVariants as turns
 use Rattle.slink_feed.specs.Rounds.{Attending, FailsToSend, SendsAll}
-use Rattle.slink_feed.specs.Serving.{Serves, Standing, Takes}
+use Rattle.slink_feed.specs.Serving.{Serves, SessionState, Takes}
 use Rattle.slink_feed.specs.Turns.{EmittedPrefix, failed_once, reported_once}
 use Rattle.slink_feed.specs.Window.{Window}
 
@@ -58,5 +58,5 @@ pub data IsServeFault (feed : List Window) (old new : Attending) (before after :
       → IsServeFault feed old new before after (faults.Write count)
 
 -- a session with what its link accepted so far
-abbrev pub attending : Standing → BytesWritten → Attending
+abbrev pub attending : SessionState → BytesWritten → Attending
 attending session written = record { session = session; written = written }

@@ -4,7 +4,7 @@ use Rattle.mseed_stream.specs.Device.{BytesWritten}
 use Rattle.slink_feed.specs.declared.session.Phase.TheVariants.{Closed}
 use Rattle.slink_feed.specs.declared.session.Sent.{Sent}
 use Rattle.slink_feed.specs.declared.session.Sent.TheVariants.{Wait}
-use Rattle.slink_feed.specs.Serving.{Standing}
+use Rattle.slink_feed.specs.Serving.{SessionState}
 use Rattle.slink_feed.specs.Session.{State, sent, sent_bytes}
 use Rattle.slink_feed.specs.Turns.{Emitted, EmittedPrefix}
 use Rattle.slink_feed.specs.Window.{Window}
@@ -31,7 +31,7 @@ HasWaited n given = (before : List Sent) × (given ≡ before ++ replicate n Wai
 
 -- a session with what its link accepted so far
 pub record Attending : Type 0 where
-  pub session : Standing
+  pub session : SessionState
   pub written : BytesWritten
 
 -- A session was called from the first station on, until it is closed or a whole round of the stations gives nothing.

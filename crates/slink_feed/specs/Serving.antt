@@ -14,7 +14,7 @@ use Rattle.slink_feed.specs.Session.{State, answered, ended}
 use Rattle.slink_feed.specs.Window.{Window}
 
 -- where a session stands, and what is held of its stream
-pub record Standing : Type 0 where
+pub record SessionState : Type 0 where
   pub state : State
   pub held : Held
 
@@ -33,7 +33,7 @@ abbrev pub TakesWhole : List ℕ → List ℕ → ℕ → ℕ → Type 0
 TakesWhole before after used count = (what : What) × Yields what before after × (what ≡ More → used ≡ count)
 
 -- A session takes bytes, of which the last may end a line, and replies. A closed one replies nothing.
-pub record Takes (feed : List Window) (old : Standing) (bytes : List ℕ) (new : Standing) (reply : Reply) : Type 0 where
+pub record Takes (feed : List Window) (old : SessionState) (bytes : List ℕ) (new : SessionState) (reply : Reply) : Type 0 where
   -- It stands for the stream that its link brought, whichever that is.
   pub held : (stream : List ℕ) → ¬ (old.state.phase ≡ Closed) → IsHeld old.held stream
       → IsHeld new.held (stream ++ bytes)
@@ -42,8 +42,8 @@ pub record Takes (feed : List Window) (old : Standing) (bytes : List ℕ) (new :
   pub closed : old.state.phase ≡ Closed → (reply ≡ Replies.Nothing) × (new ≡ old)
 
 -- A session takes all of these bytes, piece by piece, and its replies go on their way.
-pub data Serves (feed : List Window) : Standing → List ℕ → List ℕ → Standing → List ℕ → Type 0 where
-  none_served : (s : Standing) (way : List ℕ) → Serves feed s [] way s way
-  piece_served : (s now last : Standing) (bytes piece rest way all : List ℕ) (reply : Reply) → bytes ≡ piece ++ rest
+pub data Serves (feed : List Window) : SessionState → List ℕ → List ℕ → SessionState → List ℕ → Type 0 where
+  none_served : (s : SessionState) (way : List ℕ) → Serves feed s [] way s way
+  piece_served : (s now last : SessionState) (bytes piece rest way all : List ℕ) (reply : Reply) → bytes ≡ piece ++ rest
       → Takes feed s piece now reply
       → Serves feed now rest (way ++ reply_bytes reply) last all → Serves feed s bytes way last all

@@ -95,9 +95,9 @@ pub struct Session {
 
 impl Model for Session {
     ghost use Rattle.slink_feed.specs.Running.{Stands};
-    ghost use Rattle.slink_feed.specs.Serving.{Standing};
+    ghost use Rattle.slink_feed.specs.Serving.{SessionState};
 
-    ghost Value = { Standing };
+    ghost Value = { SessionState };
 
     ghost view = { λ s. record { state = s.course; held = s.lines } };
 

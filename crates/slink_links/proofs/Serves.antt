@@ -10,7 +10,7 @@ use Rattle.mseed_stream.specs.Exchanges.{Exchange, exchange}
 use Rattle.slink_feed.specs.Attending.{Attends, IsServeFault, attending, is_closed, is_at_end, replies, at_send}
 use Rattle.slink_feed.specs.Attending.{at_read, at_reply}
 use Rattle.slink_feed.specs.Rounds.{Attending}
-use Rattle.slink_feed.specs.Serving.{Standing}
+use Rattle.slink_feed.specs.Serving.{SessionState}
 use Rattle.slink_feed.specs.Window.{Window}
 use Rattle.slink_feed.specs.declared.dialogue.Event.{Event}
 use Rattle.slink_feed.specs.declared.turn.LinkFault.{LinkFault}
@@ -21,8 +21,8 @@ use Rattle.slink_links.specs.Served.{has_failed, none, more, to_the_end, for_lon
 -- a session of its own has taken so many steps
 pub record IsServing (feed : List Window) (n : ℕ) (read_old read_now : BytesRead)
     (written_old written_now : BytesWritten)
-    (now : Standing) : Type 0 where
-  pub first : Standing
+    (now : SessionState) : Type 0 where
+  pub first : SessionState
   pub fresh : IsFresh first
   pub taken : HasTakenTurns feed (attending first written_old) read_old n (attending now written_now) read_now
 
@@ -91,11 +91,11 @@ failed_exactly feed result h h' s s' unread unwritten is =
       ap (λ (x : BytesWritten). x.failures) unwritten,
     ))
 
-pub serving_none : (feed : List Window) (h : BytesRead) (s : BytesWritten) (first : Standing) → IsFresh first
+pub serving_none : (feed : List Window) (h : BytesRead) (s : BytesWritten) (first : SessionState) → IsFresh first
     → IsServing feed 0 h h s s first
 serving_none feed h s first fresh = record { first = first; fresh = fresh; taken = none }
 
-pub serving_more : (feed : List Window) (n : ℕ) (h0 h1 h2 : BytesRead) (s0 s1 s2 : BytesWritten) (now new : Standing)
+pub serving_more : (feed : List Window) (n : ℕ) (h0 h1 h2 : BytesRead) (s0 s1 s2 : BytesWritten) (now new : SessionState)
     → IsServing feed n h0 h1 s0 s1 now
     → (turn : Turn) → Attends feed (attending now s1) (attending new s2) h1 h2 turn → turn ≡ Turn.Goes
     → IsServing feed (n + 1) h0 h2 s0 s2 new
@@ -121,7 +121,7 @@ closes feed old new before after _ (is_closed sends closed same) ends = refl
 closes feed old new before after _ (is_at_end goes reported) ends = refl
 closes feed old new before after _ (replies now bytes goes reported some few answered) ends = absurd (goes_ends ends)
 
-pub served_end : (feed : List Window) (n : ℕ) (h0 h1 h2 : BytesRead) (s0 s1 s2 : BytesWritten) (now last : Standing)
+pub served_end : (feed : List Window) (n : ℕ) (h0 h1 h2 : BytesRead) (s0 s1 s2 : BytesWritten) (now last : SessionState)
     (turn : Turn)
     → n < 2 ^ 40 → IsServing feed n h0 h1 s0 s1 now
     → Attends feed (attending now s1) (attending last s2) h1 h2 turn → Ends turn → IsServed feed (Ok tt) h0 h2 s0 s2
@@ -134,7 +134,7 @@ served_end feed n h0 h1 h2 s0 s1 s2 now last turn few p a ends =
           (subst (Attends feed (attending now s1) (attending last s2) h1 h2) closed a);
     }
 
-pub served_for_long : (feed : List Window) (n : ℕ) (h0 h1 : BytesRead) (s0 s1 : BytesWritten) (now : Standing)
+pub served_for_long : (feed : List Window) (n : ℕ) (h0 h1 : BytesRead) (s0 s1 : BytesWritten) (now : SessionState)
     → n ≡ 2 ^ 40
     → IsServing feed n h0 h1 s0 s1 now → IsServed feed (Ok tt) h0 h1 s0 s1
 served_for_long feed n h0 h1 s0 s1 now all p = record {
@@ -146,7 +146,7 @@ served_for_long feed n h0 h1 s0 s1 now all p = record {
 }
 
 pub served_to_a_fault : (feed : List Window) (n : ℕ) (h0 h1 h2 : BytesRead) (s0 s1 s2 : BytesWritten)
-    (now last : Standing)
+    (now last : SessionState)
     (fault : LinkFault) → n < 2 ^ 40 → IsServing feed n h0 h1 s0 s1 now
     → IsServeFault feed (attending now s1) (attending last s2) h1 h2 fault → IsServed feed (Err fault) h0 h2 s0 s2
 served_to_a_fault feed n h0 h1 h2 s0 s1 s2 now last fault few p a = record {

@@ -6,7 +6,7 @@ use Rattle.mseed_stream.specs.Exchanges.{Exchange}
 use Rattle.slink_wire.specs.Lines.{IsHeld}
 use Rattle.slink_feed.specs.Attending.{Attends, IsServeFault, attending}
 use Rattle.slink_feed.specs.Rounds.{Attending}
-use Rattle.slink_feed.specs.Serving.{Standing}
+use Rattle.slink_feed.specs.Serving.{SessionState}
 use Rattle.slink_feed.specs.Session.{at}
 use Rattle.slink_feed.specs.Window.{Window}
 use Rattle.slink_feed.specs.declared.session.Phase.TheVariants.{Fresh}
@@ -39,16 +39,16 @@ pub data HasTakenAll (feed : List Window) (first : Attending) (before : BytesRea
       → IsServeFault feed now last mid after fault → HasTakenAll feed first before (Err fault) last after
 
 -- The session has read nothing, and granted nothing.
-pub record IsFresh (s : Standing) : Type 0 where
+pub record IsFresh (s : SessionState) : Type 0 where
   pub state : s.state ≡ at Fresh (replicate 16 None)
   pub held : IsHeld s.held []
 
 -- A link was served by a session of its own.
 pub record IsServed (feed : List Window) (result : Result ⊤ LinkFault) (read_old read_new : BytesRead)
     (written_old written_new : BytesWritten) : Type 0 where
-  pub first : Standing
+  pub first : SessionState
   pub fresh : IsFresh first
-  pub last : Standing
+  pub last : SessionState
   pub turns : HasTakenAll feed (attending first written_old) read_old result (attending last written_new) read_new
 
 -- A link was served from its first byte on.

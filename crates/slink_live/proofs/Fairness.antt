@@ -11,7 +11,7 @@ use Rattle.slink_feed.specs.declared.session.Phase.{Phase}
 use Rattle.slink_feed.specs.declared.session.Phase.TheVariants as Phases
 use Rattle.slink_feed.specs.declared.session.Sent.{Sent}
 use Rattle.slink_feed.specs.declared.session.Sent.TheVariants as Sents
-use Rattle.slink_feed.specs.Serving.{Standing}
+use Rattle.slink_feed.specs.Serving.{SessionState}
 use Rattle.slink_feed.specs.Session.{State, has_sent_all, at_next, grant_at, packet_at, sent, sent_in, sent_of}
 use Rattle.slink_feed.specs.Window.{Window, record_at}
 use Rattle.slink_feed.proofs.Items.{put_there}
@@ -192,7 +192,7 @@ turns_last feed s ring ks now turn last k answer (next_called u v w p q m a more
     next_called u v last p (k + 1) m a (more ++ k ∷ []) before x
     (turns_last feed v (m + 1) more w q last k answer on first e)
 
-pub asked_turns : (feed : List Window) (s : Standing) (ring : ℕ) (way : List ℕ) (last : Standing) (turn : ℕ)
+pub asked_turns : (feed : List Window) (s : SessionState) (ring : ℕ) (way : List ℕ) (last : SessionState) (turn : ℕ)
     (all : List ℕ) → Asks feed s ring way last turn all
     → (ks : List ℕ) × TakesTurns feed s.state ring ks last.state turn
 asked_turns feed s ring way last turn all none_called = ([], no_more s.state ring)

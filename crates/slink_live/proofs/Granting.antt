@@ -6,7 +6,7 @@ use Rattle.std.proofs.lemmas.Bool.Decides.{eqb_tells}
 use Rattle.std.proofs.lemmas.List.{get_or_default}
 use Rattle.slink_feed.specs.declared.grant.Grant.{Grant}
 use Rattle.slink_feed.specs.declared.session.Phase.TheVariants as Phases
-use Rattle.slink_feed.specs.Serving.{Standing}
+use Rattle.slink_feed.specs.Serving.{SessionState}
 use Rattle.slink_feed.specs.Session.{Fits, grant_at}
 use Rattle.slink_feed.specs.Window.{Window}
 use Rattle.slink_live.specs.declared.places.Places.{Places}
@@ -35,14 +35,14 @@ pub covers_none : (places : Places) (o : Option LinkState) → o ≡ None → Co
 covers_none places o none l is = absurd (let bad : None ≡ Some l = sym none ∙ is in cc bad)
 
 -- one whose session was called for packets
-asked_streams : (feed : List Window) (s : Standing) (ring : ℕ) (way : List ℕ) (last : Standing) (turn : ℕ)
+asked_streams : (feed : List Window) (s : SessionState) (ring : ℕ) (way : List ℕ) (last : SessionState) (turn : ℕ)
     (all : List ℕ) → Asks feed s ring way last turn all → last.state.phase ≡ Phases.Streaming
     → s.state.phase ≡ Phases.Streaming
 asked_streams feed s ring way last turn all none_called streams = streams
 asked_streams feed s ring way last turn all (one_called now t m k answer on a before first given held is) streams =
     asked_streams feed s ring way now m on before (streams_no_more feed now.state t.state k answer given streams)
 
-asked_grants : (feed : List Window) (s : Standing) (ring : ℕ) (way : List ℕ) (last : Standing) (turn : ℕ)
+asked_grants : (feed : List Window) (s : SessionState) (ring : ℕ) (way : List ℕ) (last : SessionState) (turn : ℕ)
     (all : List ℕ) → Asks feed s ring way last turn all → (j : ℕ) → grant_at s.state.grants j ≡ None
     → grant_at last.state.grants j ≡ None
 asked_grants feed s ring way last turn all none_called j none = none

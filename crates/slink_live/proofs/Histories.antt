@@ -3,7 +3,7 @@ use Rattle.std.proofs.Common.{◌≡◌, ℕ, ◌∙◌, ap, subst, refl, sym, L
 use Rattle.std.proofs.Common.{take-append-drop}
 use Rattle.std.proofs.Common.{Option, Some, None}
 use Rattle.slink_wire.specs.Reply.{reply_bytes}
-use Rattle.slink_feed.specs.Serving.{Serves, Standing, none_served, piece_served}
+use Rattle.slink_feed.specs.Serving.{Serves, SessionState, none_served, piece_served}
 use Rattle.slink_feed.specs.Session.{sent_bytes}
 use Rattle.slink_feed.specs.Window.{Window}
 use Rattle.slink_live.specs.Happening.{Happening, Opened, Gone, input_of}
@@ -16,7 +16,7 @@ use Rattle.slink_live.specs.History.{takes, goes}
 use Rattle.slink_live.specs.private.Calling.{HasFilled, HasReceived, HasTaken}
 
 -- with something stated before
-serves_after : (feed : List Window) (s last : Standing) (bytes way all x : List ℕ) → Serves feed s bytes way last all
+serves_after : (feed : List Window) (s last : SessionState) (bytes way all x : List ℕ) → Serves feed s bytes way last all
     → Serves feed s bytes (x ++ way) last (x ++ all)
 serves_after feed s last bytes way all x (none_served t w) = none_served t (x ++ w)
 serves_after feed s last bytes way all x (piece_served t now u bs piece rest w a reply split taking more) =
@@ -24,7 +24,7 @@ serves_after feed s last bytes way all x (piece_served t now u bs piece rest w a
     (subst (λ y. Serves feed now rest y u (x ++ a)) (sym (append_assoc x w (reply_bytes reply)))
     (serves_after feed now u rest (w ++ reply_bytes reply) a x more))
 
-asks_after : (feed : List Window) (s : Standing) (ring : ℕ) (way x : List ℕ) (last : Standing) (turn : ℕ)
+asks_after : (feed : List Window) (s : SessionState) (ring : ℕ) (way x : List ℕ) (last : SessionState) (turn : ℕ)
     (all : List ℕ) → Asks feed s ring way last turn all → Asks feed s ring (x ++ way) last turn (x ++ all)
 asks_after feed s ring way x last turn all none_called = none_called
 asks_after feed s ring way x last turn all (one_called now t m k answer on a before first given held is) =
@@ -32,8 +32,8 @@ asks_after feed s ring way x last turn all (one_called now t m k answer on a bef
     (ap (λ y. x ++ y) is ∙ sym (append_assoc x on (sent_bytes answer)))
 
 -- called, and then called on
-pub asks_then : (feed : List Window) (s : Standing) (ring : ℕ) (way : List ℕ) (now : Standing) (turn : ℕ)
-    (produced : List ℕ) → Asks feed s ring way now turn produced → (last : Standing) (on : ℕ) (all : List ℕ)
+pub asks_then : (feed : List Window) (s : SessionState) (ring : ℕ) (way : List ℕ) (now : SessionState) (turn : ℕ)
+    (produced : List ℕ) → Asks feed s ring way now turn produced → (last : SessionState) (on : ℕ) (all : List ℕ)
     → Asks feed now turn produced last on all → Asks feed s ring way last on all
 asks_then feed s ring way now turn produced before last on all none_called = before
 asks_then feed s ring way now turn produced before last on all
@@ -49,7 +49,7 @@ module _ (start : List Window) (k : ℕ) where
   by_link log l t served m =
       subst (λ (b : List ℕ). IsServed start k log (Some (history l.session l.ring b t.emitted))) m.2
       (subst (λ (n : ℕ). IsServed start k log (Some (history l.session n t.produced t.emitted))) m.1
-      (subst (λ (s : Standing). IsServed start k log (Some (history s t.ring t.produced t.emitted))) m.0 served))
+      (subst (λ (s : SessionState). IsServed start k log (Some (history s t.ring t.produced t.emitted))) m.0 served))
 
   module _ (log last : List Happening) (new : Option LinkState) where
     pub history_stays : (o : Option LinkState) → new ≡ o → last ≡ log → IsHistory start k o log

@@ -16,7 +16,7 @@ use Rattle.slink_feed.specs.declared.session.Sent.TheVariants as Sents
 use Rattle.slink_feed.specs.Connection.{bytes_sent}
 use Rattle.slink_feed.specs.Running.{HasStream}
 use Rattle.slink_feed.specs.Sending.{AreCalled, AreShown, Called, IsReadFrom}
-use Rattle.slink_feed.specs.Serving.{IsAnswer, Serves, Standing, Takes, none_served, piece_served}
+use Rattle.slink_feed.specs.Serving.{IsAnswer, Serves, SessionState, Takes, none_served, piece_served}
 use Rattle.slink_feed.specs.Session.{State}
 use Rattle.slink_feed.specs.Session.{sent, sent_bytes, sent_in}
 use Rattle.slink_feed.specs.Window.{Shows, Window}
@@ -148,17 +148,17 @@ module _ (start : List Window) where
       has_streamed rs s u xs begun to (read_further u old new read moved) (read_on old new moved o) from
       (ap (λ x. produced ++ reply_bytes x) quiet ∙ (append-nil produced ∙ eq))
 
-  abbrev ProducedOf : List Happening → Standing → List ℕ → Type 0
+  abbrev ProducedOf : List Happening → SessionState → List ℕ → Type 0
   ProducedOf log t produced = Produced start log t.state produced × HasStream t
 
   -- a line is answered
-  takes_at : (log : List Happening) (feed : List Window) (old new : Standing) (piece : List ℕ) (r : Reply)
+  takes_at : (log : List Happening) (feed : List Window) (old new : SessionState) (piece : List ℕ) (r : Reply)
       (produced : List ℕ) → Stage old.state.phase → Takes feed old piece new r → ProducedOf log old produced
       → ProducedOf log new (produced ++ reply_bytes r)
   takes_at log feed old new piece r produced (is_closed shut) t h =
       let same : (r ≡ Replies.Nothing) × (new ≡ old) = t.closed shut in
       subst (λ b. ProducedOf log new b) (sym (ap (λ x. produced ++ reply_bytes x) same.0 ∙ append-nil produced))
-      (subst (λ (x : Standing). ProducedOf log x produced) (sym same.1) h)
+      (subst (λ (x : SessionState). ProducedOf log x produced) (sym same.1) h)
   takes_at log feed old new piece r produced (is_streaming on) t h =
       let alive : ¬ (old.state.phase ≡ Closed) = λ shut. not_streaming old.state.phase shut on in
       let held : IsHeld old.held h.1.0 = h.1.1 alive in
@@ -173,7 +173,7 @@ module _ (start : List Window) where
       )
 
   -- lines are answered
-  serves_produced : (log : List Happening) (feed : List Window) (s last : Standing) (bytes produced all : List ℕ)
+  serves_produced : (log : List Happening) (feed : List Window) (s last : SessionState) (bytes produced all : List ℕ)
       → Serves feed s bytes produced last all → ProducedOf log s produced → ProducedOf log last all
   serves_produced log feed s last bytes produced all (none_served t w) h = h
   serves_produced log feed s last bytes produced all (piece_served t now u bs piece rest w a r split taking more) h =
@@ -206,8 +206,8 @@ module _ (start : List Window) where
       (ap (λ b. b ++ sent_bytes answer) eq ∙ (append_assoc (all_replies rs) (bytes_sent xs) (sent_bytes answer)
       ∙ ap (λ b. all_replies rs ++ b) (sym (bytes_last xs a))))
 
-  asks_produced : (log : List Happening) (feed : List Window) (s : Standing) (ring : ℕ) (produced : List ℕ)
-      (last : Standing) (turn : ℕ) (all : List ℕ) → IsFed start (input_of log) feed
+  asks_produced : (log : List Happening) (feed : List Window) (s : SessionState) (ring : ℕ) (produced : List ℕ)
+      (last : SessionState) (turn : ℕ) (all : List ℕ) → IsFed start (input_of log) feed
       → Asks feed s ring produced last turn all → ProducedOf log s produced → ProducedOf log last all
   asks_produced log feed s ring produced last turn all is_fed none_called h = h
   asks_produced log feed s ring produced last turn all is_fed

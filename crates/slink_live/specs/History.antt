@@ -6,7 +6,7 @@ use Rattle.slink_wire.specs.Lines.{IsHeld}
 use Rattle.slink_feed.specs.declared.session.Phase.TheVariants.{Fresh}
 use Rattle.slink_feed.specs.declared.session.Sent.{Sent}
 use Rattle.slink_feed.specs.declared.session.Sent.TheVariants as Sents
-use Rattle.slink_feed.specs.Serving.{Serves, Standing}
+use Rattle.slink_feed.specs.Serving.{Serves, SessionState}
 use Rattle.slink_feed.specs.Session.{State, at, sent, sent_bytes}
 use Rattle.slink_feed.specs.Window.{Window}
 use Rattle.slink_live.specs.Happening.{Happening, Opened, Received, Emitted, Gone, input_of, is_at}
@@ -14,17 +14,17 @@ use Rattle.slink_live.specs.Input.{IsFed}
 
 -- a session, the station that is called next, what was sent so far, and what its link accepted of that
 pub record History : Type 0 where
-  pub session : Standing
+  pub session : SessionState
   pub ring : ℕ
   pub produced : List ℕ
   pub emitted : List ℕ
 
-abbrev pub history : Standing → ℕ → List ℕ → List ℕ → History
+abbrev pub history : SessionState → ℕ → List ℕ → List ℕ → History
 history session ring produced emitted =
     record { session = session; ring = ring; produced = produced; emitted = emitted }
 
 -- It is the session of a new link.
-pub record IsNew (s : Standing) : Type 0 where
+pub record IsNew (s : SessionState) : Type 0 where
   pub state : s.state ≡ at Fresh (replicate 16 None)
   pub held : IsHeld s.held []
 
@@ -40,9 +40,9 @@ pub record IsTurn (feed : List Window) (s : State) (ring k : ℕ) : Type 0 where
 
 -- A session is called for packets, in turns: each time for the first station of which something is sent, in a round
 -- from the one after the station that was called last. What it gives goes on its way.
-pub data Asks (feed : List Window) (s : Standing) (ring : ℕ) (way : List ℕ) : Standing → ℕ → List ℕ → Type 0 where
+pub data Asks (feed : List Window) (s : SessionState) (ring : ℕ) (way : List ℕ) : SessionState → ℕ → List ℕ → Type 0 where
   none_called : Asks feed s ring way s ring way
-  one_called : (now last : Standing) (turn k : ℕ) (answer : Sent) (on all : List ℕ) → Asks feed s ring way now turn on
+  one_called : (now last : SessionState) (turn k : ℕ) (answer : Sent) (on all : List ℕ) → Asks feed s ring way now turn on
       → IsTurn feed now.state turn k → sent feed now.state k ≡ (last.state, answer) → last.held ≡ now.held
       → all ≡ on ++ sent_bytes answer → Asks feed s ring way last (k + 1) all
 
@@ -54,17 +54,17 @@ pub data IsServed (start : List Window) (k : ℕ) : List Happening → Option Hi
   no_event : IsServed start k [] None
   elsewhere : (before now : List Happening) (h : Happening) (o : Option History) → IsServed start k before o
       → is_at k h ≡ false → now ≡ before ++ h ∷ [] → IsServed start k now o
-  opens : (before now : List Happening) (s : Standing) → IsServed start k before None → IsNew s
+  opens : (before now : List Happening) (s : SessionState) → IsServed start k before None → IsNew s
       → now ≡ before ++ Opened k ∷ [] → IsServed start k now (Some (history s 0 [] []))
-  receives : (before now : List Happening) (feed : List Window) (s new : Standing) (ring : ℕ)
+  receives : (before now : List Happening) (feed : List Window) (s new : SessionState) (ring : ℕ)
       (bytes produced all emitted : List ℕ) → IsServed start k before (Some (history s ring produced emitted))
       → IsFed start (input_of before) feed → Serves feed s bytes produced new all
       → now ≡ before ++ Received k bytes ∷ [] → IsServed start k now (Some (history new ring all emitted))
-  asks : (log : List Happening) (feed : List Window) (s new : Standing) (ring turn : ℕ)
+  asks : (log : List Happening) (feed : List Window) (s new : SessionState) (ring turn : ℕ)
       (produced all emitted : List ℕ) → IsServed start k log (Some (history s ring produced emitted))
       → IsFed start (input_of log) feed → Asks feed s ring produced new turn all
       → IsServed start k log (Some (history new turn all emitted))
-  takes : (before now : List Happening) (s : Standing) (ring : ℕ) (bytes produced emitted : List ℕ)
+  takes : (before now : List Happening) (s : SessionState) (ring : ℕ) (bytes produced emitted : List ℕ)
       → IsServed start k before (Some (history s ring produced emitted)) → IsPrefixOf (emitted ++ bytes) produced
       → now ≡ before ++ Emitted k bytes ∷ [] → IsServed start k now (Some (history s ring produced (emitted ++ bytes)))
   goes : (before now : List Happening) (o : Option History) → IsServed start k before o

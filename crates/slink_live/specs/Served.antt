@@ -2,7 +2,7 @@
 use Rattle.std.specs.Prelude.{◌≡◌, ℕ, Bool, true, false, ◌+◌, ◌*◌, ◌^◌, ◌<◌, ◌≤◌, List, ◌++◌, length, get_or, Option}
 use Rattle.std.specs.Prelude.{Some}
 use Rattle.std.specs.Prelude.{None, slice_get}
-use Rattle.slink_feed.specs.Serving.{Standing}
+use Rattle.slink_feed.specs.Serving.{SessionState}
 use Rattle.slink_feed.specs.Session.{Fits}
 use Rattle.slink_feed.specs.Window.{Window}
 use Rattle.slink_live.specs.Happening.{Happening, input_of}
@@ -12,11 +12,11 @@ use Rattle.slink_live.specs.History.{IsServed, History}
 -- what a server keeps of a link: its session, the station that is called next, and what was sent that the link didn't
 -- accept yet
 pub record LinkState : Type 0 where
-  pub session : Standing
+  pub session : SessionState
   pub ring : ℕ
   pub pending : List ℕ
 
-abbrev pub link_state : Standing → ℕ → List ℕ → LinkState
+abbrev pub link_state : SessionState → ℕ → List ℕ → LinkState
 link_state session ring pending = record { session = session; ring = ring; pending = pending }
 
 -- what it keeps of the input: the rings, the bytes after the last record, and how many records there were

@@ -2,7 +2,7 @@
 ghost use Rattle.std.specs.Prelude.{◌≡◌, ◌≢◌, ◌∷◌, ◌++◌, ℕ, List, Option, Some, length, slice_get};
 ghost use Rattle.slink_wire.specs.Place.{Fields};
 ghost use Rattle.slink_feed.specs.Window.{Shows, Window};
-ghost use Rattle.slink_feed.specs.Serving.{Standing};
+ghost use Rattle.slink_feed.specs.Serving.{SessionState};
 ghost use Rattle.slink_feed.specs.Session.{State, sent};
 ghost use Rattle.slink_feed.specs.Intake.{places_of};
 ghost use Rattle.slink_live.specs.Awake.{AreSame, IsLost};
@@ -56,7 +56,7 @@ pub fn a_link_is_sent_slices()
 /// A link's session is called in turns. Between two calls for a station, while nothing comes, each other station that
 /// has a record due when the second is made was called: a busy station starves no other.
 pub fn in_turns()
-    ensures turns { (feed : List Window) (s last : Standing) (ring turn : ℕ) (way all : List ℕ)
+    ensures turns { (feed : List Window) (s last : SessionState) (ring turn : ℕ) (way all : List ℕ)
         → Asks feed s ring way last turn all → (ks : List ℕ) × TakesTurns feed s.state ring ks last.state turn }
     ensures between { (feed : List Window) (s t : State) (ring turn k j : ℕ) (mid : List ℕ)
         → TakesTurns feed s ring (k ∷ mid) t turn → IsTurn feed t turn k → j ≢ k → HasDue feed t j

@@ -10,7 +10,7 @@ use Rattle.slink_wire.specs.Command.{IsCommand}
 use Rattle.slink_wire.specs.Lines.{IsHeld}
 use Rattle.slink_wire.specs.Reply.{reply_bytes}
 use Rattle.slink_wire.specs.Request.{request_line, requested}
-use Rattle.slink_feed.specs.Serving.{Answers, IsAnswer, Serves, Standing, none_served, piece_served}
+use Rattle.slink_feed.specs.Serving.{Answers, IsAnswer, Serves, SessionState, none_served, piece_served}
 use Rattle.slink_feed.specs.Session.{State, answered}
 use Rattle.slink_feed.specs.Window.{Window}
 use Rattle.slink_wire.specs.Written.{written_bytes}
@@ -44,13 +44,13 @@ module _ (feed : List Window) where
   reported_more s new reply TooLong e is = absurd (let bad : TooLong ≡ More = e in cc bad)
 
   -- all lines are answered, so that nothing changes
-  pub record IsOn (s last : Standing) (way all taken rest : List ℕ) : Type 0 where
+  pub record IsOn (s last : SessionState) (way all taken rest : List ℕ) : Type 0 where
     pub state : last.state ≡ s.state
     pub sent : all ≡ way
     pub held : IsHeld last.held taken
     pub reported : IsAnswered taken rest
 
-  pub quiet_on : (s : Standing) (bytes way : List ℕ) (last : Standing) (all rest taken : List ℕ)
+  pub quiet_on : (s : SessionState) (bytes way : List ℕ) (last : SessionState) (all rest taken : List ℕ)
       → Serves feed s bytes way last all → Open s.state.phase → IsHeld s.held taken → IsAnswered taken (bytes ++ rest)
       → IsOn s last way all (taken ++ bytes) rest
   quiet_on s bytes way last all rest taken (none_served u w) awake held reported =
@@ -81,11 +81,11 @@ module _ (feed : List Window) where
       }
 
   -- so a session goes on that has answered all lines
-  pub stays_quiet : (s : Standing) (bytes way : List ℕ) (last : Standing) (all rest : List ℕ)
+  pub stays_quiet : (s : SessionState) (bytes way : List ℕ) (last : SessionState) (all rest : List ℕ)
       → Serves feed s bytes way last all → IsQuiet s (bytes ++ rest) → IsQuiet last rest
   stays_quiet s bytes way last all rest serves q = elim (open_or s.state.phase) [
     | inl shut ↦ let same : (last ≡ s) × (all ≡ way) = shut_on feed s bytes way last all serves shut in
-        (q.0, λ awake. absurd (awake (ap (λ (x : Standing). x.state.phase) same.0 ∙ shut)))
+        (q.0, λ awake. absurd (awake (ap (λ (x : SessionState). x.state.phase) same.0 ∙ shut)))
     | inr awake ↦ let on : IsOn s last way all (q.0 ++ bytes) rest =
         quiet_on s bytes way last all rest q.0 serves awake (q.1 awake).0 (q.1 awake).1 in
         (q.0 ++ bytes, λ _. (on.held, on.reported))
@@ -108,14 +108,14 @@ module _ (feed : List Window) where
     line = request_line request
 
     -- the line comes in these bytes, or later
-    pub data Comes (last : Standing) (way all taken rest : List ℕ) : Type 0 where
+    pub data Comes (last : SessionState) (way all taken rest : List ℕ) : Type 0 where
       not_yet : last.state ≡ s → all ≡ way → IsHeld last.held taken → IsAsking line taken rest
           → Comes last way all taken rest
       it_came : (reply : Reply) → all ≡ way ++ reply_bytes reply
           → answered feed s (requested request) ≡ (last.state, reply) → IsHeld last.held taken → IsAnswered taken rest
           → Comes last way all taken rest
 
-    piece_on : (now last : Standing) (taken piece others rest way all : List ℕ) (reply : Reply) (what : What)
+    piece_on : (now last : SessionState) (taken piece others rest way all : List ℕ) (reply : Reply) (what : What)
         → IsHeld now.held (taken ++ piece) → IsAnswer feed s what now.state reply
         → IsRead line (taken ++ piece) (others ++ rest) what
         → Serves feed now others (way ++ reply_bytes reply) last all
@@ -134,7 +134,7 @@ module _ (feed : List Window) where
         (sym after.state) it) after.held after.reported
     piece_on now last taken piece others rest way all reply TooLong held is read more next = elim read [ ]
 
-    pub called_on : (u : Standing) (bytes way : List ℕ) (last : Standing) (all rest taken : List ℕ)
+    pub called_on : (u : SessionState) (bytes way : List ℕ) (last : SessionState) (all rest taken : List ℕ)
         → Serves feed u bytes way last all → u.state ≡ s → IsHeld u.held taken → IsAsking line taken (bytes ++ rest)
         → Comes last way all (taken ++ bytes) rest
     called_on u bytes way last all rest taken (none_served u' w) same held asks =

@@ -25,7 +25,7 @@ use Rattle.slink_feed.specs.Dialogue.{next_at, numbered, want_at}
 use Rattle.slink_feed.specs.Grant.{grant_of}
 use Rattle.slink_feed.specs.Listening.{IsLinked}
 use Rattle.slink_feed.specs.Rings.{station_at}
-use Rattle.slink_feed.specs.Serving.{Answers, Serves, Standing, none_served, piece_served}
+use Rattle.slink_feed.specs.Serving.{Answers, Serves, SessionState, none_served, piece_served}
 use Rattle.slink_feed.specs.Session.{Grants, IsBefore, State, answered, called, at, chosen, grant_at, granted}
 use Rattle.slink_model.specs.Spared.{AreAskable}
 use Rattle.slink_model.specs.Slice.{IsSchedule, LackFew, Resumes}
@@ -56,7 +56,7 @@ open_at phase p is before shut = subst IsBefore (sym is ∙ shut) before
 
 module _ (feed : List Window) where
   -- the grants stay while packets are sent
-  grants_on : (s : Standing) (bytes way : List ℕ) (last : Standing) (all taken : List ℕ)
+  grants_on : (s : SessionState) (bytes way : List ℕ) (last : SessionState) (all taken : List ℕ)
       → Serves feed s bytes way last all → ¬ (IsBefore s.state.phase) → (Open s.state.phase → IsHeld s.held taken)
       → last.state.grants ≡ s.state.grants
   grants_on s bytes way last all taken (none_served u w) over held = refl
@@ -64,9 +64,9 @@ module _ (feed : List Window) where
       elim (open_or u.state.phase) [
         | inl shut ↦ let same : (reply ≡ replies.Nothing) × (now ≡ u) = takes.closed shut in
             grants_on now others (w ++ reply_bytes reply) v sent taken more
-            (subst (λ (x : Standing). ¬ (IsBefore x.state.phase)) (sym same.1) over)
-            (subst (λ (x : Standing). Open x.state.phase → IsHeld x.held taken) (sym same.1) held)
-            ∙ ap (λ (x : Standing). x.state.grants) same.1
+            (subst (λ (x : SessionState). ¬ (IsBefore x.state.phase)) (sym same.1) over)
+            (subst (λ (x : SessionState). Open x.state.phase → IsHeld x.held taken) (sym same.1) held)
+            ∙ ap (λ (x : SessionState). x.state.grants) same.1
         | inr awake ↦ let answer : Answers feed u.state taken (taken ++ piece) now.state reply =
             takes.answers taken awake (held awake) in
             let l : (now.state.grants ≡ u.state.grants) × (reply ≡ replies.Nothing) × ¬ (IsBefore now.state.phase) =

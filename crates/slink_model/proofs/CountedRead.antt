@@ -16,7 +16,7 @@ use Rattle.slink_model.specs.Counted.{talk_upon, wholes, with_event, with_events
 use Rattle.slink_feed.specs.Cutting.{IsBegun}
 use Rattle.slink_feed.specs.Dialogue.{Talk}
 use Rattle.slink_feed.specs.Listening.{Brought, IsLinked, bytes_of, events_of, talk_after}
-use Rattle.slink_feed.specs.Serving.{Standing}
+use Rattle.slink_feed.specs.Serving.{SessionState}
 use Rattle.slink_feed.specs.Session.{State}
 use Rattle.slink_model.specs.Ties.{Item, Places, way_bytes}
 use Rattle.slink_model.specs.World.{Differ, IsRead, LinkState, Numbers, Taking, WorldState, taking}
@@ -100,7 +100,7 @@ module _ (places : Places) (differ : Differ places) (codes : (k : ℕ) (p : Fiel
     pub counts : Counts places v.client now_counted m
 
   state_is : m.session.state ≡ l.session.state
-  state_is = ap (λ (s : Standing). s.state) h.session
+  state_is = ap (λ (s : SessionState). s.state) h.session
 
   -- what comes of it beside the client
   gains_is : gained (taking v m) ≡ with_events l.first_sent (events_upon w.client.talk (news n c))
@@ -137,7 +137,7 @@ module _ (places : Places) (differ : Differ places) (codes : (k : ℕ) (p : Fiel
           to_client = h.left ∙ (ap (drop n) tie.to_client ∙ sym (drop_on (way_bytes c.sent) c.delivered n));
           taken_few = omega (arith, ap length written, length-append before m.to_server, long);
           delivered_few = omega arith;
-          held = λ awake. subst (λ (s : Standing). IsHeld s.held (take c.taken gains.to_server)) (sym h.session)
+          held = λ awake. subst (λ (s : SessionState). IsHeld s.held (take c.taken gains.to_server)) (sym h.session)
               (subst (IsHeld l.session.held) (sym prefix)
               (tie.held (subst (λ (s : State). Open s.phase) state_is awake)));
           linked = λ there. subst (λ (s : State). Pinned places v.client s (take c.taken gains.to_server) m.to_server

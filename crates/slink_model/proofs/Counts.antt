@@ -26,7 +26,7 @@ use Rattle.slink_feed.specs.Dialogue.{next_at, numbered}
 use Rattle.slink_feed.specs.Grant.{grant_of}
 use Rattle.slink_feed.specs.Listening.{IsLinked, Listening}
 use Rattle.slink_feed.specs.Rings.{station_at}
-use Rattle.slink_feed.specs.Serving.{Standing}
+use Rattle.slink_feed.specs.Serving.{SessionState}
 use Rattle.slink_feed.specs.Session.{State, answered, at, chosen, grant_at, granted}
 use Rattle.slink_model.specs.Ties.{Item, Accepted, Refused, Greeted, Carried, Finished, Places, items_of, way_bytes}
 use Rattle.slink_feed.specs.Window.{Window}
@@ -257,7 +257,7 @@ module _ (places : Places) (differ : Differ places) (codes : (k : ℕ) (p : Fiel
     shut_counted shut pinned =
         let on : (m.session ≡ l.session) × (m.to_client ≡ l.to_client) =
         shut_on feed l.session bytes l.to_client m.session m.to_client served.serves shut in
-        let same : m.session.state ≡ s = ap (λ (x : Standing). x.state) on.0 in
+        let same : m.session.state ≡ s = ap (λ (x : SessionState). x.state) on.0 in
         let closed : m.session.state.phase ≡ Closed = ap (λ (x : State). x.phase) same ∙ shut in
         let few : length l.to_server ≤ 1 = counts.over shut in
         let none : waits c.taken c.written ≡ false = waits_false c.taken c.written l.to_server counts.to_server few in

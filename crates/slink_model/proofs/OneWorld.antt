@@ -20,7 +20,7 @@ use Rattle.slink_feed.specs.Cutting.{IsBegun, IsWhole}
 use Rattle.slink_feed.specs.Dialogue.{Talk, Whole, read, requests_place}
 use Rattle.slink_feed.specs.Listening.{AreBrought, Brings, Brought, IsLinked, Listening, begun, bytes_of, events_of}
 use Rattle.slink_feed.specs.Listening.{talk_after, event_if_any, whole}
-use Rattle.slink_feed.specs.Serving.{Serves, Standing}
+use Rattle.slink_feed.specs.Serving.{Serves, SessionState}
 use Rattle.slink_feed.specs.Session.{State}
 use Rattle.slink_model.specs.Spared.{AreAskable}
 use Rattle.slink_model.specs.Slice.{IsSchedule}
@@ -225,16 +225,16 @@ one_reading f t a b bytes x y is =
     ∙ (ap (λ bs. with_events f (events_of t.client.talk bs) (gained t)) one.0 ∙ sym q.gains))
 
 -- however bytes are cut, a session comes to the same
-module _ (feed : List Window) (s : Standing) (bytes way rest taken : List ℕ) (held : Open s.state.phase
+module _ (feed : List Window) (s : SessionState) (bytes way rest taken : List ℕ) (held : Open s.state.phase
     → IsHeld s.held taken) where
-  shut_once : (a b : Standing) (x y : List ℕ) → Serves feed s bytes way a x → Serves feed s bytes way b y
+  shut_once : (a b : SessionState) (x y : List ℕ) → Serves feed s bytes way a x → Serves feed s bytes way b y
       → s.state.phase ≡ Closed → (a ≡ b) × (x ≡ y)
   shut_once a b x y p q shut =
       let one : (a ≡ s) × (x ≡ way) = shut_on feed s bytes way a x p shut in
       let two : (b ≡ s) × (y ≡ way) = shut_on feed s bytes way b y q shut in
       (one.0 ∙ sym two.0, one.1 ∙ sym two.1)
 
-  quiet_once : (a b : Standing) (x y : List ℕ) → Serves feed s bytes way a x → Serves feed s bytes way b y
+  quiet_once : (a b : SessionState) (x y : List ℕ) → Serves feed s bytes way a x → Serves feed s bytes way b y
       → Open s.state.phase → IsAnswered taken (bytes ++ rest) → (a ≡ b) × (x ≡ y)
   quiet_once a b x y p q awake reported =
       let one : IsOn feed s a way x (taken ++ bytes) rest =
@@ -245,7 +245,7 @@ module _ (feed : List Window) (s : Standing) (bytes way rest taken : List ℕ) (
         one.sent ∙ sym two.sent,
       )
 
-  pub reported_once : (a b : Standing) (x y : List ℕ) → Serves feed s bytes way a x → Serves feed s bytes way b y
+  pub reported_once : (a b : SessionState) (x y : List ℕ) → Serves feed s bytes way a x → Serves feed s bytes way b y
       → (Open s.state.phase → IsAnswered taken (bytes ++ rest)) → (a ≡ b) × (x ≡ y)
   reported_once a b x y p q reported = elim (open_or s.state.phase) [
     | inl shut ↦ shut_once a b x y p q shut
@@ -253,11 +253,11 @@ module _ (feed : List Window) (s : Standing) (bytes way rest taken : List ℕ) (
   ]
 
   module _ (pending : IsPending feed s.state taken (bytes ++ rest)) where
-    abbrev Done : Standing → List ℕ → Type 0
+    abbrev Done : SessionState → List ℕ → Type 0
     Done a x = Comes feed s.state pending.request pending.awake pending.known pending.stays_open a way x
         (taken ++ bytes) rest
 
-    both_done : (a b : Standing) (x y : List ℕ) → Done a x → Done b y → (a ≡ b) × (x ≡ y)
+    both_done : (a b : SessionState) (x y : List ℕ) → Done a x → Done b y → (a ≡ b) × (x ≡ y)
     both_done a b x y (not_yet p sent kept asks) (not_yet q sent' kept' asks') =
         (standings_same a b (p ∙ sym q) (held_same a.held b.held (taken ++ bytes) kept kept'), sent ∙ sym sent')
     both_done a b x y (not_yet p sent kept asks) (it_came r sent' done kept' reported) =
@@ -272,7 +272,7 @@ module _ (feed : List Window) (s : Standing) (bytes way rest taken : List ℕ) (
               ∙ (ap (λ (z : State × Reply). way ++ reply_bytes z.1) same ∙ sym sent'),
         )
 
-    pub called_once : (a b : Standing) (x y : List ℕ) → Serves feed s bytes way a x → Serves feed s bytes way b y
+    pub called_once : (a b : SessionState) (x y : List ℕ) → Serves feed s bytes way a x → Serves feed s bytes way b y
         → (a ≡ b) × (x ≡ y)
     called_once a b x y p q = both_done a b x y
         (called_on feed s.state pending.request pending.awake pending.known pending.stays_open s bytes way a x rest
@@ -364,7 +364,7 @@ module _ (places : Places) (differ : Differ places) (codes : (k : ℕ) (p : Fiel
       let session : p.session ≡ q.session =
       standings_same p.session q.session (p.is_new.state ∙ sym q.is_new.state)
       (held_same p.session.held q.session.held [] p.is_new.held q.is_new.held) in
-      p.becomes ∙ (ap (λ (x : Standing). linked_anew w x (requests_place 0 w.client.talk)) session ∙ sym q.becomes)
+      p.becomes ∙ (ap (λ (x : SessionState). linked_anew w x (requests_place 0 w.client.talk)) session ∙ sym q.becomes)
 
   pub step_once : (step : Step) (a b : WorldState) → Happens w step a → Happens w step b → a ≡ b
   step_once (Append k bytes) a b p q = p ∙ sym q

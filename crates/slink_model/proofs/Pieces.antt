@@ -5,7 +5,7 @@ use Rattle.std.proofs.lemmas.List.{drop_all}
 use Rattle.slink_wire.specs.declared.reply.Reply.{Reply}
 use Rattle.slink_wire.specs.Reply.{reply_bytes}
 use Rattle.slink_feed.specs.Listening.{IsLinked}
-use Rattle.slink_feed.specs.Serving.{Serves, Standing, Takes, none_served, piece_served}
+use Rattle.slink_feed.specs.Serving.{Serves, SessionState, Takes, none_served, piece_served}
 use Rattle.slink_feed.specs.Window.{Window}
 use Rattle.slink_model.specs.World.{Reads, Numbers, Taking, none_read, piece_lost}
 
@@ -23,7 +23,7 @@ at_offset [] (suc n) used = let more : suc n + used ≡ suc (n + used) = omega a
 at_offset (b ∷ bs) (suc n) used = let more : suc n + used ≡ suc (n + used) = omega arith in at_offset bs n used
     ∙ ap (λ k. take used (drop n bs) ++ drop k (b ∷ bs)) (sym more)
 
-pub serves_more : (feed : List Window) (s now last : Standing) (bytes : List ℕ) (start used : ℕ) (way on all : List ℕ)
+pub serves_more : (feed : List Window) (s now last : SessionState) (bytes : List ℕ) (start used : ℕ) (way on all : List ℕ)
     (reply : Reply) → Takes feed s (take used (drop start bytes)) now reply → on ≡ way ++ reply_bytes reply
     → Serves feed now (drop (start + used) bytes) on last all → Serves feed s (drop start bytes) way last all
 serves_more feed s now last bytes start used way on all reply takes e more =
@@ -31,7 +31,7 @@ serves_more feed s now last bytes start used way on all reply takes e more =
     (at_offset bytes start used) takes
     (subst (λ (w : List ℕ). Serves feed now (drop (start + used) bytes) w last all) e more)
 
-pub serves_all : (feed : List Window) (s : Standing) (bytes : List ℕ) (start : ℕ) (way : List ℕ) → length bytes ≤ start
+pub serves_all : (feed : List Window) (s : SessionState) (bytes : List ℕ) (start : ℕ) (way : List ℕ) → length bytes ≤ start
     → Serves feed s (drop start bytes) way s way
 serves_all feed s bytes start way past =
     subst (λ (b : List ℕ). Serves feed s b way s way) (sym (drop_all start bytes past)) (none_served s way)

@@ -31,7 +31,7 @@ use Rattle.slink_feed.specs.Dialogue.{read_at, is_of_wanted, next_at, next_set, 
 use Rattle.slink_feed.specs.Dialogue.{requests_place}
 use Rattle.slink_feed.specs.Dialogue.{to_place, reported, want_at, with_next}
 use Rattle.slink_feed.specs.Listening.{Brings, IsLinked, Listening, begun, whole}
-use Rattle.slink_feed.specs.Serving.{Standing}
+use Rattle.slink_feed.specs.Serving.{SessionState}
 use Rattle.slink_feed.specs.Session.{IsBefore, grant_at}
 use Rattle.slink_model.specs.Spared.{IsFair, IsSpared}
 use Rattle.slink_model.specs.Ties.{Item, Accepted, Refused, Greeted, Carried, Finished, Places, item_bytes, of_place}
@@ -181,7 +181,7 @@ module _ (places : Places) (differ : Differ places) (codes_are : (k : ℕ) (p : 
         ];
       })
 
-  module _ (session : Standing) (first_sent : Numbers) where
+  module _ (session : SessionState) (first_sent : Numbers) where
     -- what the client has come to, with what is on its way
     pub record ClientTalks (client : Listening) (to_server way : List ℕ) : Type 0 where
       pub spared : IsSpared client.talk.stage

@@ -25,7 +25,7 @@ use Rattle.slink_feed.specs.Dialogue.{AreShort, Talk, next_at, numbered, want_at
 use Rattle.slink_feed.specs.Grant.{grant_of}
 use Rattle.slink_feed.specs.Listening.{Listening}
 use Rattle.slink_feed.specs.Rings.{station_at}
-use Rattle.slink_feed.specs.Serving.{Answers, IsAnswer, Serves, Standing, Takes, none_served, piece_served}
+use Rattle.slink_feed.specs.Serving.{Answers, IsAnswer, Serves, SessionState, Takes, none_served, piece_served}
 use Rattle.slink_feed.specs.Session.{Grants, IsBefore, State, answered, answered_in, at, chosen, grant_at, granted}
 use Rattle.slink_model.specs.Ties.{AreSound, Item, Accepted, Refused, Greeted, Carried, Finished, Leaves, Places}
 use Rattle.slink_model.specs.Ties.{items_of, of_place, way_bytes}
@@ -106,7 +106,7 @@ pub data Shakes (talk : Talk) (phase : Phase) (taken way : List ℕ) (items : Li
       → Shakes talk phase taken way items
 
 -- a link, with the bytes that its session has taken and the items that are on their way to the client
-pub record LinkTalks (places : Places) (client : Listening) (session : Standing) (to_server to_client : List ℕ) : Type
+pub record LinkTalks (places : Places) (client : Listening) (session : SessionState) (to_server to_client : List ℕ) : Type
     0 where
   pub taken : List ℕ
   pub held : ¬ (session.state.phase ≡ Closed) → IsHeld session.held taken
@@ -115,7 +115,7 @@ pub record LinkTalks (places : Places) (client : Listening) (session : Standing)
   pub shakes : Shakes client.talk session.state.phase taken to_server items
 
 -- A session that is open has answered all lines.
-abbrev pub IsQuiet : Standing → List ℕ → Type 0
+abbrev pub IsQuiet : SessionState → List ℕ → Type 0
 IsQuiet s way = (taken : List ℕ) × (¬ (s.state.phase ≡ Closed) → IsHeld s.held taken × IsAnswered taken way)
 
 -- The stations are requested, in their order.
@@ -134,7 +134,7 @@ module _ (places : Places) (differ : Differ places) (codes : (k : ℕ) (p : Fiel
     → slice_get places k ≡ Some p → IsField 5 p.0.station × IsField 2 p.0.network) (client : Listening)
     (called_for : AreCalled places client.talk.wants)
     (feed : List Window) (ringed : AreRinged places feed) where
-  abbrev pub Talks : Standing → List ℕ → List ℕ → Type 0
+  abbrev pub Talks : SessionState → List ℕ → List ℕ → Type 0
   Talks s to_server to_client = LinkTalks places client s to_server to_client
 
   -- a reply goes on its way after nothing
@@ -164,7 +164,7 @@ module _ (places : Places) (differ : Differ places) (codes : (k : ℕ) (p : Fiel
       f)
 
   -- what the session takes once a line was taken
-  abbrev Then : Standing → List ℕ → List ℕ → List ℕ → Reply → Type 0
+  abbrev Then : SessionState → List ℕ → List ℕ → List ℕ → Reply → Type 0
   Then now taken rest way reply = (¬ (now.state.phase ≡ Closed) → IsHeld now.held taken)
       → Talks now rest (way ++ reply_bytes reply)
 
@@ -192,7 +192,7 @@ module _ (places : Places) (differ : Differ places) (codes : (k : ℕ) (p : Fiel
   ]
 
   -- STATION
-  place_answered : (s now : Standing) (taken rest way : List ℕ) (items : List Item) (reply : Reply) (k : ℕ)
+  place_answered : (s now : SessionState) (taken rest way : List ℕ) (items : List Item) (reply : Reply) (k : ℕ)
       → client.talk.stage ≡ Station k → chosen (Some k) s.state ≡ (now.state, reply) → IsAnswered taken rest
       → items ≡ []
       → Flows places client s.state.grants way items → Then now taken rest way reply
@@ -213,7 +213,7 @@ module _ (places : Places) (differ : Differ places) (codes : (k : ℕ) (p : Fiel
       }
 
   -- DATA and FETCH
-  number_answered : (s now : Standing) (taken rest way : List ℕ) (items : List Item) (reply : Reply) (k : ℕ)
+  number_answered : (s now : SessionState) (taken rest way : List ℕ) (items : List Item) (reply : Reply) (k : ℕ)
       (mode : Mode) (o : Option ℕ) → client.talk.stage ≡ Number k → s.state.phase ≡ Chosen k
       → granted mode k o s.state ≡ (now.state, reply)
       → ((p m : ℕ) → o ≡ Some p → next_at client.talk.wants k ≡ Some m → p % 2 ^ 24 ≡ m) → IsAnswered taken rest
@@ -253,7 +253,7 @@ module _ (places : Places) (differ : Differ places) (codes : (k : ℕ) (p : Fiel
       }
 
   -- END
-  end_answered : (s now : Standing) (taken rest way : List ℕ) (items : List Item) (reply : Reply)
+  end_answered : (s now : SessionState) (taken rest way : List ℕ) (items : List Item) (reply : Reply)
       → client.talk.stage ≡ Packets
       → ◌≡◌ {A = State × Reply} (at Streaming s.state.grants, replies.Nothing) (now.state, reply)
       → IsAnswered taken rest → items ≡ []
@@ -271,7 +271,7 @@ module _ (places : Places) (differ : Differ places) (codes : (k : ℕ) (p : Fiel
       }
 
   -- nothing comes of a piece, and what was called or answered stays so
-  stays_put : (s now : Standing) (taken rest way : List ℕ) (items : List Item) (reply : Reply) → now.state ≡ s.state
+  stays_put : (s now : SessionState) (taken rest way : List ℕ) (items : List Item) (reply : Reply) → now.state ≡ s.state
       → reply ≡ replies.Nothing → Shakes client.talk s.state.phase taken rest items
       → Flows places client s.state.grants way items → Then now taken rest way reply
   stays_put s now taken rest way items reply same quiet shakes f held = record {
@@ -331,7 +331,7 @@ module _ (places : Places) (differ : Differ places) (codes : (k : ℕ) (p : Fiel
       )
 
   -- the line that was called last, or nothing yet
-  place_read : (s now : Standing) (taken rest way : List ℕ) (items : List Item) (reply : Reply) (what : What) (k : ℕ)
+  place_read : (s now : SessionState) (taken rest way : List ℕ) (items : List Item) (reply : Reply) (what : What) (k : ℕ)
       (w : Wanted) → client.talk.stage ≡ Station k → want_at client.talk.wants k ≡ Some w → IsReadyFor k s.state.phase
       → items ≡ []
       → IsRead (request_line (requests.Station w.place)) taken rest what → IsAnswer feed s.state what now.state reply
@@ -352,7 +352,7 @@ module _ (places : Places) (differ : Differ places) (codes : (k : ℕ) (p : Fiel
   is_short None short = tt
   is_short (Some n) short = short n refl
 
-  number_read : (s now : Standing) (taken rest way : List ℕ) (items : List Item) (reply : Reply) (what : What) (k : ℕ)
+  number_read : (s now : SessionState) (taken rest way : List ℕ) (items : List Item) (reply : Reply) (what : What) (k : ℕ)
       → client.talk.stage ≡ Number k → s.state.phase ≡ Chosen k → items ≡ []
       → IsRead (request_line (numbered client.talk.mode (next_at client.talk.wants k))) taken rest what
       → IsAnswer feed s.state what now.state reply → Flows places client s.state.grants way items
@@ -371,7 +371,7 @@ module _ (places : Places) (differ : Differ places) (codes : (k : ℕ) (p : Fiel
       none f held
   number_read s now taken rest way items reply TooLong k stage phase none read is f held = elim read [ ]
 
-  end_read : (s now : Standing) (taken rest way : List ℕ) (items : List Item) (reply : Reply) (what : What) (k : ℕ)
+  end_read : (s now : SessionState) (taken rest way : List ℕ) (items : List Item) (reply : Reply) (what : What) (k : ℕ)
       → client.talk.stage ≡ Packets → s.state.phase ≡ Granted k → items ≡ []
       → IsRead (request_line requests.End) taken rest what → IsAnswer feed s.state what now.state reply
       → Flows places client s.state.grants way items → Then now taken rest way reply
@@ -384,7 +384,7 @@ module _ (places : Places) (differ : Differ places) (codes : (k : ℕ) (p : Fiel
   end_read s now taken rest way items reply TooLong k stage phase none read is f held = elim read [ ]
 
   -- nothing is sent any more
-  put_by : (s now : Standing) (taken rest way : List ℕ) (items : List Item) (reply : Reply) (what : What) → what ≡ More
+  put_by : (s now : SessionState) (taken rest way : List ℕ) (items : List Item) (reply : Reply) (what : What) → what ≡ More
       → IsAnswer feed s.state what now.state reply → Shakes client.talk s.state.phase taken rest items
       → Flows places client s.state.grants way items → Then now taken rest way reply
   put_by s now taken rest way items reply More more is shakes f held =
@@ -403,7 +403,7 @@ module _ (places : Places) (differ : Differ places) (codes : (k : ℕ) (p : Fiel
   later Streaming s now reply e not_before l = (l.0, l.1, l.2)
   later Closed s now reply e not_before l = (l.0, l.1, l.2)
 
-  streamed : (s now : Standing) (taken rest way : List ℕ) (items : List Item) (reply : Reply) (what : What)
+  streamed : (s now : SessionState) (taken rest way : List ℕ) (items : List Item) (reply : Reply) (what : What)
       → client.talk.stage ≡ Packets → ¬ (IsBefore s.state.phase) → AreSent items → IsAnswered taken rest
       → IsAnswer feed s.state what now.state reply
       → Flows places client s.state.grants way items → Then now taken rest way reply
@@ -418,7 +418,7 @@ module _ (places : Places) (differ : Differ places) (codes : (k : ℕ) (p : Fiel
         shakes = streams stage l.2 sent (λ _. reported);
       }
 
-  piece_shaken : (s now : Standing) (taken piece rest way : List ℕ) (items : List Item) (reply : Reply) (what : What)
+  piece_shaken : (s now : SessionState) (taken piece rest way : List ℕ) (items : List Item) (reply : Reply) (what : What)
       → ¬ (s.state.phase ≡ Closed) → Yields what taken (taken ++ piece) → IsAnswer feed s.state what now.state reply
       → Shakes client.talk s.state.phase taken (piece ++ rest) items
       → Flows places client s.state.grants way items → Then now (taken ++ piece) rest way reply
@@ -456,7 +456,7 @@ module _ (places : Places) (differ : Differ places) (codes : (k : ℕ) (p : Fiel
   before_open phase p is before shut = subst IsBefore (sym is ∙ shut) before
 
   -- a closed session takes anything
-  shut_shaken : (s : Standing) (taken now_taken way rest : List ℕ) (items : List Item) → s.state.phase ≡ Closed
+  shut_shaken : (s : SessionState) (taken now_taken way rest : List ℕ) (items : List Item) → s.state.phase ≡ Closed
       → Shakes client.talk s.state.phase taken way items → Shakes client.talk s.state.phase now_taken rest items
   shut_shaken s taken now_taken way rest items shut (asks_place k w stage want ready asks none) = absurd (elim ready [
     | inl fresh ↦ before_open s.state.phase Fresh fresh.1 tt shut
@@ -476,13 +476,13 @@ module _ (places : Places) (differ : Differ places) (codes : (k : ℕ) (p : Fiel
       streams stage not_before sent (λ over. absurd (over shut))
 
   -- a piece is taken
-  piece_talks : (s now : Standing) (piece rest way : List ℕ) (reply : Reply) → Takes feed s piece now reply
+  piece_talks : (s now : SessionState) (piece rest way : List ℕ) (reply : Reply) → Takes feed s piece now reply
       → Talks s (piece ++ rest) way → Talks now rest (way ++ reply_bytes reply)
   piece_talks s now piece rest way reply takes t = elim (closed_or s.state.phase) [
     | inl shut ↦ let same : (reply ≡ replies.Nothing) × (now ≡ s) = takes.closed shut in
-        stays_put s now t.taken rest way t.items reply (ap (λ (x : Standing). x.state) same.1) same.0
+        stays_put s now t.taken rest way t.items reply (ap (λ (x : SessionState). x.state) same.1) same.0
         (shut_shaken s t.taken t.taken (piece ++ rest) rest t.items shut t.shakes) t.flows
-        (λ over. absurd (over (ap (λ (x : Standing). x.state.phase) same.1 ∙ shut)))
+        (λ over. absurd (over (ap (λ (x : SessionState). x.state.phase) same.1 ∙ shut)))
     | inr awake ↦ let answer : Answers feed s.state t.taken (t.taken ++ piece) now.state reply =
         takes.answers t.taken awake (t.held awake) in
         piece_shaken s now t.taken piece rest way t.items reply answer.0 awake answer.1 answer.2 t.shakes t.flows
@@ -490,7 +490,7 @@ module _ (places : Places) (differ : Differ places) (codes : (k : ℕ) (p : Fiel
   ]
 
   -- all of these bytes are taken, piece by piece
-  pub serves_talks : (s : Standing) (bytes way : List ℕ) (last : Standing) (all rest : List ℕ)
+  pub serves_talks : (s : SessionState) (bytes way : List ℕ) (last : SessionState) (all rest : List ℕ)
       → Serves feed s bytes way last all → Talks s (bytes ++ rest) way → Talks last rest all
   serves_talks s bytes way last all rest (none_served u w) t = t
   serves_talks s bytes way last all rest (piece_served u now v bs piece others w sent reply split takes more) t =

@@ -20,7 +20,7 @@ use Rattle.slink_model.specs.declared.world.Step.{Step}
 use Rattle.slink_model.specs.declared.world.Step.TheVariants.{Append, Connect, ToServer, ToClient, Send, Cut}
 use Rattle.slink_feed.specs.Dialogue.{Talk, next_at, requests_place, to_place, want_at, wanted_of, wants_of}
 use Rattle.slink_feed.specs.Listening.{IsLinked, Listening}
-use Rattle.slink_feed.specs.Serving.{Standing}
+use Rattle.slink_feed.specs.Serving.{SessionState}
 use Rattle.slink_feed.specs.Session.{IsBefore, State, has_sent_all, at, at_next, grant_at, packet_at, sent}
 use Rattle.slink_feed.specs.Session.{sent_bytes, sent_in, sent_of}
 use Rattle.slink_model.specs.Spared.{AreAskable, IsSpared}
@@ -108,14 +108,14 @@ window_sound w n r sound is =
     got false o h = h
 
 -- a world whose client, over a new link, has said what it says first
-abbrev pub linked_anew : WorldState → Standing → Talk × Event → WorldState
+abbrev pub linked_anew : WorldState → SessionState → Talk × Event → WorldState
 linked_anew w session x = record w {
   client = record { talk = x.0; kept = [] };
   link = Some (record { session = session; first_sent = replicate 16 None; to_server = written x.1; to_client = [] });
 }
 
 -- the station that a client requests first over a new link, and what the link carries then
-pub record Opens (places : Places) (talk : Talk) (session : Standing) : Type 0 where
+pub record Opens (places : Places) (talk : Talk) (session : SessionState) : Type 0 where
   pub want : Wanted
   pub says : requests_place 0 talk ≡ to_place (Some want) 0 talk
   pub flows : Flows places (record { talk = record talk { stage = Station 0 }; kept = [] }) session.state.grants [] []
@@ -299,7 +299,7 @@ module _ (places : Places) (differ : Differ places) (codes_are : (k : ℕ) (p : 
       }
 
   -- Connect
-  pub opens_with : (talk : Talk) (session : Standing) → 0 < length places → AreCalled places talk.wants
+  pub opens_with : (talk : Talk) (session : SessionState) → 0 < length places → AreCalled places talk.wants
       → session.state ≡ at Fresh (replicate 16 None) → Opens places talk session
   opens_with talk session some called state =
       let p : (p : Fields × Option ℕ) × (slice_get places 0 ≡ Some p) = within_is places 0 some in
@@ -361,7 +361,7 @@ module _ (places : Places) (differ : Differ places) (codes_are : (k : ℕ) (p : 
             (drop n l.to_server) s.serves (subst (IsQuiet l.session) all (talks.1 over))),
       )
 
-  quiet_sent : (feed : List Window) (k : ℕ) (s : Standing) (to_server : List ℕ) → IsQuiet s to_server
+  quiet_sent : (feed : List Window) (k : ℕ) (s : SessionState) (to_server : List ℕ) → IsQuiet s to_server
       → IsQuiet (record { state = (sent feed s.state k).0; held = s.held }) to_server
   quiet_sent feed k s to_server q =
       (q.0, λ awake. q.1 (λ shut. awake (ap (λ (p : Phase). (sent_in p feed s.state k).0.phase) shut ∙ shut)))
@@ -396,9 +396,9 @@ module _ (places : Places) (differ : Differ places) (codes_are : (k : ℕ) (p : 
         spared = d.spared;
         called = d.called;
         link = subst (IsTalking v.client) (sym link) (
-          λ linked. subst (λ (x : Standing). LinkTalks places v.client x m.to_server m.to_client) (sym s.session)
+          λ linked. subst (λ (x : SessionState). LinkTalks places v.client x m.to_server m.to_client) (sym s.session)
               (subst (LinkTalks places v.client l.session m.to_server) (sym s.left) (d.link linked)),
-          λ over. subst (λ (x : Standing). IsQuiet x m.to_server) (sym s.session) (d.quiet over),
+          λ over. subst (λ (x : SessionState). IsQuiet x m.to_server) (sym s.session) (d.quiet over),
         );
       }
 

@@ -12,7 +12,7 @@ use Rattle.slink_model.specs.declared.world.Step.{Step}
 use Rattle.slink_model.specs.declared.world.Step.TheVariants.{Append, Connect, ToServer, ToClient, Send, Cut}
 use Rattle.slink_feed.specs.Dialogue.{Talk, Wants, next_at, requests_place, want_at, wanted_of, wants_of}
 use Rattle.slink_feed.specs.Listening.{Listening}
-use Rattle.slink_feed.specs.Serving.{Standing}
+use Rattle.slink_feed.specs.Serving.{SessionState}
 use Rattle.slink_feed.specs.Session.{Grants, State, grant_at, sent_in}
 use Rattle.slink_model.specs.Slice.{HoldsSlices, IsSchedule, IsSound, LackFew, LacksFew}
 use Rattle.slink_feed.proofs.Numbers.{kept_place}
@@ -312,7 +312,7 @@ module _ (places : Places) (first : ℕ) where
           subst HasStream (sym s.session) tied.0,
           subst (λ (x : Lists). LinkTies places first (λ k. any) x v.client v.held v.start m.session.state m.first_sent
               m.to_client) (sym pushed)
-              (subst (λ (x : Standing). LinkTies places first (λ k. any) w.pushed v.client v.held v.start x.state
+              (subst (λ (x : SessionState). LinkTies places first (λ k. any) w.pushed v.client v.held v.start x.state
               m.first_sent m.to_client) (sym s.session)
               (subst (λ (x : Numbers). LinkTies places first (λ k. any) w.pushed v.client v.held v.start
               l.session.state x m.to_client) (sym s.first_sent)

@@ -19,7 +19,7 @@ use Rattle.slink_model.specs.declared.world.Step.TheVariants.{Append, Connect, T
 use Rattle.slink_model.specs.declared.world.World.{World}
 use Rattle.slink_feed.specs.Dialogue.{requests_place, wants_of}
 use Rattle.slink_feed.specs.Listening.{Brings, IsLinked, Listening}
-use Rattle.slink_feed.specs.Serving.{Standing, Serves}
+use Rattle.slink_feed.specs.Serving.{SessionState, Serves}
 use Rattle.slink_feed.specs.Session.{Grants, at, grant_at, sent, sent_bytes}
 use Rattle.slink_feed.specs.Window.{Window, with_record}
 
@@ -34,7 +34,7 @@ Numbers = List (Option ℕ)
 -- a link: the session at its end, the number of the first packet that this sent of each station, and the bytes that are
 -- on their way to the server and to the client
 pub record LinkState : Type 0 where
-  pub session : Standing
+  pub session : SessionState
   pub first_sent : List (Option ℕ)
   pub to_server : List ℕ
   pub to_client : List ℕ
@@ -134,7 +134,7 @@ Both R (Some l) None = ⊥
 Both R (Some l) (Some m) = R l m
 
 -- A session that has taken nothing.
-pub record IsNew (s : Standing) : Type 0 where
+pub record IsNew (s : SessionState) : Type 0 where
   pub state : s.state ≡ at Fresh (replicate 16 None)
   pub held : IsHeld s.held []
 
@@ -151,7 +151,7 @@ pushed_to w k bytes (Some window) =
 
 -- The link that a client connects has a new session, and the client's first line on its way.
 pub record Connects (w v : WorldState) : Type 0 where
-  pub session : Standing
+  pub session : SessionState
   pub is_new : IsNew session
   pub becomes : v ≡ record w {
     client = record { talk = (requests_place 0 w.client.talk).0; kept = [] };

@@ -1,5 +1,5 @@
 use Rattle.std.proofs.Common.{ℕ, ◌-◌, ◌≤◌, List, drop, length}
-use Rattle.slink_feed.specs.Serving.{Serves, Standing}
+use Rattle.slink_feed.specs.Serving.{Serves, SessionState}
 use Rattle.slink_feed.specs.Session.{Fits}
 use Rattle.slink_model.proofs.carry.serve_bytes.Given as goal
 
@@ -8,7 +8,7 @@ abbrev pub invariant-loop-start : goal.invariant-loop-start
 invariant-loop-start l = record {
   within : l.start ≤ length l.bytes;
   fits : Fits l.feed l.session.state;
-  rest : (last : Standing) (all : List ℕ) → Serves l.feed l.session (drop l.start l.bytes) l.to_client.items last all
+  rest : (last : SessionState) (all : List ℕ) → Serves l.feed l.session (drop l.start l.bytes) l.to_client.items last all
       → Serves l.feed l.fn.session l.bytes l.fn.to_client.items last all;
 }
 

@@ -1,7 +1,7 @@
 use Rattle.std.proofs.Common.{◌≡◌, ap, subst}
 use Rattle.std.specs.Prelude.{IfErr, IfOk}
 use Rattle.slink_wire.specs.Packet.{packet_bytes}
-use Rattle.slink_feed.specs.Serving.{Standing}
+use Rattle.slink_feed.specs.Serving.{SessionState}
 use Rattle.slink_feed.specs.Session.{sent, sent_without}
 use Rattle.slink_feed.specs.declared.session.Sent.TheVariants.{Packet}
 use Rattle.slink_feed.proofs.Stands.{open_before_next}
@@ -9,19 +9,19 @@ use Rattle.slink_feed.proofs.session.Session.next_record.Goals as goal
 
 pub returns-clause-sent : goal.returns-clause-sent
 returns-clause-sent g c =
-    subst (λ (s : Standing). IfOk c.next_record.result (λ r. sent c.args.feed.now s.state c.args.k
+    subst (λ (s : SessionState). IfOk c.next_record.result (λ r. sent c.args.feed.now s.state c.args.k
     ≡ (c.next_record.new.self, Packet (packet_bytes r.0 r.1.now)))) c.self.view_is c.next_record.ensures.sent
 
 pub returns-clause-unsent : goal.returns-clause-unsent
 returns-clause-unsent g c =
-    subst (λ (s : Standing). IfErr c.next_record.result (λ e. sent c.args.feed.now s.state c.args.k
+    subst (λ (s : SessionState). IfErr c.next_record.result (λ e. sent c.args.feed.now s.state c.args.k
     ≡ (c.next_record.new.self, sent_without e))) c.self.view_is c.next_record.ensures.unsent
 
 pub returns-clause-number : goal.returns-clause-number
 returns-clause-number g c = c.next_record.ensures.number
 
 pub returns-clause-held : goal.returns-clause-held
-returns-clause-held g c = ap (λ (s : Standing). s.held) c.self.view_is
+returns-clause-held g c = ap (λ (s : SessionState). s.held) c.self.view_is
 
 pub returns-clause-fits : goal.returns-clause-fits
 returns-clause-fits g c = c.next_record.ensures.fits

@@ -1,15 +1,15 @@
 use Rattle.std.proofs.Common.{◌∙◌, ◌++◌, ap, subst, sym, take}
 use Rattle.slink_wire.specs.Lines.{IsHeld}
 use Rattle.slink_feed.specs.Running.{Stands}
-use Rattle.slink_feed.specs.Serving.{Standing}
+use Rattle.slink_feed.specs.Serving.{SessionState}
 use Rattle.slink_feed.proofs.Answered.{answer_reported}
 use Rattle.slink_feed.proofs.Stands.{piece_taken, still_stands}
 use Rattle.slink_feed.proofs.session.Session.take.Goals as goal
 
 pub invariant_of-self : goal.invariant_of-self
 invariant_of-self g c =
-    let old : Standing = record { state = c.self.inside.course; held = c.self.inside.lines } in
-    let new : Standing = record { state = c.answer_to.new.self; held = c.take-used.new.self } in
+    let old : SessionState = record { state = c.self.inside.course; held = c.self.inside.lines } in
+    let new : SessionState = record { state = c.answer_to.new.self; held = c.take-used.new.self } in
     still_stands c.args.feed.now old new (take c.take-used.result.used c.args.bytes.now) c.answer_to.result
     c.self.invariant (record {
       held = λ stream open_still held. c.take-used.ensures.held stream held;
@@ -21,20 +21,20 @@ invariant_of-self g c =
 pub returns-clause-held : goal.returns-clause-held
 returns-clause-held g c stream open_still held =
     c.take-used.ensures.held stream
-    (subst (λ (s : Standing). IsHeld s.held stream) (sym c.self.view_is) held)
+    (subst (λ (s : SessionState). IsHeld s.held stream) (sym c.self.view_is) held)
 
 pub returns-clause-answers : goal.returns-clause-answers
 returns-clause-answers g c stream open_still held =
     answer_reported c.args.feed.now c.args.self.now.state c.self.inside.course c.args.self.now.held c.self.inside.lines
     stream (stream ++ take c.take-used.result.used c.args.bytes.now) c.take-used.result.what
-    c.answer_to.new.self c.answer_to.result (ap (λ (s : Standing). s.state) c.self.view_is)
-    (ap (λ (s : Standing). s.held) c.self.view_is) (λ h. c.take-used.ensures.reported stream h)
+    c.answer_to.new.self c.answer_to.result (ap (λ (s : SessionState). s.state) c.self.view_is)
+    (ap (λ (s : SessionState). s.held) c.self.view_is) (λ h. c.take-used.ensures.reported stream h)
     c.answer_to.ensures.answer held
 
 pub returns-clause-whole : goal.returns-clause-whole
 returns-clause-whole g c stream open_still held = (
   c.take-used.result.what,
-  c.take-used.ensures.reported stream (subst (λ (s : Standing). IsHeld s.held stream) (sym c.self.view_is) held),
+  c.take-used.ensures.reported stream (subst (λ (s : SessionState). IsHeld s.held stream) (sym c.self.view_is) held),
   c.take-used.ensures.whole,
 )
 
@@ -42,7 +42,7 @@ pub returns-clause-some : goal.returns-clause-some
 returns-clause-some g c some =
     let stands : Stands c.args.self.now = subst Stands c.self.view_is c.self.invariant in
     piece_taken c.args.self.now c.args.bytes.now c.take-used.result.used some stands (returns-clause-whole g c)
-    (λ shut. absurd (c.if-is_closed.ensures.no (ap (λ (s : Standing). s.state.phase) c.self.view_is ∙ shut)))
+    (λ shut. absurd (c.if-is_closed.ensures.no (ap (λ (s : SessionState). s.state.phase) c.self.view_is ∙ shut)))
 
 pub returns-clause-stands : goal.returns-clause-stands
 returns-clause-stands g c = invariant_of-self g c
