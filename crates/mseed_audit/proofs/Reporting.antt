@@ -6,7 +6,7 @@ use Rattle.std.specs.Result.{IsErrAnd}
 use Rattle.std.proofs.lemmas.Bool.{false≢true}
 use Rattle.mseed_record.specs.View.{View}
 use Rattle.mseed_stream.specs.Device.{BytesRead}
-use Rattle.mseed_stream.specs.Standing.{Standing}
+use Rattle.mseed_stream.specs.CutterState.{CutterState}
 use Rattle.mseed_stream.specs.Walk.{AreViews}
 use Rattle.mseed_select.specs.Selection.{Selection, answer_of, is_asked, is_without_time, lacks_time}
 use Rattle.mseed_select.specs.declared.answer.Answer.{Answer}
@@ -150,7 +150,7 @@ judged_passed s bytes offset views v held next p q answer Stands is other passes
 
 -- ---- there is no memory for it
 pub next_none : (s : Selection) (r : Result Step NoRoom) (Q : NoRoom → Type 0) (views : List View) (offset : ℕ)
-    (old new : BytesRead) (c : Standing) (held : Held) (p : Passed) (Stands : List Reported → Type 0)
+    (old new : BytesRead) (c : CutterState) (held : Held) (p : Passed) (Stands : List Reported → Type 0)
     → IsErrAnd r Q → AreViews new.bytes offset views → HasReport (asked_of s views) Stands
     → IsNext s r views offset old new c held p Stands
 next_none s (Ok step) Q views offset old new c held p Stands is shown report = absurd is

@@ -12,7 +12,7 @@ use Rattle.mseed_record.specs.View.{View}
 use Rattle.mseed_record.specs.Viewing.{view_of}
 use Rattle.mseed_record.specs.declared.view.RecordView.{RecordView}
 use Rattle.mseed_stream.specs.Device.{BytesRead}
-use Rattle.mseed_stream.specs.Standing.{Standing}
+use Rattle.mseed_stream.specs.CutterState.{CutterState}
 use Rattle.mseed_stream.specs.Cutting.{IfEnds, failed_by}
 use Rattle.mseed_stream.specs.Walk.{AreAllViews, HasHandedOut, IfGoesOn, bytes_in}
 use Rattle.mseed_stream.specs.declared.fault.StreamFault.{StreamFault}
@@ -282,7 +282,7 @@ handed_on r o view P is some goes =
 -- the next record, by whether a ring accepted it
 pub pushed_next : (s : Serving) (views : List View) (view : View) (bytes : List ℕ) (number : ℕ)
     (result : Result Step InputFault) (taken : Result ℕ InputFault) (feed new : List Window) (old h : BytesRead)
-    (c : Standing) → CanServe s → bytes ≡ view.bytes → HasHandedOut h c (views ++ view ∷ []) → old.calls < h.calls
+    (c : CutterState) → CanServe s → bytes ≡ view.bytes → HasHandedOut h c (views ++ view ∷ []) → old.calls < h.calls
     → AreOfFeed (served s) (bytes_in views) → feed ≡ feed_of s (bytes_in views) → number ≡ length views + 1
     → OnOk taken (IsOfFeed (places_of feed) bytes) → OnOk taken (new ≡ pushed feed bytes)
     → OnErr taken (¬ (IsOfFeed (places_of feed) bytes)) → IfErr taken (λ e. e ≡ Foreign number)
@@ -320,7 +320,7 @@ not_filled s (Err e) Q fault h is q wrong =
     subst (λ (x : InputFault). IsFilling s (Err x) h) (sym (q e is)) wrong
 
 pub not_pushed : (s : Serving) (r : Result Step InputFault) (Q : InputFault → Type 0) (fault : InputFault)
-    (views : List View) (old h : BytesRead) (c : Standing) (new : List Window) → IsErrAnd r Q
+    (views : List View) (old h : BytesRead) (c : CutterState) (new : List Window) → IsErrAnd r Q
     → ((e : InputFault) → Q e → e ≡ fault) → IsFilling s (Err fault) h → IsNextPushed s r views old h c new
 not_pushed s (Ok step) Q fault views old h c new is q wrong = absurd is
 not_pushed s (Err e) Q fault views old h c new is q wrong =

@@ -11,7 +11,7 @@ use Rattle.mseed_stream.specs.Device.{BytesRead, BytesWritten}
 use Rattle.mseed_stream.specs.Gathered.{AreGathered, EmittedPart, IsCutOff}
 use Rattle.mseed_stream.proofs.Gathered.{all_behind, cut_part, gathered_all, gathered_also, gathered_first, gathered_on}
 use Rattle.mseed_stream.proofs.Gathered.{part_of}
-use Rattle.mseed_stream.specs.Standing.{Standing}
+use Rattle.mseed_stream.specs.CutterState.{CutterState}
 use Rattle.mseed_stream.specs.Walk.{AreViews, bytes_in}
 use Rattle.mseed_select.specs.Counting.{counts_of, one_if}
 use Rattle.mseed_select.specs.Formatted.{IsFormatted, Texts, asked_text, texts_of, whole_text}
@@ -152,7 +152,7 @@ cut_off t s h offset first old new text taken views shown held cut =
     )
 
 pub next_err : (t : Texts) (s : Selection) (r : Result Step SelectFault) (views : List View) (offset : ℕ)
-    (before h : BytesRead) (c : Standing) (first now : BytesWritten) (text added : List ℕ)
+    (before h : BytesRead) (c : CutterState) (first now : BytesWritten) (text added : List ℕ)
     → IsErrAnd r (λ e. e ≡ Memory) → AreViews h.bytes offset views → IsHeld t s first now text views
     → IsNext t s r views before h c first now added
 next_err t s (Ok step) views offset before h c first now text added is shown held = absurd is

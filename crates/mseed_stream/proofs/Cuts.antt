@@ -9,7 +9,7 @@ use Rattle.mseed_record.specs.Scan.{Decides, short}
 use Rattle.mseed_record.proofs.OneAnswer.{one_answer}
 use Rattle.mseed_stream.specs.Archive.{is_truncated}
 use Rattle.mseed_stream.specs.Device.{BytesRead}
-use Rattle.mseed_stream.specs.Standing.{Standing}
+use Rattle.mseed_stream.specs.CutterState.{CutterState}
 use Rattle.mseed_stream.specs.Cutting.{IsStop, IsReadTo, is_short, asks_of}
 use Rattle.mseed_stream.specs.private.Steps.{IsFillFault, IsCuttingFault, IsAnswerAtEnd}
 use Rattle.mseed_stream.specs.declared.fault.StreamFault.{StreamFault}
@@ -23,7 +23,7 @@ pub found : (b : List ℕ) (is_at_end : Bool) (k : ℕ) → IsReadTo b is_at_end
 found b true k less within r = absurd (none_short b less k within r)
 found b false k stop within r = ((record_whole b (length b) k stop (omega arith) within r).0, refl)
 
-pub fault_at_end : (answer : Result Bool StreamFault) (k : ℕ) (c after : Standing) (old new : BytesRead)
+pub fault_at_end : (answer : Result Bool StreamFault) (k : ℕ) (c after : CutterState) (old new : BytesRead)
     → IsAnswerAtEnd answer after.offset after.prefix → after.offset ≡ c.offset → new.failures ≡ old.failures
     → new.is_at_end ≡ true → Decides after.prefix (Need k)
     → IfErr answer (λ e. IsCuttingFault e c after old new)
@@ -42,7 +42,7 @@ read_to_err (Turns n) after needed offset room old new is stop less held = (need
 read_to_err Memory after needed offset room old new is stop less held = held is.1
 
 -- a fault of the reads for one stop is one of the reads for the record
-pub cutting_err : (e : StreamFault) (c before after : Standing) (old middle new : BytesRead) (needed : ℕ)
+pub cutting_err : (e : StreamFault) (c before after : CutterState) (old middle new : BytesRead) (needed : ℕ)
     → IsFillFault e before.offset before.room needed middle new → before.offset ≡ c.offset → c.room ≤ before.room
     → middle.failures ≡ old.failures → middle.is_at_end ≡ false → IsStop after.prefix needed
     → length after.prefix < needed → (new ≡ middle → Decides after.prefix (Need needed))

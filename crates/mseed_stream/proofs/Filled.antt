@@ -5,7 +5,7 @@ use Rattle.std.proofs.lemmas.List.{take-take, drop-append-le}
 use Rattle.std.proofs.Math.Seq.{take-add, take-append_seam}
 use Rattle.std.specs.Prelude.{slice_range}
 use Rattle.mseed_stream.specs.Device.{BytesRead}
-use Rattle.mseed_stream.specs.Standing.{Standing}
+use Rattle.mseed_stream.specs.CutterState.{CutterState}
 use Rattle.mseed_stream.specs.Cutting.{held_of, IsRead}
 
 -- a write back of as many bytes is all of them
@@ -22,10 +22,10 @@ prefix_more held now have n needed same fits =
     take-add have n now ∙ (ap (λ (xs : List ℕ). xs ++ take n (drop have now)) same
     ∙ ap (λ (xs : List ℕ). take have held ++ xs) (sym cut))
 
-pub held_is : (c : Standing) → c.is_lent ≡ false → held_of c ≡ c.prefix
+pub held_is : (c : CutterState) → c.is_lent ≡ false → held_of c ≡ c.prefix
 held_is c e = rw e
 
-pub read_more : (h now : BytesRead) (c after : Standing) (more : List ℕ) → IsRead h c → c.is_lent ≡ false
+pub read_more : (h now : BytesRead) (c after : CutterState) (more : List ℕ) → IsRead h c → c.is_lent ≡ false
     → after.is_lent ≡ false → after.offset ≡ c.offset → after.prefix ≡ c.prefix ++ more
     → now.bytes ≡ h.bytes ++ more → now.calls ≡ h.calls + 1 → after.reads ≡ c.reads + 1 → c.reads < 2 ^ 40
     → length after.prefix ≤ after.room → after.room ≤ 2 ^ 20 → IsRead now after
@@ -61,7 +61,7 @@ two_parts bytes m n l =
     ap (λ (k : ℕ). take k bytes) (sym all) ∙ take-add m (n - m) bytes
 
 -- what is held grows by what is read
-pub held_grows : (h now : BytesRead) (c after : Standing) (more : List ℕ) → IsRead h c → IsRead now after
+pub held_grows : (h now : BytesRead) (c after : CutterState) (more : List ℕ) → IsRead h c → IsRead now after
     → c.is_lent ≡ false → after.is_lent ≡ false → after.offset ≡ c.offset → now.bytes ≡ h.bytes ++ more
     → after.prefix ≡ c.prefix ++ more
 held_grows h now c after more is then lent lent_after offset bytes =
@@ -72,7 +72,7 @@ held_grows h now c after more is then lent lent_after offset bytes =
     ∙ (drop-append-le c.offset h.bytes more within ∙ ap (λ (xs : List ℕ). xs ++ more) (is.held ∙ held_is c lent))))
 
 -- and stays where nothing is read
-pub held_stays : (h now : BytesRead) (c after : Standing) → IsRead h c → IsRead now after → c.is_lent ≡ false
+pub held_stays : (h now : BytesRead) (c after : CutterState) → IsRead h c → IsRead now after → c.is_lent ≡ false
     → after.is_lent ≡ false → after.offset ≡ c.offset → now ≡ h → after.prefix ≡ c.prefix
 held_stays h now c after is then lent lent_after offset same =
     sym (then.held ∙ held_is after lent_after)

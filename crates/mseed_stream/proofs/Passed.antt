@@ -10,7 +10,7 @@ use Rattle.mseed_stream.specs.Archive.{HasRecords}
 use Rattle.mseed_stream.specs.Cutting.{IsAhead, IsAlong, IsEnding, IsRead, at_start, held_of, asks_of, read_from}
 use Rattle.mseed_stream.specs.Cutting.{lent_whole}
 use Rattle.mseed_stream.specs.Device.{BytesRead, lent_also}
-use Rattle.mseed_stream.specs.Standing.{Standing}
+use Rattle.mseed_stream.specs.CutterState.{CutterState}
 use Rattle.mseed_stream.specs.Walk.{HasHandedOut, bytes_in}
 use Rattle.mseed_stream.proofs.Handed.{records_more}
 use Rattle.mseed_stream.proofs.Settled.{nothing_ended}
@@ -35,18 +35,18 @@ rest_twice size lent middle after l first second =
     ∙ (drop-drop (size - 48) 48 lent ∙ ap (λ (n : ℕ). drop n lent) all))
 
 -- how the cutter stands then
-abbrev pub passed : Standing → ℕ → Standing
+abbrev pub passed : CutterState → ℕ → CutterState
 passed c size = record c { offset = c.offset + size; prefix = []; is_lent = false; reads = c.reads + 2 }
 
 -- a cutter that forgot what it lent, with a record after it
-abbrev pub behind : Standing → ℕ → Standing
+abbrev pub behind : CutterState → ℕ → CutterState
 behind c size = record c { offset = c.offset + size; reads = c.reads + 2 }
 
-stands_after : (here old : Standing) (size : ℕ) → here ≡ record old { prefix = held_of old; is_lent = false }
+stands_after : (here old : CutterState) (size : ℕ) → here ≡ record old { prefix = held_of old; is_lent = false }
     → held_of old ≡ [] → behind here size ≡ passed old size
 stands_after here old size is none =
-    ap (λ (s : Standing). behind s size) is
-    ∙ ap (λ (xs : List ℕ). let s : Standing = record old {
+    ap (λ (s : CutterState). behind s size) is
+    ∙ ap (λ (xs : List ℕ). let s : CutterState = record old {
       offset = old.offset + size;
       prefix = xs;
       is_lent = false;
@@ -54,14 +54,14 @@ stands_after here old size is none =
     } in s) none
 
 -- what holds where it stands after the record, and the record was read, holds of it
-pub stands_passed : (P : BytesRead → Standing → Type 0) (new : BytesRead) (here old : Standing) (size : ℕ)
+pub stands_passed : (P : BytesRead → CutterState → Type 0) (new : BytesRead) (here old : CutterState) (size : ℕ)
     (now : BytesRead) → here ≡ record old { prefix = held_of old; is_lent = false } → held_of old ≡ [] → new ≡ now
     → P now (passed old size) → P new (behind here size)
 stands_passed P new here old size now is none read holds =
-    subst (λ (s : Standing). P new s) (sym (stands_after here old size is none))
+    subst (λ (s : CutterState). P new s) (sym (stands_after here old size is none))
     (subst (λ (h : BytesRead). P h (passed old size)) (sym read) holds)
 
-passed_read : (h : BytesRead) (c : Standing) (bytes : List ℕ) → IsRead h c → held_of c ≡ [] → c.reads + 2 ≤ 2 ^ 40
+passed_read : (h : BytesRead) (c : CutterState) (bytes : List ℕ) → IsRead h c → held_of c ≡ [] → c.reads + 2 ≤ 2 ^ 40
     → length bytes ≤ 2 ^ 20 → IsRead (lent_whole h bytes) (passed c (length bytes))
 passed_read h c bytes is none few small =
     let size : length h.bytes ≡ c.offset + 0 = is.reported ∙ ap (λ (xs : List ℕ). c.offset + length xs) none in
@@ -77,7 +77,7 @@ passed_read h c bytes is none few small =
       small = is.small;
     }
 
-pub passed_along : (h : BytesRead) (c : Standing) (size : ℕ) (lent : List ℕ) → IsAlong h c → IsAhead size c lent
+pub passed_along : (h : BytesRead) (c : CutterState) (size : ℕ) (lent : List ℕ) → IsAlong h c → IsAhead size c lent
     → IsAlong (lent_whole h (take size lent)) (passed c size)
 passed_along h c size lent is ahead =
     let bytes : List ℕ = take size lent in
@@ -94,13 +94,13 @@ passed_along h c size lent is ahead =
     }
 
 -- what is read from the offset on
-reported_then : (h : BytesRead) (c : Standing) (bytes : List ℕ) → IsRead h c → held_of c ≡ []
+reported_then : (h : BytesRead) (c : CutterState) (bytes : List ℕ) → IsRead h c → held_of c ≡ []
     → read_from c.offset (lent_whole h bytes) ≡ bytes
 reported_then h c bytes is none =
     let size : length h.bytes ≡ c.offset + 0 = is.reported ∙ ap (λ (xs : List ℕ). c.offset + length xs) none in
     drop-append-le c.offset h.bytes bytes (omega arith) ∙ ap (λ (xs : List ℕ). xs ++ bytes) (is.held ∙ none)
 
-pub passed_records : (h : BytesRead) (c : Standing) (size : ℕ) (lent : List ℕ) (records : List (List ℕ)) → IsRead h c
+pub passed_records : (h : BytesRead) (c : CutterState) (size : ℕ) (lent : List ℕ) (records : List (List ℕ)) → IsRead h c
     → IsAhead size c lent → HasRecords h.bytes c.offset records
     → HasRecords (lent_whole h (take size lent)).bytes (c.offset + size) (records ++ take size lent ∷ [])
 passed_records h c size lent records is ahead has =
@@ -114,7 +114,7 @@ passed_records h c size lent records is ahead has =
     subst (λ (n : ℕ). HasRecords now.bytes (c.offset + n) (records ++ bytes ∷ [])) long
     (subst (λ (xs : List ℕ). HasRecords now.bytes (c.offset + length xs) (records ++ xs ∷ [])) reported more)
 
-pub passed_handed : (h : BytesRead) (c : Standing) (size : ℕ) (lent : List ℕ) (views : List View) (v : View)
+pub passed_handed : (h : BytesRead) (c : CutterState) (size : ℕ) (lent : List ℕ) (views : List View) (v : View)
     → IsAhead size c lent → HasHandedOut h c views → IsView v → v.bytes ≡ take size lent
     → HasHandedOut (lent_whole h (take size lent)) (passed c size) (views ++ v ∷ [])
 passed_handed h c size lent views v ahead before is same =

@@ -7,7 +7,7 @@ use Rattle.mseed_record.specs.Scan.{Decides, short}
 use Rattle.mseed_record.specs.declared.framer.Scan.TheVariants.{Need}
 use Rattle.mseed_stream.specs.Archive.{IsEndOf, clean, frame, truncated, is_clean}
 use Rattle.mseed_stream.specs.Device.{BytesRead}
-use Rattle.mseed_stream.specs.Standing.{Standing}
+use Rattle.mseed_stream.specs.CutterState.{CutterState}
 use Rattle.mseed_stream.specs.Cutting.{IsStop, at_start, read_from, IsRead, IsAlong, IsEnding, FallsShort, IsReadTo}
 use Rattle.mseed_stream.specs.Cutting.{is_short, IsCutFault, IsCleanEnd, answer_of, asks_of}
 use Rattle.mseed_stream.specs.private.Steps.{IsCuttingFault, lent_of, settled}
@@ -18,10 +18,10 @@ use Rattle.mseed_stream.specs.declared.fault.StreamFault.TheVariants.{Frame, Tru
 use Rattle.mseed_stream.proofs.Filled.{held_is}
 
 -- what is read from the offset on is what is held
-pub reported_is : (h : BytesRead) (c : Standing) → IsRead h c → c.is_lent ≡ false → read_from c.offset h ≡ c.prefix
+pub reported_is : (h : BytesRead) (c : CutterState) → IsRead h c → c.is_lent ≡ false → read_from c.offset h ≡ c.prefix
 reported_is h c is lent = is.held ∙ held_is c lent
 
-reported_size : (h : BytesRead) (c : Standing) → IsRead h c → c.is_lent ≡ false
+reported_size : (h : BytesRead) (c : CutterState) → IsRead h c → c.is_lent ≡ false
     → length h.bytes ≡ c.offset + length c.prefix
 reported_size h c is lent = is.reported ∙ ap (λ (xs : List ℕ). c.offset + length xs) (held_is c lent)
 
@@ -29,7 +29,7 @@ pub nothing_ended : (answer : Option Ending) (P : Ending → Type 0) → answer 
 nothing_ended answer P e = subst (λ (o : Option Ending). IfSome o P) (sym e) tt
 
 -- a record was lent
-lent_read : (h : BytesRead) (c : Standing) → IsRead h c → c.is_lent ≡ false → IsRead h (settled c (Ok true))
+lent_read : (h : BytesRead) (c : CutterState) → IsRead h c → c.is_lent ≡ false → IsRead h (settled c (Ok true))
 lent_read h c is lent =
     let size = reported_size h c is lent in
     record {
@@ -43,7 +43,7 @@ lent_read h c is lent =
     }
 
 -- the answer is kept
-kept_read : (h : BytesRead) (c : Standing) (answer : Option Ending) → IsRead h c
+kept_read : (h : BytesRead) (c : CutterState) (answer : Option Ending) → IsRead h c
     → IsRead h (record c { answer = answer })
 kept_read h c answer is = record {
   reported = is.reported;
@@ -55,7 +55,7 @@ kept_read h c answer is = record {
   small = is.small;
 }
 
-ended_along : (h : BytesRead) (c : Standing) (e : Ending) → IsRead h c → IsEnding e c.offset h
+ended_along : (h : BytesRead) (c : CutterState) (e : Ending) → IsRead h c → IsEnding e c.offset h
     → IsAlong h (record c { answer = Some e })
 ended_along h c e is ending = record {
   read = kept_read h c (Some e) is;
@@ -65,7 +65,7 @@ ended_along h c e is ending = record {
   ended = ending;
 }
 
-pub along_record : (h : BytesRead) (c : Standing) → IsRead h c → c.is_lent ≡ false → c.answer ≡ None
+pub along_record : (h : BytesRead) (c : CutterState) → IsRead h c → c.is_lent ≡ false → c.answer ≡ None
     → h.is_at_end ≡ false
     → IsAlong h (settled c (Ok true))
 along_record h c is lent goes going_on = record {
@@ -76,15 +76,15 @@ along_record h c is lent goes going_on = record {
   ended = nothing_ended c.answer (λ e. IsEnding e (c.offset + length c.prefix) h) goes;
 }
 
-pub clean_end : (h : BytesRead) (c : Standing) → IsRead h c → c.is_lent ≡ false → c.prefix ≡ []
+pub clean_end : (h : BytesRead) (c : CutterState) → IsRead h c → c.is_lent ≡ false → c.prefix ≡ []
     → IsEndOf (read_from c.offset h) clean
 clean_end h c is lent empty = is_clean (reported_is h c is lent ∙ empty)
 
-along_fault : (h : BytesRead) (c : Standing) (e : StreamFault) → IsRead h c → e ≢ Memory → IsCutFault e c.offset h
+along_fault : (h : BytesRead) (c : CutterState) (e : StreamFault) → IsRead h c → e ≢ Memory → IsCutFault e c.offset h
     → IsAlong h (record c { answer = Some (Fault e) })
 along_fault h c e is other fault = ended_along h c (Fault e) is (fault, other)
 
-along_memory : (h : BytesRead) (c : Standing) → IsRead h c → c.is_lent ≡ false → c.answer ≡ None
+along_memory : (h : BytesRead) (c : CutterState) → IsRead h c → c.is_lent ≡ false → c.answer ≡ None
     → IsStop c.prefix (length c.prefix) → h.is_at_end ≡ false → (n : ℕ) → Decides c.prefix (Need n) → IsAlong h c
 along_memory h c is lent goes stop going_on n asks =
     record {
@@ -96,7 +96,7 @@ along_memory h c is lent goes stop going_on n asks =
     }
 
 -- what a fault of the reads for one record says of the offset
-pub cut_fault : (e : StreamFault) (c after : Standing) (old new : BytesRead) → IsRead new after → after.is_lent ≡ false
+pub cut_fault : (e : StreamFault) (c after : CutterState) (old new : BytesRead) → IsRead new after → after.is_lent ≡ false
     → after.offset ≡ c.offset → IsCuttingFault e c after old new → IsCutFault e after.offset new
 cut_fault (Frame n f) c after old new is lent offset it =
     let reported = sym (reported_is new after is lent) in (
@@ -122,7 +122,7 @@ cut_fault (Turns n) c after old new is lent offset it =
 cut_fault Memory c after old new is lent offset it = tt
 
 -- by each answer
-pub along_settled : (found : Result Bool StreamFault) (c after : Standing) (old new : BytesRead) → IsRead new after
+pub along_settled : (found : Result Bool StreamFault) (c after : CutterState) (old new : BytesRead) → IsRead new after
     → after.is_lent ≡ false → after.answer ≡ None → after.offset ≡ c.offset
     → (found ≡ Ok true → IsRecord after.prefix × (new.is_at_end ≡ false))
     → (found ≡ Ok false → (after.prefix ≡ []) × (new.is_at_end ≡ true))
@@ -157,7 +157,7 @@ record_found (Ok true) n prefix is_at_end one = (one refl).0
 record_found (Ok false) n prefix is_at_end one = tt
 record_found (Err f) n prefix is_at_end one = tt
 
-pub fault_found : (found : Result Bool StreamFault) (n : ℕ) (c after : Standing) (old new : BytesRead)
+pub fault_found : (found : Result Bool StreamFault) (n : ℕ) (c after : CutterState) (old new : BytesRead)
     → IsRead new after
     → after.is_lent ≡ false → after.offset ≡ c.offset → IfErr found (λ e. IsCuttingFault e c after old new)
     → IfErr (lent_of n found) (λ e. IsCutFault e after.offset new)

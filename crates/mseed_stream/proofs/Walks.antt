@@ -6,7 +6,7 @@ use Rattle.std.specs.List.{concat}
 use Rattle.std.proofs.ByRecursion.{All-push}
 use Rattle.mseed_record.specs.View.{View, IsView}
 use Rattle.mseed_stream.specs.Device.{BytesRead}
-use Rattle.mseed_stream.specs.Standing.{Standing}
+use Rattle.mseed_stream.specs.CutterState.{CutterState}
 use Rattle.mseed_stream.specs.Archive.{HasRecords}
 use Rattle.mseed_stream.specs.Cutting.{read_from, held_of, asks_of, IsAlong}
 use Rattle.mseed_stream.specs.Walk.{bytes_in, AreViews, HasHandedOut}
@@ -36,7 +36,7 @@ views_more old new offset views v reported before is same has = record {
 }
 
 -- a record was handed out
-pub handed_record : (h now : BytesRead) (c after : Standing) (views : List View) (v : View) → HasHandedOut h c views
+pub handed_record : (h now : BytesRead) (c after : CutterState) (views : List View) (v : View) → HasHandedOut h c views
     → IsView v → v.bytes ≡ read_from c.offset now
     → HasRecords now.bytes (c.offset + length (read_from c.offset now)) (bytes_in views ++ read_from c.offset now ∷ [])
     → IsAlong now after → after.offset ≡ c.offset + length (read_from c.offset now) → after.answer ≡ None

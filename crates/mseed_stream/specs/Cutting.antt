@@ -6,7 +6,7 @@ use Rattle.mseed_record.specs.declared.framer.Scan.TheVariants.{Need}
 use Rattle.mseed_record.specs.Record.{IsRecord}
 use Rattle.mseed_record.specs.Scan.{Decides}
 use Rattle.mseed_stream.specs.Device.{BytesRead}
-use Rattle.mseed_stream.specs.Standing.{Standing}
+use Rattle.mseed_stream.specs.CutterState.{CutterState}
 use Rattle.mseed_stream.specs.Archive.{HasRecords, IsArchive, IsEndOf, clean, frame, truncated}
 use Rattle.mseed_stream.specs.declared.cutter.Ending.{Ending}
 use Rattle.mseed_stream.specs.declared.cutter.Ending.TheVariants.{Clean, Fault}
@@ -20,7 +20,7 @@ pub data IsStop (bytes : List ℕ) : ℕ → Type 0 where
   called_for : (m n : ℕ) → IsStop bytes m → m ≤ length bytes → Decides (take m bytes) (Need n) → IsStop bytes n
 
 -- the bytes read from the offset on, by what is held
-abbrev pub held_of : Standing → List ℕ
+abbrev pub held_of : CutterState → List ℕ
 held_of c = if c.is_lent then [] else c.prefix
 
 -- what was read from an offset on
@@ -57,7 +57,7 @@ IsEnding Clean offset h = IsCleanEnd offset h
 IsEnding (Fault e) offset h = IsCutFault e offset h × (e ≢ Memory)
 
 -- A cutter holds of what its source gave the bytes from the offset on, and was alone to ask it.
-pub record IsRead (h : BytesRead) (c : Standing) : Type 0 where
+pub record IsRead (h : BytesRead) (c : CutterState) : Type 0 where
   pub reported : length h.bytes ≡ c.offset + length (held_of c)
   pub held : read_from c.offset h ≡ held_of c
   pub reads : h.calls ≡ c.reads
@@ -67,7 +67,7 @@ pub record IsRead (h : BytesRead) (c : Standing) : Type 0 where
   pub small : c.room ≤ 2 ^ 20
 
 -- And it goes on, where the framing steps are to be taken next, or it has ended.
-pub record IsAlong (h : BytesRead) (c : Standing) : Type 0 where
+pub record IsAlong (h : BytesRead) (c : CutterState) : Type 0 where
   pub read : IsRead h c
   pub stop : c.answer ≡ None → IsStop (held_of c) (length (held_of c))
   pub asks : c.answer ≡ None → (k : ℕ) × Decides (held_of c) (Need k)
@@ -76,7 +76,7 @@ pub record IsAlong (h : BytesRead) (c : Standing) : Type 0 where
 
 -- A record of so many bytes begins what the source holds, and the cutter, which goes on and holds nothing, can go past
 -- it.
-pub record IsAhead (size : ℕ) (c : Standing) (lent : List ℕ) : Type 0 where
+pub record IsAhead (size : ℕ) (c : CutterState) (lent : List ℕ) : Type 0 where
   pub whole : size ≤ length lent
   pub is_record : IsRecord (take size lent)
   pub none : held_of c ≡ []
@@ -172,7 +172,7 @@ IfEnds (Err Memory) P = ⊤
 
 -- What the next result says, by a cutter as it stood, what was read of its source before and after, and what the source
 -- is known to have left.
-pub record IsNextAnswer {X : Type 0} (result : Result (Option X) StreamFault) (c : Standing) (old new : BytesRead)
+pub record IsNextAnswer {X : Type 0} (result : Result (Option X) StreamFault) (c : CutterState) (old new : BytesRead)
     (left rest : Option (List ℕ)) : Type 0 where
   -- What was read before stays, and what the source is known to have left is what was read of it..
   pub more : GivesMore old new left rest

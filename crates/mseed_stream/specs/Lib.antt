@@ -8,7 +8,7 @@ pub mod Exchanges
 pub mod Fault
 pub mod Gathered
 pub mod Split
-pub mod Standing
+pub mod CutterState
 pub mod LineWritten
 pub mod Walk
 pub mod Whole

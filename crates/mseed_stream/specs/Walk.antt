@@ -6,7 +6,7 @@ use Rattle.mseed_record.specs.View.{View, IsView}
 use Rattle.mseed_record.specs.Viewing.{view_of}
 use Rattle.mseed_record.specs.declared.view.RecordView.{RecordView}
 use Rattle.mseed_stream.specs.Device.{BytesRead}
-use Rattle.mseed_stream.specs.Standing.{Standing}
+use Rattle.mseed_stream.specs.CutterState.{CutterState}
 use Rattle.mseed_stream.specs.Archive.{HasRecords}
 use Rattle.mseed_stream.specs.Cutting.{IsAlong, IsCleanEnd, IsCutFault, held_of, asks_of, failed_reads}
 use Rattle.mseed_stream.specs.declared.fault.StreamFault.{StreamFault}
@@ -28,7 +28,7 @@ IsEnd None offset h = IsCleanEnd offset h × (h.failures ≡ 0)
 IsEnd (Some fault) offset h = IsCutFault fault offset h × (fault ≢ Memory) × (h.failures ≡ failed_reads fault)
 
 -- A cutter that goes on has handed out these records, each for two calls of its source at least, and no read failed.
-pub record HasHandedOut (h : BytesRead) (c : Standing) (views : List View) : Type 0 where
+pub record HasHandedOut (h : BytesRead) (c : CutterState) (views : List View) : Type 0 where
   pub along : IsAlong h c
   pub goes_on : c.answer ≡ None
   pub fine : h.failures ≡ 0

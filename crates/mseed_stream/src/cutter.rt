@@ -49,7 +49,7 @@ impl Ending {
 /// so never past a record's end. The buffer stays from record to record: once it has room for the longest, no more
 /// memory is requested.
 ///
-/// Contracts see a cutter as a `Standing`, and say by `IsAlong` that it holds what was read of its source.
+/// Contracts see a cutter as a `CutterState`, and say by `IsAlong` that it holds what was read of its source.
 #[derive(Drop)]
 pub struct Cutter<A: Allocator = Global> {
     // The bytes that were read and not handed out, and room after them.
@@ -74,9 +74,9 @@ impl<A: Allocator> Model for Cutter<A> {
     ghost use Rattle.mseed_record.specs.Framer.{IsFramerOf};
     ghost use Rattle.mseed_record.specs.declared.framer.TheConstants.{LONGEST_RECORD};
     ghost use Rattle.mseed_stream.specs.declared.device.TheConstants.{READS};
-    ghost use Rattle.mseed_stream.specs.Standing.{Standing};
+    ghost use Rattle.mseed_stream.specs.CutterState.{CutterState};
 
-    ghost Value = { Standing };
+    ghost Value = { CutterState };
 
     ghost view = { λ c. record {
       offset = c.offset;

@@ -8,7 +8,7 @@ use Rattle.mseed_steim.specs.Reading.{count_of}
 use Rattle.mseed_stream.specs.Calls.{WritesOn}
 use Rattle.mseed_stream.specs.Device.{BytesRead, BytesWritten}
 use Rattle.mseed_stream.specs.Gathered.{AreGathered, EmittedPart}
-use Rattle.mseed_stream.specs.Standing.{Standing}
+use Rattle.mseed_stream.specs.CutterState.{CutterState}
 use Rattle.mseed_stream.specs.Walk.{AreViews, HasHandedOut}
 use Rattle.mseed_stream.specs.declared.fault.StreamFault.{StreamFault}
 use Rattle.mseed_select.specs.Selection.{Selection, lacks_time}
@@ -62,7 +62,7 @@ pub record IsJudged (s : Selection) (held : Held) (p : Passed) (Stands : List Re
   pub report : HasReport (asked_of s views) Stands
 
 -- a record more was handed out than these, and it was judged or passed
-pub record IsOneMore (s : Selection) (views : List View) (old new : BytesRead) (c : Standing) (held : Held)
+pub record IsOneMore (s : Selection) (views : List View) (old new : BytesRead) (c : CutterState) (held : Held)
     (p : Passed) (Stands : List Reported → Type 0) : Type 0 where
   pub view : View
   pub handed : HasHandedOut new c (views ++ view ∷ [])
@@ -77,7 +77,7 @@ pub record HasEnded (s : Selection) (held : Held) (p : Passed) (end : Option Str
 
 -- What comes next of an input, after these records that were judged or passed: one more, its end, so that they are
 -- all, or a want of memory.
-abbrev pub IsNext : Selection → Result Step NoRoom → List View → ℕ → BytesRead → BytesRead → Standing → Held → Passed
+abbrev pub IsNext : Selection → Result Step NoRoom → List View → ℕ → BytesRead → BytesRead → CutterState → Held → Passed
     → (List Reported → Type 0) → Type 0
 IsNext s (Ok OneMore) views offset old new c held p Stands = IsOneMore s views old new c held p Stands
 IsNext s (Ok (Ended end)) views offset old new c held p Stands =

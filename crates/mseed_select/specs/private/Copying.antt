@@ -3,7 +3,7 @@ use Rattle.std.specs.Prelude.{◌≡◌, ℕ, ◌<◌, if◌then◌else◌, List
 use Rattle.mseed_record.specs.View.{View}
 use Rattle.mseed_stream.specs.Device.{BytesRead, BytesWritten}
 use Rattle.mseed_stream.specs.Gathered.{AreGathered}
-use Rattle.mseed_stream.specs.Standing.{Standing}
+use Rattle.mseed_stream.specs.CutterState.{CutterState}
 use Rattle.mseed_stream.specs.Walk.{AreAllViews, HasHandedOut}
 use Rattle.mseed_select.specs.declared.answer.Answer.{Answer}
 use Rattle.mseed_select.specs.declared.copying.Step.{Step}
@@ -29,7 +29,7 @@ pub record IsHeld (t : Texts) (s : Selection) (first now : BytesWritten) (text :
 
 -- a record more was handed out than these
 pub record IsOneMore (t : Texts) (s : Selection) (answer : Answer) (views : List View) (old new : BytesRead)
-    (c : Standing) (first now : BytesWritten) (text : List ℕ) : Type 0 where
+    (c : CutterState) (first now : BytesWritten) (text : List ℕ) : Type 0 where
   pub view : View
   pub handed : HasHandedOut new c (views ++ view ∷ [])
   pub called : old.calls < new.calls
@@ -37,7 +37,7 @@ pub record IsOneMore (t : Texts) (s : Selection) (answer : Answer) (views : List
   pub held : IsHeld t s first now text (views ++ view ∷ [])
 
 -- What comes next of an input, after these records: one more, its end, so that they are all, or a fault.
-abbrev pub IsNext : Texts → Selection → Result Step SelectFault → List View → BytesRead → BytesRead → Standing
+abbrev pub IsNext : Texts → Selection → Result Step SelectFault → List View → BytesRead → BytesRead → CutterState
     → BytesWritten → BytesWritten → List ℕ → Type 0
 IsNext t s (Ok (Judged answer)) views old new c first now text =
     IsOneMore t s answer views old new c first now text

@@ -5,7 +5,7 @@ use Rattle.mseed_record.specs.declared.framer.Scan.TheVariants.{Need}
 use Rattle.mseed_record.specs.Record.{IsRecord}
 use Rattle.mseed_record.specs.Scan.{Decides}
 use Rattle.mseed_stream.specs.Device.{BytesRead}
-use Rattle.mseed_stream.specs.Standing.{Standing}
+use Rattle.mseed_stream.specs.CutterState.{CutterState}
 use Rattle.mseed_stream.specs.Archive.{IsEndOf, frame, truncated}
 use Rattle.mseed_stream.specs.Cutting.{FallsShort, IsRead, IsReadTo, IsStop, asks_of, is_short}
 use Rattle.mseed_stream.specs.declared.cutter.Ending.TheVariants.{Clean, Fault}
@@ -23,7 +23,7 @@ IsFillFault (Turns n) offset room needed old new = (n ≡ offset) × (new.failur
 IsFillFault Memory offset room needed old new = (room < needed) × (new ≡ old)
 
 -- what a fault means of the reads for one record
-abbrev pub IsCuttingFault : StreamFault → Standing → Standing → BytesRead → BytesRead → Type 0
+abbrev pub IsCuttingFault : StreamFault → CutterState → CutterState → BytesRead → BytesRead → Type 0
 IsCuttingFault (Frame n f) c after old new = (n ≡ c.offset) × (new.failures ≡ old.failures)
     × IsEndOf after.prefix (frame f) × IsReadTo after.prefix new.is_at_end
 IsCuttingFault (Truncated n have) c after old new = (n ≡ c.offset) × (new.failures ≡ old.failures)
@@ -36,7 +36,7 @@ IsCuttingFault Memory c after old new = (new.failures ≡ old.failures) × (new.
     × ((n : ℕ) × (c.room < n) × Decides after.prefix (Need n))
 
 -- the reads for a record may begin: the framing steps are to be taken next, of what is held
-pub record MayCut (h : BytesRead) (c : Standing) : Type 0 where
+pub record MayCut (h : BytesRead) (c : CutterState) : Type 0 where
   pub read : IsRead h c
   pub not_lent : c.is_lent ≡ false
   pub stop : IsStop c.prefix (length c.prefix)
@@ -45,7 +45,7 @@ pub record MayCut (h : BytesRead) (c : Standing) : Type 0 where
 
 -- what the reads for one record come to: what was read is held up to a stop, and is a record, nothing at the input's
 -- end, or the bytes of a fault
-pub record IsCut (answer : Result Bool StreamFault) (c after : Standing) (old new : BytesRead) : Type 0 where
+pub record IsCut (answer : Result Bool StreamFault) (c after : CutterState) (old new : BytesRead) : Type 0 where
   pub read : IsRead new after
   pub stays : (after.offset ≡ c.offset) × (after.is_lent ≡ false) × (after.answer ≡ c.answer)
   pub room : c.room ≤ after.room
@@ -69,7 +69,7 @@ lent_of n (Ok false) = Ok None
 lent_of n (Err e) = Err e
 
 -- a cutter that found a record, or not, and then lends it or keeps its answer
-abbrev pub settled : Standing → Result Bool StreamFault → Standing
+abbrev pub settled : CutterState → Result Bool StreamFault → CutterState
 settled c (Ok true) = record c { offset = c.offset + length c.prefix; is_lent = true }
 settled c (Ok false) = record c { answer = Some Clean }
 settled c (Err Memory) = c

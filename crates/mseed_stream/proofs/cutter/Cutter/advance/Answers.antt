@@ -4,7 +4,7 @@ use Rattle.std.proofs.lemmas.List.{append-nil}
 use Rattle.mseed_record.specs.Record.{IsRecord}
 use Rattle.mseed_stream.specs.declared.fault.StreamFault.{StreamFault}
 use Rattle.mseed_stream.specs.Device.{BytesRead}
-use Rattle.mseed_stream.specs.Standing.{Standing}
+use Rattle.mseed_stream.specs.CutterState.{CutterState}
 use Rattle.mseed_stream.specs.Archive.{IsEndOf, clean}
 use Rattle.mseed_stream.specs.Cutting.{IsAlong, IsCleanEnd, IsCutFault, read_from}
 use Rattle.mseed_stream.specs.private.Steps.{lent_of}
@@ -15,11 +15,11 @@ use Rattle.mseed_stream.proofs.cutter.Cutter.advance.Goals as goal
 
 pub returns-clause-along : goal.returns-clause-along
 returns-clause-along g c =
-    let after : Standing = c.cut-found.new.self in
+    let after : CutterState = c.cut-found.new.self in
     let cut = c.cut-found.ensures.cut in
     let new : BytesRead = g.R.Source.read c.cut-found.new.source in
     let open_still : after.answer ≡ None = search rules in
-    subst (λ (s : Standing). IsAlong new s) (sym c.settle.ensures.after)
+    subst (λ (s : CutterState). IsAlong new s) (sym c.settle.ensures.after)
     (along_settled c.cut-found.result c.forget.new.self after (g.R.Source.read c.args.source.now) new cut.read
     cut.stays.1 open_still cut.stays.0 cut.found cut.ended cut.stop cut.fault)
 
@@ -29,7 +29,7 @@ returns-in-Some-clause-answer g c =
     let offset : ℕ = c.args.self.now.offset in
     let reported : BytesRead = g.R.Source.read c.args.source.now in
     let within : offset ≤ length reported.bytes = omega (arith, c.requires.read.reported) in
-    let same : c.args.self.now.answer ≡ Some c.in-Some.ending = sym (ap (λ (s : Standing). s.answer) c.self.view_is)
+    let same : c.args.self.now.answer ≡ Some c.in-Some.ending = sym (ap (λ (s : CutterState). s.answer) c.self.view_is)
     ∙ c.in-Some.is in
     let end = end_again c.answer.result c.args.self.now.answer c.in-Some.ending offset reported same c.answer.ensures
     c.requires.ended in
@@ -54,12 +54,12 @@ returns-in-Some-clause-answer g c =
 pub returns-clause-answer : goal.returns-clause-answer
 returns-clause-answer g c =
     let cut = c.cut-found.ensures.cut in
-    let after : Standing = c.cut-found.new.self in
+    let after : CutterState = c.cut-found.new.self in
     let offset : ℕ = c.args.self.now.offset in
     let old : BytesRead = g.R.Source.read c.args.source.now in
     let new : BytesRead = g.R.Source.read c.cut-found.new.source in
     let within : offset ≤ length old.bytes = omega (arith, c.requires.read.reported) in
-    let same_offset : after.offset ≡ offset = cut.stays.0 ∙ ap (λ (s : Standing). s.offset) c.forget.ensures in
+    let same_offset : after.offset ≡ offset = cut.stays.0 ∙ ap (λ (s : CutterState). s.offset) c.forget.ensures in
     let end : c.settle.result ≡ Ok None → IsCleanEnd offset new = λ e.
     let nothing = cut.ended (nothing_found c.cut-found.result (length after.prefix) (sym c.settle.ensures.answer
     ∙ e)) in (

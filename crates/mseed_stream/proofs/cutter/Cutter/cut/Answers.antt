@@ -8,7 +8,7 @@ use Rattle.mseed_record.specs.declared.framer.Scan.TheVariants.{Need}
 use Rattle.mseed_record.specs.Scan.{Decides}
 use Rattle.mseed_stream.specs.Archive.{is_frame}
 use Rattle.mseed_stream.specs.Device.{BytesRead}
-use Rattle.mseed_stream.specs.Standing.{Standing}
+use Rattle.mseed_stream.specs.CutterState.{CutterState}
 use Rattle.mseed_stream.specs.Cutting.{IsStop, IsReadTo, is_short}
 use Rattle.mseed_stream.specs.private.Steps.{IsCut, IsCuttingFault}
 use Rattle.mseed_stream.specs.declared.fault.StreamFault.{StreamFault}
@@ -47,7 +47,7 @@ returns-in-Record-clause-cut g c =
       fine = inv.failures;
       fault = tt;
     } in
-    subst (λ (s : Standing). IsCut (Ok true) c.args.self.now s before after) (sym c.look.ensures.stays) cut
+    subst (λ (s : CutterState). IsCut (Ok true) c.args.self.now s before after) (sym c.look.ensures.stays) cut
 
 pub returns-in-Not-clause-cut : goal.returns-in-Not-clause-cut
 returns-in-Not-clause-cut g c =
@@ -65,7 +65,7 @@ returns-in-Not-clause-cut g c =
       ended = λ other. cc;
       fine = tt;
       fault = (
-        ap (λ (s : Standing). s.offset) (c.self.view_is ∙ same) ∙ inv.offset,
+        ap (λ (s : CutterState). s.offset) (c.self.view_is ∙ same) ∙ inv.offset,
         inv.failures,
         rw same (is_frame c.in-Not.fault decides),
         rw (same, inv.end) inv.stop,
@@ -89,7 +89,7 @@ returns-in-Need-clause-cut g c =
       fine = search rules;
       fault = fault_at_end c.end.result c.in-Need.field-0 c.args.self.now c.look.new.self
           (g.R.Source.read c.args.source.now) (g.R.Source.read c.stops.source) c.end.ensures
-          (ap (λ (s : Standing). s.offset) same ∙ inv.offset) inv.failures (inv.end ∙ c.if-is_at_end.true)
+          (ap (λ (s : CutterState). s.offset) same ∙ inv.offset) inv.failures (inv.end ∙ c.if-is_at_end.true)
           (rw same decides);
     }
 
@@ -100,7 +100,7 @@ returns-in_err-is_at_end-in-Need-2-clause-cut g c =
     let fault : StreamFault = c.in_err-is_at_end-in-Need-2.field-0.0 in
     let needed : ℕ = c.in-Need.field-0 in
     let before : List ℕ = c.stops.self.prefix in
-    let after : Standing = c.fill.new.self in
+    let after : CutterState = c.fill.new.self in
     let first : BytesRead = g.R.Source.read c.args.source.now in
     let old : BytesRead = g.R.Source.read c.stops.source in
     let new : BytesRead = g.R.Source.read c.fill.new.source in

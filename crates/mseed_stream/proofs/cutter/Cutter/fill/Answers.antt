@@ -5,7 +5,7 @@ use Rattle.std.proofs.KnownBytes.{Consumes-trans}
 use Rattle.mseed_record.specs.Framer.{IsFramerOf}
 use Rattle.mseed_record.proofs.Reached.{framer_more}
 use Rattle.mseed_stream.specs.Device.{BytesRead}
-use Rattle.mseed_stream.specs.Standing.{Standing}
+use Rattle.mseed_stream.specs.CutterState.{CutterState}
 use Rattle.mseed_stream.proofs.Filled.{written_back, prefix_more, read_more}
 use Rattle.mseed_stream.proofs.cutter.Cutter.fill.Goals as goal
 
@@ -19,7 +19,7 @@ loop-self-preserved g c =
     let now : List ℕ = c.pull_between.new.held in
     let items : List ℕ = i.held.items in
     let reported : List ℕ = take n (slice_range now have c.args.needed) in
-    let before : Standing = record {
+    let before : CutterState = record {
       offset = i.offset;
       prefix = take have items;
       is_lent = i.is_lent;
@@ -28,7 +28,7 @@ loop-self-preserved g c =
       answer = i.ending;
     } in
     let prefix_now : List ℕ = take (have + n) (take room (now ++ drop (length now) items)) in
-    let after : Standing = record {
+    let after : CutterState = record {
       offset = i.offset;
       prefix = prefix_now;
       is_lent = i.is_lent;

@@ -2,7 +2,7 @@ use Rattle.std.proofs.Common.{◌≡◌, ◌≤◌, List, [], ℕ, length, take,
 use Rattle.std.proofs.lemmas.List.{append-nil}
 use Rattle.mseed_record.specs.Framer.{IsFramerOf}
 use Rattle.mseed_record.specs.Record.{IsRecord}
-use Rattle.mseed_stream.specs.Standing.{Standing}
+use Rattle.mseed_stream.specs.CutterState.{CutterState}
 use Rattle.mseed_stream.proofs.cutter.Cutter.look.Goals as goal
 
 pub invariant_of-self : goal.invariant_of-self
@@ -22,5 +22,5 @@ pub returns-clause-record : goal.returns-clause-record
 returns-clause-record g c k e =
     let same : take c.self.inside.have c.deref.result.now ≡ c.args.self.now.prefix =
     ap (λ (xs : List ℕ). take c.self.inside.have xs) c.deref.ensures.value
-    ∙ ap (λ (s : Standing). s.prefix) c.self.view_is in
+    ∙ ap (λ (s : CutterState). s.prefix) c.self.view_is in
     subst (λ (xs : List ℕ). (k ≤ length xs) × IsRecord (take k xs)) same (c.look.ensures.record k e)

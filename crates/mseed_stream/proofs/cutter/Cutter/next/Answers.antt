@@ -4,7 +4,7 @@ use Rattle.std.proofs.lemmas.List.{length-take-le}
 use Rattle.mseed_record.specs.View.{View}
 use Rattle.mseed_record.specs.Viewing.{view_of}
 use Rattle.mseed_stream.specs.Device.{BytesRead}
-use Rattle.mseed_stream.specs.Standing.{Standing}
+use Rattle.mseed_stream.specs.CutterState.{CutterState}
 use Rattle.mseed_record.specs.declared.view.RecordView.{RecordView}
 use Rattle.mseed_stream.specs.Cutting.{read_from, held_of, answer_of}
 use Rattle.mseed_stream.proofs.Settled.{few_asks}
@@ -31,14 +31,14 @@ no_record (Some (Fault f)) n r Same h = absurd (cc h.0)
 pub returns-in-Some : goal.returns-in-Some
 returns-in-Some g c =
     let it = rw c.in-Some.is at c.in_ok-length.ensures in
-    let before : Standing = c.args.self.now in
-    let after : Standing = c.advance.new.self in
+    let before : CutterState = c.args.self.now in
+    let after : CutterState = c.advance.new.self in
     let old : BytesRead = g.R.Source.read c.args.source.now in
     let new : BytesRead = g.R.Source.read c.advance.new.source in
     let reported : List ℕ = read_from before.offset new in
     let view : View = view_of c.of_record.result in
     let items : List ℕ = c.self.inside.held.items in
-    let prefix : take c.self.inside.have items ≡ after.prefix = ap (λ (s : Standing). s.prefix) c.self.view_is in
+    let prefix : take c.self.inside.have items ≡ after.prefix = ap (λ (s : CutterState). s.prefix) c.self.view_is in
     let size : length items ≡ length c.deref.result.now = ap (λ (xs : List ℕ). length xs) (sym c.deref.ensures.value) in
     let within : c.self.inside.have ≤ length items = omega (arith, size, c.deref.ensures.len, c.self.invariant.0) in
     let bytes : view.bytes ≡ reported = c.of_record.ensures.bytes
@@ -47,7 +47,7 @@ returns-in-Some g c =
     let moved : after.offset ≡ before.offset + length reported =
     it.offset ∙ ap (λ (xs : List ℕ). before.offset + length xs) it.record.2 in
     let handed = λ (views : List View) (h : HasHandedOut old before views). subst
-    (λ (x : Standing). HasHandedOut new x (views ++ view ∷ [])) (sym c.self.view_is)
+    (λ (x : CutterState). HasHandedOut new x (views ++ view ∷ [])) (sym c.self.view_is)
     (handed_record old new before after views view h c.of_record.ensures.view bytes
     (it.answer.records (bytes_in views) h.records.records) it.along moved it.kept
     (omega (arith, it.answer.failed h.goes_on))
@@ -57,9 +57,9 @@ returns-in-Some g c =
         λ _. tt,
         (
           rw c.self.view_is it.along,
-          ap (λ (s : Standing). s.offset) c.self.view_is ∙ moved,
-          ap (λ (s : Standing). s.answer) c.self.view_is ∙ it.kept,
-          omega (arith, it.room, ap (λ (s : Standing). s.room) c.self.view_is),
+          ap (λ (s : CutterState). s.offset) c.self.view_is ∙ moved,
+          ap (λ (s : CutterState). s.answer) c.self.view_is ∙ it.kept,
+          omega (arith, it.room, ap (λ (s : CutterState). s.room) c.self.view_is),
           handed,
         ),
       ),

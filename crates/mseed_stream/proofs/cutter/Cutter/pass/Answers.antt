@@ -4,7 +4,7 @@ use Rattle.mseed_record.proofs.Called.{record_long}
 use Rattle.mseed_stream.specs.Archive.{HasRecords}
 use Rattle.mseed_stream.specs.Cutting.{IsAlong}
 use Rattle.mseed_stream.specs.Device.{BytesRead}
-use Rattle.mseed_stream.specs.Standing.{Standing}
+use Rattle.mseed_stream.specs.CutterState.{CutterState}
 use Rattle.mseed_stream.specs.Walk.{HasHandedOut}
 use Rattle.mseed_stream.proofs.Passed.{passed_along, passed_handed, passed_records, record_few, stands_passed}
 use Rattle.mseed_stream.proofs.cutter.Cutter.pass.Goals as goal
@@ -22,13 +22,13 @@ invariant_of-self g c =
     let long : length bytes ≡ c.args.size =
     length-take-le c.args.size (g.R.Source.lent c.args.source.now) c.requires.ahead.whole in
     let few : length bytes ≤ 1048576 = record_few bytes c.requires.ahead.is_record in
-    let reads = ap (λ (s : Standing). s.reads) (c.self.view_is ∙ c.forget.ensures) in
+    let reads = ap (λ (s : CutterState). s.reads) (c.self.view_is ∙ c.forget.ensures) in
     let is = c.self.invariant in
     (is.0, is.1, omega (arith, reads, c.requires.ahead.turns), omega (arith, is.3), is.4)
 
 pub returns-clause-along : goal.returns-clause-along
 returns-clause-along g c =
-    stands_passed (λ (h : BytesRead) (s : Standing). IsAlong h s) (g.R.Source.read c.pass_whole.new.source) _
+    stands_passed (λ (h : BytesRead) (s : CutterState). IsAlong h s) (g.R.Source.read c.pass_whole.new.source) _
     c.args.self.now c.args.size _ (c.self.view_is ∙ c.forget.ensures) c.requires.ahead.none
     c.pass_whole.ensures.reported
     (passed_along (g.R.Source.read c.args.source.now) c.args.self.now c.args.size
@@ -40,7 +40,7 @@ returns-clause-records g c = λ records has.
     let size : ℕ = c.args.size in
     let reported : BytesRead = g.R.Source.read c.args.source.now in
     let offset : c.self.inside.offset ≡ c.args.self.now.offset =
-    ap (λ (s : Standing). s.offset) (c.self.view_is ∙ c.forget.ensures) in
+    ap (λ (s : CutterState). s.offset) (c.self.view_is ∙ c.forget.ensures) in
     let whole : List (List ℕ) = records ++ take size lent ∷ [] in
     let more = passed_records reported c.args.self.now size lent records c.requires.along.read c.requires.ahead has in
     subst (λ (n : ℕ). HasRecords (g.R.Source.read c.pass_whole.new.source).bytes (n + size) whole) (sym offset)
@@ -50,7 +50,7 @@ returns-clause-records g c = λ records has.
 
 pub returns-clause-handed : goal.returns-clause-handed
 returns-clause-handed g c = λ views v before is same.
-    stands_passed (λ (h : BytesRead) (s : Standing). HasHandedOut h s (views ++ v ∷ []))
+    stands_passed (λ (h : BytesRead) (s : CutterState). HasHandedOut h s (views ++ v ∷ []))
     (g.R.Source.read c.pass_whole.new.source) _ c.args.self.now c.args.size _ (c.self.view_is ∙ c.forget.ensures)
     c.requires.ahead.none c.pass_whole.ensures.reported
     (passed_handed (g.R.Source.read c.args.source.now) c.args.self.now c.args.size

@@ -4,7 +4,7 @@ use Rattle.mseed_stream.specs.declared.cutter.Ending.{Ending}
 
 -- where the next record begins, the bytes at the buffer's beginning and whether they're a record that was lent, the
 -- buffer's length, how often the source was called, and how it ended
-pub record Standing : Type 0 where
+pub record CutterState : Type 0 where
   pub offset : ℕ
   pub prefix : List ℕ
   pub is_lent : Bool
