@@ -1,7 +1,7 @@
 -- What a command line comes to, from its arguments to what was written: for any input that the system gave.
 use Rattle.std.specs.Prelude.{◌≡◌, ◌⊎◌, ℕ, List, [], Option, Result, Err}
 use Rattle.std.specs.declared.alloc.AllocError.{AllocError}
-use Rattle.mseed_files.specs.Standing.{Standing}
+use Rattle.mseed_files.specs.ChainState.{ChainState}
 use Rattle.mseed_input.specs.Files.{Names, ReportsBlame, ReportsName, cannot_read}
 use Rattle.mseed_select.specs.Selection.{Selection}
 use Rattle.mseed_stream.specs.Device.{BytesWritten}
@@ -22,7 +22,7 @@ pub data HasRun (request : Request) (asked : Option Selection) (files : List (Li
     : Type 0 where
   over_input : (ended : Ended) → files ≡ [] → HasCarriedOut request asked ended old new → status ≡ ended.status
       → HasRun request asked files status old new
-  over_files : (ended : Ended) (reported : BytesWritten) (last : Result ℕ AllocError) (names : Names) (chain : Standing)
+  over_files : (ended : Ended) (reported : BytesWritten) (last : Result ℕ AllocError) (names : Names) (chain : ChainState)
       → HasCarriedOut request asked ended old (streams new.input new.output reported) → status ≡ ended.status
       → ReportsBlame ended.blame last names chain reported new.errors → HasRun request asked files status old new
   unreadable : (name : List ℕ) → new.output ≡ old.output → status ≡ 2

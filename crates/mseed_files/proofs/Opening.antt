@@ -6,7 +6,7 @@ use Rattle.std.proofs.KnownBytes.{Consumes-kept, Consumes-nil, Keeps-trans}
 use Rattle.std.proofs.lemmas.List.{append-nil}
 use Rattle.std.specs.Io.KnownBytes.{Consumes, IsAtEnd, Keeps}
 use Rattle.mseed_files.specs.Files.{Contents, IsUnread, all_of, joined, unknown}
-use Rattle.mseed_files.specs.Standing.{HasEnded, IsAlong, IsPlace, Standing, before, left_in, remaining_of}
+use Rattle.mseed_files.specs.ChainState.{HasEnded, IsAlong, IsPlace, ChainState, before, left_in, remaining_of}
 use Rattle.mseed_files.specs.declared.place.Place.{Place}
 
 some_same : (xs ys : List ℕ) → Some xs ≡ Some ys → xs ≡ ys
@@ -123,7 +123,7 @@ opened_along files after begins now is_open bytes left file same more less close
     })
 
 -- a place by where the files begin
-pub placed : (s : Standing) (offset : ℕ) (place : Option Place)
+pub placed : (s : ChainState) (offset : ℕ) (place : Option Place)
     → ((i : ℕ) (xs : List ℕ) → i < length s.begins → before s.contents i ≡ Some xs
     → slice_index s.begins i ≡ length xs)
     → IfSome place (λ p. p.file < length s.begins)
@@ -156,11 +156,11 @@ all_past (file ∷ files) zero e = absurd (cc e)
 all_past (file ∷ files) (suc n) e = all_past files n (omega (arith, e))
 
 -- nothing is left where no file is
-ended_is : (s : Standing) → HasEnded s → IsAtEnd (remaining_of s)
+ended_is : (s : ChainState) → HasEnded s → IsAtEnd (remaining_of s)
 ended_is s ended = rw (ended.nothing, all_past s.contents (length s.begins) ended.all_opened) refl
 
 -- nothing was told where what is known to be left stayed, and it is the end where no file is left
-pub told_none : (old middle new : Standing) → Keeps (remaining_of old) (remaining_of middle)
+pub told_none : (old middle new : ChainState) → Keeps (remaining_of old) (remaining_of middle)
     → Keeps (remaining_of middle) (remaining_of new) → HasEnded new
     → Consumes (remaining_of old) (remaining_of new) [] × IsAtEnd (remaining_of new)
 told_none old middle new first second ended = (

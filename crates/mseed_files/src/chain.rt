@@ -3,7 +3,7 @@ ghost use Rattle.std.specs.Prelude.{◌≡◌, ◌<◌, ◌≤◌, ◌+◌, ℕ,
 ghost use Rattle.std.specs.Prelude.{IfOk, IfErr, IfSome, OnOk, OnErr, IsTrue, slice_index, take, vec_len, vec_capacity};
 ghost use Rattle.std.specs.Io.{ReadsAtMost};
 ghost use Rattle.std.specs.Io.KnownBytes.{Consumes, Keeps, ReadConsumes};
-ghost use Rattle.mseed_files.specs.Standing.{GoesOn, HasEnded, IsPlace, Standing, remaining_of, unread};
+ghost use Rattle.mseed_files.specs.ChainState.{GoesOn, HasEnded, IsPlace, ChainState, remaining_of, unread};
 
 use crate::open::Open;
 use crate::place::Place;
@@ -17,7 +17,7 @@ use std::marker::Model;
 /// The end of a file that others follow is no end, and neither is an empty file. A file that can't be opened, or a read
 /// that fails, is an error of that read; a further read tries again.
 ///
-/// Contracts see it as a `Standing`.
+/// Contracts see it as a `ChainState`.
 #[derive(Drop)]
 pub struct Chain<O: Open, A: Allocator = Global> {
     opener: O,
@@ -34,9 +34,9 @@ pub struct Chain<O: Open, A: Allocator = Global> {
 impl<O: Open, A: Allocator> Model for Chain<O, A> {
     ghost use Rattle.std.specs.Prelude.{◌≤◌, is_some, length};
     ghost use Rattle.std.specs.Vec.{vec_capacity, vec_len, vec_capacity};
-    ghost use Rattle.mseed_files.specs.Standing.{IsAlong, Standing, left_in};
+    ghost use Rattle.mseed_files.specs.ChainState.{IsAlong, ChainState, left_in};
 
-    ghost Value = { Standing };
+    ghost Value = { ChainState };
 
     ghost view = { λ c. record {
       contents = O.contents c.opener;
@@ -206,7 +206,7 @@ impl<O: Open, A: Allocator> Chain<O, A> {
 }
 
 impl<O: Open, A: Allocator> Read for Chain<O, A> {
-    ghost use Rattle.mseed_files.specs.Standing.{remaining_of};
+    ghost use Rattle.mseed_files.specs.ChainState.{remaining_of};
 
     ghost remaining = { remaining_of };
 

@@ -2,7 +2,7 @@
 use Rattle.std.specs.Prelude.{◌≡◌, ◌⊎◌, ℕ, ◌-◌, ◌==◌, List, [], map, decimal, ◌++◌, ◌&&◌, nat_le, slice_get, option_map}
 use Rattle.std.specs.Borrow.{Bor}
 use Rattle.std.specs.Prelude.{if◌then◌else◌, Option, Some, None, Result, Ok, Err, codes}
-use Rattle.mseed_files.specs.Standing.{IsPlace, Standing}
+use Rattle.mseed_files.specs.ChainState.{IsPlace, ChainState}
 use Rattle.mseed_files.specs.declared.place.Place.{Place}
 use Rattle.mseed_stream.specs.Device.{BytesWritten}
 use Rattle.mseed_stream.specs.LineWritten.{WritesLine}
@@ -50,7 +50,7 @@ ReportsFile (Some file) names line old new = ReportsWord (word_at names file) li
 
 -- Where a fault is reported that lies at an offset, where the record before it begins at another: there, if that is in
 -- another file than the one that is reached, and else where it lies.
-pub record IsAfterRecord (s : Standing) (offset last reached : ℕ) (place : Place) : Type 0 where
+pub record IsAfterRecord (s : ChainState) (offset last reached : ℕ) (place : Place) : Type 0 where
   pub own : Place
   pub before : Place
   pub end : Place
@@ -60,11 +60,11 @@ pub record IsAfterRecord (s : Standing) (offset last reached : ℕ) (place : Pla
   pub place_is : place ≡ (if end.file == before.file then own else before)
 
 -- where it lies, if there is no record before it
-abbrev pub IsFaultPlace : Standing → ℕ → Option ℕ → ℕ → Place → Type 0
+abbrev pub IsFaultPlace : ChainState → ℕ → Option ℕ → ℕ → Place → Type 0
 IsFaultPlace s offset None reached place = IsPlace s offset place
 IsFaultPlace s offset (Some last) reached place = IsAfterRecord s offset last reached place
 
-abbrev pub IsReportedPlace : Standing → ℕ → Option ℕ → ℕ → Option Place → Type 0
+abbrev pub IsReportedPlace : ChainState → ℕ → Option ℕ → ℕ → Option Place → Type 0
 IsReportedPlace s offset last reached None = s.begins ≡ []
 IsReportedPlace s offset last reached (Some place) = IsFaultPlace s offset last reached place
 
@@ -77,7 +77,7 @@ abbrev pub last_of : ℕ → ℕ → Option ℕ
 last_of offset size = if size == 0 then None else Some (offset - size)
 
 -- by the length of the record before, if that is known: else there was no memory to know it
-abbrev pub ReportsFault : {E : Type 0} → Result ℕ E → ℕ → ℕ → Names → Standing → BytesWritten
+abbrev pub ReportsFault : {E : Type 0} → Result ℕ E → ℕ → ℕ → Names → ChainState → BytesWritten
     → BytesWritten → Type 0
 ReportsFault (Err lacks) offset reached names s old new = WritesLine no_memory old new
 ReportsFault (Ok size) offset reached names s old new =
@@ -87,7 +87,7 @@ ReportsFault (Ok size) offset reached names s old new =
 -- What is wrong with an input is reported of its files: of the one that failed, or of the one in which the fault lies.
 -- But where the record before the fault begins in another file, it is reported of that file and record; and where a
 -- record is cut off, where the one before reaches over the end of the file in which it begins.
-abbrev pub ReportsBlame : {E : Type 0} → Blame → Result ℕ E → Names → Standing → BytesWritten
+abbrev pub ReportsBlame : {E : Type 0} → Blame → Result ℕ E → Names → ChainState → BytesWritten
     → BytesWritten → Type 0
 ReportsBlame Nothing last names s old new = new ≡ old
 ReportsBlame Read last names s old new = ReportsFile s.failed names cannot_read old new

@@ -1,6 +1,6 @@
 use Rattle.std.proofs.Common.{◌≡◌, ◌<◌, ◌≤◌, ℕ, length, is_some, vec_capacity, drop, false, ap, subst, arith, rules}
 use Rattle.mseed_files.specs.Files.{Contents, IsUnread}
-use Rattle.mseed_files.specs.Standing.{left_in}
+use Rattle.mseed_files.specs.ChainState.{left_in}
 use Rattle.mseed_files.proofs.Opening.{none_left, opened_along}
 use Rattle.mseed_files.proofs.chain.Chain.has_file.Goals as goal
 

@@ -1,6 +1,6 @@
 use Rattle.std.proofs.Common.{◌≡◌, ◌+◌, ◌-◌, ◌*◌, ◌<◌, ◌≤◌, if◌then◌else◌, length}
 use Rattle.std.specs.Io.KnownBytes.{Keeps}
-use Rattle.mseed_files.specs.Standing.{remaining_of}
+use Rattle.mseed_files.specs.ChainState.{remaining_of}
 use Rattle.mseed_files.proofs.chain.ChainRead.read.Given as goal
 
 abbrev pub invariant-loop-self : goal.invariant-loop-self

@@ -5,7 +5,7 @@ use Rattle.mseed_files.specs.Files.{Contents, all_of, joined}
 use Rattle.mseed_files.specs.declared.place.Place.{Place}
 
 -- what a clause sees of a chain
-pub record Standing : Type 0 where
+pub record ChainState : Type 0 where
   -- the bytes of each file, where they are known
   pub contents : Contents
   -- where each file that was opened begins
@@ -20,7 +20,7 @@ pub record Standing : Type 0 where
   pub failed : Option ℕ
 
 -- none of the files was opened yet
-abbrev pub unread : Contents → Standing
+abbrev pub unread : Contents → ChainState
 unread contents = record {
   contents = contents;
   begins = [];
@@ -36,7 +36,7 @@ left_in remaining None = Some []
 left_in remaining (Some file) = remaining file
 
 -- what is left to be read: what is left of the file that is open, and the files after it
-abbrev pub remaining_of : Standing → Option (List ℕ)
+abbrev pub remaining_of : ChainState → Option (List ℕ)
 remaining_of s = joined s.left (all_of (drop (length s.begins) s.contents))
 
 -- the bytes of so many files, the first ones, where they are known
@@ -44,7 +44,7 @@ abbrev pub before : Contents → ℕ → Option (List ℕ)
 before contents count = all_of (take count contents)
 
 -- the file that is read, or opened, next
-abbrev pub file_due : Standing → ℕ
+abbrev pub file_due : ChainState → ℕ
 file_due s = if s.is_open then length s.begins - 1 else length s.begins
 
 -- Each file that was opened begins after those before it, and what was read and what is left of the last one are
@@ -61,20 +61,20 @@ pub record IsAlong (contents : Contents) (begins : List ℕ) (is_open : Bool) (l
 
 -- The place is in a file that was opened, the offset is after the files before it, and no file that was opened
 -- later begins there or before.
-pub record IsPlace (s : Standing) (offset : ℕ) (place : Place) : Type 0 where
+pub record IsPlace (s : ChainState) (offset : ℕ) (place : Place) : Type 0 where
   pub opened : place.file < length s.begins
   pub offset_is : (xs : List ℕ) → before s.contents place.file ≡ Some xs → length xs + place.offset ≡ offset
   pub before_next : (next : ℕ) (xs : List ℕ) → place.file < next → next < length s.begins
       → before s.contents next ≡ Some xs → offset < length xs
 
 -- no file is left
-pub record HasEnded (s : Standing) : Type 0 where
+pub record HasEnded (s : ChainState) : Type 0 where
   pub all_opened : length s.begins ≡ length s.contents
   pub closed : s.is_open ≡ false
   pub nothing : s.left ≡ Some []
 
 -- What one call keeps: the files, and which of them failed last unless one fails.
-pub record GoesOn {T E : Type 0} (result : Result T E) (old new : Standing) : Type 0 where
+pub record GoesOn {T E : Type 0} (result : Result T E) (old new : ChainState) : Type 0 where
   pub contents : new.contents ≡ old.contents
   pub fine : OnOk result (new.failed ≡ old.failed)
   pub failed : IfErr result (λ e. new.failed ≡ Some (file_due new))
