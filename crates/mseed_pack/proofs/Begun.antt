@@ -20,7 +20,7 @@ use Rattle.mseed_pack.specs.Stretches.{differences}
 use Rattle.mseed_pack.specs.Supplies.{SuppliesFitting}
 use Rattle.mseed_pack.specs.Traces.{headed, trace_of}
 use Rattle.mseed_pack.specs.private.Filling.{AreBegun, GoesOn, GoesOnIn, IsListed, StandsInList, width_of}
-use Rattle.mseed_pack.specs.private.Standing.{CanBegin}
+use Rattle.mseed_pack.specs.private.Spans.{CanBegin}
 
 -- as it is passed, in 32 bits
 pub begun_by : (f : Frames) (first : ℤ) → FitsSigned w32 first → AreBegun f (to_z w32 (of_z w32 first))

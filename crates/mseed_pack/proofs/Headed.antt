@@ -2,7 +2,7 @@
 use Rattle.std.proofs.Common.{◌≡◌, ℕ, ℤ, List, length, subst, sym}
 use Rattle.mseed_pack.specs.declared.series_head.SeriesHead.{SeriesHead}
 use Rattle.mseed_pack.specs.declared.span.Span.{Span}
-use Rattle.mseed_pack.specs.private.Standing.{IsSpan}
+use Rattle.mseed_pack.specs.private.Spans.{IsSpan}
 
 -- a span of it, by its samples
 pub span_of : (h : SeriesHead) (xs : List ℤ) (span : Span) → length xs ≡ h.count

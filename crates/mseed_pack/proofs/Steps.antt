@@ -15,7 +15,7 @@ use Rattle.mseed_audit.specs.Series.{Trace, AreStepsFrom}
 use Rattle.mseed_pack.specs.declared.span.Span.{Span}
 use Rattle.mseed_pack.specs.Clock.{added_before}
 use Rattle.mseed_pack.specs.Stretches.{span_end, step_after}
-use Rattle.mseed_pack.specs.private.Standing.{end_by, IsSpan}
+use Rattle.mseed_pack.specs.private.Spans.{end_by, IsSpan}
 
 le_true : (a b : ℕ) → a ≤ b → leb a b ≡ true
 le_true a b h = grind (arith, nat_tests)

@@ -9,7 +9,7 @@ use Rattle.mseed_time.specs.Rate.{Ratio}
 use Rattle.mseed_time.specs.declared.outcome.LeapStep.{LeapStep}
 use Rattle.mseed_pack.specs.declared.span.Span.{Span}
 use Rattle.mseed_pack.specs.Clock.{periods, reading_at}
-use Rattle.mseed_pack.specs.private.Standing.{IsSpan}
+use Rattle.mseed_pack.specs.private.Spans.{IsSpan}
 use Rattle.mseed_pack.proofs.Steps.{added_at}
 
 div_rise : (a b k : ℕ) → a ≤ b → a / k ≤ b / k

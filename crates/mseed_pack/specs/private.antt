@@ -2,4 +2,4 @@
 pub mod Filling
 pub mod Heads
 pub mod Marks
-pub mod Standing
+pub mod Spans

@@ -1,7 +1,7 @@
 //! Records that are gathered, to be written at once.
 ghost use Rattle.std.specs.Prelude.{◌≡◌, ◌^◌, ◌<◌, ◌≤◌, ℤ, List, length, take, drop};
 ghost use Rattle.mseed_audit.specs.Series.{AreSteps};
-ghost use Rattle.mseed_pack.specs.private.Standing.{CanGoOn, ComesTo, StandsAt, IsSpan};
+ghost use Rattle.mseed_pack.specs.private.Spans.{CanGoOn, ComesTo, StandsAt, IsSpan};
 
 use crate::options::Options;
 use crate::payload::Filler;

@@ -4,7 +4,7 @@ ghost use Rattle.mseed_audit.specs.Series.{AreSteps};
 ghost use Rattle.mseed_pack.specs.Fitting.{Fits};
 ghost use Rattle.mseed_pack.specs.Outcome.{FillsRoom};
 ghost use Rattle.mseed_pack.specs.private.Filling.{StandsInList};
-ghost use Rattle.mseed_pack.specs.private.Standing.{CanGoOn, IsFilledTo, StandsAt};
+ghost use Rattle.mseed_pack.specs.private.Spans.{CanGoOn, IsFilledTo, StandsAt};
 ghost use Rattle.mseed_pack.specs.Traces.{trace_of};
 
 use crate::batch::{Batch, Job, Place, first_place, gather};

@@ -9,7 +9,7 @@ ghost use Rattle.mseed_pack.specs.ReadBack.{EachReadsBack};
 ghost use Rattle.mseed_pack.specs.Options.{IsSteim};
 ghost use Rattle.mseed_pack.specs.Supplies.{SuppliesFitting};
 ghost use Rattle.mseed_pack.specs.Traces.{headed, trace_of};
-ghost use Rattle.mseed_pack.specs.private.Standing.{CanBegin};
+ghost use Rattle.mseed_pack.specs.private.Spans.{CanBegin};
 
 use crate::batch::{Job, first_place, gather};
 use crate::fault::PackFault;

@@ -4,7 +4,7 @@ ghost use Rattle.mseed_record.specs.Fields.{header_of};
 ghost use Rattle.mseed_pack.specs.Fitting.{HasTimeOutside};
 ghost use Rattle.mseed_pack.specs.Packing.{IsHeaderOf};
 ghost use Rattle.mseed_pack.specs.Traces.{headed};
-ghost use Rattle.mseed_pack.specs.private.Standing.{CanGoOn, IsRecorded, IsSpan};
+ghost use Rattle.mseed_pack.specs.private.Spans.{CanGoOn, IsRecorded, IsSpan};
 ghost use Rattle.mseed_pack.specs.Stretches.{flags_of, step_after};
 
 use crate::batch::{Job, Place};

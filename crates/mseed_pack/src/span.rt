@@ -1,7 +1,7 @@
 //! The samples between leap seconds.
 ghost use Rattle.std.specs.Prelude.{◌≡◌, ◌<◌};
 ghost use Rattle.mseed_audit.specs.Series.{AreSteps};
-ghost use Rattle.mseed_pack.specs.private.Standing.{IsSpan};
+ghost use Rattle.mseed_pack.specs.private.Spans.{IsSpan};
 
 use mseed_time::LeapStep;
 
@@ -56,7 +56,7 @@ pub(crate) fn next_span(steps: &[(u64, LeapStep)], size: usize, span: Span) -> S
 }
 
 ghost use Rattle.std.specs.Prelude.{drop};
-ghost use Rattle.mseed_pack.specs.private.Standing.{end_by};
+ghost use Rattle.mseed_pack.specs.private.Spans.{end_by};
 
 /// The end of the span before a leap second, or of the last one.
 fn end_of(steps: &[(u64, LeapStep)], passed: usize, size: usize) -> usize

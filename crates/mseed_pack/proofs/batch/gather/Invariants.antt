@@ -1,5 +1,5 @@
 use Rattle.std.proofs.Common.{◌≡◌, ◌≤◌, ◌*◌, ◌-◌, ℤ, List, length, take, drop}
-use Rattle.mseed_pack.specs.private.Standing.{CanGoOn, ComesTo, StandsAt}
+use Rattle.mseed_pack.specs.private.Spans.{CanGoOn, ComesTo, StandsAt}
 use Rattle.mseed_pack.proofs.batch.gather.Given as goal
 
 abbrev pub invariant-loop-out : goal.invariant-loop-out

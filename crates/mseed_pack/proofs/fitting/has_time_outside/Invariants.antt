@@ -2,7 +2,7 @@ use Rattle.std.proofs.Common.{◌<◌, ◌-◌, ℕ}
 use Rattle.mseed_time.specs.Naming.{IsOutside}
 use Rattle.mseed_time.specs.Ratios.{ratio_of}
 use Rattle.mseed_pack.specs.Clock.{reading_at}
-use Rattle.mseed_pack.specs.private.Standing.{IsSpan}
+use Rattle.mseed_pack.specs.private.Spans.{IsSpan}
 use Rattle.mseed_pack.proofs.fitting.has_time_outside.Given as goal
 
 abbrev pub invariant-loop-span : goal.invariant-loop-span

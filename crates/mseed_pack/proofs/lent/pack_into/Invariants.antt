@@ -3,7 +3,7 @@ use Rattle.std.specs.List.{concat}
 use Rattle.mseed_pack.specs.Packing.{PacksUpTo}
 use Rattle.mseed_pack.specs.Traces.{headed}
 use Rattle.mseed_pack.specs.private.Filling.{StandsInList}
-use Rattle.mseed_pack.specs.private.Standing.{StandsAt}
+use Rattle.mseed_pack.specs.private.Spans.{StandsAt}
 use Rattle.mseed_pack.proofs.Overwritten.{over}
 use Rattle.mseed_pack.proofs.lent.pack_into.Given as goal
 

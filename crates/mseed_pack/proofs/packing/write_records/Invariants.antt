@@ -2,7 +2,7 @@ use Rattle.std.proofs.Common.{◌≡◌, ◌-◌, ℤ, List}
 use Rattle.mseed_stream.specs.Calls.{WritesOn}
 use Rattle.mseed_pack.specs.Outcome.{EmittedSo}
 use Rattle.mseed_pack.specs.Traces.{headed}
-use Rattle.mseed_pack.specs.private.Standing.{CanBegin, StandsAt}
+use Rattle.mseed_pack.specs.private.Spans.{CanBegin, StandsAt}
 use Rattle.mseed_pack.proofs.packing.write_records.Given as goal
 
 abbrev pub invariant-loop-place : goal.invariant-loop-place

@@ -5,7 +5,7 @@ use Rattle.mseed_pack.specs.Traces.{headed}
 use Rattle.mseed_pack.specs.Stretches.{flags_of, step_after}
 use Rattle.mseed_pack.specs.declared.series_head.SeriesHead.{SeriesHead}
 use Rattle.mseed_pack.specs.declared.span.Span.{Span}
-use Rattle.mseed_pack.specs.private.Standing.{IsSpan}
+use Rattle.mseed_pack.specs.private.Spans.{IsSpan}
 use Rattle.mseed_pack.proofs.Headed.{span_of}
 use Rattle.mseed_pack.proofs.Steps.{none_after, one_after, kind_some, kind_none}
 use Rattle.mseed_pack.proofs.record.flags_at.Goals as goal
