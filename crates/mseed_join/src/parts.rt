@@ -82,7 +82,7 @@ pub(crate) fn read_with<A: Allocator + Copy, R: Source, E: Sink, O, F, P: Report
     'lines: loop {
         match reader.next(source) {
             Ok(Some(reported)) => {
-                tell_passed(errors, &reported);
+                report_passed(errors, &reported);
                 match report.add(output, &reported) {
                     Ok(()) => {}
                     Err(fault) => return Err(fault),
@@ -98,18 +98,18 @@ pub(crate) fn read_with<A: Allocator + Copy, R: Source, E: Sink, O, F, P: Report
 }
 
 /// Reports a fault that is passed.
-fn tell_passed<E: Sink>(errors: &mut E, reported: &Reported)
+fn report_passed<E: Sink>(errors: &mut E, reported: &Reported)
     ensures { AreReported (passed_by reported.now) (E.written errors.old) (E.written errors.new) }
 {
     match reported {
-        Reported::Passed { part, fault } => tell_fault(errors, *part, fault),
+        Reported::Passed { part, fault } => report_fault(errors, *part, fault),
         Reported::Nothing => {}
         Reported::Border { .. } => {}
     }
 }
 
 /// Reports the fault with which the part of this number ends.
-fn tell_fault<E: Sink>(errors: &mut E, part: u64, fault: &StreamFault)
+fn report_fault<E: Sink>(errors: &mut E, part: u64, fault: &StreamFault)
     ensures { WritesLine (passed_line part fault.now) (E.written errors.old) (E.written errors.new) }
 {
     let mut line = Line::new();

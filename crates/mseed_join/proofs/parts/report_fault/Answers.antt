@@ -1,7 +1,7 @@
 use Rattle.std.proofs.Common.{◌≡◌, ◌++◌, ◌∙◌, List, ℕ, append_assoc, codes, decimal, subst}
 use Rattle.mseed_stream.specs.LineWritten.{WritesLine}
 use Rattle.mseed_text.specs.Fault.{fault_line}
-use Rattle.mseed_join.proofs.parts.tell_fault.Goals as goal
+use Rattle.mseed_join.proofs.parts.report_fault.Goals as goal
 
 -- what was put, one after another
 joined : (words part gap fault : List ℕ) → ((words ++ part) ++ gap) ++ fault ≡ words ++ (part ++ gap ++ fault)
