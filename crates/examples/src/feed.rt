@@ -213,7 +213,7 @@ pub fn fetch_turns<S: Duplex, W: Sink, E: Sink>(
 }
 
 /// Tells how to go on after a record that wasn't written whole.
-pub fn tell_where_to_go_on<E: Sink>(reporter: &Reporter, client: &Client, errors: &mut E) {
+pub fn report_where_to_go_on<E: Sink>(reporter: &Reporter, client: &Client, errors: &mut E) {
     reporter.report_next(client, true, errors);
 }
 

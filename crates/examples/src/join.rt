@@ -122,7 +122,7 @@ pub fn records_of_line(line: &[u8]) -> Option<u64> {
 }
 
 /// Whether a line says that faults were passed.
-pub fn tells_of_faults(line: &[u8]) -> bool {
+pub fn reports_faults(line: &[u8]) -> bool {
     read_faults_line(line).is_some()
 }
 

@@ -76,7 +76,7 @@ pub fn log_of_a_link() -> Log {
 
 /// A log of what a device was told: that a link is read and written, that no further one is wanted, though one that
 /// dialled was gone already, and that the input is read no more.
-pub fn log_of_what_was_told(interest: Interest) -> Log {
+pub fn log_of_interest(interest: Interest) -> Log {
     let mut log = Log::new();
     log.wants(0, interest);
     log.missed(1);

@@ -50,7 +50,7 @@ pub fn samples_of(bytes: &[u8]) -> u16
 }
 
 /// The bytes after the record with which these begin.
-pub fn behind_first(bytes: &[u8]) -> Result<&[u8], ViewFault> {
+pub fn after_first(bytes: &[u8]) -> Result<&[u8], ViewFault> {
     let record = RecordView::of(bytes)?;
     Ok(&bytes[record.bytes().len()..])
 }
