@@ -1,6 +1,6 @@
 -- What is known of a channel's samples, record by record.
 use Rattle.std.proofs.Common.{◌≡◌, ℕ, ℤ, ◌+◌, ◌≤◌, List, [], ◌∷◌, ◌++◌, length, take, refl, sym, ap, subst, ◌∙◌}
-use Rattle.std.proofs.Common.{arith, All, Option, None, Some, append-nil, append_assoc}
+use Rattle.std.proofs.Common.{arith, All, append-nil, append_assoc}
 use Rattle.std.specs.List.{AllByRecursion}
 use Rattle.std.proofs.lemmas.List.{take_all, length-append}
 use Rattle.std.proofs.lemmas.List.Elements.{All-append, All-nil}
@@ -17,7 +17,7 @@ use Rattle.mseed_repack.specs.private.Reading.{AreOf, samples_of, step_count, st
 use Rattle.mseed_repack.specs.declared.outline.Nearness.{Nearness}
 use Rattle.mseed_repack.specs.declared.outline.Nearness.TheVariants.{Unknown}
 use Rattle.mseed_repack.proofs.Near.{whole_within}
-use Rattle.mseed_repack.proofs.ReadChannels.{IsRead, read_more, read_none, samples_append}
+use Rattle.mseed_repack.proofs.ReadChannels.{IsRead, no_step, read_more, read_none, samples_append}
 
 -- what is known of the samples of these records, as if they had been read
 pub record IsOutlined (key : List ℕ) (vs : List View) (m k : ℕ) (nearness : Nearness)
@@ -59,10 +59,6 @@ outlined_more key vs v m k m' k' near near' s ss ss' h whole count steps bears k
       within = All-append (IsWithin 32) xs s h.within (whole_within v s whole);
       known = known xs s h.known whole;
     }
-
-no_step : (o : Option LeapStep) (m : ℕ) → length (step_at 0 o) ≡ 0 → step_at m o ≡ []
-no_step None m e = refl
-no_step (Some step) m e = absurd (omega (arith, e))
 
 -- records that bear no leap second, and have so many samples
 pub outlined_on : (key : List ℕ) (us vs : List View) (ss : List (ℕ × LeapStep))

@@ -22,6 +22,10 @@ pub record IsRead (key : List ℕ) (vs : List View) (m k : ℕ) (samples : List 
   pub samples_count : m ≡ samples_of vs
   pub steps_count : k ≡ steps_of vs
 
+pub no_step : (o : Option LeapStep) (m : ℕ) → length (step_at 0 o) ≡ 0 → step_at m o ≡ []
+no_step None m e = refl
+no_step (Some step) m e = absurd (omega (arith, e))
+
 pub samples_append : (vs ws : List View) → samples_of (vs ++ ws) ≡ samples_of vs + samples_of ws
 samples_append [] ws = omega arith
 samples_append (v ∷ vs) ws = let rest = samples_append vs ws in omega (arith, rest)

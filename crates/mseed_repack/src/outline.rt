@@ -125,7 +125,7 @@ pub(crate) fn outline_record(
     let samples = before.samples + usize::from(view.samples());
     Outline {
         samples,
-        steps: put_step(view.leap().step(), samples, before.steps, steps),
+        steps: put_step(view, samples, before.steps, steps),
         nearness: nearness_with(before.nearness, view),
         unpackable: before.unpackable && is_unpackable(view),
     }

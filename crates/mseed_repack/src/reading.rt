@@ -71,23 +71,27 @@ pub(crate) fn read_record(
     }
     Read {
         samples: end,
-        steps: put_step(view.leap().step(), end, before.steps, steps),
+        steps: put_step(view, end, before.steps, steps),
     }
 }
 
-/// Puts a leap second, where there is one, after the first `count` of a list, with the number of samples before it, and
-/// returns how many the list holds then.
+/// Puts a record's leap second, where it has one, after the first `count` of a list, with the number of samples before
+/// it, and returns how many the list holds then. Where the list is full, no flag is looked at.
 pub(crate) fn put_step(
-    step: Option<LeapStep>,
+    view: &RecordView,
     place: usize,
     count: usize,
     steps: &mut [(u64, LeapStep)],
 ) -> usize
-    requires { count + length (step_at 0 step) ≤ length steps.old }
-    ensures steps { take result steps.new ≡ take count steps.old ++ step_at place step }
-    ensures count { result ≡ count + length (step_at 0 step) }
+    requires { count + step_count (view_of view.now) ≤ length steps.old }
+    ensures steps { take result steps.new ≡ take count steps.old
+        ++ step_at place (step_in (leap_of (view_of view.now).bytes)) }
+    ensures count { result ≡ count + step_count (view_of view.now) }
 {
-    match step {
+    if count == steps.len() {
+        return count;
+    }
+    match view.leap().step() {
         Some(step) => {
             steps[count] = (place as u64, step);
             count + 1
