@@ -5,6 +5,7 @@ pub mod AskedFor
 pub mod Wholes
 pub mod OneRepacking
 pub mod Near
+pub mod Plain
 pub mod Supplied
 pub mod Trails
 pub mod ReadChannels

@@ -20,7 +20,7 @@ use Rattle.mseed_pack.specs.Stretches.{differences_from}
 use Rattle.mseed_repack.specs.private.Outline.{AreNear, IsKnown, last_after}
 use Rattle.mseed_repack.specs.declared.outline.Nearness.TheVariants.{Near}
 
-zero_near : IsWithin 30 (pos 0)
+pub zero_near : IsWithin 30 (pos 0)
 zero_near = (omega (arith, ints), omega (arith, ints))
 
 from_near : (before : ℤ) (ss : List ℤ) → AreNearFrom before ss
@@ -50,7 +50,7 @@ payload_within (Frames scheme) order payload n ss h = h.2
 pub whole_within : (v : View) (s : List ℤ) → IsWhole v s → All (IsWithin 32) s
 whole_within v s whole = payload_within whole.0.form v.payload_order (payload_of v) (count_of v) s whole.0.spelled
 
-after_near : (before last : ℤ) (xs ys : List ℤ) → AllByRecursion (IsWithin 30) (differences_from before xs)
+pub after_near : (before last : ℤ) (xs ys : List ℤ) → AllByRecursion (IsWithin 30) (differences_from before xs)
     → last_after before xs ≡ last
     → AllByRecursion (IsWithin 30) (differences_from last ys)
     → AllByRecursion (IsWithin 30) (differences_from before (xs ++ ys))

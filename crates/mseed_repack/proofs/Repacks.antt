@@ -10,21 +10,25 @@ use Rattle.std.specs.declared.cmp.Ordering.TheVariants.{Less}
 use Rattle.std.proofs.Math.Seq.{take-suc}
 use Rattle.std.proofs.lemmas.List.{take-append-drop, take_all, map_more}
 use Rattle.std.proofs.lemmas.Bool.{false≢true}
-use Rattle.std.proofs.lemmas.List.Elements.{All-from_recursion, All-head, All-more, All-tail, All-weaker}
+use Rattle.std.proofs.lemmas.List.Elements.{All-from_recursion, All-get_or, All-head, All-more, All-tail, All-weaker}
 use Rattle.std.proofs.lemmas.Map.Keys.{sorted_tail}
 use Rattle.std.proofs.lemmas.Map.Views.{All-after_first}
 use Rattle.std.proofs.lemmas.Map.Entries.{lookup_head, lookup_tail}
 use Rattle.mseed_record.specs.View.{View}
 use Rattle.mseed_record.specs.Viewing.{view_of}
 use Rattle.mseed_record.specs.declared.view.RecordView.{RecordView}
-use Rattle.mseed_audit.specs.Channels.{Added, added_from, records_of, same_key, views_in}
+use Rattle.mseed_steim.specs.Reading.{count_of}
+use Rattle.mseed_audit.specs.Channels.{Added, Placed, added_from, records_of, same_key, sample_count, views_in}
 use Rattle.mseed_audit.specs.Follows.{IsContinuous}
-use Rattle.mseed_audit.specs.Verdict.{AreVerdicts, IsExactAt, says_continuous}
+use Rattle.mseed_audit.specs.Verdict.{AreVerdicts, IsExactAt, IsVerdict, IsVerdictAt, says_continuous}
 use Rattle.mseed_audit.specs.declared.verdict.Verdict.{Verdict}
+use Rattle.mseed_audit.specs.declared.verdict.Verdict.TheVariants.{Continuous, Broken}
 use Rattle.mseed_audit.specs.Audit.{Held, IsAuditOf}
-use Rattle.mseed_audit.proofs.Following.{end_of}
+use Rattle.mseed_audit.proofs.Following.{end_of, views_are}
 use Rattle.mseed_audit.proofs.Maps.{same_back, same_itself}
 use Rattle.mseed_repack.specs.Repack.{AreContinuous, Channel, IsFirst, records_in}
+use Rattle.mseed_repack.specs.private.Archives.{SaysCount}
+use Rattle.mseed_repack.specs.private.Reading.{channel_in, samples_of}
 
 -- a key that stands behind another is another
 apart : (x y : List ℕ) → slice_cmp nat_cmp x y ≡ Less → same_key y x ≡ false
@@ -103,6 +107,32 @@ audit_next rs n r offset old new lt is at before step =
     ap (λ (ws : List View). added_from 0 ws) passed ∙ behind 0 vs (view_of r)
     ∙ ap (λ (k : ℕ). added_from 0 vs ++ record { view = view_of r; offset = k } ∷ []) (sym at) in
     subst (λ (added : List Added). IsAuditOf new added) (sym all) (step (added_from 0 vs) before)
+
+-- and how many samples it has
+counted : (verdict : Verdict) (ps : List Placed) (count : ℕ) → IsVerdict verdict ps → SaysCount count verdict
+    → count ≡ samples_of (views_in ps)
+counted (Continuous start rate records samples) ps count is says =
+    says ∙ is.1.1.1.samples_is ∙ ap sample_count (sym is.1.1.0) ∙ all ps
+  where
+    all : (qs : List Placed) → sample_count qs ≡ samples_of (views_in qs)
+    all [] = refl
+    all (q ∷ qs) = ap (λ (n : ℕ). count_of q.view + n) (all qs)
+counted (Broken first findings) ps count is says = absurd says
+
+pub count_said : (views : List View) (cs : List Channel) (i : ℕ) (c : Channel) (count : ℕ) (vs : List View)
+    → AreVerdicts (added_from 0 views) cs → i < length cs → c ≡ get_or cs i c → SaysCount count c.1
+    → vs ≡ channel_in c.0 views → count ≡ samples_of vs
+count_said views cs i c count vs are lt is says of =
+    let added = added_from 0 views in
+    let verdicts : All (λ (d : Channel). IsVerdict d.1 (records_of d.0 added)) cs =
+    All-weaker (λ (d : Channel). lookup (same_key d.0) cs ≡ Some d.1)
+    (λ (d : Channel). IsVerdict d.1 (records_of d.0 added))
+    (λ d e. subst (λ (o : Option Verdict). IsVerdictAt o (records_of d.0 added)) e (are.each d.0)) cs
+    (All-from_recursion (λ (d : Channel). lookup (same_key d.0) cs ≡ Some d.1) cs (found cs are.ascending)) in
+    let here : IsVerdict c.1 (records_of c.0 added) =
+    subst (λ (d : Channel). IsVerdict d.1 (records_of d.0 added)) (sym is)
+    (All-get_or (λ (d : Channel). IsVerdict d.1 (records_of d.0 added)) cs i c lt verdicts) in
+    counted c.1 (records_of c.0 added) count here says ∙ ap samples_of (views_are c.0 views ∙ sym of)
 
 -- what a verdict says of its channel
 pub says_of : (views : List View) (cs : List Channel) (i : ℕ) (c : Channel) (b : Bool)

@@ -18,7 +18,7 @@ use Rattle.mseed_audit.specs.Reported.{IsFoundAfter, last_of}
 use Rattle.mseed_audit.specs.Reported.{channel_in as channel_in_placed}
 use Rattle.mseed_audit.specs.declared.finding.Why.{Why}
 use Rattle.mseed_audit.proofs.Continuity.{HaveOneReading}
-use Rattle.mseed_repack.specs.private.Archives.{AreSoundAlone, has_own}
+use Rattle.mseed_repack.specs.private.Archives.{AreAlone, has_own}
 use Rattle.mseed_repack.specs.private.Reading.{channel_in}
 use Rattle.mseed_repack.proofs.Each.{each_more}
 
@@ -35,25 +35,31 @@ sound_found single before v _ (after next known samples whole) none = record {
   only = λ others r. single v others samples r whole.0;
 }
 
--- so is each of a channel, where each of all is
-pub sound_in : (key : List ℕ) (vs : List View) → AreSoundAlone vs → AllByRecursion IsSound (channel_in key vs)
-sound_in key [] all = tt
-sound_in key (v ∷ vs) all = by (nat_lt 0 (count_of v)) refl (same_key key (key_at v.bytes)) (sound_in key vs all.1)
+-- one with samples, of which no finding of its own is found
+pub sound_by_finding : HaveOneReading → (v : View) (earlier : List Placed) (why : Option Why)
+    → IsFoundAfter earlier v why → has_own why ≡ false → 0 < count_of v → IsSound v
+sound_by_finding single v earlier why found none some =
+    sound_found single (last_of None (channel_in_placed (key_at v.bytes) earlier)) v why (found.judged some) none
+
+-- such is each of a channel, where each with samples is
+pub alone_in : (Such : View → Type 0) (key : List ℕ) (vs : List View) → AreAlone Such vs
+    → AllByRecursion Such (channel_in key vs)
+alone_in Such key [] all = tt
+alone_in Such key (v ∷ vs) all =
+    by (nat_lt 0 (count_of v)) refl (same_key key (key_at v.bytes)) (alone_in Such key vs all.1)
   where
-    by : (some : Bool) → nat_lt 0 (count_of v) ≡ some → (same : Bool) → AllByRecursion IsSound (channel_in key vs)
-        → AllByRecursion IsSound (if some && same then v ∷ channel_in key vs else channel_in key vs)
+    by : (some : Bool) → nat_lt 0 (count_of v) ≡ some → (same : Bool) → AllByRecursion Such (channel_in key vs)
+        → AllByRecursion Such (if some && same then v ∷ channel_in key vs else channel_in key vs)
     by true some true rest = (all.0 (ltb-true 0 (count_of v) some), rest)
     by true some false rest = rest
     by false none same rest = rest
 
--- and so are those that a loop has passed, with one more
-pub sound_next : HaveOneReading → (rs : List RecordView) (n : ℕ) (r : RecordView) (earlier : List Placed)
-    (why : Option Why) → n < length rs → r ≡ get_or rs n r → IsFoundAfter earlier (view_of r) why
-    → has_own why ≡ false → AreSoundAlone (map view_of (take n rs)) → AreSoundAlone (map view_of (take (n + 1) rs))
-sound_next single rs n r earlier why lt is found none before =
+-- and such are those that a loop has passed, with one more
+pub alone_next : (Such : View → Type 0) (rs : List RecordView) (n : ℕ) (r : RecordView) → n < length rs
+    → r ≡ get_or rs n r → AreAlone Such (map view_of (take n rs)) → (0 < count_of (view_of r) → Such (view_of r))
+    → AreAlone Such (map view_of (take (n + 1) rs))
+alone_next Such rs n r lt is before here =
     let next : map view_of (take (n + 1) rs) ≡ map view_of (take n rs) ++ view_of r ∷ [] =
     map_more view_of rs n r lt ∙ ap (λ (q : RecordView). map view_of (take n rs) ++ view_of q ∷ []) (sym is) in
-    subst AreSoundAlone (sym next)
-    (each_more (λ (v : View). 0 < count_of v → IsSound v) (map view_of (take n rs)) (view_of r) before
-    (λ some. sound_found single (last_of None (channel_in_placed (key_at (view_of r).bytes) earlier)) (view_of r) why
-    (found.judged some) none))
+    subst (AreAlone Such) (sym next)
+    (each_more (λ (v : View). 0 < count_of v → Such v) (map view_of (take n rs)) (view_of r) before here)

@@ -56,6 +56,7 @@ pub fn repack_channel<A: Allocator + Copy, W: Sink>(
         alloc,
         row,
         true,
+        None,
         Cutting::Stretches,
         options,
         &mut plans,

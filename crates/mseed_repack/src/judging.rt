@@ -1,11 +1,16 @@
 //! What the audit says of an archive's channels.
-ghost use Rattle.std.specs.Prelude.{◌≡◌, ◌<◌, ◌^◌, length, map, true, IfOk};
+ghost use Rattle.std.specs.Prelude.{◌≡◌, ◌<◌, ◌^◌, length, map, false, true, IfOk};
+ghost use Rattle.std.specs.Bool.{OnTrue};
 ghost use Rattle.mseed_record.specs.Viewing.{view_of};
+ghost use Rattle.mseed_steim.specs.Reading.{count_of};
 ghost use Rattle.mseed_audit.specs.Channels.{added_from};
 ghost use Rattle.mseed_audit.specs.Verdict.{AreVerdicts};
-ghost use Rattle.mseed_repack.specs.private.Archives.{AreSoundAlone, has_own};
+ghost use Rattle.mseed_audit.specs.Follows.{IsSound};
+ghost use Rattle.mseed_repack.specs.private.Archives.{AreAlone, has_own};
 ghost use Rattle.mseed_repack.specs.private.Reading.{steps_of};
+ghost use Rattle.mseed_repack.specs.private.Supplying.{IsPlain};
 
+use crate::outline::is_plain;
 use crate::reading::step_count;
 use mseed_audit::{Audit, Memory, Verdicts, Why};
 use mseed_record::RecordView;
@@ -19,11 +24,13 @@ pub(crate) struct Judged<A: Allocator> {
     pub(crate) verdicts: Verdicts<A>,
     /// Whether no record has a finding of its own.
     pub(crate) sound: bool,
+    /// Whether each record with samples is plain; false also where that wasn't asked for.
+    pub(crate) plain: bool,
     /// How many leap seconds happened during the records.
     pub(crate) steps: usize,
 }
 
-/// What the audit says of some records.
+/// What the audit says of some records, and, where that is asked for, whether each is plain.
 ///
 /// # Errors
 ///
@@ -31,16 +38,19 @@ pub(crate) struct Judged<A: Allocator> {
 pub(crate) fn judge_records<A: Allocator + Copy>(
     alloc: A,
     views: &[RecordView],
+    asked: bool,
 ) -> Result<Judged<A>, AllocError>
     requires { length views.now < 2 ^ 40 }
     ensures verdicts { IfOk result (λ judged. AreVerdicts (added_from 0 (map view_of views.now)) judged.verdicts) }
-    ensures sound { IfOk result (λ judged. judged.sound ≡ true → AreSoundAlone (map view_of views.now)) }
+    ensures sound { IfOk result (λ judged. judged.sound ≡ true → AreAlone IsSound (map view_of views.now)) }
+    ensures plain { IfOk result (λ judged. judged.plain ≡ true → AreAlone IsPlain (map view_of views.now)) }
     ensures steps { IfOk result (λ judged. judged.steps ≡ steps_of (map view_of views.now)) }
 {
     one_reading();
     let mut audit = Audit::new(alloc);
     let mut offset = 0;
     let mut sound = true;
+    let mut plain = asked;
     let mut steps = 0;
     for (index, view) in views.iter().enumerate() {
         let begin = offset;
@@ -51,6 +61,9 @@ pub(crate) fn judge_records<A: Allocator + Copy>(
                 if has_own(why) {
                     sound = false;
                 }
+                if plain {
+                    plain = is_plain_by(view, why);
+                }
             }
             Err(Memory) => return Err(AllocError),
         }
@@ -58,8 +71,23 @@ pub(crate) fn judge_records<A: Allocator + Copy>(
     Ok(Judged {
         verdicts: audit.finish(),
         sound,
+        plain,
         steps,
     })
+}
+
+/// Whether a record of which this is found is known to be plain, or has no samples.
+fn is_plain_by(view: &RecordView, why: Option<Why>) -> bool
+    requires { has_own why ≡ false → 0 < count_of (view_of view.now) → IsSound (view_of view.now) }
+    ensures { OnTrue result (0 < count_of (view_of view.now) → IsPlain (view_of view.now)) }
+{
+    if has_own(why) {
+        return false;
+    }
+    if view.samples() == 0 {
+        return true;
+    }
+    is_plain(view)
 }
 
 /// Whether a finding is a record's own, and not one of the border between it and the record before.

@@ -1,6 +1,7 @@
 //! What is known of records before their samples are read.
 ghost use Rattle.std.specs.Prelude.{◌≡◌, ◌<◌, ◌≤◌, ◌+◌, ◌++◌, ◌^◌, ◌-ℤ◌, [], All, List, ℕ, ℤ, length, take};
 ghost use Rattle.std.specs.Prelude.{◌↔◌, IsTrue, true};
+ghost use Rattle.std.specs.Bool.{OnTrue};
 ghost use Rattle.std.specs.List.{AllByRecursion};
 ghost use Rattle.mseed_record.specs.View.{leap_of};
 ghost use Rattle.mseed_record.specs.Viewing.{view_of};
@@ -11,7 +12,7 @@ ghost use Rattle.mseed_audit.specs.Judging.{step_in};
 ghost use Rattle.mseed_audit.specs.Series.{step_at};
 ghost use Rattle.mseed_repack.specs.private.Outline.{IsKnown, IsOutline};
 ghost use Rattle.mseed_repack.specs.private.Reading.{CanBeRead, samples_of, step_count};
-ghost use Rattle.mseed_repack.specs.private.Supplying.{IsUnpackable};
+ghost use Rattle.mseed_repack.specs.private.Supplying.{IsPlain, IsUnpackable};
 
 use crate::reading::put_step;
 use crate::unpacking::is_unpackable;
@@ -153,6 +154,32 @@ fn nearness_with(before: Nearness, view: &RecordView) -> Nearness
         }
         Nearness::Unknown => Nearness::Unknown,
     }
+}
+
+/// Whether a sound record is known to be plain before its samples are read: it can be unpacked, each of its samples is
+/// near the one before it, and the first and the last have 29 bits at the most. So the samples of plain records are near
+/// one another in whatever order these stand.
+pub(crate) fn is_plain(view: &RecordView) -> bool
+    requires { IsSound (view_of view.now) }
+    ensures { OnTrue result (IsPlain (view_of view.now)) }
+{
+    if !is_unpackable(view) {
+        return false;
+    }
+    let Some(ends) = near_ends(view) else {
+        return false;
+    };
+    if !is_short(ends.first) {
+        return false;
+    }
+    is_short(ends.last)
+}
+
+/// Whether a sample has 29 bits at the most.
+fn is_short(sample: i32) -> bool
+    ensures { IsTrue result ↔ IsWithin 29 sample }
+{
+    -0x1000_0000 <= sample && sample < 0x1000_0000
 }
 
 /// Whether a sample is near the one before it.

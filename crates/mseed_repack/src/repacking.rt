@@ -1,11 +1,12 @@
 //! Packing an archive anew.
-ghost use Rattle.std.specs.Prelude.{◌≡◌, ◌<◌, ◌^◌, length, map, IfNone, IfSome};
+ghost use Rattle.std.specs.Prelude.{◌≡◌, ◌↔◌, ◌<◌, ◌^◌, length, map, IfNone, IfSome, IsTrue};
 ghost use Rattle.mseed_record.specs.Viewing.{view_of};
 ghost use Rattle.mseed_stream.specs.Device.{BytesRead, nothing_read};
 ghost use Rattle.mseed_select.specs.Selecting.{selection_of};
 ghost use Rattle.mseed_audit.specs.Channels.{added_from};
 ghost use Rattle.mseed_audit.specs.Follows.{IsContinuous};
 ghost use Rattle.mseed_audit.specs.Verdict.{AreVerdicts};
+ghost use Rattle.mseed_pack.specs.Options.{IsSteim};
 ghost use Rattle.mseed_repack.specs.Repack.{AreContinuous, IsFirst, IsRepacking, IsWhole, records_in};
 ghost use Rattle.mseed_repack.specs.Selected.{IsSelectedRepacking};
 
@@ -15,9 +16,10 @@ use crate::judging::judge_records;
 use crate::packing::pack_channels;
 use crate::planned::plan_archive;
 use crate::refusing::first_misfit;
+use crate::standing::Known;
 use crate::stretching::Cutting;
 use mseed_audit::Verdict;
-use mseed_pack::Options;
+use mseed_pack::{Encoding, Options};
 use mseed_record::{Codes, RecordView};
 use mseed_select::Selector;
 use mseed_stream::{Sink, Source, read_all_in, split_in};
@@ -85,16 +87,20 @@ fn repack_records<A: Allocator + Copy, W: Sink>(
     ensures { (read : BytesRead) → IsWhole read (map view_of views.now)
         → IsRepacking options.now result read (W.written output.old) (W.written output.new) }
 {
-    let judged = judge_records(alloc, views)?;
+    let judged = judge_records(alloc, views, is_steim(options.encoding))?;
     let channels = judged.verdicts.as_slice();
     if let Some(codes) = first_broken(views, channels) {
         return Err(RepackFault::Broken(codes));
     }
+    let known = Known {
+        sound: judged.sound,
+        plain: judged.plain,
+    };
     let mut planned = plan_archive(
         alloc,
         views,
         channels,
-        judged.sound,
+        known,
         judged.steps,
         Cutting::Whole,
         options,
@@ -112,6 +118,16 @@ fn repack_records<A: Allocator + Copy, W: Sink>(
     ) {
         Ok(()) => Ok(()),
         Err(_) => Err(RepackFault::Write),
+    }
+}
+
+/// Whether an encoding is either Steim.
+fn is_steim(encoding: Encoding) -> bool
+    ensures { IsTrue result ↔ IsSteim encoding }
+{
+    match encoding {
+        Encoding::Int16 | Encoding::Int32 => false,
+        Encoding::Steim1 | Encoding::Steim2 => true,
     }
 }
 

@@ -12,6 +12,7 @@ use crate::judging::judge_records;
 use crate::packing::pack_channels;
 use crate::planned::plan_archive;
 use crate::refusing::{Left, left_of, refusal_unless, report_left};
+use crate::standing::Known;
 use crate::stretches_fault::StretchesFault;
 use crate::stretching::Cutting;
 use mseed_pack::Options;
@@ -92,13 +93,17 @@ fn restretch_records<A: Allocator + Copy, W: Sink, E: Sink>(
         → IsRestretching options.now leave result read
         (W.written output.old) (W.written output.new) (E.written errors.old) (E.written errors.new) }
 {
-    let judged = judge_records(alloc, views)?;
+    let judged = judge_records(alloc, views, false)?;
     let channels = judged.verdicts.as_slice();
+    let known = Known {
+        sound: judged.sound,
+        plain: judged.plain,
+    };
     let mut planned = plan_archive(
         alloc,
         views,
         channels,
-        judged.sound,
+        known,
         judged.steps,
         Cutting::Stretches,
         options,

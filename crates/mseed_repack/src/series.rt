@@ -8,7 +8,7 @@ ghost use Rattle.mseed_pack.specs.Options.{IsSteim};
 ghost use Rattle.mseed_pack.specs.Traces.{headed, trace_of};
 ghost use Rattle.mseed_repack.specs.private.Outline.{AreHeld, IsKnown, says_near};
 ghost use Rattle.mseed_repack.specs.private.Reading.{AreOf, CanBeRead, IsSoundWalk, samples_of};
-ghost use Rattle.mseed_repack.specs.private.Supplying.{AreUnread};
+ghost use Rattle.mseed_repack.specs.private.Supplying.{AreCounted, AreUnread};
 ghost use Rattle.mseed_repack.specs.private.Planning.{AreOfAny, GoesBy, IsBegunBy, IsFitting, IsStretchWritten};
 ghost use Rattle.mseed_repack.specs.Repack.{StretchFits};
 ghost use Rattle.mseed_repack.specs.declared.plan.Way.TheVariants.{Frames};
@@ -38,8 +38,9 @@ pub(crate) enum Fitting {
     Misfits(PackFault),
 }
 
-/// Returns whether the series of some records can be packed, and which way it goes. Its samples are read only where
-/// less doesn't show that they fit. Memory is requested only where the series goes by a list and needs more room than
+/// Returns whether the series of some records can be packed, and which way it goes. Where they are known to be plain, and
+/// to have so many samples, none of them is looked at but the first. The samples are read only where less doesn't show
+/// that they fit. Memory is requested only where the series goes by a list and needs more room than
 /// the list of samples has; where it goes from frames to frames, that list stays as it was.
 ///
 /// # Errors
@@ -48,11 +49,13 @@ pub(crate) enum Fitting {
 pub(crate) fn fit_series<'a, A: Allocator + Copy, R: Walk<'a>>(
     alloc: A,
     records: R,
+    plain: Option<usize>,
     options: &Options,
     samples: &mut Vec<i32, A>,
     steps: &mut [(u64, LeapStep)],
 ) -> Result<Fitting, AllocError>
-    requires { CanBeRead R.leads R.left records (length steps.old) }
+    requires read { CanBeRead R.leads R.left records (length steps.old) }
+    requires plain { IfSome plain (λ count. AreCounted options.now.encoding count (R.left records)) }
     ensures fitting { IfOk result (λ fitting.
         IsFitting options.now (length samples.new.items) (R.left records) fitting) }
     ensures grown { IfOk result (λ _. length samples.old.items ≤ length samples.new.items) }
@@ -62,6 +65,9 @@ pub(crate) fn fit_series<'a, A: Allocator + Copy, R: Walk<'a>>(
     ensures exact { IfOk result (λ _. length samples.old.items < length samples.new.items
         → length samples.new.items ≡ samples_of (R.left records)) }
 {
+    if let Some(count) = plain {
+        return Ok(fit_plain(records, count, options, steps));
+    }
     let outline = outline_records(records, nearness_before(options.encoding), steps);
     let head = head_of(records, outline.samples, &steps[..outline.steps]);
     if let Err(fault) = fit_head(&head) {
@@ -75,6 +81,26 @@ pub(crate) fn fit_series<'a, A: Allocator + Copy, R: Walk<'a>>(
     match held {
         Some(_) => Ok(Fitting::Fits(Way::Listed)),
         None => Ok(fit_read(records, options, samples, steps)),
+    }
+}
+
+/// Returns whether the series of some records can be packed that are plain, and have so many samples: it goes from
+/// frames to frames.
+fn fit_plain<'a, R: Walk<'a>>(
+    records: R,
+    count: usize,
+    options: &Options,
+    steps: &mut [(u64, LeapStep)],
+) -> Fitting
+    requires read { CanBeRead R.leads R.left records (length steps.old) }
+    requires plain { AreCounted options.now.encoding count (R.left records) }
+    ensures { (room : ℕ) → IsFitting options.now room (R.left records) result }
+{
+    let outline = outline_counted(records, count, steps);
+    let head = head_of(records, outline.samples, &steps[..outline.steps]);
+    match fit_head(&head) {
+        Ok(()) => Fitting::Fits(Way::Frames(count)),
+        Err(fault) => Fitting::Misfits(fault),
     }
 }
 

@@ -1,14 +1,16 @@
 //! What is found of the channels of an archive that is packed.
-ghost use Rattle.std.specs.Prelude.{◌≡◌, ◌≢◌, ◌↔◌, ◌⊎◌, ◌≤◌, ◌^◌, [], IsTrue, length, map, true, IfOk};
+ghost use Rattle.std.specs.Prelude.{◌≡◌, ◌≢◌, ◌↔◌, ◌⊎◌, ◌≤◌, ◌^◌, [], IsTrue, length, map, true, IfOk, IfSome};
 ghost use Rattle.std.specs.List.{AllByRecursion};
 ghost use Rattle.mseed_record.specs.Viewing.{view_of};
 ghost use Rattle.mseed_audit.specs.Follows.{IsSound};
 ghost use Rattle.mseed_audit.specs.Verdict.{says_continuous};
+ghost use Rattle.mseed_pack.specs.Options.{IsSteim};
 ghost use Rattle.mseed_repack.specs.Repack.{AreContinuous};
 ghost use Rattle.mseed_repack.specs.declared.stretching.Cutting.TheVariants.{Whole};
-ghost use Rattle.mseed_repack.specs.private.Archives.{AreSoundAlone, HasRoomForSteps};
+ghost use Rattle.mseed_repack.specs.private.Archives.{AreKnown, HasRoomForSteps, SaysCount};
 ghost use Rattle.mseed_repack.specs.private.Reading.{steps_of};
 ghost use Rattle.mseed_repack.specs.private.Planning.{AreReady, IsReady};
+ghost use Rattle.mseed_repack.specs.private.Supplying.{AreCounted};
 
 use crate::archive::Archive;
 use crate::channel::are_sound;
@@ -17,9 +19,18 @@ use crate::plan::Plan;
 use crate::stretching::{Cutting, cut_records};
 use crate::walk::Walk;
 use mseed_audit::Verdict;
-use mseed_pack::{Options, PackFault};
+use mseed_pack::{Encoding, Options, PackFault};
 use mseed_time::LeapStep;
 use std::alloc::{AllocError, Allocator};
+
+/// What is known of the records of an archive that have samples.
+#[derive(Clone, Copy)]
+pub(crate) struct Known {
+    /// None has a finding of its own.
+    pub(crate) sound: bool,
+    /// Each is plain.
+    pub(crate) plain: bool,
+}
 
 /// What is found of a channel, taken as a list of stretches.
 #[derive(Clone, Copy, Debug, PartialEq, Eq)]
@@ -32,7 +43,7 @@ pub enum Standing {
     Misfit(u64, PackFault),
 }
 
-/// What is found of each channel, whose records are cut so; no record has a finding of its own, where that is known.
+/// What is found of each channel, whose records are cut so, by what is known of all records.
 /// How its stretches are packed is put after the plans of the others, in a list that is empty, and of a channel that
 /// doesn't fit, nothing; the list of samples grows where a stretch goes by a list and wants more room.
 ///
@@ -42,7 +53,7 @@ pub enum Standing {
 pub(crate) fn stand_all<A: Allocator + Copy>(
     alloc: A,
     archive: &Archive,
-    sound: bool,
+    known: Known,
     cutting: Cutting,
     options: &Options,
     plans: &mut Vec<Vec<Plan, A>, A>,
@@ -50,7 +61,7 @@ pub(crate) fn stand_all<A: Allocator + Copy>(
     steps: &mut [(u64, LeapStep)],
 ) -> Result<Vec<Standing, A>, AllocError>
     requires places { HasRoomForSteps archive.now (length steps.old) }
-    requires sound { sound ≡ true → AreSoundAlone (map view_of archive.now.views.now) }
+    requires known { AreKnown known (map view_of archive.now.views.now) }
     requires whole { cutting ≡ Whole → AreContinuous (map view_of archive.now.views.now) archive.now.channels.now }
     requires none { plans.old.items ≡ [] }
     ensures { IfOk result (λ standings. AreReady cutting options.now (length samples.new.items) (length steps.new)
@@ -59,12 +70,14 @@ pub(crate) fn stand_all<A: Allocator + Copy>(
 {
     let mut standings = Vec::new(alloc);
     for (number, channel) in archive.channels.iter().enumerate() {
-        let known = is_known_sound(&channel.1, sound);
+        let sound = is_known_sound(&channel.1, known.sound);
+        let plain = count_plain(&channel.1, known.plain, cutting, options.encoding);
         let mut own = Vec::new(alloc);
         let standing = stand(
             alloc,
             archive.trail(number),
-            known,
+            sound,
+            plain,
             cutting,
             options,
             &mut own,
@@ -85,8 +98,33 @@ fn is_known_sound(verdict: &Verdict, sound: bool) -> bool
     sound || verdict.is_continuous()
 }
 
-/// What is found of a channel with these records, each of which is known to be sound, or isn't. How each of its
-/// stretches is packed is put into a list, which is empty, if it fits.
+/// Returns how many samples a channel has, by the verdict on it, where its records are plain, aren't cut, and are to be
+/// written in either Steim.
+fn count_plain(
+    verdict: &Verdict,
+    plain: bool,
+    cutting: Cutting,
+    encoding: Encoding,
+) -> Option<usize>
+    ensures { IfSome result (λ count. (plain ≡ true) × (cutting ≡ Whole) × IsSteim encoding
+        × SaysCount count verdict.now) }
+{
+    if !plain {
+        return None;
+    }
+    match (cutting, encoding, verdict) {
+        (
+            Cutting::Whole,
+            Encoding::Steim1 | Encoding::Steim2,
+            Verdict::Continuous { samples, .. },
+        ) => Some(*samples as usize),
+        _ => None,
+    }
+}
+
+/// What is found of a channel with these records, each of which is known to be sound, or isn't. Where the channel isn't
+/// cut, they may be known to be plain, and to have so many samples. How each of its stretches is packed is put into a
+/// list, which is empty, if it fits.
 ///
 /// # Errors
 ///
@@ -94,7 +132,8 @@ fn is_known_sound(verdict: &Verdict, sound: bool) -> bool
 pub(crate) fn stand<'a, A: Allocator + Copy, R: Walk<'a>>(
     alloc: A,
     records: R,
-    known: bool,
+    sound: bool,
+    plain: Option<usize>,
     cutting: Cutting,
     options: &Options,
     plans: &mut Vec<Plan, A>,
@@ -104,19 +143,23 @@ pub(crate) fn stand<'a, A: Allocator + Copy, R: Walk<'a>>(
     requires led { R.leads records }
     requires few { length (R.left records) ≤ 2 ^ 40 }
     requires some { cutting ≡ Whole → R.left records ≢ [] }
-    requires known { known ≡ true → AllByRecursion IsSound (R.left records) }
+    requires sound { sound ≡ true → AllByRecursion IsSound (R.left records) }
+    requires plain { IfSome plain (λ count. (cutting ≡ Whole)
+        × AreCounted options.now.encoding count (R.left records)) }
     requires none { plans.old.items ≡ [] }
     requires steps_fit { steps_of (R.left records) ≤ length steps.old }
     ensures ready { IfOk result (λ s. IsReady cutting options.now (length samples.new.items) (length steps.new)
         (R.left records) s plans.new.items) }
     ensures grown { IfOk result (λ _. length samples.old.items ≤ length samples.new.items) }
 {
-    if !are_all_sound(records, known) {
+    if !are_all_sound(records, sound) {
         return Ok(Standing::Broken);
     }
     let mut lengths = Vec::new(alloc);
     cut_records(records, cutting, &mut lengths)?;
-    match fit_stretches(alloc, records, &lengths, options, plans, samples, steps)? {
+    match fit_stretches(
+        alloc, records, &lengths, plain, options, plans, samples, steps,
+    )? {
         Standing::Misfit(number, fault) => {
             plans.clear();
             Ok(Standing::Misfit(number, fault))

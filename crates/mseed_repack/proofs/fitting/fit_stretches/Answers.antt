@@ -1,8 +1,10 @@
 use Rattle.std.proofs.Common.{◌≡◌, ◌+◌, ◌∙◌, ℕ, List, [], ap, length, drop, take, get_or, arith, refl, sym}
 use Rattle.std.proofs.Common.{subst}
 use Rattle.std.proofs.lemmas.List.{take_all}
+use Rattle.std.proofs.lemmas.Option.{IfSome_then}
 use Rattle.mseed_record.specs.View.{View}
 use Rattle.mseed_repack.specs.private.Planning.{IsFitting, IsReadable, counts_of, stretches_by}
+use Rattle.mseed_repack.specs.private.Supplying.{AreCounted}
 use Rattle.mseed_repack.specs.declared.plan.Plan.{Plan}
 use Rattle.mseed_repack.specs.declared.series.Fitting.{Fitting}
 use Rattle.mseed_repack.proofs.Planning.{IsFitSo, counts_more, fit_all, fit_more, fit_none, misfit_next, next_each}
@@ -29,11 +31,16 @@ fit_series-requires g c κs =
     let one = next_each (IsReadable (length c.args.steps.now)) ss so.done _ _ (take (get_or ns l.number 0) vs)
     c.requires.readable so.parts (stretches_next ns vs l.number c.loop-number-test.true) in (
       (refl, tt),
-      record {
-        walks = record { led = c.skip-rest.ensures.leads; some = one.some; sound = one.sound };
-        few = one.few;
-        steps_fit = omega (arith, one.steps_fit, l.auto.steps);
-      },
+      (
+        record {
+          walks = record { led = c.skip-rest.ensures.leads; some = one.some; sound = one.sound };
+          few = one.few;
+          steps_fit = omega (arith, one.steps_fit, l.auto.steps);
+        },
+        IfSome_then c.args.plain c.requires.plain (λ count each.
+            next_each (AreCounted c.args.options.now.encoding count) ss so.done _ _ (take (get_or ns l.number 0) vs)
+            each so.parts (stretches_next ns vs l.number c.loop-number-test.true)),
+      ),
     )
 
 pub returns-in-Misfits-clause-found : goal.returns-in-Misfits-clause-found

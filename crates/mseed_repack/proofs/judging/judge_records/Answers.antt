@@ -1,13 +1,15 @@
 use Rattle.std.proofs.Common.{◌≤◌, ◌+◌, ◌^◌, ℕ, List, length, map, take, arith, sym, subst, ap, ◌∙◌}
-use Rattle.std.proofs.lemmas.Bool.{false≢true}
+use Rattle.std.proofs.lemmas.Bool.{OnTrue_at, false≢true}
 use Rattle.mseed_record.specs.Viewing.{view_of}
 use Rattle.mseed_audit.specs.Channels.{added_from, numbered}
+use Rattle.mseed_audit.specs.Follows.{IsSound}
 use Rattle.mseed_audit.proofs.Following.{few_bytes, end_next}
+use Rattle.mseed_repack.specs.private.Supplying.{IsPlain}
 use Rattle.mseed_repack.proofs.ReadChannels.{steps_next}
 use Rattle.mseed_repack.proofs.Repacks.{audit_next}
-use Rattle.mseed_repack.proofs.Sound.{sound_next}
+use Rattle.mseed_repack.proofs.Sound.{alone_next, sound_by_finding}
 use Rattle.mseed_repack.proofs.judging.judge_records.Goals as goal
-use Rattle.mseed_repack.proofs.judging.judge_records.Goals.{then-has_own, else-has_own}
+use Rattle.mseed_repack.proofs.judging.judge_records.Goals.{then-has_own, else-has_own, then-plain, else-plain}
 
 pub loop-index-preserved : goal.loop-index-preserved
 loop-index-preserved g c =
@@ -29,10 +31,22 @@ loop-index-preserved g c =
       omega (arith, few, inv.3),
       λ sound. elim c.if-has_own.branch [
         | then-has_own w ↦ absurd (false≢true (sym w.sound-is ∙ sound))
-        | else-has_own w ↦ sound_next c.one_reading.ensures rs n r (numbered 1 earlier) c.in-Ok.why below
-            c.index-views-index.is (c.in-Ok.ensures.found earlier inv.0) (sym c.has_own.ensures ∙ w.if-has_own.false)
-            (inv.4 (sym w.sound-is ∙ sound))
+        | else-has_own w ↦ alone_next IsSound rs n r below c.index-views-index.is (inv.4 (sym w.sound-is ∙ sound))
+            (sound_by_finding c.one_reading.ensures (view_of r) (numbered 1 earlier) c.in-Ok.why
+            (c.in-Ok.ensures.found earlier inv.0) (sym c.has_own.ensures ∙ w.if-has_own.false))
       ],
-      omega (arith, steps_next rs n r below c.index-views-index.is, inv.5, c.step_count-steps.ensures.value),
-      omega (arith, inv.6, c.step_count-steps.ensures.bound),
+      λ plain. elim c.if-plain.branch [
+        | then-plain w ↦ alone_next IsPlain rs n r below c.index-views-index.is (inv.5 w.if-plain.true)
+            (OnTrue_at (sym w.plain-is ∙ plain) w.is_plain_by-plain.ensures)
+        | else-plain w ↦ absurd (false≢true (sym w.if-plain.false ∙ (sym w.plain-is ∙ plain)))
+      ],
+      omega (arith, steps_next rs n r below c.index-views-index.is, inv.6, c.step_count-steps.ensures.value),
+      omega (arith, inv.7, c.step_count-steps.ensures.bound),
     )
+
+pub is_plain_by-plain-requires : goal.is_plain_by-plain-requires
+is_plain_by-plain-requires g c = λ none some.
+    let rs = c.args.views.now in
+    let earlier = added_from 0 (map view_of (take c.loop-index.index rs)) in
+    sound_by_finding c.one_reading.ensures (view_of c.index-views-index.result) (numbered 1 earlier) c.in-Ok.why
+    (c.in-Ok.ensures.found earlier c.loop-index.invariant.0) none some

@@ -41,22 +41,22 @@ returns-in-Some-Frames-clause-fitting g c =
     → AreHeld encoding xs)) is c.held_way-held.ensures.held in (
       series_held c.args.options.now (g.R.Walk.left c.args.records) head h.samples
           (c.head_of-head.ensures.series h.samples h.are) (sym (c.head_of-head.ensures.count ∙ h.count_is))
-          (held h.samples h.within h.known) c.in_default.ensures.fits,
+          (held h.samples h.within h.known) c.in_default-fit_head.ensures.fits,
       (
         goes.0,
-        unread_by head.start head.rate h c.requires.walks.sound goes.2
+        unread_by head.start head.rate h c.requires.read.walks.sound goes.2
             (c.outline_records-outline.ensures.unpackable goes.1),
         goes.3 ∙ c.outline_records-outline.ensures.samples,
       ),
     )
 
-pub returns-in-Some-clause-fitting : goal.returns-in-Some-clause-fitting
-returns-in-Some-clause-fitting g c =
+pub returns-in-Some-held-clause-fitting : goal.returns-in-Some-held-clause-fitting
+returns-in-Some-held-clause-fitting g c =
     let head = c.head_of-head.result in
     let h = c.outline_records-outline.ensures.outline head.codes in (
       series_held c.args.options.now (g.R.Walk.left c.args.records) head h.samples
           (c.head_of-head.ensures.series h.samples h.are) (sym (c.head_of-head.ensures.count ∙ h.count_is))
-          (c.in-Some.ensures.held h.samples h.within h.known) c.in_default.ensures.fits,
+          (c.in-Some-held.ensures.held h.samples h.within h.known) c.in_default-fit_head.ensures.fits,
       omega (arith, c.in_ok-make_room.ensures.room, c.outline_records-outline.ensures.samples),
     )
 
@@ -75,8 +75,8 @@ returns-in-None-clause-fitting g c =
 pub returns-in-None-clause-kept : goal.returns-in-None-clause-kept
 returns-in-None-clause-kept g c = λ count e. absurd (c.fit_read.ensures.listed count e)
 
-pub returns-in-Some-clause-exact : goal.returns-in-Some-clause-exact
-returns-in-Some-clause-exact g c = λ grew.
+pub returns-in-Some-held-clause-exact : goal.returns-in-Some-held-clause-exact
+returns-in-Some-held-clause-exact g c = λ grew.
     omega (arith, c.in_ok-make_room.ensures.exact grew, c.outline_records-outline.ensures.samples)
 
 pub returns-in-None-clause-exact : goal.returns-in-None-clause-exact
@@ -90,3 +90,6 @@ returns-in-None-clause-exact g c = λ grew.
     let back = ap (λ (ys : List ℤ). length ys) whole in
     let more : length c.args.samples.now.items < v = omega (arith, grew, back, same, room) in
     omega (arith, c.in_ok-make_room.ensures.exact more, c.outline_records-outline.ensures.samples, back, same, room)
+
+pub returns-in-Some-clause-fitting : goal.returns-in-Some-clause-fitting
+returns-in-Some-clause-fitting g c = c.fit_plain.ensures (length c.args.samples.now.items)

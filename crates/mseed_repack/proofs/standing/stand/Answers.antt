@@ -1,6 +1,11 @@
-use Rattle.std.proofs.Common.{List, ℕ, length, arith, refl, subst, sym}
+use Rattle.std.proofs.Common.{◌≡◌, List, [], ◌∷◌, ℕ, length, arith, refl, subst, sym}
+use Rattle.std.specs.List.{AllByRecursion}
+use Rattle.std.proofs.lemmas.Option.{IfSome_then}
+use Rattle.mseed_record.specs.View.{View}
 use Rattle.mseed_repack.specs.private.Planning.{AreFitting, IsCutAs, stretches_by}
+use Rattle.mseed_repack.specs.private.Supplying.{AreCounted}
 use Rattle.mseed_repack.specs.declared.standing.Standing.{Standing}
+use Rattle.mseed_repack.specs.declared.stretching.Cutting.{Cutting}
 use Rattle.mseed_repack.proofs.Planning.{readable_by, ready_by, ready_misfit, some_each}
 use Rattle.mseed_repack.proofs.standing.stand.Goals as goal
 
@@ -17,7 +22,14 @@ fit_stretches-requires g c κs =
           readable_by (length c.args.steps.now) ns vs
               (some_each c.args.cutting vs (stretches_by ns vs) c.requires.some cut)
               (c.are_all_sound.ensures.0 c.if-not-are_all_sound.false) c.requires.few c.requires.steps_fit,
-          c.requires.none,
+          (
+            IfSome_then c.args.plain c.requires.plain (λ count plain.
+                let Counted = AreCounted c.args.options.now.encoding count in
+                let one : stretches_by ns vs ≡ vs ∷ [] =
+                subst (λ (how : Cutting). IsCutAs how vs (stretches_by ns vs)) plain.0 cut in
+                subst (λ (ss : List (List View)). AllByRecursion Counted ss) (sym one) (plain.1, tt)),
+            c.requires.none,
+          ),
         ),
       ),
     )

@@ -2,6 +2,7 @@ use Rattle.std.proofs.Common.{◌≡◌, ◌+◌, ◌++◌, ◌∙◌, List, [],
 use Rattle.std.proofs.Common.{⊎_elim, ℕ}
 use Rattle.std.specs.List.{AllByRecursion}
 use Rattle.std.proofs.lemmas.List.{map-append, take_more}
+use Rattle.std.proofs.lemmas.Option.{IfSome_then}
 use Rattle.mseed_record.specs.View.{View}
 use Rattle.mseed_record.specs.Viewing.{view_of}
 use Rattle.mseed_audit.specs.Follows.{IsSound}
@@ -10,11 +11,13 @@ use Rattle.mseed_audit.proofs.Following.{views_are}
 use Rattle.mseed_repack.specs.Repack.{Channel, records_in}
 use Rattle.mseed_repack.specs.private.Archives.{records_on}
 use Rattle.mseed_repack.specs.private.Planning.{AreReady, IsReady}
+use Rattle.mseed_repack.specs.private.Supplying.{IsPlain}
 use Rattle.mseed_repack.specs.declared.plan.Plan.{Plan}
 use Rattle.mseed_repack.specs.declared.standing.Standing.{Standing}
 use Rattle.mseed_repack.proofs.Archives.{few_trail, of_channel, some_on}
 use Rattle.mseed_repack.proofs.Planning.{ready_more}
-use Rattle.mseed_repack.proofs.Sound.{sound_in}
+use Rattle.mseed_repack.proofs.Repacks.{count_said}
+use Rattle.mseed_repack.proofs.Sound.{alone_in}
 use Rattle.mseed_repack.proofs.Standings.{sound_by, steps_gathered}
 use Rattle.mseed_repack.proofs.standing.stand_all.Goals as goal
 
@@ -36,13 +39,26 @@ stand-requires g c κs =
             λ whole. some_on a l.number t c.loop-number-test.true c.trail.ensures (c.requires.whole whole),
             (
               λ known. ⊎_elim
-                  (λ sound. subst (AllByRecursion IsSound) (sym own) (sound_in d.0 views (c.requires.sound sound)))
+                  (λ sound. subst (AllByRecursion IsSound) (sym own)
+                  (alone_in IsSound d.0 views (c.requires.known.sound sound)))
                   (λ continuous. sound_by views a.channels.now l.number d (says_continuous d.1) (records_on t)
                   c.requires.places.audited.verdicts c.loop-number-test.true c.channel-item.is refl own continuous)
-                  (c.is_known_sound-known.ensures known),
+                  (c.is_known_sound-sound.ensures known),
               (
-                c.new-own.ensures.items,
-                omega (arith, fits, l.auto.steps),
+                IfSome_then c.count_plain-plain.result c.count_plain-plain.ensures (λ count says. (
+                  says.1,
+                  record {
+                    written = says.2;
+                    plain = subst (AllByRecursion IsPlain) (sym own)
+                        (alone_in IsPlain d.0 views (c.requires.known.plain says.0));
+                    count_is = count_said views a.channels.now l.number d count (records_on t)
+                        c.requires.places.audited.verdicts c.loop-number-test.true c.channel-item.is says.3 own;
+                  },
+                )),
+                (
+                  c.new-own.ensures.items,
+                  omega (arith, fits, l.auto.steps),
+                ),
               ),
             ),
           ),
