@@ -18,7 +18,7 @@ use Rattle.mseed_stream.specs.Walk.{AreAllViews, HasHandedOut, IfGoesOn, bytes_i
 use Rattle.mseed_stream.specs.declared.fault.StreamFault.{StreamFault}
 use Rattle.mseed_stream.specs.declared.fault.StreamFault.TheVariants.{Memory}
 use Rattle.slink_wire.specs.Place.{Bears, Fields}
-use Rattle.slink_wire.proofs.Bearing.{bears_fails, one_place, passes_bears}
+use Rattle.slink_wire.proofs.Carrying.{carries_fails, one_place, passes_carries}
 use Rattle.slink_wire.proofs.Cuts.{both}
 use Rattle.slink_feed.specs.Intake.{IsOfFeed, is_of, places_of, pushed}
 use Rattle.slink_feed.specs.Rings.{HasPlace}
@@ -126,7 +126,7 @@ rings_left : (s : Serving) (rs : List (List ℕ)) (r : List ℕ) (p : Fields) (p
 rings_left s rs r p [] h lacks = refl
 rings_left s rs r p (q ∷ qs) h lacks =
     ap (λ (w : Window). w ∷ map (ring_of s rs) qs)
-    (ring_left s rs r q (bears_fails q r (λ other. lacks.0 (one_place r q p other h))))
+    (ring_left s rs r q (carries_fails q r (λ other. lacks.0 (one_place r q p other h))))
     ∙ ap (λ (ws : List Window). ring_of s (rs ++ r ∷ []) q ∷ ws) (rings_left s rs r p qs h lacks.1)
 
 -- the ring of its place takes a record, and the other rings stay
@@ -143,7 +143,7 @@ rings_more s rs r (p ∷ ps) distinct = by_test (is_of p r) refl (rings_more s r
         else ring_of s rs p ∷ pushed (map (ring_of s rs) ps) r) is
         ∙ (ap (λ (v : Window). v ∷ map (ring_of s rs) ps) (ring_taken s rs r p is)
         ∙ ap (λ (ws : List Window). ring_of s (rs ++ r ∷ []) p ∷ ws)
-        (rings_left s rs r p ps (passes_bears p r is) distinct.0))
+        (rings_left s rs r p ps (passes_carries p r is) distinct.0))
     by_test false is more =
         ap (λ (t : Bool). if t then with_record (ring_of s rs p) r ∷ map (ring_of s rs) ps
         else ring_of s rs p ∷ pushed (map (ring_of s rs) ps) r) is

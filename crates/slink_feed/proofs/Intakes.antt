@@ -3,7 +3,7 @@ use Rattle.std.proofs.Common.{◌≡◌, ℕ, zero, suc, ◌<◌, ◌∙◌, ap,
 use Rattle.std.proofs.Common.{◌∷◌, length, set, Some, None, option_map, slice_get, if◌then◌else◌}
 use Rattle.std.proofs.lemmas.Option.{slice_get-map, same_Some}
 use Rattle.slink_wire.specs.Place.{Bears, Fields}
-use Rattle.slink_wire.proofs.Bearing.{bears_fails, bears_passes}
+use Rattle.slink_wire.proofs.Carrying.{carries_fails, carries_passes}
 use Rattle.slink_feed.specs.Intake.{IsOfFeed, is_of, places_of, pushed}
 use Rattle.slink_feed.specs.Rings.{IsOfNoPlace, IsPlaceOf}
 use Rattle.slink_feed.specs.Window.{Window, with_record}
@@ -17,11 +17,11 @@ pushed_at [] r k w here bears first = absurd (let bad : None ≡ Some w = here i
 pushed_at (v ∷ ws) r zero w here bears first =
     let same : v ≡ w = same_Some v w here in
     ap (λ (t : Bool). if t then with_record v r ∷ ws else v ∷ pushed ws r)
-    (bears_passes v.place r (subst (λ (x : Window). Bears r x.place) (sym same) bears))
+    (carries_passes v.place r (subst (λ (x : Window). Bears r x.place) (sym same) bears))
     ∙ ap (λ (x : Window). with_record x r ∷ ws) same
 pushed_at (v ∷ ws) r (suc k) w here bears first =
     ap (λ (t : Bool). if t then with_record v r ∷ ws else v ∷ pushed ws r)
-    (bears_fails v.place r (first 0 v (omega arith) refl))
+    (carries_fails v.place r (first 0 v (omega arith) refl))
     ∙ ap (λ xs. v ∷ xs) (pushed_at ws r k w here bears (λ j x lt there. first (suc j) x (omega (arith, lt)) there))
 
 -- the stations stay

@@ -109,14 +109,14 @@ none_more feed r k w here other before j v lt there = elim (same_or_not j k) [
   | inr ne ↦ before j v (omega (arith, lt, ne)) there
 ]
 
-pub bears_by : (feed : List Window) (k : ℕ) (v w : Window) (r : List ℕ) (place : Fields) (t : Bool)
+pub carries_by : (feed : List Window) (k : ℕ) (v w : Window) (r : List ℕ) (place : Fields) (t : Bool)
     → slice_get feed k ≡ Some v → slice_get feed k ≡ Some w → place ≡ v.place → (IsTrue t → Bears r place) → t ≡ true
     → Bears r w.place
-bears_by feed k v w r place t here there same tells is =
+carries_by feed k v w r place t here there same tells is =
     subst (λ (x : Window). Bears r x.place) (one_value (slice_get feed k) v w here there)
     (subst (λ (p : Fields). Bears r p) same (tells is))
 
-pub bears_not : (v : Window) (r : List ℕ) (place : Fields) (t : Bool) → place ≡ v.place → (Bears r place → IsTrue t)
+pub carries_not : (v : Window) (r : List ℕ) (place : Fields) (t : Bool) → place ≡ v.place → (Bears r place → IsTrue t)
     → t ≡ false → ¬ (Bears r v.place)
-bears_not v r place t same tells is bears = let bad : false ≡ true =
+carries_not v r place t same tells is bears = let bad : false ≡ true =
     sym is ∙ tells (subst (λ (p : Fields). Bears r p) (sym same) bears) in cc bad

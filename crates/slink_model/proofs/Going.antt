@@ -7,7 +7,7 @@ use Rattle.std.proofs.lemmas.Bool.{cases_lt}
 use Rattle.std.proofs.lemmas.Option.{slice_get_within}
 use Rattle.slink_wire.specs.Packet.{IsPacket, packet_bytes}
 use Rattle.slink_wire.specs.Place.{Bears, Fields, IsField}
-use Rattle.slink_wire.proofs.Bearing.{one_place}
+use Rattle.slink_wire.proofs.Carrying.{one_place}
 use Rattle.slink_wire.proofs.Packets.{one_packet, read_back}
 use Rattle.slink_feed.specs.declared.grant.Grant.{Grant}
 use Rattle.slink_model.specs.declared.world.Setup.{Setup}

@@ -87,9 +87,9 @@ part_second xs ys zs e f =
 part_long : (xs : List ℕ) (i j : ℕ) → i ≤ j → j ≤ length xs → length (slice_range xs i j) ≡ j - i
 part_long xs i j low high = length-take-le (j - i) (drop i xs) (omega (arith, low, high, length-drop i xs))
 
-bears_key : (b codes : List ℕ) (place : Fields) → length b ≡ 512 → key_at b ≡ codes
+carries_key : (b codes : List ℕ) (place : Fields) → length b ≡ 512 → key_at b ≡ codes
     → place.network ≡ slice_range codes 0 2 → place.station ≡ slice_range codes 2 7 → Bears b place
-bears_key b codes place long key network station =
+carries_key b codes place long key network station =
     let two : length (slice_range b 18 20) ≡ 2 = part_long b 18 20 (omega arith) (omega (arith, long)) in
     let five : length (slice_range b 8 13) ≡ 5 = part_long b 8 13 (omega arith) (omega (arith, long)) in
     let nested : key_at b ≡ slice_range b 18 20
@@ -110,19 +110,19 @@ bears_key b codes place long key network station =
 abbrev pub AllBear : Fields → List (List ℕ) → Type 0
 AllBear place rs = AllByRecursion (λ (r : List ℕ). Bears r place) rs
 
-bear_of : (s : Trace) (setup : Setup) (of : IsOfChannel setup s.codes) (vs : List View)
+carried_of : (s : Trace) (setup : Setup) (of : IsOfChannel setup s.codes) (vs : List View)
     → AllByRecursion (λ (r : List ℕ). length r ≡ 512) (map (λ (v : View). v.bytes) vs)
     → AllByRecursion (λ (v : View). key_at v.bytes ≡ s.codes) vs → AllBear of.place (map (λ (v : View). v.bytes) vs)
-bear_of s setup of [] long keys = tt
-bear_of s setup of (v ∷ vs) long keys =
-    (bears_key v.bytes s.codes of.place long.0 keys.0 of.network of.station, bear_of s setup of vs long.1 keys.1)
+carried_of s setup of [] long keys = tt
+carried_of s setup of (v ∷ vs) long keys =
+    (carries_key v.bytes s.codes of.place long.0 keys.0 of.network of.station, carried_of s setup of vs long.1 keys.1)
 
 pub bear : (s : Trace) (setup : Setup) (of : IsOfChannel setup s.codes) (rs : List (List ℕ)) (vs : List View)
     → AreViewsOf rs vs → AllByRecursion (λ (r : List ℕ). length r ≡ 512) rs
     → AllByRecursion (λ (v : View). key_at v.bytes ≡ s.codes) vs → AllBear of.place rs
 bear s setup of rs vs are long keys =
     subst (AllBear of.place) are.bytes
-    (bear_of s setup of vs (subst (λ (qs : List (List ℕ)). AllByRecursion (λ (r : List ℕ). length r ≡ 512) qs)
+    (carried_of s setup of vs (subst (λ (qs : List (List ℕ)). AllByRecursion (λ (r : List ℕ). length r ≡ 512) qs)
     (sym are.bytes) long) keys)
 
 -- The steps that are fed are of the station.

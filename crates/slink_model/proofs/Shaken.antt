@@ -12,7 +12,7 @@ use Rattle.slink_wire.specs.declared.request.Request.TheVariants as requests
 use Rattle.slink_wire.specs.Lines.{IsHeld}
 use Rattle.slink_wire.specs.Place.{Bears, Fields, IsField}
 use Rattle.slink_wire.specs.Request.{request_bytes, request_line}
-use Rattle.slink_wire.proofs.Bearing.{bears_passes, one_place}
+use Rattle.slink_wire.proofs.Carrying.{carries_passes, one_place}
 use Rattle.slink_wire.proofs.Cuts.{Lacks}
 use Rattle.slink_wire.proofs.Packets.{read_back}
 use Rattle.slink_feed.specs.declared.dialogue.Ending.{Ending}
@@ -140,7 +140,7 @@ module _ (places : Places) (differ : Differ places) (codes_are : (k : ℕ) (p : 
       also_at (λ (q : Fields × Option ℕ). q.0) (λ (w : Wanted). w.place) (slice_get places k) (want_at wants k) p
       (sym (called.alike k)) here in
       let matched : Bears r at_k.0.place = subst (Bears r) at_k.2 bears in
-      let passes : is_of_wanted r (Some at_k.0) ≡ true = bears_passes at_k.0.place r matched in
+      let passes : is_of_wanted r (Some at_k.0) ≡ true = carries_passes at_k.0.place r matched in
       let first : position_from (is_of_wanted r) 0 wants ≡ Some (0 + k) =
       first_found (is_of_wanted r) 0 k wants (Some at_k.0) (want_slot (slice_get wants k) at_k.0 at_k.1) passes
       (λ j y lt at_j. false_from_ne_true (is_of_wanted r y) (λ is.

@@ -7,7 +7,7 @@ use Rattle.std.specs.List.{position_from}
 use Rattle.std.proofs.lemmas.Bool.{cases_lt}
 use Rattle.std.proofs.lemmas.Iterator.Adapters.{position_from-zero}
 use Rattle.slink_wire.specs.Place.{Bears, Fields}
-use Rattle.slink_wire.proofs.Bearing.{one_place, passes_bears}
+use Rattle.slink_wire.proofs.Carrying.{one_place, passes_carries}
 use Rattle.slink_feed.specs.declared.dialogue.Event.{Event}
 use Rattle.slink_feed.specs.declared.dialogue.Event.TheVariants as events
 use Rattle.slink_feed.specs.declared.dialogue.Wanted.{Wanted}
@@ -59,7 +59,7 @@ module _ {X : Type 0} (p : X → Bool) where
 pub matched_is : (r : List ℕ) (o : Option Wanted) → is_of_wanted r o ≡ true
     → (w : Wanted) × (o ≡ Some w) × Bears r w.place
 matched_is r None h = absurd (let bad : false ≡ true = h in cc bad)
-matched_is r (Some w) h = (w, refl, passes_bears w.place r h)
+matched_is r (Some w) h = (w, refl, passes_carries w.place r h)
 
 -- the station that carries a record
 place_is : (wants : Wants) (r : List ℕ) (j : ℕ) → place_of wants r ≡ Some j

@@ -1,5 +1,5 @@
 pub mod Cuts
-pub mod Bearing
+pub mod Carrying
 pub mod Codes
 pub mod Digits
 pub mod Packets

@@ -1,12 +1,12 @@
 use Rattle.std.proofs.Common.{arith}
 use Rattle.std.proofs.lemmas.Option.{slice_get_within}
-use Rattle.slink_feed.proofs.Places.{bears_by, bears_not, none_more}
+use Rattle.slink_feed.proofs.Places.{carries_by, carries_not, none_more}
 use Rattle.slink_feed.proofs.feed.Feed.place_of.Goals as goal
 
 pub returns-then-bears-clause-some : goal.returns-then-bears-clause-some
 returns-then-bears-clause-some g c = record {
   within = slice_get_within c.args.self.now c.loop-k.k c.ring.result.now c.ring.ensures.ring;
-  bears = λ w there. bears_by c.args.self.now c.loop-k.k c.ring.result.now w c.args.bytes.now c.place.result
+  bears = λ w there. carries_by c.args.self.now c.loop-k.k c.ring.result.now w c.args.bytes.now c.place.result
       c.bears.result c.ring.ensures.ring there c.place.ensures c.bears.ensures.0 c.if-bears.true;
   first = c.loop-k.invariant;
 }
@@ -14,7 +14,7 @@ returns-then-bears-clause-some g c = record {
 pub loop-k-preserved : goal.loop-k-preserved
 loop-k-preserved g c =
     none_more c.args.self.now c.args.bytes.now c.loop-k.k c.ring.result.now c.ring.ensures.ring
-    (bears_not c.ring.result.now c.args.bytes.now c.place.result c.bears.result c.place.ensures c.bears.ensures.1
+    (carries_not c.ring.result.now c.args.bytes.now c.place.result c.bears.result c.place.ensures c.bears.ensures.1
     c.if-bears.false) c.loop-k.invariant
 
 pub returns-clause-none : goal.returns-clause-none

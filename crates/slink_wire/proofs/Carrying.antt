@@ -5,28 +5,28 @@ use Rattle.std.proofs.lemmas.Slice.Eq.{bytes_eq-Decides}
 use Rattle.std.proofs.lemmas.Bool.{and_parts}
 use Rattle.slink_wire.specs.Place.{Bears, Fields}
 
-abbrev pub bears_test : Fields → List ℕ → Bool
-bears_test p r = bytes_eq (slice_range r 8 13) p.station && bytes_eq (slice_range r 18 20) p.network
+abbrev pub carries_test : Fields → List ℕ → Bool
+carries_test p r = bytes_eq (slice_range r 8 13) p.station && bytes_eq (slice_range r 18 20) p.network
 
-pub bears_passes : (p : Fields) (r : List ℕ) → Bears r p → bears_test p r ≡ true
-bears_passes p r h =
+pub carries_passes : (p : Fields) (r : List ℕ) → Bears r p → carries_test p r ≡ true
+carries_passes p r h =
     ap (λ (t : Bool). t && bytes_eq (slice_range r 18 20) p.network)
     ((bytes_eq-Decides (slice_range r 8 13) p.station).1 h.0)
     ∙ (bytes_eq-Decides (slice_range r 18 20) p.network).1 h.1
 
-pub passes_bears : (p : Fields) (r : List ℕ) → bears_test p r ≡ true → Bears r p
-passes_bears p r h =
+pub passes_carries : (p : Fields) (r : List ℕ) → carries_test p r ≡ true → Bears r p
+passes_carries p r h =
     let each : (bytes_eq (slice_range r 8 13) p.station ≡ true) × (bytes_eq (slice_range r 18 20) p.network ≡ true) =
     and_parts (bytes_eq (slice_range r 8 13) p.station) (bytes_eq (slice_range r 18 20) p.network) h in (
       (bytes_eq-Decides (slice_range r 8 13) p.station).0 each.0,
       (bytes_eq-Decides (slice_range r 18 20) p.network).0 each.1,
     )
 
-pub bears_fails : (p : Fields) (r : List ℕ) → ¬ (Bears r p) → bears_test p r ≡ false
-bears_fails p r other = by_test (bears_test p r) refl
+pub carries_fails : (p : Fields) (r : List ℕ) → ¬ (Bears r p) → carries_test p r ≡ false
+carries_fails p r other = by_test (carries_test p r) refl
   where
-    by_test : (t : Bool) → bears_test p r ≡ t → bears_test p r ≡ false
-    by_test true h = absurd (other (passes_bears p r h))
+    by_test : (t : Bool) → carries_test p r ≡ t → carries_test p r ≡ false
+    by_test true h = absurd (other (passes_carries p r h))
     by_test false h = h
 
 -- a record has the codes of one station
