@@ -42,6 +42,6 @@ held_same a b stream p q =
     ap (λ (x : List ℕ). record { begun = x; is_too_long = a.is_too_long }) (p.0 ∙ sym q.0)
     ∙ ap (λ (x : Bool). record { begun = b.begun; is_too_long = x }) (p.1 ∙ sym q.1)
 
-pub standings_same : (a b : SessionState) → a.state ≡ b.state → a.held ≡ b.held → a ≡ b
-standings_same a b p q = ap (λ (x : State). record { state = x; held = a.held }) p
+pub states_same : (a b : SessionState) → a.state ≡ b.state → a.held ≡ b.held → a ≡ b
+states_same a b p q = ap (λ (x : State). record { state = x; held = a.held }) p
     ∙ ap (λ (x : Held). record { state = b.state; held = x }) q

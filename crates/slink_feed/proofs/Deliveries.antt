@@ -16,7 +16,7 @@ use Rattle.slink_feed.specs.Fetching.{Delivers, FailsAt, FailsAtLast, Fetches, F
 use Rattle.slink_feed.specs.Fetching.{joined_by, line_written, lines_written, record_reported}
 use Rattle.slink_feed.specs.Listening.{Brings, IsLinked, Listening, Reads, event_if_any}
 use Rattle.slink_feed.specs.Turns.{Emitted, EmittedPrefix, reported_once}
-use Rattle.slink_feed.proofs.Goings.{lines_on, still_linked, tells_on}
+use Rattle.slink_feed.proofs.Goings.{lines_on, still_linked, reports_on}
 use Rattle.slink_feed.proofs.Received.{reads_more}
 
 pub record SoFar (old now : Fetching) (bytes : List ℕ) (offset written_count output_count_is : ℕ) : Type 0 where
@@ -256,7 +256,7 @@ module _ (old now new : Fetching) (bytes : List ℕ) (offset used : ℕ) (event 
   fails_here (faults.Output count) cut =
       fails_within record_reported line_written old.output now.output new.output old.written now.written new.written
       before.output count refl so_far.output_counted so_far.output so_far.written
-      (tells_on now.client.talk (now.client.kept ++ take used (take (length bytes - offset) (drop offset bytes)))
+      (reports_on now.client.talk (now.client.kept ++ take used (take (length bytes - offset) (drop offset bytes)))
       new.client event piece.brings) cut
 
 -- nothing is left, or the client takes no more

@@ -87,9 +87,9 @@ lines_on talk bytes new event brings some = elim (goes_on_by talk bytes new even
   | stays_quiet written reported ↦ absurd (omega (arith, some, ap length written))
 ]
 
-pub tells_on : (talk : Talk) (bytes : List ℕ) (new : Listening) (event : Event) → Brings talk bytes new event
+pub reports_on : (talk : Talk) (bytes : List ℕ) (new : Listening) (event : Event) → Brings talk bytes new event
     → 0 < length (record_reported event) → IsLinked new.talk.stage
-tells_on talk bytes new event brings some = elim (goes_on_by talk bytes new event brings) [
+reports_on talk bytes new event brings some = elim (goes_on_by talk bytes new event brings) [
   | goes_on linked ↦ linked
   | stays_quiet written reported ↦ absurd (omega (arith, some, ap length reported))
 ]

@@ -25,7 +25,7 @@ use Rattle.slink_feed.specs.Session.{State, has_sent_all, at_next, grant_at, pac
 use Rattle.slink_feed.specs.Session.{sent_of}
 use Rattle.slink_feed.specs.Turns.{reported_once}
 use Rattle.slink_feed.specs.Window.{Window, record_at}
-use Rattle.slink_feed.proofs.Closing.{Open, standings_same}
+use Rattle.slink_feed.proofs.Closing.{Open, states_same}
 use Rattle.slink_feed.proofs.Connected.{shut_given}
 use Rattle.slink_feed.proofs.OneReply.{Same, cut_in_once, served_once}
 use Rattle.slink_feed.proofs.Sendoffs.{place_within}
@@ -330,7 +330,7 @@ sent_alike feed old m n stands g h =
     (shut_given feed 0 g.sends.place old.session.state m.session.state g.sends.given g.sends.gives shut) ∙ shut) in
     let some : (stream : List ℕ) × StandsFor old.session stream = stands awake in record {
       alike = mid;
-      session = sym (standings_same m.session n.session mid.state (mid.held g.open_still));
+      session = sym (states_same m.session n.session mid.state (mid.held g.open_still));
       stream = some.0;
       held = subst (λ h. IsHeld h some.0) (sym g.sends.held) some.1.0;
       fits = sym some.1.0.1 ∙ some.1.1;

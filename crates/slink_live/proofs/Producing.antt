@@ -226,28 +226,28 @@ module _ (start : List Window) where
   Yields log None = Unit {0}
   Yields log (Some t) = ProducedOf log t.session t.produced
 
-  tells_more : (log now : List Happening) (h : Happening) (o : Option History) → now ≡ log ++ h ∷ [] → Yields log o
+  history_more : (log now : List Happening) (h : Happening) (o : Option History) → now ≡ log ++ h ∷ [] → Yields log o
       → Yields now o
-  tells_more log now h None e x = tt
-  tells_more log now h (Some t) e x = (produced_more log now h t.session.state t.produced e x.0, x.1)
+  history_more log now h None e x = tt
+  history_more log now h (Some t) e x = (produced_more log now h t.session.state t.produced e x.0, x.1)
 
   history_sends : (k : ℕ) (log : List Happening) (o : Option History) → IsServed start k log o → Yields log o
   history_sends k log o no_event = tt
-  history_sends k log o (elsewhere before now h x s other e) = tells_more before now h x e (history_sends k before x s)
+  history_sends k log o (elsewhere before now h x s other e) = history_more before now h x e (history_sends k before x s)
   history_sends k log o (opens before now s served fresh e) = (
     only_replies [] (λ on. let bad : Fresh ≡ Streaming = sym (ap (λ (x : State). x.phase) fresh.state) ∙ on in cc bad)
         refl,
     ([], λ alive. fresh.held),
   )
   history_sends k log o (receives before now feed s new ring bytes produced all emitted served fed serves e) =
-      tells_more before now (Received k bytes) (Some (history new ring all emitted)) e
+      history_more before now (Received k bytes) (Some (history new ring all emitted)) e
       (serves_produced before feed s new bytes produced all serves
       (history_sends k before (Some (history s ring produced emitted)) served))
   history_sends k log o (asks now feed s new ring turn produced all emitted served fed called) =
       asks_produced now feed s ring produced new turn all fed called
       (history_sends k now (Some (history s ring produced emitted)) served)
   history_sends k log o (takes before now s ring bytes produced emitted served prefix e) =
-      tells_more before now (Emitted k bytes) (Some (history s ring produced (emitted ++ bytes))) e
+      history_more before now (Emitted k bytes) (Some (history s ring produced (emitted ++ bytes))) e
       (history_sends k before (Some (history s ring produced emitted)) served)
   history_sends k log o (goes before now x served e) = tt
 

@@ -267,9 +267,9 @@ opened_awake s j new t log opened mid last lt free came now serves updates =
             (a.each k l (sym (get_or-set_other s.links j k new None ne) ∙ is)));
         is_reported = updates.is_reported (is_reported a.is_reported.left);
       };
-      closed = λ start v told0. goes_then
+      closed = λ start v was_reported. goes_then
           (further opened mid (WantsLinks wanted) (goes_one (Opened j) tt came) tt now)
-          (updates.closed start (serves start v) (is_reported told0.is_reported.left));
+          (updates.closed start (serves start v) (is_reported was_reported.is_reported.left));
     }
 
 pub opened_in : {s0 s t : ServerState} (same : s0 ≡ s) (j : ℕ) → j < length s0.links → (l : LinkState) → IsSound s
@@ -299,7 +299,7 @@ removed_awake s t j log last earlier lt handled is e =
         each = λ k. gone_awake s j log last lt e k (λ ne. a.each k);
         is_reported = gone_reported s j log last lt e a.is_reported.left;
       };
-      closed = λ start v told0. gone_goes s j log last lt e start (inl (earlier, handled));
+      closed = λ start v was_reported. gone_goes s j log last lt e start (inl (earlier, handled));
     })
 
 -- The input brought bytes, and then the links of their stations were updated.
@@ -339,7 +339,7 @@ pub input_ends : (s x t : ServerState) (bytes : List ℕ) (log mid last : List H
     → KeepsAwake s t log last
 input_ends s x t bytes log mid last now serves anew = record {
   awake = λ a. anew.awake;
-  closed = λ start v told0. goes_then (goes_one (Input bytes) tt now) (anew.closed start (serves start v));
+  closed = λ start v was_reported. goes_then (goes_one (Input bytes) tt now) (anew.closed start (serves start v));
 }
 
 -- it is read no more
@@ -347,7 +347,7 @@ pub awake_end : {s t : ServerState} {log last : List Happening} → AwakensAnew 
     → KeepsAwake s t log last
 awake_end {s} {t} {log} anew = record {
   awake = λ a. anew.awake;
-  closed = λ start v told0. anew.closed start (ended_serving start s log v);
+  closed = λ start v was_reported. anew.closed start (ended_serving start s log v);
 }
 
 same_ended : {s0 s : ServerState} → s0 ≡ s → ended s0 ≡ ended s
@@ -402,21 +402,21 @@ pub updated_more : {Rests : ℕ → Type 0} (s t u : ServerState) (n : ℕ) (log
     → KeepsServing s t log mid → HasUpdated Rests s t n log mid → Updates n t u mid last
     → HasUpdated Rests s u (n + 1) log last
 updated_more s t u n log mid last keeps h updates = record {
-  awake = λ told0 rests k lt. updates.links k (λ ne. h.awake told0 rests k (omega (arith, lt, ne)));
+  awake = λ was_reported rests k lt. updates.links k (λ ne. h.awake was_reported rests k (omega (arith, lt, ne)));
   still = λ k le a. updates.links k (λ ne. h.still k (omega (arith, le)) a);
   rest = λ k le. updates.others k (λ e. omega (arith, le, e)) ∙ h.rest k (omega (arith, le));
-  is_reported = λ told0. updates.is_reported (h.is_reported told0);
-  closed = λ start v told0. goes_then (h.closed start v told0)
-      (updates.closed start (keeps.serving start v) (h.is_reported told0));
+  is_reported = λ was_reported. updates.is_reported (h.is_reported was_reported);
+  closed = λ start v was_reported. goes_then (h.closed start v was_reported)
+      (updates.closed start (keeps.serving start v) (h.is_reported was_reported));
 }
 
 -- one more, in which no link slept
 pub updated_past : {Rests : ℕ → Type 0} (s t : ServerState) (n : ℕ) (log last : List Happening)
     → HasUpdated Rests s t n log last → Rests n → HasUpdated Rests s t (n + 1) log last
 updated_past s t n log last h here = record {
-  awake = λ told0 rests k lt. elim (eqb_tells k n) [
+  awake = λ was_reported rests k lt. elim (eqb_tells k n) [
     | inl same ↦ subst (IsAwakeIn t last) (sym same.1) (h.still n (omega arith) (rests n here))
-    | inr other ↦ h.awake told0 rests k (omega (arith, lt, other.1))
+    | inr other ↦ h.awake was_reported rests k (omega (arith, lt, other.1))
   ];
   still = λ k le a. h.still k (omega (arith, le)) a;
   rest = λ k le. h.rest k (omega (arith, le));
@@ -426,25 +426,25 @@ updated_past s t n log last h here = record {
 
 updated_each : {Rests : ℕ → Type 0} (s t : ServerState) (n : ℕ) (log last : List Happening) → length t.links ≤ n
     → HasUpdated Rests s t n log last → IsReported s log → ((k : ℕ) → Rests k → IsAwakeIn s log k) → IsAwake t last
-updated_each s t n log last le h told0 rests = record {
+updated_each s t n log last le h was_reported rests = record {
   each = λ k. elim (leb_tells n k) [
-    | inr lt ↦ h.awake told0 rests k (omega (arith, lt.1))
+    | inr lt ↦ h.awake was_reported rests k (omega (arith, lt.1))
     | inl ge ↦ λ l is. absurd (let bad : None ≡ Some l = sym (get_or_past t.links k None (omega (arith, le, ge.1))) ∙ is
         in cc bad)
   ];
-  is_reported = h.is_reported told0;
+  is_reported = h.is_reported was_reported;
 }
 
 pub updated_all : (s t : ServerState) (n : ℕ) (log last : List Happening) → length t.links ≤ n
     → HasUpdated (λ k. ⊥) s t n log last → AwakensAll s t log last
 updated_all s t n log last le h = record {
-  awake = λ told0. updated_each s t n log last le h told0 (λ k none. absurd none);
+  awake = λ was_reported. updated_each s t n log last le h was_reported (λ k none. absurd none);
   closed = h.closed;
 }
 
 pub updated_but : (places : Places) (s t : ServerState) (n : ℕ) (log last : List Happening) → length t.links ≤ n
     → HasUpdated (λ k. LeavesOut places (get_or s.links k None)) s t n log last → AwakensThose places s t log last
 updated_but places s t n log last le h = record {
-  awake = λ told0 rests. updated_each s t n log last le h told0 rests;
+  awake = λ was_reported rests. updated_each s t n log last le h was_reported rests;
   closed = h.closed;
 }

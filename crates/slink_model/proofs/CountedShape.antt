@@ -27,7 +27,7 @@ use Rattle.slink_model.proofs.Counts.{EndsIn}
 use Rattle.slink_feed.proofs.Items.{within_is}
 use Rattle.slink_model.proofs.OneWorld.{linked_or}
 use Rattle.slink_model.proofs.Requested.{also_at}
-use Rattle.slink_model.proofs.Shaking.{AreCalled, AreOfPlace, AreSent, IsBorne, IsSent, Shakes, asks_end, asks_number}
+use Rattle.slink_model.proofs.Shaking.{AreCalled, AreOfPlace, AreSent, IsOfPlace, IsSent, Shakes, asks_end, asks_number}
 use Rattle.slink_model.proofs.Shaking.{asks_place, has_none, has_number, has_place, streams}
 
 -- how many replies a client read that waits for this
@@ -129,7 +129,7 @@ read_packets places (i ∷ is) t p sent matched linked =
           (subst (λ (u : Talk). IsLinked u.stage) (unlinked_upon (on_item t.stage i t).0 is over).0 linked))
     ]
   where
-    one_read : (i : Item) → IsSent i → IsBorne places i → IsLinked (on_item Packets i t).0.stage
+    one_read : (i : Item) → IsSent i → IsOfPlace places i → IsLinked (on_item Packets i t).0.stage
         → ((on_item Packets i t).0.stage ≡ Packets) × (ArePackets is → ArePackets (i ∷ is))
     one_read Accepted sent matched there = absurd sent
     one_read Refused sent matched there = absurd sent

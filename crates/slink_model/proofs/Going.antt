@@ -26,7 +26,7 @@ use Rattle.slink_model.proofs.Items.{carried_here, carried_there}
 use Rattle.slink_feed.proofs.Items.{same_or_not, within_is}
 use Rattle.slink_model.proofs.Linked.{any}
 use Rattle.slink_model.proofs.Outcomes.{same_cut}
-use Rattle.slink_model.proofs.Shaking.{AreOfPlace, IsBorne, IsSuited, LinkTalks}
+use Rattle.slink_model.proofs.Shaking.{AreOfPlace, IsOfPlace, IsSuited, LinkTalks}
 use Rattle.slink_model.proofs.Sparing.{IsTalking, WorldTalks, talks_after}
 use Rattle.slink_model.proofs.Worlds.{last_lacks, ties_after}
 use Rattle.slink_feed.proofs.Prefixed.{packet_long}
@@ -44,7 +44,7 @@ module _ (places : Places) (differ : Differ places) where
   ]
 
   carried_many : (xs ys : List Item) (ka na : ℕ) (ra : List ℕ) (kb nb : ℕ) (rb : List ℕ)
-      → IsBorne places (Carried ka na ra) → IsBorne places (Carried kb nb rb)
+      → IsOfPlace places (Carried ka na ra) → IsOfPlace places (Carried kb nb rb)
       → way_bytes (Carried ka na ra ∷ xs) ≡ way_bytes (Carried kb nb rb ∷ ys) → (j : ℕ)
       → (way_bytes xs ≡ way_bytes ys → length (of_place j xs) ≡ length (of_place j ys))
       → length (of_place j (Carried ka na ra ∷ xs)) ≡ length (of_place j (Carried kb nb rb ∷ ys))
@@ -89,7 +89,7 @@ module _ (places : Places) (differ : Differ places) where
   some_mark (Carried k n r) = omega arith
   some_mark Finished = omega arith
 
-  first_many : (x y : Item) (xs ys : List Item) → IsBorne places x → IsBorne places y → mark x ≡ mark y
+  first_many : (x y : Item) (xs ys : List Item) → IsOfPlace places x → IsOfPlace places y → mark x ≡ mark y
       → way_bytes (x ∷ xs) ≡ way_bytes (y ∷ ys) → (j : ℕ)
       → (way_bytes xs ≡ way_bytes ys → length (of_place j xs) ≡ length (of_place j ys))
       → length (of_place j (x ∷ xs)) ≡ length (of_place j (y ∷ ys))

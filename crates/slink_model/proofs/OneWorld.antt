@@ -30,7 +30,7 @@ use Rattle.slink_model.specs.World.{AllHappen, Both, Connects, Delivers, Differ,
 use Rattle.slink_model.specs.World.{LinkState, Numbers, Taking, WorldState, none_read, noted, opening, piece_read}
 use Rattle.slink_model.specs.World.{piece_lost, pushed_to, taking}
 use Rattle.slink_model.proofs.Answering.{Comes, IsOn, IsPending, called_on, it_came, not_both, not_yet, quiet_on}
-use Rattle.slink_feed.proofs.Closing.{Open, open_or, shut_on, held_same, standings_same}
+use Rattle.slink_feed.proofs.Closing.{Open, open_or, shut_on, held_same, states_same}
 use Rattle.slink_model.proofs.Calling.{pending_or}
 use Rattle.slink_feed.proofs.Received.{begun_after, begun_none}
 use Rattle.slink_model.proofs.Lined.{IsAnswered}
@@ -241,7 +241,7 @@ module _ (feed : List Window) (s : SessionState) (bytes way rest taken : List �
       quiet_on feed s bytes way a x rest taken p awake (held awake) reported in
       let two : IsOn feed s b way y (taken ++ bytes) rest =
       quiet_on feed s bytes way b y rest taken q awake (held awake) reported in (
-        standings_same a b (one.state ∙ sym two.state) (held_same a.held b.held (taken ++ bytes) one.held two.held),
+        states_same a b (one.state ∙ sym two.state) (held_same a.held b.held (taken ++ bytes) one.held two.held),
         one.sent ∙ sym two.sent,
       )
 
@@ -259,14 +259,14 @@ module _ (feed : List Window) (s : SessionState) (bytes way rest taken : List �
 
     both_done : (a b : SessionState) (x y : List ℕ) → Done a x → Done b y → (a ≡ b) × (x ≡ y)
     both_done a b x y (not_yet p sent kept asks) (not_yet q sent' kept' asks') =
-        (standings_same a b (p ∙ sym q) (held_same a.held b.held (taken ++ bytes) kept kept'), sent ∙ sym sent')
+        (states_same a b (p ∙ sym q) (held_same a.held b.held (taken ++ bytes) kept kept'), sent ∙ sym sent')
     both_done a b x y (not_yet p sent kept asks) (it_came r sent' done kept' reported) =
         absurd (not_both (request_line pending.request) (taken ++ bytes) rest asks reported)
     both_done a b x y (it_came r sent done kept reported) (not_yet q sent' kept' asks') =
         absurd (not_both (request_line pending.request) (taken ++ bytes) rest asks' reported)
     both_done a b x y (it_came r sent done kept reported) (it_came r' sent' done' kept' reported') =
         let same : ◌≡◌ {A = State × Reply} (a.state, r) (b.state, r') = sym done ∙ done' in (
-          standings_same a b (ap (λ (z : State × Reply). z.0) same)
+          states_same a b (ap (λ (z : State × Reply). z.0) same)
               (held_same a.held b.held (taken ++ bytes) kept kept'),
           sent
               ∙ (ap (λ (z : State × Reply). way ++ reply_bytes z.1) same ∙ sym sent'),
@@ -362,7 +362,7 @@ module _ (places : Places) (differ : Differ places) (codes : (k : ℕ) (p : Fiel
   connected_once : (a b : WorldState) → Connects w a → Connects w b → a ≡ b
   connected_once a b p q =
       let session : p.session ≡ q.session =
-      standings_same p.session q.session (p.is_new.state ∙ sym q.is_new.state)
+      states_same p.session q.session (p.is_new.state ∙ sym q.is_new.state)
       (held_same p.session.held q.session.held [] p.is_new.held q.is_new.held) in
       p.becomes ∙ (ap (λ (x : SessionState). linked_anew w x (requests_place 0 w.client.talk)) session ∙ sym q.becomes)
 

@@ -41,17 +41,17 @@ use Rattle.slink_model.proofs.Requested.{station_found}
 use Rattle.slink_model.proofs.Resolved.{resolved_alike}
 
 -- Of records, each has 512 bytes and is of its station.
-abbrev pub IsBorne : Places → Item → Type 0
-IsBorne places Accepted = Unit {0}
-IsBorne places Refused = Unit {0}
-IsBorne places Greeted = Unit {0}
-IsBorne places (Carried k n r) = (p : Fields × Option ℕ) × (slice_get places k ≡ Some p) × (length r ≡ 512)
+abbrev pub IsOfPlace : Places → Item → Type 0
+IsOfPlace places Accepted = Unit {0}
+IsOfPlace places Refused = Unit {0}
+IsOfPlace places Greeted = Unit {0}
+IsOfPlace places (Carried k n r) = (p : Fields × Option ℕ) × (slice_get places k ≡ Some p) × (length r ≡ 512)
     × Bears r p.0
-IsBorne places Finished = Unit {0}
+IsOfPlace places Finished = Unit {0}
 
 abbrev pub AreOfPlace : Places → List Item → Type 0
 AreOfPlace places [] = Unit {0}
-AreOfPlace places (i ∷ is) = IsBorne places i × AreOfPlace places is
+AreOfPlace places (i ∷ is) = IsOfPlace places i × AreOfPlace places is
 
 -- what is sent once lines are no longer answered
 abbrev pub IsSent : Item → Type 0

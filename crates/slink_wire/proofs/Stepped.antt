@@ -17,13 +17,13 @@ abbrev Leads : List ℕ → List ℕ → Held × What → Type 0
 Leads before after x = IsHeld x.0 after × Yields x.1 before after
 
 -- the same, over what the two streams spell
-abbrev TellsOf : What → Spelled → Spelled → Type 0
-TellsOf More old new = (new.lines ≡ old.lines) × (new.is_too_long ≡ false)
-TellsOf (Line line) old new = (new.lines ≡ old.lines ++ line.items ∷ []) × (new.is_too_long ≡ false)
-TellsOf TooLong old new = (new.lines ≡ old.lines) × (new.is_too_long ≡ true)
+abbrev AnswersOf : What → Spelled → Spelled → Type 0
+AnswersOf More old new = (new.lines ≡ old.lines) × (new.is_too_long ≡ false)
+AnswersOf (Line line) old new = (new.lines ≡ old.lines ++ line.items ∷ []) × (new.is_too_long ≡ false)
+AnswersOf TooLong old new = (new.lines ≡ old.lines) × (new.is_too_long ≡ true)
 
 abbrev LeadsOf : Spelled → Spelled → Held × What → Type 0
-LeadsOf old new x = ((x.0.begun ≡ new.begun) × (x.0.is_too_long ≡ new.is_too_long)) × TellsOf x.1 old new
+LeadsOf old new x = ((x.0.begun ≡ new.begun) × (x.0.is_too_long ≡ new.is_too_long)) × AnswersOf x.1 old new
 
 leads : (before after : List ℕ) (x : Held × What) → LeadsOf (lines_of before) (lines_of after) x → Leads before after x
 leads before after (held, More) h = h
@@ -164,11 +164,11 @@ pub record TakenTo (old now : Held) (piece : List ℕ) (i : ℕ) : Type 0 where
   pub held : (stream : List ℕ) → IsHeld old stream → IsHeld now (stream ++ take i piece)
   pub quiet : (stream : List ℕ) (k : ℕ) → IsHeld old stream → k ≤ i → YieldsNothing stream (stream ++ take k piece)
 
-tells_from : (what : What) (before middle after : List ℕ) → YieldsNothing before middle → Yields what middle after
+answers_from : (what : What) (before middle after : List ℕ) → YieldsNothing before middle → Yields what middle after
     → Yields what before after
-tells_from More before middle after p q = (q.0 ∙ p.0, q.1)
-tells_from (Line line) before middle after p q = (q.0 ∙ ap (λ ls. ls ++ line.items ∷ []) p.0, q.1)
-tells_from TooLong before middle after p q = (q.0 ∙ p.0, q.1)
+answers_from More before middle after p q = (q.0 ∙ p.0, q.1)
+answers_from (Line line) before middle after p q = (q.0 ∙ ap (λ ls. ls ++ line.items ∷ []) p.0, q.1)
+answers_from TooLong before middle after p q = (q.0 ∙ p.0, q.1)
 
 -- the next byte, and what it yields
 pub taken_byte : (old now new : Held) (piece : List ℕ) (i : ℕ) (what : What) → i < length piece
@@ -183,7 +183,7 @@ taken_byte old now new piece i what lt stepped t stream h =
     (subst (λ s. Leads (stream ++ take i piece) s (step now.begun b)) at
     (step_leads (stream ++ take i piece) now b t.goes_on (t.held stream h))) in (
       led.0,
-      tells_from what stream (stream ++ take i piece) (stream ++ take (i + 1) piece)
+      answers_from what stream (stream ++ take i piece) (stream ++ take (i + 1) piece)
           (t.quiet stream i h (omega arith)) led.1,
     )
 
