@@ -15,7 +15,7 @@ use denote.Ref.{MutRef, ShrRef, mut_vals, mut_Tells, shr_vals, shr_Tells}
 use denote.Signature.{plain, shr_ref_to}
 use denote.Steps.{nothing, opens, closes}
 use denote.Triple.Walked.{Stays, walk_of, stay_dropped, Goes-dropped, stay_ref, Goes-ref, ends_at}
-use Rattle.mseed_stream.proofs.WritesLine.{tells_last}
+use Rattle.mseed_stream.proofs.Facts.{last_fact}
 use Rattle.mseed_stream.specs.contracts.exchanges.Exchanges.note as f
 use Rattle.mseed_stream.proofs.exchanges.Exchanges.note.Statement.{statement}
 use Rattle.mseed_stream.proofs.exchanges.Exchanges.note.Code as code
@@ -72,4 +72,4 @@ note_spec 𝓤 𝓛 𝓜 𝓡 wired =
     group ! 3 $ nothing ! $ nothing ! $ join ! $ nothing ! $ join ! $ nothing ! $ join ! $ move ! (1 ∷ 0 ∷ []) $ join !
     $ move ! (1 ∷ 2 ∷ []) $ join ! $
     feq_i ! _ (vunit ∷ []) (vunit ∷ []) refl $ move ! (2 ∷ 0 ∷ []) $ join ! $ move ! (1 ∷ 0 ∷ []) $ join ! $ frame ! $
-    tells_last ! refl)))
+    last_fact ! refl)))

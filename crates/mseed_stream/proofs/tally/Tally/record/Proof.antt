@@ -16,7 +16,7 @@ use denote.Slice.{ShrSlice, shr_slice_vals, shr_slice_Tells}
 use denote.Signature.{plain, shr_slice_of}
 use denote.Steps.{nothing, opens, closes}
 use denote.Triple.Walked.{Stays, walk_of, stay_dropped, Goes-dropped, stay_ref, Goes-ref, ends_at}
-use Rattle.mseed_stream.proofs.WritesLine.{tells, tells_last}
+use Rattle.mseed_stream.proofs.Facts.{next_fact, last_fact}
 use Rattle.mseed_stream.specs.contracts.tally.Tally.record as f
 use Rattle.mseed_stream.proofs.tally.Tally.record.Statement.{statement}
 use Rattle.mseed_stream.proofs.tally.Tally.record.Code as code
@@ -61,4 +61,4 @@ record_spec 𝓤 𝓛 𝓜 𝓡 wired =
     group ! 3 $ nothing ! $ nothing ! $ join ! $ nothing ! $ join ! $ move ! (1 ∷ 0 ∷ []) $ join ! $ move !
     (1 ∷ 2 ∷ []) $ join ! $
     feq_i ! _ (vunit ∷ []) (vunit ∷ []) refl $ move ! (2 ∷ 0 ∷ []) $ join ! $ move ! (1 ∷ 0 ∷ []) $ join ! $ frame ! $
-    tells ! refl $ tells ! refl $ tells_last ! refl)))
+    next_fact ! refl $ next_fact ! refl $ last_fact ! refl)))

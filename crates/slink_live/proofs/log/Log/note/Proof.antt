@@ -16,7 +16,7 @@ use denote.Slice.{ShrSlice, shr_slice_vals, shr_slice_Tells}
 use denote.Signature.{plain, shr_slice_of}
 use denote.Steps.{nothing, opens, closes}
 use denote.Triple.Walked.{Stays, walk_of, stay_dropped, Goes-dropped, stay_ref, Goes-ref, ends_at}
-use Rattle.mseed_stream.proofs.WritesLine.{tells_last}
+use Rattle.mseed_stream.proofs.Facts.{last_fact}
 use Rattle.slink_live.specs.Happening.{happening}
 use Rattle.slink_live.specs.contracts.log.Log.note as f
 use Rattle.slink_live.proofs.log.Log.note.Statement.{statement}
@@ -67,4 +67,4 @@ note_spec 𝓤 𝓛 𝓜 𝓡 wired =
     group ! 3 $ nothing ! $ nothing ! $ join ! $ nothing ! $ join ! $ nothing ! $ join ! $
     move ! (1 ∷ 0 ∷ []) $ join ! $ move ! (1 ∷ 2 ∷ []) $ join ! $
     feq_i ! _ (vunit ∷ []) (vunit ∷ []) refl $ move ! (2 ∷ 0 ∷ []) $ join ! $ move ! (1 ∷ 0 ∷ []) $ join ! $ frame ! $
-    tells_last ! refl)))
+    last_fact ! refl)))
