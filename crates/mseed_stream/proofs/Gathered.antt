@@ -19,9 +19,9 @@ gathered_first first old text lines g =
     (length g.taken, g.bytes ∙ ap (λ (xs : List ℕ). first.bytes ++ xs) prefix)
 
 -- the whole, after what was taken before
-pub behind : (first old : BytesWritten) (text lines tail : List ℕ) (before : AreGathered first old text lines)
+pub text_after : (first old : BytesWritten) (text lines tail : List ℕ) (before : AreGathered first old text lines)
     → before.taken ++ (text ++ tail) ≡ lines ++ tail
-behind first old text lines tail before = sym (append_assoc before.taken text tail)
+text_after first old text lines tail before = sym (append_assoc before.taken text tail)
     ∙ ap (λ (xs : List ℕ). xs ++ tail) before.joined
 
 -- lines were added to what is gathered, and perhaps written
@@ -33,7 +33,7 @@ gathered_more first old new text next lines line before after = record {
   bytes = after.bytes ∙ ap (λ (xs : List ℕ). xs ++ after.taken) before.bytes
       ∙ append_assoc first.bytes before.taken after.taken;
   joined = append_assoc before.taken after.taken next ∙ ap (λ (xs : List ℕ). before.taken ++ xs) after.joined
-      ∙ behind first old text lines line before;
+      ∙ text_after first old text lines line before;
 }
 
 -- what is gathered was written
@@ -51,7 +51,7 @@ pub all_behind : (first old new : BytesWritten) (text lines tail : List ℕ) →
 all_behind first old new text lines tail before written =
     written ∙ ap (λ (xs : List ℕ). xs ++ (text ++ tail)) before.bytes
     ∙ append_assoc first.bytes before.taken (text ++ tail)
-    ∙ ap (λ (xs : List ℕ). first.bytes ++ xs) (behind first old text lines tail before)
+    ∙ ap (λ (xs : List ℕ). first.bytes ++ xs) (text_after first old text lines tail before)
 
 -- or the first bytes of it
 taken_after : (first old new : BytesWritten) (text lines tail : List ℕ) (n : ℕ)
@@ -62,7 +62,7 @@ taken_after first old new text lines tail n before taken =
     taken ∙ ap (λ (xs : List ℕ). xs ++ take n (text ++ tail)) before.bytes
     ∙ append_assoc first.bytes before.taken (take n (text ++ tail))
     ∙ ap (λ (xs : List ℕ). first.bytes ++ xs) (sym (take-append-add before.taken (text ++ tail) n))
-    ∙ ap (λ (xs : List ℕ). first.bytes ++ take (length before.taken + n) xs) (behind first old text lines tail before)
+    ∙ ap (λ (xs : List ℕ). first.bytes ++ take (length before.taken + n) xs) (text_after first old text lines tail before)
 
 pub first_behind : (first old new : BytesWritten) (text lines tail : List ℕ) → AreGathered first old text lines
     → EmittedFirst old new (text ++ tail) → EmittedFirst first new (lines ++ tail)
@@ -74,21 +74,21 @@ pub part_after : (first old new : BytesWritten) (text lines tail : List ℕ) →
 part_after first old new text lines tail before emitted =
     let size : length before.taken + length (text ++ tail) ≡ length (lines ++ tail) =
     sym (length-append before.taken (text ++ tail))
-    ∙ ap (λ (xs : List ℕ). length xs) (behind first old text lines tail before) in (
+    ∙ ap (λ (xs : List ℕ). length xs) (text_after first old text lines tail before) in (
       length before.taken + emitted.0,
       (omega (arith, emitted.1.0, size), taken_after first old new text lines tail emitted.0 before emitted.1.1),
     )
 
 -- with nothing after
-none_behind : (P Q : List ℕ → Type 0) (text lines : List ℕ) → (P (text ++ []) → Q (lines ++ [])) → P text → Q lines
-none_behind P Q text lines step p =
+with_nothing : (P Q : List ℕ → Type 0) (text lines : List ℕ) → (P (text ++ []) → Q (lines ++ [])) → P text → Q lines
+with_nothing P Q text lines step p =
     subst (λ (xs : List ℕ). Q xs) (append-nil lines)
     (step (subst (λ (xs : List ℕ). P xs) (sym (append-nil text)) p))
 
 pub part_of : (first old new : BytesWritten) (text lines : List ℕ) → AreGathered first old text lines
     → EmittedPart old new text → EmittedPart first new lines
 part_of first old new text lines before =
-    none_behind (EmittedPart old new) (EmittedPart first new) text lines
+    with_nothing (EmittedPart old new) (EmittedPart first new) text lines
     (part_after first old new text lines [] before)
 
 -- the output failed as it took some of what is gathered: that is a part of the whole

@@ -116,21 +116,21 @@ one_views bytes offset vs ws a b =
     same_views vs ws a.each b.each both.0
 
 -- no record begins after the last
-none_behind : (end : Option StreamFault) (offset : ℕ) (h : BytesRead) → IsEnd end offset h
+nothing_further : (end : Option StreamFault) (offset : ℕ) (h : BytesRead) → IsEnd end offset h
     → HasNoFurther (read_from offset h)
-none_behind None offset h is = no_further (read_from offset h) clean is.0.0
-none_behind (Some (Frame n f)) offset h is = no_further (read_from offset h) (frame f) is.0.1
-none_behind (Some (Truncated n have)) offset h is = no_further (read_from offset h) (truncated have) is.0.1
-none_behind (Some (Read n)) offset h is = none_short (read_from offset h) is.0.3
-none_behind (Some (Turns n)) offset h is = none_short (read_from offset h) is.0.3
-none_behind (Some Memory) offset h is = absurd (is.1 refl)
+nothing_further None offset h is = no_further (read_from offset h) clean is.0.0
+nothing_further (Some (Frame n f)) offset h is = no_further (read_from offset h) (frame f) is.0.1
+nothing_further (Some (Truncated n have)) offset h is = no_further (read_from offset h) (truncated have) is.0.1
+nothing_further (Some (Read n)) offset h is = none_short (read_from offset h) is.0.3
+nothing_further (Some (Turns n)) offset h is = none_short (read_from offset h) is.0.3
+nothing_further (Some Memory) offset h is = absurd (is.1 refl)
 
 pub archive_is : (offset : ℕ) (views : List View) (end : Option StreamFault) (h : BytesRead)
     → AreViews h.bytes offset views → IsEnd end offset h → IsArchive h.bytes (bytes_in views) (drop offset h.bytes)
 archive_is offset views end h are is = record {
   joined = sym (take-append-drop offset h.bytes) ∙ ap (λ (xs : List ℕ). xs ++ drop offset h.bytes) are.records.joined;
   each = are.records.each;
-  no_further = none_behind end offset h is;
+  no_further = nothing_further end offset h is;
 }
 
 -- how the input ends, by how its bytes end

@@ -13,7 +13,7 @@ use Rattle.mseed_stream.specs.Device.{BytesRead, lent_also}
 use Rattle.mseed_stream.specs.CutterState.{CutterState}
 use Rattle.mseed_stream.specs.Walk.{HasHandedOut, bytes_in}
 use Rattle.mseed_stream.proofs.Handed.{records_more}
-use Rattle.mseed_stream.proofs.Settled.{nothing_ended}
+use Rattle.mseed_stream.proofs.AfterFound.{nothing_ended}
 use Rattle.mseed_stream.proofs.Walks.{handed_record}
 
 -- a record has no more bytes than the longest
@@ -39,13 +39,13 @@ abbrev pub passed : CutterState → ℕ → CutterState
 passed c size = record c { offset = c.offset + size; prefix = []; is_lent = false; reads = c.reads + 2 }
 
 -- a cutter that forgot what it lent, with a record after it
-abbrev pub behind : CutterState → ℕ → CutterState
-behind c size = record c { offset = c.offset + size; reads = c.reads + 2 }
+abbrev pub past : CutterState → ℕ → CutterState
+past c size = record c { offset = c.offset + size; reads = c.reads + 2 }
 
 stands_after : (here old : CutterState) (size : ℕ) → here ≡ record old { prefix = held_of old; is_lent = false }
-    → held_of old ≡ [] → behind here size ≡ passed old size
+    → held_of old ≡ [] → past here size ≡ passed old size
 stands_after here old size is none =
-    ap (λ (s : CutterState). behind s size) is
+    ap (λ (s : CutterState). past s size) is
     ∙ ap (λ (xs : List ℕ). let s : CutterState = record old {
       offset = old.offset + size;
       prefix = xs;
@@ -56,7 +56,7 @@ stands_after here old size is none =
 -- what holds where it stands after the record, and the record was read, holds of it
 pub stands_passed : (P : BytesRead → CutterState → Type 0) (new : BytesRead) (here old : CutterState) (size : ℕ)
     (now : BytesRead) → here ≡ record old { prefix = held_of old; is_lent = false } → held_of old ≡ [] → new ≡ now
-    → P now (passed old size) → P new (behind here size)
+    → P now (passed old size) → P new (past here size)
 stands_passed P new here old size now is none read holds =
     subst (λ (s : CutterState). P new s) (sym (stands_after here old size is none))
     (subst (λ (h : BytesRead). P h (passed old size)) (sym read) holds)

@@ -14,7 +14,7 @@ ghost use Rattle.mseed_stream.specs.Cutting.{IsRead, IsAlong, IsStop, GivesMore,
 ghost use Rattle.mseed_stream.specs.Cutting.{held_of, read_from, moves_by, answer_of, kept_of, IfEnds, IsAhead};
 ghost use Rattle.mseed_stream.specs.Cutting.{lent_whole};
 ghost use Rattle.mseed_stream.specs.Walk.{HasHandedOut, AreAllViews, IfGoesOn, end_of};
-ghost use Rattle.mseed_stream.specs.private.Steps.{IsFillFault, IsAnswerAtEnd, IsCut, MayCut, lent_of, settled};
+ghost use Rattle.mseed_stream.specs.private.Steps.{IsFillFault, IsAnswerAtEnd, IsCut, MayCut, lent_of, after_found};
 
 use crate::device::{Failed, READS, Sink, Source};
 use crate::fault::StreamFault;
@@ -273,7 +273,7 @@ impl<A: Allocator> Cutter<A> {
         }
         self.forget();
         let found = self.cut(source);
-        self.settle(found)
+        self.pass_found(found)
     }
 
     /// Drops the record that was lent from the buffer.
@@ -292,9 +292,9 @@ impl<A: Allocator> Cutter<A> {
     /// # Errors
     ///
     /// The fault that was found.
-    fn settle(&mut self, found: Result<bool, StreamFault>) -> Result<Option<usize>, StreamFault>
+    fn pass_found(&mut self, found: Result<bool, StreamFault>) -> Result<Option<usize>, StreamFault>
         requires { self.old.is_lent ≡ false }
-        ensures after { self.new ≡ settled self.old found }
+        ensures after { self.new ≡ after_found self.old found }
         ensures answer { result ≡ lent_of (length self.old.prefix) found }
     {
         match found {

@@ -69,11 +69,11 @@ lent_of n (Ok false) = Ok None
 lent_of n (Err e) = Err e
 
 -- a cutter that found a record, or not, and then lends it or keeps its answer
-abbrev pub settled : CutterState → Result Bool StreamFault → CutterState
-settled c (Ok true) = record c { offset = c.offset + length c.prefix; is_lent = true }
-settled c (Ok false) = record c { answer = Some Clean }
-settled c (Err Memory) = c
-settled c (Err (Frame n f)) = record c { answer = Some (Fault (Frame n f)) }
-settled c (Err (Truncated n have)) = record c { answer = Some (Fault (Truncated n have)) }
-settled c (Err (Read n)) = record c { answer = Some (Fault (Read n)) }
-settled c (Err (Turns n)) = record c { answer = Some (Fault (Turns n)) }
+abbrev pub after_found : CutterState → Result Bool StreamFault → CutterState
+after_found c (Ok true) = record c { offset = c.offset + length c.prefix; is_lent = true }
+after_found c (Ok false) = record c { answer = Some Clean }
+after_found c (Err Memory) = c
+after_found c (Err (Frame n f)) = record c { answer = Some (Fault (Frame n f)) }
+after_found c (Err (Truncated n have)) = record c { answer = Some (Fault (Truncated n have)) }
+after_found c (Err (Read n)) = record c { answer = Some (Fault (Read n)) }
+after_found c (Err (Turns n)) = record c { answer = Some (Fault (Turns n)) }

@@ -9,8 +9,8 @@ use Rattle.mseed_stream.specs.Archive.{IsEndOf, clean}
 use Rattle.mseed_stream.specs.Cutting.{IsAlong, IsCleanEnd, IsCutFault, read_from}
 use Rattle.mseed_stream.specs.private.Steps.{lent_of}
 use Rattle.mseed_stream.proofs.Handed.{records_after, archive_at}
-use Rattle.mseed_stream.proofs.Settled.{along_settled, clean_end, nothing_found, reported_is, record_found, fault_found}
-use Rattle.mseed_stream.proofs.Settled.{fault_again, end_again}
+use Rattle.mseed_stream.proofs.AfterFound.{along_found, clean_end, nothing_found, reported_is, record_found, fault_found}
+use Rattle.mseed_stream.proofs.AfterFound.{fault_again, end_again}
 use Rattle.mseed_stream.proofs.cutter.Cutter.advance.Goals as goal
 
 pub returns-clause-along : goal.returns-clause-along
@@ -19,8 +19,8 @@ returns-clause-along g c =
     let cut = c.cut-found.ensures.cut in
     let new : BytesRead = g.R.Source.read c.cut-found.new.source in
     let open_still : after.answer ≡ None = search rules in
-    subst (λ (s : CutterState). IsAlong new s) (sym c.settle.ensures.after)
-    (along_settled c.cut-found.result c.forget.new.self after (g.R.Source.read c.args.source.now) new cut.read
+    subst (λ (s : CutterState). IsAlong new s) (sym c.pass_found.ensures.after)
+    (along_found c.cut-found.result c.forget.new.self after (g.R.Source.read c.args.source.now) new cut.read
     cut.stays.1 open_still cut.stays.0 cut.found cut.ended cut.stop cut.fault)
 
 -- the answer that was kept is given again
@@ -50,7 +50,7 @@ returns-in-Some-clause-answer g c =
       most = search rules;
     }
 
--- what was found is settled
+-- what was found is after_found
 pub returns-clause-answer : goal.returns-clause-answer
 returns-clause-answer g c =
     let cut = c.cut-found.ensures.cut in
@@ -60,8 +60,8 @@ returns-clause-answer g c =
     let new : BytesRead = g.R.Source.read c.cut-found.new.source in
     let within : offset ≤ length old.bytes = omega (arith, c.requires.read.reported) in
     let same_offset : after.offset ≡ offset = cut.stays.0 ∙ ap (λ (s : CutterState). s.offset) c.forget.ensures in
-    let end : c.settle.result ≡ Ok None → IsCleanEnd offset new = λ e.
-    let nothing = cut.ended (nothing_found c.cut-found.result (length after.prefix) (sym c.settle.ensures.answer
+    let end : c.pass_found.result ≡ Ok None → IsCleanEnd offset new = λ e.
+    let nothing = cut.ended (nothing_found c.cut-found.result (length after.prefix) (sym c.pass_found.ensures.answer
     ∙ e)) in (
       subst (λ (n : ℕ). IsEndOf (read_from n new) clean) same_offset
           (clean_end new after cut.read cut.stays.1 nothing.0),
@@ -73,21 +73,21 @@ returns-clause-answer g c =
     let is = subst (λ (xs : List ℕ). IfOk (lent_of (length after.prefix) c.cut-found.result)
     (λ o. IfSome o (λ m. IsRecord xs))) reported found in
     let handed = subst (λ (r : Result (Option ℕ) StreamFault). IfOk r
-    (λ o. IfSome o (λ m. IsRecord (read_from offset new)))) (sym c.settle.ensures.answer) is in
+    (λ o. IfSome o (λ m. IsRecord (read_from offset new)))) (sym c.pass_found.ensures.answer) is in
     let cutting = fault_found c.cut-found.result (length after.prefix) c.forget.new.self after old new cut.read
     cut.stays.1 cut.stays.0 cut.fault in
     let fault_here = subst (λ (n : ℕ). IfErr (lent_of (length after.prefix) c.cut-found.result)
     (λ e. IsCutFault e n new)) same_offset cutting in
     let fault = subst (λ (r : Result (Option ℕ) StreamFault). IfErr r (λ e. IsCutFault e offset new))
-    (sym c.settle.ensures.answer) fault_here in
+    (sym c.pass_found.ensures.answer) fault_here in
     record {
       more = c.cut-found.ensures.more;
       known = λ _. c.cut-found.ensures.known;
       end = end;
       fault = fault;
-      records = λ records has. records_after c.settle.result old new c.cut-found.ensures.more.0 offset records within
+      records = λ records has. records_after c.pass_found.result old new c.cut-found.ensures.more.0 offset records within
           c.cut-found.ensures.more.1 handed has;
-      archive = λ records has. archive_at c.settle.result old new c.cut-found.ensures.more.0 offset records within
+      archive = λ records has. archive_at c.pass_found.result old new c.cut-found.ensures.more.0 offset records within
           c.cut-found.ensures.more.1 has end fault;
       memory = search rules;
       read_to = search rules;

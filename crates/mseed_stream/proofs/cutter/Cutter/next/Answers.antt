@@ -7,7 +7,7 @@ use Rattle.mseed_stream.specs.Device.{BytesRead}
 use Rattle.mseed_stream.specs.CutterState.{CutterState}
 use Rattle.mseed_record.specs.declared.view.RecordView.{RecordView}
 use Rattle.mseed_stream.specs.Cutting.{read_from, held_of, answer_of}
-use Rattle.mseed_stream.proofs.Settled.{few_asks}
+use Rattle.mseed_stream.proofs.AfterFound.{few_asks}
 use Rattle.mseed_stream.specs.Walk.{HasHandedOut, bytes_in}
 use Rattle.mseed_stream.specs.declared.cutter.Ending.{Ending}
 use Rattle.mseed_stream.specs.declared.cutter.Ending.TheVariants.{Clean, Fault}

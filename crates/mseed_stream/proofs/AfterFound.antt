@@ -10,7 +10,7 @@ use Rattle.mseed_stream.specs.Device.{BytesRead}
 use Rattle.mseed_stream.specs.CutterState.{CutterState}
 use Rattle.mseed_stream.specs.Cutting.{IsStop, at_start, read_from, IsRead, IsAlong, IsEnding, FallsShort, IsReadTo}
 use Rattle.mseed_stream.specs.Cutting.{is_short, IsCutFault, IsCleanEnd, answer_of, asks_of}
-use Rattle.mseed_stream.specs.private.Steps.{IsCuttingFault, lent_of, settled}
+use Rattle.mseed_stream.specs.private.Steps.{IsCuttingFault, lent_of, after_found}
 use Rattle.mseed_stream.specs.declared.cutter.Ending.{Ending}
 use Rattle.mseed_stream.specs.declared.cutter.Ending.TheVariants.{Clean, Fault}
 use Rattle.mseed_stream.specs.declared.fault.StreamFault.{StreamFault}
@@ -29,7 +29,7 @@ pub nothing_ended : (answer : Option Ending) (P : Ending → Type 0) → answer 
 nothing_ended answer P e = subst (λ (o : Option Ending). IfSome o P) (sym e) tt
 
 -- a record was lent
-lent_read : (h : BytesRead) (c : CutterState) → IsRead h c → c.is_lent ≡ false → IsRead h (settled c (Ok true))
+lent_read : (h : BytesRead) (c : CutterState) → IsRead h c → c.is_lent ≡ false → IsRead h (after_found c (Ok true))
 lent_read h c is lent =
     let size = reported_size h c is lent in
     record {
@@ -67,7 +67,7 @@ ended_along h c e is ending = record {
 
 pub along_record : (h : BytesRead) (c : CutterState) → IsRead h c → c.is_lent ≡ false → c.answer ≡ None
     → h.is_at_end ≡ false
-    → IsAlong h (settled c (Ok true))
+    → IsAlong h (after_found c (Ok true))
 along_record h c is lent goes going_on = record {
   read = lent_read h c is lent;
   stop = λ same. at_start;
@@ -122,27 +122,27 @@ cut_fault (Turns n) c after old new is lent offset it =
 cut_fault Memory c after old new is lent offset it = tt
 
 -- by each answer
-pub along_settled : (found : Result Bool StreamFault) (c after : CutterState) (old new : BytesRead) → IsRead new after
+pub along_found : (found : Result Bool StreamFault) (c after : CutterState) (old new : BytesRead) → IsRead new after
     → after.is_lent ≡ false → after.answer ≡ None → after.offset ≡ c.offset
     → (found ≡ Ok true → IsRecord after.prefix × (new.is_at_end ≡ false))
     → (found ≡ Ok false → (after.prefix ≡ []) × (new.is_at_end ≡ true))
     → IsReadTo after.prefix (is_short found new.is_at_end)
-    → IfErr found (λ e. IsCuttingFault e c after old new) → IsAlong new (settled after found)
-along_settled (Ok true) c after old new is lent goes offset one ended read fault =
+    → IfErr found (λ e. IsCuttingFault e c after old new) → IsAlong new (after_found after found)
+along_found (Ok true) c after old new is lent goes offset one ended read fault =
     along_record new after is lent goes (one refl).1
-along_settled (Ok false) c after old new is lent goes offset one ended read fault =
+along_found (Ok false) c after old new is lent goes offset one ended read fault =
     let end = ended refl in
     ended_along new after Clean is (clean_end new after is lent end.0, end.1)
-along_settled (Err Memory) c after old new is lent goes offset one ended read fault =
+along_found (Err Memory) c after old new is lent goes offset one ended read fault =
     along_memory new after is lent goes read fault.1 fault.2.0 fault.2.2
-along_settled (Err (Frame n f)) c after old new is lent goes offset one ended read fault =
+along_found (Err (Frame n f)) c after old new is lent goes offset one ended read fault =
     along_fault new after (Frame n f) is (λ e. cc) (cut_fault (Frame n f) c after old new is lent offset fault)
-along_settled (Err (Truncated n have)) c after old new is lent goes offset one ended read fault =
+along_found (Err (Truncated n have)) c after old new is lent goes offset one ended read fault =
     along_fault new after (Truncated n have) is (λ e. cc)
     (cut_fault (Truncated n have) c after old new is lent offset fault)
-along_settled (Err (Read n)) c after old new is lent goes offset one ended read fault =
+along_found (Err (Read n)) c after old new is lent goes offset one ended read fault =
     along_fault new after (Read n) is (λ e. cc) (cut_fault (Read n) c after old new is lent offset fault)
-along_settled (Err (Turns n)) c after old new is lent goes offset one ended read fault =
+along_found (Err (Turns n)) c after old new is lent goes offset one ended read fault =
     along_fault new after (Turns n) is (λ e. cc) (cut_fault (Turns n) c after old new is lent offset fault)
 
 pub nothing_found : (found : Result Bool StreamFault) (n : ℕ) → lent_of n found ≡ Ok None → found ≡ Ok false
