@@ -4,7 +4,7 @@ use Rattle.std.proofs.Common.{sym, ap, ◌∙◌, subst, arith}
 use Rattle.mseed_files.specs.Files.{Contents, joined}
 use Rattle.mseed_files.specs.ChainState.{IsPlace, ChainState, before}
 use Rattle.mseed_files.specs.declared.place.Place.{Place}
-use Rattle.mseed_files.proofs.Opening.{behind}
+use Rattle.mseed_files.proofs.Opening.{rest_known}
 
 prefix_known : (files : Contents) (n m : ℕ) (all : List ℕ) → m ≤ n → before files n ≡ Some all
     → (xs : List ℕ) × (before files m ≡ Some xs)
@@ -13,7 +13,7 @@ prefix_known [] n (suc m) all less known = ([], refl)
 prefix_known (file ∷ files) zero (suc m) all less known = absurd (omega (arith, less))
 prefix_known (None ∷ files) (suc n) (suc m) all less known = absurd (cc known)
 prefix_known (Some a ∷ files) (suc n) (suc m) all less known =
-    let b = behind a (before files n) all known in
+    let b = rest_known a (before files n) all known in
     let xs = prefix_known files n m b.0 (omega (arith, less)) b.1.0 in
     (a ++ xs.0, ap (λ (o : Option (List ℕ)). joined (Some a) o) xs.1)
 

@@ -51,10 +51,10 @@ record Next (files : Contents) (n : ℕ) (file : Option (List ℕ)) (xs : List �
   file_is : file ≡ Some bytes
   whole : xs ≡ prior ++ bytes
 
-pub behind : (a : List ℕ) (p : Option (List ℕ)) (xs : List ℕ) → joined (Some a) p ≡ Some xs
+pub rest_known : (a : List ℕ) (p : Option (List ℕ)) (xs : List ℕ) → joined (Some a) p ≡ Some xs
     → (b : List ℕ) × ((p ≡ Some b) × (xs ≡ a ++ b))
-behind a None xs e = absurd (cc e)
-behind a (Some b) xs e = (b, (refl, sym (some_same (a ++ b) xs e)))
+rest_known a None xs e = absurd (cc e)
+rest_known a (Some b) xs e = (b, (refl, sym (some_same (a ++ b) xs e)))
 
 next_known : (files : Contents) (n : ℕ) (file : Option (List ℕ)) (xs : List ℕ) → n < length files
     → IsUnread (drop n files) file → before files (suc n) ≡ Some xs → Next files n file xs
@@ -68,7 +68,7 @@ next_known (Some a ∷ files) zero file xs less unread known = record {
   whole = sym (some_same (a ++ []) xs known) ∙ append-nil a;
 }
 next_known (Some a ∷ files) (suc n) file xs less unread known =
-    let b = behind a (before files (suc n)) xs known in
+    let b = rest_known a (before files (suc n)) xs known in
     let next : Next files n file b.0 = next_known files n file b.0 (omega (arith, less)) unread b.1.0 in
     record {
       prior = a ++ next.prior;
@@ -160,10 +160,10 @@ ended_is : (s : ChainState) → HasEnded s → IsAtEnd (remaining_of s)
 ended_is s ended = rw (ended.nothing, all_past s.contents (length s.begins) ended.all_opened) refl
 
 -- nothing was told where what is known to be left stayed, and it is the end where no file is left
-pub told_none : (old middle new : ChainState) → Keeps (remaining_of old) (remaining_of middle)
+pub nothing_given : (old middle new : ChainState) → Keeps (remaining_of old) (remaining_of middle)
     → Keeps (remaining_of middle) (remaining_of new) → HasEnded new
     → Consumes (remaining_of old) (remaining_of new) [] × IsAtEnd (remaining_of new)
-told_none old middle new first second ended = (
+nothing_given old middle new first second ended = (
   Consumes-kept (remaining_of old) (remaining_of old) (remaining_of new) [] (Consumes-nil (remaining_of old))
       (Keeps-trans (remaining_of old) (remaining_of middle) (remaining_of new) first second),
   ended_is new ended,

@@ -7,9 +7,9 @@ Contents = List (Option (List ℕ))
 
 -- bytes one after another, where both are known
 abbrev pub joined : Option (List ℕ) → Option (List ℕ) → Option (List ℕ)
-joined None behind = None
+joined None rest = None
 joined (Some bytes) None = None
-joined (Some bytes) (Some behind) = Some (bytes ++ behind)
+joined (Some bytes) (Some rest) = Some (bytes ++ rest)
 
 -- the bytes of all files, one after another, where all of them are known
 abbrev pub all_of : Contents → Option (List ℕ)

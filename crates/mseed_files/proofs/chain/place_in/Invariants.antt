@@ -4,7 +4,7 @@ use Rattle.mseed_files.proofs.chain.place_in.Given as goal
 abbrev pub invariant-loop-file : goal.invariant-loop-file
 invariant-loop-file l = record {
   within : l.file ≤ length l.begins;
-  behind : (next : ℕ) → l.file ≤ next → next < length l.begins → l.offset < slice_index l.begins next;
+  after : (next : ℕ) → l.file ≤ next → next < length l.begins → l.offset < slice_index l.begins next;
 }
 
 abbrev pub decreases-loop-file : goal.decreases-loop-file
