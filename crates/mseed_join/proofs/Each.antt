@@ -6,7 +6,7 @@ use Rattle.mseed_stream.specs.Device.{BytesRead, BytesWritten, nothing_read}
 use Rattle.mseed_stream.specs.Fault.{IsStreamFault}
 use Rattle.mseed_stream.specs.Gathered.{AreGathered, EmittedFirst, EmittedPart, IsCutOff}
 use Rattle.mseed_stream.proofs.Gathered.{all_behind, all_written, cut_part, first_behind, gathered_also, gathered_first}
-use Rattle.mseed_stream.proofs.Gathered.{gathered_written, open_part, part_of}
+use Rattle.mseed_stream.proofs.Gathered.{gathered_written, part_after, part_of}
 use Rattle.mseed_join.specs.declared.joining.Joined.{Joined as Answer}
 use Rattle.mseed_join.specs.declared.joining.JoinsFault.{JoinsFault}
 use Rattle.mseed_join.specs.declared.joining.JoinsFault.TheVariants.{Line, Count, Stream, Write, Memory}
@@ -421,7 +421,7 @@ each_cut_off past expected joint h first old new reported at text whole slice n 
           a.0,
           (
             a.1.0,
-            open_part first old new text (border_lines a.0) (join_text w) a.1.1.0.lines emitted,
+            part_after first old new text (border_lines a.0) (join_text w) a.1.1.0.lines emitted,
           ),
         ),
       ),
