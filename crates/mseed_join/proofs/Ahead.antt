@@ -26,17 +26,17 @@ use Rattle.mseed_audit.proofs.Maps.{same_itself}
 use Rattle.mseed_audit.specs.Channels.{same_key}
 
 -- ---- the lines up to a stage
-stage_all : (s : Stage) (lines : List ℕ) → IsStage lines s → AreAll (all_rows s.over ++ open_rows s.open)
+stage_all : (s : Stage) (lines : List ℕ) → IsStage lines s → AreAll (all_rows s.over ++ open_rows s.last)
 stage_all s lines i =
-    All-append IsLine (all_rows s.over) (open_rows s.open)
-    (texts_all s.over (texts_before s.over (open_part s.open) i.each))
-    (open_all s.open (texts_after s.over (open_part s.open) i.each))
+    All-append IsLine (all_rows s.over) (open_rows s.last)
+    (texts_all s.over (texts_before s.over (open_part s.last) i.each))
+    (open_all s.last (texts_after s.over (open_part s.last) i.each))
 
 stage_text : (s : Stage) (lines : List ℕ) → IsStage lines s
-    → lines_text (all_rows s.over ++ open_rows s.open) ≡ lines
+    → lines_text (all_rows s.over ++ open_rows s.last) ≡ lines
 stage_text s lines i =
-    text_append (all_rows s.over) (open_rows s.open)
-    ∙ (λ j. texts_are s.over j ++ open_text_is s.open j) ∙ sym i.text
+    text_append (all_rows s.over) (open_rows s.last)
+    ∙ (λ j. texts_are s.over j ++ open_text_is s.last j) ∙ sym i.text
 
 -- parts that go on after a stage: their further lines
 pub record IsAhead (s : Stage) (parts : List Written) (rest : List ℕ) : Type 0 where
@@ -50,7 +50,7 @@ pub record IsAhead (s : Stage) (parts : List Written) (rest : List ℕ) : Type 0
 pub ahead : (s : Stage) (lines : List ℕ) (parts : List Written) (rest : List ℕ) → IsStage lines s
     → lines ++ rest ≡ texts parts → HaveTexts parts → IsAhead s parts rest
 ahead s lines parts rest i e h =
-    let xs : List Line = all_rows s.over ++ open_rows s.open in
+    let xs : List Line = all_rows s.over ++ open_rows s.last in
     let same : lines_text xs ++ rest ≡ lines_text (all_rows parts) =
     ap (λ (t : List ℕ). t ++ rest) (stage_text s lines i) ∙ e ∙ sym (texts_are parts) in
     let left : LeavesLines (all_rows parts) xs rest =
@@ -62,7 +62,7 @@ ahead s lines parts rest i e h =
       text = left.text;
       are = left.are;
       at = run.0;
-      runs = runs_rest start s run.0 xs left.others (stage_runs s.over s.open i.each i.is_where) all;
+      runs = runs_rest start s run.0 xs left.others (stage_runs s.over s.last i.each i.is_where) all;
       parts_are = run.1.1;
     }
 
@@ -71,10 +71,10 @@ pub record IsNextLine (past : Bool) (s : Stage) (line : List ℕ) : Type 0 where
   pub x : Line
   pub is_line : IsLine x
   pub text : text_of_line x ≡ line
-  pub may : May s.open x
+  pub may : May s.last x
   pub parts : List Written
   pub texts_fit : HaveTexts parts
-  pub extends_to : Extends (to s x).over (to s x).open parts
+  pub extends_to : Extends (to s x).over (to s x).last parts
   pub joint : Written
   pub is_joint : IsJointOf past parts joint
 
@@ -107,7 +107,7 @@ next_line past s lines body line i none_there is b =
           parts = b.parts;
           texts_fit = b.spells.each;
           extends_to =
-              subst (λ (ws : List Written). Extends (to s x).over (to s x).open ws) a.parts_are
+              subst (λ (ws : List Written). Extends (to s x).over (to s x).last ws) a.parts_are
               (extends (to s x) a.at xs r.1);
           joint = b.joint;
           is_joint = b.is_joint;
@@ -169,7 +169,7 @@ fitting : HaveOneJoint → (past : Bool) (over : List Written) (v : Written) (vs
 fitting only past over v vs a k j n all = by (split past over (v ∷ vs) k all)
   where
     by : IsSplit past nothing over (v ∷ vs) k → IsFitting past a v
-    by s = cases s.open
+    by s = cases s.last
       where
         same : s.before ≡ a
         same = joined_one only nothing (counted past over) s.before a s.joined j

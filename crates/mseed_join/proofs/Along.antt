@@ -46,10 +46,10 @@ pub parts_few : (lines : List ℕ) (s : Stage) → IsStage lines s → length (p
 parts_few lines s i = omega (
   arith,
   ap length i.text,
-  length-append (texts s.over) (open_text s.open),
-  length-append s.over (open_part s.open),
+  length-append (texts s.over) (open_text s.last),
+  length-append s.over (open_part s.last),
   texts_few s.over,
-  open_few s.open,
+  open_few s.last,
 )
 
 -- ---- what was passed begins a text
@@ -69,16 +69,16 @@ open_whole (begun channels) =
     sym (append-nil text) ∙ sym (append-nil (text ++ [])) ∙ sym (append-nil (text ++ [] ++ []))
 open_whole (whole w) = refl
 
-completes : (lines : List ℕ) (s : Stage) → IsStage lines s → lines ++ rest_of s.open ≡ texts (parts_at s)
+completes : (lines : List ℕ) (s : Stage) → IsStage lines s → lines ++ rest_of s.last ≡ texts (parts_at s)
 completes lines s i =
-    ap (λ (t : List ℕ). t ++ rest_of s.open) i.text
-    ∙ append_assoc (texts s.over) (open_text s.open) (rest_of s.open)
-    ∙ ap (λ (t : List ℕ). texts s.over ++ t) (open_whole s.open)
-    ∙ sym (texts_append s.over (open_part s.open))
+    ap (λ (t : List ℕ). t ++ rest_of s.last) i.text
+    ∙ append_assoc (texts s.over) (open_text s.last) (rest_of s.last)
+    ∙ ap (λ (t : List ℕ). texts s.over ++ t) (open_whole s.last)
+    ∙ sym (texts_append s.over (open_part s.last))
 
 pub begins : {A : Type 0} → (lines : List ℕ) (s : Stage) (j : Joint A) → IsReadTo lines s j → Begins j.past lines
 begins lines s j r = record {
-  rest = rest_of s.open;
+  rest = rest_of s.last;
   parts = parts_at s;
   spells = record { text = completes lines s r.stage; each = r.stage.each };
   joint = written_of j.so_far;
@@ -106,7 +106,7 @@ pub ended : {A : Type 0} → (lines : List ℕ) (s : Stage) (j : Joint A) → Is
     → Spells lines (parts_at s)
 ended lines s j r e = record {
   text = sym (append-nil lines)
-      ∙ ap (λ (t : List ℕ). lines ++ t) (sym (over_rest j.place s.open r.place e))
+      ∙ ap (λ (t : List ℕ). lines ++ t) (sym (over_rest j.place s.last r.place e))
       ∙ completes lines s r.stage;
   each = r.stage.each;
 }
@@ -121,13 +121,13 @@ lacks lines s j r e ws sp = by a.others a.text a.are a.runs
     by : (xs : List Line) → [] ≡ lines_text xs → AreAll xs → Runs s xs a.at → ⊥
     by [] t l runs =
         let same : parts_at s ≡ ws = ap parts_at runs ∙ a.parts_are in
-        let whole_text : lines ++ rest_of s.open ≡ lines =
+        let whole_text : lines ++ rest_of s.last ≡ lines =
         completes lines s r.stage ∙ ap texts same ∙ sym sp.text in
         absurd (omega (
           arith,
           ap length whole_text,
-          length-append lines (rest_of s.open),
-          open_rest j.place s.open r.place e,
+          length-append lines (rest_of s.last),
+          open_rest j.place s.last r.place e,
         ))
     by (x ∷ xs) t l runs = nothing_first x (lines_text xs) l.0 (sym t)
 

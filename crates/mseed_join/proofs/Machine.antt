@@ -180,7 +180,7 @@ leaves (x ∷ xs) (y ∷ ys) rest p q e =
 -- ---- how reading goes along lines
 abbrev pub Runs : Stage → List Line → Stage → Type 0
 Runs s [] t = s ≡ t
-Runs s (x ∷ xs) t = May s.open x × Runs (to s x) xs t
+Runs s (x ∷ xs) t = May s.last x × Runs (to s x) xs t
 
 pub runs_on : (s m t : Stage) (xs ys : List Line) → Runs s xs m → Runs m ys t → Runs s (xs ++ ys) t
 runs_on s m t [] ys p q = subst (λ (n : Stage). Runs n ys t) (sym p) q

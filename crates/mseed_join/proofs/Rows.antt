@@ -115,12 +115,12 @@ counts_may last (whole w) n l p = absurd p
 pub row_taken : {A : Type 0} → (old new : Joint A) (last : Option (List ℕ)) (line : List ℕ) (key : List ℕ)
     (c : Channel) (r : Result Reported LineFault) → old.place ≡ Channels last → line ≡ channel_line key c
     → HasChannelLine key c → IsAfterKey last key
-    → ((lines : List ℕ) (s : Stage) → IsReadTo lines s old → IsLine (channel key c) → May s.open (channel key c)
+    → ((lines : List ℕ) (s : Stage) → IsReadTo lines s old → IsLine (channel key c) → May s.last (channel key c)
     → IsStep lines s (channel key c) r old new)
     → (lines : List ℕ) (s : Stage) → IsReadTo lines s old → IsLineStep lines s line r old new
 row_taken old new last line key c r at is fits behind step lines s q =
     step_line lines s (channel key c) line r old new is (step lines s q fits
-    (channel_may last s.over s.open key c (row_place old last s.open at q.place) q.stage.each behind))
+    (channel_may last s.over s.last key c (row_place old last s.last at q.place) q.stage.each behind))
 
 pub row_refused : {A : Type 0} → (old : Joint A) (last : Option (List ℕ)) (line : List ℕ) (key : List ℕ) (c : Channel)
     → old.place ≡ Channels last → line ≡ channel_line key c → HasChannelLine key c → (IsAfterKey last key → ⊥)
@@ -129,16 +129,16 @@ row_refused old last line key c at is fits never lines s q b =
     let h : IsHere old.past s (channel key c) =
     next_here old.past s lines (channel key c) q.stage fits
     (subst (λ (t : List ℕ). Begins old.past (lines ++ t)) is b) in
-    never (channel_must last s.open key c (row_place old last s.open at q.place) h.may)
+    never (channel_must last s.last key c (row_place old last s.last at q.place) h.may)
 
 pub row_counted : {A : Type 0} → (old new : Joint A) (last : Option (List ℕ)) (line : List ℕ) (n l : ℕ)
     (r : Result Reported LineFault) → old.place ≡ Channels last → line ≡ counts_line n l → HasCountsLine n l
-    → ((lines : List ℕ) (s : Stage) → IsReadTo lines s old → IsLine (counts n l) → May s.open (counts n l)
+    → ((lines : List ℕ) (s : Stage) → IsReadTo lines s old → IsLine (counts n l) → May s.last (counts n l)
     → IsStep lines s (counts n l) r old new)
     → (lines : List ℕ) (s : Stage) → IsReadTo lines s old → IsLineStep lines s line r old new
 row_counted old new last line n l r at is fits step lines s q =
     step_line lines s (counts n l) line r old new is (step lines s q fits
-    (counts_may last s.open n l (row_place old last s.open at q.place)))
+    (counts_may last s.last n l (row_place old last s.last at q.place)))
 
 no_row : (last : Option (List ℕ)) (line : List ℕ) (b : OpenPart) (x : Line) → IsPlace (Channels last) b → IsLine x
     → text_of_line x ≡ line → May b x
@@ -158,7 +158,7 @@ pub row_unknown : {A : Type 0} → (old : Joint A) (last : Option (List ℕ)) (l
     → (lines : List ℕ) (s : Stage) → IsReadTo lines s old → Begins old.past (lines ++ line) → ⊥
 row_unknown old last line at ends f g lines s q b =
     let n : IsNextLine old.past s line = next_line old.past s lines ends.0 line q.stage ends.1 ends.2 b in
-    no_row last line s.open n.x (row_place old last s.open at q.place) n.is_line n.text n.may f g
+    no_row last line s.last n.x (row_place old last s.last at q.place) n.is_line n.text n.may f g
 
 -- ---- after the counts
 whole_place : {A : Type 0} → (j : Joint A) (l : ℕ) (has : Bool) (b : OpenPart) → j.place ≡ Whole l has
@@ -177,21 +177,21 @@ faults_may l (whole w) n p = p.1
 
 pub ending_fault : {A : Type 0} → (old new : Joint A) (l : ℕ) (has : Bool) (line : List ℕ) (f : StreamFault)
     (r : Result Reported LineFault) → old.place ≡ Whole l has → line ≡ fault_line f → HasFaultLine l f
-    → ((lines : List ℕ) (s : Stage) → IsReadTo lines s old → IsLine (fault l f) → May s.open (fault l f)
+    → ((lines : List ℕ) (s : Stage) → IsReadTo lines s old → IsLine (fault l f) → May s.last (fault l f)
     → IsStep lines s (fault l f) r old new)
     → (lines : List ℕ) (s : Stage) → IsReadTo lines s old → IsLineStep lines s line r old new
 ending_fault old new l has line f r at is fits step lines s q =
     step_line lines s (fault l f) line r old new is (step lines s q fits
-    (fault_may l has s.open f (whole_place old l has s.open at q.place)))
+    (fault_may l has s.last f (whole_place old l has s.last at q.place)))
 
 pub ending_faults : {A : Type 0} → (old new : Joint A) (l : ℕ) (line : List ℕ) (n : ℕ)
     (r : Result Reported LineFault) → old.place ≡ Whole l false → line ≡ faults_line n → HasFaultsLine n
-    → ((lines : List ℕ) (s : Stage) → IsReadTo lines s old → IsLine (faults n) → May s.open (faults n)
+    → ((lines : List ℕ) (s : Stage) → IsReadTo lines s old → IsLine (faults n) → May s.last (faults n)
     → IsStep lines s (faults n) r old new)
     → (lines : List ℕ) (s : Stage) → IsReadTo lines s old → IsLineStep lines s line r old new
 ending_faults old new l line n r at is fits step lines s q =
     step_line lines s (faults n) line r old new is (step lines s q fits
-    (faults_may l s.open n (whole_place old l false s.open at q.place)))
+    (faults_may l s.last n (whole_place old l false s.last at q.place)))
 
 -- a header, or nothing
 header_may : (place : Place) (b : OpenPart) → IsPlace place b → ((last : Option (List ℕ)) → place ≡ Channels last → ⊥)
@@ -234,7 +234,7 @@ no_ending (Whole k true) line (whole w) (fault l x) p i e m f o =
     o x (subst (λ (n : ℕ). HasFaultLine n x) (sym (p.0 ∙ m)) i) (sym e)
 
 abbrev pub IsHeaderStep : {A : Type 0} → Result Reported LineFault → Joint A → Joint A → Type 0
-IsHeaderStep r old new = (lines : List ℕ) (s : Stage) → IsReadTo lines s old → May s.open header
+IsHeaderStep r old new = (lines : List ℕ) (s : Stage) → IsReadTo lines s old → May s.last header
     → OnOk r (IsStep lines s header r old new)
 
 pub header_or_none : {A : Type 0} → (old new : Joint A) (place : Place) (line : List ℕ) (r : Result Reported LineFault)
@@ -244,10 +244,10 @@ pub header_or_none : {A : Type 0} → (old new : Joint A) (place : Place) (line 
     → (lines : List ℕ) (s : Stage) → IsReadTo lines s old → IsLineStep lines s line r old new
 header_or_none old new place line (Ok reported) at never ends step is bad other lines s q =
     step_line lines s header line (Ok reported) old new is (step lines s q
-    (header_may place s.open (subst (λ (p : Place). IsPlace p s.open) at q.place) never))
+    (header_may place s.last (subst (λ (p : Place). IsPlace p s.last) at q.place) never))
 header_or_none old new place line (Err Bad) at never ends step is bad other lines s q = λ b.
     let n : IsNextLine old.past s line = next_line old.past s lines ends.0 line q.stage ends.1 ends.2 b in
-    no_ending place line s.open n.x (subst (λ (p : Place). IsPlace p s.open) at q.place) n.is_line n.text n.may
+    no_ending place line s.last n.x (subst (λ (p : Place). IsPlace p s.last) at q.place) n.is_line n.text n.may
     bad.1 other
 header_or_none old new place line (Err Memory) at never ends step is bad other lines s q = tt
 

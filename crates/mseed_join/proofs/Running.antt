@@ -40,22 +40,22 @@ begun_is over acc e es s =
     (subst (λ (xs : Entries). IsAscending xs) (sym (append_assoc acc (e ∷ []) es)) s)
 
 rows_run : (over : List Written) (acc es : Entries) → IsAscending (acc ++ es)
-    → Runs (record { over = over; open = begun acc }) (rows es) (record { over = over; open = begun (acc ++ es) })
+    → Runs (record { over = over; last = begun acc }) (rows es) (record { over = over; last = begun (acc ++ es) })
 rows_run over acc [] s =
-    ap (λ (xs : Entries). record { over = over; open = begun xs }) (sym (append-nil acc))
+    ap (λ (xs : Entries). record { over = over; last = begun xs }) (sym (append-nil acc))
 rows_run over acc (e ∷ es) s =
     let t : IsAscending ((acc ++ e ∷ []) ++ es) =
     subst (λ (xs : Entries). IsAscending xs) (sym (append_assoc acc (e ∷ []) es)) s in (
       begun_is over acc e es s,
-      subst (λ (xs : Entries). Runs (record { over = over; open = begun (acc ++ e ∷ []) }) (rows es)
-          (record { over = over; open = begun xs })) (append_assoc acc (e ∷ []) es)
+      subst (λ (xs : Entries). Runs (record { over = over; last = begun (acc ++ e ∷ []) }) (rows es)
+          (record { over = over; last = begun xs })) (append_assoc acc (e ∷ []) es)
           (rows_run over (acc ++ e ∷ []) es t),
     )
 
 -- where reading is after a part, by how it ends
 abbrev open_by : List Written → Written → Option StreamFault → Stage
-open_by before w None = record { over = before; open = whole w }
-open_by before w (Some f) = record { over = before ++ w ∷ []; open = none }
+open_by before w None = record { over = before; last = whole w }
+open_by before w (Some f) = record { over = before ++ w ∷ []; last = none }
 
 -- a further part can begin
 abbrev IsReady : OpenPart → Type 0
@@ -63,7 +63,7 @@ IsReady none = Unit {0}
 IsReady (begun channels) = ⊥
 IsReady (whole w) = Unit {0}
 
-ready_by : (before : List Written) (w : Written) (end : Option StreamFault) → IsReady (open_by before w end).open
+ready_by : (before : List Written) (w : Written) (end : Option StreamFault) → IsReady (open_by before w end).last
 ready_by before w None = tt
 ready_by before w (Some f) = tt
 
@@ -74,7 +74,7 @@ parts_by before w (Some f) = append-nil (before ++ w ∷ [])
 
 -- from the line of the counts on
 ending_run : (before : List Written) (cs : Entries) (records bytes n : ℕ) (end : Option StreamFault)
-    → Runs (record { over = before; open = whole (counted_part cs records bytes) })
+    → Runs (record { over = before; last = whole (counted_part cs records bytes) })
     (faults_row n ++ end_row bytes end)
     (open_by before (record {
       part = record { channels = cs; records = records; bytes = bytes };
@@ -87,21 +87,21 @@ ending_run before cs records bytes (suc n) None = (refl, refl)
 ending_run before cs records bytes (suc n) (Some f) = (refl, (refl, refl))
 
 part_run_from : (before : List Written) (w : Written) → IsAscending w.part.channels
-    → Runs (record { over = before; open = begun [] })
+    → Runs (record { over = before; last = begun [] })
     (rows w.part.channels ++ counts w.part.records w.part.bytes ∷ (faults_row w.faults ++ end_row w.part.bytes w.end))
     (open_by before w w.end)
 part_run_from before w s =
-    runs_on (record { over = before; open = begun [] }) (record { over = before; open = begun w.part.channels })
+    runs_on (record { over = before; last = begun [] }) (record { over = before; last = begun w.part.channels })
     (open_by before w w.end) (rows w.part.channels)
     (counts w.part.records w.part.bytes ∷ (faults_row w.faults ++ end_row w.part.bytes w.end))
     (rows_run before [] w.part.channels s)
     (tt, ending_run before w.part.channels w.part.records w.part.bytes w.faults w.end)
 
 part_run : (over : List Written) (b : OpenPart) (w : Written) → IsReady b → IsAscending w.part.channels
-    → Runs (record { over = over; open = b }) (part_rows w) (open_by (over ++ open_part b) w w.end)
+    → Runs (record { over = over; last = b }) (part_rows w) (open_by (over ++ open_part b) w w.end)
 part_run over none w r s = (
   tt,
-  subst (λ (ws : List Written). Runs (record { over = over; open = begun [] })
+  subst (λ (ws : List Written). Runs (record { over = over; last = begun [] })
       (rows w.part.channels ++ counts w.part.records w.part.bytes ∷ (faults_row w.faults
       ++ end_row w.part.bytes w.end)) (open_by ws w w.end)) (sym (append-nil over)) (part_run_from over w s),
 )
@@ -112,20 +112,20 @@ part_run over (whole v) w r s = (tt, part_run_from (over ++ v ∷ []) w s)
 record RunsAll (s : Stage) (ws : List Written) : Type 0 where
   at : Stage
   runs : Runs s (all_rows ws) at
-  ready : IsReady at.open
+  ready : IsReady at.last
   parts : parts_at at ≡ parts_at s ++ ws
 
 abbrev pub HaveTexts : List Written → Type 0
 HaveTexts ws = AllByRecursion HasText ws
 
-parts_run : (s : Stage) (ws : List Written) → IsReady s.open → HaveTexts ws → RunsAll s ws
+parts_run : (s : Stage) (ws : List Written) → IsReady s.last → HaveTexts ws → RunsAll s ws
 parts_run s [] r h = record { at = s; runs = refl; ready = r; parts = sym (append-nil (parts_at s)) }
 parts_run s (w ∷ ws) r h =
     let next : Stage = open_by (parts_at s) w w.end in
     let more : RunsAll next ws = parts_run next ws (ready_by (parts_at s) w w.end) h.1 in record {
       at = more.at;
       runs = runs_on s next more.at (part_rows w) (all_rows ws)
-          (part_run s.over s.open w r h.0.ascending) more.runs;
+          (part_run s.over s.last w r h.0.ascending) more.runs;
       ready = more.ready;
       parts = more.parts ∙ ap (λ (vs : List Written). vs ++ ws) (parts_by (parts_at s) w w.end)
           ∙ append_assoc (parts_at s) (w ∷ []) ws;
@@ -150,12 +150,12 @@ texts_after [] vs h = h
 texts_after (w ∷ ws) vs h = texts_after ws vs h.1
 
 -- a header goes from after any parts to their being over
-header_runs : (at : Stage) → IsReady at.open → to at header ≡ record { over = parts_at at; open = begun [] }
-header_runs at r = by at.over at.open r
+header_runs : (at : Stage) → IsReady at.last → to at header ≡ record { over = parts_at at; last = begun [] }
+header_runs at r = by at.over at.last r
   where
     by : (over : List Written) (b : OpenPart) → IsReady b
-        → goes over b header ≡ record { over = over ++ open_part b; open = begun [] }
-    by over none q = ap (λ (ws : List Written). record { over = ws; open = begun [] }) (sym (append-nil over))
+        → goes over b header ≡ record { over = over ++ open_part b; last = begun [] }
+    by over none q = ap (λ (ws : List Written). record { over = ws; last = begun [] }) (sym (append-nil over))
     by over (begun channels) q = absurd q
     by over (whole w) q = refl
 
@@ -166,50 +166,50 @@ header_may (whole w) q = tt
 
 -- what was read runs to where it is
 ended_runs : (ws : List Written) (w : Written) (f : StreamFault) → HaveTexts (ws ++ w ∷ []) → w.end ≡ Some f
-    → Runs start (all_rows (ws ++ w ∷ [])) (record { over = ws ++ w ∷ []; open = none })
+    → Runs start (all_rows (ws ++ w ∷ [])) (record { over = ws ++ w ∷ []; last = none })
 ended_runs ws w f h e =
     let r : RunsAll start ws = parts_run start ws tt (texts_before ws (w ∷ []) h) in
     let has : HasText w = (texts_after ws (w ∷ []) h).0 in
-    let last : Runs r.at (part_rows w) (record { over = ws ++ w ∷ []; open = none }) =
+    let last : Runs r.at (part_rows w) (record { over = ws ++ w ∷ []; last = none }) =
     subst (λ (t : Stage). Runs r.at (part_rows w) t)
     (ap (λ (o : Option StreamFault). open_by (parts_at r.at) w o) e
-    ∙ ap (λ (vs : List Written). record { over = vs ++ w ∷ []; open = none }) r.parts)
-    (part_run r.at.over r.at.open w r.ready has.ascending) in
-    subst (λ (xs : List Line). Runs start xs (record { over = ws ++ w ∷ []; open = none }))
+    ∙ ap (λ (vs : List Written). record { over = vs ++ w ∷ []; last = none }) r.parts)
+    (part_run r.at.over r.at.last w r.ready has.ascending) in
+    subst (λ (xs : List Line). Runs start xs (record { over = ws ++ w ∷ []; last = none }))
     (sym (all_rows_append ws (w ∷ [])))
-    (runs_on start r.at (record { over = ws ++ w ∷ []; open = none }) (all_rows ws) (part_rows w ++ []) r.runs
-    (subst (λ (xs : List Line). Runs r.at xs (record { over = ws ++ w ∷ []; open = none }))
+    (runs_on start r.at (record { over = ws ++ w ∷ []; last = none }) (all_rows ws) (part_rows w ++ []) r.runs
+    (subst (λ (xs : List Line). Runs r.at xs (record { over = ws ++ w ∷ []; last = none }))
     (sym (append-nil (part_rows w))) last))
 
 pub stage_runs : (over : List Written) (b : OpenPart) → HaveTexts (over ++ open_part b) → IsWhere over b
-    → Runs start (all_rows over ++ open_rows b) (record { over = over; open = b })
+    → Runs start (all_rows over ++ open_rows b) (record { over = over; last = b })
 stage_runs over none h (inl e) =
-    subst (λ (ws : List Written). Runs start (all_rows ws ++ []) (record { over = ws; open = none })) (sym e) refl
+    subst (λ (ws : List Written). Runs start (all_rows ws ++ []) (record { over = ws; last = none })) (sym e) refl
 stage_runs over none h (inr q) =
     let texts : HaveTexts over = texts_before over [] h in
-    subst (λ (xs : List Line). Runs start xs (record { over = over; open = none })) (sym (append-nil (all_rows over)))
-    (subst (λ (ws : List Written). Runs start (all_rows ws) (record { over = ws; open = none })) (sym q.are)
+    subst (λ (xs : List Line). Runs start xs (record { over = over; last = none })) (sym (append-nil (all_rows over)))
+    (subst (λ (ws : List Written). Runs start (all_rows ws) (record { over = ws; last = none })) (sym q.are)
     (ended_runs q.parts q.last q.fault (subst HaveTexts q.are texts) q.ends))
 stage_runs over (begun channels) h w =
     let r : RunsAll start over = parts_run start over tt (texts_before over (begun_part channels ∷ []) h) in
     let has : HasText (begun_part channels) = (texts_after over (begun_part channels ∷ []) h).0 in
-    let first : to r.at header ≡ record { over = over; open = begun [] } =
-    header_runs r.at r.ready ∙ ap (λ (vs : List Written). record { over = vs; open = begun [] }) r.parts in
-    runs_on start r.at (record { over = over; open = begun channels }) (all_rows over) (header ∷ rows channels)
+    let first : to r.at header ≡ record { over = over; last = begun [] } =
+    header_runs r.at r.ready ∙ ap (λ (vs : List Written). record { over = vs; last = begun [] }) r.parts in
+    runs_on start r.at (record { over = over; last = begun channels }) (all_rows over) (header ∷ rows channels)
     r.runs (
-      header_may r.at.open r.ready,
-      subst (λ (t : Stage). Runs t (rows channels) (record { over = over; open = begun channels })) (sym first)
+      header_may r.at.last r.ready,
+      subst (λ (t : Stage). Runs t (rows channels) (record { over = over; last = begun channels })) (sym first)
           (rows_run over [] channels has.ascending),
     )
 stage_runs over (whole v) h w =
     let r : RunsAll start over = parts_run start over tt (texts_before over (v ∷ []) h) in
     let has : HasText v = (texts_after over (v ∷ []) h).0 in
-    let last : Runs r.at (part_rows v) (record { over = over; open = whole v }) =
+    let last : Runs r.at (part_rows v) (record { over = over; last = whole v }) =
     subst (λ (t : Stage). Runs r.at (part_rows v) t)
     (ap (λ (o : Option StreamFault). open_by (parts_at r.at) v o) w
-    ∙ ap (λ (vs : List Written). record { over = vs; open = whole v }) r.parts)
-    (part_run r.at.over r.at.open v r.ready has.ascending) in
-    runs_on start r.at (record { over = over; open = whole v }) (all_rows over) (part_rows v) r.runs last
+    ∙ ap (λ (vs : List Written). record { over = vs; last = whole v }) r.parts)
+    (part_run r.at.over r.at.last v r.ready has.ascending) in
+    runs_on start r.at (record { over = over; last = whole v }) (all_rows over) (part_rows v) r.runs last
 
 -- ---- parts that lie ahead
 -- of a part that has begun, one that it can become
@@ -252,7 +252,7 @@ itself over (begun channels) = record {
 itself over (whole w) = record { part = w; others = []; grows = same_grows w; are = refl }
 
 back : (over : List Written) (b : OpenPart) (x : Line) (parts : List Written) → May b x
-    → Extends (goes over b x).over (goes over b x).open parts → Extends over b parts
+    → Extends (goes over b x).over (goes over b x).last parts → Extends over b parts
 back over none header parts m e = (e.part ∷ e.others, e.are)
 back over none (channel k c) parts m e = absurd m
 back over none (counts n l) parts m e = absurd m
@@ -318,6 +318,6 @@ back over (whole w) (fault l f) parts m e = record {
   are = e.1 ∙ append_assoc over (with_end w f ∷ []) e.0;
 }
 
-pub extends : (s t : Stage) (xs : List Line) → Runs s xs t → Extends s.over s.open (parts_at t)
-extends s t [] r = subst (λ (u : Stage). Extends s.over s.open (parts_at u)) r (itself s.over s.open)
-extends s t (x ∷ xs) r = back s.over s.open x (parts_at t) r.0 (extends (to s x) t xs r.1)
+pub extends : (s t : Stage) (xs : List Line) → Runs s xs t → Extends s.over s.last (parts_at t)
+extends s t [] r = subst (λ (u : Stage). Extends s.over s.last (parts_at u)) r (itself s.over s.last)
+extends s t (x ∷ xs) r = back s.over s.last x (parts_at t) r.0 (extends (to s x) t xs r.1)

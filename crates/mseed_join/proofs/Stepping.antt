@@ -206,8 +206,8 @@ ended_joint over w f h k j e free is part_same faults_same ends =
 
 -- ---- a line that was taken
 pub taken : {A : Type 0} → (lines : List ℕ) (s : Stage) (x : Line) (tells : Reported) (old new : Joint A)
-    → IsReadTo lines s old → IsLine x → May s.open x
-    → IsJointOf new.past (parts_at (to s x)) (written_of new.so_far) → IsPlace new.place (to s x).open
+    → IsReadTo lines s old → IsLine x → May s.last x
+    → IsJointOf new.past (parts_at (to s x)) (written_of new.so_far) → IsPlace new.place (to s x).last
     → new.parts ≡ length (parts_at (to s x))
     → passed_lines old.past (parts_at (to s x)) ≡ passed_lines old.past (parts_at s) ++ passed_by tells
     → ((found : List Border) → AreBordersOf old.past (parts_at s) found

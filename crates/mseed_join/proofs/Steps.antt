@@ -35,9 +35,9 @@ use Rattle.mseed_join.proofs.Taken.{number_same, passed_more, passed_same, stopp
 
 -- a line that can stand here, and the parts that go on after it
 pub record IsHere (past : Bool) (s : Stage) (x : Line) : Type 0 where
-  pub may : May s.open x
+  pub may : May s.last x
   parts : List Written
-  extends_to : Extends (to s x).over (to s x).open parts
+  extends_to : Extends (to s x).over (to s x).last parts
   joint : Written
   is_joint : IsJointOf past parts joint
 
@@ -60,7 +60,7 @@ header_number over (whole w) n m e =
     omega (arith, e, length-append (over ++ w ∷ []) (begun_part [] ∷ []))
 
 header_place : (over : List Written) (b : OpenPart) → May b header
-    → IsPlace (Channels None) (goes over b header).open
+    → IsPlace (Channels None) (goes over b header).last
 header_place over none m = refl
 header_place over (begun cs) m = absurd m
 header_place over (whole w) m = refl
@@ -69,17 +69,17 @@ no_fault : (bytes : ℕ) (f : StreamFault) → header ≡ fault bytes f → ⊥
 no_fault bytes f e = cc
 
 pub header_step : {A : Type 0} → JoinsNone → (old : Joint A) (lines : List ℕ) (s : Stage) → IsReadTo lines s old
-    → May s.open header → IsTaken lines header_line s (to s header) Nothing old (headed old)
+    → May s.last header → IsTaken lines header_line s (to s header) Nothing old (headed old)
 header_step law old lines s r m =
     taken lines s header Nothing old (headed old) r tt m
-    (header_joint law old.past s.over s.open (written_of old.so_far) m r.joint) (header_place s.over s.open m)
-    (header_number s.over s.open old.parts m r.number)
-    (passed_same old.past s.over s.open header r.stage.is_where m no_fault)
-    (header_borders old.past s.over s.open (written_of old.so_far) m r.joint) refl
+    (header_joint law old.past s.over s.last (written_of old.so_far) m r.joint) (header_place s.over s.last m)
+    (header_number s.over s.last old.parts m r.number)
+    (passed_same old.past s.over s.last header r.stage.is_where m no_fault)
+    (header_borders old.past s.over s.last (written_of old.so_far) m r.joint) refl
 
 -- ---- a channel
 channel_place : (over : List Written) (b : OpenPart) (key : List ℕ) (c : Channel) → May b (channel key c)
-    → IsPlace (Channels (Some key)) (goes over b (channel key c)).open
+    → IsPlace (Channels (Some key)) (goes over b (channel key c)).last
 channel_place over none key c m = absurd m
 channel_place over (begun cs) key c m = (cs, c, refl)
 channel_place over (whole w) key c m = absurd m
@@ -119,14 +119,14 @@ kept_as j so_far place = record { so_far = so_far; parts = j.parts; place = plac
 
 pub channel_skipped : {A : Type 0} → (old : Joint A) (f : StreamFault) → old.so_far.end ≡ Some f
     → (key : List ℕ) (c : Channel) (lines : List ℕ) (s : Stage) → IsReadTo lines s old → IsLine (channel key c)
-    → May s.open (channel key c) → IsTaken lines (text_of_line (channel key c)) s (to s (channel key c)) Nothing old
+    → May s.last (channel key c) → IsTaken lines (text_of_line (channel key c)) s (to s (channel key c)) Nothing old
     (placed old (Channels (Some key)))
 channel_skipped old f e key c lines s r l m =
     taken lines s (channel key c) Nothing old (placed old (Channels (Some key))) r l m
-    (channel_stops old.past s.over s.open key c (written_of old.so_far) f m e r.joint)
-    (channel_place s.over s.open key c m) (channel_number s.over s.open key c old.parts m r.number)
-    (passed_same old.past s.over s.open (channel key c) r.stage.is_where m (channel_no_fault key c))
-    (skips_borders old.past s.over s.open (channel key c) (written_of old.so_far) f r.stage.is_where m tt e r.joint)
+    (channel_stops old.past s.over s.last key c (written_of old.so_far) f m e r.joint)
+    (channel_place s.over s.last key c m) (channel_number s.over s.last key c old.parts m r.number)
+    (passed_same old.past s.over s.last (channel key c) r.stage.is_where m (channel_no_fault key c))
+    (skips_borders old.past s.over s.last (channel key c) (written_of old.so_far) f r.stage.is_where m tt e r.joint)
     refl
 
 pub channel_added : {A : Type 0} → JoinsChannel → HaveOneJoint
@@ -137,24 +137,24 @@ pub channel_added : {A : Type 0} → JoinsChannel → HaveOneJoint
     → FitsAt old.so_far.part.records old.so_far.part.bytes (kept_of key old.so_far.part.channels) (Some c)
     → so_far.faults ≡ old.so_far.faults → so_far.end ≡ old.so_far.end
     → (lines : List ℕ) (s : Stage) → IsReadTo lines s old → IsLine (channel key c)
-    → May s.open (channel key c) → IsTaken lines (text_of_line (channel key c)) s (to s (channel key c)) tells old
+    → May s.last (channel key c) → IsTaken lines (text_of_line (channel key c)) s (to s (channel key c)) tells old
     (kept_as old so_far (Channels (Some key)))
 channel_added law only old so_far tells silent n key c border joint fit f e lines s r l m =
     taken lines s (channel key c) tells old (kept_as old so_far (Channels (Some key))) r l m
-    (channel_adds law old.past s.over s.open key c (written_of old.so_far) (written_of so_far) m n joint fit f (e ∙ n)
-    r.joint) (channel_place s.over s.open key c m) (channel_number s.over s.open key c old.parts m r.number)
-    (passed_same old.past s.over s.open (channel key c) r.stage.is_where m (channel_no_fault key c)
+    (channel_adds law old.past s.over s.last key c (written_of old.so_far) (written_of so_far) m n joint fit f (e ∙ n)
+    r.joint) (channel_place s.over s.last key c m) (channel_number s.over s.last key c old.parts m r.number)
+    (passed_same old.past s.over s.last (channel key c) r.stage.is_where m (channel_no_fault key c)
     ∙ ap (λ (ts : List (List ℕ)). passed_lines old.past (parts_at s) ++ ts) (sym silent))
-    (channel_borders only old.past s.over s.open key c (written_of old.so_far) (border_by tells) m n border r.joint)
+    (channel_borders only old.past s.over s.last key c (written_of old.so_far) (border_by tells) m n border r.joint)
     refl
 
 -- what goes on from here, if this line stands there
 pub next_here : (past : Bool) (s : Stage) (lines : List ℕ) (x : Line) → IsStage lines s → IsLine x
     → Begins past (lines ++ text_of_line x) → IsHere past s x
 next_here past s lines x i l b = record {
-  may = subst (λ (y : Line). May s.open y) same n.may;
+  may = subst (λ (y : Line). May s.last y) same n.may;
   parts = n.parts;
-  extends_to = subst (λ (y : Line). Extends (to s y).over (to s y).open n.parts) same n.extends_to;
+  extends_to = subst (λ (y : Line). Extends (to s y).over (to s y).last n.parts) same n.extends_to;
   joint = n.joint;
   is_joint = n.is_joint;
 }
@@ -172,12 +172,12 @@ pub channel_refused : {A : Type 0} → HaveOneJoint → (old : Joint A) → old.
     (c : Channel) → (FitsAt old.so_far.part.records old.so_far.part.bytes (kept_of key
     old.so_far.part.channels) (Some c)
     → ⊥) → (lines : List ℕ) (s : Stage) → IsReadTo lines s old → IsLine (channel key c)
-    → May s.open (channel key c) → Begins old.past (lines ++ text_of_line (channel key c)) → ⊥
+    → May s.last (channel key c) → Begins old.past (lines ++ text_of_line (channel key c)) → ⊥
 channel_refused only old n key c limit lines s r l m b =
-    limit (by s.over s.open r.joint m (next_here old.past s lines (channel key c) r.stage l b))
+    limit (by s.over s.last r.joint m (next_here old.past s lines (channel key c) r.stage l b))
   where
     by : (over : List Written) (b : OpenPart) → IsJointOf old.past (over ++ open_part b) (written_of old.so_far)
-        → May b (channel key c) → IsHere old.past (record { over = over; open = b }) (channel key c)
+        → May b (channel key c) → IsHere old.past (record { over = over; last = b }) (channel key c)
         → FitsAt old.so_far.part.records old.so_far.part.bytes (kept_of key old.so_far.part.channels) (Some c)
     by over none j q h = absurd q
     by over (begun cs) j q h =
@@ -186,7 +186,7 @@ channel_refused only old n key c limit lines s r l m b =
 
 -- ---- the counts
 counts_place : (over : List Written) (b : OpenPart) (n l : ℕ) → May b (counts n l)
-    → IsPlace (Whole l false) (goes over b (counts n l)).open
+    → IsPlace (Whole l false) (goes over b (counts n l)).last
 counts_place over none n l m = absurd m
 counts_place over (begun cs) n l m = (refl, refl)
 counts_place over (whole w) n l m = absurd m
@@ -219,36 +219,36 @@ counts_no_fault n l bytes f e = cc
 
 pub counts_skipped : {A : Type 0} → (old : Joint A) (f : StreamFault) → old.so_far.end ≡ Some f
     → (n l : ℕ) (lines : List ℕ) (s : Stage) → IsReadTo lines s old → IsLine (counts n l)
-    → May s.open (counts n l) → IsTaken lines (text_of_line (counts n l)) s (to s (counts n l)) Nothing old
+    → May s.last (counts n l) → IsTaken lines (text_of_line (counts n l)) s (to s (counts n l)) Nothing old
     (placed old (Whole l false))
 counts_skipped old f e n l lines s r is m =
     taken lines s (counts n l) Nothing old (placed old (Whole l false)) r is m
-    (counts_stops old.past s.over s.open n l (written_of old.so_far) f m e r.joint)
-    (counts_place s.over s.open n l m) (counts_number s.over s.open n l old.parts m r.number)
-    (passed_same old.past s.over s.open (counts n l) r.stage.is_where m (counts_no_fault n l))
-    (skips_borders old.past s.over s.open (counts n l) (written_of old.so_far) f r.stage.is_where m tt e r.joint) refl
+    (counts_stops old.past s.over s.last n l (written_of old.so_far) f m e r.joint)
+    (counts_place s.over s.last n l m) (counts_number s.over s.last n l old.parts m r.number)
+    (passed_same old.past s.over s.last (counts n l) r.stage.is_where m (counts_no_fault n l))
+    (skips_borders old.past s.over s.last (counts n l) (written_of old.so_far) f r.stage.is_where m tt e r.joint) refl
 
 pub counts_added : {A : Type 0} → JoinsCounts → (old : Joint A) (so_far : JointPart A)
     → old.so_far.end ≡ None → (n l : ℕ) → IsJoint old.so_far.part (counts_alone n l) so_far.part
     → Fits old.so_far.part (counts_alone n l) → so_far.faults ≡ old.so_far.faults → so_far.end ≡ old.so_far.end
     → (lines : List ℕ) (s : Stage) → IsReadTo lines s old → IsLine (counts n l)
-    → May s.open (counts n l) → IsTaken lines (text_of_line (counts n l)) s (to s (counts n l)) Nothing old
+    → May s.last (counts n l) → IsTaken lines (text_of_line (counts n l)) s (to s (counts n l)) Nothing old
     (kept_as old so_far (Whole l false))
 counts_added law old so_far free n l joint fit f e lines s r is m =
     taken lines s (counts n l) Nothing old (kept_as old so_far (Whole l false)) r is m
-    (counts_adds law old.past s.over s.open n l (written_of old.so_far) (written_of so_far) m free joint fit f
-    (e ∙ free) r.joint) (counts_place s.over s.open n l m) (counts_number s.over s.open n l old.parts m r.number)
-    (passed_same old.past s.over s.open (counts n l) r.stage.is_where m (counts_no_fault n l))
-    (ends_borders old.past s.over s.open (counts n l) (written_of old.so_far) r.stage.is_where m tt free r.joint) refl
+    (counts_adds law old.past s.over s.last n l (written_of old.so_far) (written_of so_far) m free joint fit f
+    (e ∙ free) r.joint) (counts_place s.over s.last n l m) (counts_number s.over s.last n l old.parts m r.number)
+    (passed_same old.past s.over s.last (counts n l) r.stage.is_where m (counts_no_fault n l))
+    (ends_borders old.past s.over s.last (counts n l) (written_of old.so_far) r.stage.is_where m tt free r.joint) refl
 
 pub counts_refused : {A : Type 0} → HaveOneJoint → (old : Joint A) → old.so_far.end ≡ None → (n l : ℕ)
     → (Fits old.so_far.part (counts_alone n l) → ⊥) → (lines : List ℕ) (s : Stage) → IsReadTo lines s old
-    → IsLine (counts n l) → May s.open (counts n l) → Begins old.past (lines ++ text_of_line (counts n l)) → ⊥
+    → IsLine (counts n l) → May s.last (counts n l) → Begins old.past (lines ++ text_of_line (counts n l)) → ⊥
 counts_refused only old free n l limit lines s r is m b =
-    limit (by s.over s.open r.joint m (next_here old.past s lines (counts n l) r.stage is b))
+    limit (by s.over s.last r.joint m (next_here old.past s lines (counts n l) r.stage is b))
   where
     by : (over : List Written) (b : OpenPart) → IsJointOf old.past (over ++ open_part b) (written_of old.so_far)
-        → May b (counts n l) → IsHere old.past (record { over = over; open = b }) (counts n l)
+        → May b (counts n l) → IsHere old.past (record { over = over; last = b }) (counts n l)
         → Fits old.so_far.part (counts_alone n l)
     by over none j q h = absurd q
     by over (begun cs) j q h =
@@ -257,7 +257,7 @@ counts_refused only old free n l limit lines s r is m b =
 
 -- ---- the number of faults passed
 faults_place : (over : List Written) (b : OpenPart) (n l : ℕ) → May b (faults n) → 0 < n → IsPlace (Whole l false) b
-    → IsPlace (Whole l true) (goes over b (faults n)).open
+    → IsPlace (Whole l true) (goes over b (faults n)).last
 faults_place over none n l m some p = absurd m
 faults_place over (begun cs) n l m some p = absurd m
 faults_place over (whole w) n l m some p = (p.0, some)
@@ -287,39 +287,39 @@ faults_no_fault n bytes f e = cc
 
 pub faults_skipped : {A : Type 0} → (old : Joint A) (f : StreamFault) → old.so_far.end ≡ Some f → (l : ℕ)
     → old.place ≡ Whole l false → (n : ℕ) (lines : List ℕ) (s : Stage) → IsReadTo lines s old → IsLine (faults n)
-    → May s.open (faults n) → IsTaken lines (text_of_line (faults n)) s (to s (faults n)) Nothing old
+    → May s.last (faults n) → IsTaken lines (text_of_line (faults n)) s (to s (faults n)) Nothing old
     (placed old (Whole l true))
 faults_skipped old f e l at n lines s r is m =
     taken lines s (faults n) Nothing old (placed old (Whole l true)) r is m
-    (faults_stops old.past s.over s.open n (written_of old.so_far) f r.stage.is_where m e r.joint)
-    (faults_place s.over s.open n l m is.some (subst (λ (p : Place). IsPlace p s.open) at r.place))
-    (faults_number s.over s.open n old.parts m r.number)
-    (passed_same old.past s.over s.open (faults n) r.stage.is_where m (faults_no_fault n))
-    (skips_borders old.past s.over s.open (faults n) (written_of old.so_far) f r.stage.is_where m tt e r.joint) refl
+    (faults_stops old.past s.over s.last n (written_of old.so_far) f r.stage.is_where m e r.joint)
+    (faults_place s.over s.last n l m is.some (subst (λ (p : Place). IsPlace p s.last) at r.place))
+    (faults_number s.over s.last n old.parts m r.number)
+    (passed_same old.past s.over s.last (faults n) r.stage.is_where m (faults_no_fault n))
+    (skips_borders old.past s.over s.last (faults n) (written_of old.so_far) f r.stage.is_where m tt e r.joint) refl
 
 pub faults_added : {A : Type 0} → (old : Joint A) (so_far : JointPart A) → old.so_far.end ≡ None → (l : ℕ)
     → old.place ≡ Whole l false → (n : ℕ) → old.so_far.faults + n < 2 ^ 63 → so_far.part ≡ old.so_far.part
     → so_far.faults ≡ old.so_far.faults + n → so_far.end ≡ old.so_far.end
     → (lines : List ℕ) (s : Stage) → IsReadTo lines s old → IsLine (faults n)
-    → May s.open (faults n) → IsTaken lines (text_of_line (faults n)) s (to s (faults n)) Nothing old
+    → May s.last (faults n) → IsTaken lines (text_of_line (faults n)) s (to s (faults n)) Nothing old
     (kept_as old so_far (Whole l true))
 faults_added old so_far free l at n fit p f e lines s r is m =
     taken lines s (faults n) Nothing old (kept_as old so_far (Whole l true)) r is m
-    (faults_adds old.past s.over s.open n (written_of old.so_far) (written_of so_far) r.stage.is_where m free fit p f
+    (faults_adds old.past s.over s.last n (written_of old.so_far) (written_of so_far) r.stage.is_where m free fit p f
     (e ∙ free) r.joint)
-    (faults_place s.over s.open n l m is.some (subst (λ (q : Place). IsPlace q s.open) at r.place))
-    (faults_number s.over s.open n old.parts m r.number)
-    (passed_same old.past s.over s.open (faults n) r.stage.is_where m (faults_no_fault n))
-    (ends_borders old.past s.over s.open (faults n) (written_of old.so_far) r.stage.is_where m tt free r.joint) refl
+    (faults_place s.over s.last n l m is.some (subst (λ (q : Place). IsPlace q s.last) at r.place))
+    (faults_number s.over s.last n old.parts m r.number)
+    (passed_same old.past s.over s.last (faults n) r.stage.is_where m (faults_no_fault n))
+    (ends_borders old.past s.over s.last (faults n) (written_of old.so_far) r.stage.is_where m tt free r.joint) refl
 
 pub faults_refused : {A : Type 0} → HaveOneJoint → (old : Joint A) → old.so_far.end ≡ None → (n : ℕ)
     → (old.so_far.faults + n < 2 ^ 63 → ⊥) → (lines : List ℕ) (s : Stage) → IsReadTo lines s old
-    → IsLine (faults n) → May s.open (faults n) → Begins old.past (lines ++ text_of_line (faults n)) → ⊥
+    → IsLine (faults n) → May s.last (faults n) → Begins old.past (lines ++ text_of_line (faults n)) → ⊥
 faults_refused only old free n limit lines s r is m b =
-    limit (by s.over s.open r.joint r.stage.is_where m (next_here old.past s lines (faults n) r.stage is b))
+    limit (by s.over s.last r.joint r.stage.is_where m (next_here old.past s lines (faults n) r.stage is b))
   where
     by : (over : List Written) (b : OpenPart) → IsJointOf old.past (over ++ open_part b) (written_of old.so_far)
-        → IsWhere over b → May b (faults n) → IsHere old.past (record { over = over; open = b }) (faults n)
+        → IsWhere over b → May b (faults n) → IsHere old.past (record { over = over; last = b }) (faults n)
         → old.so_far.faults + n < 2 ^ 63
     by over none j v q h = absurd q
     by over (begun cs) j v q h = absurd q
@@ -328,7 +328,7 @@ faults_refused only old free n limit lines s r is m b =
 
 -- ---- the fault with which a part ends
 fault_place : (over : List Written) (b : OpenPart) (l : ℕ) (f : StreamFault) → May b (fault l f)
-    → IsPlace Start (goes over b (fault l f)).open
+    → IsPlace Start (goes over b (fault l f)).last
 fault_place over none l f m = absurd m
 fault_place over (begun cs) l f m = absurd m
 fault_place over (whole w) l f m = tt
@@ -401,14 +401,14 @@ fault_reported past over (whole w) l f k p v m e =
 -- the joint part ends with a fault before
 pub fault_skipped : {A : Type 0} → (old : Joint A) (f : StreamFault) → old.so_far.end ≡ Some f → (l : ℕ)
     (x : StreamFault) (lines : List ℕ) (s : Stage) → IsReadTo lines s old → IsLine (fault l x)
-    → May s.open (fault l x) → IsTaken lines (text_of_line (fault l x)) s (to s (fault l x)) Nothing old
+    → May s.last (fault l x) → IsTaken lines (text_of_line (fault l x)) s (to s (fault l x)) Nothing old
     (placed old Start)
 fault_skipped old f e l x lines s r is m =
     taken lines s (fault l x) Nothing old (placed old Start) r is m
-    (fault_stops old.past s.over s.open l x (written_of old.so_far) f r.stage.is_where m e r.joint)
-    (fault_place s.over s.open l x m) (fault_number s.over s.open l x old.parts m r.number)
-    (fault_silent old.past s.over s.open l x (not_past old.past refl))
-    (skips_borders old.past s.over s.open (fault l x) (written_of old.so_far) f r.stage.is_where m tt e r.joint) refl
+    (fault_stops old.past s.over s.last l x (written_of old.so_far) f r.stage.is_where m e r.joint)
+    (fault_place s.over s.last l x m) (fault_number s.over s.last l x old.parts m r.number)
+    (fault_silent old.past s.over s.last l x (not_past old.past refl))
+    (skips_borders old.past s.over s.last (fault l x) (written_of old.so_far) f r.stage.is_where m tt e r.joint) refl
   where
     not_past : (past : Bool) → old.past ≡ past → old.past ≡ false
     not_past false p = p
@@ -430,15 +430,15 @@ pub fault_kept : {A : Type 0} → (old : Joint A) (so_far : JointPart A) → old
     → (x : StreamFault) → so_far.part ≡ old.so_far.part → so_far.faults ≡ old.so_far.faults
     → so_far.end ≡ Some (fault_after old.so_far.part.bytes x) → (l : ℕ)
     (lines : List ℕ) (s : Stage) → IsReadTo lines s old → IsLine (fault l x)
-    → May s.open (fault l x) → IsTaken lines (text_of_line (fault l x)) s (to s (fault l x)) Nothing old
+    → May s.last (fault l x) → IsTaken lines (text_of_line (fault l x)) s (to s (fault l x)) Nothing old
     (kept_as old so_far Start)
 fault_kept old so_far p free x pa fa e l lines s r is m =
     taken lines s (fault l x) Nothing old (kept_as old so_far Start) r is m
-    (fault_ends old.past s.over s.open l x (written_of old.so_far) (written_of so_far) p r.stage.is_where m is free pa
+    (fault_ends old.past s.over s.last l x (written_of old.so_far) (written_of so_far) p r.stage.is_where m is free pa
     fa e r.joint)
-    (fault_place s.over s.open l x m) (fault_number s.over s.open l x old.parts m r.number)
-    (fault_silent old.past s.over s.open l x p)
-    (ends_borders old.past s.over s.open (fault l x) (written_of old.so_far) r.stage.is_where m tt free r.joint) refl
+    (fault_place s.over s.last l x m) (fault_number s.over s.last l x old.parts m r.number)
+    (fault_silent old.past s.over s.last l x p)
+    (ends_borders old.past s.over s.last (fault l x) (written_of old.so_far) r.stage.is_where m tt free r.joint) refl
 
 fault_passes : (past : Bool) (over : List Written) (b : OpenPart) (l : ℕ) (x : StreamFault) (h k : Written) → past ≡ true
     → IsWhere over b → May b (fault l x) → h.end ≡ None → h.faults + 1 < 2 ^ 63 → k.part ≡ h.part
@@ -455,25 +455,25 @@ pub fault_passed : {A : Type 0} → (old : Joint A) (so_far : JointPart A) → o
     → (x : StreamFault) → old.so_far.faults + 1 < 2 ^ 63 → so_far.part ≡ old.so_far.part
     → so_far.faults ≡ old.so_far.faults + 1 → so_far.end ≡ old.so_far.end → (l : ℕ)
     (lines : List ℕ) (s : Stage) → IsReadTo lines s old → IsLine (fault l x)
-    → May s.open (fault l x)
+    → May s.last (fault l x)
     → IsTaken lines (text_of_line (fault l x)) s (to s (fault l x)) (Passed old.parts x) old (kept_as old so_far Start)
 fault_passed old so_far p free x fit pa fa e l lines s r is m =
     taken lines s (fault l x) (Passed old.parts x) old (kept_as old so_far Start) r is m
-    (fault_passes old.past s.over s.open l x (written_of old.so_far) (written_of so_far) p r.stage.is_where m free fit
+    (fault_passes old.past s.over s.last l x (written_of old.so_far) (written_of so_far) p r.stage.is_where m free fit
     pa fa (e ∙ free) r.joint)
-    (fault_place s.over s.open l x m) (fault_number s.over s.open l x old.parts m r.number)
-    (fault_reported old.past s.over s.open l x old.parts p r.stage.is_where m r.number)
-    (ends_borders old.past s.over s.open (fault l x) (written_of old.so_far) r.stage.is_where m tt free r.joint) refl
+    (fault_place s.over s.last l x m) (fault_number s.over s.last l x old.parts m r.number)
+    (fault_reported old.past s.over s.last l x old.parts p r.stage.is_where m r.number)
+    (ends_borders old.past s.over s.last (fault l x) (written_of old.so_far) r.stage.is_where m tt free r.joint) refl
 
 pub fault_refused : {A : Type 0} → HaveOneJoint → (old : Joint A) → old.past ≡ true → old.so_far.end ≡ None
     → (x : StreamFault) → (old.so_far.faults + 1 < 2 ^ 63 → ⊥) → (l : ℕ) (lines : List ℕ) (s : Stage)
-    → IsReadTo lines s old → IsLine (fault l x) → May s.open (fault l x)
+    → IsReadTo lines s old → IsLine (fault l x) → May s.last (fault l x)
     → Begins old.past (lines ++ text_of_line (fault l x)) → ⊥
 fault_refused only old p free x limit l lines s r is m b =
-    limit (by s.over s.open r.joint r.stage.is_where m (next_here old.past s lines (fault l x) r.stage is b))
+    limit (by s.over s.last r.joint r.stage.is_where m (next_here old.past s lines (fault l x) r.stage is b))
   where
     by : (over : List Written) (b : OpenPart) → IsJointOf old.past (over ++ open_part b) (written_of old.so_far)
-        → IsWhere over b → May b (fault l x) → IsHere old.past (record { over = over; open = b }) (fault l x)
+        → IsWhere over b → May b (fault l x) → IsHere old.past (record { over = over; last = b }) (fault l x)
         → old.so_far.faults + 1 < 2 ^ 63
     by over none j v q h = absurd q
     by over (begun cs) j v q h = absurd q

@@ -41,7 +41,7 @@ abbrev leading : Written → List ℕ
 leading w = header_line ++ channel_lines w.part.channels ++ counts_line w.part.records w.part.bytes
 
 text_more : (over : List Written) (b : OpenPart) (x : Line) → IsWhere over b → May b x
-    → texts over ++ open_text b ++ text_of_line x ≡ texts (goes over b x).over ++ open_text (goes over b x).open
+    → texts over ++ open_text b ++ text_of_line x ≡ texts (goes over b x).over ++ open_text (goes over b x).last
 text_more over none header w m =
     (λ i. append-nil (texts over) i ++ sym (append-nil header_line) i)
 text_more over none (channel k c) w m = absurd m
@@ -144,7 +144,7 @@ each_more over (whole v) (fault k f) l w m h =
     )) tt
 
 where_more : (over : List Written) (b : OpenPart) (x : Line) → IsWhere over b → May b x
-    → IsWhere (goes over b x).over (goes over b x).open
+    → IsWhere (goes over b x).over (goes over b x).last
 where_more over none header w m = tt
 where_more over none (channel k c) w m = absurd m
 where_more over none (counts n l) w m = absurd m
@@ -162,12 +162,12 @@ where_more over (whole v) (faults n) w m = w
 where_more over (whole v) (fault l f) w m =
     inr (record { parts = over; last = with_end v f; fault = f; are = refl; ends = refl })
 
-pub stage_more : (lines : List ℕ) (s : Stage) (x : Line) → IsStage lines s → IsLine x → May s.open x
+pub stage_more : (lines : List ℕ) (s : Stage) (x : Line) → IsStage lines s → IsLine x → May s.last x
     → IsStage (lines ++ text_of_line x) (to s x)
 stage_more lines s x i l m = record {
-  text = ap (λ (t : List ℕ). t ++ text_of_line x) i.text ∙ text_more s.over s.open x i.is_where m;
-  each = each_more s.over s.open x l i.is_where m i.each;
-  is_where = where_more s.over s.open x i.is_where m;
+  text = ap (λ (t : List ℕ). t ++ text_of_line x) i.text ∙ text_more s.over s.last x i.is_where m;
+  each = each_more s.over s.last x l i.is_where m i.each;
+  is_where = where_more s.over s.last x i.is_where m;
 }
 
 -- ---- the joint part
@@ -195,7 +195,7 @@ pub last_is : (past : Bool) (over : List Written) (w h : Written) → w.end ≡ 
 last_is past over w h e n j = by (split past over (w ∷ []) h j)
   where
     by : IsSplit past nothing over (w ∷ []) h → IsLast past over w h
-    by s = cases s.open
+    by s = cases s.last
       where
         cases : ((s.before.end ≡ None) × AreJoined s.before (counted past (w ∷ [])) h)
             ⊎ ((f : StreamFault) × (s.before.end ≡ Some f) × (s.before ≡ h)) → IsLast past over w h
@@ -213,7 +213,7 @@ pub before_is : (past : Bool) (over : List Written) (w h : Written) (f : StreamF
 before_is past over w h f e n j = by (split past over (w ∷ []) h j)
   where
     by : IsSplit past nothing over (w ∷ []) h → IsJointOf past over h
-    by s = cases s.open
+    by s = cases s.last
       where
         cases : ((s.before.end ≡ None) × AreJoined s.before (counted past (w ∷ [])) h)
             ⊎ ((x : StreamFault) × (s.before.end ≡ Some x) × (s.before ≡ h)) → IsJointOf past over h

@@ -24,11 +24,11 @@ pub data OpenPart : Type 0 where
 -- the parts that are over, and what stands after them
 pub record Stage : Type 0 where
   pub over : List Written
-  pub open : OpenPart
+  pub last : OpenPart
 
 -- nothing was read
 abbrev pub start : Stage
-start = record { over = []; open = none }
+start = record { over = []; last = none }
 
 -- a part of these channels, of which no counts were read
 abbrev pub begun_part : List (List ℕ × Channel) → Written
@@ -41,7 +41,7 @@ open_part (whole w) = w ∷ []
 
 -- all parts so far, with the one that has begun
 abbrev pub parts_at : Stage → List Written
-parts_at s = s.over ++ open_part s.open
+parts_at s = s.over ++ open_part s.last
 
 abbrev pub open_text : OpenPart → List ℕ
 open_text none = []
@@ -64,9 +64,9 @@ IsWhere over (whole w) = w.end ≡ None
 
 -- these lines are parts up to here
 pub record IsStage (lines : List ℕ) (s : Stage) : Type 0 where
-  pub text : lines ≡ texts s.over ++ open_text s.open
+  pub text : lines ≡ texts s.over ++ open_text s.last
   pub each : AllByRecursion HasText (parts_at s)
-  pub is_where : IsWhere s.over s.open
+  pub is_where : IsWhere s.over s.last
 
 -- ---- faults that are passed
 -- the line of the fault with which the part of this number ends

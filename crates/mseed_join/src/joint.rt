@@ -145,7 +145,7 @@ impl<A: Allocator + Copy> Joint<A> {
     /// Takes the first line of a part.
     fn take_header(&mut self, line: &[u8]) -> Result<Reported, LineFault>
         requires { self.old.parts < 2 ^ 63 }
-        ensures step { (lines : List ℕ) (s : Stage) → IsReadTo lines s self.old → May s.open Line.header
+        ensures step { (lines : List ℕ) (s : Stage) → IsReadTo lines s self.old → May s.last Line.header
             → OnOk result (IsStep lines s Line.header result self.old self.new) }
         ensures line { OnOk result (line.now ≡ header_line) }
         ensures bad { IfErr result (λ fault. (fault ≡ LineFault.Bad) × (line.now ≢ header_line)) }
@@ -206,7 +206,7 @@ impl<A: Allocator + Copy> Joint<A> {
     /// Takes a channel that is in order.
     fn take_channel(&mut self, codes: Codes, channel: &Channel) -> Result<Reported, LineFault>
         ensures { (lines : List ℕ) (s : Stage) → IsReadTo lines s self.old → IsLine (Line.channel codes channel.now)
-            → May s.open (Line.channel codes channel.now)
+            → May s.last (Line.channel codes channel.now)
             → IsStep lines s (Line.channel codes channel.now) result self.old self.new }
     {
         joined_in_turn();
@@ -231,7 +231,7 @@ impl<A: Allocator + Copy> Joint<A> {
     /// Takes the counts.
     fn take_counts(&mut self, records: u64, bytes: u64) -> Result<Reported, LineFault>
         ensures { (lines : List ℕ) (s : Stage) → IsReadTo lines s self.old → IsLine (Line.counts records bytes)
-            → May s.open (Line.counts records bytes)
+            → May s.last (Line.counts records bytes)
             → IsStep lines s (Line.counts records bytes) result self.old self.new }
     {
         joined_in_turn();
@@ -254,7 +254,7 @@ impl<A: Allocator + Copy> Joint<A> {
     fn take_faults(&mut self, faults: u64, bytes: u64) -> Result<Reported, LineFault>
         requires { self.old.place ≡ Place.Whole bytes false }
         ensures { (lines : List ℕ) (s : Stage) → IsReadTo lines s self.old → IsLine (Line.faults faults)
-            → May s.open (Line.faults faults)
+            → May s.last (Line.faults faults)
             → IsStep lines s (Line.faults faults) result self.old self.new }
     {
         joining_laws();
@@ -278,7 +278,7 @@ impl<A: Allocator + Copy> Joint<A> {
     /// Takes the fault with which a part of so many bytes ends.
     fn take_fault(&mut self, fault: StreamFault, bytes: u64) -> Result<Reported, LineFault>
         ensures { (lines : List ℕ) (s : Stage) → IsReadTo lines s self.old → IsLine (Line.fault bytes fault)
-            → May s.open (Line.fault bytes fault)
+            → May s.last (Line.fault bytes fault)
             → IsStep lines s (Line.fault bytes fault) result self.old self.new }
     {
         joining_laws();

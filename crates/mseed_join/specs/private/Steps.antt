@@ -40,24 +40,24 @@ with_end w f = record { part = w.part; faults = w.faults; end = Some f }
 
 -- and then reading is so far
 abbrev pub goes : List Written → OpenPart → Line → Stage
-goes over none header = record { over = over; open = begun [] }
-goes over none (channel key c) = record { over = over; open = none }
-goes over none (counts records bytes) = record { over = over; open = none }
-goes over none (faults n) = record { over = over; open = none }
-goes over none (fault bytes f) = record { over = over; open = none }
-goes over (begun channels) header = record { over = over; open = none }
-goes over (begun channels) (channel key c) = record { over = over; open = begun (channels ++ (key, c) ∷ []) }
+goes over none header = record { over = over; last = begun [] }
+goes over none (channel key c) = record { over = over; last = none }
+goes over none (counts records bytes) = record { over = over; last = none }
+goes over none (faults n) = record { over = over; last = none }
+goes over none (fault bytes f) = record { over = over; last = none }
+goes over (begun channels) header = record { over = over; last = none }
+goes over (begun channels) (channel key c) = record { over = over; last = begun (channels ++ (key, c) ∷ []) }
 goes over (begun channels) (counts records bytes) = record {
   over = over;
-  open = whole (counted_part channels records bytes);
+  last = whole (counted_part channels records bytes);
 }
-goes over (begun channels) (faults n) = record { over = over; open = none }
-goes over (begun channels) (fault bytes f) = record { over = over; open = none }
-goes over (whole w) header = record { over = over ++ w ∷ []; open = begun [] }
-goes over (whole w) (channel key c) = record { over = over; open = none }
-goes over (whole w) (counts records bytes) = record { over = over; open = none }
-goes over (whole w) (faults n) = record { over = over; open = whole (with_faults w n) }
-goes over (whole w) (fault bytes f) = record { over = over ++ with_end w f ∷ []; open = none }
+goes over (begun channels) (faults n) = record { over = over; last = none }
+goes over (begun channels) (fault bytes f) = record { over = over; last = none }
+goes over (whole w) header = record { over = over ++ w ∷ []; last = begun [] }
+goes over (whole w) (channel key c) = record { over = over; last = none }
+goes over (whole w) (counts records bytes) = record { over = over; last = none }
+goes over (whole w) (faults n) = record { over = over; last = whole (with_faults w n) }
+goes over (whole w) (fault bytes f) = record { over = over ++ with_end w f ∷ []; last = none }
 
 abbrev pub to : Stage → Line → Stage
-to s x = goes s.over s.open x
+to s x = goes s.over s.last x

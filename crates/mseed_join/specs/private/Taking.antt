@@ -52,7 +52,7 @@ IsPlace (Whole bytes has_faults) (whole w) = (bytes ≡ w.part.bytes) × IsRead 
 pub record IsReadTo {A : Type 0} (lines : List ℕ) (s : Stage) (j : Joint A) : Type 0 where
   pub stage : IsStage lines s
   pub joint : IsJointOf j.past (parts_at s) (written_of j.so_far)
-  pub place : IsPlace j.place s.open
+  pub place : IsPlace j.place s.last
   pub number : j.parts ≡ length (parts_at s)
 
 -- ---- what is reported of a line
