@@ -169,7 +169,7 @@ fitting : HaveOneJoint → (past : Bool) (over : List Written) (v : Written) (vs
 fitting only past over v vs a k j n all = by (split past over (v ∷ vs) k all)
   where
     by : IsSplit past nothing over (v ∷ vs) k → IsFitting past a v
-    by s = cases s.last
+    by s = cases s.behind
       where
         same : s.before ≡ a
         same = joined_one only nothing (counted past over) s.before a s.joined j

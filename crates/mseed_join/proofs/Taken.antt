@@ -195,7 +195,7 @@ pub last_is : (past : Bool) (over : List Written) (w h : Written) → w.end ≡ 
 last_is past over w h e n j = by (split past over (w ∷ []) h j)
   where
     by : IsSplit past nothing over (w ∷ []) h → IsLast past over w h
-    by s = cases s.last
+    by s = cases s.behind
       where
         cases : ((s.before.end ≡ None) × AreJoined s.before (counted past (w ∷ [])) h)
             ⊎ ((f : StreamFault) × (s.before.end ≡ Some f) × (s.before ≡ h)) → IsLast past over w h
@@ -213,7 +213,7 @@ pub before_is : (past : Bool) (over : List Written) (w h : Written) (f : StreamF
 before_is past over w h f e n j = by (split past over (w ∷ []) h j)
   where
     by : IsSplit past nothing over (w ∷ []) h → IsJointOf past over h
-    by s = cases s.last
+    by s = cases s.behind
       where
         cases : ((s.before.end ≡ None) × AreJoined s.before (counted past (w ∷ [])) h)
             ⊎ ((x : StreamFault) × (s.before.end ≡ Some x) × (s.before ≡ h)) → IsJointOf past over h
