@@ -74,13 +74,14 @@ pub fn first_of_checked(view: &RecordView) -> i32
     ends_of(view).first
 }
 
-/// Fills in the steps of a record of Steim frames that was checked, in as many places as it has samples.
-pub fn steps_of_checked(view: &RecordView, steps: &mut [i32])
+/// Fills in the steps of a record of Steim frames that was checked, in as many places as it has samples, and returns the
+/// last of these.
+pub fn steps_of_checked(view: &RecordView, steps: &mut [i32]) -> i32
     requires whole { (s : List ℤ) × IsWhole (view_of view.now) s }
     requires steim { IsSteim (view_of view.now) }
     requires places { length steps.old ≡ count_of (view_of view.now) }
 {
-    unpack_differences(view, steps);
+    unpack_differences(view, steps).last
 }
 
 /// Whether Steim-2 holds a record's samples, as far as that shows before they are read.

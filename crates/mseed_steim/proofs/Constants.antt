@@ -1,6 +1,6 @@
 -- The ends of a record's reading, none of which is read.
 use Rattle.std.proofs.Common.{◌≡◌, ℕ, ◌-◌, ◌<◌, List, [], ◌∷◌, length, ap, sym, subst, ◌∙◌, arith, ℤ, slice_get, Some}
-use Rattle.std.proofs.Common.{Ok, Err, Result, IfOk, IfErr}
+use Rattle.std.proofs.Common.{Ok, Err, Result, IfOk, IfErr, IfSome, None, Option}
 use Rattle.mseed_record.specs.View.{View, payload_of}
 use Rattle.mseed_steim.specs.declared.scheme.Scheme.{Scheme}
 use Rattle.mseed_steim.specs.declared.form.Form.TheVariants.{Frames}
@@ -54,3 +54,9 @@ frameless v scheme p some held small =
 -- a record with a reading that ends on its constants has no fault
 pub whole_fault : (v : View) (s : List ℤ) (f : ReadFault) → IsWhole v s → IsFault v f → ⊥
 whole_fault v s f whole fault = denied v f s (fault_denies v f whole.0.some fault) whole.0 whole.1
+
+pub constants_ends : (v : View) (scheme : Scheme) (p : List ℕ) (r : Option Ends) → HoldsIn v (Frames scheme) p
+    → IfSome r (λ ends. ends.first ≡ first_constant p) → IfSome r (λ ends. ends.last ≡ last_constant p)
+    → IfSome r (λ ends. (s : List ℤ) → IsWhole v s → AreEnds ends s)
+constants_ends v scheme p None held first last = tt
+constants_ends v scheme p (Some ends) held first last = constants_end v scheme p ends held first last

@@ -5,9 +5,9 @@ ghost use Rattle.std.specs.Prelude.{length, map, min, take};
 ghost use Rattle.std.specs.Bool.{OnTrue};
 ghost use Rattle.mseed_record.specs.Viewing.{view_of};
 ghost use Rattle.mseed_steim.specs.declared.differences.BadWordAt.{BadWordAt};
-ghost use Rattle.mseed_steim.specs.Frames.{DataWord, data_words, words_from};
+ghost use Rattle.mseed_steim.specs.Frames.{DataWord, data_words, first_constant, last_constant, words_from};
 ghost use Rattle.mseed_steim.specs.Reading.{count_of, IsSteim, IsWhole};
-ghost use Rattle.mseed_steim.specs.Samples.{AreSums, steps_of};
+ghost use Rattle.mseed_steim.specs.Samples.{AreEnds, AreSums, steps_of};
 ghost use Rattle.mseed_steim.specs.private.Digits.{digits};
 ghost use Rattle.mseed_steim.specs.private.Items.{items_of};
 ghost use Rattle.mseed_steim.specs.private.Lanes.{Begins};
@@ -15,6 +15,8 @@ ghost use Rattle.mseed_steim.specs.private.Unpacked.{AreUnpacked, data_in};
 
 use crate::check::{constants_of, payload_of};
 use crate::data_words::{FRAME, Words};
+use crate::ends::ends_of;
+use crate::fault::Ends;
 use crate::form::Form;
 use crate::frame::{begin_in, data_in};
 use crate::group::{Group, group_of};
@@ -152,54 +154,60 @@ fn unpack_frames(scheme: Scheme, payload: &[u8], out: &mut [i32]) -> bool
     false
 }
 
-/// Fills in the steps of as many samples as there are places, where no bad word comes before; else the answer is false.
+/// Fills in the steps of as many samples as there are places, where no bad word comes before, and answers the constants
+/// for the first and the last of them.
 #[inline(always)]
-fn fill_payload(scheme: Scheme, payload: &[u8], out: &mut [i32]) -> bool
+fn fill_payload(scheme: Scheme, payload: &[u8], out: &mut [i32]) -> Option<Ends>
     requires some { 0 < length out.old }
     ensures places { length out.new ≡ length out.old }
-    ensures steps { OnTrue result ((s : List ℤ)
+    ensures steps { IfSome result (λ _. (s : List ℤ)
         → AreSums scheme payload.now (length out.old) s → out.new ≡ steps_of s) }
+    ensures first { IfSome result (λ ends. ends.first ≡ first_constant payload.now) }
+    ensures last { IfSome result (λ ends. ends.last ≡ last_constant payload.now) }
 {
     let Some(constants) = constants_of(payload) else {
-        return false;
+        return None;
     };
     if !unpack_frames(scheme, payload, out) {
-        return false;
+        return None;
     }
     out[0] = constants.first;
-    true
+    Some(constants)
 }
 
-/// The same of a record.
+/// The same of a record, whose ends these are.
 #[inline(always)]
-fn fill_known(view: &RecordView<'_>, out: &mut [i32]) -> bool
+fn fill_known(view: &RecordView<'_>, out: &mut [i32]) -> Option<Ends>
     requires some { 0 < count_of (view_of view.now) }
     requires places { length out.old ≡ count_of (view_of view.now) }
     ensures places { length out.new ≡ length out.old }
-    ensures steps { OnTrue result ((s : List ℤ) → IsWhole (view_of view.now) s → out.new ≡ steps_of s) }
+    ensures steps { IfSome result (λ _. (s : List ℤ) → IsWhole (view_of view.now) s → out.new ≡ steps_of s) }
+    ensures ends { IfSome result (λ ends. (s : List ℤ) → IsWhole (view_of view.now) s → AreEnds ends s) }
 {
     match payload_of(view) {
         Ok((Form::Frames(scheme), payload)) => fill_payload(scheme, payload, out),
-        _ => false,
+        _ => None,
     }
 }
 
 /// Fills in the steps of a record's samples, as [`fill_differences`] does: the first sample, and of each one behind it
 /// its difference from the one before. The record is one of Steim frames and is known to have a reading that ends on
-/// its constants, so that nothing is added up or checked again; there are as many places as it has samples.
+/// its constants, so that nothing is added up or checked again; there are as many places as it has samples. Returns the
+/// first and the last of the samples.
 #[inline(never)]
-pub fn unpack_differences(view: &RecordView<'_>, out: &mut [i32])
+pub fn unpack_differences(view: &RecordView<'_>, out: &mut [i32]) -> Ends
     requires whole { (s : List ℤ) × IsWhole (view_of view.now) s }
     requires steim { IsSteim (view_of view.now) }
     requires places { length out.old ≡ count_of (view_of view.now) }
-    ensures { (s : List ℤ) → IsWhole (view_of view.now) s → out.new ≡ steps_of s }
+    ensures steps { (s : List ℤ) → IsWhole (view_of view.now) s → out.new ≡ steps_of s }
+    ensures ends { (s : List ℤ) → IsWhole (view_of view.now) s → AreEnds result s }
 {
-    if fill_known(view, out) {
-        return;
+    if let Some(ends) = fill_known(view, out) {
+        return ends;
     }
     // A record that has a reading fills its places above. No contract says so, but here there would be no error either.
     match fill_differences(view, out) {
-        Ok(()) => {}
+        Ok(()) => ends_of(view),
         Err(_) => unreachable!(),
     }
 }
