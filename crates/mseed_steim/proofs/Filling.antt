@@ -1,11 +1,11 @@
 -- Frames that are filled word by word.
 use Rattle.std.proofs.Common.{◌≡◌, ◌≢◌, ℕ, zero, suc, ◌+◌, ◌-◌, ◌*◌, ◌/◌, ◌%◌, ◌^◌, ◌<◌, ◌≤◌, List, [], ◌∷◌, ◌++◌}
-use Rattle.std.proofs.Common.{length, take, drop, get_or, ℤ, arith, refl, ap, sym, ◌∙◌, subst, ⊎_elim, ◌⊎◌, inl, inr}
+use Rattle.std.proofs.Common.{length, take, drop, ℤ, arith, refl, ap, sym, ◌∙◌, subst, ⊎_elim, ◌⊎◌, inl, inr}
 use Rattle.std.proofs.Common.{cond, eqb, length-append, replicate}
 use Rattle.std.specs.List.{AllByRecursion}
 use Rattle.std.proofs.Math.Nat.{zero-div}
 use Rattle.std.proofs.lemmas.Bool.{cases_eq, ne_eqb, eq-eqb}
-use Rattle.std.proofs.lemmas.List.{get_or-drop, drop-drop, take_at, drop_at, length_push, length-drop, take-append-drop}
+use Rattle.std.proofs.lemmas.List.{drop-drop, take_at, drop_at, length_push, length-drop, take-append-drop}
 use Rattle.mseed_steim.specs.declared.scheme.Scheme.{Scheme}
 use Rattle.mseed_steim.specs.declared.scheme.Scheme.TheVariants.{Two}
 use Rattle.mseed_steim.specs.Frames.{DataWord, data_word, words_from, data_words, word_at, code_at, word_count}
@@ -14,6 +14,7 @@ use Rattle.mseed_steim.specs.Packing.{IsFullest, PacksRun, IsEmptyWord, IsTooLar
 use Rattle.mseed_steim.specs.Packing.{IsFarthest, LeavesRoom}
 use Rattle.mseed_steim.specs.private.Pushing.{Filling}
 use Rattle.mseed_steim.proofs.Walking.{words_none, words_skip, words_step}
+use Rattle.mseed_steim.proofs.Written.{word_zero}
 use Rattle.mseed_steim.proofs.Packs.{run_more, run_prefix, prefix_spelled, first_large, taken_not_large}
 use Rattle.mseed_steim.proofs.Fewest.{is_fewest, is_farthest, no_room}
 
@@ -95,23 +96,12 @@ words_empty p k (suc n) h =
     (cases_eq (k % 16) 0)
 
 -- at first
-get_zero : (n i : ℕ) → get_or {A = ℕ} (replicate n 0) i 0 ≡ 0
-get_zero zero i = refl
-get_zero (suc n) zero = refl
-get_zero (suc n) (suc i) = get_zero n i
-
-pub word_zero : (n k : ℕ) → word_at (replicate n 0) k ≡ 0
-word_zero n k =
-    let byte : (i : ℕ) → get_or (drop (4 * k) (replicate n 0)) i 0 ≡ 0 = λ i. get_or-drop (4 * k) (replicate n 0) i 0
-    ∙ get_zero n (4 * k + i) in
-    rw (byte 0, byte 1, byte 2, byte 3) refl
-
 code_zero : (n k : ℕ) → code_at (replicate n 0) k ≡ 0
 code_zero n k = ap (λ (w : ℕ). w / 2 ^ (30 - 2 * (k % 16)) % 4) (word_zero n (16 * (k / 16)))
     ∙ ap (λ (w : ℕ). w % 4) (zero-div (2 ^ (30 - 2 * (k % 16))))
 
-pub filling_none : (s : Scheme) (ds : List ℤ) (p : List ℕ) (n : ℕ) → p ≡ replicate n 0 → Filling s ds p 3 0 0
-filling_none s ds p n e = subst (λ (q : List ℕ). Filling s ds q 3 0 0) (sym e) (record {
+pub filling_none : (s : Scheme) (ds : List ℤ) (n : ℕ) → Filling s ds (replicate n 0) 3 0 0
+filling_none s ds n = record {
   from = omega arith;
   inside = omega arith;
   count = ap (λ (ws : List DataWord). length ws) (words_none (replicate n 0) 3);
@@ -120,7 +110,7 @@ filling_none s ds p n e = subst (λ (q : List ℕ). Filling s ds q 3 0 0) (sym e
   no_words = λ k h d. word_zero n k;
   constants = (word_zero n 1, word_zero n 2);
   codes = λ k h. code_zero n k;
-})
+}
 
 -- past a frame's first word
 pub filling_past : (s : Scheme) (ds : List ℤ) (p : List ℕ) (index used words : ℕ) → index % 16 ≡ 0

@@ -1,13 +1,13 @@
 -- Words that are written into frames.
 use Rattle.std.proofs.Common.{◌≡◌, ◌≢◌, ℕ, ◌+◌, ◌-◌, ◌*◌, ◌/◌, ◌%◌, ◌^◌, ◌<◌, ◌≤◌, List, [], ◌++◌, length, take, drop}
 use Rattle.std.proofs.Common.{get_or, arith, refl, ap, sym, ◌∙◌, ⊎_elim, cond, eqb, bit_or, length-append, lit<, ◌⊎◌}
-use Rattle.std.proofs.Common.{inl, inr, add-zero}
+use Rattle.std.proofs.Common.{inl, inr, add-zero, ltb, replicate, zero, suc}
 use borrow.Rule.Slice.PartMut.{put_mid, post_of}
 use Rattle.std.proofs.Math.Nat.{pow-le-pow_right, mul_assoc}
-use Rattle.std.proofs.lemmas.Bool.{cases_lt, cases_eq, ne_eqb, eq-eqb}
+use Rattle.std.proofs.lemmas.Bool.{cases_lt, cases_eq, ne_eqb, eq-eqb, lt-ltb, le-ltb}
 use Rattle.std.proofs.lemmas.Nat.{or_comm, or_shr, or_mod, shl_whole, shl-shr, shl_below, shr_below, mod_low, pow-add}
 use Rattle.std.proofs.lemmas.List.{length-take-le, length-drop, drop-drop, drop_at, drop_all, get_or-drop, get_or-take}
-use Rattle.std.proofs.lemmas.List.{get_or_append_left, append_assoc, append-nil, take_rest}
+use Rattle.std.proofs.lemmas.List.{get_or_append_left, get_or-append_right, append_assoc, append-nil, take_rest}
 use Rattle.byteorder.specs.Endian.{big_number, big_bytes}
 use Rattle.byteorder.specs.Numbers.{big_number-reads_back, length-bytes_high_first}
 use Rattle.mseed_steim.specs.Frames.{word_at, code_at}
@@ -80,6 +80,41 @@ word_written p buf n j k h small e =
     let whole : put_mid (4 * j) (length p - 4 * j) p buf ≡ with_bytes (4 * j) p (big_bytes 4 n) =
     ap (λ (l : List ℕ). take (4 * j) p ++ l) buf_is in
     ap (λ (l : List ℕ). word_at l k) whole ∙ word_with (4 * j) n p k j refl h small
+
+-- zeros, alone and from a word on
+get_zero : (n i : ℕ) → get_or {A = ℕ} (replicate n 0) i 0 ≡ 0
+get_zero zero i = refl
+get_zero (suc n) zero = refl
+get_zero (suc n) (suc i) = get_zero n i
+
+pub word_zero : (n k : ℕ) → word_at (replicate n 0) k ≡ 0
+word_zero n k =
+    let byte : (i : ℕ) → get_or (drop (4 * k) (replicate n 0)) i 0 ≡ 0 = λ i. get_or-drop (4 * k) (replicate n 0) i 0
+    ∙ get_zero n (4 * k + i) in
+    rw (byte 0, byte 1, byte 2, byte 3) refl
+
+pub word_cleared : (p buf : List ℕ) (n j k : ℕ) → 4 * j ≤ length p → buf ≡ replicate n 0
+    → word_at (put_mid (4 * j) (length p - 4 * j) p buf) k ≡ cond (ltb k j) (word_at p k) 0
+word_cleared p buf n j k h e =
+    let all = take (4 * j) p ++ replicate n 0 in
+    let long : length (take (4 * j) p) ≡ 4 * j = length-take-le (4 * j) p h in
+    let none : post_of (4 * j) (length p - 4 * j) p ≡ [] =
+    drop_all (length p - 4 * j) (drop (4 * j) p) (omega (arith, length-drop (4 * j) p)) in
+    let whole : put_mid (4 * j) (length p - 4 * j) p buf ≡ all =
+    ap (λ (l : List ℕ). take (4 * j) p ++ (buf ++ l)) none
+    ∙ ap (λ (l : List ℕ). take (4 * j) p ++ l) (append-nil buf ∙ e) in
+    ap (λ (l : List ℕ). word_at l k) whole ∙ ⊎_elim
+    (λ (less : k < j). rw (lt-ltb k j less) (same_number (drop (4 * k) all) (drop (4 * k) p) (λ i q.
+    let before : 4 * k + i < 4 * j = omega (arith, less, q) in
+    get_or-drop (4 * k) all i 0
+    ∙ get_or_append_left (take (4 * j) p) (replicate n 0) 0 (4 * k + i) (omega (arith, before, long))
+    ∙ get_or-take (4 * j) p (4 * k + i) 0 before ∙ sym (get_or-drop (4 * k) p i 0))))
+    (λ (more : j ≤ k).
+    let byte : (i : ℕ) → get_or (drop (4 * k) all) i 0 ≡ 0 = λ i. get_or-drop (4 * k) all i 0
+    ∙ get_or-append_right (take (4 * j) p) (replicate n 0) (4 * j) (4 * k + i) 0 long (omega (arith, more))
+    ∙ get_zero n (4 * k + i - 4 * j) in
+    rw (le-ltb k j more) (rw (byte 0, byte 1, byte 2, byte 3) refl))
+    (cases_lt k j)
 
 -- a code among those of a frame
 or_none : (n : ℕ) → bit_or n 0 ≡ n

@@ -1,7 +1,7 @@
 //! Differences packed into words that are as full as words can be.
 
 ghost use Rattle.std.specs.Prelude.{◌≡◌, ◌≢◌, ◌⊎◌, ◌↔◌, ℕ, ◌+◌, ◌-◌, ◌*◌, ◌%◌, ◌^◌, ◌<◌, ◌≤◌, ◌==◌, if◌then◌else◌};
-ghost use Rattle.std.specs.Prelude.{Err, IfOk};
+ghost use Rattle.std.specs.Prelude.{Err, IfErr, IfOk, nat_lt};
 ghost use Rattle.std.specs.Prelude.{MatchResult, List, ℤ, ◌++◌, length, take, drop};
 ghost use Rattle.std.specs.List.{AllByRecursion};
 ghost use Rattle.mseed_steim.specs.declared.scheme.Scheme.TheVariants.{Two};
@@ -11,8 +11,8 @@ ghost use Rattle.mseed_steim.specs.Frames.{code_at, data_words, word_at, word_co
 ghost use Rattle.mseed_steim.specs.Packing.{IsEmptyWord, IsFarthest, IsFewest, IsFirstTooLarge, IsFullest};
 ghost use Rattle.mseed_steim.specs.Packing.{IsTooLargeAt, LeavesRoom, PacksRun};
 ghost use Rattle.mseed_steim.specs.Runs.{SpellsRun};
-ghost use Rattle.mseed_steim.specs.private.Four.{AreFullest, known_from};
-ghost use Rattle.mseed_steim.specs.private.Pushing.{Pushing};
+ghost use Rattle.mseed_steim.specs.private.Four.{AreFullest};
+ghost use Rattle.mseed_steim.specs.private.Pushing.{IsReached, Pushing};
 
 use crate::ahead::{KNOWN, Lookahead, look};
 use crate::data_words::{FRAME, WORD};
@@ -111,6 +111,14 @@ fn codes_to(codes: u32, index: usize) -> u32
     codes << (30 - 2 * ((index - 1) % FRAME) as u32)
 }
 
+/// Puts 0 into all words from one on.
+fn clear_from(frames: &mut [u8], index: usize)
+    requires { 4 * index ≤ length frames.old }
+    ensures { (k : ℕ) → word_at frames.new k ≡ (if nat_lt k index then word_at frames.old k else 0) }
+{
+    frames[WORD * index..].fill(0);
+}
+
 /// Writes a data word, and puts its code behind those of the frame: all of these.
 #[inline(always)]
 fn push_word(frames: &mut [u8], index: usize, codes: u32, code: u32, word: u32) -> u32
@@ -137,15 +145,17 @@ fn push_four(frames: &mut [u8], index: usize, codes: u32, four: &FourWords) -> u
     push_word(frames, index + 3, codes, four.fourth.0, four.fourth.1)
 }
 
-/// How far a frame is filled.
+/// How far frames are filled.
 #[derive(Clone, Copy)]
 struct Reached {
+    /// How many differences they hold.
+    used: usize,
+    /// The place of the next one in what is known.
+    place: usize,
     /// The index of the next word.
     index: usize,
-    /// The codes of the frame's words before it, side by side.
+    /// The codes of the words before it in its frame, side by side.
     codes: u32,
-    /// The place of the next difference in what is known.
-    place: usize,
 }
 
 /// Fills a frame further by four words at once, as long as four are known ahead and have room before its end.
@@ -161,14 +171,12 @@ fn push_fours(
     requires whole { end % 16 ≡ 0 }
     requires inside { reached.index ≤ end }
     requires begun { end < reached.index + 16 }
-    requires known { (ds : List ℤ) × IsLookahead scheme (known_from known.now reached.place) ds }
+    requires few { reached.used < 2 ^ 63 }
+    requires reached { (ds : List ℤ) × ((head : ℕ) × IsReached scheme ds known.now frames.old head reached) }
     ensures inside { result.index ≤ end }
     ensures moves { ((result.index ≡ reached.index) × (result.place ≡ reached.place)) ⊎ (reached.index < result.index) }
-    ensures pushed { (ds : List ℤ) (head used : ℕ) → Pushing scheme ds frames.old head reached.codes reached.index used
-        → IsLookahead scheme (known_from known.now reached.place) (drop used ds)
-        → (count : ℕ) × ((result.place ≡ reached.place + count)
-        × Pushing scheme ds frames.new head result.codes result.index (used + count)
-        × IsLookahead scheme (known_from known.now result.place) (drop (used + count) ds)) }
+    ensures reached { (ds : List ℤ) (head : ℕ) → IsReached scheme ds known.now frames.old head reached
+        → IsReached scheme ds known.now frames.new head result }
 {
     let mut index = reached.index;
     let mut codes = reached.codes;
@@ -182,10 +190,96 @@ fn push_fours(
         index += FOUR;
     }
     Reached {
+        used: reached.used + (place - reached.place),
+        place,
         index,
         codes,
-        place,
     }
+}
+
+/// Fills a frame further by one word, of the next differences.
+#[inline(always)]
+fn push_next(
+    scheme: Scheme,
+    diffs: &[i32],
+    known: &Lookahead,
+    frames: &mut [u8],
+    reached: Reached,
+) -> Result<Reached, TooLargeAt>
+    requires room { reached.index < word_count frames.old }
+    requires data { reached.index % 16 ≢ 0 }
+    requires some { reached.used < length diffs.now }
+    requires early { reached.place < 121 }
+    requires reached { (head : ℕ) × IsReached scheme diffs.now known.now frames.old head reached }
+    ensures moves { IfOk result (λ next. next.index ≡ reached.index + 1) }
+    ensures reached { IfOk result (λ next. (head : ℕ)
+        → IsReached scheme diffs.now known.now frames.old head reached
+        → IsReached scheme diffs.now known.now frames.new head next) }
+    ensures refused { IfErr result (λ fault. IsFirstTooLarge scheme diffs.now fault.index
+        × LeavesRoom scheme (take fault.index diffs.now) (length (data_words frames.new))) }
+{
+    let held = usize::from(known.most[reached.place]);
+    let rest = &diffs[reached.used..];
+    let Ok((code, word, count)) = next_word(scheme, held, rest, &known.cut[reached.place..]) else {
+        return Err(TooLargeAt {
+            index: reached.used,
+        });
+    };
+    Ok(Reached {
+        used: reached.used + count,
+        place: reached.place + count,
+        index: reached.index + 1,
+        codes: push_word(frames, reached.index, reached.codes, code, word),
+    })
+}
+
+/// Fills a frame further, until it is full or no difference is left.
+#[inline(always)]
+fn fill_frame(
+    scheme: Scheme,
+    diffs: &[i32],
+    known: &mut Lookahead,
+    frames: &mut [u8],
+    end: usize,
+    reached: Reached,
+) -> Result<Reached, TooLargeAt>
+    requires room { 4 * end ≤ length frames.old }
+    requires whole { end % 16 ≡ 0 }
+    requires inside { reached.index ≤ end }
+    requires begun { end < reached.index + 16 }
+    requires reached { (head : ℕ) × IsReached scheme diffs.now known.old frames.old head reached }
+    ensures inside { IfOk result (λ next. next.index ≤ end) }
+    ensures full { IfOk result (λ next. (next.index ≡ end) ⊎ (next.used ≡ length diffs.now)) }
+    ensures reached { IfOk result (λ next. (head : ℕ)
+        → IsReached scheme diffs.now known.old frames.old head reached
+        → IsReached scheme diffs.now known.new frames.new head next) }
+    ensures refused { IfErr result (λ fault. IsFirstTooLarge scheme diffs.now fault.index
+        × LeavesRoom scheme (take fault.index diffs.now) (length (data_words frames.new))) }
+{
+    let mut reached = push_fours(scheme, known, frames, end, reached);
+    while reached.index < end {
+        if known.most[reached.place] < 2 {
+            if reached.used == diffs.len() {
+                break;
+            }
+            if KNOWN <= reached.place {
+                look(
+                    scheme,
+                    &diffs[reached.used..],
+                    &mut known.most,
+                    &mut known.cut,
+                );
+                reached.place = 0;
+                reached = push_fours(scheme, known, frames, end, reached);
+                continue;
+            }
+        }
+        match push_next(scheme, diffs, known, frames, reached) {
+            Ok(next) => reached = next,
+            Err(fault) => return Err(fault),
+        }
+    }
+    Ok(reached)
 }
 
 /// As [`pack_words_ahead`], for one scheme.
@@ -202,75 +296,34 @@ fn pack_run(
     ensures packed { IsRunPacked scheme diffs.now frames.new result }
     ensures known { IfOk result (λ p. IsLookahead scheme known.new (drop p.used diffs.now)) }
 {
-    frames.fill(0);
-    let mut index = 3;
-    // The frame that is being filled: its first word, and the codes that belong there.
+    write_word(frames, 1, 0);
+    write_word(frames, 2, 0);
     let mut head = 0;
-    let mut codes = 0;
-    // The differences from where was looked ahead last, the place of the first of them in what is known, and the place
-    // of the next.
-    let mut left = diffs;
-    let mut start = known.begin(diffs.len());
-    let mut place = start;
-    'filling: loop {
-        let reached = Reached {
-            index,
-            codes,
-            place,
-        };
-        let reached = push_fours(scheme, known, frames, head + FRAME, reached);
-        index = reached.index;
-        codes = reached.codes;
-        place = reached.place;
-        while index < head + FRAME {
-            let held = usize::from(known.most[place]);
-            if held < 2 {
-                let at = place - start;
-                if at == left.len() {
-                    break 'filling;
-                }
-                if KNOWN <= place {
-                    left = &left[at..];
-                    start = 0;
-                    look(scheme, left, &mut known.most, &mut known.cut);
-                    let reached = Reached {
-                        index,
-                        codes,
-                        place: 0,
-                    };
-                    let reached = push_fours(scheme, known, frames, head + FRAME, reached);
-                    index = reached.index;
-                    codes = reached.codes;
-                    place = reached.place;
-                    continue;
-                }
-            }
-            let Ok((code, word, count)) = next_word(
-                scheme,
-                held,
-                &left[place - start..],
-                &known.cut[place..],
-            ) else {
-                let index = diffs.len() - left.len() + (place - start);
-                return Err(TooLargeAt { index });
-            };
-            codes = push_word(frames, index, codes, code, word);
-            place += count;
-            index += 1;
+    let mut reached = Reached {
+        used: 0,
+        place: known.begin(diffs.len()),
+        index: 3,
+        codes: 0,
+    };
+    loop {
+        match fill_frame(scheme, diffs, known, frames, head + FRAME, reached) {
+            Ok(next) => reached = next,
+            Err(fault) => return Err(fault),
         }
-        if index == frames.len() / WORD {
+        if reached.used == diffs.len() || reached.index == frames.len() / WORD {
             break;
         }
-        write_word(frames, head, codes);
-        head = index;
-        codes = 0;
-        index += 1;
+        write_word(frames, head, reached.codes);
+        head = reached.index;
+        reached.codes = 0;
+        reached.index += 1;
     }
-    write_word(frames, head, codes_to(codes, index));
-    known.place = place;
+    write_word(frames, head, codes_to(reached.codes, reached.index));
+    clear_from(frames, reached.index);
+    known.place = reached.place;
     Ok(Packed {
-        used: diffs.len() - left.len() + (place - start),
-        words: index - 3 - (index - 1) / FRAME,
+        used: reached.used,
+        words: reached.index - 3 - (reached.index - 1) / FRAME,
     })
 }
 

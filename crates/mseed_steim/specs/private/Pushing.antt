@@ -1,9 +1,13 @@
 -- Frames that are filled word by word, where the codes of the frame that is being filled aren't written yet.
 use Rattle.std.specs.Prelude.{◌≡◌, ◌≢◌, ◌⊎◌, ℕ, ℤ, ◌+◌, ◌-◌, ◌*◌, ◌/◌, ◌%◌, ◌^◌, ◌<◌, ◌≤◌, ◌==◌, if◌then◌else◌, List}
-use Rattle.std.specs.Prelude.{length, drop}
+use Rattle.std.specs.Prelude.{length, drop, nat_lt}
+use Rattle.mseed_steim.specs.declared.ahead.Lookahead.{Lookahead}
+use Rattle.mseed_steim.specs.declared.pack.Reached.{Reached}
 use Rattle.mseed_steim.specs.declared.scheme.Scheme.{Scheme}
 use Rattle.mseed_steim.specs.Frames.{words_from, word_at, code_at}
+use Rattle.mseed_steim.specs.Lookahead.{IsLookahead}
 use Rattle.mseed_steim.specs.Packing.{PacksRun}
+use Rattle.mseed_steim.specs.private.Four.{known_from}
 
 -- The words before a place hold what was packed, and all else is 0.
 pub record Filling (s : Scheme) (ds : List ℤ) (p : List ℕ) (index used words : ℕ) : Type 0 where
@@ -16,12 +20,11 @@ pub record Filling (s : Scheme) (ds : List ℤ) (p : List ℕ) (index used words
   pub constants : (word_at p 1 ≡ 0) × (word_at p 2 ≡ 0)
   pub codes : (k : ℕ) → (k < 3) ⊎ (k % 16 ≡ 0) → code_at p k ≡ 0
 
--- With the codes in their place, the frames are filled up to a word; behind it they hold nothing.
+-- With the codes in their place, and nothing behind the last word whatever stands there, the frames are filled up to it.
 pub record Coding (s : Scheme) (ds : List ℤ) (p : List ℕ) (head codes index used words : ℕ) : Type 0 where
   pub whole : List ℕ
-  pub same : (k : ℕ) → word_at whole k ≡ (if k == head then codes else word_at p k)
+  pub same : (k : ℕ) → word_at whole k ≡ (if k == head then codes else if nat_lt k index then word_at p k else 0)
   pub filling : Filling s ds whole index used words
-  pub zeros : (k : ℕ) → index ≤ k → word_at p k ≡ 0
   pub at : head ≡ 16 * ((index - 1) / 16)
   pub long : length whole ≡ length p
 
@@ -29,3 +32,8 @@ pub record Coding (s : Scheme) (ds : List ℤ) (p : List ℕ) (head codes index 
 pub record Pushing (s : Scheme) (ds : List ℤ) (p : List ℕ) (head codes index used : ℕ) : Type 0 where
   pub coding : Coding s ds p head (codes * 2 ^ (30 - 2 * ((index - 1) % 16))) index used (index - 3 - (index - 1) / 16)
   pub small : codes < 2 ^ (2 * ((index - 1) % 16) + 2)
+
+-- So many differences are packed, and what is known is known of those that are left.
+pub record IsReached (s : Scheme) (ds : List ℤ) (known : Lookahead) (p : List ℕ) (head : ℕ) (r : Reached) : Type 0 where
+  pub pushing : Pushing s ds p head r.codes r.index r.used
+  pub ahead : IsLookahead s (known_from known r.place) (drop r.used ds)

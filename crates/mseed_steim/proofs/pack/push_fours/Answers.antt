@@ -1,29 +1,29 @@
-use Rattle.std.proofs.Common.{◌≡◌, ℕ, ℤ, List, ◌<◌, ◌≤◌, ◌+◌, ◌%◌, arith, drop, inl, inr, refl, subst}
+use Rattle.std.proofs.Common.{◌≡◌, ℕ, ℤ, List, ◌<◌, ◌≤◌, ◌+◌, ◌-◌, ◌%◌, arith, drop, inl, inr, refl, subst}
 use Rattle.std.proofs.lemmas.List.{drop-drop}
 use Rattle.mseed_steim.specs.Lookahead.{IsLookahead}
 use Rattle.mseed_steim.specs.private.Four.{known_from}
-use Rattle.mseed_steim.specs.private.Pushing.{Pushing}
+use Rattle.mseed_steim.specs.private.Pushing.{IsReached, Pushing}
 use Rattle.mseed_steim.proofs.pack.push_fours.Goals as goal
 
 pub loop-index-init : goal.loop-index-init
-loop-index-init c = record {
-  inside = c.requires.inside;
-  begun = c.requires.begun;
-  room = c.requires.room;
-  known = c.requires.known;
-  moves = inl (refl, refl);
-  pushed = λ ds head used f is.
-      let none : used ≡ used + 0 = omega arith in (
-        0,
-        (
-          omega arith,
-          subst (λ (n : ℕ). Pushing c.args.scheme ds c.args.frames.now head c.args.reached.codes
-              c.args.reached.index n) none f,
-          subst (λ (n : ℕ). IsLookahead c.args.scheme (known_from c.args.known.now c.args.reached.place) (drop n ds))
-              none is,
-        ),
-      );
-}
+loop-index-init c =
+    let reached = c.args.reached in
+    let none : reached.used ≡ reached.used + (reached.place - reached.place) = omega arith in
+    record {
+      inside = c.requires.inside;
+      begun = c.requires.begun;
+      room = c.requires.room;
+      known = (drop reached.used c.requires.reached.0, c.requires.reached.1.1.ahead);
+      order = omega arith;
+      moves = inl (refl, refl);
+      reached = λ ds head is.
+          subst (λ (n : ℕ). IsReached c.args.scheme ds c.args.known.now c.args.frames.now head (record {
+            used = n;
+            place = reached.place;
+            index = reached.index;
+            codes = reached.codes;
+          })) none is;
+    }
 
 pub overflow_add-place : goal.overflow_add-place
 overflow_add-place c =
@@ -34,11 +34,16 @@ pub loop-index-preserved : goal.loop-index-preserved
 loop-index-preserved c =
     let s = c.args.scheme in
     let count = c.in-Some.four.count in
+    let from = c.args.reached.place in
+    let used = c.args.reached.used + (c.loop-index.place - from) in
+    let known = known_from c.args.known.now (c.loop-index.place + count) in
     let whole = c.requires.whole in
     let begun = c.loop-index.invariant.begun in
     let low : 0 < c.loop-index.index % 16 = omega (arith, whole, begun, c.loop-index-test.true) in
     let high : c.loop-index.index % 16 ≤ 12 = omega (arith, whole, begun, c.loop-index-test.true) in
     let moved = c.loop-index.invariant.moves in
+    let order = c.loop-index.invariant.order in
+    let on : used + count ≡ c.args.reached.used + (c.loop-index.place + count - from) = omega (arith, order) in
     record {
       inside = omega (arith, c.loop-index-test.true);
       begun = omega (arith, begun);
@@ -47,22 +52,16 @@ loop-index-preserved c =
         drop count c.loop-index.invariant.known.0,
         (c.in-Some.ensures c.loop-index.invariant.known.0 c.loop-index.invariant.known.1).1,
       );
+      order = omega (arith, order);
       moves = inr (omega (arith, moved));
-      pushed = λ ds head used f is.
-          let so_far = c.loop-index.invariant.pushed ds head used f is in
-          let n = so_far.0 in
-          let found = c.in-Some.ensures (drop (used + n) ds) so_far.1.2 in
-          let next = c.push_four-codes.ensures s ds head (used + n) low high so_far.1.1 found.0 in
-          let on : used + n + count ≡ used + (n + count) = omega arith in (
-            n + count,
-            (
-              omega (arith, so_far.1.0),
-              subst (λ (k : ℕ). Pushing s ds c.push_four-codes.new.frames head c.push_four-codes.result
-                  (c.loop-index.index + 4) k) on next,
-              subst (λ (k : ℕ). IsLookahead s (known_from c.args.known.now (c.loop-index.place + count)) (drop k ds)) on
-                  (subst (λ (xs : List ℤ).
-                  IsLookahead s (known_from c.args.known.now (c.loop-index.place + count)) xs)
-                  (drop-drop count (used + n) ds) found.1),
-            ),
-          );
+      reached = λ ds head is.
+          let so_far = c.loop-index.invariant.reached ds head is in
+          let found = c.in-Some.ensures (drop used ds) so_far.ahead in
+          let next = c.push_four-codes.ensures s ds head used low high so_far.pushing found.0 in
+          record {
+            pushing = subst (λ (n : ℕ). Pushing s ds c.push_four-codes.new.frames head c.push_four-codes.result
+                (c.loop-index.index + 4) n) on next;
+            ahead = subst (λ (n : ℕ). IsLookahead s known (drop n ds)) on
+                (subst (λ (xs : List ℤ). IsLookahead s known xs) (drop-drop count used ds) found.1);
+          };
     }

@@ -1,7 +1,7 @@
-use Rattle.std.proofs.Common.{◌≡◌, ◌⊎◌, ℕ, ℤ, List, ◌<◌, ◌≤◌, ◌+◌, ◌-◌, ◌*◌, drop, length}
+use Rattle.std.proofs.Common.{◌≡◌, ◌⊎◌, ℕ, ℤ, List, ◌<◌, ◌≤◌, ◌+◌, ◌-◌, ◌*◌, length}
 use Rattle.mseed_steim.specs.Lookahead.{IsLookahead}
 use Rattle.mseed_steim.specs.private.Four.{known_from}
-use Rattle.mseed_steim.specs.private.Pushing.{Pushing}
+use Rattle.mseed_steim.specs.private.Pushing.{IsReached}
 use Rattle.mseed_steim.proofs.pack.push_fours.Given as goal
 
 abbrev pub invariant-loop-index : goal.invariant-loop-index
@@ -10,13 +10,15 @@ invariant-loop-index l = record {
   begun : l.end < l.index + 16;
   room : 4 * l.end ≤ length l.frames;
   known : (ds : List ℤ) × IsLookahead l.scheme (known_from l.known l.place) ds;
+  order : l.fn.reached.place ≤ l.place;
   moves : ((l.index ≡ l.fn.reached.index) × (l.place ≡ l.fn.reached.place)) ⊎ (l.fn.reached.index < l.index);
-  pushed : (ds : List ℤ) (head used : ℕ)
-      → Pushing l.scheme ds l.fn.frames head l.fn.reached.codes l.fn.reached.index used
-      → IsLookahead l.scheme (known_from l.known l.fn.reached.place) (drop used ds)
-      → (count : ℕ) × ((l.place ≡ l.fn.reached.place + count)
-      × Pushing l.scheme ds l.frames head l.codes l.index (used + count)
-      × IsLookahead l.scheme (known_from l.known l.place) (drop (used + count) ds));
+  reached : (ds : List ℤ) (head : ℕ) → IsReached l.scheme ds l.known l.fn.frames head l.fn.reached
+      → IsReached l.scheme ds l.known l.frames head (record {
+        used = l.fn.reached.used + (l.place - l.fn.reached.place);
+        place = l.place;
+        index = l.index;
+        codes = l.codes;
+      });
 }
 
 abbrev pub decreases-loop-index : goal.decreases-loop-index
