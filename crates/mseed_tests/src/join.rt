@@ -16,7 +16,7 @@ use mseed_text::push_fault_line;
 use std::alloc::Global;
 use std::process::Abort;
 
-/// A channel of a record, and the same with one that begins 25,001 microseconds late behind it.
+/// A channel of a record, and the same with one that begins 25,001 microseconds late after it.
 static LINES: [&str; 2] = [
     "58585354412020202042485A records 1 samples 16 head 1 0 1704067200000000 20/1 \
         tail 1704067200000000 16 20/1 none findings 0\n",
@@ -47,7 +47,7 @@ static FIELDS: [&str; 19] = [
     "head 1 0 0 20/1 tail none findings 2 first 4 128 overlap 25001",
 ];
 
-/// What comes behind a key and the counts, and is no channel's line.
+/// What comes after a key and the counts, and is no channel's line.
 static REFUSED: [&str; 27] = [
     "head none tail none findings 0",
     "head 1 0 0 20/1 tail none findings 0",
@@ -78,7 +78,7 @@ static REFUSED: [&str; 27] = [
     "head none tail 0 16 20/1 neither findings 1 first 1 0 leap",
 ];
 
-/// The lines of faults behind 128 bytes.
+/// The lines of faults after 128 bytes.
 static FAULTS: [&str; 10] = [
     "fault at 128 notdata\n",
     "fault at 128 order\n",
@@ -92,7 +92,7 @@ static FAULTS: [&str; 10] = [
     "fault at 128 turns\n",
 ];
 
-/// What is no line of a fault behind 128 bytes.
+/// What is no line of a fault after 128 bytes.
 static NO_FAULTS: [&str; 6] = [
     "fault at 127 read\n",
     "fault at 0128 read\n",

@@ -22,7 +22,7 @@ pub(crate) static FIRST: [u8; 128] = [
 /// Another start: the record follows the first one.
 pub(crate) static NEXT: &[(usize, &[u8])] = &[(28, &[31, 64])];
 
-/// Another start: the record begins half a sample and a microsecond late behind the first one.
+/// Another start: the record begins half a sample and a microsecond late after the first one.
 pub(crate) static LATE: &[(usize, &[u8])] = &[(28, &[32, 58]), (61, &[1])];
 
 /// Another channel: XX_STA__BHN.
@@ -68,7 +68,7 @@ pub(crate) const START: i64 = 1_704_067_200_000_000;
 /// When the record begins that follows it.
 pub(crate) const NEXT_START: i64 = 1_704_067_200_800_000;
 
-/// When the record begins that is late behind it.
+/// When the record begins that is late after it.
 pub(crate) const LATE_START: i64 = 1_704_067_200_825_001;
 
 /// The beginning of a channel whose first record has this number, offset and start.
@@ -103,7 +103,7 @@ pub(crate) fn alone(rt: &impl Abort, start: i64) -> Channel {
     }
 }
 
-/// The channel of the first record and the late one behind it.
+/// The channel of the first record and the late one after it.
 pub(crate) fn both(rt: &impl Abort) -> Channel {
     Channel {
         records: 2,

@@ -21,7 +21,7 @@ fn numbered(parts: &[(usize, &[u8])]) -> [u8; 128] {
     record
 }
 
-/// Three records, one behind another.
+/// Three records, one after another.
 fn three(first: &[u8; 128], second: &[u8; 128], third: &[u8; 128]) -> [u8; 384] {
     let mut bytes = [0; 384];
     put(&mut bytes, 0, first);
@@ -162,7 +162,7 @@ fn apart(rt: &impl Abort) -> Micros {
 #[test]
 fn packs_what_is_asked_for(rt: HostRuntime) {
     let first = with(&[(0, b"000001")]);
-    // A log; and the record behind a gap, for which the channel is broken, but which begins too late.
+    // A log; and the record after a gap, for which the channel is broken, but which begins too late.
     let log = numbered(&[(15, b"LOG"), (52, &[0])]);
     let archive = three(&numbered(&[]), &log, &numbered(&[(26, &[10])]));
     let packed = packed_before(&rt, rt.alloc(), b"*_*_*_BH?", Some(apart(&rt)), &archive);

@@ -191,7 +191,7 @@ fn matches_channels(rt: HostRuntime) {
 }
 
 /// A number of samples, a factor and a multiplier as they stand in a header, and how many microseconds the last sample
-/// is behind the first, rounded down.
+/// is after the first, rounded down.
 static SPANS: [(&[u8; 6], i64); 12] = [
     // 1/3600, 1/7 and 1/1,000,000 samples a second.
     (&[0, 3, 241, 240, 0, 1], 7_200_000_000),

@@ -87,7 +87,7 @@ fn is_continuous(verdicts: &[(Codes, Verdict)]) -> bool {
     }
 }
 
-/// Asserts that a cutter and an audit with this memory go on behind more than one refusal each, and then need no more
+/// Asserts that a cutter and an audit with this memory go on after more than one refusal each, and then need no more
 /// for a second record.
 fn assert_goes_on<A: Allocator + Copy, R: Source, B: Drop>(
     rt: &impl Abort,

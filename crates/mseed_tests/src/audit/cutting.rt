@@ -201,7 +201,7 @@ pub(super) fn blocks_of<'a>(
     blocks
 }
 
-/// Asserts that a cutter goes on behind more than three refusals, and cuts two records.
+/// Asserts that a cutter goes on after more than three refusals, and cuts two records.
 fn assert_cut<A: Allocator, R: Source, B: Drop>(
     rt: &impl Abort,
     cutter: &mut Cutter<A>,
@@ -247,7 +247,7 @@ fn answers_memory_of_a_slice(rt: HostRuntime) {
     assert!(rt; split(rt.alloc(), &bytes).expect(&rt, "records").len() == 20);
 }
 
-/// Asserts that a record of all bytes is cut, and the cutter has room for it then, and stands behind it.
+/// Asserts that a record of all bytes is cut, and the cutter has room for it then, and stands after it.
 fn assert_longest<R: Source>(rt: &impl Abort, alloc: Global, source: &mut R, bytes: &[u8])
     requires { R.read source.old ≡ nothing_read }
 {

@@ -11,10 +11,10 @@ use std::io;
 use std::io::{BufReader, Read, Write};
 use std::process::Abort;
 
-/// Behind more calls than there are.
+/// After more calls than there are.
 pub(super) const NEVER: usize = usize::MAX;
 
-/// Tells pieces of at most so many bytes, and fails once behind so many calls.
+/// Tells pieces of at most so many bytes, and fails once after so many calls.
 #[derive(Drop)]
 pub(super) struct Pieces<'a> {
     pub(super) rest: &'a [u8],
@@ -37,7 +37,7 @@ impl Read for Pieces<'_> {
     }
 }
 
-/// Tells one byte a call, and fails once behind so many calls.
+/// Tells one byte a call, and fails once after so many calls.
 fn dripping(calls_before_failure: usize) -> Pieces<'static> {
     Pieces {
         rest: b"hello",
@@ -160,7 +160,7 @@ fn pulls<R: Source>(source: &mut R, buf: &mut [u8], wanted: Result<usize, Failed
     source.pull(buf) == wanted
 }
 
-/// Whether a source that fails behind its first byte goes on behind the failure.
+/// Whether a source that fails after its first byte goes on after the failure.
 fn fails_once<R: Source>(source: &mut R, buf: &mut [u8]) -> bool {
     pulls(source, buf, Ok(1)) && pulls(source, buf, Err(Failed)) && pulls(source, buf, Ok(1))
 }

@@ -15,7 +15,7 @@ fn add(rt: &impl Abort, audit: &mut Audit, offset: u64, bytes: &[u8; 128]) -> u6
     offset + 128
 }
 
-/// What is kept of the channels of three records of 128 bytes that stand one behind another.
+/// What is kept of the channels of three records of 128 bytes that stand one after another.
 fn kept(
     rt: &impl Abort,
     alloc: Global,
@@ -61,7 +61,7 @@ fn keeps_beginnings_and_ends(rt: HostRuntime) {
 
 #[test]
 fn keeps_the_first_finding(rt: HostRuntime) {
-    // The first record has no rate; the third begins late behind the second.
+    // The first record has no rate; the third begins late after the second.
     let no_rate = with(&[(33, &[0])]);
     let channels = kept(&rt, rt.alloc(), &no_rate, &FIRST, &with(LATE));
     let [(_, channel)] = channels.as_slice() else {

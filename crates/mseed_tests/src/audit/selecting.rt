@@ -16,7 +16,7 @@ const OF_CHANNEL: &str =
     records 2 channels 1\n\
     fault at 768 truncated 1\n";
 
-/// What is said of BHZ from 2024 on. The record whose hour is none, and the silent one behind it, lack a time.
+/// What is said of BHZ from 2024 on. The record whose hour is none, and the silent one after it, lack a time.
 const FROM_ON: &str = "640 XX_STA__BHZ record 6 start 2024-01-01T00:00:00.000000 norate\n\
     XX_STA__BHZ broken findings 1 first record 6 offset 640 norate\n\
     records 2 channels 1\n\

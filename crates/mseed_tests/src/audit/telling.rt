@@ -25,7 +25,7 @@ static MANY: &str = "0 XX_STA__BHZ record 1 start fault hour time hour\n\
 /// A start whose hour is no hour.
 const BAD_HOUR: (usize, &[u8]) = (24, &[24]);
 
-/// The records of the second row, and a byte behind them.
+/// The records of the second row, and a byte after them.
 pub(super) fn many() -> [u8; 769] {
     let mut bytes = [b'0'; 769];
     put(&mut bytes, 0, &with(&[BAD_HOUR]));

@@ -12,7 +12,7 @@ pub(super) const OF_FIRST: &str = "mseed part 1\n\
         tail 1704067200000000 16 20/1 none findings 0\n\
     records 1 bytes 128\n";
 
-/// The part of the record that begins 25,001 microseconds late behind it.
+/// The part of the record that begins 25,001 microseconds late after it.
 pub(super) const OF_LATE: &str = "mseed part 1\n\
     58585354412020202042485A records 1 samples 16 head 1 0 1704067200825001 20/1 \
         tail 1704067200825001 16 20/1 none findings 0\n\
@@ -61,7 +61,7 @@ fn writes_parts(rt: HostRuntime) {
     assert!(rt; is_part(rt.alloc(), &both(), OF_BOTH, summary(2, true)));
 }
 
-/// Whether a text is what is reported of both, and their part behind it.
+/// Whether a text is what is reported of both, and their part after it.
 fn is_both(text: &[u8]) -> bool {
     text.starts_with(REPORTED.as_bytes())
         && text.ends_with(OF_BOTH.as_bytes())

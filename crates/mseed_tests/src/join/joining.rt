@@ -8,7 +8,7 @@ use mseed_stream::Counted;
 use std::alloc::{Allocator, Global};
 use std::process::Abort;
 
-/// The last line of the part of an archive that ends with a fault behind its first record.
+/// The last line of the part of an archive that ends with a fault after its first record.
 const FAULT: &str = "fault at 128 truncated 1\n";
 
 /// No parts.
@@ -46,7 +46,7 @@ const PASSED: &str = "XX_STA__BHZ broken findings 1 first record 2 offset 128 ga
 /// What is reported of that fault.
 pub(super) const REPORTED: &str = "mseed: part 1 fault at 128 truncated 1\n";
 
-/// Three texts, one behind another.
+/// Three texts, one after another.
 pub(super) fn joint(rt: &impl Abort, alloc: Global, parts: &[&str; 3]) -> Vec<u8> {
     let mut bytes = Vec::new(alloc);
     for part in parts {
@@ -157,7 +157,7 @@ static ROWS: [Row; 5] = [
     ),
 ];
 
-/// Parts of which a number is expected: the one that isn't counted behind a fault too.
+/// Parts of which a number is expected: the one that isn't counted after a fault too.
 static COUNTED: [Row; 8] = [
     (
         SOUND,

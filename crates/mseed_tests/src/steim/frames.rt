@@ -1,6 +1,6 @@
 //! Samples of made payloads, compared with sums of one difference after another: words of every row and damaged
 //! ones, few samples and many, and first samples within the reach of one to sixteen frames of both limits. Records of
-//! 31 frames are read in runs of up to fifteen, before and behind frames with wide differences.
+//! 31 frames are read in runs of up to fifteen, before and after frames with wide differences.
 
 use super::record::{STEIM_1, is_read_in, record};
 use crate::records::put;
@@ -187,7 +187,7 @@ fn first_by(number: u64) -> i32 {
     }
 }
 
-/// The next difference, or the fault where there is none behind so many.
+/// The next difference, or the fault where there is none after so many.
 fn next_difference(items: &mut Differences<'_>, met: usize) -> Result<i32, ReadFault> {
     match items.next() {
         Some(Ok(difference)) => Ok(difference),
@@ -430,7 +430,7 @@ fn spoil(payload: &mut [u8], place: usize) {
     put(payload, begin + 4 * place, &0xC000_0000u32.to_be_bytes());
 }
 
-/// Whether records agree that end shortly before the last difference of a payload, at it, and behind it.
+/// Whether records agree that end shortly before the last difference of a payload, at it, and after it.
 fn is_cut_same(payload: &[u8], scheme: Scheme, first: i32, places: &mut Places) -> bool {
     let good = count_good(payload, scheme);
     for less in [5, 1, 0] {
@@ -442,7 +442,7 @@ fn is_cut_same(payload: &[u8], scheme: Scheme, first: i32, places: &mut Places) 
     is_same(payload, scheme, good.saturating_add(1), first, places)
 }
 
-/// Checks that a spoilt word in any place of the last frame of a payload is no fault behind the last sample, and one
+/// Checks that a spoilt word in any place of the last frame of a payload is no fault after the last sample, and one
 /// before it.
 fn assert_spoilt(rt: &impl Abort, payload: &mut [u8], rounds: u32) {
     let mut places = Places::new();

@@ -73,7 +73,7 @@ fn random(state: &mut u64) -> u64 {
     mixed ^ (mixed >> 31)
 }
 
-/// A difference of so many bits: often at a limit, and where 30 bits hold that, at times just behind one.
+/// A difference of so many bits: often at a limit, and where 30 bits hold that, at times just beyond one.
 fn difference(width: u32, random: u64) -> i32 {
     if width == 0 {
         return 0;
@@ -105,7 +105,7 @@ fn differences(seed: u64, (_, widths, mask, _): &Series) -> [i32; LONGEST] {
     diffs
 }
 
-/// The hash of some bytes behind those of a hash (FNV-1a).
+/// The hash of some bytes after those of a hash (FNV-1a).
 fn with_bytes(mut hash: u64, bytes: &[u8]) -> u64 {
     for byte in bytes {
         hash = (hash ^ u64::from(*byte)).wrapping_mul(0x100_0000_01B3);
@@ -113,7 +113,7 @@ fn with_bytes(mut hash: u64, bytes: &[u8]) -> u64 {
     hash
 }
 
-/// The hash of all frames that differences are packed into, until none is left, and of what is told of each call.
+/// The hash of all frames that differences are packed into, until none is left, and of what each call answers.
 fn with_packed(mut hash: u64, scheme: Scheme, diffs: &[i32], frames: &mut [u8]) -> Option<u64>
     requires some { 0 < length frames.old }
     requires whole { length frames.old % 64 ≡ 0 }

@@ -45,7 +45,7 @@ fn put_words(bytes: &mut [u8; 256], offset: usize, words: &[u32]) {
     }
 }
 
-/// The record of a row, zeros behind the words of each frame.
+/// The record of a row, zeros after the words of each frame.
 pub fn record(row: &Row) -> [u8; 256] {
     let mut bytes = [0; 256];
     put(&mut bytes, 0, &FIRST[..64]);

@@ -206,7 +206,7 @@ fn refuses_what_is_no_payload(rt: HostRuntime) {
     }
 }
 
-/// A frame of fifteen words of code 01, behind one that holds the constants alone.
+/// A frame of fifteen words of code 01, after one that holds the constants alone.
 const BYTES: [u32; 16] = [
     0x1555_5555,
     0x0101_0101,

@@ -7,7 +7,7 @@ use mseed_steim::widen_bytes;
 /// Bytes, and what they are widened to.
 static CASES: [(u8, i32); 4] = [(0x00, 0), (0x7F, 127), (0x80, -128), (0xFF, -1)];
 
-/// Whether so many bytes are widened to so many numbers, and no place behind them is written.
+/// Whether so many bytes are widened to so many numbers, and no place after them is written.
 fn is_widened(bytes: &[u8; 64], wanted: &[i32; 64], length: usize) -> bool
     requires { length ≤ 64 }
 {

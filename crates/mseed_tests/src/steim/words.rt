@@ -2,7 +2,7 @@
 
 use mseed_steim::Scheme;
 
-/// A scheme, a code, a word, how many differences it spells, and these, with zeros behind them. Of a bad word 8.
+/// A scheme, a code, a word, how many differences it spells, and these, with zeros after them. Of a bad word 8.
 pub type Row = (Scheme, u8, u32, usize, [i32; 7]);
 
 pub static WORDS: [Row; 100] = [
