@@ -138,9 +138,9 @@ fn unpack(view: &RecordView<'_>, before: i32, out: &mut [i32]) -> i32
     ensures differences { (s : List ℤ) → IsWhole (view_of view.now) s → out.new ≡ differences_from before s }
     ensures last { (s : List ℤ) → IsWhole (view_of view.now) s → last_after before s ≡ result }
 {
-    unpack_differences(view, out);
+    let last = unpack_differences(view, out).last;
     out[0] = difference_of(out[0], before);
-    ends_of(view).last
+    last
 }
 
 /// How much a sample differs from the one before it.
