@@ -96,8 +96,8 @@ along_memory h c is lent goes stop going_on n asks =
     }
 
 -- what a fault of the reads for one record says of the offset
-pub cut_fault : (e : StreamFault) (c after : CutterState) (old new : BytesRead) → IsRead new after → after.is_lent ≡ false
-    → after.offset ≡ c.offset → IsCuttingFault e c after old new → IsCutFault e after.offset new
+pub cut_fault : (e : StreamFault) (c after : CutterState) (old new : BytesRead) → IsRead new after
+    → after.is_lent ≡ false → after.offset ≡ c.offset → IsCuttingFault e c after old new → IsCutFault e after.offset new
 cut_fault (Frame n f) c after old new is lent offset it =
     let reported = sym (reported_is new after is lent) in (
       it.0 ∙ sym offset,
@@ -114,8 +114,7 @@ cut_fault (Read n) c after old new is lent offset it =
       it.0 ∙ sym offset,
       omega arith,
       it.2,
-      subst (λ (xs : List ℕ). FallsShort xs) (sym (reported_is new after is lent))
-          it.3,
+      rw (← (reported_is new after is lent)) at it.3,
     )
 cut_fault (Turns n) c after old new is lent offset it =
     (it.0 ∙ sym offset, it.2, it.3, subst (λ (xs : List ℕ). FallsShort xs) (sym (reported_is new after is lent)) it.4)
@@ -168,8 +167,7 @@ fault_found (Err e) n c after old new is lent offset fault = cut_fault e c after
 pub fault_again : (result : Result (Option ℕ) StreamFault) (answer : Option Ending) (e : Ending) (offset : ℕ)
     (h : BytesRead) → answer ≡ Some e → result ≡ answer_of e → IfSome answer (λ x. IsEnding x offset h)
     → IfErr result (λ f. IsCutFault f offset h)
-fault_again result answer Clean offset h same is ending =
-    subst (λ (r : Result (Option ℕ) StreamFault). IfErr r (λ f. IsCutFault f offset h)) (sym is) tt
+fault_again result answer Clean offset h same is ending = rw is tt
 fault_again result answer (Fault f) offset h same is ending =
     let it : IsEnding (Fault f) offset h =
     subst (λ (o : Option Ending). IfSome o (λ x. IsEnding x offset h)) same ending in
@@ -179,8 +177,7 @@ pub end_again : (result : Result (Option ℕ) StreamFault) (answer : Option Endi
     (h : BytesRead)
     → answer ≡ Some e → result ≡ answer_of e → IfSome answer (λ x. IsEnding x offset h) → result ≡ Ok None
     → IsCleanEnd offset h
-end_again result answer Clean offset h same is ending none =
-    subst (λ (o : Option Ending). IfSome o (λ x. IsEnding x offset h)) same ending
+end_again result answer Clean offset h same is ending none = rw same at ending
 end_again result answer (Fault f) offset h same is ending none = cc
 
 pub few_asks : (held : List ℕ) → asks_of held ≤ 1

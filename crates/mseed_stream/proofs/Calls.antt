@@ -1,5 +1,5 @@
 -- What a device gave or accepted by two calls, and what it is then known to have left or to hold.
-use Rattle.std.proofs.Common.{◌≡◌, ◌++◌, [], ◌∙◌, ℕ, List, Option, false, ap, sym, subst, refl, append_assoc}
+use Rattle.std.proofs.Common.{◌≡◌, ◌++◌, [], ◌∙◌, ℕ, List, Option, false, ap, sym, refl, append_assoc}
 use Rattle.std.proofs.Common.{append-nil}
 use Rattle.std.proofs.KnownBytes.{Appends-nil, Appends-trans, Consumes-nil, Consumes-trans}
 use Rattle.std.proofs.lemmas.Bool.{false≢true}
@@ -65,5 +65,4 @@ pub grown : (old new : BytesWritten) (held holds : Option (List ℕ)) (x y : Byt
     → WritesOn old new held holds x y → new.bytes ≡ old.bytes ++ bytes → Appends held holds bytes
 grown old new held holds x y bytes one same =
     let takes = one.contents in
-    subst (λ (xs : List ℕ). Appends held holds xs) (append_cancel_left old.bytes takes.0 bytes (sym takes.1 ∙ same))
-    takes.2
+    rw (append_cancel_left old.bytes takes.0 bytes (sym takes.1 ∙ same)) at takes.2

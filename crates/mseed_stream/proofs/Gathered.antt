@@ -62,7 +62,8 @@ taken_after first old new text lines tail n before taken =
     taken ∙ ap (λ (xs : List ℕ). xs ++ take n (text ++ tail)) before.bytes
     ∙ append_assoc first.bytes before.taken (take n (text ++ tail))
     ∙ ap (λ (xs : List ℕ). first.bytes ++ xs) (sym (take-append-add before.taken (text ++ tail) n))
-    ∙ ap (λ (xs : List ℕ). first.bytes ++ take (length before.taken + n) xs) (text_after first old text lines tail before)
+    ∙ ap (λ (xs : List ℕ). first.bytes ++ take (length before.taken + n) xs)
+    (text_after first old text lines tail before)
 
 pub first_behind : (first old new : BytesWritten) (text lines tail : List ℕ) → AreGathered first old text lines
     → EmittedFirst old new (text ++ tail) → EmittedFirst first new (lines ++ tail)
@@ -81,9 +82,7 @@ part_after first old new text lines tail before emitted =
 
 -- with nothing after
 with_nothing : (P Q : List ℕ → Type 0) (text lines : List ℕ) → (P (text ++ []) → Q (lines ++ [])) → P text → Q lines
-with_nothing P Q text lines step p =
-    subst (λ (xs : List ℕ). Q xs) (append-nil lines)
-    (step (subst (λ (xs : List ℕ). P xs) (sym (append-nil text)) p))
+with_nothing P Q text lines step p = rw (append-nil lines) at (step (rw (← (append-nil text)) at p))
 
 pub part_of : (first old new : BytesWritten) (text lines : List ℕ) → AreGathered first old text lines
     → EmittedPart old new text → EmittedPart first new lines
@@ -111,8 +110,7 @@ pub gathered_also : (first old new : BytesWritten) (text next lines line whole :
     → AreGathered first old text lines → AreGathered old new next (text ++ line) → whole ≡ lines ++ line
     → AreGathered first new next whole
 gathered_also first old new text next lines line whole before after e =
-    subst (λ (xs : List ℕ). AreGathered first new next xs) (sym e)
-    (gathered_more first old new text next lines line before after)
+    rw (← e) at (gathered_more first old new text next lines line before after)
 
 -- some of what is gathered was written
 pub gathered_on : (first old new : BytesWritten) (text rest lines : List ℕ) → AreGathered first old text lines

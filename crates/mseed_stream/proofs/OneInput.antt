@@ -111,8 +111,7 @@ archive_to bytes offset views are = record {
 pub one_views : (bytes : List ℕ) (offset : ℕ) (vs ws : List View) → AreViews bytes offset vs → AreViews bytes offset ws
     → vs ≡ ws
 one_views bytes offset vs ws a b =
-    let both = one_archive (take offset bytes) (bytes_in vs) (bytes_in ws) [] [] (archive_to bytes offset vs a)
-    (archive_to bytes offset ws b) in
+    let both = one_archive _ _ _ _ _ (archive_to _ _ _ a) (archive_to _ _ _ b) in
     same_views vs ws a.each b.each both.0
 
 -- no record begins after the last

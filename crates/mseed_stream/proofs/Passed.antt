@@ -58,8 +58,7 @@ pub stands_passed : (P : BytesRead → CutterState → Type 0) (new : BytesRead)
     (now : BytesRead) → here ≡ record old { prefix = held_of old; is_lent = false } → held_of old ≡ [] → new ≡ now
     → P now (passed old size) → P new (past here size)
 stands_passed P new here old size now is none read holds =
-    subst (λ (s : CutterState). P new s) (sym (stands_after here old size is none))
-    (subst (λ (h : BytesRead). P h (passed old size)) (sym read) holds)
+    rw (← (stands_after here old size is none)) at (subst (λ (h : BytesRead). P h (passed old size)) (sym read) holds)
 
 passed_read : (h : BytesRead) (c : CutterState) (bytes : List ℕ) → IsRead h c → held_of c ≡ [] → c.reads + 2 ≤ 2 ^ 40
     → length bytes ≤ 2 ^ 20 → IsRead (lent_whole h bytes) (passed c (length bytes))
@@ -83,8 +82,7 @@ passed_along h c size lent is ahead =
     let bytes : List ℕ = take size lent in
     let long : length bytes ≡ size = length-take-le size lent ahead.whole in
     let read : IsRead (lent_whole h bytes) (passed c size) =
-    subst (λ (n : ℕ). IsRead (lent_whole h bytes) (passed c n)) long
-    (passed_read h c bytes is.read ahead.none ahead.turns (record_few bytes ahead.is_record)) in
+    rw long at (passed_read h c bytes is.read ahead.none ahead.turns (record_few bytes ahead.is_record)) in
     record {
       read = read;
       stop = λ same. at_start;
@@ -111,8 +109,7 @@ passed_records h c size lent records is ahead has =
     let within : c.offset ≤ length h.bytes = omega (arith, is.reported) in
     let more = records_more h.bytes now.bytes bytes c.offset records within refl
     (subst IsRecord (sym reported) ahead.is_record) has in
-    subst (λ (n : ℕ). HasRecords now.bytes (c.offset + n) (records ++ bytes ∷ [])) long
-    (subst (λ (xs : List ℕ). HasRecords now.bytes (c.offset + length xs) (records ++ xs ∷ [])) reported more)
+    rw long at (subst (λ (xs : List ℕ). HasRecords now.bytes (c.offset + length xs) (records ++ xs ∷ [])) reported more)
 
 pub passed_handed : (h : BytesRead) (c : CutterState) (size : ℕ) (lent : List ℕ) (views : List View) (v : View)
     → IsAhead size c lent → HasHandedOut h c views → IsView v → v.bytes ≡ take size lent

@@ -43,8 +43,7 @@ pub split_more : (bytes : List ℕ) (offset : ℕ) (views : List RecordView) (r 
     → HasRecords bytes (offset + length (view_of r).bytes) (bytes_of_each (views ++ r ∷ []))
 split_more bytes offset views r has is prefix =
     let b : List ℕ = (view_of r).bytes in
-    subst (λ (xs : List (List ℕ)). HasRecords bytes (offset + length b) xs)
-    (sym (map-append (λ (v : RecordView). (view_of v).bytes) views (r ∷ [])))
+    rw (← (map-append (λ (v : RecordView). (view_of v).bytes) views (r ∷ []))) at
     (records_next bytes offset (bytes_of_each views) b has (view_record (view_of r) is) prefix)
 
 pub split_within : (bytes : List ℕ) (offset : ℕ) (b : List ℕ) → offset < length bytes

@@ -28,8 +28,7 @@ pub stop_record : (b : List ℕ) (n k : ℕ) → IsStop b n → IsRecord (take k
 stop_record b _ k at_start r = omega (arith, record_long (take k b) r)
 stop_record b n k (called_for m _ s l d) r =
     let whole_is : take m b ++ drop m b ≡ b = take-append-drop m b in
-    subst (λ (xs : List ℕ). n ≤ length (take k xs)) whole_is
-    (called (take m b) (drop m b) n k d (subst (λ (xs : List ℕ). IsRecord (take k xs)) (sym whole_is) r))
+    rw whole_is at (called (take m b) (drop m b) n k d (subst (λ (xs : List ℕ). IsRecord (take k xs)) (sym whole_is) r))
 
 -- short of a stop there's no record
 pub none_short : (b : List ℕ) → FallsShort b → HasNoFurther b

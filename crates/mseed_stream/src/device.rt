@@ -3,8 +3,7 @@ ghost use Rattle.std.specs.Prelude.{◌≡◌, List, ℕ, IsTrue, ◌<◌, ◌�
 ghost use Rattle.std.specs.Io.{StartsWith};
 ghost use Rattle.std.specs.Io.KnownBytes.{Consumes, ReadConsumes, WriteAppends};
 ghost use Rattle.mseed_stream.specs.Device.{BytesRead, BytesWritten, nothing_read, nothing_written, read_also};
-ghost use Rattle.mseed_stream.specs.Device.{lent_also};
-ghost use Rattle.mseed_stream.specs.Device.{written_also, ComesFirst};
+ghost use Rattle.mseed_stream.specs.Device.{lent_also, written_also, ComesFirst};
 
 /// One input is read at most so often.
 pub(crate) const READS: u64 = 1 << 40;

@@ -68,14 +68,12 @@ stays p same q = sym p ∙ (same ∙ q)
 pub attends_as : (feed : List Window) (old new : Attending) (before now after : BytesRead) (r : Result Turn LinkFault)
     → now ≡ before → IfOk r (λ turn. Attends feed old new now after turn)
     → IfOk r (λ turn. Attends feed old new before after turn)
-attends_as feed old new before now after r same ok =
-    subst (λ (h : BytesRead). IfOk r (λ turn. Attends feed old new h after turn)) same ok
+attends_as feed old new before now after r same ok = rw same at ok
 
 pub fails_as : (feed : List Window) (old new : Attending) (before now after : BytesRead) (r : Result Turn LinkFault)
     → now ≡ before → IfErr r (λ fault. IsServeFault feed old new now after fault)
     → IfErr r (λ fault. IsServeFault feed old new before after fault)
-fails_as feed old new before now after r same err =
-    subst (λ (h : BytesRead). IfErr r (λ fault. IsServeFault feed old new h after fault)) same err
+fails_as feed old new before now after r same err = rw same at err
 
 module _ (feed : List Window) (old : Attending) (before : BytesRead) where
   pub sending_failed : (new : Attending) (after : BytesRead) (fault : LinkFault) → IsSendFault fault feed old new

@@ -26,8 +26,8 @@ nothing_after way reply none = ap (λ r. way ++ reply_bytes r) none ∙ append-n
 
 module _ (feed : List Window) where
   -- a closed session stays
-  pub shut_on : (s : SessionState) (bytes way : List ℕ) (last : SessionState) (all : List ℕ) → Serves feed s bytes way last all
-      → s.state.phase ≡ Closed → (last ≡ s) × (all ≡ way)
+  pub shut_on : (s : SessionState) (bytes way : List ℕ) (last : SessionState) (all : List ℕ)
+      → Serves feed s bytes way last all → s.state.phase ≡ Closed → (last ≡ s) × (all ≡ way)
   shut_on s bytes way last all (none_served u w) shut = (refl, refl)
   shut_on s bytes way last all (piece_served u now v bs piece others w sent reply split takes more) shut =
       let same : (reply ≡ replies.Nothing) × (now ≡ u) = takes.closed shut in

@@ -29,8 +29,7 @@ use Rattle.slink_feed.specs.Running.{HasStream, Stands, StandsFor}
 use Rattle.slink_feed.specs.Sending.{AreCalled, AreShown, Called, IsReadFrom, packet_in, packets_of}
 use Rattle.slink_feed.specs.Serving.{Answers, IsAnswer, Serves, SessionState, Takes, none_served, piece_served}
 use Rattle.slink_feed.specs.Session.{IsBefore, State, has_sent_all, answered_in, at_next, grant_at, in_streaming}
-use Rattle.slink_feed.specs.Session.{packet_at}
-use Rattle.slink_feed.specs.Session.{reply_at_next, sent, sent_bytes, sent_in, sent_of}
+use Rattle.slink_feed.specs.Session.{packet_at, reply_at_next, sent, sent_bytes, sent_in, sent_of}
 use Rattle.slink_feed.specs.Window.{Shows, Window, record_at}
 use Rattle.slink_feed.proofs.Closing.{Open, open_or}
 use Rattle.slink_feed.proofs.Sendings.{IsOn, answer_read, read_grants, read_on, none_either, set_other, slice_sent}
@@ -125,8 +124,7 @@ none_sent k [] s on at_k are = refl
 none_sent k (a ∷ more) s on at_k are =
     let t : State = are.0 in
     let bare : Bare k a.place (sent a.feed t a.place) =
-    bare_sent k a.place a.feed t (ap (λ gs. grant_at gs k) (read_grants s t are.1) ∙ at_k)
-    (read_on s t are.1 on) in
+    bare_sent _ _ a.feed t (ap (λ gs. grant_at gs k) (read_grants _ _ are.1) ∙ at_k) (read_on _ _ are.1 on) in
     let one : (if a.place == k then packet_in a.answer else []) ≡ [] =
     ap (λ x. if a.place == k then packet_in x else []) (sym are.2) ∙ bare.none in
     ap (λ ps. ps ++ packets_of k more) one
@@ -150,8 +148,7 @@ asks feed k (a ∷ more) = record { feed = feed; place = k; answer = a } ∷ ask
 
 asks_then : (feed : List Window) (k last : ℕ) (s u v : State) (given : List Sent) (rest : List Called)
     → Gives feed k s given last u → IsReadFrom u v → AreCalled v rest → AreCalled s (asks feed k given ++ rest)
-asks_then feed k last s u v [] rest gives read are =
-    read_first s v rest (subst (λ (x : State). IsReadFrom x v) gives.1 read) are
+asks_then feed k last s u v [] rest gives read are = read_first s v rest (rw gives.1 at read) are
 asks_then feed k last s u v (a ∷ more) rest gives read are =
     (s, inl refl, gives.0, asks_then feed (place_after feed k) last (sent feed s k).0 u v more rest gives.1 read are)
 
@@ -184,8 +181,7 @@ slices feeds s bytes on w = record {
   called = w.called;
   are_called = w.are_called;
   bytes_are = w.bytes_are;
-  slice = λ k first pushed g at_k shown. slice_sent k first pushed w.called s g on at_k w.are_called
-      (w.shown k first pushed shown);
+  slice = λ k first pushed g at_k shown. slice_sent _ _ _ _ _ g on at_k w.are_called (w.shown k first pushed shown);
   none = λ k at_k. none_sent k w.called s on at_k w.are_called;
 }
 

@@ -33,16 +33,13 @@ pub record SoFar (old now : Fetching) (bytes : List ℕ) (offset written_count o
 
 -- Reading on, piece after piece.
 pub on_none : (c : Listening) → ReadsOn c [] [] c
-on_none c start stream before reads =
-    subst (λ (s : List ℕ). Reads start s (before ++ []) c) (sym (append-nil stream))
-    (subst (λ (es : List Event). Reads start stream es c) (sym (append-nil before)) reads)
+on_none c start stream before reads = rw (← (append-nil stream)) at (rw (← (append-nil before)) at reads)
 
 pub on_both : (a b c : Listening) (xs ys : List ℕ) (es fs : List Event) → ReadsOn a xs es b → ReadsOn b ys fs c
     → ReadsOn a (xs ++ ys) (es ++ fs) c
 on_both a b c xs ys es fs one more start stream before reads =
     subst (λ (s : List ℕ). Reads start s (before ++ (es ++ fs)) c) (append_assoc stream xs ys)
-    (subst (λ (t : List Event). Reads start ((stream ++ xs) ++ ys) t c) (append_assoc before es fs)
-    (more start (stream ++ xs) (before ++ es) (one start stream before reads)))
+    (rw (append_assoc before es fs) at (more start (stream ++ xs) (before ++ es) (one start stream before reads)))
 
 pub emitted_none : (s : BytesWritten) → Emitted s s []
 emitted_none s = record { bytes = sym (append-nil s.bytes); failures = refl }
@@ -215,9 +212,7 @@ module _ (old now new : Fetching) (bytes : List ℕ) (offset used : ℕ) (event 
   takes_last one = record {
     taken = take (offset + used) bytes;
     prefix = is_prefix bytes (offset + used);
-    reads = subst (λ (es : List Event). ReadsOn old.client (take (offset + used) bytes) (so_far.reported ++ es)
-        new.client)
-        one further;
+    reads = rw one at further;
   }
 
   -- a device that fails within what the event gives it

@@ -1,5 +1,5 @@
 -- Whether all stations are done, one after another.
-use Rattle.std.proofs.Common.{◌≡◌, ℕ, ◌+◌, ◌<◌, ◌≤◌, zero, suc, refl, sym, ap, subst, ◌∙◌, arith, add-one, Bool, true}
+use Rattle.std.proofs.Common.{◌≡◌, ℕ, ◌+◌, ◌<◌, ◌≤◌, zero, suc, refl, sym, ap, ◌∙◌, arith, add-one, Bool, true}
 use Rattle.std.proofs.Common.{false, ◌&&◌, List, [], ◌∷◌, length, take, take_all, Some, None, slice_get}
 use Rattle.std.specs.List.{list_all, zip}
 use Rattle.slink_feed.specs.Session.{Grants, has_sent_all, grant_at, has_sent}
@@ -46,9 +46,7 @@ zip_bound (v ∷ ws) (o ∷ gs) = let more : length (zip ws gs) ≤ length ws = 
 
 pub done_all : (ws : List Window) (gs : Grants) (k : ℕ) → length ws ≤ k → first_done ws gs k ≡ true
     → has_sent_all ws gs ≡ true
-done_all ws gs k e before =
-    subst (λ xs. list_all (λ p. has_sent p.0 p.1) xs ≡ true)
-    (take_all k (zip ws gs) (omega (arith, e, zip_bound ws gs))) before
+done_all ws gs k e before = rw (take_all k (zip ws gs) (omega (arith, e, zip_bound ws gs))) at before
 
 pub some_at : (ws : List Window) (k : ℕ) → k < length ws → (w : Window) × (slice_get ws k ≡ Some w)
 some_at [] k lt = absurd (omega (arith, lt))

@@ -9,8 +9,7 @@ use Rattle.slink_feed.specs.declared.session.Phase.TheVariants.{Fresh, Chosen, G
 use Rattle.slink_feed.specs.declared.session.Sent.{Sent}
 use Rattle.slink_feed.specs.declared.session.Sent.TheVariants as sents
 use Rattle.slink_feed.specs.Session.{AreReached, Grants, State, has_sent_all, at_next, grant_at, packet_at, sent}
-use Rattle.slink_feed.specs.Session.{sent_from}
-use Rattle.slink_feed.specs.Session.{sent_in, sent_of}
+use Rattle.slink_feed.specs.Session.{sent_from, sent_in, sent_of}
 use Rattle.slink_feed.specs.Window.{Window, oldest_of, record_at}
 use Rattle.slink_feed.proofs.Reached.{position_reached}
 use Rattle.slink_feed.proofs.Sendings.{read_at}

@@ -11,8 +11,7 @@ use Rattle.slink_feed.specs.declared.dialogue.Stage.TheVariants.{Unlinked, Stati
 use Rattle.slink_feed.specs.declared.dialogue.Wanted.{Wanted}
 use Rattle.slink_feed.specs.Dialogue.{Talk, Whole, Reply, Packet, End, Garbage, answer_of, at_packet, place_of, ended}
 use Rattle.slink_feed.specs.Dialogue.{read_at, if_wanted, is_taken, next_at, requests_number, requests_place, to_answer}
-use Rattle.slink_feed.specs.Dialogue.{to_place, reported}
-use Rattle.slink_feed.specs.Dialogue.{want_at}
+use Rattle.slink_feed.specs.Dialogue.{to_place, reported, want_at}
 use Rattle.slink_feed.specs.Fetching.{line_written, record_reported}
 use Rattle.slink_feed.specs.Listening.{Brings, IsLinked, Listening, begun, whole}
 

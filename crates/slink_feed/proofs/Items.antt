@@ -1,8 +1,7 @@
 -- The elements of a list, by their indices, and what a window shows.
 use Rattle.std.proofs.Common.{◌≡◌, ◌≢◌, ℕ, ◌+◌, ◌-◌, ◌<◌, ◌≤◌, ◌⊎◌, inl, inr, zero, suc, refl, sym, ap, ◌∙◌, arith}
 use Rattle.std.proofs.Common.{Bool, true, false, List, [], ◌∷◌, ◌++◌, length, length-append, length-drop, drop, map}
-use Rattle.std.proofs.Common.{set}
-use Rattle.std.proofs.Common.{get_or, Option, Some, None, option_map, slice_get, if◌then◌else◌, nat_lt, unwrap_or}
+use Rattle.std.proofs.Common.{set, get_or, Option, Some, None, option_map, slice_get, if◌then◌else◌, nat_lt, unwrap_or}
 use Rattle.std.proofs.lemmas.Bool.Decides.{eqb_tells, nat_tests}
 use Rattle.std.proofs.lemmas.Option.{slice_get-map, unwrap_or-slice_get}
 use Rattle.std.proofs.lemmas.List.{get_or-set_other, get_or-set_same}

@@ -1,6 +1,6 @@
 -- The numbers of the records that a client reports a station go up one by one.
 use Rattle.std.proofs.Common.{◌≡◌, ◌≢◌, ℕ, ◌+◌, ◌%◌, ◌^◌, inl, inr, zero, suc, refl, sym, ap, subst, ◌∙◌, arith, Bool}
-use Rattle.std.proofs.Common.{true, false, if◌then◌else◌, List, [], ◌∷◌, ◌++◌, length, set, get_or, Option, Some}
+use Rattle.std.proofs.Common.{true, false, if◌then◌else◌, List, [], ◌∷◌, length, set, get_or, Option, Some, ◌++◌}
 use Rattle.std.proofs.Common.{None, IfSome, ◌-◌, ◌<◌, ◌≤◌, ◌&&◌, ◌||◌, map, nat_lt}
 use Rattle.std.specs.List.{position_or_len}
 use Rattle.std.proofs.lemmas.Bool.Decides.{eqb_tells, leb_tells}
@@ -17,10 +17,9 @@ use Rattle.slink_feed.specs.declared.dialogue.Stage.{Stage}
 use Rattle.slink_feed.specs.declared.dialogue.Stage.TheVariants.{Unlinked, Station, Number, Packets, Ended}
 use Rattle.slink_feed.specs.declared.dialogue.Wanted.{Wanted}
 use Rattle.slink_feed.specs.Dialogue.{Talk, Wants, Whole, Reply, Packet, End, Garbage, answer_of, at_packet, place_of}
-use Rattle.slink_feed.specs.Dialogue.{ahead_of, is_ahead, is_taken}
-use Rattle.slink_feed.specs.Dialogue.{ended, read_at, if_wanted, is_of_wanted, next_at, next_set, sends_line}
-use Rattle.slink_feed.specs.Dialogue.{requests_number}
-use Rattle.slink_feed.specs.Dialogue.{requests_place, to_answer, to_place, reported, want_at, with_next}
+use Rattle.slink_feed.specs.Dialogue.{ahead_of, is_ahead, is_taken, ended, read_at, if_wanted, is_of_wanted, next_at}
+use Rattle.slink_feed.specs.Dialogue.{next_set, sends_line, requests_number, requests_place, to_answer, to_place}
+use Rattle.slink_feed.specs.Dialogue.{reported, want_at, with_next}
 use Rattle.slink_feed.specs.Holding.{AreRising, GoBy, IsNext, Rise, Turn, connects, brings, numbers_in, numbers_of}
 use Rattle.slink_feed.specs.Holding.{talk_after, turned}
 

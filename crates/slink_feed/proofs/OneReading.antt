@@ -46,13 +46,11 @@ pub one_brought : (t : Talk) (bs cs : List Brought) (k m : List ℕ) → AreBrou
     → (bs ≡ cs) × (k ≡ m)
 one_brought t [] [] k m p q e f g = (refl, e)
 one_brought t [] (c ∷ cs) k m p q e f g =
-    absurd (begun_no_whole t.stage c.bytes (bytes_of cs ++ m) c.whole
-    (subst (IsBegun t.stage) (e ∙ append_assoc c.bytes (bytes_of cs) m)
-    (f (whole_linked t.stage c.bytes c.whole q.0))) q.0)
+    absurd (begun_no_whole _ _ (bytes_of cs ++ m) _
+    (subst (IsBegun t.stage) (e ∙ append_assoc c.bytes (bytes_of cs) m) (f (whole_linked _ _ _ q.0))) q.0)
 one_brought t (b ∷ bs) [] k m p q e f g =
-    absurd (begun_no_whole t.stage b.bytes (bytes_of bs ++ k) b.whole
-    (subst (IsBegun t.stage) (sym e ∙ append_assoc b.bytes (bytes_of bs) k)
-    (g (whole_linked t.stage b.bytes b.whole p.0))) p.0)
+    absurd (begun_no_whole _ _ (bytes_of bs ++ k) _
+    (subst (IsBegun t.stage) (sym e ∙ append_assoc b.bytes (bytes_of bs) k) (g (whole_linked _ _ _ p.0))) p.0)
 one_brought t (b ∷ bs) (c ∷ cs) k m p q e f g =
     let both : b.bytes ++ (bytes_of bs ++ k) ≡ c.bytes ++ (bytes_of cs ++ m) =
     sym (append_assoc b.bytes (bytes_of bs) k) ∙ (e ∙ append_assoc c.bytes (bytes_of cs) m) in
@@ -62,8 +60,7 @@ one_brought t (b ∷ bs) (c ∷ cs) k m p q e f g =
     append_cancel_left c.bytes (bytes_of bs ++ k) (bytes_of cs ++ m)
     (ap (λ xs. xs ++ (bytes_of bs ++ k)) (sym prefix) ∙ both) in
     let whole : b.whole ≡ c.whole =
-    one_whole t.stage c.bytes b.whole c.whole (subst (λ (bytes : List ℕ). IsWhole t.stage bytes b.whole) prefix p.0)
-    q.0 in
+    one_whole _ _ _ _ (subst (λ (bytes : List ℕ). IsWhole t.stage bytes b.whole) prefix p.0) q.0 in
     let talk : (read t b.whole).0 ≡ (read t c.whole).0 = ap (λ w. (read t w).0) whole in
     let more : (bs ≡ cs) × (k ≡ m) =
     one_brought (read t c.whole).0 bs cs k m (subst (λ u. AreBrought u bs) talk p.1) q.1 rest

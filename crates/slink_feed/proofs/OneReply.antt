@@ -226,13 +226,9 @@ module _ (feed : List Window) where
       reported = ap (λ b. (lines_of b).lines) (sym (append_assoc stream piece r.prefix))
           ∙ (r.reported ∙ ap (λ ls. ls ++ r.lines) tells.0);
       out = r.out;
-      comes = subst (λ b. Comes (lines_of b).is_too_long u.state r.lines last.state r.out)
-          (append_assoc stream piece r.prefix)
-          (subst (λ (z : State). Comes (lines_of ((stream ++ piece) ++ r.prefix)).is_too_long z r.lines last.state
-          r.out) same.0 r.comes);
+      comes = rw (append_assoc stream piece r.prefix) at (rw same.0 at r.comes);
       sent = r.sent ∙ ap (λ b. b ++ r.out) (ap (λ x. way ++ reply_bytes x) same.1 ∙ append-nil way);
-      ends = subst (λ b. (last.state.phase ≡ Closed) ⊎ ((r.left ≡ []) × IsHeld last.held b))
-          (append_assoc stream piece others) r.ends;
+      ends = rw (append_assoc stream piece others) at r.ends;
     }
 
     -- one that ended a line
@@ -252,15 +248,11 @@ module _ (feed : List Window) where
               ∙ (r.reported ∙ (ap (λ ls. ls ++ r.lines) tells
               ∙ append_assoc (lines_of stream).lines (line ∷ []) r.lines));
           out = reply_bytes (answered feed u.state c).1 ++ r.out;
-          comes = subst (λ b. Comes (lines_of b).is_too_long u.state (line ∷ r.lines) last.state
-              (reply_bytes (answered feed u.state c).1 ++ r.out)) (append_assoc stream piece r.prefix)
+          comes = rw (append_assoc stream piece r.prefix) at
               (comes_line (lines_of ((stream ++ piece) ++ r.prefix)).is_too_long u.state last.state line r.lines r.out c
-              is
-              (subst (λ (z : State). Comes (lines_of ((stream ++ piece) ++ r.prefix)).is_too_long z r.lines last.state
-              r.out) (sym (ap (λ (z : State × Reply). z.0) done)) r.comes));
+              is (rw (← (ap (λ (z : State × Reply). z.0) done)) at r.comes));
           sent = r.sent ∙ (append_assoc way (reply_bytes reply) r.out ∙ ap (λ b. way ++ (b ++ r.out)) (sym reply_is));
-          ends = subst (λ b. (last.state.phase ≡ Closed) ⊎ ((r.left ≡ []) × IsHeld last.held b))
-              (append_assoc stream piece others) r.ends;
+          ends = rw (append_assoc stream piece others) at r.ends;
         }
 
     -- one by which a line is too long: the session is closed
@@ -298,7 +290,8 @@ module _ (feed : List Window) where
         ran_over is tells (shut_on feed now others (way ++ reply_bytes reply) last all more
         (ap (λ (z : State × Reply). z.0.phase) (sym is)))
 
-  ran : (s : SessionState) (bytes way : List ℕ) (last : SessionState) (all stream : List ℕ) → Serves feed s bytes way last all
+  ran : (s : SessionState) (bytes way : List ℕ) (last : SessionState) (all stream : List ℕ)
+      → Serves feed s bytes way last all
       → (Open s.state.phase → IsHeld s.held stream) → (lines_of stream).is_too_long ≡ false
       → Ran s stream bytes way last all
   ran s bytes way last all stream (none_served u w) held fits = elim (open_or u.state.phase) [
@@ -312,7 +305,8 @@ module _ (feed : List Window) where
             × (sent ≡ w) = shut_on feed u bs w v sent
             (piece_served u now v bs piece others w sent reply split takes more)
             shut in
-            ran_none u v stream bs w sent fits same.0 same.1 (inl (ap (λ (x : SessionState). x.state.phase) same.0 ∙ shut)))
+            ran_none u v stream bs w sent fits same.0 same.1
+            (inl (ap (λ (x : SessionState). x.state.phase) same.0 ∙ shut)))
         | inr awake ↦ (let answer : Answers feed u.state stream (stream ++ piece) now.state reply = takes.answers stream
             awake (held awake) in
             subst (λ b. Ran u stream b w v sent) (sym split)
@@ -373,8 +367,7 @@ module _ (feed : List Window) where
       shut_both true s0 u v ls more o1 o2 t2 shut over c d =
           let all : (more ≡ []) × (t2 ≡ true) = over refl in
           comes_once true s0 u v ls o1 o2 c
-          (subst (λ z. Comes z s0 ls v o2) all.1 (subst (λ zs. Comes t2 s0 zs v o2) (ap (λ m. ls ++ m) all.0
-          ∙ append-nil ls) d))
+          (rw all.1 at (subst (λ zs. Comes t2 s0 zs v o2) (ap (λ m. ls ++ m) all.0 ∙ append-nil ls) d))
 
   -- what is held of a session that isn't closed
   held_open : (a : SessionState) (stream bytes : List ℕ) (left : List ℕ) → (a.state.phase ≡ Closed)

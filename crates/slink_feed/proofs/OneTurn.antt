@@ -191,8 +191,7 @@ nothing_more : (feed : List Window) (old a : Attending) (sends : SendsAll feed o
 nothing_more feed old a sends last w rest more = elim sends.ends [
   | inl shut ↦ still_given feed a.session.state (λ k. Unit {0}) (λ k is. tt)
       (λ k is. still_closed feed a.session.state k shut) sends.place last w rest tt more
-  | inr waited ↦ round_over feed old.session.state a.session.state w sends.place last sends.given rest waited
-      sends.gives more
+  | inr waited ↦ round_over _ _ _ _ _ _ _ _ waited sends.gives more
 ]
 
 -- Of two runs of asks one goes on with the other.
@@ -205,15 +204,13 @@ one_run feed k p q s u v [] b x y =
     inl (
       b,
       refl,
-      subst (λ (j : ℕ). Gives feed j u b q v) (sym x.0)
-          (subst (λ (t : State). Gives feed k t b q v) (sym x.1) y),
+      rw (← x.0) at (subst (λ (t : State). Gives feed k t b q v) (sym x.1) y),
     )
 one_run feed k p q s u v (a ∷ more) [] x y =
     inr (
       a ∷ more,
       refl,
-      subst (λ (j : ℕ). Gives feed j v (a ∷ more) p u) (sym y.0)
-          (subst (λ (t : State). Gives feed k t (a ∷ more) p u) (sym y.1) x),
+      rw (← y.0) at (subst (λ (t : State). Gives feed k t (a ∷ more) p u) (sym y.1) x),
     )
 one_run feed k p q s u v (a ∷ more) (b ∷ others) x y =
     let first : a ≡ b = sym x.0 ∙ y.0 in
@@ -236,14 +233,11 @@ ended_alike feed p q u v a b over far =
 pub sent_once : (feed : List Window) (old a b : Attending) → SendsAll feed old a → SendsAll feed old b → AreAlike a b
 sent_once feed old a b p q =
     let both : (a.session.state ≡ b.session.state) × (all_sent p.given ≡ all_sent q.given) =
-    elim (one_run feed 0 p.place q.place old.session.state a.session.state b.session.state p.given q.given p.gives
-    q.gives) [
+    elim (one_run _ _ _ _ _ _ _ _ _ p.gives q.gives) [
       | inl far ↦ (let one : (b.session.state ≡ a.session.state)
           × (all_sent q.given ≡ all_sent p.given) =
-          ended_alike feed p.place q.place a.session.state b.session.state p.given q.given (nothing_more feed old a p)
-          far in (sym one.0, sym one.1))
-      | inr far ↦ ended_alike feed q.place p.place b.session.state a.session.state q.given p.given
-          (nothing_more feed old b q) far
+          ended_alike _ _ _ _ _ _ _ (nothing_more _ _ _ p) far in (sym one.0, sym one.1))
+      | inr far ↦ ended_alike _ _ _ _ _ _ _ (nothing_more _ _ _ q) far
     ] in
     record {
       state = both.0;
@@ -285,11 +279,9 @@ sending_failed_once feed old a b n p q =
     elim (one_run feed 0 p.place q.place old.session.state a.session.state b.session.state x y p.gives q.gives) [
       | inl far ↦ (let one : (b.session.state ≡ a.session.state)
           × (all_sent y ≡ all_sent x) =
-          failed_alike feed p.place q.place n a.session.state b.session.state x q.given q.last p.written.part q.beyond
-          far in
+          failed_alike _ _ _ n _ _ _ q.given q.last p.written.part q.beyond far in
           (sym one.0, sym one.1))
-      | inr far ↦ failed_alike feed q.place p.place n b.session.state a.session.state y p.given p.last q.written.part
-          p.beyond far
+      | inr far ↦ failed_alike _ _ _ n _ _ _ p.given p.last q.written.part p.beyond far
     ] in
     record {
       state = both.0;
@@ -391,10 +383,8 @@ cut_alike : (feed : List Window) (old m n a b : Attending) (bytes more : List �
 cut_alike feed old m n a b bytes more count stands g h same p q long short =
     let beyond : SentAlike old m n = sent_alike feed old m n stands g h in
     let other : Serves feed m.session q.prefix m.written.bytes q.before.session q.before.written.bytes =
-    subst (λ (s : SessionState). Serves feed s q.prefix m.written.bytes q.before.session q.before.written.bytes)
-    beyond.session
-    (subst (λ w. Serves feed n.session q.prefix w q.before.session q.before.written.bytes) (sym beyond.alike.bytes)
-    q.replies.serves) in
+    rw beyond.session at
+    (rw (← beyond.alike.bytes) at q.replies.serves) in
     let total : length (p.before.written.bytes ++ take p.count (reply_bytes p.reply))
     ≡ length (q.before.written.bytes ++ take q.count (reply_bytes q.reply)) =
     ap length (sym p.written.bytes) ∙ (long ∙ (sym short ∙ ap length q.written.bytes)) in
@@ -430,6 +420,5 @@ cut_once feed old a b before after (faults.Write count) stands (at_reply m mid b
     absurd (still_unread before bytes (sym e ∙ f))
 cut_once feed old a b before after (faults.Write count) stands (at_reply n mid bytes g e few p long)
     (at_reply m other more h f short q total) =
-    cut_alike feed old mid other a b bytes more count stands g h (reported_same before more bytes (sym f ∙ e)) p q long
-    total
+    cut_alike _ _ _ _ _ _ _ _ count stands g h (reported_same before _ _ (sym f ∙ e)) p q long total
 cut_once feed old a b before after (faults.Output count) stands p q = elim p [ ]

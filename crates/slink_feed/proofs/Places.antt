@@ -1,9 +1,7 @@
 -- Which stations the rings of a feed have.
 use Rattle.std.proofs.Common.{◌≡◌, ◌≢◌, ℕ, ◌+◌, ◌<◌, ◌≤◌, inl, inr, zero, suc, refl, sym, ap, subst, ◌∙◌, arith}
-use Rattle.std.proofs.Common.{add-one}
-use Rattle.std.proofs.Common.{Bool, true, false, ◌&&◌, nat_eq, List, [], ◌∷◌, length, take, take_all, drop}
-use Rattle.std.proofs.Common.{drop_of_length-le, if◌then◌else◌, IsTrue, Option, Some, None}
-use Rattle.std.proofs.Common.{slice_get}
+use Rattle.std.proofs.Common.{add-one, Bool, true, false, ◌&&◌, nat_eq, List, [], ◌∷◌, length, take, take_all, drop}
+use Rattle.std.proofs.Common.{drop_of_length-le, if◌then◌else◌, IsTrue, Option, Some, None, slice_get}
 use Rattle.std.specs.List.{position_from}
 use Rattle.std.specs.Cmp.Lexicographic.{pointwise, same_text, other_text}
 use Rattle.slink_wire.specs.Place.{Bears, Fields}
@@ -34,8 +32,7 @@ lacks_more ws k w place at other before = rw (add-one k) (lacks_next ws k w plac
 
 pub lacks_all : (ws : List Window) (k : ℕ) (place : Fields) → k ≡ length ws → LacksPlace (take k ws) place
     → LacksPlace ws place
-lacks_all ws k place e before =
-    subst (λ (xs : List Window). LacksPlace xs place) (take_all k ws (omega (arith, e))) before
+lacks_all ws k place e before = rw (take_all k ws (omega (arith, e))) at before
 
 -- the test of two stations
 abbrev fields_eq : Fields → Fields → Bool
@@ -66,9 +63,8 @@ same_place a b t is h =
 
 pub other_place : (a b : Fields) (t : Bool) → t ≡ fields_eq a b → t ≡ false → a ≢ b
 other_place a b t is h same =
-    not_both (pointwise nat_eq a.station b.station) (pointwise nat_eq a.network b.network) (sym h ∙ is)
-    (text_eq a.station b.station (ap (λ (f : Fields). f.station) same))
-    (text_eq a.network b.network (ap (λ (f : Fields). f.network) same))
+    not_both _ _ (sym h ∙ is) (text_eq _ _ (ap (λ (f : Fields). f.station) same))
+    (text_eq _ _ (ap (λ (f : Fields). f.network) same))
 
 -- The first station that passes, found one after another.
 drop_next : (ws : List Window) (k : ℕ) (w : Window) → slice_get ws k ≡ Some w → drop k ws ≡ w ∷ drop (suc k) ws
@@ -104,8 +100,7 @@ pub none_more : (feed : List Window) (r : List ℕ) (k : ℕ) (w : Window) → s
     → (j : ℕ) (v : Window) → j < k + 1 → slice_get feed j ≡ Some v → ¬ (Bears r v.place)
 none_more feed r k w here other before j v lt there = elim (same_or_not j k) [
   | inl same ↦ λ bears. other
-      (subst (λ (x : Window). Bears r x.place)
-      (one_value (slice_get feed k) v w (subst (λ (i : ℕ). slice_get feed i ≡ Some v) same there) here) bears)
+      (rw (one_value (slice_get feed k) v w (subst (λ (i : ℕ). slice_get feed i ≡ Some v) same there) here) at bears)
   | inr ne ↦ before j v (omega (arith, lt, ne)) there
 ]
 
@@ -113,10 +108,8 @@ pub carries_by : (feed : List Window) (k : ℕ) (v w : Window) (r : List ℕ) (p
     → slice_get feed k ≡ Some v → slice_get feed k ≡ Some w → place ≡ v.place → (IsTrue t → Bears r place) → t ≡ true
     → Bears r w.place
 carries_by feed k v w r place t here there same tells is =
-    subst (λ (x : Window). Bears r x.place) (one_value (slice_get feed k) v w here there)
-    (subst (λ (p : Fields). Bears r p) same (tells is))
+    rw (one_value (slice_get feed k) v w here there) at (subst (λ (p : Fields). Bears r p) same (tells is))
 
 pub carries_not : (v : Window) (r : List ℕ) (place : Fields) (t : Bool) → place ≡ v.place → (Bears r place → IsTrue t)
     → t ≡ false → ¬ (Bears r v.place)
-carries_not v r place t same tells is bears = let bad : false ≡ true =
-    sym is ∙ tells (subst (λ (p : Fields). Bears r p) (sym same) bears) in cc bad
+carries_not v r place t same tells is bears = let bad : false ≡ true = sym is ∙ tells (rw (← same) at bears) in cc bad

@@ -1,10 +1,8 @@
 -- Of the packets of a link that is cut off, the whole ones are reported.
 use Rattle.std.proofs.Common.{◌≡◌, ℕ, ◌+◌, ◌-◌, ◌/◌, ◌^◌, ◌<◌, ◌≤◌, inl, inr, suc, refl, sym, ap, subst, ◌∙◌, arith}
-use Rattle.std.proofs.Common.{true, ◌==◌, ◌&&◌, ◌||◌, if◌then◌else◌, List, [], ◌∷◌, ◌++◌, append_assoc, length}
-use Rattle.std.proofs.Common.{length-append, take}
+use Rattle.std.proofs.Common.{◌&&◌, ◌||◌, if◌then◌else◌, List, [], ◌∷◌, ◌++◌, append_assoc, length, length-append, take}
 use Rattle.std.proofs.Common.{drop, take-append-drop, Option, Some, None, IfSome, codes}
-use Rattle.std.proofs.lemmas.Bool.{cases_lt}
-use Rattle.std.proofs.lemmas.Bool.Decides.{eqb_tells}
+use Rattle.std.proofs.lemmas.Bool.{cases_lt, eq-eqb}
 use Rattle.std.proofs.lemmas.List.{length-drop, take-append-le}
 use Rattle.slink_wire.specs.Hexadecimal.{hexadecimal}
 use Rattle.slink_wire.specs.Packet.{packet_bytes}
@@ -18,8 +16,7 @@ use Rattle.slink_feed.specs.declared.dialogue.Stage.TheVariants.{Packets}
 use Rattle.slink_feed.specs.Cutting.{IsBegun, IsWhole}
 use Rattle.slink_feed.specs.Delivered.{AreWanted, Numbered, all_packets, record_events}
 use Rattle.slink_feed.specs.Dialogue.{Talk, Whole, Packet, at_packet, place_of, ended, is_ahead, read, read_at}
-use Rattle.slink_feed.specs.Dialogue.{if_wanted}
-use Rattle.slink_feed.specs.Dialogue.{next_at, reported}
+use Rattle.slink_feed.specs.Dialogue.{if_wanted, next_at, reported}
 use Rattle.slink_feed.specs.Listening.{AreBrought, Brought, Listening, Reads, bytes_of, events_of, talk_after}
 use Rattle.slink_feed.specs.Listening.{event_if_any}
 use Rattle.slink_feed.proofs.Received.{begun_none}
@@ -38,15 +35,12 @@ packet_whole t r at long small =
     subst (λ (s : Stage). IsWhole s (packet_bytes r.number r.bytes) (Packet r.number r.bytes)) (sym at)
     (read_back r.number r.bytes small, packet_long r.number r.bytes long)
 
-same_here : (n m : ℕ) → n ≡ m → (n == m) ≡ true
-same_here n m e = elim (eqb_tells n m) [ inl same ↦ same.0 | inr other ↦ absurd (other.1 e) ]
-
 pub wanted_reported : (o : Option ℕ) (k n : ℕ) (bytes : List ℕ) (t : Talk) → IfSome o (λ want. n ≡ want)
     → if_wanted o k n bytes t ≡ reported k n bytes t
 wanted_reported None k n bytes t is = refl
 wanted_reported (Some want) k n bytes t is =
     ap (λ b. if b || (t.holes && is_ahead want n) then reported k n bytes t else ended (endings.Gap k want n) t)
-    (same_here n want is)
+    (eq-eqb n want is)
 
 packet_read : (t : Talk) (r : Numbered) → t.stage ≡ Packets → place_of t.wants r.bytes ≡ Some r.place
     → IfSome (next_at t.wants r.place) (λ want. r.number ≡ want)
@@ -84,8 +78,7 @@ part_prefixed t r rs d at long small lt =
     let none : d / 520 ≡ 0 = omega (arith, lt) in
     let begun : IsBegun t.stage (take d p) =
     prefix_begun t.stage (take d p) (drop d p) (Packet r.number r.bytes) (omega (arith, length-drop d p, all, lt))
-    (subst (λ (xs : List ℕ). IsWhole t.stage xs (Packet r.number r.bytes)) (sym (take-append-drop d p))
-    (packet_whole t r at long small)) in
+    (rw (← (take-append-drop d p)) at (packet_whole t r at long small)) in
     let now : Listening = record { talk = t; kept = take d p } in (
       now,
       subst (λ (xs : List ℕ). Reads t xs (record_events (take (d / 520) (r ∷ rs))) now) (sym stream)

@@ -1,15 +1,13 @@
 -- Grants that the rings of a feed reach.
 use Rattle.std.proofs.Common.{◌≡◌, ◌≢◌, ℕ, ◌+◌, ◌<◌, ◌≤◌, ◌⊎◌, inl, inr, zero, suc, refl, sym, ap, subst, ◌∙◌, arith}
-use Rattle.std.proofs.Common.{List}
-use Rattle.std.proofs.Common.{[], ◌∷◌, set, Option, Some, None, slice_get, if◌then◌else◌}
+use Rattle.std.proofs.Common.{List, [], ◌∷◌, set, Option, Some, None, slice_get, if◌then◌else◌}
 use Rattle.std.proofs.lemmas.Bool.Decides.{eqb_tells}
 use Rattle.slink_feed.specs.declared.grant.Grant.{Grant}
 use Rattle.slink_feed.specs.declared.session.Phase.{Phase}
 use Rattle.slink_feed.specs.declared.session.Phase.TheVariants.{Streaming}
 use Rattle.slink_feed.specs.declared.session.Sent.{Sent}
 use Rattle.slink_feed.specs.Session.{AreReached, Grants, IsReached, State, has_sent_all, at_next, grant_at, packet_at}
-use Rattle.slink_feed.specs.Session.{sent}
-use Rattle.slink_feed.specs.Session.{sent_from, sent_in, sent_of}
+use Rattle.slink_feed.specs.Session.{sent, sent_from, sent_in, sent_of}
 use Rattle.slink_feed.specs.Window.{Window, record_at}
 
 -- a grant once another was written
@@ -28,8 +26,7 @@ pub reached_with : (feed : List Window) (gs : Grants) (k : ℕ) (g : Grant) → 
 reached_with feed gs k g reached before j h is = elim (grant_set gs k j (Some g)) [
   | inl here ↦ let same : Some g ≡ Some h = sym here.1 ∙ is in
       let one : g ≡ h = cc same in
-      subst (λ (x : Grant). IsReached feed j x.position) one
-      (subst (λ i. IsReached feed i g.position) (sym here.0) reached)
+      rw one at (subst (λ i. IsReached feed i g.position) (sym here.0) reached)
   | inr there ↦ before j h (sym there ∙ is)
 ]
 

@@ -15,8 +15,7 @@ use Rattle.slink_feed.specs.private.Parts.{IsPacketPart, IsReplyPart}
 use Rattle.slink_feed.specs.Dialogue.{Talk, Whole, Reply, Packet, End, Garbage, at_packet, place_of, ended, read}
 use Rattle.slink_feed.specs.Dialogue.{read_at}
 use Rattle.slink_feed.specs.Listening.{AreBrought, AwaitsReply, Brings, Brought, IsLinked, Listening, Reads, begun}
-use Rattle.slink_feed.specs.Listening.{bytes_of}
-use Rattle.slink_feed.specs.Listening.{events_of, talk_after, event_if_any, whole}
+use Rattle.slink_feed.specs.Listening.{bytes_of, events_of, talk_after, event_if_any, whole}
 
 -- a packet's number has six digits
 pub packet_short : (bytes packet record_bytes : List ℕ) (n : ℕ) → length bytes ≡ 520 → packet ≡ take 520 bytes

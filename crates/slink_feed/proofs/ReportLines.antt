@@ -1,9 +1,7 @@
 -- The lines of a record, and those of what is wanted next.
-use Rattle.std.proofs.Common.{◌≡◌, ◌≢◌, ℕ, ◌+◌, inl, inr, zero, suc, sym, ap, subst, ◌∙◌, arith, Bool, true}
-use Rattle.std.proofs.Common.{false}
-use Rattle.std.proofs.Common.{◌⊎◌, if◌then◌else◌, List, [], ◌∷◌, ◌++◌, append_assoc, append-nil, Option, Some}
-use Rattle.std.proofs.Common.{None}
-use Rattle.std.proofs.Common.{◌-◌, ◌<◌, drop, get_or, length, length-drop, take, take_all, slice_get, unwrap_or}
+use Rattle.std.proofs.Common.{◌≡◌, ◌≢◌, ℕ, ◌+◌, inl, inr, zero, suc, sym, ap, subst, ◌∙◌, arith, Bool, true, false, ◌⊎◌}
+use Rattle.std.proofs.Common.{if◌then◌else◌, List, [], ◌∷◌, ◌++◌, append_assoc, append-nil, Option, Some, None, ◌-◌}
+use Rattle.std.proofs.Common.{◌<◌, drop, get_or, length, length-drop, take, take_all, slice_get, unwrap_or}
 use Rattle.std.proofs.lemmas.Bool.Decides.{eqb_tells}
 use Rattle.mseed_stream.specs.Device.{BytesWritten}
 use Rattle.mseed_stream.specs.LineWritten.{WritesLine}
@@ -13,8 +11,7 @@ use Rattle.slink_feed.specs.declared.dialogue.Event.TheVariants as events
 use Rattle.slink_feed.specs.declared.dialogue.Wanted.{Wanted}
 use Rattle.slink_feed.specs.Dialogue.{Wants, want_at}
 use Rattle.slink_feed.specs.Reporter.{AreReported, Reporting, first_line, first_lines, hole_line, hole_lines, if_other}
-use Rattle.slink_feed.specs.Reporter.{lines_at}
-use Rattle.slink_feed.specs.Reporter.{lines_of, none, one, word_of, words_of}
+use Rattle.slink_feed.specs.Reporter.{lines_at, lines_of, none, one, word_of, words_of}
 use Rattle.slink_feed.specs.Reported.{record_in}
 use Rattle.slink_feed.proofs.Reporting.{lines_both}
 
@@ -77,10 +74,8 @@ pub lines_reported : (t : Reporting) (k number : ℕ) (o : Option Wanted) (first
     → o ≡ want_at t.wants k → first ≡ unwrap_or (slice_get t.firsts k) false → AreReported (hole_lines o number) a b
     → AreReported (first_lines first o number) b c → AreReported (lines_at t k number) a c
 lines_reported t k number o first a b c is set hole reported =
-    subst (λ (x : Option Wanted). AreReported (hole_lines x number
-    ++ first_lines (unwrap_or (slice_get t.firsts k) false) x number) a c) is
-    (subst (λ (f : Bool). AreReported (hole_lines o number ++ first_lines f o number) a c) set
-    (lines_both (hole_lines o number) (first_lines first o number) a b c hole reported))
+    rw is at
+    (rw set at (lines_both (hole_lines o number) (first_lines first o number) a b c hole reported))
 
 -- an event that reports no record
 pub reported_quiet : (t : Reporting) (event : Event) (a : BytesWritten) → record_in event ≡ []

@@ -18,9 +18,8 @@ use Rattle.slink_feed.specs.declared.dialogue.Wanted.{Wanted}
 use Rattle.slink_feed.specs.Cutting.{IsWhole}
 use Rattle.slink_feed.specs.Delivered.{Numbered}
 use Rattle.slink_feed.specs.Dialogue.{Talk, Wants, Whole, Reply, Packet, End, Garbage, answer_of, at_packet, place_of}
-use Rattle.slink_feed.specs.Dialogue.{is_taken}
-use Rattle.slink_feed.specs.Dialogue.{ended, read, read_at, if_wanted, is_of_wanted, next_at, next_set, requests_number}
-use Rattle.slink_feed.specs.Dialogue.{requests_place, to_answer, to_place, reported, want_at}
+use Rattle.slink_feed.specs.Dialogue.{is_taken, ended, read, read_at, if_wanted, is_of_wanted, next_at, next_set}
+use Rattle.slink_feed.specs.Dialogue.{requests_number, requests_place, to_answer, to_place, reported, want_at}
 use Rattle.slink_feed.specs.Holding.{GoBy, GoOn, IsNext}
 use Rattle.slink_feed.specs.Listening.{AreBrought, Brought, Listening, Reads, events_of, talk_after, event_if_any}
 use Rattle.slink_feed.specs.Reported.{AreOf, HasReported, bytes_in, numbers_at, places_of, record_in, records_reported}
@@ -61,8 +60,7 @@ comes_if k n bytes t false want long bears is same = comes_end t (endings.Gap k 
 
 comes_wanted : (k n : ℕ) (bytes : List ℕ) (t : Talk) (o : Option ℕ) → length bytes ≡ 512
     → place_of t.wants bytes ≡ Some k → next_at t.wants k ≡ o → Comes t (if_wanted o k n bytes t)
-comes_wanted k n bytes t None long bears is =
-    a_record k n bytes long bears (subst (λ o. IfSome o (λ x. IsNext t.holes x n)) (sym is) tt) refl
+comes_wanted k n bytes t None long bears is = a_record k n bytes long bears (rw is tt) refl
 comes_wanted k n bytes t (Some want) long bears is =
     comes_if k n bytes t (is_taken t.holes want n) want long bears is (taken_next t.holes want n)
 
@@ -223,22 +221,15 @@ reported_brought t (b ∷ bs) are =
     let one : HasReported t.holes t.wants x.0.wants (records_reported (event_if_any x.1)) =
     reported_one t x (comes_read t t.stage b.bytes b.whole are.0) in
     let more : HasReported t.holes x.0.wants (talk_after x.0 bs).wants (records_reported (events_of x.0 bs)) =
-    subst (λ (h : Bool). HasReported h x.0.wants (talk_after x.0 bs).wants (records_reported (events_of x.0 bs)))
-    (kept_read t t.stage b.whole) (reported_brought x.0 bs are.1) in
-    subst (λ rs. HasReported t.holes t.wants (talk_after x.0 bs).wants rs)
-    (sym (records_both (event_if_any x.1) (events_of x.0 bs)))
-    (reported_both t.holes t.wants x.0.wants (talk_after x.0 bs).wants (records_reported (event_if_any x.1))
-    (records_reported (events_of x.0 bs)) one more)
+    rw (kept_read t t.stage b.whole) at (reported_brought x.0 bs are.1) in
+    rw (← (records_both (event_if_any x.1) (events_of x.0 bs))) at (reported_both _ _ _ _ _ _ one more)
 
 -- what a client reports a link
 pub reported_link : (start : Talk) (stream : List ℕ) (events : List Event) (now : Listening)
     → Reads start stream events now → HasReported start.holes start.wants now.talk.wants (records_reported events)
 reported_link start stream events now reads =
-    subst (λ es. HasReported start.holes start.wants now.talk.wants (records_reported es)) (sym reads.events_are)
-    (subst (λ (u : Talk). HasReported start.holes start.wants u.wants
-    (records_reported (events_of start reads.brought)))
-    (sym reads.talk)
-    (reported_brought start reads.brought reads.are_brought))
+    rw (← reads.events_are) at
+    (rw (← reads.talk) at (reported_brought start reads.brought reads.are_brought))
 
 -- It stays whether the client goes past holes.
 kept_brought : (t : Talk) (bs : List Brought) → (talk_after t bs).holes ≡ t.holes

@@ -1,6 +1,5 @@
 -- What is reported of records and taken by the output, one after another.
-use Rattle.std.proofs.Common.{◌≡◌, ℕ, ◌+◌, ◌<◌, refl, sym, ap, subst, ◌∙◌, arith, List, [], ◌∷◌, ◌++◌}
-use Rattle.std.proofs.Common.{append_assoc}
+use Rattle.std.proofs.Common.{◌≡◌, ℕ, ◌+◌, ◌<◌, refl, sym, ap, subst, ◌∙◌, arith, List, [], ◌∷◌, ◌++◌, append_assoc}
 use Rattle.std.proofs.Common.{Bool, append-nil, length, length-append, take}
 use Rattle.std.proofs.Math.Seq.{take-append-add}
 use Rattle.mseed_stream.specs.Device.{BytesWritten}
@@ -17,8 +16,7 @@ use Rattle.slink_feed.specs.private.Delivery.{FailsToTakeNext, TakesNext, IsDeli
 use Rattle.slink_feed.specs.Reports.{AreHandedOver, Outputs, Reports, TakesRecords, ReportsRecords, all, but_last}
 use Rattle.slink_feed.specs.Reports.{outputs}
 use Rattle.slink_feed.specs.Reporter.{ReporterState, AreReported, Reporting, lines_at, lines_of, none, one}
-use Rattle.slink_feed.specs.Reporter.{reporting_after}
-use Rattle.slink_feed.specs.Reporter.{reporting_past}
+use Rattle.slink_feed.specs.Reporter.{reporting_after, reporting_past}
 use Rattle.slink_feed.specs.Reported.{HasReported, bytes_in, record_in, records_reported}
 use Rattle.slink_feed.specs.Turns.{Emitted, EmittedPrefix}
 use Rattle.slink_feed.proofs.Noting.{nothing_noted, notes_both}
@@ -55,8 +53,7 @@ takes_both a b c some more p q = elim q [
       but_last (some ++ prefix) last (length (bytes_in some) + n) (ap (λ rs. some ++ rs) is
       ∙ sym (append_assoc some prefix (last ∷ [])))
       (omega (arith, beyond, ap length (bytes_both some prefix), length-append (bytes_in some) (bytes_in prefix)))
-      (subst (λ bytes. EmittedPrefix a c bytes (length (bytes_in some) + n)) (sym (bytes_both some more))
-      (emitted_prefix a b c (bytes_in some) (bytes_in more) n p emitted))
+      (rw (← (bytes_both some more)) at (emitted_prefix a b c (bytes_in some) (bytes_in more) n p emitted))
 ]
 
 -- Where the output didn't fail, it accepted all.
@@ -143,9 +140,7 @@ handed_over_both some more a b c p fine q = record {
   emitted = takes_both a.output b.output c.output some more (all_taken some a.output b.output p.emitted fine) q.emitted;
   reporting = q.reporting ∙ (ap (λ t. reporting_after t more) p.reporting ∙ sym (after_more a.reporting some more));
   lines = subst (λ ls. AreReported ls a.errors c.errors) (sym (lines_more a.reporting some more))
-      (lines_both (lines_of a.reporting some) (lines_of (reporting_after a.reporting some) more) a.errors b.errors
-      c.errors
-      p.lines (subst (λ t. AreReported (lines_of t more) b.errors c.errors) p.reporting q.lines));
+      (lines_both _ _ _ _ _ p.lines (subst (λ t. AreReported (lines_of t more) b.errors c.errors) p.reporting q.lines));
 }
 
 pub reports_none : (t : Talk) (a : Outputs) → Reports t t a a
@@ -179,9 +174,7 @@ pub noted_both : (old now new : Talk) (r s t : ReporterState) (a b c d e f : Byt
     → b.failures ≡ a.failures → ReportsRecords now new s t b c e f → ReportsRecords old new r t a c d f
 noted_both old now new r s t a b c d e f p fine q = record {
   received = notes_both r.received s.received t.received a b c fine p.received q.received;
-  reports = reports_both old now new (outputs a d r.reporting) (outputs b e s.reporting)
-      (outputs c f t.reporting) p.reports fine
-      q.reports;
+  reports = reports_both _ _ _ _ _ _ p.reports fine q.reports;
 }
 
 -- What an event reports.
@@ -213,8 +206,7 @@ pub takes_cut : (fault : LinkFault) (event : Event) (before : Counts) (w w' o o'
 takes_cut faults.Read event before w w' o o' cut = absurd cut
 takes_cut (faults.Write count) event before w w' o o' cut =
     let quiet : record_in event ≡ [] = line_alone event (omega (arith, cut.failing.part)) in
-    subst (λ rs. TakesRecords rs o o') (sym quiet)
-    (subst (λ (x : BytesWritten). TakesRecords [] o x) (sym cut.other) (takes_none o))
+    rw (← quiet) at (subst (λ (x : BytesWritten). TakesRecords [] o x) (sym cut.other) (takes_none o))
 takes_cut (faults.Output count) event before w w' o o' cut =
     let alone : (r : Numbered) × (record_in event ≡ r ∷ []) =
     record_alone event (omega (arith, cut.failing.part)) in
@@ -245,8 +237,7 @@ reports_received first bytes used before after now new a b c from to p fine rece
     takes_event received.event before after now.written new.written now.output new.output received.done in
     reports_more first now.client new.client (now.client.kept ++ take used bytes) received.event a b c p fine
     received.comes.brings
-    (subst (λ (o : BytesWritten). TakesRecords (record_in received.event) o c.output) from
-    (subst (λ (o : BytesWritten). TakesRecords (record_in received.event) now.output o) to done))
+    (rw from at (subst (λ (o : BytesWritten). TakesRecords (record_in received.event) now.output o) to done))
     received.reported.reporting received.reported.lines
 
 pub reports_cut : (first : Talk) (bytes : List ℕ) (fault : LinkFault) (before : Counts) (now new : Fetching)
@@ -258,6 +249,5 @@ reports_cut first bytes fault before now new a b c from to p fine received =
     takes_cut fault received.event before now.written new.written now.output new.output received.cut in
     reports_more first now.client new.client (now.client.kept ++ take received.used bytes) received.event a b c p fine
     received.comes.brings
-    (subst (λ (o : BytesWritten). TakesRecords (record_in received.event) o c.output) from
-    (subst (λ (o : BytesWritten). TakesRecords (record_in received.event) now.output o) to done))
+    (rw from at (subst (λ (o : BytesWritten). TakesRecords (record_in received.event) now.output o) to done))
     received.reported.reporting received.reported.lines

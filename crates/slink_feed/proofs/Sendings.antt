@@ -2,6 +2,7 @@
 use Rattle.std.proofs.Common.{◌≡◌, ◌≢◌, ℕ, ◌+◌, ◌-◌, ◌%◌, ◌^◌, ◌≤◌, ◌⊎◌, inl, inr, zero, suc, refl, sym, ap, subst, ◌∙◌}
 use Rattle.std.proofs.Common.{arith, Bool, true, false, ◌==◌, if◌then◌else◌, List, [], ◌∷◌, ◌++◌, length, length-drop}
 use Rattle.std.proofs.Common.{take, drop, set, Option, Some, None, slice_get}
+use Rattle.std.proofs.lemmas.Bool.{eq-eqb}
 use Rattle.std.proofs.lemmas.Bool.Decides.{eqb_tells, leb_tells}
 use Rattle.slink_wire.specs.Packet.{packet_bytes}
 use Rattle.slink_wire.specs.declared.command.Command.{Command}
@@ -16,9 +17,8 @@ use Rattle.slink_feed.specs.declared.session.Phase.TheVariants.{Streaming, Close
 use Rattle.slink_feed.specs.declared.session.Sent.{Sent}
 use Rattle.slink_feed.specs.declared.session.Sent.TheVariants as Sents
 use Rattle.slink_feed.specs.Serving.{IsAnswer}
-use Rattle.slink_feed.specs.Session.{Grants, State, has_sent_all, answered_in, at_next, grant_at, in_streaming}
-use Rattle.slink_feed.specs.Session.{packet_at}
-use Rattle.slink_feed.specs.Session.{sent, sent_in, sent_of}
+use Rattle.slink_feed.specs.Session.{Grants, State, has_sent_all, answered_in, at_next, grant_at, in_streaming, sent_in}
+use Rattle.slink_feed.specs.Session.{packet_at, sent, sent_of}
 use Rattle.slink_feed.specs.Sending.{AreCalled, AreShown, Called, IsReadFrom, IsSlice, packet_in, packets_from}
 use Rattle.slink_feed.specs.Sending.{packets_of}
 use Rattle.slink_feed.specs.Window.{Shows, Window, oldest_of, record_at}
@@ -141,8 +141,7 @@ step_from : (k place : ℕ) (g h : Grant) (feed : List Window) (t : State) (w : 
     → t.phase ≡ Streaming
     → Stepped k g feed place (if b then at_next (has_sent_all feed t.grants) t else packet_at t place h
     (record_at w h.position))
-step_from k place g h feed t w true at_k at_place here on = step_next k place g feed t
-    (has_sent_all feed t.grants) at_k on
+step_from k place g h feed t w true at_k at_place here on = step_next _ _ _ _ t (has_sent_all feed t.grants) at_k on
 step_from k place g h feed t w false at_k at_place here on =
     step_packet k place g h feed t w (record_at w h.position) at_k at_place here refl on
 
@@ -171,9 +170,6 @@ pub read_grants : (s t : State) → IsReadFrom s t → t.grants ≡ s.grants
 read_grants s t (inl same) = ap (λ (u : State). u.grants) same
 read_grants s t (inr closed) = ap (λ (u : State). u.grants) closed
 
-pub same_here : (n : ℕ) → (n == n) ≡ true
-same_here n = elim (eqb_tells n n) [ inl same ↦ same.0 | inr other ↦ absurd (other.1 refl) ]
-
 sent_more : (k first : ℕ) (pushed : List (List ℕ)) (a : Called) (packets : List (List ℕ)) (g : Grant) (w : Window)
     (n : ℕ) (bytes : List ℕ) → a.place ≡ k → a.answer ≡ Sents.Packet (packet_bytes (g.position % 2 ^ 24) bytes)
     → Shows w first (take n pushed) → record_at w g.position ≡ Some bytes
@@ -184,7 +180,7 @@ sent_more k first pushed a packets g w n bytes same is shows read rest =
     shown_at w first n g.position pushed bytes shows read in
     let one : (if a.place == k then packet_in a.answer else []) ≡ packet_bytes (g.position % 2 ^ 24) bytes ∷ [] =
     ap (λ j. if j == k then packet_in a.answer else []) same
-    ∙ (ap (λ b. if b then packet_in a.answer else []) (same_here k) ∙ ap packet_in is) in
+    ∙ (ap (λ b. if b then packet_in a.answer else []) (eq-eqb k k refl) ∙ ap packet_in is) in
     subst (λ ps. IsSlice first pushed g.position (ps ++ packets)) (sym one)
     (slice_more first g.position pushed packets bytes shown.0 shown.1 rest)
 

@@ -14,8 +14,7 @@ use Rattle.slink_feed.specs.declared.session.Unsent.TheVariants as unsents
 use Rattle.slink_feed.specs.declared.turn.LinkFault.{LinkFault}
 use Rattle.slink_feed.specs.declared.turn.LinkFault.TheVariants as faults
 use Rattle.slink_feed.specs.private.Replying.{HasFailed, HasGiven, HasSent, IsReplyFault, IsWritten, IsWriteFault}
-use Rattle.slink_feed.specs.private.Replying.{IsSendFault, IsUnwritten}
-use Rattle.slink_feed.specs.private.Replying.{waits_after}
+use Rattle.slink_feed.specs.private.Replying.{IsSendFault, IsUnwritten, waits_after}
 use Rattle.slink_feed.specs.Rounds.{Attending, FailsToSend, Gives, HasWaited, all_sent, place_after}
 use Rattle.slink_feed.specs.Serving.{Serves, SessionState, Takes, none_served, piece_served}
 use Rattle.slink_feed.specs.Session.{AreReached, State, sent, sent_bytes, sent_without}
@@ -263,8 +262,7 @@ module _ (feed : List Window) (old now new : Attending) (bytes : List ℕ) (star
     serves = subst (λ (on : List ℕ). Serves feed old.session (take (start + used) bytes) old.written.bytes new.session
         on)
         (sym done.written.bytes)
-        (subst (λ (bs : List ℕ). Serves feed old.session bs old.written.bytes new.session
-        (now.written.bytes ++ reply_bytes reply)) (piece_is bytes start used)
+        (rw (piece_is bytes start used) at
         (serves_piece feed old.session now.session new.session (take start bytes)
         (take used (take (length bytes - start) (drop start bytes))) old.written.bytes now.written.bytes reply
         so_far.serves takes));

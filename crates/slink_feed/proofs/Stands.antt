@@ -1,7 +1,6 @@
 -- A session stands for the stream that its link brought.
-use Rattle.std.proofs.Common.{◌≡◌, ℕ, ◌+◌, ◌-◌, ◌<◌, ◌⊎◌, inl, inr, zero, suc, refl, sym, ap, subst, ◌∙◌}
-use Rattle.std.proofs.Common.{arith, false, List, [], ◌∷◌, ◌++◌, append-nil, length, length-append}
-use Rattle.std.proofs.Common.{take, Result, Ok, Err}
+use Rattle.std.proofs.Common.{◌≡◌, ℕ, ◌+◌, ◌-◌, ◌<◌, ◌⊎◌, inl, inr, zero, suc, refl, sym, ap, subst, ◌∙◌, arith, false}
+use Rattle.std.proofs.Common.{List, [], ◌∷◌, ◌++◌, append-nil, length, length-append, take, Result, Ok, Err}
 use Rattle.std.specs.Prelude.{IfErr, IfOk}
 use Rattle.std.proofs.lemmas.Bool.{both_ways}
 use Rattle.slink_wire.specs.declared.lines.What.{What}
@@ -86,8 +85,7 @@ still_stands feed old new piece reply stands takes unshut =
       s.0 ++ piece,
       (
         held,
-        held.1 ∙ short_after feed old.state new.state s.0 (s.0 ++ piece) reply unshut answers.0
-            answers.1 answers.2,
+        held.1 ∙ short_after _ _ _ _ _ _ unshut _ answers.1 answers.2,
       ),
     )
 

@@ -138,8 +138,7 @@ unfinished : (feed : List Window) (gs : Grants) (k : ℕ) → k < length feed �
     → has_sent_all feed gs ≡ false
 unfinished feed gs k lt off =
     let here = some_at feed k lt in
-    not_done feed gs k here.0 (has_sent here.0 (grant_at gs k)) here.1 refl
-    (open_at feed gs k here.0 (grant_at gs k) refl here.1 off)
+    not_done feed gs k here.0 _ here.1 refl (open_at feed gs k here.0 _ refl here.1 off)
 
 -- While the next record of a station is due, or left its ring, nothing is sent of those at their rings' next records,
 pub waits_beside : (feed : List Window) (s : State) (m k : ℕ) → s.phase ≡ Streaming → m < length feed

@@ -1,7 +1,6 @@
 -- The requests that a client sends over a link, and what it makes of the replies and packets that the link brings.
 use Rattle.std.specs.Prelude.{◌≡◌, ℕ, Bool, false, ◌+◌, ◌-◌, ◌%◌, ◌^◌, ◌<◌, ◌==◌, ◌&&◌, ◌||◌, nat_lt, List, ◌++◌}
-use Rattle.std.specs.Prelude.{length, map}
-use Rattle.std.specs.Prelude.{replicate, bytes_eq, codes, Option, Some, None, nat_eq, unwrap_or, position}
+use Rattle.std.specs.Prelude.{length, map, replicate, bytes_eq, codes, Option, Some, None, nat_eq, unwrap_or, position}
 use Rattle.std.specs.Prelude.{slice_get, slice_range, slice_set, if◌then◌else◌}
 use Rattle.std.specs.List.{starts_with}
 use Rattle.std.specs.Option.{option_and_then}

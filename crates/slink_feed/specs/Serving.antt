@@ -33,8 +33,8 @@ abbrev pub TakesWhole : List ℕ → List ℕ → ℕ → ℕ → Type 0
 TakesWhole before after used count = (what : What) × Yields what before after × (what ≡ More → used ≡ count)
 
 -- A session takes bytes, of which the last may end a line, and replies. A closed one replies nothing.
-pub record Takes (feed : List Window) (old : SessionState) (bytes : List ℕ) (new : SessionState) (reply : Reply) : Type 0 where
-  -- It stands for the stream that its link brought, whichever that is.
+pub record Takes (feed : List Window) (old : SessionState) (bytes : List ℕ) (new : SessionState)
+    (reply : Reply) : Type 0 where  -- It stands for the stream that its link brought, whichever that is.
   pub held : (stream : List ℕ) → ¬ (old.state.phase ≡ Closed) → IsHeld old.held stream
       → IsHeld new.held (stream ++ bytes)
   pub answers : (stream : List ℕ) → ¬ (old.state.phase ≡ Closed) → IsHeld old.held stream

@@ -9,9 +9,8 @@ ghost use Rattle.slink_feed.specs.declared.session.Phase.{Phase};
 ghost use Rattle.slink_feed.specs.declared.session.Sent.{Sent};
 ghost use Rattle.slink_feed.specs.Serving.{IsAnswer};
 ghost use Rattle.slink_feed.specs.Session.{AreReached, Fits, has_sent_all, answered, called, at, at_next, chosen};
-ghost use Rattle.slink_feed.specs.Session.{ended};
-ghost use Rattle.slink_feed.specs.Session.{grant_at, in_chosen, in_fresh, in_granted, in_streaming, has_sent, sent};
-ghost use Rattle.slink_feed.specs.Session.{IsAtNext, IsWaiting, sent_without};
+ghost use Rattle.slink_feed.specs.Session.{ended, grant_at, in_chosen, in_fresh, in_granted, in_streaming, has_sent};
+ghost use Rattle.slink_feed.specs.Session.{sent, IsAtNext, IsWaiting, sent_without};
 ghost use Rattle.slink_feed.specs.Window.{record_at};
 
 use crate::feed::{Feed, STATIONS};

@@ -2,11 +2,9 @@
 ghost use Rattle.std.specs.Prelude.{◌≡◌, ◌≢◌, ◌+◌, ◌%◌, ◌<◌, ◌≤◌, IfNone, IfSome, length};
 ghost use Rattle.slink_wire.specs.Request.{IsSpelled};
 ghost use Rattle.slink_wire.specs.Place.{AreNumbers};
-ghost use Rattle.slink_feed.specs.Dialogue.{IsStage, Reply, answer_of, at_packet, place_of, ended, event_of};
-ghost use Rattle.slink_feed.specs.Dialogue.{is_ahead, is_taken};
-ghost use Rattle.slink_feed.specs.Dialogue.{read, if_wanted, is_of_wanted, next_at, sends_line, requests_number};
-ghost use Rattle.slink_feed.specs.Dialogue.{requests_place};
-ghost use Rattle.slink_feed.specs.Dialogue.{to_answer, want_at, wants_of, with_next};
+ghost use Rattle.slink_feed.specs.Dialogue.{IsStage, Reply, answer_of, at_packet, place_of, ended, event_of, is_ahead};
+ghost use Rattle.slink_feed.specs.Dialogue.{is_taken, read, if_wanted, is_of_wanted, next_at, sends_line};
+ghost use Rattle.slink_feed.specs.Dialogue.{requests_number, requests_place, to_answer, want_at, wants_of, with_next};
 ghost use Rattle.slink_feed.specs.Listening.{AwaitsReply};
 
 use crate::feed::STATIONS;

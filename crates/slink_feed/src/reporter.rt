@@ -3,10 +3,8 @@ ghost use Rattle.std.specs.Prelude.{◌≡◌, ◌+◌, ◌++◌, ◌<◌, ◌�
 ghost use Rattle.mseed_stream.specs.LineWritten.{WritesLine};
 ghost use Rattle.slink_feed.specs.Dialogue.{want_at, with_next};
 ghost use Rattle.slink_feed.specs.Reporter.{AreReported, first_line, first_lines, hole_line, hole_lines, if_other};
-ghost use Rattle.slink_feed.specs.Reporter.{lines_at};
-ghost use Rattle.slink_feed.specs.Reporter.{next_line, next_line_of, named_number, options_of, reporting_of};
-ghost use Rattle.slink_feed.specs.Reporter.{reporting_past};
-ghost use Rattle.slink_feed.specs.Reporter.{wants_left, word_of};
+ghost use Rattle.slink_feed.specs.Reporter.{lines_at, next_line, next_line_of, named_number, options_of, reporting_of};
+ghost use Rattle.slink_feed.specs.Reporter.{reporting_past, wants_left, word_of};
 ghost use Rattle.slink_feed.specs.private.Lines.{Appends};
 
 use crate::client::Client;

@@ -3,8 +3,7 @@ ghost use Rattle.std.specs.Prelude.{◌≡◌, ◌≢◌, ◌≤◌, ◌<◌, �
 ghost use Rattle.slink_feed.specs.declared.session.Phase.{Phase};
 ghost use Rattle.slink_feed.specs.Attending.{Attends, IsServeFault, RepliesToAll, attending};
 ghost use Rattle.slink_feed.specs.private.Replying.{FailsToGive, HasGiven, HasSent, IsReplyFault, IsWriteFault};
-ghost use Rattle.slink_feed.specs.private.Replying.{IsSendFault, IsWritten};
-ghost use Rattle.slink_feed.specs.private.Replying.{waits_after};
+ghost use Rattle.slink_feed.specs.private.Replying.{IsSendFault, IsWritten, waits_after};
 ghost use Rattle.slink_feed.specs.Rounds.{Attending, place_after};
 ghost use Rattle.slink_feed.specs.Running.{Stands};
 ghost use Rattle.slink_feed.specs.Session.{Fits, sent_without};

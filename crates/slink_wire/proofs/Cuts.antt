@@ -6,9 +6,9 @@ use Rattle.std.specs.List.{list_all, position_or_len, prefix_len, before_first, 
 use Rattle.std.proofs.Math.Numerals.{one-add}
 use Rattle.std.proofs.lemmas.List.{drop_more, take_at, drop_at, take_all, take_rest}
 use Rattle.std.proofs.lemmas.List.Sums.{passes_at_first}
+use Rattle.std.proofs.lemmas.Bool.{eq-eqb, and_parts}
 use Rattle.std.proofs.lemmas.Bool.Decides.{leb_tells, eqb_tells}
 use Rattle.std.specs.Option.{unwrap_or}
-use Rattle.std.proofs.lemmas.Bool.{and_parts}
 pub use Rattle.std.proofs.lemmas.Bool.{and_parts as both}
 
 -- the elements before it fail, and the next one passes
@@ -96,8 +96,7 @@ parts_at bytes byte n at lt = (
 pub one_cut : (byte : ℕ) (xs ys xs' ys' : List ℕ) → Lacks byte xs → Lacks byte xs'
     → xs ++ byte ∷ ys ≡ xs' ++ byte ∷ ys' → (xs ≡ xs') × (ys ≡ ys')
 one_cut byte xs ys xs' ys' h h' e =
-    let yes : (byte == byte) ≡ true =
-    elim (eqb_tells byte byte) [ inl same ↦ same.0 | inr other ↦ absurd (other.1 refl) ] in
+    let yes : (byte == byte) ≡ true = eq-eqb byte byte refl in
     let here : position_or_len (λ b. b == byte) (xs ++ byte ∷ ys) ≡ length xs =
     first_at (λ b. b == byte) xs byte ys h yes in
     let there : position_or_len (λ b. b == byte) (xs' ++ byte ∷ ys') ≡ length xs' =

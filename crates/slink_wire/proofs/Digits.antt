@@ -5,8 +5,7 @@ use Rattle.std.proofs.Common.{length-append, add-one, true, not, ◌==◌, ◌&&
 use Rattle.std.specs.Char.{to_ascii_uppercase}
 use Rattle.std.proofs.lemmas.Bool.Decides.{eqb_tells, leb_tells}
 use Rattle.std.proofs.lemmas.List.Folds.{list_all-append}
-use Rattle.std.proofs.lemmas.List.{map_push, same_from_push, take_more, get_or_push, get_or_append_left}
-use Rattle.std.proofs.lemmas.List.{get_or-map}
+use Rattle.std.proofs.lemmas.List.{map_push, same_from_push, take_more, get_or_push, get_or_append_left, get_or-map}
 use Rattle.std.proofs.Math.Nat.{pow-suc, pow-le-pow_right}
 use Rattle.slink_wire.specs.Hexadecimal.{SpellsNumber, digit_byte, hexadecimal}
 use Rattle.slink_wire.proofs.Cuts.{Lacks}

@@ -14,8 +14,7 @@ spells_itself n h = subst (λ k. (n < 16 ^ k) × (map to_ascii_uppercase (hexade
 pub read_back : (n : ℕ) (r : List ℕ) → n < 2 ^ 24 → IsPacket (packet_bytes n r) n r
 read_back n r h = (
   refl,
-  subst (λ ds. SpellsNumber ds n) (sym (take_at (hexadecimal 6 n) r 6 (length-hexadecimal 6 n)))
-      (spells_itself n h),
+  rw (← (take_at (hexadecimal 6 n) r 6 (length-hexadecimal 6 n))) at (spells_itself n h),
   drop_at (hexadecimal 6 n) r 6 (length-hexadecimal 6 n),
 )
 

@@ -23,8 +23,7 @@ cond_has false ps qs p q = q
 
 pub has_piece : (p : ℕ → Bool) (xs : List ℕ) → HasPiece (slice_split p xs)
 has_piece p [] = tt
-has_piece p (x ∷ xs) = cond_has (p x) ([] ∷ slice_split p xs) (onto_first x (slice_split p xs)) tt
-    (onto_first_has x (slice_split p xs))
+has_piece p (x ∷ xs) = cond_has (p x) _ _ tt (onto_first_has x (slice_split p xs))
 
 first_and_last : (x y : ℕ) (ps : List (List ℕ)) → HasPiece ps
     → onto_first x (onto_last y ps) ≡ onto_last y (onto_first x ps)

@@ -1,7 +1,6 @@
 -- The line of a request is its command.
-use Rattle.std.proofs.Common.{◌≡◌, ℕ, ◌≤◌, ◌<◌, ◌^◌, inl, refl, sym, subst, ap, ◌∙◌, arith}
-use Rattle.std.proofs.Common.{Option, Some, None, List, [], ◌∷◌, ◌++◌, length, append_assoc}
-use Rattle.std.proofs.Common.{codes}
+use Rattle.std.proofs.Common.{◌≡◌, ℕ, ◌≤◌, ◌<◌, ◌^◌, inl, refl, sym, subst, ap, ◌∙◌, arith, Option, Some, None, List}
+use Rattle.std.proofs.Common.{[], ◌∷◌, ◌++◌, length, append_assoc, codes}
 use Rattle.slink_wire.specs.declared.command.Command.TheVariants.{Station, Data, Fetch, End}
 use Rattle.slink_wire.specs.Hexadecimal.{hexadecimal}
 use Rattle.slink_wire.specs.Command.{IsCommand, IsRow, IsNumber, folded, words}
@@ -23,16 +22,13 @@ two_words keyword n h lacks = words_then keyword (hexadecimal 6 n) h lacks
     (digits_lack 32 (omega arith) 6 n))
 
 pub data_written : (number : Option ℕ) → IsShort number → IsCommand (codes "DATA" ++ number_bytes number) (Data number)
-data_written None h = subst (λ ws. IsRow (Data None) (folded ws)) (sym (words_last (codes "DATA") (omega arith) refl))
-    (inl refl)
+data_written None h = rw (words_last (codes "DATA") (omega arith) refl) (inl refl)
 data_written (Some n) h = subst (λ ws. IsRow (Data (Some n)) (folded ws))
     (sym (two_words (codes "DATA") n (omega arith) refl)) (inl (hexadecimal 6 n, is_number n h, refl))
 
 pub fetch_written : (number : Option ℕ) → IsShort number
     → IsCommand (codes "FETCH" ++ number_bytes number) (Fetch number)
-fetch_written None h = subst (λ ws. IsRow (Fetch None) (folded ws))
-    (sym (words_last (codes "FETCH") (omega arith) refl))
-    (inl refl)
+fetch_written None h = rw (words_last (codes "FETCH") (omega arith) refl) (inl refl)
 fetch_written (Some n) h = subst (λ ws. IsRow (Fetch (Some n)) (folded ws))
     (sym (two_words (codes "FETCH") n (omega arith) refl)) (inl (hexadecimal 6 n, is_number n h, refl))
 
@@ -50,5 +46,4 @@ station_written station network p q =
     ap (λ x. words (codes "STATION " ++ x)) (append_assoc sta (32 ∷ []) net)
     ∙ (words_then (codes "STATION") (sta ++ 32 ∷ net) (omega arith) refl
     ∙ ap (λ ws. codes "STATION" ∷ ws) beyond) in
-    subst (λ ws. IsRow (Station station (Some network)) (folded ws)) (sym line)
-    (inl (sta, net, p.0, q.0, sym p.1, sym q.1, refl))
+    rw line (inl (sta, net, p.0, q.0, sym p.1, sym q.1, refl))

@@ -3,6 +3,7 @@ use Rattle.std.proofs.Common.{◌≡◌, ℕ, ◌≤◌, ◌<◌, ◌≢◌, inl
 use Rattle.std.proofs.Common.{◌==◌, nat_lt, if◌then◌else◌, List, [], ◌∷◌, ◌++◌, length, length-append, append_assoc}
 use Rattle.std.proofs.Common.{append-nil}
 use Rattle.std.specs.List.{slice_split}
+use Rattle.std.proofs.lemmas.Bool.{lt-ltb, ne_eqb}
 use Rattle.std.proofs.lemmas.Bool.Decides.{eqb_tells, leb_tells}
 use Rattle.slink_wire.specs.Lines.{Spelled, lines_of, spelled_by, stripped, too_long, unless_empty, with_piece}
 use Rattle.slink_wire.proofs.Pieces.{HasPiece, has_piece, onto_last, split_on, split_there}
@@ -107,9 +108,6 @@ grows : (b : ℕ) (line : List ℕ) → IsStripped line → 255 < length line �
 grows b [] h lt = absurd (omega arith)
 grows b (x ∷ xs) h lt = omega (arith, ap length (stripped_on b x xs h), length-append (x ∷ xs) (b ∷ []), lt)
 
-tested : (n : ℕ) → 255 < n → nat_lt 255 n ≡ true
-tested n h = elim (leb_tells 256 n) [ inl far ↦ far.0 | inr other ↦ absurd (omega (arith, other.1)) ]
-
 as_checked : (t : Bool) (line : List ℕ)
     → (if t then too_long else (record { lines = []; begun = line; is_too_long = false })) ≡ checked [] line t
 as_checked true line = refl
@@ -123,9 +121,8 @@ byte_last : (b : ℕ) (piece : List ℕ)
 byte_last b piece = elim (leb_tells 256 (length (stripped piece))) [
   | inl long ↦
       let more : nat_lt 255 (length (stripped (piece ++ b ∷ []))) ≡ true =
-      tested (length (stripped (piece ++ b ∷ [])))
-      (subst (λ l. 255 < length l) (stripped_more b piece)
-      (grows b (stripped piece) (is_stripped piece) (omega (arith, long.1)))) in
+      lt-ltb 255 (length (stripped (piece ++ b ∷ [])))
+      (rw (stripped_more b piece) at (grows b (stripped piece) (is_stripped piece) (omega (arith, long.1)))) in
       ap (λ t. if t then too_long else (record {
         lines = [];
         begun = stripped (piece ++ b ∷ []);
@@ -173,7 +170,7 @@ lines_cr stream = ap spelled_by (split_there (λ b. b == 13) stream 13 refl)
 pub lines_byte : (stream : List ℕ) (b : ℕ) → b ≢ 13 → lines_of (stream ++ b ∷ []) ≡ with_byte b (lines_of stream)
 unfolding lines_of
 lines_byte stream b n =
-    let not_cr : (b == 13) ≡ false = elim (eqb_tells b 13) [ inl same ↦ absurd (n same.1) | inr other ↦ other.0 ] in
+    let not_cr : (b == 13) ≡ false = ne_eqb b 13 n in
     ap spelled_by (split_on (λ x. x == 13) stream b not_cr)
     ∙ spelled_byte_of b (slice_split (λ x. x == 13) stream) (has_piece (λ x. x == 13) stream)
 

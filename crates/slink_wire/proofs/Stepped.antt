@@ -9,7 +9,7 @@ use Rattle.slink_wire.specs.declared.lines.What.TheVariants.{More, Line, TooLong
 use Rattle.slink_wire.specs.Lines.{Held, IsHeld, YieldsNothing, Spelled, lines_of, stripped, unless_empty}
 use Rattle.slink_wire.specs.private.Steps.{begun, cr_step, lf_step, other_step, step}
 use Rattle.slink_wire.specs.Taking.{Yields}
-use Rattle.slink_wire.proofs.Spelled.{IsStripped, begun_fits, lines_byte, lines_cr, stripped_on, with_byte, with_cr}
+use Rattle.slink_wire.proofs.Spelled.{IsStripped, begun_fits, lines_byte, lines_cr, stripped_on, with_cr, with_byte}
 use Rattle.slink_wire.proofs.Spelled.{continued, checked}
 
 -- a step leads from a stream to one: what is held is its, and what it yields
@@ -131,13 +131,9 @@ step_leads stream held b isopen h =
           (subst (λ x. LeadsOf s (lines_of (stream ++ x ∷ [])) (cr_step held.begun)) (sym cr.1)
           (subst (λ n. LeadsOf s n (cr_step held.begun)) (sym (lines_cr stream))
           (subst (λ o. LeadsOf o (with_cr o) (cr_step held.begun)) (sym known) (cr_leads s.lines held.begun))))
-      | inr other ↦ subst (λ t. LeadsOf s (lines_of (stream ++ b ∷ []))
-          (if t then cr_step held.begun else if b == 10 then lf_step held.begun b else other_step held.begun b))
-          (sym other.0)
-          (subst (λ n. LeadsOf s n (if b == 10 then lf_step held.begun b else other_step held.begun b))
-          (sym (lines_byte stream b other.1))
+      | inr other ↦ rw (other.0, lines_byte stream b other.1)
           (subst (λ o. LeadsOf o (with_byte b o) (if b == 10 then lf_step held.begun b else other_step held.begun b))
-          (sym known) (byte_leads s.lines held.begun b fits.1 fits.0)))
+          (sym known) (byte_leads s.lines held.begun b fits.1 fits.0))
     ])
 
 abbrev StaysOpen : Held × What → Type 0
@@ -148,15 +144,11 @@ choice_open true x y p q = p
 choice_open false x y p q = q
 
 other_open : (line : List ℕ) (b : ℕ) → StaysOpen (other_step line b)
-other_open line b = choice_open (length line == 255) (record { begun = []; is_too_long = true }, TooLong)
-    (begun (line ++ b ∷ []), More) (λ e. cc) (λ e. refl)
+other_open line b = choice_open (length line == 255) _ _ (λ e. cc) (λ e. refl)
 
 step_open : (line : List ℕ) (b : ℕ) → StaysOpen (step line b)
-step_open line b = choice_open (b == 13) (cr_step line) (if b == 10 then lf_step line b else other_step line b)
-    (choice_open (length line == 0) (begun [], More) (begun [], Line (record { items = line })) (λ e. refl) (λ e. refl))
-    (choice_open (b == 10) (lf_step line b) (other_step line b)
-    (choice_open (length line == 0) (begun [], More) (other_step line b) (λ e. refl) (other_open line b))
-    (other_open line b))
+step_open line b = choice_open (b == 13) _ _ (choice_open (length line == 0) _ _ (λ e. refl) (λ e. refl))
+    (choice_open (b == 10) _ _ (choice_open (length line == 0) _ _ (λ e. refl) (other_open line b)) (other_open line b))
 
 -- so many bytes of a piece were taken, and nothing was reported
 pub record TakenTo (old now : Held) (piece : List ℕ) (i : ℕ) : Type 0 where
@@ -183,8 +175,7 @@ taken_byte old now new piece i what lt stepped t stream h =
     (subst (λ s. Leads (stream ++ take i piece) s (step now.begun b)) at
     (step_leads (stream ++ take i piece) now b t.goes_on (t.held stream h))) in (
       led.0,
-      answers_from what stream (stream ++ take i piece) (stream ++ take (i + 1) piece)
-          (t.quiet stream i h (omega arith)) led.1,
+      answers_from _ _ _ _ (t.quiet stream i h (omega arith)) led.1,
     )
 
 pub taken_more : (old now new : Held) (piece : List ℕ) (i : ℕ) → i < length piece
@@ -195,7 +186,6 @@ taken_more old now new piece i lt stepped t = record {
   quiet = (λ stream k h le. elim (leb_tells k i) [
     | inl before ↦ t.quiet stream k h before.1
     | inr here ↦ (let e : i + 1 ≡ k = omega (arith, here.1) in
-        subst (λ j. YieldsNothing stream (stream ++ take j piece)) e
-        (taken_byte old now new piece i More lt stepped t stream h).1)
+        rw e at (taken_byte old now new piece i More lt stepped t stream h).1)
   ]);
 }

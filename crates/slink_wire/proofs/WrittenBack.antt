@@ -3,10 +3,10 @@ use Rattle.std.proofs.Common.{◌≡◌, ℕ, ◌<◌, ◌≤◌, inl, inr, suc,
 use Rattle.std.proofs.Common.{cond, ◌==◌, ◌&&◌, nat_lt, if◌then◌else◌, List, [], ◌∷◌, ◌++◌, append-nil, append_assoc}
 use Rattle.std.proofs.Common.{length, length-append}
 use Rattle.std.specs.List.{list_all, onto_first, slice_split}
-use Rattle.std.proofs.lemmas.Bool.Decides.{eqb_tells, leb_tells}
+use Rattle.std.proofs.lemmas.Bool.{le-ltb, and_parts, not-true}
+use Rattle.std.proofs.lemmas.Bool.Decides.{eqb_tells}
 use Rattle.std.proofs.lemmas.List.{append_cancel_left}
 use Rattle.std.proofs.lemmas.List.Folds.{list_all-append}
-use Rattle.std.proofs.lemmas.Bool.{and_parts, not-true}
 use Rattle.slink_wire.specs.Lines.{Spelled, lines_of, spelled_by, stripped, too_long, unless_empty, with_piece}
 use Rattle.slink_wire.specs.Written.{AreLines, IsLine, SpellsPrefix, only_lines, written_bytes}
 use Rattle.slink_wire.proofs.Cuts.{Lacks}
@@ -23,9 +23,6 @@ stripped_short [] = omega arith
 stripped_short (x ∷ xs) =
     choice_short (x == 10) (stripped xs) (x ∷ xs) (length (x ∷ xs))
     (let less : length (stripped xs) ≤ length xs = stripped_short xs in omega (arith, less)) (omega arith)
-
-not_long : (n : ℕ) → n ≤ 255 → nat_lt 255 n ≡ false
-not_long n h = elim (leb_tells 256 n) [ inl far ↦ absurd (omega (arith, far.1, h)) | inr other ↦ other.0 ]
 
 split_then : (line rest : List ℕ) → Lacks 13 line
     → slice_split (λ b. b == 13) (line ++ 13 ∷ rest) ≡ line ∷ slice_split (λ b. b == 13) rest
@@ -61,7 +58,7 @@ line_spelled line [] has is = absurd has
 line_spelled line (p ∷ ps) has is =
     ap (λ l. if nat_lt 255 (length l) then too_long else with_piece l (p ∷ ps) (spelled_by (p ∷ ps))) (is.no_lf)
     ∙ (ap (λ t. if t then too_long else with_piece line (p ∷ ps) (spelled_by (p ∷ ps)))
-    (not_long (length line) is.short) ∙ line_first line (spelled_by (p ∷ ps)) is.some)
+    (le-ltb 255 (length line) is.short) ∙ line_first line (spelled_by (p ∷ ps)) is.some)
 
 -- a line, and what is after its CR
 pub lines_then : (line rest : List ℕ) → IsLine line → lines_of (line ++ 13 ∷ rest) ≡ beyond line (lines_of rest)
@@ -91,7 +88,7 @@ pub part_quiet : (part : List ℕ) → Lacks 13 part → length part ≤ 255 →
 unfolding lines_of
 part_quiet part lacks short =
     part_spelled (nat_lt 255 (length (stripped part))) (stripped part) (lines_of part)
-    (not_long (length (stripped part)) (let less : length (stripped part) ≤ length part = stripped_short part in
+    (le-ltb 255 (length (stripped part)) (let less : length (stripped part) ≤ length part = stripped_short part in
     omega (arith, less, short))) (ap spelled_by (split_none part lacks))
 
 pub none_quiet : Quiet []

@@ -1,9 +1,7 @@
-use Rattle.std.proofs.Common.{◌≡◌, ◌+◌, ◌^◌, refl, ◌<◌, ◌≤◌, ◌++◌, ◌∷◌, [], ℕ, List, length, take, drop, Err, sym, ap}
+use Rattle.std.proofs.Common.{◌≡◌, ◌+◌, ◌^◌, refl, ◌<◌, ◌++◌, ◌∷◌, [], ℕ, List, length, take, drop, sym, ap}
 use Rattle.std.proofs.Common.{subst, ◌∙◌, arith, rules, length-append}
 use Rattle.mseed_record.specs.declared.view.RecordView.{RecordView}
-use Rattle.mseed_record.specs.Viewing.{view_of, scan_of}
-use Rattle.mseed_record.specs.Record.{IsRecord}
-use Rattle.mseed_record.specs.Scan.{Decides}
+use Rattle.mseed_record.specs.Viewing.{view_of}
 use Rattle.mseed_record.specs.View.{IsView}
 use Rattle.std.specs.List.{AllByRecursion}
 use Rattle.std.proofs.ByRecursion.{All-push}
@@ -21,8 +19,7 @@ returns-in-Err-clause-fault g c =
     let bytes : List ℕ = c.args.bytes.now in
     let few : length (bytes_of_each c.loop-offset.records.items) < 2 ^ 40 =
     omega (arith, inv.few, size_of_each c.loop-offset.records.items (length c.loop-offset.records.items) refl) in
-    let decides = subst (λ (xs : List ℕ). Decides xs (scan_of (Err c.in-Err.fault))) (take_rest bytes offset)
-    c.in-Err.ensures.decides in
+    let decides = rw (take_rest bytes offset) at c.in-Err.ensures.decides in
     subst (λ (e : StreamFault). IsSplitFault e bytes) (sym c.fault_at.ensures)
     (split_fault bytes offset (bytes_of_each c.loop-offset.records.items) c.in-Err.fault c.loop-offset-test.true
     inv.records few decides)
@@ -33,8 +30,7 @@ returns-then-len-eq-MOST-clause-fault g c =
     let views : List RecordView = c.loop-offset.records.items in
     let count : length views ≡ c.len.result = omega (arith, c.loop-offset.records.ok, c.len.ensures) in
     let size = size_of_each views c.len.result count in
-    let there = subst (λ (xs : List ℕ). (k : ℕ) × ((k ≤ length xs) × IsRecord (take k xs)))
-    (take_rest c.args.bytes.now c.loop-offset.offset) (c.in-Ok.ensures.ok.0 refl) in
+    let there = rw (take_rest c.args.bytes.now c.loop-offset.offset) at (c.in-Ok.ensures.ok.0 refl) in
     (bytes_of_each views, record { before = inv.records; further = there }, omega arith)
 
 pub loop-offset-preserved : goal.loop-offset-preserved

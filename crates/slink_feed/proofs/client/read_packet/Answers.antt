@@ -5,14 +5,12 @@ use Rattle.slink_feed.proofs.client.read_packet.Goals as goal
 
 pub read_packet-requires : goal.read_packet-requires
 read_packet-requires c =
-    packet_short c.args.bytes.now c.in-Some.packet.now c.in-Ok.record.now c.in-Ok.number c.requires.2
-    c.in-Some.ensures.cases.same c.in-Ok.ensures.packet
+    packet_short c.args.bytes.now _ _ _ c.requires.2 c.in-Some.ensures.cases.same c.in-Ok.ensures.packet
 
 pub unreachable-requires-in-Err : goal.unreachable-requires-in-Err
 unreachable-requires-in-Err c =
     c.in-Err.ensures.refused c.requires.0 (drop 8 c.in-Some.packet.now)
-    (has_packet c.args.bytes.now c.in-Some.packet.now c.requires.0
-    (same_packet c.args.bytes.now c.in-Some.packet.now c.requires.2 c.in-Some.ensures.cases.same) c.requires.1)
+    (has_packet _ _ _ (same_packet _ _ c.requires.2 c.in-Some.ensures.cases.same) c.requires.1)
 
 pub returns-clause-read : goal.returns-clause-read
 returns-clause-read c = (

@@ -4,15 +4,10 @@ use Rattle.slink_feed.proofs.client.read_packets.Goals.{in-Whole, in-End, in-Gar
 
 pub returns-clause-brings : goal.returns-clause-brings
 returns-clause-brings c = elim c.match-part.branch [
-  | in-Whole w ↦ packet_brings c.args.dialogue.now c.match-part.dialogue _ c.args.kept.now.items w.as_slice.result.now
-      c.clear.new.self.items c.args.part c.match-part.event _
-      c.requires.stage c.requires.part w.in-Whole.is w.as_slice.ensures.value w.read_packet-event.ensures.read
-      w.dialogue-is w.event-is c.clear.ensures
-  | in-End w ↦ end_brings c.args.dialogue.now c.match-part.dialogue _ c.args.kept.now.items c.clear.new.self.items
-      c.args.part c.match-part.event _
-      c.requires.stage c.requires.part w.in-End.is w.end-event.ensures.read w.dialogue-is w.event-is c.clear.ensures
-  | in-Garbage w ↦ garbage_brings c.args.dialogue.now c.match-part.dialogue _ c.args.kept.now.items
-      c.clear.new.self.items c.args.part c.match-part.event _
-      c.requires.stage c.requires.part w.in-Garbage.is w.end-event-in-Garbage.ensures.read w.dialogue-is w.event-is
-      c.clear.ensures
+  | in-Whole w ↦ packet_brings c.args.dialogue.now _ _ _ _ c.clear.new.self.items _ _ _ c.requires.stage c.requires.part
+      w.in-Whole.is w.as_slice.ensures.value w.read_packet-event.ensures.read w.dialogue-is w.event-is c.clear.ensures
+  | in-End w ↦ end_brings c.args.dialogue.now _ _ _ c.clear.new.self.items _ _ _ c.requires.stage c.requires.part
+      w.in-End.is w.end-event.ensures.read w.dialogue-is w.event-is c.clear.ensures
+  | in-Garbage w ↦ garbage_brings c.args.dialogue.now _ _ _ c.clear.new.self.items _ _ _ c.requires.stage
+      c.requires.part w.in-Garbage.is w.end-event-in-Garbage.ensures.read w.dialogue-is w.event-is c.clear.ensures
 ]

@@ -8,5 +8,4 @@ pub returns-clause-rounds : goal.returns-clause-rounds
 returns-clause-rounds c = λ feed old a b x y. sent_once feed old a b x y
 
 pub returns-clause-fault : goal.returns-clause-fault
-returns-clause-fault c = λ feed old a b before after fault stands x y. cut_once feed old a b before after fault stands
-    x y
+returns-clause-fault c = λ feed old a b before after fault stands x y. cut_once _ _ _ _ _ _ _ stands x y

@@ -1,7 +1,5 @@
-use Rattle.std.proofs.Common.{◌-◌, ◌<◌, subst, arith, take, drop, length}
+use Rattle.std.proofs.Common.{◌-◌, ◌<◌, arith, take, drop, length}
 use Rattle.std.proofs.lemmas.List.{length-drop, length-take}
-use Rattle.slink_feed.specs.private.Parts.{IsPacketPart}
-use Rattle.slink_feed.specs.declared.cutting.Part.{Part}
 use Rattle.slink_feed.proofs.Prefixes.{emitted_more, within_more}
 use Rattle.slink_feed.proofs.cutting.take_packet.Goals as goal
 
@@ -9,8 +7,7 @@ pub loop-used-preserved : goal.loop-used-preserved
 loop-used-preserved c = record {
   kept = emitted_more c.args.kept.now.items c.loop-used.kept.items c.take_part-more.new.kept.items c.args.bytes.now
       c.loop-used.used c.take_part-more.result.0 c.loop-used.invariant.kept c.take_part-more.ensures.kept;
-  begun = subst (λ (p : Part). IsPacketPart c.take_part-more.new.kept.items p) c.in-Begun.is
-      c.take_part-more.ensures.part;
+  begun = rw c.in-Begun.is at c.take_part-more.ensures.part;
   within = within_more c.args.bytes.now c.loop-used.used c.take_part-more.result.0 c.loop-used.invariant.within
       c.take_part-more.ensures.bound;
 }

@@ -28,9 +28,8 @@ returns-in_err-counts-in-Some-clause-fault g c =
 pub returns-in_ok-after-in-None-clause-ok : goal.returns-in_ok-after-in-None-clause-ok
 returns-in_ok-after-in-None-clause-ok g c = record {
   event = c.take-used.result.1;
-  comes = comes_to c.args.client.now c.take_record.new.self c.take-used.new.self c.args.bytes.now
-      c.take-used.result.0 c.take-used.result.1 c.in-None.ensures.none c.requires.linked c.requires.some
-      c.take-used.ensures.brings c.take-used.ensures.some c.take-used.ensures.bound;
+  comes = comes_to _ _ _ _ _ _ c.in-None.ensures.none c.requires.linked c.requires.some c.take-used.ensures.brings
+      c.take-used.ensures.some c.take-used.ensures.bound;
   reported = record { reporting = c.deliver.ensures.reporting; lines = c.deliver.ensures.lines };
   done = c.in_ok-after-in-None.ensures.ok;
 }

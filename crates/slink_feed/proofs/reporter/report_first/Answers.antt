@@ -1,15 +1,11 @@
 use Rattle.std.proofs.Common.{◌∙◌}
-use Rattle.slink_feed.specs.Reporter.{first_line}
 use Rattle.slink_feed.proofs.ReportLines.{first_none, first_reported, no_first, reported_line}
 use Rattle.slink_feed.proofs.reporter.report_first.Goals as goal
 
 pub returns-then-is_first : goal.returns-then-is_first
 returns-then-is_first g c =
-    first_reported c.args.is_first c.args.want.now c.in-Some.wanted c.args.number (g.E.Sink.written c.args.errors.now)
-    (g.E.Sink.written c.report.new.errors) c.if-is_first.true c.in-Some.is
-    (reported_line c.as_slice.result.now (first_line c.in-Some.wanted.place c.args.number)
-    (g.E.Sink.written c.args.errors.now) (g.E.Sink.written c.report.new.errors)
-    (c.as_slice.ensures.value ∙ c.first_line.ensures) c.report.ensures)
+    first_reported _ _ c.in-Some.wanted c.args.number _ _ c.if-is_first.true c.in-Some.is
+    (reported_line _ _ _ _ (c.as_slice.ensures.value ∙ c.first_line.ensures) c.report.ensures)
 
 pub returns-else-is_first : goal.returns-else-is_first
 returns-else-is_first g c =

@@ -2,9 +2,7 @@ use Rattle.slink_feed.proofs.ReportLines.{hole_none, hole_reported}
 use Rattle.slink_feed.proofs.reporter.report_hole.Goals as goal
 
 pub returns-in-Some : goal.returns-in-Some
-returns-in-Some g c =
-    hole_reported c.args.want.now c.in-Some.wanted c.args.number (g.E.Sink.written c.args.errors.now)
-    (g.E.Sink.written c.report_if_other.new.errors) c.in-Some.is c.report_if_other.ensures
+returns-in-Some g c = hole_reported _ c.in-Some.wanted c.args.number _ _ c.in-Some.is c.report_if_other.ensures
 
 pub returns-in-None : goal.returns-in-None
 returns-in-None g c =

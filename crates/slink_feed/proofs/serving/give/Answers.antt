@@ -1,9 +1,9 @@
-use Rattle.std.proofs.Common.{ℕ, List, rules, subst}
+use Rattle.std.proofs.Common.{rules}
 use Rattle.std.proofs.lemmas.Result.{err_from_is_err_and}
 use Rattle.slink_wire.specs.Packet.{packet_bytes}
 use Rattle.slink_feed.specs.declared.session.Sent.TheVariants.{Packet}
 use Rattle.slink_feed.specs.Attending.{attending}
-use Rattle.slink_feed.specs.private.Replying.{FailsToGive, IsWriteFault, IsWritten}
+use Rattle.slink_feed.specs.private.Replying.{FailsToGive}
 use Rattle.slink_feed.specs.Rounds.{Attending}
 use Rattle.slink_feed.specs.Session.{sent_without}
 use Rattle.slink_feed.proofs.Sendoffs.{few_without, no_packet, passed_on}
@@ -17,12 +17,9 @@ returns-in_err-written-in-Ok-clause-fault g c =
       answer = Packet (packet_bytes c.in-Ok.number c.in-Ok.bytes.now);
       is = c.in-Ok.ensures.sent;
       held = c.next_record.ensures.held;
-      cut = subst (λ (bytes : List ℕ). IsWriteFault c.in_err-written-in-Ok.field-0.0 old.written new.written bytes
-          c.args.before) c.put.ensures.value c.in_err-written-in-Ok.ensures.fault;
+      cut = rw c.put.ensures.value at c.in_err-written-in-Ok.ensures.fault;
     } in
-    passed_on c.from_residual.result c.in_err-written-in-Ok.field-0.0
-    (λ fault. FailsToGive fault c.args.feed.now c.args.k old new c.args.before)
-    (err_from_is_err_and c.from_residual.result c.from_residual.ensures.1) fails
+    passed_on _ _ _ (err_from_is_err_and c.from_residual.result c.from_residual.ensures.1) fails
 
 pub returns-in_err-after-in-Err-clause-fault : goal.returns-in_err-after-in-Err-clause-fault
 returns-in_err-after-in-Err-clause-fault g c =
@@ -32,11 +29,9 @@ returns-in_err-after-in-Err-clause-fault g c =
       answer = sent_without c.in-Err.unsent;
       is = c.in-Err.ensures.unsent;
       held = c.next_record.ensures.held;
-      cut = subst (λ (bytes : List ℕ). IsWriteFault c.in_err-after-in-Err.field-0.0 old.written new.written bytes
-          c.args.before) c.bytes.ensures c.in_err-after-in-Err.ensures.fault;
+      cut = rw c.bytes.ensures at c.in_err-after-in-Err.ensures.fault;
     } in
-    passed_on c.from_residual-in_err-after-in-Err.result c.in_err-after-in-Err.field-0.0
-    (λ fault. FailsToGive fault c.args.feed.now c.args.k old new c.args.before)
+    passed_on _ _ _
     (err_from_is_err_and c.from_residual-in_err-after-in-Err.result c.from_residual-in_err-after-in-Err.ensures.1) fails
 
 pub returns-in_ok-written-in-Ok-clause-ok : goal.returns-in_ok-written-in-Ok-clause-ok
@@ -44,9 +39,7 @@ returns-in_ok-written-in-Ok-clause-ok g c = record {
   answer = Packet (packet_bytes c.in-Ok.number c.in-Ok.bytes.now);
   is = c.in-Ok.ensures.sent;
   held = c.next_record.ensures.held;
-  written = subst (λ (bytes : List ℕ). IsWritten (g.L.Sink.written c.args.link.now)
-      (g.L.Sink.written c.write_after.new.link) bytes c.args.before c.in_ok-written-in-Ok.written) c.put.ensures.value
-      c.in_ok-written-in-Ok.ensures.ok;
+  written = rw c.put.ensures.value at c.in_ok-written-in-Ok.ensures.ok;
   short = search rules;
   waited_is = search rules;
   few = λ bytes is. c.in-Ok.ensures.few;
@@ -57,9 +50,7 @@ returns-in_ok-after-in-Err-clause-ok g c = record {
   answer = sent_without c.in-Err.unsent;
   is = c.in-Err.ensures.unsent;
   held = c.next_record.ensures.held;
-  written = subst (λ (bytes : List ℕ). IsWritten (g.L.Sink.written c.args.link.now)
-      (g.L.Sink.written c.write_after-in-Err.new.link) bytes c.args.before c.in_ok-after-in-Err.after) c.bytes.ensures
-      c.in_ok-after-in-Err.ensures.ok;
+  written = rw c.bytes.ensures at c.in_ok-after-in-Err.ensures.ok;
   short = few_without c.in-Err.unsent;
   waited_is = c.count_waits.ensures;
   few = λ bytes is. absurd (no_packet c.in-Err.unsent bytes is);

@@ -5,7 +5,6 @@ use Rattle.slink_wire.specs.Reply.{reply_bytes}
 use Rattle.slink_feed.specs.Attending.{attending}
 use Rattle.slink_feed.specs.private.Replying.{IsReplyFault, IsWritten, IsWriteFault}
 use Rattle.slink_feed.specs.Rounds.{Attending}
-use Rattle.slink_feed.specs.Serving.{Serves}
 use Rattle.slink_feed.proofs.Deliveries.{piece_length}
 use Rattle.slink_feed.proofs.Sendoffs.{not_replied, nothing_replied, one_replied, passed_on, reply_short}
 use Rattle.slink_feed.proofs.serving.reply_to_all.Goals as goal
@@ -27,9 +26,7 @@ loop-start-preserved g c =
     ≡ length c.args.bytes.now - c.loop-start.start = piece_length c.args.bytes.now c.loop-start.start in
     let done : IsWritten (g.L.Sink.written c.loop-start.link) (g.L.Sink.written c.write_after.new.link)
     (reply_bytes c.take-used.result.1) c.loop-start.written c.in_ok-written.written =
-    subst (λ (bytes : List ℕ). IsWritten (g.L.Sink.written c.loop-start.link)
-    (g.L.Sink.written c.write_after.new.link) bytes c.loop-start.written c.in_ok-written.written) c.bytes.ensures
-    c.in_ok-written.ensures.ok in
+    rw c.bytes.ensures at c.in_ok-written.ensures.ok in
     record {
       so_far = one_replied c.args.feed.now old now new c.args.bytes.now c.loop-start.start c.args.before
           c.loop-start.written c.take-used.result.0 c.take-used.result.1 c.loop-start.invariant.so_far
@@ -54,9 +51,7 @@ returns-in_err-written-clause-fault g c =
     let cut : IsWriteFault c.in_err-written.field-0.0 (g.L.Sink.written c.loop-start.link)
     (g.L.Sink.written c.write_after.new.link)
     (reply_bytes c.take-used.result.1) c.loop-start.written =
-    subst (λ (bytes : List ℕ). IsWriteFault c.in_err-written.field-0.0 (g.L.Sink.written c.loop-start.link)
-    (g.L.Sink.written c.write_after.new.link) bytes c.loop-start.written) c.bytes.ensures
-    c.in_err-written.ensures.fault in
+    rw c.bytes.ensures at c.in_err-written.ensures.fault in
     let fails : IsReplyFault c.in_err-written.field-0.0 c.args.feed.now old new c.args.bytes.now c.args.before =
     not_replied c.args.feed.now old now new c.args.bytes.now c.loop-start.start c.args.before c.loop-start.written
     c.take-used.result.0 c.take-used.result.1 c.loop-start.invariant.so_far
@@ -66,9 +61,7 @@ returns-in_err-written-clause-fault g c =
       closed = λ shut. ((c.take-used.ensures.closed shut).1, (c.take-used.ensures.closed shut).2);
     })
     c.in_err-written.field-0.0 cut in
-    passed_on c.from_residual.result c.in_err-written.field-0.0
-    (λ fault. IsReplyFault fault c.args.feed.now old new c.args.bytes.now c.args.before)
-    (err_from_is_err_and c.from_residual.result c.from_residual.ensures.1) fails
+    passed_on _ _ _ (err_from_is_err_and c.from_residual.result c.from_residual.ensures.1) fails
 
 pub returns-in_err-written-clause-stands : goal.returns-in_err-written-clause-stands
 returns-in_err-written-clause-stands g c = c.take-used.ensures.stands
@@ -102,8 +95,6 @@ returns-clause-ok g c =
     let whole : take c.loop-start.start c.args.bytes.now ≡ c.args.bytes.now =
     take_all c.loop-start.start c.args.bytes.now (omega (arith, c.loop-start-test.false)) in
     record {
-      serves = subst (λ (bytes : List ℕ). Serves c.args.feed.now c.args.session.now bytes
-          (g.L.Sink.written c.args.link.now).bytes c.loop-start.session (g.L.Sink.written c.loop-start.link).bytes)
-          whole so_far.serves;
+      serves = rw whole at so_far.serves;
       failures = so_far.failures;
     }

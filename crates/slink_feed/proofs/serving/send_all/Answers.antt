@@ -1,10 +1,10 @@
 use Rattle.std.proofs.lemmas.Grind.{common_steps}
-use Rattle.std.proofs.Common.{◌≤◌, ◌<◌, ◌+◌, ◌-◌, ◌*◌, ◌∙◌, arith, inl, inr, refl, sym, subst, ℕ, length}
+use Rattle.std.proofs.Common.{◌≤◌, ◌<◌, ◌-◌, ◌∙◌, arith, inl, inr, refl, length}
 use Rattle.std.proofs.lemmas.Result.{err_from_is_err_and}
 use Rattle.slink_feed.specs.Attending.{attending}
 use Rattle.slink_feed.specs.private.Replying.{FailsToGive, HasGiven, IsSendFault, waits_after}
 use Rattle.slink_feed.specs.Rounds.{Attending, place_after}
-use Rattle.slink_feed.proofs.Dues.{Moves, due}
+use Rattle.slink_feed.proofs.Dues.{Moves}
 use Rattle.slink_feed.proofs.Sendoffs.{SentSoFar, few_written, has_moved, has_sent, less_left, not_sent, nothing_sent}
 use Rattle.slink_feed.proofs.Sendoffs.{one_sent, passed_on}
 use Rattle.slink_feed.proofs.serving.send_all.Goals as goal
@@ -29,8 +29,7 @@ returns-in_err-given-clause-fault g c =
     not_sent c.args.feed.now old now new c.loop-waits.k c.loop-waits.waits c.loop-waits.written
     c.loop-waits.invariant.so_far (c.give.new.session.state, cut.answer) cut.is refl cut.held c.in_err-given.field-0.0
     cut.cut in
-    passed_on c.from_residual.result c.in_err-given.field-0.0 (λ fault. IsSendFault fault c.args.feed.now old new)
-    (err_from_is_err_and c.from_residual.result c.from_residual.ensures.1) fails
+    passed_on _ _ _ (err_from_is_err_and c.from_residual.result c.from_residual.ensures.1) fails
 
 pub loop-waits-smaller : goal.loop-waits-smaller
 loop-waits-smaller g c =
@@ -40,12 +39,8 @@ loop-waits-smaller g c =
     c.loop-waits.waits c.in_ok-given.given.waits = c.in_ok-given.ensures.ok in
     let lt : c.loop-waits.waits < 16 = omega (arith, c.loop-waits-test.true, c.len.ensures.most) in
     let moves : Moves c.args.feed.now c.loop-waits.session.state (c.give.new.session.state, given.answer) =
-    has_moved c.args.feed.now c.loop-waits.k now new c.loop-waits.written c.in_ok-given.given.written
-    c.loop-waits.waits c.in_ok-given.given.waits c.if-is_closed.ensures.no c.loop-waits.invariant.fits.1 given in
-    subst (λ (n : ℕ). 17 * due c.args.feed.now c.give.new.session.state + (16 - n)
-    < 17 * due c.args.feed.now c.loop-waits.session.state + (16 - c.loop-waits.waits)) (sym given.waited_is)
-    (less_left c.args.feed.now c.loop-waits.session.state c.give.new.session.state
-    (c.give.new.session.state, given.answer) c.loop-waits.waits moves refl lt)
+    has_moved _ _ _ _ _ _ _ _ c.if-is_closed.ensures.no c.loop-waits.invariant.fits.1 given in
+    rw (← given.waited_is) at (less_left _ _ _ _ c.loop-waits.waits moves refl lt)
 
 pub loop-waits-preserved : goal.loop-waits-preserved
 loop-waits-preserved g c =
@@ -57,8 +52,7 @@ loop-waits-preserved g c =
     let lt : c.loop-waits.waits < length c.args.feed.now = omega (arith, c.loop-waits-test.true, c.len.ensures.value) in
     let within : c.loop-waits.k < length c.args.feed.now = c.loop-waits.invariant.so_far.within (omega (arith, lt)) in
     let moves : Moves c.args.feed.now c.loop-waits.session.state (c.give.new.session.state, given.answer) =
-    has_moved c.args.feed.now c.loop-waits.k now new c.loop-waits.written c.in_ok-given.given.written
-    c.loop-waits.waits c.in_ok-given.given.waits c.if-is_closed.ensures.no c.loop-waits.invariant.fits.1 given in
+    has_moved _ _ _ _ _ _ _ _ c.if-is_closed.ensures.no c.loop-waits.invariant.fits.1 given in
     let so_far : SentSoFar c.args.feed.now old new (place_after c.args.feed.now c.loop-waits.k)
     (waits_after given.answer c.loop-waits.waits) c.in_ok-given.given.written =
     one_sent c.args.feed.now old now new c.loop-waits.k c.loop-waits.waits c.loop-waits.written
@@ -66,14 +60,9 @@ loop-waits-preserved g c =
     c.in_ok-given.given.written moves lt within given.short given.written in
     let most : length c.args.feed.now ≤ 16 = omega (arith, c.len.ensures.value, c.len.ensures.most) in
     let few : c.in_ok-given.given.written ≤ 1099511627776 =
-    few_written c.args.feed.now old new (place_after c.args.feed.now c.loop-waits.k)
-    (waits_after given.answer c.loop-waits.waits) c.in_ok-given.given.written most so_far in
+    few_written _ _ _ _ _ _ most so_far in
     record {
-      so_far = subst (λ (k : ℕ). SentSoFar c.args.feed.now old new k c.in_ok-given.given.waits
-          c.in_ok-given.given.written)
-          (sym c.next_place-k.ensures)
-          (subst (λ (n : ℕ). SentSoFar c.args.feed.now old new (place_after c.args.feed.now c.loop-waits.k) n
-          c.in_ok-given.given.written) (sym given.waited_is) so_far);
+      so_far = rw (← c.next_place-k.ensures) at (rw (← given.waited_is) at so_far);
       few = omega (arith, few);
       fits = c.give.ensures.fits;
       stands = c.give.ensures.stands;
@@ -89,8 +78,7 @@ returns-after-loop-waits-clause-ok g c =
 pub returns-then-is_closed-clause-ok : goal.returns-then-is_closed-clause-ok
 returns-then-is_closed-clause-ok g c =
     let most : length c.args.feed.now ≤ 16 = omega (arith, c.len.ensures.value, c.len.ensures.most) in
-    has_sent c.args.feed.now _ _ c.loop-waits.k c.loop-waits.waits c.loop-waits.written most
-    (inl c.if-is_closed.ensures.yes) c.loop-waits.invariant.so_far
+    has_sent _ _ _ _ _ _ most (inl c.if-is_closed.ensures.yes) c.loop-waits.invariant.so_far
 
 pub give-requires : goal.give-requires
 give-requires g c = grind (arith, common_steps)

@@ -8,8 +8,7 @@ loop-byte-init c = reads_none c.args.digits.now
 pub overflow_add-number : goal.overflow_add-number
 overflow_add-number c = omega (
   arith,
-  reads_fits c.args.digits.now c.loop-byte.byte-index c.loop-byte.number
-      c.in-Some.digit (omega arith) c.in-Some.ensures.small c.loop-byte.invariant,
+  reads_fits _ _ _ c.in-Some.digit (omega arith) c.in-Some.ensures.small c.loop-byte.invariant,
 )
 
 pub loop-byte-preserved : goal.loop-byte-preserved

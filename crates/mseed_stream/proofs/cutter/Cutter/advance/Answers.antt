@@ -1,16 +1,16 @@
-use Rattle.std.proofs.Common.{◌≡◌, ◌≤◌, List, [], ℕ, length, Result, Ok, Some, None, Option, IfOk, IfErr, IfSome, subst}
+use Rattle.std.proofs.Common.{◌≡◌, ◌≤◌, [], ℕ, length, Ok, Some, None, subst, Result, Option, IfOk, IfErr, IfSome, List}
 use Rattle.std.proofs.Common.{sym, ap, ◌∙◌, arith, rules}
 use Rattle.std.proofs.lemmas.List.{append-nil}
-use Rattle.mseed_record.specs.Record.{IsRecord}
-use Rattle.mseed_stream.specs.declared.fault.StreamFault.{StreamFault}
 use Rattle.mseed_stream.specs.Device.{BytesRead}
 use Rattle.mseed_stream.specs.CutterState.{CutterState}
-use Rattle.mseed_stream.specs.Archive.{IsEndOf, clean}
-use Rattle.mseed_stream.specs.Cutting.{IsAlong, IsCleanEnd, IsCutFault, read_from}
-use Rattle.mseed_stream.specs.private.Steps.{lent_of}
+use Rattle.mseed_stream.specs.Cutting.{IsAlong, IsCleanEnd, read_from, IsCutFault}
 use Rattle.mseed_stream.proofs.Handed.{records_after, archive_at}
 use Rattle.mseed_stream.proofs.AfterFound.{along_found, clean_end, nothing_found, reported_is, record_found, fault_found}
 use Rattle.mseed_stream.proofs.AfterFound.{fault_again, end_again}
+use Rattle.mseed_record.specs.Record.{IsRecord}
+use Rattle.mseed_stream.specs.declared.fault.StreamFault.{StreamFault}
+use Rattle.mseed_stream.specs.Archive.{IsEndOf, clean}
+use Rattle.mseed_stream.specs.private.Steps.{lent_of}
 use Rattle.mseed_stream.proofs.cutter.Cutter.advance.Goals as goal
 
 pub returns-clause-along : goal.returns-clause-along
@@ -33,8 +33,7 @@ returns-in-Some-clause-answer g c =
     ∙ c.in-Some.is in
     let end = end_again c.answer.result c.args.self.now.answer c.in-Some.ending offset reported same c.answer.ensures
     c.requires.ended in
-    let fault = fault_again c.answer.result c.args.self.now.answer c.in-Some.ending offset reported same
-    c.answer.ensures c.requires.ended in
+    let fault = fault_again _ _ c.in-Some.ending offset reported same c.answer.ensures c.requires.ended in
     record {
       more = search rules;
       known = search rules;
@@ -85,8 +84,8 @@ returns-clause-answer g c =
       known = λ _. c.cut-found.ensures.known;
       end = end;
       fault = fault;
-      records = λ records has. records_after c.pass_found.result old new c.cut-found.ensures.more.0 offset records within
-          c.cut-found.ensures.more.1 handed has;
+      records = λ records has. records_after c.pass_found.result old new c.cut-found.ensures.more.0 offset records
+          within c.cut-found.ensures.more.1 handed has;
       archive = λ records has. archive_at c.pass_found.result old new c.cut-found.ensures.more.0 offset records within
           c.cut-found.ensures.more.1 has end fault;
       memory = search rules;

@@ -1,4 +1,4 @@
-use Rattle.std.proofs.Common.{◌≡◌, ◌<◌, ◌≤◌, ◌++◌, length, true, false, Bool, Ok, Err, IfErr, OnOk, Result, ℕ, List}
+use Rattle.std.proofs.Common.{◌≡◌, ◌<◌, ◌≤◌, ◌++◌, length, true, false, Bool, Ok, Err, Result, ℕ, List}
 use Rattle.std.proofs.Common.{sym, ap, subst, ◌∙◌, append_assoc, arith, rules, ⊎_elim}
 use Rattle.std.proofs.lemmas.Bool.{cases_lt}
 use Rattle.mseed_record.proofs.Answered.{answered}
@@ -9,8 +9,8 @@ use Rattle.mseed_record.specs.Scan.{Decides}
 use Rattle.mseed_stream.specs.Archive.{is_frame}
 use Rattle.mseed_stream.specs.Device.{BytesRead}
 use Rattle.mseed_stream.specs.CutterState.{CutterState}
-use Rattle.mseed_stream.specs.Cutting.{IsStop, IsReadTo, is_short}
-use Rattle.mseed_stream.specs.private.Steps.{IsCut, IsCuttingFault}
+use Rattle.mseed_stream.specs.Cutting.{IsStop}
+use Rattle.mseed_stream.specs.private.Steps.{IsCut}
 use Rattle.mseed_stream.specs.declared.fault.StreamFault.{StreamFault}
 use Rattle.mseed_stream.proofs.Stops.{stop_grows, stop_next}
 use Rattle.mseed_stream.proofs.Filled.{held_grows, held_stays}
@@ -87,10 +87,9 @@ returns-in-Need-clause-cut g c =
       quiet = rw same (inv.called, inv.calls);
       ended = search rules;
       fine = search rules;
-      fault = fault_at_end c.end.result c.in-Need.field-0 c.args.self.now c.look.new.self
-          (g.R.Source.read c.args.source.now) (g.R.Source.read c.stops.source) c.end.ensures
-          (ap (λ (s : CutterState). s.offset) same ∙ inv.offset) inv.failures (inv.end ∙ c.if-is_at_end.true)
-          (rw same decides);
+      fault = fault_at_end _ c.in-Need.field-0 c.args.self.now c.look.new.self (g.R.Source.read c.args.source.now)
+          (g.R.Source.read c.stops.source) c.end.ensures (ap (λ (s : CutterState). s.offset) same ∙ inv.offset)
+          inv.failures (inv.end ∙ c.if-is_at_end.true) (rw same decides);
     }
 
 pub returns-in_err-is_at_end-in-Need-2-clause-cut : goal.returns-in_err-is_at_end-in-Need-2-clause-cut
@@ -107,36 +106,30 @@ returns-in_err-is_at_end-in-Need-2-clause-cut g c =
     let decides = subst (λ (a : Scan). Decides before a) c.in-Need.is c.look.ensures.decides in
     let here = stop_here before c.stops.is_at_end inv.stop c.if-is_at_end.false in
     let grown : after.prefix ≡ before ++ err.more.0 =
-    held_grows old new c.stops.self after err.more.0 inv.read err.read inv.not_lent err.stays.1 err.stays.0
-    err.more.1 in
-    let stop = subst (λ (xs : List ℕ). IsStop xs needed) (sym grown)
-    (stop_grows before err.more.0 needed (stop_next before needed here decides)) in
-    let stays = λ (same : new ≡ old). held_stays old new c.stops.self after inv.read err.read inv.not_lent
-    err.stays.1 err.stays.0 same in
+    held_grows _ _ _ _ err.more.0 inv.read err.read inv.not_lent err.stays.1 err.stays.0 err.more.1 in
+    let stop = rw (← grown) at (stop_grows before err.more.0 needed (stop_next before needed here decides)) in
+    let stays = λ (same : new ≡ old). held_stays _ _ _ _ inv.read err.read inv.not_lent err.stays.1 err.stays.0 same in
     let held = λ (same : new ≡ old). subst (λ (xs : List ℕ). IsStop xs (length xs)) (sym (stays same)) here in
     let asks = λ (same : new ≡ old). subst (λ (xs : List ℕ). Decides xs (Need needed)) (sym (stays same)) decides in
     let same : c.from_residual.result ≡ Err fault = search rules in
-    record {
+    let cut : IsCut (Err fault) c.args.self.now after first new = record {
       read = err.read;
       stays = (err.stays.0 ∙ inv.offset, err.stays.1, err.stays.2 ∙ inv.answer);
       room = omega (arith, inv.room, err.room);
-      stop = subst (λ (r : Result Bool StreamFault). IsReadTo after.prefix (is_short r new.is_at_end)) (sym same)
-          (read_to_err fault after.prefix needed c.stops.self.offset c.stops.self.room old new err.fault stop err.short
-          held);
-      found = λ other. absurd (cc (sym same ∙ other));
-      called = λ other. absurd (cc (sym same ∙ other));
+      stop = read_to_err _ _ _ _ _ _ _ err.fault stop err.short held;
+      found = λ other. cc;
+      called = λ other. cc;
       quiet = (
         none_called c.args.self.now.prefix before after.prefix err.more.0 first.calls old.calls new.calls grown
             err.calls inv.calls inv.called err.quiet,
         omega (arith, inv.calls, err.calls),
       );
-      ended = λ other. absurd (cc (sym same ∙ other));
-      fine = subst (λ (r : Result Bool StreamFault). OnOk r (new.failures ≡ first.failures)) (sym same) tt;
-      fault = subst (λ (r : Result Bool StreamFault). IfErr r (λ e. IsCuttingFault e c.args.self.now after first new))
-          (sym same)
-          (cutting_err fault c.args.self.now c.stops.self after first old new needed err.fault inv.offset inv.room
-          inv.failures (inv.end ∙ c.if-is_at_end.false) stop err.short asks);
-    }
+      ended = λ other. cc;
+      fine = tt;
+      fault = cutting_err fault c.args.self.now c.stops.self after first old new needed err.fault inv.offset inv.room
+          inv.failures (inv.end ∙ c.if-is_at_end.false) stop err.short asks;
+    } in
+    rw same cut
 
 pub stops-preserved : goal.stops-preserved
 stops-preserved g c =
@@ -151,10 +144,8 @@ stops-preserved g c =
     let decides = subst (λ (a : Scan). Decides before a) c.in-Need.is c.look.ensures.decides in
     let here = stop_here before c.stops.is_at_end inv.stop c.if-is_at_end.false in
     let grown : after ≡ before ++ ok.more.0 =
-    held_grows old new c.stops.self c.fill.new.self ok.more.0 inv.read ok.read inv.not_lent ok.stays.1 ok.stays.0
-    ok.more.1 in
-    let stop = subst (λ (xs : List ℕ). IsStop xs needed) (sym grown)
-    (stop_grows before ok.more.0 needed (stop_next before needed here decides)) in
+    held_grows _ _ _ _ ok.more.0 inv.read ok.read inv.not_lent ok.stays.1 ok.stays.0 ok.more.1 in
+    let stop = rw (← grown) at (stop_grows before ok.more.0 needed (stop_next before needed here decides)) in
     let answer = λ (b : Bool) (e : at_end ≡ b). ap (λ (x : Bool). let r : Result Bool StreamFault = Ok x in r) e in
     record {
       read = ok.read;
@@ -169,8 +160,7 @@ stops-preserved g c =
       offset = ok.stays.0 ∙ inv.offset;
       answer = ok.stays.2 ∙ inv.answer;
       room = omega (arith, inv.room, ok.room);
-      stop = stops_again after needed at_end stop (λ e. (ok.whole (answer false e)).0)
-          (λ e. (ok.ended (answer true e)).0);
+      stop = stops_again _ _ _ stop (λ e. (ok.whole (answer false e)).0) (λ e. (ok.ended (answer true e)).0);
       end = same_end new.is_at_end at_end (λ e. (ok.whole (answer false e)).1) (λ e. (ok.ended (answer true e)).1);
       known = λ e. (ok.ended (answer true e)).2;
       calls = omega (arith, ok.called, inv.calls);

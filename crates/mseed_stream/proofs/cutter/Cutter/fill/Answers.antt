@@ -1,8 +1,7 @@
-use Rattle.std.proofs.Common.{◌≡◌, ◌+◌, ◌≤◌, ◌<◌, ◌^◌, ◌++◌, length, take, drop, List, ℕ, arith, slice_range, sym, ap}
-use Rattle.std.proofs.Common.{subst, ◌∙◌, refl, length-take, append_assoc}
+use Rattle.std.proofs.Common.{◌≡◌, ◌+◌, ◌≤◌, ◌<◌, ◌^◌, ◌++◌, length, take, drop, List, ℕ, arith, slice_range, ap}
+use Rattle.std.proofs.Common.{◌∙◌, refl, length-take, append_assoc}
 use Rattle.std.proofs.lemmas.Grind.{common_steps}
 use Rattle.std.proofs.KnownBytes.{Consumes-trans}
-use Rattle.mseed_record.specs.Framer.{IsFramerOf}
 use Rattle.mseed_record.proofs.Reached.{framer_more}
 use Rattle.mseed_stream.specs.Device.{BytesRead}
 use Rattle.mseed_stream.specs.CutterState.{CutterState}
@@ -68,8 +67,7 @@ loop-self-preserved g c =
       room = inv.room;
       fits = inv.fits;
       within = bound;
-      framer = subst (λ (xs : List ℕ). IsFramerOf i.framer xs) (sym prefix)
-          (framer_more i.framer (take have items) reported inv.framer);
+      framer = rw (← prefix) at (framer_more i.framer (take have items) reported inv.framer);
       going_on = grind (arith, common_steps, c.in-Ok.ensures.read);
       calls = omega (arith, calls, inv.calls);
       called = λ grown. omega (arith, calls, inv.calls);

@@ -1,6 +1,5 @@
 use Rattle.std.proofs.Common.{◌≡◌, ◌≤◌, List, [], ℕ, length, take, ap, subst, ◌∙◌}
 use Rattle.std.proofs.lemmas.List.{append-nil}
-use Rattle.mseed_record.specs.Framer.{IsFramerOf}
 use Rattle.mseed_record.specs.Record.{IsRecord}
 use Rattle.mseed_stream.specs.CutterState.{CutterState}
 use Rattle.mseed_stream.proofs.cutter.Cutter.look.Goals as goal
@@ -14,8 +13,7 @@ invariant_of-self g c =
       inv.1,
       inv.2,
       inv.3,
-      subst (λ (xs : List ℕ). IsFramerOf c.look.new.self xs) (append-nil shown ∙ same)
-          (c.look.ensures.goes_on []),
+      rw (append-nil shown ∙ same) at (c.look.ensures.goes_on []),
     )
 
 pub returns-clause-record : goal.returns-clause-record

@@ -1,4 +1,4 @@
-use Rattle.std.proofs.Common.{◌≡◌, ◌+◌, ◌≤◌, ◌++◌, List, [], ◌∷◌, ℕ, subst, length, take, refl, sym, ap, ◌∙◌, arith}
+use Rattle.std.proofs.Common.{◌≡◌, ◌+◌, ◌≤◌, List, ℕ, length, take, refl, sym, ap, ◌∙◌, arith}
 use Rattle.std.proofs.Common.{Option, Some, None, Ok, IfSome}
 use Rattle.std.proofs.lemmas.List.{length-take-le}
 use Rattle.mseed_record.specs.View.{View}
@@ -46,12 +46,10 @@ returns-in-Some g c =
     ∙ (taken items after.prefix c.self.inside.have c.in-Some.length prefix it.record.0 within ∙ it.record.2)) in
     let moved : after.offset ≡ before.offset + length reported =
     it.offset ∙ ap (λ (xs : List ℕ). before.offset + length xs) it.record.2 in
-    let handed = λ (views : List View) (h : HasHandedOut old before views). subst
-    (λ (x : CutterState). HasHandedOut new x (views ++ view ∷ [])) (sym c.self.view_is)
+    let handed = λ (views : List View) (h : HasHandedOut old before views). rw (← c.self.view_is) at
     (handed_record old new before after views view h c.of_record.ensures.view bytes
     (it.answer.records (bytes_in views) h.records.records) it.along moved it.kept
-    (omega (arith, it.answer.failed h.goes_on))
-    it.called) in (
+    (omega (arith, it.answer.failed h.goes_on)) it.called) in (
       (
         refl,
         λ _. tt,

@@ -1,12 +1,12 @@
-use Rattle.std.proofs.Common.{◌≡◌, ◌≤◌, ◌+◌, ◌++◌, ◌∷◌, [], ℕ, List, length, take, subst, sym, ap, ◌∙◌, arith}
+use Rattle.std.proofs.Common.{◌≡◌, ◌≤◌, ◌+◌, ◌++◌, ◌∷◌, [], ℕ, List, length, take, ap, ◌∙◌, arith, subst, sym}
 use Rattle.std.proofs.lemmas.List.{length-take-le}
 use Rattle.mseed_record.proofs.Called.{record_long}
-use Rattle.mseed_stream.specs.Archive.{HasRecords}
 use Rattle.mseed_stream.specs.Cutting.{IsAlong}
 use Rattle.mseed_stream.specs.Device.{BytesRead}
 use Rattle.mseed_stream.specs.CutterState.{CutterState}
 use Rattle.mseed_stream.specs.Walk.{HasHandedOut}
 use Rattle.mseed_stream.proofs.Passed.{passed_along, passed_handed, passed_records, record_few, stands_passed}
+use Rattle.mseed_stream.specs.Archive.{HasRecords}
 use Rattle.mseed_stream.proofs.cutter.Cutter.pass.Goals as goal
 
 pub pass_whole-requires-clause-header : goal.pass_whole-requires-clause-header
@@ -31,8 +31,7 @@ returns-clause-along g c =
     stands_passed (λ (h : BytesRead) (s : CutterState). IsAlong h s) (g.R.Source.read c.pass_whole.new.source) _
     c.args.self.now c.args.size _ (c.self.view_is ∙ c.forget.ensures) c.requires.ahead.none
     c.pass_whole.ensures.reported
-    (passed_along (g.R.Source.read c.args.source.now) c.args.self.now c.args.size
-    (g.R.Source.lent c.args.source.now) c.requires.along c.requires.ahead)
+    (passed_along _ _ _ _ c.requires.along c.requires.ahead)
 
 pub returns-clause-records : goal.returns-clause-records
 returns-clause-records g c = λ records has.
@@ -45,13 +44,11 @@ returns-clause-records g c = λ records has.
     let more = passed_records reported c.args.self.now size lent records c.requires.along.read c.requires.ahead has in
     subst (λ (n : ℕ). HasRecords (g.R.Source.read c.pass_whole.new.source).bytes (n + size) whole) (sym offset)
     (subst (λ (h : BytesRead). HasRecords h.bytes (c.args.self.now.offset + size) whole)
-    (sym c.pass_whole.ensures.reported)
-    more)
+    (sym c.pass_whole.ensures.reported) more)
 
 pub returns-clause-handed : goal.returns-clause-handed
 returns-clause-handed g c = λ views v before is same.
     stands_passed (λ (h : BytesRead) (s : CutterState). HasHandedOut h s (views ++ v ∷ []))
     (g.R.Source.read c.pass_whole.new.source) _ c.args.self.now c.args.size _ (c.self.view_is ∙ c.forget.ensures)
     c.requires.ahead.none c.pass_whole.ensures.reported
-    (passed_handed (g.R.Source.read c.args.source.now) c.args.self.now c.args.size
-    (g.R.Source.lent c.args.source.now) views v c.requires.ahead before is same)
+    (passed_handed _ _ _ _ _ _ c.requires.ahead before is same)

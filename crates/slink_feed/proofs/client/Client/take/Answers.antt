@@ -1,12 +1,9 @@
-use Rattle.std.proofs.Common.{sym, subst, ◌∙◌}
-use Rattle.slink_feed.specs.declared.dialogue.Stage.{Stage}
-use Rattle.slink_feed.specs.Cutting.{IsBegun}
+use Rattle.std.proofs.Common.{sym, ◌∙◌}
 use Rattle.slink_feed.proofs.Received.{brings_seen, reads_by}
 use Rattle.slink_feed.proofs.client.Client.take.Goals as goal
 
 pub take_packet-used-requires : goal.take_packet-used-requires
-take_packet-used-requires c = subst (λ (s : Stage). IsBegun s c.self.inside.kept.items) (sym c.stage.ensures
-    ∙ c.in-Packets.is) c.self.invariant
+take_packet-used-requires c = rw (sym c.stage.ensures ∙ c.in-Packets.is) at c.self.invariant
 
 pub returns-in-Station-clause-brings : goal.returns-in-Station-clause-brings
 returns-in-Station-clause-brings c =

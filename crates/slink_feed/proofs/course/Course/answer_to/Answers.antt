@@ -6,5 +6,4 @@ use Rattle.slink_feed.proofs.course.Course.answer_to.Goals as goal
 
 pub returns-in-Line-clause-fits : goal.returns-in-Line-clause-fits
 returns-in-Line-clause-fits g c =
-    fits_answered c.args.feed.now c.args.self.now c.answer.new.self c.read.result c.requires
-    (ap (λ (p : State × Reply). p.0) c.answer.ensures.answered)
+    fits_answered _ _ _ c.read.result c.requires (ap (λ (p : State × Reply). p.0) c.answer.ensures.answered)

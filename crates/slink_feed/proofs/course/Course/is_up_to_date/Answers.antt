@@ -34,6 +34,5 @@ loop-k-preserved g c = record {
 pub returns-else-not-has_grant : goal.returns-else-not-has_grant
 returns-else-not-has_grant g c =
     let one = c.loop-k.invariant.some c.if-not-has_grant.false in
-    waits_unless_done c.args.feed.now c.args.self.now one.0 ((one.1).1).0 c.has_sent_all.result c.requires
-    (omega (arith, (one.1).0)) ((one.1).1).1 (λ j lt. c.loop-k.invariant.at_next j (omega (arith, lt)))
-    c.has_sent_all.ensures
+    waits_unless_done _ _ one.0 ((one.1).1).0 _ c.requires (omega (arith, (one.1).0)) ((one.1).1).1
+    (λ j lt. c.loop-k.invariant.at_next j (omega (arith, lt))) c.has_sent_all.ensures

@@ -13,15 +13,11 @@ push-requires g c = (
 
 pub returns-in-Some-place_of-clause-of : goal.returns-in-Some-place_of-clause-of
 returns-in-Some-place_of-clause-of g c =
-    of_feed c.args.self.now c.args.bytes.now c.in-Some.whole.now c.in-Some-place_of.k c.in-Some.ensures.cases.long
-    c.in-Some.ensures.cases.same c.in-Some-place_of.ensures.some
+    of_feed _ _ _ _ c.in-Some.ensures.cases.long c.in-Some.ensures.cases.same c.in-Some-place_of.ensures.some
 
 pub returns-in-Some-place_of-clause-pushed : goal.returns-in-Some-place_of-clause-pushed
 returns-in-Some-place_of-clause-pushed g c =
-    pushed_is c.args.self.now c.push.new.self c.args.bytes.now c.in-Some.whole.now c.in-Some-place_of.k
-    c.in-Some.ensures.cases.same c.in-Some-place_of.ensures.some c.push.ensures.pushed
+    pushed_is _ _ _ _ _ c.in-Some.ensures.cases.same c.in-Some-place_of.ensures.some c.push.ensures.pushed
 
 pub returns-in-None-clause-foreign : goal.returns-in-None-clause-foreign
-returns-in-None-clause-foreign g c =
-    not_of_feed c.args.self.now c.args.bytes.now c.in-Some.whole.now c.in-Some.ensures.cases.same
-    (c.in-None.ensures.none refl)
+returns-in-None-clause-foreign g c = not_of_feed _ _ _ c.in-Some.ensures.cases.same (c.in-None.ensures.none refl)

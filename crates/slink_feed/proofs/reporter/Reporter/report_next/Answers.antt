@@ -1,5 +1,4 @@
-use Rattle.std.proofs.Common.{◌≡◌, ◌∙◌, ◌<◌, ℕ, List, Option, ap, length, rules, subst, take, drop, ◌-◌}
-use Rattle.mseed_stream.specs.LineWritten.{WritesLine}
+use Rattle.std.proofs.Common.{◌≡◌, ◌∙◌, ◌<◌, Option, ap, length, rules, take, drop, ◌-◌}
 use Rattle.slink_feed.specs.declared.dialogue.Wanted.{Wanted}
 use Rattle.slink_feed.specs.Dialogue.{Wants, want_at}
 use Rattle.slink_feed.specs.Reporter.{next_line, next_line_of}
@@ -14,7 +13,5 @@ returns g c =
     let line : next_line c.index-all-0.result (take (length wants - 1) (drop 1 wants)) ≡ next_line_of wants =
     ap (λ (o : Option Wanted). next_line o (take (length wants - 1) (drop 1 wants))) first
     ∙ ap (λ (ws : Wants). next_line (want_at wants 0) ws) (after_the_first wants) in
-    subst (λ (ws : Wants). WritesLine (next_line_of ws) (g.E.Sink.written c.args.errors.now)
-    (g.E.Sink.written c.report.new.errors)) c.wants_left-wants.ensures
-    (subst (λ (l : List ℕ). WritesLine l (g.E.Sink.written c.args.errors.now) (g.E.Sink.written c.report.new.errors))
-    (c.as_slice.ensures.value ∙ (c.next_line.ensures ∙ line)) c.report.ensures)
+    rw c.wants_left-wants.ensures at
+    (rw (c.as_slice.ensures.value ∙ (c.next_line.ensures ∙ line)) at c.report.ensures)

@@ -1,5 +1,5 @@
-use Rattle.std.proofs.Common.{◌+◌, ◌++◌, ◌∷◌, [], ◌∙◌, ap, subst, sym}
-use Rattle.slink_feed.specs.Window.{Shows, Window, with_record}
+use Rattle.std.proofs.Common.{◌+◌, ◌∙◌, ap}
+use Rattle.slink_feed.specs.Window.{Window, with_record}
 use Rattle.slink_feed.proofs.Items.{shows_more}
 use Rattle.slink_feed.proofs.ring.Ring.push.Goals as goal
 
@@ -15,5 +15,4 @@ returns-clause-window g c =
 
 pub returns-clause-shows : goal.returns-clause-shows
 returns-clause-shows g c first pushed shows =
-    subst (λ (w : Window). Shows w first (pushed ++ c.args.bytes.now ∷ [])) (sym (returns-clause-window g c))
-    (shows_more c.args.self.now first pushed c.args.bytes.now shows)
+    rw (← (returns-clause-window g c)) at (shows_more c.args.self.now first pushed c.args.bytes.now shows)

@@ -1,4 +1,4 @@
-use Rattle.std.proofs.Common.{◌∙◌, ◌++◌, ap, subst, sym, take}
+use Rattle.std.proofs.Common.{◌∙◌, ap, subst, sym, take}
 use Rattle.slink_wire.specs.Lines.{IsHeld}
 use Rattle.slink_feed.specs.Running.{Stands}
 use Rattle.slink_feed.specs.Serving.{SessionState}
@@ -25,9 +25,7 @@ returns-clause-held g c stream open_still held =
 
 pub returns-clause-answers : goal.returns-clause-answers
 returns-clause-answers g c stream open_still held =
-    answer_reported c.args.feed.now c.args.self.now.state c.self.inside.course c.args.self.now.held c.self.inside.lines
-    stream (stream ++ take c.take-used.result.used c.args.bytes.now) c.take-used.result.what
-    c.answer_to.new.self c.answer_to.result (ap (λ (s : SessionState). s.state) c.self.view_is)
+    answer_reported _ _ _ _ _ _ _ _ _ _ (ap (λ (s : SessionState). s.state) c.self.view_is)
     (ap (λ (s : SessionState). s.held) c.self.view_is) (λ h. c.take-used.ensures.reported stream h)
     c.answer_to.ensures.answer held
 

@@ -5,8 +5,7 @@ use Rattle.slink_wire.proofs.Stepped.{taken_byte, taken_more}
 use Rattle.slink_wire.proofs.lines.Lines.take.Goals as goal
 
 pub loop-i-preserved : goal.loop-i-preserved
-loop-i-preserved c = taken_more c.args.self.now c.loop-i.self c.take_byte.new.self c.args.piece.now c.loop-i.i
-    c.loop-i-test.true c.in-More.ensures c.loop-i.invariant
+loop-i-preserved c = taken_more _ _ _ _ _ c.loop-i-test.true c.in-More.ensures c.loop-i.invariant
 
 pub returns-in_default : goal.returns-in_default
 returns-in_default c = record {
