@@ -7,12 +7,12 @@ use Rattle.slink_feed.specs.Dialogue.{Wants}
 use Rattle.slink_feed.specs.Listening.{Listening}
 use Rattle.slink_feed.specs.Reports.{outputs}
 use Rattle.slink_feed.specs.Reporter.{AreReported, Reporting, lines_of, next_line_of, none, one, reporting_after}
-use Rattle.slink_feed.specs.Reporter.{reporting_of}
-use Rattle.slink_feed.specs.Reporter.{wants_left}
+use Rattle.slink_feed.specs.Reporter.{reporting_of, wants_left}
 use Rattle.slink_feed.specs.Reported.{HasReported}
 use Rattle.slink_feed.proofs.Quiet.{nothing_reported}
 use Rattle.slink_links.specs.declared.fetching.FetchEnd.{FetchEnd}
-use Rattle.slink_links.specs.Fetched.{FetchesReporting, ReportsOfAll, ReportsOfFetch, is_unwritten, next_lines}
+use Rattle.slink_links.specs.Fetched.{FetchesAll, FetchesReporting, IsQuiet, ReportsOfAll, ReportsOfFetch, fetch_status}
+use Rattle.slink_links.specs.Fetched.{is_unwritten, next_lines}
 
 -- the arguments of a fetch that goes on, where they are requested
 pub next_reported : (called failed unwritten : Bool) (last : Option (ℕ × ℕ)) (wants : Wants) (a b : BytesWritten)
@@ -32,31 +32,46 @@ none_reported : (lines : List (List ℕ)) (a b : BytesWritten) → lines ≡ [] 
 none_reported _ _ _ is (none now) = refl
 none_reported _ _ _ is (one line lines old now new tells rest) = absurd (let bad : line ∷ lines ≡ [] = is in cc bad)
 
-pub end_reported : (end : FetchEnd) (old new : Wants) (records : List Numbered) (a d : BytesWritten)
+end_reported : (end : FetchEnd) (old new : Wants) (records : List Numbered) (a d : BytesWritten)
     → HasReported false old new records → ReportsOfAll false end records old new a d → ReportsOfFetch end a d
 end_reported end old new records a d reported all =
     let first : all.reported ≡ a =
     none_reported (lines_of (reporting_of old false) records) a all.reported (nothing_reported old new records reported)
     all.lines in
     let last : d ≡ all.ended = none_reported [] all.ended d refl all.next in
-    subst (λ (x : BytesWritten). ReportsOfFetch end a x) (sym last)
-    (subst (λ (x : BytesWritten). ReportsOfFetch end x all.ended) first all.end_line)
+    rw (← last) at (subst (λ (x : BytesWritten). ReportsOfFetch end x all.ended) first all.end_line)
+
+pub end_alone : (end : FetchEnd) (firsts : Bool) (status : ℕ) (old new : Listening) (o p a d : BytesWritten)
+    → FetchesAll end firsts status old new o p a d → IsQuiet firsts old.talk.holes status a d
+end_alone end firsts status old new o p a d f uncalled plain =
+    let records : List Numbered = f.fetched.records in
+    let before : Wants = old.talk.wants in
+    let after : Wants = new.talk.wants in (
+      end,
+      f.status_is,
+      end_reported end before after records a d
+          (subst (λ (h : Bool). HasReported h before after records) plain f.fetched.reported)
+          (subst (λ (t : Bool). ReportsOfAll t end records before after a d) uncalled f.reports),
+    )
 
 -- all that is reported
-pub all_reported : (firsts : Bool) (end : FetchEnd) (old new : Listening) (t u : Reporting) (o p a b c d : BytesWritten)
-    (f : FetchesReporting end old new (outputs o a t) (outputs p b u)) → t ≡ reporting_of old.talk.wants firsts
-    → ReportsOfFetch end b c → AreReported (next_lines firsts (wants_left (is_unwritten end) u.last new.talk.wants)) c d
-    → ReportsOfAll firsts end f.fetched.records old.talk.wants new.talk.wants a d
-all_reported firsts end old new t u o p a b c d f begun ended next =
+pub all_fetched : (firsts : Bool) (end : FetchEnd) (status : ℕ) (old new : Listening) (t u : Reporting)
+    (o p a b c d : BytesWritten) → FetchesReporting end old new (outputs o a t) (outputs p b u)
+    → t ≡ reporting_of old.talk.wants firsts → status ≡ fetch_status end → ReportsOfFetch end b c
+    → AreReported (next_lines firsts (wants_left (is_unwritten end) u.last new.talk.wants)) c d
+    → FetchesAll end firsts status old new o p a d
+all_fetched firsts end status old new t u o p a b c d f begun is ended next =
     let records : List Numbered = f.fetched.records in
     let first : Reporting = reporting_of old.talk.wants firsts in
     let beyond : u ≡ reporting_after first records =
     f.handed_over.reporting ∙ ap (λ (x : Reporting). reporting_after x records) begun in record {
-      reported = b;
-      ended = c;
-      lines = subst (λ (x : Reporting). AreReported (lines_of x records) a b) begun f.handed_over.lines;
-      end_line = ended;
-      next = subst (λ (x : Reporting). AreReported (next_lines firsts
-          (wants_left (is_unwritten end) x.last new.talk.wants)) c
-          d) beyond next;
+      fetched = f.fetched;
+      status_is = is;
+      reports = record {
+        reported = b;
+        ended = c;
+        lines = subst (λ (x : Reporting). AreReported (lines_of x records) a b) begun f.handed_over.lines;
+        end_line = ended;
+        next = rw beyond at next;
+      };
     }

@@ -1,8 +1,7 @@
 -- Turns with a link, one after another, and links one after another.
 use Rattle.std.proofs.Common.{Bool, ◌≡◌, ◌⊎◌, ℕ, ◌+◌, ◌<◌, ◌≤◌, inl, inr, refl, sym, ap, subst, ◌∙◌, arith, List, []}
-use Rattle.std.proofs.Common.{◌∷◌}
-use Rattle.std.proofs.Common.{◌++◌, append_assoc, append-nil, length, length-append, take, Option, Some, None, Result}
-use Rattle.std.proofs.Common.{Ok, Err}
+use Rattle.std.proofs.Common.{◌∷◌, ◌++◌, append_assoc, append-nil, length, length-append, take, Option, Some, None}
+use Rattle.std.proofs.Common.{Result, Ok, Err}
 use Rattle.mseed_stream.specs.Device.{BytesRead, IsPrefixOf, BytesWritten, nothing_read, nothing_written}
 use Rattle.mseed_stream.specs.Exchanges.{Exchange, exchange}
 use Rattle.slink_feed.specs.declared.dialogue.Ending.{Ending}
@@ -17,9 +16,8 @@ use Rattle.slink_feed.specs.declared.turn.Turn.{Turn}
 use Rattle.slink_feed.specs.Delivered.{Numbered}
 use Rattle.slink_feed.specs.Dialogue.{Talk, Wants, requests_place, to_place, want_at}
 use Rattle.slink_feed.specs.Fetching.{Delivers, FailsToWriteLine, FailsToWrite, Fetches, Fetching, IsFetchFault}
-use Rattle.slink_feed.specs.Fetching.{ReadsOn}
-use Rattle.slink_feed.specs.Fetching.{TakesTurn, bytes_reported}
-use Rattle.slink_feed.specs.Fetching.{fetching, line_written, lines_written, record_reported, turn_after, turn_of}
+use Rattle.slink_feed.specs.Fetching.{ReadsOn, TakesTurn, bytes_reported, fetching, line_written, lines_written}
+use Rattle.slink_feed.specs.Fetching.{record_reported, turn_after, turn_of}
 use Rattle.slink_feed.specs.Listening.{IsLinked, Listening, Reads}
 use Rattle.slink_feed.specs.Reported.{HasReported, bytes_in, record_in, records_reported}
 use Rattle.slink_feed.specs.Turns.{Emitted, EmittedPrefix}
@@ -28,12 +26,9 @@ use Rattle.slink_feed.proofs.Deliveries.{on_both, on_none}
 use Rattle.slink_feed.proofs.Numbers.{kept_place}
 use Rattle.slink_feed.proofs.OneReading as one
 use Rattle.slink_feed.proofs.Reporting.{all_taken, line_alone, record_alone, record_bytes, handed_over_both}
-use Rattle.slink_feed.proofs.Reporting.{handed_over_none}
-use Rattle.slink_feed.proofs.Reporting.{takes_both, takes_none}
+use Rattle.slink_feed.proofs.Reporting.{handed_over_none, takes_both, takes_none}
 use Rattle.slink_feed.proofs.ReportedOver.{bytes_both, records_both, kept_link, reported_both, reported_far}
-use Rattle.slink_feed.proofs.ReportedOver.{reported_link}
-use Rattle.slink_feed.proofs.ReportedOver.{reported_none}
-use Rattle.slink_feed.proofs.ReportedOver.{wants_written}
+use Rattle.slink_feed.proofs.ReportedOver.{reported_link, reported_none, wants_written}
 use Rattle.slink_links.specs.declared.fetching.FetchEnd.{FetchEnd}
 use Rattle.slink_links.specs.declared.fetching.FetchEnd.TheVariants.{Done, Refused, BadFeed, WriteFailed, LinkFailed}
 use Rattle.slink_links.specs.Fetched.{AreTaken, HasFetched, HasReadEach, HasReadLink, HasReadLinks, HasTurned}
@@ -96,8 +91,7 @@ left_unwritten es e n old new emitted beyond =
 same_by_none : (old new : Listening) (reported : List Event) → IsReading old → ReadsOn old [] reported new → new ≡ old
 same_by_none old new reported reading on =
     let again : Reads reading.0 reading.1 (reading.2 ++ reported) new =
-    subst (λ s. Reads reading.0 s (reading.2 ++ reported) new) (append-nil reading.1)
-    (on reading.0 reading.1 reading.2 reading.3) in
+    rw (append-nil reading.1) at (on reading.0 reading.1 reading.2 reading.3) in
     sym (one.one_reading reading.0 reading.1 reading.2 (reading.2 ++ reported) old new reading.3 again).1
 
 no_prefix : (xs ys : List ℕ) → IsPrefixOf xs ys → ys ≡ [] → xs ≡ []
@@ -182,8 +176,7 @@ unended_none : (old new : Listening) (bytes taken : List ℕ) (reported : List E
     → IsUnended new.talk.stage
 unended_none old new bytes taken reported reading unended on prefix none =
     let nothing : taken ≡ [] = no_prefix taken bytes prefix none in
-    subst (λ (now : Listening). IsUnended now.talk.stage)
-    (sym (same_by_none old new reported reading (subst (λ xs. ReadsOn old xs reported new) nothing on))) unended
+    rw (← (same_by_none old new reported reading (subst (λ xs. ReadsOn old xs reported new) nothing on))) at unended
 
 turned_ok : (turn : Turn) (old new : Listening) (s0 s1 w0 w1 : BytesWritten) (h0 h1 : BytesRead)
     → Fetches (fetching old s0 w0) (fetching new s1 w1) h0 h1 turn → IsReading old → IsLinked old.talk.stage
@@ -220,8 +213,7 @@ turned_err faults.Read old new s0 s1 w0 w1 h0 h1 f reading linked =
       reported = [];
       reads = subst (ReadsOn old [] []) (sym client) (on_none old);
       emitted = subst (TakesRecords [] w0) (sym output) (takes_none w0);
-      reached = inl (subst (λ (now : Listening). IsUnended now.talk.stage) (sym client)
-          (linked_unended old.talk.stage linked));
+      reached = inl (rw (← client) at (linked_unended old.talk.stage linked));
       failures = ap (λ (w : BytesWritten). w.failures) output ∙ omega arith;
     }
 turned_err (faults.Write n) old new s0 s1 w0 w1 h0 h1 f reading linked =
@@ -233,8 +225,7 @@ turned_err (faults.Write n) old new s0 s1 w0 w1 h0 h1 f reading linked =
           x.takes.prefix (λ goes. absurd (some_end LinkFailed goes));
       reported = x.reported ++ x.last ∷ [];
       reads = x.takes.reads;
-      emitted = subst (λ rs. TakesRecords rs w0 w1) (sym (unwritten_none x.reported x.last n x.failing.part x.beyond))
-          (all emitted);
+      emitted = rw (unwritten_none x.reported x.last n x.failing.part x.beyond) (all emitted);
       reached = inl (linked_unended new.talk.stage x.linked);
       failures = emitted.failures ∙ omega arith;
     }
@@ -285,8 +276,7 @@ reached_on : (end : Option FetchEnd) (a b c : Listening) → IsLinked b.talk.sta
 reached_on (Some LinkFailed) a b c linked reached =
     elim reached [
       | inl now ↦ inl now
-      | inr same ↦ inl (subst (λ (now : Listening). IsUnended now.talk.stage) (sym same)
-          (linked_unended b.talk.stage linked))
+      | inr same ↦ inl (rw (← same) at (linked_unended b.talk.stage linked))
     ]
 reached_on end a b c linked reached = reached
 
@@ -330,8 +320,7 @@ written_linked t (Some w) = tt
 
 pub connected_linked : (old : Talk) (new : Talk) (event : Event) → requests_place 0 old ≡ (new, event)
     → IsLinked new.stage
-connected_linked old new event says =
-    subst (λ (t : Talk). IsLinked t.stage) (ap (λ p. p.0) says) (written_linked old (want_at old.wants 0))
+connected_linked old new event says = rw (ap (λ p. p.0) says) at (written_linked old (want_at old.wants 0))
 
 connected_unended : (old : Talk) (new : Talk) (event : Event) → requests_place 0 old ≡ (new, event)
     → IsUnended new.stage
@@ -469,40 +458,18 @@ pub reads_none : (now : Listening) (links : List Exchange) (written : BytesWritt
     → HasReadEach LinkFailed now now links links written written
 reads_none now links written = record { links = []; given_back = sym (append-nil links); read = over_none now written }
 
-links_both : (end : FetchEnd) (a b c : Listening) (some others : List Exchange) (s t u : BytesWritten)
+-- some and then others
+pub links_both : (end : FetchEnd) (a b c : Listening) (some others : List Exchange) (s t u : BytesWritten)
     → HasReadLinks LinkFailed a b some s t → HasReadLinks end b c others t u → HasReadLinks end a c (some ++ others) s u
 links_both end _ _ c _ others _ _ u (over_none now written) q = q
 links_both end _ _ c _ others _ _ u (over_one_more _ a now b link links s r t p ps) q =
     over_one_more end a now c link (links ++ others) s r u p (links_both end now b c links others r t u ps q)
 links_both end _ _ c _ others _ _ u (over_the_last _ a b link s t p) q = over_one_more end a b c link others s t u p q
 
--- some and then others
-pub reads_both : (end : FetchEnd) (a b c : Listening) (before now after : List Exchange) (s t u : BytesWritten)
-    → HasReadEach LinkFailed a b before now s t → HasReadEach end b c now after t u
-    → HasReadEach end a c before after s u
-reads_both end a b c before now after s t u p q = record {
-  links = p.links ++ q.links;
-  given_back = q.given_back ∙ (ap (λ xs. xs ++ q.links) p.given_back ∙ append_assoc before p.links q.links);
-  read = links_both end a b c p.links q.links s t u p.read q.read;
-}
-
 -- a new link that was fetched over
 pub was_over : (a b : Listening) (h h' : BytesRead) (written written' s t : BytesWritten) (end : FetchEnd)
     → h ≡ nothing_read → written ≡ nothing_written → HasReadLink a b h h' s t
     → IsFetchedOver (fetching a written s) h end (fetching b written' t) h'
     → WasFetchedOver end a b (exchange h' written') s t
-was_over a b h h' written written' s t end unread unwritten is over = record {
-  read = subst (λ (x : BytesRead). HasReadLink a b x h' s t) unread is;
-  turns = subst (λ (x : BytesRead). IsFetchedOver (fetching a nothing_written s) x end (fetching b written' t) h')
-      unread
-      (subst (λ (x : BytesWritten). IsFetchedOver (fetching a x s) h end (fetching b written' t) h') unwritten over);
-}
-
-pub reads_one : (a b : Listening) (before after : List Exchange) (s t : BytesWritten) (end : FetchEnd)
-    (link : Exchange) → WasFetchedOver end a b link s t → after ≡ before ++ link ∷ []
-    → HasReadEach end a b before after s t
-reads_one a b before after s t end link over given = record {
-  links = link ∷ [];
-  given_back = given;
-  read = over_the_last end a b link s t over;
-}
+was_over a b h h' written written' s t end unread unwritten is over =
+    record { read = rw unread at is; turns = rw (unread, unwritten) at over }

@@ -4,7 +4,7 @@ use Rattle.std.proofs.Common.{◌≡◌, ◌⊎◌, inl, inr, ℕ, ◌+◌, ◌<
 use Rattle.std.proofs.Common.{[], ◌∷◌, ◌++◌, append-nil, append_assoc, Result, Ok, Err, refl, sym, ap, subst, ◌∙◌}
 use Rattle.std.proofs.Common.{arith}
 use Rattle.std.proofs.lemmas.List.Elements.{All-append, All-cons}
-use Rattle.std.specs.Result.{IsErrAnd, is_ok}
+use Rattle.std.specs.Result.{is_ok}
 use Rattle.mseed_stream.specs.Device.{BytesRead, BytesWritten, nothing_read, nothing_written}
 use Rattle.mseed_stream.specs.Exchanges.{Exchange, exchange}
 use Rattle.slink_feed.specs.Attending.{Attends, IsServeFault, attending, is_closed, is_at_end, replies, at_send}
@@ -95,8 +95,8 @@ pub serving_none : (feed : List Window) (h : BytesRead) (s : BytesWritten) (firs
     → IsServing feed 0 h h s s first
 serving_none feed h s first fresh = record { first = first; fresh = fresh; taken = none }
 
-pub serving_more : (feed : List Window) (n : ℕ) (h0 h1 h2 : BytesRead) (s0 s1 s2 : BytesWritten) (now new : SessionState)
-    → IsServing feed n h0 h1 s0 s1 now
+pub serving_more : (feed : List Window) (n : ℕ) (h0 h1 h2 : BytesRead) (s0 s1 s2 : BytesWritten)
+    (now new : SessionState) → IsServing feed n h0 h1 s0 s1 now
     → (turn : Turn) → Attends feed (attending now s1) (attending new s2) h1 h2 turn → turn ≡ Turn.Goes
     → IsServing feed (n + 1) h0 h2 s0 s2 new
 serving_more feed n h0 h1 h2 s0 s1 s2 now new p turn a goes = record {
@@ -142,7 +142,7 @@ served_for_long feed n h0 h1 s0 s1 now all p = record {
   fresh = p.fresh;
   last = now;
   turns = for_long tt (attending now s1) h1
-      (subst (λ (k : ℕ). HasTakenTurns feed (attending p.first s0) h0 k (attending now s1) h1) all p.taken);
+      (rw all at p.taken);
 }
 
 pub served_to_a_fault : (feed : List Window) (n : ℕ) (h0 h1 h2 : BytesRead) (s0 s1 s2 : BytesWritten)
@@ -155,14 +155,6 @@ served_to_a_fault feed n h0 h1 h2 s0 s1 s2 now last fault few p a = record {
   last = last;
   turns = to_a_fault fault n (attending now s1) (attending last s2) h1 h2 few p.taken a;
 }
-
--- an error that is passed on
-pub served_by_err : (feed : List Window) (r : Result ⊤ LinkFault) (Q : LinkFault → Type 0) (fault : LinkFault)
-    (h h' : BytesRead) (s s' : BytesWritten) → IsErrAnd r Q → ((e : LinkFault) → Q e → e ≡ fault)
-    → IsServed feed (Err fault) h h' s s' → IsServed feed r h h' s s'
-served_by_err feed (Ok u) Q fault h h' s s' is q p = absurd is
-served_by_err feed (Err e) Q fault h h' s s' is q p =
-    subst (λ (f : LinkFault). IsServed feed (Err f) h h' s s') (sym (q e is)) p
 
 -- how many were lost by it
 pub lost_by : (fine : Bool) → ◌≡◌ {A = ℕ} (if not fine then 1 else 0) (if fine then 0 else 1)
@@ -190,11 +182,7 @@ each_one feed a b link e served = record {
 -- a new link
 pub served_first : (feed : List Window) (result : Result ⊤ LinkFault) (h h' : BytesRead) (s s' : BytesWritten)
     → h ≡ nothing_read → s ≡ nothing_written → IsServed feed result h h' s s' → WasServed feed (exchange h' s')
-served_first feed result h h' s s' unread unwritten is = (
-  result,
-  subst (λ (x : BytesRead). IsServed feed result x h' nothing_written s') unread
-      (subst (λ (x : BytesWritten). IsServed feed result h h' x s') unwritten is),
-)
+served_first feed result h h' s s' unread unwritten is = (result, rw (unread, unwritten) at is)
 
 -- some and then others
 pub each_both : (feed : List Window) (a b c : List Exchange) → HasServedEach feed a b → HasServedEach feed b c

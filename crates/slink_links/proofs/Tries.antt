@@ -12,9 +12,11 @@ use Rattle.slink_feed.specs.Turns.{Emitted}
 use Rattle.slink_feed.proofs.ReportedOver.{reported_link}
 use Rattle.slink_links.specs.declared.fetching.FetchEnd.{FetchEnd}
 use Rattle.slink_links.specs.declared.fetching.FetchEnd.TheVariants.{LinkFailed}
-use Rattle.slink_links.specs.Fetched.{Calls, HasBrought, HasFetched, HasPaused, HasTried, HaveFailed, WasFetchedOver}
-use Rattle.slink_links.specs.Fetched.{dialled, none, one_more, output_failures, tried, undialled}
+use Rattle.slink_links.specs.Fetched.{Calls, HasBrought, HasFetched, HasPaused, HasReadEach, HasReadLinks, HasTried}
+use Rattle.slink_links.specs.Fetched.{HaveFailed, IsTry, WasFetchedOver, dialled, none, one_more, output_failures}
+use Rattle.slink_links.specs.Fetched.{over_none, over_the_last, tried, undialled}
 use Rattle.slink_links.specs.Pauses.{pause_after, pauses_from, pauses_since}
+use Rattle.slink_links.proofs.Fetches.{links_both}
 use Rattle.slink_feed.proofs.Reporting.{all_taken}
 
 -- after how many pauses the next one comes
@@ -118,6 +120,32 @@ pub few_counted : (old now : Listening) (a b : BytesWritten) (before after : Cal
     → AreTried old now a b before after count → before.dials + count ≤ after.dials
 few_counted old now a b before after count p = omega (arith, p.counted, p.dials, after_most 0 p.tries)
 
+given_both : (a b c ps qs : List Exchange) → b ≡ a ++ ps → c ≡ b ++ qs → c ≡ a ++ (ps ++ qs)
+given_both a b c ps qs p q = q ∙ (ap (λ xs. xs ++ qs) p ∙ append_assoc a ps qs)
+
+-- The links of a try were fetched over, and so were those of tries that failed.
+links_tried : (end : FetchEnd) (received : Bool) (old new : Listening) (links : List Exchange) (a b : BytesWritten)
+    → IsTry end received old new a b links → HasReadLinks end old new links a b
+links_tried end received old new _ a b (undialled is quiet same kept) = rw (is, same, kept) (over_none old a)
+links_tried end received old new _ a b (dialled link over brought) = over_the_last end old new link a b over
+
+links_failed : (tries : List Bool) (old now : Listening) (links : List Exchange) (a b : BytesWritten)
+    → HaveFailed tries old now links a b → HasReadLinks LinkFailed old now links a b
+links_failed _ _ _ _ _ _ (none now written) = over_none now written
+links_failed _ _ _ _ _ _ (one_more tries received old now new links others a b c before last) =
+    links_both LinkFailed old now new links others a b c (links_failed tries old now links a b before)
+    (links_tried LinkFailed received now new others b c last)
+
+pub reads_tried : (end : FetchEnd) (received : Bool) (old now new : Listening) (a b c : BytesWritten)
+    (before mid : Calls) (after : List Exchange) (count : ℕ) → AreTried old now a b before mid count
+    → HasTried end received now new mid.given_back after b c → HasReadEach end old new before.given_back after a c
+reads_tried end received old now new a b c before mid after count p q = record {
+  links = p.links ++ q.links;
+  given_back = given_both before.given_back mid.given_back after p.links q.links p.given_back q.given_back;
+  read = links_both end old now new p.links q.links a b c (links_failed p.tries old now p.links a b p.failed)
+      (links_tried end received now new q.links b c q.tried);
+}
+
 pub tried_more : (received : Bool) (old now new : Listening) (a b c : BytesWritten) (before mid after : Calls)
     (count next : ℕ) → AreTried old now a b before mid count
     → HasTried LinkFailed received now new mid.given_back after.given_back b c → after.dials ≡ mid.dials + 1
@@ -128,8 +156,7 @@ tried_more received old now new a b c before mid after count next p q dials call
   links = p.links ++ q.links;
   failed = one_more p.tries received old now new p.links q.links a b c p.failed q.tried;
   dials = omega (arith, dials, p.dials, length-append p.tries (received ∷ []));
-  given_back = q.given_back ∙ (ap (λ xs. xs ++ q.links) p.given_back
-      ∙ append_assoc before.given_back p.links q.links);
+  given_back = given_both before.given_back mid.given_back after.given_back p.links q.links p.given_back q.given_back;
   called = called ∙ (ap (λ xs. xs ++ pause_after (pauses_since received count) ∷ []) p.called
       ∙ (append_assoc before.called (pauses_from 0 p.tries) (pause_after (pauses_since received count) ∷ [])
       ∙ ap (λ xs. before.called ++ xs)
@@ -145,5 +172,5 @@ pub tried_last : (end : FetchEnd) (received : Bool) (old now new : Listening) (a
 tried_last end received old now new a b c before mid after count p q dials called =
     tried p.tries received now b p.links q.links p.failed q.tried
     (omega (arith, dials, p.dials))
-    (q.given_back ∙ (ap (λ xs. xs ++ q.links) p.given_back ∙ append_assoc before.given_back p.links q.links))
+    (given_both before.given_back mid.given_back after.given_back p.links q.links p.given_back q.given_back)
     (called ∙ p.called)

@@ -1,7 +1,6 @@
 -- How fetching over one link after another ends, and what the output accepted by then.
 use Rattle.std.specs.Prelude.{◌≡◌, ◌⊎◌, ℕ, ◌+◌, ◌%◌, ◌^◌, ◌<◌, ◌≤◌, Bool, true, false, List, ◌∷◌, ◌++◌, [], length}
-use Rattle.std.specs.Prelude.{Option, Some, None}
-use Rattle.std.specs.Prelude.{Result, Ok, Err, codes}
+use Rattle.std.specs.Prelude.{Option, Some, None, Result, Ok, Err, codes}
 use Rattle.mseed_stream.specs.Device.{BytesRead, IsPrefixOf, BytesWritten, nothing_read, nothing_written}
 use Rattle.mseed_stream.specs.Exchanges.{Exchange}
 use Rattle.slink_feed.specs.declared.dialogue.Ending.{Ending}
@@ -118,6 +117,19 @@ pub record ReportsOfAll (firsts : Bool) (end : FetchEnd) (records : List Numbere
   pub lines : AreReported (lines_of (reporting_of old firsts) records) before reported
   pub end_line : ReportsOfFetch end reported ended
   pub next : AreReported (next_lines firsts (wants_at_end firsts end records old new)) ended after
+
+-- Links were fetched over, up to an end: what the client reported went to the output, and the status and the lines on
+-- standard error are by the end.
+pub record FetchesAll (end : FetchEnd) (firsts : Bool) (status : ℕ) (old new : Listening)
+    (written_old written_new reported_old reported_new : BytesWritten) : Type 0 where
+  pub fetched : HasFetched end old new written_old written_new
+  pub status_is : status ≡ fetch_status end
+  pub reports : ReportsOfAll firsts end fetched.records old.talk.wants new.talk.wants reported_old reported_new
+
+-- Where nothing more is requested, standard error takes the line of the end alone.
+abbrev pub IsQuiet : Bool → Bool → ℕ → BytesWritten → BytesWritten → Type 0
+IsQuiet firsts holes status old new = firsts ≡ false → holes ≡ false
+    → (end : FetchEnd) × (status ≡ fetch_status end) × ReportsOfFetch end old new
 
 -- how a fetch ends by the event at which a client stopped
 abbrev pub stopped_by : Event → FetchEnd
@@ -288,3 +300,11 @@ pub data HasPaused (end : FetchEnd) (old new : Listening) (a b : BytesWritten) (
       → after.dials ≡ before.dials + length tries + 1
       → after.given_back ≡ before.given_back ++ (links ++ others)
       → after.called ≡ before.called ++ pauses_from 0 tries → HasPaused end old new a b before after
+
+-- The devices of a fetch were called so, up to an end: so many tries were made at most, each link that was had was
+-- fetched over and given back, and between the tries was paused.
+pub record HasCalled (end : FetchEnd) (tries : ℕ) (old new : Listening) (written_old written_new : BytesWritten)
+    (before after : Calls) : Type 0 where
+  pub dialled : HasDialled end tries before.dials after.dials
+  pub read : HasReadEach end old new before.given_back after.given_back written_old written_new
+  pub paused : HasPaused end old new written_old written_new before after

@@ -1,5 +1,5 @@
 //! Fetching records over one link after another.
-ghost use Rattle.std.specs.Prelude.{◌≡◌, ◌+◌, ◌≤◌, false, length};
+ghost use Rattle.std.specs.Prelude.{◌≡◌, ◌+◌, ◌≤◌, length};
 ghost use Rattle.slink_feed.specs.declared.dialogue.Ending.{Ending};
 ghost use Rattle.slink_feed.specs.declared.dialogue.Stage.{Stage};
 ghost use Rattle.slink_feed.specs.Fetching.{Notes, fetching};
@@ -9,7 +9,7 @@ ghost use Rattle.slink_feed.specs.Reporter.{AreReported, wants_left};
 ghost use Rattle.slink_links.specs.Fetched.{HasDialled, HasFetched, HasReadEach, HasReadLink, HasTakenAll, HasTurned};
 ghost use Rattle.slink_links.specs.Out.{AreOut};
 ghost use Rattle.slink_links.specs.Fetched.{HasPaused, IsFetchedOver, IsReading, IsTurnBy, ReportsOfFetch, calls_of};
-ghost use Rattle.slink_links.specs.Fetched.{FetchesReporting, HasTried, ReportsOfAll};
+ghost use Rattle.slink_links.specs.Fetched.{FetchesAll, FetchesReporting, HasCalled, HasTried, IsQuiet};
 ghost use Rattle.slink_links.specs.Fetched.{end_by, fetch_status, is_unwritten, next_lines, stopped_by};
 
 use crate::dial::Dial;
@@ -61,20 +61,12 @@ pub fn fetch_all<D: Dial, P: Pause, W: Sink, E: Sink>(
     // fetched over before it was given back, one after another, and all but the last one failed. Between the tries it
     // paused, by which of them brought a record.
     ensures end { (end : FetchEnd)
-        × (fetched : HasFetched end client.old client.new (W.written output.old) (W.written output.new))
-        × HasDialled end tries (D.calls dialler.old) (D.calls dialler.new)
-        × HasReadEach end client.old client.new (D.given_back dialler.old) (D.given_back dialler.new)
-        (W.written output.old) (W.written output.new)
-        × (result ≡ fetch_status end)
-        × ReportsOfAll report_next end fetched.records client.old.talk.wants client.new.talk.wants
+        × FetchesAll end report_next result client.old client.new (W.written output.old) (W.written output.new)
         (E.written errors.old) (E.written errors.new)
-        × HasPaused end client.old client.new (W.written output.old) (W.written output.new)
+        × HasCalled end tries client.old client.new (W.written output.old) (W.written output.new)
         (calls_of (D.calls dialler.old) (D.given_back dialler.old) (P.called waits.old))
         (calls_of (D.calls dialler.new) (D.given_back dialler.new) (P.called waits.new)) }
-    // Where nothing more is requested, standard error takes the line of the end alone.
-    ensures quiet { report_next ≡ false → client.old.talk.holes ≡ false
-        → (end : FetchEnd) × (result ≡ fetch_status end)
-        × ReportsOfFetch end (E.written errors.old) (E.written errors.new) }
+    ensures quiet { IsQuiet report_next client.old.talk.holes result (E.written errors.old) (E.written errors.new) }
     // Each link was given back before the next one was dialled.
     ensures out { AreOut 0 (D.calls dialler.new) (D.failures dialler.new) (D.given_back dialler.new) }
 {
@@ -183,8 +175,6 @@ fn try_link<D: Dial, W: Sink, E: Sink>(
         (outputs (W.written output.new) (E.written errors.new) reporter.new.reporting) }
     ensures dialled { D.calls dialler.new ≡ D.calls dialler.old + 1 }
     ensures out { AreOut 0 (D.calls dialler.new) (D.failures dialler.new) (D.given_back dialler.new) }
-    ensures read { HasReadEach result.0 client.old client.new (D.given_back dialler.old) (D.given_back dialler.new)
-        (W.written output.old) (W.written output.new) }
     ensures tried { HasTried result.0 result.1 client.old client.new (D.given_back dialler.old)
         (D.given_back dialler.new) (W.written output.old) (W.written output.new) }
 {

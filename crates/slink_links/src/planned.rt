@@ -1,9 +1,8 @@
 //! From a plan to the loop over links.
-ghost use Rattle.std.specs.Prelude.{◌≡◌, ◌+◌, ◌≤◌, ◌↔◌, false};
+ghost use Rattle.std.specs.Prelude.{◌≡◌, ◌+◌, ◌≤◌, ◌↔◌};
 ghost use Rattle.slink_feed.specs.declared.dialogue.Ending.{Ending};
 ghost use Rattle.slink_feed.specs.declared.dialogue.Stage.{Stage};
-ghost use Rattle.slink_links.specs.Fetched.{HasDialled, HasFetched, HasPaused, HasReadEach, ReportsOfAll, calls_of};
-ghost use Rattle.slink_links.specs.Fetched.{ReportsOfFetch, fetch_status};
+ghost use Rattle.slink_links.specs.Fetched.{FetchesAll, HasCalled, IsQuiet, calls_of};
 ghost use Rattle.slink_links.specs.Out.{AreOut};
 ghost use Rattle.slink_links.specs.Served.{HasServed, HasServedEach};
 
@@ -45,20 +44,13 @@ pub fn fetch_planned<D: Dial, P: Pause, W: Sink, E: Sink>(
     ensures dials { D.calls dialler.new ≤ D.calls dialler.old + plan.old.tries }
     ensures done { result ≡ 0 → plan.new.client.talk.stage ≡ Stage.Ended Ending.End }
     ensures end { (end : FetchEnd)
-        × (fetched : HasFetched end plan.old.client plan.new.client (W.written output.old) (W.written output.new))
-        × HasDialled end plan.old.tries (D.calls dialler.old) (D.calls dialler.new)
-        × HasReadEach end plan.old.client plan.new.client (D.given_back dialler.old) (D.given_back dialler.new)
-        (W.written output.old) (W.written output.new)
-        × (result ≡ fetch_status end)
-        × ReportsOfAll plan.old.report_next end fetched.records plan.old.client.talk.wants plan.new.client.talk.wants
-        (E.written errors.old) (E.written errors.new)
-        × HasPaused end plan.old.client plan.new.client (W.written output.old) (W.written output.new)
+        × FetchesAll end plan.old.report_next result plan.old.client plan.new.client (W.written output.old)
+        (W.written output.new) (E.written errors.old) (E.written errors.new)
+        × HasCalled end plan.old.tries plan.old.client plan.new.client (W.written output.old) (W.written output.new)
         (calls_of (D.calls dialler.old) (D.given_back dialler.old) (P.called waits.old))
         (calls_of (D.calls dialler.new) (D.given_back dialler.new) (P.called waits.new)) }
-    // Where nothing more is requested, standard error takes the line of the end alone.
-    ensures quiet { plan.old.report_next ≡ false → plan.old.client.talk.holes ≡ false
-        → (end : FetchEnd) × (result ≡ fetch_status end)
-        × ReportsOfFetch end (E.written errors.old) (E.written errors.new) }
+    ensures quiet { IsQuiet plan.old.report_next plan.old.client.talk.holes result (E.written errors.old)
+        (E.written errors.new) }
     ensures out { AreOut 0 (D.calls dialler.new) (D.failures dialler.new) (D.given_back dialler.new) }
 {
     let tries = u64::from(plan.tries);

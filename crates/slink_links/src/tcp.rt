@@ -1,8 +1,8 @@
 //! Links over TCP.
-ghost use Rattle.std.specs.Prelude.{◌≡◌, false, IfOk};
+ghost use Rattle.std.specs.Prelude.{◌≡◌, IfOk};
 ghost use Rattle.mseed_stream.specs.Counted.{read_by, written_by};
 ghost use Rattle.mseed_stream.specs.Device.{nothing_read, nothing_written};
-ghost use Rattle.slink_links.specs.Fetched.{HasFetched, ReportsOfAll, ReportsOfFetch, fetch_status};
+ghost use Rattle.slink_links.specs.Fetched.{FetchesAll, IsQuiet};
 ghost use Rattle.slink_links.specs.Out.{AreOut};
 ghost use Rattle.slink_links.specs.Served.{HasServed};
 
@@ -341,14 +341,10 @@ pub fn fetch<N: Net + Clock, W: Sink, E: Sink>(
     errors: &mut E,
 ) -> u8
     ensures end { (end : FetchEnd)
-        × (fetched : HasFetched end plan.old.client plan.new.client (W.written output.old) (W.written output.new))
-        × (result ≡ fetch_status end)
-        × ReportsOfAll plan.old.report_next end fetched.records plan.old.client.talk.wants plan.new.client.talk.wants
-        (E.written errors.old) (E.written errors.new) }
-    // Where nothing more is requested, standard error takes the line of the end alone.
-    ensures quiet { plan.old.report_next ≡ false → plan.old.client.talk.holes ≡ false
-        → (end : FetchEnd) × (result ≡ fetch_status end)
-        × ReportsOfFetch end (E.written errors.old) (E.written errors.new) }
+        × FetchesAll end plan.old.report_next result plan.old.client plan.new.client (W.written output.old)
+        (W.written output.new) (E.written errors.old) (E.written errors.new) }
+    ensures quiet { IsQuiet plan.old.report_next plan.old.client.talk.holes result (E.written errors.old)
+        (E.written errors.new) }
 {
     let mut dialler = Dialler::new(net, plan.host, plan.port, plan.timeout);
     let mut sleeper = Sleeper::new(net);

@@ -1,24 +1,19 @@
-use Rattle.std.proofs.Common.{◌≡◌, ◌+◌, ℕ, None, Some, arith, subst}
-use Rattle.slink_feed.specs.Fetching.{Fetching, fetching}
-use Rattle.slink_links.specs.Fetched.{HasTakenTurns, for_long, more, none, to_the_end}
+use Rattle.std.proofs.Common.{◌≡◌, ◌+◌, ◌^◌, ℕ, None, Some, arith}
+use Rattle.slink_links.specs.Fetched.{for_long, more, none, to_the_end}
 use Rattle.slink_links.proofs.Fetches.{turn_to, turned_both, turned_none, turned_out, turned_reading, turned_to}
 use Rattle.slink_feed.proofs.Reporting.{noted_both, noted_none}
 use Rattle.slink_links.proofs.fetching.take_turns.Goals as goal
 
 pub loop-turn-init : goal.loop-turn-init
 loop-turn-init g c = record {
-  turned = turned_none c.args.client.now (g.S.Source.read c.args.link.now) (g.W.Sink.written c.args.output.now)
-      c.requires.linked;
+  turned = turned_none _ _ _ c.requires.linked;
   taken = none;
-  noted = noted_none c.args.client.now.talk c.args.reporter.now (g.W.Sink.written c.args.output.now)
-      (g.E.Sink.written c.args.errors.now);
+  noted = noted_none _ _ _ _;
 }
 
 pub take_turn-requires-clause-reading : goal.take_turn-requires-clause-reading
 take_turn-requires-clause-reading g c =
-    turned_reading None c.args.client.now c.loop-turn.client (g.S.Source.read c.args.link.now)
-    (g.S.Source.read c.loop-turn.link) (g.W.Sink.written c.args.output.now)
-    (g.W.Sink.written c.loop-turn.output) c.requires.reading c.loop-turn.invariant.turned
+    turned_reading _ _ _ _ _ _ _ c.requires.reading c.loop-turn.invariant.turned
 
 pub returns-in-Some-clause-turned : goal.returns-in-Some-clause-turned
 returns-in-Some-clause-turned g c =
@@ -50,17 +45,9 @@ loop-turn-preserved g c = record {
 
 pub returns-clause-turned : goal.returns-clause-turned
 returns-clause-turned g c =
-    turned_out c.args.client.now c.loop-turn.client (g.S.Source.read c.args.link.now)
-    (g.S.Source.read c.loop-turn.link) (g.W.Sink.written c.args.output.now) (g.W.Sink.written c.loop-turn.output)
-    c.loop-turn.invariant.turned
+    turned_out _ _ _ _ _ _ c.loop-turn.invariant.turned
 
 pub returns-clause-taken : goal.returns-clause-taken
 returns-clause-taken g c =
-    let first : Fetching = fetching c.args.client.now (g.S.Sink.written c.args.link.now)
-    (g.W.Sink.written c.args.output.now) in
-    let last : Fetching = fetching c.loop-turn.client (g.S.Sink.written c.loop-turn.link)
-    (g.W.Sink.written c.loop-turn.output) in
-    for_long last (g.S.Source.read c.loop-turn.link)
-    (subst (λ (k : ℕ). HasTakenTurns first (g.S.Source.read c.args.link.now) k last
-    (g.S.Source.read c.loop-turn.link))
-    (omega (arith, c.loop-turn-test.false, c.loop-turn.auto.turn-end)) c.loop-turn.invariant.taken)
+    let all : c.loop-turn.turn ≡ 2 ^ 40 = omega (arith, c.loop-turn-test.false, c.loop-turn.auto.turn-end) in
+    for_long _ _ (rw all at c.loop-turn.invariant.taken)

@@ -1,6 +1,5 @@
-use Rattle.std.proofs.Common.{◌≡◌, ◌∙◌, ◌++◌, ◌∷◌, [], ap, arith, false, length, length-append, not, subst, sym, true}
+use Rattle.std.proofs.Common.{◌≡◌, ◌∙◌, ◌++◌, ◌∷◌, [], ap, arith, false, length, length-append, not, true}
 use Rattle.mseed_stream.specs.Exchanges.{exchange}
-use Rattle.slink_links.specs.Served.{HasServedEach}
 use Rattle.slink_links.proofs.Serves.{each_none, each_one, failed_exactly, lost_by, lost_none, served_first}
 use Rattle.slink_links.proofs.serving.serve_next.Goals as goal
 
@@ -14,19 +13,13 @@ hang_up-requires g c = record {
     ap length c.in-Some.ensures.given_back,
   );
   reported = ap not c.is_ok-is_fine.ensures.value
-      ∙ failed_exactly c.args.feed.now c.serve_link.result (g.A.Link.Source.read c.in-Some.link)
-      (g.A.Link.Source.read c.serve_link.new.link)
-      (g.A.Link.Sink.written c.in-Some.link) (g.A.Link.Sink.written c.serve_link.new.link) c.in-Some.ensures.unread
-      c.in-Some.ensures.unwritten c.serve_link.ensures;
+      ∙ failed_exactly _ _ _ _ _ _ c.in-Some.ensures.unread c.in-Some.ensures.unwritten c.serve_link.ensures;
 }
 
 pub returns-in-Some : goal.returns-in-Some
 returns-in-Some g c =
-    let unread = c.in-Some.ensures.unread in
-    let unwritten = c.in-Some.ensures.unwritten in
-    let more = c.hang_up.ensures.given_back
-    ∙ ap (λ xs. xs ++ exchange (g.A.Link.Source.read c.serve_link.new.link)
-    (g.A.Link.Sink.written c.serve_link.new.link) ∷ []) c.in-Some.ensures.given_back in record {
+    let link = exchange (g.A.Link.Source.read c.serve_link.new.link) (g.A.Link.Sink.written c.serve_link.new.link) in
+    let more = c.hang_up.ensures.given_back ∙ ap (λ xs. xs ++ link ∷ []) c.in-Some.ensures.given_back in record {
       accepts = c.hang_up.ensures.calls ∙ c.in-Some.ensures.calls;
       fine = λ is. (
         omega (arith, c.hang_up.ensures.failures, c.in-Some.ensures.failures),
@@ -48,16 +41,10 @@ returns-in-Some g c =
         c.hang_up.ensures.failures,
         c.in-Some.ensures.calls,
         c.in-Some.ensures.failures,
-        ap length more ∙ length-append (g.A.Accept.given_back c.args.acceptor.now)
-            (exchange (g.A.Link.Source.read c.serve_link.new.link) (g.A.Link.Sink.written c.serve_link.new.link) ∷ []),
+        ap length more ∙ length-append (g.A.Accept.given_back c.args.acceptor.now) (link ∷ []),
       );
-      served = each_one c.args.feed.now (g.A.Accept.given_back c.args.acceptor.now)
-          (g.A.Accept.given_back c.hang_up.new.self)
-          (exchange (g.A.Link.Source.read c.serve_link.new.link) (g.A.Link.Sink.written c.serve_link.new.link)) more
-          (served_first c.args.feed.now c.serve_link.result (g.A.Link.Source.read c.in-Some.link)
-          (g.A.Link.Source.read c.serve_link.new.link)
-          (g.A.Link.Sink.written c.in-Some.link) (g.A.Link.Sink.written c.serve_link.new.link) unread unwritten
-          c.serve_link.ensures);
+      served = each_one _ _ _ link more
+          (served_first _ _ _ _ _ _ c.in-Some.ensures.unread c.in-Some.ensures.unwritten c.serve_link.ensures);
     }
 
 pub returns-in-None : goal.returns-in-None
@@ -72,6 +59,5 @@ returns-in-None g c = record {
     c.in-None.ensures.failures,
     ap length c.in-None.ensures.given_back,
   );
-  served = subst (HasServedEach c.args.feed.now (g.A.Accept.given_back c.args.acceptor.now))
-      (sym c.in-None.ensures.given_back) (each_none c.args.feed.now (g.A.Accept.given_back c.args.acceptor.now));
+  served = rw c.in-None.ensures.given_back (each_none _ _);
 }
