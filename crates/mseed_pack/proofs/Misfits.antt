@@ -1,15 +1,14 @@
 -- What is found of a series' samples.
 use Rattle.std.proofs.Common.{◌*◌, ◌%◌, ◌^◌, max, negsuc, FitsSigned, w32, of_z}
-use Rattle.std.proofs.Common.{◌≡◌, ◌↔◌, ◌<◌, ◌+◌, ℕ, zero, suc, ℤ, ◌-ℤ◌, List, length, take, get_or, pos}
-use Rattle.std.proofs.Common.{false, sym, subst, ap, ◌∙◌, arith, refl, All}
+use Rattle.std.proofs.Common.{◌≡◌, ◌↔◌, ◌<◌, ◌≤◌, ◌+◌, ◌-◌, ℕ, zero, suc, ℤ, ◌-ℤ◌, List, length, get_or, pos}
+use Rattle.std.proofs.Common.{false, sym, subst, ap, ◌∙◌, arith, refl, All, below_more, ⊎_elim}
 use Rattle.std.specs.Prelude.{IsTrue}
-use Rattle.std.proofs.lemmas.Bool.{false≢true}
+use Rattle.std.proofs.lemmas.Bool.{cases_lt, false≢true}
 use Rattle.std.proofs.lemmas.Int.{ints}
-use Rattle.std.proofs.lemmas.List.{length-take-le, take-take, get_or-take}
-use Rattle.std.proofs.lemmas.List.Elements.{All-from_get_or, All-get_or, All-more, All-take}
+use Rattle.std.proofs.lemmas.List.Elements.{All-from_get_or, All-get_or}
 use native.Mathlib.Numerals.{unary_clauses}
 use Rattle.mseed_steim.specs.Spelling.{IsWithin}
-use Rattle.mseed_pack.specs.private.Filling.{IsUnder}
+use Rattle.mseed_pack.specs.private.Filling.{AreFourUnder, IsUnder}
 use Rattle.mseed_pack.specs.Fitting.{IsDifferenceOf}
 use Rattle.mseed_pack.specs.Stretches.{differences}
 use Rattle.mseed_steim.specs.declared.encoding.Encoding.{Encoding}
@@ -64,17 +63,110 @@ raised_under limit (negsuc n) small fits =
       λ under. let above = under.0 in omega (arith, ints, above, half, small),
     )
 
--- whether all samples so far are under a limit, with one more
-pub under_more : (limit : ℤ) (xs : List ℤ) (i bound largest raised : ℕ) → i < length xs
-    → (raised < bound) ↔ IsUnder limit (get_or xs i (pos 0)) → (largest < bound) ↔ All (IsUnder limit) (take i xs)
-    → (max raised largest < bound) ↔ All (IsUnder limit) (take (i + 1) xs)
-under_more limit xs i bound largest raised h one before = (
-  λ less. All-more (IsUnder limit) xs i (pos 0) h (before.0 (omega (arith, less))) (one.0 (omega (arith, less))),
-  λ all.
-      let long : i < length (take (i + 1) xs) = rw (length-take-le (i + 1) xs (omega (arith, h))) (omega arith) in
-      let here : raised < bound = one.1 (rw (get_or-take (i + 1) xs i (pos 0) (omega arith)) at
-      (All-get_or (IsUnder limit) (take (i + 1) xs) i (pos 0) long all)) in
-      let others : largest < bound =
-      before.1 (rw (take-take i (i + 1) xs (omega arith)) at (All-take (IsUnder limit) i (take (i + 1) xs) all)) in
-      omega (arith, here, others),
+-- whether some number is under a bound, and is one that is so of it where it's the larger of two
+pub both_below : {P Q : Type 0} (bound a b : ℕ) → (a < bound) ↔ P → (b < bound) ↔ Q → (max a b < bound) ↔ (P × Q)
+both_below bound a b one two = (
+  λ less. (one.0 (omega (arith, less)), two.0 (omega (arith, less))),
+  λ all. let here = one.1 all.0 in let there = two.1 all.1 in omega (arith, here, there),
 )
+
+pub four_below : (limit : ℤ) (zs : List ℤ) (index part bound a b c d : ℕ)
+    → (a < bound) ↔ IsUnder limit (get_or zs index (pos 0))
+    → (b < bound) ↔ IsUnder limit (get_or zs (index + part) (pos 0))
+    → (c < bound) ↔ IsUnder limit (get_or zs (index + 2 * part) (pos 0))
+    → (d < bound) ↔ IsUnder limit (get_or zs (index + 3 * part) (pos 0))
+    → (max (max a b) (max c d) < bound) ↔ AreFourUnder limit zs index part
+four_below limit zs index part bound a b c d one two three four =
+    let all = both_below bound (max a b) (max c d) (both_below bound a b one two) (both_below bound c d three four) in (
+      λ less.
+          let h = all.0 less in
+          record { first = h.0.0; second = h.0.1; third = h.1.0; fourth = h.1.1 },
+      λ h. all.1 ((h.first, h.second), (h.third, h.fourth)),
+    )
+
+-- whether all numbers of four parts side by side are under a limit, and those behind them up to a place
+pub record AreUnderTo (limit : ℤ) (zs : List ℤ) (part at last : ℕ) : Type 0 where
+  pub four : (k : ℕ) → k < at → AreFourUnder limit zs k part
+  pub behind : (k : ℕ) → 4 * part ≤ k → k < last → IsUnder limit (get_or zs k (pos 0))
+
+pub none_under : (limit : ℤ) (zs : List ℤ) (part bound : ℕ) → 0 < bound
+    → (0 < bound) ↔ AreUnderTo limit zs part 0 (4 * part)
+none_under limit zs part bound some = (
+  λ less. record {
+    four = λ k h. absurd (omega (arith, h));
+    behind = λ k low high. absurd (omega (arith, low, high));
+  },
+  λ all. some,
+)
+
+pub four_more : (limit : ℤ) (zs : List ℤ) (part at bound largest raised : ℕ)
+    → (raised < bound) ↔ AreFourUnder limit zs at part → (largest < bound) ↔ AreUnderTo limit zs part at (4 * part)
+    → (max raised largest < bound) ↔ AreUnderTo limit zs part (at + 1) (4 * part)
+four_more limit zs part at bound largest raised one before =
+    let both = both_below bound raised largest one before in (
+      λ less.
+          let h = both.0 less in
+          record { four = below_more _ _ h.1.four h.0; behind = h.1.behind },
+      λ all. both.1 (
+        all.four at (omega arith),
+        record { four = λ k h. all.four k (omega (arith, h)); behind = all.behind },
+      ),
+    )
+
+pub one_more : (limit : ℤ) (zs : List ℤ) (part last bound largest raised : ℕ) → 4 * part ≤ last
+    → (raised < bound) ↔ IsUnder limit (get_or zs last (pos 0)) → (largest < bound) ↔ AreUnderTo limit zs part part last
+    → (max raised largest < bound) ↔ AreUnderTo limit zs part part (last + 1)
+one_more limit zs part last bound largest raised low one before =
+    let both = both_below bound raised largest one before in (
+      λ less.
+          let h = both.0 less in
+          record {
+            four = h.1.four;
+            behind = λ k from high. ⊎_elim
+                (λ (less : k < last). h.1.behind k from less)
+                (λ (same : last ≤ k).
+                let is : last ≡ k = omega (arith, same, high) in
+                subst (λ (n : ℕ). IsUnder limit (get_or zs n (pos 0))) is h.0)
+                (cases_lt k last);
+          },
+      λ all. both.1 (
+        all.behind last low (omega arith),
+        record { four = all.four; behind = λ k from high. all.behind k from (omega (arith, high)) },
+      ),
+    )
+
+-- so are all
+pub all_under : (limit : ℤ) (zs : List ℤ) (part last : ℕ) → 4 * part ≤ length zs → length zs ≤ last
+    → AreUnderTo limit zs part part last → All (IsUnder limit) zs
+all_under limit zs part last fit to h = All-from_get_or (IsUnder limit) zs (pos 0) (λ k inside. ⊎_elim
+    (λ (a : k < part). (h.four k a).first)
+    (λ (a : part ≤ k). ⊎_elim
+    (λ (b : k < 2 * part).
+    subst (λ (n : ℕ). IsUnder limit (get_or zs n (pos 0))) {x = k - part + part} {y = k} (omega (arith, a))
+    (h.four (k - part) (omega (arith, a, b))).second)
+    (λ (b : 2 * part ≤ k). ⊎_elim
+    (λ (c : k < 3 * part).
+    subst (λ (n : ℕ). IsUnder limit (get_or zs n (pos 0))) {x = k - 2 * part + 2 * part} {y = k} (omega (arith, b))
+    (h.four (k - 2 * part) (omega (arith, b, c))).third)
+    (λ (c : 3 * part ≤ k). ⊎_elim
+    (λ (d : k < 4 * part).
+    subst (λ (n : ℕ). IsUnder limit (get_or zs n (pos 0))) {x = k - 3 * part + 3 * part} {y = k} (omega (arith, c))
+    (h.four (k - 3 * part) (omega (arith, c, d))).fourth)
+    (λ (d : 4 * part ≤ k). h.behind k d (omega (arith, inside, to)))
+    (cases_lt k (4 * part)))
+    (cases_lt k (3 * part)))
+    (cases_lt k (2 * part)))
+    (cases_lt k part))
+
+-- and none but these
+pub each_under : (limit : ℤ) (zs : List ℤ) (part last : ℕ) → 4 * part ≤ length zs → last ≤ length zs
+    → All (IsUnder limit) zs → AreUnderTo limit zs part part last
+each_under limit zs part last fit within all = record {
+  four = λ k h. record {
+    first = All-get_or (IsUnder limit) zs k (pos 0) (omega (arith, fit, h)) all;
+    second = All-get_or (IsUnder limit) zs (k + part) (pos 0) (omega (arith, fit, h)) all;
+    third = All-get_or (IsUnder limit) zs (k + 2 * part) (pos 0) (omega (arith, fit, h)) all;
+    fourth = All-get_or (IsUnder limit) zs (k + 3 * part) (pos 0) (omega (arith, fit, h)) all;
+  };
+  behind = λ k from high. All-get_or (IsUnder limit) zs k (pos 0) (omega (arith, high, within)) all;
+}

@@ -1,5 +1,5 @@
 //! Whether a series can be packed.
-ghost use Rattle.std.specs.Prelude.{◌≡◌, ◌↔◌, ◌<◌, ◌≤◌, ◌*◌, ℕ, ℤ, IsTrue, OnOk, IfErr, IfSome, IfNone, None, All};
+ghost use Rattle.std.specs.Prelude.{◌≡◌, ◌↔◌, ◌<◌, ◌≤◌, ◌+◌, ◌*◌, ℕ, ℤ, IsTrue, OnOk, IfErr, IfSome, IfNone, None, All};
 ghost use Rattle.std.specs.Prelude.{List, length, pos, slice_index_or, ◌^◌, nat_abs, ◌+ℤ◌, ◌-ℤ◌, ◌≢◌, FitsSigned};
 ghost use Rattle.std.specs.Int.{w16};
 ghost use Rattle.mseed_time.specs.Btime.{IsInstant};
@@ -8,7 +8,7 @@ ghost use Rattle.mseed_time.specs.Ratios.{ratio_of};
 ghost use Rattle.mseed_audit.specs.Series.{AreSteps};
 ghost use Rattle.mseed_pack.specs.Clock.{periods, reading_at};
 ghost use Rattle.mseed_pack.specs.Stretches.{differences};
-ghost use Rattle.mseed_pack.specs.private.Filling.{IsUnder};
+ghost use Rattle.mseed_pack.specs.private.Filling.{AreFourUnder, IsUnder};
 ghost use Rattle.mseed_pack.specs.Fitting.{Fits, IsDifferenceOf, IsFirstNot, IsMisfit, IsSampleOf};
 ghost use Rattle.mseed_pack.specs.Outcome.{IsTrace};
 ghost use Rattle.mseed_pack.specs.declared.options.Options.{Options};
@@ -262,17 +262,36 @@ fn first_wide_difference(samples: &[i32], encoding: Encoding) -> Option<usize>
     find_large_difference(samples, encoding)
 }
 
-/// Whether each sample is less than a limit, and no less than its negative.
+/// Whether each sample is less than a limit, and no less than its negative. Four parts of the list are gone through
+/// side by side, so that memory is asked for at four places at once.
 fn are_within(samples: &[i32], limit: u32) -> bool
     requires some { 0 < limit }
     requires half { limit < 2 ^ 31 }
     ensures { IsTrue result ↔ All (IsUnder (pos limit)) samples.now }
 {
+    let part = samples.len() / 4;
     let mut largest = 0;
-    for sample in samples {
-        largest = raised(*sample, limit).max(largest);
+    for index in 0..part {
+        largest = raised_four(samples, index, part, limit).max(largest);
+    }
+    for last in 4 * part..samples.len() {
+        largest = raised(samples[last], limit).max(largest);
     }
     largest < 2 * limit
+}
+
+/// The largest of four samples, so many apart, each raised by a limit.
+#[inline(always)]
+fn raised_four(samples: &[i32], index: usize, part: usize, limit: u32) -> u32
+    requires half { limit < 2 ^ 31 }
+    requires inside { index + 3 * part < length samples.now }
+    ensures { (result < 2 * limit) ↔ AreFourUnder (pos limit) samples.now index part }
+{
+    let first = raised(samples[index], limit);
+    let second = raised(samples[index + part], limit);
+    let third = raised(samples[index + 2 * part], limit);
+    let fourth = raised(samples[index + 3 * part], limit);
+    first.max(second).max(third.max(fourth))
 }
 
 /// A sample and a limit added up, modulo 2^32: less than twice the limit exactly where the sample is less than the

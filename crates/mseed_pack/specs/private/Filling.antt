@@ -56,6 +56,13 @@ pub record HoldsDifferences (samples : List ℤ) (window : Window) : Type 0 wher
 abbrev pub IsUnder : ℤ → ℤ → Type 0
 IsUnder limit z = (neg_ℤ limit ≤ℤ z) × (z <ℤ limit)
 
+-- so are four of some numbers, so many apart
+pub record AreFourUnder (limit : ℤ) (zs : List ℤ) (index part : ℕ) : Type 0 where
+  pub first : IsUnder limit (slice_index_or zs index (pos 0))
+  pub second : IsUnder limit (slice_index_or zs (index + part) (pos 0))
+  pub third : IsUnder limit (slice_index_or zs (index + 2 * part) (pos 0))
+  pub fourth : IsUnder limit (slice_index_or zs (index + 3 * part) (pos 0))
+
 -- some are left
 pub record AreLeft (samples : List ℤ) (left : Left) : Type 0 where
   pub some : left.first < left.end

@@ -1,16 +1,35 @@
-use Rattle.std.proofs.Common.{◌≡◌, ◌↔◌, ◌<◌, ◌*◌, w32, pos, get_or, rules, subst, ℤ, to_z}
-use Rattle.std.proofs.Common.{of_z}
+use Rattle.std.proofs.Common.{◌≡◌, ◌↔◌, ◌<◌, ◌*◌, w32, pos, get_or, rules, subst, ℤ, to_z, arith, of_z}
+use Rattle.std.proofs.lemmas.Bool.{lt-ltb, ltb-true}
 use Rattle.std.proofs.lemmas.Int.{to_z-of_z}
 use Rattle.mseed_pack.specs.private.Filling.{IsUnder}
-use Rattle.mseed_pack.proofs.Misfits.{under_more}
+use Rattle.mseed_pack.proofs.Misfits.{all_under, each_under, four_more, none_under, one_more}
 use Rattle.mseed_pack.proofs.fitting.are_within.Goals as goal
 
-pub loop-sample-preserved : goal.loop-sample-preserved
-loop-sample-preserved c =
+pub loop-index-init : goal.loop-index-init
+loop-index-init c =
+    none_under (pos c.args.limit) c.args.samples.now _ (2 * c.args.limit) (omega (arith, c.requires.some))
+
+pub loop-index-preserved : goal.loop-index-preserved
+loop-index-preserved c =
+    rw c.max-largest.ensures (four_more (pos c.args.limit) c.args.samples.now _ c.loop-index.index (2 * c.args.limit)
+    c.loop-index.largest c.raised_four.result c.raised_four.ensures c.loop-index.invariant)
+
+pub loop-last-preserved : goal.loop-last-preserved
+loop-last-preserved c =
     let xs = c.args.samples.now in
-    let i = c.loop-sample.sample-index in
+    let i = c.loop-last.last in
     let same : to_z w32 (of_z w32 (get_or xs i (pos 0))) ≡ get_or xs i (pos 0) = to_z-of_z w32 _ (search rules) in
-    rw c.max-largest.ensures (under_more (pos c.args.limit) xs i (2 * c.args.limit) c.loop-sample.largest
-    c.raised.result c.loop-sample-test.true
+    rw c.max-largest-in-loop-last.ensures (one_more (pos c.args.limit) xs _ i (2 * c.args.limit) c.loop-last.largest
+    c.raised.result (search rules)
     (subst (λ (z : ℤ). (c.raised.result < 2 * c.args.limit) ↔ IsUnder (pos c.args.limit) z) same c.raised.ensures)
-    c.loop-sample.invariant)
+    c.loop-last.invariant)
+
+pub returns : goal.returns
+returns c =
+    let xs = c.args.samples.now in
+    let inv = c.loop-last.invariant in
+    let past = c.loop-last-test.false in (
+      λ yes. all_under (pos c.args.limit) xs _ c.loop-last.last (omega arith) (omega (arith, past))
+          (inv.0 (ltb-true _ _ yes)),
+      λ all. lt-ltb _ _ (inv.1 (each_under (pos c.args.limit) xs _ c.loop-last.last (omega arith) (omega arith) all)),
+    )

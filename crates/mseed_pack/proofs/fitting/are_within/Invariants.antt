@@ -1,6 +1,10 @@
-use Rattle.std.proofs.Common.{◌↔◌, ◌<◌, ◌*◌, pos, take, All}
-use Rattle.mseed_pack.specs.private.Filling.{IsUnder}
+use Rattle.std.proofs.Common.{◌↔◌, ◌<◌, ◌*◌, pos}
+use Rattle.mseed_pack.proofs.Misfits.{AreUnderTo}
 use Rattle.mseed_pack.proofs.fitting.are_within.Given as goal
 
-abbrev pub invariant-loop-sample : goal.invariant-loop-sample
-invariant-loop-sample l = (l.largest < 2 * l.limit) ↔ All (IsUnder (pos l.limit)) (take l.sample-index l.samples)
+abbrev pub invariant-loop-index : goal.invariant-loop-index
+invariant-loop-index l =
+    (l.largest < 2 * l.limit) ↔ AreUnderTo (pos l.limit) l.samples l.part l.index (4 * l.part)
+
+abbrev pub invariant-loop-last : goal.invariant-loop-last
+invariant-loop-last l = (l.largest < 2 * l.limit) ↔ AreUnderTo (pos l.limit) l.samples l.part l.part l.last
