@@ -4,7 +4,9 @@ use Rattle.std.proofs.Common.{refl, sym, ap, subst, ◌∙◌, arith, ℤ, lengt
 use Rattle.std.specs.Prelude.{slice_range, flat_map}
 use Rattle.std.specs.List.{AllByRecursion, concat}
 use Rattle.std.proofs.lemmas.List.{append-nil, take-append-drop, drop-drop, length-drop, length-map, drop_all}
+use Rattle.std.proofs.ByRecursion.{All-push}
 use Rattle.std.proofs.lemmas.List.{take-append-le}
+use Rattle.std.proofs.lemmas.List.Folds.{concat-append}
 use Rattle.std.proofs.lemmas.Bool.{cases_lt}
 use Rattle.mseed_stream.specs.Device.{BytesWritten}
 use Rattle.mseed_audit.specs.Series.{Trace}
@@ -25,11 +27,6 @@ placed_more (q ∷ ps) p number first h a b = (
       (omega (arith, b, length-append q.samples (flat_map (λ (x : Piece). x.samples) ps))),
 )
 
-each_more : (P : Piece → Type 0) (ps : List Piece) (p : Piece) → AllByRecursion P ps → P p
-    → AllByRecursion P (ps ++ p ∷ [])
-each_more P [] p h one = (one, tt)
-each_more P (q ∷ ps) p h one = (h.0, each_more P ps p h.1 one)
-
 map_more : (ps : List Piece) (p : Piece)
     → map (λ (q : Piece). q.bytes) (ps ++ p ∷ []) ≡ map (λ (q : Piece). q.bytes) ps ++ p.bytes ∷ []
 map_more [] p = refl
@@ -44,10 +41,6 @@ flat_piece (q ∷ ps) p = ap (λ (xs : List ℤ). q.samples ++ xs) (flat_piece p
 pub concat_more : (bs : List (List ℕ)) (b : List ℕ) → concat (bs ++ b ∷ []) ≡ concat bs ++ b
 concat_more [] b = append-nil b
 concat_more (c ∷ bs) b = ap (λ (xs : List ℕ). c ++ xs) (concat_more bs b) ∙ sym (append_assoc c (concat bs) b)
-
-pub concat_all : (xs ys : List (List ℕ)) → concat (xs ++ ys) ≡ concat xs ++ concat ys
-concat_all [] ys = refl
-concat_all (x ∷ xs) ys = ap (λ (l : List ℕ). x ++ l) (concat_all xs ys) ∙ sym (append_assoc x (concat xs) (concat ys))
 
 no_records : (r : List ℕ) (rs : List (List ℕ)) → [] ≡ r ∷ rs → ⊥
 no_records r rs e = let none = ap (λ (l : List (List ℕ)). length l) e in omega (arith, none)
@@ -91,7 +84,7 @@ packs_more s o records first n b h inside one =
           ∙ append_assoc flat (slice_range xs first (first + n)) (drop (first + n) xs)
           ∙ ap (λ (l : List ℤ). flat ++ l) rest ∙ h.joined;
       placed = placed_more h.pieces p 0 0 h.placed count place;
-      each = each_more (IsPacked s o) h.pieces p h.each one;
+      each = All-push (IsPacked s o) h.pieces p h.each one;
     }
 
 -- no record
@@ -177,7 +170,7 @@ on_join s o place mid next a b h k =
           (h.packing prefix n up));
       count_is = omega (arith, count, count_2, length-append h.records k.records);
       long = omega (arith, long, long_2, length-append a b);
-      bytes_are = (λ i. first i ++ second i) ∙ sym (concat_all h.records k.records);
+      bytes_are = (λ i. first i ++ second i) ∙ sym (concat-append h.records k.records);
     }
 
 pub emitted_more : (s : Trace) (o : Options) (place next : Place) (b : List ℕ) (old mid new : BytesWritten)
@@ -185,7 +178,7 @@ pub emitted_more : (s : Trace) (o : Options) (place next : Place) (b : List ℕ)
     → new.bytes ≡ mid.bytes ++ b → new.failures ≡ mid.failures → EmittedSo s o next.number next.first old new
 emitted_more s o place next b old mid new h on reported fine =
     let all : length (concat (h.records ++ on.records)) ≡ length (concat h.records) + length b =
-    ap (λ (l : List ℕ). length l) (concat_all h.records on.records)
+    ap (λ (l : List ℕ). length l) (concat-append h.records on.records)
     ∙ length-append (concat h.records) (concat on.records)
     ∙ ap (λ (l : List ℕ). length (concat h.records) + length l) (sym on.bytes_are) in
     let long = h.long in
@@ -198,7 +191,7 @@ emitted_more s o place next b old mid new h on reported fine =
       long = omega (arith, all, long, longer);
       bytes = reported ∙ ap (λ (l : List ℕ). l ++ b) h.bytes ∙ append_assoc old.bytes (concat h.records) b
           ∙ ap (λ (l : List ℕ). old.bytes ++ (concat h.records ++ l)) on.bytes_are
-          ∙ ap (λ (l : List ℕ). old.bytes ++ l) (sym (concat_all h.records on.records));
+          ∙ ap (λ (l : List ℕ). old.bytes ++ l) (sym (concat-append h.records on.records));
       failures = fine ∙ h.failures;
     }
 
@@ -304,14 +297,14 @@ emitted_prefix s o place next taken b old mid new h on part reported failed =
     (subst (λ (l : List (List ℕ)). PacksUpTo s o l (drop next.first s.samples)) records_are
     (on.packing h.records (sym h.count_is) h.packing)) in
     let lead_long : length (concat lead) ≡ length (concat h.records) + length (concat at.prefix) =
-    ap (λ (l : List ℕ). length l) (concat_all h.records at.prefix)
+    ap (λ (l : List ℕ). length l) (concat-append h.records at.prefix)
     ∙ length-append (concat h.records) (concat at.prefix) in
     let some : List ℕ = concat at.prefix ++ at.last in
     let some_long : length some ≡ length (concat at.prefix) + length at.last =
     length-append (concat at.prefix) at.last in
     let some_of : concat (at.prefix ++ at.last ∷ []) ≡ some = concat_more at.prefix at.last in
     let bytes_are : b ≡ some ++ concat at.rest =
-    on.bytes_are ∙ ap (λ (l : List (List ℕ)). concat l) at.parts ∙ concat_all (at.prefix ++ at.last ∷ []) at.rest
+    on.bytes_are ∙ ap (λ (l : List (List ℕ)). concat l) at.parts ∙ concat-append (at.prefix ++ at.last ∷ []) at.rest
     ∙ ap (λ (l : List ℕ). l ++ concat at.rest) some_of in
     let mine : take taken b ≡ take taken some = ap (λ (l : List ℕ). take taken l) bytes_are
     ∙ take-append-le taken some (concat at.rest) (omega (arith, inside, some_long)) in
@@ -320,7 +313,7 @@ emitted_prefix s o place next taken b old mid new h on part reported failed =
     ap (λ (l : List (List ℕ)). take (place.number * 2 ^ o.exponent + taken) (concat l))
     (append_assoc h.records at.prefix (at.last ∷ []))
     ∙ ap (λ (l : List ℕ). take (place.number * 2 ^ o.exponent + taken) l)
-    (concat_all h.records (at.prefix ++ at.last ∷ []) ∙ ap (λ (l : List ℕ). concat h.records ++ l) some_of)
+    (concat-append h.records (at.prefix ++ at.last ∷ []) ∙ ap (λ (l : List ℕ). concat h.records ++ l) some_of)
     ∙ ap (λ (m : ℕ). take (m + taken) (concat h.records ++ some)) (sym long)
     ∙ take_more_of (concat h.records) some taken ∙ ap (λ (l : List ℕ). concat h.records ++ l) (sym mine) in
     record {

@@ -2,6 +2,7 @@
 use Rattle.std.proofs.Common.{◌≡◌, ◌≢◌, ℕ, ℤ, List, [], ◌∷◌, ◌++◌, ◌^◌, length, map, IsTrue, Result, Ok, Err, refl, sym}
 use Rattle.std.proofs.Common.{ap, subst, ◌∙◌, append_assoc}
 use Rattle.std.specs.List.{AllByRecursion}
+use Rattle.std.proofs.ByRecursion.{All-append}
 use Rattle.std.proofs.lemmas.List.{map-append}
 use Rattle.mseed_record.specs.Header.{key_at}
 use Rattle.mseed_record.specs.View.{View, IsView}
@@ -16,11 +17,6 @@ use Rattle.mseed_pack.proofs.Growing.{packed_length}
 use Rattle.mseed_pack.specs.ReadBack.{AreViewsOf, IsPartOf, ReadsAs, IsAssembled}
 use Rattle.mseed_pack.proofs.Archived.{all_kept, halves, key_of, views_filtered}
 use Rattle.mseed_pack.proofs.Followed.{bytes_in}
-
-all_joined : {X : Type 0} (P : X → Type 0) (xs ys : List X) → AllByRecursion P xs → AllByRecursion P ys
-    → AllByRecursion P (xs ++ ys)
-all_joined P [] ys h k = k
-all_joined P (x ∷ xs) ys h k = (h.0, all_joined P xs ys h.1 k)
 
 all_prefix : {X : Type 0} (P : X → Type 0) (xs ys : List X) → AllByRecursion P (xs ++ ys) → AllByRecursion P xs
 all_prefix P [] ys h = tt
@@ -71,7 +67,7 @@ views_joined xs ys us vs h k =
     let second = k.bytes in
     record {
       bytes = map-append (λ (v : View). v.bytes) us vs ∙ (λ i. first i ++ second i);
-      each = all_joined IsView us vs h.each k.each;
+      each = All-append IsView us vs h.each k.each;
     }
 
 -- the series' views, with those of the records that are looked at in their place

@@ -10,7 +10,8 @@ use Rattle.mseed_pack.specs.declared.options.Options.{Options}
 use Rattle.mseed_pack.specs.Prefixes.{ArePrefixes, HaveTakenPrefixes}
 use Rattle.mseed_pack.specs.Outcome.{EmittedPrefix}
 use Rattle.mseed_pack.specs.Packing.{PacksUpTo}
-use Rattle.mseed_pack.proofs.Growing.{concat_all, concat_more}
+use Rattle.std.proofs.lemmas.List.Folds.{concat-append}
+use Rattle.mseed_pack.proofs.Growing.{concat_more}
 
 -- what is given of records
 abbrev pub OnePrefix : Type 0
@@ -35,7 +36,7 @@ longer : (records rest others : List (List ℕ)) (n : ℕ) → n ≤ length (con
     → take n (concat records) ≡ take n (concat others)
 longer records rest others n le e =
     sym (take-append-le n (concat records) (concat rest) le)
-    ∙ ap (λ (xs : List ℕ). take n xs) (sym (concat_all records rest))
+    ∙ ap (λ (xs : List ℕ). take n xs) (sym (concat-append records rest))
     ∙ ap (λ (bs : List (List ℕ)). take n (concat bs)) (sym e)
 
 -- prefixes of the bytes of two lists of records, one of which is a prefix of the other

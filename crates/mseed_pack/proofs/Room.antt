@@ -1,9 +1,10 @@
 -- Words that are packed from a prefix of some differences are packed from all of them, where the prefix is long enough.
-use Rattle.std.proofs.Common.{◌≡◌, ℕ, zero, suc, ◌+◌, ◌-◌, ◌*◌, ◌≤◌, Bool, true, false, cond, List, [], ◌∷◌}
+use Rattle.std.proofs.Common.{◌≡◌, ℕ, suc, ◌+◌, ◌-◌, ◌*◌, ◌≤◌, Bool, true, false, cond, List, [], ◌∷◌}
 use Rattle.std.proofs.Common.{length, take, drop, refl, sym, ap, subst, ◌∙◌, arith, ℤ}
 use Rattle.std.specs.List.{filter, range_with_len}
 use Rattle.std.proofs.lemmas.List.{length-map, length-drop, length-take, length-take-le, drop-take, drop-drop}
 use Rattle.std.proofs.lemmas.List.{take-take}
+use Rattle.std.proofs.lemmas.List.FromFn.{length-range_with_len}
 use Rattle.mseed_steim.specs.declared.scheme.Scheme.{Scheme}
 use Rattle.mseed_steim.specs.Spelling.{Spells, empty, row}
 use Rattle.mseed_steim.specs.Frames.{DataWord, data_word, is_data, words_from, data_words, word_count}
@@ -100,10 +101,6 @@ length-filter p (x ∷ xs) = by (p x) (length-filter p xs)
     by true rest = omega (arith, rest)
     by false rest = omega (arith, rest)
 
-length-range : (k n : ℕ) → length (range_with_len k n) ≡ n
-length-range k zero = refl
-length-range k (suc n) = ap suc (length-range (k + 1) n)
-
 -- no more data words than words behind Xn
 pub words_fit : (p : List ℕ) → length (data_words p) ≤ word_count p - 3
 unfolding words_from
@@ -112,6 +109,6 @@ words_fit p =
     omega (
       arith,
       all,
-      length-range 3 (word_count p - 3),
+      length-range_with_len 3 (word_count p - 3),
       length-map (filter is_data (range_with_len 3 (word_count p - 3))) (data_word p),
     )

@@ -4,8 +4,7 @@ use Rattle.std.proofs.Common.{get_or, refl, sym, ap, ◌∙◌, arith, ℤ, pos,
 use Rattle.std.proofs.Common.{append_assoc, nat_abs, length-append}
 use Rattle.std.specs.Prelude.{unwrap_or, option_map, find}
 use Rattle.std.specs.List.{AllByRecursion}
-use Rattle.std.proofs.lemmas.Bool.{ne_eqb, eq-eqb}
-use Rattle.std.proofs.lemmas.Bool.Decides.{nat_tests}
+use Rattle.std.proofs.lemmas.Bool.{eq-eqb, le-leb, le-ltb, lt-leb, lt-ltb, ne_eqb}
 use Rattle.std.proofs.lemmas.Int.{ints}
 use Rattle.std.proofs.Math.Seq.{get_or-append_seam, drop-append-add}
 use Rattle.mseed_time.specs.declared.outcome.LeapStep.{LeapStep}
@@ -16,18 +15,6 @@ use Rattle.mseed_pack.specs.declared.span.Span.{Span}
 use Rattle.mseed_pack.specs.Clock.{added_before}
 use Rattle.mseed_pack.specs.Stretches.{span_end, step_after}
 use Rattle.mseed_pack.specs.private.Spans.{end_by, IsSpan}
-
-le_true : (a b : ℕ) → a ≤ b → leb a b ≡ true
-le_true a b h = grind (arith, nat_tests)
-
-le_false : (a b : ℕ) → b < a → leb a b ≡ false
-le_false a b h = grind (arith, nat_tests)
-
-lt_true : (a b : ℕ) → a < b → ltb a b ≡ true
-lt_true a b h = grind (arith, nat_tests)
-
-lt_false : (a b : ℕ) → b ≤ a → ltb a b ≡ false
-lt_false a b h = grind (arith, nat_tests)
 
 -- what leap seconds added, of two lists
 pub added_append : (xs ys : List (ℕ × LeapStep)) (n : ℕ)
@@ -40,8 +27,8 @@ pub added_all : (xs : List (ℕ × LeapStep)) (a b : ℕ) → AllByRecursion (λ
     → added_before xs b ≡ added_before xs a
 added_all [] a b h l = refl
 added_all (x ∷ xs) a b h l =
-    let here : leb x.0 a ≡ true = le_true x.0 a h.0 in
-    let there : leb x.0 b ≡ true = le_true x.0 b (omega (arith, h.0, l)) in
+    let here : leb x.0 a ≡ true = le-leb x.0 a h.0 in
+    let there : leb x.0 b ≡ true = le-leb x.0 b (omega (arith, h.0, l)) in
     rw (here, there) (ap (λ (z : ℤ). step_of (Some x.1) +ℤ z) (added_all xs a b h.1 l))
 
 -- of those that all are behind
@@ -49,7 +36,7 @@ pub added_none : (xs : List (ℕ × LeapStep)) (low size n : ℕ) → AreStepsFr
     → added_before xs n ≡ pos 0
 added_none [] low size n h l = refl
 added_none (x ∷ xs) low size n h l =
-    let here : leb x.0 n ≡ false = le_false x.0 n (omega (arith, h.0, l)) in
+    let here : leb x.0 n ≡ false = lt-leb x.0 n (omega (arith, h.0, l)) in
     let later : added_before xs n ≡ pos 0 = added_none xs x.0 size n h.2 (omega (arith, h.0, l)) in
     rw (here, later) refl
 
@@ -57,7 +44,7 @@ added_prefix : (xs : List (ℕ × LeapStep)) (low size n : ℕ) → AreStepsFrom
     → added_before xs n ≡ pos 0
 added_prefix [] low size n h l = refl
 added_prefix (x ∷ xs) low size n h l =
-    let here : leb x.0 n ≡ false = le_false x.0 n l in
+    let here : leb x.0 n ≡ false = lt-leb x.0 n l in
     let later : added_before xs n ≡ pos 0 = added_none xs x.0 size n h.2 (omega (arith, l)) in
     rw (here, later) refl
 
@@ -66,14 +53,14 @@ find_passed : (xs ys : List (ℕ × LeapStep)) (a n : ℕ) → AllByRecursion (�
     → find (λ (x : ℕ × LeapStep). ltb n x.0) (xs ++ ys) ≡ find (λ (x : ℕ × LeapStep). ltb n x.0) ys
 find_passed [] ys a n h l = refl
 find_passed (x ∷ xs) ys a n h l =
-    let here : ltb n x.0 ≡ false = lt_false n x.0 (omega (arith, h.0, l)) in
+    let here : ltb n x.0 ≡ false = le-ltb n x.0 (omega (arith, h.0, l)) in
     rw here (find_passed xs ys a n h.1 l)
 
 find_prefix : (xs : List (ℕ × LeapStep)) (size n : ℕ) → n < end_by xs size
     → unwrap_or (option_map (λ (x : ℕ × LeapStep). x.0) (find (λ (x : ℕ × LeapStep). ltb n x.0) xs)) size
     ≡ end_by xs size
 find_prefix [] size n l = refl
-find_prefix (x ∷ xs) size n l = let here : ltb n x.0 ≡ true = lt_true n x.0 l in rw here refl
+find_prefix (x ∷ xs) size n l = let here : ltb n x.0 ≡ true = lt-ltb n x.0 l in rw here refl
 
 pub end_at : (s : Trace) (span : Span) (n : ℕ) → IsSpan s.steps (length s.samples) span → span.begin ≤ n
     → n < span.end → span_end s n ≡ span.end
@@ -190,7 +177,7 @@ next_from steps passed (x ∷ left) size span next d parts count before behind e
     let all : added_before passed x.0 ≡ added_before passed span.begin =
     added_all passed span.begin x.0 before low in
     let one : added_before (x ∷ []) x.0 ≡ step_of (Some x.1) = let yes : leb x.0 x.0 ≡ true =
-    le_true x.0 x.0 (omega arith) in rw yes (omega (arith, ints)) in
+    le-leb x.0 x.0 (omega arith) in rw yes (omega (arith, ints)) in
     let sum : added_before (passed ++ x ∷ []) x.0 ≡ added_before passed x.0 +ℤ added_before (x ∷ []) x.0 =
     added_append passed (x ∷ []) x.0 in
     record {

@@ -1,11 +1,11 @@
 -- The clock of some records, one behind another, of those that a series is packed into.
 use Rattle.std.proofs.Common.{◌≡◌, ℕ, ◌+◌, ◌<◌, ◌≤◌, nat_le, nat_lt, true, false, List, [], ◌∷◌, ◌++◌, length, map}
-use Rattle.std.proofs.Common.{take, refl, sym, ap, subst, ◌∙◌, arith, ℤ, Option, Some, None, ⊎_elim, append_assoc}
+use Rattle.std.proofs.Common.{refl, sym, ap, subst, ◌∙◌, arith, ℤ, Option, Some, None, ⊎_elim, append_assoc}
 use Rattle.std.proofs.Common.{append-nil, length-append}
 use Rattle.std.specs.List.{filter}
 use Rattle.std.proofs.lemmas.Bool.{cases_lt}
 use Rattle.std.proofs.lemmas.Bool.Decides.{nat_tests}
-use Rattle.std.proofs.lemmas.List.{map-append, take_at}
+use Rattle.std.proofs.lemmas.List.{append_cancel_right, map-append}
 use Rattle.mseed_time.specs.declared.outcome.LeapStep.{LeapStep}
 use Rattle.mseed_record.specs.View.{View, leap_of}
 use Rattle.mseed_steim.specs.Reading.{count_of, HasOneReading}
@@ -24,16 +24,8 @@ use Rattle.mseed_pack.proofs.Parted.{views_joined}
 use Rattle.mseed_pack.proofs.ReadBack.{HaveOneViews, reads_as}
 use Rattle.mseed_pack.proofs.Viewed.{HeadersReadBack, PackedSpells}
 
--- lists that end alike begin alike
-cancel : (xs ys zs : List (ℕ × LeapStep)) → xs ++ zs ≡ ys ++ zs → xs ≡ ys
-cancel xs ys zs e =
-    let both : length (xs ++ zs) ≡ length (ys ++ zs) = ap (λ (l : List (ℕ × LeapStep)). length l) e in
-    let same : length xs ≡ length ys = omega (arith, both, length-append xs zs, length-append ys zs) in
-    sym (take_at xs zs (length xs) refl) ∙ ap (λ (l : List (ℕ × LeapStep)). take (length xs) l) e
-    ∙ take_at ys zs (length xs) (sym same)
-
 nothing_before : (xs ys : List (ℕ × LeapStep)) → ys ≡ xs ++ ys → xs ≡ []
-nothing_before xs ys e = sym (cancel [] xs ys e)
+nothing_before xs ys e = sym (append_cancel_right [] xs ys e)
 
 -- the views of records, cut in two
 record Split (s : Trace) (first : ℕ) (us vs : List View) (samples : List ℤ) : Type 0 where
@@ -158,8 +150,8 @@ timed_at same s part place views samples trace at series =
       multiplier = series.multiplier ∙ first.multiplier;
       steps = ap (λ (ts : List (ℕ × LeapStep)). map (moved place) ts) series.steps ∙ moved_steps place 0 views
           ∙ ap (λ (m : ℕ). steps_from m views) zero
-          ∙ cancel (steps_from place views) (filter (is_among place end) s.steps) (later s.steps end) (sym left
-          ∙ found);
+          ∙ append_cancel_right (steps_from place views) (filter (is_among place end) s.steps) (later s.steps end)
+          (sym left ∙ found);
     }
 
 pub timed : HeadersReadBack → PackedSpells → ((v : View) → HasOneReading v) → HaveOneViews → HaveOneSamples

@@ -2,13 +2,14 @@ use Rattle.std.proofs.Common.{◌≡◌, ℕ, ◌+◌, List, ◌++◌, length, d
 use Rattle.std.proofs.Common.{ℤ, [], length-append}
 use Rattle.std.proofs.lemmas.List.{drop_all}
 use Rattle.std.specs.List.{concat}
+use Rattle.std.proofs.lemmas.List.Folds.{concat-append}
 use Rattle.mseed_audit.specs.Series.{Trace}
 use Rattle.mseed_pack.specs.Fitting.{Fits}
 use Rattle.mseed_pack.specs.Packing.{PacksUpTo}
 use Rattle.mseed_pack.specs.Traces.{headed}
 use Rattle.mseed_pack.specs.private.Filling.{AreBegun}
 use Rattle.mseed_pack.proofs.Begun.{begun_by, list_begun}
-use Rattle.mseed_pack.proofs.Growing.{concat_all, packs_none}
+use Rattle.mseed_pack.proofs.Growing.{packs_none}
 use Rattle.mseed_pack.proofs.Overwritten.{over, over_none, over_more}
 use Rattle.mseed_pack.proofs.lent.pack_into.Goals as goal
 
@@ -62,7 +63,7 @@ loop-place-preserved c =
     let p = c.loop-place.room in
     let n = c.loop-place.filled in
     let records : List (List ℕ) = before.0 ++ packs.records in
-    let all : concat records ≡ concat before.0 ++ on.bytes = concat_all before.0 packs.records
+    let all : concat records ≡ concat before.0 ++ on.bytes = concat-append before.0 packs.records
     ∙ ap (λ (l : List ℕ). concat before.0 ++ l) (sym packs.bytes_are) in
     let size : length (concat records) ≡ length (concat before.0) + length on.bytes =
     ap (λ (l : List ℕ). length l) all ∙ length-append (concat before.0) on.bytes in
