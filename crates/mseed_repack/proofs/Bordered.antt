@@ -9,6 +9,8 @@ use Rattle.std.specs.List.{AllByRecursion, concat}
 use Rattle.std.proofs.lemmas.Bool.Decides.{nat_tests}
 use Rattle.std.proofs.lemmas.Int.{ints}
 use Rattle.std.proofs.lemmas.List.{map-append}
+use Rattle.std.proofs.ByRecursion.{All-append}
+use Rattle.std.proofs.lemmas.Option.{same_Some}
 use Rattle.mseed_time.specs.declared.outcome.Join.{Join}
 use Rattle.mseed_time.specs.declared.outcome.Join.TheVariants.{Late, Early}
 use Rattle.mseed_time.specs.Join.{Joins, join_by, miss_of, step_of}
@@ -45,7 +47,7 @@ use Rattle.mseed_repack.specs.Restretch.{ArePackedOn, ChannelFits, IsChannelPack
 use Rattle.mseed_repack.specs.Restretch.{none as packed_none, more as packed_more}
 use Rattle.mseed_repack.proofs.Borders.{AreBordering, IsBorder, IsLaid, bordering, joined_samples, samples_at}
 use Rattle.mseed_repack.proofs.ChannelReadBack.{IsSoundStretch, each_sound}
-use Rattle.mseed_repack.proofs.Each.{each_at_back, each_in_leading, each_of_both}
+use Rattle.mseed_repack.proofs.Each.{each_at_back, each_in_leading}
 use Rattle.mseed_repack.proofs.Misses.{early_still, half_of, late_still}
 use Rattle.mseed_repack.proofs.Stretched.{fits_on}
 
@@ -130,7 +132,7 @@ each_view : (ss : List (List View)) (ws : List View) → AreLaid ss ws → AllBy
 each_view [] ws e = subst (λ (us : List View). AllByRecursion IsView us) (sym e) tt
 each_view (s ∷ ss) ws (own, (rest, (parts, here, more))) =
     subst (λ (us : List View). AllByRecursion IsView us) (sym parts)
-    (each_of_both IsView own rest (are_views here.trace 0 own here.trace.samples here.at) (each_view ss rest more))
+    (All-append IsView own rest (are_views here.trace 0 own here.trace.samples here.at) (each_view ss rest more))
 
 -- those of records of one key are of that key
 of_key_at : (key : List ℕ) (s : Trace) (first : ℕ) (vs : List View) (samples : List ℤ) → s.codes ≡ key
@@ -158,7 +160,7 @@ each_of_key key vs (s ∷ ss) ws (left, (first, cut)) keys (own, (rest, (parts, 
     subst (λ (us : List View). AllByRecursion P us) here.series.parts (each_in_leading P s left all) in
     let code : here.trace.codes ≡ key = here.series.codes ∙ of_first.0 in
     subst (λ (us : List View). AllByRecursion (λ (v : View). IsTrue (is_of key v)) us) (sym parts)
-    (each_of_both (λ (v : View). IsTrue (is_of key v)) own rest
+    (All-append (λ (v : View). IsTrue (is_of key v)) own rest
     (of_key_at key here.trace 0 own here.trace.samples code here.at)
     (each_of_key key left ss rest cut (each_at_back P s left all) more))
 
@@ -224,22 +226,19 @@ neighbours_joined R (x ∷ (y ∷ xs)) b v ys h at k = (h.0, neighbours_joined R
 
 -- By what they miss, the two records that are written at a border follow one another, or don't.
 
-some_is : (r s : Ratio) → Some r ≡ Some s → r ≡ s
-some_is r s e = cc
-
 -- the rates of both are one
 rates_at : (b v last next : View) (rate : Ratio) (miss : ℤ) (h : IsBorder b v last next) → MissesBy b v rate miss
     → SameRate h.rate h.coming
 rates_at b v last next rate miss h by =
-    let own : rate ≡ h.own = some_is rate h.own (sym by.rate_is ∙ h.own_is) in
-    let coming : by.next ≡ h.coming = some_is by.next h.coming (sym by.next_is ∙ h.read_is) in
+    let own : rate ≡ h.own = same_Some rate h.own (sym by.rate_is ∙ h.own_is) in
+    let coming : by.next ≡ h.coming = same_Some by.next h.coming (sym by.next_is ∙ h.read_is) in
     let same : SameRate h.own h.coming =
     subst (λ (r : Ratio). SameRate h.own r) coming (subst (λ (r : Ratio). SameRate r by.next) own by.same) in
     same_rates h.own.num h.own.den h.rate.num h.rate.den h.coming.num h.coming.den h.own_counts.1 (sym h.same) same
 
 close_follows : (b v last next : View) → IsBorder b v last next → IsClose b v → Follows last next
 close_follows b v last next h (rate, (miss, (by, close))) =
-    let own : rate ≡ h.own = some_is rate h.own (sym by.rate_is ∙ h.own_is) in
+    let own : rate ≡ h.own = same_Some rate h.own (sym by.rate_is ∙ h.own_is) in
     let step = step_in (leap_of b.bytes) in
     let read : 4 * (unsigned_abs (miss_of (start_of b) (count_of b) rate step (start_of v)) + rate.num)
     ≤ rate.den * 10 ^ 6 =
@@ -311,7 +310,7 @@ record Shows (R : View → View → Type 0) (why : ℕ → Why) : Type 0 where
 never_far : (b v : View) (rate : Ratio) (miss : ℤ) (size : ℕ) → unsigned_abs miss ≡ size → MissesBy b v rate miss
     → IsFar rate size → ¬ (Follows b v)
 never_far b v rate miss size e by far (own, (next, follows)) =
-    let same : own ≡ rate = some_is own rate (sym follows.before_is ∙ by.rate_is) in
+    let same : own ≡ rate = same_Some own rate (sym follows.before_is ∙ by.rate_is) in
     let joins : Joins (start_of b) (count_of b) rate (step_in (leap_of b.bytes)) (start_of v) =
     subst (λ (r : Ratio). Joins (start_of b) (count_of b) r (step_in (leap_of b.bytes)) (start_of v)) same
     follows.joins in
@@ -330,7 +329,7 @@ gaps_show = record { apart = gap_apart; found = gap_found }
     gap_found : (b v last next : View) → LeavesGap b v → IsBorder b v last next
         → (us : ℕ) × IsFound (Some last) next (Some (Gap us))
     gap_found b v last next (rate, (miss, (by, far))) h =
-        let own : rate ≡ h.own = some_is rate h.own (sym by.rate_is ∙ h.own_is) in
+        let own : rate ≡ h.own = same_Some rate h.own (sym by.rate_is ∙ h.own_is) in
         let step = step_in (leap_of b.bytes) in
         let is : miss_of (start_of b) (count_of b) h.own step (start_of v) ≡ pos miss =
         subst (λ (r : Ratio). miss_of (start_of b) (count_of b) r step (start_of v) ≡ pos miss) own by.miss_is in
@@ -359,7 +358,7 @@ overlaps_show = record { apart = overlap_apart; found = overlap_found }
     overlap_found : (b v last next : View) → Overlaps b v → IsBorder b v last next
         → (us : ℕ) × IsFound (Some last) next (Some (Overlap us))
     overlap_found b v last next (rate, (miss, (by, far))) h =
-        let own : rate ≡ h.own = some_is rate h.own (sym by.rate_is ∙ h.own_is) in
+        let own : rate ≡ h.own = same_Some rate h.own (sym by.rate_is ∙ h.own_is) in
         let step = step_in (leap_of b.bytes) in
         let is : miss_of (start_of b) (count_of b) h.own step (start_of v) ≡ neg_ℤ (pos miss) =
         subst (λ (r : Ratio). miss_of (start_of b) (count_of b) r step (start_of v) ≡ neg_ℤ (pos miss)) own
@@ -499,7 +498,7 @@ each_laid_sound : Layers → (ss : List (List View)) (ws : List View) → AreLai
 each_laid_sound laws [] ws e = subst (λ (us : List View). AllByRecursion IsSound us) (sym e) tt
 each_laid_sound laws (s ∷ ss) ws (own, (rest, (parts, here, more))) =
     subst (λ (us : List View). AllByRecursion IsSound us) (sym parts)
-    (each_of_both IsSound own rest (own_continuous laws s own here).each (each_laid_sound laws ss rest more))
+    (All-append IsSound own rest (own_continuous laws s own here).each (each_laid_sound laws ss rest more))
 
 all_follow : Layers → (vs : List View) (ss : List (List View)) (ws : List View) → AllNeighbours IsClose vs
     → AreStretchesUpTo vs ss [] → AreLaid ss ws → AllNeighbours Follows ws

@@ -1,8 +1,9 @@
 -- What the stretches of a channel were packed into reads back, and is one list of records.
 use Rattle.std.proofs.Common.{◌≡◌, ℕ, ℤ, ◌+◌, ◌<◌, ◌≤◌, List, [], ◌∷◌, ◌++◌, length, refl, sym, ap, subst, ◌∙◌, Some}
-use Rattle.std.proofs.Common.{append_assoc, append-nil, arith, drop, get_or, length-append}
+use Rattle.std.proofs.Common.{append_assoc, append-nil, arith, length-append}
 use Rattle.std.proofs.Math.Bridge.{le_prop}
 use Rattle.std.specs.List.{AllByRecursion, concat}
+use Rattle.std.proofs.lemmas.List.{same_from_push}
 use Rattle.mseed_time.specs.Rate.{Ratio}
 use Rattle.mseed_record.specs.View.{View, IsView}
 use Rattle.mseed_stream.specs.Device.{BytesRead}
@@ -184,15 +185,6 @@ ends_apart {X} xs x e =
     let long : length (xs ++ x ∷ []) ≡ length xs + 1 = length-append xs (x ∷ []) in
     omega (arith, size, long)
 
-pub snoc_one : {X : Type 0} (xs ys : List X) (x y : X) → xs ++ x ∷ [] ≡ ys ++ y ∷ [] → (xs ≡ ys) × (x ≡ y)
-snoc_one {X} [] [] x y e = (refl, ap (λ (zs : List X). get_or zs 0 x) e)
-snoc_one {X} [] (z ∷ ys) x y e = absurd (ends_apart ys y (ap (λ (zs : List X). drop 1 zs) e))
-snoc_one {X} (z ∷ xs) [] x y e = absurd (ends_apart xs x (sym (ap (λ (zs : List X). drop 1 zs) e)))
-snoc_one {X} (w ∷ xs) (z ∷ ys) x y e =
-    let same : w ≡ z = ap (λ (zs : List X). get_or zs 0 w) e in
-    let rest = snoc_one xs ys x y (ap (λ (zs : List X). drop 1 zs) e) in
-    (ap (λ (v : X). v ∷ xs) same ∙ ap (λ (zs : List X). z ∷ zs) rest.0, rest.1)
-
 -- What laws of lower rooms say.
 pub record OneLaws : Type 0 where
   pub cut : (vs : List View) (ss ts : List (List View)) → AreStretches vs ss → AreStretches vs ts → ss ≡ ts
@@ -214,7 +206,7 @@ one_on laws o _ _ _ _ packed_none (packed_more ts t qs own other q on_other ther
 one_on laws o _ _ _ _ (packed_more ss s rs others next p on here) packed_none e = absurd (ends_apart ss s (sym e))
 one_on laws o _ _ _ _ (packed_more ss s rs others next p on here) (packed_more ts t qs own other q on_other there)
     e =
-    let parts = snoc_one ss ts s t e in
+    let parts = same_from_push ss ts s t e in
     let before : rs ≡ qs = one_on laws o ss ts rs qs p q parts.0 in
     let same : next ≡ other = one_next o next other (length rs) on
     (subst (λ (xs : List (List ℕ)). IsNumberedOn o (length xs) other) (sym before) on_other) in

@@ -10,15 +10,6 @@ pub each_at_back : {X : Type 0} (P : X → Type 0) (xs ys : List X) → AllByRec
 each_at_back P [] ys all = all
 each_at_back P (x ∷ xs) ys all = each_at_back P xs ys all.1
 
-pub each_of_both : {X : Type 0} (P : X → Type 0) (xs ys : List X) → AllByRecursion P xs → AllByRecursion P ys
-    → AllByRecursion P (xs ++ ys)
-each_of_both P [] ys all more = more
-each_of_both P (x ∷ xs) ys all more = (all.0, each_of_both P xs ys all.1 more)
-
-pub each_more : {X : Type 0} (P : X → Type 0) (xs : List X) (x : X) → AllByRecursion P xs → P x
-    → AllByRecursion P (xs ++ x ∷ [])
-each_more P xs x all here = each_of_both P xs (x ∷ []) all (here, tt)
-
 pub each_kept : {X : Type 0} (P : X → Type 0) (p : X → Bool) (xs : List X) → AllByRecursion P xs
     → AllByRecursion P (filter p xs)
 each_kept P p [] all = tt

@@ -9,6 +9,8 @@ use Rattle.std.proofs.lemmas.List.Elements.{All-head, All-tail}
 use Rattle.std.proofs.Math.Seq.{take-append_seam}
 use Rattle.std.proofs.lemmas.List.Folds.{concat-append}
 use Rattle.std.specs.List.{AllByRecursion, concat}
+use Rattle.std.proofs.ByRecursion.{All-push}
+use Rattle.std.proofs.lemmas.Option.{none-some}
 use Rattle.mseed_record.specs.Record.{IsRecord}
 use Rattle.mseed_record.specs.View.{View}
 use Rattle.mseed_record.proofs.Called.{record_long}
@@ -39,7 +41,6 @@ use Rattle.mseed_repack.specs.Repack.{IsPackedInPart, IsPartPacked, IsRepacking,
 use Rattle.mseed_repack.specs.Repack.{Wrote, records_in}
 use Rattle.mseed_repack.specs.declared.fault.RepackFault.{RepackFault}
 use Rattle.mseed_repack.specs.declared.fault.RepackFault.TheVariants.{Stream, Broken, Misfit, Write, Memory}
-use Rattle.mseed_repack.proofs.Each.{each_more}
 use Rattle.mseed_repack.proofs.Texts.{AreEither, AreParts, Either, HasOne, either_part, one_text, part_prefix}
 
 -- What a law of a lower room says.
@@ -188,7 +189,7 @@ turns_fewer bytes rest n records all g a =
     ∙ ap (λ (xs : List ℕ). xs ++ drop k behind) (sym one)))) in
     let less : length (records ++ last ∷ []) ≤ length all =
     fewer bytes (drop k behind) rest (records ++ last ∷ []) all
-    (each_more IsRecord records last g.before.each g.further.1.1) joined a in
+    (All-push IsRecord records last g.before.each g.further.1.1) joined a in
     omega (arith, less, length-append records (last ∷ []))
 
 turns_at : (bytes : List ℕ) (n : ℕ) (records : List (List ℕ)) → GoesOnAfter bytes n records
@@ -257,16 +258,13 @@ one_unread h f g o p (inl a) (inr b) = absurd (goes_on h f o a b.0)
 one_unread h f g o p (inr a) (inl b) = absurd (goes_on h g p b a.0)
 one_unread h f g o p (inr a) (inr b) = same_split h.bytes f g (broke h.bytes f o a.2) (broke h.bytes g p b.2)
 
-not_none : (f : StreamFault) → None ≡ Some f → ⊥
-not_none f e = cc
-
 whole_end : (bytes : List ℕ) (f : StreamFault) (all : List (List ℕ)) → Broke bytes f → IsArchive bytes all []
     → length all < 2 ^ 40 → ⊥
 whole_end bytes f all (by_end n rs end a d) archive few =
     let both : (rs ≡ all) × (drop n bytes ≡ []) = one_archive bytes rs all (drop n bytes) [] a.archive archive in
     let ends : end ≡ clean = one_end [] end clean (subst (λ (xs : List ℕ). IsEndOf xs end) both.1 a.ends)
     (is_clean refl) in
-    not_none f (ap (at n) (sym ends) ∙ d)
+    none-some f (ap (at n) (sym ends) ∙ d)
 whole_end bytes f all (by_turns n rs a count d) archive few =
     omega (arith, turns_fewer bytes [] n rs all a archive, count, few)
 

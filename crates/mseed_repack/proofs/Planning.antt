@@ -5,6 +5,8 @@ use Rattle.std.proofs.Common.{length-append}
 use Rattle.std.specs.List.{AllByRecursion, concat}
 use Rattle.std.proofs.lemmas.List.{drop_all, drop_more, take-append-drop, take_all, take_more}
 use Rattle.std.proofs.lemmas.List.Folds.{concat-append}
+use Rattle.std.proofs.ByRecursion.{All-push}
+use Rattle.std.proofs.lemmas.List.{same_from_push}
 use Rattle.mseed_record.specs.View.{View}
 use Rattle.mseed_stream.specs.Device.{BytesWritten}
 use Rattle.mseed_audit.specs.Follows.{IsSound}
@@ -31,8 +33,8 @@ use Rattle.mseed_repack.specs.declared.standing.Standing.{Standing}
 use Rattle.mseed_repack.specs.declared.standing.Standing.TheVariants.{Fit, Broken, Misfit}
 use Rattle.mseed_repack.specs.declared.stretching.Cutting.{Cutting}
 use Rattle.mseed_repack.specs.declared.stretching.Cutting.TheVariants.{Whole, Stretches}
-use Rattle.mseed_repack.proofs.ChannelReadBack.{ends_apart, one_next, snoc_one}
-use Rattle.mseed_repack.proofs.Each.{each_at_back, each_in_leading, each_more}
+use Rattle.mseed_repack.proofs.ChannelReadBack.{ends_apart, one_next}
+use Rattle.mseed_repack.proofs.Each.{each_at_back, each_in_leading}
 use Rattle.mseed_repack.proofs.ReadChannels.{steps_append}
 use Rattle.mseed_repack.proofs.Stretched.{fits_on, on_more, on_none}
 
@@ -152,7 +154,7 @@ pub fit_more : {o : Options} {room : ℕ} {ps : List Plan} {ss rest back : List 
 fit_more {o = o} {room = room} {ps = ps} {ss = ss} {rest = rest} {back = back} {s = s} next p h e le one goes = record {
   done = h.done ++ s ∷ [];
   parts = parts_more ss h.done rest back s h.parts e;
-  fit = each_more (StretchFits o) h.done s h.fit one;
+  fit = All-push (StretchFits o) h.done s h.fit one;
   ways = each_goes_more o.encoding room next ps p h.done s le h.ways goes;
   number_is = let size = length-append h.done (s ∷ []) in omega (arith, h.number_is, size);
 }
@@ -439,7 +441,7 @@ on_one : (o : Options) (ss : List (List View)) (s : List View) (records : List (
     → ss ≡ s ∷ [] → IsStretchPacked o s records
 on_one o _ s _ none e = absurd (ends_apart [] s e)
 on_one o _ s _ (more ss t records others next before on here) e =
-    let same = snoc_one ss [] t s e in
+    let same = same_from_push ss [] t s e in
     let first : records ≡ [] = on_nothing o ss records before same.0 in
     subst (λ (rs : List (List ℕ)). IsStretchPacked o s (rs ++ others)) (sym first)
     (subst (λ (us : List View). IsStretchPacked o us others) same.1

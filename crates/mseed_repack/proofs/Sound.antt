@@ -5,6 +5,7 @@ use Rattle.std.proofs.Common.{take, get_or, sym, ap, refl, subst, ◌∙◌, nat
 use Rattle.std.specs.List.{AllByRecursion}
 use Rattle.std.proofs.lemmas.Bool.{false≢true, ltb-true}
 use Rattle.std.proofs.lemmas.List.{map_more}
+use Rattle.std.proofs.ByRecursion.{All-push}
 use Rattle.mseed_time.specs.Rate.{Ratio}
 use Rattle.mseed_record.specs.Header.{key_at}
 use Rattle.mseed_record.specs.View.{View}
@@ -20,7 +21,6 @@ use Rattle.mseed_audit.specs.declared.finding.Why.{Why}
 use Rattle.mseed_audit.proofs.Continuity.{HaveOneReading}
 use Rattle.mseed_repack.specs.private.Archives.{AreAlone, has_own}
 use Rattle.mseed_repack.specs.private.Reading.{channel_in}
-use Rattle.mseed_repack.proofs.Each.{each_more}
 
 -- a record of which no finding of its own is found
 sound_found : HaveOneReading → (before : Option View) (v : View) (why : Option Why) → IsFound before v why
@@ -62,4 +62,4 @@ alone_next Such rs n r lt is before here =
     let next : map view_of (take (n + 1) rs) ≡ map view_of (take n rs) ++ view_of r ∷ [] =
     map_more view_of rs n r lt ∙ ap (λ (q : RecordView). map view_of (take n rs) ++ view_of q ∷ []) (sym is) in
     subst (AreAlone Such) (sym next)
-    (each_more (λ (v : View). 0 < count_of v → Such v) (map view_of (take n rs)) (view_of r) before here)
+    (All-push (λ (v : View). 0 < count_of v → Such v) (map view_of (take n rs)) (view_of r) before here)

@@ -11,6 +11,7 @@ use Rattle.std.specs.List.Sorted.{IsStrictlySortedBy}
 use Rattle.std.proofs.lemmas.List.{map-append}
 use Rattle.std.proofs.lemmas.List.Elements.{filter-append}
 use Rattle.std.proofs.lemmas.List.Folds.{concat-append}
+use Rattle.std.proofs.ByRecursion.{All-append}
 use Rattle.mseed_record.specs.Header.{key_at}
 use Rattle.mseed_record.specs.View.{View, IsView}
 use Rattle.mseed_stream.specs.Device.{BytesRead}
@@ -27,7 +28,6 @@ use Rattle.mseed_repack.specs.Restretch.{ChannelFits}
 use Rattle.mseed_repack.specs.declared.standing.Standing.{Standing}
 use Rattle.mseed_repack.specs.declared.standing.Standing.TheVariants.{Fit, Broken, Misfit}
 use Rattle.mseed_repack.proofs.Bordered.{Layers, own_of}
-use Rattle.mseed_repack.proofs.Each.{each_of_both}
 use Rattle.mseed_repack.proofs.ChannelReadBack.{each_restretching}
 use Rattle.mseed_repack.proofs.ReadBack.{all_records, none_further, others_by}
 
@@ -91,7 +91,7 @@ each_view : (views : List View) (cs : List Channel) (ws : List View) → AreOf v
 each_view views [] ws e = subst (λ (us : List View). AllByRecursion IsView us) (sym e) tt
 each_view views (c ∷ cs) ws (own, (rest, (parts, here, more))) =
     subst (λ (us : List View). AllByRecursion IsView us) (sym parts)
-    (each_of_both IsView own rest here.each (each_view views cs rest more))
+    (All-append IsView own rest here.each (each_view views cs rest more))
 
 -- The keys of channels rise, so that no two are the same.
 

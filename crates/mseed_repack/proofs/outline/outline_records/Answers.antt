@@ -1,8 +1,8 @@
 use Rattle.std.proofs.Common.{[], length-append, ◌∷◌, arith}
+use Rattle.std.proofs.ByRecursion.{All-push}
 use Rattle.mseed_record.specs.Viewing.{view_of}
 use Rattle.mseed_audit.specs.Follows.{IsSound}
 use Rattle.mseed_repack.specs.private.Supplying.{IsUnpackable}
-use Rattle.mseed_repack.proofs.Each.{each_more}
 use Rattle.mseed_repack.proofs.Outlines.{outline_is, outlined_more, outlined_none}
 use Rattle.mseed_repack.proofs.Walks.{AreOutlinedSo, few_so_far, gone_all, gone_more, gone_none, next_gone, next_of}
 use Rattle.mseed_repack.proofs.Walks.{steps_so_far}
@@ -47,7 +47,7 @@ loop-view-preserved g c =
             l.outline.nearness o.nearness sound.samples l.steps c.outline_record-outline.new.steps (h.holds.1 key)
             sound.whole e.samples e.steps e.steps_count e.nearness,
         λ so.
-            each_more IsUnpackable h.gone (view_of c.in-Some.view) (h.holds.2 (e.unpackable so).0) (e.unpackable so).1,
+            All-push IsUnpackable h.gone (view_of c.in-Some.view) (h.holds.2 (e.unpackable so).0) (e.unpackable so).1,
       ),
     )
 

@@ -1,12 +1,9 @@
-use Rattle.std.proofs.Common.{[], ap, sym, subst, ◌∙◌, ◌++◌, ◌∷◌, ◌^◌, ◌-◌, List, ℕ, Result, Ok, Err, OnOk}
+use Rattle.std.proofs.Common.{[], ap, sym, subst, ◌∙◌, ◌++◌, ◌∷◌, ◌^◌, ◌-◌, List, ℕ}
+use Rattle.std.proofs.lemmas.Result.{on_ok_weaker}
 use Rattle.mseed_repack.specs.private.Planning.{IsCutAs, stretches_by}
 use Rattle.mseed_repack.specs.declared.stretching.Cutting.{Cutting}
 use Rattle.mseed_repack.proofs.Planning.{are_cut, whole_is}
 use Rattle.mseed_repack.proofs.stretching.cut_records.Goals as goal
-
-on_ok : {U E : Type 0} {P Q : Type 0} (r : Result U E) → (P → Q) → OnOk r P → OnOk r Q
-on_ok (Ok u) is h = is h
-on_ok (Err e) is h = tt
 
 pub returns-in_ok-push-in-Whole : goal.returns-in_ok-push-in-Whole
 returns-in_ok-push-in-Whole g c =
@@ -18,6 +15,6 @@ returns-in_ok-push-in-Whole g c =
 pub returns-in-Stretches : goal.returns-in-Stretches
 returns-in-Stretches g c =
     let vs = g.R.Walk.left c.args.records in
-    on_ok c.cut_stretches.result (λ cut. subst (λ (cutting : Cutting). IsCutAs cutting vs
+    on_ok_weaker c.cut_stretches.result (λ cut. subst (λ (cutting : Cutting). IsCutAs cutting vs
     (stretches_by c.cut_stretches.new.lengths.items vs)) (sym c.in-Stretches.is)
     (are_cut c.cut_stretches.new.lengths.items vs cut)) c.cut_stretches.ensures
