@@ -1,6 +1,7 @@
 //! Records that are gathered, to be written at once.
 ghost use Rattle.std.specs.Prelude.{◌≡◌, ◌^◌, ◌<◌, ◌≤◌, ℤ, List, length, take, drop};
 ghost use Rattle.mseed_audit.specs.Series.{AreSteps};
+ghost use Rattle.mseed_pack.specs.declared.record.TheConstants.{LONGEST};
 ghost use Rattle.mseed_pack.specs.private.Spans.{CanGoOn, ComesTo, StandsAt, IsSpan};
 
 use crate::options::Options;
@@ -54,7 +55,7 @@ pub(crate) fn gather<S, F: Filler<S>>(
     out: &mut [u8],
 ) -> Batch
     requires on { (samples : List ℤ) × CanGoOn F.stands job.now filler.old supply.old place samples }
-    requires long { 4096 ≤ length out.old }
+    requires long { LONGEST ≤ length out.old }
     ensures to { (samples : List ℤ) → CanGoOn F.stands job.now filler.old supply.old place samples
         → ComesTo F.stands job.now filler.new supply.new place result.next (take result.bytes out.new) samples }
     ensures standing { StandsAt job.now.head.now.steps.now job.now.head.now.count result.next }

@@ -5,6 +5,7 @@ ghost use Rattle.mseed_steim.specs.Frames.{word_at};
 ghost use Rattle.mseed_steim.specs.Lookahead.{IsLookahead};
 ghost use Rattle.mseed_steim.specs.Packed.{IsRunPacked};
 ghost use Rattle.mseed_steim.specs.Spelling.{IsWithin};
+ghost use Rattle.mseed_pack.specs.declared.window.TheConstants.{ROOM};
 ghost use Rattle.mseed_pack.specs.private.Filling.{AreBegun, AreFrames, AreLeft, AreRunEnds, AreSet, AreTaken, GoesOn};
 ghost use Rattle.mseed_pack.specs.private.Filling.{Holds, HoldsDifferences, HoldsInFrames, width_of};
 ghost use Rattle.mseed_pack.specs.private.Marks.{sample_before};
@@ -173,7 +174,7 @@ fn pack_part(
     requires low { window.old.first ≤ first }
     requires order { first ≤ end }
     requires high { end ≤ window.old.end }
-    requires room { window.old.end ≤ window.old.first + 7056 }
+    requires room { window.old.end ≤ window.old.first + ROOM }
     requires fit { All (IsWithin (width_of scheme))
         (slice_range window.old.differences (first - window.old.first) (end - window.old.first)) }
     requires known { (more : List ℤ) × IsLookahead scheme known.old

@@ -1,6 +1,7 @@
 //! Packing into a room that the caller lends.
 ghost use Rattle.std.specs.Prelude.{◌≡◌, ◌≤◌, ◌<◌, ◌++◌, List, ℤ, length, take, drop};
 ghost use Rattle.mseed_audit.specs.Series.{AreSteps};
+ghost use Rattle.mseed_pack.specs.declared.record.TheConstants.{LONGEST};
 ghost use Rattle.mseed_pack.specs.Fitting.{Fits};
 ghost use Rattle.mseed_pack.specs.Outcome.{FillsRoom};
 ghost use Rattle.mseed_pack.specs.private.Filling.{StandsInList};
@@ -11,10 +12,8 @@ use crate::batch::{Batch, Job, Place, first_place, gather};
 use crate::listed::Listed;
 use crate::options::Options;
 use crate::payloads::Payloads;
+use crate::record::LONGEST;
 use crate::series_view::SeriesView;
-
-/// The bytes of the longest record.
-const LONGEST: usize = 4096;
 
 /// [`Packer::pack_fitting`](crate::Packer::pack_fitting) into a room, which takes as many bytes of the records as it
 /// has, and answers how many records there are. What lies behind them stays as it was. The numbers of samples before
@@ -54,7 +53,7 @@ fn fill_on(
     room: &mut [u8],
 ) -> Batch
     requires on { (samples : List ℤ) × CanGoOn StandsInList job.now payloads.old list.old place samples }
-    requires long { 4096 ≤ length records.old }
+    requires long { LONGEST ≤ length records.old }
     ensures to { (samples : List ℤ) → CanGoOn StandsInList job.now payloads.old list.old place samples
         → IsFilledTo job.now payloads.new list.new place result room.old room.new samples }
     ensures standing { StandsAt job.now.head.now.steps.now job.now.head.now.count result.next }

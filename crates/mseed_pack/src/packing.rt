@@ -2,6 +2,7 @@
 ghost use Rattle.std.specs.Prelude.{◌≡◌, ◌^◌, ◌<◌, ◌≤◌, IfErr, IfOk, List, length, ℤ};
 ghost use Rattle.mseed_stream.specs.Calls.{WritesOn};
 ghost use Rattle.mseed_audit.specs.Series.{AreSteps};
+ghost use Rattle.mseed_pack.specs.declared.record.TheConstants.{LONGEST};
 ghost use Rattle.mseed_pack.specs.Fitting.{Fits};
 ghost use Rattle.mseed_pack.specs.FewestWords.{EachHasFewestWords};
 ghost use Rattle.mseed_pack.specs.Outcome.{IsOutcome, IsTrace, EmittedAll, EmittedPrefix};
@@ -212,7 +213,7 @@ fn write_records<S, F: Filler<S>, W: Sink>(
 ) -> Result<u64, u128>
     requires steps { AreSteps job.now.head.now.count job.now.head.now.steps.now }
     requires begins { (samples : List ℤ) × CanBegin F.stands job.now filler.old supply.old samples }
-    requires long { 4096 ≤ length room.old }
+    requires long { LONGEST ≤ length room.old }
     ensures ok { IfOk result (λ count. (samples : List ℤ) → CanBegin F.stands job.now filler.old supply.old samples
         → EmittedAll (headed job.now.head.now samples) job.now.options.now count (W.written sink.old)
         (W.written sink.new)) }

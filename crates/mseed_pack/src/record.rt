@@ -1,6 +1,7 @@
 //! One record of a packing.
 ghost use Rattle.std.specs.Prelude.{◌≡◌, ◌+◌, ◌^◌, ◌%◌, ◌<◌, ◌≤◌, length, List, ℕ, ℤ, IsSome, IfSome};
 ghost use Rattle.mseed_record.specs.Fields.{header_of};
+ghost use Rattle.mseed_pack.specs.declared.record.TheConstants.{LONGEST, SHORTEST};
 ghost use Rattle.mseed_pack.specs.Fitting.{HasTimeOutside};
 ghost use Rattle.mseed_pack.specs.Packing.{IsHeaderOf};
 ghost use Rattle.mseed_pack.specs.Traces.{headed};
@@ -16,6 +17,12 @@ use crate::span::Span;
 use mseed_record::{Fields, write_header};
 use mseed_time::LeapStep;
 
+/// The bytes of the shortest record.
+pub(crate) const SHORTEST: usize = 128;
+
+/// The bytes of the longest record.
+pub(crate) const LONGEST: usize = 4096;
+
 /// The bytes of a header with its two blockettes.
 const HEADER: usize = 64;
 
@@ -25,8 +32,8 @@ const NUMBERS: u64 = 1_000_000;
 /// The bytes of a record.
 pub(crate) fn length_of(options: &Options) -> usize
     ensures value { result ≡ 2 ^ options.now.exponent }
-    ensures long { 128 ≤ result }
-    ensures short { result ≤ 4096 }
+    ensures long { SHORTEST ≤ result }
+    ensures short { result ≤ LONGEST }
     ensures whole { result % 64 ≡ 0 }
 {
     1 << options.exponent
@@ -101,8 +108,8 @@ pub(crate) fn write_record<S, F: Filler<S>>(
     requires on { (samples : List ℤ) × CanGoOn F.stands job.now filler.old supply.old place samples }
     requires end { place.first < place.span.end }
     requires size { length out.old ≡ 2 ^ job.now.options.now.exponent }
-    requires long { 128 ≤ length out.old }
-    requires short { length out.old ≤ 4096 }
+    requires long { SHORTEST ≤ length out.old }
+    requires short { length out.old ≤ LONGEST }
     requires whole { length out.old % 64 ≡ 0 }
     ensures recorded { (samples : List ℤ) → CanGoOn F.stands job.now filler.old supply.old place samples
         → IsRecorded F.stands job.now filler.new supply.new place result out.new samples }

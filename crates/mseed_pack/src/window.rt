@@ -23,6 +23,7 @@ impl Window {
     ghost use Rattle.std.specs.Prelude.{◌≡◌, ℤ, ◌+◌, ◌-ℤ◌, ◌^◌, ◌<◌, ◌≤◌, List, length, min, pos, slice_index_or, All};
     ghost use Rattle.std.specs.Int.{int_wrap, w32};
     ghost use Rattle.mseed_steim.specs.Spelling.{IsWithin};
+    ghost use Rattle.mseed_pack.specs.declared.window.TheConstants.{ROOM};
     ghost use Rattle.mseed_pack.specs.private.Filling.{Draws, HoldsDifferences};
     ghost use Rattle.mseed_pack.specs.private.Marks.{IsMark, sample_before};
 
@@ -53,7 +54,7 @@ impl Window {
     pub(crate) fn hold<S: Supply>(&mut self, supply: &mut S, first: usize, count: usize)
         requires drawn { (samples : List ℤ) × (Draws S.supplies samples supply.old self.old first
             × (first + count ≤ length samples) × (length samples < 2 ^ 64)) }
-        requires few { count ≤ 7056 }
+        requires few { count ≤ ROOM }
         ensures drawn { (samples : List ℤ) → Draws S.supplies samples supply.old self.old first
             → first + count ≤ length samples
             → Draws S.supplies samples supply.new self.new first × (first + count ≤ self.new.end) }
@@ -68,7 +69,7 @@ impl Window {
 
     /// Lets go of the differences before that of a sample.
     fn begin_at(&mut self, first: usize)
-        requires few { self.old.end ≤ self.old.first + 7056 }
+        requires few { self.old.end ≤ self.old.first + ROOM }
         requires low { self.old.first ≤ first }
         requires high { first ≤ self.old.end }
         ensures held { (samples : List ℤ) → HoldsDifferences samples self.old → HoldsDifferences samples self.new }
@@ -88,7 +89,7 @@ impl Window {
         ensures held { (samples : List ℤ) → HoldsDifferences samples self.old
             → S.supplies supply.old samples self.old.end
             → HoldsDifferences samples self.new × S.supplies supply.new samples self.new.end
-            × (self.old.end ≤ self.new.end) × (min (length samples) (self.old.first + 7056) ≤ self.new.end) }
+            × (self.old.end ≤ self.new.end) × (min (length samples) (self.old.first + ROOM) ≤ self.new.end) }
         ensures beside { S.beside supply.new ≡ S.beside supply.old }
     {
         while self.end - self.first < ROOM {
@@ -103,7 +104,7 @@ impl Window {
     fn take<S: Supply>(&mut self, supply: &mut S) -> usize
         requires supplied { (samples : List ℤ) × (HoldsDifferences samples self.old
             × S.supplies supply.old samples self.old.end × (length samples < 2 ^ 64)) }
-        requires room { self.old.end < self.old.first + 7056 }
+        requires room { self.old.end < self.old.first + ROOM }
         ensures first { self.new.first ≡ self.old.first }
         ensures end { self.new.end ≡ self.old.end + result }
         ensures held { (samples : List ℤ) → HoldsDifferences samples self.old

@@ -12,6 +12,7 @@ use Rattle.mseed_steim.specs.declared.encoding.Encoding.TheVariants.{Int16, Int3
 use Rattle.mseed_pack.specs.declared.payload.Filled.{Filled}
 use Rattle.mseed_pack.specs.declared.payload.Left.{Left}
 use Rattle.mseed_pack.specs.declared.payloads.Payloads.{Payloads}
+use Rattle.mseed_pack.specs.declared.window.TheConstants.{ROOM}
 use Rattle.mseed_pack.specs.declared.window.Window.{Window}
 use Rattle.mseed_pack.specs.private.Marks.{AreMarks, sample_before}
 use Rattle.mseed_pack.specs.Packing.{HoldsFrames, HoldsSamples}
@@ -47,7 +48,7 @@ integer_bytes width z = big_bytes width (residue (2 ^ (8 * width)) z)
 pub record HoldsDifferences (samples : List ℤ) (window : Window) : Type 0 where
   pub order : window.first ≤ window.end
   pub inside : window.end ≤ length samples
-  pub few : window.end ≤ window.first + 7056
+  pub few : window.end ≤ window.first + ROOM
   pub each : (k : ℕ) → k < window.end - window.first
       → slice_index_or window.differences k (pos 0) ≡ slice_index_or (differences samples) (window.first + k) (pos 0)
   pub marked : AreMarks samples window.marks
