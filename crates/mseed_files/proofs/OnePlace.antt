@@ -1,6 +1,6 @@
 -- An offset has one place in files whose bytes are known.
 use Rattle.std.proofs.Common.{◌≡◌, ℕ, zero, suc, ◌+◌, ◌<◌, ◌≤◌, ◌++◌, List, [], ◌∷◌, length, Option, Some, None, refl}
-use Rattle.std.proofs.Common.{sym, ap, ◌∙◌, subst, arith}
+use Rattle.std.proofs.Common.{ap, ◌∙◌, subst, arith}
 use Rattle.mseed_files.specs.Files.{Contents, joined}
 use Rattle.mseed_files.specs.ChainState.{IsPlace, ChainState, before}
 use Rattle.mseed_files.specs.declared.place.Place.{Place}

@@ -1,16 +1,14 @@
 -- What opening the next of several files keeps, and where the files that were opened begin.
-use Rattle.std.proofs.Common.{◌≡◌, ℕ, zero, suc, ◌+◌, ◌<◌, ◌≤◌, ◌++◌, List, [], ◌∷◌, length, take, drop, slice_index}
-use Rattle.std.proofs.Common.{Option, Some, None, IfSome, unwrap_or, Bool, true, false, is_some, refl, sym, ap, ◌∙◌}
+use Rattle.std.proofs.Common.{◌≡◌, ℕ, zero, suc, ◌+◌, ◌<◌, ◌++◌, List, [], ◌∷◌, length, drop, slice_index}
+use Rattle.std.proofs.Common.{Option, Some, None, IfSome, Bool, true, false, is_some, refl, sym, ap, ◌∙◌}
 use Rattle.std.proofs.Common.{Result, Ok, Err, IfOk, subst, arith, length-append, append_assoc}
 use Rattle.std.proofs.KnownBytes.{Consumes-kept, Consumes-nil, Keeps-trans}
 use Rattle.std.proofs.lemmas.List.{append-nil}
+use Rattle.std.proofs.lemmas.Option.{same_Some}
 use Rattle.std.specs.Io.KnownBytes.{Consumes, IsAtEnd, Keeps}
 use Rattle.mseed_files.specs.Files.{Contents, IsUnread, all_of, joined, unknown}
 use Rattle.mseed_files.specs.ChainState.{HasEnded, IsAlong, IsPlace, ChainState, before, left_in, remaining_of}
 use Rattle.mseed_files.specs.declared.place.Place.{Place}
-
-some_same : (xs ys : List ℕ) → Some xs ≡ Some ys → xs ≡ ys
-some_same xs ys e = ap (λ (o : Option (List ℕ)). unwrap_or o []) e
 
 -- nothing is left of a file that isn't open
 pub none_left : {F : Type 0} (remaining : F → Option (List ℕ)) (file : Option F) → is_some file ≡ false
@@ -54,7 +52,7 @@ record Next (files : Contents) (n : ℕ) (file : Option (List ℕ)) (xs : List �
 pub rest_known : (a : List ℕ) (p : Option (List ℕ)) (xs : List ℕ) → joined (Some a) p ≡ Some xs
     → (b : List ℕ) × ((p ≡ Some b) × (xs ≡ a ++ b))
 rest_known a None xs e = absurd (cc e)
-rest_known a (Some b) xs e = (b, (refl, sym (some_same (a ++ b) xs e)))
+rest_known a (Some b) xs e = (b, (refl, sym (same_Some (a ++ b) xs e)))
 
 next_known : (files : Contents) (n : ℕ) (file : Option (List ℕ)) (xs : List ℕ) → n < length files
     → IsUnread (drop n files) file → before files (suc n) ≡ Some xs → Next files n file xs
@@ -65,7 +63,7 @@ next_known (Some a ∷ files) zero file xs less unread known = record {
   bytes = a;
   prior_is = refl;
   file_is = unread;
-  whole = sym (some_same (a ++ []) xs known) ∙ append-nil a;
+  whole = sym (same_Some (a ++ []) xs known) ∙ append-nil a;
 }
 next_known (Some a ∷ files) (suc n) file xs less unread known =
     let b = rest_known a (before files (suc n)) xs known in
@@ -94,7 +92,7 @@ read_whole : (files : Contents) (begins : List ℕ) (is_open : Bool) (left : Opt
     → bytes ≡ length xs
 read_whole files begins is_open left bytes xs along none known =
     let read = along.read xs known in
-    let empty : read.0 ≡ [] = some_same read.0 [] (sym read.1.0 ∙ none) in
+    let empty : read.0 ≡ [] = same_Some read.0 [] (sym read.1.0 ∙ none) in
     let zero_long : length read.0 ≡ 0 = ap (λ (ys : List ℕ). length ys) empty in
     omega (arith, zero_long, read.1.1)
 
@@ -109,10 +107,8 @@ opened_along files after begins now is_open bytes left file same more less close
       few = omega (arith, longer, less);
       some = λ is. omega (arith, longer);
       closed = λ is. absurd (cc is);
-      begun = λ i xs within known. index_more begins bytes i (length xs) within
-          (λ inside. along.begun i xs inside known)
-          (λ last. read_whole files begins is_open left bytes xs along closed
-          (subst (λ (n : ℕ). before files n ≡ Some xs) last known));
+      begun = λ i xs within known. index_more begins bytes i _ within (λ inside. along.begun i xs inside known)
+          (λ last. read_whole _ _ _ _ _ xs along closed (subst (λ (n : ℕ). before files n ≡ Some xs) last known));
       read = λ xs known.
           let next : Next files (length begins) file xs = next_known files (length begins) file xs less unread
           (subst (λ (n : ℕ). before files n ≡ Some xs) longer known) in

@@ -4,6 +4,7 @@ ghost use Rattle.std.specs.Prelude.{IfOk, IfErr, IfSome, OnOk, OnErr, IsTrue, sl
 ghost use Rattle.std.specs.Io.{ReadsAtMost};
 ghost use Rattle.std.specs.Io.KnownBytes.{Consumes, Keeps, ReadConsumes};
 ghost use Rattle.mseed_files.specs.ChainState.{GoesOn, HasEnded, IsPlace, ChainState, remaining_of, unread};
+ghost use Rattle.mseed_files.specs.private.Steps.{steps_left};
 
 use crate::open::Open;
 use crate::place::Place;
@@ -108,9 +109,7 @@ impl<O: Open, A: Allocator> Chain<O, A> {
         ensures goes_on { GoesOn result self.old self.new }
         ensures known { Keeps (remaining_of self.old) (remaining_of self.new) }
         ensures ended { result ≡ Ok false → HasEnded self.new }
-        ensures opens { length self.old.begins ≤ length self.new.begins }
-        ensures within { length self.new.begins ≤ length self.new.contents }
-        ensures next { self.old.is_open ≡ false → result ≡ Ok true → length self.old.begins < length self.new.begins }
+        ensures nearer { result ≡ Ok true → steps_left (record self.new { is_open = false }) < steps_left self.old }
     {
         if self.file.is_some() {
             return Ok(true);
@@ -178,7 +177,6 @@ impl<O: Open, A: Allocator> Chain<O, A> {
         ensures bound { ReadsAtMost result buf.new }
         ensures known { IfOk result (λ n. Consumes (remaining_of self.old) (remaining_of self.new) (take n buf.new)) }
         ensures kept { OnErr result (Keeps (remaining_of self.old) (remaining_of self.new)) }
-        ensures length { length buf.new ≡ length buf.old }
         ensures goes_on { GoesOn result self.old self.new }
         ensures closed { result ≡ Ok 0 → self.new.is_open ≡ false }
         ensures opened { self.new.begins ≡ self.old.begins }

@@ -1,6 +1,5 @@
 use Rattle.std.proofs.Common.{◌≡◌, ◌<◌, ◌≤◌, ℕ, length, is_some, vec_capacity, drop, false, ap, subst, arith, rules}
 use Rattle.mseed_files.specs.Files.{Contents, IsUnread}
-use Rattle.mseed_files.specs.ChainState.{left_in}
 use Rattle.mseed_files.proofs.Opening.{none_left, opened_along}
 use Rattle.mseed_files.proofs.chain.Chain.has_file.Goals as goal
 
@@ -18,7 +17,6 @@ invariant_of-self g c =
     let room : length after ≤ vec_capacity c.put.new.numbers =
     omega (arith, count, c.self.invariant.0, c.put.ensures.capacity) in (
       room,
-      opened_along files after i.begins.items c.put.new.numbers.items (is_some i.file) i.bytes
-          (left_in g.O.File.Read.remaining i.file) (g.O.File.Read.remaining c.in-Ok.file) c.open.ensures.stays
-          c.put.ensures.items less (none_left g.O.File.Read.remaining i.file closed) unread c.self.invariant.1,
+      opened_along _ _ _ _ _ _ _ _ c.open.ensures.stays c.put.ensures.items less
+          (none_left g.O.File.Read.remaining i.file closed) unread c.self.invariant.1,
     )

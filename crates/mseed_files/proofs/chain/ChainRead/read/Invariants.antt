@@ -1,6 +1,7 @@
-use Rattle.std.proofs.Common.{◌≡◌, ◌+◌, ◌-◌, ◌*◌, ◌<◌, ◌≤◌, if◌then◌else◌, length}
+use Rattle.std.proofs.Common.{◌≡◌, ◌-◌, ◌<◌, length}
 use Rattle.std.specs.Io.KnownBytes.{Keeps}
 use Rattle.mseed_files.specs.ChainState.{remaining_of}
+use Rattle.mseed_files.specs.private.Steps.{steps_left}
 use Rattle.mseed_files.proofs.chain.ChainRead.read.Given as goal
 
 abbrev pub invariant-loop-self : goal.invariant-loop-self
@@ -12,5 +13,4 @@ invariant-loop-self g l = record {
 }
 
 abbrev pub decreases-loop-self : goal.decreases-loop-self
-decreases-loop-self g l =
-    2 * (length l.self.contents - length l.self.begins) + (if l.self.is_open then 1 else 0)
+decreases-loop-self g l = steps_left l.self

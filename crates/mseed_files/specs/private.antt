@@ -1,0 +1,2 @@
+-- Words of private functions and of proofs alone, which change as the code does: no public contract is stated by them.
+pub mod Steps
