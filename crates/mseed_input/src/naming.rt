@@ -134,7 +134,7 @@ fn report_fault_in<E: Sink>(alloc: Global, errors: &mut E, word: &[u8], offset: 
     report_named(alloc, errors, b"mseed: fault in ", word, after.as_slice());
 }
 
-/// Reports something of the file that a word names, in the words before the name and after it.
+/// Reports something of the file that a word names, by the text before the name and after it.
 fn report_named<E: Sink>(alloc: Global, errors: &mut E, before: &[u8], word: &[u8], after: &[u8])
     ensures { ReportsName (before.now ++ map printed_byte word.now ++ after.now) (E.written errors.old)
         (E.written errors.new) }

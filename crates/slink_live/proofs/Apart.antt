@@ -5,8 +5,7 @@ use Rattle.slink_feed.specs.declared.grant.Grant.{Grant}
 use Rattle.slink_feed.specs.declared.session.Phase.{Phase}
 use Rattle.slink_feed.specs.declared.session.Phase.TheVariants as Phases
 use Rattle.slink_feed.specs.Session.{Grants, IsWaiting, State, has_sent_all, at_next, grant_at, has_sent, packet_at}
-use Rattle.slink_feed.specs.Session.{sent}
-use Rattle.slink_feed.specs.Session.{sent_in, sent_of}
+use Rattle.slink_feed.specs.Session.{sent, sent_in, sent_of}
 use Rattle.slink_feed.specs.Window.{Window, record_at}
 use Rattle.slink_live.specs.declared.places.Places.{Places}
 use Rattle.slink_live.specs.declared.ready.Interest.{Interest}
@@ -128,5 +127,4 @@ pub updated_apart : (old new : List Window) (places : Places) (o : Option LinkSt
     → length new ≡ length old → StaysBut places old new → LeavesOut places o → o ≡ Some l
     → (has_ended : Bool) (w : Interest) → IsUpToDate old has_ended l w → IsUpToDate new has_ended l w
 updated_apart old new places o l long stays out is =
-    updated_on old new l long (λ streams. alike_by old new l.session.state.grants
-    (λ k g granted. stays k (out l is streams k g granted)))
+    updated_on old new l long (λ streams. alike_by _ _ _ (λ k g granted. stays k (out l is streams k g granted)))

@@ -1,9 +1,7 @@
 -- The input is cut into records: none is lost, whatever the pieces.
-use Rattle.std.proofs.Common.{◌≡◌, ℕ, ◌+◌, ◌-◌, ◌*◌, ◌<◌, ◌≤◌, ◌∙◌, ap, subst, refl, sym, arith, inl, inr}
-use Rattle.std.proofs.Common.{List, []}
+use Rattle.std.proofs.Common.{◌≡◌, ℕ, ◌+◌, ◌-◌, ◌*◌, ◌<◌, ◌≤◌, ◌∙◌, ap, subst, refl, sym, arith, inl, inr, List, []}
 use Rattle.std.proofs.Common.{◌∷◌, ◌++◌, length, length-append, length-take, append_assoc, append-nil, take, drop}
-use Rattle.std.proofs.Common.{take-append-drop}
-use Rattle.std.proofs.Common.{take_all, slice_get, Some}
+use Rattle.std.proofs.Common.{take-append-drop, take_all, slice_get, Some}
 use Rattle.std.proofs.lemmas.List.{take-append-le}
 use Rattle.std.proofs.lemmas.List.Folds.{concat-append}
 use Rattle.std.specs.List.{AllByRecursion, concat}
@@ -20,7 +18,7 @@ use Rattle.slink_feed.specs.Window.{Window}
 use Rattle.slink_feed.specs.declared.input.InputFault.{InputFault}
 use Rattle.slink_feed.specs.declared.input.InputFault.TheVariants.{Stream, Foreign}
 use Rattle.slink_feed.specs.Intake.{IsOfFeed, places_of, pushed}
-use Rattle.slink_live.specs.Input.{IsFaultIn, IsFedTo, IsOf, fed}
+use Rattle.slink_live.specs.Input.{IsFedTo, IsOf, fed}
 use Rattle.slink_live.specs.Served.{IntakeState, IsBelow}
 use Rattle.slink_live.specs.private.Cutting.{Cuts, CutsOff, IsRefused, LooksOn, waits, pushes}
 use Rattle.slink_feed.proofs.Deliveries.{take_prefix}
@@ -131,10 +129,7 @@ module _ (old now : IntakeState) (bytes chunk : List ℕ) (cuts : Cuts old bytes
       counted = ap (λ (s : IntakeState). s.records) same ∙ cuts.counted;
     };
     no_further = subst (λ ps. ¬ (IsOf ps (take 512 ((now.kept ++ chunk) ++ more)))) same_places (refused.none more);
-    is_fault = subst (λ n. IsFaultIn (places_of old.feed) n ((now.kept ++ chunk) ++ more) fault)
-        (sym (ap (λ (s : IntakeState). s.records) same))
-        (subst (λ ps. IsFaultIn ps now.records ((now.kept ++ chunk) ++ more) fault) same_places
-        (refused.is_fault more));
+    is_fault = rw (← (ap (λ (s : IntakeState). s.records) same)) at (rw same_places at (refused.is_fault more));
   }
 
 -- why no record of the feed begins

@@ -9,8 +9,7 @@ use Rattle.slink_feed.specs.declared.session.Phase.TheVariants as Phases
 use Rattle.slink_feed.specs.declared.session.Sent.{Sent}
 use Rattle.slink_feed.specs.declared.session.Sent.TheVariants as Sents
 use Rattle.slink_feed.specs.Session.{Grants, IsAtNext, IsWaiting, State, has_sent_all, at_next, grant_at, sent}
-use Rattle.slink_feed.specs.Session.{sent_bytes}
-use Rattle.slink_feed.specs.Session.{sent_in, sent_of}
+use Rattle.slink_feed.specs.Session.{sent_bytes, sent_in, sent_of}
 use Rattle.slink_feed.specs.Window.{Window}
 use Rattle.slink_feed.proofs.Done.{some_at}
 use Rattle.slink_feed.proofs.Reached.{sent_at_next}

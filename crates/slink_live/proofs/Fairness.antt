@@ -1,8 +1,8 @@
 -- No station of a link is passed over.
 use Rattle.std.proofs.Common.{◌≡◌, ◌≢◌, ℕ, ◌+◌, ◌%◌, ◌^◌, ◌<◌, ◌≤◌, ◌⊎◌, ◌==◌, ◌∙◌, ap, subst, refl, sym, arith, inl}
-use Rattle.std.proofs.Common.{inr}
-use Rattle.std.proofs.Common.{Bool, true, false, List, [], ◌∷◌, ◌++◌, length, Option, Some, None, slice_get}
+use Rattle.std.proofs.Common.{inr, Bool, true, false, List, [], ◌∷◌, ◌++◌, length, Option, Some, None, slice_get}
 use Rattle.std.proofs.Common.{if◌then◌else◌}
+use Rattle.std.proofs.lemmas.Bool.{ne_eqb}
 use Rattle.std.proofs.lemmas.Bool.Decides.{eqb_tells, leb_tells}
 use Rattle.std.proofs.lemmas.Option.{slice_get_within}
 use Rattle.slink_wire.specs.Packet.{packet_bytes}
@@ -102,12 +102,9 @@ due_if : (b : Bool) (feed : List Window) (s : State) (k : ℕ) (g : Grant) (w : 
 due_if true feed s k g w e is = let bad : true ≡ false = e in cc bad
 due_if false feed s k g w e is = due_packet s k g (record_at w g.position) is
 
-no_match : (a b : ℕ) → a ≢ b → (a == b) ≡ false
-no_match a b ne = elim (eqb_tells a b) [ inl same ↦ absurd (ne same.1) | inr other ↦ other.0 ]
-
 pub due_sends : (feed : List Window) (s : State) (j : ℕ) → HasDue feed s j → ¬ (Waits feed s j)
 due_sends feed s j d waits =
-    due_if (d.grant.position == d.ring.next) feed s j d.grant d.ring (no_match d.grant.position d.ring.next d.beyond)
+    due_if (d.grant.position == d.ring.next) feed s j d.grant d.ring (ne_eqb d.grant.position d.ring.next d.beyond)
     (sym (ap (λ (p : Phase). sent_in p feed s j) d.streams
     ∙ (ap (λ (o : Option Grant). sent_of feed s j o (slice_get feed j)) d.granted
     ∙ ap (λ (r : Option Window). sent_of feed s j (Some d.grant) r) d.there)) ∙ waits)

@@ -1,7 +1,6 @@
 -- Which stations concern the links in their slots.
-use Rattle.std.proofs.Common.{◌≡◌, ℕ, ◌<◌, ◌∙◌, subst, refl, sym, inl, inr}
-use Rattle.std.proofs.Common.{get_or-set_other, get_or-set_same, length-set, List, length, set, get_or}
-use Rattle.std.proofs.Common.{Option, Some, None, IfSome}
+use Rattle.std.proofs.Common.{◌≡◌, ℕ, ◌<◌, ◌∙◌, subst, refl, sym, inl, inr, get_or-set_other, get_or-set_same}
+use Rattle.std.proofs.Common.{length-set, List, length, set, get_or, Option, Some, None, IfSome}
 use Rattle.std.proofs.lemmas.Bool.Decides.{eqb_tells}
 use Rattle.std.proofs.lemmas.List.{get_or_default}
 use Rattle.slink_feed.specs.declared.grant.Grant.{Grant}
@@ -66,8 +65,7 @@ covers_filled places feed (Some l) new covers h m is streams k g granted =
     let there : grant_at h.0.session.state.grants k ≡ Some g =
     subst (λ (x : LinkState). grant_at x.session.state.grants k ≡ Some g) (sym same) granted in
     let before : (q : Grant) × (grant_at l.session.state.grants k ≡ Some q) =
-    granted_before (grant_at l.session.state.grants k) (grant_at h.0.session.state.grants k)
-    (λ none. asked_grants feed l.session l.ring l.pending h.0.session h.0.ring h.0.pending h.2 k none) g there in
+    granted_before (grant_at l.session.state.grants k) _ (λ none. asked_grants _ _ _ _ _ _ _ h.2 k none) g there in
     covers l refl
     (asked_streams feed l.session l.ring l.pending h.0.session h.0.ring h.0.pending h.2 on) k before.0 before.1
 

@@ -1,7 +1,6 @@
 -- What each event makes of a slot's history.
 use Rattle.std.proofs.Common.{◌≡◌, ℕ, ◌∙◌, ap, subst, refl, sym, List, [], ◌∷◌, ◌++◌, append_assoc, take, drop}
-use Rattle.std.proofs.Common.{take-append-drop}
-use Rattle.std.proofs.Common.{Option, Some, None}
+use Rattle.std.proofs.Common.{take-append-drop, Option, Some, None}
 use Rattle.slink_wire.specs.Reply.{reply_bytes}
 use Rattle.slink_feed.specs.Serving.{Serves, SessionState, none_served, piece_served}
 use Rattle.slink_feed.specs.Session.{sent_bytes}
@@ -9,20 +8,17 @@ use Rattle.slink_feed.specs.Window.{Window}
 use Rattle.slink_live.specs.Happening.{Happening, Opened, Gone, input_of}
 use Rattle.slink_live.specs.Input.{IsFed}
 use Rattle.slink_live.specs.Served.{IsHistory, LinkState, Matches, link_state}
-use Rattle.slink_live.specs.History.{Asks, IsNew, IsServed, History, history, none_called, one_called, opens}
-use Rattle.slink_live.specs.History.{receives}
-use Rattle.slink_live.specs.History.{asks}
-use Rattle.slink_live.specs.History.{takes, goes}
+use Rattle.slink_live.specs.History.{Asks, IsNew, IsServed, History, history, none_called, one_called, opens, receives}
+use Rattle.slink_live.specs.History.{asks, takes, goes}
 use Rattle.slink_live.specs.private.Calling.{HasFilled, HasReceived, HasTaken}
 
 -- with something stated before
-serves_after : (feed : List Window) (s last : SessionState) (bytes way all x : List ℕ) → Serves feed s bytes way last all
-    → Serves feed s bytes (x ++ way) last (x ++ all)
+serves_after : (feed : List Window) (s last : SessionState) (bytes way all x : List ℕ)
+    → Serves feed s bytes way last all → Serves feed s bytes (x ++ way) last (x ++ all)
 serves_after feed s last bytes way all x (none_served t w) = none_served t (x ++ w)
 serves_after feed s last bytes way all x (piece_served t now u bs piece rest w a reply split taking more) =
     piece_served t now u bs piece rest (x ++ w) (x ++ a) reply split taking
-    (subst (λ y. Serves feed now rest y u (x ++ a)) (sym (append_assoc x w (reply_bytes reply)))
-    (serves_after feed now u rest (w ++ reply_bytes reply) a x more))
+    (rw (← (append_assoc x w (reply_bytes reply))) at (serves_after feed now u rest (w ++ reply_bytes reply) a x more))
 
 asks_after : (feed : List Window) (s : SessionState) (ring : ℕ) (way x : List ℕ) (last : SessionState) (turn : ℕ)
     (all : List ℕ) → Asks feed s ring way last turn all → Asks feed s ring (x ++ way) last turn (x ++ all)
@@ -85,10 +81,9 @@ module _ (start : List Window) (k : ℕ) where
         → HasReceived feed k (Some l) new log last → IsHistory start k (Some l) log → IsHistory start k new last
     received_history feed l fed h = link_history l h.1 h.2 (λ emitted served. (
       emitted,
-      subst (λ (n : ℕ). IsServed start k last (Some (history h.1.session n (emitted ++ h.1.pending) emitted))) (sym h.6)
-          (receives log last feed l.session h.1.session l.ring h.0 (emitted ++ l.pending) (emitted
-          ++ h.1.pending) emitted
-          served fed (serves_after feed l.session h.1.session h.0 l.pending h.1.pending emitted h.4) h.3),
+      rw (← h.6) at
+          (receives log last feed l.session h.1.session l.ring h.0 (emitted ++ l.pending) (emitted ++ h.1.pending)
+          emitted served fed (serves_after feed l.session h.1.session h.0 l.pending h.1.pending emitted h.4) h.3),
     ))
 
     pub taken_history : (l : LinkState) → HasTaken k (Some l) new log last → IsHistory start k (Some l) log
@@ -110,8 +105,7 @@ module _ (start : List Window) (k : ℕ) where
     opens_at l None fresh none begins is now served m = record {
       reported = Some (history l.session 0 [] []);
       served = opens log last l.session served fresh now;
-      matches = subst (λ (x : Option LinkState). Matches x (Some (history l.session 0 [] []))) (sym is)
-          (refl, sym begins, sym none);
+      matches = rw is (refl, sym begins, sym none);
     }
     opens_at l (Some t) fresh none begins is now served m = absurd m
 

@@ -5,7 +5,6 @@ use Rattle.std.proofs.Math.Seq.{take-append_seam}
 use Rattle.std.specs.List.{AllByRecursion, concat}
 use Rattle.slink_wire.specs.Place.{Fields}
 use Rattle.slink_feed.specs.Window.{Window}
-use Rattle.slink_feed.specs.Intake.{places_of}
 use Rattle.slink_live.specs.Input.{IsFed, IsInput, IsOf, fed}
 
 drop_seam : (xs ys : List ℕ) → drop (length xs) (xs ++ ys) ≡ ys
@@ -53,11 +52,9 @@ pub one_input : (places : List Fields) (bytes : List ℕ) (rs others : List (Lis
     → IsInput places bytes rs rest → IsInput places bytes others left → (rs ≡ others) × (rest ≡ left)
 one_input places bytes rs others rest left a b =
     let longer : (tail : List (List ℕ)) × (others ≡ rs ++ tail) =
-    input_grows places bytes [] rs others rest left a
-    (subst (λ x. IsInput places x others left) (sym (append-nil bytes)) b) in
+    input_grows _ _ [] _ _ _ _ a (subst (λ x. IsInput places x others left) (sym (append-nil bytes)) b) in
     let back : (tail : List (List ℕ)) × (rs ≡ others ++ tail) =
-    input_grows places bytes [] others rs left rest b
-    (subst (λ x. IsInput places x rs rest) (sym (append-nil bytes)) a) in
+    input_grows _ _ [] _ _ _ _ b (subst (λ x. IsInput places x rs rest) (sym (append-nil bytes)) a) in
     let few : length (rs ++ longer.0) ≤ length rs =
     omega (
       arith,
@@ -76,5 +73,4 @@ one_input places bytes rs others rest left a b =
 pub one_feed : (start : List Window) (bytes : List ℕ) (feed other : List Window) → IsFed start bytes feed
     → IsFed start bytes other → feed ≡ other
 one_feed start bytes feed other a b =
-    a.1.feed_is ∙ (ap (fed start) (one_input (places_of start) bytes a.1.records b.1.records a.0 b.0 a.1.input
-    b.1.input).0 ∙ sym b.1.feed_is)
+    a.1.feed_is ∙ (ap (fed start) (one_input _ _ _ _ _ _ a.1.input b.1.input).0 ∙ sym b.1.feed_is)

@@ -15,11 +15,9 @@ use Rattle.slink_live.specs.Turns.{Closes, ReadsFrom, WritesTo}
 use Rattle.slink_live.specs.private.Calling.{HasFilled, HasReceived, HasTaken, IfRested, IsOutcome}
 use Rattle.slink_live.specs.private.Granting.{Changes}
 use Rattle.slink_live.specs.private.Keeping.{KeepsServing, Updates, KeepsAwake}
-use Rattle.slink_live.proofs.Updating.{closes_keeps, opened_in, received_awake, rested_awake, seen_closes}
-use Rattle.slink_live.proofs.Updating.{seen_empty, seen_wants}
-use Rattle.slink_live.proofs.Updating.{taken_awake}
-use Rattle.slink_live.proofs.Steps.{filled_keeps, opened_keeps, reads_at, received_keeps, sound_in}
-use Rattle.slink_live.proofs.Steps.{taken_keeps}
+use Rattle.slink_live.proofs.Updating.{closes_keeps, opened_in, received_awake, rested_awake, seen_closes, seen_empty}
+use Rattle.slink_live.proofs.Updating.{seen_wants, taken_awake}
+use Rattle.slink_live.proofs.Steps.{filled_keeps, opened_keeps, reads_at, received_keeps, sound_in, taken_keeps}
 use Rattle.slink_live.proofs.Steps.{writes_at}
 
 module _ {s0 s : ServerState} (same : s0 ≡ s) (j : ℕ) (lt : j < length s0.links) (sound : IsSound s) where

@@ -1,15 +1,12 @@
 -- Of a link only what happened in its slot matters, and the input; and each moment has its history.
-use Rattle.std.proofs.Common.{◌≡◌, ℕ, ◌∙◌, ap, subst, refl, sym, inl, inr, ◌⊎◌, Bool, true, false, ◌||◌, List, []}
-use Rattle.std.proofs.Common.{◌∷◌}
+use Rattle.std.proofs.Common.{◌≡◌, ℕ, ◌∙◌, ap, subst, refl, sym, inl, inr, ◌⊎◌, Bool, true, false, ◌||◌, List, [], ◌∷◌}
 use Rattle.std.proofs.Common.{◌++◌, append-nil, Option, None, if◌then◌else◌}
 use Rattle.slink_feed.specs.Window.{Window}
 use Rattle.slink_live.specs.Happening.{Happening, Input, Opened, Received, Emitted, Gone, Next, Missed, Wants}
-use Rattle.slink_live.specs.Happening.{WantsLinks, Left, input_of, is_at, is_input}
-use Rattle.slink_live.specs.Happening.{piece_of}
-use Rattle.slink_live.specs.Happening.{those_of}
+use Rattle.slink_live.specs.Happening.{WantsLinks, Left, input_of, is_at, is_input, piece_of, those_of}
 use Rattle.slink_live.specs.Input.{IsFed}
 use Rattle.slink_live.specs.History.{IsServed, History, no_event, elsewhere, opens, receives, asks, takes, goes}
-use Rattle.slink_feed.proofs.Sendings.{same_here}
+use Rattle.std.proofs.lemmas.Bool.{eq-eqb}
 
 if_leading : (t : Bool) (h : Happening) (xs ys : List Happening)
     → (if t then h ∷ (xs ++ ys) else xs ++ ys) ≡ (if t then h ∷ xs else xs) ++ ys
@@ -75,19 +72,19 @@ module _ (start : List Window) (k : ℕ) where
       own_elsewhere (is_input h) before now h x refl other e (own_history before x s)
   own_history log o (opens before now t s fresh e) =
       opens (those_of k before) (those_of k now) t (own_history before None s) fresh
-      (those_more k before now (Opened k) e (same_here k))
+      (those_more k before now (Opened k) e (eq-eqb k k refl))
   own_history log o (receives before now feed t new ring bytes produced all emitted s fed serves e) =
       receives (those_of k before) (those_of k now) feed t new ring bytes produced all emitted (own_history before _ s)
-      (fed_those before feed fed) serves (those_more k before now (Received k bytes) e (same_here k))
+      (fed_those before feed fed) serves (those_more k before now (Received k bytes) e (eq-eqb k k refl))
   own_history log o (asks now feed t new ring turn produced all emitted s fed called) =
       asks (those_of k now) feed t new ring turn produced all emitted (own_history now _ s) (fed_those now feed fed)
       called
   own_history log o (takes before now t ring bytes produced emitted s prefix e) =
       takes (those_of k before) (those_of k now) t ring bytes produced emitted (own_history before _ s) prefix
-      (those_more k before now (Emitted k bytes) e (same_here k))
+      (those_more k before now (Emitted k bytes) e (eq-eqb k k refl))
   own_history log o (goes before now x s e) =
       goes (those_of k before) (those_of k now) x (own_history before x s)
-      (those_more k before now (Gone k) e (same_here k))
+      (those_more k before now (Gone k) e (eq-eqb k k refl))
 
 -- a prefix of a list that ends in h is the list, or one of what is before h
 same_head : (x y : Happening) (xs ys : List Happening) → x ∷ xs ≡ y ∷ ys → x ≡ y

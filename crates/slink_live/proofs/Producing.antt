@@ -1,7 +1,6 @@
 -- What a link is sent, by slink_feed's laws.
-use Rattle.std.proofs.Common.{◌≡◌, ◌≢◌, ℕ, ◌∙◌, ap, subst, refl, sym, inl, inr, List}
-use Rattle.std.proofs.Common.{[], ◌∷◌}
-use Rattle.std.proofs.Common.{◌++◌, length, append_assoc, append-nil, take, Option, Some, None, slice_get}
+use Rattle.std.proofs.Common.{◌≡◌, ◌≢◌, ℕ, ◌∙◌, ap, subst, refl, sym, inl, inr, List, [], ◌∷◌, ◌++◌, length}
+use Rattle.std.proofs.Common.{append_assoc, append-nil, take, Option, Some, None, slice_get}
 use Rattle.std.proofs.Math.Seq.{take-append_seam}
 use Rattle.std.proofs.lemmas.List.Elements.{filter-append}
 use Rattle.slink_wire.specs.declared.lines.What.{What}
@@ -17,8 +16,7 @@ use Rattle.slink_feed.specs.Connection.{bytes_sent}
 use Rattle.slink_feed.specs.Running.{HasStream}
 use Rattle.slink_feed.specs.Sending.{AreCalled, AreShown, Called, IsReadFrom}
 use Rattle.slink_feed.specs.Serving.{IsAnswer, Serves, SessionState, Takes, none_served, piece_served}
-use Rattle.slink_feed.specs.Session.{State}
-use Rattle.slink_feed.specs.Session.{sent, sent_bytes, sent_in}
+use Rattle.slink_feed.specs.Session.{State, sent, sent_bytes, sent_in}
 use Rattle.slink_feed.specs.Window.{Shows, Window}
 use Rattle.slink_feed.proofs.Connected.{on_sent, read_further, reply_none}
 use Rattle.slink_feed.proofs.Sendings.{IsOn, answer_read, read_on, slice_sent}
@@ -26,8 +24,7 @@ use Rattle.slink_feed.specs.Intake.{places_of}
 use Rattle.slink_live.specs.Happening.{Happening, Received, Emitted, input_of}
 use Rattle.slink_live.specs.Input.{IsFed, IsInput, fed}
 use Rattle.slink_live.specs.History.{Asks, IsServed, History, history, none_called, one_called, no_event, elsewhere}
-use Rattle.slink_live.specs.History.{opens}
-use Rattle.slink_live.specs.History.{receives, asks, takes, goes}
+use Rattle.slink_live.specs.History.{opens, receives, asks, takes, goes}
 use Rattle.slink_live.specs.Slices.{ProducesSlices, all_replies, is_first, records_at, replies_alone, streams}
 use Rattle.slink_live.proofs.Inputs.{input_grows}
 use Rattle.slink_live.proofs.Rings.{shows_fed}
@@ -233,7 +230,8 @@ module _ (start : List Window) where
 
   history_sends : (k : ℕ) (log : List Happening) (o : Option History) → IsServed start k log o → Yields log o
   history_sends k log o no_event = tt
-  history_sends k log o (elsewhere before now h x s other e) = history_more before now h x e (history_sends k before x s)
+  history_sends k log o (elsewhere before now h x s other e) =
+      history_more before now h x e (history_sends k before x s)
   history_sends k log o (opens before now s served fresh e) = (
     only_replies [] (λ on. let bad : Fresh ≡ Streaming = sym (ap (λ (x : State). x.phase) fresh.state) ∙ on in cc bad)
         refl,

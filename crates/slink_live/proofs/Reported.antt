@@ -16,7 +16,7 @@ use Rattle.slink_live.specs.Served.{IsServing, LinkState, ServerState}
 use Rattle.slink_live.specs.private.Calling.{HasFilled, IsOutcome}
 use Rattle.slink_live.specs.private.Keeping.{Updates, KeepsAwake}
 use Rattle.slink_live.proofs.Slots.{not_self}
-use Rattle.slink_feed.proofs.Sendings.{same_here}
+use Rattle.std.proofs.lemmas.Bool.{eq-eqb}
 
 -- one thing more happened
 interest_append : (k : ℕ) (w : Interest) (xs ys : List Happening)
@@ -68,7 +68,7 @@ wants_other : (j k : ℕ) (w v : Interest) → k ≢ j → interest_after k v (W
 wants_other j k w v ne = ap (λ (t : Bool). if t then w else v) (not_self j k ne)
 
 wants_self : (j : ℕ) (w v : Interest) → interest_after j v (Wants j w) ≡ w
-wants_self j w v = ap (λ (t : Bool). if t then w else v) (same_here j)
+wants_self j w v = ap (λ (t : Bool). if t then w else v) (eq-eqb j j refl)
 
 -- further things happened
 pub goes_then : {P : List Happening → Happening → Type 0} {a b c : List Happening} → Goes P a b → Goes P b c → Goes P a

@@ -1,8 +1,6 @@
 -- What each ring shows, once records came.
-use Rattle.std.proofs.Common.{◌≡◌, ℕ, zero, suc, ◌∙◌, ap, subst, refl, sym, Bool, true, false}
-use Rattle.std.proofs.Common.{not, ◌&&◌}
-use Rattle.std.proofs.Common.{List, [], ◌∷◌, ◌++◌, append_assoc, append-nil, Option, Some, None, slice_get}
-use Rattle.std.proofs.Common.{if◌then◌else◌}
+use Rattle.std.proofs.Common.{◌≡◌, ℕ, zero, suc, ◌∙◌, ap, subst, refl, sym, Bool, true, false, List, [], ◌∷◌, not, ◌&&◌}
+use Rattle.std.proofs.Common.{◌++◌, append_assoc, append-nil, Option, Some, None, slice_get, if◌then◌else◌}
 use Rattle.slink_feed.specs.Window.{Shows, Window, with_record}
 use Rattle.slink_feed.proofs.Items.{shows_more}
 use Rattle.slink_feed.specs.Intake.{is_of, places_of, pushed}

@@ -1,8 +1,7 @@
 -- An event concerns the input or one slot.
-use Rattle.std.proofs.Common.{◌≡◌, ◌≢◌, ℕ, ◌<◌, ◌==◌, ◌∙◌, ap, subst, refl, sym, inl, inr}
-use Rattle.std.proofs.Common.{false, List, [], ◌∷◌, ◌++◌, length, append_assoc, append-nil}
-use Rattle.std.proofs.Common.{get_or, drop, take}
-use Rattle.std.proofs.Common.{set, get_or-set_same, get_or-set_other, length-set, Option, Some, None}
+use Rattle.std.proofs.Common.{◌≡◌, ◌≢◌, ℕ, ◌<◌, ◌==◌, ◌∙◌, ap, subst, refl, sym, inl, inr, false, List, [], ◌∷◌, ◌++◌}
+use Rattle.std.proofs.Common.{length, append_assoc, append-nil, get_or, drop, take, set, get_or-set_same}
+use Rattle.std.proofs.Common.{get_or-set_other, length-set, Option, Some, None}
 use Rattle.std.proofs.lemmas.Bool.Decides.{eqb_tells}
 use Rattle.std.specs.List.{AllByRecursion}
 use Rattle.slink_feed.specs.Session.{Fits}
@@ -89,8 +88,7 @@ quiet_serving start s log last h none other now v = record {
   rest = v.rest;
   fed = record {
     records = v.fed.records;
-    input = subst (λ b. IsInput (places_of start) b v.fed.records v.rest)
-        (sym (ap input_of now ∙ input_quiet log h none)) v.fed.input;
+    input = rw (← (ap input_of now ∙ input_quiet log h none)) at v.fed.input;
     feed_is = v.fed.feed_is;
   };
   counted = v.counted;

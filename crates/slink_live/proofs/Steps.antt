@@ -92,9 +92,7 @@ keeps_both x y = record {
 -- the same step, by what the call saw
 pub keeps_from : {s0 s t : ServerState} {a0 a b : List Happening} → s0 ≡ s → a0 ≡ a → KeepsServing s0 t a0 b
     → KeepsServing s t a b
-keeps_from {s0} {t = t} {a = a} {b = b} same now x =
-    subst (λ (y : ServerState). KeepsServing y t a b) same
-    (subst (λ (y : List Happening). KeepsServing s0 t y b) now x)
+keeps_from {s0} {t = t} {a = a} {b = b} same now x = rw same at (rw now at x)
 
 -- something more, which happened in no slot, and is nothing of the input
 pub keeps_quiet : {s t : ServerState} {a b c : List Happening} (h : Happening) → piece_of h ≡ []
@@ -226,6 +224,4 @@ closed_keeps s t j log last wanted lt sound is now =
 
 pub closes_gone : (j : ℕ) (log last : List Happening) (wanted : Bool)
     → last ≡ (log ++ Gone j ∷ []) ++ WantsLinks wanted ∷ [] → Closes log last
-closes_gone j log last wanted now =
-    closes_both log (log ++ Gone j ∷ []) last (closes_reported log (log ++ Gone j ∷ []) (Gone j) tt refl)
-    (closes_reported (log ++ Gone j ∷ []) last (WantsLinks wanted) tt now)
+closes_gone j log last wanted now = closes_both _ _ _ (closes_reported _ _ _ tt refl) (closes_reported _ _ _ tt now)

@@ -121,9 +121,7 @@ module _ {s0 s : ServerState} (same : s0 ≡ s) where
             records = fed_now.0.records;
             rest = rest;
             input = input_now;
-            is_fault = subst (λ n. IsFaultIn (places_of start) n rest fault) fed_now.1
-                (subst (λ ps. IsFaultIn ps new.records rest fault)
-                (ap places_of v0.fed.feed_is ∙ places_fed start v0.fed.records) f);
+            is_fault = rw fed_now.1 at (rw (ap places_of v0.fed.feed_is ∙ places_fed start v0.fed.records) at f);
           }
 
   -- All went into the rings, or it is wrong with them that they go no further.
@@ -147,8 +145,7 @@ module _ {s0 s : ServerState} (same : s0 ≡ s) where
       sound = x.sound;
       serving = λ start v. x.serving start (taken_serving on sound off.cuts off.no_further now start v true
           (λ e. absurd (let bad : true ≡ false = e in cc bad)));
-      fault = λ start v. subst (λ (b : List ℕ). IsInputFault (places_of start) b fault)
-          (sym (closes_input mid last closes))
+      fault = λ start v. rw (← (closes_input mid last closes)) at
           (taken_fault on sound off.cuts off.no_further now start v fault off.is_fault);
       ended = x.stays.has_ended;
       kept = λ e. x.stays.has_ended;
@@ -180,8 +177,7 @@ module _ {s0 s : ServerState} (same : s0 ≡ s) where
         record {
           records = v0.fed.records;
           rest = v0.rest;
-          input = subst (λ b. IsInput (places_of start) b v0.fed.records v0.rest) (sym (closes_input log last closes))
-              v0.fed.input;
+          input = rw (← (closes_input log last closes)) at v0.fed.input;
           is_fault = f;
         }
 

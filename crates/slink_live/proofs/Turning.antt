@@ -1,6 +1,5 @@
 -- Whose turn it is.
-use Rattle.std.proofs.Common.{◌≡◌, ℕ, ◌≤◌, ◌<◌, subst, sym, arith, inl, inr}
-use Rattle.std.proofs.Common.{List, length}
+use Rattle.std.proofs.Common.{◌≡◌, ℕ, ◌≤◌, ◌<◌, subst, sym, arith, inl, inr, List, length}
 use Rattle.slink_feed.specs.declared.session.Sent.TheVariants as Sents
 use Rattle.slink_feed.specs.Session.{State, sent}
 use Rattle.slink_feed.specs.Window.{Window}
@@ -56,12 +55,10 @@ module _ (feed : List Window) (first now new : LinkState) (n k : ℕ) (begins : 
   pub asked_after : n ≤ k → ((j : ℕ) → n ≤ j → j < k → Waits feed first.session.state j)
       → Asks feed first.session first.ring first.pending new.session new.ring new.pending
   asked_after beyond waits = gives_asks feed first new k given
-      (subst (λ (p : ℕ). IsTurn feed first.session.state p k) begins
-      (turn_then feed first.session.state n k beyond lt waits given.sends))
+      (rw begins at (turn_then feed first.session.state n k beyond lt waits given.sends))
 
   pub asked_before : k < n → ((j : ℕ) → n ≤ j → j < length feed → Waits feed first.session.state j)
       → ((j : ℕ) → j < k → Waits feed first.session.state j)
       → Asks feed first.session first.ring first.pending new.session new.ring new.pending
   asked_before before beyond waits = gives_asks feed first new k given
-      (subst (λ (p : ℕ). IsTurn feed first.session.state p k) begins
-      (turn_before feed first.session.state n k before lt beyond waits given.sends))
+      (rw begins at (turn_before feed first.session.state n k before lt beyond waits given.sends))

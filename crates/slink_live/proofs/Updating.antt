@@ -26,14 +26,12 @@ use Rattle.slink_live.specs.private.Granting.{LeavesOut, StaysBut}
 use Rattle.slink_live.specs.private.Keeping.{KeepsServing, Updates, KeepsAwake, AwakensAll, AwakensAnew, AwakensThose}
 use Rattle.slink_live.proofs.Apart.{updated_apart}
 use Rattle.slink_live.proofs.Slots.{closes_both, closes_reported, not_self, quiet_serving}
-use Rattle.slink_live.proofs.Steps.{closed_keeps, ended, ended_serving, filled_keeps, received_keeps}
-use Rattle.slink_live.proofs.Steps.{keeps_both, keeps_from, keeps_quiet, keeps_same, opened_keeps, sound_in}
-use Rattle.slink_live.proofs.Steps.{taken_keeps}
+use Rattle.slink_live.proofs.Steps.{closed_keeps, ended, ended_serving, filled_keeps, received_keeps, keeps_both}
+use Rattle.slink_live.proofs.Steps.{keeps_from, keeps_quiet, keeps_same, opened_keeps, sound_in, taken_keeps}
 use Rattle.slink_live.proofs.Reported.{IsUnreported, goes_one, goes_same, goes_then, gone_awake, gone_goes}
-use Rattle.slink_live.proofs.Reported.{gone_reported}
-use Rattle.slink_live.proofs.Reported.{left_last, links_last, updates_closes, updates_empty, updates_wants, awake_by}
-use Rattle.slink_live.proofs.Reported.{rest_closes, rest_empty, rest_wants, awake_rest, interest_last, unreported_none}
-use Rattle.slink_live.proofs.Reported.{unreported_one}
+use Rattle.slink_live.proofs.Reported.{gone_reported, left_last, links_last, updates_closes, updates_empty}
+use Rattle.slink_live.proofs.Reported.{updates_wants, awake_by, rest_closes, rest_empty, rest_wants, awake_rest}
+use Rattle.slink_live.proofs.Reported.{interest_last, unreported_none, unreported_one}
 
 -- what a link that took bytes was told, and which it is
 module _ (j : ℕ) (new : Option LinkState) (log mid : List Happening) where
@@ -169,8 +167,7 @@ module _ {s0 s : ServerState} (same : s0 ≡ s) (j : ℕ) (lt : j < length s0.li
       → IsOutcome s.intake.feed s.has_ended (get_or s.links j None) result
   outcome_in rested =
       let stands : get_or s.links j None ≡ o =
-      subst (λ (x : ServerState). get_or x.links j None ≡ o) same
-      (sym (link ∙ sym (get_or_default s0.links j None o lt))) in
+      rw same at (sym (link ∙ sym (get_or_default s0.links j None o lt))) in
       subst (λ (x : Option LinkState). IsOutcome s.intake.feed s.has_ended x result) (sym stands)
       (subst (λ (b : Bool). IsOutcome s.intake.feed b o result) (ap (λ (x : ServerState). x.has_ended) same)
       (look s.intake.feed (subst (IfRested s.intake.feed) stands rested)))
@@ -327,8 +324,7 @@ input_awake s t intake reads bytes places log mid last now long stays serves but
     record {
       awake = λ a. but.awake (is_reported a.is_reported) (λ k out l is.
           subst (IsUpToDate intake.feed s.has_ended l) (sym (interest_last log mid (Input bytes) now k))
-          (updated_apart s.intake.feed intake.feed places (get_or s.links k None) l long stays out is s.has_ended
-          (last_interest k log) (a.each k l is)));
+          (updated_apart _ _ _ _ _ long stays out is _ _ (a.each k l is)));
       closed = λ start v x. goes_then (goes_one (Input bytes) tt now)
           (but.closed start (serves start v) (is_reported x.is_reported));
     }

@@ -40,9 +40,11 @@ pub record IsTurn (feed : List Window) (s : State) (ring k : ℕ) : Type 0 where
 
 -- A session is called for packets, in turns: each time for the first station of which something is sent, in a round
 -- from the one after the station that was called last. What it gives goes on its way.
-pub data Asks (feed : List Window) (s : SessionState) (ring : ℕ) (way : List ℕ) : SessionState → ℕ → List ℕ → Type 0 where
+pub data Asks (feed : List Window) (s : SessionState) (ring : ℕ) (way : List ℕ) : SessionState → ℕ → List ℕ
+    → Type 0 where
   none_called : Asks feed s ring way s ring way
-  one_called : (now last : SessionState) (turn k : ℕ) (answer : Sent) (on all : List ℕ) → Asks feed s ring way now turn on
+  one_called : (now last : SessionState) (turn k : ℕ) (answer : Sent) (on all : List ℕ)
+      → Asks feed s ring way now turn on
       → IsTurn feed now.state turn k → sent feed now.state k ≡ (last.state, answer) → last.held ≡ now.held
       → all ≡ on ++ sent_bytes answer → Asks feed s ring way last (k + 1) all
 

@@ -7,8 +7,7 @@ use Rattle.slink_live.specs.declared.ready.Event.{Event}
 use Rattle.slink_live.specs.declared.ready.Event.TheVariants as events
 use Rattle.slink_live.specs.Awake.{IsAwake, IsFirstFree, has_free}
 use Rattle.slink_live.specs.Happening.{Happening, Input, Opened, Received, Emitted, Gone, Next, Missed, Wants}
-use Rattle.slink_live.specs.Happening.{WantsLinks}
-use Rattle.slink_live.specs.Happening.{Left}
+use Rattle.slink_live.specs.Happening.{WantsLinks, Left}
 use Rattle.slink_live.specs.Served.{IsServing, LinkState, ServerState}
 
 -- A link was closed, or something was reported to the device.

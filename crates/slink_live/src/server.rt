@@ -1,7 +1,6 @@
 //! A server's state, and what each event does to it.
 ghost use Rattle.std.specs.Prelude.{◌≡◌, ◌+◌, ◌*◌, ◌^◌, ◌<◌, ◌≤◌, [], ◌∷◌, ◌++◌, List, Err, None, IfErr, IfNone};
-ghost use Rattle.std.specs.Prelude.{IfSome};
-ghost use Rattle.std.specs.Prelude.{IfOk, OnOk, ◌⊎◌, ◌&&◌, not, get_or, length, set, true, false};
+ghost use Rattle.std.specs.Prelude.{IfSome, IfOk, OnOk, ◌⊎◌, ◌&&◌, not, get_or, length, set, true, false};
 ghost use Rattle.std.specs.Bool.{OnTrue};
 ghost use Rattle.std.specs.List.{AllByRecursion};
 ghost use Rattle.slink_feed.specs.Session.{Fits};
@@ -15,8 +14,7 @@ ghost use Rattle.slink_live.specs.Served.{StaysUnread};
 ghost use Rattle.slink_live.specs.private.Calling.{IfRested};
 ghost use Rattle.slink_live.specs.Turns.{Closes, HasSteps, IsCalled, Opens, ReadsFrom, ReadsInput, WritesTo};
 ghost use Rattle.slink_live.specs.private.Keeping.{AnswersFault, EndsInput, KeepsServing, Updates, KeepsAwake};
-ghost use Rattle.slink_live.specs.private.Keeping.{AwakensAll};
-ghost use Rattle.slink_live.specs.private.Keeping.{AwakensAnew, AwakensThose};
+ghost use Rattle.slink_live.specs.private.Keeping.{AwakensAll, AwakensAnew, AwakensThose};
 
 use crate::intake::Intake;
 use crate::link::{Link, Update};

@@ -7,5 +7,6 @@ returns g c =
     let a1 = rw c.new-line.ensures at c.put.ensures.text in
     let a2 = rw a1 at c.put_count.ensures.text in
     let a3 = rw a2 at c.put-2.ensures.text in
-    subst (λ (line : List ℕ). WritesLine line (g.E.Sink.written c.args.errors.now) (g.E.Sink.written c.report.new.errors))
+    subst (λ (line : List ℕ). WritesLine line (g.E.Sink.written c.args.errors.now)
+    (g.E.Sink.written c.report.new.errors))
     (c.as_slice.ensures ∙ a3) c.report.ensures

@@ -3,7 +3,6 @@ use Rattle.mseed_record.specs.declared.framer.Scan.{Scan}
 use Rattle.mseed_record.specs.declared.framer.Scan.TheVariants as scans
 use Rattle.mseed_record.specs.Record.{IsRecord}
 use Rattle.mseed_record.specs.Scan.{Decides, HasNoRecord, HasNoShorter}
-use Rattle.slink_feed.specs.Intake.{places_of}
 use Rattle.slink_live.specs.Served.{IntakeState}
 use Rattle.slink_live.specs.private.Cutting.{waits}
 use Rattle.slink_live.proofs.Cuts.{refused_long, refused_not, refused_other, whole_record}
@@ -38,10 +37,8 @@ pub returns-in-Not-clause-err : goal.returns-in-Not-clause-err
 returns-in-Not-clause-err c =
     let leading : c.as_slice.result.now ≡ c.args.self.now.kept =
     c.as_slice.ensures.value ∙ ap (λ (s : IntakeState). s.kept) c.self.view_is in
-    refused_not (places_of c.args.self.now.feed) c.args.self.now.records c.offset.result c.args.self.now.kept
-    c.in-Not.fault
-    (subst (λ (p : List ℕ). Decides p (scans.Not c.in-Not.fault)) leading
-    (subst (λ (x : Scan). Decides c.as_slice.result.now x) c.in-Not.is c.scan.ensures.decides))
+    refused_not _ _ _ _ c.in-Not.fault
+    (rw leading at (subst (λ (x : Scan). Decides c.as_slice.result.now x) c.in-Not.is c.scan.ensures.decides))
     (subst HasNoRecord leading (c.scan.ensures.refused c.in-Not.fault c.in-Not.is)) c.offset.ensures
 
 pub returns-in-Need-2-clause-err : goal.returns-in-Need-2-clause-err
@@ -51,19 +48,13 @@ returns-in-Need-2-clause-err c =
     let next : c.self.inside.records + 1 ≡ c.args.self.now.records + 1 =
     ap (λ (s : IntakeState). s.records + 1) c.self.view_is in
     elim c.in-Need-2-1.branch [
-      | in-Need+else-needed-le-RECORD w ↦ refused_long (places_of c.args.self.now.feed) c.args.self.now.records
-          (c.self.inside.records + 1) c.args.self.now.kept w.in-Need.needed
-          (subst (λ (p : List ℕ). Decides p (scans.Need w.in-Need.needed)) leading
-          (subst (λ (x : Scan). Decides c.as_slice.result.now x) w.in-Need.is c.scan.ensures.decides))
+      | in-Need+else-needed-le-RECORD w ↦ refused_long _ _ _ _ _
+          (rw leading at (subst (λ (x : Scan). Decides c.as_slice.result.now x) w.in-Need.is c.scan.ensures.decides))
           (subst (λ (p : List ℕ). HasNoShorter p w.in-Need.needed) leading
-          (c.scan.ensures.least w.in-Need.needed w.in-Need.is))
-          (omega (arith, w.if-needed-le-RECORD.false)) next
+          (c.scan.ensures.least w.in-Need.needed w.in-Need.is)) (omega (arith, w.if-needed-le-RECORD.false)) next
       | in-Record+else-size-eq-RECORD w ↦
           let there = (c.scan.ensures.«record» w.in-Record.size).0 w.in-Record.is in
-          refused_other (places_of c.args.self.now.feed) c.args.self.now.records
-          (c.self.inside.records + 1) c.args.self.now.kept w.in-Record.size
-          (omega (arith, there.0, ap length leading)) w.if-size-eq-RECORD.false
-          (subst (λ (p : List ℕ). Decides p (scans.Record w.in-Record.size)) leading
-          (subst (λ (x : Scan). Decides c.as_slice.result.now x) w.in-Record.is c.scan.ensures.decides))
+          refused_other _ _ _ _ w.in-Record.size (omega (arith, there.0, ap length leading)) w.if-size-eq-RECORD.false
+          (rw leading at (subst (λ (x : Scan). Decides c.as_slice.result.now x) w.in-Record.is c.scan.ensures.decides))
           (subst (λ (p : List ℕ). IsRecord (take w.in-Record.size p)) leading there.1) next
     ]

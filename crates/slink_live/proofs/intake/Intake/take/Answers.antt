@@ -1,7 +1,5 @@
-use Rattle.std.proofs.Common.{◌≡◌, ◌∙◌, ap, refl, subst, arith, List, ℕ, length-take, take, Some}
-use Rattle.std.proofs.Common.{slice_get}
+use Rattle.std.proofs.Common.{◌∙◌, ap, refl, arith, List, ℕ, length-take, take, slice_get}
 use Rattle.std.proofs.lemmas.Result.{err_from_is_err_and}
-use Rattle.slink_feed.specs.Window.{Window}
 use Rattle.slink_live.specs.Served.{IntakeState}
 use Rattle.slink_live.specs.private.Cutting.{Cuts, CutsOff}
 use Rattle.slink_live.proofs.Cuts.{cut_below, cut_few, look_off, look_on, look_short, nothing_cut}
@@ -26,8 +24,7 @@ look-requires c =
       below = λ k w there. omega (
         arith,
         cut_below old now bytes now.kept c.requires.short cuts 4629700416936869888 c.requires.below k w
-            (subst (λ (f : List Window). slice_get f k ≡ Some w) (ap (λ (s : IntakeState). s.feed) c.keep.ensures.kept)
-            there),
+            (rw (ap (λ (s : IntakeState). s.feed) c.keep.ensures.kept) at there),
         length-take c.loop-start.start c.args.bytes.now,
         c.requires.size,
       );

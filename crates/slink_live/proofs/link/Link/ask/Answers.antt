@@ -29,7 +29,6 @@ returns-then-ask_at-clause-ends c streams none =
 pub returns-then-ask_at-2-clause-ends : goal.returns-then-ask_at-2-clause-ends
 returns-then-ask_at-2-clause-ends c streams none =
     gives_end c.args.feed.now c.loop-k-2.k c.args.self.now c.ask_at-in-loop-k-2.new.self
-    (subst (λ (x : LinkState). Gives c.args.feed.now c.loop-k-2.k x c.ask_at-in-loop-k-2.new.self)
-    c.loop-k-2.invariant.same c.if-ask_at-2.ensures.yes) streams
+    (rw c.loop-k-2.invariant.same at c.if-ask_at-2.ensures.yes) streams
     (omega (arith, c.loop-k-2-test.true, c.min-k-end.ensures, c.len.ensures.value))
     (none c.loop-k-2.k (omega (arith, c.loop-k-2-test.true, c.min-k-end.ensures, c.len.ensures.value)))

@@ -18,5 +18,4 @@ returns-else-has_sent_all-clause-asks c = none_called
 
 pub returns-else-has_sent_all-clause-filled : goal.returns-else-has_sent_all-clause-filled
 returns-else-has_sent_all-clause-filled c room =
-    inl (waits_all c.args.feed.now c.args.self.now.session.state c.requires.streams c.requires.none
-    (sym c.has_sent_all.ensures ∙ c.if-has_sent_all.false))
+    inl (waits_all _ _ c.requires.streams c.requires.none (sym c.has_sent_all.ensures ∙ c.if-has_sent_all.false))

@@ -39,10 +39,7 @@ end-requires c = record {
 }
 
 pub returns-in-None-clause-asks : goal.returns-in-None-clause-asks
-returns-in-None-clause-asks c =
-    asks_then c.args.feed.now c.args.self.now.session c.args.self.now.ring c.args.self.now.pending
-    c.loop-ask.self.session c.loop-ask.self.ring c.loop-ask.self.pending c.loop-ask.invariant.asks
-    c.end.new.self.session c.end.new.self.ring c.end.new.self.pending c.end.ensures.asks
+returns-in-None-clause-asks c = asks_then _ _ _ _ _ _ _ c.loop-ask.invariant.asks _ _ _ c.end.ensures.asks
 
 pub returns-then-is_closed-clause-asks : goal.returns-then-is_closed-clause-asks
 returns-then-is_closed-clause-asks c =
@@ -65,15 +62,14 @@ loop-ask-preserved c = record {
       (due_turn c.args.feed.now c.loop-ask.self.session.state c.loop-ask.due c.loop-ask.self.ring c.in-Some.k
       c.loop-ask.invariant.due c.in-Some.ensures.some c.in-Some.ensures.first));
   fits = c.ask_due-due.ensures.fits;
-  grown = elim (grown_by c.args.feed.now c.in-Some.k c.loop-ask.self c.ask_due-due.new.self
-      c.ask_due-due.ensures.gives) [
-        | inl shut ↦ inl shut
-        | inr more ↦ elim c.loop-ask.invariant.grown [
-          | inl shut ↦ absurd (
-              let bad : Closed ≡ Streaming = sym shut ∙ c.loop-ask.invariant.due.streams in cc bad)
-          | inr before ↦ inr (omega (arith, before, more))
-        ]
-      ];
+  grown = elim (grown_by _ _ _ _ c.ask_due-due.ensures.gives) [
+    | inl shut ↦ inl shut
+    | inr more ↦ elim c.loop-ask.invariant.grown [
+      | inl shut ↦ absurd (
+          let bad : Closed ≡ Streaming = sym shut ∙ c.loop-ask.invariant.due.streams in cc bad)
+      | inr before ↦ inr (omega (arith, before, more))
+    ]
+  ];
   due = elim c.ask_due-due.ensures.due [
     | inl shut ↦ absurd (c.if-is_closed.ensures.no shut)
     | inr due ↦ due

@@ -1,6 +1,6 @@
-use Rattle.std.proofs.Common.{◌≡◌, ◌∙◌, arith, subst, sym, None, get_or, length, ◌≤◌}
-use Rattle.slink_live.specs.Served.{ServerState}
+use Rattle.std.proofs.Common.{◌∙◌, arith, sym, ◌≡◌, subst, None, get_or}
 use Rattle.slink_live.proofs.Steps.{all_none, none_at, none_more}
+use Rattle.slink_live.specs.Served.{ServerState}
 use Rattle.slink_live.proofs.server.Server.is_empty.Goals as goal
 
 pub loop-slot-preserved : goal.loop-slot-preserved
@@ -13,5 +13,4 @@ loop-slot-preserved c =
 pub returns : goal.returns
 returns c =
     all_none c.args.self.now.links c.loop-slot.slot
-    (subst (λ (x : ServerState). length x.links ≤ c.loop-slot.slot) c.self.view_is
-    (omega (arith, c.loop-slot-test.false, c.len-slot-end.ensures))) c.loop-slot.invariant
+    (rw (← c.self.view_is) (omega (arith, c.loop-slot-test.false, c.len-slot-end.ensures))) c.loop-slot.invariant

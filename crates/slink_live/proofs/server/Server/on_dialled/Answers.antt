@@ -14,10 +14,7 @@ returns-in-None-clause-keeps g c =
 pub returns-in-None-clause-called : goal.returns-in-None-clause-called
 returns-in-None-clause-called g c =
     is_full c.in-None.ensures.none
-    (closes_reported (g.R.Ready.log c.args.ready.now) (g.R.Ready.log c.wants_links.new.self) (WantsLinks false) tt
-    c.wants_links.ensures.log)
+    (closes_reported _ _ _ tt c.wants_links.ensures.log)
 
 pub returns-in-None-clause-keeps_awake : goal.returns-in-None-clause-keeps_awake
-returns-in-None-clause-keeps_awake g c =
-    full_awake c.args.self.now (g.R.Ready.log c.args.ready.now) (g.R.Ready.log c.wants_links.new.self)
-    c.in-None.ensures.none c.wants_links.ensures.log
+returns-in-None-clause-keeps_awake g c = full_awake _ _ _ c.in-None.ensures.none c.wants_links.ensures.log

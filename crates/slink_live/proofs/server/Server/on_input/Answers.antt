@@ -1,6 +1,5 @@
-use Rattle.std.proofs.Common.{refl, List, subst, ◌≡◌, ◌≤◌, arith, rules, length, take, true, false}
-use Rattle.slink_live.specs.Happening.{Happening}
-use Rattle.slink_live.specs.Turns.{Closes, reads}
+use Rattle.std.proofs.Common.{refl, ◌≡◌, ◌≤◌, arith, rules, length, take, true, false}
+use Rattle.slink_live.specs.Turns.{reads}
 use Rattle.slink_live.proofs.Updating.{awake_same}
 use Rattle.slink_live.proofs.Steps.{few_records, sound_in}
 use Rattle.slink_live.proofs.Takings.{taken_ends, taken_err, taken_ok, taken_sound, taken_awake}
@@ -41,14 +40,12 @@ returns-in-Err-clause-answers g c =
 pub returns-in-Ok-clause-called : goal.returns-in-Ok-clause-called
 returns-in-Ok-clause-called g c =
     reads (take c.read_input-count.result c.read_input-count.new.buf) (search rules)
-    (subst (λ (x : List Happening). Closes x (g.R.Ready.log c.update_those.new.ready)) c.read_input-count.ensures.log
-    c.update_those.ensures.closes)
+    (rw c.read_input-count.ensures.log at c.update_those.ensures.closes)
 
 pub returns-in-Err-clause-called : goal.returns-in-Err-clause-called
 returns-in-Err-clause-called g c =
     reads (take c.read_input-count.result c.read_input-count.new.buf) (search rules)
-    (subst (λ (x : List Happening). Closes x (g.R.Ready.log c.end.new.ready)) c.read_input-count.ensures.log
-    c.end.ensures.closes)
+    (rw c.read_input-count.ensures.log at c.end.ensures.closes)
 
 pub returns-in-Ok-clause-keeps_awake : goal.returns-in-Ok-clause-keeps_awake
 returns-in-Ok-clause-keeps_awake g c =

@@ -55,10 +55,7 @@ returns-else-accept-clause-keeps g c =
 pub returns-else-accept-clause-called : goal.returns-else-accept-clause-called
 returns-else-accept-clause-called g c =
     misses c.args.slot c.requires.reads c.requires.free
-    (closes_none ((g.R.Ready.log c.args.ready.now) ++ Missed c.args.slot ∷ []) (g.R.Ready.log c.accept.new.self)
-    c.if-accept.ensures.log)
+    (closes_none _ _ c.if-accept.ensures.log)
 
 pub returns-else-accept-clause-keeps_awake : goal.returns-else-accept-clause-keeps_awake
-returns-else-accept-clause-keeps_awake g c =
-    missed_awake c.args.self.now c.args.slot (g.R.Ready.log c.args.ready.now) (g.R.Ready.log c.accept.new.self)
-    c.if-accept.ensures.log
+returns-else-accept-clause-keeps_awake g c = missed_awake _ c.args.slot _ _ c.if-accept.ensures.log

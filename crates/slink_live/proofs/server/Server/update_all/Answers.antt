@@ -27,11 +27,9 @@ update-requires g c = record {
 pub loop-slot-preserved : goal.loop-slot-preserved
 loop-slot-preserved g c = record {
   keeps = keeps_both c.loop-slot.invariant.keeps c.update.ensures.keeps;
-  closes = closes_both (g.R.Ready.log c.args.ready.now) (g.R.Ready.log c.loop-slot.ready)
-      (g.R.Ready.log c.update.new.ready) c.loop-slot.invariant.closes c.update.ensures.closes;
-  up_to_date = updated_more c.args.self.now c.loop-slot.self c.update.new.self c.loop-slot.slot
-      (g.R.Ready.log c.args.ready.now) (g.R.Ready.log c.loop-slot.ready) (g.R.Ready.log c.update.new.ready)
-      c.loop-slot.invariant.keeps c.loop-slot.invariant.up_to_date c.update.ensures.updates;
+  closes = closes_both _ _ _ c.loop-slot.invariant.closes c.update.ensures.closes;
+  up_to_date = updated_more _ _ _ _ _ _ _ c.loop-slot.invariant.keeps c.loop-slot.invariant.up_to_date
+      c.update.ensures.updates;
 }
 
 pub returns-clause-keeps_awake : goal.returns-clause-keeps_awake

@@ -21,9 +21,7 @@ returns-in-Wants-clause-keeps g c =
     (keeps_same c.args.self.now (g.R.Ready.log c.args.ready.now) (g.R.Ready.log c.args.ready.now) refl c.requires.sound)
 
 pub returns-in-Wants-clause-closes : goal.returns-in-Wants-clause-closes
-returns-in-Wants-clause-closes g c =
-    closes_reported (g.R.Ready.log c.args.ready.now) (g.R.Ready.log c.wants.new.self)
-    (Wants c.args.slot c.in-Wants.interest) tt c.wants.ensures.log
+returns-in-Wants-clause-closes g c = closes_reported _ _ _ tt c.wants.ensures.log
 
 pub returns-in-Wants-clause-updates : goal.returns-in-Wants-clause-updates
 returns-in-Wants-clause-updates g c =

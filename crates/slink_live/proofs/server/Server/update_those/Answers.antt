@@ -11,8 +11,7 @@ pub loop-slot-init : goal.loop-slot-init
 loop-slot-init g c = record {
   keeps = keeps_same c.args.self.now _ _ refl c.requires;
   closes = closes_none (g.R.Ready.log c.args.ready.now) (g.R.Ready.log c.args.ready.now) refl;
-  up_to_date = updated_none (λ k. LeavesOut c.args.places (get_or c.args.self.now.links k None)) c.args.self.now
-      (g.R.Ready.log c.args.ready.now);
+  up_to_date = updated_none _ _ _;
 }
 
 pub update-requires : goal.update-requires
