@@ -1,10 +1,11 @@
 -- The rings of a feed, record after record.
 use Rattle.std.proofs.Common.{◌≡◌, ◌≢◌, ℕ, ◌+◌, ◌<◌, ◌≤◌, ◌^◌, inl, inr, zero, suc, refl, sym, ap, subst, ◌∙◌, arith}
-use Rattle.std.proofs.Common.{Bool, true, false, ◌&&◌, ◌||◌, not, List, [], ◌∷◌, ◌++◌, length, append-nil}
+use Rattle.std.proofs.Common.{Bool, true, false, ◌&&◌, not, List, [], ◌∷◌, ◌++◌, length, append-nil}
 use Rattle.std.proofs.Common.{if◌then◌else◌, ◌-◌, map, get_or, take, take_all, Option, Some, None, Result}
-use Rattle.std.proofs.Common.{Ok, Err, IfErr, OnErr, OnOk, slice_get, bytes_eq, IsErrAnd}
-use Rattle.std.specs.List.{filter}
-use Rattle.std.proofs.lemmas.List.{length-map, map-append, map_more}
+use Rattle.std.proofs.Common.{Ok, Err, IfErr, OnErr, OnOk, slice_get, bytes_eq}
+use Rattle.std.proofs.lemmas.Bool.{not-true, or_parts}
+use Rattle.std.proofs.lemmas.List.{length-map, length-take, map-append, map_more}
+use Rattle.std.proofs.lemmas.List.Sums.{count_by-le-length, length-filter}
 use Rattle.std.proofs.lemmas.Option.{slice_get_read}
 use Rattle.std.proofs.lemmas.List.Elements.{filter-append}
 use Rattle.std.proofs.lemmas.Slice.Eq.{bytes_eq-Decides}
@@ -95,26 +96,18 @@ same_self p = ap (λ (t : Bool). t && bytes_eq p.network p.network) ((bytes_eq-D
 lacks_of : (p : Fields) (qs : List Called) → has_place p qs ≡ false → Lacks p (map (λ (q : Called). q.0) qs)
 lacks_of p [] h = tt
 lacks_of p (q ∷ qs) h =
-    let each : (is_same q.0 p ≡ false) × (has_place p qs ≡ false) = none_true (is_same q.0 p) (has_place p qs) h in (
+    let each : (is_same q.0 p ≡ false) × (has_place p qs ≡ false) = or_parts (is_same q.0 p) (has_place p qs) h in (
       λ same. let bad : true ≡ false = sym (same_self p) ∙ (ap (λ (x : Fields). is_same x p) (sym same) ∙ each.0) in
           cc bad,
       lacks_of p qs each.1,
     )
-  where
-    none_true : (a b : Bool) → (a || b) ≡ false → (a ≡ false) × (b ≡ false)
-    none_true true b h = absurd (let bad : true ≡ false = h in cc bad)
-    none_true false b h = (refl, h)
 
 pub distinct_of : (ps : List Called) → are_different ps ≡ true → Distinct (map (λ (q : Called). q.0) ps)
 distinct_of [] h = tt
 distinct_of (p ∷ ps) h =
     let each : (not (has_place p.0 ps) ≡ true) × (are_different ps ≡ true) =
     both (not (has_place p.0 ps)) (are_different ps) h in
-    (lacks_of p.0 ps (negated (has_place p.0 ps) each.0), distinct_of ps each.1)
-  where
-    negated : (a : Bool) → not a ≡ true → a ≡ false
-    negated true h = absurd (let bad : false ≡ true = h in cc bad)
-    negated false h = refl
+    (lacks_of p.0 ps (not-true (has_place p.0 ps) each.0), distinct_of ps each.1)
 
 lacks_at : (p q : Fields) (ps : List Fields) (k : ℕ) → Lacks p ps → slice_get ps k ≡ Some q → q ≢ p
 lacks_at p q [] k lacks is = absurd (let bad : None ≡ Some q = is in cc bad)
@@ -158,15 +151,6 @@ places_are s rs (p ∷ ps) = ap (λ (qs : List Fields). p ∷ qs) (places_are s 
 places_in : (s : Serving) (rs : List (List ℕ)) (feed : List Window) → feed ≡ feed_of s rs → places_of feed ≡ served s
 places_in s rs feed is = ap places_of is ∙ places_are s rs (served s)
 
-filter_short : (t : List ℕ → Bool) (xs : List (List ℕ)) → length (filter t xs) ≤ length xs
-filter_short t [] = omega arith
-filter_short t (x ∷ xs) = by_test (t x) (filter_short t xs)
-  where
-    by_test : (b : Bool) → length (filter t xs) ≤ length xs
-        → length (if b then x ∷ filter t xs else filter t xs) ≤ suc (length xs)
-    by_test true more = omega (arith, more)
-    by_test false more = omega (arith, more)
-
 -- how far the numbers went
 pub next_at_most : (s : Serving) (rs : List (List ℕ)) (feed : List Window) (k : ℕ) (w : Window) → feed ≡ feed_of s rs
     → slice_get feed k ≡ Some w → w.next ≤ s.first + length rs
@@ -174,7 +158,7 @@ next_at_most s rs feed k w is here =
     let at : (q : Fields) × (slice_get (served s) k ≡ Some q) × (ring_of s rs q ≡ w) =
     get_mapped (ring_of s rs) (served s) k w (subst (λ (ws : List Window). slice_get ws k ≡ Some w) is here) in
     let next : s.first + length (records_of at.0 rs) ≡ w.next = ap (λ (v : Window). v.next) at.2 in
-    omega (arith, next, filter_short (is_of at.0) rs)
+    omega (arith, next, length-filter (is_of at.0) rs, count_by-le-length (is_of at.0) rs)
 
 pub all_of_feed : (places : List Fields) (rs : List (List ℕ)) (r : List ℕ) → AreOfFeed places rs → IsOfFeed places r
     → AreOfFeed places (rs ++ r ∷ [])
@@ -213,13 +197,7 @@ opened_few s i feed lt most is =
     length-map (map (λ (p : Called). p.0) (take i s.places)) (ring_of s []) in
     let few : length (map (λ (p : Called). p.0) (take i s.places)) ≡ length (take i s.places) =
     length-map (take i s.places) (λ (p : Called). p.0) in
-    let short : length (take i s.places) ≤ i = take_short i s.places in
-    omega (arith, size, rings, few, short, lt, most)
-  where
-    take_short : (n : ℕ) (xs : List Called) → length (take n xs) ≤ n
-    take_short zero xs = omega arith
-    take_short (suc n) [] = omega arith
-    take_short (suc n) (x ∷ xs) = let more : length (take n xs) ≤ n = take_short n xs in omega (arith, more)
+    omega (arith, size, rings, few, length-take i s.places, lt, most)
 
 pub opened_other : (s : Serving) (i : ℕ) (p : Called) (feed : List Window) (ring : Window)
     → are_different s.places ≡ true → i < length s.places → p ≡ get_or s.places i p
@@ -269,9 +247,7 @@ records_reported : (s : Serving) (views : List View) (v : View) (r : List ℕ) (
     → AreOfFeed (served s) (bytes_in (views ++ v ∷ []))
 records_reported s views v r feed same is of before =
     subst (AreOfFeed (served s)) (sym (bytes_more views v))
-    (all_of_feed (served s) (bytes_in views) v.bytes before
-    (subst (IsOfFeed (served s)) same
-    (subst (λ ps. IsOfFeed ps r) (places_in s (bytes_in views) feed is) of)))
+    (all_of_feed _ _ _ before (subst (IsOfFeed (served s)) same (rw (places_in s (bytes_in views) _ is) at of)))
 
 -- the cutter has handed out one record more
 pub handed_on : (r : Result (Option RecordView) StreamFault) (o : Option RecordView) (view : RecordView) (P : List View
@@ -306,25 +282,9 @@ pushed_next s views view bytes m result (Err e) feed new old h c can same handed
       views = handed.records;
       fine = handed.fine;
       each = each;
-      other = λ of. none (subst (λ ps. IsOfFeed ps bytes) (sym (places_in s (bytes_in views) feed is))
-          (subst (IsOfFeed (served s)) (sym same) of));
+      other = λ of. none (rw (← (places_in s (bytes_in views) feed is)) at (subst (IsOfFeed (served s)) (sym same) of));
       number_is = n;
     })
-
--- what is wrong comes of an error
-pub not_filled : (s : Serving) (r : Result (List Window) InputFault) (Q : InputFault → Type 0) (fault : InputFault)
-    (h : BytesRead) → IsErrAnd r Q → ((e : InputFault) → Q e → e ≡ fault) → IsFilling s (Err fault) h
-    → IsFilling s r h
-not_filled s (Ok feed) Q fault h is q wrong = absurd is
-not_filled s (Err e) Q fault h is q wrong =
-    subst (λ (x : InputFault). IsFilling s (Err x) h) (sym (q e is)) wrong
-
-pub not_pushed : (s : Serving) (r : Result Step InputFault) (Q : InputFault → Type 0) (fault : InputFault)
-    (views : List View) (old h : BytesRead) (c : CutterState) (new : List Window) → IsErrAnd r Q
-    → ((e : InputFault) → Q e → e ≡ fault) → IsFilling s (Err fault) h → IsNextPushed s r views old h c new
-not_pushed s (Ok step) Q fault views old h c new is q wrong = absurd is
-not_pushed s (Err e) Q fault views old h c new is q wrong =
-    subst (λ (x : InputFault). IsFilling s (Err x) h) (sym (q e is)) wrong
 
 -- the input ended with a fault, or memory was wanted
 pub broken_off : (X : Type 0) (s : Serving) (fault : StreamFault) (h : BytesRead) (views : List View)

@@ -1,8 +1,9 @@
 -- What was read of an input is one filling of a feed.
-use Rattle.std.proofs.Common.{◌≡◌, ℕ, suc, ◌⊎◌, inl, inr, List, [], ◌∷◌, ◌++◌, length, length-append, drop}
-use Rattle.std.proofs.Common.{Option, Some, None, Result, Ok, Err, refl, sym, ap, subst, ◌∙◌, arith, append_assoc}
-use Rattle.std.proofs.Common.{append-nil}
+use Rattle.std.proofs.Common.{◌≡◌, ℕ, suc, ◌⊎◌, inl, inr, List, [], ◌∷◌, ◌++◌, length, length-append, drop, Option}
+use Rattle.std.proofs.Common.{Some, None, Result, Ok, Err, refl, sym, ap, subst, ◌∙◌, arith, append_assoc, append-nil}
 use Rattle.std.proofs.lemmas.List.{length-map, map-append, take-append-drop}
+use Rattle.std.proofs.lemmas.List.Folds.{concat-append}
+use Rattle.std.proofs.lemmas.Option.{same_Some}
 use Rattle.std.specs.List.{AllByRecursion, concat}
 use Rattle.mseed_record.specs.Record.{IsRecord}
 use Rattle.mseed_record.specs.View.{View}
@@ -54,8 +55,7 @@ none_stops places bytes rest (x ∷ xs) [] s a all =
     (subst IsRecord (sym (prefix_is x (concat xs ++ (s.last ++ s.rest)) rest same)) s.each.0)
 none_stops places bytes rest [] (r ∷ rs) s a all =
     let first : (s.last ≡ r) × (s.rest ≡ concat rs ++ rest) =
-    one_first bytes s.last r s.rest (concat rs ++ rest) s.whole a.each.0 s.joined (a.joined
-    ∙ append_assoc r (concat rs) rest) in
+    one_first _ _ _ s.rest (concat rs ++ rest) s.whole a.each.0 s.joined (a.joined ∙ append_assoc r (concat rs) rest) in
     s.other (subst (IsOfFeed places) (sym first.0) all.0)
 none_stops places bytes rest (x ∷ xs) (r ∷ rs) s a all =
     let tail : List ℕ = concat xs ++ (s.last ++ s.rest) in
@@ -87,10 +87,6 @@ one_stop places bytes (x ∷ xs) (y ∷ ys) s t =
     ap suc (one_stop places tail xs ys (stops_next places bytes tail x xs s refl)
     (stops_next places bytes tail y ys t first.1))
 
-concat_more : (xs : List (List ℕ)) (x : List ℕ) → concat (xs ++ x ∷ []) ≡ concat xs ++ x
-concat_more [] x = append-nil x
-concat_more (y ∷ ys) x = ap (λ (t : List ℕ). y ++ t) (concat_more ys x) ∙ sym (append_assoc y (concat ys) x)
-
 prefix_each : (xs : List (List ℕ)) (x : List ℕ) → AllByRecursion IsRecord (xs ++ x ∷ [])
     → AllByRecursion IsRecord xs × IsRecord x
 prefix_each [] x all = (tt, all.0)
@@ -104,7 +100,8 @@ stops_at s n h f =
     let each : AllByRecursion IsRecord (bytes_in f.before) × IsRecord f.view.bytes =
     prefix_each (bytes_in f.before) f.view.bytes (subst (AllByRecursion IsRecord) shown f.views.records.each) in
     let text : concat (bytes_in (f.before ++ f.view ∷ [])) ≡ concat (bytes_in f.before) ++ f.view.bytes =
-    ap concat shown ∙ concat_more (bytes_in f.before) f.view.bytes in
+    ap concat shown ∙ (concat-append (bytes_in f.before) (f.view.bytes ∷ [])
+    ∙ ap (λ (t : List ℕ). concat (bytes_in f.before) ++ t) (append-nil f.view.bytes)) in
     record {
       last = f.view.bytes;
       rest = drop f.offset h.bytes;
@@ -122,9 +119,6 @@ never_stops : (s : Serving) (n : ℕ) (h : BytesRead) (views : List View) (end :
 never_stops s n h views end f all each =
     none_stops (served s) h.bytes (drop all.offset h.bytes) (bytes_in f.before) (bytes_in views) (stops_at s n h f)
     (archive_is all.offset views end h all.records all.ends) each
-
-same_fault : (a b : StreamFault) → Some a ≡ Some b → a ≡ b
-same_fault a b e = cc
 
 not_clean : (a : StreamFault) → Some a ≡ None → ⊥
 not_clean a e = cc
@@ -144,7 +138,7 @@ one_broken s h f (Err (Foreign n)) p q = absurd (never_stops s n h p.views (Some
 one_broken s h f (Err (Stream g)) p q = elim (broken s h g q) [
   | inl memory ↦ inl (ap (λ (x : StreamFault). Err (Stream x)) memory)
   | inr off ↦ inr (ap (λ (x : StreamFault). Err (Stream x))
-      (same_fault f g (one_input h p.views off.views (Some f) (Some g) p.all off.all).1))
+      (same_Some f g (one_input h p.views off.views (Some f) (Some g) p.all off.all).1))
 ]
 
 -- what filling a feed comes to is determined, but for memory

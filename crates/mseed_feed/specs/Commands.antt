@@ -5,7 +5,7 @@ use Rattle.mseed_stream.specs.LineWritten.{WritesLine}
 use Rattle.slink_feed.specs.Listening.{Listening}
 use Rattle.slink_feed.specs.Window.{Window}
 use Rattle.slink_feed.specs.declared.input.InputFault.{InputFault}
-use Rattle.slink_links.specs.Fetched.{HasFetched, ReportsOfAll, fetch_status}
+use Rattle.slink_links.specs.Fetched.{FetchesAll}
 use Rattle.slink_links.specs.Served.{HasServed}
 use Rattle.slink_links.specs.declared.fetching.FetchEnd.{FetchEnd}
 use Rattle.mseed_words.specs.declared.request.Fetching.{Fetching}
@@ -31,7 +31,5 @@ pub record HasFetchedRequested (fetching : Fetching) (status : ℕ)
     (written_old written_new reported_old reported_new : BytesWritten) : Type 0 where
   pub end : FetchEnd
   pub last : Listening
-  pub fetched : HasFetched end (first_client fetching) last written_old written_new
-  pub status_is : status ≡ fetch_status end
-  pub reports : ReportsOfAll fetching.report_next end fetched.records (first_client fetching).talk.wants last.talk.wants
+  pub fetched : FetchesAll end fetching.report_next status (first_client fetching) last written_old written_new
       reported_old reported_new

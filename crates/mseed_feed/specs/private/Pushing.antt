@@ -26,8 +26,8 @@ pub record IsPushedAlso (serving : Serving) (old new : BytesRead) (c : CutterSta
   pub called : old.calls < new.calls
 
 -- What comes next of an input, after these records: one more, its end, or what is wrong.
-abbrev pub IsNextPushed : Serving → Result Step InputFault → List View → BytesRead → BytesRead → CutterState → List Window
-    → Type 0
+abbrev pub IsNextPushed : Serving → Result Step InputFault → List View → BytesRead → BytesRead → CutterState
+    → List Window → Type 0
 IsNextPushed serving (Ok Pushed) views old new c feed = IsPushedAlso serving old new c feed views
 IsNextPushed serving (Ok Ended) views old new c feed = IsFilling serving (Ok feed) new
 IsNextPushed serving (Err fault) views old new c feed = IsFilling serving (Err fault) new

@@ -1,9 +1,8 @@
 use Rattle.std.proofs.Common.{◌≡◌, ◌+◌, ◌++◌, ◌∷◌, [], List, length, arith, rules}
 use Rattle.std.proofs.lemmas.List.{length-append}
+use Rattle.std.proofs.lemmas.Result.{err_from_is_err_and}
 use Rattle.mseed_record.specs.View.{View}
-use Rattle.mseed_stream.specs.Device.{BytesRead}
-use Rattle.slink_feed.specs.declared.input.InputFault.{InputFault}
-use Rattle.mseed_feed.proofs.Fills.{next_small, not_filled, number_of}
+use Rattle.mseed_feed.proofs.Fills.{next_small, number_of}
 use Rattle.mseed_feed.proofs.filling.fill.Goals as goal
 
 pub push_next-requires : goal.push_next-requires
@@ -27,11 +26,9 @@ pub returns-in_err-push_next : goal.returns-in_err-push_next
 returns-in_err-push_next g c =
     let views : List View = c.records.invariant.2.0 in
     let filled = c.records.invariant.2.1 in
-    let fault : InputFault = c.in_err-push_next.field-0.0 in
-    let read : BytesRead = g.R.Source.read c.push_next.new.input in
-    not_filled c.args.serving.now c.from_residual-in_err-push_next.result _ fault read
-    c.from_residual-in_err-push_next.ensures.1 (λ e q. q)
-    (c.in_err-push_next.ensures c.args.serving.now views c.requires.called filled
+    let e = err_from_is_err_and c.from_residual-in_err-push_next.result
+    c.from_residual-in_err-push_next.ensures.1 in
+    rw (e.1, e.2) (c.in_err-push_next.ensures c.args.serving.now views c.requires.called filled
     (number_of views c.records.invariant.2.2))
 
 pub records-smaller : goal.records-smaller

@@ -7,9 +7,12 @@ pub add_other-requires : goal.add_other-requires
 add_other-requires g c = (
   search rules,
   (
-    opened_few c.args.serving.now c.loop-place.place-index c.loop-place.feed
-        (omega (arith, c.loop-place-test.true, ap length c.as_slice-place-items.ensures)) c.requires.places.most
-        c.loop-place.invariant,
+    opened_few c.args.serving.now c.loop-place.place-index _ (omega (
+      arith,
+      c.loop-place-test.true,
+      ap length
+          c.as_slice-place-items.ensures,
+    )) c.requires.places.most c.loop-place.invariant,
     opened_other c.args.serving.now c.loop-place.place-index c.loop-place-item.result c.loop-place.feed c.in-Ok.ring
         c.requires.places.different (omega (arith, c.loop-place-test.true, ap length c.as_slice-place-items.ensures))
         (c.loop-place-item.is ∙ ap (λ (xs : List Called). get_or xs c.loop-place.place-index c.loop-place-item.result)

@@ -1,12 +1,12 @@
 use Rattle.std.proofs.Common.{◌≡◌, ℕ, ◌++◌, ◌∷◌, [], ◌∙◌, List, length, take, sym, ap, arith}
+use Rattle.std.proofs.lemmas.Result.{err_from_is_err_and}
 use Rattle.mseed_record.specs.View.{View}
 use Rattle.mseed_record.specs.Viewing.{view_of}
 use Rattle.mseed_record.specs.declared.view.RecordView.{RecordView}
 use Rattle.mseed_stream.specs.Device.{BytesRead}
 use Rattle.mseed_stream.specs.Walk.{HasHandedOut}
 use Rattle.mseed_stream.specs.declared.fault.StreamFault.{StreamFault}
-use Rattle.slink_feed.specs.declared.input.InputFault.TheVariants.{Stream}
-use Rattle.mseed_feed.proofs.Fills.{broken_off, handed_on, not_pushed, pushed_next}
+use Rattle.mseed_feed.proofs.Fills.{broken_off, handed_on, pushed_next}
 use Rattle.mseed_feed.proofs.filling.push_next.Goals as goal
 
 pub returns-in-Some : goal.returns-in-Some
@@ -31,9 +31,8 @@ returns-in-Some-2 g c = λ serving views can filled number.
     let some = c.in-Some-2.is in
     let called = rw some at c.in_ok-view.ensures.called in
     let handed : HasHandedOut read c.next.follows.lender-at-none (views ++ view ∷ []) =
-    handed_on c.next.result c.in_ok-view.field-0 c.in-Some-2.view
-    (λ more. HasHandedOut read c.next.follows.lender-at-none (views ++ more)) c.in_ok-view.was
-    c.in-Some-2.is (c.next.follows.holds-at-none.4 views filled.handed) in
+    handed_on _ _ c.in-Some-2.view _ c.in_ok-view.was c.in-Some-2.is (c.next.follows.holds-at-none.4 views
+    filled.handed) in
     pushed_next serving views view c.bytes-in-Some-2.result.now c.args.number c.answer-in-Some-2.result
     c.take_record.result c.args.feed.now c.take_record.new.self (g.R.Source.read c.args.input.now) read
     c.next.follows.lender-at-none can c.bytes-in-Some-2.ensures.value handed called filled.each filled.feed_is
@@ -50,7 +49,7 @@ returns-in_err-view g c = λ serving views can filled number.
     let read : BytesRead = g.R.Source.read c.next.new.source in
     let fault : StreamFault = c.in_err-view.field-0.0 in
     let failed = c.in_err-view.ensures.answer.failed filled.handed.goes_on in
-    not_pushed serving c.from_residual.result _ (Stream fault) views (g.R.Source.read c.args.input.now) read
-    c.next.follows.lender-at-none c.args.feed.now c.from_residual.ensures.1 (λ e q. q)
-    (broken_off RecordView serving fault read views filled.each (c.in_err-view.ensures.all views filled.handed)
+    let e = err_from_is_err_and c.from_residual.result c.from_residual.ensures.1 in
+    rw (e.1, e.2) (broken_off RecordView serving fault read views filled.each
+    (c.in_err-view.ensures.all views filled.handed)
     (omega (arith, failed, filled.handed.fine)))
