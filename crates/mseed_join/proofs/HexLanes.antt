@@ -1,4 +1,4 @@
--- The values of eight digits, told by lanes.
+-- The values of eight digits, by lanes.
 use Rattle.std.proofs.Common.{◌≡◌, ◌≢◌, ◌∙◌, ◌+◌, ◌*◌, ◌<◌, ◌≤◌, ◌%◌, ◌^◌, ◌||◌, ℕ, suc, List, [], ◌∷◌, Bool, true}
 use Rattle.std.proofs.Common.{false, cond, Option, Some, None, length, map, get_or, replicate, bit_and, Fits, w8, refl}
 use Rattle.std.proofs.Common.{sym, ap, arith, nat_eq}

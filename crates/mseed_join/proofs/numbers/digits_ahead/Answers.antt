@@ -1,5 +1,6 @@
 use Rattle.std.proofs.Common.{◌≤◌, length, refl, arith}
-use Rattle.mseed_join.proofs.DigitLanes.{all_digits, digits_before, few_digits, is_above, lowered, other_after}
+use Rattle.mseed_record.proofs.DigitLanes.{is_above, lowered}
+use Rattle.mseed_join.proofs.DigitLanes.{all_digits, digits_before, few_digits, other_after}
 use Rattle.mseed_join.proofs.numbers.digits_ahead.Goals as goal
 
 pub returns-then-others-eq0-clause-digits : goal.returns-then-others-eq0-clause-digits
