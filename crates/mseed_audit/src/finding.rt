@@ -1,9 +1,4 @@
 //! What is found of a record.
-ghost use Rattle.std.specs.Prelude.{◌≡◌};
-ghost use Rattle.mseed_record.specs.View.{View};
-ghost use Rattle.mseed_audit.specs.Reported.{reported_at};
-ghost use Rattle.mseed_audit.specs.private.Gathered.{reported_by};
-
 use mseed_steim::ReadFault;
 use mseed_time::TimeFault;
 
@@ -35,20 +30,4 @@ pub struct Finding {
     pub offset: u64,
     /// What breaks the channel there.
     pub why: Why,
-}
-
-/// Returns the finding of the record with this number (from 1) and offset (in bytes), if something is found of it.
-#[inline(always)]
-pub(crate) fn finding_at(number: u64, offset: u64, why: Option<Why>) -> Option<Finding>
-    ensures { (view : View) → reported_by view result
-        ≡ reported_at (record { view = view; offset = offset; number = number }) why }
-{
-    match why {
-        Some(why) => Some(Finding {
-            number,
-            offset,
-            why,
-        }),
-        None => None,
-    }
 }

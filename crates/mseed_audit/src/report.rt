@@ -1,8 +1,8 @@
 //! What an audit does with the records that have a finding.
-ghost use Rattle.std.specs.Prelude.{◌+◌, ◌++◌, ⊤, List, MatchResult};
+ghost use Rattle.std.specs.Prelude.{◌+◌, ◌++◌, ◌∷◌, [], ⊤, List, MatchResult};
 ghost use Rattle.mseed_record.specs.Viewing.{view_of};
 ghost use Rattle.mseed_audit.specs.Reported.{Reported};
-ghost use Rattle.mseed_audit.specs.private.Gathered.{AreLined, AreLinedInPart, reported_by};
+ghost use Rattle.mseed_audit.specs.private.Gathered.{AreLined, AreLinedInPart};
 
 use crate::audits::Memory;
 use crate::finding::Finding;
@@ -23,14 +23,15 @@ pub(crate) trait Report<O> {
     // So the output stands where it failed as these were reported: by the output at first, and the output.
     ghost fails: { O → O → List Reported → Type 0 };
 
-    /// Adds a record with its finding: without one, the record isn't reported.
+    /// Adds a record with its finding.
     ///
     /// # Errors
     ///
     /// `Memory` where an allocation was refused: the record isn't reported then.
-    fn add(&mut self, view: &RecordView, finding: Option<Finding>) -> Result<(), Memory>
+    fn add(&mut self, view: &RecordView, finding: &Finding) -> Result<(), Memory>
         ensures { (first now : O) (reported : List Reported) → stands first self.old now reported → MatchResult result
-            (λ _. stands first self.new now (reported ++ reported_by (view_of view.now) finding))
+            (λ _. stands first self.new now
+            (reported ++ record { view = view_of view.now; finding = finding.now } ∷ []))
             (λ _. stands first self.new now reported) };
 
     /// Writes to the output the lines that were gathered, once they have many bytes.
@@ -54,7 +55,7 @@ impl Report<()> for Unreported {
     ghost fails = { λ _ _ _. ⊥ };
 
     #[inline(always)]
-    fn add(&mut self, _view: &RecordView, _finding: Option<Finding>) -> Result<(), Memory> {
+    fn add(&mut self, _view: &RecordView, _finding: &Finding) -> Result<(), Memory> {
         Ok(())
     }
 
@@ -73,11 +74,8 @@ impl<A: Allocator, W: Sink> Report<W> for Vec<u8, A> {
         (W.contents now) (W.beside first) (W.beside now) reported };
 
     #[inline(always)]
-    fn add(&mut self, view: &RecordView, finding: Option<Finding>) -> Result<(), Memory> {
-        let Some(finding) = finding else {
-            return Ok(());
-        };
-        match push_reported_line(self, view, &finding) {
+    fn add(&mut self, view: &RecordView, finding: &Finding) -> Result<(), Memory> {
+        match push_reported_line(self, view, finding) {
             Ok(()) => Ok(()),
             Err(_) => Err(Memory),
         }

@@ -9,7 +9,7 @@ ghost use Rattle.mseed_select.specs.Selection.{Selection};
 
 use crate::audits::{Audit, Memory};
 use crate::each::EachFault;
-use crate::finding::finding_at;
+use crate::finding::Finding;
 use crate::passed::Passed;
 use crate::report::{Report, Unreported};
 use crate::text::push_audit;
@@ -314,11 +314,18 @@ fn judge<A: Allocator + Copy, C: Choice, O, P: Report<O>>(
 {
     let answer = choice.answer(view);
     if let Answer::AskedFor = answer {
-        let why = match audit.add_sound(view) {
-            Ok(()) => return report.add(view, None),
-            Err(examined) => audit.add_learnt(view, offset, examined)?,
+        let Some(why) = audit.add_judged(view, offset)? else {
+            return Ok(());
         };
-        return report.add(view, finding_at(audit.added(), offset, why));
+        let number = audit.added();
+        return report.add(
+            view,
+            &Finding {
+                number,
+                offset,
+                why,
+            },
+        );
     }
     audit.pass();
     passed.add(answer);

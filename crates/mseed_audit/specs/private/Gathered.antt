@@ -15,7 +15,6 @@ use Rattle.mseed_select.specs.Selection.{Selection, lacks_time}
 use Rattle.mseed_audit.specs.declared.audits.Memory.{Memory as NoRoom}
 use Rattle.mseed_audit.specs.declared.each.EachFault.{EachFault}
 use Rattle.mseed_audit.specs.declared.each.EachFault.TheVariants.{Write, Memory}
-use Rattle.mseed_audit.specs.declared.finding.Finding.{Finding}
 use Rattle.mseed_audit.specs.declared.finding.Why.{Why}
 use Rattle.mseed_audit.specs.declared.passed.Passed.{Passed}
 use Rattle.mseed_audit.specs.declared.summary.Gathered.{Gathered}
@@ -42,11 +41,6 @@ pub record IsAdded (r : Result (Option Why) NoRoom) (v : View) (offset : ℕ) (o
 pub record IsPassed (s : Selection) (p : Passed) (views : List View) : Type 0 where
   pub all : length (asked_of s views) + p.left + p.without_time ≡ length views
   pub without_time : p.without_time ≡ count_by (lacks_time s) views
-
--- what is reported of a record, by its finding
-abbrev pub reported_by : View → Option Finding → List Reported
-reported_by view None = []
-reported_by view (Some finding) = record { view = view; finding = finding } ∷ []
 
 -- what is reported of these records, where a report stands so with it
 pub record HasReport (ps : List Placed) (Stands : List Reported → Type 0) : Type 0 where

@@ -1,15 +1,13 @@
-use Rattle.std.proofs.Common.{◌∙◌, ◌++◌, List, Some, ap, append-nil, sym, ℕ}
-use Rattle.mseed_record.specs.View.{View}
+use Rattle.std.proofs.Common.{◌∙◌, ◌++◌, ◌∷◌, [], List, ap, append-nil, sym, ℕ}
 use Rattle.mseed_record.specs.Viewing.{view_of}
+use Rattle.mseed_audit.specs.Reported.{Reported}
 use Rattle.mseed_audit.specs.Text.{reported_line}
-use Rattle.mseed_audit.specs.private.Gathered.{reported_by}
 use Rattle.mseed_audit.proofs.Gathers.{lined_more}
 use Rattle.mseed_audit.proofs.report.VecU8Report.add.Goals as goal
 
 pub returns-in-Ok : goal.returns-in-Ok
 returns-in-Ok g c = λ first now reported before.
-    let view : View = view_of c.args.view.now in
-    rw c.in-Some.is (lined_more (g.W.Sink.written first) (g.W.Sink.written now) _ _ _ _ c.args.self.now.items
-    c.push_reported_line.new.text.items reported (reported_by view (Some c.in-Some.finding)) before
-    (c.in-Ok.ensures.ok ∙ ap (λ (xs : List ℕ). c.args.self.now.items ++ xs)
-    (sym (append-nil (reported_line (record { view = view; finding = c.in-Some.finding }))))))
+    let here : Reported = record { view = view_of c.args.view.now; finding = c.args.finding.now } in
+    lined_more (g.W.Sink.written first) (g.W.Sink.written now) _ _ _ _ c.args.self.now.items
+    c.push_reported_line.new.text.items reported (here ∷ []) before
+    (c.in-Ok.ensures.ok ∙ ap (λ (xs : List ℕ). c.args.self.now.items ++ xs) (sym (append-nil (reported_line here))))
