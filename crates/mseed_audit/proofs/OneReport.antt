@@ -39,7 +39,7 @@ of_one only excludes channel v a b h k = go (count_of v) refl
         let some : 0 < count_of v = omega (arith, e) in
         found_one only excludes (last_of None channel) v a b (h.judged some) (k.judged some)
 
-reported_one : HasOneFault → Excludes → (earlier ps : List Placed) (a b : List Reported) → AreReported earlier ps a
+pub reported_one : HasOneFault → Excludes → (earlier ps : List Placed) (a b : List Reported) → AreReported earlier ps a
     → AreReported earlier ps b → a ≡ b
 reported_one only excludes earlier [] a b (none _) (none _) = refl
 reported_one only excludes earlier (p ∷ ps) a b (one _ _ _ why rest h later) (one _ _ _ other others k latter) =
@@ -47,17 +47,14 @@ reported_one only excludes earlier (p ∷ ps) a b (one _ _ _ why rest h later) (
     let more : rest ≡ others = reported_one only excludes (earlier ++ p ∷ []) ps rest others later latter in
     ap (λ (w : Option Why). reported_at p w ++ rest) here ∙ ap (λ (ts : List Reported). reported_at p other ++ ts) more
 
-pub telling_one : HasOneFault → Excludes → (added : List Added) (a b : List Reported) → AreReportedOf added a
-    → AreReportedOf added b → a ≡ b
-telling_one only excludes added a b h k = reported_one only excludes [] (numbered 1 added) a b h k
-
 pub each_one : HasOneFault → Excludes → HasOneInput → (h : BytesRead) (a b : AuditedEach h) → each_text a ≡ each_text b
 each_one only excludes input h a b =
     let same = audited_one only excludes input h a.audited b.audited in
     let reported : AreReportedOf (added_from 0 b.audited.views) a.reported =
     subst (λ (vs : List View). AreReportedOf (added_from 0 vs) a.reported) same.views a.are_reported in
     ap (λ (ts : List Reported). reported_lines ts ++ text_of a.audited)
-    (telling_one only excludes (added_from 0 b.audited.views) a.reported b.reported reported b.are_reported)
+    (reported_one only excludes [] (numbered 1 (added_from 0 b.audited.views)) a.reported b.reported reported
+    b.are_reported)
     ∙ ap (λ (xs : List ℕ). reported_lines b.reported ++ xs) (text_one a.audited b.audited same)
 
 -- a record with samples is of its channel alone
@@ -100,14 +97,7 @@ last_without key p earlier e =
     filter-append (λ q. is_of key q.view) earlier (p ∷ []) ∙ ap (λ (ps : List Placed). channel_in key earlier ++ ps)
     (channel_without key p [] e) ∙ append-nil (channel_in key earlier)
 
-reported_here : (key : List ℕ) (p : Placed) (why : Option Why) (rest : List Reported)
-    → same_key key (key_at p.view.bytes) ≡ true
-    → findings_in (reported_with key (reported_at p why ++ rest)) ≡ finding_at p why ++ findings_in
-    (reported_with key rest)
-reported_here key p None rest e = refl
-reported_here key p (Some why) rest e = rw e refl
-
-pub reported_elsewhere : (key : List ℕ) (p : Placed) (why : Option Why) (rest : List Reported) (channel : List Placed)
+reported_elsewhere : (key : List ℕ) (p : Placed) (why : Option Why) (rest : List Reported) (channel : List Placed)
     → is_of key p.view ≡ false → IsFoundOf channel p.view why
     → reported_with key (reported_at p why ++ rest) ≡ reported_with key rest
 reported_elsewhere key p None rest channel e h = refl
@@ -119,53 +109,85 @@ reported_elsewhere key p (Some why) rest channel e h = go (count_of p.view) refl
         let other : same_key key (key_at p.view.bytes) ≡ false = sym (of_some key p.view (omega (arith, z))) ∙ e in
         rw other refl
 
+-- what is reported of a channel's records after another, each judged by the one just before it
+pub data AreReportedIn : Option View → List Placed → List Reported → Type 0 where
+  nothing_in : (before : Option View) → AreReportedIn before [] []
+  one_in : (before : Option View) (p : Placed) (ps : List Placed) (why : Option Why) (reported : List Reported)
+      → IsFound before p.view why
+      → AreReportedIn (Some p.view) ps reported → AreReportedIn before (p ∷ ps) (reported_at p why ++ reported)
+
+-- a record of a channel has its key
+pub key_of : (key : List ℕ) (v : View) → is_of key v ≡ true → same_key key (key_at v.bytes) ≡ true
+key_of key v e = sym (of_some key v (samples_of key v e)) ∙ e
+
+reported_here : (key : List ℕ) (p : Placed) (why : Option Why) (rest : List Reported)
+    → same_key key (key_at p.view.bytes) ≡ true
+    → reported_with key (reported_at p why ++ rest) ≡ reported_at p why ++ reported_with key rest
+reported_here key p None rest e = refl
+reported_here key p (Some why) rest e = rw e refl
+
 by_channel : (key : List ℕ) (earlier : List Placed) (p : Placed) (ps : List Placed) (why : Option Why)
     (rest : List Reported) (b : Bool) → is_of key p.view ≡ b
     → IsFoundOf (channel_in (key_at p.view.bytes) earlier) p.view why
-    → AreFindings (last_of None (channel_in key (earlier ++ p ∷ []))) (channel_in key ps)
-    (findings_in (reported_with key rest))
-    → AreFindings (last_of None (channel_in key earlier)) (channel_in key (p ∷ ps))
-    (findings_in (reported_with key (reported_at p why ++ rest)))
+    → AreReportedIn (last_of None (channel_in key (earlier ++ p ∷ []))) (channel_in key ps) (reported_with key rest)
+    → AreReportedIn (last_of None (channel_in key earlier)) (channel_in key (p ∷ ps))
+    (reported_with key (reported_at p why ++ rest))
 by_channel key earlier p ps why rest true e h later =
     let some : 0 < count_of p.view = samples_of key p.view e in
-    let here : same_key key (key_at p.view.bytes) ≡ true = sym (of_some key p.view some) ∙ e in
+    let here : same_key key (key_at p.view.bytes) ≡ true = key_of key p.view e in
     let same : key ≡ key_at p.view.bytes = same_is key (key_at p.view.bytes) here in
     let found : IsFound (last_of None (channel_in key earlier)) p.view why =
     subst (λ (k : List ℕ). IsFound (last_of None (channel_in k earlier)) p.view why) (sym same) (h.judged some) in
-    let next : AreFindings (Some p.view) (channel_in key ps) (findings_in (reported_with key rest)) =
-    subst (λ (b : Option View). AreFindings b (channel_in key ps) (findings_in (reported_with key rest)))
-    (last_with key p earlier e) later in
-    let all : AreFindings (last_of None (channel_in key earlier)) (p ∷ channel_in key ps)
-    (finding_at p why ++ findings_in (reported_with key rest)) =
-    one_finding (last_of None (channel_in key earlier)) p (channel_in key ps) why (findings_in (reported_with key rest))
-    found next in
-    let records = subst (λ (qs : List Placed). AreFindings (last_of None (channel_in key earlier)) qs
-    (finding_at p why ++ findings_in (reported_with key rest))) (sym (channel_with key p ps e)) all in
-    subst (λ (fs : List Finding). AreFindings (last_of None (channel_in key earlier)) (channel_in key (p ∷ ps)) fs)
+    let next : AreReportedIn (Some p.view) (channel_in key ps) (reported_with key rest) =
+    subst (λ (b : Option View). AreReportedIn b (channel_in key ps) (reported_with key rest))
+    (last_with key p earlier e)
+    later in
+    let all : AreReportedIn (last_of None (channel_in key earlier)) (p ∷ channel_in key ps)
+    (reported_at p why ++ reported_with key rest) =
+    one_in (last_of None (channel_in key earlier)) p (channel_in key ps) why (reported_with key rest) found next in
+    let records = subst (λ (qs : List Placed). AreReportedIn (last_of None (channel_in key earlier)) qs
+    (reported_at p why ++ reported_with key rest)) (sym (channel_with key p ps e)) all in
+    subst (λ (ts : List Reported). AreReportedIn (last_of None (channel_in key earlier)) (channel_in key (p ∷ ps)) ts)
     (sym (reported_here key p why rest here)) records
 by_channel key earlier p ps why rest false e h later =
-    let next : AreFindings (last_of None (channel_in key earlier)) (channel_in key ps)
-    (findings_in (reported_with key rest)) =
-    subst (λ (qs : List Placed). AreFindings (last_of None qs) (channel_in key ps)
-    (findings_in (reported_with key rest)))
+    let next : AreReportedIn (last_of None (channel_in key earlier)) (channel_in key ps) (reported_with key rest) =
+    subst (λ (qs : List Placed). AreReportedIn (last_of None qs) (channel_in key ps) (reported_with key rest))
     (last_without key p earlier e) later in
-    let records = subst (λ (qs : List Placed). AreFindings (last_of None (channel_in key earlier)) qs
-    (findings_in (reported_with key rest))) (sym (channel_without key p ps e)) next in
-    subst (λ (ts : List Reported). AreFindings (last_of None (channel_in key earlier)) (channel_in key (p ∷ ps))
-    (findings_in ts)) (sym (reported_elsewhere key p why rest (channel_in (key_at p.view.bytes) earlier) e h)) records
+    let records = subst (λ (qs : List Placed). AreReportedIn (last_of None (channel_in key earlier)) qs
+    (reported_with key rest)) (sym (channel_without key p ps e)) next in
+    subst (λ (ts : List Reported). AreReportedIn (last_of None (channel_in key earlier)) (channel_in key (p ∷ ps)) ts)
+    (sym (reported_elsewhere key p why rest (channel_in (key_at p.view.bytes) earlier) e h)) records
 
-reported_findings : (key : List ℕ) (earlier ps : List Placed) (reported : List Reported)
+reported_channel : (key : List ℕ) (earlier ps : List Placed) (reported : List Reported)
     → AreReported earlier ps reported
-    → AreFindings (last_of None (channel_in key earlier)) (channel_in key ps) (findings_in (reported_with key reported))
-reported_findings key earlier [] reported (none _) = no_finding (last_of None (channel_in key earlier))
-reported_findings key earlier (p ∷ ps) reported (one _ _ _ why rest h later) =
+    → AreReportedIn (last_of None (channel_in key earlier)) (channel_in key ps) (reported_with key reported)
+reported_channel key earlier [] reported (none _) = nothing_in (last_of None (channel_in key earlier))
+reported_channel key earlier (p ∷ ps) reported (one _ _ _ why rest h later) =
     by_channel key earlier p ps why rest (is_of key p.view) refl h
-    (reported_findings key (earlier ++ p ∷ []) ps rest later)
+    (reported_channel key (earlier ++ p ∷ []) ps rest later)
+
+-- what is reported of a channel's records
+pub channel_reported : (added : List Added) (reported : List Reported) (key : List ℕ) → AreReportedOf added reported
+    → AreReportedIn None (records_of key added) (reported_with key reported)
+channel_reported added reported key are = reported_channel key [] (numbered 1 added) reported are
+
+findings_at : (p : Placed) (why : Option Why) (rest : List Reported)
+    → findings_in (reported_at p why ++ rest) ≡ finding_at p why ++ findings_in rest
+findings_at p None rest = refl
+findings_at p (Some why) rest = refl
+
+findings_of : (before : Option View) (ps : List Placed) (reported : List Reported) → AreReportedIn before ps reported
+    → AreFindings before ps (findings_in reported)
+findings_of before [] reported (nothing_in _) = no_finding before
+findings_of before (p ∷ ps) reported (one_in _ _ _ why rest h later) =
+    subst (λ (fs : List Finding). AreFindings before (p ∷ ps) fs) (sym (findings_at p why rest))
+    (one_finding before p ps why (findings_in rest) h (findings_of (Some p.view) ps rest later))
 
 -- what is reported of a channel's records are its findings
-pub telling_findings : (added : List Added) (reported : List Reported) (key : List ℕ) → AreReportedOf added reported
+pub channel_findings : (added : List Added) (reported : List Reported) (key : List ℕ) → AreReportedOf added reported
     → AreFindings None (records_of key added) (findings_in (reported_with key reported))
-telling_findings added reported key are = reported_findings key [] (numbered 1 added) reported are
+channel_findings added reported key are =
+    findings_of None (records_of key added) (reported_with key reported) (channel_reported added reported key are)
 
 length_findings : (reported : List Reported) → length (findings_in reported) ≡ length reported
 length_findings [] = refl
@@ -185,14 +207,14 @@ count_by only excludes (Some (Broken first count)) ps found is are =
     is.1.1 ∙ ap (λ (fs : List Finding). length fs) (findings_same only excludes None ps (first ∷ is.0) found is.1.0 are)
 
 -- a channel has as many findings as are reported with its key
-pub telling_count : HasOneFault → Excludes
+pub channel_count : HasOneFault → Excludes
     → (added : List Added) (reported : List Reported) (verdicts : List (List ℕ × Verdict)) (key : List ℕ)
     → AreReportedOf added reported → AreVerdicts added verdicts
     → finding_count (lookup (same_key key) verdicts) ≡ length (reported_with key reported)
-telling_count only excludes added reported verdicts key are is =
+channel_count only excludes added reported verdicts key are is =
     count_by only excludes (lookup (same_key key) verdicts) (records_of key added)
     (findings_in (reported_with key reported))
-    (is.each key) (telling_findings added reported key are)
+    (is.each key) (channel_findings added reported key are)
     ∙ length_findings (reported_with key reported)
 
 reported_prefix : (earlier ps qs : List Placed) (all : List Reported) → AreReported earlier (ps ++ qs) all
@@ -214,14 +236,14 @@ numbered_prefix n (x ∷ xs) ys =
     (more.0, ap (λ (ps : List Placed). placed_at x n ∷ ps) more.1)
 
 -- the lines of an archive's first records are the first of its lines
-pub telling_prefix : HasOneFault → Excludes → (added more : List Added) (reported all : List Reported)
+pub lines_prefix : HasOneFault → Excludes → (added more : List Added) (reported all : List Reported)
     → AreReportedOf added reported
     → AreReportedOf (added ++ more) all → IsPrefixOf (reported_lines reported) (reported_lines all)
-telling_prefix only excludes added more reported all first whole =
+lines_prefix only excludes added more reported all first whole =
     let numbers = numbered_prefix 1 added more in
     let parts = reported_prefix [] (numbered 1 added) numbers.0 all
     (subst (λ (ps : List Placed). AreReported [] ps all) numbers.1 whole) in
-    let same : parts.0 ≡ reported = telling_one only excludes added parts.0 reported parts.2 first in (
+    let same : parts.0 ≡ reported = reported_one only excludes [] (numbered 1 added) parts.0 reported parts.2 first in (
       reported_lines parts.1,
       ap reported_lines parts.3 ∙ lines_after parts.0 parts.1
           ∙ ap (λ (ts : List Reported). reported_lines ts ++ reported_lines parts.1) same,

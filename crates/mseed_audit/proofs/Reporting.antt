@@ -93,20 +93,19 @@ judged_asked s bytes offset views v held next p answer why Before After is asked
 -- it is reported then, unless there is no memory for it
 pub judged_reported : {E : Type 0} (r : Result (Unit {0}) E) (s : Selection) (bytes : List ℕ) (offset : ℕ)
     (views : List View) (v : View) (held next : Held) (p : Passed) (answer : Answer) (why : Option Why)
-    (more : List Reported) (Before After : List Reported → Type 0) → answer ≡ answer_of s v → answer ≡ AskedFor
-    → more ≡ reported_at (placed_next held v offset) why → AreViews bytes offset views → IsJudged s held p Before views
+    (Before After : List Reported → Type 0) → answer ≡ answer_of s v → answer ≡ AskedFor
+    → AreViews bytes offset views → IsJudged s held p Before views
     → ((ps : List Placed) (count : ℕ) → IsAuditAmong held ps count
     → IsAuditAmong next (ps ++ placed_next held v offset ∷ []) (count + 1))
     → ((ps : List Placed) (count : ℕ) → IsAuditAmong held ps count → IsFoundAfter ps v why)
-    → ((reported : List Reported) → Before reported → MatchResult r (λ _. After (reported ++ more))
-    (λ _. After reported))
+    → ((reported : List Reported) → Before reported → MatchResult r
+    (λ _. After (reported ++ reported_at (placed_next held v offset) why)) (λ _. After reported))
     → MatchResult r (λ _. IsJudged s next p After (views ++ v ∷ [])) (λ _. HasReport (asked_of s views) After)
-judged_reported (Ok u) s bytes offset views v held next p answer why more Before After is asked e shown judged adds
-    finds reports =
-    judged_asked s bytes offset views v held next p answer why Before After is asked shown judged adds finds
-    (λ reported before. subst (λ (ts : List Reported). After (reported ++ ts)) e (reports reported before))
-judged_reported (Err e) s bytes offset views v held next p answer why more Before After is asked same shown judged adds
-    finds reports =
+judged_reported (Ok u) s bytes offset views v held next p answer why Before After is asked shown judged adds finds
+    reports =
+    judged_asked s bytes offset views v held next p answer why Before After is asked shown judged adds finds reports
+judged_reported (Err e) s bytes offset views v held next p answer why Before After is asked shown judged adds finds
+    reports =
     report_on (asked_of s views) Before After judged.report reports
 
 -- ---- it isn't asked for

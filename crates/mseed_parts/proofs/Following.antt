@@ -72,13 +72,13 @@ own_after only b q why own alone k =
     let is : why ≡ Some own = only None q.view why (Some own) k alone in
     subst (λ (x : Option Why). IsFound (Some b) q.view x) (sym is) (own_found (Some b) q.view why own k is)
 
-pub found_behind : HaveOneFinding → (t : Option Tail) (b : View) (h : Option Head) (q : Placed) (why : Option Why)
+pub found_after : HaveOneFinding → (t : Option Tail) (b : View) (h : Option Head) (q : Placed) (why : Option Why)
     → IsTailOf t b → IsHeadOf h q → IsFound None q.view why → IsFoundNext t b h q why
-found_behind only None b None q why tail head k =
+found_after only None b None q why tail head k =
     record { further = why; found = own_after only b q why head.0 head.1 k; is = refl }
-found_behind only (Some t) b None q why tail head k =
+found_after only (Some t) b None q why tail head k =
     record { further = why; found = own_after only b q why head.0 head.1 k; is = refl }
-found_behind only None b (Some h) q why tail head k =
+found_after only None b (Some h) q why tail head k =
     let is : why ≡ None = only None q.view why None k head.sound in
     let nothing : why_after (Some b) q.view h.rate ≡ why =
     ap (λ (r : Option Ratio). why_from b r q.view h.rate) tail ∙ sym is in
@@ -88,7 +88,7 @@ found_behind only None b (Some h) q why tail head k =
           (sound_found (Some b) q.view None h.rate head.sound refl head.rate);
       is = refl;
     }
-found_behind only (Some t) b (Some h) q why tail head k =
+found_after only (Some t) b (Some h) q why tail head k =
     let is : why ≡ None = only None q.view why None k head.sound in
     let border : List Finding = option_to_list (found_at h (border_why t h)) in
     record {
@@ -103,7 +103,7 @@ border_found : HaveOneFinding → (t : Option Tail) (b : View) (h : Option Head)
     (found : List Finding) → IsTailOf t b → IsHeadOf h q → AreFindings None (q ∷ qs) found
     → AreFindings (Some b) (q ∷ qs) (option_to_list (border_of t h) ++ found)
 border_found only t b h q qs found tail head (one _ _ _ why rest k later) =
-    let f = found_behind only t b h q why tail head k in
+    let f = found_after only t b h q why tail head k in
     subst (λ (fs : List Finding). AreFindings (Some b) (q ∷ qs) fs)
     (ap (λ (fs : List Finding). fs ++ rest) f.is
     ∙ append_assoc (option_to_list (border_of t h)) (finding_at q why) rest)
@@ -198,14 +198,14 @@ all_found only c o ps qs s t =
     let border : Option Finding = border_of (tail_in c.findings) (head_in o.findings) in
     let alone : AreFindings None (t.first ∷ t.rest) t.found =
     subst (λ (rs : List Placed). AreFindings None rs t.found) t.begins t.are_found in
-    let behind : AreFindings (Some s.last.view) (t.first ∷ t.rest) (option_to_list border ++ t.found) =
+    let after_last : AreFindings (Some s.last.view) (t.first ∷ t.rest) (option_to_list border ++ t.found) =
     border_found only (tail_in c.findings) s.last.view (head_in o.findings) t.first t.rest t.found s.tail t.head
     alone in
     let further : AreFindings (last_of None ps) qs (option_to_list border ++ t.found) =
     subst (λ (v : Option View). AreFindings v qs (option_to_list border ++ t.found))
     (sym (last_is ps s.prefix s.last s.ends))
     (subst (λ (rs : List Placed). AreFindings (Some s.last.view) rs (option_to_list border ++ t.found))
-    (sym t.begins) behind) in
+    (sym t.begins) after_last) in
     findings_append None ps qs s.found (option_to_list border ++ t.found) s.are_found further
 
 pub stands_after : HaveOneFinding → (c o : Channel) (ps qs : List Placed) → Stands c ps → Stands o qs

@@ -15,7 +15,7 @@ use Rattle.mseed_audit.specs.declared.channel.Head.{Head}
 use Rattle.mseed_audit.specs.declared.tail.Tail.{Tail}
 use Rattle.mseed_parts.specs.Joining.{moved_head, moved_finding, moved_findings, moved_channel}
 use Rattle.mseed_audit.specs.Audit.{IsHeadOf, IsTailOf, head_in, tail_in, AreCounted, Stands, StandsAt}
-use Rattle.mseed_parts.proofs.Placing.{moved, told_moved}
+use Rattle.mseed_parts.proofs.Placing.{moved, moved_also}
 
 pub head_moves : (d e : ℕ) (f : Findings) → head_in (moved_findings d e f) ≡ option_map (moved_head d e) (head_in f)
 head_moves d e (Nothing head tail) = refl
@@ -45,7 +45,7 @@ findings_moved : (d e : ℕ) (before : Option View) (ps : List Placed) (found : 
     → AreFindings before ps found → AreFindings before (map (moved d e) ps) (map (moved_finding d e) found)
 findings_moved d e before [] found (none _) = none before
 findings_moved d e before (p ∷ ps) found (one _ _ _ why rest h later) =
-    told_moved (λ (fs : List Finding). AreFindings before (moved d e p ∷ map (moved d e) ps) fs) (moved_finding d e)
+    moved_also (λ (fs : List Finding). AreFindings before (moved d e p ∷ map (moved d e) ps) fs) (moved_finding d e)
     (finding_at p why) (finding_at (moved d e p) why) rest (finding_moved d e p why)
     (one before (moved d e p) (map (moved d e) ps) why (map (moved_finding d e) rest) h (findings_moved d e (Some
     p.view) ps rest later))

@@ -18,32 +18,20 @@ use Rattle.mseed_audit.specs.Channels.{Placed, added_from, is_of, numbered, reco
 use Rattle.mseed_audit.specs.Judging.{rate_in, rate_unless, time_fault_of}
 use Rattle.mseed_audit.specs.Reported.{Reported, AreReportedOf, last_of, reported_with}
 use Rattle.mseed_audit.proofs.Maps.{same_is}
+use Rattle.mseed_audit.proofs.OneReport.{AreReportedIn, channel_reported, key_of, nothing_in as none}
 use Rattle.mseed_parts.specs.Borders.{Border, border_at, border_with}
 use Rattle.mseed_parts.specs.Joining.{border_between, border_of, border_why, found_at, moved_channel, moved_head}
 use Rattle.mseed_parts.specs.Notices.{Notice, border_notices, moved_notice, moved_notices, notice_of, notices_of}
 use Rattle.mseed_parts.specs.Parts.{Held, IsPartOf, kept_of}
 use Rattle.mseed_parts.proofs.Following.{HaveOneFinding, last_is}
 use Rattle.mseed_parts.proofs.Moving.{head_moves, stands_at_moved}
-use Rattle.mseed_parts.proofs.Placing.{moved, records_append}
-use Rattle.mseed_parts.proofs.Reporting.{AreReportedIn, none, border_reported, key_of, moved_reported, reported_append}
-use Rattle.mseed_parts.proofs.Reporting.{reported_border, reported_moved, reported_one, telling_channel}
+use Rattle.mseed_parts.proofs.Placing.{filter_map_same, moved, records_append}
+use Rattle.mseed_parts.proofs.Reporting.{border_reported, moved_reported, reported_append, reported_border}
+use Rattle.mseed_parts.proofs.Reporting.{reported_moved, reported_one}
 
 -- ---- those with a key
 abbrev pub with_key : List ℕ → List Notice → List Notice
 with_key key ns = filter (λ n. same_key key n.key) ns
-
--- a test passes the same before and after
-pub filter_map_same : {X Y : Type 0} (f : X → Y) (p : X → Bool) (q : Y → Bool) → ((x : X) → q (f x) ≡ p x)
-    → (xs : List X) → filter q (map f xs) ≡ map f (filter p xs)
-filter_map_same f p q same [] = refl
-filter_map_same {X} {Y} f p q same (x ∷ xs) =
-    ap (λ (b : Bool). cond b (f x ∷ filter q (map f xs)) (filter q (map f xs))) (same x)
-    ∙ by (p x) (filter_map_same f p q same xs)
-  where
-    by : (b : Bool) → filter q (map f xs) ≡ map f (filter p xs)
-        → cond b (f x ∷ filter q (map f xs)) (filter q (map f xs)) ≡ map f (cond b (x ∷ filter p xs) (filter p xs))
-    by true e = ap (λ (ys : List Y). f x ∷ ys) e
-    by false e = e
 
 pub with_reported : (key : List ℕ) (reported : List Reported)
     → with_key key (notices_of reported) ≡ notices_of (reported_with key reported)
@@ -151,12 +139,13 @@ reported_both only key c o ps qs reported further s t keys are more =
     let between : List Reported = border_reported t.first border in
     let alone : AreReportedIn None (t.first ∷ t.rest) further =
     subst (λ (rs : List Placed). AreReportedIn None rs further) t.begins more in
-    let behind : AreReportedIn (Some s.last.view) (t.first ∷ t.rest) (between ++ further) =
+    let after_last : AreReportedIn (Some s.last.view) (t.first ∷ t.rest) (between ++ further) =
     reported_border only (tail_in c.findings) s.last.view (head_in o.findings) t.first t.rest further s.tail t.head
     alone in
     let all : AreReportedIn (last_of None ps) qs (between ++ further) =
     subst (λ (v : Option View). AreReportedIn v qs (between ++ further)) (sym (last_is ps s.prefix s.last s.ends))
-    (subst (λ (rs : List Placed). AreReportedIn (Some s.last.view) rs (between ++ further)) (sym t.begins) behind) in
+    (subst (λ (rs : List Placed). AreReportedIn (Some s.last.view) rs (between ++ further)) (sym t.begins)
+    after_last) in
     record {
       between = between;
       all = reported_append None ps qs reported (between ++ further) are all;
@@ -230,14 +219,14 @@ reported_at_key only key a b xs ys first second whole p q alone other all =
     let j : IsReportedWith key c o ours (map (moved d e) theirs) ones (map (moved_reported d e) twos) =
     reported_joined only key c o ours (map (moved d e) theirs) ones (map (moved_reported d e) twos) (p.each key)
     (stands_at_moved d e (kept_of key b.channels) theirs (q.each key)) keys
-    (telling_channel (added_from 0 xs) first key alone)
-    (reported_moved d e None theirs twos (telling_channel (added_from 0 ys) second key other)) in
+    (channel_reported (added_from 0 xs) first key alone)
+    (reported_moved d e None theirs twos (channel_reported (added_from 0 ys) second key other)) in
     let records : ours ++ map (moved d e) theirs ≡ records_of key (added_from 0 (xs ++ ys)) =
     (λ i. ours ++ map (moved (p.records i) (p.bytes i)) theirs) ∙ sym (records_append key xs ys) in
     let same : reported_with key whole ≡ ones ++ (j.between ++ map (moved_reported d e) twos) =
     reported_one only None (records_of key (added_from 0 (xs ++ ys))) (reported_with key whole)
     (ones ++ (j.between ++ map (moved_reported d e) twos))
-    (telling_channel (added_from 0 (xs ++ ys)) whole key all)
+    (channel_reported (added_from 0 (xs ++ ys)) whole key all)
     (subst (λ (ps : List Placed). AreReportedIn None ps (ones ++ (j.between ++ map (moved_reported d e) twos))) records
     j.all) in
     let last : notices_of (map (moved_reported d e) twos) ≡ with_key key (moved_notices d e (notices_of second)) =

@@ -2,6 +2,7 @@
 use Rattle.std.proofs.Common.{◌≡◌, ℕ, suc, ◌+◌, List, [], ◌∷◌, ◌++◌, Bool, true, false, cond, map, length, refl, ap}
 use Rattle.std.proofs.Common.{◌∙◌, arith, subst, sym}
 use Rattle.std.proofs.lemmas.List.{map-append}
+use Rattle.std.proofs.lemmas.List.Elements.{filter-append}
 use Rattle.std.specs.List.{filter}
 use Rattle.mseed_record.specs.View.{View}
 use Rattle.mseed_audit.specs.Channels.{Placed, numbered, is_of, records_of, added_from}
@@ -12,10 +13,10 @@ abbrev pub moved : ℕ → ℕ → Placed → Placed
 moved d e p = record { view = p.view; offset = e + p.offset; number = d + p.number }
 
 -- what is reported of a record and of those after it, moved, where a list of it stands in a relation to records
-pub told_moved : {X : Type 0} (Of : List X → Type 0) (move : X → X) (first there rest : List X) → there ≡ map move first
+pub moved_also : {X : Type 0} (Of : List X → Type 0) (move : X → X) (first there rest : List X) → there ≡ map move first
     → Of (there ++ map move rest) → Of (map move (first ++ rest))
-told_moved {X} Of move first there rest e told =
-    subst Of (ap (λ (xs : List X). xs ++ map move rest) e ∙ sym (map-append move first rest)) told
+moved_also {X} Of move first there rest e is =
+    subst Of (ap (λ (xs : List X). xs ++ map move rest) e ∙ sym (map-append move first rest)) is
 
 abbrev placed : ℕ → ℕ → List View → List Placed
 placed n o views = numbered n (added_from o views)
@@ -57,35 +58,25 @@ placed_after xs ys =
     (placed_at (1 + length xs) (length xs + 1) (0 + bytes_in xs) (bytes_in xs + 0) ys (omega arith) (omega arith)
     ∙ placed_moved (length xs) (bytes_in xs) 1 0 ys)
 
-module _ (key : List ℕ) where
-  abbrev test : Placed → Bool
-  test p = is_of key p.view
+-- a test passes the same before and after
+pub filter_map_same : {X Y : Type 0} (f : X → Y) (p : X → Bool) (q : Y → Bool) → ((x : X) → q (f x) ≡ p x)
+    → (xs : List X) → filter q (map f xs) ≡ map f (filter p xs)
+filter_map_same f p q same [] = refl
+filter_map_same {X} {Y} f p q same (x ∷ xs) =
+    ap (λ (b : Bool). cond b (f x ∷ filter q (map f xs)) (filter q (map f xs))) (same x)
+    ∙ by (p x) (filter_map_same f p q same xs)
+  where
+    by : (b : Bool) → filter q (map f xs) ≡ map f (filter p xs)
+        → cond b (f x ∷ filter q (map f xs)) (filter q (map f xs)) ≡ map f (cond b (x ∷ filter p xs) (filter p xs))
+    by true e = ap (λ (ys : List Y). f x ∷ ys) e
+    by false e = e
 
-  kept_append : (ps qs : List Placed) → filter test (ps ++ qs) ≡ filter test ps ++ filter test qs
-  kept_append [] qs = refl
-  kept_append (p ∷ ps) qs = by (test p) (kept_append ps qs)
-    where
-      by : (b : Bool) → filter test (ps ++ qs) ≡ filter test ps ++ filter test qs
-          → cond b (p ∷ filter test (ps ++ qs)) (filter test (ps ++ qs))
-          ≡ cond b (p ∷ filter test ps) (filter test ps) ++ filter test qs
-      by true e = ap (λ (rs : List Placed). p ∷ rs) e
-      by false e = e
-
-  kept_moved : (d e : ℕ) (ps : List Placed) → filter test (map (moved d e) ps) ≡ map (moved d e) (filter test ps)
-  kept_moved d e [] = refl
-  kept_moved d e (p ∷ ps) = by (test p) (kept_moved d e ps)
-    where
-      by : (b : Bool) → filter test (map (moved d e) ps) ≡ map (moved d e) (filter test ps)
-          → cond b (moved d e p ∷ filter test (map (moved d e) ps)) (filter test (map (moved d e) ps))
-          ≡ map (moved d e) (cond b (p ∷ filter test ps) (filter test ps))
-      by true k = ap (λ (rs : List Placed). moved d e p ∷ rs) k
-      by false k = k
-
-  -- the records of a channel in two archives one after another
-  pub records_append : (xs ys : List View) → records_of key (added_from 0 (xs ++ ys))
-      ≡ records_of key (added_from 0 xs) ++ map (moved (length xs) (bytes_in xs)) (records_of key (added_from 0 ys))
-  records_append xs ys =
-      ap (λ (ps : List Placed). filter test ps) (placed_after xs ys)
-      ∙ kept_append (placed 1 0 xs) (map (moved (length xs) (bytes_in xs)) (placed 1 0 ys))
-      ∙ ap (λ (ps : List Placed). filter test (placed 1 0 xs) ++ ps)
-      (kept_moved (length xs) (bytes_in xs) (placed 1 0 ys))
+-- the records of a channel in two archives one after another
+pub records_append : (key : List ℕ) (xs ys : List View) → records_of key (added_from 0 (xs ++ ys))
+    ≡ records_of key (added_from 0 xs) ++ map (moved (length xs) (bytes_in xs)) (records_of key (added_from 0 ys))
+records_append key xs ys =
+    let test : Placed → Bool = λ p. is_of key p.view in
+    ap (λ (ps : List Placed). filter test ps) (placed_after xs ys)
+    ∙ filter-append test (placed 1 0 xs) (map (moved (length xs) (bytes_in xs)) (placed 1 0 ys))
+    ∙ ap (λ (ps : List Placed). filter test (placed 1 0 xs) ++ ps)
+    (filter_map_same (moved (length xs) (bytes_in xs)) test test (λ p. refl) (placed 1 0 ys))

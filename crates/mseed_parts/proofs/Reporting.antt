@@ -1,90 +1,21 @@
--- What is reported of a channel's records, in their order.
-use Rattle.std.proofs.Common.{◌≡◌, ℕ, ◌<◌, List, [], ◌∷◌, ◌++◌, map, Bool, true, false, Option, Some, None, refl, sym}
-use Rattle.std.proofs.Common.{ap, ◌∙◌, subst, append_assoc}
+-- What is reported of a channel's records, of further ones after them, and after a border.
+use Rattle.std.proofs.Common.{◌≡◌, ℕ, List, [], ◌∷◌, ◌++◌, map, Option, Some, None, refl, sym, ap, ◌∙◌, subst}
+use Rattle.std.proofs.Common.{append_assoc}
 use Rattle.std.proofs.lemmas.List.{map-append}
 use Rattle.std.specs.Option.{option_to_list}
-use Rattle.mseed_record.specs.Header.{key_at}
 use Rattle.mseed_record.specs.View.{View}
-use Rattle.mseed_steim.specs.Reading.{count_of}
 use Rattle.mseed_audit.specs.declared.finding.Finding.{Finding}
 use Rattle.mseed_audit.specs.declared.finding.Why.{Why}
 use Rattle.mseed_audit.specs.declared.channel.Head.{Head}
 use Rattle.mseed_audit.specs.declared.tail.Tail.{Tail}
 use Rattle.mseed_audit.specs.Audit.{IsHeadOf, IsTailOf}
-use Rattle.mseed_audit.specs.Channels.{Added, Placed, is_of, numbered, records_of, same_key}
-use Rattle.mseed_audit.specs.Judging.{IsFound}
-use Rattle.mseed_audit.specs.Reported.{Reported, AreReported, AreReportedOf, IsFoundOf, channel_in, last_of}
-use Rattle.mseed_audit.specs.Reported.{reported_at, reported_with, none as nothing_reported, one as one_reported}
+use Rattle.mseed_audit.specs.Channels.{Placed}
+use Rattle.mseed_audit.specs.Reported.{Reported, last_of, reported_at}
 use Rattle.mseed_audit.specs.Verdict.{finding_at}
-use Rattle.mseed_audit.proofs.Maps.{same_is}
-use Rattle.mseed_audit.proofs.OneReport.{channel_with, channel_without, last_with, last_without, of_some}
-use Rattle.mseed_audit.proofs.OneReport.{reported_elsewhere, samples_of}
+use Rattle.mseed_audit.proofs.OneReport.{AreReportedIn, nothing_in as none, one_in as one}
 use Rattle.mseed_parts.specs.Joining.{border_of, moved_finding}
-use Rattle.mseed_parts.proofs.Following.{HaveOneFinding, found_behind}
-use Rattle.mseed_parts.proofs.Placing.{moved, told_moved}
-
--- what is reported of a channel's records after another, each judged by the one just before it
-pub data AreReportedIn : Option View → List Placed → List Reported → Type 0 where
-  none : (before : Option View) → AreReportedIn before [] []
-  one : (before : Option View) (p : Placed) (ps : List Placed) (why : Option Why) (reported : List Reported)
-      → IsFound before p.view why
-      → AreReportedIn (Some p.view) ps reported → AreReportedIn before (p ∷ ps) (reported_at p why ++ reported)
-
--- ---- of the records of an archive, those of a channel
--- a record of a channel has its key
-pub key_of : (key : List ℕ) (v : View) → is_of key v ≡ true → same_key key (key_at v.bytes) ≡ true
-key_of key v e = sym (of_some key v (samples_of key v e)) ∙ e
-
-reported_here : (key : List ℕ) (p : Placed) (why : Option Why) (rest : List Reported)
-    → same_key key (key_at p.view.bytes) ≡ true
-    → reported_with key (reported_at p why ++ rest) ≡ reported_at p why ++ reported_with key rest
-reported_here key p None rest e = refl
-reported_here key p (Some why) rest e = rw e refl
-
-by_channel : (key : List ℕ) (earlier : List Placed) (p : Placed) (ps : List Placed) (why : Option Why)
-    (rest : List Reported) (b : Bool) → is_of key p.view ≡ b
-    → IsFoundOf (channel_in (key_at p.view.bytes) earlier) p.view why
-    → AreReportedIn (last_of None (channel_in key (earlier ++ p ∷ []))) (channel_in key ps) (reported_with key rest)
-    → AreReportedIn (last_of None (channel_in key earlier)) (channel_in key (p ∷ ps))
-    (reported_with key (reported_at p why ++ rest))
-by_channel key earlier p ps why rest true e h later =
-    let some : 0 < count_of p.view = samples_of key p.view e in
-    let here : same_key key (key_at p.view.bytes) ≡ true = key_of key p.view e in
-    let same : key ≡ key_at p.view.bytes = same_is key (key_at p.view.bytes) here in
-    let found : IsFound (last_of None (channel_in key earlier)) p.view why =
-    subst (λ (k : List ℕ). IsFound (last_of None (channel_in k earlier)) p.view why) (sym same) (h.judged some) in
-    let next : AreReportedIn (Some p.view) (channel_in key ps) (reported_with key rest) =
-    subst (λ (b : Option View). AreReportedIn b (channel_in key ps) (reported_with key rest))
-    (last_with key p earlier e)
-    later in
-    let all : AreReportedIn (last_of None (channel_in key earlier)) (p ∷ channel_in key ps)
-    (reported_at p why ++ reported_with key rest) =
-    one (last_of None (channel_in key earlier)) p (channel_in key ps) why (reported_with key rest) found next in
-    let records = subst (λ (qs : List Placed). AreReportedIn (last_of None (channel_in key earlier)) qs
-    (reported_at p why ++ reported_with key rest)) (sym (channel_with key p ps e)) all in
-    subst (λ (ts : List Reported). AreReportedIn (last_of None (channel_in key earlier)) (channel_in key (p ∷ ps)) ts)
-    (sym (reported_here key p why rest here)) records
-by_channel key earlier p ps why rest false e h later =
-    let next : AreReportedIn (last_of None (channel_in key earlier)) (channel_in key ps) (reported_with key rest) =
-    subst (λ (qs : List Placed). AreReportedIn (last_of None qs) (channel_in key ps) (reported_with key rest))
-    (last_without key p earlier e) later in
-    let records = subst (λ (qs : List Placed). AreReportedIn (last_of None (channel_in key earlier)) qs
-    (reported_with key rest)) (sym (channel_without key p ps e)) next in
-    subst (λ (ts : List Reported). AreReportedIn (last_of None (channel_in key earlier)) (channel_in key (p ∷ ps)) ts)
-    (sym (reported_elsewhere key p why rest (channel_in (key_at p.view.bytes) earlier) e h)) records
-
-reported_channel : (key : List ℕ) (earlier ps : List Placed) (reported : List Reported)
-    → AreReported earlier ps reported
-    → AreReportedIn (last_of None (channel_in key earlier)) (channel_in key ps) (reported_with key reported)
-reported_channel key earlier [] reported (nothing_reported _) = none (last_of None (channel_in key earlier))
-reported_channel key earlier (p ∷ ps) reported (one_reported _ _ _ why rest h later) =
-    by_channel key earlier p ps why rest (is_of key p.view) refl h
-    (reported_channel key (earlier ++ p ∷ []) ps rest later)
-
--- what is reported of a channel's records
-pub telling_channel : (added : List Added) (reported : List Reported) (key : List ℕ) → AreReportedOf added reported
-    → AreReportedIn None (records_of key added) (reported_with key reported)
-telling_channel added reported key are = reported_channel key [] (numbered 1 added) reported are
+use Rattle.mseed_parts.proofs.Following.{HaveOneFinding, found_after}
+use Rattle.mseed_parts.proofs.Placing.{moved, moved_also}
 
 -- it is reported once
 pub reported_one : HaveOneFinding → (before : Option View) (ps : List Placed) (a b : List Reported)
@@ -120,7 +51,7 @@ pub reported_moved : (d e : ℕ) (before : Option View) (ps : List Placed) (repo
     → AreReportedIn before (map (moved d e) ps) (map (moved_reported d e) reported)
 reported_moved d e before [] reported (none _) = none before
 reported_moved d e before (p ∷ ps) reported (one _ _ _ why rest h later) =
-    told_moved (λ (ts : List Reported). AreReportedIn before (moved d e p ∷ map (moved d e) ps) ts) (moved_reported d e)
+    moved_also (λ (ts : List Reported). AreReportedIn before (moved d e p ∷ map (moved d e) ps) ts) (moved_reported d e)
     (reported_at p why) (reported_at (moved d e p) why) rest (reported_at_moved d e p why) (one before (moved d e p)
     (map (moved d e) ps) why (map (moved_reported d e) rest) h (reported_moved d e (Some p.view) ps rest later))
 
@@ -154,7 +85,7 @@ pub reported_border : HaveOneFinding → (t : Option Tail) (b : View) (h : Optio
     (reported : List Reported) → IsTailOf t b → IsHeadOf h q → AreReportedIn None (q ∷ qs) reported
     → AreReportedIn (Some b) (q ∷ qs) (border_reported q (border_of t h) ++ reported)
 reported_border only t b h q qs reported tail head (one _ _ _ why rest k later) =
-    let f = found_behind only t b h q why tail head k in
+    let f = found_after only t b h q why tail head k in
     subst (λ (ts : List Reported). AreReportedIn (Some b) (q ∷ qs) ts)
     (ap (λ (ts : List Reported). ts ++ rest) (reported_after q f.further why (border_of t h) f.is)
     ∙ append_assoc (border_reported q (border_of t h)) (reported_at q why) rest)

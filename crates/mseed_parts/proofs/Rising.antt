@@ -72,17 +72,17 @@ not_before : (least : ℕ) (ns : List Notice) (n : Notice) → RiseFrom least ns
 not_before least [] n rise is = absurd is
 not_before least (m ∷ ms) n rise (inl same) = subst (λ (x : Notice). least ≤ x.finding.offset) same rise.0
 not_before least (m ∷ ms) n rise (inr later) =
-    let behind : m.finding.offset + 1 ≤ n.finding.offset = not_before (m.finding.offset + 1) ms n rise.1 later in
+    let past : m.finding.offset + 1 ≤ n.finding.offset = not_before (m.finding.offset + 1) ms n rise.1 later in
     let here : least ≤ m.finding.offset = rise.0 in
-    omega (arith, behind, here)
+    omega (arith, past, here)
 
 same_first : (least other : ℕ) (n m : Notice) (ns ms : List Notice) → RiseFrom least (n ∷ ns)
     → RiseFrom other (m ∷ ms) → IsIn (m ∷ ms) n → IsIn (n ∷ ns) m → n ≡ m
 same_first least other n m ns ms rise up (inl e) is = sym e
 same_first least other n m ns ms rise up (inr later) (inl e) = e
-same_first least other n m ns ms rise up (inr later) (inr behind) =
+same_first least other n m ns ms rise up (inr later) (inr past) =
     let above : m.finding.offset + 1 ≤ n.finding.offset = not_before (m.finding.offset + 1) ms n up.1 later in
-    let below : n.finding.offset + 1 ≤ m.finding.offset = not_before (n.finding.offset + 1) ns m rise.1 behind in
+    let below : n.finding.offset + 1 ≤ m.finding.offset = not_before (n.finding.offset + 1) ns m rise.1 past in
     absurd (omega (arith, above, below))
 
 -- after the first place no member is the first

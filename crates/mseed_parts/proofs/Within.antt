@@ -56,9 +56,9 @@ first_with (Counted m first head t) (Counted n next h tail) None f g k = f
 first_with (Counted m first head t) (Counted n next h tail) (Some x) f g k = f
 
 -- a channel with its further records after
-behind_within : (d e : ℕ) (c o : Channel) → IsWithin c → Moves d e o
+then_within : (d e : ℕ) (c o : Channel) → IsWithin c → Moves d e o
     → CountsFit (channel_then c (moved_channel d e o)) → IsWithin (channel_then c (moved_channel d e o))
-behind_within d e c o w m f =
+then_within d e c o w m f =
     let further : Findings = moved_findings d e o.findings in
     let border : Option Finding = border_of (tail_in c.findings) (head_in further) in
     let moves = moved_fits d e o.findings m in (
@@ -90,7 +90,7 @@ after_within d e key es c o m after r there all moves is fits ok err = by r fits
     by (Ok found) f g h =
         subst (λ (x : Channel). IsWithin x) (sym g)
         (subst (λ (x : Channel). IsWithin (channel_then c x)) (sym is)
-        (behind_within d e c o before moves (subst (λ (x : Channel). CountsFit (channel_then c x)) is (f.0 refl))))
+        (then_within d e c o before moves (subst (λ (x : Channel). CountsFit (channel_then c x)) is (f.0 refl))))
     by (Err fault) f g h = subst (λ (x : Channel). IsWithin x) (sym h) before
 
 -- a new one

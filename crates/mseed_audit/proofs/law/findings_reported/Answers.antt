@@ -1,14 +1,14 @@
-use Rattle.mseed_audit.proofs.OneReport.{telling_count, telling_findings, telling_prefix}
+use Rattle.mseed_audit.proofs.OneReport.{channel_count, channel_findings, lines_prefix}
 use Rattle.mseed_audit.proofs.law.findings_reported.Goals as goal
 
 pub returns-clause-channel : goal.returns-clause-channel
-returns-clause-channel c = telling_findings
+returns-clause-channel c = channel_findings
 
 pub returns-clause-count : goal.returns-clause-count
-returns-clause-count c = λ added reported verdicts key. telling_count c.one_fault.ensures.one
+returns-clause-count c = λ added reported verdicts key. channel_count c.one_fault.ensures.one
     c.one_fault.ensures.excludes
     added reported verdicts key
 
 pub returns-clause-prefix : goal.returns-clause-prefix
-returns-clause-prefix c = λ added more reported all. telling_prefix c.one_fault.ensures.one c.one_fault.ensures.excludes
+returns-clause-prefix c = λ added more reported all. lines_prefix c.one_fault.ensures.one c.one_fault.ensures.excludes
     added more reported all
