@@ -17,7 +17,7 @@ use Rattle.mseed_audit.specs.declared.channel.Channel.{Channel}
 use Rattle.mseed_audit.specs.Channels.{same_key}
 use Rattle.mseed_audit.specs.Places.{ArePlaced, by_key}
 use Rattle.mseed_audit.proofs.Alike.{one_list}
-use Rattle.mseed_audit.proofs.Maps.{same_is}
+use Rattle.mseed_audit.proofs.Maps.{equal_from, same_is}
 use Rattle.mseed_audit.proofs.Rosters.{AreMade, all_made, made_at}
 
 abbrev Entries : Type 0
@@ -60,7 +60,7 @@ ascends_by Equal key c e es is s more = s
 ascends_by Greater key c e es is s more =
     (above_insert e.0 key c es (nat_list_cmp_total.antisymm e.0 key ∙ ap ordering_reverse is) s.0, more)
 
-insert_ascends : (key : List ℕ) (c : Channel) (es : Entries) → IsAscending es
+pub insert_ascends : (key : List ℕ) (c : Channel) (es : Entries) → IsAscending es
     → IsAscending (insert_entry cmp es key c)
 unfolding IsStrictlySortedBy
 insert_ascends key c [] s = (tt, tt)
@@ -72,11 +72,6 @@ by_key_ascends [] = tt
 by_key_ascends (e ∷ es) = insert_ascends e.0 e.1 (by_key es) (by_key_ascends es)
 
 -- ---- and are the same
-equal_is : (o : Ordering) → is_eq o ≡ true → o ≡ Equal
-equal_is Less e = absurd (false≢true e)
-equal_is Equal e = refl
-equal_is Greater e = absurd (false≢true e)
-
 module _ {X : Type 0} where
   both_by : (a b : Bool) (x y : X) (rest : Option X) → (a ≡ true → b ≡ true → ⊥)
       → cond a (Some y) (cond b (Some x) rest) ≡ cond b (Some x) (cond a (Some y) rest)
@@ -108,7 +103,7 @@ module _ {X : Type 0} where
       (λ here there.
       let alike : same_key key e.0 ≡ true =
       ap (λ (k : List ℕ). same_key k e.0) (sym (same_is other key there)) ∙ here in
-      absurd (cc (sym is ∙ equal_is (cmp key e.0) alike)))
+      absurd (cc (sym is ∙ equal_from (cmp key e.0) alike)))
 
   -- what is at a key once another is entered
   pub kept_insert : (key : List ℕ) (x : X) (es : List (List ℕ × X)) (other : List ℕ)

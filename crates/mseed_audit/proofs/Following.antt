@@ -15,6 +15,7 @@ use Rattle.mseed_audit.specs.Channels.{Added, Placed, added_from, numbered, is_o
 use Rattle.mseed_audit.specs.Follows.{IsSound}
 use Rattle.mseed_audit.specs.Audit.{StandsAt}
 use Rattle.mseed_audit.proofs.More.{placed_at, records_more}
+use Rattle.mseed_audit.proofs.Views.{added_length}
 
 -- where the last of them ends
 abbrev pub end_of : ℕ → List View → ℕ
@@ -39,10 +40,6 @@ added_after offset (w ∷ vs) v =
     let here : Added = record { view = w; offset = offset } in
     ap (λ (xs : List Added). here ∷ xs) (added_after (offset + length w.bytes) vs v)
 
-as_many : (offset : ℕ) (vs : List View) → length (added_from offset vs) ≡ length vs
-as_many offset [] = refl
-as_many offset (v ∷ vs) = omega (arith, as_many (offset + length v.bytes) vs)
-
 -- the channel's records with one more record after all
 records_after : (key : List ℕ) (vs : List View) (v : View) → records_of key (added_from 0 (vs ++ v ∷ []))
     ≡ with_record key (records_of key (added_from 0 vs))
@@ -50,7 +47,7 @@ records_after : (key : List ℕ) (vs : List View) (v : View) → records_of key 
 records_after key vs v =
     let added : List Added = added_from 0 vs in
     let last : Added = record { view = v; offset = end_of 0 vs } in
-    let number : 1 + length added ≡ length vs + 1 = omega (arith, as_many 0 vs) in
+    let number : 1 + length added ≡ length vs + 1 = omega (arith, added_length 0 vs) in
     ap (λ (xs : List Added). records_of key xs) (added_after 0 vs v) ∙ records_more key added last
     ∙ ap (λ (n : ℕ). with_record key (records_of key added) (placed_at last n)) number
 

@@ -19,7 +19,7 @@ same_back key other = keys_alike.symm key other
 pub same_itself : (key : List ℕ) → same_key key key ≡ true
 same_itself key = keys_alike.refl key
 
-equal_from : (o : Ordering) → is_eq o ≡ true → o ≡ Equal
+pub equal_from : (o : Ordering) → is_eq o ≡ true → o ≡ Equal
 equal_from Less e = absurd (false≢true e)
 equal_from Equal e = refl
 equal_from Greater e = absurd (false≢true e)

@@ -91,7 +91,7 @@ asked_each : (ps : List Placed) → filter (λ p. asks_for everything p.view) ps
 asked_each [] = refl
 asked_each (p ∷ ps) = ap (λ (qs : List Placed). p ∷ qs) (asked_each ps)
 
-numbered_length : (n : ℕ) (added : List Added) → length (numbered n added) ≡ length added
+pub numbered_length : (n : ℕ) (added : List Added) → length (numbered n added) ≡ length added
 numbered_length n [] = refl
 numbered_length n (a ∷ rest) = ap suc (numbered_length (n + 1) rest)
 

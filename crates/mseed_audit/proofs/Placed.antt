@@ -20,7 +20,8 @@ use Rattle.mseed_audit.specs.private.ChannelState.{IsMissed}
 use Rattle.mseed_audit.proofs.ByKey.{kept_insert}
 use Rattle.mseed_audit.proofs.Maps.{same_back}
 use Rattle.mseed_audit.proofs.Apart.{apart_place, apart_push, apart_set}
-use Rattle.mseed_audit.proofs.Rosters.{all_below, no_place, places_more, places_set, places_stay, set_found, with_is}
+use Rattle.mseed_audit.proofs.Rosters.{all_below, no_place, places_more, places_set, places_stay, set_is as set_at}
+use Rattle.mseed_audit.proofs.Rosters.{with_is}
 
 abbrev Entries : Type 0
 Entries = List (List ℕ × Channel)
@@ -34,8 +35,11 @@ module _ (es : Entries) (i : ℕ) (e : List ℕ × Channel) (within : i < length
     place : place_of (same_key e.0) es ≡ Some i
     place = apart_place e.0 es i e are.apart there refl
 
+    pub set_is : set es i (e.0, after) ≡ with_channel es i after
+    set_is = ap (λ (x : List ℕ × Channel). set es i (x.0, after)) at ∙ set_at es i e after
+
     same : set es i (e.0, after) ≡ set_value (same_key e.0) es after
-    same = set_found (same_key e.0) es i e after place at
+    same = set_is ∙ with_is (same_key e.0) es i after place
 
     pub set_placed : ArePlaced ps (set es i (e.0, after))
     set_placed = subst (λ (fs : Entries). ArePlaced ps fs) (sym same) (record {
@@ -50,9 +54,6 @@ module _ (es : Entries) (i : ℕ) (e : List ℕ × Channel) (within : i < length
     set_missed (Some key) is =
         ap (λ (fs : Entries). place_of (same_key key) fs) same
         ∙ places_stay (same_key key) (same_key e.0) es after ∙ is
-
-    pub set_is : set es i (e.0, after) ≡ with_channel es i after
-    set_is = same ∙ sym (with_is (same_key e.0) es i after place)
 
 -- ---- a new channel after the others
 abbrev Places : Type 0

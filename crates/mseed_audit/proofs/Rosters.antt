@@ -51,52 +51,30 @@ none_there test es e = none_from (lookup test es) (sym (same_some test es) ∙ a
 pub no_place : (test : List ℕ → Bool) (es : List (List ℕ × Channel)) → lookup test es ≡ None → place_of test es ≡ None
 no_place test es e = none_from (place_of test es) (same_some test es ∙ ap (λ (o : Option Channel). is_some o) e)
 
-at_by : (b : Bool) (x : List ℕ × Channel) (es : List (List ℕ × Channel)) (found : Option Channel) (o : Option ℕ)
-    (i : ℕ) → ((j : ℕ) → o ≡ Some j → found ≡ option_map (λ (e : List ℕ × Channel). e.1) (slice_get es j))
-    → cond b (Some 0) (option_map suc o) ≡ Some i
-    → cond b (Some x.1) found ≡ option_map (λ (e : List ℕ × Channel). e.1) (slice_get (x ∷ es) i)
-at_by true x es found o i later e = ap (λ (n : ℕ). option_map (λ (e : List ℕ × Channel). e.1) (slice_get (x ∷ es) n))
-    (same_Some 0 i e)
-at_by false x es found None i later e = absurd (cc e)
-at_by false x es found (Some j) i later e =
-    later j refl ∙ ap (λ (n : ℕ). option_map (λ (e : List ℕ × Channel). e.1) (slice_get (x ∷ es) n))
-    (same_Some (suc j) i e)
+-- a place is that of the first, or one after it
+place_cases : (P : ℕ → Type 0) (b : Bool) (o : Option ℕ) (i : ℕ) → cond b (Some 0) (option_map suc o) ≡ Some i
+    → (b ≡ true → P 0) → ((j : ℕ) → b ≡ false → o ≡ Some j → P (suc j)) → P i
+place_cases P true o i e first later = subst P (same_Some 0 i e) (first refl)
+place_cases P false None i e first later = absurd (cc e)
+place_cases P false (Some j) i e first later = subst P (same_Some (suc j) i e) (later j refl refl)
 
 -- what is kept at a place
 pub kept_at : (test : List ℕ → Bool) (es : List (List ℕ × Channel)) (i : ℕ) → place_of test es ≡ Some i
     → lookup test es ≡ option_map (λ (e : List ℕ × Channel). e.1) (slice_get es i)
 kept_at test [] i e = absurd (cc e)
-kept_at test (x ∷ es) i e = at_by (test x.0) x es (lookup test es) (place_of test es) i (kept_at test es) e
-
-within_by : (b : Bool) (n : ℕ) (o : Option ℕ) (i : ℕ) → ((j : ℕ) → o ≡ Some j → j < n)
-    → cond b (Some 0) (option_map suc o) ≡ Some i → i < suc n
-within_by true n o i later e = omega (arith, same_Some 0 i e)
-within_by false n None i later e = absurd (cc e)
-within_by false n (Some j) i later e = omega (arith, later j refl, same_Some (suc j) i e)
+kept_at test (x ∷ es) i e =
+    place_cases
+    (λ n. lookup test (x ∷ es) ≡ option_map (λ (e : List ℕ × Channel). e.1) (slice_get (x ∷ es) n)) (test x.0)
+    (place_of test es) i e (λ hit. ap (λ (b : Bool). cond b (Some x.1) (lookup test es)) hit)
+    (λ j miss there. ap (λ (b : Bool). cond b (Some x.1) (lookup test es)) miss ∙ kept_at test es j there)
 
 -- a place is one of as many as there are channels
 pub place_within : (test : List ℕ → Bool) (es : List (List ℕ × Channel)) (i : ℕ) → place_of test es ≡ Some i
     → i < length es
 place_within test [] i e = absurd (cc e)
-place_within test (x ∷ es) i e = within_by (test x.0) (length es) (place_of test es) i (place_within test es) e
-
-set_by : (b : Bool) (x : List ℕ × Channel) (es next : List (List ℕ × Channel)) (o : Option ℕ) (i : ℕ)
-    (d : List ℕ × Channel) (v : Channel) → ((j : ℕ) → o ≡ Some j → set es j ((get_or es j d).0, v) ≡ next)
-    → cond b (Some 0) (option_map suc o) ≡ Some i
-    → set (x ∷ es) i ((get_or (x ∷ es) i d).0, v) ≡ cond b ((x.0, v) ∷ es) (x ∷ next)
-set_by true x es next o i d v later e =
-    ap (λ (n : ℕ). set (x ∷ es) n ((get_or (x ∷ es) n d).0, v)) (sym (same_Some 0 i e))
-set_by false x es next None i d v later e = absurd (cc e)
-set_by false x es next (Some j) i d v later e =
-    ap (λ (n : ℕ). set (x ∷ es) n ((get_or (x ∷ es) n d).0, v)) (sym (same_Some (suc j) i e))
-    ∙ ap (λ (fs : List (List ℕ × Channel)). x ∷ fs) (later j refl)
-
--- what is kept at a place becomes something else
-pub set_at : (test : List ℕ → Bool) (es : List (List ℕ × Channel)) (i : ℕ) (d : List ℕ × Channel) (v : Channel)
-    → place_of test es ≡ Some i → set es i ((get_or es i d).0, v) ≡ set_value test es v
-set_at test [] i d v e = absurd (cc e)
-set_at test (x ∷ es) i d v e =
-    set_by (test x.0) x es (set_value test es v) (place_of test es) i d v (λ j s. set_at test es j d v s) e
+place_within test (x ∷ es) i e =
+    place_cases (λ n. n < length (x ∷ es)) (test x.0) (place_of test es) i e (λ hit. omega arith)
+    (λ j miss there. omega (arith, place_within test es j there))
 
 stay_by : (test : List ℕ → Bool) (b : Bool) (x : List ℕ × Channel) (es next : List (List ℕ × Channel)) (v : Channel)
     → place_of test next ≡ place_of test es → place_of test (cond b ((x.0, v) ∷ es) (x ∷ next)) ≡ place_of test (x ∷ es)
@@ -141,13 +119,14 @@ kept_by : (b : Bool) (v w : Channel) (found next : Option Channel) → (found �
 kept_by true v w found next later e = absurd (cc e)
 kept_by false v w found next later e = later e
 
-kept_after : (test : List ℕ → Bool) (es : List (List ℕ × Channel)) (x : List ℕ × Channel) → lookup test es ≡ None
-    → test x.0 ≡ true → lookup test (es ++ x ∷ []) ≡ Some x.1
-kept_after test [] x none hit = ap (λ (b : Bool). cond b (Some x.1) None) hit
-kept_after test (e ∷ es) x none hit =
-    kept_by (test e.0) e.1 x.1 (lookup test es) (lookup test (es ++ x ∷ [])) (λ n. kept_after test es x n hit) none
+pub kept_after : (test : List ℕ → Bool) (es : List (List ℕ × Channel)) (x : List ℕ × Channel)
+    (more : List (List ℕ × Channel)) → lookup test es ≡ None → test x.0 ≡ true → lookup test (es ++ x ∷ more) ≡ Some x.1
+kept_after test [] x more none hit = ap (λ (b : Bool). cond b (Some x.1) (lookup test more)) hit
+kept_after test (e ∷ es) x more none hit =
+    kept_by (test e.0) e.1 x.1 (lookup test es) (lookup test (es ++ x ∷ more))
+    (λ n. kept_after test es x more n hit) none
 
-kept_before : (test : List ℕ → Bool) (es : List (List ℕ × Channel)) (x : List ℕ × Channel) → test x.0 ≡ false
+pub kept_before : (test : List ℕ → Bool) (es : List (List ℕ × Channel)) (x : List ℕ × Channel) → test x.0 ≡ false
     → lookup test (es ++ x ∷ []) ≡ lookup test es
 kept_before test [] x other = ap (λ (b : Bool). cond b (Some x.1) None) other
 kept_before test (e ∷ es) x other =
@@ -161,7 +140,7 @@ kept_more es code c none key = go (same_key key code) refl
   where
     go : (b : Bool) → same_key key code ≡ b
         → lookup (same_key key) (es ++ (code, c) ∷ []) ≡ cond b (Some c) (lookup (same_key key) es)
-    go true e = kept_after (same_key key) es (code, c)
+    go true e = kept_after (same_key key) es (code, c) []
         (ap (λ (k : List ℕ). lookup (same_key k) es) (same_is key code e) ∙ none) e
     go false e = kept_before (same_key key) es (code, c) e
 
@@ -398,21 +377,15 @@ pub found_at : (test : List ℕ → Bool) (es : List (List ℕ × Channel)) (i :
     → option_map (λ (e : List ℕ × Channel). e.1) (slice_get es i) ≡ Some c → lookup test es ≡ Some c
 found_at test es i c place is = kept_at test es i place ∙ is
 
-with_by : (b : Bool) (x : List ℕ × Channel) (es next : List (List ℕ × Channel)) (o : Option ℕ) (i : ℕ) (v : Channel)
-    → ((j : ℕ) → o ≡ Some j → with_channel es j v ≡ next) → cond b (Some 0) (option_map suc o) ≡ Some i
-    → with_channel (x ∷ es) i v ≡ cond b ((x.0, v) ∷ es) (x ∷ next)
-with_by true x es next o i v later e = ap (λ (n : ℕ). with_channel (x ∷ es) n v) (sym (same_Some 0 i e))
-with_by false x es next None i v later e = absurd (cc e)
-with_by false x es next (Some j) i v later e =
-    ap (λ (n : ℕ). with_channel (x ∷ es) n v) (sym (same_Some (suc j) i e))
-    ∙ ap (λ (fs : List (List ℕ × Channel)). x ∷ fs) (later j refl)
-
 -- what is kept of the channel at a place is what is kept at its key
 pub with_is : (test : List ℕ → Bool) (es : List (List ℕ × Channel)) (i : ℕ) (v : Channel) → place_of test es ≡ Some i
     → with_channel es i v ≡ set_value test es v
 with_is test [] i v e = absurd (cc e)
 with_is test (x ∷ es) i v e =
-    with_by (test x.0) x es (set_value test es v) (place_of test es) i v (λ j s. with_is test es j v s) e
+    place_cases (λ n. with_channel (x ∷ es) n v ≡ set_value test (x ∷ es) v) (test x.0) (place_of test es) i e
+    (λ hit. sym (ap (λ (b : Bool). cond b ((x.0, v) ∷ es) (x ∷ set_value test es v)) hit))
+    (λ j miss there. ap (λ (fs : List (List ℕ × Channel)). x ∷ fs) (with_is test es j v there)
+    ∙ sym (ap (λ (b : Bool). cond b ((x.0, v) ∷ es) (x ∷ set_value test es v)) miss))
 
 -- and where it is kept already the list is what it was
 pub with_itself : (es : List (List ℕ × Channel)) (i : ℕ) (c : Channel)
@@ -423,9 +396,11 @@ with_itself (e ∷ es) zero c at =
 with_itself (e ∷ es) (suc i) c at = ap (λ (fs : List (List ℕ × Channel)). e ∷ fs) (with_itself es i c at)
 
 -- what is kept at a place becomes something else
-pub set_found : (test : List ℕ → Bool) (es : List (List ℕ × Channel)) (i : ℕ) (e : List ℕ × Channel) (v : Channel)
-    → place_of test es ≡ Some i → e ≡ get_or es i e → set es i (e.0, v) ≡ set_value test es v
-set_found test es i e v place is = ap (λ (x : List ℕ × Channel). set es i (x.0, v)) is ∙ set_at test es i e v place
+pub set_is : (es : List (List ℕ × Channel)) (i : ℕ) (d : List ℕ × Channel) (v : Channel)
+    → set es i ((get_or es i d).0, v) ≡ with_channel es i v
+set_is [] i d v = refl
+set_is (e ∷ es) zero d v = refl
+set_is (e ∷ es) (suc i) d v = ap (λ (fs : List (List ℕ × Channel)). e ∷ fs) (set_is es i d v)
 
 -- and each place stays
 pub places_set : (places : List (List ℕ × ℕ)) (test : List ℕ → Bool) (es : List (List ℕ × Channel)) (v : Channel)

@@ -7,19 +7,19 @@ use Rattle.std.proofs.lemmas.List.{length-append}
 use Rattle.mseed_stream.specs.declared.fault.StreamFault.{StreamFault}
 use Rattle.mseed_audit.specs.declared.channel.Channel.{Channel}
 use Rattle.mseed_parts.specs.Parts.{IsAscending, Fits, FitsAt, kept_of, counts_alone}
+use Rattle.mseed_audit.proofs.Rosters.{kept_after}
 use Rattle.mseed_join.specs.Lines.{Line, text_of_line, IsLine}
 use Rattle.mseed_join.specs.Written.{Written, texts}
 use Rattle.mseed_join.specs.Joined.{AreJoined, Begins, HasNoEnd, IsJointOf, counted, counted_by, nothing}
 use Rattle.mseed_join.specs.Reached.{Stage, begun_part, open_part, parts_at, IsStage, start}
 use Rattle.mseed_join.specs.private.Steps.{May, to, counted_part, with_faults, with_end}
-use Rattle.mseed_join.proofs.Ended.{IsEnded, ended, plain_from, same_line, within_line}
+use Rattle.mseed_join.proofs.Ended.{IsEnded, ended, plain_from, same_line, short, within_line}
 use Rattle.mseed_join.proofs.Machine.{AreAll, Entries, LeavesLines, Runs, all_rows, open_all}
 use Rattle.mseed_join.proofs.Machine.{open_text_is, leaves, lines_text, open_rows, runs_rest, text_append}
 use Rattle.mseed_join.proofs.Machine.{texts_all, texts_are}
 use Rattle.mseed_join.proofs.Running.{Extends, GoesOn, HaveTexts, all_run, extends, stage_runs, texts_before}
 use Rattle.mseed_join.proofs.Running.{texts_after}
-use Rattle.mseed_join.proofs.Shorts.{short}
-use Rattle.mseed_join.proofs.Stepping.{LeavesKept, kept_none, kept_there, leaves_kept}
+use Rattle.mseed_join.proofs.Stepping.{LeavesKept, kept_none, leaves_kept}
 use Rattle.mseed_join.proofs.Sums.{HaveOneJoint, IsFirst, IsSplit, first_of, joined_one, some_none, split}
 use Rattle.mseed_join.proofs.Taken.{IsLast, last_is}
 use Rattle.mseed_audit.proofs.Maps.{same_itself}
@@ -99,7 +99,8 @@ next_line past s lines body line i none_there is b =
         let same : body ++ 10 ∷ b.rest ≡ t.body ++ 10 ∷ lines_text xs =
         sym (append_assoc body (10 ∷ []) b.rest) ∙ ap (λ (z : List ℕ). z ++ b.rest) (sym is) ∙ e
         ∙ ap (λ (z : List ℕ). z ++ lines_text xs) t.is ∙ append_assoc t.body (10 ∷ []) (lines_text xs) in
-        let both = same_line body t.body b.rest (lines_text xs) (plain_from body none_there) t.is_plain same in record {
+        let both = same_line body t.body b.rest (lines_text xs) (plain_from body none_there) t.piece.is_plain same in
+        record {
           x = x;
           is_line = l.0;
           text = t.is ∙ ap (λ (z : List ℕ). z ++ 10 ∷ []) (sym both.0) ∙ sym is;
@@ -169,7 +170,7 @@ fitting : HaveOneJoint → (past : Bool) (over : List Written) (v : Written) (vs
 fitting only past over v vs a k j n all = by (split past over (v ∷ vs) k all)
   where
     by : IsSplit past nothing over (v ∷ vs) k → IsFitting past a v
-    by s = cases s.behind
+    by s = cases s.others
       where
         same : s.before ≡ a
         same = joined_one only nothing (counted past over) s.before a s.joined j
@@ -204,7 +205,7 @@ module _ (only : HaveOneJoint) (past : Bool) (over : List Written) (h : Written)
       let left : LeavesKept key l.before.part h.part = leaves_kept key cs l.before.part h.part absent l.next.part in
       let there : kept_of key g.part.part.channels ≡ Some c =
       ap (kept_of key) (g.grows.channels ∙ append_assoc cs ((key, c) ∷ []) g.grows.others)
-      ∙ kept_there (same_key key) cs (key, c) g.grows.others absent (same_itself key) in
+      ∙ kept_after (same_key key) cs (key, c) g.grows.others absent (same_itself key) in
       subst (λ (T : Type 0). T)
       (λ i. FitsAt (sym left.records i) (sym left.bytes i) (sym left.kept i) (there i)) (both.1.fits.each key)
 

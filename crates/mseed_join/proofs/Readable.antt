@@ -9,6 +9,7 @@ use Rattle.std.specs.Ordering.{nat_cmp}
 use Rattle.std.specs.Cmp.Lexicographic.{slice_cmp}
 use Rattle.std.proofs.lemmas.Bool.{and_parts, ltb-true}
 use Rattle.std.proofs.lemmas.List.{get_or-drop, length-drop}
+use Rattle.std.proofs.lemmas.List.Sums.{count_by-le-length, length-filter}
 use Rattle.std.proofs.lemmas.List.Elements.{All-append, All-drop, All-from_get_or, All-take, recursion_from_All}
 use Rattle.std.proofs.lemmas.Map.Entries.{lookup_head, lookup_tail}
 use Rattle.std.proofs.lemmas.Map.Keys.{sorted_tail}
@@ -45,6 +46,8 @@ use Rattle.mseed_audit.specs.Audit.{AreCounted, IsHead, IsHeadOf, IsTail, IsTail
 use Rattle.mseed_audit.specs.Channels.{Placed, added_from, is_of, numbered, records_of, same_key, sample_count}
 use Rattle.mseed_audit.specs.Verdict.{AreFindings, finding_at, none, one}
 use Rattle.mseed_audit.proofs.Maps.{same_is, same_itself}
+use Rattle.mseed_audit.proofs.Outcomes.{numbered_length}
+use Rattle.mseed_audit.proofs.Views.{added_length}
 use Rattle.mseed_parts.specs.Parts.{IsAscending, bytes_in as size_of, kept_of}
 use Rattle.mseed_parts.proofs.Turns.{past_head}
 use Rattle.mseed_join.specs.AuditPart.{AuditedPart}
@@ -70,10 +73,6 @@ all_placed k o n size (v ∷ views) h few small = (
   record { is_view = h.0; number = omega (arith, few); offset = omega (arith, small) },
   all_placed (k + 1) (o + length v.bytes) n size views h.1 (omega (arith, few)) (omega (arith, small)),
 )
-
-numbered_length : (k o : ℕ) (views : List View) → length (numbered k (added_from o views)) ≡ length views
-numbered_length k o [] = refl
-numbered_length k o (v ∷ views) = ap suc (numbered_length (k + 1) (o + length v.bytes) views)
 
 -- and of a channel
 pub record IsOne (key : List ℕ) (n size : ℕ) (p : Placed) : Type 0 where
@@ -102,16 +101,6 @@ all_ones key n size (p ∷ ps) h = by (is_of key p.view) refl (all_ones key n si
     by true e rest = (one_of key n size p h.0 e, rest)
     by false e rest = rest
 
-few_of : (key : List ℕ) (ps : List Placed) → length (filter (λ p. is_of key p.view) ps) ≤ length ps
-few_of key [] = omega arith
-few_of key (p ∷ ps) = by (is_of key p.view) (few_of key ps)
-  where
-    by : (b : Bool) → length (filter (λ p. is_of key p.view) ps) ≤ length ps
-        → length (cond b (p ∷ filter (λ p. is_of key p.view) ps) (filter (λ p. is_of key p.view) ps))
-        ≤ suc (length ps)
-    by true h = omega (arith, h)
-    by false h = omega (arith, h)
-
 -- the records of a channel
 pub ones_of : (key : List ℕ) (size : ℕ) (views : List View) → AllByRecursion IsView views → size_of views ≤ size
     → AllByRecursion (IsOne key (length views) size) (records_of key (added_from 0 views))
@@ -120,7 +109,16 @@ ones_of key size views all fits =
     (all_placed 1 0 (length views) size views all (omega arith) (omega (arith, fits)))
 
 pub count_of_key : (key : List ℕ) (views : List View) → length (records_of key (added_from 0 views)) ≤ length views
-count_of_key key views = omega (arith, few_of key (numbered 1 (added_from 0 views)), numbered_length 1 0 views)
+count_of_key key views =
+    let ps : List Placed = numbered 1 (added_from 0 views) in
+    let test : Placed → Bool = λ p. is_of key p.view in
+    omega (
+      arith,
+      length-filter test ps,
+      count_by-le-length test ps,
+      numbered_length 1 (added_from 0 views),
+      added_length 0 views,
+    )
 
 -- ---- keys
 abbrev IsByte : ℕ → Type 0

@@ -11,6 +11,7 @@ use Rattle.mseed_stream.specs.declared.fault.StreamFault.{StreamFault}
 use Rattle.mseed_stream.specs.declared.fault.StreamFault.TheVariants.{Frame, Truncated, Read, Turns, Memory}
 use Rattle.mseed_audit.specs.Channels.{same_key}
 use Rattle.mseed_audit.proofs.Maps.{same_back, same_is, same_itself}
+use Rattle.mseed_audit.proofs.Rosters.{kept_after, kept_before}
 use Rattle.mseed_audit.specs.declared.channel.Channel.{Channel}
 use Rattle.mseed_parts.specs.Joining.{moved_channel, channel_joined}
 use Rattle.mseed_parts.specs.Parts.{Held, IsAscending, IsJoint, Fits, FitsAt, kept_of, channels_alone, one_channel}
@@ -33,21 +34,6 @@ use Rattle.mseed_join.proofs.Sums.{IsGood, glue, joined_good, nothing_good, stop
 use Rattle.mseed_join.proofs.Taken.{IsLast, in_place, last_is, ends_in_place, passed_in_place, stage_more}
 
 -- ---- what is kept at a key
-pub kept_there : (test : List ℕ → Bool) (cs : Entries) (e : List ℕ × Channel) (es : Entries) → lookup test cs ≡ None
-    → test e.0 ≡ true → lookup test (cs ++ e ∷ es) ≡ Some e.1
-kept_there test [] e es n t = ap (λ (b : Bool). cond b (Some e.1) (lookup test es)) t
-kept_there test (d ∷ cs) e es n t = by (test d.0) (λ m. kept_there test cs e es m t) n
-  where
-    by : (b : Bool) → (lookup test cs ≡ None → lookup test (cs ++ e ∷ es) ≡ Some e.1)
-        → cond b (Some d.1) (lookup test cs) ≡ None → cond b (Some d.1) (lookup test (cs ++ e ∷ es)) ≡ Some e.1
-    by true more m = cc (m)
-    by false more m = more m
-
-kept_other : (test : List ℕ → Bool) (cs : Entries) (e : List ℕ × Channel) → test e.0 ≡ false
-    → lookup test (cs ++ e ∷ []) ≡ lookup test cs
-kept_other test [] e t = ap (λ (b : Bool). cond b (Some e.1) None) t
-kept_other test (d ∷ cs) e t = ap (λ (o : Option Channel). cond (test d.0) (Some d.1) o) (kept_other test cs e t)
-
 -- the last of ascending keys isn't among those before
 pub kept_none : (cs : Entries) (key : List ℕ) (c : Channel) → IsAscending (cs ++ (key, c) ∷ []) → kept_of key cs ≡ None
 unfolding IsStrictlySortedBy
@@ -127,14 +113,14 @@ channel_joint law past over cs key c h k j n sorted joint fit faults_same end_no
         at a absent here other true e old =
             let is : other ≡ key = same_is other key e in
             let there : kept_of key (cs ++ (key, c) ∷ []) ≡ Some c =
-            kept_there (same_key key) cs (key, c) [] absent (same_itself key) in
+            kept_after (same_key key) cs (key, c) [] absent (same_itself key) in
             subst (λ (q : List ℕ). FitsAt a.part.records a.part.bytes (kept_of q a.part.channels)
             (kept_of q (cs ++ (key, c) ∷ []))) (sym is)
             (subst (λ (o : Option Channel). FitsAt a.part.records a.part.bytes (kept_of key a.part.channels) o)
             (sym there) here)
         at a absent here other false e old =
             subst (λ (o : Option Channel). FitsAt a.part.records a.part.bytes (kept_of other a.part.channels) o)
-            (sym (kept_other (same_key other) cs (key, c) e)) old
+            (sym (kept_before (same_key other) cs (key, c) e)) old
 
 pub counts_joint : JoinsCounts → (past : Bool) (over : List Written) (cs : Entries) (n b : ℕ) (h k : Written)
     → IsJointOf past (over ++ begun_part cs ∷ []) h → h.end ≡ None → IsJoint h.part (counts_alone n b) k.part
@@ -185,13 +171,13 @@ passed_joint over w f h k j e free fit part_same sum end_none =
     (same_part l.before w h (record { part = w.part; faults = w.faults + 1; end = None }) k l.next refl part_same
     (omega (arith, sum, l.next.faults)) (omega (arith, sum, fit)) end_none)
 
-behind_is : (d e b : ℕ) (f : StreamFault) → IsFaultAfter b f → e ≡ d + b → fault_after e f ≡ moved_fault d f
-behind_is d e b (Frame offset x) l s = let same : e ≡ d + offset = omega (arith, l.0, s) in ap (λ n. Frame n x) same
-behind_is d e b (Truncated offset have) l s =
+fault_is : (d e b : ℕ) (f : StreamFault) → IsFaultAfter b f → e ≡ d + b → fault_after e f ≡ moved_fault d f
+fault_is d e b (Frame offset x) l s = let same : e ≡ d + offset = omega (arith, l.0, s) in ap (λ n. Frame n x) same
+fault_is d e b (Truncated offset have) l s =
     let same : e ≡ d + offset = omega (arith, l.0, s) in ap (λ n. Truncated n have) same
-behind_is d e b (Read offset) l s = let same : e ≡ d + offset = omega (arith, l, s) in ap (λ n. Read n) same
-behind_is d e b (Turns offset) l s = let same : e ≡ d + offset = omega (arith, l, s) in ap (λ n. Turns n) same
-behind_is d e b Memory l s = refl
+fault_is d e b (Read offset) l s = let same : e ≡ d + offset = omega (arith, l, s) in ap (λ n. Read n) same
+fault_is d e b (Turns offset) l s = let same : e ≡ d + offset = omega (arith, l, s) in ap (λ n. Turns n) same
+fault_is d e b Memory l s = refl
 
 pub ended_joint : (over : List Written) (w : Written) (f : StreamFault) (h k : Written)
     → IsJointOf false (over ++ w ∷ []) h → w.end ≡ None → h.end ≡ None → IsFaultAfter w.part.bytes f
@@ -202,18 +188,18 @@ ended_joint over w f h k j e free is part_same faults_same ends =
     ends_in_place over l.before w k f l.joined l.goes_on
     (same_part l.before w h (with_end w f) k l.next refl part_same (omega (arith, faults_same, l.next.faults))
     (omega (arith, faults_same, l.next.faults_fit)) (ends ∙ ap (λ (x : StreamFault). Some x)
-    (behind_is l.before.part.bytes h.part.bytes w.part.bytes f is l.next.part.bytes)))
+    (fault_is l.before.part.bytes h.part.bytes w.part.bytes f is l.next.part.bytes)))
 
 -- ---- a line that was taken
-pub taken : {A : Type 0} → (lines : List ℕ) (s : Stage) (x : Line) (tells : Reported) (old new : Joint A)
+pub taken : {A : Type 0} → (lines : List ℕ) (s : Stage) (x : Line) (report : Reported) (old new : Joint A)
     → IsReadTo lines s old → IsLine x → May s.last x
     → IsJointOf new.past (parts_at (to s x)) (written_of new.so_far) → IsPlace new.place (to s x).last
     → new.parts ≡ length (parts_at (to s x))
-    → passed_lines old.past (parts_at (to s x)) ≡ passed_lines old.past (parts_at s) ++ passed_by tells
+    → passed_lines old.past (parts_at (to s x)) ≡ passed_lines old.past (parts_at s) ++ passed_by report
     → ((found : List Border) → AreBordersOf old.past (parts_at s) found
-    → AreBordersOf old.past (parts_at (to s x)) (found ++ border_by tells))
-    → new.past ≡ old.past → IsTaken lines (text_of_line x) s (to s x) tells old new
-taken lines s x tells old new r l m joint place number passed borders past = record {
+    → AreBordersOf old.past (parts_at (to s x)) (found ++ border_by report))
+    → new.past ≡ old.past → IsTaken lines (text_of_line x) s (to s x) report old new
+taken lines s x report old new r l m joint place number passed borders past = record {
   read = record { stage = stage_more lines s x r.stage l m; joint = joint; place = place; number = number };
   reported = record { passed = passed; borders = borders };
   past = past;

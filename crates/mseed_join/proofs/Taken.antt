@@ -16,15 +16,13 @@ use Rattle.mseed_join.specs.Joined.{moved_fault, nothing}
 use Rattle.mseed_join.specs.Reached.{OpenPart, none, begun, whole, Stage, begun_part, open_part, parts_at, open_text}
 use Rattle.mseed_join.specs.Reached.{IsStage, IsWhere, passed_from, passed_lines, passed_line, passed_of}
 use Rattle.mseed_join.specs.private.Steps.{May, to, goes, counted_part, with_faults, with_end}
-use Rattle.mseed_join.proofs.Machine.{Entries}
+use Rattle.mseed_join.proofs.Machine.{Entries, rows_append}
 use Rattle.mseed_join.proofs.Running.{HaveTexts, texts_before, texts_after}
 use Rattle.mseed_join.proofs.Sums.{IsFirst, IsSplit, first_of, none_of, some_none, split, glue, stop}
 
 -- ---- the text
-texts_append : (ws vs : List Written) → texts (ws ++ vs) ≡ texts ws ++ texts vs
-texts_append [] vs = refl
-texts_append (w ∷ ws) vs =
-    ap (λ (t : List ℕ). part_text w ++ t) (texts_append ws vs) ∙ sym (append_assoc (part_text w) (texts ws) (texts vs))
+pub texts_append : (ws vs : List Written) → texts (ws ++ vs) ≡ texts ws ++ texts vs
+texts_append = rows_append part_text texts refl (λ w ws. refl)
 
 texts_one : (ws : List Written) (w : Written) → texts (ws ++ w ∷ []) ≡ texts ws ++ part_text w
 texts_one ws w = texts_append ws (w ∷ []) ∙ ap (λ (t : List ℕ). texts ws ++ t) (append-nil (part_text w))
@@ -195,7 +193,7 @@ pub last_is : (past : Bool) (over : List Written) (w h : Written) → w.end ≡ 
 last_is past over w h e n j = by (split past over (w ∷ []) h j)
   where
     by : IsSplit past nothing over (w ∷ []) h → IsLast past over w h
-    by s = cases s.behind
+    by s = cases s.others
       where
         cases : ((s.before.end ≡ None) × AreJoined s.before (counted past (w ∷ [])) h)
             ⊎ ((f : StreamFault) × (s.before.end ≡ Some f) × (s.before ≡ h)) → IsLast past over w h
@@ -213,7 +211,7 @@ pub before_is : (past : Bool) (over : List Written) (w h : Written) (f : StreamF
 before_is past over w h f e n j = by (split past over (w ∷ []) h j)
   where
     by : IsSplit past nothing over (w ∷ []) h → IsJointOf past over h
-    by s = cases s.behind
+    by s = cases s.others
       where
         cases : ((s.before.end ≡ None) × AreJoined s.before (counted past (w ∷ [])) h)
             ⊎ ((x : StreamFault) × (s.before.end ≡ Some x) × (s.before ≡ h)) → IsJointOf past over h
@@ -258,7 +256,7 @@ passed_append n (w ∷ ws) vs =
     (passed_append (n + 1) ws vs ∙ ap (λ (m : ℕ). passed_from (n + 1) ws ++ passed_from m vs) same)
     ∙ sym (append_assoc (passed_of n w.end) (passed_from (n + 1) ws) (passed_from (n + length (w ∷ ws)) vs))
 
--- a part without a fault tells nothing
+-- of a part without a fault nothing is reported
 passed_silent : (past : Bool) (ws : List Written) (w : Written) → w.end ≡ None
     → passed_lines past (ws ++ w ∷ []) ≡ passed_lines past ws
 passed_silent false ws w e = refl
