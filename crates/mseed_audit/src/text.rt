@@ -19,7 +19,6 @@ use std::alloc::{AllocError, Allocator};
 /// Adds the text of an audit: a line for each verdict, the numbers of records and of channels, and the line of
 /// the fault with which the archive ends, if with any. Where memory is refused, a part of it may have been
 /// added.
-#[tactic(auto, using(mseed_text::proofs::Prefixes::prefix_trans))]
 pub(crate) fn push_audit<A: Allocator>(
     text: &mut Vec<u8, A>,
     verdicts: &[(Codes, Verdict)],

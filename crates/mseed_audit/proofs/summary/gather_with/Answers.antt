@@ -1,7 +1,8 @@
-use Rattle.std.proofs.Common.{◌++◌, ◌∷◌, [], List, ap, refl, sym, append-nil, arith, rules}
+use Rattle.std.proofs.Common.{◌++◌, ◌∷◌, [], List, ap, refl, subst, sym, append-nil, arith}
 use Rattle.std.proofs.KnownBytes.{Consumes-nil}
 use Rattle.mseed_record.specs.View.{View}
 use Rattle.mseed_stream.specs.Device.{BytesRead}
+use Rattle.mseed_stream.specs.Walk.{HasHandedOut}
 use Rattle.mseed_stream.proofs.Calls.{reads_on}
 use Rattle.mseed_audit.specs.declared.passed.Passed.{Passed}
 use Rattle.mseed_audit.specs.Reported.{none}
@@ -12,12 +13,16 @@ use Rattle.mseed_audit.proofs.summary.gather_with.Goals as goal
 
 pub records-init : goal.records-init
 records-init g c =
-    let read : BytesRead = g.R.Source.read c.args.source.now in record {
-      along = search rules;
+    let read : BytesRead = g.R.Source.read c.args.source.now in
+    let handed : HasHandedOut read c.new-cutter.result [] =
+    subst (λ (h : BytesRead). HasHandedOut h c.new-cutter.result []) (sym c.requires.read)
+    c.new-cutter.ensures.handed in
+    record {
+      along = handed.along;
       judged = (
         [],
         (
-          search rules,
+          handed,
           record {
             audit = c.new-audit.ensures.of_none;
             passed = record {

@@ -1,13 +1,44 @@
-use Rattle.std.proofs.Common.{◌≡◌, ◌≤◌, ◌∙◌, ◌++◌, ◌∷◌, [], List, ℕ, length, take, sym, ap, arith, rules}
+use Rattle.std.proofs.Common.{◌≡◌, ◌∙◌, ◌++◌, ◌∷◌, [], List, None, ℕ, length, take, sym, subst, ap, arith, rules}
 use Rattle.mseed_record.specs.View.{View}
 use Rattle.mseed_record.specs.Viewing.{view_of}
 use Rattle.mseed_stream.specs.Device.{BytesRead}
-use Rattle.mseed_stream.specs.Walk.{AreViews, HasHandedOut}
+use Rattle.mseed_stream.specs.Cutting.{IsAhead}
+use Rattle.mseed_stream.specs.CutterState.{CutterState}
+use Rattle.mseed_stream.specs.Walk.{AreAllViews, AreViews, HasHandedOut}
 use Rattle.mseed_stream.proofs.Calls.{reads_none}
 use Rattle.mseed_stream.proofs.Handed.{views_stay}
 use Rattle.mseed_audit.proofs.Reporting.{next_none}
 use Rattle.mseed_audit.proofs.Views.{reads_whole}
 use Rattle.mseed_audit.proofs.summary.take_next.Goals as goal
+
+-- the records that were handed out stay those of what was read
+stay : (old new : BytesRead) (c : CutterState) (views : List View) (more : List ℕ) → HasHandedOut old c views
+    → new.bytes ≡ old.bytes ++ more → AreViews new.bytes c.offset views
+stay old new c views more before e =
+    views_stay old.bytes new.bytes more c.offset views (omega (arith, before.along.read.reported)) e before.records
+
+pub pass-requires-clause-ahead : goal.pass-requires-clause-ahead
+pass-requires-clause-ahead g c =
+    subst (λ (xs : List ℕ). IsAhead (length xs) c.args.cutter.now (g.R.Source.lent c.args.source.now))
+    (sym c.bytes-size.ensures.value) c.in-Some.ensures.ahead
+
+pub returns-in-Ok-None-clause-next : goal.returns-in-Ok-None-clause-next
+returns-in-Ok-None-clause-next g c = λ first now views before judged.
+    let all : AreAllViews (g.R.Source.read c.next.new.source) views None =
+    rw c.in-Ok-None.field-0-is at c.in-Ok-None.ensures.all views before in (
+      record {
+        all = record { all = all; audit = judged.audit; size = before.records.offset_is };
+        passed = judged.passed;
+      },
+      judged.report,
+    )
+
+pub returns-in-Err-Memory-clause-next : goal.returns-in-Err-Memory-clause-next
+returns-in-Err-Memory-clause-next g c = λ first now views before judged. (
+  stay (g.R.Source.read c.args.source.now) (g.R.Source.read c.next.new.source) c.args.cutter.now views
+      c.next.ensures.answer.more.0 before c.next.ensures.answer.more.1,
+  judged.report,
+)
 
 pub returns-in_ok-judge-in-Some-clause-next : goal.returns-in_ok-judge-in-Some-clause-next
 returns-in_ok-judge-in-Some-clause-next g c = λ first now views before judged.
@@ -45,7 +76,7 @@ returns-in_ok-judge-in-Ok-Some-clause-next g c = λ first now views before judge
     let view : View = view_of c.in-Ok-Some.view in
     let called = rw c.in-Ok-Some.field-0-is at c.in-Ok-Some.ensures.called in
     let handed : HasHandedOut (g.R.Source.read c.next.new.source) c.next.follows.lender-at-none (views ++ view ∷ []) =
-    search rules in
+    rw (c.in-Ok-Some.is, c.in-Ok-Some.field-0-is) at c.next.follows.holds-at-none.4 views before in
     let at = rw (← c.offset-offset.ensures) at before.records in record {
       view = view;
       handed = handed;
@@ -55,14 +86,10 @@ returns-in_ok-judge-in-Ok-Some-clause-next g c = λ first now views before judge
 
 pub returns-in_err-judge-in-Ok-Some-clause-next : goal.returns-in_err-judge-in-Ok-Some-clause-next
 returns-in_err-judge-in-Ok-Some-clause-next g c = λ first now views before judged.
-    let old : BytesRead = g.R.Source.read c.args.source.now in
-    let new : BytesRead = g.R.Source.read c.next.new.source in
-    let offset : ℕ = c.args.cutter.now.offset in
-    let within : offset ≤ length old.bytes = omega (arith, c.requires.along.read.reported) in
-    let more = c.next.ensures.answer.more in
-    let stay : AreViews new.bytes offset views =
-    views_stay old.bytes new.bytes more.0 offset views within more.1 before.records in
+    let shown = stay (g.R.Source.read c.args.source.now) (g.R.Source.read c.next.new.source) c.args.cutter.now views
+    c.next.ensures.answer.more.0 before c.next.ensures.answer.more.1 in
     let at = rw (← c.offset-offset.ensures) at before.records in
-    next_none (g.C.Choice.selection c.args.choice.now) c.from_residual-in_err-judge-in-Ok-Some.result _ views _ _ _ _ _
-    _ (g.P.Report.stands first c.judge-in-Ok-Some.new.report now) c.from_residual-in_err-judge-in-Ok-Some.ensures.1 stay
+    next_none (g.C.Choice.selection c.args.choice.now) c.from_residual-in_err-judge-in-Ok-Some.result _ views _ _ _ _
+    _ _ (g.P.Report.stands first c.judge-in-Ok-Some.new.report now)
+    c.from_residual-in_err-judge-in-Ok-Some.ensures.1 shown
     (c.in_err-judge-in-Ok-Some.ensures first now _ views at judged)

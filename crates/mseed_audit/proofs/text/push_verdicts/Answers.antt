@@ -1,3 +1,6 @@
+use Rattle.std.proofs.Common.{◌++◌, ◌∙◌, List, ℕ, ap, take_all}
+use Rattle.mseed_audit.specs.declared.verdict.Verdict.{Verdict}
+use Rattle.mseed_audit.specs.Text.{verdict_lines}
 use Rattle.mseed_audit.proofs.OneMore.{lines_more}
 use Rattle.mseed_text.proofs.Prefixes.{prefix_from}
 use Rattle.mseed_audit.proofs.text.push_verdicts.Goals as goal
@@ -11,3 +14,8 @@ loop-codes-preserved g c =
     lines_more c.args.verdicts.now c.loop-codes.codes-index c.loop-codes-item.result c.args.text.now.items
     c.loop-codes.text.items c.push_verdict_line.new.text.items c.loop-codes-test.true c.loop-codes-item.is
     c.loop-codes.invariant c.in_ok-push_verdict_line.ensures.ok
+
+pub returns-clause-ok : goal.returns-clause-ok
+returns-clause-ok g c =
+    c.loop-codes.invariant ∙ ap (λ (vs : List (List ℕ × Verdict)). c.args.text.now.items ++ verdict_lines vs)
+    (take_all c.loop-codes.codes-index c.args.verdicts.now c.loop-codes-test.false)

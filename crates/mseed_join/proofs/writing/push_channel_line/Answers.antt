@@ -4,6 +4,7 @@ use Rattle.mseed_audit.specs.Audit.{head_in, tail_in}
 use Rattle.mseed_audit.specs.declared.channel.Channel.{Channel}
 use Rattle.mseed_audit.specs.declared.channel.Findings.{Findings}
 use Rattle.mseed_audit.specs.declared.channel.Findings.TheVariants.{Nothing, Counted}
+use Rattle.mseed_text.proofs.Prefixes.{prefix_trans}
 use Rattle.mseed_join.specs.Lines.{findings_text, first_text, head_text, key_text, tail_text, text_or_none}
 use Rattle.mseed_join.specs.private.Found.{found_text}
 use Rattle.mseed_join.proofs.writing.push_channel_line.Goals as goal
@@ -46,3 +47,6 @@ returns-clause-ok g c =
     (found_text channel.findings)
     ∙ ap (λ (f : List ℕ). text ++ (key ++ codes " records " ++ decimal channel.records ++ codes " samples "
     ++ decimal channel.samples ++ f ++ codes "\n")) (all_text channel.findings))
+
+pub returns-clause-prefix : goal.returns-clause-prefix
+returns-clause-prefix g c = prefix_trans _ _ _ c.push_line.ensures.prefix c.push_line-2.ensures.prefix

@@ -18,7 +18,9 @@ invariant_of-self-2 g c =
     let place : place_of (same_key code) es ≡ None =
     ap (λ (fs : List (List ℕ × Channel)). place_of (same_key code) fs) c.self.view_is ∙ c.requires in
     let index : c.len-index.result ≡ length es = search rules in
-    let items : c.push.new.self.items ≡ es ++ (code, c.args.channel) ∷ [] = search rules in
+    let items : c.push.new.self.items ≡ es ++ (code, c.args.channel) ∷ [] =
+    c.in-Ok-push.ensures.items
+    ∙ ap (λ (xs : List (List ℕ × Channel)). xs ++ (code, c.args.channel) ∷ []) c.make_room.ensures.items in
     let entries : more ≡ insert_entry (slice_cmp nat_cmp) ps code (length es) =
     c.in-Ok.ensures.entries ∙ ap (λ (n : ℕ). insert_entry (slice_cmp nat_cmp) ps code n) index in (
       placed_push ps more es _ code c.args.channel c.self.invariant.0 items (none_there (same_key code) es place)

@@ -3,7 +3,7 @@ use Rattle.mseed_stream.specs.Device.{BytesRead}
 use Rattle.mseed_join.specs.private.LineReading.{GoesOn, IsLineAhead}
 use Rattle.mseed_join.specs.private.Taking.{IsReportedMore}
 use Rattle.mseed_join.proofs.Along.{bad_at, bad_next, fails, line_taken, looked, looked_few, over_at, some_read}
-use Rattle.mseed_join.proofs.Along.{whole_line}
+use Rattle.mseed_join.proofs.Along.{stops, whole_line}
 use Rattle.mseed_join.proofs.reader.Reader.next.Goals as goal
 
 pub overflow_add-number : goal.overflow_add-number
@@ -55,6 +55,11 @@ returns-in-Err-Bad-clause-step g c = λ past h s along.
     let line : IsLineAhead c.look.new.self.size c.look.new.self.held = rw c.in-Line.is at lies in
     bad_next past h _ s c.look.new.self l.by _ _ c.lines-number.ensures.value c.offset-offset.ensures
     (whole_line past h _ s c.look.new.self c.args.self.now.joint c.line.result.now l line c.line.ensures refused)
+
+pub returns-in-Err-Memory-clause-step : goal.returns-in-Err-Memory-clause-step
+returns-in-Err-Memory-clause-step g c = λ past h s along.
+    let l = looked past h _ _ _ _ s _ _ along c.look.ensures.more in
+    stops past h _ s c.look.new.self c.args.self.now.joint l
 
 pub returns-then-is_over-clause-step : goal.returns-then-is_over-clause-step
 returns-then-is_over-clause-step g c = λ past h s along.
