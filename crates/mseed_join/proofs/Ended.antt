@@ -1,12 +1,13 @@
--- Lines end with their LF, and have no other.
-use Rattle.std.proofs.Common.{◌≡◌, ℕ, zero, suc, ◌+◌, ◌%◌, ◌/◌, ◌^◌, ◌<◌, ◌≤◌, nat_lt, nat_eq, List, [], ◌∷◌, ◌++◌}
-use Rattle.std.proofs.Common.{length, Bool, true, false, cond, Option, Some, None, ℤ, pos, negsuc, IfSome, refl, sym}
-use Rattle.std.proofs.Common.{ap, ◌∙◌, arith, append_assoc}
+-- Lines are short; they end with their LF, and have no other.
+use Rattle.std.proofs.Common.{◌≡◌, ℕ, zero, suc, ◌+◌, ◌*◌, ◌-◌, ◌%◌, ◌/◌, ◌^◌, ◌<◌, ◌≤◌, nat_lt, nat_eq, List, []}
+use Rattle.std.proofs.Common.{◌∷◌, ◌++◌, length, Bool, true, false, cond, Option, Some, None, ℤ, pos, negsuc}
+use Rattle.std.proofs.Common.{IfSome, refl, sym, ap, ◌∙◌, arith, append_assoc}
 use Rattle.std.specs.Prelude.{decimal, codes}
 use Rattle.std.specs.Fmt.{signed_decimal}
 use Rattle.std.proofs.lemmas.Bool.{false≢true}
 use Rattle.std.proofs.lemmas.Bool.Decides.{nat_tests}
-use Rattle.std.proofs.lemmas.Fmt.{decimal_by_steps_wide}
+use Rattle.std.proofs.lemmas.Fmt.{decimal_by_steps_wide, length-decimal-le_wide}
+use Rattle.std.proofs.lemmas.List.{length-append}
 use Rattle.mseed_time.specs.Rate.{Ratio, IsRatio}
 use Rattle.mseed_time.specs.Text.{fault_word}
 use Rattle.mseed_time.specs.declared.fault.TimeFault.{TimeFault}
@@ -38,7 +39,7 @@ use Rattle.mseed_join.specs.Lines.{hex_digit, key_text, ratio_text, leap_text, h
 use Rattle.mseed_join.specs.Lines.{first_text, findings_text, IsWord, HasHead, HasTail, HasReadFault, HasWhy}
 use Rattle.mseed_join.specs.Lines.{HasFinding, HasFindings, HasFrameFault, IsFaultAfter, Line, header, channel, counts}
 use Rattle.mseed_join.specs.Lines.{faults, fault, text_of_line, IsLine}
-use Rattle.mseed_join.proofs.Backwards.{instant_within}
+use Rattle.mseed_join.proofs.Backwards.{instant_within, word_within}
 use Rattle.mseed_join.proofs.Digits.{IsWithin}
 use Rattle.mseed_join.proofs.Prefixes.{fault_words, fault_of}
 
@@ -47,9 +48,9 @@ abbrev pub plain : List ℕ → Bool
 plain [] = true
 plain (b ∷ bs) = cond (nat_eq b 10) false (plain bs)
 
-pub two : (a b : List ℕ) → plain a ≡ true → plain b ≡ true → plain (a ++ b) ≡ true
-two [] b p q = q
-two (x ∷ a) b p q = by (nat_eq x 10) (λ e. two a b e q) p
+plain_two : (a b : List ℕ) → plain a ≡ true → plain b ≡ true → plain (a ++ b) ≡ true
+plain_two [] b p q = q
+plain_two (x ∷ a) b p q = by (nat_eq x 10) (λ e. plain_two a b e q) p
   where
     by : (t : Bool) → (plain a ≡ true → plain (a ++ b) ≡ true) → cond t false (plain a) ≡ true
         → cond t false (plain (a ++ b)) ≡ true
@@ -61,127 +62,135 @@ digit n =
     let other : nat_eq (48 + n) 10 ≡ false = grind (arith, nat_tests) in
     ap (λ (t : Bool). cond t false true) other
 
-number : (n : ℕ) → n < 10 ^ 64 → plain (decimal n) ≡ true
-number n few =
+digits : (n : ℕ) → n < 10 ^ 64 → plain (decimal n) ≡ true
+digits n few =
     decimal_by_steps_wide (λ m ds. plain ds ≡ true) (λ m l. digit m)
-    (λ m ds l p. two ds ((48 + m % 10) ∷ []) p (digit (m % 10))) n few
+    (λ m ds l p. plain_two ds ((48 + m % 10) ∷ []) p (digit (m % 10))) n few
+
+-- ---- pieces of lines
+-- so many bytes at most, without an LF
+pub record IsPiece (most : ℕ) (text : List ℕ) : Type 0 where
+  pub is_plain : plain text ≡ true
+  pub short : length text ≤ most
+
+-- one after another
+two : {m n : ℕ} {a b : List ℕ} → IsPiece m a → IsPiece n b → IsPiece (m + n) (a ++ b)
+two {a = a} {b = b} p q = record {
+  is_plain = plain_two a b p.is_plain q.is_plain;
+  short = omega (arith, length-append a b, p.short, q.short);
+}
+
+within : {m n : ℕ} {text : List ℕ} → IsPiece m text → m ≤ n → IsPiece n text
+within p l = record { is_plain = p.is_plain; short = omega (arith, p.short, l) }
+
+word : (text : List ℕ) → plain text ≡ true → IsPiece (length text) text
+word text p = record { is_plain = p; short = omega arith }
+
+-- with a space between
+spaced : {m n : ℕ} {a b : List ℕ} → IsPiece m a → IsPiece n b → IsPiece (m + 1 + n) (a ++ codes " " ++ b)
+spaced p q = two (two p (word (codes " ") refl)) q
+
+number : (k n : ℕ) → 0 < k → n < 10 ^ k → n < 10 ^ 64 → IsPiece k (decimal n)
+number k n some low few = record { is_plain = digits n few; short = length-decimal-le_wide k n some low few }
 
 -- a number of a part
-count : (n : ℕ) → n < 2 ^ 63 → plain (decimal n) ≡ true
-count n l = number n (omega (arith, l))
+count : (n : ℕ) → n < 2 ^ 63 → IsPiece 19 (decimal n)
+count n l = number 19 n (omega arith) (omega (arith, l)) (omega (arith, l))
 
--- a count after something, and a word and something more after it
-after_count : (a w b : List ℕ) (n : ℕ) → plain a ≡ true → n < 2 ^ 63 → plain w ≡ true → plain b ≡ true
-    → plain (a ++ decimal n ++ w ++ b) ≡ true
-after_count a w b n p few q r =
-    two (a ++ decimal n ++ w) b (two (a ++ decimal n) w (two a (decimal n) p (count n few)) q) r
+micros : (n : ℕ) → n < 2 ^ 128 → IsPiece 39 (decimal n)
+micros n l = number 39 n (omega arith) (omega (arith, l)) (omega (arith, l))
 
-signed : (below above : ℕ) (z : ℤ) → below < 10 ^ 63 → above < 10 ^ 63 → IsWithin below above z
-    → plain (signed_decimal z) ≡ true
-signed below above (pos n) low high l = number n (omega (arith, l, high))
-signed below above (negsuc n) low high l = number (suc n) (omega (arith, l, low))
+signed : (k below above : ℕ) (z : ℤ) → 0 < k → below < 10 ^ k → above < 10 ^ k → below < 10 ^ 64 → above < 10 ^ 64
+    → IsWithin below above z → IsPiece (k + 1) (signed_decimal z)
+signed k below above (pos n) some low high few many l =
+    within (number k n some (omega (arith, l, high)) (omega (arith, l, many))) (omega arith)
+signed k below above (negsuc n) some low high few many l =
+    let size = number k (suc n) some (omega (arith, l, low)) (omega (arith, l, few)) in
+    record { is_plain = size.is_plain; short = omega (arith, size.short) }
 
-start : (z : ℤ) → IsInstant z → plain (signed_decimal z) ≡ true
+start : (z : ℤ) → IsInstant z → IsPiece 17 (signed_decimal z)
 start z i =
-    signed 5_364_662_400_000_000 7_258_118_399_999_999 z (omega arith) (omega arith) (instant_within z i)
+    signed 16 5_364_662_400_000_000 7_258_118_399_999_999 z (omega arith) (omega arith) (omega arith) (omega arith)
+    (omega arith) (instant_within z i)
 
-word : (z : ℤ) → IsWord z → plain (signed_decimal z) ≡ true
-word (pos n) l = number n (omega (arith, l))
-word (negsuc n) l = number (suc n) (omega (arith, l))
+sample : (z : ℤ) → IsWord z → IsPiece 11 (signed_decimal z)
+sample z w =
+    signed 10 (2 ^ 31) (2 ^ 31 - 1) z (omega arith) (omega arith) (omega arith) (omega arith) (omega arith)
+    (word_within z w)
 
--- ---- fields
-ratio : (r : Ratio) → IsRatio r → plain (ratio_text r) ≡ true
-ratio r fits =
-    two (decimal r.num ++ codes "/") (decimal r.den)
-    (two (decimal r.num) (codes "/") (number r.num (omega (arith, fits.num_bound))) refl)
-    (number r.den (omega (arith, fits.den_bound)))
+ratio : (r : Ratio) → IsRatio r → IsPiece 21 (ratio_text r)
+ratio r fits = two (two (ten r.num fits.num_bound) (word (codes "/") refl)) (ten r.den fits.den_bound)
+  where
+    ten : (n : ℕ) → n ≤ 2 ^ 30 → IsPiece 10 (decimal n)
+    ten n l = number 10 n (omega arith) (omega (arith, l)) (omega (arith, l))
 
-leap : (l : Leap) → plain (leap_text l) ≡ true
-leap NoLeap = refl
-leap Positive = refl
-leap Negative = refl
-leap Both = refl
+leap : (l : Leap) → IsPiece 8 (leap_text l)
+leap NoLeap = record { is_plain = refl; short = omega arith }
+leap Positive = record { is_plain = refl; short = omega arith }
+leap Negative = record { is_plain = refl; short = omega arith }
+leap Both = record { is_plain = refl; short = omega arith }
 
--- four fields with spaces between
-four : (a b c d : List ℕ) → plain a ≡ true → plain b ≡ true → plain c ≡ true → plain d ≡ true
-    → plain (a ++ codes " " ++ b ++ codes " " ++ c ++ codes " " ++ d) ≡ true
-four a b c d p q r s =
-    two (a ++ codes " " ++ b ++ codes " " ++ c ++ codes " ") d
-    (two (a ++ codes " " ++ b ++ codes " " ++ c) (codes " ")
-    (two (a ++ codes " " ++ b ++ codes " ") c (two (a ++ codes " " ++ b) (codes " ")
-    (two (a ++ codes " ") b (two a (codes " ") p refl) q) refl) r) refl) s
+head : (h : Head) → HasHead h → IsPiece 79 (head_text h)
+head h fits =
+    spaced (spaced (spaced (count h.number fits.number) (count h.offset fits.offset)) (start h.start fits.start))
+    (ratio h.rate fits.rate)
 
-head : (h : Head) → HasHead h → plain (head_text h) ≡ true
-head h fits = four (decimal h.number) (decimal h.offset) (signed_decimal h.start) (ratio_text h.rate)
-    (count h.number fits.number) (count h.offset fits.offset) (start h.start fits.start) (ratio h.rate fits.rate)
+tail : (t : Tail) → HasTail t → IsPiece 54 (tail_text t)
+tail t fits =
+    let samples = number 5 t.samples (omega arith) (omega (arith, fits.samples)) (omega (arith, fits.samples)) in
+    spaced (spaced (spaced (start t.start fits.start) samples) (ratio t.rate fits.rate)) (leap t.leap)
 
-tail : (t : Tail) → HasTail t → plain (tail_text t) ≡ true
-tail t fits = four (signed_decimal t.start) (decimal t.samples) (ratio_text t.rate) (leap_text t.leap)
-    (start t.start fits.start) (number t.samples (omega (arith, fits.samples))) (ratio t.rate fits.rate) (leap t.leap)
+or_none : {X : Type 0} {n : ℕ} (text : X → List ℕ) (Has : X → Type 0) (o : Option X) → 4 ≤ n
+    → ((x : X) → Has x → IsPiece n (text x)) → IfSome o Has → IsPiece n (text_or_none text o)
+or_none text Has None l each fits = record { is_plain = refl; short = omega (arith, l) }
+or_none text Has (Some x) l each fits = each x fits
 
-some_head : (h : Option Head) → IfSome h HasHead → plain (text_or_none head_text h) ≡ true
-some_head None fits = refl
-some_head (Some h) fits = head h fits
+time : (f : TimeFault) → IsPiece 8 (fault_word f)
+time Year = record { is_plain = refl; short = omega arith }
+time Day = record { is_plain = refl; short = omega arith }
+time Hour = record { is_plain = refl; short = omega arith }
+time Minute = record { is_plain = refl; short = omega arith }
+time Second = record { is_plain = refl; short = omega arith }
+time Fraction = record { is_plain = refl; short = omega arith }
 
-some_tail : (t : Option Tail) → IfSome t HasTail → plain (text_or_none tail_text t) ≡ true
-some_tail None fits = refl
-some_tail (Some t) fits = tail t fits
-
-time : (f : TimeFault) → plain (fault_word f) ≡ true
-time Year = refl
-time Day = refl
-time Hour = refl
-time Minute = refl
-time Second = refl
-time Fraction = refl
-
-read_fault : (f : ReadFault) → HasReadFault f → plain (read_text f) ≡ true
-read_fault Blockette100 l = refl
-read_fault (Encoding code) l = two (codes "encoding ") (decimal code) refl (number code (omega (arith, l)))
-read_fault LittleSteim l = refl
-read_fault DataOffset l = refl
-read_fault (Short found) l = two (codes "short ") (decimal found) refl (count found l)
-read_fault (BadWord frame w) l =
-    after_count (codes "badword ") (codes " ") (decimal w) frame refl l.0 refl (count w l.1)
-read_fault (Overflow index) l = two (codes "overflow ") (decimal index) refl (count index l)
+read_fault : (f : ReadFault) → HasReadFault f → IsPiece 47 (read_text f)
+read_fault Blockette100 l = record { is_plain = refl; short = omega arith }
+read_fault (Encoding code) l =
+    within (two (word (codes "encoding ") refl) (count code (omega (arith, l)))) (omega arith)
+read_fault LittleSteim l = record { is_plain = refl; short = omega arith }
+read_fault DataOffset l = record { is_plain = refl; short = omega arith }
+read_fault (Short found) l = within (two (word (codes "short ") refl) (count found l)) (omega arith)
+read_fault (BadWord frame w) l = spaced (two (word (codes "badword ") refl) (count frame l.0)) (count w l.1)
+read_fault (Overflow index) l = within (two (word (codes "overflow ") refl) (count index l)) (omega arith)
 read_fault (LastDiffers found constant) l =
-    two (codes "lastdiffers " ++ signed_decimal found ++ codes " ") (signed_decimal constant)
-    (two (codes "lastdiffers " ++ signed_decimal found) (codes " ")
-    (two (codes "lastdiffers ") (signed_decimal found) refl (word found l.0)) refl) (word constant l.1)
+    within (spaced (two (word (codes "lastdiffers ") refl) (sample found l.0)) (sample constant l.1)) (omega arith)
 read_fault NoMemory l = absurd l
 
-why : (w : Why) → HasWhy w → plain (why_text w) ≡ true
-why (Time f) l = two (codes "time ") (fault_word f) refl (time f)
-why Rate l = refl
-why (ReadFailed f) l = read_fault f l
-why RateChange l = refl
-why UnknownLeap l = refl
-why (Gap us) l = two (codes "gap ") (decimal us) refl (number us (omega (arith, l)))
-why (Overlap us) l = two (codes "overlap ") (decimal us) refl (number us (omega (arith, l)))
+why : (w : Why) → HasWhy w → IsPiece 48 (why_text w)
+why (Time f) l = within (two (word (codes "time ") refl) (time f)) (omega arith)
+why Rate l = record { is_plain = refl; short = omega arith }
+why (ReadFailed f) l = within (read_fault f l) (omega arith)
+why RateChange l = record { is_plain = refl; short = omega arith }
+why UnknownLeap l = record { is_plain = refl; short = omega arith }
+why (Gap us) l = within (two (word (codes "gap ") refl) (micros us l)) (omega arith)
+why (Overlap us) l = within (two (word (codes "overlap ") refl) (micros us l)) (omega arith)
 
-first : (f : Finding) → HasFinding f → plain (first_text f) ≡ true
+first : (f : Finding) → HasFinding f → IsPiece 94 (first_text f)
 first f fits =
-    after_count (codes "first " ++ decimal f.number ++ codes " ") (codes " ") (why_text f.why) f.offset
-    (two (codes "first " ++ decimal f.number) (codes " ")
-    (two (codes "first ") (decimal f.number) refl (count f.number fits.number)) refl) fits.offset refl
+    spaced (spaced (two (word (codes "first ") refl) (count f.number fits.number)) (count f.offset fits.offset))
     (why f.why fits.why)
 
 -- a head and a tail after their words
-ends : (a b : List ℕ) → plain a ≡ true → plain b ≡ true → plain (codes " head " ++ a ++ codes " tail " ++ b) ≡ true
-ends a b p q =
-    two (codes " head " ++ a ++ codes " tail ") b
-    (two (codes " head " ++ a) (codes " tail ") (two (codes " head ") a refl p) refl) q
+ends : {a b : List ℕ} → IsPiece 79 a → IsPiece 54 b → IsPiece 145 (codes " head " ++ a ++ codes " tail " ++ b)
+ends p q = two (two (two (word (codes " head ") refl) p) (word (codes " tail ") refl)) q
 
-findings : (f : Findings) → HasFindings f → plain (findings_text f) ≡ true
+findings : (f : Findings) → HasFindings f → IsPiece 269 (findings_text f)
 findings (Nothing h t) fits =
-    two (codes " head " ++ head_text h ++ codes " tail " ++ tail_text t) (codes " findings 0")
-    (ends (head_text h) (tail_text t) (head h fits.0) (tail t fits.1)) refl
+    within (two (ends (head h fits.0) (tail t fits.1)) (word (codes " findings 0") refl)) (omega arith)
 findings (Counted n f h t) fits =
-    let a : List ℕ = text_or_none head_text h in
-    let b : List ℕ = text_or_none tail_text t in
-    let c : List ℕ = codes " head " ++ a ++ codes " tail " ++ b in
-    after_count (c ++ codes " findings ") (codes " ") (first_text f) n
-    (two c (codes " findings ") (ends a b (some_head h fits.3) (some_tail t fits.4)) refl) fits.1 refl (first f fits.2)
+    let head_piece = or_none head_text HasHead h (omega arith) head fits.3 in
+    let tail_piece = or_none tail_text HasTail t (omega arith) tail fits.4 in
+    spaced (two (two (ends head_piece tail_piece) (word (codes " findings ") refl)) (count n fits.1)) (first f fits.2)
 
 nibble : (n : ℕ) → nat_eq (hex_digit n) 10 ≡ false
 nibble n = by (nat_lt n 10)
@@ -190,69 +199,79 @@ nibble n = by (nat_lt n 10)
     by true = grind (arith, nat_tests)
     by false = grind (arith, nat_tests)
 
-key : (bytes : List ℕ) → plain (key_text bytes) ≡ true
-key [] = refl
-key (b ∷ bs) = rw (nibble (b / 16), nibble (b % 16)) (key bs)
+key : (bytes : List ℕ) → IsPiece (2 * length bytes) (key_text bytes)
+key [] = record { is_plain = refl; short = omega arith }
+key (b ∷ bs) =
+    let rest = key bs in
+    record { is_plain = rw (nibble (b / 16), nibble (b % 16)) rest.is_plain; short = omega (arith, rest.short) }
 
-frame_fault : (f : FrameFault) → HasFrameFault f → plain (frame_words f) ≡ true
-frame_fault NotData l = refl
-frame_fault NoOrder l = refl
-frame_fault Chain l = refl
-frame_fault No1000 l = refl
-frame_fault (Length exponent) l = two (codes "length ") (decimal exponent) refl (number exponent (omega (arith, l)))
-frame_fault Outside l = refl
-frame_fault Version3 l = refl
+frame_fault : (f : FrameFault) → HasFrameFault f → IsPiece 29 (frame_words f)
+frame_fault NotData l = record { is_plain = refl; short = omega arith }
+frame_fault NoOrder l = record { is_plain = refl; short = omega arith }
+frame_fault Chain l = record { is_plain = refl; short = omega arith }
+frame_fault No1000 l = record { is_plain = refl; short = omega arith }
+frame_fault (Length exponent) l =
+    within (two (word (codes "length ") refl) (count exponent (omega (arith, l)))) (omega arith)
+frame_fault Outside l = record { is_plain = refl; short = omega arith }
+frame_fault Version3 l = record { is_plain = refl; short = omega arith }
 
-stream_fault : (bytes : ℕ) (f : StreamFault) → IsFaultAfter bytes f → plain (fault_words f) ≡ true
+stream_fault : (bytes : ℕ) (f : StreamFault) → IsFaultAfter bytes f → IsPiece 29 (fault_words f)
 stream_fault bytes (Frame offset f) l = frame_fault f l.1
-stream_fault bytes (Truncated offset have) l = two (codes "truncated ") (decimal have) refl (count have l.1)
-stream_fault bytes (Read offset) l = refl
-stream_fault bytes (Turns offset) l = refl
+stream_fault bytes (Truncated offset have) l = two (word (codes "truncated ") refl) (count have l.1)
+stream_fault bytes (Read offset) l = record { is_plain = refl; short = omega arith }
+stream_fault bytes (Turns offset) l = record { is_plain = refl; short = omega arith }
 stream_fault bytes Memory l = absurd l
 
 -- ---- whole lines
--- some bytes without an LF, and an LF
+-- up to 511 bytes without an LF, and an LF
 pub record IsEnded (text : List ℕ) : Type 0 where
   pub body : List ℕ
-  pub is_plain : plain body ≡ true
+  pub piece : IsPiece 511 body
   pub is : text ≡ body ++ 10 ∷ []
 
 pub ended : (x : Line) → IsLine x → IsEnded (text_of_line x)
-ended header l = record { body = codes "mseed part 1"; is_plain = refl; is = refl }
+ended header l = record {
+  body = codes "mseed part 1";
+  piece = record { is_plain = refl; short = omega arith };
+  is = refl;
+}
 ended (channel k c) l = record {
   body = key_text k ++ codes " records " ++ decimal c.records ++ codes " samples " ++ decimal c.samples
       ++ findings_text c.findings;
-  is_plain =
-      two (key_text k ++ codes " records " ++ decimal c.records ++ codes " samples " ++ decimal c.samples)
-      (findings_text c.findings)
-      (after_count (key_text k ++ codes " records ") (codes " samples ") (decimal c.samples) c.records
-      (two (key_text k) (codes " records ") (key k) refl) l.records refl (count c.samples l.samples))
-      (findings c.findings l.findings);
+  piece =
+      let records = two (two (key k) (word (codes " records ") refl)) (count c.records l.records) in
+      within (two (two (two records (word (codes " samples ") refl)) (count c.samples l.samples))
+      (findings c.findings l.findings)) (omega (arith, l.key_length));
   is = refl;
 }
 ended (counts records bytes) l = record {
   body = codes "records " ++ decimal records ++ codes " bytes " ++ decimal bytes;
-  is_plain =
-      after_count (codes "records ") (codes " bytes ") (decimal bytes) records refl l.records_fit refl
-      (count bytes l.bytes_fit);
+  piece =
+      let first = two (word (codes "records ") refl) (count records l.records_fit) in
+      within (two (two first (word (codes " bytes ") refl)) (count bytes l.bytes_fit)) (omega arith);
   is = refl;
 }
 ended (faults zero) l = absurd (omega (arith, l.some))
 ended (faults (suc n)) l = record {
   body = codes "faults " ++ decimal (suc n);
-  is_plain = two (codes "faults ") (decimal (suc n)) refl (count (suc n) l.fit);
+  piece = within (two (word (codes "faults ") refl) (count (suc n) l.fit)) (omega arith);
   is = refl;
 }
 ended (fault bytes f) l = record {
   body = codes "fault at " ++ decimal bytes ++ codes " " ++ fault_words f;
-  is_plain =
-      after_count (codes "fault at ") (codes " ") (fault_words f) bytes refl l.bytes_fit refl
-      (stream_fault bytes f l.is);
+  piece =
+      within (spaced (two (word (codes "fault at ") refl) (count bytes l.bytes_fit)) (stream_fault bytes f l.is))
+      (omega arith);
   is = fault_of f bytes l.is ∙ joined (codes "fault at ") (decimal bytes) (fault_words f);
 }
   where
     joined : (a b w : List ℕ) → a ++ (b ++ (codes " " ++ (w ++ codes "\n"))) ≡ (a ++ b ++ codes " " ++ w) ++ 10 ∷ []
     joined a b w = simp append_assoc
+
+pub short : (x : Line) → IsLine x → length (text_of_line x) ≤ 512
+short x l =
+    let it = ended x l in
+    omega (arith, ap (λ (bytes : List ℕ). length bytes) it.is, length-append it.body (10 ∷ []), it.piece.short)
 
 -- ---- bytes without an LF
 pub plain_from : (bytes : List ℕ) → HasNoEnd bytes → plain bytes ≡ true

@@ -32,7 +32,6 @@ pub mod Readable
 pub mod Refusing
 pub mod Rows
 pub mod Running
-pub mod Shorts
 pub mod Spelled
 pub mod Stepping
 pub mod Steps

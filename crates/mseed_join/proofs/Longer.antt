@@ -1,14 +1,13 @@
 -- Bytes that begin no record begin none whatever comes after them, for the same reason.
-use Rattle.std.proofs.Common.{◌≡◌, ℕ, zero, suc, ◌+◌, ◌^◌, ◌<◌, ◌≤◌, ◌&&◌, ◌++◌, List, [], ◌∷◌, length, get_or, ltb}
+use Rattle.std.proofs.Common.{◌≡◌, ℕ, ◌+◌, ◌^◌, ◌<◌, ◌≤◌, ◌&&◌, ◌++◌, List, [], ◌∷◌, length, ltb}
 use Rattle.std.proofs.Common.{Bool, true, false, cond, Some, None, refl, sym, ap, subst, ◌∙◌, arith, length-append}
 use Rattle.std.specs.Prelude.{nat_eq, nat_le, not}
-use Rattle.std.proofs.Math.Seq.{take-append_seam}
+use Rattle.std.proofs.Math.ListN.{get_or-append}
 use Rattle.std.proofs.lemmas.Bool.{and_parts, false≢true, le-ltb, ltb-false}
 use Rattle.mseed_time.specs.declared.order.Order.{Order}
 use Rattle.std.proofs.lemmas.Option.{same_Some}
 use Rattle.mseed_record.specs.Chain.{next_at, type_at}
-use Rattle.mseed_record.specs.Header.{blockette_at, has_fixed_bytes}
-use Rattle.mseed_record.specs.Order.{order_of}
+use Rattle.mseed_record.specs.Header.{blockette_at}
 use Rattle.mseed_record.specs.Record.{exponent_at}
 use Rattle.mseed_record.specs.Scan.{Decides, DecidesFrom, at_1000, at_offset, by_chain, is_version3, no_data, no_order}
 use Rattle.mseed_record.specs.Scan.{version3}
@@ -16,8 +15,7 @@ use Rattle.mseed_record.specs.declared.fault.FrameFault.{FrameFault}
 use Rattle.mseed_record.specs.declared.fault.FrameFault.TheVariants.{Chain, Length, No1000, Outside}
 use Rattle.mseed_record.specs.declared.framer.Scan.{Scan}
 use Rattle.mseed_record.specs.declared.framer.Scan.TheVariants.{Need, Record, Not}
-use Rattle.mseed_record.proofs.Framed.{fixed_prefix, order_prefix}
-use Rattle.mseed_record.proofs.Needed.{number_more}
+use Rattle.mseed_record.proofs.Needed.{fixed_more, number_more, order_more}
 use Rattle.mseed_record.proofs.Passing.{none_within}
 use Rattle.mseed_record.proofs.Reached.{none_more, version3_more}
 
@@ -30,22 +28,7 @@ version3_long (x ∷ y ∷ []) e =
     absurd (false≢true (and_parts (nat_eq 83 y) false rest).1)
 version3_long (x ∷ y ∷ z ∷ rest) e = omega arith
 
-fixed_more : (prefix more : List ℕ) → 48 ≤ length prefix → has_fixed_bytes (prefix ++ more) ≡ has_fixed_bytes prefix
-fixed_more prefix more h =
-    sym (fixed_prefix (prefix ++ more) (length prefix) h)
-    ∙ ap (λ (b : List ℕ). has_fixed_bytes b) (take-append_seam prefix more)
-
-order_more : (prefix more : List ℕ) → 48 ≤ length prefix → order_of (prefix ++ more) ≡ order_of prefix
-order_more prefix more h =
-    sym (order_prefix (prefix ++ more) (length prefix) h)
-    ∙ ap (λ (b : List ℕ). order_of b) (take-append_seam prefix more)
-
 -- ---- a blockette
-byte_more : (prefix more : List ℕ) (i : ℕ) → i < length prefix → get_or (prefix ++ more) i 0 ≡ get_or prefix i 0
-byte_more [] more i h = absurd (omega (arith, h))
-byte_more (x ∷ prefix) more zero h = refl
-byte_more (x ∷ prefix) more (suc i) h = byte_more prefix more i (omega (arith, h))
-
 -- the first 1000, by its exponent
 by_exponent : (low short long wide : Bool) (e k : ℕ) (f : FrameFault)
     → cond low (Not (Length e)) (cond short (Not Outside) (cond long (Need k) (Record k))) ≡ Not f
@@ -61,7 +44,7 @@ at_1000_more prefix more o f h d =
     let all : List ℕ = prefix ++ more in
     let e : ℕ = exponent_at prefix o in
     let same : exponent_at all o ≡ exponent_at prefix o =
-    byte_more prefix more (o + 6) (omega (arith, h)) in
+    get_or-append prefix more 0 (o + 6) (omega (arith, h)) in
     let moved : cond (not (nat_le 7 e && nat_le e 20)) (Not (Length e)) (cond (ltb (2 ^ e) (o + 8)) (Not Outside)
     (cond (ltb (length all) (2 ^ e)) (Need (2 ^ e)) (Record (2 ^ e)))) ≡ Not f =
     by_exponent (not (nat_le 7 e && nat_le e 20)) (ltb (2 ^ e) (o + 8)) (ltb (length prefix) (2 ^ e))

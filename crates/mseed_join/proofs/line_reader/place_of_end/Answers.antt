@@ -1,9 +1,9 @@
 use Rattle.std.proofs.Common.{sym, ◌∙◌}
-use Rattle.mseed_join.proofs.LineEnds.{found_behind, nowhere_after}
+use Rattle.mseed_join.proofs.LineEnds.{found_after, nowhere_after}
 use Rattle.mseed_join.proofs.line_reader.place_of_end.Goals as goal
 
 pub returns-in-Some : goal.returns-in-Some
-returns-in-Some c = found_behind c.args.bytes.now c.pass_lanes-passed.result c.in-Some.place
+returns-in-Some c = found_after c.args.bytes.now c.pass_lanes-passed.result c.in-Some.place
     c.pass_lanes-passed.ensures.within c.pass_lanes-passed.ensures.lacks
     (sym c.place_one_by_one.ensures ∙ c.in-Some.is)
 
