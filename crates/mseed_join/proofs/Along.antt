@@ -22,7 +22,8 @@ use Rattle.mseed_join.specs.private.LineReading.{GoesOn, Grows, IsLineAhead, IsO
 use Rattle.mseed_join.specs.private.Taking.{IsPlace, IsReadTo, IsTaken}
 use Rattle.mseed_join.proofs.Ahead.{IsAhead, ahead, too_long}
 use Rattle.mseed_join.proofs.LinesAhead.{read_by_more}
-use Rattle.mseed_join.proofs.Machine.{AreAll, Runs, lines_text, nothing_first, rows_append}
+use Rattle.mseed_join.proofs.Machine.{AreAll, Runs, lines_text, nothing_first}
+use Rattle.mseed_join.proofs.Taken.{texts_append}
 
 -- ---- how few lines and parts there are
 pub lines_few : (bytes : List ℕ) (n : ℕ) → AreLines bytes n → n ≤ length bytes
@@ -53,9 +54,6 @@ parts_few lines s i = omega (
 )
 
 -- ---- what was passed begins a text
-texts_append : (ws vs : List Written) → texts (ws ++ vs) ≡ texts ws ++ texts vs
-texts_append = rows_append part_text texts refl (λ w ws. refl)
-
 -- with which the last part would be over
 abbrev rest_of : OpenPart → List ℕ
 rest_of none = []
@@ -212,7 +210,7 @@ wrong_line past h now s lines j n l one refused = record {
       (ap (λ (t : List ℕ). l.by.passed ++ t) (sym (take-append-drop n lines.held))
       ∙ sym (append_assoc l.by.passed (take n lines.held) (drop n lines.held))) l.by.lines
       (begun_so past h now s lines j l) one refused;
-  behind = refl;
+  number = refl;
 }
 
 -- and none that was held is bad
@@ -247,7 +245,7 @@ unended_line past h now s lines j l at_end no_end some = record {
   stopped = stops past h now s lines j l;
   bad = IsBadLine.unended l.by.passed lines.held lines.lines at_end refl l.by.lines
       (begun_so past h now s lines j l) some no_end;
-  behind = refl;
+  number = refl;
 }
 
 -- nothing is held
@@ -278,7 +276,7 @@ lacking past h now s lines j l at_end held e = record {
   stopped = stops_all past h now s lines j l held;
   bad = IsBadLine.lacks lines.lines at_end l.by.lines (begun_so past h now s lines j l)
       (lacks l.by.passed s j l.read e);
-  behind = refl;
+  number = refl;
 }
 
 has_ended : {A : Type 0} → (past : Bool) (h now : BytesRead) (s : Stage) (r : Reader A)
@@ -312,10 +310,10 @@ bad_at past h now s lines j Nothing l lies other e = lacking past h now s lines 
 -- ---- a line that was taken
 pub line_taken : {A : Type 0} → (past : Bool) (h now : BytesRead) (s t : Stage) (line : List ℕ)
     (lines after : LinesRead)
-    (j : Joint A) (r : Reader A) (tells : Reported) → (l : IsLooked past h now s lines j) → r.lines ≡ after
+    (j : Joint A) (r : Reader A) (report : Reported) → (l : IsLooked past h now s lines j) → r.lines ≡ after
     → lines.held ≡ line ++ after.held → IsReadBy h now after → GoesOn h now after
-    → IsTaken l.by.passed line s t tells j r.joint → IsAlong past h now t r
-line_taken past h now s t line lines after j r tells l same held c goes taken =
+    → IsTaken l.by.passed line s t report j r.joint → IsAlong past h now t r
+line_taken past h now s t line lines after j r report l same held c goes taken =
     let by_r : IsReadBy h now r.lines = subst (λ (x : LinesRead). IsReadBy h now x) (sym same) c in
     let held_r : lines.held ≡ line ++ r.lines.held = held ∙ ap (λ (x : LinesRead). line ++ x.held) (sym same) in
     record {

@@ -81,7 +81,7 @@ pub record IsMergedTo (before archive : List ℕ) (reported : List Notice) (foun
     (so : IsSoFar before a) : Type 0 where
   pub all : IsSoFar (before ++ archive) joint
   pub rest : List View
-  pub behind : all.views ≡ so.views ++ rest
+  pub those_after : all.views ≡ so.views ++ rest
   pub merged : (first whole : List Reported) → AreReportedOf (added_from 0 so.views) first
       → AreReportedOf (added_from 0 all.views) whole
       → IsPermutation (notices_of first ++ (moved_notices a.part.records a.part.bytes reported ++ border_notices found))
@@ -113,7 +113,7 @@ ends_here : HaveOneReport → (before : List ℕ) (a joint : Written) (so : IsSo
 ends_here single before a joint so same = record {
   all = as_joint (before ++ []) a joint same (as_bytes before (before ++ []) a (sym (append-nil before)) so);
   rest = [];
-  behind = sym (append-nil so.views);
+  those_after = sym (append-nil so.views);
   merged = λ first whole one all.
       let reported : first ≡ whole = single (added_from 0 so.views) first whole one all in
       subst (λ (ns : List Notice). IsPermutation ns (notices_of whole)) (sym (append-nil (notices_of first)))
@@ -158,11 +158,11 @@ shuffled fs ms ns bs rs =
 -- what is reported after what is reported of all so far
 carried : (fs ms ns bs rs mid whole : List Notice) → IsPermutation (fs ++ (ms ++ bs)) mid
     → IsPermutation (mid ++ (ns ++ rs)) whole → IsPermutation (fs ++ ((ms ++ ns) ++ (bs ++ rs))) whole
-carried fs ms ns bs rs mid whole first behind =
+carried fs ms ns bs rs mid whole first those_after =
     IsPermutation-trans (fs ++ ((ms ++ ns) ++ (bs ++ rs))) ((fs ++ (ms ++ bs)) ++ (ns ++ rs)) whole
     (shuffled fs ms ns bs rs)
     (IsPermutation-trans ((fs ++ (ms ++ bs)) ++ (ns ++ rs)) (mid ++ (ns ++ rs)) whole
-    (IsPermutation-append_left (ns ++ rs) (fs ++ (ms ++ bs)) mid first) behind)
+    (IsPermutation-append_left (ns ++ rs) (fs ++ (ms ++ bs)) mid first) those_after)
 
 -- ---- the borders of one part among all
 pub record IsBordered (befores : List Written) (a w : Written) (ws : List Written) (found : List Border) : Type 0 where
@@ -198,7 +198,7 @@ one_piece add_up add only archive before befores found a joint so h p read by cl
     ∙ append-nil (borders_with a.part w.part.channels) in record {
       all = as_joint (before ++ archive) first.0 joint (none_of first.0 joint first.1.1) now;
       rest = p.parted.audited.views;
-      behind = refl;
+      those_after = refl;
       merged = λ one whole reported all.
           subst (λ (bs : List Border). IsPermutation (notices_of one
           ++ (moved_notices a.part.records a.part.bytes (notices_of p.reported) ++ border_notices bs))
@@ -235,11 +235,11 @@ more_pieces add_up add archive others before reported found rest a b joint so h 
       all = as_bytes ((before ++ archive) ++ others) (before ++ (archive ++ others)) joint
           (append_assoc before archive others) m.all;
       rest = p.parted.audited.views ++ m.rest;
-      behind = m.behind ∙ ap (λ (vs : List View). vs ++ m.rest) views
+      those_after = m.those_after ∙ ap (λ (vs : List View). vs ++ m.rest) views
           ∙ append_assoc so.views p.parted.audited.views m.rest;
       merged = λ first whole one all.
           let mid = reported_first now.views m.rest whole
-          (subst (λ (vs : List View). AreReportedOf (added_from 0 vs) whole) m.behind all) in
+          (subst (λ (vs : List View). AreReportedOf (added_from 0 vs) whole) m.those_after all) in
           let near : AreReportedOf (added_from 0 (so.views ++ p.parted.audited.views)) mid.0 =
           subst (λ (vs : List View). AreReportedOf (added_from 0 vs) mid.0) views mid.1 in
           subst (λ (ns : List Notice). IsPermutation (notices_of first ++ ns) (notices_of whole)) (sym notices)
@@ -295,7 +295,7 @@ pub border_text : (found : List Border) → notice_lines (border_notices found) 
 border_text [] = refl
 border_text (b ∷ found) = ap (λ (xs : List ℕ). border_line b ++ xs) (border_text found)
 
--- ---- what the audit of all tells
+-- ---- what the audit of all says
 pub parted_of_reported : (archive : List ℕ) (ws : List Written) (reported : List Notice)
     → AreReportedApart archive ws reported
     → AreParted archive ws

@@ -76,7 +76,7 @@ start_back : (z : ℤ) (rest : List ℕ) → IsInstant z → Ends rest → start
 start_back z rest i e =
     integer_back 5_364_662_400_000_000 7_258_118_399_999_999 z rest (omega arith) (omega arith) (instant_within z i) e
 
-word_within : (z : ℤ) → IsWord z → IsWithin (2 ^ 31) (2 ^ 31 - 1) z
+pub word_within : (z : ℤ) → IsWord z → IsWithin (2 ^ 31) (2 ^ 31 - 1) z
 word_within (pos n) l = omega (arith, l)
 word_within (negsuc n) l = l
 
@@ -127,11 +127,11 @@ head_back : (h : Option Head) (rest : List ℕ) → IfSome h HasHead → Ends re
 unfolding head_at
 head_back None rest fits e = refl
 head_back (Some h) rest fits e =
-    let behind : List ℕ =
+    let later : List ℕ =
     codes " " ++ (decimal h.offset ++
     (codes " " ++ (signed_decimal h.start ++ (codes " " ++ ratio_then h.rate rest)))) in
     ap head_at (head_leading h rest)
-    ∙ rw (digits_no_word h.number behind (omega (arith, fits.number)), some_head_back h rest fits e) refl
+    ∙ rw (digits_no_word h.number later (omega (arith, fits.number)), some_head_back h rest fits e) refl
 
 some_tail_back : (t : Tail) (rest : List ℕ) → HasTail t → some_tail_at (tail_then t rest) ≡ Some (t, rest)
 unfolding some_tail_at
@@ -154,9 +154,9 @@ unfolding tail_at
 tail_back None rest fits = refl
 tail_back (Some t) rest fits =
     let last : List ℕ = codes " " ++ (leap_text t.leap ++ rest) in
-    let behind : List ℕ = codes " " ++ (decimal t.samples ++ (codes " " ++ ratio_then t.rate last)) in
+    let later : List ℕ = codes " " ++ (decimal t.samples ++ (codes " " ++ ratio_then t.rate last)) in
     ap tail_at (tail_leading t rest)
-    ∙ rw (integer_no_word t.start behind fits.start, some_tail_back t rest fits) refl
+    ∙ rw (integer_no_word t.start later fits.start, some_tail_back t rest fits) refl
 
 -- ---- findings
 time_back : (f : TimeFault) (rest : List ℕ) → time_at (fault_word f ++ rest) ≡ Some (f, rest)

@@ -94,17 +94,17 @@ found_same : (before ws : List Written) (found other : List Border) → found �
 found_same before ws found other e b = subst (λ (bs : List Border). AreBorders before ws bs) e b
 
 -- ---- one more at the end
-pub found_behind : (before ws : List Written) (a w : Written) (found : List Border) → AreBorders before ws found
+pub found_after : (before ws : List Written) (a w : Written) (found : List Border) → AreBorders before ws found
     → AreJoined nothing (before ++ ws) a
     → AreBorders before (ws ++ w ∷ []) (found ++ borders_with a.part w.part.channels)
-found_behind before [] a w found b j =
+found_after before [] a w found b j =
     let bare : AreJoined nothing before a =
     subst (λ (ts : List Written). AreJoined nothing ts a) (append-nil before) j in
     let new : List Border = borders_with a.part w.part.channels in
     found_same before (w ∷ []) (new ++ []) (found ++ new)
     (append-nil new ∙ ap (λ (bs : List Border). bs ++ new) (sym (none_found before found b)))
     (AreBorders.one before a w [] [] bare (AreBorders.none (before ++ w ∷ [])))
-found_behind before (v ∷ ws) a w found b j =
+found_after before (v ∷ ws) a w found b j =
     let f : IsFirstOf before v ws found = first_found before v ws found b in
     let new : List Border = borders_with a.part w.part.channels in
     let old : List Border = borders_with f.joint.part v.part.channels in
@@ -113,7 +113,7 @@ found_behind before (v ∷ ws) a w found b j =
     found_same before (v ∷ (ws ++ w ∷ [])) (old ++ (f.rest ++ new)) (found ++ new)
     (sym (append_assoc old f.rest new) ∙ ap (λ (bs : List Border). bs ++ new) (sym f.are))
     (AreBorders.one before f.joint v (ws ++ w ∷ []) (f.rest ++ new) f.joined
-    (found_behind (before ++ v ∷ []) ws a w f.rest f.more further))
+    (found_after (before ++ v ∷ []) ws a w f.rest f.more further))
 
 pub record IsLastOf (before ws : List Written) (w : Written) (found : List Border) : Type 0 where
   pub rest : List Border
@@ -178,7 +178,7 @@ replaced past over w v u h l e one further found same b =
     subst (λ (ts : List Written). AreBorders [] ts (found ++ further)) (sym onto)
     (found_same [] (counted past over ++ u ∷ []) (k.rest ++ borders_with k.joint.part u.part.channels)
     (found ++ further)
-    all (found_behind [] (counted past over) k.joint u k.rest k.those k.joined))
+    all (found_after [] (counted past over) k.joint u k.rest k.those k.joined))
 
 nothing_more : (past : Bool) (over : List Written) (w u : Written) → u.part.channels ≡ w.part.channels
     → (a : Written) → IsJointOf past over a
@@ -198,7 +198,7 @@ begins past ws h j found b = by h.end refl
     by None n =
         subst (λ (ts : List Written). AreBorders [] ts (found ++ []))
         (sym (counted_on past ws (begun_part [] ∷ []) h n j))
-        (found_behind [] (counted past ws) h (begun_part []) found b j)
+        (found_after [] (counted past ws) h (begun_part []) found b j)
 
 pub header_borders : (past : Bool) (over : List Written) (b : OpenPart) (h : Written) → May b header
     → IsJointOf past (over ++ open_part b) h → (found : List Border) → AreBordersOf past (over ++ open_part b) found

@@ -39,23 +39,23 @@ ends_there : (first : List ℕ) → HasNoEnd (first ++ 10 ∷ []) → ⊥
 ends_there [] h = h.0 refl
 ends_there (b ∷ first) h = ends_there first h.1
 
-none_behind : (first rest : List ℕ) → first ++ rest ≡ [] → rest ≡ []
-none_behind [] rest e = e
-none_behind (b ∷ first) rest e = cc e
+none_after : (first rest : List ℕ) → first ++ rest ≡ [] → rest ≡ []
+none_after [] rest e = e
+none_after (b ∷ first) rest e = cc e
 
 -- what is closed doesn't end within a line
 no_rest : (lines line first : List ℕ) → line ≢ [] → HasNoEnd line → lines ++ line ≡ first ++ 10 ∷ [] → ⊥
 no_rest [] line first some plain e = ends_there first (subst HasNoEnd e plain)
 no_rest (b ∷ lines) line [] some plain e =
     let rest : lines ++ line ≡ [] = cc e in
-    some (none_behind lines line rest)
+    some (none_after lines line rest)
 no_rest (b ∷ lines) line (c ∷ first) some plain e =
     let rest : lines ++ line ≡ first ++ 10 ∷ [] = cc e in
     no_rest lines line first some plain rest
 
 not_unended : (bytes lines line : List ℕ) → IsClosed bytes → bytes ≡ lines ++ line → line ≢ [] → HasNoEnd line → ⊥
 not_unended bytes lines line closed is some plain = ⊎_elim
-    (λ (e : bytes ≡ []). some (none_behind lines line (sym is ∙ e)))
+    (λ (e : bytes ≡ []). some (none_after lines line (sym is ∙ e)))
     (λ (e : (first : List ℕ) × (bytes ≡ first ++ 10 ∷ [])). no_rest lines line e.0 some plain (sym is ∙ e.1))
     closed
 

@@ -113,9 +113,9 @@ joined_append (x ∷ xs) ys = ap (λ (zs : List ℕ). x.bytes ++ zs) (joined_app
     ∙ sym (append_assoc x.bytes (concat (bytes_in xs)) (concat (bytes_in ys)))
 
 -- records after records
-cut_behind : (first second : List ℕ) (xs ys : List View) (rest : List ℕ) → IsCut first xs [] → IsCut second ys rest
+cut_after : (first second : List ℕ) (xs ys : List View) (rest : List ℕ) → IsCut first xs [] → IsCut second ys rest
     → IsCut (first ++ second) (xs ++ ys) rest
-cut_behind first second xs ys rest a b = record {
+cut_after first second xs ys rest a b = record {
   views_are = All-append IsView xs ys a.views_are b.views_are;
   joined = (λ i. (a.joined ∙ append-nil (concat (bytes_in xs))) i ++ b.joined i)
       ∙ sym (append_assoc (concat (bytes_in xs)) (concat (bytes_in ys)) rest)
@@ -186,7 +186,7 @@ known_after first second xs ys before end none a b =
     subst (λ (rest : List ℕ). IsCut first xs rest) (none_left (size_of xs) a.rest before a.ends none) a.cut in
     record {
       rest = b.rest;
-      cut = cut_behind first second xs ys b.rest whole b.cut;
+      cut = cut_after first second xs ys b.rest whole b.cut;
       ends = subst (λ (n : ℕ). EndsSo n b.rest (option_map (moved_fault (size_of xs)) end)) (sym (bytes_append xs ys))
           (ends_moved (size_of xs) (size_of ys) b.rest end b.ends);
     }

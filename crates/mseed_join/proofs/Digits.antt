@@ -170,11 +170,11 @@ pub record IsNumber (largest : ℕ) (bytes : List ℕ) (x : ℕ × List ℕ) : T
   pub is : bytes ≡ decimal x.0 ++ x.1
   pub bounded : x.0 ≤ largest
 
-pub number_behind : (largest : ℕ) (bytes : List ℕ) (x : ℕ × List ℕ) → largest < 10 ^ 64
+pub number_spelled : (largest : ℕ) (bytes : List ℕ) (x : ℕ × List ℕ) → largest < 10 ^ 64
     → number_at largest bytes ≡ Some x → IsNumber largest bytes x
 unfolding number_at
-number_behind largest [] x few e = absurd (cc e)
-number_behind largest (b ∷ bs) x few e = by (nat_eq b 48) refl (is_digit b) refl e
+number_spelled largest [] x few e = absurd (cc e)
+number_spelled largest (b ∷ bs) x few e = by (nat_eq b 48) refl (is_digit b) refl e
   where
     by : (t : Bool) → nat_eq b 48 ≡ t → (u : Bool) → is_digit b ≡ u
         → cond t (Some (0, bs)) (cond u (within largest (more_at (b - 48) bs)) None) ≡ Some x
@@ -237,12 +237,12 @@ pub number_on : (largest n count first : ℕ) (bytes tail : List ℕ) → 1 ≤ 
     → is_digit (get_or bytes 0 0) ≡ true → tail ≡ drop 1 bytes → first ≡ get_or bytes 0 0 - 48
     → more_at n (drop count tail) ≡ more_at first tail
     → number_at largest bytes ≡ within largest (more_at n (drop (count + 1) bytes))
-number_on largest n count first [] tail some other digit behind is more = absurd (omega (arith, some))
-number_on largest n count first (b ∷ bs) tail some other digit behind is more =
+number_on largest n count first [] tail some other digit rest_is is more = absurd (omega (arith, some))
+number_on largest n count first (b ∷ bs) tail some other digit rest_is is more =
     let next : suc count ≡ count + 1 = omega arith in
     number_from largest b bs (omega (arith, is_low b digit, other)) (is_high b digit)
     ∙ ap (λ (x : ℕ × List ℕ). within largest x)
-    ((λ i. more_at (sym is i) (sym behind i)) ∙ sym more ∙ ap (λ (xs : List ℕ). more_at n (drop count xs)) behind
+    ((λ i. more_at (sym is i) (sym rest_is i)) ∙ sym more ∙ ap (λ (xs : List ℕ). more_at n (drop count xs)) rest_is
     ∙ ap (λ (k : ℕ). more_at n (drop k (b ∷ bs))) next)
 
 -- the first digit of a number
@@ -326,9 +326,9 @@ integer_after below above (b ∷ bs) x low high e = by (nat_eq b 45) refl e
         → IsInteger below above (b ∷ bs) x
     by true k h =
         let read = bind_some (number_at below bs) negated x h in
-        less read.0 (number_behind below bs read.0 low read.1.0) (grind (arith, nat_tests)) read.1.1
+        less read.0 (number_spelled below bs read.0 low read.1.0) (grind (arith, nat_tests)) read.1.1
     by false k h =
         let read = bind_some (number_at above (b ∷ bs)) (λ n. Some (pos n.0, n.1)) x h in
-        let is : IsNumber above (b ∷ bs) read.0 = number_behind above (b ∷ bs) read.0 high read.1.0 in
+        let is : IsNumber above (b ∷ bs) read.0 = number_spelled above (b ∷ bs) read.0 high read.1.0 in
         subst (λ (z : ℤ × List ℕ). IsInteger below above (b ∷ bs) z) (same_Some (pos read.0.0, read.0.1) x read.1.1)
         (is.is, is.bounded)

@@ -121,7 +121,7 @@ ended_by (BadLine k offset) past expected h now s r found first at begin step bo
       bad = record {
         bad = subst (λ (b : List ℕ). IsBadLine past b now.is_at_end k offset) all step.bad;
         count = stop.count;
-        behind = step.behind;
+        number = step.number;
         stage = s;
         before = subst (λ (b : List ℕ). AreLinesRead b stop.count s) all stop.before;
         reported = are;

@@ -74,11 +74,11 @@ data_words_at p m h =
 frame_fault : (scheme : Scheme) (p : List ℕ) (n : ℕ) (f : ReadFault) → AreOctets p → length p ≤ 2 ^ 20 → n < 2 ^ 16
     → IsFrameFault scheme p n f → HasReadFault f
 frame_fault scheme p n _ octets small few (short ds run l) = omega (arith, l, few)
-frame_fault scheme p n _ octets small few (bad_word before bad behind ds cut run l none) =
-    let all : AllByRecursion (IsAt (2 ^ 30)) (before ++ bad ∷ behind) =
+frame_fault scheme p n _ octets small few (bad_word before bad back ds cut run l none) =
+    let all : AllByRecursion (IsAt (2 ^ 30)) (before ++ bad ∷ back) =
     subst (λ (ws : List DataWord). AllByRecursion (IsAt (2 ^ 30)) ws) cut
     (data_words_at p (2 ^ 30) (omega (arith, small, div-le_self (length p) 64))) in
-    let it = middle (IsAt (2 ^ 30)) before bad behind all in
+    let it = middle (IsAt (2 ^ 30)) before bad back all in
     (omega (arith, it.0), omega (arith, it.1))
 frame_fault scheme p n _ octets small few (overflow prefix sum rest sums fit not_fit) =
     omega (arith, sums.count, length-append prefix (sum ∷ rest), few)
@@ -132,14 +132,14 @@ from_one b v (Some r) next is at e k =
     (join_fits (start_of b) (count_of b) r (step_in (leap_of b.bytes)) (start_of v) (start_within b r is e)
     (count_small b is) (rate_within b r is e) (start_within v next at k))
 
-behind_one : (before : Option View) (v : View) (next : Ratio) → IfSome before IsView → IsView v
+after_one : (before : Option View) (v : View) (next : Ratio) → IfSome before IsView → IsView v
     → known_rate v ≡ Some next → IfSome (why_after before v next) HasWhy
-behind_one None v next is at e = tt
-behind_one (Some b) v next is at e = from_one b v (known_rate b) next is at refl e
+after_one None v next is at e = tt
+after_one (Some b) v next is at e = from_one b v (known_rate b) next is at refl e
 
 pub found_has : (before : Option View) (v : View) (o : Option Why) → IfSome before IsView → IsView v
     → IsFound before v o → IfSome o HasWhy
 found_has before v _ is at (time fault e) = tt
 found_has before v _ is at (rate e none) = tt
 found_has before v _ is at (read next e fault why) = read_fault v fault at why
-found_has before v _ is at (after next e samples whole) = behind_one before v next is at e
+found_has before v _ is at (after next e samples whole) = after_one before v next is at e

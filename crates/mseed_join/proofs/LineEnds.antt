@@ -41,7 +41,7 @@ pub no_end_found : (bytes : List ℕ) → position (λ b. b == 10) bytes ≡ Non
 no_end_found bytes lacks = elim (leb_tells (suc (first_end bytes)) (length bytes)) [
   | inl within ↦ absurd (let e : Some (first_end bytes) ≡ None =
       ap (λ t. cond t (Some (first_end bytes)) None) (sym within.0) ∙ lacks in cc e)
-  | inr behind ↦ subst HasNoEnd (take_all (first_end bytes) bytes (omega (arith, behind.1))) (none_before bytes)
+  | inr farther ↦ subst HasNoEnd (take_all (first_end bytes) bytes (omega (arith, farther.1))) (none_before bytes)
 ]
 
 found_is : (bytes : List ℕ) (k : ℕ) → position (λ b. b == 10) bytes ≡ Some k
@@ -51,8 +51,8 @@ found_is bytes k some = elim (leb_tells (suc (first_end bytes)) (length bytes)) 
       let e : Some (first_end bytes) ≡ Some k =
       ap (λ t. cond t (Some (first_end bytes)) None) (sym within.0) ∙ some in
       (same_Some (first_end bytes) k e, omega (arith, within.1))
-  | inr behind ↦ absurd (let e : None ≡ Some k =
-      ap (λ t. cond t (Some (first_end bytes)) None) (sym behind.0) ∙ some in cc e)
+  | inr farther ↦ absurd (let e : None ≡ Some k =
+      ap (λ t. cond t (Some (first_end bytes)) None) (sym farther.0) ∙ some in cc e)
 ]
 
 pub end_found : (bytes : List ℕ) (k : ℕ) → position (λ b. b == 10) bytes ≡ Some k
@@ -68,13 +68,13 @@ end_found bytes k some =
     )
 
 -- an LF after bytes that have none
-first_behind : (before rest : List ℕ) → HasNoEnd before → first_end (before ++ rest) ≡ length before + first_end rest
-first_behind [] rest _ = omega arith
-first_behind (b ∷ bs) rest lacks = elim (eqb_tells b 10) [
+first_after : (before rest : List ℕ) → HasNoEnd before → first_end (before ++ rest) ≡ length before + first_end rest
+first_after [] rest _ = omega arith
+first_after (b ∷ bs) rest lacks = elim (eqb_tells b 10) [
   | inl same ↦ absurd (lacks.0 same.1)
   | inr other ↦
       ap (λ (t : Bool). cond (not t) (1 + first_end (bs ++ rest)) 0) other.0
-      ∙ omega (arith, first_behind bs rest lacks.1)
+      ∙ omega (arith, first_after bs rest lacks.1)
 ]
 
 pub no_end_in_both : (before more : List ℕ) → HasNoEnd before → HasNoEnd more → HasNoEnd (before ++ more)
@@ -101,13 +101,13 @@ pub first_is_after : (bytes : List ℕ) (at : ℕ) → at ≤ length bytes → H
     → first_end bytes ≡ at + first_end (drop at bytes)
 first_is_after bytes at within lacks =
     ap first_end (sym (take-append-drop at bytes))
-    ∙ first_behind (take at bytes) (drop at bytes) lacks
+    ∙ first_after (take at bytes) (drop at bytes) lacks
     ∙ ap (λ (n : ℕ). n + first_end (drop at bytes)) (omega (arith, length-take at bytes))
 
-pub found_behind : (bytes : List ℕ) (at k : ℕ) → at ≤ length bytes → HasNoEnd (take at bytes)
+pub found_after : (bytes : List ℕ) (at k : ℕ) → at ≤ length bytes → HasNoEnd (take at bytes)
     → position (λ b. b == 10) (take (length bytes - at) (drop at bytes)) ≡ Some k
     → Some (at + k) ≡ position (λ b. b == 10) bytes
-found_behind bytes at k within lacks some =
+found_after bytes at k within lacks some =
     let there = found_is (drop at bytes) k
     (subst (λ (xs : List ℕ). position (λ b. b == 10) xs ≡ Some k) (take_rest bytes at) some) in
     let whole : first_end bytes ≡ at + k = omega (arith, first_is_after bytes at within lacks, there.0) in
@@ -125,13 +125,13 @@ nowhere_after bytes at within lacks nowhere =
         | inl inside ↦ absurd (let e : Some (first_end (drop at bytes)) ≡ None =
             ap (λ t. cond t (Some (first_end (drop at bytes))) None) (sym inside.0)
             ∙ subst (λ (xs : List ℕ). position (λ b. b == 10) xs ≡ None) (take_rest bytes at) nowhere in cc e)
-        | inr behind ↦ absurd
-            (omega (arith, there.1, behind.1, first_is_after bytes at within lacks, length-drop at bytes))
+        | inr farther ↦ absurd
+            (omega (arith, there.1, farther.1, first_is_after bytes at within lacks, length-drop at bytes))
       ]
       | inr past ↦ ap (λ t. cond t (Some (first_end bytes)) None) (sym past.0)
     ]
 
--- what a vector's comparison with LF tells
+-- what a vector's comparison with LF says
 abbrev ends_mask : List ℕ → ℕ
 ends_mask lanes =
     mask_l (map (top 7) (zip2 (λ a b. cond (a == b) 255 0) lanes (replicate 32 10))) % 18446744073709551616

@@ -158,7 +158,7 @@ first_same x y r s l m e =
     let same : t.body ++ 10 ∷ r ≡ u.body ++ 10 ∷ s =
     sym (append_assoc t.body (10 ∷ []) r) ∙ ap (λ (a : List ℕ). a ++ r) (sym t.is) ∙ e
     ∙ ap (λ (a : List ℕ). a ++ s) u.is ∙ append_assoc u.body (10 ∷ []) s in
-    let both = same_line t.body u.body r s t.is_plain u.is_plain same in
+    let both = same_line t.body u.body r s t.piece.is_plain u.piece.is_plain same in
     (line_one x y l m (t.is ∙ ap (λ (a : List ℕ). a ++ 10 ∷ []) both.0 ∙ sym u.is), both.1)
 
 pub leaves : (xs ys : List Line) (rest : List ℕ) → AreAll xs → AreAll ys → lines_text xs ++ rest ≡ lines_text ys

@@ -42,11 +42,11 @@ ends_one bytes (Some f) (Some g) ws vs e =
     (ap (λ (x : StreamFault). Some x) same, rest)
 
 -- what stands after the counts
-abbrev behind : ℕ → ℕ → Option StreamFault → List Written → List Line
-behind n bytes end ws = faults_row n ++ (end_row bytes end ++ all_rows ws)
+abbrev rows_after : ℕ → ℕ → Option StreamFault → List Written → List Line
+rows_after n bytes end ws = faults_row n ++ (end_row bytes end ++ all_rows ws)
 
 faults_one : (n m bytes : ℕ) (end other : Option StreamFault) (ws vs : List Written)
-    → behind n bytes end ws ≡ behind m bytes other vs
+    → rows_after n bytes end ws ≡ rows_after m bytes other vs
     → (n ≡ m) × (end_row bytes end ++ all_rows ws ≡ end_row bytes other ++ all_rows vs)
 faults_one zero zero bytes end other ws vs e = (refl, e)
 faults_one zero (suc m) bytes end other ws vs e =
@@ -92,7 +92,7 @@ channels_one (c ∷ cs) (d ∷ ds) records held count size xs ys e =
 
 -- a part before it, and what stands after it
 part_leading : (w : Written) (ws : List Written) → all_rows (w ∷ ws)
-    ≡ header ∷ (rows w.part.channels ++ counts w.part.records w.part.bytes ∷ behind w.faults w.part.bytes w.end ws)
+    ≡ header ∷ (rows w.part.channels ++ counts w.part.records w.part.bytes ∷ rows_after w.faults w.part.bytes w.end ws)
 part_leading w ws =
     joined (rows w.part.channels) (counts w.part.records w.part.bytes) (faults_row w.faults)
     (end_row w.part.bytes w.end) (all_rows ws)
@@ -115,15 +115,15 @@ parts_one [] (v ∷ vs) e = cc e
 parts_one (w ∷ ws) [] e = cc e
 parts_one (w ∷ ws) (v ∷ vs) e =
     let a : List Line =
-    rows w.part.channels ++ counts w.part.records w.part.bytes ∷ behind w.faults w.part.bytes w.end ws in
+    rows w.part.channels ++ counts w.part.records w.part.bytes ∷ rows_after w.faults w.part.bytes w.end ws in
     let b : List Line =
-    rows v.part.channels ++ counts v.part.records v.part.bytes ∷ behind v.faults v.part.bytes v.end vs in
+    rows v.part.channels ++ counts v.part.records v.part.bytes ∷ rows_after v.faults v.part.bytes v.end vs in
     let whole : header ∷ a ≡ header ∷ b = sym (part_leading w ws) ∙ e ∙ part_leading v vs in
     let tails : a ≡ b = cc whole in
     let first = channels_one w.part.channels v.part.channels w.part.records w.part.bytes v.part.records v.part.bytes
-    (behind w.faults w.part.bytes w.end ws) (behind v.faults v.part.bytes v.end vs) tails in
-    let rest : behind w.faults w.part.bytes w.end ws ≡ behind v.faults w.part.bytes v.end vs =
-    first.rest ∙ ap (λ (n : ℕ). behind v.faults n v.end vs) (sym first.bytes_same) in
+    (rows_after w.faults w.part.bytes w.end ws) (rows_after v.faults v.part.bytes v.end vs) tails in
+    let rest : rows_after w.faults w.part.bytes w.end ws ≡ rows_after v.faults w.part.bytes v.end vs =
+    first.rest ∙ ap (λ (n : ℕ). rows_after v.faults n v.end vs) (sym first.bytes_same) in
     let counted = faults_one w.faults v.faults w.part.bytes w.end v.end ws vs rest in
     let ending = ends_one w.part.bytes w.end v.end ws vs counted.1 in
     let here : w ≡ v =

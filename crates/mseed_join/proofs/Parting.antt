@@ -31,7 +31,7 @@ sizes [] = refl
 sizes (v ∷ views) = length-append v.bytes (concat (map (λ v. v.bytes) views))
     ∙ ap (λ (n : ℕ). length v.bytes + n) (sizes views)
 
--- the part, and the audit with the verdicts that its channels tell
+-- the part, and the audit with the verdicts of its channels
 abbrev pub parted_of : (held : Held) (end : Option StreamFault) (bytes : ℕ) (h : BytesRead) (views : List View)
     (channels : List (List ℕ × Channel)) → IsGathered held end bytes h views
     → AreChannels (added_from 0 views) channels → AreVerdicts (added_from 0 views) (map verdict_at channels)

@@ -60,7 +60,7 @@ abbrev pub further : AddUp → (before archive : List ℕ) (a b : Written) (h : 
 further add_up before archive a b h p so clear read by next =
     let here : IsKnown archive p.audited.views p.audited.end =
     known archive h p.audited.views p.audited.end read p.audited.all (subst EndsByBytes p.end by) in
-    let behind : IsKnown (before ++ archive) (so.views ++ p.audited.views)
+    let all_known : IsKnown (before ++ archive) (so.views ++ p.audited.views)
     (option_map (moved_fault (size_of so.views)) p.audited.end) =
     known_after before archive so.views p.audited.views a.end p.audited.end clear so.are_known here in
     let end : option_map (moved_fault (size_of so.views)) p.audited.end ≡ b.end =
@@ -68,7 +68,7 @@ further add_up before archive a b h p so clear read by next =
     record {
       views = so.views ++ p.audited.views;
       are_known = subst (λ (o : Option StreamFault). IsKnown (before ++ archive) (so.views ++ p.audited.views) o) end
-          behind;
+          all_known;
       part = add_up a.part p.written.part b.part so.views p.audited.views so.part p.part next.part;
       faults = omega (arith, next.faults, so.faults, p.faults);
     }

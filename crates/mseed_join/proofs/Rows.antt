@@ -118,9 +118,9 @@ pub row_taken : {A : Type 0} → (old new : Joint A) (last : Option (List ℕ)) 
     → ((lines : List ℕ) (s : Stage) → IsReadTo lines s old → IsLine (channel key c) → May s.last (channel key c)
     → IsStep lines s (channel key c) r old new)
     → (lines : List ℕ) (s : Stage) → IsReadTo lines s old → IsLineStep lines s line r old new
-row_taken old new last line key c r at is fits behind step lines s q =
+row_taken old new last line key c r at is fits later step lines s q =
     step_line lines s (channel key c) line r old new is (step lines s q fits
-    (channel_may last s.over s.last key c (row_place old last s.last at q.place) q.stage.each behind))
+    (channel_may last s.over s.last key c (row_place old last s.last at q.place) q.stage.each later))
 
 pub row_refused : {A : Type 0} → (old : Joint A) (last : Option (List ℕ)) (line : List ℕ) (key : List ℕ) (c : Channel)
     → old.place ≡ Channels last → line ≡ channel_line key c → HasChannelLine key c → (IsAfterKey last key → ⊥)

@@ -45,7 +45,7 @@ use Rattle.mseed_join.specs.private.Reading.{some_tail_at, or_none_at, head_at, 
 use Rattle.mseed_join.specs.private.Reading.{last_differs_at, read_fault_at, timed_at, why_at, first_at}
 use Rattle.mseed_join.specs.private.Reading.{counted_findings_at, findings_at, ends, key_at, channel_at, counts_at}
 use Rattle.mseed_join.specs.private.Reading.{faults_at, frame_fault_at, stream_fault_at, fault_at}
-use Rattle.mseed_join.proofs.Digits.{word_after, IsNumber, number_behind, IsWithin, IsInteger, integer_after}
+use Rattle.mseed_join.proofs.Digits.{word_after, IsNumber, number_spelled, IsWithin, IsInteger, integer_after}
 use Rattle.mseed_join.proofs.Prefixes.{ratio_then, head_then, head_leading, tail_then, tail_leading, first_then}
 use Rattle.mseed_join.proofs.Prefixes.{findings_then, nothing_leading, counted_leading, channel_leading, counts_leading}
 use Rattle.mseed_join.proofs.Prefixes.{faults_leading, fault_words, fault_then, fault_of, bad_word_leading}
@@ -103,7 +103,7 @@ after_spelled : (word : List ℕ) (largest : ℕ) (bytes : List ℕ) (x : ℕ ×
     → number_after word largest bytes ≡ Some x → IsAfter word largest bytes x
 after_spelled word largest bytes x few e =
     bind_then (IsAfter word largest bytes x) (after word bytes) _ x e (λ rest first more.
-    let n : IsNumber largest rest x = number_behind largest rest x few more in record {
+    let n : IsNumber largest rest x = number_spelled largest rest x few more in record {
       is = leading word bytes rest (decimal x.0 ++ x.1) (word_after word bytes rest first) n.is;
       bounded = n.bounded;
     })
@@ -133,8 +133,8 @@ ratio_spelled bytes y e =
     bind_then P (number_at (2 ^ 30) bytes) _ y e (λ num is more.
     bind_then P (after (codes "/") num.1) _ y more (λ rest are others.
     bind_then P (number_at (2 ^ 30) rest) _ y others (λ den was last.
-    let n : IsNumber (2 ^ 30) bytes num = number_behind (2 ^ 30) bytes num (omega arith) is in
-    let d : IsNumber (2 ^ 30) rest den = number_behind (2 ^ 30) rest den (omega arith) was in
+    let n : IsNumber (2 ^ 30) bytes num = number_spelled (2 ^ 30) bytes num (omega arith) is in
+    let d : IsNumber (2 ^ 30) rest den = number_spelled (2 ^ 30) rest den (omega arith) was in
     let r : Ratio = record { num = num.0; den = den.0 } in
     let made = cond_some (nat_lt 0 num.0 && nat_lt 0 den.0) (r, den.1) y last in
     let some = and_parts (nat_lt 0 num.0) (nat_lt 0 den.0) made.0 in
@@ -184,7 +184,7 @@ some_head_spelled bytes y e =
     bind_then P (after (codes " ") offset.1) _ y e2 (λ r2 is3 e3.
     bind_then P (start_at r2) _ y e3 (λ start is4 e4. bind_then P (after (codes " ") start.1) _ y e4 (λ r3 is5 e5.
     bind_then P (ratio_at r3) _ y e5 (λ rate is6 e6.
-    let n : IsNumber (2 ^ 63 - 1) bytes number = number_behind (2 ^ 63 - 1) bytes number (omega arith) is1 in
+    let n : IsNumber (2 ^ 63 - 1) bytes number = number_spelled (2 ^ 63 - 1) bytes number (omega arith) is1 in
     let s = start_spelled r2 start is4 in
     let r = ratio_spelled r3 rate is6 in
     let h : Head = record { number = number.0; offset = offset.0; start = start.0; rate = rate.0 } in

@@ -130,22 +130,22 @@ channel_skipped old f e key c lines s r l m =
     refl
 
 pub channel_added : {A : Type 0} → JoinsChannel → HaveOneJoint
-    → (old : Joint A) (so_far : JointPart A) (tells : Reported)
-    → passed_by tells ≡ [] → old.so_far.end ≡ None → (key : List ℕ) (c : Channel)
-    → border_by tells ≡ border_with old.so_far.part (key, c)
+    → (old : Joint A) (so_far : JointPart A) (report : Reported)
+    → passed_by report ≡ [] → old.so_far.end ≡ None → (key : List ℕ) (c : Channel)
+    → border_by report ≡ border_with old.so_far.part (key, c)
     → IsJoint old.so_far.part (one_channel key c) so_far.part
     → FitsAt old.so_far.part.records old.so_far.part.bytes (kept_of key old.so_far.part.channels) (Some c)
     → so_far.faults ≡ old.so_far.faults → so_far.end ≡ old.so_far.end
     → (lines : List ℕ) (s : Stage) → IsReadTo lines s old → IsLine (channel key c)
-    → May s.last (channel key c) → IsTaken lines (text_of_line (channel key c)) s (to s (channel key c)) tells old
+    → May s.last (channel key c) → IsTaken lines (text_of_line (channel key c)) s (to s (channel key c)) report old
     (kept_as old so_far (Channels (Some key)))
-channel_added law only old so_far tells silent n key c border joint fit f e lines s r l m =
-    taken lines s (channel key c) tells old (kept_as old so_far (Channels (Some key))) r l m
+channel_added law only old so_far report silent n key c border joint fit f e lines s r l m =
+    taken lines s (channel key c) report old (kept_as old so_far (Channels (Some key))) r l m
     (channel_adds law old.past s.over s.last key c (written_of old.so_far) (written_of so_far) m n joint fit f (e ∙ n)
     r.joint) (channel_place s.over s.last key c m) (channel_number s.over s.last key c old.parts m r.number)
     (passed_same old.past s.over s.last (channel key c) r.stage.is_where m (channel_no_fault key c)
     ∙ ap (λ (ts : List (List ℕ)). passed_lines old.past (parts_at s) ++ ts) (sym silent))
-    (channel_borders only old.past s.over s.last key c (written_of old.so_far) (border_by tells) m n border r.joint)
+    (channel_borders only old.past s.over s.last key c (written_of old.so_far) (border_by report) m n border r.joint)
     refl
 
 -- what goes on from here, if this line stands there
@@ -163,7 +163,7 @@ next_here past s lines x i l b = record {
     t = ended x l
 
     n : IsNextLine past s (text_of_line x)
-    n = next_line past s lines t.body (text_of_line x) i (no_end_from t.body t.is_plain) t.is b
+    n = next_line past s lines t.body (text_of_line x) i (no_end_from t.body t.piece.is_plain) t.is b
 
     same : n.x ≡ x
     same = line_one n.x x n.is_line l n.text
@@ -440,8 +440,8 @@ fault_kept old so_far p free x pa fa e l lines s r is m =
     (fault_silent old.past s.over s.last l x p)
     (ends_borders old.past s.over s.last (fault l x) (written_of old.so_far) r.stage.is_where m tt free r.joint) refl
 
-fault_passes : (past : Bool) (over : List Written) (b : OpenPart) (l : ℕ) (x : StreamFault) (h k : Written) → past ≡ true
-    → IsWhere over b → May b (fault l x) → h.end ≡ None → h.faults + 1 < 2 ^ 63 → k.part ≡ h.part
+fault_passes : (past : Bool) (over : List Written) (b : OpenPart) (l : ℕ) (x : StreamFault) (h k : Written)
+    → past ≡ true → IsWhere over b → May b (fault l x) → h.end ≡ None → h.faults + 1 < 2 ^ 63 → k.part ≡ h.part
     → k.faults ≡ h.faults + 1 → k.end ≡ None
     → IsJointOf past (over ++ open_part b) h → IsJointOf past (parts_at (goes over b (fault l x))) k
 fault_passes past over b l x h k p v m free fit pa fa e j =

@@ -53,7 +53,7 @@ nothing_good = record { ascending = tt; records = omega arith; bytes = omega ari
 pub record IsSplit (past : Bool) (a : Written) (ws vs : List Written) (h : Written) : Type 0 where
   pub before : Written
   pub joined : AreJoined a (counted past ws) before
-  pub behind : ((before.end ≡ None) × AreJoined before (counted past vs) h)
+  pub others : ((before.end ≡ None) × AreJoined before (counted past vs) h)
       ⊎ ((fault : StreamFault) × (before.end ≡ Some fault) × (before ≡ h))
 
 -- by how the first ends
@@ -69,7 +69,7 @@ split_by past a w ws vs h None e n more j =
       before = s.before;
       joined = subst (λ (o : Option StreamFault). AreJoined a (counted_by past w o (counted past ws)) s.before) (sym e)
           (one a w f.between s.before (counted past ws) f.next s.joined);
-      behind = s.behind;
+      others = s.others;
     }
 split_by true a w ws vs h (Some x) e n more j =
     let v : Written = record { part = w.part; faults = w.faults + 1; end = None } in
@@ -78,7 +78,7 @@ split_by true a w ws vs h (Some x) e n more j =
       before = s.before;
       joined = subst (λ (o : Option StreamFault). AreJoined a (counted_by true w o (counted true ws)) s.before) (sym e)
           (one a v f.between s.before (counted true ws) f.next s.joined);
-      behind = s.behind;
+      others = s.others;
     }
 split_by false a w ws vs h (Some x) e n more j =
     let f : IsFirst a w [] h = first_of a w h [] j in
@@ -88,12 +88,12 @@ split_by false a w ws vs h (Some x) e n more j =
       before = f.between;
       joined = subst (λ (o : Option StreamFault). AreJoined a (counted_by false w o (counted false ws)) f.between)
           (sym e) (one a w f.between f.between [] f.next (none f.between));
-      behind = inr (moved_fault a.part.bytes x, ends, same);
+      others = inr (moved_fault a.part.bytes x, ends, same);
     }
 
 split_from : (past : Bool) (a : Written) (ws vs : List Written) (h : Written) → a.end ≡ None
     → AreJoined a (counted past (ws ++ vs)) h → IsSplit past a ws vs h
-split_from past a [] vs h n j = record { before = a; joined = none a; behind = inl (n, j) }
+split_from past a [] vs h n j = record { before = a; joined = none a; others = inl (n, j) }
 split_from past a (w ∷ ws) vs h n j =
     split_by past a w ws vs h w.end refl n (λ b m k. split_from past b ws vs h m k) j
 

@@ -43,7 +43,7 @@ pub record AreBadParts (past : Bool) (bytes : List ℕ) (at_end : Bool) (k offse
     : Type 0 where
   pub bad : IsBadLine past bytes at_end k offset
   pub count : ℕ
-  pub behind : k ≡ count + 1
+  pub number : k ≡ count + 1
   pub stage : Stage
   pub before : AreLinesRead bytes count stage
   pub reported : AreReported (passed_lines past (parts_at stage)) old new

@@ -59,7 +59,7 @@ pub record HasEnded {A : Type 0} (past : Bool) (h now : BytesRead) (s : Stage) (
 pub record IsBadAfter (past : Bool) (h now : BytesRead) (s : Stage) (k offset : ℕ) : Type 0 where
   pub stopped : IsStoppedAt h now s
   pub bad : IsBadLine past stopped.bytes now.is_at_end k offset
-  pub behind : k ≡ stopped.count + 1
+  pub number : k ≡ stopped.count + 1
 
 -- and no bad line was read
 pub record IsFailedAt (past : Bool) (h now : BytesRead) (s : Stage) : Type 0 where

@@ -73,10 +73,10 @@ pub record IsReportedMore (past : Bool) (s t : Stage) (reported : Reported) : Ty
       → AreBordersOf past (parts_at t) (found ++ border_by reported)
 
 -- ---- one more line
-pub record IsTaken {A : Type 0} (lines line : List ℕ) (s t : Stage) (tells : Reported) (old new : Joint A) : Type 0
+pub record IsTaken {A : Type 0} (lines line : List ℕ) (s t : Stage) (report : Reported) (old new : Joint A) : Type 0
   where
     pub read : IsReadTo (lines ++ line) t new
-    pub reported : IsReportedMore old.past s t tells
+    pub reported : IsReportedMore old.past s t report
     pub past : new.past ≡ old.past
     pub parts : new.parts ≡ length (parts_at t)
 

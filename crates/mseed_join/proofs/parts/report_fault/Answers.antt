@@ -13,6 +13,7 @@ returns g c =
     let a2 = rw a1 at c.put_count.ensures.text in
     let a3 = rw a2 at c.put-2.ensures.text in
     let a4 = rw a3 at c.put_fault_line.ensures.text in
-    subst (λ (line : List ℕ). WritesLine line (g.E.Sink.written c.args.errors.now) (g.E.Sink.written c.report.new.errors))
+    subst (λ (line : List ℕ). WritesLine line (g.E.Sink.written c.args.errors.now)
+    (g.E.Sink.written c.report.new.errors))
     (c.as_slice.ensures ∙ a4 ∙ joined (codes "mseed: part ") (decimal c.args.part) (codes " ")
     (fault_line c.args.fault.now)) c.report.ensures

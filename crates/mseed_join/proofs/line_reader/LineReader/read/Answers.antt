@@ -18,7 +18,7 @@ returns-in-Ok-clause-more g c =
     let size : length now ≡ i.buffer.len = c.pull_after.auto.buffer ∙ c.deref_mut.ensures.len in
     let same : take i.end now ≡ take i.end i.buffer.items = c.in-Ok.ensures.before
     ∙ ap (λ (xs : List ℕ). take i.end xs) c.deref_mut.ensures.value in
-    let behind : length (drop i.end now) ≡ length now - i.end = length-drop i.end now in
+    let left : length (drop i.end now) ≡ length now - i.end = length-drop i.end now in
     let room : i.end + n ≤ length now = omega (arith, c.in-Ok.ensures.bound, c.pull_after.auto.buffer) in
     let low : i.begin ≤ i.end = omega (arith, c.self.invariant.1) in
     record {
@@ -34,7 +34,7 @@ returns-in-Ok-clause-more g c =
       bytes = omega (
         arith,
         length-take n (drop i.end now),
-        behind,
+        left,
         room,
         ap (λ (r : LinesRead). r.bytes) c.self.view_is,
       );
