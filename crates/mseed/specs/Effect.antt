@@ -22,9 +22,10 @@ pub data HasRun (request : Request) (asked : Option Selection) (files : List (Li
     : Type 0 where
   over_input : (ended : Ended) → files ≡ [] → HasCarriedOut request asked ended old new → status ≡ ended.status
       → HasRun request asked files status old new
-  over_files : (ended : Ended) (reported : BytesWritten) (last : Result ℕ AllocError) (names : Names) (chain : ChainState)
-      → HasCarriedOut request asked ended old (streams new.input new.output reported) → status ≡ ended.status
-      → ReportsBlame ended.blame last names chain reported new.errors → HasRun request asked files status old new
+  over_files : (ended : Ended) (reported : BytesWritten) (last : Result ℕ AllocError) (names : Names)
+      (chain : ChainState) → HasCarriedOut request asked ended old (streams new.input new.output reported)
+      → status ≡ ended.status → ReportsBlame ended.blame last names chain reported new.errors
+      → HasRun request asked files status old new
   unreadable : (name : List ℕ) → new.output ≡ old.output → status ≡ 2
       → ReportsName (cannot_read name) old.errors new.errors → HasRun request asked files status old new
 

@@ -86,7 +86,8 @@ fn refuse_count<E: Sink>(errors: &mut E, parts: u64, expected: u64) -> u8
 /// Reports with what fault the input ended, and returns the exit status.
 pub fn refuse_input<E: Sink>(errors: &mut E, fault: &StreamFault) -> u8
     ensures status { result ≡ 2 }
-    ensures reported { WritesLine (codes "mseed: " ++ fault_line fault.now) (E.written errors.old) (E.written errors.new) }
+    ensures reported { WritesLine (codes "mseed: " ++ fault_line fault.now) (E.written errors.old)
+        (E.written errors.new) }
 {
     report_fault(errors, fault);
     FAULT
