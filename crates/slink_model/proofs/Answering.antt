@@ -63,8 +63,7 @@ module _ (feed : List Window) where
   quiet_on s bytes way last all rest taken (piece_served u now v bs piece others w sent reply split takes more) awake
       held reported =
       let answer : Answers feed u.state taken (taken ++ piece) now.state reply = takes.answers taken awake held in
-      let on : (answer.0 ≡ More) × IsAnswered (taken ++ piece) (others ++ rest) =
-      more_answered taken piece (others ++ rest) answer.0
+      let on = more_answered taken piece (others ++ rest) answer.0
       (subst (IsAnswered taken) (ap (λ b. b ++ rest) split ∙ append_assoc piece others rest) reported) answer.1 in
       let same : (now.state ≡ u.state) × (reply ≡ replies.Nothing) =
       reported_more u.state now.state reply answer.0 on.0 answer.2 in
@@ -125,13 +124,11 @@ module _ (feed : List Window) where
     piece_on now last taken piece others rest way all reply More held is (nothing asks) more next =
         subst (λ b. Comes last b all ((taken ++ piece) ++ others) rest) (nothing_after way reply is.1) (next asks is.0)
     piece_on now last taken piece others rest way all reply (Line l) held is (the_line items same reported) more next =
-        let it : answered feed s (requested request) ≡ (now.state, reply) =
-        request_answered feed s now.state items request reply same known is in
+        let it = request_answered feed s now.state items request reply same known is in
         let after : IsOn now last (way ++ reply_bytes reply) all ((taken ++ piece) ++ others) rest =
         quiet_on now others (way ++ reply_bytes reply) last all rest (taken ++ piece) more
         (stays_open now.state reply it) held reported in
-        it_came reply after.sent (subst (λ (x : State). answered feed s (requested request) ≡ (x, reply))
-        (sym after.state) it) after.held after.reported
+        it_came reply after.sent (rw (← after.state) at it) after.held after.reported
     piece_on now last taken piece others rest way all reply TooLong held is read more next = elim read [ ]
 
     pub called_on : (u : SessionState) (bytes way : List ℕ) (last : SessionState) (all rest taken : List ℕ)

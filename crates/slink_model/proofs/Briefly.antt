@@ -50,9 +50,7 @@ same_long a b i e = let l : length (get_or a i []) ≡ length (get_or b i []) = 
 
 step_pushes : (w v : WorldState) (step : Step) (i : ℕ) → Happens w step v
     → length (get_or v.pushed i []) ≤ length (get_or w.pushed i []) + 1
-step_pushes w v (Append k b) i h =
-    subst (λ (x : WorldState). length (get_or x.pushed i []) ≤ length (get_or w.pushed i []) + 1) (sym h)
-    (pushed_one w k i b (slice_get w.windows k))
+step_pushes w v (Append k b) i h = rw (← h) at (pushed_one w k i b (slice_get w.windows k))
 step_pushes w v Connect i h = same_long v.pushed w.pushed i (ap (λ (x : WorldState). x.pushed) h.becomes)
 step_pushes w v (ToServer n) i h = same_long v.pushed w.pushed i (ap (λ (x : WorldState). x.pushed) h.0)
 step_pushes w v (ToClient n) i h = same_long v.pushed w.pushed i h.pushed
@@ -67,10 +65,9 @@ lacks_few : (places : Places) (first : ℕ) (w : WorldState) → WorldTies place
     → ((i : ℕ) → length (get_or w.pushed i []) < 2 ^ 24) → LacksFew first w
 lacks_few places first w t short k s is =
     let lt : k < length places = omega (arith, no_number w.start k s is, t.long.3) in
-    let from : first ≤ s = started_after first s (get_or w.pushed k []) (next_at w.client.talk.wants k)
-    (get_or w.held k [])
-    (subst (Holds first (get_or w.pushed k []) (next_at w.client.talk.wants k) (get_or w.held k [])) is
-    (t.holds k lt)) in
+    let from = started_after first s (get_or w.pushed k []) (next_at w.client.talk.wants k) (get_or w.held k [])
+    (subst (Holds first (get_or w.pushed k []) (next_at w.client.talk.wants k) (get_or w.held k [])) is (t.holds k lt))
+    in
     omega (arith, from, short k)
 
 lack_few : (places : Places) (first : ℕ) (steps : List Step) (w v : WorldState) (run : AllHappen w steps v)

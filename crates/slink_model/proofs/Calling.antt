@@ -337,10 +337,8 @@ module _ (places : Places) (differ : Differ places) (codes : (k : ℕ) (p : Fiel
       → Had k g
   number_had j k g awaits here (inl still) = had k g (ap (λ (s : State). s.grants) still.0) here
   number_had j k g awaits here (inr done) = elim (same_or_not k j) [
-    | inl e ↦ inr (subst (λ i. Awaits w l i × IsAnsweredBy w i l m) (sym e) (
-      awaits,
-      by_number j done.0 (empty_right w.client.kept l.to_client awaits.1) done.1 done.2,
-    ))
+    | inl e ↦ inr (rw e
+        (awaits, by_number j done.0 (empty_right w.client.kept l.to_client awaits.1) done.1 done.2))
     | inr ne ↦ inl (sym (granted_there l.session.state m.session.state done.0 j k (mode places differ codes w t l)
         (option_and_then (grant_of (mode places differ codes w t l) (number places differ codes w t l j))
         (slice_get w.windows j)) ne done.2) ∙ here)
@@ -385,6 +383,5 @@ module _ (setup : Setup) (steps : List Step) (now : WorldState) (run : AllHappen
   answered_after n next l m happens was becomes =
       let t : WorldTalks setup.places.items is.differ askable.codes now = talks_after setup steps now run is askable in
       are_answered setup.places.items is.differ askable.codes now t (resume_granted setup steps now run is lacks) n l m
-      (subst (λ (o : Option LinkState). Both (IsServed now.windows n) o (Some m)) was
-      (subst (Both (IsServed now.windows n) now.link) becomes happens.1))
+      (rw was at (subst (Both (IsServed now.windows n) now.link) becomes happens.1))
       (subst (IsTalking setup.places.items is.differ askable.codes now.client) was t.link)

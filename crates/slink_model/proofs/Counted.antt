@@ -44,8 +44,7 @@ use Rattle.slink_model.proofs.Requested.{also_at, number_line}
 use Rattle.slink_model.proofs.Shaken.{called_next, place_found, lacks_end, some_if, suited_next, suited_wanted}
 use Rattle.slink_model.proofs.Shaken.{want_slot}
 use Rattle.slink_model.proofs.Shaking.{AreCalled, AreOfPlace, AreSent, IsSuited, Shakes, asks_end, asks_number}
-use Rattle.slink_model.proofs.Shaking.{asks_place}
-use Rattle.slink_model.proofs.Shaking.{has_none, has_number, has_place, streams}
+use Rattle.slink_model.proofs.Shaking.{asks_place, has_none, has_number, has_place, streams}
 use Rattle.slink_feed.proofs.Wholes.{prefix_begun}
 
 -- what the client's table makes of items is what they are
@@ -67,8 +66,7 @@ part_begun : (stage : Stage) (i : Item) (is : List Item) (d : ℕ) → IsWhole s
     → d < length (item_bytes i) → IsBegun stage (take d (way_bytes (i ∷ is)))
 part_begun stage i is d whole lt =
     subst (IsBegun stage) (sym (take-append-le d (item_bytes i) (way_bytes is) (omega (arith, lt))))
-    (prefix_begun stage (take d (item_bytes i)) (drop d (item_bytes i)) (whole_of i)
-    (omega (arith, lt, length-drop d (item_bytes i)))
+    (prefix_begun _ _ (drop d (item_bytes i)) _ (omega (arith, lt, length-drop d (item_bytes i)))
     (subst (λ b. IsWhole stage b (whole_of i)) (sym (take-append-drop d (item_bytes i))) whole))
 
 module _ (places : Places) (differ : Differ places) (codes_are : (k : ℕ) (p : Fields × Option ℕ)
@@ -156,8 +154,7 @@ module _ (places : Places) (differ : Differ places) (codes_are : (k : ℕ) (p : 
           matched = s.matched.1;
           suited = λ i. elim (same_or_not i k) [
             | inl q ↦ subst (λ y. IsSuited (next_at ws y) (grant_at grants y) (of_place y rest)) (sym q)
-                (subst (λ (o : Option ℕ). IsSuited o (grant_at grants k) (of_place k rest)) (sym next_k)
-                (suited_next (next_at t.wants k) (grant_at grants k) n r (of_place k rest) suited_k))
+                (rw (← next_k) at (suited_next (next_at t.wants k) (grant_at grants k) n r (of_place k rest) suited_k))
             | inr ne ↦ subst (λ (o : Option ℕ). IsSuited o (grant_at grants i) (of_place i rest)) (sym (next_i i ne))
                 (subst (IsSuited (next_at t.wants i) (grant_at grants i)) (of_i i ne) (s.suited i))
           ];

@@ -259,8 +259,7 @@ Held old talk held (Some l) = IsLinked talk.stage → HoldsMore old (wholes l.de
 held_on : (old : Lists) (held : Lists) (l : CountedLink) (ys : List Item)
     → l.delivered ≤ length (way_bytes l.sent) → HoldsMore old (wholes l.delivered l.sent) held
     → HoldsMore old (wholes l.delivered (l.sent ++ ys)) held
-held_on old held l ys few h =
-    subst (λ (ws : List Item). HoldsMore old ws held) (sym (wholes_more l.sent ys l.delivered few)) h
+held_on old held l ys few h = rw (← (wholes_more l.sent ys l.delivered few)) at h
 
 come_held : (old : Lists) (t : Bool) (feed : List Window) (talk : Talk) (held : Lists) (l : CountedLink)
     → l.delivered ≤ length (way_bytes l.sent) → HoldsMore old (wholes l.delivered l.sent) held
@@ -282,8 +281,7 @@ sent_held : (old : Lists) (places : Places) (feed : List Window) (talk : Talk) (
     → Held old talk held (option_map (sent_by feed k) q)
 sent_held old places feed talk held k None f h = tt
 sent_held old places feed talk held k (Some l) f h =
-    λ linked. held_on old held l (items_sent feed l.session.grants k (sent feed l.session k).1)
-    (f linked).few (h linked)
+    λ linked. held_on _ _ l (items_sent feed l.session.grants k (sent feed l.session k).1) (f linked).few (h linked)
 
 read_held : (old : Lists) (places : Places) (n : ℕ) (c : Counted) (q : Option CountedLink)
     → length c.held ≡ length places → AreFacts places c.talk q → Held old c.talk c.held q
@@ -402,8 +400,7 @@ items_whole e (Carried j n r ∷ ps) are few =
     whole_or (Carried j n r) ps e (λ ws bs p. AreWhole e ws (take (e / 520) (Carried j n r ∷ ps)))
     (λ fits.
     let count : e / 520 ≡ suc ((e - 520) / 520) = omega (arith, fits, size) in
-    let rest : AreWhole (e - 520) (wholes (e - 520) ps) (take ((e - 520) / 520) ps) =
-    items_whole (e - 520) ps are.1 (omega (arith, few, all, size)) in
+    let rest = items_whole (e - 520) ps are.1 (omega (arith, few, all, size)) in
     subst (λ s. AreWhole e (Carried j n r ∷ wholes (e - s) ps) (take (e / 520) (Carried j n r ∷ ps))) (sym size)
     (subst (λ m. AreWhole e (Carried j n r ∷ wholes (e - 520) ps) (take m (Carried j n r ∷ ps))) (sym count) (record {
       records = λ k. ap (λ rs. record_in k (Carried j n r) ++ rs) (rest.records k);
@@ -425,8 +422,7 @@ replies_length : (m : ℕ) (ps : List Item)
     → length (way_bytes (replicate m Accepted ++ ps)) ≡ 4 * m + length (way_bytes ps)
 replies_length zero ps = omega arith
 replies_length (suc m) ps =
-    let more : length (way_bytes (replicate m Accepted ++ ps)) ≡ 4 * m + length (way_bytes ps) =
-    replies_length m ps in
+    let more = replies_length m ps in
     omega (arith, more, length-append (item_bytes Accepted) (way_bytes (replicate m Accepted ++ ps)))
 
 -- so many are whole
@@ -436,8 +432,7 @@ whole_counted places old held l few h s =
     let e : ℕ = l.delivered - 8 * places in
     let long : length (way_bytes l.sent) ≡ 4 * (2 * places) + length (way_bytes s.packets) =
     ap (λ (is : List Item). length (way_bytes is)) s.sent_is ∙ replies_length (2 * places) s.packets in
-    let whole : AreWhole e (wholes e s.packets) (take (e / 520) s.packets) =
-    items_whole e s.packets s.are (omega (arith, few, long)) in
+    let whole = items_whole e s.packets s.are (omega (arith, few, long)) in
     let split : wholes l.delivered l.sent ≡ replicate (2 * places) Accepted ++ wholes e s.packets =
     ap (wholes l.delivered) s.sent_is ∙ after_replies places l.delivered s.packets s.replies in
     let count : packet_count (wholes l.delivered l.sent) ≡ e / 520 =

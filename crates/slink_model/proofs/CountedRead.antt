@@ -26,7 +26,7 @@ use Rattle.slink_model.proofs.Counting.{brought_of, drop_after, drop_on, kept_pa
 use Rattle.slink_model.proofs.Counts.{Counts, Pinned, pinned_as}
 use Rattle.slink_model.proofs.Lined.{IsAnswered}
 use Rattle.slink_feed.proofs.OneReading.{one_brought}
-use Rattle.slink_model.proofs.OneWorld.{ReadAllOf, gained, read_all, linked_or, lost_all, rest_is}
+use Rattle.slink_model.proofs.OneWorld.{gained, read_all, linked_or, lost_all, rest_is}
 use Rattle.slink_model.proofs.Shaking.{AreCalled}
 
 -- with bytes before what was stated
@@ -63,8 +63,7 @@ pub unlinked_upon : (t : Talk) (is : List Item) → ¬ (IsLinked t.stage)
 unlinked_upon t [] over = (refl, λ f g. refl)
 unlinked_upon t (i ∷ is) over =
     let h : on_item t.stage i t ≡ (t, events.None) = unread t t.stage i refl over in
-    let more : (talk_upon t is ≡ t) × ((f : Numbers) (g : Gained) → with_events f (events_upon t is) g ≡ g) =
-    unlinked_upon t is over in (
+    let more = unlinked_upon t is over in (
       ap (λ (x : Talk × Event). talk_upon x.0 is) h ∙ more.0,
       λ f g. ap (λ (x : Talk × Event). with_events f (events_upon x.0 is) (with_event f x.1 g)) h ∙ more.1 f g,
     )
@@ -140,13 +139,11 @@ module _ (places : Places) (differ : Differ places) (codes : (k : ℕ) (p : Fiel
           held = λ awake. subst (λ (s : SessionState). IsHeld s.held (take c.taken gains.to_server)) (sym h.session)
               (subst (IsHeld l.session.held) (sym prefix)
               (tie.held (subst (λ (s : State). Open s.phase) state_is awake)));
-          linked = λ there. subst (λ (s : State). Pinned places v.client s (take c.taken gains.to_server) m.to_server
-              m.to_client (undelivered (delivered_by n c) c.sent)) (sym state_is)
+          linked = λ there. rw (← state_is) at
               (pinned_as places v.client l.session.state before (take c.taken gains.to_server) m.to_server m.to_server
-              m.to_client m.to_client (undelivered e its) (undelivered (delivered_by n c) c.sent)
-              (sym prefix) refl refl (sym (left_after c.sent c.delivered n tie.delivered_few)) (pinned there));
-          quiet = λ over awake. subst (λ b. IsAnswered b m.to_server) (sym prefix)
-              (quiet over (subst (λ (s : State). Open s.phase) state_is awake));
+              m.to_client m.to_client (undelivered e its) (undelivered (delivered_by n c) c.sent) (sym prefix) refl refl
+              (sym (left_after c.sent c.delivered n tie.delivered_few)) (pinned there));
+          quiet = λ over awake. rw prefix (quiet over (subst (λ (s : State). Open s.phase) state_is awake));
           over = λ shut. few (ap (λ (s : State). s.phase) (sym state_is) ∙ shut);
         };
       }
@@ -162,18 +159,14 @@ module _ (places : Places) (differ : Differ places) (codes : (k : ℕ) (p : Fiel
       (undelivered e its) (part e its)
       = read_outcome places differ codes l.session.state before l.to_server w.client.talk its e called pin.flows.matched
       pin.flows.suited pin.ends pin.shakes in
-      let x : ReadAllOf l.first_sent (taking w l) (take n l.to_client) (taking v m) =
-      read_all l.first_sent (taking w l) (take n l.to_client) (taking v m) h.reads keeps in
+      let x = read_all l.first_sent (taking w l) (take n l.to_client) (taking v m) h.reads keeps in
       let way : l.to_client ≡ drop p all = tie.to_client ∙ drop_after c.sent c.delivered in
-      let kept : w.client.kept ≡ take p all =
-      kept_part w.client.kept c.sent c.delivered (ap (λ b. w.client.kept ++ b) (sym tie.to_client)
-      ∙ pin.flows.flow) in
+      let kept = kept_part w.client.kept c.sent c.delivered
+      (ap (λ b. w.client.kept ++ b) (sym tie.to_client) ∙ pin.flows.flow) in
       let stream : w.client.kept ++ take n l.to_client ≡ bytes_of bs ++ rest = ap (λ b. b ++ take n l.to_client) kept
       ∙ (ap (λ b. take p all ++ take n b) way ∙ (sym (take-add p n all) ∙ take_wholes its e)) in
-      let one : (x.brought ≡ bs) × (v.client.kept ++ x.lost ≡ rest) =
-      one_brought w.client.talk x.brought bs (v.client.kept ++ x.lost) rest x.are_brought out.are (sym x.bytes_are
-      ∙ stream)
-      (rest_is l.first_sent (taking w l) (take n l.to_client) (taking v m) x) out.is_begun in
+      let one = one_brought w.client.talk x.brought bs (v.client.kept ++ x.lost) rest x.are_brought out.are
+      (sym x.bytes_are ∙ stream) (rest_is l.first_sent (taking w l) (take n l.to_client) (taking v m) x) out.is_begun in
       let talk : v.client.talk ≡ talk_after w.client.talk bs = x.talk ∙ ap (talk_after w.client.talk) one.0 in
       let g : gained (taking v m) ≡ with_events l.first_sent (events_of w.client.talk bs) (gained (taking w l)) =
       x.gains ∙ ap (λ ys. with_events l.first_sent (events_of w.client.talk ys) (gained (taking w l))) one.0 in
@@ -182,10 +175,9 @@ module _ (places : Places) (differ : Differ places) (codes : (k : ℕ) (p : Fiel
       made (talk ∙ out.same.0) (g ∙ out.same.1 l.first_sent (gained (taking w l)))
       (λ on.
       let left : Left places differ codes l.session.state before v.client.talk m.to_server (undelivered e its) =
-      subst (λ (t : Talk). Left places differ codes l.session.state before t m.to_server (undelivered e its)) (sym talk)
+      rw (← talk) at
       (subst (λ b. Left places differ codes l.session.state before (talk_after w.client.talk bs) b (undelivered e its))
-      server (out.after l.first_sent (gained (taking w l)) refl
-      (subst (λ (t : Talk). IsLinked t.stage) talk on))) in
+      server (out.after l.first_sent (gained (taking w l)) refl (subst (λ (t : Talk). IsLinked t.stage) talk on))) in
       let outputs_now : v.client.kept ≡ rest = sym (append-nil v.client.kept)
       ∙ (ap (λ b. v.client.kept ++ b) (sym (x.all on)) ∙ one.1) in
       let way_now : m.to_client ≡ drop (part e its) (way_bytes (undelivered e its)) =
@@ -203,16 +195,13 @@ module _ (places : Places) (differ : Differ places) (codes : (k : ℕ) (p : Fiel
       (λ over awake. subst (IsAnswered before) server
       (out.quiet l.first_sent (gained (taking w l)) refl
       (λ on. over (subst (λ (t : Talk). IsLinked t.stage) (sym talk) on)) awake))
-      (λ shut. subst (λ b. length b ≤ 1) (sym (out.unwritten shut l.first_sent (gained (taking w l))) ∙ server)
-      (tie.over shut))
+      (λ shut. rw (sym (out.unwritten shut l.first_sent (gained (taking w l))) ∙ server) at (tie.over shut))
 
   -- and afterwards
   unlinked_read : ¬ (IsLinked w.client.talk.stage) → ReadCounts
   unlinked_read over =
-      let same : taking v m ≡ taking w l =
-      lost_all l.first_sent (taking w l) (take n l.to_client) (taking v m) h.reads over in
-      let nothing : (talk_upon w.client.talk (news n c) ≡ w.client.talk) × ((f : Numbers) (g : Gained)
-      → with_events f (events_upon w.client.talk (news n c)) g ≡ g) = unlinked_upon w.client.talk (news n c) over in
+      let same = lost_all l.first_sent (taking w l) (take n l.to_client) (taking v m) h.reads over in
+      let nothing = unlinked_upon w.client.talk (news n c) over in
       let talk : v.client.talk ≡ w.client.talk = ap (λ (t : Taking). t.client.talk) same in
       let server : m.to_server ≡ l.to_server = ap (λ (t : Taking). t.to_server) same in
       made (talk ∙ sym nothing.0) (ap gained same ∙ sym (nothing.1 l.first_sent (gained (taking w l))))

@@ -5,7 +5,6 @@ use Rattle.std.proofs.Common.{drop, Option, Some, None, slice_get, unwrap_or, �
 use Rattle.std.proofs.lemmas.List.{drop-append-le}
 use Rattle.slink_wire.specs.Packet.{packet_bytes}
 use Rattle.slink_wire.specs.Place.{Bears, Fields}
-use Rattle.slink_feed.specs.declared.dialogue.Stage.TheVariants.{Packets}
 use Rattle.slink_feed.specs.declared.grant.Grant.{Grant}
 use Rattle.slink_feed.specs.declared.session.Phase.{Phase}
 use Rattle.slink_feed.specs.declared.session.Phase.TheVariants.{Fresh, Chosen, Granted, Streaming, Closed}
@@ -24,7 +23,6 @@ use Rattle.slink_model.proofs.Counting.{after_more}
 use Rattle.slink_model.proofs.Counts.{Counts, EndsIn, Pinned, pinned_as}
 use Rattle.slink_model.proofs.Items.{carried_here, carried_there, carries_none, flow_more, of_more, way_more}
 use Rattle.slink_feed.proofs.Items.{put_here, put_there, same_or_not}
-use Rattle.slink_model.proofs.Lined.{IsAnswered}
 use Rattle.slink_model.proofs.OneWorld.{linked_or}
 use Rattle.slink_model.proofs.Requested.{also_at}
 use Rattle.slink_model.proofs.Shaking.{AreOfPlace, AreRinged, AreSent, IsSuited, streams}
@@ -92,9 +90,7 @@ module _ (places : Places) (client : Listening) (feed : List Window) (ringed : A
     awake = λ a. absurd (a refl);
     few = λ _. settled phase;
     pinned = λ pin.
-        let now : (client.talk.stage ≡ Packets) × AreSent its
-        × (¬ (s.phase ≡ Closed) → IsAnswered before l.to_server) =
-        streaming_is client.talk s.phase before l.to_server its (λ b. subst IsBefore phase b) pin.shakes in
+        let now = streaming_is client.talk s.phase before l.to_server its (λ b. subst IsBefore phase b) pin.shakes in
         record {
           flows = record {
             flow = flow_more client.kept l.to_client (sent_bytes o) its ys bytes pin.flows.flow;
@@ -123,9 +119,8 @@ module _ (places : Places) (client : Listening) (feed : List Window) (ringed : A
         awake = λ a. a;
         few = counts.over;
         pinned = λ pin.
-            let now : (client.talk.stage ≡ Packets) × AreSent its
-            × (¬ (s.phase ≡ Closed) → IsAnswered before l.to_server) =
-            streaming_is client.talk s.phase before l.to_server its (λ b. subst IsBefore phase b) pin.shakes in
+            let now = streaming_is client.talk s.phase before l.to_server its (λ b. subst IsBefore phase b) pin.shakes
+            in
             record {
               flows = record {
                 flow = flow_more client.kept l.to_client (packet_bytes (g.position % 2 ^ 24) r) its item

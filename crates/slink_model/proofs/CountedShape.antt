@@ -121,9 +121,8 @@ read_packets places (i ∷ is) t p sent matched linked =
       | inl there ↦
           let next : ((on_item Packets i t).0.stage ≡ Packets) × (ArePackets is → ArePackets (i ∷ is)) =
           one_read i sent.0 matched.0 (subst (λ (u : Talk). IsLinked u.stage) same there) in
-          let rest : ArePackets is × ((talk_upon (on_item t.stage i t).0 is).stage ≡ Packets) =
-          read_packets places is (on_item t.stage i t).0 (ap (λ (u : Talk). u.stage) same ∙ next.0) sent.1 matched.1
-          linked in
+          let rest = read_packets places is (on_item t.stage i t).0 (ap (λ (u : Talk). u.stage) same ∙ next.0) sent.1
+          matched.1 linked in
           (next.1 rest.0, rest.1)
       | inr over ↦ absurd (over
           (subst (λ (u : Talk). IsLinked u.stage) (unlinked_upon (on_item t.stage i t).0 is over).0 linked))
@@ -206,8 +205,7 @@ module _ (places : Places) (talk : Talk) (called : AreCalled places talk.wants) 
   packets_read p sent same linked =
       let ws : List Item = wholes e its in
       let split : its ≡ ws ++ undelivered d l.sent = wholes_beyond its e ∙ ap (λ (x : List Item). ws ++ x) (sym same) in
-      let read : ArePackets ws × ((talk_upon talk ws).stage ≡ Packets) =
-      read_packets places ws talk p (sent_prefix ws (undelivered d l.sent) (subst AreSent split sent))
+      let read = read_packets places ws talk p (sent_prefix ws (undelivered d l.sent) (subst AreSent split sent))
       (matched_prefix places ws (undelivered d l.sent) (subst (AreOfPlace places) split f.matched)) linked in
       let prefix : List Item = (h.are p).0 in
       subst (λ (s : Stage). Shape places s l.sent d) (p ∙ sym read.1) (record {
@@ -386,7 +384,6 @@ streamed_of places talk (Some l) f h = λ p.
       packets = x.packets;
       sent_is = x.sent_is ∙ ap (λ m. replicate m Accepted ++ x.packets) count;
       are = subst AreItems (sym (x.are p).1)
-          (items_are places y.phase (x.are p).0 its (x.are p).2
-          (packets_sent talk y.phase y.taken y.way its p y.shakes) y.matched y.ends);
+          (items_are _ _ _ _ (x.are p).2 (packets_sent _ _ _ _ _ p y.shakes) y.matched y.ends);
       replies = omega (arith, x.done, count);
     }

@@ -80,9 +80,7 @@ pub record Counts (places : Places) (client : Listening) (c : CountedLink) (l : 
 pub pinned_as : (places : Places) (client : Listening) (s : State) (a b x y p q : List ℕ) (i j : List Item) → a ≡ b
     → x ≡ y → p ≡ q → i ≡ j → Pinned places client s a x p i → Pinned places client s b y q j
 pinned_as places client s a b x y p q i j ab xy pq ij h =
-    subst (λ z. Pinned places client s z y q j) ab
-    (subst (λ z. Pinned places client s a z q j) xy
-    (subst (λ z. Pinned places client s a x z j) pq (subst (Pinned places client s a x p) ij h)))
+    rw ab at (rw xy at (subst (λ z. Pinned places client s a x z j) pq (subst (Pinned places client s a x p) ij h)))
 
 -- whether a line waits
 waits_true : (taken : ℕ) (written way : List ℕ) → way ≡ drop taken written → 2 ≤ length way → waits taken written ≡ true

@@ -19,8 +19,7 @@ split_at [] i r h = absurd (let bad : None ≡ Some r = h in cc bad)
 split_at (x ∷ xs) zero r h = let both : Some x ≡ Some r = h in let same : x ≡ r = cc both in
     ([], xs, ap (λ y. y ∷ xs) same, refl)
 split_at (x ∷ xs) (suc i) r h =
-    let more : (prefix : List (List ℕ)) × (back : List (List ℕ)) × (xs ≡ prefix ++ r ∷ back) × (length prefix ≡ i) =
-    split_at xs i r h in
+    let more = split_at xs i r h in
     (x ∷ more.0, more.1, ap (λ ys. x ∷ ys) more.2, omega (arith, more.3))
 
 pub head_at : (xs ys : List (List ℕ)) (r : List ℕ) → slice_get (xs ++ ys) (length xs) ≡ Some r
@@ -54,9 +53,8 @@ holds_next first n F next held (Some s) r from at same h =
     let here : n ≡ s + length held = same s refl in
     let whole : F ≡ (h.0 ++ held) ++ h.1 = h.2 ∙ sym (append_assoc h.0 held h.1) in
     let i : n - first ≡ length (h.0 ++ held) = omega (arith, here, h.3, length-append h.0 held) in
-    let top : (back : List (List ℕ)) × (h.1 ≡ r ∷ back) =
-    head_at (h.0 ++ held) h.1 r (ap (slice_get ((h.0 ++ held) ++ h.1)) (sym i)
-    ∙ (ap (λ xs. slice_get xs (n - first)) (sym whole) ∙ at)) in (
+    let top = head_at (h.0 ++ held) h.1 r
+    (ap (slice_get ((h.0 ++ held) ++ h.1)) (sym i) ∙ (ap (λ xs. slice_get xs (n - first)) (sym whole) ∙ at)) in (
       h.0,
       top.0,
       h.2 ∙ (ap (λ xs. h.0 ++ (held ++ xs)) top.1 ∙ ap (λ xs. h.0 ++ xs) (sym (append_assoc held (r ∷ []) top.0))),
@@ -125,8 +123,7 @@ wanted_here : (first n : ℕ) (F : List (List ℕ)) (next : Option ℕ) (held : 
     → IsNear (λ x. first + length F < x + 2 ^ 24) n (Some s) (length held) → n ≡ s + length held
 wanted_here first n F next held s past wanted h near = elim near [
   | inl same ↦ same
-  | inr far ↦ near_alike n (s + length held) (wanted ((s + length held) % 2 ^ 24) h.4) (omega (arith, past, far.1))
-      far.0
+  | inr far ↦ near_alike _ _ (wanted ((s + length held) % 2 ^ 24) h.4) (omega (arith, past, far.1)) far.0
 ]
 
 near_next : (few : ℕ → Type 0) (n : ℕ) (start : Option ℕ) (held : List (List ℕ)) (r : List ℕ)
@@ -193,11 +190,10 @@ delivered first F next held start sent g n r rest wanted h w =
     here_if first n F next held start (omega (arith, from, lt)) wanted h near in
     let begins : or_else start (Some n) ≡ or_else start sent =
     start_same start sent n (n, r) rest (subst (λ m. IsFirst start sent m ((n, r) ∷ rest)) (sym w.2.0) w.5) in
-    let on : IsNear few (n + 1) (or_else start (Some n)) (length (held ++ r ∷ [])) =
-    near_next few n start held r same (none_held first F next held start h) in (
+    let on = near_next few n start held r same (none_held first F next held start h) in (
       subst (Holds first F (Some ((n + 1) % 2 ^ 24)) (held ++ r ∷ [])) begins
           (holds_next first n F next held start r from at same h),
-      subst (λ o. IsOnWay few first F (held ++ r ∷ []) o sent (Some g) rest) begins (
+      rw (← begins) (
         n + 1,
         omega (arith, from),
         subst (λ m. AreNext first F (m + 1) rest) (sym w.2.0) w.2.2,

@@ -1,7 +1,6 @@
 -- The first packet of a station on its way is that of the record after the last one held.
 use Rattle.std.proofs.Common.{◌≡◌, ℕ, ◌+◌, ◌-◌, ◌*◌, ◌%◌, ◌^◌, ◌<◌, inl, inr, refl, sym, ap, subst, ◌∙◌, arith, List}
-use Rattle.std.proofs.Common.{[]}
-use Rattle.std.proofs.Common.{◌∷◌, ◌++◌, length, length-append, append_assoc, get_or, drop, Option, Some, None}
+use Rattle.std.proofs.Common.{[], ◌∷◌, ◌++◌, length, length-append, append_assoc, get_or, drop, Option, Some, None}
 use Rattle.std.proofs.Common.{slice_get}
 use Rattle.std.proofs.lemmas.Bool.{cases_lt}
 use Rattle.std.proofs.lemmas.Option.{slice_get_within}
@@ -51,11 +50,9 @@ module _ (places : Places) (differ : Differ places) where
   carried_many xs ys ka na ra kb nb rb p q e j more =
       let a : ℕ = na % 2 ^ 24 in
       let b : ℕ = nb % 2 ^ 24 in
-      let cut : (packet_bytes a ra ≡ packet_bytes b rb) × (way_bytes xs ≡ way_bytes ys) =
-      same_cut (packet_bytes a ra) (way_bytes xs) (packet_bytes b rb) (way_bytes ys) (packet_long a ra p.2
-      ∙ sym (packet_long b rb q.2)) e in
-      let one : (a ≡ b) × (ra ≡ rb) =
-      one_packet (packet_bytes a ra) a b ra rb (read_back a ra (omega arith))
+      let cut = same_cut (packet_bytes a ra) (way_bytes xs) (packet_bytes b rb) (way_bytes ys)
+      (packet_long a ra p.2 ∙ sym (packet_long b rb q.2)) e in
+      let one = one_packet (packet_bytes a ra) a b ra rb (read_back a ra (omega arith))
       (subst (λ x. IsPacket x b rb) (sym cut.0) (read_back b rb (omega arith))) in
       let same : ka ≡ kb = differ ka kb p.0 q.0 p.1 q.1
       (one_place ra p.0.0 q.0.0 p.3 (subst (λ x. Bears x q.0.0) (sym one.1) q.3)) in

@@ -94,8 +94,7 @@ more_called line taken piece way More a tells = nothing (record {
 more_called line taken piece way (Line l) a tells =
     let written : (taken ++ piece) ++ way ≡ written_bytes (a.before ++ line ∷ []) = append_assoc taken piece way
     ∙ a.written in
-    let reported : SpellsPrefix (taken ++ piece) (a.before ++ line ∷ []) =
-    prefix_spelled (a.before ++ line ∷ []) (taken ++ piece) way a.are_lines written in
+    let reported = prefix_spelled (a.before ++ line ∷ []) (taken ++ piece) way a.are_lines written in
     let now : (lines_of (taken ++ piece)).lines ≡ a.before ++ l.items ∷ [] =
     tells.0 ∙ ap (λ ls. ls ++ l.items ∷ []) a.reported in
     let same : line ≡ l.items =
@@ -108,8 +107,7 @@ more_called line taken piece way (Line l) a tells =
     })
 more_called line taken piece way TooLong a tells =
     let reported : SpellsPrefix (taken ++ piece) (a.before ++ line ∷ []) =
-    prefix_spelled (a.before ++ line ∷ []) (taken ++ piece) way a.are_lines (append_assoc taken piece way
-    ∙ a.written) in
+    prefix_spelled _ _ way a.are_lines (append_assoc taken piece way ∙ a.written) in
     absurd (both_ways (lines_of (taken ++ piece)).is_too_long reported.3 tells.1)
 
 -- nothing is reported any more

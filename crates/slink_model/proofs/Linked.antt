@@ -79,12 +79,10 @@ module _ (places : Places) (first : ℕ) (windows : List Window) (pushed : Lists
     places_are = λ k lt.
         let w : (v : Window) × (slice_get windows k ≡ Some v) × Shows v first (get_or pushed k [])
         × (v.capacity ≤ 1000000) = shown k lt in
-        let granted : IsOnWay any first (get_or pushed k []) (get_or held k []) (number_at start k)
-        (number_at first_sent k) (grant_at new.grants k) (of_place k l.items)
-        = place_granted windows k first w.0 (get_or pushed k []) (get_or held k []) (next_at client.talk.wants k)
-        (number_at start k) (number_at first_sent k) (grant_at s.grants k) (grant_at new.grants k)
-        (of_place k l.items)
-        w.1 w.2 w.3 (holds k lt) (l.before before k).0 (l.before before k).1 (kept k) (l.places_are k lt) in
+        let granted = place_granted windows k first w.0 (get_or pushed k []) (get_or held k [])
+        (next_at client.talk.wants k) (number_at start k) (number_at first_sent k) (grant_at s.grants k)
+        (grant_at new.grants k) (of_place k l.items) w.1 w.2 w.3 (holds k lt) (l.before before k).0
+        (l.before before k).1 (kept k) (l.places_are k lt) in
         subst (IsOnWay any first (get_or pushed k []) (get_or held k []) (number_at start k) (number_at first_sent k)
         (grant_at new.grants k)) (sym (carries_none k l.items (items_of reply) (reply_carries k reply))) granted;
     room = l.room;
@@ -104,8 +102,7 @@ module _ (places : Places) (first : ℕ) (windows : List Window) (pushed : Lists
     places_are = λ k lt.
         subst (IsOnWay any first (get_or pushed k []) (get_or held k []) (number_at start k) (number_at first_sent k)
         (grant_at new.grants k)) (sym (carries_none k l.items more (none k)))
-        (subst (λ (gs : Grants). IsOnWay any first (get_or pushed k []) (get_or held k []) (number_at start k)
-        (number_at first_sent k) (grant_at gs k) (of_place k l.items)) (sym stay) (l.places_are k lt));
+        (rw (← stay) at (l.places_are k lt));
     room = l.room;
   }
 
@@ -166,8 +163,7 @@ module _ (places : Places) (first : ℕ) (windows : List Window) (pushed : Lists
       ∙ ap (λ b. of_place k items ++ (b ++ [])) (carried_here k g.position r) in
       let before : IsOnWay any first (get_or pushed k []) (get_or held k []) (number_at start k)
       (number_at first_sent k) (Some g) (of_place k items)
-      = subst (λ (o : Option Grant). IsOnWay any first (get_or pushed k []) (get_or held k []) (number_at start k)
-      (number_at first_sent k) o (of_place k items)) grant way in
+      = rw grant at way in
       let after : IsOnWay any first (get_or pushed k []) (get_or held k []) (number_at start k)
       (or_else (number_at first_sent k) (Some g.position)) (Some h) (of_place k items ++ (g.position, r) ∷ [])
       = way_sent any first (get_or pushed k []) (get_or held k []) (number_at start k) (number_at first_sent k) g h
@@ -195,8 +191,7 @@ module _ (places : Places) (first : ℕ) (windows : List Window) (pushed : Lists
       (or_else (number_at first_sent k) (option_map (λ (x : Grant). x.position) (grant_at s.grants k))) None ne in
       let now : grant_at (packet_at s k g (Some r)).0.grants j ≡ grant_at s.grants j =
       put_there s.grants k j (Some h) None ne in
-      let of : of_place j (items ++ Carried k g.position r ∷ []) ≡ of_place j items =
-      carries_none j items (Carried k g.position r ∷ [])
+      let of = carries_none j items (Carried k g.position r ∷ [])
       (ap (λ b. b ++ []) (carried_there k j g.position r (λ e. ne (sym e)))) in
       subst (λ (f : Option ℕ). IsOnWay any first (get_or pushed j []) (get_or held j []) (number_at start j) f
       (grant_at (packet_at s k g (Some r)).0.grants j) (of_place j (items ++ Carried k g.position r ∷ [])))

@@ -1,7 +1,6 @@
 -- The steps of a schedule lead to one world.
 use Rattle.std.proofs.Common.{◌≡◌, ℕ, ◌<◌, ◌⊎◌, inl, inr, refl, sym, ap, subst, ◌∙◌, List, [], ◌∷◌, ◌++◌, append-nil}
-use Rattle.std.proofs.Common.{append_assoc, length, take, drop, take-append-drop, Option, Some, None}
-use Rattle.std.proofs.Common.{slice_get}
+use Rattle.std.proofs.Common.{append_assoc, length, take, drop, take-append-drop, Option, Some, None, slice_get}
 use Rattle.slink_wire.specs.declared.reply.Reply.{Reply}
 use Rattle.slink_wire.specs.Lines.{IsHeld}
 use Rattle.slink_wire.specs.Place.{Fields, IsField}
@@ -99,8 +98,7 @@ read_whole f u v now all piece rest e w split is h none more =
       lost = more.lost;
       are_brought = (
         is,
-        subst (λ (t : Talk). AreBrought t more.brought) (ap (λ (c : Listening). c.talk) client
-            ∙ sym talk) more.are_brought,
+        rw (ap (λ (c : Listening). c.talk) client ∙ sym talk) at more.are_brought,
       );
       bytes_are = ap (λ x. u.client.kept ++ x) split
           ∙ (sym (append_assoc u.client.kept piece rest)
@@ -198,8 +196,7 @@ pub rest_is : (f : Numbers) (t : Taking) (bytes : List ℕ) (last : Taking) (h :
     → IsRest (talk_after t.client.talk h.brought).stage (last.client.kept ++ h.lost)
 rest_is f t bytes last h linked =
     let at_last : IsLinked last.client.talk.stage = subst (λ (x : Talk). IsLinked x.stage) (sym h.talk) linked in
-    subst (λ b. IsBegun (talk_after t.client.talk h.brought).stage b)
-    (sym (ap (λ b. last.client.kept ++ b) (h.all at_last) ∙ append-nil last.client.kept))
+    rw (← (ap (λ b. last.client.kept ++ b) (h.all at_last) ∙ append-nil last.client.kept)) at
     (subst (λ (x : Talk). IsBegun x.stage last.client.kept) h.talk h.is_begun)
 
 takings_same : (a b : Taking) → a.client ≡ b.client → gained a ≡ gained b → a ≡ b
@@ -213,13 +210,11 @@ pub one_reading : (f : Numbers) (t a b : Taking) (bytes : List ℕ) → Reads f 
 one_reading f t a b bytes x y is =
     let p : ReadAllOf f t bytes a = read_all f t bytes a x is in
     let q : ReadAllOf f t bytes b = read_all f t bytes b y is in
-    let one : (p.brought ≡ q.brought) × (a.client.kept ++ p.lost ≡ b.client.kept ++ q.lost) =
-    one_brought t.client.talk p.brought q.brought (a.client.kept ++ p.lost) (b.client.kept ++ q.lost) p.are_brought
-    q.are_brought (sym p.bytes_are ∙ q.bytes_are) (rest_is f t bytes a p) (rest_is f t bytes b q) in
+    let one = one_brought t.client.talk p.brought q.brought (a.client.kept ++ p.lost) (b.client.kept ++ q.lost)
+    p.are_brought q.are_brought (sym p.bytes_are ∙ q.bytes_are) (rest_is f t bytes a p) (rest_is f t bytes b q) in
     let talk : a.client.talk ≡ b.client.talk = p.talk ∙ (ap (talk_after t.client.talk) one.0 ∙ sym q.talk) in
     let kept : a.client.kept ≡ b.client.kept =
-    kept_same b.client.talk.stage a.client.kept b.client.kept p.lost q.lost
-    (subst (λ (x : Talk). IsBegun x.stage a.client.kept) talk p.is_begun) q.is_begun
+    kept_same _ _ _ p.lost q.lost (subst (λ (x : Talk). IsBegun x.stage a.client.kept) talk p.is_begun) q.is_begun
     (λ linked. p.all (subst (λ (x : Talk). IsLinked x.stage) (sym talk) linked)) q.all one.1 in
     takings_same a b (seen_same a.client b.client talk kept) (p.gains
     ∙ (ap (λ bs. with_events f (events_of t.client.talk bs) (gained t)) one.0 ∙ sym q.gains))
@@ -361,8 +356,7 @@ module _ (places : Places) (differ : Differ places) (codes : (k : ℕ) (p : Fiel
   -- Connect
   connected_once : (a b : WorldState) → Connects w a → Connects w b → a ≡ b
   connected_once a b p q =
-      let session : p.session ≡ q.session =
-      states_same p.session q.session (p.is_new.state ∙ sym q.is_new.state)
+      let session = states_same p.session q.session (p.is_new.state ∙ sym q.is_new.state)
       (held_same p.session.held q.session.held [] p.is_new.held q.is_new.held) in
       p.becomes ∙ (ap (λ (x : SessionState). linked_anew w x (requests_place 0 w.client.talk)) session ∙ sym q.becomes)
 
@@ -382,8 +376,7 @@ module _ (places : Places) (differ : Differ places) (codes : (k : ℕ) (p : Fiel
   read_keeps n a None x p was h = subst Keeps (sym (p.unlinked was)) keeps
   read_keeps n a (Some l) None p was h = absurd h
   read_keeps n a (Some l) (Some x) p was h =
-      let y : ReadAllOf l.first_sent (taking w l) (take n l.to_client) (taking a x) =
-      read_all l.first_sent (taking w l) (take n l.to_client) (taking a x) h.reads keeps in y.is_begun
+      let y = read_all l.first_sent (taking w l) (take n l.to_client) (taking a x) h.reads keeps in y.is_begun
 
   pushed_keeps : (k : ℕ) (bytes : List ℕ) (o : Option Window) → Keeps (pushed_to w k bytes o)
   pushed_keeps k bytes None = keeps

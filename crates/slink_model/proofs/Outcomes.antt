@@ -21,8 +21,7 @@ use Rattle.slink_feed.specs.declared.dialogue.Wanted.{Wanted}
 use Rattle.slink_feed.specs.Cutting.{IsWhole}
 use Rattle.slink_feed.specs.Dialogue.{Talk, Whole, Reply, Packet, End, Garbage, answer_of, at_packet, place_of, ended}
 use Rattle.slink_feed.specs.Dialogue.{event_of, is_ahead, is_taken, read, read_at, if_wanted, next_at, requests_number}
-use Rattle.slink_feed.specs.Dialogue.{requests_place, to_answer}
-use Rattle.slink_feed.specs.Dialogue.{to_place, reported, want_at, with_next}
+use Rattle.slink_feed.specs.Dialogue.{requests_place, to_answer, to_place, reported, want_at, with_next}
 use Rattle.slink_feed.specs.Listening.{Brings, Listening, begun, whole}
 use Rattle.slink_model.specs.Ties.{AreWhole, Item, Accepted, Refused, Greeted, Carried, Finished, Outcome, ends, says}
 use Rattle.slink_model.specs.Ties.{takes, reported_of, waits, way_bytes}
@@ -59,8 +58,7 @@ only_ok false true h = absurd (let bad : Refusal ≡ Granted = h in cc bad)
 only_ok false false h = absurd (let bad : Neither ≡ Granted = h in cc bad)
 
 granted_is : (line : List ℕ) → answer_of line ≡ Granted → line ≡ codes "OK"
-granted_is line h = bytes_same line (codes "OK")
-    (only_ok (bytes_eq line (codes "OK")) (starts_with nat_eq line (codes "ERROR")) h)
+granted_is line h = bytes_same _ _ (only_ok _ (starts_with nat_eq line (codes "ERROR")) h)
 
 -- what is stated leaves what is wanted
 pub place_written : (o : Option Wanted) (k : ℕ) (t : Talk) → ((to_place o k t).0.wants ≡ t.wants)
@@ -121,11 +119,9 @@ module _ (t : Talk) (bytes way : List ℕ) (new : Listening) (e : Event) (plain 
   first_carried (Finished ∷ rest) n r are is long h prefix =
       absurd (omega (arith, one_byte (take 2 (way_bytes (Finished ∷ rest))) (codes "SL") 0 69 83 prefix refl refl))
   first_carried (Carried k m x ∷ rest) n r are is long h prefix =
-      let cut : (bytes ≡ packet_bytes (m % 2 ^ 24) x) × (way ≡ way_bytes rest) =
-      same_cut bytes way (packet_bytes (m % 2 ^ 24) x) (way_bytes rest) (long
-      ∙ sym (packet_long (m % 2 ^ 24) x are.0)) h in
-      let one : (n ≡ m % 2 ^ 24) × (r ≡ x) =
-      one_packet bytes n (m % 2 ^ 24) r x is
+      let cut = same_cut bytes way (packet_bytes (m % 2 ^ 24) x) (way_bytes rest)
+      (long ∙ sym (packet_long (m % 2 ^ 24) x are.0)) h in
+      let one = one_packet bytes n (m % 2 ^ 24) r x is
       (subst (λ b. IsPacket b (m % 2 ^ 24) x) (sym cut.0) (read_back (m % 2 ^ 24) x (omega arith))) in
       (k, m, rest, ap (λ y. Carried k m y ∷ rest) (sym one.1), cut.1, one.0)
 

@@ -23,7 +23,8 @@ at_offset [] (suc n) used = let more : suc n + used ≡ suc (n + used) = omega a
 at_offset (b ∷ bs) (suc n) used = let more : suc n + used ≡ suc (n + used) = omega arith in at_offset bs n used
     ∙ ap (λ k. take used (drop n bs) ++ drop k (b ∷ bs)) (sym more)
 
-pub serves_more : (feed : List Window) (s now last : SessionState) (bytes : List ℕ) (start used : ℕ) (way on all : List ℕ)
+pub serves_more : (feed : List Window) (s now last : SessionState) (bytes : List ℕ) (start used : ℕ)
+    (way on all : List ℕ)
     (reply : Reply) → Takes feed s (take used (drop start bytes)) now reply → on ≡ way ++ reply_bytes reply
     → Serves feed now (drop (start + used) bytes) on last all → Serves feed s (drop start bytes) way last all
 serves_more feed s now last bytes start used way on all reply takes e more =
@@ -31,15 +32,13 @@ serves_more feed s now last bytes start used way on all reply takes e more =
     (at_offset bytes start used) takes
     (subst (λ (w : List ℕ). Serves feed now (drop (start + used) bytes) w last all) e more)
 
-pub serves_all : (feed : List Window) (s : SessionState) (bytes : List ℕ) (start : ℕ) (way : List ℕ) → length bytes ≤ start
-    → Serves feed s (drop start bytes) way s way
-serves_all feed s bytes start way past =
-    subst (λ (b : List ℕ). Serves feed s b way s way) (sym (drop_all start bytes past)) (none_served s way)
+pub serves_all : (feed : List Window) (s : SessionState) (bytes : List ℕ) (start : ℕ) (way : List ℕ)
+    → length bytes ≤ start → Serves feed s (drop start bytes) way s way
+serves_all feed s bytes start way past = rw (drop_all start bytes past) (none_served s way)
 
 pub reads_all : (first_sent : Numbers) (t : Taking) (bytes : List ℕ) (start : ℕ) → length bytes ≤ start
     → Reads first_sent t (drop start bytes) t
-reads_all first_sent t bytes start past =
-    subst (λ (b : List ℕ). Reads first_sent t b t) (sym (drop_all start bytes past)) (none_read t)
+reads_all first_sent t bytes start past = rw (drop_all start bytes past) (none_read t)
 
 pub rest_lost : (first_sent : Numbers) (t : Taking) (bytes : List ℕ) → ¬ (IsLinked t.client.talk.stage)
     → Reads first_sent t bytes t

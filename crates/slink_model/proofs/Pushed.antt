@@ -81,12 +81,10 @@ moves places w u Connect of wide h =
     stays (length places) w u Connect (λ k. refl) (ap (λ (x : WorldState). x.windows) h.becomes)
     (ap (λ (x : WorldState). x.pushed) h.becomes) wide
 moves places w u (ToServer n) of wide h =
-    stays (length places) w u (ToServer n) (λ k. refl) (ap (λ (x : WorldState). x.windows) h.0)
-    (ap (λ (x : WorldState). x.pushed) h.0) wide
+    stays _ _ _ _ (λ k. refl) (ap (λ (x : WorldState). x.windows) h.0) (ap (λ (x : WorldState). x.pushed) h.0) wide
 moves places w u (ToClient n) of wide h = stays (length places) w u (ToClient n) (λ k. refl) h.windows h.pushed wide
 moves places w u (Send j) of wide h =
-    stays (length places) w u (Send j) (λ k. refl) (ap (λ (x : WorldState). x.windows) h)
-    (ap (λ (x : WorldState). x.pushed) h) wide
+    stays _ _ _ _ (λ k. refl) (ap (λ (x : WorldState). x.windows) h) (ap (λ (x : WorldState). x.pushed) h) wide
 moves places w u Cut of wide h = stays (length places) w u Cut (λ k. refl) (ap (λ (x : WorldState). x.windows) h)
     (ap (λ (x : WorldState). x.pushed) h) wide
 

@@ -122,8 +122,7 @@ pub bear : (s : Trace) (setup : Setup) (of : IsOfChannel setup s.codes) (rs : Li
     → AllByRecursion (λ (v : View). key_at v.bytes ≡ s.codes) vs → AllBear of.place rs
 bear s setup of rs vs are long keys =
     subst (AllBear of.place) are.bytes
-    (carried_of s setup of vs (subst (λ (qs : List (List ℕ)). AllByRecursion (λ (r : List ℕ). length r ≡ 512) qs)
-    (sym are.bytes) long) keys)
+    (carried_of s setup of vs (rw (← are.bytes) at long) keys)
 
 -- The steps that are fed are of the station.
 is_at : (place : Fields) (first : Option ℕ) (k : ℕ) → k < 1
@@ -147,8 +146,7 @@ pub all_of : (setup : Setup) (codes : List ℕ) (of : IsOfChannel setup codes) (
     → All IsOfOne steps → AllBear of.place rs → All (IsOf setup.places.items) (fed steps rs)
 all_of setup codes of steps rs one bears =
     by_index (IsOf setup.places.items) (fed steps rs)
-    (subst (λ (ps : List (Fields × Option ℕ)). AllByRecursion (IsOf ps) (fed steps rs)) (sym of.places)
-    (fed_of of.place of.first steps rs (in_turn IsOfOne steps one) bears))
+    (rw (← of.places) at (fed_of of.place of.first steps rs (in_turn IsOfOne steps one) bears))
 
 pub fewer : (steps : List Step) (rs : List (List ℕ)) → length (fed steps rs) ≤ length steps
 fewer [] rs = omega arith
@@ -356,8 +354,7 @@ pub held_among : Pushes → (s : Trace) (setup : Setup) → IsOfChannel setup s.
     → HoldsSlices setup.places.items setup.first w → held ≡ get_or w.held 0 [] → IsAmong s rs held
 held_among pushes s setup of steps rs all w held reads one is ofs run holds same =
     let pushed : get_or w.pushed 0 [] ≡ appended 0 (fed steps rs) = pushes setup all w run ofs 0 ∙ ap (appended 0) is in
-    let cut = between rs (get_or w.pushed 0 []) (get_or w.held 0 []) steps setup.first (next_at w.client.talk.wants 0)
-    (number_at w.start 0) (in_turn IsOfOne steps one) pushed (holds_first setup s.codes of w holds) in
+    let cut = between rs _ _ _ _ _ _ (in_turn IsOfOne steps one) pushed (holds_first setup s.codes of w holds) in
     (cut.before, cut.after, cut.is ∙ ap (λ (hs : List (List ℕ)). cut.before ++ (hs ++ cut.after)) (sym same), reads)
 
 pub held_are_few : Pushes → (setup : Setup) (codes : List ℕ) → IsOfChannel setup codes
@@ -366,8 +363,7 @@ pub held_are_few : Pushes → (setup : Setup) (codes : List ℕ) → IsOfChannel
     → HoldsSlices setup.places.items setup.first w → held ≡ get_or w.held 0 [] → length held < n
 held_are_few pushes setup codes of all w held n lt ofs run holds same =
     let few : length (get_or w.held 0 []) ≤ length all =
-    held_few (get_or w.pushed 0 []) (get_or w.held 0 []) all setup.first (next_at w.client.talk.wants 0)
-    (number_at w.start 0) (pushes setup all w run ofs 0) (holds_first setup codes of w holds) in
+    held_few _ _ all _ _ _ (pushes setup all w run ofs 0) (holds_first setup codes of w holds) in
     omega (arith, lt, few, ap length same)
 
 pub came : (s : Trace) (setup : Setup) (steps : List Step) (rs : List (List ℕ)) (all : List Step) (w : WorldState)
@@ -388,8 +384,7 @@ AreOfOneLength = (s : Trace) (o : Options) (records : List (List ℕ)) → IsPac
 pub cut_out : AreOfOneLength → (s : Trace) (o : Options) (bytes : List ℕ) (rs : List (List ℕ)) → o.exponent ≡ 9
     → (packed : IsPackedAs s o bytes) → rs ≡ first_chunks 512 (length bytes / 512) bytes → rs ≡ packed.records
 cut_out one s o bytes rs nine packed is =
-    let long = subst (λ (e : ℕ). AllByRecursion (λ (r : List ℕ). length r ≡ 2 ^ e) packed.records) nine
-    (one s o packed.records packed.packing) in
+    let long = rw nine at (one s o packed.records packed.packing) in
     is ∙ cut packed.records bytes long packed.bytes_are
 
 -- by the answer of the schedule

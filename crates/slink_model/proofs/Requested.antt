@@ -1,14 +1,13 @@
 -- The lines of requests, and what they command.
-use Rattle.std.proofs.Common.{◌≡◌, ℕ, ◌+◌, ◌<◌, zero, suc, refl, sym, ap, subst, ◌∙◌, arith}
-use Rattle.std.proofs.Common.{Bool, true, false, List, [], ◌∷◌, bytes_eq}
-use Rattle.std.proofs.Common.{Option, Some, None, option_map, slice_get, if◌then◌else◌}
+use Rattle.std.proofs.Common.{◌≡◌, ℕ, ◌+◌, ◌<◌, zero, suc, refl, sym, ap, subst, ◌∙◌, arith, Bool, true, false, List}
+use Rattle.std.proofs.Common.{[], ◌∷◌, bytes_eq, Option, Some, None, option_map, slice_get, if◌then◌else◌}
 use Rattle.std.specs.List.{position_from}
 use Rattle.std.proofs.lemmas.Slice.Eq.{bytes_eq-Decides}
 use Rattle.slink_wire.specs.declared.lines.What.TheVariants.{Line}
 use Rattle.slink_wire.specs.declared.reply.Reply.{Reply}
 use Rattle.slink_wire.specs.declared.request.Request.{Request}
 use Rattle.slink_wire.specs.declared.request.Request.TheVariants.{Station, End}
-use Rattle.slink_wire.specs.Command.{IsCommand, folded, words}
+use Rattle.slink_wire.specs.Command.{IsCommand}
 use Rattle.slink_wire.specs.Place.{Fields, IsField, matches}
 use Rattle.slink_wire.specs.Request.{IsShort, request_line, requested}
 use Rattle.slink_wire.specs.Written.{IsLine}
@@ -48,8 +47,7 @@ pub request_answered : (feed : List Window) (s new : State) (items : List ℕ) (
     → items ≡ request_line request → IsCommand (request_line request) (requested request)
     → IsAnswer feed s (Line (record { items = items })) new reply → answered feed s (requested request) ≡ (new, reply)
 request_answered feed s new items request reply same known is =
-    let one : is.0 ≡ requested request = one_command (folded (words (request_line request))) is.0 (requested request)
-    (subst (λ xs. IsCommand xs is.0) same is.1) known in
+    let one : is.0 ≡ requested request = one_command _ _ _ (subst (λ xs. IsCommand xs is.0) same is.1) known in
     ap (answered feed s) (sym one) ∙ is.2
 
 module _ {X : Type 0} where

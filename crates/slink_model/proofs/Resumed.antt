@@ -1,7 +1,6 @@
 -- Where a client that comes again is served from.
-use Rattle.std.proofs.Common.{◌≡◌, ℕ, ◌+◌, ◌-◌, ◌%◌, ◌^◌, ◌<◌, ◌≤◌, ◌⊎◌, inl, inr, sym, ap, subst, ◌∙◌, arith}
-use Rattle.std.proofs.Common.{◌&&◌, List, [], length, get_or, Option, Some, None, slice_get, nat_le}
-use Rattle.std.proofs.Common.{if◌then◌else◌}
+use Rattle.std.proofs.Common.{◌≡◌, ℕ, ◌+◌, ◌-◌, ◌%◌, ◌^◌, ◌<◌, ◌≤◌, ◌⊎◌, inl, inr, sym, ap, subst, ◌∙◌, arith, ◌&&◌}
+use Rattle.std.proofs.Common.{List, [], length, get_or, Option, Some, None, slice_get, nat_le, if◌then◌else◌}
 use Rattle.std.proofs.lemmas.Bool.Decides.{leb_tells}
 use Rattle.std.specs.Option.{option_and_then}
 use Rattle.slink_feed.specs.declared.grant.Grant.{Grant}
@@ -11,7 +10,7 @@ use Rattle.slink_model.specs.declared.world.Setup.{Setup}
 use Rattle.slink_model.specs.declared.world.Step.{Step}
 use Rattle.slink_feed.specs.Dialogue.{next_at}
 use Rattle.slink_feed.specs.Grant.{grant_of}
-use Rattle.slink_feed.specs.Session.{grant_at, granted}
+use Rattle.slink_feed.specs.Session.{granted, grant_at}
 use Rattle.slink_model.specs.Slice.{IsCarried, IsSchedule, LackFew, LacksFew, Resumes, resumed}
 use Rattle.slink_model.specs.Ties.{AreNext, Holds, IsLinkTied, IsOnWay, Places, WorldTies, of_place}
 use Rattle.slink_feed.specs.Window.{Shows, Window, ahead_of, oldest_of, resolve_of}
@@ -47,8 +46,7 @@ resume_at w n past lacking near (inl lo) =
     let o : ℕ = oldest_of w in
     let alike : (o + ahead_of w (n % 2 ^ 24)) % 2 ^ 24 ≡ n % 2 ^ 24 = ahead_alike o (n % 2 ^ 24)
     ∙ (let e : n % 2 ^ 24 % 2 ^ 24 ≡ n % 2 ^ 24 = omega arith in e) in
-    let same : o + ahead_of w (n % 2 ^ 24) ≡ n =
-    near_alike (o + ahead_of w (n % 2 ^ 24)) n alike (omega (arith, lo)) (omega (arith, lo, past, near)) in
+    let same = near_alike (o + ahead_of w (n % 2 ^ 24)) n alike (omega (arith, lo)) (omega (arith, lo, past, near)) in
     elim (leb_tells (ahead_of w (n % 2 ^ 24)) (w.next - o)) [
       | inl passes ↦ ap (λ t. if t then Some (o + ahead_of w (n % 2 ^ 24)) else None) passes.0
           ∙ (ap (λ m. Some m) same ∙ sym (resumed_there w n lo past))
@@ -60,8 +58,7 @@ resume_at w n past lacking near (inr gone) =
     ∙ (let e : n % 2 ^ 24 % 2 ^ 24 ≡ n % 2 ^ 24 = omega arith in e) in
     elim (leb_tells (ahead_of w (n % 2 ^ 24)) (w.next - o)) [
       | inl passes ↦ let same : o + ahead_of w (n % 2 ^ 24) ≡ n =
-          near_alike (o + ahead_of w (n % 2 ^ 24)) n alike (omega (arith, passes.1, gone, past, lacking))
-          (omega (arith, gone)) in
+          near_alike _ _ alike (omega (arith, passes.1, gone, past, lacking)) (omega (arith, gone)) in
           absurd (omega (arith, same, gone))
       | inr fails ↦ ap (λ t. if t then Some (o + ahead_of w (n % 2 ^ 24)) else None) fails.0
           ∙ sym (resumed_gone w n gone)
@@ -89,13 +86,10 @@ resumes_at places first w t lacks k start ring mode s held here =
     = subst (Holds first (get_or w.pushed k []) (next_at w.client.talk.wants k) (get_or w.held k [])) held
     (t.holds k lt) in
     let n : ℕ = start + length (get_or w.held k []) in
-    let to : n ≤ first + length (get_or w.pushed k []) =
-    held_to first start (get_or w.pushed k []) (next_at w.client.talk.wants k) (get_or w.held k []) holds in
+    let to = held_to first start (get_or w.pushed k []) (next_at w.client.talk.wants k) (get_or w.held k []) holds in
     let few : first + length (get_or w.pushed k []) < n + 2 ^ 24 = lacks k start held in
-    let o : oldest_of ring ≡ first + (length (get_or w.pushed k []) - ring.capacity) =
-    oldest_is ring first (get_or w.pushed k []) shows in
-    let is : grant_of mode (Some (n % 2 ^ 24)) ring ≡ resumed ring n =
-    granted_is mode ring n (omega (arith, shows.next, to)) (omega (arith, shows.next, few))
+    let o = oldest_is ring first (get_or w.pushed k []) shows in
+    let is = granted_is mode ring n (omega (arith, shows.next, to)) (omega (arith, shows.next, few))
     (omega (arith, shows.next, o, room)) in
     ap (λ (x : Option ℕ). granted mode k (option_and_then (grant_of mode x) (slice_get w.windows k)) s) holds.4
     ∙ (ap (λ (x : Option Window). granted mode k (option_and_then (grant_of mode (Some (n % 2 ^ 24))) x) s) here

@@ -41,8 +41,7 @@ module _ (places : Places) (first : ℕ) (windows : List Window) (pushed : Lists
       → Serves windows s bytes way last all → HasStream s → Linked s.state way → HasStream last × Linked last.state all
   serves_link s bytes way last all (none_served u w) has l = (has, l)
   serves_link s bytes way last all (piece_served u now v bs piece rest w sent reply split takes more) has l =
-      let step : HasStream now × Leaves u.state.phase windows u.state (now.state, reply) =
-      piece_answered windows u now piece reply takes has in
+      let step = piece_answered windows u now piece reply takes has in
       serves_link now rest (w ++ reply_bytes reply) v sent more step.0
       (answered_link places first windows pushed client held start shown holds u.state first_sent w now.state reply
       step.1 l)

@@ -26,9 +26,7 @@ use Rattle.slink_feed.specs.declared.grant.Grant.{Grant}
 use Rattle.slink_feed.specs.declared.session.Phase.TheVariants.{Chosen, Granted, Closed}
 use Rattle.slink_feed.specs.Cutting.{IsReply, IsWhole, LacksEnd}
 use Rattle.slink_feed.specs.Dialogue.{Talk, Wants, Whole, Reply, Packet, End, at_packet, place_of, ended, event_of}
-use Rattle.slink_feed.specs.Dialogue.{read}
-use Rattle.slink_feed.specs.Dialogue.{read_at, is_of_wanted, next_at, next_set, numbered, requests_number}
-use Rattle.slink_feed.specs.Dialogue.{requests_place}
+use Rattle.slink_feed.specs.Dialogue.{read, read_at, is_of_wanted, next_at, next_set, numbered}
 use Rattle.slink_feed.specs.Dialogue.{to_place, reported, want_at, with_next}
 use Rattle.slink_feed.specs.Listening.{Brings, IsLinked, Listening, begun, whole}
 use Rattle.slink_feed.specs.Serving.{SessionState}
@@ -86,8 +84,7 @@ first_read : (stage : Stage) (client : Listening) (bytes left : List ℕ) (w v :
     → (read_at stage client.talk v ≡ x) × (left ≡ way_bytes is)
 first_read stage client bytes left w v i is x at flow stands here h =
     let the : (w ≡ v) × (left ≡ way_bytes is) =
-    the_whole stage (client.kept ++ bytes) (item_bytes i) left (way_bytes is) w v
-    (subst (λ (s : Stage). IsWhole s (client.kept ++ bytes) w) at here) stands
+    the_whole _ _ _ left (way_bytes is) _ _ (subst (λ (s : Stage). IsWhole s (client.kept ++ bytes) w) at here) stands
     (append_assoc client.kept bytes left ∙ flow) in (
       sym (ap (λ (s : Stage). read_at s client.talk v) at) ∙ (ap (read client.talk) (sym the.0) ∙ h),
       the.1,
@@ -100,9 +97,7 @@ refused_whole : IsReply (item_bytes Refused) (codes "ERROR")
 refused_whole = (refl, lacks_end (codes "ERROR" ++ 13 ∷ []) refl, omega arith)
 
 no_whole : (stage : Stage) (b left : List ℕ) (w : Whole) → b ++ left ≡ [] → IsWhole stage b w → ⊥
-no_whole stage b left w e is =
-    begun_no_whole stage [] [] w (begun_none stage)
-    (subst (λ (x : List ℕ). IsWhole stage x w) (nothing_left b left e) is)
+no_whole stage b left w e is = begun_no_whole _ _ [] _ (begun_none _) (rw (nothing_left _ left e) at is)
 
 pub want_slot : (o : Option (Option Wanted)) (w : Wanted) → unwrap_or o None ≡ Some w → o ≡ Some (Some w)
 want_slot None w h = absurd (let bad : None ≡ Some w = h in cc bad)
@@ -294,9 +289,8 @@ module _ (places : Places) (differ : Differ places) (codes_are : (k : ℕ) (p : 
             → l.items ≡ Accepted ∷ [] → IsWhole t.client.talk.stage (t.client.kept ++ bytes) w
             → read t.client.talk w ≡ (new.talk, e) → new.kept ≡ [] → ClientTalks new (Way t new e) left
         place_talks stage phase reported one is h none =
-            let first : (requests_number k t.client.talk ≡ (new.talk, e)) × (left ≡ []) =
-            first_read (Station k) t.client bytes left w (Reply (codes "OK")) Accepted [] (new.talk, e) stage
-            (l.flows.flow ∙ ap way_bytes one) accepted_whole is h in
+            let first = first_read (Station k) t.client bytes left w (Reply (codes "OK")) Accepted [] (new.talk, e)
+            stage (l.flows.flow ∙ ap way_bytes one) accepted_whole is h in
             let request : Request = numbered t.client.talk.mode (next_at t.client.talk.wants k) in
             written_talks t new (Number k) request e left l.taken first.0 none first.1 tt tt called
             (reply_suited t.client (bytes ++ left) l.items Accepted one (λ i. refl) l.flows) l.held
@@ -309,8 +303,7 @@ module _ (places : Places) (differ : Differ places) (codes_are : (k : ℕ) (p : 
             → l.items ≡ Accepted ∷ [] → IsWhole t.client.talk.stage (t.client.kept ++ bytes) w
             → read t.client.talk w ≡ (new.talk, e) → new.kept ≡ [] → ClientTalks new (Way t new e) left
         number_talks stage phase reported one is h none =
-            let first : (requests_place (k + 1) t.client.talk ≡ (new.talk, e)) × (left ≡ []) =
-            first_read (Number k) t.client bytes left w (Reply (codes "OK")) Accepted [] (new.talk, e) stage
+            let first = first_read (Number k) t.client bytes left w (Reply (codes "OK")) Accepted [] (new.talk, e) stage
             (l.flows.flow ∙ ap way_bytes one) accepted_whole is h in
             next_talks t new left l.taken e k (want_at t.client.talk.wants (k + 1)) called phase reported refl first.0
             none first.1
@@ -321,9 +314,8 @@ module _ (places : Places) (differ : Differ places) (codes_are : (k : ℕ) (p : 
             → IsWhole t.client.talk.stage (t.client.kept ++ bytes) w → read t.client.talk w ≡ (new.talk, e)
             → ClientTalks new (Way t new e) left
         refused_talks stage reported one is h =
-            let first : (ended (endings.Refused k) t.client.talk ≡ (new.talk, e)) × (left ≡ []) =
-            first_read (Number k) t.client bytes left w (Reply (codes "ERROR")) Refused [] (new.talk, e) stage
-            (l.flows.flow ∙ ap way_bytes one) refused_whole is h in
+            let first = first_read (Number k) t.client bytes left w (Reply (codes "ERROR")) Refused [] (new.talk, e)
+            stage (l.flows.flow ∙ ap way_bytes one) refused_whole is h in
             ended_talks t.client.talk new (endings.Refused k) (Way t new e) left
             (sym (ap (λ (p : Talk × Event). p.0) first.0)) tt called
             (ended_quiet t new (endings.Refused k) e first.0 (l.taken, λ awake. (l.held awake, reported)))
@@ -341,9 +333,7 @@ module _ (places : Places) (differ : Differ places) (codes_are : (k : ℕ) (p : 
         let x : ℕ = (m + 1) % 2 ^ 24 in
         let matched : ((p : Fields × Option ℕ) × (slice_get places k ≡ Some p) × (length r ≡ 512) × Bears r p.0)
         × AreOfPlace places rest = subst (AreOfPlace places) one l.flows.matched in
-        let first : (at_packet (place_of t.client.talk.wants r) m r t.client.talk ≡ (new.talk, e))
-        × (left ≡ way_bytes rest) =
-        first_read Packets t.client bytes left w (Packet m r) (Carried k n r) rest (new.talk, e) stage
+        let first = first_read Packets t.client bytes left w (Packet m r) (Carried k n r) rest (new.talk, e) stage
         (l.flows.flow ∙ ap way_bytes one) (read_back m r (omega arith), packet_long m r matched.0.2) is h in
         let found : (place_of t.client.talk.wants r ≡ Some k) × (v : Wanted) ×
         (want_at t.client.talk.wants k ≡ Some v) =
@@ -385,8 +375,7 @@ module _ (places : Places) (differ : Differ places) (codes_are : (k : ℕ) (p : 
               (subst (λ (o : Option ℕ). IsSuited o (grant_at session.state.grants k) (of_place k rest)) (sym next_k)
               (suited_next (next_at t.client.talk.wants k) (grant_at session.state.grants k) n r (of_place k rest)
               suited_k))
-          | inr ne ↦ subst (λ (o : Option ℕ). IsSuited o (grant_at session.state.grants i) (of_place i rest))
-              (sym (next_i i ne))
+          | inr ne ↦ rw (← (next_i i ne)) at
               (subst (IsSuited (next_at t.client.talk.wants i) (grant_at session.state.grants i)) (of_i i ne)
               (l.flows.suited i))
         ] in
@@ -416,8 +405,7 @@ module _ (places : Places) (differ : Differ places) (codes_are : (k : ℕ) (p : 
         → IsWhole t.client.talk.stage (t.client.kept ++ bytes) w → read t.client.talk w ≡ (new.talk, e)
         → ClientTalks new (Way t new e) left
     end_talks t new bytes left e w rest l called stage answered one is h =
-        let first : (ended endings.End t.client.talk ≡ (new.talk, e)) × (left ≡ way_bytes rest) =
-        first_read Packets t.client bytes left w End Finished rest (new.talk, e) stage
+        let first = first_read Packets t.client bytes left w End Finished rest (new.talk, e) stage
         (l.flows.flow ∙ ap way_bytes one) refl is h in
         ended_talks t.client.talk new endings.End (Way t new e) left (sym (ap (λ (p : Talk × Event). p.0) first.0)) tt
         called (ended_quiet t new endings.End e first.0 (l.taken, λ awake. (l.held awake, answered awake)))

@@ -106,8 +106,8 @@ pub data Shakes (talk : Talk) (phase : Phase) (taken way : List ℕ) (items : Li
       → Shakes talk phase taken way items
 
 -- a link, with the bytes that its session has taken and the items that are on their way to the client
-pub record LinkTalks (places : Places) (client : Listening) (session : SessionState) (to_server to_client : List ℕ) : Type
-    0 where
+pub record LinkTalks (places : Places) (client : Listening) (session : SessionState)
+    (to_server to_client : List ℕ) : Type 0 where
   pub taken : List ℕ
   pub held : ¬ (session.state.phase ≡ Closed) → IsHeld session.held taken
   pub items : List Item
@@ -160,8 +160,7 @@ module _ (places : Places) (differ : Differ places) (codes : (k : ℕ) (p : Fiel
       → Flows places client new (way ++ reply_bytes reply) items
   unanswered grants new way items reply same none f =
       subst (λ (gs : Grants). Flows places client gs (way ++ reply_bytes reply) items) (sym same)
-      (subst (λ b. Flows places client grants b items) (sym (ap (λ r. way ++ reply_bytes r) none ∙ append-nil way))
-      f)
+      (rw (← (ap (λ r. way ++ reply_bytes r) none ∙ append-nil way)) at f)
 
   -- what the session takes once a line was taken
   abbrev Then : SessionState → List ℕ → List ℕ → List ℕ → Reply → Type 0
@@ -181,13 +180,7 @@ module _ (places : Places) (differ : Differ places) (codes : (k : ℕ) (p : Fiel
       → ((i : ℕ) → IsSuited (next_at client.talk.wants i) (grant_at grants i) [])
       → IsSuited (next_at client.talk.wants k) (grant_at (set grants j (Some g)) k) []
   a_grant grants j k g wanted suits = elim (grant_set grants j k (Some g)) [
-    | inl here ↦ subst (λ (o : Option Grant). IsSuited (next_at client.talk.wants k) o []) (sym here.1)
-        (subst (λ i. IsSuited (next_at client.talk.wants i) (Some g) []) (sym here.0) (
-          g.position,
-          tt,
-          omega arith,
-          wanted,
-        ))
+    | inl here ↦ rw here.1 (rw here.0 (g.position, tt, omega arith, wanted))
     | inr there ↦ subst (λ (o : Option Grant). IsSuited (next_at client.talk.wants k) o []) (sym there) (suits k)
   ]
 
@@ -206,9 +199,7 @@ module _ (places : Places) (differ : Differ places) (codes : (k : ℕ) (p : Fiel
         taken = taken;
         held = held;
         items = Accepted ∷ [];
-        flows = subst (λ (x : State). Flows places client x.grants (way ++ reply_bytes reply) (Accepted ∷ []))
-            (sym state) (subst (λ r. Flows places client (set s.state.grants k None) (way ++ reply_bytes r)
-            (Accepted ∷ [])) (sym ok) done);
+        flows = rw (state, ok) done;
         shakes = has_place k stage (ap (λ (x : State). x.phase) state) reported refl;
       }
 
@@ -228,9 +219,8 @@ module _ (places : Places) (differ : Differ places) (codes : (k : ℕ) (p : Fiel
         taken = taken;
         held = held;
         items = Refused ∷ [];
-        flows = subst (λ (x : State). Flows places client x.grants (way ++ reply_bytes reply) (Refused ∷ []))
-            (sym state) (subst (λ r. Flows places client s.state.grants (way ++ reply_bytes r) (Refused ∷ []))
-            (sym error) done);
+        flows = rw (← state) at
+            (subst (λ r. Flows places client s.state.grants (way ++ reply_bytes r) (Refused ∷ [])) (sym error) done);
         shakes = has_none k stage (ap (λ (x : State). x.phase) state ∙ phase) reported refl;
       }
   number_answered s now taken rest way items reply k mode (Some p) stage phase is wanted reported none f held =
@@ -246,9 +236,7 @@ module _ (places : Places) (differ : Differ places) (codes : (k : ℕ) (p : Fiel
         taken = taken;
         held = held;
         items = Accepted ∷ [];
-        flows = subst (λ (x : State). Flows places client x.grants (way ++ reply_bytes reply) (Accepted ∷ []))
-            (sym state) (subst (λ r. Flows places client (set s.state.grants k (Some g)) (way ++ reply_bytes r)
-            (Accepted ∷ [])) (sym ok) done);
+        flows = rw (state, ok) done;
         shakes = has_number k stage (ap (λ (x : State). x.phase) state) reported refl;
       }
 
@@ -331,7 +319,8 @@ module _ (places : Places) (differ : Differ places) (codes : (k : ℕ) (p : Fiel
       )
 
   -- the line that was called last, or nothing yet
-  place_read : (s now : SessionState) (taken rest way : List ℕ) (items : List Item) (reply : Reply) (what : What) (k : ℕ)
+  place_read : (s now : SessionState) (taken rest way : List ℕ) (items : List Item) (reply : Reply) (what : What)
+      (k : ℕ)
       (w : Wanted) → client.talk.stage ≡ Station k → want_at client.talk.wants k ≡ Some w → IsReadyFor k s.state.phase
       → items ≡ []
       → IsRead (request_line (requests.Station w.place)) taken rest what → IsAnswer feed s.state what now.state reply
@@ -352,8 +341,8 @@ module _ (places : Places) (differ : Differ places) (codes : (k : ℕ) (p : Fiel
   is_short None short = tt
   is_short (Some n) short = short n refl
 
-  number_read : (s now : SessionState) (taken rest way : List ℕ) (items : List Item) (reply : Reply) (what : What) (k : ℕ)
-      → client.talk.stage ≡ Number k → s.state.phase ≡ Chosen k → items ≡ []
+  number_read : (s now : SessionState) (taken rest way : List ℕ) (items : List Item) (reply : Reply) (what : What)
+      (k : ℕ) → client.talk.stage ≡ Number k → s.state.phase ≡ Chosen k → items ≡ []
       → IsRead (request_line (numbered client.talk.mode (next_at client.talk.wants k))) taken rest what
       → IsAnswer feed s.state what now.state reply → Flows places client s.state.grants way items
       → Then now taken rest way reply
@@ -384,8 +373,8 @@ module _ (places : Places) (differ : Differ places) (codes : (k : ℕ) (p : Fiel
   end_read s now taken rest way items reply TooLong k stage phase none read is f held = elim read [ ]
 
   -- nothing is sent any more
-  put_by : (s now : SessionState) (taken rest way : List ℕ) (items : List Item) (reply : Reply) (what : What) → what ≡ More
-      → IsAnswer feed s.state what now.state reply → Shakes client.talk s.state.phase taken rest items
+  put_by : (s now : SessionState) (taken rest way : List ℕ) (items : List Item) (reply : Reply) (what : What)
+      → what ≡ More → IsAnswer feed s.state what now.state reply → Shakes client.talk s.state.phase taken rest items
       → Flows places client s.state.grants way items → Then now taken rest way reply
   put_by s now taken rest way items reply More more is shakes f held =
       stays_put s now taken rest way items reply is.0 is.1 shakes f held
@@ -418,7 +407,8 @@ module _ (places : Places) (differ : Differ places) (codes : (k : ℕ) (p : Fiel
         shakes = streams stage l.2 sent (λ _. reported);
       }
 
-  piece_shaken : (s now : SessionState) (taken piece rest way : List ℕ) (items : List Item) (reply : Reply) (what : What)
+  piece_shaken : (s now : SessionState) (taken piece rest way : List ℕ) (items : List Item) (reply : Reply)
+      (what : What)
       → ¬ (s.state.phase ≡ Closed) → Yields what taken (taken ++ piece) → IsAnswer feed s.state what now.state reply
       → Shakes client.talk s.state.phase taken (piece ++ rest) items
       → Flows places client s.state.grants way items → Then now (taken ++ piece) rest way reply
@@ -428,8 +418,7 @@ module _ (places : Places) (differ : Differ places) (codes : (k : ℕ) (p : Fiel
       (more_called (request_line (requests.Station w.place)) taken piece rest what asks tells) is f held
   piece_shaken s now taken piece rest way items reply what awake tells is (has_place k stage phase reported one) f
       held =
-      let more : (what ≡ More) × IsAnswered (taken ++ piece) rest =
-      more_answered taken piece rest what reported tells in
+      let more = more_answered taken piece rest what reported tells in
       put_by s now (taken ++ piece) rest way items reply what more.0 is (has_place k stage phase more.1 one) f held
   piece_shaken s now taken piece rest way items reply what awake tells is (asks_number k stage phase asks none) f held =
       number_read s now (taken ++ piece) rest way items reply what k stage phase none
@@ -437,12 +426,10 @@ module _ (places : Places) (differ : Differ places) (codes : (k : ℕ) (p : Fiel
       asks tells) is f held
   piece_shaken s now taken piece rest way items reply what awake tells is (has_number k stage phase reported one) f
       held =
-      let more : (what ≡ More) × IsAnswered (taken ++ piece) rest =
-      more_answered taken piece rest what reported tells in
+      let more = more_answered taken piece rest what reported tells in
       put_by s now (taken ++ piece) rest way items reply what more.0 is (has_number k stage phase more.1 one) f held
   piece_shaken s now taken piece rest way items reply what awake tells is (has_none k stage phase reported one) f held =
-      let more : (what ≡ More) × IsAnswered (taken ++ piece) rest =
-      more_answered taken piece rest what reported tells in
+      let more = more_answered taken piece rest what reported tells in
       put_by s now (taken ++ piece) rest way items reply what more.0 is (has_none k stage phase more.1 one) f held
   piece_shaken s now taken piece rest way items reply what awake tells is (asks_end k stage phase asks none) f held =
       end_read s now (taken ++ piece) rest way items reply what k stage phase none

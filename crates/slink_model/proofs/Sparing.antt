@@ -39,9 +39,8 @@ use Rattle.slink_wire.proofs.RequestLines.{station_line}
 use Rattle.slink_model.proofs.Requested.{also_at}
 use Rattle.slink_model.proofs.Shaken.{ClientTalks, reads_talks}
 use Rattle.slink_model.proofs.Shaking.{AreCalled, AreOfPlace, AreFrom, AreRinged, AreSent, Flows, IsSuited, IsQuiet}
-use Rattle.slink_model.proofs.Shaking.{LinkTalks}
-use Rattle.slink_model.proofs.Shaking.{Shakes, asks_end, asks_number, asks_place, has_none, has_number, has_place}
-use Rattle.slink_model.proofs.Shaking.{serves_talks, streams}
+use Rattle.slink_model.proofs.Shaking.{LinkTalks, Shakes, asks_end, asks_number, asks_place, has_none, has_number}
+use Rattle.slink_model.proofs.Shaking.{has_place, serves_talks, streams}
 use Rattle.slink_feed.proofs.Wanting.{short_all}
 use Rattle.slink_model.proofs.Worlds.{AreOf, each_of, none_wanted, sound_more}
 use Rattle.slink_model.proofs.Linked.{slot_within}
@@ -140,9 +139,7 @@ module _ (places : Places) (differ : Differ places) (codes_are : (k : ℕ) (p : 
         → AreOfPlace places items → AreSent items → ((k : ℕ) → of_place k items ≡ []) → Stands s way
         → Stands (at Closed s.grants) (way ++ more)
     shut s way more items phase bytes matched sent none l =
-        let now : (client.talk.stage ≡ Packets) × AreSent l.items
-        × (¬ (s.phase ≡ Closed) → IsAnswered l.taken to_server) =
-        streaming_is client.talk s.phase l.taken to_server l.items (λ b. subst IsBefore phase b) l.shakes in
+        let now = streaming_is client.talk s.phase l.taken to_server l.items (λ b. subst IsBefore phase b) l.shakes in
         record {
           taken = l.taken;
           held = λ over. absurd (over refl);
@@ -162,9 +159,7 @@ module _ (places : Places) (differ : Differ places) (codes_are : (k : ℕ) (p : 
     record_goes s way k g w r phase grant here is l =
         let h : Grant = record { mode = g.mode; position = g.position + 1 } in
         let item : List Item = Carried k g.position r ∷ [] in
-        let now : (client.talk.stage ≡ Packets) × AreSent l.items
-        × (¬ (s.phase ≡ Closed) → IsAnswered l.taken to_server) =
-        streaming_is client.talk s.phase l.taken to_server l.items (λ b. subst IsBefore phase b) l.shakes in
+        let now = streaming_is client.talk s.phase l.taken to_server l.items (λ b. subst IsBefore phase b) l.shakes in
         let p : (p : Fields × Option ℕ) × (slice_get places k ≡ Some p) × (w.place ≡ p.0) =
         also_at (λ (v : Window). v.place) (λ (q : Fields × Option ℕ). q.0) (slice_get feed k) (slice_get places k)
         w (ringed.alike k) here in
@@ -314,8 +309,7 @@ module _ (places : Places) (differ : Differ places) (codes_are : (k : ℕ) (p : 
         flows = record {
           flow = refl;
           matched = tt;
-          suited = λ k. subst (λ (o : Option Grant). IsSuited (next_at talk.wants k) o [])
-              (sym (ap (λ (s : State). grant_at s.grants k) state ∙ none_at 16 k)) refl;
+          suited = λ k. rw (ap (λ (s : State). grant_at s.grants k) state ∙ none_at 16 k) refl;
         };
         shakes = asks_place 0 first.0 refl first.1 (inl (refl, ap (λ (s : State). s.phase) state))
             (begins_asking (request_line (requests.Station first.0.place))

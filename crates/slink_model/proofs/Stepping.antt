@@ -46,15 +46,13 @@ has_place : (setup : Setup) (ps : List (Fields × Option ℕ)) (place : Fields)
 has_place setup [] place has = absurd has
 has_place setup (p ∷ ps) place (inl same) = (zero, p, refl, same)
 has_place setup (p ∷ ps) place (inr more) =
-    let there : (j : ℕ) × (q : Fields × Option ℕ) × (slice_get ps j ≡ Some q) × (q.0 ≡ place) =
-    has_place setup ps place more in
+    let there = has_place setup ps place more in
     (suc there.0, there.1, there.2, there.3)
 
 pub no_double : (setup : Setup) (places : List (Fields × Option ℕ)) (i : ℕ) (p : Fields × Option ℕ) → Differ places
     → slice_get places i ≡ Some p → HasPlace (map (empty_window setup) (take i places)) p.0 → ⊥
 no_double setup places i p differ is has =
-    let there : (j : ℕ) × (q : Fields × Option ℕ) × (slice_get (take i places) j ≡ Some q) × (q.0 ≡ p.0) =
-    has_place setup (take i places) p.0 has in
+    let there = has_place setup (take i places) p.0 has in
     let prefix : (there.0 < i) × (slice_get places there.0 ≡ Some there.1) =
     get_prefix places i there.0 there.1 there.2 in
     let same : there.0 ≡ i = differ there.0 i there.1 p prefix.1 is there.3 in

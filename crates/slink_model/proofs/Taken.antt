@@ -18,13 +18,11 @@ use Rattle.slink_feed.specs.Session.{State, grant_at}
 use Rattle.slink_feed.proofs.Reporting.{kept_event}
 use Rattle.slink_model.specs.Ties.{AllHold, AreOfPlaces, AreWanted, AreWhole, Carried, Holds, IsOnWay, Item, LinkTies}
 use Rattle.slink_model.specs.Ties.{Outcome, Places, Reported, ends, of_place, says, takes, WantFirst, reported_of}
-use Rattle.slink_model.specs.Ties.{waits}
-use Rattle.slink_model.specs.Ties.{way_bytes}
+use Rattle.slink_model.specs.Ties.{waits, way_bytes}
 use Rattle.slink_model.specs.World.{Differ, Reads, Lists, Numbers, Taking, none_read, noted, number_at, or_else}
 use Rattle.slink_model.specs.World.{piece_read, piece_lost, with_first, with_one}
 use Rattle.slink_model.proofs.Items.{carried_here, carried_there}
-use Rattle.slink_feed.proofs.Items.{one_value, put_here, put_there, same_or_not, set_here, set_there}
-use Rattle.slink_feed.proofs.Items.{within_is}
+use Rattle.slink_feed.proofs.Items.{one_value, put_here, put_there, same_or_not, set_here, set_there, within_is}
 use Rattle.slink_model.proofs.Outcomes.{outcome}
 use Rattle.slink_model.proofs.Following.{delivered, way_started}
 use Rattle.std.proofs.lemmas.Option.{same_Some, slice_get_within}
@@ -300,8 +298,7 @@ module _ (places : Places) (first : ℕ) (pushed : Lists) (state : State) (first
       (number_at first_sent k) (grant_at state.grants k)) of_k (c.link.places_are k lt)) in
       let q : (p : Fields × Option ℕ) × (slice_get places k ≡ Some p) = within_is places k lt in
       let matched : (length r ≡ 512) × Bears r q.0.0 = sound k q.0 q.1 top.2 r top.3 in
-      let b : (w : Wanted) × (slice_get client.talk.wants j ≡ Some (Some w)) × Bears r w.place =
-      place_is client.talk.wants r j bears in
+      let b = place_is client.talk.wants r j bears in
       let pw : (p : Fields × Option ℕ) × (slice_get places j ≡ Some p) × (b.0.place ≡ p.0) =
       c.wanted j b.0 (ap (λ o. unwrap_or o None) b.1) in
       let same : k ≡ j = differ k j q.0 pw.0 q.1 pw.1 (one_place r q.0.0 pw.0.0 matched.1 (subst (Bears r) pw.2 b.2)) in

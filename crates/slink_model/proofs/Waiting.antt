@@ -90,8 +90,7 @@ the_last (l ∷ before) line are = let more : AreLines before × IsLine line = t
 -- The CR and LF of a line that isn't reported are on their way.
 pub asking_waits : (line taken way : List ℕ) → IsAsking line taken way → 2 ≤ length way
 asking_waits line taken [] a =
-    let all : reported (written_bytes (a.before ++ line ∷ []) ++ []) ≡ length (a.before ++ line ∷ []) + reported [] =
-    all_reported (a.before ++ line ∷ []) [] a.are_lines in
+    let all = all_reported (a.before ++ line ∷ []) [] a.are_lines in
     let same : reported (written_bytes (a.before ++ line ∷ []) ++ []) ≡ length a.before =
     ap reported (append-nil (written_bytes (a.before ++ line ∷ [])) ∙ (sym a.written ∙ append-nil taken))
     ∙ ap length a.reported in
@@ -111,8 +110,7 @@ asking_waits line taken (x ∷ []) a =
     ) in
     let cut : taken ≡ written_bytes a.before ++ (line ++ 13 ∷ []) =
     (same_cut taken (x ∷ []) (written_bytes a.before ++ (line ++ 13 ∷ [])) (10 ∷ []) long split).0 in
-    let all : reported (written_bytes a.before ++ (line ++ 13 ∷ [])) ≡ length a.before + reported (line ++ 13 ∷ []) =
-    all_reported a.before (line ++ 13 ∷ []) are.0 in
+    let all = all_reported a.before (line ++ 13 ∷ []) are.0 in
     let one : reported (line ++ 13 ∷ []) ≡ suc (reported []) = one_reported line [] are.1 in
     absurd (omega (arith, all, one, ap reported cut, ap length a.reported))
 asking_waits line taken (x ∷ y ∷ way) a = omega arith

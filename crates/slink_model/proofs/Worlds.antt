@@ -6,7 +6,6 @@ use Rattle.std.proofs.lemmas.List.{get_or_default, length-map}
 use Rattle.std.proofs.lemmas.Option.{slice_get-map, same_Some, slice_get_within}
 use Rattle.slink_wire.specs.Place.{Bears, Fields}
 use Rattle.slink_feed.specs.declared.dialogue.Wanted.{Wanted}
-use Rattle.slink_feed.specs.declared.grant.Grant.{Grant}
 use Rattle.slink_model.specs.declared.world.Setup.{Setup}
 use Rattle.slink_model.specs.declared.world.Step.{Step}
 use Rattle.slink_model.specs.declared.world.Step.TheVariants.{Append, Connect, ToServer, ToClient, Send, Cut}
@@ -24,14 +23,13 @@ use Rattle.slink_model.specs.World.{AllHappen, Both, Connects, Differ, Happens, 
 use Rattle.slink_model.specs.World.{Lists, Numbers, WorldState, empty_window, number_at, opening, pushed_to, sent_on}
 use Rattle.slink_model.specs.World.{taking, with_one}
 use Rattle.slink_feed.proofs.Fitting.{none_at}
-use Rattle.slink_feed.proofs.Items.{at_number, get_here, get_there, one_value, same_or_not, set_here}
-use Rattle.slink_feed.proofs.Items.{set_there, shows_more, within_is}
+use Rattle.slink_feed.proofs.Items.{at_number, get_here, get_there, one_value, same_or_not, set_here, set_there}
+use Rattle.slink_feed.proofs.Items.{shows_more, within_is, drop_none}
 use Rattle.slink_model.proofs.Linked.{any, sent_link}
 use Rattle.slink_model.proofs.Outcomes.{place_written}
 use Rattle.slink_model.proofs.Served.{serves_link}
 use Rattle.slink_model.proofs.Following.{holds_pushed, way_any, way_few, way_pushed}
 use Rattle.slink_model.proofs.Taken.{ClientTies, reads_ties}
-use Rattle.slink_feed.proofs.Items.{drop_none}
 
 -- the last element, or one before it
 get_last : (xs : List (List ℕ)) (b : List ℕ) (i : ℕ) (r : List ℕ) → slice_get (xs ++ b ∷ []) i ≡ Some r
@@ -73,17 +71,12 @@ module _ (places : Places) (first : ℕ) where
           places_are = λ i below. elim (same_or_not i k) [
             | inl e ↦ subst (λ y. IsOnWay any first (get_or now y []) (get_or w.held y []) (number_at w.start y)
                 (number_at l.first_sent y) (grant_at l.session.state.grants y) (of_place y ties.items)) (sym e)
-                (subst (λ F. IsOnWay any first F (get_or w.held k []) (number_at w.start k) (number_at l.first_sent k)
-                (grant_at l.session.state.grants k) (of_place k ties.items))
-                (sym (set_here w.pushed k (get_or w.pushed k [] ++ b ∷ []) [] lt))
+                (rw (← (set_here w.pushed k (get_or w.pushed k [] ++ b ∷ []) [] lt)) at
                 (way_pushed any first (get_or w.pushed k []) (get_or w.held k []) (number_at w.start k)
                 (number_at l.first_sent k) (grant_at l.session.state.grants k) (of_place k ties.items) b
-                (subst (λ y. IsOnWay any first (get_or w.pushed y []) (get_or w.held y []) (number_at w.start y)
-                (number_at l.first_sent y) (grant_at l.session.state.grants y) (of_place y ties.items)) e
-                (ties.places_are i below))))
-            | inr ne ↦ subst (λ F. IsOnWay any first F (get_or w.held i []) (number_at w.start i)
-                (number_at l.first_sent i) (grant_at l.session.state.grants i) (of_place i ties.items))
-                (sym (set_there w.pushed k i (get_or w.pushed k [] ++ b ∷ []) [] ne)) (ties.places_are i below)
+                (rw e at (ties.places_are i below))))
+            | inr ne ↦ rw (← (set_there w.pushed k i (get_or w.pushed k [] ++ b ∷ []) [] ne)) at
+                (ties.places_are i below)
           ];
           room = ties.room;
         },
@@ -201,9 +194,7 @@ module _ (places : Places) (first : ℕ) where
             flow = λ _. refl;
             before = λ _ k. (refl, none_sent 16 k);
             within = λ k _. refl;
-            places_are = λ k lt. subst (λ (o : Option Grant). IsOnWay any first (get_or w.pushed k [])
-                (get_or w.held k []) (number_at w.start k) (number_at (replicate 16 None) k) o [])
-                (sym (ap (λ (gs : Grants). grant_at gs k) grants ∙ none_at 16 k)) refl;
+            places_are = λ k lt. rw (ap (λ (gs : Grants). grant_at gs k) grants ∙ none_at 16 k) refl;
             room = refl;
           },
         );
@@ -221,8 +212,7 @@ module _ (places : Places) (first : ℕ) where
       = serves_link places first w.windows w.pushed w.client w.held w.start t.shown t.holds l.first_sent l.session
       (take n l.to_server) l.to_client m.session m.to_client s.serves tied.0 tied.1 in (
         done.0,
-        subst (λ (f : Numbers). LinkTies places first (λ k. any) w.pushed w.client w.held w.start
-            m.session.state f m.to_client) (sym s.first_sent) done.1,
+        rw (← s.first_sent) at done.1,
       )
 
   -- Send
@@ -300,8 +290,7 @@ module _ (places : Places) (first : ℕ) where
       = relaxed (λ k x. first + length (get_or w.pushed k []) < x + 2 ^ 24) w.pushed v.client v.held v.start
       l.session.state l.first_sent (drop n l.to_client) d.link in
       record {
-        shown = subst (λ (x : List Window). AreShown places first x v.pushed) (sym windows)
-            (subst (AreShown places first w.windows) (sym pushed) t.shown);
+        shown = rw (← windows) at (subst (AreShown places first w.windows) (sym pushed) t.shown);
         sound = subst (AreOfPlaces places) (sym pushed) t.sound;
         wanted = d.wanted;
         plain = d.plain;
@@ -314,8 +303,7 @@ module _ (places : Places) (first : ℕ) where
               m.to_client) (sym pushed)
               (subst (λ (x : SessionState). LinkTies places first (λ k. any) w.pushed v.client v.held v.start x.state
               m.first_sent m.to_client) (sym s.session)
-              (subst (λ (x : Numbers). LinkTies places first (λ k. any) w.pushed v.client v.held v.start
-              l.session.state x m.to_client) (sym s.first_sent)
+              (rw (← s.first_sent) at
               (subst (LinkTies places first (λ k. any) w.pushed v.client v.held v.start l.session.state l.first_sent)
               (sym s.left) now))),
         );

@@ -1,7 +1,6 @@
 -- A server, a client and at most one link between them, and what each step of a schedule does.
 use Rattle.std.specs.Prelude.{false, ◌≡◌, ℕ, ◌<◌, List, [], ◌∷◌, ◌++◌, length, map, take, drop, replicate, Option, Some}
-use Rattle.std.specs.Prelude.{None}
-use Rattle.std.specs.Prelude.{option_map, unwrap_or, slice_get, slice_set, slice_index_or}
+use Rattle.std.specs.Prelude.{None, option_map, unwrap_or, slice_get, slice_set, slice_index_or}
 use Rattle.std.specs.Global.{Vec}
 use Rattle.slink_wire.specs.Lines.{IsHeld}
 use Rattle.slink_wire.specs.Place.{Fields, Bears}

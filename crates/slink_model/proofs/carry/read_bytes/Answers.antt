@@ -17,17 +17,14 @@ loop-offset-preserved c = record {
       ∙ sym (at_offset c.args.bytes.now c.loop-offset.offset c.read_piece-used.result.0))
       (c.read_piece-used.ensures.reads c.args.first_sent.now (lists_of c.loop-offset.held) c.loop-offset.start.items
       c.loop-offset.to_server.items (drop (c.loop-offset.offset + c.read_piece-used.result.0) c.args.bytes.now) last
-      (subst (λ (t : Taking). Reads c.args.first_sent.now t
-      (drop (c.loop-offset.offset + c.read_piece-used.result.0) c.args.bytes.now) last)
-      (c.in_ok-note.ensures c.read_piece-used.new.client) more)));
+      (rw (← (c.in_ok-note.ensures c.read_piece-used.new.client)) more)));
 }
 
 pub returns-after-loop-offset-clause-reads : goal.returns-after-loop-offset-clause-reads
 returns-after-loop-offset-clause-reads c =
     let t : Taking = with_client c.loop-offset.client (lists_of c.loop-offset.held) c.loop-offset.start.items
     c.loop-offset.to_server.items in
-    c.loop-offset.invariant.rest t (reads_all c.args.first_sent.now t c.args.bytes.now c.loop-offset.offset
-    c.loop-offset-test.false)
+    c.loop-offset.invariant.rest t (reads_all _ _ c.args.bytes.now c.loop-offset.offset c.loop-offset-test.false)
 
 pub returns-then-used-eq0-clause-reads : goal.returns-then-used-eq0-clause-reads
 returns-then-used-eq0-clause-reads c =
@@ -38,8 +35,5 @@ returns-then-used-eq0-clause-reads c =
     let same : u ≡ t = ap (λ client. with_client client (lists_of c.loop-offset.held) c.loop-offset.start.items
     c.loop-offset.to_server.items)
     (c.read_piece-used.ensures.none c.if-used-eq0.true).1 in
-    subst (λ (x : Taking). Reads c.args.first_sent.now
-    (with_client c.args.client.now (lists_of c.args.held.now) c.args.start.now.items c.args.to_server.now.items)
-    c.args.bytes.now x) (sym same)
-    (c.loop-offset.invariant.rest t (rest_lost c.args.first_sent.now t (drop c.loop-offset.offset c.args.bytes.now)
-    (c.read_piece-used.ensures.none c.if-used-eq0.true).0))
+    rw (← same) at
+    (c.loop-offset.invariant.rest t (rest_lost _ _ _ (c.read_piece-used.ensures.none c.if-used-eq0.true).0))

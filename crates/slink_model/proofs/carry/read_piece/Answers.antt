@@ -9,9 +9,8 @@ returns-clause-reads c first_sent held start to_server rest last more =
 
 pub returns-clause-none : goal.returns-clause-none
 returns-clause-none c none =
-    nothing_read c.args.client.now c.take.new.self c.args.bytes.now c.take.result.0 c.take.result.1 c.requires.some
-    c.requires.keeps (bytes_read _ _ _ _ _ c.take.ensures.brings c.take.ensures.whole c.take.ensures.unlinked
-    c.take.ensures.ended) none
+    nothing_read _ _ _ _ _ c.requires.some c.requires.keeps
+    (bytes_read _ _ _ _ _ c.take.ensures.brings c.take.ensures.whole c.take.ensures.unlinked c.take.ensures.ended) none
 
 pub returns-clause-keeps : goal.returns-clause-keeps
 returns-clause-keeps c =

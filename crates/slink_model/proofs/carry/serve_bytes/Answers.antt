@@ -23,5 +23,4 @@ loop-start-preserved c = record {
 
 pub returns-clause-serves : goal.returns-clause-serves
 returns-clause-serves c = c.loop-start.invariant.rest c.loop-start.session c.loop-start.to_client.items
-    (serves_all c.args.feed.now c.loop-start.session c.args.bytes.now c.loop-start.start c.loop-start.to_client.items
-    c.loop-start-test.false)
+    (serves_all _ _ c.args.bytes.now c.loop-start.start _ c.loop-start-test.false)

@@ -8,7 +8,8 @@ abbrev pub invariant-loop-start : goal.invariant-loop-start
 invariant-loop-start l = record {
   within : l.start ≤ length l.bytes;
   fits : Fits l.feed l.session.state;
-  rest : (last : SessionState) (all : List ℕ) → Serves l.feed l.session (drop l.start l.bytes) l.to_client.items last all
+  rest : (last : SessionState) (all : List ℕ)
+      → Serves l.feed l.session (drop l.start l.bytes) l.to_client.items last all
       → Serves l.feed l.fn.session l.bytes l.fn.to_client.items last all;
 }
 

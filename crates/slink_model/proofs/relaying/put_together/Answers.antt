@@ -13,8 +13,6 @@ assemble-requires-clause-records c =
 
 pub returns-in-Ok-clause-ok : goal.returns-in-Ok-clause-ok
 returns-in-Ok-clause-ok c = λ records among.
-    part_held c.a_stretch_reads_back.ensures.assembled c.a_stretch_reads_back.ensures.part c.args.series.now
-    c.in-Ok.series records c.args.held.now
+    part_held c.a_stretch_reads_back.ensures.assembled c.a_stretch_reads_back.ensures.part _ c.in-Ok.series _ _
     (some_are c.args.held.now c.if-is_empty.ensures) among
-    (subst (λ (codes : List ℕ). IsOfRecords (Ok c.in-Ok.series) codes c.args.held.now) c.codes.ensures
-    c.in-Ok.ensures)
+    (subst (λ (codes : List ℕ). IsOfRecords (Ok c.in-Ok.series) codes c.args.held.now) c.codes.ensures c.in-Ok.ensures)

@@ -11,17 +11,13 @@ send-requires-clause-reads c =
     let chunks = c.as_chunks.ensures.front ∙ ap (λ (bytes : List ℕ). first_chunks 512 (length bytes / 512) bytes)
     c.deref.ensures.value in
     subst (ReadsAs c.args.series.now)
-    (sym (cut_out c.one_length.ensures c.args.series.now c.args.options.now c.in_ok-packed.packed.items
-    c.as_chunks.result.0.now c.requires.exponent packed chunks)) packed.reads
+    (sym (cut_out c.one_length.ensures _ _ _ _ c.requires.exponent packed chunks)) packed.reads
 
 pub returns : goal.returns
 returns c =
     let packed = c.in_ok-packed.ensures.ok in
     let chunks = c.as_chunks.ensures.front ∙ ap (λ (bytes : List ℕ). first_chunks 512 (length bytes / 512) bytes)
     c.deref.ensures.value in
-    let same = cut_out c.one_length.ensures c.args.series.now c.args.options.now c.in_ok-packed.packed.items
-    c.as_chunks.result.0.now c.requires.exponent packed chunks in
-    relayed c.args.series.now c.args.options.now c.args.setup.now c.args.steps.now c.as_chunks.result.0.now
-    c.send.result packed.fits
-    (subst (IsPacking c.args.series.now c.args.options.now) (sym same) packed.packing) c.send.ensures.ok
-    c.send.ensures.err
+    let same = cut_out c.one_length.ensures _ _ _ _ c.requires.exponent packed chunks in
+    relayed _ _ _ _ _ _ packed.fits (subst (IsPacking c.args.series.now c.args.options.now) (sym same) packed.packing)
+    c.send.ensures.ok c.send.ensures.err

@@ -30,8 +30,7 @@ put_together-requires-clause-few c =
     let ofs = fed_are_of c.a_stretch_reads_back.ensures.channel c.args.series.now c.args.setup.now relayable.channel
     c.args.steps.now c.args.records.now c.deref.result.now c.requires.reads c.told-records relayable.each same in
     let run = c.in-Ok.ensures.happen in
-    let held = held_are_few c.pushes_what_is_appended.ensures.pushed c.args.setup.now c.args.series.now.codes
-    relayable.channel c.deref.result.now (seen c.in-Ok.world) c.first_of.result.now (2 ^ 24) few ofs run
+    let held = held_are_few c.pushes_what_is_appended.ensures.pushed _ _ relayable.channel _ _ _ (2 ^ 24) few ofs run
     (c.in-Ok.ensures.brief run few) c.first_of.ensures in
     omega (arith, held)
 
@@ -44,9 +43,8 @@ put_together-requires-clause-among c =
     c.args.steps.now c.args.records.now c.deref.result.now c.requires.reads c.told-records relayable.each same in
     let run = c.in-Ok.ensures.happen in (
       c.args.records.now,
-      held_among c.pushes_what_is_appended.ensures.pushed c.args.series.now c.args.setup.now relayable.channel
-          c.args.steps.now c.args.records.now c.deref.result.now (seen c.in-Ok.world) c.first_of.result.now
-          c.requires.reads relayable.each same ofs run (c.in-Ok.ensures.brief run few) c.first_of.ensures,
+      held_among c.pushes_what_is_appended.ensures.pushed _ _ relayable.channel _ _ _ _ _ c.requires.reads
+          relayable.each same ofs run (c.in-Ok.ensures.brief run few) c.first_of.ensures,
     )
 
 pub returns-clause-ok : goal.returns-clause-ok
@@ -57,10 +55,8 @@ returns-clause-ok c =
     let ofs = fed_are_of c.a_stretch_reads_back.ensures.channel c.args.series.now c.args.setup.now relayable.channel
     c.args.steps.now c.args.records.now c.deref.result.now c.requires.reads c.told-records relayable.each same in
     let run = c.in-Ok.ensures.happen in
-    let among = held_among c.pushes_what_is_appended.ensures.pushed c.args.series.now c.args.setup.now
-    relayable.channel c.args.steps.now c.args.records.now c.deref.result.now (seen c.in-Ok.world)
-    c.first_of.result.now c.requires.reads relayable.each same ofs run (c.in-Ok.ensures.brief run few)
-    c.first_of.ensures in
+    let among = held_among c.pushes_what_is_appended.ensures.pushed _ _ relayable.channel _ _ _ _ _ c.requires.reads
+    relayable.each same ofs run (c.in-Ok.ensures.brief run few) c.first_of.ensures in
     IfOk-weaker c.put_together.result (λ t. (records : List (List ℕ))
     → IsAmong c.args.series.now records c.first_of.result.now
     → IsHeldAs t c.args.series.now records c.first_of.result.now)

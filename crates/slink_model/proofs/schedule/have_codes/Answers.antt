@@ -13,8 +13,7 @@ loop-place-preserved c = λ k p lt here.
     let below : c.loop-place.place-index < length places = omega (arith, c.loop-place-test.true, ap length same) in
     let item : c.loop-place-item.result ≡ get_or places c.loop-place.place-index c.loop-place-item.result =
     c.loop-place-item.is ∙ ap (λ xs. get_or xs c.loop-place.place-index c.loop-place-item.result) same in
-    let at : slice_get places c.loop-place.place-index ≡ Some c.loop-place-item.result =
-    got places c.loop-place.place-index c.loop-place-item.result below item in
+    let at = got places c.loop-place.place-index c.loop-place-item.result below item in
     elim (same_or_not k c.loop-place.place-index) [
       | inl e ↦ subst (λ (q : Fields × Option ℕ). IsField 5 q.0.station × IsField 2 q.0.network)
           (one_value (slice_get places c.loop-place.place-index) c.loop-place-item.result p at

@@ -1,13 +1,10 @@
-use Rattle.std.proofs.Common.{inl, inr, refl, ◌≡◌, ℕ, ◌+◌, ◌^◌, ◌<◌, ◌≤◌, List, arith, ap, sym, subst, drop, get_or}
-use Rattle.std.proofs.Common.{length}
-use Rattle.std.proofs.Common.{[]}
+use Rattle.std.proofs.Common.{inl, inr, refl, ◌≡◌, ℕ, ◌+◌, ◌^◌, ◌<◌, ◌≤◌, List, arith, ap, sym, subst, drop, length, []}
 use Rattle.std.proofs.lemmas.List.{drop_all}
 use Rattle.slink_model.specs.declared.world.Step.{Step}
 use Rattle.slink_model.specs.declared.world.Step.TheVariants.{Append}
 use Rattle.slink_model.specs.Running.{AreRings}
 use Rattle.slink_model.specs.World.{AllHappen, WorldState, opening, seen}
 use Rattle.slink_model.specs.Spared.{AreAskable}
-use Rattle.slink_model.specs.Slice.{IsSchedule, IsSound}
 use Rattle.slink_model.proofs.Briefly.{brief_held}
 use Rattle.slink_model.proofs.Calling.{answered_after}
 use Rattle.slink_model.proofs.CountedWorld.{the_counted_world}
@@ -32,22 +29,16 @@ loop-step-init c = record {
 
 pub step-requires-clause-possible : goal.step-requires-clause-possible
 step-requires-clause-possible c =
-    possible c.args.setup.now.places.items (2 ^ 24 + c.loop-step.step-index) c.loop-step.world.feed
-    (get_or c.args.steps.now c.loop-step.step-index (Append 0 [])) c.loop-step.invariant.rings
-    (omega (arith, c.loop-step-test.true, c.requires.few))
+    possible _ _ _ _ c.loop-step.invariant.rings (omega (arith, c.loop-step-test.true, c.requires.few))
     (c.requires.steps c.loop-step.step-index (Append 0 []) (omega (arith, c.loop-step-test.true)))
 
 pub loop-step-preserved : goal.loop-step-preserved
 loop-step-preserved c =
     let more : (2 ^ 24 + c.loop-step.step-index) + 1 ≡ 2 ^ 24 + (c.loop-step.step-index + 1) = omega arith in record {
       running = c.in_ok-step.ensures.running;
-      rings = subst (λ n. AreRings c.args.setup.now.places.items n c.step.new.self.feed) more
-          (rings_on c.args.setup.now.places.items (2 ^ 24 + c.loop-step.step-index) (seen c.loop-step.world)
-          (seen c.step.new.self) (get_or c.args.steps.now c.loop-step.step-index (Append 0 []))
-          c.loop-step.invariant.rings c.in_ok-step.ensures.happens);
+      rings = rw more at (rings_on _ _ _ _ _ c.loop-step.invariant.rings c.in_ok-step.ensures.happens);
       sound = λ k lt. elim (same_or_not k c.loop-step.step-index) [
-        | inl here ↦ subst (λ i. IsSound (get_or c.args.steps.now i (Append 0 [])))
-            (sym here) c.in_ok-step.ensures.sound
+        | inl here ↦ rw (← here) at c.in_ok-step.ensures.sound
         | inr other ↦ c.loop-step.invariant.sound k (omega (arith, lt, other))
       ];
       rest = λ last rest. c.loop-step.invariant.rest last
@@ -59,8 +50,7 @@ loop-step-preserved c =
 happened : (steps : List Step) (n : ℕ) (opening now : WorldState) → length steps ≤ n
     → ((last : WorldState) → AllHappen now (drop n steps) last → AllHappen opening steps last)
     → AllHappen opening steps now
-happened steps n opening now past rest =
-    rest now (subst (λ more. AllHappen now more now) (sym (drop_all n steps past)) refl)
+happened steps n opening now past rest = rest now (rw (drop_all n steps past) refl)
 
 pub returns : goal.returns
 returns c =
@@ -68,9 +58,8 @@ returns c =
     let happens : AllHappen (opening c.args.setup.now) c.args.steps.now now =
     happened c.args.steps.now c.loop-step.step-index (opening c.args.setup.now) now
     (omega (arith, c.loop-step-test.false)) c.loop-step.invariant.rest in
-    let schedule : IsSchedule c.args.setup.now c.args.steps.now =
-    schedule_is c.args.setup.now c.args.steps.now c.requires.count c.requires.capacity.1 c.requires.differ
-    c.requires.steps (λ k lt. c.loop-step.invariant.sound k (omega (arith, lt))) in
+    let schedule = schedule_is c.args.setup.now c.args.steps.now c.requires.count c.requires.capacity.1
+    c.requires.differ c.requires.steps (λ k lt. c.loop-step.invariant.sound k (omega (arith, lt))) in
     let askable : 0 < length c.args.setup.now.places.items → AreAskable c.args.setup.now.places.items =
     λ some. record { some = some; codes = c.have_codes.ensures; numbers = c.requires.numbers } in
     record {
@@ -85,6 +74,5 @@ returns c =
       goes_on = λ run lacks some l at linked. goes_on_after c.args.setup.now c.args.steps.now now run schedule
           (askable some) lacks l at linked;
       spared = λ some. client_spared c.args.setup.now c.args.steps.now now happens schedule (askable some);
-      only = λ some other run. one_world c.args.setup.now c.args.steps.now other now run happens schedule
-          (askable some);
+      only = λ some other run. one_world _ _ _ _ run happens schedule (askable some);
     }
