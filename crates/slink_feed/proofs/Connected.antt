@@ -423,16 +423,14 @@ before_given feed k last s u (a ∷ more) is gives =
     let one : sent feed s k ≡ (s, sents.Wait) = before_in s.phase feed s k is in
     let same : (sent feed s k).0 ≡ s = ap (λ (x : State × Sent). x.0) one in
     let waits : a ≡ sents.Wait = sym gives.0 ∙ ap (λ (x : State × Sent). x.1) one in
-    let rest : (u ≡ s) × (all_sent more ≡ []) =
-    before_given feed (place_after feed k) last s u more is
+    let rest = before_given feed (place_after feed k) last s u more is
     (subst (λ (t : State). Gives feed (place_after feed k) t more last u) same gives.1) in
     (rest.0, ap (λ b. sent_bytes b ++ all_sent more) waits ∙ rest.1)
 
 pub before_sent : (feed : List Window) (old new : Attending) → IsBefore old.session.state.phase → SendsAll feed old new
     → (new.session ≡ old.session) × (new.written.bytes ≡ old.written.bytes)
 before_sent feed old new is sends =
-    let one : (new.session.state ≡ old.session.state) × (all_sent sends.given ≡ []) =
-    before_given feed 0 sends.place old.session.state new.session.state sends.given is sends.gives in (
+    let one = before_given feed 0 sends.place old.session.state new.session.state sends.given is sends.gives in (
       ap (λ (x : State). record { state = x; held = new.session.held }) one.0
           ∙ ap (λ h. record { state = old.session.state; held = h }) sends.held,
       sends.written.bytes ∙ (ap (λ b. old.written.bytes ++ b) one.1 ∙ append-nil old.written.bytes),

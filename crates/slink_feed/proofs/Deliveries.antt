@@ -181,12 +181,8 @@ module _ (old now new : Fetching) (bytes : List ℕ) (offset used : ℕ) (event 
   pub one_more : (after : Counts) → IsDelivered event before after now.written new.written now.output new.output
       → SoFar old new bytes (offset + used) after.written after.output
   one_more after done =
-      let lines : lines_written (so_far.reported ++ event_if_any event) ≡ lines_written so_far.reported ++ line_written
-      event =
-      joined_once line_written so_far.reported event refl in
-      let records : bytes_reported (so_far.reported ++ event_if_any event) ≡ bytes_reported so_far.reported ++
-      record_reported event =
-      joined_once record_reported so_far.reported event refl in
+      let lines = joined_once line_written so_far.reported event refl in
+      let records = joined_once record_reported so_far.reported event refl in
       record {
         reported = so_far.reported ++ event_if_any event;
         within = omega (arith, so_far.within, piece.bound);

@@ -17,8 +17,7 @@ ahead_lost o n lt near = omega (arith, lt, near)
 resolved_there : (w : Window) (n : ℕ) → length w.records ≤ 1000000 → n ≤ w.next → oldest_of w ≤ n
     → resolve_of w (n % 2 ^ 24) ≡ Some n
 resolved_there w n few at_most there =
-    let ahead : ahead_of w (n % 2 ^ 24) ≡ n - oldest_of w =
-    ahead_there (oldest_of w) n there (omega (arith, few, at_most)) in
+    let ahead = ahead_there (oldest_of w) n there (omega (arith, few, at_most)) in
     elim (leb_tells (ahead_of w (n % 2 ^ 24)) (w.next - oldest_of w)) [
       | inl passes ↦ ap (λ t. if t then Some (oldest_of w + ahead_of w (n % 2 ^ 24)) else None) passes.0
           ∙ ap (λ m. Some m) (let e : oldest_of w + ahead_of w (n % 2 ^ 24) ≡ n = omega (arith, ahead, there) in e)
@@ -27,8 +26,7 @@ resolved_there w n few at_most there =
 
 resolved_lost : (w : Window) (n : ℕ) → w.next < n + 2 ^ 24 → n < oldest_of w → resolve_of w (n % 2 ^ 24) ≡ None
 resolved_lost w n near lost =
-    let ahead : ahead_of w (n % 2 ^ 24) ≡ n + 2 ^ 24 - oldest_of w =
-    ahead_lost (oldest_of w) n lost (omega (arith, near)) in
+    let ahead = ahead_lost (oldest_of w) n lost (omega (arith, near)) in
     elim (leb_tells (ahead_of w (n % 2 ^ 24)) (w.next - oldest_of w)) [
       | inl passes ↦ absurd (omega (arith, ahead, passes.1, near, lost))
       | inr fails ↦ ap (λ t. if t then Some (oldest_of w + ahead_of w (n % 2 ^ 24)) else None) fails.0

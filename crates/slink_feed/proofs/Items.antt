@@ -82,8 +82,7 @@ pub at_number : (w : Window) (first : ℕ) (F : List (List ℕ)) (p : ℕ) (r : 
     → record_at w p ≡ Some r → slice_get F (p - first) ≡ Some r
 at_number w first F p r h e =
     let d : ℕ = length F - w.capacity in
-    let got : (nat_lt p (oldest_of w) ≡ false) × (slice_get w.records (p - oldest_of w) ≡ Some r) =
-    got_past (nat_lt p (oldest_of w)) (slice_get w.records (p - oldest_of w)) r e in
+    let got = got_past (nat_lt p (oldest_of w)) (slice_get w.records (p - oldest_of w)) r e in
     let from : oldest_of w ≤ p = lt_false p (oldest_of w) got.0 in
     let o : oldest_of w ≡ first + d = oldest_is w first F h in
     let at : d + (p - oldest_of w) ≡ p - first = omega (arith, o, from) in

@@ -62,8 +62,7 @@ one_brought t (b ∷ bs) (c ∷ cs) k m p q e f g =
     let whole : b.whole ≡ c.whole =
     one_whole _ _ _ _ (subst (λ (bytes : List ℕ). IsWhole t.stage bytes b.whole) prefix p.0) q.0 in
     let talk : (read t b.whole).0 ≡ (read t c.whole).0 = ap (λ w. (read t w).0) whole in
-    let more : (bs ≡ cs) × (k ≡ m) =
-    one_brought (read t c.whole).0 bs cs k m (subst (λ u. AreBrought u bs) talk p.1) q.1 rest
+    let more = one_brought (read t c.whole).0 bs cs k m (subst (λ u. AreBrought u bs) talk p.1) q.1 rest
     (subst (λ u. IsRest (talk_after u bs).stage k) talk f) g in
     let one : b ≡ c = brought_same b c prefix whole in
     (ap (λ h. h ∷ bs) one ∙ ap (λ t. c ∷ t) more.0, more.1)

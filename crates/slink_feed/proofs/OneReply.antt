@@ -65,8 +65,7 @@ grows stream [] = subst (λ s. Grows (lines_of stream) (lines_of s)) (sym (appen
     (grows_same (lines_of stream) (lines_of stream) refl (λ e. e))
 grows stream (b ∷ more) =
     let one : Grows (lines_of stream) (lines_of (stream ++ b ∷ [])) = one_grows stream b in
-    let rest : Grows (lines_of (stream ++ b ∷ [])) (lines_of ((stream ++ b ∷ []) ++ more)) =
-    grows (stream ++ b ∷ []) more in
+    let rest = grows (stream ++ b ∷ []) more in
     subst (λ s. Grows (lines_of stream) (lines_of s)) (append_assoc stream (b ∷ []) more) (record {
       more = one.more ++ rest.more;
       lines = rest.lines ∙ (ap (λ ls. ls ++ rest.more) one.lines
@@ -532,16 +531,14 @@ module _ (feed : List Window) where
         → IsAnswer feed u what v reply → CutAt lines (grows stream bytes).more u v reply
     cut_at u v lines reply n More part reported tells is = absurd (replies_some reply n part is.1)
     cut_at u v lines reply n (Line line) part reported tells is =
-        let on : Grows (lines_of ((stream ++ prefix) ++ piece)) (lines_of (((stream ++ prefix) ++ piece) ++ rest)) =
-        grows ((stream ++ prefix) ++ piece) rest in
+        let on = grows ((stream ++ prefix) ++ piece) rest in
         at_line line.items on.more is.0
         (all_lines (lines ++ line.items ∷ []) on.more (tells.0
         ∙ (ap (λ ls. ls ++ line.items ∷ []) reported ∙ append_assoc (lines_of stream).lines lines (line.items ∷ [])))
         on.lines ∙ append_assoc lines (line.items ∷ []) on.more)
         is.1 is.2
     cut_at u v lines reply n TooLong part reported tells is =
-        let on : Grows (lines_of ((stream ++ prefix) ++ piece)) (lines_of (((stream ++ prefix) ++ piece) ++ rest)) =
-        grows ((stream ++ prefix) ++ piece) rest in
+        let on = grows ((stream ++ prefix) ++ piece) rest in
         at_over (all_lines lines on.more (tells.0 ∙ reported) on.lines
         ∙ (ap (λ m. lines ++ m) (on.over tells.1).0 ∙ append-nil lines)) is
 

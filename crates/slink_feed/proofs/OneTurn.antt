@@ -101,9 +101,7 @@ gives_split : (feed : List Window) (k last : ℕ) (s v : State) (some more : Lis
     × Gives feed p u more last v
 gives_split feed k last s v [] more gives = (k, s, (refl, refl), gives)
 gives_split feed k last s v (a ∷ some) more gives =
-    let rest : (p : ℕ) × (u : State) × Gives feed (place_after feed k) (sent feed s k).0 some p u
-    × Gives feed p u more last v =
-    gives_split feed (place_after feed k) last (sent feed s k).0 v some more gives.1 in
+    let rest = gives_split feed (place_after feed k) last (sent feed s k).0 v some more gives.1 in
     (rest.0, rest.1, (gives.0, rest.2), rest.3)
 
 within_given : (feed : List Window) (k last : ℕ) (s u : State) (given : List Sent) → k < length feed
@@ -169,9 +167,7 @@ round_over [] s v w p last given rest waited gives more =
     still_given [] v (λ k. Unit {0}) (λ k is. tt) (λ k is. still_in v.phase v k) p last w rest tt more
 round_over (ring ∷ rings) s v w p last given rest waited gives more =
     let feed : List Window = ring ∷ rings in
-    let parts : (q : ℕ) × (u : State) × Gives feed 0 s waited.0 q u
-    × Gives feed q u (replicate (length feed) sents.Wait) p v =
-    gives_split feed 0 p s v waited.0 (replicate (length feed) sents.Wait)
+    let parts = gives_split feed 0 p s v waited.0 (replicate (length feed) sents.Wait)
     (subst (λ xs. Gives feed 0 s xs p v) waited.1 gives) in
     let some : 0 < length feed = omega arith in
     let within : parts.0 < length feed = within_given feed 0 parts.0 s parts.1 waited.0 some parts.2 in

@@ -56,8 +56,7 @@ text_eq xs ys e = by_test (pointwise nat_eq xs ys) refl
 
 pub same_place : (a b : Fields) (t : Bool) → t ≡ fields_eq a b → t ≡ true → a ≡ b
 same_place a b t is h =
-    let each : (true ≡ pointwise nat_eq a.station b.station) × (true ≡ pointwise nat_eq a.network b.network) =
-    both_true (pointwise nat_eq a.station b.station) (pointwise nat_eq a.network b.network) (sym h ∙ is) in
+    let each = both_true (pointwise nat_eq a.station b.station) (pointwise nat_eq a.network b.network) (sym h ∙ is) in
     ap (λ (s : List ℕ). record { station = s; network = a.network }) (same_text a.station b.station each.0)
     ∙ ap (λ (n : List ℕ). record { station = b.station; network = n }) (same_text a.network b.network each.1)
 

@@ -76,9 +76,8 @@ part_prefixed t r rs d at long small lt =
     let stream : take d (p ++ all_packets rs) ≡ take d p =
     take-append-le d p (all_packets rs) (omega (arith, all, lt)) in
     let none : d / 520 ≡ 0 = omega (arith, lt) in
-    let begun : IsBegun t.stage (take d p) =
-    prefix_begun t.stage (take d p) (drop d p) (Packet r.number r.bytes) (omega (arith, length-drop d p, all, lt))
-    (rw (← (take-append-drop d p)) at (packet_whole t r at long small)) in
+    let begun = prefix_begun t.stage (take d p) (drop d p) (Packet r.number r.bytes)
+    (omega (arith, length-drop d p, all, lt)) (rw (← (take-append-drop d p)) at (packet_whole t r at long small)) in
     let now : Listening = record { talk = t; kept = take d p } in (
       now,
       subst (λ (xs : List ℕ). Reads t xs (record_events (take (d / 520) (r ∷ rs))) now) (sym stream)

@@ -73,8 +73,7 @@ quiet_lines t last (r ∷ rs) quiet of go =
     let past : Reporting = reporting_past t p r.number in
     let wants : Wants = with_next t.wants p m in
     let some : (w : Wanted) × (want_at t.wants p ≡ Some w) = place_some t.wants r.bytes p of.1 in
-    let parts : IfSome (next_at t.wants p) (λ x. r.number ≡ x) × GoBy false (Some m) (numbers_at p rs) (last p) =
-    go_parts (next_at t.wants p) r.number (numbers_at p rs) (last p)
+    let parts = go_parts (next_at t.wants p) r.number (numbers_at p rs) (last p)
     (go_here p r rs (next_at t.wants p) (last p) refl (go p)) in
     let first : List (List ℕ) = first_lines (unwrap_or (slice_get t.firsts p) false) (want_at t.wants p) r.number in
     let unreported : first ≡ [] = ap (λ b. first_lines b (want_at t.wants p) r.number) (quiet p) in

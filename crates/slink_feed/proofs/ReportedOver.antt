@@ -218,8 +218,7 @@ reported_brought : (t : Talk) (bs : List Brought) → AreBrought t bs
 reported_brought t [] are = reported_none t.holes t.wants
 reported_brought t (b ∷ bs) are =
     let x : Talk × Event = read t b.whole in
-    let one : HasReported t.holes t.wants x.0.wants (records_reported (event_if_any x.1)) =
-    reported_one t x (comes_read t t.stage b.bytes b.whole are.0) in
+    let one = reported_one t x (comes_read t t.stage b.bytes b.whole are.0) in
     let more : HasReported t.holes x.0.wants (talk_after x.0 bs).wants (records_reported (events_of x.0 bs)) =
     rw (kept_read t t.stage b.whole) at (reported_brought x.0 bs are.1) in
     rw (← (records_both (event_if_any x.1) (events_of x.0 bs))) at (reported_both _ _ _ _ _ _ one more)

@@ -208,8 +208,7 @@ takes_cut (faults.Write count) event before w w' o o' cut =
     let quiet : record_in event ≡ [] = line_alone event (omega (arith, cut.failing.part)) in
     rw (← quiet) at (subst (λ (x : BytesWritten). TakesRecords [] o x) (sym cut.other) (takes_none o))
 takes_cut (faults.Output count) event before w w' o o' cut =
-    let alone : (r : Numbered) × (record_in event ≡ r ∷ []) =
-    record_alone event (omega (arith, cut.failing.part)) in
+    let alone = record_alone event (omega (arith, cut.failing.part)) in
     but_last [] alone.0 cut.more alone.1 (omega arith)
     (subst (λ bytes. EmittedPrefix o o' bytes cut.more) (record_bytes event) cut.failing)
 
@@ -233,8 +232,7 @@ pub reports_received : (first : Talk) (bytes : List ℕ) (used : ℕ) (before af
     → b.output.failures ≡ a.output.failures → TakesNext bytes used before after now new b c
     → Reports first new.client.talk a c
 reports_received first bytes used before after now new a b c from to p fine received =
-    let done : TakesRecords (record_in received.event) now.output new.output =
-    takes_event received.event before after now.written new.written now.output new.output received.done in
+    let done = takes_event received.event before after now.written new.written now.output new.output received.done in
     reports_more first now.client new.client (now.client.kept ++ take used bytes) received.event a b c p fine
     received.comes.brings
     (rw from at (subst (λ (o : BytesWritten). TakesRecords (record_in received.event) now.output o) to done))
@@ -245,8 +243,7 @@ pub reports_cut : (first : Talk) (bytes : List ℕ) (fault : LinkFault) (before 
     → b.output.failures ≡ a.output.failures → FailsToTakeNext fault bytes before now new b c
     → Reports first new.client.talk a c
 reports_cut first bytes fault before now new a b c from to p fine received =
-    let done : TakesRecords (record_in received.event) now.output new.output =
-    takes_cut fault received.event before now.written new.written now.output new.output received.cut in
+    let done = takes_cut fault received.event before now.written new.written now.output new.output received.cut in
     reports_more first now.client new.client (now.client.kept ++ take received.used bytes) received.event a b c p fine
     received.comes.brings
     (rw from at (subst (λ (o : BytesWritten). TakesRecords (record_in received.event) now.output o) to done))

@@ -63,8 +63,7 @@ shown_at : (w : Window) (first n p : ℕ) (pushed : List (List ℕ)) (x : List �
     → record_at w p ≡ Some x → (first ≤ p) × (slice_get pushed (p - first) ≡ Some x)
 shown_at w first n p pushed x shows h =
     let read : (oldest_of w ≤ p) × (slice_get w.records (p - oldest_of w) ≡ Some x) = read_at w p x h in
-    let shown : (first ≤ p) × (slice_get (take n pushed) (p - first) ≡ Some x) =
-    shown_in w first p (take n pushed) x shows read.0 read.1 in
+    let shown = shown_in w first p (take n pushed) x shows read.0 read.1 in
     (shown.0, get_taken pushed n (p - first) x shown.1)
 
 drop_next : (xs : List (List ℕ)) (i : ℕ) (x : List ℕ) → slice_get xs i ≡ Some x → drop i xs ≡ x ∷ drop (suc i) xs
@@ -176,8 +175,7 @@ sent_more : (k first : ℕ) (pushed : List (List ℕ)) (a : Called) (packets : L
     → IsSlice first pushed (g.position + 1) packets
     → IsSlice first pushed g.position ((if a.place == k then packet_in a.answer else []) ++ packets)
 sent_more k first pushed a packets g w n bytes same is shows read rest =
-    let shown : (first ≤ g.position) × (slice_get pushed (g.position - first) ≡ Some bytes) =
-    shown_at w first n g.position pushed bytes shows read in
+    let shown = shown_at w first n g.position pushed bytes shows read in
     let one : (if a.place == k then packet_in a.answer else []) ≡ packet_bytes (g.position % 2 ^ 24) bytes ∷ [] =
     ap (λ j. if j == k then packet_in a.answer else []) same
     ∙ (ap (λ b. if b then packet_in a.answer else []) (eq-eqb k k refl) ∙ ap packet_in is) in

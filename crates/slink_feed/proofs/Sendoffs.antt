@@ -129,10 +129,8 @@ module _ (feed : List Window) (old now new : Attending) (k waits_now written : �
     counted = done.count ∙ (ap (λ n. n + length (sent_bytes x.1)) so_far.counted
         ∙ (sym (length-append (all_sent so_far.given) (sent_bytes x.1)) ∙ ap length (sym (all_more so_far.given x.1))));
     few =
-        let more : (written + length (sent_bytes x.1)) + 520 * due feed x.0 ≤ 520 * due feed old.session.state =
-        few_more feed now.session.state x written (length (sent_bytes x.1)) (520 * due feed old.session.state) moved
-        short
-        (none_waits x.1) so_far.few in
+        let more = few_more feed now.session.state x written (length (sent_bytes x.1))
+        (520 * due feed old.session.state) moved short (none_waits x.1) so_far.few in
         let e : due feed new.session.state ≡ due feed x.0 = ap (due feed) state in
         omega (arith, more, e, done.count);
     within = λ some. place_within feed k within;

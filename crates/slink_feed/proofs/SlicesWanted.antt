@@ -42,8 +42,7 @@ slice_wanted k g [] t are wanted = tt
 slice_wanted k g (r ∷ rs) t are wanted =
     let n : ℕ = (g % 2 ^ 24 + 1) % 2 ^ 24 in
     let some : (w : Wanted) × (want_at t.wants k ≡ Some w) = place_some t.wants r k are.1 in
-    let next : next_at (with_next t.wants k n) k ≡ Some n =
-    next_here t.wants k n (want_at t.wants k) some.0 refl some.1 in
+    let next = next_here t.wants k n (want_at t.wants k) some.0 refl some.1 in
     let same : (g + 1) % 2 ^ 24 ≡ n = omega arith in (
       are.0,
       omega arith,

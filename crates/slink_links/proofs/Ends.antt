@@ -35,9 +35,8 @@ none_reported _ _ _ is (one line lines old now new tells rest) = absurd (let bad
 end_reported : (end : FetchEnd) (old new : Wants) (records : List Numbered) (a d : BytesWritten)
     → HasReported false old new records → ReportsOfAll false end records old new a d → ReportsOfFetch end a d
 end_reported end old new records a d reported all =
-    let first : all.reported ≡ a =
-    none_reported (lines_of (reporting_of old false) records) a all.reported (nothing_reported old new records reported)
-    all.lines in
+    let first = none_reported (lines_of (reporting_of old false) records) a all.reported
+    (nothing_reported old new records reported) all.lines in
     let last : d ≡ all.ended = none_reported [] all.ended d refl all.next in
     rw (← last) at (subst (λ (x : BytesWritten). ReportsOfFetch end x all.ended) first all.end_line)
 

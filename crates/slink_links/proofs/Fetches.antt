@@ -284,8 +284,7 @@ reached_on end a b c linked reached = reached
 pub turned_both : (end : Option FetchEnd) (a b c : Listening) (h i j : BytesRead) (s t u : BytesWritten)
     → HasTurned None a b h i s t → HasTurned end b c i j t u → HasTurned end a c h j s u
 turned_both end a b c h i j s t u p q =
-    let emitted : Emitted s t (bytes_in (records_reported p.reported)) =
-    all_taken (records_reported p.reported) s t p.emitted (p.failures ∙ omega arith) in record {
+    let emitted = all_taken (records_reported p.reported) s t p.emitted (p.failures ∙ omega arith) in record {
       bytes = p.bytes ++ q.bytes;
       taken = taken_both end h i j p.bytes q.bytes p.taken q.taken;
       reported = p.reported ++ q.reported;
@@ -362,8 +361,7 @@ pub fetched_link : (end : FetchEnd) (old now new : Listening) (event : Event) (h
 fetched_link end old now new event h i s t says reads p =
     let all : Reads now.talk p.bytes p.reported new = p.reads now.talk [] [] reads in
     let same : now.talk.holes ≡ old.talk.holes = connected_holes old.talk now.talk event says in
-    let reported : HasReported old.talk.holes old.talk.wants new.talk.wants (records_reported p.reported) =
-    connected_reported old.talk now.talk event new.talk.wants (records_reported p.reported) says
+    let reported = connected_reported old.talk now.talk event new.talk.wants (records_reported p.reported) says
     (reported_link now.talk p.bytes p.reported new all) in record {
       records = records_reported p.reported;
       reported = reported;
@@ -393,8 +391,7 @@ pub fetched_reporting : (end : FetchEnd) (old now new : Listening) (event : Even
     → requests_place 0 old.talk ≡ (now.talk, event) → HasFetched end old new a.output b.output
     → Reports now.talk new.talk a b → FetchesReporting end old new a b
 fetched_reporting end old now new event a b says f p =
-    let reported : HasReported old.talk.holes old.talk.wants new.talk.wants p.records =
-    connected_reported old.talk now.talk event new.talk.wants p.records says p.reported in record {
+    let reported = connected_reported old.talk now.talk event new.talk.wants p.records says p.reported in record {
       fetched = record {
         records = p.records;
         reported = reported;
@@ -436,10 +433,8 @@ fetched_both end a b c s t u x y =
     let p : HasFetched LinkFailed a b s.output t.output = x.fetched in
     let q : HasFetched end b c t.output u.output = y.fetched in
     let fine : t.output.failures ≡ s.output.failures = p.failures ∙ omega arith in
-    let emitted : Emitted s.output t.output (bytes_in p.records) =
-    all_taken p.records s.output t.output p.emitted fine in
-    let reported : HasReported a.talk.holes a.talk.wants c.talk.wants (p.records ++ q.records) =
-    reported_both a.talk.holes a.talk.wants b.talk.wants c.talk.wants p.records q.records p.reported
+    let emitted = all_taken p.records s.output t.output p.emitted fine in
+    let reported = reported_both a.talk.holes a.talk.wants b.talk.wants c.talk.wants p.records q.records p.reported
     (subst (λ (h : Bool). HasReported h b.talk.wants c.talk.wants q.records) p.holes q.reported) in record {
       fetched = record {
         records = p.records ++ q.records;

@@ -155,8 +155,7 @@ closed_of feed s t k a None granted streams lt at given sends =
     ∙ ap (λ (o : Option Grant). sent_of feed s k o (slice_get feed k)) granted))
 closed_of feed s t k a (Some g) granted streams lt at given sends =
     let here = some_at feed k lt in
-    let is : sent feed s k ≡ at_next (has_sent_all feed s.grants) s =
-    sent_at_next feed s k g here.0 (here.0).next streams granted here.1 refl (at g here.0 granted here.1) in
+    let is = sent_at_next feed s k g here.0 (here.0).next streams granted here.1 refl (at g here.0 granted here.1) in
     closed_next (has_sent_all feed s.grants) s t a (sym is ∙ given) (λ e. sends (is ∙ e))
 
 pub gives_end : (feed : List Window) (k : ℕ) (old new : LinkState) → Gives feed k old new

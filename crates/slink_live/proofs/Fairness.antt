@@ -152,8 +152,7 @@ ahead_all : (feed : List Window) (k j : ℕ) (s : State) (ring : ℕ) (ks : List
     → IsAhead k turn j
 ahead_all feed k j s ring ks t turn (no_more u p) d none ahead = ahead
 ahead_all feed k j s ring ks t turn (next_called u now last p q m a more first e on) d none ahead =
-    let due : HasDue feed u j = due_back feed j u p (m ∷ more) last q (next_called u now last p q m a more first e on) d
-    none in
+    let due = due_back feed j u p (m ∷ more) last q (next_called u now last p q m a more first e on) d none in
     let never : ¬ (IsEarlier p j m) = λ x. due_sends feed u j due (first.first j (within_due feed u j due) x) in
     ahead_all feed k j now (m + 1) more last q on d (λ x. none (inr x))
     (ahead_on k p j m ahead never (λ x. none (inl x)))
@@ -194,8 +193,7 @@ pub asked_turns : (feed : List Window) (s : SessionState) (ring : ℕ) (way : Li
     → (ks : List ℕ) × TakesTurns feed s.state ring ks last.state turn
 asked_turns feed s ring way last turn all none_called = ([], no_more s.state ring)
 asked_turns feed s ring way last turn all (one_called now t m k answer on a before first given held is) =
-    let earlier : (ks : List ℕ) × TakesTurns feed s.state ring ks now.state m =
-    asked_turns feed s ring way now m on before in
+    let earlier = asked_turns feed s ring way now m on before in
     (earlier.0 ++ k ∷ [], turns_last feed s.state ring earlier.0 now.state m t.state k answer earlier.1 first given)
 
 -- What a call for a station leaves of that station: where it has no grant, all.

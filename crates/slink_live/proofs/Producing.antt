@@ -258,10 +258,8 @@ module _ (start : List Window) where
   shown log records rest k first w pushed input here s (a ∷ more) f =
       let earlier = f.0.3 in
       let whole : input_of log ≡ input_of f.0.0 ++ input_of f.0.1 = ap input_of f.0.2 ∙ input_append f.0.0 f.0.1 in
-      let grown : (tail : List (List ℕ)) × (records ≡ earlier.1.records ++ tail) =
-      input_grows (places_of start) (input_of f.0.0) (input_of f.0.1) earlier.1.records records earlier.0 rest
-      earlier.1.input
-      (subst (λ b. IsInput (places_of start) b records rest) whole input) in
+      let grown = input_grows (places_of start) (input_of f.0.0) (input_of f.0.1) earlier.1.records records earlier.0
+      rest earlier.1.input (subst (λ b. IsInput (places_of start) b records rest) whole input) in
       let ring = shows_fed start earlier.1.records k first w pushed here s in
       let so_far : List (List ℕ) = pushed ++ records_at k (places_of start) earlier.1.records in
       let all : pushed ++ records_at k (places_of start) records

@@ -65,11 +65,8 @@ pub shows_fed : (feed : List Window) (rs : List (List ℕ)) (k first : ℕ) (w :
 shows_fed feed [] k first w xs here s = (w, here, shows_nil w first xs s)
 shows_fed feed (r ∷ rs) k first w xs here s =
     let t : Bool = is_first k (places_of feed) r in
-    let one : ShowsAt (slice_get (pushed feed r) k) first (xs ++ one_if t r) =
-    shows_pushed feed r k first w xs here s in
-    let rest : (v : Window) × (slice_get (fed (pushed feed r) rs) k ≡ Some v)
-    × Shows v first ((xs ++ one_if t r) ++ records_at k (places_of (pushed feed r)) rs) =
-    shows_fed (pushed feed r) rs k first one.0 (xs ++ one_if t r) one.1 one.2 in (
+    let one = shows_pushed feed r k first w xs here s in
+    let rest = shows_fed (pushed feed r) rs k first one.0 (xs ++ one_if t r) one.1 one.2 in (
       rest.0,
       rest.1,
       subst (Shows rest.0 first) (append_assoc xs (one_if t r) (records_at k (places_of (pushed feed r)) rs)

@@ -93,9 +93,7 @@ module _ {s0 s : ServerState} (same : s0 ≡ s) where
             input = subst (IsInput (places_of start) (input_of log) v0.fed.records) (v0.goes_on on) v0.fed.input;
             feed_is = v0.fed.feed_is;
           } in
-          let both : (x : IsFedTo start (input_of log ++ bytes) new.feed rest)
-          × (length x.records ≡ length to.records + length cuts.records) =
-          cuts_on start (input_of log) s0.intake new bytes rest to cuts none in
+          let both = cuts_on start (input_of log) s0.intake new bytes rest to cuts none in
           (both.0, omega (arith, cuts.counted, v0.counted, both.1))
 
       input_now : IsInput (places_of start) (input_of last) fed_now.0.records rest

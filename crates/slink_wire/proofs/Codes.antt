@@ -52,8 +52,7 @@ field_of width field code is p q = (subst (IsCode width) is p, ap (filled width)
 spelled_parts : (text sta net : List ℕ) → text ≡ net ++ 95 ∷ sta → Lacks 95 net → (p : Fields) → SpellsPlace text p
     → IsCode 5 sta × IsCode 2 net × (p ≡ fields_of sta net)
 spelled_parts text sta net e lacks p h =
-    let same : (h.1 ≡ net) × (h.0 ≡ sta) =
-    one_cut 95 h.1 h.0 net sta (without 95 refl h.1 h.3.2) lacks (sym h.4 ∙ e) in (
+    let same = one_cut 95 h.1 h.0 net sta (without 95 refl h.1 h.3.2) lacks (sym h.4 ∙ e) in (
       subst (IsCode 5) same.1 h.2,
       subst (IsCode 2) same.0 h.3,
       h.5

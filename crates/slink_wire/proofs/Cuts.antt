@@ -97,10 +97,8 @@ pub one_cut : (byte : ℕ) (xs ys xs' ys' : List ℕ) → Lacks byte xs → Lack
     → xs ++ byte ∷ ys ≡ xs' ++ byte ∷ ys' → (xs ≡ xs') × (ys ≡ ys')
 one_cut byte xs ys xs' ys' h h' e =
     let yes : (byte == byte) ≡ true = eq-eqb byte byte refl in
-    let here : position_or_len (λ b. b == byte) (xs ++ byte ∷ ys) ≡ length xs =
-    first_at (λ b. b == byte) xs byte ys h yes in
-    let there : position_or_len (λ b. b == byte) (xs' ++ byte ∷ ys') ≡ length xs' =
-    first_at (λ b. b == byte) xs' byte ys' h' yes in
+    let here = first_at (λ b. b == byte) xs byte ys h yes in
+    let there = first_at (λ b. b == byte) xs' byte ys' h' yes in
     let long : length xs ≡ length xs' = sym here ∙ (ap (position_or_len (λ b. b == byte)) e ∙ there) in
     let prefix : xs ≡ xs' = sym (take_at xs (byte ∷ ys) (length xs) refl)
     ∙ (ap (take (length xs)) e ∙ take_at xs' (byte ∷ ys') (length xs) (sym long)) in

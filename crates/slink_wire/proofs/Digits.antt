@@ -100,8 +100,7 @@ one_number (suc k) n m hn hm same =
     same in
     let low : n % 16 ≡ m % 16 = one_digit (n % 16) (m % 16) (omega arith) (omega arith) parts.1 in
     let wide : 16 ^ suc k ≡ 16 ^ k * 16 = pow-suc 16 k in
-    let high : n / 16 ≡ m / 16 =
-    one_number k (n / 16) (m / 16) (omega (arith, wide, hn)) (omega (arith, wide, hm)) parts.0 in
+    let high = one_number k (n / 16) (m / 16) (omega (arith, wide, hn)) (omega (arith, wide, hm)) parts.0 in
     omega (arith, low, high)
 
 pub spells_one : (digits : List ℕ) (n m : ℕ) → SpellsNumber digits n → SpellsNumber digits m → n ≡ m
@@ -113,8 +112,7 @@ unfolding hexadecimal
 digit_within zero n i h = absurd (omega arith)
 digit_within (suc k) n i h = elim (leb_tells (suc i) k) [
   | inl before ↦
-      let earlier : (d : ℕ) × (d < 16) × (get_or (hexadecimal k (n / 16)) i 0 ≡ digit_byte d) =
-      digit_within k (n / 16) i before.1 in (
+      let earlier = digit_within k (n / 16) i before.1 in (
         earlier.0,
         earlier.1,
         get_or_append_left (hexadecimal k (n / 16)) (digit_byte (n % 16) ∷ []) 0 i
@@ -132,8 +130,7 @@ pub none_written : (digits : List ℕ) (i : ℕ) → i < length digits
     → ((d : ℕ) → d < 16 → to_ascii_uppercase (get_or digits i 0) ≡ digit_byte d → ⊥)
     → (n : ℕ) → SpellsNumber digits n → ⊥
 none_written digits i lt other n h =
-    let d : (d : ℕ) × (d < 16) × (get_or (hexadecimal (length digits) n) i 0 ≡ digit_byte d) =
-    digit_within (length digits) n i lt in
+    let d = digit_within (length digits) n i lt in
     other d.0 d.1 (sym (get_or-map to_ascii_uppercase digits i 0 0 lt) ∙ (ap (λ ds. get_or ds i 0) h.1 ∙ d.2))
 
 -- the digits so far, and one more

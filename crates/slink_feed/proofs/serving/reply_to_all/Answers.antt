@@ -22,8 +22,7 @@ loop-start-preserved g c =
     let old : Attending = attending c.args.session.now (g.L.Sink.written c.args.link.now) in
     let now : Attending = attending c.loop-start.session (g.L.Sink.written c.loop-start.link) in
     let new : Attending = attending c.take-used.new.self (g.L.Sink.written c.write_after.new.link) in
-    let long : length (take (length c.args.bytes.now - c.loop-start.start) (drop c.loop-start.start c.args.bytes.now))
-    ≡ length c.args.bytes.now - c.loop-start.start = piece_length c.args.bytes.now c.loop-start.start in
+    let long = piece_length c.args.bytes.now c.loop-start.start in
     let done : IsWritten (g.L.Sink.written c.loop-start.link) (g.L.Sink.written c.write_after.new.link)
     (reply_bytes c.take-used.result.1) c.loop-start.written c.in_ok-written.written =
     rw c.bytes.ensures at c.in_ok-written.ensures.ok in
@@ -68,8 +67,7 @@ returns-in_err-written-clause-stands g c = c.take-used.ensures.stands
 
 pub loop-start-smaller : goal.loop-start-smaller
 loop-start-smaller g c =
-    let long : length (take (length c.args.bytes.now - c.loop-start.start) (drop c.loop-start.start c.args.bytes.now))
-    ≡ length c.args.bytes.now - c.loop-start.start = piece_length c.args.bytes.now c.loop-start.start in
+    let long = piece_length c.args.bytes.now c.loop-start.start in
     let some = c.take-used.ensures.some (omega (arith, long, c.loop-start-test.true)) in
     omega (arith, some, long, c.take-used.ensures.bound, c.loop-start-test.true)
 

@@ -41,14 +41,12 @@ returns-clause-pushed g c =
 
 pub returns-clause-fits : goal.returns-clause-fits
 returns-clause-fits g c s fits =
-    let at : (w : Window) × (slice_get c.args.self.now c.args.k ≡ Some w) =
-    some_at c.args.self.now c.args.k c.requires.in_range in
+    let at = some_at c.args.self.now c.args.k c.requires.in_range in
     fits_pushed c.args.self.now _ c.args.k at.0 c.args.bytes.now s at.1 (returns-clause-pushed g c at.0 at.1) fits
 
 pub returns-clause-shows : goal.returns-clause-shows
 returns-clause-shows g c first pushed shows =
-    let at : (w : Window) × (slice_get c.args.self.now c.args.k ≡ Some w) =
-    some_at c.args.self.now c.args.k c.requires.in_range in
+    let at = some_at c.args.self.now c.args.k c.requires.in_range in
     subst (λ ws. IsSomeAnd (slice_get ws c.args.k) (λ w. Shows w first (pushed ++ c.args.bytes.now ∷ [])))
     (sym (returns-clause-pushed g c at.0 at.1))
     (subst (λ o. IsSomeAnd o (λ w. Shows w first (pushed ++ c.args.bytes.now ∷ [])))
@@ -57,7 +55,6 @@ returns-clause-shows g c first pushed shows =
 
 pub returns-clause-others : goal.returns-clause-others
 returns-clause-others g c j ne =
-    let at : (w : Window) × (slice_get c.args.self.now c.args.k ≡ Some w) =
-    some_at c.args.self.now c.args.k c.requires.in_range in
+    let at = some_at c.args.self.now c.args.k c.requires.in_range in
     ap (λ ws. slice_get ws j) (returns-clause-pushed g c at.0 at.1)
     ∙ get_there c.args.self.now c.args.k j (with_record at.0 c.args.bytes.now) ne

@@ -61,10 +61,8 @@ loop-start-preserved c =
     let before : Leads feed s bytes way start c.self.inside.session c.self.inside.pending.bytes =
     subst (λ (x : LinkState). Leads feed s bytes way start x.session x.pending) (sym c.self.view_is)
     c.loop-start.invariant.leads in
-    let after : Leads feed s bytes way (start + used) c.take-used.new.self
-    (c.self.inside.pending.bytes ++ reply_bytes reply) =
-    leads_on feed s c.self.inside.session c.take-used.new.self bytes way c.self.inside.pending.bytes start used reply
-    before takes in
+    let after = leads_on feed s c.self.inside.session c.take-used.new.self bytes way c.self.inside.pending.bytes start
+    used reply before takes in
     let produced : length c.queue.new.self.pending ≡ length c.self.inside.pending.bytes + length c.bytes.result.now =
     ap (λ (x : LinkState). length x.pending) c.queue.ensures
     ∙ length-append c.self.inside.pending.bytes c.bytes.result.now in
