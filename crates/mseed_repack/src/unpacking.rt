@@ -8,6 +8,7 @@ ghost use Rattle.mseed_steim.specs.Spelling.{IsWithin};
 ghost use Rattle.mseed_audit.specs.Follows.{IsSound};
 ghost use Rattle.mseed_audit.specs.Series.{AreJoined};
 ghost use Rattle.mseed_pack.specs.Stretches.{differences_from};
+ghost use Rattle.mseed_repack.specs.declared.unpacking.TheConstants.{ROOM};
 ghost use Rattle.mseed_repack.specs.private.Outline.{last_after};
 ghost use Rattle.mseed_repack.specs.private.Reading.{IsSoundWalk};
 ghost use Rattle.mseed_repack.specs.private.Supplying.{IsSupplied, IsUnpackable};
@@ -102,7 +103,7 @@ impl<'a, R> Unpacking<'a, R> {
 
 /// How long a room is.
 pub(crate) fn know_room(room: &[i32; ROOM])
-    ensures { length room.now ≡ 7056 }
+    ensures { length room.now ≡ ROOM }
 {}
 
 /// Whether a record is of Steim frames, and has no more differences than there is room for.

@@ -9,6 +9,7 @@ use Rattle.mseed_audit.specs.Follows.{IsSound}
 use Rattle.mseed_audit.specs.Series.{AreJoined}
 use Rattle.mseed_pack.specs.Options.{IsSteim as IsSteimEncoding}
 use Rattle.mseed_pack.specs.Stretches.{differences}
+use Rattle.mseed_repack.specs.declared.unpacking.TheConstants.{ROOM}
 use Rattle.mseed_repack.specs.private.Outline.{AreNear, last_after}
 use Rattle.mseed_repack.specs.private.Reading.{samples_of}
 
@@ -39,7 +40,7 @@ pub record IsSupplied {S : Type 0} (leads : S → Type 0) (left : S → List Vie
 
 -- a record is of Steim frames, and has no more differences than there is room for
 abbrev pub IsUnpackable : View → Type 0
-IsUnpackable v = IsSteim v × (count_of v ≤ 7056)
+IsUnpackable v = IsSteim v × (count_of v ≤ ROOM)
 
 -- the first and the last of some samples have 29 bits at the most, and each is near the one before it
 abbrev pub AreBounded : List ℤ → Type 0
