@@ -19,6 +19,13 @@ use mseed_record::RecordView;
 use mseed_steim::{ends_of, is_steim, unpack_differences};
 use std::marker::PhantomData;
 
+/// The bytes of a line of the cache.
+const LINE: usize = 64;
+
+/// How many lines of a record are touched before it is unpacked: all of one of 512 bytes. Of longer records the
+/// processor fetches the others by itself.
+const TOUCHED: usize = 8;
+
 /// The most differences of a record that is unpacked: as many as 1008 words hold, seven each.
 const ROOM: usize = 7 * 1008;
 
@@ -37,6 +44,8 @@ pub(crate) struct Unpacking<'a, R> {
     pub(crate) at: usize,
     /// Where they end.
     pub(crate) end: usize,
+    /// What was read of the next record.
+    touched: u8,
     /// The records lie there.
     pub(crate) records: PhantomData<RecordView<'a>>,
 }
@@ -54,6 +63,7 @@ impl<'a, R: Walk<'a>> Supply for Unpacking<'a, R> {
         let Some(view) = self.rest.next() else {
             return 0;
         };
+        self.touched = touch_next(self.rest);
         let count = usize::from(view.samples());
         if count <= out.len() {
             self.last = unpack(&view, last, &mut out[..count]);
@@ -84,6 +94,7 @@ impl<'a, R> Unpacking<'a, R> {
             room: [0; ROOM],
             at: 0,
             end: 0,
+            touched: 0,
             records: PhantomData,
         }
     }
@@ -99,6 +110,27 @@ impl<'a, R> Unpacking<'a, R> {
         out[..count].copy_from_slice(&self.room[self.at..self.at + count]);
         count
     }
+}
+
+/// Reads from each line of the next record, where there is one, so that these are fetched while another one is unpacked:
+/// records of one channel may stand far from one another. What it returns says nothing.
+fn touch_next<'a, R: Walk<'a>>(records: R) -> u8
+    requires { R.leads records }
+{
+    let mut rest = records;
+    match rest.next() {
+        Some(view) => touch(view.bytes()),
+        None => 0,
+    }
+}
+
+/// The same of the first lines of some bytes.
+fn touch(bytes: &[u8]) -> u8 {
+    let mut touched = 0;
+    for line in 0..(bytes.len() / LINE).min(TOUCHED) {
+        touched ^= bytes[LINE * line];
+    }
+    touched
 }
 
 /// How long a room is.
