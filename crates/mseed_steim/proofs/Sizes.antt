@@ -152,15 +152,15 @@ zero-add : (n : ℕ) → 0 + n ≡ n
 zero-add n = omega arith
 
 -- sixteen of a list
-pub sixteen_at : (xs : List ℕ) (from i : ℕ) → 16 + from ≤ length xs → i < 16
-    → get_or (chunk 0 16 (take (length xs - from) (drop from xs))) i 0 ≡ get_or xs (i + from) 0
-sixteen_at xs from i room inside =
-    get_or-chunk 0 16 (take (length xs - from) (drop from xs)) i 0 inside
-    ∙ ap (λ (n : ℕ). get_or (take (length xs - from) (drop from xs)) n 0) (zero-add i)
-    ∙ get_or-take (length xs - from) (drop from xs) i 0 (omega (arith, room, inside)) ∙ get_or-drop from xs i 0
-    ∙ ap (λ (n : ℕ). get_or xs n 0) (omega arith)
+pub sixteen_at : {A : Type 0} (d : A) (xs : List A) (from i : ℕ) → 16 + from ≤ length xs → i < 16
+    → get_or (chunk 0 16 (take (length xs - from) (drop from xs))) i d ≡ get_or xs (i + from) d
+sixteen_at d xs from i room inside =
+    get_or-chunk 0 16 (take (length xs - from) (drop from xs)) i d inside
+    ∙ ap (λ (n : ℕ). get_or (take (length xs - from) (drop from xs)) n d) (zero-add i)
+    ∙ get_or-take (length xs - from) (drop from xs) i d (omega (arith, room, inside)) ∙ get_or-drop from xs i d
+    ∙ ap (λ (n : ℕ). get_or xs n d) (omega arith)
 
-pub length_sixteen : (xs : List ℕ) (from : ℕ) → 16 + from ≤ length xs
+pub length_sixteen : {A : Type 0} (xs : List A) (from : ℕ) → 16 + from ≤ length xs
     → length (chunk 0 16 (take (length xs - from) (drop from xs))) ≡ 16
 length_sixteen xs from room =
     length-chunk 0 16 (take (length xs - from) (drop from xs))
@@ -255,13 +255,13 @@ put_above n a i xs ys e room long more =
     subst (λ (m : ℕ). get_or (put_mid a (m - a) xs (put_chunk 0 (mid_of a (m - a) xs) ys)) i 0 ≡ get_or xs i 0) e
     (stored_above a i xs ys (omega (arith, e, room)) long more)
 
-pub part_at : (n from i : ℕ) (xs : List ℕ) → length xs ≡ n → 16 + from ≤ n → i < 16
-    → get_or (chunk 0 16 (mid_of from (n - from) xs)) i 0 ≡ get_or xs (i + from) 0
-part_at n from i xs e room inside =
-    subst (λ (m : ℕ). get_or (chunk 0 16 (mid_of from (m - from) xs)) i 0 ≡ get_or xs (i + from) 0) e
-    (sixteen_at xs from i (omega (arith, e, room)) inside)
+pub part_at : {A : Type 0} (d : A) (n from i : ℕ) (xs : List A) → length xs ≡ n → 16 + from ≤ n → i < 16
+    → get_or (chunk 0 16 (mid_of from (n - from) xs)) i d ≡ get_or xs (i + from) d
+part_at d n from i xs e room inside =
+    subst (λ (m : ℕ). get_or (chunk 0 16 (mid_of from (m - from) xs)) i d ≡ get_or xs (i + from) d) e
+    (sixteen_at d xs from i (omega (arith, e, room)) inside)
 
-pub length_part : (n from : ℕ) (xs : List ℕ) → length xs ≡ n → 16 + from ≤ n
+pub length_part : {A : Type 0} (n from : ℕ) (xs : List A) → length xs ≡ n → 16 + from ≤ n
     → length (chunk 0 16 (mid_of from (n - from) xs)) ≡ 16
 length_part n from xs e room =
     subst (λ (m : ℕ). length (chunk 0 16 (mid_of from (m - from) xs)) ≡ 16) e
@@ -272,24 +272,26 @@ pub near_part : (n from : ℕ) (xs : List ℕ) → length xs ≡ n → 16 + from
 near_part n from xs e room small =
     let long = length_part n from xs e room in
     Each1-from_get_or (λ x. x < 32768) (chunk 0 16 (mid_of from (n - from) xs)) 0
-    (λ i h. subst (λ (x : ℕ). x < 32768) (sym (part_at n from i xs e room (omega (arith, h, long))))
+    (λ i h. subst (λ (x : ℕ). x < 32768) (sym (part_at 0 n from i xs e room (omega (arith, h, long))))
     (small (i + from) (omega (arith, h, long, room))))
 
-pub mapped_at : (f : ℕ → ℕ) (xs : List ℕ) (i : ℕ) → i < length xs → get_or (map f xs) i 0 ≡ f (get_or xs i 0)
-mapped_at f [] i h = absurd (omega (arith, h))
-mapped_at f (x ∷ xs) zero h = refl
-mapped_at f (x ∷ xs) (suc i) h = mapped_at f xs i (omega (arith, h))
+pub mapped_at : {A : Type 0} (d : A) (f : A → ℕ) (xs : List A) (i : ℕ) → i < length xs
+    → get_or (map f xs) i 0 ≡ f (get_or xs i d)
+mapped_at d f [] i h = absurd (omega (arith, h))
+mapped_at d f (x ∷ xs) zero h = refl
+mapped_at d f (x ∷ xs) (suc i) h = mapped_at d f xs i (omega (arith, h))
 
-pub mapped_part : (f : ℕ → ℕ) (n from i : ℕ) (xs ys : List ℕ) → length xs ≡ n → 16 + from ≤ n → from ≤ i
-    → i < from + 16 → ys ≡ map f (chunk 0 16 (mid_of from (n - from) xs)) → get_or ys (i - from) 0 ≡ f (get_or xs i 0)
-mapped_part f n from i xs ys e room more less q =
+pub mapped_part : {A : Type 0} (d : A) (f : A → ℕ) (n from i : ℕ) (xs : List A) (ys : List ℕ) → length xs ≡ n
+    → 16 + from ≤ n → from ≤ i → i < from + 16 → ys ≡ map f (chunk 0 16 (mid_of from (n - from) xs))
+    → get_or ys (i - from) 0 ≡ f (get_or xs i d)
+mapped_part d f n from i xs ys e room more less q =
     let long = length_part n from xs e room in
     let place : i - from + from ≡ i = omega (arith, more) in
-    ap (λ (l : List ℕ). get_or l (i - from) 0) q ∙ mapped_at f (chunk 0 16 (mid_of from (n - from) xs)) (i - from)
-    (omega (arith, long, more, less)) ∙ ap f (part_at n from (i - from) xs e room (omega (arith, more, less))
-    ∙ ap (λ (j : ℕ). get_or xs j 0) place)
+    ap (λ (l : List ℕ). get_or l (i - from) 0) q ∙ mapped_at d f (chunk 0 16 (mid_of from (n - from) xs)) (i - from)
+    (omega (arith, long, more, less)) ∙ ap f (part_at d n from (i - from) xs e room (omega (arith, more, less))
+    ∙ ap (λ (j : ℕ). get_or xs j d) place)
 
-pub length_lanes : (f : ℕ → ℕ) (xs ys : List ℕ) → ys ≡ map f xs → length xs ≡ 16 → length ys ≡ 16
+pub length_lanes : {A : Type 0} (f : A → ℕ) (xs : List A) (ys : List ℕ) → ys ≡ map f xs → length xs ≡ 16 → length ys ≡ 16
 length_lanes f xs ys e long = ap (λ (l : List ℕ). length l) e ∙ length-map xs f ∙ long
 
 pub first_at : (xs : List ℕ) (i : ℕ) → 22 ≤ length xs → i < 16 → get_or (chunk 0 16 xs) i 0 ≡ get_or xs i 0

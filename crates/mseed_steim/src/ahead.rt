@@ -310,7 +310,7 @@ fn look_at_few(scheme: Scheme, diffs: &[i32], most: &mut Most, cut: &mut Cut)
 /// The most differences that are held from each of the first 121 places on; less than two where nothing is known of
 /// them: at others, where fewer than eight differences are left, and where there are so few that looking at them costs
 /// more than it saves. In Steim-2 those of which anything is known are cut off at 16 bits besides.
-#[inline(always)]
+#[inline(never)]
 pub(crate) fn look(scheme: Scheme, diffs: &[i32], most: &mut Most, cut: &mut Cut)
     ensures { IsLookahead scheme (record { most = most.new; cut = cut.new; place = 0 }) diffs.now }
 {

@@ -1,10 +1,11 @@
-//! Four words of Steim-2 at once, where so many are known ahead.
+//! Four words of Steim-2 at once, or three, where so many are known ahead.
 
 ghost use Rattle.std.specs.Prelude.{◌≡◌, ◌+◌, ◌%◌, ◌^◌, ◌<◌, ◌≤◌, ◌++◌, ◌∷◌, [], List, ℤ, IfSome, drop, map};
 ghost use Rattle.std.specs.Simd.Lanes.{pair_sums, sum_l};
-ghost use Rattle.mseed_steim.specs.Lookahead.{AreCut, IsAhead, IsLookahead};
+ghost use Rattle.mseed_steim.specs.Lookahead.{IsLookahead};
+ghost use Rattle.mseed_steim.specs.Packing.{IsFullest};
 ghost use Rattle.mseed_steim.specs.declared.scheme.Scheme.TheVariants.{Two};
-ghost use Rattle.mseed_steim.specs.private.Four.{AreFullest, known_from};
+ghost use Rattle.mseed_steim.specs.private.Four.{AreFour, AreThree, four_of, known_from, three_of};
 
 use crate::ahead::Lookahead;
 use crate::layout::parts_two;
@@ -14,12 +15,33 @@ use std::simd::prelude::*;
 /// How many words are joined at once.
 pub(crate) const FOUR: usize = 4;
 
-/// Four words in turn: of each its code, its bits and how many differences it takes.
+/// How many where there is no room for four.
+pub(crate) const THREE: usize = 3;
+
+/// A word before its bits are joined.
 #[derive(Clone, Copy)]
-pub(crate) struct FourWords {
+struct Parts {
+    /// What its pairs count for, with the dnib.
+    pairs: u32x4,
+    code: u32,
+    /// How many differences it takes.
+    count: usize,
+}
+
+/// Three words in turn: of each its code, its bits and how many differences it takes.
+#[derive(Clone, Copy)]
+pub(crate) struct ThreeWords {
     pub(crate) first: (u32, u32, usize),
     pub(crate) second: (u32, u32, usize),
     pub(crate) third: (u32, u32, usize),
+    /// How many differences the three take.
+    pub(crate) count: usize,
+}
+
+/// Four words in turn.
+#[derive(Clone, Copy)]
+pub(crate) struct FourWords {
+    pub(crate) three: ThreeWords,
     pub(crate) fourth: (u32, u32, usize),
     /// How many differences the four take.
     pub(crate) count: usize,
@@ -41,17 +63,56 @@ fn sums_of(a: u32x4, b: u32x4, c: u32x4, d: u32x4) -> [u32; 4]
     added(added(a, b), added(c, d)).to_array()
 }
 
-/// How many differences the word at a place takes, where that is known and more than one.
+/// The word of Steim-2 at a place, where it is known and takes more than one difference.
 #[inline(always)]
-fn held_at(known: &Lookahead, place: usize) -> usize
+fn parts_at(known: &Lookahead, place: usize) -> Option<Parts>
     requires { (ds : List ℤ) × IsLookahead Two (known_from known.now place) ds }
-    ensures few { result < 256 }
-    ensures held { 2 ≤ result → (result < 8) × (place + 8 ≤ 128) }
-    ensures known { 2 ≤ result → (ds : List ℤ) → IsLookahead Two (known_from known.now place) ds
-        → IsAhead Two ds result × AreCut ds (drop place known.now.cut)
-        × IsLookahead Two (known_from known.now (place + result)) (drop result ds) }
+    ensures { IfSome result (λ parts. (ds : List ℤ) → IsLookahead Two (known_from known.now place) ds
+        → IsFullest Two ds parts.code (sum_l parts.pairs % 2 ^ 32) parts.count
+        × IsLookahead Two (known_from known.now (place + parts.count)) (drop parts.count ds)) }
 {
-    usize::from(known.most[place])
+    let count = usize::from(known.most[place]);
+    if count < 2 {
+        return None;
+    }
+    let (pairs, code) = parts_two(count, &known.cut[place..]);
+    Some(Parts { pairs, code, count })
+}
+
+/// The next three words from a place on, where so many are known.
+#[inline(always)]
+fn three_parts(known: &Lookahead, place: usize) -> Option<(Parts, Parts, Parts)>
+    requires { (ds : List ℤ) × IsLookahead Two (known_from known.now place) ds }
+    ensures { IfSome result (λ parts. (ds : List ℤ) → IsLookahead Two (known_from known.now place) ds
+        → AreThree Two ds (three_of parts.0 parts.1 parts.2) × IsLookahead Two
+        (known_from known.now (place + (parts.0.count + parts.1.count + parts.2.count)))
+        (drop (parts.0.count + parts.1.count + parts.2.count) ds)) }
+{
+    let a = parts_at(known, place)?;
+    let second = place + a.count;
+    let b = parts_at(known, second)?;
+    let c = parts_at(known, second + b.count)?;
+    Some((a, b, c))
+}
+
+/// Four words by what their pairs count for.
+#[inline(always)]
+fn joined(a: Parts, b: Parts, c: Parts, d: Parts) -> FourWords
+    requires { a.count + b.count + c.count + d.count ≤ 128 }
+    ensures { result ≡ four_of a b c d }
+{
+    let words = sums_of(a.pairs, b.pairs, c.pairs, d.pairs);
+    let count = a.count + b.count + c.count;
+    FourWords {
+        three: ThreeWords {
+            first: (a.code, words[0], a.count),
+            second: (b.code, words[1], b.count),
+            third: (c.code, words[2], c.count),
+            count,
+        },
+        fourth: (d.code, words[3], d.count),
+        count: count + d.count,
+    }
 }
 
 /// The next four words of Steim-2 from a place on, where so many are known ahead.
@@ -59,51 +120,53 @@ fn held_at(known: &Lookahead, place: usize) -> usize
 fn four_two(known: &Lookahead, place: usize) -> Option<FourWords>
     requires { (ds : List ℤ) × IsLookahead Two (known_from known.now place) ds }
     ensures { IfSome result (λ four. (ds : List ℤ) → IsLookahead Two (known_from known.now place) ds
-        → AreFullest Two ds four × IsLookahead Two (known_from known.now (place + four.count)) (drop four.count ds)) }
+        → AreFour Two ds four × IsLookahead Two (known_from known.now (place + four.count)) (drop four.count ds)) }
 {
-    let one = held_at(known, place);
-    if one < 2 {
-        return None;
-    }
-    let second = place + one;
-    let two = held_at(known, second);
-    if two < 2 {
-        return None;
-    }
-    let third = second + two;
-    let three = held_at(known, third);
-    if three < 2 {
-        return None;
-    }
-    let fourth = third + three;
-    let four = held_at(known, fourth);
-    if four < 2 {
-        return None;
-    }
-    let (a, code_a) = parts_two(one, &known.cut[place..]);
-    let (b, code_b) = parts_two(two, &known.cut[second..]);
-    let (c, code_c) = parts_two(three, &known.cut[third..]);
-    let (d, code_d) = parts_two(four, &known.cut[fourth..]);
-    let words = sums_of(a, b, c, d);
-    Some(FourWords {
-        first: (code_a, words[0], one),
-        second: (code_b, words[1], two),
-        third: (code_c, words[2], three),
-        fourth: (code_d, words[3], four),
-        count: one + two + three + four,
-    })
+    let (a, b, c) = three_parts(known, place)?;
+    let d = parts_at(known, place + (a.count + b.count + c.count))?;
+    Some(joined(a, b, c, d))
 }
 
-/// The same in a scheme: none of Steim-1.
+/// The same of three words.
+#[inline(always)]
+fn three_two(known: &Lookahead, place: usize) -> Option<ThreeWords>
+    requires { (ds : List ℤ) × IsLookahead Two (known_from known.now place) ds }
+    ensures { IfSome result (λ three. (ds : List ℤ) → IsLookahead Two (known_from known.now place) ds
+        → AreThree Two ds three × IsLookahead Two (known_from known.now (place + three.count)) (drop three.count ds)) }
+{
+    let (a, b, c) = three_parts(known, place)?;
+    let none = Parts {
+        pairs: u32x4::splat(0),
+        code: 0,
+        count: 0,
+    };
+    Some(joined(a, b, c, none).three)
+}
+
+/// The next four words of a scheme: none of Steim-1.
 #[inline(always)]
 pub(crate) fn four_ahead(scheme: Scheme, known: &Lookahead, place: usize) -> Option<FourWords>
     requires known { (ds : List ℤ) × IsLookahead scheme (known_from known.now place) ds }
     ensures { IfSome result (λ four. (ds : List ℤ) → IsLookahead scheme (known_from known.now place) ds
-        → AreFullest scheme ds four
+        → AreFour scheme ds four
         × IsLookahead scheme (known_from known.now (place + four.count)) (drop four.count ds)) }
 {
     match scheme {
         Scheme::One => None,
         Scheme::Two => four_two(known, place),
+    }
+}
+
+/// The next three words.
+#[inline(always)]
+pub(crate) fn three_ahead(scheme: Scheme, known: &Lookahead, place: usize) -> Option<ThreeWords>
+    requires known { (ds : List ℤ) × IsLookahead scheme (known_from known.now place) ds }
+    ensures { IfSome result (λ three. (ds : List ℤ) → IsLookahead scheme (known_from known.now place) ds
+        → AreThree scheme ds three
+        × IsLookahead scheme (known_from known.now (place + three.count)) (drop three.count ds)) }
+{
+    match scheme {
+        Scheme::One => None,
+        Scheme::Two => three_two(known, place),
     }
 }

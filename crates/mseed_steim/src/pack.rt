@@ -1,7 +1,7 @@
 //! Differences packed into words that are as full as words can be.
 
-ghost use Rattle.std.specs.Prelude.{◌≡◌, ◌≢◌, ◌⊎◌, ◌↔◌, ℕ, ◌+◌, ◌-◌, ◌*◌, ◌%◌, ◌^◌, ◌<◌, ◌≤◌, ◌==◌, if◌then◌else◌};
-ghost use Rattle.std.specs.Prelude.{Err, IfErr, IfOk, nat_lt};
+ghost use Rattle.std.specs.Prelude.{◌≡◌, ◌≢◌, ◌⊎◌, ◌↔◌, ℕ, ◌+◌, ◌-◌, ◌*◌, ◌/◌, ◌%◌, ◌^◌, ◌<◌, ◌≤◌, ◌==◌};
+ghost use Rattle.std.specs.Prelude.{Err, IfErr, IfOk, if◌then◌else◌, nat_lt};
 ghost use Rattle.std.specs.Prelude.{MatchResult, List, ℤ, ◌++◌, length, take, drop};
 ghost use Rattle.std.specs.List.{AllByRecursion};
 ghost use Rattle.mseed_steim.specs.declared.scheme.Scheme.TheVariants.{Two};
@@ -11,12 +11,12 @@ ghost use Rattle.mseed_steim.specs.Frames.{code_at, data_words, word_at, word_co
 ghost use Rattle.mseed_steim.specs.Packing.{IsEmptyWord, IsFarthest, IsFewest, IsFirstTooLarge, IsFullest};
 ghost use Rattle.mseed_steim.specs.Packing.{IsTooLargeAt, LeavesRoom, PacksRun};
 ghost use Rattle.mseed_steim.specs.Runs.{SpellsRun};
-ghost use Rattle.mseed_steim.specs.private.Four.{AreFullest};
-ghost use Rattle.mseed_steim.specs.private.Pushing.{IsReached, Pushing};
+ghost use Rattle.mseed_steim.specs.private.Four.{AreFour, AreThree};
+ghost use Rattle.mseed_steim.specs.private.Pushing.{Filling, IsReached, Pushing};
 
 use crate::ahead::{KNOWN, Lookahead, look};
 use crate::data_words::{FRAME, WORD};
-use crate::four::{FOUR, FourWords, four_ahead};
+use crate::four::{FOUR, FourWords, THREE, ThreeWords, four_ahead, three_ahead};
 use crate::layout::word_ahead;
 use crate::row::{fullest_row, word_of};
 use crate::scheme::Scheme;
@@ -48,6 +48,7 @@ pub struct Packed {
 /// # Errors
 ///
 /// `TooLarge` exactly where no word holds the first.
+#[inline(always)]
 pub fn pack_word(scheme: Scheme, diffs: &[i32]) -> Result<(u8, u32, usize), TooLarge>
     requires { 0 < length diffs.now }
     // No word spells a longer prefix than this one does.
@@ -131,17 +132,28 @@ fn push_word(frames: &mut [u8], index: usize, codes: u32, code: u32, word: u32) 
     with_code(codes, code)
 }
 
+/// The same of three words.
+#[inline(always)]
+fn push_three(frames: &mut [u8], index: usize, codes: u32, three: &ThreeWords) -> u32
+    requires room { 4 * (index + 3) ≤ length frames.old }
+    ensures { (scheme : Scheme) (ds : List ℤ) (head used : ℕ) → 0 < index % 16 → index % 16 ≤ 13
+        → Pushing scheme ds frames.old head codes index used → AreThree scheme (drop used ds) three.now
+        → Pushing scheme ds frames.new head result (index + 3) (used + three.now.count) }
+{
+    let codes = push_word(frames, index, codes, three.first.0, three.first.1);
+    let codes = push_word(frames, index + 1, codes, three.second.0, three.second.1);
+    push_word(frames, index + 2, codes, three.third.0, three.third.1)
+}
+
 /// The same of four words.
 #[inline(always)]
 fn push_four(frames: &mut [u8], index: usize, codes: u32, four: &FourWords) -> u32
     requires room { 4 * (index + 4) ≤ length frames.old }
     ensures { (scheme : Scheme) (ds : List ℤ) (head used : ℕ) → 0 < index % 16 → index % 16 ≤ 12
-        → Pushing scheme ds frames.old head codes index used → AreFullest scheme (drop used ds) four.now
+        → Pushing scheme ds frames.old head codes index used → AreFour scheme (drop used ds) four.now
         → Pushing scheme ds frames.new head result (index + 4) (used + four.now.count) }
 {
-    let codes = push_word(frames, index, codes, four.first.0, four.first.1);
-    let codes = push_word(frames, index + 1, codes, four.second.0, four.second.1);
-    let codes = push_word(frames, index + 2, codes, four.third.0, four.third.1);
+    let codes = push_three(frames, index, codes, &four.three);
     push_word(frames, index + 3, codes, four.fourth.0, four.fourth.1)
 }
 
@@ -174,6 +186,7 @@ fn push_fours(
     requires few { reached.used < 2 ^ 63 }
     requires reached { (ds : List ℤ) × ((head : ℕ) × IsReached scheme ds known.now frames.old head reached) }
     ensures inside { result.index ≤ end }
+    ensures few { result.used ≤ reached.used + 128 }
     ensures moves { ((result.index ≡ reached.index) × (result.place ≡ reached.place)) ⊎ (reached.index < result.index) }
     ensures reached { (ds : List ℤ) (head : ℕ) → IsReached scheme ds known.now frames.old head reached
         → IsReached scheme ds known.now frames.new head result }
@@ -194,6 +207,41 @@ fn push_fours(
         place,
         index,
         codes,
+    }
+}
+
+/// The same, and then by three words, where four aren't known or have no room.
+#[inline(always)]
+fn push_known(
+    scheme: Scheme,
+    known: &Lookahead,
+    frames: &mut [u8],
+    end: usize,
+    reached: Reached,
+) -> Reached
+    requires room { 4 * end ≤ length frames.old }
+    requires whole { end % 16 ≡ 0 }
+    requires inside { reached.index ≤ end }
+    requires begun { end < reached.index + 16 }
+    requires few { reached.used < 2 ^ 63 }
+    requires reached { (ds : List ℤ) × ((head : ℕ) × IsReached scheme ds known.now frames.old head reached) }
+    ensures inside { result.index ≤ end }
+    ensures moves { ((result.index ≡ reached.index) × (result.place ≡ reached.place)) ⊎ (reached.index < result.index) }
+    ensures reached { (ds : List ℤ) (head : ℕ) → IsReached scheme ds known.now frames.old head reached
+        → IsReached scheme ds known.now frames.new head result }
+{
+    let reached = push_fours(scheme, known, frames, end, reached);
+    if reached.index + THREE > end {
+        return reached;
+    }
+    let Some(three) = three_ahead(scheme, known, reached.place) else {
+        return reached;
+    };
+    Reached {
+        used: reached.used + three.count,
+        place: reached.place + three.count,
+        index: reached.index + THREE,
+        codes: push_three(frames, reached.index, reached.codes, &three),
     }
 }
 
@@ -233,45 +281,39 @@ fn push_next(
     })
 }
 
-/// Fills a frame further, until it is full or no difference is left.
+/// Fills a frame further word by word, until it is full, no difference is left, or nothing is known of the next one.
 #[inline(always)]
-fn fill_frame(
+fn push_each(
     scheme: Scheme,
     diffs: &[i32],
-    known: &mut Lookahead,
+    known: &Lookahead,
     frames: &mut [u8],
     end: usize,
     reached: Reached,
 ) -> Result<Reached, TooLargeAt>
-    requires room { 4 * end ≤ length frames.old }
+    requires room { end ≤ word_count frames.old }
     requires whole { end % 16 ≡ 0 }
     requires inside { reached.index ≤ end }
     requires begun { end < reached.index + 16 }
-    requires reached { (head : ℕ) × IsReached scheme diffs.now known.old frames.old head reached }
+    requires reached { (head : ℕ) × IsReached scheme diffs.now known.now frames.old head reached }
     ensures inside { IfOk result (λ next. next.index ≤ end) }
-    ensures full { IfOk result (λ next. (next.index ≡ end) ⊎ (next.used ≡ length diffs.now)) }
+    ensures moves { IfOk result (λ next. ((next.index ≡ reached.index) × (next.place ≡ reached.place))
+        ⊎ (reached.index < next.index)) }
+    ensures ended { IfOk result (λ next. (next.index ≡ end) ⊎ ((next.used ≡ length diffs.now) ⊎ (121 ≤ next.place))) }
     ensures reached { IfOk result (λ next. (head : ℕ)
-        → IsReached scheme diffs.now known.old frames.old head reached
-        → IsReached scheme diffs.now known.new frames.new head next) }
+        → IsReached scheme diffs.now known.now frames.old head reached
+        → IsReached scheme diffs.now known.now frames.new head next) }
     ensures refused { IfErr result (λ fault. IsFirstTooLarge scheme diffs.now fault.index
         × LeavesRoom scheme (take fault.index diffs.now) (length (data_words frames.new))) }
 {
-    let mut reached = push_fours(scheme, known, frames, end, reached);
+    let mut reached = reached;
     while reached.index < end {
         if known.most[reached.place] < 2 {
             if reached.used == diffs.len() {
                 break;
             }
             if KNOWN <= reached.place {
-                look(
-                    scheme,
-                    &diffs[reached.used..],
-                    &mut known.most,
-                    &mut known.cut,
-                );
-                reached.place = 0;
-                reached = push_fours(scheme, known, frames, end, reached);
-                continue;
+                break;
             }
         }
         match push_next(scheme, diffs, known, frames, reached) {
@@ -280,6 +322,25 @@ fn fill_frame(
         }
     }
     Ok(reached)
+}
+
+/// Writes the codes of the last frame, clears all words behind the last one, and says how much was packed.
+#[inline(always)]
+fn finish(frames: &mut [u8], head: usize, reached: Reached) -> Packed
+    requires head { 4 * (head + 1) ≤ length frames.old }
+    requires from { 3 ≤ reached.index }
+    requires inside { 4 * reached.index ≤ length frames.old }
+    ensures used { result.used ≡ reached.used }
+    ensures words { result.words ≡ reached.index - 3 - (reached.index - 1) / 16 }
+    ensures filled { (scheme : Scheme) (ds : List ℤ) → Pushing scheme ds frames.old head reached.codes reached.index
+        reached.used → Filling scheme ds frames.new reached.index reached.used result.words }
+{
+    write_word(frames, head, codes_to(reached.codes, reached.index));
+    clear_from(frames, reached.index);
+    Packed {
+        used: reached.used,
+        words: reached.index - 3 - (reached.index - 1) / FRAME,
+    }
 }
 
 /// As [`pack_words_ahead`], for one scheme.
@@ -306,25 +367,30 @@ fn pack_run(
         codes: 0,
     };
     loop {
-        match fill_frame(scheme, diffs, known, frames, head + FRAME, reached) {
+        let end = head + FRAME;
+        reached = push_known(scheme, known, frames, end, reached);
+        match push_each(scheme, diffs, known, frames, end, reached) {
             Ok(next) => reached = next,
             Err(fault) => return Err(fault),
         }
-        if reached.used == diffs.len() || reached.index == frames.len() / WORD {
+        if reached.index == end {
+            if end == frames.len() / WORD {
+                break;
+            }
+            write_word(frames, head, reached.codes);
+            head = end;
+            reached.codes = 0;
+            reached.index += 1;
+        } else if reached.used == diffs.len() {
             break;
+        } else {
+            let rest = &diffs[reached.used..];
+            look(scheme, rest, &mut known.most, &mut known.cut);
+            reached.place = 0;
         }
-        write_word(frames, head, reached.codes);
-        head = reached.index;
-        reached.codes = 0;
-        reached.index += 1;
     }
-    write_word(frames, head, codes_to(reached.codes, reached.index));
-    clear_from(frames, reached.index);
     known.place = reached.place;
-    Ok(Packed {
-        used: reached.used,
-        words: reached.index - 3 - (reached.index - 1) / FRAME,
-    })
+    Ok(finish(frames, head, reached))
 }
 
 /// Packs differences into frames, from the first on: each data word in turn takes the largest number of

@@ -6,7 +6,7 @@ use Rattle.mseed_steim.proofs.ahead.at_most.Goals as goal
 pub returns : goal.returns
 returns c = λ i inside k.
     let place : c.from.result ≡ c.args.place = c.from.ensures in
-    rw (place, ← sixteen_at c.args.held.now c.args.place i c.requires.long inside)
+    rw (place, ← sixteen_at 0 c.args.held.now c.args.place i c.requires.long inside)
     (lanes_bounded 16 c.args.place c.args.most
     (chunk 0 16 (take (length c.args.held.now - c.args.place) (drop c.args.place c.args.held.now))) i c.fits-most.0
     (length_sixteen c.args.held.now c.args.place c.requires.long) inside k)

@@ -24,7 +24,7 @@ loop-turn-preserved c =
           (λ (more : at ≤ i).
           let last : i < at + 16 = omega (arith, less) in
           put_at 144 at i c.loop-turn.most c.most_with.result room (omega (arith, inside)) long more last
-          ∙ mapped_part (most_with c.args.scheme) 128 at i c.args.sizes.now c.most_with.result c.told-sizes
+          ∙ mapped_part 0 (most_with c.args.scheme) 128 at i c.args.sizes.now c.most_with.result c.told-sizes
           (omega (arith, inside)) more last c.most_with.ensures)
           (cases_lt i at);
     }

@@ -1,25 +1,56 @@
-use Rattle.std.proofs.Common.{◌≡◌, ◌≢◌, ◌⊎◌, ◌+◌, ◌-◌, ◌/◌, ◌%◌, ◌≤◌, ◌∙◌, arith, inl, inr, length, refl}
+use Rattle.std.proofs.Common.{◌≡◌, ◌≢◌, ◌⊎◌, ℕ, ℤ, List, ◌+◌, ◌/◌, ◌%◌, ◌≤◌, ◌∙◌, arith, drop, inl, inr, length, refl}
+use Rattle.std.proofs.Common.{rules, subst, sym}
+use Rattle.std.proofs.lemmas.List.{take_rest}
+use Rattle.mseed_steim.specs.declared.ahead.Lookahead.{Lookahead}
 use Rattle.mseed_steim.specs.declared.pack.Packed.{Packed}
+use Rattle.mseed_steim.specs.declared.pack.Reached.{Reached}
+use Rattle.mseed_steim.specs.declared.scheme.Scheme.{Scheme}
 use Rattle.mseed_steim.specs.Frames.{word_count}
-use Rattle.mseed_steim.specs.private.Pushing.{Filling}
-use Rattle.mseed_steim.proofs.Coding.{pushing_none, pushing_past, pushed}
+use Rattle.mseed_steim.specs.Lookahead.{IsLookahead}
+use Rattle.mseed_steim.specs.private.Four.{known_from}
+use Rattle.mseed_steim.specs.private.Pushing.{Filling, IsReached}
+use Rattle.mseed_steim.proofs.Coding.{pushing_none, pushing_past}
 use Rattle.mseed_steim.proofs.Filling.{filled}
 use Rattle.mseed_steim.proofs.Packs.{refused_packed}
-use Rattle.mseed_steim.proofs.pack.pack_run.Goals.{then-reached-diffs-via-then-reached-diffs}
-use Rattle.mseed_steim.proofs.pack.pack_run.Goals.{then-reached-diffs-via-else-reached-diffs+then-reached-frames}
+use Rattle.mseed_steim.proofs.pack.pack_run.Invariants.{Begun}
+use Rattle.mseed_steim.proofs.pack.pack_run.Goals.{then-reached-end+then-end-frames}
+use Rattle.mseed_steim.proofs.pack.pack_run.Goals.{else-reached-end+then-reached-diffs}
 use Rattle.mseed_steim.proofs.pack.pack_run.Goals as goal
+
+begun : (s : Scheme) (ds : List ℤ) (known : Lookahead) (p : List ℕ) (head : ℕ) (r : Reached)
+    → IsReached s ds known p head r → head + 16 ≤ length p / 4 → length p % 64 ≡ 0 → Begun s ds known p head r
+begun s ds known p head r is frame whole =
+    let at = is.pushing.coding.at in
+    let from = is.pushing.coding.filling.from in
+    record {
+      reached = is;
+      frame = frame;
+      whole = whole;
+      used = is.pushing.coding.filling.inside;
+      place = is.ahead.place;
+      at = omega (arith, at);
+      low = omega (arith, at, from);
+      high = omega (arith, at, from);
+    }
 
 pub loop-next-init : goal.loop-next-init
 loop-next-init c =
-    let begun = c.begin.ensures c.args.scheme c.args.diffs.now c.requires.known.0 refl c.requires.known.1 in
-    record {
-      frame = omega (arith, c.write_word.auto.frames, c.write_word-2.auto.frames, c.requires.some, c.requires.whole);
-      reached = record {
-        pushing = pushing_none c.args.scheme c.args.diffs.now c.write_word-2.new.frames
-            (c.write_word-2.ensures 1 ∙ c.write_word.ensures 1) (c.write_word-2.ensures 2);
-        ahead = begun;
-      };
-    }
+    let s = c.args.scheme in
+    let ds = c.args.diffs.now in
+    let long : length c.write_word-2.new.frames ≡ length c.args.frames.now =
+    omega (arith, c.write_word.auto.frames, c.write_word-2.auto.frames) in
+    begun s ds c.args.known.now c.write_word-2.new.frames 0 _
+    (record {
+      pushing = pushing_none s ds c.write_word-2.new.frames (c.write_word-2.ensures 1 ∙ c.write_word.ensures 1)
+          (c.write_word-2.ensures 2);
+      ahead = c.begin.ensures s ds c.requires.known.0 refl c.requires.known.1;
+    }) (omega (arith, long, c.requires.some, c.requires.whole)) (omega (arith, long, c.requires.whole))
+
+pub push_each-requires-clause-reached : goal.push_each-requires-clause-reached
+push_each-requires-clause-reached c = (
+  c.loop-next.head,
+  c.push_known-reached.ensures.reached c.args.diffs.now c.loop-next.head c.loop-next.invariant.reached,
+)
 
 pub returns-in-Err-clause-packed : goal.returns-in-Err-clause-packed
 returns-in-Err-clause-packed c = record {
@@ -35,86 +66,86 @@ returns-in-Err-clause-packed c = record {
   refused = refused_packed Packed c.args.scheme c.args.diffs.now c.in-Err.fault.index _ c.in-Err.ensures.refused;
 }
 
+pub loop-next-preserved-then-reached-end : goal.loop-next-preserved-then-reached-end
+loop-next-preserved-then-reached-end c =
+    let s = c.args.scheme in
+    let ds = c.args.diffs.now in
+    let before = c.loop-next.invariant in
+    let next = c.in-Ok.next in
+    let p = c.push_each.new.frames in
+    let q = c.write_word-then-reached-end.new.frames in
+    let is = c.in-Ok.ensures.reached c.loop-next.head
+    (c.push_known-reached.ensures.reached ds c.loop-next.head before.reached) in
+    let end : next.index ≡ c.loop-next.head + 16 = c.if-reached-end.true in
+    let first : next.index % 16 ≡ 0 = omega (arith, end, before.at) in
+    let more : c.loop-next.head + 16 ≢ length p / 4 = c.if-end-frames.false in
+    let long : length q ≡ length p = omega (arith, c.write_word-then-reached-end.auto.frames) in
+    let all : length p ≡ length c.loop-next.frames = omega (arith, c.push_known-reached.auto.frames, c.push_each.auto.frames) in
+    let whole : length q % 64 ≡ 0 = omega (arith, long, all, before.whole) in
+    subst (λ (n : ℕ). Begun s ds c.loop-next.known q n (record {
+      used = next.used;
+      place = next.place;
+      index = next.index + 1;
+      codes = 0;
+    })) end (begun s ds c.loop-next.known q next.index _
+    (record {
+      pushing = pushing_past s ds p q c.loop-next.head next.codes next.index next.used first long
+          c.write_word-then-reached-end.ensures is.pushing;
+      ahead = is.ahead;
+    }) (omega (arith, end, before.at, more, long, all, before.whole, before.frame)) whole)
+
+pub offset_bounds-diffs-reached : goal.offset_bounds-diffs-reached
+offset_bounds-diffs-reached c =
+    let is = c.in-Ok.ensures.reached c.loop-next.head (c.push_known-reached.ensures.reached c.args.diffs.now c.loop-next.head c.loop-next.invariant.reached) in
+    let inside : c.in-Ok.next.used ≤ length c.args.diffs.now = is.pushing.coding.filling.inside in
+    search rules
+
+pub slice_bounds-rest-count : goal.slice_bounds-rest-count
+slice_bounds-rest-count c = (c.in-Ok.ensures.reached c.loop-next.head (c.push_known-reached.ensures.reached c.args.diffs.now c.loop-next.head c.loop-next.invariant.reached)).pushing.coding.filling.inside
+
+pub slice_bounds-rest-start : goal.slice_bounds-rest-start
+slice_bounds-rest-start c =
+    let is = c.in-Ok.ensures.reached c.loop-next.head (c.push_known-reached.ensures.reached c.args.diffs.now c.loop-next.head c.loop-next.invariant.reached) in
+    let inside : c.in-Ok.next.used ≤ length c.args.diffs.now = is.pushing.coding.filling.inside in
+    search rules
+
 pub loop-next-preserved : goal.loop-next-preserved
 loop-next-preserved c =
-    let head = c.loop-next.head in
+    let s = c.args.scheme in
+    let ds = c.args.diffs.now in
+    let before = c.loop-next.invariant in
+    let p = c.push_each.new.frames in
     let next = c.in-Ok.next in
-    let is = c.in-Ok.ensures.reached head c.loop-next.invariant.reached in
-    let begin = is.pushing.coding.at in
-    let from = is.pushing.coding.filling.from in
-    let full = c.in-Ok.ensures.full in
-    let some : next.used ≢ length c.args.diffs.now = c.if-reached-diffs.false in
-    let end : next.index ≡ head + 16 = omega (arith, full, some) in
-    let first : next.index % 16 ≡ 0 = omega (arith, begin, from, end) in
-    let more : next.index ≢ length c.fill_frame.new.frames / 4 = c.if-reached-frames.false in
-    let long : length c.write_word-in-loop-next.new.frames ≡ length c.fill_frame.new.frames =
-    omega (arith, c.write_word-in-loop-next.auto.frames) in
-    record {
-      frame = omega (
-        arith,
-        first,
-        end,
-        more,
-        long,
-        c.loop-next.invariant.frame,
-        c.fill_frame.auto.frames,
-        c.loop-next.auto.frames,
-        c.write_word.auto.frames,
-        c.write_word-2.auto.frames,
-        c.requires.whole,
-      );
-      reached = record {
-        pushing = pushing_past c.args.scheme c.args.diffs.now c.fill_frame.new.frames
-            c.write_word-in-loop-next.new.frames head next.codes next.index next.used first long
-            c.write_word-in-loop-next.ensures is.pushing;
-        ahead = is.ahead;
-      };
-    }
-
-pub codes_to-requires : goal.codes_to-requires
-codes_to-requires c =
-    let is = c.in-Ok.ensures.reached c.loop-next.head c.loop-next.invariant.reached in
-    omega (arith, is.pushing.coding.filling.from)
-
-pub overflow_sub-result : goal.overflow_sub-result
-overflow_sub-result c =
-    (c.in-Ok.ensures.reached c.loop-next.head c.loop-next.invariant.reached).pushing.coding.filling.from
-
-pub overflow_sub-result-2 : goal.overflow_sub-result-2
-overflow_sub-result-2 c =
-    let is = c.in-Ok.ensures.reached c.loop-next.head c.loop-next.invariant.reached in
-    omega (arith, is.pushing.coding.filling.from)
+    let is = c.in-Ok.ensures.reached c.loop-next.head (c.push_known-reached.ensures.reached c.args.diffs.now c.loop-next.head c.loop-next.invariant.reached) in
+    let new : Lookahead = record { most = c.look.new.most; cut = c.look.new.cut; place = c.loop-next.known.place } in
+    let ahead = subst (λ (xs : List ℤ). IsLookahead s (known_from new 0) xs) (take_rest ds next.used) c.look.ensures in
+    begun s ds new p c.loop-next.head _ (record { pushing = is.pushing; ahead = ahead })
+    (omega (arith, before.frame, c.push_known-reached.auto.frames, c.push_each.auto.frames))
+    (omega (arith, before.whole, c.push_known-reached.auto.frames, c.push_each.auto.frames))
 
 pub returns-clause-packed : goal.returns-clause-packed
 returns-clause-packed c =
     let s = c.args.scheme in
     let ds = c.args.diffs.now in
+    let before = c.loop-next.invariant in
     let next = c.in-Ok.next in
-    let frames = c.clear_from.new.frames in
-    let is = c.in-Ok.ensures.reached c.loop-next.head c.loop-next.invariant.reached in
-    let words = next.index - 3 - (next.index - 1) / 16 in
-    let filling : Filling s ds frames next.index next.used words =
-    pushed s ds c.fill_frame.new.frames c.write_word-3.new.frames frames c.loop-next.head next.codes next.index
-    next.used c.codes_to.result is.pushing c.codes_to.ensures c.write_word-3.ensures c.clear_from.ensures in
-    let long : length frames ≡ length c.fill_frame.new.frames =
-    omega (arith, c.clear_from.auto.frames, c.write_word-3.auto.frames) in
-    let whole : length frames % 64 ≡ 0 = omega (
-      arith,
-      long,
-      c.fill_frame.auto.frames,
-      c.loop-next.auto.frames,
-      c.write_word.auto.frames,
-      c.write_word-2.auto.frames,
-      c.requires.whole,
-    ) in
-    let inside : next.index ≤ word_count frames =
-    omega (arith, whole, long, c.in-Ok.ensures.inside, c.loop-next.invariant.frame, c.fill_frame.auto.frames) in
-    let end : (next.used ≡ length ds) ⊎ (next.index ≡ word_count frames) = elim c.then-reached-diffs.branch [
-      | then-reached-diffs-via-then-reached-diffs w ↦ inl w.if-reached-diffs.true
-      | then-reached-diffs-via-else-reached-diffs+then-reached-frames w ↦
-          inr (omega (arith, whole, long, w.if-reached-frames.true))
+    let frames = c.finish.new.frames in
+    let packed = c.finish.result in
+    let is = c.in-Ok.ensures.reached c.loop-next.head (c.push_known-reached.ensures.reached c.args.diffs.now c.loop-next.head c.loop-next.invariant.reached) in
+    let filling : Filling s ds frames next.index packed.used packed.words =
+    subst (λ (n : ℕ). Filling s ds frames next.index n packed.words) (sym c.finish.ensures.used)
+    (c.finish.ensures.filled s ds is.pushing) in
+    let long : length frames ≡ length c.push_each.new.frames = omega (arith, c.finish.auto.frames) in
+    let all : length frames ≡ length c.loop-next.frames =
+    omega (arith, long, c.push_known-reached.auto.frames, c.push_each.auto.frames) in
+    let whole : length frames % 64 ≡ 0 = omega (arith, all, before.whole) in
+    let inside : next.index ≤ word_count frames = omega (arith, whole, all, c.in-Ok.ensures.inside, before.frame) in
+    let end : (packed.used ≡ length ds) ⊎ (next.index ≡ word_count frames) = elim c.if-reached-end.branch [
+      | then-reached-end+then-end-frames w ↦
+          inr (omega (arith, whole, long, w.if-reached-end.true, w.if-end-frames.true))
+      | else-reached-end+then-reached-diffs w ↦ inl (c.finish.ensures.used ∙ w.if-reached-diffs.true)
     ] in
-    let done = filled s ds frames next.index next.used words filling inside end in
+    let done = filled s ds frames next.index packed.used packed.words filling inside end in
     record {
       packed = done.packed;
       spelled = done.spelled;
@@ -129,4 +160,7 @@ returns-clause-packed c =
     }
 
 pub returns-clause-known : goal.returns-clause-known
-returns-clause-known c = (c.in-Ok.ensures.reached c.loop-next.head c.loop-next.invariant.reached).ahead
+returns-clause-known c =
+    let is = c.in-Ok.ensures.reached c.loop-next.head (c.push_known-reached.ensures.reached c.args.diffs.now c.loop-next.head c.loop-next.invariant.reached) in
+    subst (λ (n : ℕ). IsLookahead c.args.scheme (known_from c.loop-next.known c.in-Ok.next.place)
+    (drop n c.args.diffs.now)) (sym c.finish.ensures.used) is.ahead

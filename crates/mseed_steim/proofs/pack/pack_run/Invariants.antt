@@ -1,12 +1,24 @@
-use Rattle.std.proofs.Common.{◌≤◌, ◌+◌, ◌-◌, ◌/◌, length}
+use Rattle.std.proofs.Common.{◌≡◌, ℕ, ℤ, List, ◌<◌, ◌≤◌, ◌+◌, ◌-◌, ◌*◌, ◌/◌, ◌%◌, if◌then◌else◌, length, nat_lt}
+use Rattle.mseed_steim.specs.declared.ahead.Lookahead.{Lookahead}
+use Rattle.mseed_steim.specs.declared.pack.Reached.{Reached}
+use Rattle.mseed_steim.specs.declared.scheme.Scheme.{Scheme}
 use Rattle.mseed_steim.specs.private.Pushing.{IsReached}
 use Rattle.mseed_steim.proofs.pack.pack_run.Given as goal
 
-abbrev pub invariant-loop-next : goal.invariant-loop-next
-invariant-loop-next l = record {
-  frame : l.head + 16 ≤ length l.frames / 4;
-  reached : IsReached l.scheme l.diffs l.known l.frames l.head l.reached;
-}
+-- what holds before each word and each frame
+pub record Begun (s : Scheme) (ds : List ℤ) (known : Lookahead) (p : List ℕ) (head : ℕ) (r : Reached) : Type 0 where
+  pub reached : IsReached s ds known p head r
+  pub frame : head + 16 ≤ length p / 4
+  pub whole : length p % 64 ≡ 0
+  pub used : r.used ≤ length ds
+  pub place : r.place ≤ 128
+  pub at : head % 16 ≡ 0
+  pub low : head < r.index
+  pub high : r.index ≤ head + 16
 
+abbrev pub invariant-loop-next : goal.invariant-loop-next
+invariant-loop-next l = Begun l.scheme l.diffs l.known l.frames l.head l.reached
+
+-- a word is filled, or what lies ahead is looked at behind the last place that is known
 abbrev pub decreases-loop-next : goal.decreases-loop-next
-decreases-loop-next l = length l.frames - l.head
+decreases-loop-next l = 2 * (length l.frames - l.reached.index) + (if nat_lt l.reached.place 121 then 0 else 1)
