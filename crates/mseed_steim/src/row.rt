@@ -3,6 +3,7 @@
 ghost use Rattle.std.specs.Prelude.{◌≡◌, ◌↔◌, ◌+◌, ◌-◌, ◌*◌, ◌^◌, ◌<◌, ◌≤◌, ℕ, length, pos, slice_index_or, take};
 ghost use Rattle.mseed_steim.specs.private.Rows.{row_with, row_for, size_limit, IsBestRow};
 ghost use Rattle.mseed_steim.specs.Spelling.{IsWithin, positional};
+ghost use Rattle.mseed_steim.specs.declared.scheme.Scheme.TheVariants.{Two};
 
 use crate::scheme::Scheme;
 
@@ -95,6 +96,20 @@ fn most_held(scheme: Scheme, diffs: &[i32], high: usize) -> usize
     count
 }
 
+/// The same of seven or more in Steim-2. Where the first has more than 15 bits, no word takes another beside it.
+#[inline(always)]
+fn most_of_seven(diffs: &[i32]) -> usize
+    requires { 7 ≤ length diffs.now }
+    ensures best { IsBestRow Two diffs.now 7 (row_for Two result) }
+    ensures fits { IsWithin 32 (slice_index_or diffs.now 0 (pos 0)) }
+{
+    if size_of(diffs[0]) < 1 << 14 {
+        most_held(Scheme::Two, diffs, MOST)
+    } else {
+        most_held(Scheme::Two, diffs, 1)
+    }
+}
+
 /// The row that takes the largest number of the differences; none where no word spells the first.
 #[inline(always)]
 pub(crate) fn fullest_row(scheme: Scheme, diffs: &[i32]) -> Option<Row>
@@ -107,7 +122,7 @@ pub(crate) fn fullest_row(scheme: Scheme, diffs: &[i32]) -> Option<Row>
         // A body for each scheme, of a known number of turns.
         match scheme {
             Scheme::One => most_held(Scheme::One, diffs, MOST),
-            Scheme::Two => most_held(Scheme::Two, diffs, MOST),
+            Scheme::Two => most_of_seven(diffs),
         }
     };
     row_of(scheme, count)
