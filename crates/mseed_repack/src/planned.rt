@@ -1,18 +1,21 @@
 //! How the channels of an archive are packed, known before anything is written.
-ghost use Rattle.std.specs.Prelude.{◌≡◌, ◌≤◌, ◌^◌, length, map, IfOk};
+ghost use Rattle.std.specs.Prelude.{◌≡◌, ◌≤◌, ◌^◌, length, map, true, IfOk};
 ghost use Rattle.mseed_record.specs.Viewing.{view_of};
 ghost use Rattle.mseed_audit.specs.Channels.{added_from};
+ghost use Rattle.mseed_audit.specs.Follows.{IsSound};
 ghost use Rattle.mseed_audit.specs.Verdict.{AreVerdicts};
 ghost use Rattle.mseed_repack.specs.Repack.{AreContinuous};
 ghost use Rattle.mseed_repack.specs.declared.stretching.Cutting.TheVariants.{Whole};
-ghost use Rattle.mseed_repack.specs.private.Archives.{AreKnown};
+ghost use Rattle.mseed_repack.specs.private.Archives.{AreAlone};
 ghost use Rattle.mseed_repack.specs.private.Planning.{AreReady};
 ghost use Rattle.mseed_repack.specs.private.Reading.{steps_of};
+ghost use Rattle.mseed_repack.specs.private.Supplying.{IsPlain};
 ghost use Rattle.mseed_repack.specs.private.Trails.{AreLaid};
 
+use crate::judging::Judged;
 use crate::plan::Plan;
 use crate::room::blank_steps;
-use crate::standing::{Known, Standing, stand_all};
+use crate::standing::{Standing, stand_all};
 use crate::stretching::Cutting;
 use crate::trail::{Trails, lay_trails};
 use mseed_audit::Verdict;
@@ -36,8 +39,8 @@ pub(crate) struct Planned<A: Allocator> {
     pub(crate) steps: Vec<(u64, LeapStep), A>,
 }
 
-/// How the records of an archive are packed, each channel's cut so, by what the audit says of the channels, what is
-/// known of the records, and how many leap seconds happened. A channel that isn't to be cut is continuous.
+/// How the records of an archive are packed, each channel's cut so, by what the audit says of the channels and what was
+/// found of the records. A channel that isn't to be cut is continuous.
 ///
 /// # Errors
 ///
@@ -46,15 +49,15 @@ pub(crate) fn plan_archive<A: Allocator + Copy>(
     alloc: A,
     views: &[RecordView],
     channels: &[(Codes, Verdict)],
-    known: Known,
-    step_count: usize,
+    judged: &Judged<A>,
     cutting: Cutting,
     options: &Options,
 ) -> Result<Planned<A>, AllocError>
     requires few { length views.now ≤ 2 ^ 40 }
     requires verdicts { AreVerdicts (added_from 0 (map view_of views.now)) channels.now }
-    requires known { AreKnown known (map view_of views.now) }
-    requires steps { step_count ≡ steps_of (map view_of views.now) }
+    requires sound { judged.now.sound ≡ true → AreAlone IsSound (map view_of views.now) }
+    requires plain { judged.now.plain ≡ true → AreAlone IsPlain (map view_of views.now) }
+    requires steps { judged.now.steps ≡ steps_of (map view_of views.now) }
     requires whole { cutting ≡ Whole → AreContinuous (map view_of views.now) channels.now }
     ensures laid { IfOk result (λ planned.
         AreLaid views.now channels.now planned.trails.firsts.items planned.trails.nexts.items) }
@@ -63,13 +66,13 @@ pub(crate) fn plan_archive<A: Allocator + Copy>(
         (map (λ own. own.items) planned.plans.items)) }
 {
     let trails = lay_trails(alloc, views, channels)?;
-    let mut steps = blank_steps(alloc, step_count)?;
+    let mut steps = blank_steps(alloc, judged.steps)?;
     let mut samples = Vec::new(alloc);
     let mut plans = Vec::new(alloc);
     let standings = stand_all(
         alloc,
         &trails.archive(views, channels),
-        known,
+        judged,
         cutting,
         options,
         &mut plans,

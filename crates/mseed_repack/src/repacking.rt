@@ -16,7 +16,6 @@ use crate::judging::judge_records;
 use crate::packing::pack_channels;
 use crate::planned::plan_archive;
 use crate::refusing::first_misfit;
-use crate::standing::Known;
 use crate::stretching::Cutting;
 use mseed_audit::Verdict;
 use mseed_pack::{Encoding, Options};
@@ -92,19 +91,7 @@ fn repack_records<A: Allocator + Copy, W: Sink>(
     if let Some(codes) = first_broken(views, channels) {
         return Err(RepackFault::Broken(codes));
     }
-    let known = Known {
-        sound: judged.sound,
-        plain: judged.plain,
-    };
-    let mut planned = plan_archive(
-        alloc,
-        views,
-        channels,
-        known,
-        judged.steps,
-        Cutting::Whole,
-        options,
-    )?;
+    let mut planned = plan_archive(alloc, views, channels, &judged, Cutting::Whole, options)?;
     if let Some((number, _, fault)) = first_misfit(&planned.standings) {
         return Err(RepackFault::Misfit(channels[number].0, fault));
     }

@@ -12,7 +12,6 @@ use crate::judging::judge_records;
 use crate::packing::pack_channels;
 use crate::planned::plan_archive;
 use crate::refusing::{Left, left_of, refusal_unless, report_left};
-use crate::standing::Known;
 use crate::stretches_fault::StretchesFault;
 use crate::stretching::Cutting;
 use mseed_pack::Options;
@@ -95,19 +94,7 @@ fn restretch_records<A: Allocator + Copy, W: Sink, E: Sink>(
 {
     let judged = judge_records(alloc, views, false)?;
     let channels = judged.verdicts.as_slice();
-    let known = Known {
-        sound: judged.sound,
-        plain: judged.plain,
-    };
-    let mut planned = plan_archive(
-        alloc,
-        views,
-        channels,
-        known,
-        judged.steps,
-        Cutting::Stretches,
-        options,
-    )?;
+    let mut planned = plan_archive(alloc, views, channels, &judged, Cutting::Stretches, options)?;
     if let Some(fault) = refusal_unless(leave, channels, &planned.standings) {
         return Err(fault);
     }

@@ -7,14 +7,15 @@ ghost use Rattle.mseed_audit.specs.Verdict.{says_continuous};
 ghost use Rattle.mseed_pack.specs.Options.{IsSteim};
 ghost use Rattle.mseed_repack.specs.Repack.{AreContinuous};
 ghost use Rattle.mseed_repack.specs.declared.stretching.Cutting.TheVariants.{Whole};
-ghost use Rattle.mseed_repack.specs.private.Archives.{AreKnown, HasRoomForSteps, SaysCount};
+ghost use Rattle.mseed_repack.specs.private.Archives.{AreAlone, HasRoomForSteps, SaysCount};
 ghost use Rattle.mseed_repack.specs.private.Reading.{steps_of};
 ghost use Rattle.mseed_repack.specs.private.Planning.{AreReady, IsReady};
-ghost use Rattle.mseed_repack.specs.private.Supplying.{AreCounted};
+ghost use Rattle.mseed_repack.specs.private.Supplying.{AreCounted, IsPlain};
 
 use crate::archive::Archive;
 use crate::channel::are_sound;
 use crate::fitting::fit_stretches;
+use crate::judging::Judged;
 use crate::plan::Plan;
 use crate::stretching::{Cutting, cut_records};
 use crate::walk::Walk;
@@ -22,15 +23,6 @@ use mseed_audit::Verdict;
 use mseed_pack::{Encoding, Options, PackFault};
 use mseed_time::LeapStep;
 use std::alloc::{AllocError, Allocator};
-
-/// What is known of the records of an archive that have samples.
-#[derive(Clone, Copy)]
-pub(crate) struct Known {
-    /// None has a finding of its own.
-    pub(crate) sound: bool,
-    /// Each is plain.
-    pub(crate) plain: bool,
-}
 
 /// What is found of a channel, taken as a list of stretches.
 #[derive(Clone, Copy, Debug, PartialEq, Eq)]
@@ -43,7 +35,7 @@ pub enum Standing {
     Misfit(u64, PackFault),
 }
 
-/// What is found of each channel, whose records are cut so, by what is known of all records.
+/// What is found of each channel, whose records are cut so, by what was found of all records.
 /// How its stretches are packed is put after the plans of the others, in a list that is empty, and of a channel that
 /// doesn't fit, nothing; the list of samples grows where a stretch goes by a list and wants more room.
 ///
@@ -53,7 +45,7 @@ pub enum Standing {
 pub(crate) fn stand_all<A: Allocator + Copy>(
     alloc: A,
     archive: &Archive,
-    known: Known,
+    judged: &Judged<A>,
     cutting: Cutting,
     options: &Options,
     plans: &mut Vec<Vec<Plan, A>, A>,
@@ -61,7 +53,8 @@ pub(crate) fn stand_all<A: Allocator + Copy>(
     steps: &mut [(u64, LeapStep)],
 ) -> Result<Vec<Standing, A>, AllocError>
     requires places { HasRoomForSteps archive.now (length steps.old) }
-    requires known { AreKnown known (map view_of archive.now.views.now) }
+    requires sound { judged.now.sound ≡ true → AreAlone IsSound (map view_of archive.now.views.now) }
+    requires plain { judged.now.plain ≡ true → AreAlone IsPlain (map view_of archive.now.views.now) }
     requires whole { cutting ≡ Whole → AreContinuous (map view_of archive.now.views.now) archive.now.channels.now }
     requires none { plans.old.items ≡ [] }
     ensures { IfOk result (λ standings. AreReady cutting options.now (length samples.new.items) (length steps.new)
@@ -70,8 +63,8 @@ pub(crate) fn stand_all<A: Allocator + Copy>(
 {
     let mut standings = Vec::new(alloc);
     for (number, channel) in archive.channels.iter().enumerate() {
-        let sound = is_known_sound(&channel.1, known.sound);
-        let plain = count_plain(&channel.1, known.plain, cutting, options.encoding);
+        let sound = is_known_sound(&channel.1, judged.sound);
+        let plain = count_plain(&channel.1, judged.plain, cutting, options.encoding);
         let mut own = Vec::new(alloc);
         let standing = stand(
             alloc,

@@ -6,19 +6,16 @@ use Rattle.mseed_record.specs.View.{View}
 use Rattle.mseed_record.specs.Viewing.{view_of}
 use Rattle.mseed_steim.specs.Reading.{count_of}
 use Rattle.mseed_audit.specs.Channels.{added_from}
-use Rattle.mseed_audit.specs.Follows.{IsSound}
 use Rattle.mseed_audit.specs.Verdict.{AreVerdicts}
 use Rattle.mseed_audit.specs.declared.finding.Why.{Why}
 use Rattle.mseed_audit.specs.declared.finding.Why.TheVariants.{Time, Rate, Read, RateChange, Leap, Gap, Overlap}
 use Rattle.mseed_audit.specs.declared.verdict.Verdict.{Verdict}
 use Rattle.mseed_audit.specs.declared.verdict.Verdict.TheVariants.{Continuous, Broken}
 use Rattle.mseed_repack.specs.private.Reading.{channel_in, steps_of}
-use Rattle.mseed_repack.specs.private.Supplying.{IsPlain}
 use Rattle.mseed_repack.specs.private.Trails.{AreLaid, AreNexts, IsOfAt}
 use Rattle.mseed_repack.specs.Repack.{Channel, records_in}
 use Rattle.mseed_repack.specs.declared.archive.Archive.{Archive}
 use Rattle.mseed_repack.specs.declared.archive.Trail.{Trail}
-use Rattle.mseed_repack.specs.declared.standing.Known.{Known}
 
 -- whether what is found of a record is its own, and not of its border with the record before
 abbrev pub has_own : Option Why → Bool
@@ -34,11 +31,6 @@ has_own (Some (Overlap us)) = false
 -- such is each record with samples
 abbrev pub AreAlone : (View → Type 0) → List View → Type 0
 AreAlone Such vs = AllByRecursion (λ v. 0 < count_of v → Such v) vs
-
--- what is known of each record with samples
-pub record AreKnown (known : Known) (vs : List View) : Type 0 where
-  pub sound : known.sound ≡ true → AreAlone IsSound vs
-  pub plain : known.plain ≡ true → AreAlone IsPlain vs
 
 -- the verdict says that the channel is continuous, and has so many samples
 abbrev pub SaysCount : ℕ → Verdict → Type 0

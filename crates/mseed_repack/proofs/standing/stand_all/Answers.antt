@@ -40,7 +40,7 @@ stand-requires g c κs =
             (
               λ known. ⊎_elim
                   (λ sound. subst (AllByRecursion IsSound) (sym own)
-                  (alone_in IsSound d.0 views (c.requires.known.sound sound)))
+                  (alone_in IsSound d.0 views (c.requires.sound sound)))
                   (λ continuous. sound_by views a.channels.now l.number d (says_continuous d.1) (records_on t)
                   c.requires.places.audited.verdicts c.loop-number-test.true c.channel-item.is refl own continuous)
                   (c.is_known_sound-sound.ensures known),
@@ -50,7 +50,7 @@ stand-requires g c κs =
                   record {
                     written = says.2;
                     plain = subst (AllByRecursion IsPlain) (sym own)
-                        (alone_in IsPlain d.0 views (c.requires.known.plain says.0));
+                        (alone_in IsPlain d.0 views (c.requires.plain says.0));
                     count_is = count_said views a.channels.now l.number d count (records_on t)
                         c.requires.places.audited.verdicts c.loop-number-test.true c.channel-item.is says.3 own;
                   },
