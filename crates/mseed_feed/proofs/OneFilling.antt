@@ -132,8 +132,7 @@ broken s h f p = inr p
 -- An input that ended with a fault came to nothing else, unless it is of memory.
 one_broken : (s : Serving) (h : BytesRead) (f : StreamFault) (b : Result (List Window) InputFault) → IsBrokenOff s f h
     → IsFilling s b h → (b ≡ Err (Stream Memory)) ⊎ (Err (Stream f) ≡ b)
-one_broken s h f (Ok g) p q =
-    absurd (not_clean f (one_input h p.views q.views (Some f) None p.all q.all).1)
+one_broken s h f (Ok g) p q = absurd (not_clean f (one_input h p.views q.views (Some f) None p.all q.all).1)
 one_broken s h f (Err (Foreign n)) p q = absurd (never_stops s n h p.views (Some f) q p.all p.each)
 one_broken s h f (Err (Stream g)) p q = elim (broken s h g q) [
   | inl memory ↦ inl (ap (λ (x : StreamFault). Err (Stream x)) memory)

@@ -155,7 +155,7 @@ all_past (file ∷ files) (suc n) e = all_past files n (omega (arith, e))
 ended_is : (s : ChainState) → HasEnded s → IsAtEnd (remaining_of s)
 ended_is s ended = rw (ended.nothing, all_past s.contents (length s.begins) ended.all_opened) refl
 
--- nothing was told where what is known to be left stayed, and it is the end where no file is left
+-- nothing was given where what is known to be left stayed, and it is the end where no file is left
 pub nothing_given : (old middle new : ChainState) → Keeps (remaining_of old) (remaining_of middle)
     → Keeps (remaining_of middle) (remaining_of new) → HasEnded new
     → Consumes (remaining_of old) (remaining_of new) [] × IsAtEnd (remaining_of new)

@@ -60,7 +60,7 @@ idle_in (Granted j) feed s k = λ e. refl
 idle_in Streaming feed s k = idle_of feed s k (grant_at s.grants k) (slice_get feed k)
 idle_in Closed feed s k = λ e. refl
 
--- An ask leaves a session as it is, and gives no bytes.
+-- A call for a packet leaves a session as it is, and gives no bytes.
 abbrev Still : List Window → State → ℕ → Type 0
 Still feed s k = ((sent feed s k).0 ≡ s) × (sent_bytes (sent feed s k).1 ≡ [])
 
@@ -84,7 +84,7 @@ still_in (Granted j) s k = (refl, refl)
 still_in Streaming s k = still_of s k (grant_at s.grants k)
 still_in Closed s k = (refl, refl)
 
--- All further asks leave it so.
+-- All further calls leave it so.
 module _ (feed : List Window) (s : State) (P : ℕ → Type 0) (next : (k : ℕ) → P k → P (place_after feed k))
     (still : (k : ℕ) → P k → Still feed s k) where
   still_given : (k last : ℕ) (u : State) (given : List Sent) → P k → Gives feed k s given last u
@@ -190,7 +190,7 @@ nothing_more feed old a sends last w rest more = elim sends.ends [
   | inr waited ↦ round_over _ _ _ _ _ _ _ _ waited sends.gives more
 ]
 
--- Of two runs of asks one goes on with the other.
+-- Of two runs of calls one goes on with the other.
 abbrev GoesFurther : List Window → List Sent → ℕ → State → List Sent → ℕ → State → Type 0
 GoesFurther feed some p u more q v = (rest : List Sent) × (more ≡ some ++ rest) × Gives feed p u rest q v
 

@@ -13,7 +13,7 @@ use Rattle.slink_feed.specs.declared.dialogue.Event.{Event}
 use Rattle.slink_feed.specs.declared.dialogue.Event.TheVariants as events
 use Rattle.slink_feed.specs.declared.dialogue.Stage.{Stage}
 use Rattle.slink_feed.specs.declared.dialogue.Stage.TheVariants.{Packets}
-use Rattle.slink_feed.specs.Cutting.{IsBegun, IsWhole}
+use Rattle.slink_feed.specs.Cutting.{IsWhole}
 use Rattle.slink_feed.specs.Delivered.{AreWanted, Numbered, all_packets, record_events}
 use Rattle.slink_feed.specs.Dialogue.{Talk, Whole, Packet, at_packet, place_of, ended, is_ahead, read, read_at}
 use Rattle.slink_feed.specs.Dialogue.{if_wanted, next_at, reported}

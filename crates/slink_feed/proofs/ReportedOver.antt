@@ -237,8 +237,7 @@ kept_brought t (b ∷ bs) = kept_brought (read t b.whole).0 bs ∙ kept_read t t
 
 pub kept_link : (start : Talk) (stream : List ℕ) (events : List Event) (now : Listening)
     → Reads start stream events now → now.talk.holes ≡ start.holes
-kept_link start stream events now reads =
-    ap (λ (u : Talk). u.holes) reads.talk ∙ kept_brought start reads.brought
+kept_link start stream events now reads = ap (λ (u : Talk). u.holes) reads.talk ∙ kept_brought start reads.brought
 
 -- A new link changes nothing of what is wanted.
 pub wants_written : (t : Talk) (o : Option Wanted) → (to_place o 0 t).0.wants ≡ t.wants

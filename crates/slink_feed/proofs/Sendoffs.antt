@@ -160,7 +160,7 @@ module _ (feed : List Window) (old now new : Attending) (k waits_now written : �
   not_sent (faults.Write after) cut = unsent after cut
   not_sent (faults.Output after) cut = absurd cut
 
--- less is due, or one more ask had nothing to give
+-- less is due, or one more call gave nothing
 pub less_left : (feed : List Window) (s new : State) (x : State × Sent) (n : ℕ) → Moves feed s x → new ≡ x.0 → n < 16
     → 17 * due feed new + (16 - waits_after x.1 n) < 17 * due feed s + (16 - n)
 less_left feed s new x n (waits is same) e lt =

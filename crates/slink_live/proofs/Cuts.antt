@@ -41,8 +41,7 @@ nothing_cut old = record {
 concat_size : (places : List Fields) (rs : List (List ℕ)) → AllByRecursion (IsOf places) rs
     → length (concat rs) ≡ 512 * length rs
 concat_size places [] h = refl
-concat_size places (r ∷ rs) h =
-    omega (arith, length-append r (concat rs), h.0.size, concat_size places rs h.1)
+concat_size places (r ∷ rs) h = omega (arith, length-append r (concat rs), h.0.size, concat_size places rs h.1)
 
 module _ (old new : IntakeState) (bytes rest : List ℕ) (short : length old.kept < 512) (cuts : Cuts old bytes new rest)
   where
@@ -65,8 +64,7 @@ module _ (old new : IntakeState) (bytes rest : List ℕ) (short : length old.kep
     )
 
     pub cut_fits : (s : State) → Fits old.feed s → Fits new.feed s
-    cut_fits s fits =
-        subst (λ (f : List Window). Fits f s) (sym cuts.feed_is) (fits_fed old.feed cuts.records s fits)
+    cut_fits s fits = subst (λ (f : List Window). Fits f s) (sym cuts.feed_is) (fits_fed old.feed cuts.records s fits)
 
 -- bytes are kept, and looked at
 module _ (old now : IntakeState) (bytes chunk : List ℕ) (cuts : Cuts old bytes now now.kept) where

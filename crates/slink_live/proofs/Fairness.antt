@@ -64,8 +64,7 @@ leaves_in Phases.Streaming feed s k j ne = leaves_of feed s k (grant_at s.grants
 leaves_in Phases.Closed feed s k j ne = stays j s
 
 pub leaves : (feed : List Window) (s t : State) (k j : ℕ) (a : Sent) → j ≢ k → sent feed s k ≡ (t, a) → Leaves j s t
-leaves feed s t k j a ne e =
-    subst (Leaves j s) (ap (λ (x : State × Sent). x.0) e) (leaves_in s.phase feed s k j ne)
+leaves feed s t k j a ne e = subst (Leaves j s) (ap (λ (x : State × Sent). x.0) e) (leaves_in s.phase feed s k j ne)
 
 -- what was due before, was due then
 due_before : (feed : List Window) (s t : State) (k j : ℕ) (a : Sent) → j ≢ k → sent feed s k ≡ (t, a)

@@ -52,8 +52,7 @@ pushed_once (v ∷ ws) r = once_if (is_of v.place r) v ws (pushed ws r) r (pushe
 
 once_below : (n : ℕ) (feed new : List Window) (r : List ℕ) → PushedOnce feed new r → IsBelow n feed
     → IsBelow (n + 1) new
-once_below n feed new r (inl e) below =
-    subst (IsBelow (n + 1)) (sym e) (below_more n (n + 1) feed (omega arith) below)
+once_below n feed new r (inl e) below = subst (IsBelow (n + 1)) (sym e) (below_more n (n + 1) feed (omega arith) below)
 once_below n feed new r (inr e) below = subst (IsBelow (n + 1)) (sym e.3) (set_below n feed e.0 e.1 r e.2 below)
 
 once_fits : (feed new : List Window) (r : List ℕ) (s : State) → PushedOnce feed new r → Fits feed s → Fits new s

@@ -55,8 +55,7 @@ granted_before (Some h) q none g is = (h, refl)
 
 pub covers_filled : (places : Places) (feed : List Window) (o new : Option LinkState) → CoversIn places o
     → HasFilled feed o new → CoversIn places new
-covers_filled places feed None new covers h m is streams k g granted =
-    covers_none places new h m is streams k g granted
+covers_filled places feed None new covers h m is streams k g granted = covers_none places new h m is streams k g granted
 covers_filled places feed (Some l) new covers h m is streams k g granted =
     let both : Some h.0 ≡ Some m = sym h.1 ∙ is in
     let same : h.0 ≡ m = cc both in

@@ -48,8 +48,7 @@ called_last s u t v [] a h read e = (
   ap (λ (x : State × Sent). x.1) e,
   sym (ap (λ (x : State × Sent). x.0) e),
 )
-called_last s u t v (x ∷ xs) a h read e =
-    (h.0, h.1, h.2, called_last (sent x.feed h.0 x.place).0 u t v xs a h.3 read e)
+called_last s u t v (x ∷ xs) a h read e = (h.0, h.1, h.2, called_last (sent x.feed h.0 x.place).0 u t v xs a h.3 read e)
 
 bytes_last : (xs : List Called) (a : Called) → bytes_sent (xs ++ a ∷ []) ≡ bytes_sent xs ++ sent_bytes a.answer
 bytes_last [] a = append-nil (sent_bytes a.answer)
@@ -82,7 +81,7 @@ off_on : (p : Phase) → p ≢ Streaming → p ≢ Closed → IsOn p → ⊥
 off_on p off alive (inl on) = off on
 off_on p off alive (inr shut) = alive shut
 
--- each ask was of rings as an earlier moment had them
+-- each call was of rings as an earlier moment had them
 abbrev AreFrom : List Window → List Happening → List Called → Type 0
 AreFrom start log [] = Unit {0}
 AreFrom start log (a ∷ more) = ((leading back : List Happening) × (log ≡ leading ++ back)

@@ -312,8 +312,7 @@ pub rest_empty : (s : ServerState) (j : ℕ) (log last : List Happening) → j <
 rest_empty s j log last lt out e =
     same_links s j log last (updates_by s j (get_or s.links j None) log last lt (unreported_none j log last e) refl
     (λ l some. absurd (
-    let bad : None ≡ Some l =
-    sym (empty_none s.intake.feed s.has_ended (get_or s.links j None) out) ∙ some in
+    let bad : None ≡ Some l = sym (empty_none s.intake.feed s.has_ended (get_or s.links j None) out) ∙ some in
     cc bad))
     (λ start v t. goes_same e))
 

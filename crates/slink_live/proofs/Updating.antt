@@ -33,7 +33,7 @@ use Rattle.slink_live.proofs.Reported.{gone_reported, left_last, links_last, upd
 use Rattle.slink_live.proofs.Reported.{updates_wants, awake_by, rest_closes, rest_empty, rest_wants, awake_rest}
 use Rattle.slink_live.proofs.Reported.{interest_last, unreported_none, unreported_one}
 
--- what a link that took bytes was told, and which it is
+-- what was reported of a link that took bytes, and which it is
 module _ (j : ℕ) (new : Option LinkState) (log mid : List Happening) where
   taken_some : (o : Option LinkState) → HasTaken j o new log mid → is_some new ≡ is_some o
   taken_some None h = ap is_some h.0
@@ -166,8 +166,7 @@ module _ {s0 s : ServerState} (same : s0 ≡ s) (j : ℕ) (lt : j < length s0.li
   outcome_in : IfRested s.intake.feed (get_or s.links j None)
       → IsOutcome s.intake.feed s.has_ended (get_or s.links j None) result
   outcome_in rested =
-      let stands : get_or s.links j None ≡ o =
-      rw same at (sym (link ∙ sym (get_or_default s0.links j None o lt))) in
+      let stands : get_or s.links j None ≡ o = rw same at (sym (link ∙ sym (get_or_default s0.links j None o lt))) in
       subst (λ (x : Option LinkState). IsOutcome s.intake.feed s.has_ended x result) (sym stands)
       (subst (λ (b : Bool). IsOutcome s.intake.feed b o result) (ap (λ (x : ServerState). x.has_ended) same)
       (look s.intake.feed (subst (IfRested s.intake.feed) stands rested)))
@@ -310,8 +309,7 @@ pub input_awake : (s t : ServerState) (intake : IntakeState) (reads : ℕ) (byte
       intake = intake;
       links = s.links;
       has_ended = s.has_ended;
-      reads =
-          reads;
+      reads = reads;
     }) t mid last
     → KeepsAwake s t log last
 input_awake s t intake reads bytes places log mid last now long stays serves but =

@@ -99,8 +99,7 @@ read_none : (old new : Listening) (bytes : List ℕ) (used : ℕ) (event : Event
     × (new ≡ old)
 read_none old new bytes used event (linked is) some keeps h none =
     absurd (brings_some old new bytes used event some keeps h none (h.brings is))
-read_none old new bytes used event (unlinked is) some keeps h none =
-    (not_unlinked old.talk.stage is, (h.unlinked is).2)
+read_none old new bytes used event (unlinked is) some keeps h none = (not_unlinked old.talk.stage is, (h.unlinked is).2)
 read_none old new bytes used event (ended ending is) some keeps h none =
     (not_ended old.talk.stage ending is, (h.ended ending is).2)
 

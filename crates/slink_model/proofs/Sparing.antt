@@ -106,7 +106,7 @@ window_sound w n r sound is =
     got true o h = absurd (let bad : None ≡ Some r = h in cc bad)
     got false o h = h
 
--- a world whose client, over a new link, has said what it says first
+-- a world whose client, over a new link, has sent what it sends first
 abbrev pub linked_anew : WorldState → SessionState → Talk × Event → WorldState
 linked_anew w session x = record w {
   client = record { talk = x.0; kept = [] };

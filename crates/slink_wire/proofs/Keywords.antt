@@ -1,4 +1,4 @@
--- The keywords, and the words that say a command.
+-- The keywords, and the words of a command line.
 use Rattle.std.proofs.Common.{◌≢◌, ℕ, List, codes}
 use Rattle.slink_wire.specs.declared.keyword.Keyword.{Keyword}
 use Rattle.slink_wire.specs.declared.keyword.Keyword.TheVariants.{Hello, Station, Select, Data, Fetch, End, Bye}

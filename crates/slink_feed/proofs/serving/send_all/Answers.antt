@@ -59,8 +59,7 @@ loop-waits-preserved g c =
     c.loop-waits.invariant.so_far (c.give.new.session.state, given.answer) given.is refl given.held
     c.in_ok-given.given.written moves lt within given.short given.written in
     let most : length c.args.feed.now ≤ 16 = omega (arith, c.len.ensures.value, c.len.ensures.most) in
-    let few : c.in_ok-given.given.written ≤ 1099511627776 =
-    few_written _ _ _ _ _ _ most so_far in
+    let few : c.in_ok-given.given.written ≤ 1099511627776 = few_written _ _ _ _ _ _ most so_far in
     record {
       so_far = rw (← c.next_place-k.ensures) at (rw (← given.waited_is) at so_far);
       few = omega (arith, few);

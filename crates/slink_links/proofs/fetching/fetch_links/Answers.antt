@@ -22,8 +22,7 @@ links-init g c = record {
 }
 
 pub returns-then-ne-clause-fetched : goal.returns-then-ne-clause-fetched
-returns-then-ne-clause-fetched g c =
-    fetched_both _ _ _ _ _ _ _ c.links.invariant.fetched c.try_link-end.ensures.fetched
+returns-then-ne-clause-fetched g c = fetched_both _ _ _ _ _ _ _ c.links.invariant.fetched c.try_link-end.ensures.fetched
 
 pub returns-then-ne-clause-read : goal.returns-then-ne-clause-read
 returns-then-ne-clause-read g c =

@@ -12,8 +12,7 @@ loop-turn-init g c = record {
 }
 
 pub take_turn-requires-clause-reading : goal.take_turn-requires-clause-reading
-take_turn-requires-clause-reading g c =
-    turned_reading _ _ _ _ _ _ _ c.requires.reading c.loop-turn.invariant.turned
+take_turn-requires-clause-reading g c = turned_reading _ _ _ _ _ _ _ c.requires.reading c.loop-turn.invariant.turned
 
 pub returns-in-Some-clause-turned : goal.returns-in-Some-clause-turned
 returns-in-Some-clause-turned g c =
@@ -44,8 +43,7 @@ loop-turn-preserved g c = record {
 }
 
 pub returns-clause-turned : goal.returns-clause-turned
-returns-clause-turned g c =
-    turned_out _ _ _ _ _ _ c.loop-turn.invariant.turned
+returns-clause-turned g c = turned_out _ _ _ _ _ _ c.loop-turn.invariant.turned
 
 pub returns-clause-taken : goal.returns-clause-taken
 returns-clause-taken g c =

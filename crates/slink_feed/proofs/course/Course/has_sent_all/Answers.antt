@@ -1,5 +1,4 @@
-use Rattle.std.proofs.Common.{◌≡◌, rules, sym, arith, slice_get, Some}
-use Rattle.slink_feed.specs.Window.{Window}
+use Rattle.std.proofs.Common.{rules, sym, arith}
 use Rattle.slink_feed.proofs.Done.{done_all, done_more, not_done, some_at}
 use Rattle.slink_feed.proofs.course.Course.has_sent_all.Goals as goal
 

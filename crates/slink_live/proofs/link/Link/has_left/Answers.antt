@@ -21,5 +21,4 @@ returns-in-Some-clause-no c =
     (omega (arith, lt_false c.in-Some.position c.oldest.result ge, c.oldest.ensures.value)))
 
 pub returns-in-None-clause-no : goal.returns-in-None-clause-no
-returns-in-None-clause-no c =
-    none_left c.args.feed.now c.self.view_is c.args.k (sym c.position.ensures ∙ c.in-None.is)
+returns-in-None-clause-no c = none_left c.args.feed.now c.self.view_is c.args.k (sym c.position.ensures ∙ c.in-None.is)

@@ -1,6 +1,5 @@
 use Rattle.std.proofs.Common.{◌≡◌, ◌+◌, ◌≤◌, ◌<◌, ◌∙◌, ◌++◌, arith, rules, ap, refl, subst, sym, List, ℕ, length}
 use Rattle.std.proofs.Common.{length-append, take}
-use Rattle.slink_wire.specs.Reply.{reply_bytes}
 use Rattle.slink_feed.specs.Serving.{Takes}
 use Rattle.slink_feed.specs.Session.{Fits}
 use Rattle.slink_live.specs.Served.{LinkState}

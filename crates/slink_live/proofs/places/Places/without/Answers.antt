@@ -18,5 +18,4 @@ returns-clause-less c j has = (
 )
 
 pub returns-clause-others : goal.returns-clause-others
-returns-clause-others c j lt ne has =
-    bit_at_clear_other w16 c.args.self.bits c.args.k c.requires j lt ne ∙ has
+returns-clause-others c j lt ne has = bit_at_clear_other w16 c.args.self.bits c.args.k c.requires j lt ne ∙ has

@@ -11,8 +11,7 @@ returns-clause-keeps g c =
     end_keeps c.leave_input.ensures.log c.wants_links.ensures.log c.self.view_is c.requires c.update_all.ensures.keeps
 
 pub returns-clause-closes : goal.returns-clause-closes
-returns-clause-closes g c =
-    end_closes c.leave_input.ensures.log c.wants_links.ensures.log c.update_all.ensures.closes
+returns-clause-closes g c = end_closes c.leave_input.ensures.log c.wants_links.ensures.log c.update_all.ensures.closes
 
 pub returns-clause-keeps_awake : goal.returns-clause-keeps_awake
 returns-clause-keeps_awake g c =

@@ -3,8 +3,7 @@ use Rattle.slink_live.proofs.Begun.{begun_awake, begun_serving, begun_sound}
 use Rattle.slink_live.proofs.server.Server.new.Goals as goal
 
 pub returns-clause-serving : goal.returns-clause-serving
-returns-clause-serving c =
-    rw c.new.ensures (begun_serving c.args.feed c.in_ok-new.field-0 c.in_ok-new.ensures.empty)
+returns-clause-serving c = rw c.new.ensures (begun_serving c.args.feed c.in_ok-new.field-0 c.in_ok-new.ensures.empty)
 
 pub returns-clause-sound : goal.returns-clause-sound
 returns-clause-sound c =

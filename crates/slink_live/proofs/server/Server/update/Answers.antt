@@ -21,8 +21,7 @@ returns-in-Empty-clause-keeps g c =
     c.requires.sound _ c.feed.ensures c.in-Empty.ensures
 
 pub returns-in-Empty-clause-closes : goal.returns-in-Empty-clause-closes
-returns-in-Empty-clause-closes g c =
-    closes_none (g.R.Ready.log c.args.ready.now) (g.R.Ready.log c.args.ready.now) refl
+returns-in-Empty-clause-closes g c = closes_none (g.R.Ready.log c.args.ready.now) (g.R.Ready.log c.args.ready.now) refl
 
 pub returns-in-Empty-clause-updates : goal.returns-in-Empty-clause-updates
 returns-in-Empty-clause-updates g c =
