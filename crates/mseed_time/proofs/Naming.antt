@@ -1,10 +1,11 @@
 -- No two pairs spell one instant.
 use Rattle.std.proofs.Common.{◌≡◌, ℕ, suc, ◌+◌, ◌-◌, ◌*◌, ◌<◌, ◌≤◌, zero, ap, ◌∙◌, le_trans, arith, ℤ, pos, ◌+ℤ◌}
-use Rattle.std.proofs.Common.{⊎_elim}
+use Rattle.std.proofs.Common.{false, ⊎_elim}
+use Rattle.std.proofs.Math.IntN.{+ℤ_idr}
 use Rattle.std.proofs.lemmas.Bool.{cases_order}
 use Rattle.std.proofs.lemmas.Bool.Decides.{nat_tests}
 use Rattle.jiff_core.proofs.SignedLemmas.{signed_arith}
-use Rattle.mseed_time.specs.Btime.{Parts, IsTime, leap_days, days_in_year, microsecond_of}
+use Rattle.mseed_time.specs.Btime.{Parts, IsTime, instant_of, leap_days, days_in_year, microsecond_of}
 use Rattle.mseed_time.specs.Naming.{HasNoName, IsOutside, Names}
 use Rattle.mseed_time.proofs.Days.{microsecond_of-counted}
 
@@ -94,6 +95,9 @@ pub name_unique : (instant u v : ℤ) (t s : Parts) → Names instant t u → Na
 name_unique instant u v t s a b =
     let same = same_ticks instant u v t s a b in
     (same_parts t s a.valid a.second b.valid b.second same.1, same.0)
+
+pub named_value : (instant u : ℤ) (t : Parts) → Names instant t u → instant_of t (pos 0) false u ≡ instant
+named_value instant u t h = ap (λ (n : ℤ). n +ℤ u) (+ℤ_idr (microsecond_of t)) ∙ h.value
 
 few_days : (t : Parts) → IsTime t → days_of t ≤ 73_413
 unfolding days_of

@@ -1,0 +1,11 @@
+use Rattle.std.proofs.Common.{◌-◌, ◌∙◌, length, ap, sym, arith}
+use Rattle.mseed_time.specs.declared.order.Order.{Order}
+use Rattle.mseed_time.specs.Fields.{number_at}
+use Rattle.mseed_time.proofs.Reading.{number_there}
+use Rattle.mseed_record.proofs.header.u32_at.Goals as goal
+
+pub returns-in-Little : goal.returns-in-Little
+returns-in-Little c =
+    c.read_u32-in-Little.ensures
+    ∙ number_there c.args.offset 4 (length c.args.bytes.now - c.args.offset) c.args.bytes.now (omega arith)
+    ∙ ap (λ (order : Order). number_at order 4 c.args.offset c.args.bytes.now) (sym c.in-Little.is)
