@@ -11,8 +11,9 @@ use Rattle.mseed_stream.specs.Device.{BytesRead, BytesWritten}
 use Rattle.mseed_stream.specs.Gathered.{AreGathered, EmittedPart, IsCutOff}
 use Rattle.mseed_stream.proofs.Gathered.{all_behind, cut_part, gathered_all, gathered_also, gathered_first, gathered_on}
 use Rattle.mseed_stream.proofs.Gathered.{part_of}
+use Rattle.mseed_stream.proofs.Handed.{views_stay}
 use Rattle.mseed_stream.specs.CutterState.{CutterState}
-use Rattle.mseed_stream.specs.Walk.{AreViews, bytes_in}
+use Rattle.mseed_stream.specs.Walk.{AreViews, HasHandedOut, bytes_in}
 use Rattle.mseed_select.specs.Counting.{counts_of, one_if}
 use Rattle.mseed_select.specs.Formatted.{IsFormatted, Texts, asked_text, texts_of, whole_text}
 use Rattle.mseed_select.specs.Halves.{Placed, placed_from}
@@ -24,6 +25,12 @@ use Rattle.mseed_select.specs.declared.fault.SelectFault.{SelectFault}
 use Rattle.mseed_select.specs.declared.fault.SelectFault.TheVariants.{Write, Memory}
 use Rattle.mseed_select.specs.declared.selected.Selected.{Selected}
 use Rattle.mseed_select.specs.private.Copying.{HasCopied, IsCopying, IsHeld, IsNext, text_by}
+
+-- the records that were handed out stay those of what was read
+pub stay : (old new : BytesRead) (c : CutterState) (views : List View) (more : List ℕ) → HasHandedOut old c views
+    → new.bytes ≡ old.bytes ++ more → AreViews new.bytes c.offset views
+stay old new c views more before e =
+    views_stay old.bytes new.bytes more c.offset views (omega (arith, before.along.read.reported)) e before.records
 
 -- ---- one more record
 one_alone : (b : Bool) → 0 + cond b 1 0 ≡ one_if b

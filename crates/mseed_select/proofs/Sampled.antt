@@ -1,6 +1,9 @@
 -- A sample in the window lies in a record that is asked for.
 use Rattle.std.proofs.Common.{ℕ, suc, zero, ◌*◌, ◌-◌, ◌^◌, ◌<◌, ◌≤◌, sym, subst, arith, Option, Some, None}
 use Rattle.std.proofs.Common.{ℤ, pos, negsuc, ◌-ℤ◌, ◌*ℤ◌, ◌≤ℤ◌, ◌<ℤ◌}
+use Rattle.std.specs.Option.{IsSome, unwrap_or}
+use Rattle.std.proofs.Common.{◌≡◌, refl}
+use Rattle.std.proofs.lemmas.Bool.{false≢true}
 use Rattle.std.proofs.lemmas.Int.{ints}
 use Rattle.std.proofs.lemmas.Nat.{mul-le}
 use Rattle.mseed_time.specs.Rate.{Ratio}
@@ -8,7 +11,7 @@ use Rattle.mseed_record.specs.Header.{key_at, samples_at}
 use Rattle.mseed_record.specs.View.{View, start_of}
 use Rattle.mseed_select.specs.Pattern.{IsOfChannels}
 use Rattle.mseed_select.specs.Selection.{BeginsBefore, HasSampleIn, IsAskedFor, IsInWindow, IsSampleBefore, LastsTo}
-use Rattle.mseed_select.specs.Selection.{Selection}
+use Rattle.mseed_select.specs.Selection.{Selection, lasts_to}
 
 -- the last sample is no earlier than another one
 last_on : (x : ℤ) (i n den : ℕ) → x ≤ℤ pos (i * den * 10 ^ 6) → i < n → x ≤ℤ pos ((n - 1) * den * 10 ^ 6)
@@ -48,3 +51,9 @@ within (Some from) until v rate i h =
 pub sampled : (s : Selection) (v : View) (rate : Ratio) (i : ℕ) → IsOfChannels s.channels (key_at v.bytes)
     → HasSampleIn s.from s.until v rate i → IsAskedFor s v
 sampled s v rate i channel h = record { channel = channel; window = within s.from s.until v rate i h }
+
+-- a rate that is there is the one that counts
+pub lasts_there : (o : Option Ratio) (d : Ratio) (start : ℤ) (n : ℕ) (instant : ℤ) → IsSome o
+    → lasts_to (Some (unwrap_or o d)) start n instant ≡ lasts_to o start n instant
+lasts_there None d start n instant some = absurd (false≢true some)
+lasts_there (Some rate) d start n instant some = refl

@@ -1,7 +1,9 @@
-use Rattle.std.proofs.Common.{◌++◌, ◌∷◌, [], List, ap, arith, subst, sym, Ok}
+use Rattle.std.proofs.Common.{◌++◌, ◌∷◌, [], List, ap, arith, append-nil, refl, subst, sym, Ok}
 use Rattle.std.proofs.lemmas.List.Sums.{count_by-le-length}
 use Rattle.mseed_record.specs.View.{View}
-use Rattle.mseed_stream.specs.Device.{BytesWritten}
+use Rattle.mseed_stream.specs.Device.{BytesRead, BytesWritten}
+use Rattle.mseed_stream.specs.Gathered.{AreGathered}
+use Rattle.mseed_stream.specs.Walk.{HasHandedOut}
 use Rattle.mseed_select.specs.Selection.{Selection, asks_for, lacks_time}
 use Rattle.mseed_select.specs.declared.counts.Counts.{Counts}
 use Rattle.mseed_select.specs.declared.selected.Selected.{Selected}
@@ -97,3 +99,12 @@ add-requires g c =
       asked_for = omega (arith, records, asked_for, count_by-le-length (asks_for s) views);
       without_time = omega (arith, records, without_time, count_by-le-length (lacks_time s) views);
     }
+
+pub records-init : goal.records-init
+records-init g c =
+    let handed : HasHandedOut (g.R.Source.read c.args.input.now) c.new-cutter.result [] =
+    subst (λ (h : BytesRead). HasHandedOut h c.new-cutter.result []) (sym c.requires.read)
+    c.new-cutter.ensures.handed in
+    let gathered : AreGathered (g.W.Sink.written c.args.output.now) (g.W.Sink.written c.args.output.now)
+    c.args.text.now.items [] = record { taken = []; bytes = sym (append-nil _); joined = c.requires.text } in
+    (handed.along, ([], (handed, record { gathered = gathered; fine = refl }, c.none-counts.ensures)))

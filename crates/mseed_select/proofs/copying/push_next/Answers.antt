@@ -1,10 +1,16 @@
-use Rattle.std.proofs.Common.{◌≡◌, ◌∙◌, List, ℕ, length, take, sym, ap, arith}
+use Rattle.std.proofs.Common.{◌≡◌, ◌∙◌, List, ℕ, length, take, subst, sym, ap, arith}
 use Rattle.mseed_record.specs.View.{View}
 use Rattle.mseed_record.specs.Viewing.{view_of}
+use Rattle.mseed_stream.specs.Cutting.{IsAhead}
 use Rattle.mseed_stream.specs.Device.{BytesRead, BytesWritten}
 use Rattle.mseed_stream.proofs.Gathered.{none_left}
 use Rattle.mseed_select.proofs.Copied.{cut_off, held_more, held_on, next_err}
 use Rattle.mseed_select.proofs.copying.push_next.Goals as goal
+
+pub pass-requires-clause-ahead : goal.pass-requires-clause-ahead
+pass-requires-clause-ahead g c =
+    subst (λ (xs : List ℕ). IsAhead (length xs) c.args.cutter.now (g.R.Source.lent c.args.input.now))
+    (sym c.bytes-size.ensures.value) c.in-Some.ensures.ahead
 
 pub returns-in-Some : goal.returns-in-Some
 returns-in-Some g c = λ first views before held.
