@@ -1,5 +1,5 @@
 -- Statements of the records that an audit reads, and of what it reports of them: no public contract cites them.
-use Rattle.std.specs.Prelude.{◌≡◌, ◌⊎◌, ℕ, ◌+◌, ◌<◌, List, [], ◌∷◌, ◌++◌, length, Option, Some, None, Result, Ok, Err}
+use Rattle.std.specs.Prelude.{◌≡◌, ◌⊎◌, ℕ, ◌+◌, ◌<◌, List, [], ◌∷◌, ◌++◌, length, Option, Result, Ok, Err}
 use Rattle.std.specs.Prelude.{IfOk, IsOk, OnErr, OnOk}
 use Rattle.std.specs.List.{count_by}
 use Rattle.mseed_record.specs.Header.{key_at}

@@ -1,21 +1,14 @@
-use Rattle.std.proofs.Common.{◌≡◌, ◌∙◌, ◌++◌, ◌∷◌, [], List, None, ℕ, length, take, sym, subst, ap, arith, rules}
+use Rattle.std.proofs.Common.{◌≡◌, ◌∙◌, ◌++◌, ◌∷◌, [], List, None, ℕ, length, take, sym, subst, ap, arith}
 use Rattle.mseed_record.specs.View.{View}
 use Rattle.mseed_record.specs.Viewing.{view_of}
 use Rattle.mseed_stream.specs.Device.{BytesRead}
 use Rattle.mseed_stream.specs.Cutting.{IsAhead}
-use Rattle.mseed_stream.specs.CutterState.{CutterState}
-use Rattle.mseed_stream.specs.Walk.{AreAllViews, AreViews, HasHandedOut}
+use Rattle.mseed_stream.specs.Walk.{AreAllViews, HasHandedOut}
 use Rattle.mseed_stream.proofs.Calls.{reads_none}
-use Rattle.mseed_stream.proofs.Handed.{views_stay}
+use Rattle.mseed_select.proofs.Copied.{stay}
 use Rattle.mseed_audit.proofs.Reporting.{next_none}
 use Rattle.mseed_audit.proofs.Views.{reads_whole}
 use Rattle.mseed_audit.proofs.summary.take_next.Goals as goal
-
--- the records that were handed out stay those of what was read
-stay : (old new : BytesRead) (c : CutterState) (views : List View) (more : List ℕ) → HasHandedOut old c views
-    → new.bytes ≡ old.bytes ++ more → AreViews new.bytes c.offset views
-stay old new c views more before e =
-    views_stay old.bytes new.bytes more c.offset views (omega (arith, before.along.read.reported)) e before.records
 
 pub pass-requires-clause-ahead : goal.pass-requires-clause-ahead
 pass-requires-clause-ahead g c =
