@@ -183,7 +183,6 @@ impl<A: Allocator> LineReader<A> {
     }
 
     /// Returns what lies ahead, where the bytes that are held show it.
-    #[tactic(auto, using(crate::proofs::LineEnds::no_end_in_few))]
     fn see(&mut self) -> Option<Ahead>
         ensures some { IfSome result (λ a. LiesAhead a self.new false) }
         ensures none { IfNone result ((length self.new.held < LONGEST) × HasNoEnd self.new.held) }
