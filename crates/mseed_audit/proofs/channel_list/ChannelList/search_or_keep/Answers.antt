@@ -28,8 +28,9 @@ invariant_of-self-2 g c =
     let more : List (List ℕ × ℕ) = c.find_or_enter.new.places.entries in
     let place : place_of (same_key code) es ≡ None = search rules in
     let index : c.len-index.result ≡ length es = search rules in
-    let items : c.push.new.self.items ≡ es ++ (code, c.args.channel.now) ∷ [] = search rules in
-    let entered : more ≡ insert_entry (slice_cmp nat_cmp) ps code c.len-index.result = search rules in
+    let items : c.push.new.self.items ≡ es ++ (code, c.args.channel.now) ∷ [] = c.in-Ok.ensures.items in
+    let entered : more ≡ insert_entry (slice_cmp nat_cmp) ps code c.len-index.result =
+    rw c.in_default.is at c.in_ok-index.ensures.entered in
     let ascending : IsStrictlySortedBy (slice_cmp nat_cmp) (keys_of more) = search rules in (
       placed_push ps more es _ code c.args.channel.now c.self.invariant.0 items (none_there (same_key code) es place)
           (entered ∙ ap (λ (n : ℕ). insert_entry (slice_cmp nat_cmp) ps code n) index) ascending,

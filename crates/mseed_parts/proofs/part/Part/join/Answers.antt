@@ -89,3 +89,7 @@ returns-in-Err-add_counts-clause-limit g c = λ limit fit.
 pub returns-in-Err-add_counts-clause-memory : goal.returns-in-Err-add_counts-clause-memory
 returns-in-Err-add_counts-clause-memory g c = λ memory.
     absurd (c.in-Err-add_counts.ensures.fault (same_error c.in-Err-add_counts.fault Memory memory))
+
+pub bounds-channels-index : goal.bounds-channels-index
+bounds-channels-index g c =
+    let within = rw c.in-Some.ensures.steps at c.loop-codes.invariant.1 in within 0 0 (omega arith)
