@@ -5,8 +5,8 @@ use Rattle.mseed_stream.specs.Device.{BytesRead}
 use Rattle.mseed_stream.specs.CutterState.{CutterState}
 use Rattle.mseed_stream.specs.Cutting.{IsAlong, IsCleanEnd, read_from, IsCutFault}
 use Rattle.mseed_stream.proofs.Handed.{records_after, archive_at}
-use Rattle.mseed_stream.proofs.AfterFound.{along_found, clean_end, nothing_found, reported_is, record_found, fault_found}
-use Rattle.mseed_stream.proofs.AfterFound.{fault_again, end_again}
+use Rattle.mseed_stream.proofs.AfterFound.{along_found, clean_end, nothing_found, reported_is, record_found}
+use Rattle.mseed_stream.proofs.AfterFound.{fault_found, fault_again, end_again}
 use Rattle.mseed_record.specs.Record.{IsRecord}
 use Rattle.mseed_stream.specs.declared.fault.StreamFault.{StreamFault}
 use Rattle.mseed_stream.specs.Archive.{IsEndOf, clean}
