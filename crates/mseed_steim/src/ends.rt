@@ -76,6 +76,7 @@ pub fn is_surely_near(view: &RecordView<'_>) -> bool
 /// The first and the last of a record's samples, where it shows before they are read that each is the one before it
 /// plus a difference of 30 bits, as [`is_surely_near`] says. The record is known to have a reading that ends on its
 /// constants.
+#[inline(always)]
 pub fn near_ends(view: &RecordView<'_>) -> Option<Ends>
     requires { (s : List ℤ) × IsWhole (view_of view.now) s }
     // The words or integers show it.
