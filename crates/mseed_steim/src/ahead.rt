@@ -61,7 +61,7 @@ impl Lookahead {
     /// where nothing is known of them alone.
     #[inline(always)]
     pub(crate) fn begin(&self, count: usize) -> usize
-        requires { self.now.place ≤ 128 }
+        requires { self.now.place ≤ AHEAD }
         ensures { (scheme : Scheme) (ds more : List ℤ) → length ds ≡ count → IsLookahead scheme self.now (ds ++ more)
             → IsLookahead scheme (record { most = self.now.most; cut = self.now.cut; place = result }) ds }
     {
@@ -113,8 +113,8 @@ fn size_of(number: i16) -> u16
 /// Half the sizes of so many differences.
 #[inline(always)]
 fn put_half_sizes(diffs: &[i32], sizes: &mut [u16; AHEAD])
-    requires { 128 ≤ length diffs.now }
-    ensures { (i : ℕ) → i < 128 → slice_index sizes.new i ≡ near_size One (slice_index_or diffs.now i (pos 0)) }
+    requires { AHEAD ≤ length diffs.now }
+    ensures { (i : ℕ) → i < AHEAD → slice_index sizes.new i ≡ near_size One (slice_index_or diffs.now i (pos 0)) }
 {
     for index in 0..AHEAD {
         sizes[index] = half_size(diffs[index]);
@@ -124,10 +124,10 @@ fn put_half_sizes(diffs: &[i32], sizes: &mut [u16; AHEAD])
 /// So many differences, cut off at 16 bits.
 #[inline(always)]
 fn put_cut(diffs: &[i32], cut: &mut Cut)
-    requires { 128 ≤ length diffs.now }
-    ensures near { (i : ℕ) → i < 128
+    requires { AHEAD ≤ length diffs.now }
+    ensures near { (i : ℕ) → i < AHEAD
         → size_of (slice_index_or cut.new i (pos 0)) ≡ near_size Two (slice_index_or diffs.now i (pos 0)) }
-    ensures same { AreSame 128 diffs.now cut.new }
+    ensures same { AreSame AHEAD diffs.now cut.new }
 {
     for index in 0..AHEAD {
         cut[index] = cut_off(diffs[index]);
@@ -137,7 +137,7 @@ fn put_cut(diffs: &[i32], cut: &mut Cut)
 /// The sizes of so many numbers of 16 bits.
 #[inline(always)]
 fn put_each_size(numbers: &Cut, sizes: &mut [u16; AHEAD])
-    ensures { (i : ℕ) → i < 128 → slice_index sizes.new i ≡ size_of (slice_index_or numbers.now i (pos 0)) }
+    ensures { (i : ℕ) → i < AHEAD → slice_index sizes.new i ≡ size_of (slice_index_or numbers.now i (pos 0)) }
 {
     for index in 0..AHEAD {
         sizes[index] = size_of(numbers[index]);
@@ -148,10 +148,10 @@ fn put_each_size(numbers: &Cut, sizes: &mut [u16; AHEAD])
 /// are cut off at 16 bits before anything else, in a loop of their own, so that sizes are found eight at once.
 #[inline(always)]
 fn put_sizes(scheme: Scheme, diffs: &[i32], cut: &mut Cut, sizes: &mut [u16; AHEAD])
-    requires { 128 ≤ length diffs.now }
-    ensures sizes { (i : ℕ) → i < 128
+    requires { AHEAD ≤ length diffs.now }
+    ensures sizes { (i : ℕ) → i < AHEAD
         → slice_index sizes.new i ≡ near_size scheme (slice_index_or diffs.now i (pos 0)) }
-    ensures cut { scheme ≡ Two → AreSame 128 diffs.now cut.new }
+    ensures cut { scheme ≡ Two → AreSame AHEAD diffs.now cut.new }
 {
     match scheme {
         Scheme::One => put_half_sizes(diffs, sizes),
@@ -220,8 +220,8 @@ fn most_with(scheme: Scheme, sizes: u16x16) -> u8x16
 /// The most differences of words that hold two or more, by one of them.
 #[inline(always)]
 fn put_most(scheme: Scheme, sizes: &[u16; AHEAD], most: &mut Most)
-    requires { (i : ℕ) → i < 128 → slice_index sizes.now i < 32768 }
-    ensures { (i : ℕ) → i < 128 → slice_index most.new i ≡ most_with scheme (slice_index sizes.now i) }
+    requires { (i : ℕ) → i < AHEAD → slice_index sizes.now i < 32768 }
+    ensures { (i : ℕ) → i < AHEAD → slice_index most.new i ≡ most_with scheme (slice_index sizes.now i) }
 {
     for turn in 0..AHEAD / 16 {
         let sixteen = u16x16::from_slice(&sizes[16 * turn..]);
@@ -258,7 +258,7 @@ fn most_from(held: &[u8]) -> u8x16
 /// The same from each place on, in the place of the items.
 #[inline(always)]
 fn bound(held: &mut Most)
-    ensures { (i : ℕ) → i < 128 → IsMost held.old i (slice_index held.new i) }
+    ensures { (i : ℕ) → i < AHEAD → IsMost held.old i (slice_index held.new i) }
 {
     for turn in 0..AHEAD / 16 {
         let lanes = most_from(&held[16 * turn..]);
@@ -269,10 +269,10 @@ fn bound(held: &mut Most)
 /// The most differences that are held from each of the first 121 places on; nothing is reported of others.
 #[inline(always)]
 fn look_ahead(scheme: Scheme, diffs: &[i32], most: &mut Most, cut: &mut Cut)
-    requires { 128 ≤ length diffs.now }
-    ensures ahead { (i : ℕ) → i < 144 → IsAhead scheme (drop i diffs.now) (slice_index most.new i) }
-    ensures none { (i : ℕ) → 121 ≤ i → i < 144 → slice_index most.new i ≡ 0 }
-    ensures cut { scheme ≡ Two → AreSame 128 diffs.now cut.new }
+    requires { AHEAD ≤ length diffs.now }
+    ensures ahead { (i : ℕ) → i < ROOM → IsAhead scheme (drop i diffs.now) (slice_index most.new i) }
+    ensures none { (i : ℕ) → KNOWN ≤ i → i < ROOM → slice_index most.new i ≡ 0 }
+    ensures cut { scheme ≡ Two → AreSame AHEAD diffs.now cut.new }
 {
     let mut sizes = [0; AHEAD];
     put_sizes(scheme, diffs, cut, &mut sizes);
@@ -286,7 +286,7 @@ fn look_ahead(scheme: Scheme, diffs: &[i32], most: &mut Most, cut: &mut Cut)
 /// The differences, and behind them as many zeros as are looked at with them.
 #[inline(always)]
 fn padded(diffs: &[i32]) -> [i32; AHEAD]
-    requires { length diffs.now ≤ 128 }
+    requires { length diffs.now ≤ AHEAD }
     ensures { (zeros : List ℤ) × (result ≡ diffs.now ++ zeros) }
 {
     let mut padded = [0; AHEAD];
@@ -298,7 +298,7 @@ fn padded(diffs: &[i32]) -> [i32; AHEAD]
 #[cold]
 fn look_at_few(scheme: Scheme, diffs: &[i32], most: &mut Most, cut: &mut Cut)
     requires some { 7 ≤ length diffs.now }
-    requires few { length diffs.now < 128 }
+    requires few { length diffs.now < AHEAD }
     ensures { IsLookahead scheme (record { most = most.new; cut = cut.new; place = 0 }) diffs.now }
 {
     look_ahead(scheme, &padded(diffs), most, cut);

@@ -257,7 +257,7 @@ fn push_next(
     requires room { reached.index < word_count frames.old }
     requires data { reached.index % 16 ≢ 0 }
     requires some { reached.used < length diffs.now }
-    requires early { reached.place < 121 }
+    requires early { reached.place < KNOWN }
     requires reached { (head : ℕ) × IsReached scheme diffs.now known.now frames.old head reached }
     ensures moves { IfOk result (λ next. next.index ≡ reached.index + 1) }
     ensures reached { IfOk result (λ next. (head : ℕ)
@@ -299,7 +299,7 @@ fn push_each(
     ensures inside { IfOk result (λ next. next.index ≤ end) }
     ensures moves { IfOk result (λ next. ((next.index ≡ reached.index) × (next.place ≡ reached.place))
         ⊎ (reached.index < next.index)) }
-    ensures ended { IfOk result (λ next. (next.index ≡ end) ⊎ ((next.used ≡ length diffs.now) ⊎ (121 ≤ next.place))) }
+    ensures ended { IfOk result (λ next. (next.index ≡ end) ⊎ ((next.used ≡ length diffs.now) ⊎ (KNOWN ≤ next.place))) }
     ensures reached { IfOk result (λ next. (head : ℕ)
         → IsReached scheme diffs.now known.now frames.old head reached
         → IsReached scheme diffs.now known.now frames.new head next) }
