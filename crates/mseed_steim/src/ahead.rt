@@ -101,15 +101,6 @@ fn cut_off(difference: i32) -> i16
     }
 }
 
-/// The number, or the one below its opposite where it's negative.
-#[inline(always)]
-fn size_of(number: i16) -> u16
-    ensures { result ≡ size_of number }
-{
-    let size = if number < 0 { !number } else { number };
-    size as u16
-}
-
 /// Half the sizes of so many differences.
 #[inline(always)]
 fn put_half_sizes(diffs: &[i32], sizes: &mut [u16; AHEAD])
@@ -134,32 +125,14 @@ fn put_cut(diffs: &[i32], cut: &mut Cut)
     }
 }
 
-/// The sizes of so many numbers of 16 bits.
+/// The sizes of some numbers.
 #[inline(always)]
-fn put_each_size(numbers: &Cut, sizes: &mut [u16; AHEAD])
-    ensures { (i : ℕ) → i < AHEAD → slice_index sizes.new i ≡ size_of (slice_index_or numbers.now i (pos 0)) }
+fn sizes_of(numbers: i16x16) -> u16x16
+    requires { Each1 (λ z. size_of z < 32768) numbers }
+    ensures small { Each1 (λ x. x < 32768) result }
+    ensures value { result ≡ map size_of numbers }
 {
-    for index in 0..AHEAD {
-        sizes[index] = size_of(numbers[index]);
-    }
-}
-
-/// The sizes of so many differences, in Steim-1 half of them; 32767 where that is larger. In Steim-2 the differences
-/// are cut off at 16 bits before anything else, in a loop of their own, so that sizes are found eight at once.
-#[inline(always)]
-fn put_sizes(scheme: Scheme, diffs: &[i32], cut: &mut Cut, sizes: &mut [u16; AHEAD])
-    requires { AHEAD ≤ length diffs.now }
-    ensures sizes { (i : ℕ) → i < AHEAD
-        → slice_index sizes.new i ≡ near_size scheme (slice_index_or diffs.now i (pos 0)) }
-    ensures cut { scheme ≡ Two → AreSame AHEAD diffs.now cut.new }
-{
-    match scheme {
-        Scheme::One => put_half_sizes(diffs, sizes),
-        Scheme::Two => {
-            put_cut(diffs, cut);
-            put_each_size(cut, sizes);
-        }
-    }
+    numbers.simd_max(!numbers).cast::<u16>()
 }
 
 /// One more where a size is below the limit.
@@ -205,27 +178,47 @@ fn most_one(sizes: u16x16) -> u8x16
     most.cast::<u8>()
 }
 
-/// The most differences of words that hold two or more, by the near sizes of single ones.
+/// The most differences of words that hold two or more, by one of them, in Steim-1.
 #[inline(always)]
-fn most_with(scheme: Scheme, sizes: u16x16) -> u8x16
-    requires { Each1 (λ x. x < 32768) sizes }
-    ensures { result ≡ map (most_with scheme) sizes }
+fn put_most_one(diffs: &[i32], most: &mut Most)
+    requires { AHEAD ≤ length diffs.now }
+    ensures { (i : ℕ) → i < AHEAD → slice_index most.new i ≡ most_one (near_size One (slice_index_or diffs.now i (pos 0))) }
 {
-    match scheme {
-        Scheme::One => most_one(sizes),
-        Scheme::Two => most_two(sizes),
+    let mut sizes = [0; AHEAD];
+    put_half_sizes(diffs, &mut sizes);
+    for turn in 0..AHEAD / 16 {
+        let sixteen = u16x16::from_slice(&sizes[16 * turn..]);
+        most_one(sixteen).copy_to_slice(&mut most[16 * turn..]);
     }
 }
 
-/// The most differences of words that hold two or more, by one of them.
+/// The same of differences of Steim-2 that are cut off at 16 bits.
 #[inline(always)]
-fn put_most(scheme: Scheme, sizes: &[u16; AHEAD], most: &mut Most)
-    requires { (i : ℕ) → i < AHEAD → slice_index sizes.now i < 32768 }
-    ensures { (i : ℕ) → i < AHEAD → slice_index most.new i ≡ most_with scheme (slice_index sizes.now i) }
+fn put_most_two(cut: &Cut, most: &mut Most)
+    requires { (i : ℕ) → i < AHEAD → size_of (slice_index_or cut.now i (pos 0)) < 32768 }
+    ensures { (i : ℕ) → i < AHEAD → slice_index most.new i ≡ most_two (size_of (slice_index_or cut.now i (pos 0))) }
 {
     for turn in 0..AHEAD / 16 {
-        let sixteen = u16x16::from_slice(&sizes[16 * turn..]);
-        most_with(scheme, sixteen).copy_to_slice(&mut most[16 * turn..]);
+        let sizes = sizes_of(i16x16::from_slice(&cut[16 * turn..]));
+        most_two(sizes).copy_to_slice(&mut most[16 * turn..]);
+    }
+}
+
+/// The same of a scheme. In Steim-2 the differences are cut off before anything else, in a loop of their own, so that
+/// sizes are found eight at once.
+#[inline(always)]
+fn put_most(scheme: Scheme, diffs: &[i32], most: &mut Most, cut: &mut Cut)
+    requires { AHEAD ≤ length diffs.now }
+    ensures most { (i : ℕ) → i < AHEAD
+        → slice_index most.new i ≡ most_with scheme (near_size scheme (slice_index_or diffs.now i (pos 0))) }
+    ensures cut { scheme ≡ Two → AreSame AHEAD diffs.now cut.new }
+{
+    match scheme {
+        Scheme::One => put_most_one(diffs, most),
+        Scheme::Two => {
+            put_cut(diffs, cut);
+            put_most_two(cut, most);
+        }
     }
 }
 
@@ -274,9 +267,7 @@ fn look_ahead(scheme: Scheme, diffs: &[i32], most: &mut Most, cut: &mut Cut)
     ensures none { (i : ℕ) → KNOWN ≤ i → i < ROOM → slice_index most.new i ≡ 0 }
     ensures cut { scheme ≡ Two → AreSame AHEAD diffs.now cut.new }
 {
-    let mut sizes = [0; AHEAD];
-    put_sizes(scheme, diffs, cut, &mut sizes);
-    put_most(scheme, &sizes, most);
+    put_most(scheme, diffs, most, cut);
     bound(most);
     for index in KNOWN..ROOM {
         most[index] = 0;

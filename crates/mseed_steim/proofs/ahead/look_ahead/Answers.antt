@@ -1,20 +1,15 @@
-use Rattle.std.proofs.Common.{◌≡◌, ◌∙◌, ◌<◌, ◌≤◌, ℕ, get_or, drop, ap, sym, subst, arith, pos, ⊎_elim}
+use Rattle.std.proofs.Common.{◌≡◌, ◌∙◌, ◌<◌, ◌≤◌, ℕ, get_or, drop, sym, subst, arith, ⊎_elim}
 use Rattle.std.proofs.Common.{length, rules, slice_set}
 use Rattle.std.proofs.lemmas.Bool.{cases_lt}
 use Rattle.std.proofs.lemmas.List.{get_or-set_other, get_or-set_same}
 use Rattle.mseed_steim.specs.Lookahead.{IsAhead}
-use Rattle.mseed_steim.specs.private.Ahead.{most_with}
-use Rattle.mseed_steim.proofs.Held.{is_ahead, near_small}
+use Rattle.mseed_steim.proofs.Held.{is_ahead}
 use Rattle.mseed_steim.proofs.ahead.look_ahead.Goals as goal
-
-pub put_most-requires : goal.put_most-requires
-put_most-requires c = λ i h. subst (λ (x : ℕ). x < 32768) (sym (c.put_sizes.ensures.sizes i h))
-    (near_small c.args.scheme (get_or c.args.diffs.now i (pos 0)))
 
 pub loop-index-init : goal.loop-index-init
 loop-index-init c = record {
   ahead = λ i h. is_ahead c.args.scheme c.args.diffs.now c.put_most.new.most i _ c.requires h
-      (λ x l. c.put_most.ensures x l ∙ ap (most_with c.args.scheme) (c.put_sizes.ensures.sizes x l))
+      c.put_most.ensures.most
       (c.bound.ensures i (omega (arith, h)));
   none = λ i h l. absurd (omega (arith, h, l));
 }
@@ -46,5 +41,5 @@ returns c =
           (λ some. absurd (omega (arith, some))))
           (cases_lt i 121);
       none = none;
-      cut = c.put_sizes.ensures.cut;
+      cut = c.put_most.ensures.cut;
     }
