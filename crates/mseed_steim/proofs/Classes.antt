@@ -14,9 +14,17 @@ eighths = 7 ∷ 6 ∷ 5 ∷ 5 ∷ 4 ∷ 4 ∷ 4 ∷ 4 ∷ 4 ∷ 4 ∷ 4 ∷ 4 �
 abbrev pub parts : List ℕ
 parts = 7 ∷ 3 ∷ 3 ∷ 3 ∷ 2 ∷ 2 ∷ 2 ∷ 2 ∷ 2 ∷ 2 ∷ 2 ∷ 2 ∷ 2 ∷ 2 ∷ 2 ∷ 2 ∷ []
 
+-- a number, or a limit where that is less
+abbrev capped_at : ℕ → ℕ → ℕ
+capped_at m n = cond (ltb n m) n m
+
 -- a place of a table, the last one for all that is larger
 abbrev pub capped : ℕ → ℕ
-capped n = cond (ltb n 15) n 15
+capped = capped_at 15
+
+-- an eighth of a size, in a byte
+abbrev pub eighth : ℕ → ℕ
+eighth x = capped_at 255 (x / 2 ^ 3)
 
 abbrev pub narrow : ℕ → ℕ
 narrow x = get_or eighths (capped (x / 2 ^ 3)) 0
@@ -84,14 +92,14 @@ wide_2 x h = twos (capped (x / 2 ^ 7)) (capped_few (x / 2 ^ 7))
 abbrev lane : ℕ → ℕ → ℕ → ℕ
 lane f g p = (cond (leb 128 (cond (ltb f g) 255 0)) f g + (256 - p)) % 256
 
-lane_is : (x f g p : ℕ) → narrow x ≡ f → wide x ≡ g → x / 2 ^ 7 / 2 ^ 7 ≡ p
-    → lane (narrow x) (wide x) (x / 2 ^ 7 / 2 ^ 7) ≡ lane f g p
+lane_is : (x f g p : ℕ) → narrow x ≡ f → wide x ≡ g → x / 2 ^ 14 ≡ p
+    → lane (narrow x) (wide x) (x / 2 ^ 14) ≡ lane f g p
 lane_is x f g p a b c = rw (a, b, c) refl
 
-low : (x : ℕ) → x < 16384 → x / 2 ^ 7 / 2 ^ 7 ≡ 0
+low : (x : ℕ) → x < 16384 → x / 2 ^ 14 ≡ 0
 low x h = omega (arith, h)
 
-lane_two : (x : ℕ) → x < 32768 → lane (narrow x) (wide x) (x / 2 ^ 7 / 2 ^ 7) ≡ most_two x
+lane_two : (x : ℕ) → x < 32768 → lane (narrow x) (wide x) (x / 2 ^ 14) ≡ most_two x
 lane_two x small = ⊎_elim
     (λ (a : x < 32). ⊎_elim
     (λ (b : x < 16). ⊎_elim
@@ -177,34 +185,63 @@ lane_two x small = ⊎_elim
     (cases_lt x 128))
     (cases_lt x 32)
 
+pub eighth_small : (x : ℕ) → eighth x < 256
+eighth_small x = ⊎_elim (λ (a : x / 2 ^ 3 < 255). rw (lt-ltb (x / 2 ^ 3) 255 a) (omega (arith, a)))
+    (λ (b : 255 ≤ x / 2 ^ 3). rw (le-ltb (x / 2 ^ 3) 255 b) (omega arith)) (cases_lt (x / 2 ^ 3) 255)
+
 -- the places of the tables
+narrow_place : (x : ℕ) → capped (eighth x) ≡ capped (x / 2 ^ 3)
+narrow_place x = ⊎_elim (λ (a : x / 2 ^ 3 < 255). rw (lt-ltb (x / 2 ^ 3) 255 a) refl)
+    (λ (b : 255 ≤ x / 2 ^ 3). rw (le-ltb (x / 2 ^ 3) 255 b, le-ltb (x / 2 ^ 3) 15 (omega (arith, b))) refl)
+    (cases_lt (x / 2 ^ 3) 255)
+
+wide_place : (x : ℕ) → eighth x / 2 ^ 4 ≡ capped (x / 2 ^ 7)
+wide_place x = ⊎_elim
+    (λ (a : x / 2 ^ 3 < 255).
+    let few : x / 2 ^ 7 ≤ 15 = omega (arith, a) in
+    let down : x / 2 ^ 3 / 2 ^ 4 ≡ x / 2 ^ 7 = omega arith in
+    rw (lt-ltb (x / 2 ^ 3) 255 a) (down ∙ ⊎_elim
+    (λ (c : x / 2 ^ 7 < 15). rw (lt-ltb (x / 2 ^ 7) 15 c) refl)
+    (λ (d : 15 ≤ x / 2 ^ 7). rw (le-ltb (x / 2 ^ 7) 15 d) (omega (arith, few, d)))
+    (cases_lt (x / 2 ^ 7) 15)))
+    (λ (b : 255 ≤ x / 2 ^ 3). rw (le-ltb (x / 2 ^ 3) 255 b, le-ltb (x / 2 ^ 7) 15 (omega (arith, b))) refl)
+    (cases_lt (x / 2 ^ 3) 255)
+
 top_is : (b : Bool) → leb 32768 (cond b 65535 0) ≡ b
 top_is true = refl
 top_is false = refl
 
 pub eighths_read : (n : ℕ) (xs : List ℕ) → length xs ≡ n
     → sel_l (map (top 15) (zip2 (λ a b. cond (ltb a b) 65535 0) (zip2 (λ a b. a / 2 ^ b) xs (replicate n 3))
-    (replicate n 15))) (zip2 (λ a b. a / 2 ^ b) xs (replicate n 3)) (replicate n 15) ≡ map (λ x. capped (x / 2 ^ 3)) xs
+    (replicate n 255))) (zip2 (λ a b. a / 2 ^ b) xs (replicate n 3)) (replicate n 255) ≡ map eighth xs
 eighths_read n [] h = refl
 eighths_read zero (x ∷ xs) h = absurd (omega (arith, h))
 eighths_read (suc n) (x ∷ xs) h =
     let later = eighths_read n xs (omega (arith, h)) in
-    let here = ap (λ (b : Bool). cond b (x / 2 ^ 3) 15) (top_is (ltb (x / 2 ^ 3) 15)) in
+    let here = ap (λ (b : Bool). cond b (x / 2 ^ 3) 255) (top_is (ltb (x / 2 ^ 3) 255)) in
     cc (here, later)
 
 low_top_is : (b : Bool) → leb 128 (cond b 255 0) ≡ b
 low_top_is true = refl
 low_top_is false = refl
 
-pub parts_read : (n : ℕ) (xs : List ℕ) → length xs ≡ n
-    → sel_l (map (top 7) (zip2 (λ a b. cond (ltb a b) 255 0) (map (λ x. x) (zip2 (λ a b. a / 2 ^ b) xs (replicate n 7)))
-    (replicate n 15))) (map (λ x. x) (zip2 (λ a b. a / 2 ^ b) xs (replicate n 7))) (replicate n 15)
-    ≡ map (λ x. capped (x / 2 ^ 7)) xs
-parts_read n [] h = refl
-parts_read zero (x ∷ xs) h = absurd (omega (arith, h))
-parts_read (suc n) (x ∷ xs) h =
-    let later = parts_read n xs (omega (arith, h)) in
-    let here = ap (λ (b : Bool). cond b (x / 2 ^ 7) 15) (low_top_is (ltb (x / 2 ^ 7) 15)) in
+pub narrow_read : (n : ℕ) (xs : List ℕ) → length xs ≡ n
+    → sel_l (map (top 7) (zip2 (λ a b. cond (ltb a b) 255 0) (map eighth xs) (replicate n 15))) (map eighth xs)
+    (replicate n 15) ≡ map (λ x. capped (x / 2 ^ 3)) xs
+narrow_read n [] h = refl
+narrow_read zero (x ∷ xs) h = absurd (omega (arith, h))
+narrow_read (suc n) (x ∷ xs) h =
+    let later = narrow_read n xs (omega (arith, h)) in
+    let here = ap (λ (b : Bool). cond b (eighth x) 15) (low_top_is (ltb (eighth x) 15)) ∙ narrow_place x in
+    cc (here, later)
+
+pub wide_read : (n : ℕ) (xs : List ℕ) → length xs ≡ n
+    → zip2 (λ a b. a / 2 ^ b) (map eighth xs) (replicate n 4) ≡ map (λ x. capped (x / 2 ^ 7)) xs
+wide_read n [] h = refl
+wide_read zero (x ∷ xs) h = absurd (omega (arith, h))
+wide_read (suc n) (x ∷ xs) h =
+    let later = wide_read n xs (omega (arith, h)) in
+    let here = wide_place x in
     cc (here, later)
 
 -- all lanes
@@ -212,7 +249,7 @@ pub lanes_two : (n : ℕ) (xs : List ℕ) → length xs ≡ n → Each1 (λ x. x
     → zip2 (λ a b. (a + (256 - b)) % 256)
     (sel_l (map (top 7) (zip2 (λ a b. cond (ltb a b) 255 0) (map narrow xs) (map wide xs))) (map narrow xs)
     (map wide xs))
-    (zip2 (λ a b. a / 2 ^ b) (map (λ x. x) (zip2 (λ a b. a / 2 ^ b) xs (replicate n 7))) (replicate n 7))
+    (map (λ x. x) (zip2 (λ a b. a / 2 ^ b) xs (replicate n 14)))
     ≡ map most_two xs
 lanes_two n [] h k = refl
 lanes_two zero (x ∷ xs) h k = absurd (omega (arith, h))
@@ -221,8 +258,8 @@ lanes_two (suc n) (x ∷ xs) h k =
     let here = lane_two x k.0 in
     cc (here, later)
 
-pub parts_small : (n : ℕ) (xs : List ℕ) → length xs ≡ n → Each1 (λ x. x < 32768) xs
-    → Each1 (λ x. x < 256) (zip2 (λ a b. a / 2 ^ b) xs (replicate n 7))
-parts_small n [] h k = tt
-parts_small zero (x ∷ xs) h k = absurd (omega (arith, h))
-parts_small (suc n) (x ∷ xs) h k = (omega (arith, k.0), parts_small n xs (omega (arith, h)) k.1)
+pub far_small : (n : ℕ) (xs : List ℕ) → length xs ≡ n → Each1 (λ x. x < 32768) xs
+    → Each1 (λ x. x < 256) (zip2 (λ a b. a / 2 ^ b) xs (replicate n 14))
+far_small n [] h k = tt
+far_small zero (x ∷ xs) h k = absurd (omega (arith, h))
+far_small (suc n) (x ∷ xs) h k = (omega (arith, k.0), far_small n xs (omega (arith, h)) k.1)

@@ -159,11 +159,12 @@ fn most_two(sizes: u16x16) -> u8x16
     requires { Each1 (λ x. x < 32768) sizes }
     ensures { result ≡ map most_two sizes }
 {
-    let eighths = (sizes >> u16x16::splat(3)).simd_min(u16x16::splat(15));
-    let parts = (sizes >> u16x16::splat(7)).cast::<u8>();
-    let narrow = look_up(BY_EIGHTHS, eighths.cast::<u8>());
-    let wide = look_up(BY_PARTS, parts.simd_min(u8x16::splat(15)));
-    narrow.simd_min(wide) - (parts >> u8x16::splat(7))
+    let eighths = (sizes >> u16x16::splat(3))
+        .simd_min(u16x16::splat(255))
+        .cast::<u8>();
+    let narrow = look_up(BY_EIGHTHS, eighths.simd_min(u8x16::splat(15)));
+    let wide = look_up(BY_PARTS, eighths >> u8x16::splat(4));
+    narrow.simd_min(wide) - (sizes >> u16x16::splat(14)).cast::<u8>()
 }
 
 /// The same of Steim-1.
