@@ -120,10 +120,6 @@ pub length-with_first : (m : ℕ) (z : ℤ) (ds : List ℤ) → length (with_fir
 length-with_first m z [] = refl
 length-with_first m z (d ∷ ds) = refl
 
-pub first_same : (m : ℕ) (z : ℤ) (ds : List ℤ) → (m ≡ 0 → ⊥) → ds ≡ with_first m z ds
-first_same m z [] e = refl
-first_same m z (d ∷ ds) e = rw (ne_eqb m 0 e) refl
-
 fold_unused : (n : ℕ) (s : Sum) (z : ℤ) (ds : List ℤ) (more : List (Result ℤ BadWordAt)) → 0 < n
     → fold n s (map Ok ds ++ more) ≡ fold n s (map Ok (with_first s.met z ds) ++ more)
 fold_unused n s z [] more some = refl

@@ -35,7 +35,7 @@ read_back (suc n) (y ∷ ys) e h =
     rw (four, cut, low, high) (ap (λ (zs : List ℕ). y ∷ zs) later)
 
 -- the bits of numbers of 16
-fits : (z : ℤ) → size_of z < 32768 → FitsSigned w16 z
+pub fits : (z : ℤ) → size_of z < 32768 → FitsSigned w16 z
 fits (pos n) h = record { sfits = h }
 fits (negsuc n) h = record { sfits = h }
 

@@ -1,6 +1,6 @@
 -- Numbers that are told 128-fold, modulo 2^32, and differences that follow upon others.
-use Rattle.std.proofs.Common.{◌≡◌, ℕ, ◌+◌, ◌*◌, ◌/◌, ◌%◌, ◌<◌, List, [], ◌++◌, map, ℤ, pos, negsuc}
-use Rattle.std.proofs.Common.{◌+ℤ◌, ◌-ℤ◌, nat_abs, refl, sym, ap, ◌∙◌, arith, Ok, Result, append_assoc, length-append}
+use Rattle.std.proofs.Common.{◌≡◌, ℕ, ◌+◌, ◌%◌, List, [], ◌++◌, map, ℤ, pos}
+use Rattle.std.proofs.Common.{◌+ℤ◌, refl, sym, ap, ◌∙◌, arith, Ok, Result, append_assoc, length-append}
 use Rattle.std.proofs.lemmas.Int.{ints}
 use Rattle.std.proofs.lemmas.List.{map-append}
 use Rattle.mseed_steim.specs.declared.scheme.Scheme.{Scheme}
@@ -17,25 +17,6 @@ pub raised_plus : (x y z : ℕ) (s t : ℤ) → Raises x s → Raises y t → z 
     → Raises z (s +ℤ t)
 raised_plus x y z s t a b e =
     (a.0 + b.0, (a.1.0 + b.1.0, (omega (arith, ints, a.1.1.0, b.1.1.0), omega (arith, a.1.1.1, b.1.1.1, e))))
-
--- what is 2^31 more, modulo 2^32, is 128 times what is 2^24 more
-shifted_up : (x r w l : ℕ) → (x + 128 * l) % 4294967296 ≡ 128 * w % 4294967296 → r ≡ x % 4294967296
-    → w < l + 16777216 → l < w + 16777216 → (r + 2147483648) % 4294967296 / 128 + l ≡ w + 16777216
-shifted_up x r w l e is high low = omega (arith, e, is, high, low)
-
-within : (w l : ℕ) (t : ℤ) → pos w ≡ t +ℤ pos l → nat_abs t < 16777216 → (w < l + 16777216) × (l < w + 16777216)
-within w l (pos n) e h = (omega (arith, ints, e, h), omega (arith, ints, e, h))
-within w l (negsuc n) e h = (omega (arith, ints, e, h), omega (arith, ints, e, h))
-
-let_down : (n w l : ℕ) (t : ℤ) → n + l ≡ w + 16777216 → pos w ≡ t +ℤ pos l → pos n -ℤ pos 16777216 ≡ t
-let_down n w l t e f = omega (arith, ints, e, f)
-
-pub lowered : (x r : ℕ) (t : ℤ) → Raises x t → r ≡ x % 4294967296 → nat_abs t < 16777216
-    → pos ((r + 2147483648) % 4294967296 / 128) -ℤ pos 16777216 ≡ t
-lowered x r t a is near =
-    let inside = within a.0 a.1.0 t a.1.1.0 near in
-    let_down ((r + 2147483648) % 4294967296 / 128) a.0 a.1.0 t (shifted_up x r a.0 a.1.0 a.1.1.1 is inside.0 inside.1)
-    a.1.1.0
 
 -- words, and those behind them
 pub moves_none : (s : Scheme) → MovesBy s [] 0 (pos 0) 0

@@ -1,14 +1,8 @@
 -- The bits that a number takes in two's complement.
 use Rattle.std.proofs.Common.{◌≡◌, ◌↔◌, ℕ, ◌-◌, ◌^◌, ◌<◌, ℤ, pos, negsuc, arith, FitsSigned, w32}
-use Rattle.std.proofs.Common.{true, ltb}
-use lib.Signed.{lt_z}
-use Rattle.std.proofs.lemmas.Bool.{ltb-true}
 use Rattle.std.proofs.lemmas.Int.{ints}
 use Rattle.mseed_steim.specs.Spelling.{IsWithin}
 use Rattle.mseed_steim.specs.private.Ahead.{size_of}
-
-not_below : (n : ℕ) → lt_z (pos n) (pos 0) ≡ true → ⊥
-not_below n e = let t : ltb n 0 ≡ true = e in absurd (omega (arith, ltb-true n 0 t))
 
 size_small : (z : ℤ) → FitsSigned w32 z → size_of z < 2 ^ 31
 size_small (pos n) f = f.sfits

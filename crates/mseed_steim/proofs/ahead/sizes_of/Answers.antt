@@ -1,10 +1,11 @@
-use Rattle.std.proofs.Common.{◌≡◌, ◌-◌, ◌<◌, ℕ, ℤ, List, [], ◌∷◌, map, pos, negsuc, nat_abs, cond, of_z, to_z, w16, arith}
-use Rattle.std.proofs.Common.{refl, subst, sym, ap, ◌∙◌, ◌≤◌, ⊎_elim, FitsSigned, suc}
+use Rattle.std.proofs.Common.{◌≡◌, ◌-◌, ◌<◌, ℕ, ℤ, List, [], ◌∷◌, map, nat_abs, cond, of_z, to_z, w16, arith}
+use Rattle.std.proofs.Common.{refl, subst, sym, ap, ◌∙◌, ◌≤◌, ⊎_elim, suc}
 use Rattle.std.proofs.lemmas.Bool.{cases_lt, lt-ltb, le-ltb}
 use Rattle.std.proofs.lemmas.Int.{to_z-of_z}
 use lib.Lanes.{Each1, sel_l, top, zip2}
 use lib.Signed.{lt_z}
 use Rattle.mseed_steim.specs.private.Ahead.{size_of}
+use Rattle.mseed_steim.proofs.Halves.{fits}
 use Rattle.mseed_steim.proofs.ahead.sizes_of.Goals as goal
 
 -- the greater of a number and its opposite less one, in a lane
@@ -18,10 +19,6 @@ greater_is u = ⊎_elim
     let same : 65535 - u ≡ 65536 - suc u = omega arith in
     rw (le-ltb u 32768 b, lt-ltb (65535 - u) 32768 (omega (arith, b))) same)
     (cases_lt u 32768)
-
-fits : (z : ℤ) → size_of z < 32768 → FitsSigned w16 z
-fits (pos n) h = record { sfits = h }
-fits (negsuc n) h = record { sfits = h }
 
 lane_is : (z : ℤ) → size_of z < 32768 → greater (of_z w16 z) ≡ size_of z
 lane_is z h = greater_is (of_z w16 z) ∙ ap size_of (to_z-of_z w16 z (fits z h))
