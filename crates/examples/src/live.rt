@@ -74,7 +74,7 @@ pub fn log_of_a_link() -> Log {
     log
 }
 
-/// A log of what a device was told: that a link is read and written, that no further one is wanted, though one that
+/// A log of what a device was asked: that a link is read and written, that no further one is wanted, though one that
 /// dialled was gone already, and that the input is read no more.
 pub fn log_of_interest(interest: Interest) -> Log {
     let mut log = Log::new();

@@ -27,7 +27,7 @@ use Rattle.mseed_pack.proofs.Leaps.{later, passes, all_left, none_left}
 use Rattle.mseed_pack.proofs.Neighbours.{joins}
 use Rattle.mseed_pack.proofs.Viewed.{HeadersReadBack, PackedSpells, IsAt, at}
 
--- one behind another the views hold these samples of the series, from one on
+-- one after another the views hold these samples of the series, from one on
 abbrev pub AreAt : Trace → ℕ → List View → List ℤ → Type 0
 AreAt s first [] samples = samples ≡ []
 AreAt s first (v ∷ vs) samples =

@@ -10,7 +10,7 @@ use Rattle.mseed_time.specs.Join.{step_of}
 use Rattle.mseed_audit.specs.Series.{AreStepsFrom, AreSteps, step_at}
 use Rattle.mseed_pack.specs.Clock.{added_before}
 
--- the leap second at a place, and the next one's place behind another
+-- the leap second at a place, and the next one's place after another
 abbrev pub step_in : List (ℕ × LeapStep) → ℕ → Option LeapStep
 step_in steps place = option_map (λ (step : ℕ × LeapStep). step.1)
     (find (λ (step : ℕ × LeapStep). step.0 == place) steps)
@@ -101,7 +101,7 @@ passes low size (t ∷ ts) first count are some h = ⊎_elim
     })
     (cases_lt first t.0)
 
--- before the first sample all are left, and behind the last none
+-- before the first sample all are left, and after the last none
 pub all_left : (size : ℕ) (steps : List (ℕ × LeapStep)) → AreSteps size steps
     → (later steps 0 ≡ steps) × (added_before steps 0 ≡ pos 0)
 all_left size steps are = let b = before 0 size steps 0 (omega arith) are in (b.all, b.added)

@@ -84,7 +84,7 @@ four_below limit zs index part bound a b c d one two three four =
       λ h. all.1 ((h.first, h.second), (h.third, h.fourth)),
     )
 
--- whether all numbers of four parts side by side are under a limit, and those behind them up to a place
+-- whether all numbers of four parts side by side are under a limit, and those after them up to a place
 pub record AreUnderTo (limit : ℤ) (zs : List ℤ) (part at last : ℕ) : Type 0 where
   pub four : (k : ℕ) → k < at → AreFourUnder limit zs k part
   pub behind : (k : ℕ) → 4 * part ≤ k → k < last → IsUnder limit (get_or zs k (pos 0))

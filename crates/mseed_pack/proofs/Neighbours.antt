@@ -8,7 +8,7 @@ use Rattle.mseed_time.specs.declared.outcome.LeapStep.{LeapStep}
 use Rattle.mseed_time.specs.Rate.{Ratio}
 use Rattle.mseed_time.specs.Join.{step_of, miss_of, Joins}
 
--- the second floor lies so far behind the first
+-- the second floor lies so far after the first
 record Floors (num first way : ℕ) : Type 0 where
   apart : ℕ
   second : (first + way) / num ≡ first / num + apart
@@ -36,7 +36,7 @@ floors num first way some =
 abs_apart : (a b c : ℕ) → a ≤ b + c → b ≤ a + c → unsigned_abs (pos a -ℤ pos b) ≤ c
 abs_apart a b c h k = omega (arith, ints)
 
--- The clock's seconds fall out: what the next start lies behind this one, and the leap second between them, is the way
+-- The clock's seconds fall out: what the next start lies after this one, and the leap second between them, is the way
 -- between the two floors.
 apart_is : (start shift later step : ℤ) (q d : ℕ) → later ≡ shift +ℤ step
     → (start +ℤ pos (q + d) -ℤ later) -ℤ (start +ℤ pos q -ℤ shift) +ℤ step ≡ pos d

@@ -1,4 +1,4 @@
--- Integers that are written one behind another.
+-- Integers that are written one after another.
 use Rattle.std.proofs.Common.{◌≡◌, ℕ, ◌+◌, ◌-◌, ◌*◌, ◌^◌, ◌<◌, ◌≤◌, List, [], ◌∷◌, ◌++◌, length, take, drop, get_or}
 use Rattle.std.proofs.Common.{sym, ap, ◌∙◌, arith, ℤ, pos, negsuc, length-append, append_assoc, of_z, w16, w32}
 use Rattle.std.proofs.Common.{◌/◌, min, FitsSigned}

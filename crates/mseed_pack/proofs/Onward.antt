@@ -8,7 +8,7 @@ use Rattle.mseed_steim.specs.declared.scheme.Scheme.{Scheme}
 use Rattle.mseed_steim.specs.Lookahead.{IsLookahead}
 use Rattle.mseed_steim.proofs.Lookaheads.{known_more}
 
--- some of a list from a place on, and those behind them
+-- some of a list from a place on, and those after them
 parts : (xs : List ℤ) (first n : ℕ) → slice_range xs first (first + n) ++ drop (first + n) xs ≡ drop first xs
 parts xs first n =
     let count : first + n - first ≡ n = omega arith in
@@ -22,7 +22,7 @@ known_of s known ds xs first n is h =
     subst (λ (l : List ℤ). IsLookahead s known l)
     (sym (ap (λ (l : List ℤ). l ++ drop (first + n) xs) is ∙ parts xs first n)) h
 
--- behind some that were used it is known of all
+-- after some that were used it is known of all
 pub known_on : (s : Scheme) (known : Lookahead) (ds xs : List ℤ) (first n used : ℕ)
     → ds ≡ slice_range xs first (first + n) → used ≤ length ds → IsLookahead s known (drop used ds)
     → IsLookahead s known (drop (first + used) xs)

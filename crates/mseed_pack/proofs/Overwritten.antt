@@ -25,7 +25,7 @@ over_full : (a r : List ℕ) → length r ≤ length a → over a r ≡ take (le
 over_full a r h = ap (λ (l : List ℕ). take (length r) a ++ l) (drop_all (length a) r h)
     ∙ append-nil (take (length r) a)
 
--- what was written before and what is written behind it
+-- what was written before and what is written after it
 joined : (a b r : List ℕ) (n : ℕ) → n ≡ min (length r) (length a)
     → take n (over a r) ++ over b (drop n (over a r)) ≡ over (a ++ b) r
 joined a b r n least = ⊎_elim
@@ -58,7 +58,7 @@ joined a b r n least = ⊎_elim
     ∙ (λ i. some i ++ further i))
     (cases_lt (length r) (length a))
 
--- the same where the room behind what was written before is a part of it that was lent
+-- the same where the room after what was written before is a part of it that was lent
 pub over_more : (a b r p q : List ℕ) (n : ℕ) → n ≡ min (length r) (length a) → p ≡ over a r
     → q ≡ over b (take (length p - n) (drop n p)) → put_mid n (length p - n) p q ≡ over (a ++ b) r
 over_more a b r p q n least before lent =

@@ -1,4 +1,4 @@
--- Some records, one behind another, of those that a series is packed into.
+-- Some records, one after another, of those that a series is packed into.
 use Rattle.std.proofs.Common.{◌≡◌, ◌≢◌, ℕ, ℤ, List, [], ◌∷◌, ◌++◌, ◌^◌, length, map, IsTrue, Result, Ok, Err, refl, sym}
 use Rattle.std.proofs.Common.{ap, subst, ◌∙◌, append_assoc}
 use Rattle.std.specs.List.{AllByRecursion}

@@ -29,7 +29,7 @@ are_records : (vs : List View) → AllByRecursion IsView vs → AllByRecursion I
 are_records [] h = tt
 are_records (v ∷ vs) h = ((v.order, (h.0.0, (h.0.1.0, h.0.1.1.1.record_is))), are_records vs h.1)
 
--- the records, one behind another, have these views
+-- the records, one after another, have these views
 pub stand : (vs : List View) (records : List (List ℕ)) → AreViewsOf records vs
     → AreViews (concat records) (length (concat records)) vs
 stand vs records h =

@@ -23,7 +23,7 @@ used_seven s ds c w used full =
     let size : length (take used ds) ≡ used = length-take-le used ds full.inside in
     omega (arith, few, size)
 
--- a word that is fullest for seven differences or more is so for those behind them, too
+-- a word that is fullest for seven differences or more is so for those after them, too
 longer_fullest : (s : Scheme) (ds : List ℤ) (n c w used : ℕ) → 7 ≤ n → IsFullest s (take n ds) c w used
     → IsFullest s ds c w used
 longer_fullest s ds n c w used long full =
@@ -101,7 +101,7 @@ length-filter p (x ∷ xs) = by (p x) (length-filter p xs)
     by true rest = omega (arith, rest)
     by false rest = omega (arith, rest)
 
--- no more data words than words behind Xn
+-- no more data words than words after Xn
 pub words_fit : (p : List ℕ) → length (data_words p) ≤ word_count p - 3
 unfolding words_from
 words_fit p =

@@ -44,7 +44,7 @@ length-all width (z ∷ zs) = omega (
   length-all width zs,
 )
 
--- Behind any bytes stand these integers.
+-- After any bytes stand these integers.
 pub begins : (width : ℕ) (zs : List ℤ) (prefix rest bytes : List ℕ) (place : ℕ)
     → bytes ≡ prefix ++ (flat_map (λ (z : ℤ). bytes_of width z) zs ++ rest) → place ≡ length prefix
     → All (IsWithin (8 * width)) zs

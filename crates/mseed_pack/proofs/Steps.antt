@@ -31,7 +31,7 @@ added_all (x ∷ xs) a b h l =
     let there : leb x.0 b ≡ true = le-leb x.0 b (omega (arith, h.0, l)) in
     rw (here, there) (ap (λ (z : ℤ). step_of (Some x.1) +ℤ z) (added_all xs a b h.1 l))
 
--- of those that all are behind
+-- of those that all are after
 pub added_none : (xs : List (ℕ × LeapStep)) (low size n : ℕ) → AreStepsFrom low size xs → n ≤ low
     → added_before xs n ≡ pos 0
 added_none [] low size n h l = refl
@@ -48,7 +48,7 @@ added_prefix (x ∷ xs) low size n h l =
     let later : added_before xs n ≡ pos 0 = added_none xs x.0 size n h.2 (omega (arith, l)) in
     rw (here, later) refl
 
--- the next one behind a sample
+-- the next one after a sample
 find_passed : (xs ys : List (ℕ × LeapStep)) (a n : ℕ) → AllByRecursion (λ (x : ℕ × LeapStep). x.0 ≤ a) xs → a ≤ n
     → find (λ (x : ℕ × LeapStep). ltb n x.0) (xs ++ ys) ≡ find (λ (x : ℕ × LeapStep). ltb n x.0) ys
 find_passed [] ys a n h l = refl

@@ -10,7 +10,7 @@ use Rattle.mseed_pack.specs.Stretches.{differences}
 use Rattle.mseed_pack.specs.Supplies.{IsNextGiven}
 use Rattle.mseed_pack.proofs.Filled.{part_at}
 
--- they stand behind those that it held
+-- they stand after those that it held
 pub taken : (xs : List ℤ) (w : Window) (out : List ℤ) (count : ℕ) → HoldsDifferences xs w
     → length w.differences ≡ 7056 → length out ≡ 7056 - (w.end - w.first) → count ≤ length out
     → IsNextGiven xs w.end out count

@@ -1,4 +1,4 @@
--- The clock of some records, one behind another, of those that a series is packed into.
+-- The clock of some records, one after another, of those that a series is packed into.
 use Rattle.std.proofs.Common.{◌≡◌, ℕ, ◌+◌, ◌<◌, ◌≤◌, nat_le, nat_lt, true, false, List, [], ◌∷◌, ◌++◌, length, map}
 use Rattle.std.proofs.Common.{refl, sym, ap, subst, ◌∙◌, arith, ℤ, Option, Some, None, ⊎_elim, append_assoc}
 use Rattle.std.proofs.Common.{append-nil, length-append}
@@ -58,7 +58,7 @@ split s first (u ∷ us) vs samples h =
       at_back = subst (λ (n : ℕ). AreAt s n vs rest.back) place rest.at_back;
     }
 
--- of the leap seconds that are left, those of the records stand before those that are left behind them
+-- of the leap seconds that are left, those of the records stand before those that are left after them
 steps_on : (s : Trace) → AreSteps (length s.samples) s.steps → (first : ℕ) (vs : List View) (samples : List ℤ)
     → AreAt s first vs samples → later s.steps first ≡ steps_from first vs ++ later s.steps (first + length samples)
 steps_on s are first [] samples h =

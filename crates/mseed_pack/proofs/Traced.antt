@@ -61,7 +61,7 @@ some_rate : (o : Option TimeFault) (r : Option Ratio) → IsSome (rate_unless o 
 some_rate None r some = some
 some_rate (Some fault) r some = absurd (false≢true some)
 
--- leap seconds stand behind samples
+-- leap seconds stand after samples
 lower : (a b size : ℕ) (xs : List (ℕ × LeapStep)) → a ≤ b → AreStepsFrom b size xs → AreStepsFrom a size xs
 lower a b size [] le h = tt
 lower a b size (x ∷ xs) le h = (omega (arith, h.0, le), h.1, h.2)

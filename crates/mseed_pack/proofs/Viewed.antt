@@ -194,7 +194,7 @@ first_take zero xs x e = cc
 first_take (suc n) [] x e = cc
 first_take (suc n) (y ∷ ys) x e = e
 
--- no sample stands behind the next leap second
+-- no sample stands after the next leap second
 pub short : (s : Trace) (p : Piece) → length p.samples ≤ length (left_of s p.first)
     → length p.samples ≤ span_end s p.first - p.first
 short s p h = omega (arith, h, length-take (span_end s p.first - p.first) (drop p.first (differences s.samples)))

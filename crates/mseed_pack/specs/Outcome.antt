@@ -33,7 +33,7 @@ pub record EmittedSo (s : Trace) (o : Options) (number first : ℕ) (old new : B
   pub bytes : new.bytes ≡ old.bytes ++ concat records
   pub failures : new.failures ≡ old.failures
 
--- The bytes are the records that pack the series on from one place to another, behind any that pack it up to the first.
+-- The bytes are the records that pack the series on from one place to another, after any that pack it up to the first.
 pub record PacksOn (s : Trace) (o : Options) (place next : Place) (bytes : List ℕ) : Type 0 where
   pub records : List (List ℕ)
   pub packing : (prefix : List (List ℕ)) → length prefix ≡ place.number
@@ -52,7 +52,7 @@ pub record EmittedAll (s : Trace) (o : Options) (count : ℕ) (old new : BytesWr
   pub failures : new.failures ≡ old.failures
 
 -- The records that the series is packed into, so many, stand in a room, as many bytes of them as it has. What lies
--- behind them is what was there.
+-- after them is what was there.
 pub record FillsRoom (s : Trace) (o : Options) (count : ℕ) (old new : List ℕ) : Type 0 where
   pub records : List (List ℕ)
   pub packing : IsPacking s o records

@@ -25,13 +25,13 @@ pub record Piece : Type 0 where
   pub samples : List ℤ
   pub bytes : List ℕ
 
--- the pieces stand one behind another, with so many records and samples before them
+-- the pieces stand one after another, with so many records and samples before them
 abbrev pub ArePlaced : ℕ → ℕ → List Piece → Type 0
 ArePlaced number first [] = ⊤
 ArePlaced number first (p ∷ ps) = (p.number ≡ number) × (p.first ≡ first)
     × ArePlaced (number + 1) (first + length p.samples) ps
 
--- What a record's header says. Sequence numbers have six digits: behind 999999 comes 000000. The start is the instant
+-- What a record's header says. Sequence numbers have six digits: after 999999 comes 000000. The start is the instant
 -- of the record's first sample, and a leap second at its end is flagged.
 pub record IsHeaderOf (s : Trace) (o : Options) (p : Piece) (frames : ℕ) (h : Header) : Type 0 where
   pub sequence : h.sequence ≡ (o.first_sequence + p.number) % 1_000_000
@@ -45,8 +45,8 @@ pub record IsHeaderOf (s : Trace) (o : Options) (p : Piece) (frames : ℕ) (h : 
   pub frames_is : h.frames ≡ frames
   pub activity : h.activity ≡ flags_of (step_after s (p.first + length p.samples))
 
--- Integers in so many bytes each, big-endian two's complement, one behind another, until `left` of them are there or no
--- room is left for another; zeros behind them. There are no frames.
+-- Integers in so many bytes each, big-endian two's complement, one after another, until `left` of them are there or no
+-- room is left for another; zeros after them. There are no frames.
 pub record HoldsIntegers (width left : ℕ) (samples : List ℤ) (frames : ℕ) (payload : List ℕ) : Type 0 where
   pub bytes : payload
       ≡ flat_map (λ z. big_bytes width (residue (2 ^ (8 * width)) z)) samples ++ replicate

@@ -38,7 +38,7 @@ pub record Packed : Type 0 where
   pub series : Trace
   pub records : List (List ℕ)
 
--- the records of all, one series' behind another's
+-- the records of all, one series' after another's
 abbrev pub records_of_all : List Packed → List (List ℕ)
 records_of_all packed = flat_map (λ (p : Packed). p.records) packed
 
@@ -55,7 +55,7 @@ StandsIn views p = AreViewsOf p.records (views_in (records_of p.series.codes (ad
 abbrev pub HaveSamples : List (List ℕ) → List ℤ → Type 0
 HaveSamples records samples = (views : List View) × AreViewsOf records views × AreJoined views samples
 
--- A series is the part of another one that some of its records have, where these stand before and behind them.
+-- A series is the part of another one that some of its records have, where these stand before and after them.
 pub record IsPartOf (s : Trace) (before after : List (List ℕ)) (part : Trace) : Type 0 where
   pub older : List ℤ
   pub later : List ℤ
@@ -64,7 +64,7 @@ pub record IsPartOf (s : Trace) (before after : List (List ℕ)) (part : Trace) 
   pub after_it : HaveSamples after later
   pub codes : part.codes ≡ s.codes
 
--- the leap second stands behind more than so many samples, and not more than so many
+-- the leap second stands after more than so many samples, and not more than so many
 abbrev pub is_among : ℕ → ℕ → ℕ × LeapStep → Bool
 is_among place end step = nat_lt place step.0 && nat_le step.0 end
 
@@ -73,7 +73,7 @@ abbrev pub moved : ℕ → ℕ × LeapStep → ℕ × LeapStep
 moved place step = (place + step.0, step.1)
 
 -- A part of a series that has so many samples before it begins at the instant of its first one, at the series' rate,
--- and its leap seconds are the series' own that stand behind one of its samples: their places are counted from its
+-- and its leap seconds are the series' own that stand after one of its samples: their places are counted from its
 -- first.
 pub record IsTimedFrom (s : Trace) (place : ℕ) (part : Trace) : Type 0 where
   pub start : part.start ≡ instant_at s place

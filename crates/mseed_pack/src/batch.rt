@@ -10,7 +10,7 @@ use crate::record::{length_of, write_record};
 use crate::series_head::SeriesHead;
 use crate::span::{Span, first_span, next_span};
 
-/// How far a packing has come: so many records hold so many samples. The next one stands in the span, or behind it.
+/// How far a packing has come: so many records hold so many samples. The next one stands in the span, or after it.
 #[derive(Clone, Copy)]
 pub(crate) struct Place {
     pub(crate) span: Span,
@@ -25,7 +25,7 @@ pub(crate) struct Job<'a> {
     pub(crate) options: &'a Options,
 }
 
-/// What was gathered: so many bytes of records, and the place behind them.
+/// What was gathered: so many bytes of records, and the place after them.
 #[derive(Clone, Copy)]
 pub(crate) struct Batch {
     pub(crate) bytes: usize,
@@ -46,7 +46,7 @@ pub(crate) fn first_place(head: &SeriesHead) -> Place
     }
 }
 
-/// Gathers records from a place on, one behind another, until no sample is left or no room for a record.
+/// Gathers records from a place on, one after another, until no sample is left or no room for a record.
 pub(crate) fn gather<S, F: Filler<S>>(
     job: &Job,
     place: Place,
@@ -77,7 +77,7 @@ pub(crate) fn gather<S, F: Filler<S>>(
     Batch { bytes, next }
 }
 
-/// Puts the record at a place, and answers the place behind it.
+/// Puts the record at a place, and answers the place after it.
 fn put_record<S, F: Filler<S>>(
     job: &Job,
     place: Place,

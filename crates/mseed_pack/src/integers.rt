@@ -25,7 +25,7 @@ fn bytes_in(width: Width) -> usize
     }
 }
 
-/// Writes the samples from one on, as many as there is room for, as big-endian integers, and zeros behind them.
+/// Writes the samples from one on, as many as there is room for, as big-endian integers, and zeros after them.
 pub(crate) fn fill_integers(width: Width, samples: &[i32], left: Left, payload: &mut [u8]) -> Filled
     requires left { AreLeft samples.now left }
     requires frames { AreFrames payload.old }

@@ -102,7 +102,7 @@ pub fn called_continuous()
     one_series();
 }
 
-/// Where the records of several series stand one behind another, no two of one channel, the records of each
+/// Where the records of several series stand one after another, no two of one channel, the records of each
 /// channel are those that its series is packed into.
 pub fn archive_reads_back()
     ensures { (packed : List Packed) (views : List View)
@@ -110,7 +110,7 @@ pub fn archive_reads_back()
         → AreViewsOf (records_of_all packed) views → AllByRecursion (StandsIn views) packed }
 {}
 
-/// Some records that stand one behind another, of those that a series is packed into, are a continuous channel as well,
+/// Some records that stand one after another, of those that a series is packed into, are a continuous channel as well,
 /// and their series is the part of it that they were packed from.
 pub fn a_stretch_reads_back()
     ensures views { (s : Trace) (before held after : List (List ℕ)) → ReadsAs s (before ++ (held ++ after))
@@ -130,7 +130,7 @@ pub fn a_stretch_reads_back()
     one_series();
 }
 
-/// The series of records that stand one behind another, of those that a series is packed into, begins at the instant of
+/// The series of records that stand one after another, of those that a series is packed into, begins at the instant of
 /// the sample that it begins with, and has the series' rate and leap seconds.
 pub fn a_stretch_keeps_time()
     ensures { (s part : Trace) (o : Options) (before held after : List (List ℕ)) (views : List View) (older : List ℤ)

@@ -16,7 +16,7 @@ use crate::record::LONGEST;
 use crate::series_view::SeriesView;
 
 /// [`Packer::pack_fitting`](crate::Packer::pack_fitting) into a room, which takes as many bytes of the records as it
-/// has, and answers how many records there are. What lies behind them stays as it was. The numbers of samples before
+/// has, and answers how many records there are. What lies after them stays as it was. The numbers of samples before
 /// its leap seconds rise strictly, from 1 to at most the number of samples.
 pub fn pack_into(series: &SeriesView, options: &Options, room: &mut [u8]) -> u64
     requires fits { Fits (trace_of series.now) options.now }
@@ -67,7 +67,7 @@ fn fill_on(
     batch
 }
 
-/// Writes bytes over a room, as many of them as there is room for. What lies behind them stays.
+/// Writes bytes over a room, as many of them as there is room for. What lies after them stays.
 fn overwrite(bytes: &[u8], room: &mut [u8])
     ensures { room.new ≡ take (length room.old) bytes.now ++ drop (length bytes.now) room.old }
 {

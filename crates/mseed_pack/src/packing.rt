@@ -31,7 +31,7 @@ use std::alloc::Allocator;
 /// The bytes that are gathered before they are written: whole records of any length.
 const GATHERED: usize = 1 << 15;
 
-/// Packs a series into records, which it writes one behind another, and answers how many there are. It takes no memory.
+/// Packs a series into records, which it writes one after another, and answers how many there are. It takes no memory.
 ///
 /// # Errors
 ///

@@ -1,4 +1,4 @@
-//! What stands behind a record's header.
+//! What follows a record's header.
 
 use crate::options::Encoding;
 
@@ -16,7 +16,7 @@ pub(crate) struct Left {
     pub(crate) end: usize,
 }
 
-/// How the samples of a series are put into payloads, one behind another, from a supply.
+/// How the samples of a series are put into payloads, one after another, from a supply.
 pub(crate) trait Filler<S> {
     ghost use Rattle.std.specs.Prelude.{◌≡◌, ◌+◌, ℕ, ℤ, List};
     ghost use Rattle.mseed_steim.specs.declared.encoding.Encoding.{Encoding};

@@ -39,7 +39,7 @@ pub(crate) fn length_of(options: &Options) -> usize
     1 << options.exponent
 }
 
-/// The activity flags of a record of a span, which ends behind so many samples: the leap second at its end.
+/// The activity flags of a record of a span, which ends after so many samples: the leap second at its end.
 fn flags_at(head: &SeriesHead, span: Span, end: usize) -> u8
     requires standing { IsSpan head.now.steps.now head.now.count span }
     requires begin { span.begin < end }

@@ -17,7 +17,7 @@ pub(crate) struct Span {
     pub(crate) added: i128,
     /// How many samples are before its first one.
     pub(crate) begin: usize,
-    /// How many samples are before the first one behind it.
+    /// How many samples are before the first one after it.
     pub(crate) end: usize,
 }
 
@@ -35,7 +35,7 @@ pub(crate) fn first_span(steps: &[(u64, LeapStep)], size: usize) -> Span
     }
 }
 
-/// The samples behind the leap second at the end of a span.
+/// The samples after the leap second at the end of a span.
 pub(crate) fn next_span(steps: &[(u64, LeapStep)], size: usize, span: Span) -> Span
     requires span { IsSpan steps.now size span }
     requires more { span.end < size }

@@ -12,7 +12,7 @@ pub trait Supply {
     ghost beside: { Self → ℕ } = { λ _. 0 };
 
     /// Puts the next differences into `out`, from its beginning on, and answers how many there are. While any is left
-    /// it puts some into an `out` that isn't empty, as many as it likes. What lies behind them is then open.
+    /// it puts some into an `out` that isn't empty, as many as it likes. What lies after them is then open.
     fn fill(&mut self, out: &mut [i32]) -> usize
         requires { (samples : List ℤ) × ((given : ℕ) × supplies self.old samples given) }
         ensures bound { result ≤ length out.new }

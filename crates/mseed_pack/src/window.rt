@@ -7,13 +7,13 @@ use crate::supply::Supply;
 /// than seven.
 pub(crate) const ROOM: usize = 7 * 1008;
 
-/// The differences of samples that stand one behind another. What one record doesn't take is kept for the next.
+/// The differences of samples that stand one after another. What one record doesn't take is kept for the next.
 #[derive(Drop)]
 pub(crate) struct Window {
     pub(crate) differences: [i32; ROOM],
     /// The sample whose difference is the first.
     pub(crate) first: usize,
-    /// The sample behind the one whose difference is the last.
+    /// The sample after the one whose difference is the last.
     pub(crate) end: usize,
     /// Samples that are known without adding up differences.
     pub(crate) marks: Marks,

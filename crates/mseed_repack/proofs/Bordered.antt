@@ -60,7 +60,7 @@ pub record Layers : Type 0 where
   pub series : (s t : Trace) (vs : List View) → IsSeriesOf s vs → IsSeriesOf t vs → s ≡ t
   pub cut : (vs : List View) (ss ts : List (List View)) → AreStretches vs ss → AreStretches vs ts → ss ≡ ts
 
--- The views of what was written of each stretch, one stretch's behind another's.
+-- The views of what was written of each stretch, one stretch's after another's.
 abbrev AreLaid : List (List View) → List View → Type 0
 AreLaid [] ws = ws ≡ []
 AreLaid (s ∷ ss) ws = (own : List View) × ((rest : List View) × ((ws ≡ own ++ rest) × IsLaid s own × AreLaid ss rest))
@@ -416,7 +416,7 @@ own_size : (s own : List View) → IsLaid s own → samples_of own ≡ samples_o
 own_size s own h =
     samples_at h.trace 0 own h.trace.samples h.at ∙ sym (joined_samples s h.trace.samples h.series.samples)
 
--- what is found behind a stretch
+-- what is found after a stretch
 later : {why : ℕ → Why} (s own leading back left rest ws : List View) (b v : View) → IsLaid s own → ws ≡ own ++ rest
     → (h : IsLater leading b v back s left)
     → IsFoundAfter why (samples_of (h.further ++ b ∷ [])) (start_of v) rest

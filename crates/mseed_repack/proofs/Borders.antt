@@ -211,7 +211,7 @@ beside first s before b rate t e =
     (drift_of (start_of first) (samples_of before) rate (added_by before) (start_of b))
     (miss_is (start_of first) (start_of b) t (added_by before) step rate.num (samples_of before) (count_of b) rate.den)
 
--- The records of two stretches, one behind the other, and what was written of them.
+-- The records of two stretches, one after the other, and what was written of them.
 pub record AreBordering (b v : View) (own others : List View) : Type 0 where
   pub before : List View
   pub last : View

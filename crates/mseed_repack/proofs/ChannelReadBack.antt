@@ -83,7 +83,7 @@ one_read laws o next n s records on is fits packed =
       keeps = keeps_time laws s is.stretch;
     }
 
--- stretches behind others
+-- stretches after others
 read_append : (ss ts : List (List View)) (rs qs : List (List ℕ)) (xs ys : List ℤ) → AreReadBack ss rs xs
     → AreReadBack ts qs ys → AreReadBack (ss ++ ts) (rs ++ qs) (xs ++ ys)
 read_append _ ts _ qs _ ys read_none back = back

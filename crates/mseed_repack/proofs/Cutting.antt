@@ -66,7 +66,7 @@ cut_on {ns = ns} {all = all} {left = left} {rest = rest} {v = v} h e go kept = r
   sound = (subst (λ (vs : List View). AllByRecursion IsSound vs) e h.sound).1;
 }
 
--- one more stretch behind those that were cut
+-- one more stretch after those that were cut
 upto_more : (n : ℕ) (ns : List ℕ) (vs left : List View) → IsCutUpTo ns vs left
     → IsFirstStretch left (take n left) (drop n left) → IsCutUpTo (ns ++ n ∷ []) vs (drop n left)
 upto_more n [] vs left e first =

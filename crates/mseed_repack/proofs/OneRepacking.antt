@@ -139,7 +139,7 @@ broke bytes (Read n) other is = absurd is
 broke bytes (Turns n) other is = by_turns n is.0 is.1 is.2 refl
 broke bytes NoMemory other is = absurd (other refl)
 
--- Records that stand one behind another at the beginning of an archive are its first.
+-- Records that stand one after another at the beginning of an archive are its first.
 no_more : (rest r tail : List ℕ) → HasNoFurther rest → IsRecord r → rest ≡ r ++ tail → ⊥
 no_more rest r tail ends is e =
     let prefix : take (length r) rest ≡ r = ap (take (length r)) e ∙ take-append_seam r tail in
@@ -173,7 +173,7 @@ as_many bytes tail rest (x ∷ xs) (y ∷ ys) a b d e same =
     let others : xs ≡ ys = as_many (concat xs ++ tail) tail rest xs ys a.1 b.1 refl first.1 (omega (arith, same)) in
     λ i. first.0 i ∷ others i
 
--- and the further one behind them is there
+-- and the further one after them is there
 turns_fewer : (bytes rest : List ℕ) (n : ℕ) (records all : List (List ℕ)) → GoesOnAfter bytes n records
     → IsArchive bytes all rest → length records + 1 ≤ length all
 turns_fewer bytes rest n records all g a =

@@ -98,7 +98,7 @@ each_goes_more encoding room next (q ∷ ps) p (t ∷ ss) s le all goes = (
   each_goes_more encoding room next ps p ss s le all.1 goes,
 )
 
--- the next one goes its way, and so do those behind it
+-- the next one goes its way, and so do those after it
 pub goes_next : (encoding : Encoding) (room : ℕ) (ps : List Plan) (k : ℕ) (p : Plan) (ss back : List (List View))
     (s : List View) → k < length ps → p ≡ get_or ps k p → EachGoes encoding room (drop k ps) ss → ss ≡ s ∷ back
     → GoesBy encoding room p.way s × EachGoes encoding room (drop (k + 1) ps) back
@@ -118,7 +118,7 @@ counts_more ps p ns k inside e is =
     counts_append ps p ∙ ap (λ (ms : List ℕ). ms ++ p.records ∷ []) e
     ∙ ap (λ (n : ℕ). take k ns ++ n ∷ []) is ∙ sym (take_more ns k 0 inside)
 
--- of each of those behind others
+-- of each of those after others
 pub next_each : (P : List View → Type 0) (ss done rest back : List (List View)) (s : List View) → AllByRecursion P ss
     → ss ≡ done ++ rest → rest ≡ s ∷ back → P s
 next_each P ss done rest back s all parts e =
@@ -431,7 +431,7 @@ on_nothing : (o : Options) (ss : List (List View)) (records : List (List ℕ)) �
 on_nothing o _ _ none e = refl
 on_nothing o _ _ (more ss s records others next before on here) e = absurd (ends_apart ss s (sym e))
 
--- behind nothing the options are the same
+-- after nothing the options are the same
 on_same : (o next : Options) (records : List (List ℕ)) → records ≡ [] → IsNumberedOn o (length records) next → next ≡ o
 on_same o next records e on =
     one_next o next o 0 (subst (λ (rs : List (List ℕ)). IsNumberedOn o (length rs) next) e on)

@@ -30,7 +30,7 @@ use Rattle.mseed_repack.specs.Repack.{AreContinuous, Channel, IsFirst, records_i
 use Rattle.mseed_repack.specs.private.Archives.{SaysCount}
 use Rattle.mseed_repack.specs.private.Reading.{channel_in, samples_of}
 
--- a key that stands behind another is another
+-- a key that stands after another is another
 apart : (x y : List ℕ) → slice_cmp nat_cmp x y ≡ Less → same_key y x ≡ false
 apart x y e = same_back y x ∙ ap is_eq e
 
@@ -81,7 +81,7 @@ first_at Before At cs i d lt before is = record {
   is_it = is;
 }
 
--- a record behind all others
+-- a record after all others
 behind : (offset : ℕ) (vs : List View) (v : View)
     → added_from offset (vs ++ v ∷ []) ≡ added_from offset vs ++ record { view = v; offset = end_of offset vs } ∷ []
 behind offset [] v = refl

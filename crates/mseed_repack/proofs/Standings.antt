@@ -184,7 +184,7 @@ lines_next (d ∷ ds) (t ∷ ts) (suc k) c s lt size at =
     (lines_next ds ts k c s (omega (arith, lt)) (omega (arith, size)) at)
     ∙ sym (append_assoc (line_of d.0 t) (lines_of (take k ds) (take k ts)) (line_of c.0 (get_or ts k s)))
 
--- lines that are reported behind others
+-- lines that are reported after others
 tells_append : (leading back : List (List ℕ)) (old between new : BytesWritten) → ReportsEach leading old between
     → ReportsEach back between new → ReportsEach (leading ++ back) old new
 tells_append leading _ old _ _ a (silent s) =

@@ -1,4 +1,4 @@
--- What was written of an archive by stretches is an archive, channel behind channel.
+-- What was written of an archive by stretches is an archive, channel after channel.
 use Rattle.std.specs.Prelude.{⊤}
 use Rattle.std.proofs.Common.{◌≡◌, ◌≢◌, ℕ, List, [], ◌∷◌, ◌++◌, Bool, true, false, IsTrue, refl, sym, ap, subst}
 use Rattle.std.proofs.Common.{◌∙◌}
@@ -31,7 +31,7 @@ use Rattle.mseed_repack.proofs.Bordered.{Layers, own_of}
 use Rattle.mseed_repack.proofs.ChannelReadBack.{each_restretching}
 use Rattle.mseed_repack.proofs.ReadBack.{all_records, none_further, others_by}
 
--- The views of what was written of each channel, one channel's behind another's.
+-- The views of what was written of each channel, one channel's after another's.
 
 record IsOf (views : List View) (c : Channel) (own : List View) : Type 0 where
   each : AllByRecursion IsView own

@@ -132,7 +132,7 @@ joined_next _ _ _ (one v vs s more whole rest) = (s, (more, (whole, (rest, refl)
 joined_none : (samples : List ℤ) → AreJoined [] samples → samples ≡ []
 joined_none _ none = refl
 
--- a record whose differences come next, and those behind it
+-- a record whose differences come next, and those after it
 pub record HasNext {S : Type 0} (left : S → List View) (next : S) (last : ℤ) (room samples : List ℤ) (given : ℕ)
     (v : View) : Type 0 where
   pub sound : IsSound v

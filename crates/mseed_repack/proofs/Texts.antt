@@ -1,4 +1,4 @@
--- Texts of things, one behind another.
+-- Texts of things, one after another.
 use Rattle.std.proofs.Common.{◌≡◌, ◌⊎◌, inl, inr, ℕ, List, [], ◌∷◌, ◌++◌}
 use Rattle.std.proofs.Common.{refl, sym, ap, subst, ◌∙◌, arith, append_assoc, append-nil}
 use Rattle.std.specs.List.{AllByRecursion}
@@ -88,7 +88,7 @@ either_part Own Part one parts either (x ∷ xs) t u (inr (own, (rest, a))) (inr
 
 -- What was written, thing by thing.
 
--- what is written behind a text
+-- what is written after a text
 pub after_text : {P Q : List ℕ → Type 0} {n : ℕ} {first old new : BytesWritten} (R : List ℕ → Type 0)
     → Wrote P 0 first old → Wrote Q n old new
     → ((text own : List ℕ) → P text → Q own → R (text ++ own)) → Wrote R n first new

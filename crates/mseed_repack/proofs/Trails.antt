@@ -23,7 +23,7 @@ use Rattle.mseed_repack.specs.Repack.{Channel}
 use Rattle.mseed_repack.specs.private.Reading.{channel_in}
 use Rattle.mseed_repack.specs.private.Trails.{AreNexts, AreTrails, AreTrailsFrom, IsOfAt, IsTrailFrom, LeadsTo}
 
--- the channel at an index is below each behind it
+-- the channel at an index is below each after it
 less_at : (key : List ℕ) (cs : List Channel) → AllByRecursion (λ k. slice_cmp nat_cmp key k ≡ Less) (keys_of cs)
     → (k : ℕ) (d : Channel) → k < length cs → slice_cmp nat_cmp key (get_or cs k d).0 ≡ Less
 less_at key [] low k d lt = absurd (omega (arith, lt))
@@ -87,7 +87,7 @@ searched_none cs key k sorted h = λ j d lt.
     (λ (behind : k ≤ j). ap is_eq (parted.1 j d behind lt))
     (cases_lt j k)
 
--- the records of a channel from an index on: the one there, where it is of the channel, and those behind it
+-- the records of a channel from an index on: the one there, where it is of the channel, and those after it
 first_on : (key : List ℕ) (rs : List RecordView) (n : ℕ) (r : RecordView) (b : Bool) → n < length rs → r ≡ get_or rs n r
     → is_of key (view_of r) ≡ b → channel_in key (map view_of (drop n rs))
     ≡ (if b then view_of r ∷ channel_in key (map view_of (drop (n + 1) rs)) else
@@ -98,7 +98,7 @@ first_on key rs n r b lt is of =
     ∙ ap (λ (q : RecordView). q ∷ drop (n + 1) rs) (sym is))
     ∙ ap (λ (a : Bool). if a then view_of r ∷ behind else behind) of
 
--- the next record of a trail, and those that are left behind it
+-- the next record of a trail, and those that are left after it
 pub next_on : (key : List ℕ) (rs : List RecordView) (n : ℕ) (nexts : List ℕ) (r : RecordView) → n < length rs
     → r ≡ get_or rs n r → IsOfAt key rs n → AreNexts key rs n nexts
     → channel_in key (map view_of (drop n rs))

@@ -18,7 +18,7 @@ pub record IsGone (P : List View → Type 0) (all left : List View) : Type 0 whe
   pub parts : all ≡ gone ++ left
   pub holds : P gone
 
--- and behind them this is the next one
+-- and after them this is the next one
 pub record IsNext (P : List View → Type 0) (all : List View) (v : View) (rest : List View) : Type 0 where
   pub gone : List View
   pub parts : all ≡ gone ++ v ∷ rest
@@ -59,7 +59,7 @@ next_of {rest = rest} {v = v} Q h every =
     behind [] each = each.0
     behind (u ∷ us) each = behind us each.1
 
--- what adds up over records adds up over those before it, and it with those behind
+-- what adds up over records adds up over those before it, and it with those after
 so_far : {P : List View → Type 0} {all rest : List View} {v : View} (f : List View → ℕ)
     → ((us vs : List View) → f (us ++ vs) ≡ f us + f vs) → (h : IsNext P all v rest)
     → f all ≡ f h.gone + f (v ∷ rest)
@@ -91,7 +91,7 @@ few_so_far {rest = rest} {v = v} h =
     let whole : length _ ≡ length (h.gone ++ v ∷ rest) = ap (λ (vs : List View). length vs) h.parts in
     omega (arith, size, whole)
 
--- what is left behind so many records
+-- what is left after so many records
 pub dropped_more : (t : ℕ) (vs rest : List View) (v : View) → drop t vs ≡ v ∷ rest → rest ≡ drop (t + 1) vs
 dropped_more t vs rest v e = ap (λ (ws : List View). drop 1 ws) (sym e) ∙ drop-drop 1 t vs
 

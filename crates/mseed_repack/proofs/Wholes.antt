@@ -23,7 +23,7 @@ views_each : (rs : List RecordView) → AllByRecursion (λ (r : RecordView). IsV
 views_each [] h = tt
 views_each (r ∷ rs) h = (h.0, views_each rs h.1)
 
--- bytes that were read, of an input of which nothing had been read, and are records one behind another are an archive
+-- bytes that were read, of an input of which nothing had been read, and are records one after another are an archive
 pub whole_read : (rs : List RecordView) {first h : BytesRead} {bytes : List ℕ} → first ≡ nothing_read
     → h.bytes ≡ first.bytes ++ bytes → h.failures ≡ first.failures → IsTrue h.is_at_end
     → IsArchive bytes (bytes_of_each rs) [] → AllByRecursion (λ (r : RecordView). IsView (view_of r)) rs

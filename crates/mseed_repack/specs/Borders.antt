@@ -51,7 +51,7 @@ pub record AreReadAs (P : List View → Type 0) (records : List (List ℕ)) : Ty
   pub only : (others : List View) → AreViewsOf records others → others ≡ views
   pub is_so : P views
 
--- Behind so many samples a record begins at this instant, and this is found of it: a gap, or an overlap, of so many
+-- After so many samples a record begins at this instant, and this is found of it: a gap, or an overlap, of so many
 -- microseconds.
 pub record IsFoundAfter (why : ℕ → Why) (samples : ℕ) (start : ℤ) (views : List View) : Type 0 where
   pub before : List View

@@ -50,7 +50,7 @@ kept_of (c ∷ cs) (Fit ∷ ss) = c ∷ kept_of cs ss
 kept_of (c ∷ cs) (Broken ∷ ss) = kept_of cs ss
 kept_of (c ∷ cs) (Misfit number fault ∷ ss) = kept_of cs ss
 
--- the records of these channels' stretches, channel behind channel
+-- the records of these channels' stretches, channel after channel
 abbrev pub AreStretched : Options → List View → List Channel → List ℕ → Type 0
 AreStretched o views channels text =
     AreTexts (λ (c : Channel) own. IsChannelText o (records_in views c.0) own) channels text

@@ -97,13 +97,13 @@ pub record IsSeriesText (o : Options) (vs : List View) (text : List ℕ) : Type 
   pub packed : IsStretchPacked o vs records
   pub text_is : text ≡ concat records
 
--- the text is the texts of some things, one behind another
+-- the text is the texts of some things, one after another
 abbrev pub AreTexts : {X : Type 0} → (X → List ℕ → Type 0) → List X → List ℕ → Type 0
 AreTexts Own [] text = text ≡ []
 AreTexts Own (x ∷ xs) text =
     (own : List ℕ) × ((rest : List ℕ) × ((text ≡ own ++ rest) × Own x own × AreTexts Own xs rest))
 
--- the records that the series of these channels are packed into, channel behind channel
+-- the records that the series of these channels are packed into, channel after channel
 abbrev pub ArePackedInto : Options → List View → List Channel → List ℕ → Type 0
 ArePackedInto o views channels text =
     AreTexts (λ (c : Channel) own. IsSeriesText o (records_in views c.0) own) channels text

@@ -11,14 +11,14 @@ use Rattle.mseed_repack.specs.Repack.{IsPackedInPart, IsStretchPacked, StretchFi
 use Rattle.mseed_repack.specs.declared.channel_fault.ChannelFault.{ChannelFault}
 use Rattle.mseed_repack.specs.declared.channel_fault.ChannelFault.TheVariants.{Broken, Misfit, Write, Memory}
 
--- the options of what stands behind so many records: sequence numbers run on, and have six digits (SEED manual,
+-- the options of what stands after so many records: sequence numbers run on, and have six digits (SEED manual,
 -- chapter 8, fixed section of data header, field 1)
 pub record IsNumberedOn (o : Options) (n : ℕ) (next : Options) : Type 0 where
   pub exponent_is : next.exponent ≡ o.exponent
   pub encoding_is : next.encoding ≡ o.encoding
   pub sequence_is : next.first_sequence ≡ (o.first_sequence + n) % 1_000_000
 
--- stretches are packed one behind another, and the sequence numbers of each run on behind those before it
+-- stretches are packed one after another, and the sequence numbers of each run on after those before it
 pub data ArePackedOn (o : Options) : List (List View) → List (List ℕ) → Type 0 where
   none : ArePackedOn o [] []
   more : (ss : List (List View)) (s : List View) (records others : List (List ℕ)) (next : Options)
@@ -37,7 +37,7 @@ pub record IsChannelText (o : Options) (vs : List View) (text : List ℕ) : Type
   pub packed : IsChannelPacked o vs records
   pub text_is : text ≡ concat records
 
--- behind some stretches of a channel this is the next one
+-- after some stretches of a channel this is the next one
 pub record IsNextStretch (vs : List View) (before : List (List View)) (stretch : List View) : Type 0 where
   pub left : List View
   pub cut : AreStretchesUpTo vs before left

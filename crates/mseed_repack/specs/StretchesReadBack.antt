@@ -24,14 +24,14 @@ pub record IsStretchReadBack (s : List View) (trace : Trace) (records : List (Li
   pub reads : ReadsAs trace records
   pub keeps : KeepsTime s
 
--- of stretches one behind another: the records, and the samples that are read from all of them
+-- of stretches one after another: the records, and the samples that are read from all of them
 pub data AreReadBack : List (List View) → List (List ℕ) → List ℤ → Type 0 where
   read_none : AreReadBack [] [] []
   read_more : (s : List View) (ss : List (List View)) (trace : Trace) (records rest : List (List ℕ))
       (samples : List ℤ) → IsStretchReadBack s trace records → AreReadBack ss rest samples
       → AreReadBack (s ∷ ss) (records ++ rest) (trace.samples ++ samples)
 
--- What a channel was packed into reads back, stretch by stretch: and the samples of all its stretches, one behind
+-- What a channel was packed into reads back, stretch by stretch: and the samples of all its stretches, one after
 -- another, are those of the channel's records, each once, in order.
 pub record IsChannelReadBack (vs : List View) (records : List (List ℕ)) : Type 0 where
   pub stretches : List (List View)
@@ -46,7 +46,7 @@ pub record IsTextReadBack (vs : List View) (text : List ℕ) : Type 0 where
   pub reads : IsChannelReadBack vs records
   pub text_is : text ≡ concat records
 
--- the texts of channels, one behind another
+-- the texts of channels, one after another
 abbrev pub AreChannelsReadBack : List View → List Channel → List ℕ → Type 0
 AreChannelsReadBack views channels text =
     AreTexts (λ (c : Channel) own. IsTextReadBack (records_in views c.0) own) channels text

@@ -100,7 +100,7 @@ pub record IsListed (list : Listed) (samples : List ℤ) (given : ℕ) : Type 0 
   pub inside : given ≤ length samples
   pub fits : All (IsWithin 32) (differences samples)
 
--- the window holds differences of the samples around a place, and the supply goes on behind them
+-- the window holds differences of the samples around a place, and the supply goes on after them
 pub record Draws {S : Type 0} (supplies : S → List ℤ → ℕ → Type 0) (samples : List ℤ) (supply : S) (window : Window)
     (place : ℕ) : Type 0 where
   pub held : HoldsDifferences samples window

@@ -47,7 +47,7 @@ pub record IsAudited (a : Archive) : Type 0 where
 abbrev pub records_on : Trail → List View
 records_on t = channel_in t.codes.now (map view_of (drop t.index t.views.now))
 
--- the record at the index is of the channel, and the next ones stand behind it
+-- the record at the index is of the channel, and the next ones stand after it
 pub record IsLed (t : Trail) : Type 0 where
   pub of : IsOfAt t.codes.now t.views.now t.index
   pub nexts_are : AreNexts t.codes.now t.views.now t.index t.nexts.now

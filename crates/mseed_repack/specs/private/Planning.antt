@@ -48,7 +48,7 @@ abbrev pub IsStretchWritten : {E : Type 0} → Options → List View → Result 
 IsStretchWritten o s (Ok count) old new = Wrote (IsStretchText o s count) 0 old new
 IsStretchWritten o s (Err fault) old new = Wrote (IsPackedInPart o s) 1 old new
 
--- records one behind another in stretches of so many each, or of as many as are left
+-- records one after another in stretches of so many each, or of as many as are left
 abbrev pub stretches_by : List ℕ → List View → List (List View)
 stretches_by [] vs = []
 stretches_by (n ∷ ns) vs = take n vs ∷ stretches_by ns (drop n vs)

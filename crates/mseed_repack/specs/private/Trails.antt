@@ -16,13 +16,13 @@ pub record LeadsTo (key : List ℕ) (rs : List RecordView) (from at : ℕ) : Typ
   pub none : channel_in key (map view_of (drop from rs)) ≡ channel_in key (map view_of (drop at rs))
   pub of : IsOfAt key rs at
 
--- behind each of the channel's records from an index on, where the next one stands
+-- after each of the channel's records from an index on, where the next one stands
 abbrev pub AreNexts : List ℕ → List RecordView → ℕ → List ℕ → Type 0
 AreNexts key rs from nexts =
     (i : ℕ) (r : RecordView) → from ≤ i → i < length rs → r ≡ slice_index_or rs i r → is_of key (view_of r) ≡ true
     → LeadsTo key rs (i + 1) (slice_index_or nexts i 0)
 
--- of the channel's records from an index on, where the first one stands, and behind each the next one
+-- of the channel's records from an index on, where the first one stands, and after each the next one
 pub record IsTrailFrom (from : ℕ) (key : List ℕ) (rs : List RecordView) (first : ℕ) (nexts : List ℕ) : Type 0 where
   pub first_is : LeadsTo key rs from first
   pub nexts_are : AreNexts key rs from nexts

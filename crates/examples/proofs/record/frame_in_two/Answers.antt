@@ -3,7 +3,7 @@ use Rattle.std.proofs.lemmas.List.{take-append-drop}
 use Rattle.mseed_record.specs.Framer.{IsFramerOf}
 use Rattle.examples.proofs.record.frame_in_two.Goals as goal
 
--- All bytes are the first ones and those behind them.
+-- All bytes are the first ones and those after them.
 pub look-requires-in-Need : goal.look-requires-in-Need
 look-requires-in-Need c =
     let first = c.args.first in
