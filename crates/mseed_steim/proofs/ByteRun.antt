@@ -74,7 +74,7 @@ first_bytes p frame k m h =
     let same : k + 0 ≡ k = omega arith in
     rw same at (h 0 (omega arith))
 
--- the run of these words, and whatever is behind them
+-- the run of these words, and whatever is after them
 pub run_words : (p : List ℕ) (frame m k n : ℕ) → AreBytes p frame k m → run_in frame (words_from p (k + m) n) ≡ []
     → run_in frame (words_from p k (m + n)) ≡ words_from p k m
 run_words p frame zero k n h stop =
@@ -115,7 +115,7 @@ run_stops p frame k (suc n) other past = ⊎_elim
     (neither (eqb (k / 16) frame) _ _))
     (is_head k)
 
--- the bytes of a word, and those of the words behind it
+-- the bytes of a word, and those of the words after it
 bytes_cut : (p : List ℕ) (k m : ℕ) → take (4 * suc m) (drop (4 * k) p) ≡ take 4 (drop (4 * k) p) ++ take (4 * m)
     (drop (4 * (k + 1)) p)
 bytes_cut p k m =
@@ -184,7 +184,7 @@ run_one s (w ∷ ws) ds es h k =
     let later : h.1.0 ≡ k.1.0 = run_one s ws h.1.0 k.1.0 h.1.1.1.1 k.1.1.1.1 in
     h.1.1.0 ∙ ap (λ (xs : List ℤ). xs ++ h.1.0) one ∙ ap (λ (xs : List ℤ). k.0 ++ xs) later ∙ sym k.1.1.0
 
--- the next word, and those behind it
+-- the next word, and those after it
 pub prefix : (p : List ℕ) (k end : ℕ) → k < end → k % 16 ≢ 0
     → words_from p k (end - k) ≡ data_word p k ∷ words_from p (k + 1) (end - (k + 1))
 prefix p k end h data_place = let more : end - k ≡ suc (end - (k + 1)) = omega arith in

@@ -140,7 +140,7 @@ coding_more s ds p q head codes index used words code word n new plain room long
           (omega (arith, room, long, f.long, mid_long, before)) ∙ mid_long ∙ f.long ∙ sym long;
     }
 
--- once the codes are written and all words behind the last are cleared, the frames are filled
+-- once the codes are written and all words after the last are cleared, the frames are filled
 coded : (s : Scheme) (ds : List ℤ) (p q r : List ℕ) (head codes index used words : ℕ)
     → Coding s ds p head codes index used words → ((k : ℕ) → word_at q k ≡ cond (eqb k head) codes (word_at p k))
     → ((k : ℕ) → word_at r k ≡ cond (ltb k index) (word_at q k) 0) → Filling s ds r index used words
@@ -181,7 +181,7 @@ pushing_past s ds p q head codes index used first long says f =
       small = rw place (omega arith);
     }
 
--- one more code behind the others, and where it stands
+-- one more code after the others, and where it stands
 pushed_small : (codes code m : ℕ) → codes < 2 ^ (2 * m + 2) → code < 4 → codes * 4 + code < 2 ^ (2 * (m + 1) + 2)
 pushed_small codes code m h l =
     let more : 2 * (m + 1) + 2 ≡ 2 * m + 2 + 2 = omega arith in
@@ -246,7 +246,7 @@ pushing_more s ds p q head codes index used code word n new plain room long wide
       small = subst (λ (i : ℕ). new < 2 ^ (2 * i + 2)) (sym next) small;
     }
 
--- once the codes are written where they stand, and all words behind the last are cleared, the frames are filled
+-- once the codes are written where they stand, and all words after the last are cleared, the frames are filled
 pub pushed : (s : Scheme) (ds : List ℤ) (p q r : List ℕ) (head codes index used all : ℕ)
     → Pushing s ds p head codes index used → all ≡ codes * 2 ^ (30 - 2 * ((index - 1) % 16)) % 2 ^ 32
     → ((k : ℕ) → word_at q k ≡ cond (eqb k head) all (word_at p k))

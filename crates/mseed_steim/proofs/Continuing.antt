@@ -38,7 +38,7 @@ pub walks_over : (keep : Option (ℤ → ℤ → ℤ)) (n : ℕ) (s : Sum) (befo
 walks_over keep n s before after items others behind r e w =
     subst (λ (xs : List (Result ℤ BadWordAt)). Walks keep n s before xs behind after r) (sym e) w
 
--- no more is needed, whatever stands behind
+-- no more is needed, whatever stands after
 kept_done : (keep : Option (ℤ → ℤ → ℤ)) (n : ℕ) (s : Sum) (out : List ℤ) (items later : List (Result ℤ BadWordAt))
     → s.met ≡ n → kept_in keep n s out items ≡ kept_in keep n s out later
 kept_done None n s out items later e = refl
@@ -174,7 +174,7 @@ nothing_kept keep n s out items behind None e places folded met = tt
 nothing_kept keep n s out items behind (Some taken) e places folded met =
     nothing_continues keep n s taken.sum out items (behind taken) e places folded met
 
--- Differences of which the first alone are needed: those behind them aren't looked at.
+-- Differences of which the first alone are needed: those after them aren't looked at.
 parts : (k count : ℕ) (ds : List ℤ) → k ≤ count → take count ds ≡ take k ds ++ drop k (take count ds)
 parts k count ds less =
     sym (take-append-drop k (take count ds))

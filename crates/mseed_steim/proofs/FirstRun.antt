@@ -96,7 +96,7 @@ pub found_run : (s : Scheme) (p : List ℕ) (n i : ℕ) (sum : Sum) (w : DataWor
 found_run s p n i sum w None e none some cut first = tt
 found_run s p n i sum w (Some d) e none some cut first = found_one s p n i sum d w e none some cut first
 
--- behind the first sample each difference counts
+-- after the first sample each difference counts
 pub moved_run : (s : Scheme) (p : List ℕ) (n i : ℕ) (sum : Sum) → 0 < sum.met → AddsRun s p n i sum (pos 0)
 moved_run s p n i sum some k count reach by more inside moves =
     let same : by -ℤ pos 0 ≡ by = omega (arith, ints) in (

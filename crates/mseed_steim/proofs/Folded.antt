@@ -296,7 +296,7 @@ all_kept keep n s out items room e =
     let whole : take s.met out ≡ out = ap (λ (k : ℕ). take k out) (e ∙ sym room) ∙ take-length out in
     sym (ap (λ (xs : List ℤ). take s.met out ++ xs) (met_enough keep n s items e) ∙ append-nil (take s.met out) ∙ whole)
 
--- behind all differences there is none
+-- after all differences there is none
 pub no_more : (ds : List ℤ) → drop (length ds) ds ≡ []
 no_more [] = refl
 no_more (d ∷ ds) = no_more ds

@@ -65,7 +65,7 @@ pub fold_short : (n : ℕ) (s : Sum) → s.met ≢ n → fold n s [] ≡ Err (Sh
 unfolding fold
 fold_short n s h = rw (ne_eqb s.met n h) refl
 
--- no more is needed, whatever stands behind
+-- no more is needed, whatever stands after
 pub fold_done : (n : ℕ) (s : Sum) (items later : List (Result ℤ BadWordAt)) → s.met ≡ n
     → fold n s items ≡ fold n s later
 fold_done n s items later e = fold_enough n s items e ∙ sym (fold_enough n s later e)

@@ -236,7 +236,7 @@ is_ahead s ds held i most long early says is some =
     seven_most One most h = omega (arith, h)
     seven_most Two most h = omega (arith, h)
 
--- those behind a place of which something is reported are cut off
+-- those after a place of which something is reported are cut off
 pub cut_from : (s : Scheme) (ds : List ℤ) (most : List ℕ) (cut : List ℤ) → length cut ≡ 128
     → ((i : ℕ) → 121 ≤ i → i < 144 → get_or most i 0 ≡ 0) → (s ≡ Two → AreSame 128 ds cut)
     → (i : ℕ) → i < 144 → IsCut s (get_or most i 0) (drop i ds) (drop i cut)

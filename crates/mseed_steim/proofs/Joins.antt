@@ -148,7 +148,7 @@ placed_more w c i ds word digit p n room inside less e digit_is =
     i_most : (i c : ℕ) → i < c → c - i ≤ c
     i_most i c h = omega arith
 
--- one behind them, which counts for nothing
+-- one after them, which counts for nothing
 placed_over : (w c i : ℕ) (ds : List ℤ) (word : ℕ) → w * c ≤ 32 → c ≤ length ds → c ≤ i → Placed w c ds i word
     → Placed w c ds (i + 1) ((word + 0 % 2 ^ 32) % 2 ^ 32)
 placed_over w c i ds word room inside over e =

@@ -3,7 +3,7 @@ use Rattle.std.proofs.Common.{◌≡◌, ℕ, suc, ◌+◌, ◌*◌, ◌%◌, �
 use lib.Lanes.{number_l, digits_l}
 use Rattle.mseed_steim.specs.private.Lanes.{word_of}
 
--- a word, and those behind it
+-- a word, and those after it
 one_word : (a b c d rest n : ℕ) → a < 256 → b < 256 → c < 256 → d < 256
     → digits_l 4294967296 (suc n) (d + 256 * (c + 256 * (b + 256 * (a + 256 * rest))))
     ≡ word_of a b c d ∷ digits_l 4294967296 n rest

@@ -184,7 +184,7 @@ known_first s known ds more long is = record {
         (λ (b : 121 ≤ i + known.place). absurd (omega (arith, some, is.none (i + known.place) b l)))
         (cases_lt (i + known.place) 121)
 
--- what is known where two or more are held, and behind the word that takes as many
+-- what is known where two or more are held, and after the word that takes as many
 pub held_here : (known : Lookahead) (place held : ℕ) (ds : List ℤ) → IsLookahead Two (known_from known place) ds
     → held ≡ get_or known.most place 0 → 2 ≤ held
     → ((held < 8) × (place + 8 ≤ 128)) × (IsAhead Two ds held × AreCut ds (drop place known.cut)

@@ -45,7 +45,7 @@ put_in_place s begin frame (Some count) out places e room h =
     put_of s begin frame out out count count places h (omega (arith, e, room, few)) (omega (arith, few, room))
     (sym (take-take count count out (omega arith)))
 
--- a frame's differences, behind those of the frames before it
+-- a frame's differences, after those of the frames before it
 pub next_items : (s : Scheme) (p begin frame : List ℕ) (i count : ℕ) (done ds : List ℤ) → i < length p / 64
     → Begins begin (data_in 0 i) → frame ≡ take 64 (drop (64 * i) p) → AreUnpacked s begin frame ds count
     → items_of s (data_words p) ≡ map Ok done ++ items_of s (left_from p 0 i)
@@ -69,7 +69,7 @@ first_items items rest done ds k e =
     ∙ ap (λ (ys : List (Result ℤ BadWordAt)). ys ++ rest) (map-append Ok (done ++ take k ds) (drop k ds))
     ∙ append_assoc (map Ok (done ++ take k ds)) (map Ok (drop k ds)) rest
 
--- a word's differences, put behind others, and those for which there is no place
+-- a word's differences, put after others, and those for which there is no place
 pub word_put : (s : Scheme) (w : DataWord) (ws : List DataWord) (done ds full left : List ℤ)
     → differences_of s w.code w.bits ≡ Some ds → done ++ ds ≡ full ++ left
     → map Ok done ++ items_of s (w ∷ ws) ≡ map Ok full ++ (map Ok left ++ items_of s ws)
@@ -125,7 +125,7 @@ starts_steps x (d ∷ ds) (z ∷ es) a b (s ∷ ss) e l some h =
     let later : es ≡ differences_from x ss = adds_steps x ds es a b ss rest (omega arith) h.1 in
     rw first (ap (λ (ys : List ℤ). x ∷ ys) later)
 
--- where as many differences are unpacked as there are samples, these samples' steps are they, behind the constant
+-- where as many differences are unpacked as there are samples, these samples' steps are they, after the constant
 pub payload_steps : (s : Scheme) (p : List ℕ) (out : List ℤ) (first : ℤ) (more : List (Result ℤ BadWordAt))
     (ss : List ℤ) → ((i : ℕ) → get_or p i 0 < 256) → 0 < length out → first ≡ first_constant p
     → items_of s (data_words p) ≡ map Ok out ++ more → AreSums s p (length out) ss → set out 0 first ≡ steps_of ss
@@ -139,7 +139,7 @@ payload_steps s p out first more ss octets some constant unpacked sums =
     starts_steps first sums.differences out (items_of s sums.rest) more ss same (sym long) (omega (arith, long, some))
     (subst (λ (x : ℤ). StartsAndAdds x sums.differences ss) (sym constant) sums.sums)
 
--- a frame's differences, put behind those before them
+-- a frame's differences, put after those before them
 pub put_on : (s : Scheme) (p begin frame : List ℕ) (i met rest count places : ℕ) (out after : List ℤ)
     → i < length p / 64 → Begins begin (data_in 0 i) → frame ≡ take 64 (drop (64 * i) p)
     → Put s begin frame places after count → length after ≡ places → met + places ≡ length out
@@ -156,7 +156,7 @@ put_on s p begin frame i met rest count places out after inside begins e put all
     let next = next_items s p begin frame i (length ds) (take met out) ds inside begins e put.1.0 same in
     (map Ok (drop count ds) ++ behind, rw there (first_items _ behind (take met out) ds count next))
 
--- and where there are more places, the later frames' differences come behind it
+-- and where there are more places, the later frames' differences come after it
 pub goes_on : (s : Scheme) (p begin frame : List ℕ) (i met rest count places : ℕ) (out after : List ℤ)
     → i < length p / 64 → Begins begin (data_in 0 i) → frame ≡ take 64 (drop (64 * i) p)
     → Put s begin frame places after count → length after ≡ places → met + places ≡ length out → count < places

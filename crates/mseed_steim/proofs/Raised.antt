@@ -18,7 +18,7 @@ pub raised_plus : (x y z : ℕ) (s t : ℤ) → Raises x s → Raises y t → z 
 raised_plus x y z s t a b e =
     (a.0 + b.0, (a.1.0 + b.1.0, (omega (arith, ints, a.1.1.0, b.1.1.0), omega (arith, a.1.1.1, b.1.1.1, e))))
 
--- words, and those behind them
+-- words, and those after them
 pub moves_none : (s : Scheme) → MovesBy s [] 0 (pos 0) 0
 moves_none s = ([], (record { count_is = refl; by_is = refl; near = omega arith }, λ rest. refl))
 

@@ -213,7 +213,7 @@ sums_held l (x ∷ xs) near =
     let fits : FitsSigned w32 (l +ℤ x) = near_signed (l +ℤ x) (omega (arith, near, sum)) in
     rw to_z-of_z (ap (λ (zs : List ℤ). (l +ℤ x) ∷ zs) (sums_held (l +ℤ x) xs (omega (arith, near, sum))))
 
--- the differences from a place on go as far as those of a turn and those behind them
+-- the differences from a place on go as far as those of a turn and those after them
 pub span_cut : (ds : List ℤ) (k n : ℕ) → span (drop k ds) ≡ span (take n (drop k ds)) + span (drop (k + n) ds)
 span_cut ds k n = ap span (chunk-drop k n ds) ∙ span-append (take n (drop k ds)) (drop (k + n) ds)
 
@@ -249,7 +249,7 @@ last_of_four l xs long =
     let all : (((l +ℤ f.a) +ℤ f.b) +ℤ f.c) +ℤ f.d ≡ l +ℤ total (f.a ∷ f.b ∷ f.c ∷ f.d ∷ []) = omega (arith, ints) in
     rw f.same all
 
--- the differences, and zeros behind them
+-- the differences, and zeros after them
 span_zeros : (n : ℕ) → span (replicate n (pos 0)) ≡ 0
 span_zeros zero = refl
 span_zeros (suc n) = let later = span_zeros n in omega (arith, later)
@@ -296,7 +296,7 @@ put_front k rest out after inside =
     let first : length (take k out) ≡ k = length-take-le k out inside in
     take_at (take k out) (after ++ post_of k rest out) k first
 
--- what is put behind what there is
+-- what is put after what there is
 pub put_next : (k rest m : ℕ) (out after : List ℤ) → k ≤ length out → m ≤ length after
     → take (k + m) (put_mid k rest out after) ≡ take k out ++ take m after
 put_next k rest m out after inside filled =

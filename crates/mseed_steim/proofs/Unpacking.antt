@@ -37,7 +37,7 @@ passed (Some w) before after h e =
       omega (arith, cut),
     )
 
--- behind the words of code 00 none is next
+-- after the words of code 00 none is next
 past_step : (w : DataWord) (ws : List DataWord) (b : Bool) → eqb w.code 0 ≡ b → begins_empty (past_empty ws) ≡ false
     → begins_empty (past_empty (w ∷ ws)) ≡ false
 past_step w ws true e h = rw e h

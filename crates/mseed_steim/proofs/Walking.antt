@@ -27,7 +27,7 @@ pub words_step : (p : List ℕ) (k n : ℕ) → k % 16 ≢ 0 → words_from p k 
 unfolding words_from
 words_step p k n h = rw (ne_eqb (k % 16) 0 h) refl
 
--- a word's items, and those of the words behind it
+-- a word's items, and those of the words after it
 pub items_group : (s : Scheme) (before after : List DataWord) (w : DataWord) (ds : List ℤ) → before ≡ w ∷ after
     → differences_of s w.code w.bits ≡ Some ds → items_of s before ≡ map Ok ds ++ items_of s after
 unfolding items_of
@@ -91,7 +91,7 @@ pub length-first_chunks : (n : ℕ) (p : List ℕ) → length (first_chunks 64 n
 length-first_chunks zero p = refl
 length-first_chunks (suc n) p = ap suc (length-first_chunks n (drop 64 p))
 
--- behind the first data word stand the words of the first frame from word 4 on, and those of the later frames
+-- after the first data word stand the words of the first frame from word 4 on, and those of the later frames
 pub first_behind : (p : List ℕ) (w : DataWord) → 64 ≤ length p → words_from p 3 13 ≡ w ∷ words_from p 4 12
     → data_words p ≡ w ∷ words_from p 4 (word_count p - 4)
 first_behind p w framed e =
@@ -132,7 +132,7 @@ frames_cut p met later i k some inside =
     let skip = rw less at (skip_codes p (16 * (i + k)) (word_count p - 16 * (i + k)) (omega arith)) in
     rw next (cut ∙ ap (λ (ws : List DataWord). words_from p (16 * i + from) (16 * k - from) ++ ws) skip)
 
--- behind the last frame there are none
+-- after the last frame there are none
 pub none_left : (p : List ℕ) (met i : ℕ) → length p / 64 ≤ i → left_from p met i ≡ []
 none_left p met i over =
     let none : word_count p - (16 * i + data_in met i) ≡ 0 = omega (arith, over) in

@@ -25,17 +25,17 @@ abbrev pub begins_empty : List DataWord → Bool
 begins_empty [] = false
 begins_empty (w ∷ ws) = w.code == 0
 
--- the words behind those of code 00 that are next
+-- the words after those of code 00 that are next
 abbrev pub past_empty : List DataWord → List DataWord
 past_empty [] = []
 past_empty (w ∷ ws) = if w.code == 0 then past_empty ws else w ∷ ws
 
--- the words behind a run that begins them; where it is empty, behind the first
+-- the words after a run that begins them; where it is empty, after the first
 abbrev pub after_run : List DataWord → List DataWord → List DataWord
 after_run [] words = drop 1 words
 after_run (w ∷ ws) words = drop (length (w ∷ ws)) words
 
--- The words that aren't unpacked yet once an item has come of them: those behind a run that is next, or behind one
+-- The words that aren't unpacked yet once an item has come of them: those after a run that is next, or after one
 -- word; after a bad word none.
 abbrev pub words_after : Result ℤ BadWordAt → List DataWord → List DataWord
 words_after (Ok d) words = after_run (byte_run (past_empty words)) (past_empty words)

@@ -40,7 +40,7 @@ words_from payload k n = map (data_word payload) (filter is_data (range_with_len
 abbrev pub word_count : List ℕ → ℕ
 word_count payload = 16 * (length payload / 64)
 
--- the data words of the whole frames, in their order; those of the first begin behind X0 and Xn, its words 1 and 2
+-- the data words of the whole frames, in their order; those of the first begin after X0 and Xn, its words 1 and 2
 abbrev pub data_words : List ℕ → List DataWord
 data_words payload = words_from payload 3 (word_count payload - 3)
 

@@ -1,4 +1,4 @@
-//! Differences that are added up in lanes, eight in one turn. Turns are whole: behind the last difference stand zeros.
+//! Differences that are added up in lanes, eight in one turn. Turns are whole: after the last difference stand zeros.
 
 ghost use Rattle.std.specs.Prelude.{◌≡◌, ◌+◌, ◌*◌, ◌^◌, ◌≤◌, ◌<◌, ◌++◌, ℕ, ℤ, ◌+ℤ◌, nat_abs};
 ghost use Rattle.std.specs.Prelude.{drop, take, length, pos, slice_index_or};

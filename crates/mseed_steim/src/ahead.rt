@@ -153,7 +153,7 @@ const BY_EIGHTHS: Rows = [7, 6, 5, 5, 4, 4, 4, 4, 4, 4, 4, 4, 4, 4, 4, 4];
 const BY_PARTS: Rows = [7, 3, 3, 3, 2, 2, 2, 2, 2, 2, 2, 2, 2, 2, 2, 2];
 
 /// The most differences of a word of Steim-2 that holds two or more, by the near size of one of them. Each table is
-/// read at its last place for all that is larger; a size of 2^14 or more is told of apart.
+/// read at its last place for all that is larger; a size of 2^14 or more is found apart.
 #[inline(always)]
 fn most_two(sizes: u16x16) -> u8x16
     requires { Each1 (λ x. x < 32768) sizes }
@@ -223,7 +223,7 @@ fn put_most(scheme: Scheme, diffs: &[i32], most: &mut Most, cut: &mut Cut)
     }
 }
 
-/// What is no more than a vector's lanes, nor than the greater of a place and what is held that far behind.
+/// What is no more than a vector's lanes, nor than the greater of a place and what is held that far after.
 #[inline(always)]
 fn at_most(most: u8x16, held: &[u8], place: u8) -> u8x16
     requires long { 16 + place ≤ length held.now }
@@ -275,7 +275,7 @@ fn look_ahead(scheme: Scheme, diffs: &[i32], most: &mut Most, cut: &mut Cut)
     }
 }
 
-/// The differences, and behind them as many zeros as are looked at with them.
+/// The differences, and after them as many zeros as are looked at with them.
 #[inline(always)]
 fn padded(diffs: &[i32]) -> [i32; AHEAD]
     requires { length diffs.now ≤ AHEAD }

@@ -168,7 +168,7 @@ impl<'a> Words<'a> {
 
     /// Takes the words of code 01 that are next, as far as they stand in one frame: their bytes.
     pub(crate) fn take_bytes(&mut self) -> &'a [u8]
-        // What is left are the words behind them.
+        // What is left are the words after them.
         ensures cut { self.old ≡ byte_run self.old ++ self.new }
         // The bytes are what they spell, in each scheme.
         ensures spelled { (scheme : Scheme)

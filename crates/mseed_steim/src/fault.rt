@@ -7,7 +7,7 @@ pub enum ReadFault {
     Encoding(u8),
     /// Steim frames in little-endian words.
     LittleSteim,
-    /// The data begin within the header or behind the record's end.
+    /// The data begin within the header or after the record's end.
     DataOffset,
     /// The payload has this many differences or integers, fewer than the record has samples.
     Short(usize),

@@ -318,7 +318,7 @@ fn run_up_to(frames: usize, count: u32, by: u32x4) -> Run
 }
 
 /// The differences of frames from a word of the first one on, at most so many: of the first frames, up to one with
-/// more, or with a word that is bad or has one of 30 or 32 bits. A frame behind those with so many isn't looked at.
+/// more, or with a word that is bad or has one of 30 or 32 bits. A frame after those with so many isn't looked at.
 #[inline(always)]
 fn run_of(scheme: Scheme, frames: &[[u8; 64]], begin: Rows, most: usize) -> Run
     requires { length frames.now ≤ RUN }

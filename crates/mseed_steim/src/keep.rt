@@ -35,7 +35,7 @@ pub(crate) struct Task {
 pub(crate) struct Taken {
     /// How many these are.
     pub(crate) frames: usize,
-    /// The sum behind them.
+    /// The sum after them.
     pub(crate) sum: Sum,
 }
 
@@ -203,7 +203,7 @@ fn keep_frame<K: Keeper>(
     })
 }
 
-/// How many frames are added up at once behind a sum: so many that none of their sums leaves 32 bits, as far as they
+/// How many frames are added up at once after a sum: so many that none of their sums leaves 32 bits, as far as they
 /// have no difference of 30 or 32 bits.
 #[inline(always)]
 fn frames_at_once(sum: Sum) -> usize

@@ -27,7 +27,7 @@ use crate::sum::next_difference;
 use crate::unpack::{PLACES, Room, unpack_frame, unpack_wide};
 use mseed_record::RecordView;
 
-/// The differences of a frame's words, in their order, and the lanes behind the last of them: how many there are. None
+/// The differences of a frame's words, in their order, and the lanes after the last of them: how many there are. None
 /// where a word is bad.
 #[inline(always)]
 fn unpack_any(
@@ -70,7 +70,7 @@ fn unpack_some(
     Some(some)
 }
 
-/// The differences of a group, put behind so many, as far as there are places: how many there are then.
+/// The differences of a group, put after so many, as far as there are places: how many there are then.
 fn unpack_group(word: u32, group: Group, met: usize, out: &mut [i32]) -> usize
     requires met { met ≤ length out.old }
     ensures places { length out.new ≡ length out.old }
@@ -89,7 +89,7 @@ fn unpack_group(word: u32, group: Group, met: usize, out: &mut [i32]) -> usize
     met
 }
 
-/// The differences of some words, put behind so many, as far as there are places: whether they fill these before a bad
+/// The differences of some words, put after so many, as far as there are places: whether they fill these before a bad
 /// word comes.
 fn unpack_each(scheme: Scheme, words: Words<'_>, met: usize, out: &mut [i32]) -> bool
     requires left { met < length out.old }
@@ -110,7 +110,7 @@ fn unpack_each(scheme: Scheme, words: Words<'_>, met: usize, out: &mut [i32]) ->
     false
 }
 
-/// The same of a frame with a bad word: in a record that has a reading it stands behind the last sample.
+/// The same of a frame with a bad word: in a record that has a reading it stands after the last sample.
 #[cold]
 fn unpack_rest(scheme: Scheme, payload: &[u8], index: usize, met: usize, out: &mut [i32]) -> bool
     requires inside { 64 * (index + 1) ≤ length payload.now }
@@ -190,7 +190,7 @@ fn fill_known(view: &RecordView<'_>, out: &mut [i32]) -> Option<Ends>
     }
 }
 
-/// Fills in the steps of a record's samples, as [`fill_differences`] does: the first sample, and of each one behind it
+/// Fills in the steps of a record's samples, as [`fill_differences`] does: the first sample, and of each one after it
 /// its difference from the one before. The record is one of Steim frames and is known to have a reading that ends on
 /// its constants, so that nothing is added up or checked again; there are as many places as it has samples. Returns the
 /// first and the last of the samples.

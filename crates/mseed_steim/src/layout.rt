@@ -21,7 +21,7 @@ use std::simd::prelude::*;
 struct LayoutOne {
     /// The bits of one difference, in each lane.
     masks: [u32; LANES],
-    /// What each difference counts for; nothing behind the last.
+    /// What each difference counts for; nothing after the last.
     places: [u32; LANES],
     row: Row,
     /// Makes it 128 bytes, so that a row is found by a shift, and begins it at a multiple of 16, so that the lanes are
@@ -35,7 +35,7 @@ struct LayoutTwo {
     masks: [i16; LANES],
     /// What each difference counts for in its pair.
     weights: [i16; LANES],
-    /// What each pair counts for. That and the weights are such that a difference behind the last counts for nothing.
+    /// What each pair counts for. That and the weights are such that a difference after the last counts for nothing.
     counts: [u32; LANES / 2],
     /// The dnib where it stands in a word, beside the first pair.
     heads: [u32; LANES / 2],

@@ -95,7 +95,7 @@ fn write_word(frames: &mut [u8], index: usize, word: u32)
     BigEndian::write_u32(&mut frames[WORD * index..], word);
 }
 
-/// A frame's codes so far, and one more behind them.
+/// A frame's codes so far, and one more after them.
 #[inline(always)]
 fn with_code(codes: u32, code: u32) -> u32
     ensures { result ≡ (codes * 4 % 2 ^ 32 + code) % 2 ^ 32 }
@@ -120,7 +120,7 @@ fn clear_from(frames: &mut [u8], index: usize)
     frames[WORD * index..].fill(0);
 }
 
-/// Writes a data word, and puts its code behind those of the frame: all of these.
+/// Writes a data word, and puts its code after those of the frame: all of these.
 #[inline(always)]
 fn push_word(frames: &mut [u8], index: usize, codes: u32, code: u32, word: u32) -> u32
     requires room { 4 * (index + 1) ≤ length frames.old }
@@ -324,7 +324,7 @@ fn push_each(
     Ok(reached)
 }
 
-/// Writes the codes of the last frame, clears all words behind the last one, and says how much was packed.
+/// Writes the codes of the last frame, clears all words after the last one, and says how much was packed.
 #[inline(always)]
 fn finish(frames: &mut [u8], head: usize, reached: Reached) -> Packed
     requires head { 4 * (head + 1) ≤ length frames.old }
@@ -394,7 +394,7 @@ fn pack_run(
 }
 
 /// Packs differences into frames, from the first on: each data word in turn takes the largest number of
-/// those that are left, until no difference or no word is left. X0 and Xn and all words behind are 0.
+/// those that are left, until no difference or no word is left. X0 and Xn and all words after are 0.
 ///
 /// # Errors
 ///
@@ -411,7 +411,7 @@ pub fn pack_words(scheme: Scheme, diffs: &[i32], frames: &mut [u8]) -> Result<Pa
     ensures inside { IfOk result (λ p. (p.used ≤ length diffs.now) × (p.words ≤ length (data_words frames.new))) }
     // All differences are used, or all words.
     ensures whole { IfOk result (λ p. (p.used ≡ length diffs.now) ⊎ (p.words ≡ length (data_words frames.new))) }
-    // All else is 0: the words behind, X0 and Xn, and the codes of words that hold no differences.
+    // All else is 0: the words after, X0 and Xn, and the codes of words that hold no differences.
     ensures behind { IfOk result (λ p. AllByRecursion IsEmptyWord (drop p.words (data_words frames.new))) }
     ensures constants { IfOk result (λ _. (word_at frames.new 1 ≡ 0) × (word_at frames.new 2 ≡ 0)) }
     ensures codes { IfOk result (λ _. (k : ℕ) → k < word_count frames.new → (k < 3) ⊎ (k % 16 ≡ 0)

@@ -136,7 +136,7 @@ fn fill_steps(view: &RecordView<'_>, out: &mut [i32]) -> Result<(), ReadFault>
     }
 }
 
-/// Fills in the steps of a record's samples: the first sample, and of each one behind it its difference from the one
+/// Fills in the steps of a record's samples: the first sample, and of each one after it its difference from the one
 /// before. The samples are those of the record's one reading, where it ends on the payload's constant. The record is
 /// one of Steim frames, whose differences have 32 bits at the most, and has at least one sample, and there are as many
 /// places as it has.

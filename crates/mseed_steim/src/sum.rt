@@ -51,7 +51,7 @@ pub(crate) fn add_near(last: i32, difference: i32) -> i32
     last.wrapping_add(difference)
 }
 
-/// The sum of a sample and the differences behind it, while the limits of 32 bits are out of reach.
+/// The sum of a sample and the differences after it, while the limits of 32 bits are out of reach.
 #[inline(always)]
 pub(crate) fn add_all(differences: &[i32], last: i32) -> i32
     requires { nat_abs last + span differences.now < 2 ^ 31 }

@@ -2,7 +2,7 @@
 //! processor could but guess.
 //!
 //! A word is multiplied, in each lane, by what lifts one of its differences to the top of 32 bits; a shift down, the
-//! same in all lanes, leaves the differences. The lanes behind the last one hold anything: there stand the
+//! same in all lanes, leaves the differences. The lanes after the last one hold anything: there stand the
 //! differences of the next word.
 
 ghost use Rattle.std.specs.Prelude.{◌≡◌, ◌<◌, ◌≤◌, ◌+◌, ◌-◌, ◌*◌, ◌^◌, ℕ, List, [], ◌∷◌, ◌++◌, ℤ, Ok, IfSome, map};
@@ -28,7 +28,7 @@ pub(crate) const LANES: usize = 8;
 /// Those of a word of Steim-1, as far as its differences have at most 16 bits.
 const LANES_ONE: usize = 4;
 
-/// Room for the differences of a frame, and the lanes behind the last of them.
+/// Room for the differences of a frame, and the lanes after the last of them.
 pub(crate) const PLACES: usize = 128;
 
 /// Where fewer differences are needed, they are looked for word by word: no whole frame is unpacked for them.
@@ -241,7 +241,7 @@ fn words_of(frame: &[u8; 64]) -> [u32; 16]
     ]
 }
 
-/// The differences of five words of these rows, put behind those that there are: how many there are then.
+/// The differences of five words of these rows, put after those that there are: how many there are then.
 #[inline(always)]
 fn unpack_five(
     scheme: Scheme,

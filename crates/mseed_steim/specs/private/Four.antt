@@ -1,4 +1,4 @@
--- Three or four words that are known ahead, one behind another.
+-- Three or four words that are known ahead, one after another.
 use Rattle.std.specs.Prelude.{◌≡◌, ℕ, ℤ, ◌+◌, ◌%◌, ◌^◌, List, drop}
 use Rattle.std.specs.Simd.Lanes.{sum_l}
 use Rattle.mseed_steim.specs.declared.ahead.Lookahead.{Lookahead}

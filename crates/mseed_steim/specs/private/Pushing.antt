@@ -20,7 +20,7 @@ pub record Filling (s : Scheme) (ds : List ℤ) (p : List ℕ) (index used words
   pub constants : (word_at p 1 ≡ 0) × (word_at p 2 ≡ 0)
   pub codes : (k : ℕ) → (k < 3) ⊎ (k % 16 ≡ 0) → code_at p k ≡ 0
 
--- With the codes in their place, and nothing behind the last word whatever stands there, the frames are filled up to it.
+-- With the codes in their place, and nothing after the last word whatever stands there, the frames are filled up to it.
 pub record Coding (s : Scheme) (ds : List ℤ) (p : List ℕ) (head codes index used words : ℕ) : Type 0 where
   pub whole : List ℕ
   pub same : (k : ℕ) → word_at whole k ≡ (if k == head then codes else if nat_lt k index then word_at p k else 0)
@@ -28,7 +28,7 @@ pub record Coding (s : Scheme) (ds : List ℤ) (p : List ℕ) (head codes index 
   pub at : head ≡ 16 * ((index - 1) / 16)
   pub long : length whole ≡ length p
 
--- The codes of the frame that is being filled are at hand, side by side; where they stand, nothing is behind the last.
+-- The codes of the frame that is being filled are at hand, side by side; where they stand, nothing is after the last.
 pub record Pushing (s : Scheme) (ds : List ℤ) (p : List ℕ) (head codes index used : ℕ) : Type 0 where
   pub coding : Coding s ds p head (codes * 2 ^ (30 - 2 * ((index - 1) % 16))) index used (index - 3 - (index - 1) / 16)
   pub small : codes < 2 ^ (2 * ((index - 1) % 16) + 2)

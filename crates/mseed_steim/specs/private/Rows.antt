@@ -43,7 +43,7 @@ IsBestRow scheme ds high (Some row) =
     (row_for scheme row.count ≡ Some row) × (row.count ≤ high) × All (IsWithin row.width) (take row.count ds)
     × NoneSpelled scheme ds row.count high
 
--- what a difference of a word counts for where it holds so many of a width, the last one for 1; nothing behind them
+-- what a difference of a word counts for where it holds so many of a width, the last one for 1; nothing after them
 abbrev pub place_of : ℕ → ℕ → ℕ → ℕ
 place_of width count i = if nat_lt i count then 2 ^ (width * (count - 1 - i)) else 0
 

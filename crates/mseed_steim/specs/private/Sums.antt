@@ -76,7 +76,7 @@ abbrev pub IsCounted : ℕ → List ℤ → Type 0
 IsCounted met [] = ⊤
 IsCounted met (d ∷ ds) = met ≡ 0 → d ≡ pos 0
 
--- what is kept of some samples behind one, of each by its difference from the one before it, and of all samples
+-- what is kept of some samples after one, of each by its difference from the one before it, and of all samples
 abbrev pub kept_from : (ℤ → ℤ → ℤ) → ℤ → List ℤ → List ℤ
 kept_from keep before [] = []
 kept_from keep before (x ∷ xs) = keep (x -ℤ before) x ∷ kept_from keep x xs
@@ -108,7 +108,7 @@ lack n met [] = if met == n then None else Some (Short met)
 lack n met (Err at ∷ more) = if met == n then None else Some (BadWord at.frame at.word)
 lack n met (Ok d ∷ more) = if met == n then None else lack n (met + 1) more
 
--- A walk over all these items goes on from the answer with those behind, or ends with the answer's fault.
+-- A walk over all these items goes on from the answer with those after, or ends with the answer's fault.
 abbrev pub GoesOn : ℕ → Sum → List (Result ℤ BadWordAt) → List (Result ℤ BadWordAt) → Result Sum ReadFault → Type 0
 GoesOn n sum items behind (Ok next) = (fold n sum items ≡ fold n next behind)
 GoesOn n sum items behind (Err fault) = (fold n sum items ≡ Err fault)
@@ -128,7 +128,7 @@ abbrev pub Puts : Option (ℤ → ℤ → ℤ) → ℕ → ((ℤ → ℤ → ℤ
 Puts None met put before after = ⊤
 Puts (Some keep) met put before after = take (met + length (put keep)) after ≡ take met before ++ put keep
 
--- all that a walk keeps: what stands in the first places, and behind it what is kept of the samples to come
+-- all that a walk keeps: what stands in the first places, and after it what is kept of the samples to come
 abbrev pub kept_in : Option (ℤ → ℤ → ℤ) → ℕ → Sum → List ℤ → List (Result ℤ BadWordAt) → List ℤ
 kept_in None n sum out items = []
 kept_in (Some keep) n sum out items = take sum.met out ++ met_in keep n sum items
@@ -138,7 +138,7 @@ abbrev pub in_places : Option (ℤ → ℤ → ℤ) → List ℤ → List ℤ
 in_places None out = []
 in_places (Some keep) out = out
 
--- A walk over all these items, with these places, goes on from the next sum with those behind, and with the places
+-- A walk over all these items, with these places, goes on from the next sum with those after, and with the places
 -- after it: it answers the same, and keeps the same in all.
 pub record Continues (keep : Option (ℤ → ℤ → ℤ)) (n : ℕ) (sum : Sum) (before : List ℤ)
     (items behind : List (Result ℤ BadWordAt)) (after : List ℤ) (next : Sum) : Type 0 where

@@ -7,7 +7,7 @@ use Rattle.mseed_steim.specs.private.Lanes.{total}
 use Rattle.mseed_steim.proofs.Summed.{padded, padded_span, padded_total, whole_put}
 use Rattle.mseed_steim.proofs.adding.put_sums.Goals as goal
 
--- the turns end behind the differences, and where the zeros do at the latest
+-- the turns end after the differences, and where the zeros do at the latest
 turns_more : (count : ℕ) → count ≤ 8 * ((count + 7) / 8)
 turns_more count = omega arith
 

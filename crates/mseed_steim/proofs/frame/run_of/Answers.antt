@@ -19,7 +19,7 @@ loop-index-init c = record {
       (pos 0, (raised_none, rw (none, words_none p (16 * k + from)) (moves_none c.args.scheme)));
 }
 
--- the words of one frame more, which is the first or behind others
+-- the words of one frame more, which is the first or after others
 one_more : (p : List ℕ) (k from i : ℕ) → 0 < i → from ≤ 16 → words_from p (16 * k + from) (16 * (i + 1) - from)
     ≡ words_from p (16 * k + from) (16 * i - from) ++ words_from p (16 * (k + i) + 1) 15
 one_more p k from i some low =

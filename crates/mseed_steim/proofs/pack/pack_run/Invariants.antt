@@ -19,6 +19,6 @@ pub record Begun (s : Scheme) (ds : List ℤ) (known : Lookahead) (p : List ℕ)
 abbrev pub invariant-loop-next : goal.invariant-loop-next
 invariant-loop-next l = Begun l.scheme l.diffs l.known l.frames l.head l.reached
 
--- a word is filled, or what lies ahead is looked at behind the last place that is known
+-- a word is filled, or what lies ahead is looked at after the last place that is known
 abbrev pub decreases-loop-next : goal.decreases-loop-next
 decreases-loop-next l = 2 * (length l.frames - l.reached.index) + (if nat_lt l.reached.place 121 then 0 else 1)
