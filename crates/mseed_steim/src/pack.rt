@@ -394,7 +394,7 @@ fn pack_run(
 }
 
 /// Packs differences into frames, from the first on: each data word in turn takes the largest number of
-/// those that are left, until no difference or no word is left. X0 and Xn and all words after are 0.
+/// those that are left, until no difference or no word is left. X0 and Xn, and all words after the last, are 0.
 ///
 /// # Errors
 ///
