@@ -1,5 +1,6 @@
 use Rattle.std.proofs.Common.{◌≤◌, ◌+◌, ◌^◌, ℕ, List, length, map, take, arith, sym, subst, ap, ◌∙◌}
 use Rattle.std.proofs.lemmas.Bool.{OnTrue_at, false≢true}
+use Rattle.std.proofs.lemmas.List.{take_all}
 use Rattle.mseed_record.specs.Viewing.{view_of}
 use Rattle.mseed_audit.specs.Channels.{added_from, numbered}
 use Rattle.mseed_audit.specs.Follows.{IsSound}
@@ -50,3 +51,15 @@ is_plain_by-plain-requires g c = λ none some.
     let earlier = added_from 0 (map view_of (take c.loop-index.index rs)) in
     sound_by_finding c.one_reading.ensures (view_of c.index-views-index.result) (numbered 1 earlier) c.in-Ok.why
     (c.in-Ok.ensures.found earlier c.loop-index.invariant.0) none some
+
+pub returns-clause-sound : goal.returns-clause-sound
+returns-clause-sound g c =
+    rw (take_all c.loop-index.index c.args.views.now c.loop-index-test.false) at c.loop-index.invariant.4
+
+pub returns-clause-plain : goal.returns-clause-plain
+returns-clause-plain g c =
+    rw (take_all c.loop-index.index c.args.views.now c.loop-index-test.false) at c.loop-index.invariant.5
+
+pub returns-clause-steps : goal.returns-clause-steps
+returns-clause-steps g c =
+    rw (take_all c.loop-index.index c.args.views.now c.loop-index-test.false) at c.loop-index.invariant.6

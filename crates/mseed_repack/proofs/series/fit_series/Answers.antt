@@ -93,3 +93,12 @@ returns-in-None-clause-exact g c = λ grew.
 
 pub returns-in-Some-clause-fitting : goal.returns-in-Some-clause-fitting
 returns-in-Some-clause-fitting g c = c.fit_plain.ensures (length c.args.samples.now.items)
+
+pub returns-in-None-clause-grown : goal.returns-in-None-clause-grown
+returns-in-None-clause-grown g c =
+    let xs : List ℤ = c.fit_read.new.samples in
+    let size : length xs ≡ c.make_room.new.samples.len = search rules in
+    let same : length c.deref_mut.result.now ≡ length xs = search rules in
+    let room = ap (λ (ys : List ℤ). length ys) c.deref_mut.ensures.value in
+    let whole = take_at xs (drop (length xs) c.make_room.new.samples.items) c.make_room.new.samples.len size in
+    omega (arith, c.in_ok-make_room.ensures.grown, ap (λ (ys : List ℤ). length ys) whole, same, room)

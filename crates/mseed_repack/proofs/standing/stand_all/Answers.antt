@@ -1,7 +1,7 @@
 use Rattle.std.proofs.Common.{◌≡◌, ◌+◌, ◌++◌, ◌∙◌, List, [], ◌∷◌, ap, arith, length, map, refl, subst, sym, take}
 use Rattle.std.proofs.Common.{⊎_elim, ℕ}
 use Rattle.std.specs.List.{AllByRecursion}
-use Rattle.std.proofs.lemmas.List.{map-append, take_more}
+use Rattle.std.proofs.lemmas.List.{map-append, take_all, take_more}
 use Rattle.std.proofs.lemmas.Option.{IfSome_then}
 use Rattle.mseed_record.specs.View.{View}
 use Rattle.mseed_record.specs.Viewing.{view_of}
@@ -100,3 +100,8 @@ loop-number-preserved g c =
     l.invariant
     (subst (λ (vs : List View). IsReady cutting o room places vs c.in_ok-standing.standing own) same
     c.in_ok-standing.ensures.ready))))
+
+pub returns : goal.returns
+returns g c =
+    rw (take_all c.loop-number.number c.args.archive.now.channels.now c.loop-number-test.false) at
+    c.loop-number.invariant
