@@ -1,7 +1,8 @@
-use Rattle.std.proofs.Common.{◌-◌, ◌<◌, ℤ, pos, ◌+ℤ◌, get_or, ap, arith, ◌∙◌, rules, w32, to_z}
+use Rattle.std.proofs.Common.{◌≡◌, ◌+◌, ◌-◌, ◌<◌, ℕ, ℤ, pos, ◌+ℤ◌, ◌-ℤ◌, get_or, ap, arith, subst, ◌∙◌, rules, w32, to_z}
 use Rattle.std.specs.Int.{int_wrap}
 use Rattle.std.specs.Prelude.{slice_range}
 use Rattle.std.proofs.lemmas.Int.{wrapping_add_onto}
+use Rattle.mseed_pack.specs.private.Marks.{sample_before}
 use Rattle.mseed_pack.proofs.Filled.{part_at}
 use Rattle.mseed_pack.proofs.Marked.{moved_on}
 use Rattle.mseed_pack.proofs.window.Window.moved.Goals as goal
@@ -18,3 +19,18 @@ loop-difference-preserved c = λ xs h.
     ∙ ap (λ (z : ℤ). int_wrap w32 (to_z w32 bits +ℤ z)) (part_at w.differences at end k inside)
     ∙ moved_on xs w c.args.first k (to_z w32 bits) h c.requires.low
     (omega (arith, inside, c.requires.low, c.requires.order, c.requires.high)) (c.loop-difference.invariant xs h)
+
+pub returns : goal.returns
+returns c = λ xs h.
+    let first = c.args.first in
+    let end : first + c.loop-difference.difference-index ≡ c.args.end =
+    omega (
+      arith,
+      c.loop-difference-test.false,
+      c.loop-difference.auto.difference-index-end,
+      c.requires.low,
+      c.requires.order,
+      c.requires.high,
+    ) in
+    subst (λ (n : ℕ). to_z w32 c.loop-difference.moved-bits ≡ int_wrap w32 (sample_before xs n -ℤ sample_before xs first)) end
+    (c.loop-difference.invariant xs h)
