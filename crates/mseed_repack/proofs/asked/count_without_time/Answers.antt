@@ -1,12 +1,15 @@
-use Rattle.std.proofs.Common.{◌∙◌, ◌+◌, ◌≤◌, Bool, arith, length, rules, take}
+use Rattle.std.proofs.Common.{◌≡◌, ◌≢◌, ◌∙◌, ◌+◌, ◌≤◌, ℕ, Bool, false, ap, arith, length, refl, rules, sym, take}
 use Rattle.std.proofs.lemmas.List.{length-take-le, take_all}
-use Rattle.std.proofs.lemmas.List.Sums.{count_by-le-length}
+use Rattle.std.proofs.lemmas.List.Sums.{count_by-le-length, count_by_more_no, count_by_more_yes}
 use Rattle.mseed_record.specs.Viewing.{view_of}
 use Rattle.mseed_record.specs.declared.view.RecordView.{RecordView}
 use Rattle.mseed_select.specs.Selecting.{selection_of}
-use Rattle.mseed_select.specs.Selection.{lacks_time}
+use Rattle.mseed_select.specs.Selection.{is_without_time, lacks_time}
+use Rattle.mseed_select.specs.declared.answer.Answer.{Answer}
+use Rattle.mseed_select.specs.declared.answer.Answer.TheVariants.{AskedFor, Left, NoTime}
 use Rattle.mseed_repack.proofs.AskedFor.{counted_views}
 use Rattle.mseed_repack.proofs.asked.count_without_time.Goals as goal
+use Rattle.mseed_repack.proofs.asked.count_without_time.Goals.{in-NoTime, in_default}
 
 pub returns : goal.returns
 returns c =
@@ -23,3 +26,24 @@ overflow_add-count c =
     let below : c.loop-view.count + 1 ≤ length c.args.views.now =
     omega (arith, c.loop-view.invariant, before, most, c.loop-view-test.true) in
     search rules
+
+-- what is not without a time
+other : (a : Answer) → a ≢ NoTime → is_without_time a ≡ false
+other AskedFor isnt = refl
+other Left isnt = refl
+other NoTime isnt = absurd (isnt refl)
+
+pub loop-view-preserved : goal.loop-view-preserved
+loop-view-preserved c =
+    let p : RecordView → Bool = λ r. lacks_time (selection_of c.args.selector.now) (view_of r) in
+    let i = c.loop-view.view-index in
+    let answer = sym c.asks_for.ensures.value in
+    let at = ap p (sym c.view-item.is) in
+    elim c.match-asks_for.branch [
+      | in-NoTime w ↦ w.count-is ∙ (ap (λ (n : ℕ). n + 1) c.loop-view.invariant
+          ∙ sym (count_by_more_yes p c.args.views.now i c.view-item.result c.loop-view-test.true
+          (at ∙ ap is_without_time (answer ∙ w.in-NoTime.is))))
+      | in_default w ↦ w.count-is ∙ (c.loop-view.invariant
+          ∙ sym (count_by_more_no p c.args.views.now i c.view-item.result c.loop-view-test.true
+          (at ∙ (ap is_without_time answer ∙ other c.asks_for.result w.in_default.not-NoTime))))
+    ]
