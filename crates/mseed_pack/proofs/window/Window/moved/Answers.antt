@@ -1,4 +1,5 @@
-use Rattle.std.proofs.Common.{◌≡◌, ◌+◌, ◌-◌, ◌<◌, ℕ, ℤ, pos, ◌+ℤ◌, ◌-ℤ◌, get_or, ap, arith, subst, ◌∙◌, rules, w32, to_z}
+use Rattle.std.proofs.Common.{◌≡◌, ◌+◌, ◌-◌, ◌<◌, ℕ, ℤ, pos, ◌+ℤ◌, ◌-ℤ◌, get_or, ap, arith, subst, ◌∙◌, rules, w32}
+use Rattle.std.proofs.Common.{to_z}
 use Rattle.std.specs.Int.{int_wrap}
 use Rattle.std.specs.Prelude.{slice_range}
 use Rattle.std.proofs.lemmas.Int.{wrapping_add_onto}
@@ -32,5 +33,6 @@ returns c = λ xs h.
       c.requires.order,
       c.requires.high,
     ) in
-    subst (λ (n : ℕ). to_z w32 c.loop-difference.moved-bits ≡ int_wrap w32 (sample_before xs n -ℤ sample_before xs first)) end
+    let bits = to_z w32 c.loop-difference.moved-bits in
+    subst (λ (n : ℕ). bits ≡ int_wrap w32 (sample_before xs n -ℤ sample_before xs first)) end
     (c.loop-difference.invariant xs h)
