@@ -58,3 +58,14 @@ loop-offset-preserved g c =
       few = omega (arith, inv.few);
       within = omega (arith, size, split_within bytes offset b c.loop-offset-test.true prefix);
     }
+
+pub returns-then-is_err-clause-fault : goal.returns-then-is_err-clause-fault
+returns-then-is_err-clause-fault g c =
+    let offset : ℕ = c.loop-offset.offset in
+    let there = rw (take_rest c.args.bytes.now offset) at (c.in-Ok.ensures.ok.0 refl) in (
+      offset,
+      (
+        bytes_of_each c.loop-offset.records.items,
+        record { before = c.loop-offset.invariant.records; further = there },
+      ),
+    )

@@ -1,6 +1,7 @@
 use Rattle.std.proofs.Common.{◌≡◌, ◌<◌, ◌≤◌, ◌++◌, length, true, false, Bool, Ok, Err, Result, ℕ, List}
 use Rattle.std.proofs.Common.{sym, ap, subst, ◌∙◌, append_assoc, arith, rules, ⊎_elim}
 use Rattle.std.proofs.lemmas.Bool.{cases_lt}
+use Rattle.std.proofs.lemmas.Result.{err_from_is_err_and}
 use Rattle.mseed_record.proofs.Answered.{answered}
 use Rattle.std.proofs.KnownBytes.{Consumes-trans}
 use Rattle.mseed_record.specs.declared.framer.Scan.{Scan}
@@ -12,6 +13,7 @@ use Rattle.mseed_stream.specs.CutterState.{CutterState}
 use Rattle.mseed_stream.specs.Cutting.{IsStop}
 use Rattle.mseed_stream.specs.private.Steps.{IsCut}
 use Rattle.mseed_stream.specs.declared.fault.StreamFault.{StreamFault}
+use Rattle.mseed_stream.specs.declared.fault.StreamFault.TheVariants.{Frame}
 use Rattle.mseed_stream.proofs.Stops.{stop_grows, stop_next}
 use Rattle.mseed_stream.proofs.Filled.{held_grows, held_stays}
 use Rattle.mseed_stream.proofs.Cuts.{found, fault_at_end, cutting_err, read_to_err, stops_again, same_end, stop_here}
@@ -52,25 +54,26 @@ returns-in-Record-clause-cut g c =
 pub returns-in-Not-clause-cut : goal.returns-in-Not-clause-cut
 returns-in-Not-clause-cut g c =
     let inv = c.stops.invariant in
-    let decides = subst (λ (a : Scan). Decides c.stops.self.prefix a) c.in-Not.is c.look.ensures.decides in
+    let before : BytesRead = g.R.Source.read c.args.source.now in
+    let after : BytesRead = g.R.Source.read c.stops.source in
     let same = c.look.ensures.stays in
-    record {
-      read = rw same inv.read;
-      stays = rw same (inv.offset, inv.not_lent, inv.answer);
-      room = rw same inv.room;
-      stop = rw (same, inv.end) inv.stop;
+    let fault : StreamFault = Frame c.self.inside.offset c.in-Not.fault in
+    let decides = subst (λ (a : Scan). Decides c.stops.self.prefix a) c.in-Not.is c.look.ensures.decides in
+    let offset : c.self.inside.offset ≡ c.args.self.now.offset =
+    ap (λ (s : CutterState). s.offset) (c.self.view_is ∙ same) ∙ inv.offset in
+    let cut : IsCut (Err fault) c.args.self.now c.stops.self before after = record {
+      read = inv.read;
+      stays = (inv.offset, inv.not_lent, inv.answer);
+      room = inv.room;
+      stop = rw inv.end inv.stop;
       found = λ other. cc;
       called = λ other. cc;
-      quiet = rw same (inv.called, inv.calls);
+      quiet = (inv.called, inv.calls);
       ended = λ other. cc;
       fine = tt;
-      fault = (
-        ap (λ (s : CutterState). s.offset) (c.self.view_is ∙ same) ∙ inv.offset,
-        inv.failures,
-        rw same (is_frame c.in-Not.fault decides),
-        rw (same, inv.end) inv.stop,
-      );
-    }
+      fault = (offset, inv.failures, is_frame c.in-Not.fault decides, rw inv.end inv.stop);
+    } in
+    subst (λ (s : CutterState). IsCut (Err fault) c.args.self.now s before after) (sym same) cut
 
 pub returns-in-Need-clause-cut : goal.returns-in-Need-clause-cut
 returns-in-Need-clause-cut g c =
@@ -111,7 +114,7 @@ returns-in_err-is_at_end-in-Need-2-clause-cut g c =
     let stays = λ (same : new ≡ old). held_stays _ _ _ _ inv.read err.read inv.not_lent err.stays.1 err.stays.0 same in
     let held = λ (same : new ≡ old). subst (λ (xs : List ℕ). IsStop xs (length xs)) (sym (stays same)) here in
     let asks = λ (same : new ≡ old). subst (λ (xs : List ℕ). Decides xs (Need needed)) (sym (stays same)) decides in
-    let same : c.from_residual.result ≡ Err fault = search rules in
+    let e = err_from_is_err_and c.from_residual.result c.from_residual.ensures.1 in
     let cut : IsCut (Err fault) c.args.self.now after first new = record {
       read = err.read;
       stays = (err.stays.0 ∙ inv.offset, err.stays.1, err.stays.2 ∙ inv.answer);
@@ -129,7 +132,7 @@ returns-in_err-is_at_end-in-Need-2-clause-cut g c =
       fault = cutting_err fault c.args.self.now c.stops.self after first old new needed err.fault inv.offset inv.room
           inv.failures (inv.end ∙ c.if-is_at_end.false) stop err.short asks;
     } in
-    rw same cut
+    rw (e.1, e.2) cut
 
 pub stops-preserved : goal.stops-preserved
 stops-preserved g c =

@@ -92,3 +92,12 @@ returns-in-Err-clause-read g c = grind (arith, common_steps)
 
 pub returns-in-Err-clause-short : goal.returns-in-Err-clause-short
 returns-in-Err-clause-short g c = grind (arith, common_steps)
+
+pub returns-in-Err-clause-ended : goal.returns-in-Err-clause-ended
+returns-in-Err-clause-ended g c = λ ended. absurd (cc ended)
+
+pub returns-then-self-eq-READS-clause-ended : goal.returns-then-self-eq-READS-clause-ended
+returns-then-self-eq-READS-clause-ended g c = λ ended. absurd (cc ended)
+
+pub returns-clause-ended : goal.returns-clause-ended
+returns-clause-ended g c = λ ended. absurd (cc ended)

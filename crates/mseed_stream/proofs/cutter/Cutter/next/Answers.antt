@@ -1,4 +1,4 @@
-use Rattle.std.proofs.Common.{◌≡◌, ◌+◌, ◌≤◌, List, ℕ, length, take, refl, sym, ap, ◌∙◌, arith}
+use Rattle.std.proofs.Common.{◌≡◌, ◌+◌, ◌≤◌, List, [], ◌∷◌, ◌++◌, ℕ, length, take, refl, subst, sym, ap, ◌∙◌, arith}
 use Rattle.std.proofs.Common.{Option, Some, None, Ok, IfSome}
 use Rattle.std.proofs.lemmas.List.{length-take-le}
 use Rattle.mseed_record.specs.View.{View}
@@ -6,7 +6,7 @@ use Rattle.mseed_record.specs.Viewing.{view_of}
 use Rattle.mseed_stream.specs.Device.{BytesRead}
 use Rattle.mseed_stream.specs.CutterState.{CutterState}
 use Rattle.mseed_record.specs.declared.view.RecordView.{RecordView}
-use Rattle.mseed_stream.specs.Cutting.{read_from, held_of, answer_of}
+use Rattle.mseed_stream.specs.Cutting.{IsAlong, read_from, held_of, answer_of}
 use Rattle.mseed_stream.proofs.AfterFound.{few_asks}
 use Rattle.mseed_stream.specs.Walk.{HasHandedOut, bytes_in}
 use Rattle.mseed_stream.specs.declared.cutter.Ending.{Ending}
@@ -46,7 +46,8 @@ returns-in-Some g c =
     ∙ (taken items after.prefix c.self.inside.have c.in-Some.length prefix it.record.0 within ∙ it.record.2)) in
     let moved : after.offset ≡ before.offset + length reported =
     it.offset ∙ ap (λ (xs : List ℕ). before.offset + length xs) it.record.2 in
-    let handed = λ (views : List View) (h : HasHandedOut old before views). rw (← c.self.view_is) at
+    let handed = λ (views : List View) (h : HasHandedOut old before views).
+    subst (λ (s : CutterState). HasHandedOut new s (views ++ view ∷ [])) (sym c.self.view_is)
     (handed_record old new before after views view h c.of_record.ensures.view bytes
     (it.answer.records (bytes_in views) h.records.records) it.along moved it.kept
     (omega (arith, it.answer.failed h.goes_on)) it.called) in (
@@ -54,7 +55,7 @@ returns-in-Some g c =
         refl,
         λ _. tt,
         (
-          rw c.self.view_is it.along,
+          subst (IsAlong new) (sym c.self.view_is) it.along,
           ap (λ (s : CutterState). s.offset) c.self.view_is ∙ moved,
           ap (λ (s : CutterState). s.answer) c.self.view_is ∙ it.kept,
           omega (arith, it.room, ap (λ (s : CutterState). s.room) c.self.view_is),
