@@ -1,4 +1,4 @@
-use Rattle.std.proofs.Common.{rules, ◌≡◌, ◌<◌, ◌≤◌, ◌∙◌, arith, [], length, take}
+use Rattle.std.proofs.Common.{rules, ◌≡◌, ◌<◌, ◌≤◌, ◌∙◌, List, ℕ, arith, [], length, sym, take}
 use Rattle.std.proofs.lemmas.List.{length-take-le}
 use Rattle.std.proofs.lemmas.Result.{err_from_is_err_and}
 use Rattle.slink_feed.specs.Attending.{IsServeFault, attending}
@@ -8,6 +8,10 @@ use Rattle.slink_feed.proofs.Attended.{all_answered, answering_failed, failed_is
 use Rattle.slink_feed.proofs.Attended.{reported_is, stays}
 use Rattle.slink_feed.proofs.Sendoffs.{passed_on}
 use Rattle.slink_feed.proofs.serving.answer_once.Goals as goal
+
+-- what was read is no longer than the room for it
+few_read : (n : ℕ) (room : List ℕ) → n ≤ length room → length room ≤ 512 → length (take n room) ≤ 512
+few_read n room bound long = omega (arith, length-take-le n room bound, bound, long)
 
 pub returns-in-Err-clause-fault : goal.returns-in-Err-clause-fault
 returns-in-Err-clause-fault g c start sent =
@@ -31,7 +35,8 @@ pub returns-in_err-reply_to_all-clause-fault : goal.returns-in_err-reply_to_all-
 returns-in_err-reply_to_all-clause-fault g c start sent =
     let new : Attending = attending c.reply_to_all.new.session (g.S.Sink.written c.reply_to_all.new.link) in
     let some : 0 < c.in-Ok.count = omega (arith, c.if-count-eq0.false) in
-    let few : length (take c.in-Ok.count c.pull.new.buf) ≤ 512 = search rules in
+    let few : length (take c.in-Ok.count c.pull.new.buf) ≤ 512 =
+    few_read c.in-Ok.count c.pull.new.buf c.in-Ok.ensures.bound (omega (arith, c.pull.auto.buf)) in
     passed_on c.from_residual.result c.in_err-reply_to_all.field-0.0
     (λ fault. IsServeFault c.args.feed.now start new (g.S.Source.read c.args.link.now)
     (g.S.Source.read c.reply_to_all.new.link) fault)
@@ -62,3 +67,19 @@ returns-clause-ok g c start sent =
     (g.met.S.Duplex.writes_apart c.pull.new.self) ∙ (c.in-Ok.ensures.read
     ∙ reported_is (g.S.Source.read c.args.link.now) c.in-Ok.count c.pull.new.buf some c.in-Ok.ensures.bound))
     (omega (arith, long, some)) few c.in_ok-reply_to_all.ensures.ok
+
+pub slice_bounds-reply_to_all-end : goal.slice_bounds-reply_to_all-end
+slice_bounds-reply_to_all-end g c =
+    sym (length-take-le c.in-Ok.count c.pull.new.buf c.in-Ok.ensures.bound)
+
+pub reply_to_all-requires : goal.reply_to_all-requires
+reply_to_all-requires g c = (
+  search rules,
+  (
+    c.requires.fits,
+    (
+      c.requires.stands,
+      (few_read c.in-Ok.count c.pull.new.buf c.in-Ok.ensures.bound (omega (arith, c.pull.auto.buf)), c.requires.few),
+    ),
+  ),
+)

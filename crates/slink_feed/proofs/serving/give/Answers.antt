@@ -1,4 +1,4 @@
-use Rattle.std.proofs.Common.{rules}
+use Rattle.std.proofs.Common.{◌≤◌, List, ℕ, arith, length, refl, subst}
 use Rattle.std.proofs.lemmas.Result.{err_from_is_err_and}
 use Rattle.slink_wire.specs.Packet.{packet_bytes}
 use Rattle.slink_feed.specs.declared.session.Sent.TheVariants.{Packet}
@@ -40,8 +40,8 @@ returns-in_ok-written-in-Ok-clause-ok g c = record {
   is = c.in-Ok.ensures.sent;
   held = c.next_record.ensures.held;
   written = rw c.put.ensures.value at c.in_ok-written-in-Ok.ensures.ok;
-  short = search rules;
-  waited_is = search rules;
+  short = subst (λ (xs : List ℕ). length xs ≤ 520) c.put.ensures.value (omega (arith, c.put.array_long));
+  waited_is = refl;
   few = λ bytes is. c.in-Ok.ensures.few;
 }
 
@@ -55,3 +55,6 @@ returns-in_ok-after-in-Err-clause-ok g c = record {
   waited_is = c.count_waits.ensures;
   few = λ bytes is. absurd (no_packet c.in-Err.unsent bytes is);
 }
+
+pub write_after-requires-in-Err-clause-few : goal.write_after-requires-in-Err-clause-few
+write_after-requires-in-Err-clause-few g c = rw c.bytes.ensures (few_without c.in-Err.unsent)

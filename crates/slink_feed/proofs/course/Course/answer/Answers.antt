@@ -1,9 +1,9 @@
-use Rattle.std.proofs.Common.{◌≡◌, ◌∙◌, List, ap, refl, sym}
+use Rattle.std.proofs.Common.{◌≡◌, ◌∙◌, List, ap, refl, rules, subst, sym}
 use Rattle.slink_wire.specs.declared.command.Command.{Command}
 use Rattle.slink_wire.specs.declared.reply.Reply.{Reply}
 use Rattle.slink_feed.specs.declared.session.Phase.{Phase}
 use Rattle.slink_feed.specs.declared.session.Phase.TheVariants.{Chosen, Closed, Fresh, Granted, Streaming}
-use Rattle.slink_feed.specs.Session.{State, answered, answered_in}
+use Rattle.slink_feed.specs.Session.{IsChosenOf, State, answered, answered_in}
 use Rattle.slink_feed.specs.Window.{Window}
 use Rattle.slink_feed.proofs.course.Course.answer.Goals as goal
 
@@ -42,3 +42,11 @@ returns-in-Closed g c = record {
   answered = answered_at Closed c.phase.result c.args.feed.now c.args.self.now c.args.command _ c.phase.ensures
       c.in-Closed.is refl;
 }
+
+pub in_chosen-requires : goal.in_chosen-requires
+in_chosen-requires g c =
+    (search rules, subst (IsChosenOf c.args.feed.now) (sym c.phase.ensures ∙ c.in-Chosen.is) c.requires.0)
+
+pub in_granted-requires : goal.in_granted-requires
+in_granted-requires g c =
+    (search rules, subst (IsChosenOf c.args.feed.now) (sym c.phase.ensures ∙ c.in-Granted.is) c.requires.0)

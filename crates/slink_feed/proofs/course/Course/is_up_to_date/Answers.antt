@@ -1,4 +1,7 @@
-use Rattle.std.proofs.Common.{◌≡◌, ◌∙◌, rules, arith, sym, true, false}
+use Rattle.std.proofs.Common.{◌≡◌, ◌∙◌, Option, ap, rules, arith, refl, slice_get, sym, true, false}
+use Rattle.slink_feed.specs.declared.grant.Grant.{Grant}
+use Rattle.slink_feed.specs.declared.session.Phase.{Phase}
+use Rattle.slink_feed.specs.Session.{sent_in, sent_of}
 use Rattle.slink_feed.proofs.Waits.{at_next_more, none_granted, none_more, one_granted, sends_off, waits_unless_done}
 use Rattle.slink_feed.proofs.course.Course.is_up_to_date.Goals as goal
 use Rattle.slink_feed.proofs.course.Course.is_up_to_date.Goals.{then-is_some, else-is_some}
@@ -36,3 +39,13 @@ returns-else-not-has_grant g c =
     let one = c.loop-k.invariant.some c.if-not-has_grant.false in
     waits_unless_done _ _ one.0 ((one.1).1).0 _ c.requires (omega (arith, (one.1).0)) ((one.1).1).1
     (λ j lt. c.loop-k.invariant.at_next j (omega (arith, lt))) c.has_sent_all.ensures
+
+pub returns-then-not-has_grant : goal.returns-then-not-has_grant
+returns-then-not-has_grant g c = (
+  λ is k lt.
+      let none = c.loop-k.invariant.none c.if-not-has_grant.true k
+      (omega (arith, lt, c.len-k-end.ensures.value, c.loop-k-test.false)) in
+      ap (λ (p : Phase). sent_in p c.args.feed.now c.args.self.now k) c.requires
+      ∙ ap (λ (h : Option Grant). sent_of c.args.feed.now c.args.self.now k h (slice_get c.args.feed.now k)) none,
+  λ waits. rw c.if-not-has_grant.true refl,
+)

@@ -1,3 +1,5 @@
+use Rattle.std.proofs.Common.{◌∙◌, ap, rules, sym}
+use Rattle.slink_feed.specs.Session.{State}
 use Rattle.slink_feed.proofs.course.Course.next_record.Goals as goal
 
 pub returns-in-Some-clause-sent : goal.returns-in-Some-clause-sent
@@ -14,3 +16,15 @@ returns-in-Some-clause-fits g c = c.next_from.ensures.fits
 
 pub returns-in-Some-clause-few : goal.returns-in-Some-clause-few
 returns-in-Some-clause-few g c = c.next_from.ensures.few
+
+pub next_from-requires : goal.next_from-requires
+next_from-requires g c = (
+  search rules,
+  (
+    c.requires.in_range,
+    (
+      sym (ap (λ (s : State). s.phase) c.self.view_is) ∙ c.in-Streaming.is,
+      (sym c.grant_of.ensures ∙ c.in-Some.is, c.requires.fits.1),
+    ),
+  ),
+)

@@ -1,4 +1,5 @@
 use Rattle.std.proofs.Common.{◌≡◌, ◌+◌, ap, subst, sym, ◌∙◌, arith, Some}
+use Rattle.std.proofs.lemmas.Option.{same_Some}
 use Rattle.slink_feed.specs.declared.session.Phase.TheVariants.{Streaming}
 use Rattle.slink_feed.specs.Session.{AreReached, IsChosenOf, State, at, grant_at, packet_at, sent}
 use Rattle.slink_feed.proofs.Reached.{reached_next, reached_with, sent_by_record}
@@ -27,3 +28,7 @@ returns-in-Some-clause-fits g c =
           (subst (AreReached c.args.feed.now) (sym (ap (λ (s : State). s.grants) c.self.view_is))
           c.requires.fits),
     )
+
+pub returns-in-Some-clause-few : goal.returns-in-Some-clause-few
+returns-in-Some-clause-few g c w there =
+    rw (same_Some w c.ring-ring.result.now (sym there ∙ c.ring-ring.ensures.ring)) c.get.ensures.few

@@ -21,3 +21,6 @@ pub returns-clause-none : goal.returns-clause-none
 returns-clause-none g c =
     λ none k w there. c.loop-k.invariant k w
     (omega (arith, slice_get_within c.args.self.now k w there, c.len-k-end.ensures.value, c.loop-k-test.false)) there
+
+pub returns-then-bears-clause-none : goal.returns-then-bears-clause-none
+returns-then-bears-clause-none g c none = absurd (cc none)

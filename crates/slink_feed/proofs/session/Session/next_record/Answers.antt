@@ -1,8 +1,8 @@
-use Rattle.std.proofs.Common.{◌≡◌, ap, subst}
+use Rattle.std.proofs.Common.{◌≡◌, ap, rules, subst, sym}
 use Rattle.std.specs.Prelude.{IfErr, IfOk}
 use Rattle.slink_wire.specs.Packet.{packet_bytes}
 use Rattle.slink_feed.specs.Serving.{SessionState}
-use Rattle.slink_feed.specs.Session.{sent, sent_without}
+use Rattle.slink_feed.specs.Session.{Fits, sent, sent_without}
 use Rattle.slink_feed.specs.declared.session.Sent.TheVariants.{Packet}
 use Rattle.slink_feed.proofs.Stands.{open_before_next}
 use Rattle.slink_feed.proofs.session.Session.next_record.Goals as goal
@@ -36,3 +36,12 @@ invariant_of-self g c = λ awake.
 
 pub returns-clause-stands : goal.returns-clause-stands
 returns-clause-stands g c = invariant_of-self g c
+
+pub next_record-requires : goal.next_record-requires
+next_record-requires g c = (
+  search rules,
+  (
+    c.requires.in_range,
+    subst (λ (s : SessionState). Fits c.args.feed.now s.state) (sym c.self.view_is) c.requires.fits,
+  ),
+)

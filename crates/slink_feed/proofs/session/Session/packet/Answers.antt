@@ -12,3 +12,6 @@ invariant_of-self g c = λ awake.
 
 pub returns-clause-stands : goal.returns-clause-stands
 returns-clause-stands g c = invariant_of-self g c
+
+pub returns-clause-few : goal.returns-clause-few
+returns-clause-few g c = c.packet.ensures.few

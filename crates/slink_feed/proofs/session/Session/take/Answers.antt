@@ -1,7 +1,8 @@
-use Rattle.std.proofs.Common.{◌∙◌, ap, subst, sym, take}
+use Rattle.std.proofs.Common.{◌∙◌, ap, rules, subst, sym, take}
 use Rattle.slink_wire.specs.Lines.{IsHeld}
 use Rattle.slink_feed.specs.Running.{Stands}
 use Rattle.slink_feed.specs.Serving.{SessionState}
+use Rattle.slink_feed.specs.Session.{Fits}
 use Rattle.slink_feed.proofs.Answered.{answer_reported}
 use Rattle.slink_feed.proofs.Stands.{piece_taken, still_stands}
 use Rattle.slink_feed.proofs.session.Session.take.Goals as goal
@@ -44,3 +45,12 @@ returns-clause-some g c some =
 
 pub returns-clause-stands : goal.returns-clause-stands
 returns-clause-stands g c = invariant_of-self g c
+
+pub answer_to-requires : goal.answer_to-requires
+answer_to-requires g c =
+    (search rules, subst (λ (s : SessionState). Fits c.args.feed.now s.state) (sym c.self.view_is) c.requires)
+
+pub returns-clause-first : goal.returns-clause-first
+returns-clause-first g c stream n open_still held less =
+    c.take-used.ensures.first stream n
+    (subst (λ (s : SessionState). IsHeld s.held stream) (sym c.self.view_is) held) less
