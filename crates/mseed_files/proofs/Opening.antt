@@ -1,5 +1,5 @@
 -- What opening the next of several files keeps, and where the files that were opened begin.
-use Rattle.std.proofs.Common.{◌≡◌, ℕ, zero, suc, ◌+◌, ◌<◌, ◌++◌, List, [], ◌∷◌, length, drop, slice_index}
+use Rattle.std.proofs.Common.{◌≡◌, ℕ, zero, suc, ◌+◌, ◌-◌, ◌*◌, ◌<◌, ◌++◌, List, [], ◌∷◌, length, drop, slice_index}
 use Rattle.std.proofs.Common.{Option, Some, None, IfSome, Bool, true, false, is_some, refl, sym, ap, ◌∙◌}
 use Rattle.std.proofs.Common.{Result, Ok, Err, IfOk, subst, arith, length-append, append_assoc}
 use Rattle.std.proofs.KnownBytes.{Consumes-kept, Consumes-nil, Keeps-trans}
@@ -117,6 +117,14 @@ opened_along files after begins now is_open bytes left file same more less close
           let long : length xs ≡ length (next.prior ++ next.bytes) = ap (λ (ys : List ℕ). length ys) next.whole in
           (next.bytes, (next.file_is, omega (arith, whole, long, length-append next.prior next.bytes)));
     })
+
+-- less is to be done once the next file is open
+pub opened_nearer : (files after : Contents) (begins now : List ℕ) (bytes more : ℕ) → after ≡ files
+    → now ≡ begins ++ bytes ∷ [] → length begins < length files
+    → 2 * (length after - length now) + 0 < 2 * (length files - length begins) + more
+opened_nearer files after begins now bytes more same longer less =
+    let long : length now ≡ suc (length begins) = ap (λ (xs : List ℕ). length xs) longer ∙ length_more begins bytes in
+    rw (same, long) (omega (arith, less))
 
 -- a place by where the files begin
 pub placed : (s : ChainState) (offset : ℕ) (place : Option Place)
