@@ -1,5 +1,5 @@
 use Rattle.std.proofs.lemmas.Grind.{common_steps}
-use Rattle.std.proofs.Common.{◌≤◌, ◌<◌, ◌-◌, ◌∙◌, arith, inl, inr, refl, length}
+use Rattle.std.proofs.Common.{◌≤◌, ◌<◌, ◌∙◌, arith, inl, inr, refl, length}
 use Rattle.std.proofs.lemmas.Result.{err_from_is_err_and}
 use Rattle.slink_feed.specs.Attending.{attending}
 use Rattle.slink_feed.specs.private.Replying.{FailsToGive, HasGiven, IsSendFault, waits_after}

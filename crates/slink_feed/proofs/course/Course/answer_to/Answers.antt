@@ -9,5 +9,5 @@ returns-in-Line-clause-fits g c =
     fits_answered _ _ _ c.read.result c.requires (ap (λ (p : State × Reply). p.0) c.answer.ensures.answered)
 
 pub returns-in-TooLong-clause-fits : goal.returns-in-TooLong-clause-fits
-returns-in-TooLong-clause-fits g c = subst (Fits c.args.feed.now) (ap (λ (p : State × Reply). p.0) c.end.ensures.answered)
-    (tt, c.requires.1)
+returns-in-TooLong-clause-fits g c =
+    subst (Fits c.args.feed.now) (ap (λ (p : State × Reply). p.0) c.end.ensures.answered) (tt, c.requires.1)
