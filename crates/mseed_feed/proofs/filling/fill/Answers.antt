@@ -1,7 +1,9 @@
-use Rattle.std.proofs.Common.{◌≡◌, ◌+◌, ◌++◌, ◌∷◌, [], List, length, arith, rules}
+use Rattle.std.proofs.Common.{◌≡◌, ◌+◌, ◌++◌, ◌∷◌, [], List, length, arith, refl, rules, subst, sym}
 use Rattle.std.proofs.lemmas.List.{length-append}
 use Rattle.std.proofs.lemmas.Result.{err_from_is_err_and}
 use Rattle.mseed_record.specs.View.{View}
+use Rattle.mseed_stream.specs.Device.{BytesRead}
+use Rattle.mseed_stream.specs.Walk.{HasHandedOut}
 use Rattle.mseed_feed.proofs.Fills.{next_small, number_of}
 use Rattle.mseed_feed.proofs.filling.fill.Goals as goal
 
@@ -55,3 +57,13 @@ returns-in-Ended g c =
     let filled = c.records.invariant.2.1 in
     rw c.in-Ended.is at c.in_ok-push_next.ensures c.args.serving.now views c.requires.called filled
     (number_of views c.records.invariant.2.2)
+
+pub records-init : goal.records-init
+records-init g c =
+    let handed : HasHandedOut (g.R.Source.read c.args.input.now) c.new-cutter.result [] =
+    subst (λ (h : BytesRead). HasHandedOut h c.new-cutter.result []) (sym c.requires.unread)
+    c.new-cutter.ensures.handed in (
+      handed.along,
+      omega arith,
+      ([], record { handed = handed; each = tt; feed_is = c.in_ok-feed.ensures.ok }, refl),
+    )

@@ -1,8 +1,9 @@
-use Rattle.std.proofs.Common.{◌≡◌, ℕ, ◌++◌, ◌∷◌, [], ◌∙◌, List, length, take, sym, ap, arith}
+use Rattle.std.proofs.Common.{◌≡◌, ℕ, ◌++◌, ◌∷◌, [], ◌∙◌, List, length, take, subst, sym, ap, arith, rules}
 use Rattle.std.proofs.lemmas.Result.{err_from_is_err_and}
 use Rattle.mseed_record.specs.View.{View}
 use Rattle.mseed_record.specs.Viewing.{view_of}
 use Rattle.mseed_record.specs.declared.view.RecordView.{RecordView}
+use Rattle.mseed_stream.specs.Cutting.{IsAhead}
 use Rattle.mseed_stream.specs.Device.{BytesRead}
 use Rattle.mseed_stream.specs.Walk.{HasHandedOut}
 use Rattle.mseed_stream.specs.declared.fault.StreamFault.{StreamFault}
@@ -53,3 +54,14 @@ returns-in_err-view g c = λ serving views can filled number.
     rw (e.1, e.2) (broken_off RecordView serving fault read views filled.each
     (c.in_err-view.ensures.all views filled.handed)
     (omega (arith, failed, filled.handed.fine)))
+
+pub pass-requires-clause-ahead : goal.pass-requires-clause-ahead
+pass-requires-clause-ahead g c =
+    subst (λ (xs : List ℕ). IsAhead (length xs) c.args.cutter.now (g.R.Source.lent c.args.input.now))
+    (sym c.bytes-size.ensures.value) c.in-Some.ensures.ahead
+
+pub take_record-requires : goal.take_record-requires
+take_record-requires g c = (search rules, c.requires.room)
+
+pub take_record-taken-requires : goal.take_record-taken-requires
+take_record-taken-requires g c = (search rules, c.requires.room)
