@@ -118,6 +118,10 @@ opened_along files after begins now is_open bytes left file same more less close
           (next.bytes, (next.file_is, omega (arith, whole, long, length-append next.prior next.bytes)));
     })
 
+-- an error is no value
+pub not_ok : {T E : Type 0} (e : E) (x : T) → ◌≡◌ {A = Result T E} (Err e) (Ok x) → ⊥
+not_ok e x same = cc same
+
 -- less is to be done once the next file is open
 pub opened_nearer : (files after : Contents) (begins now : List ℕ) (bytes more : ℕ) → after ≡ files
     → now ≡ begins ++ bytes ∷ [] → length begins < length files

@@ -1,6 +1,6 @@
 use Rattle.std.proofs.Common.{◌≡◌, ◌<◌, ◌≤◌, ℕ, length, is_some, vec_capacity, drop, false, ap, subst, sym, ◌∙◌, arith}
 use Rattle.mseed_files.specs.Files.{Contents, IsUnread}
-use Rattle.mseed_files.proofs.Opening.{none_left, opened_along, opened_keeps, opened_nearer}
+use Rattle.mseed_files.proofs.Opening.{none_left, not_ok, opened_along, opened_keeps, opened_nearer}
 use Rattle.mseed_files.proofs.chain.Chain.has_file.Goals as goal
 
 pub invariant_of-self : goal.invariant_of-self
@@ -44,4 +44,4 @@ returns-in-Ok-clause-known g c =
     (none_left g.O.File.Read.remaining i.file closed) unread)
 
 pub returns-in-Err-clause-nearer : goal.returns-in-Err-clause-nearer
-returns-in-Err-clause-nearer g c = λ same. absurd (cc same)
+returns-in-Err-clause-nearer g c = λ same. absurd (not_ok _ _ same)
