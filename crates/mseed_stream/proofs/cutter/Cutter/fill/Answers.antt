@@ -1,5 +1,5 @@
 use Rattle.std.proofs.Common.{◌≡◌, ◌+◌, ◌≤◌, ◌<◌, ◌^◌, ◌++◌, length, take, drop, List, ℕ, arith, slice_range, ap}
-use Rattle.std.proofs.Common.{◌∙◌, refl, length-take, append_assoc}
+use Rattle.std.proofs.Common.{◌∙◌, refl, length-take, append_assoc, Bool, false, true, Result, Ok, Err}
 use Rattle.std.proofs.lemmas.Grind.{common_steps}
 use Rattle.std.proofs.KnownBytes.{Consumes-trans}
 use Rattle.mseed_record.proofs.Reached.{framer_more}
@@ -7,6 +7,13 @@ use Rattle.mseed_stream.specs.Device.{BytesRead}
 use Rattle.mseed_stream.specs.CutterState.{CutterState}
 use Rattle.mseed_stream.proofs.Filled.{written_back, prefix_more, read_more}
 use Rattle.mseed_stream.proofs.cutter.Cutter.fill.Goals as goal
+
+-- an error is no value
+not_ok : {T E : Type 0} (e : E) (x : T) → ◌≡◌ {A = Result T E} (Err e) (Ok x) → ⊥
+not_ok e x same = cc same
+
+not_true : {E : Type 0} → ◌≡◌ {A = Result Bool E} (Ok false) (Ok true) → ⊥
+not_true same = cc same
 
 pub loop-self-preserved : goal.loop-self-preserved
 loop-self-preserved g c =
@@ -94,10 +101,10 @@ pub returns-in-Err-clause-short : goal.returns-in-Err-clause-short
 returns-in-Err-clause-short g c = grind (arith, common_steps)
 
 pub returns-in-Err-clause-ended : goal.returns-in-Err-clause-ended
-returns-in-Err-clause-ended g c = λ ended. absurd (cc ended)
+returns-in-Err-clause-ended g c = λ ended. absurd (not_ok _ _ ended)
 
 pub returns-then-self-eq-READS-clause-ended : goal.returns-then-self-eq-READS-clause-ended
-returns-then-self-eq-READS-clause-ended g c = λ ended. absurd (cc ended)
+returns-then-self-eq-READS-clause-ended g c = λ ended. absurd (not_ok _ _ ended)
 
 pub returns-clause-ended : goal.returns-clause-ended
-returns-clause-ended g c = λ ended. absurd (cc ended)
+returns-clause-ended g c = λ ended. absurd (not_true ended)
