@@ -74,8 +74,8 @@ pub fn first_of_checked(view: &RecordView) -> i32
     ends_of(view).first
 }
 
-/// Fills in the steps of a record of Steim frames that was checked, in as many places as it has samples, and returns the
-/// last of these.
+/// Fills in the steps of a record of Steim frames that was checked, in as many places as it has samples, and returns
+/// the last of these.
 pub fn steps_of_checked(view: &RecordView, steps: &mut [i32]) -> i32
     requires whole { (s : List ℤ) × IsWhole (view_of view.now) s }
     requires steim { IsSteim (view_of view.now) }

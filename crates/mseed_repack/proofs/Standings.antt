@@ -15,7 +15,8 @@ use Rattle.mseed_pack.specs.declared.options.Options.{Options}
 use Rattle.mseed_pack.specs.declared.fault.PackFault.{PackFault}
 use Rattle.mseed_repack.specs.Repack.{Channel, IsArchiveOf, IsFirst, Wrote, records_in}
 use Rattle.mseed_repack.specs.Restretch.{ChannelFits, ChannelMisfits}
-use Rattle.mseed_repack.specs.ByStretches.{AreFound, AreStandings, IsFit, IsRestretching, Stands, ReportsEach, WroteKept}
+use Rattle.mseed_repack.specs.ByStretches.{AreFound, AreStandings, IsFit, IsRestretching, ReportsEach, Stands}
+use Rattle.mseed_repack.specs.ByStretches.{WroteKept}
 use Rattle.mseed_repack.specs.ByStretches.{also, kept_of, line_of, lines_of, silent}
 use Rattle.mseed_repack.specs.private.Reading.{channel_in, steps_of}
 use Rattle.mseed_repack.specs.private.Restretching.{IsFirstRefused, IsNoMisfit, IsUnbroken}

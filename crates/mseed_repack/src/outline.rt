@@ -157,8 +157,8 @@ fn nearness_with(before: Nearness, view: &RecordView) -> Nearness
 }
 
 /// Whether a sound record is known to be plain before its samples are read: it can be unpacked, each of its samples is
-/// near the one before it, and the first and the last have 29 bits at the most. So the samples of plain records are near
-/// one another in whatever order these stand.
+/// near the one before it, and the first and the last have 29 bits at the most. So the samples of plain records are
+/// near one another in whatever order these stand.
 pub(crate) fn is_plain(view: &RecordView) -> bool
     requires { IsSound (view_of view.now) }
     ensures { OnTrue result (IsPlain (view_of view.now)) }

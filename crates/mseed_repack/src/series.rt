@@ -38,10 +38,10 @@ pub(crate) enum Fitting {
     Misfits(PackFault),
 }
 
-/// Returns whether the series of some records can be packed, and which way it goes. Where they are known to be plain, and
-/// to have so many samples, none of them is looked at but the first. The samples are read only where less doesn't show
-/// that they fit. Memory is requested only where the series goes by a list and needs more room than
-/// the list of samples has; where it goes from frames to frames, that list stays as it was.
+/// Returns whether the series of some records can be packed, and which way it goes. Where they are known to be plain,
+/// and to have so many samples, none of them is looked at but the first. The samples are read only where less doesn't
+/// show that they fit. Memory is requested only where the series goes by a list and needs more room than the list of
+/// samples has; where it goes from frames to frames, that list stays as it was.
 ///
 /// # Errors
 ///

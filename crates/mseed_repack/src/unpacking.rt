@@ -112,7 +112,7 @@ impl<'a, R> Unpacking<'a, R> {
     }
 }
 
-/// Reads from each line of the next record, where there is one, so that these are fetched while another one is unpacked:
+/// Reads from each line of the next record, where there is one, so that these are fetched while another is unpacked:
 /// records of one channel may stand far from one another. What it returns says nothing.
 fn touch_next<'a, R: Walk<'a>>(records: R) -> u8
     requires { R.leads records }

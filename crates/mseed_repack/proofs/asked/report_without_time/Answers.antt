@@ -1,4 +1,4 @@
-use Rattle.std.proofs.Common.{◌∙◌, List, ℕ, subst}
+use Rattle.std.proofs.Common.{◌∙◌, subst}
 use Rattle.mseed_stream.specs.LineWritten.{WritesLine}
 use Rattle.mseed_repack.proofs.AskedFor.{none_lacks, some_lack}
 use Rattle.mseed_repack.proofs.asked.report_without_time.Goals as goal
@@ -13,5 +13,5 @@ returns-then-count-gt0 g c =
     let a3 = rw a2 at c.put-then-count-gt0.ensures.text in
     some_lack c.args.count (g.E.Sink.written c.args.errors.now) (g.E.Sink.written c.report.new.errors)
     c.if-count-gt0.true
-    (subst (λ (line : List ℕ). WritesLine line (g.E.Sink.written c.args.errors.now) (g.E.Sink.written c.report.new.errors))
+    (subst (λ line. WritesLine line (g.E.Sink.written c.args.errors.now) (g.E.Sink.written c.report.new.errors))
     (c.as_slice.ensures ∙ a3) c.report.ensures)

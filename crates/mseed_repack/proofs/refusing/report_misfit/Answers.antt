@@ -1,4 +1,4 @@
-use Rattle.std.proofs.Common.{◌∙◌, List, ℕ, subst}
+use Rattle.std.proofs.Common.{◌∙◌, subst}
 use Rattle.mseed_stream.specs.LineWritten.{WritesLine}
 use Rattle.mseed_repack.proofs.refusing.report_misfit.Goals as goal
 
@@ -11,5 +11,5 @@ returns g c =
     let a5 = rw a4 at c.put-3.ensures.text in
     let a6 = rw a5 at c.put_count-2.ensures.text in
     let a7 = rw a6 at c.put-4.ensures.text in
-    subst (λ (line : List ℕ). WritesLine line (g.E.Sink.written c.args.errors.now) (g.E.Sink.written c.report.new.errors))
+    subst (λ line. WritesLine line (g.E.Sink.written c.args.errors.now) (g.E.Sink.written c.report.new.errors))
     (c.as_slice.ensures ∙ a7) c.report.ensures

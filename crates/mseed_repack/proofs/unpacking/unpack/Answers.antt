@@ -33,4 +33,5 @@ returns-clause-differences c = λ s whole.
 
 pub returns-clause-last : goal.returns-clause-last
 returns-clause-last c = λ s whole.
-    last_is_end c.args.before c.unpack_differences-last.result s (c.unpack_differences-last.ensures.ends s whole) ∙ sym (to_z-of_z w32 _ (search rules))
+    last_is_end c.args.before c.unpack_differences-last.result s (c.unpack_differences-last.ensures.ends s whole)
+    ∙ sym (to_z-of_z w32 _ (search rules))
