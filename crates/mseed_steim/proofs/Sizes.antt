@@ -291,7 +291,8 @@ mapped_part d f n from i xs ys e room more less q =
     (omega (arith, long, more, less)) ∙ ap f (part_at d n from (i - from) xs e room (omega (arith, more, less))
     ∙ ap (λ (j : ℕ). get_or xs j d) place)
 
-pub length_lanes : {A : Type 0} (f : A → ℕ) (xs : List A) (ys : List ℕ) → ys ≡ map f xs → length xs ≡ 16 → length ys ≡ 16
+pub length_lanes : {A : Type 0} (f : A → ℕ) (xs : List A) (ys : List ℕ) → ys ≡ map f xs → length xs ≡ 16
+    → length ys ≡ 16
 length_lanes f xs ys e long = ap (λ (l : List ℕ). length l) e ∙ length-map xs f ∙ long
 
 pub first_at : (xs : List ℕ) (i : ℕ) → 22 ≤ length xs → i < 16 → get_or (chunk 0 16 xs) i 0 ≡ get_or xs i 0

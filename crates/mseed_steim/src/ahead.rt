@@ -183,7 +183,8 @@ fn most_one(sizes: u16x16) -> u8x16
 #[inline(always)]
 fn put_most_one(diffs: &[i32], most: &mut Most)
     requires { AHEAD ≤ length diffs.now }
-    ensures { (i : ℕ) → i < AHEAD → slice_index most.new i ≡ most_one (near_size One (slice_index_or diffs.now i (pos 0))) }
+    ensures { (i : ℕ) → i < AHEAD
+        → slice_index most.new i ≡ most_one (near_size One (slice_index_or diffs.now i (pos 0))) }
 {
     let mut sizes = [0; AHEAD];
     put_half_sizes(diffs, &mut sizes);

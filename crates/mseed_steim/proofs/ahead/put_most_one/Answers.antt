@@ -1,4 +1,5 @@
-use Rattle.std.proofs.Common.{◌≡◌, ◌<◌, ◌≤◌, ◌+◌, ◌*◌, ◌∙◌, arith, length, ⊎_elim, ℕ, ap, get_or, pos, rules, subst, sym}
+use Rattle.std.proofs.Common.{◌≡◌, ◌<◌, ◌≤◌, ◌+◌, ◌*◌, ◌∙◌, arith, length, ⊎_elim, ℕ, ap}
+use Rattle.std.proofs.Common.{get_or, pos, rules, subst, sym}
 use Rattle.std.proofs.lemmas.Bool.{cases_lt}
 use Rattle.mseed_steim.specs.declared.scheme.Scheme.TheVariants.{One}
 use Rattle.mseed_steim.specs.private.Ahead.{most_one}
@@ -33,7 +34,8 @@ loop-turn-preserved c =
           (λ (more : at ≤ i).
           let last : i < at + 16 = omega (arith, less) in
           put_at 144 at i c.loop-turn.most c.most_one.result room (omega (arith, inside)) long more last
-          ∙ mapped_part 0 (most_one) 128 at i c.put_half_sizes.new.sizes c.most_one.result told (omega (arith, inside)) more last
+          ∙ mapped_part 0 (most_one) 128 at i c.put_half_sizes.new.sizes c.most_one.result told
+          (omega (arith, inside)) more last
           c.most_one.ensures)
           (cases_lt i at);
     }

@@ -1,4 +1,5 @@
-use Rattle.std.proofs.Common.{◌≡◌, ◌<◌, ◌≤◌, ◌+◌, ◌*◌, ◌∙◌, ap, arith, length, ⊎_elim, ℕ, ℤ, List, ◌-◌, map, pos, get_or, subst, sym}
+use Rattle.std.proofs.Common.{◌≡◌, ◌<◌, ◌≤◌, ◌+◌, ◌*◌, ◌∙◌, ap, arith, length, ⊎_elim, ℕ, ℤ}
+use Rattle.std.proofs.Common.{List, ◌-◌, map, pos, get_or, subst, sym}
 use Rattle.std.proofs.lemmas.Bool.{cases_lt}
 use Rattle.std.proofs.lemmas.Simd.{Each1-from_get_or, map-map}
 use lib.Lanes.{chunk, Each1}
@@ -18,7 +19,8 @@ small cut turn told less each =
     let long = length_part 128 at cut told inside in
     Each1-from_get_or (λ z. size_of z < 32768) (chunk 0 16 (mid_of at (128 - at) cut)) (pos 0)
     (λ i h. subst (λ (z : ℤ). size_of z < 32768)
-    (sym (part_at (pos 0) 128 at i cut told inside (omega (arith, h, long)))) (each (i + at) (omega (arith, h, long, inside))))
+    (sym (part_at (pos 0) 128 at i cut told inside (omega (arith, h, long))))
+    (each (i + at) (omega (arith, h, long, inside))))
 
 pub sizes_of-sizes-requires : goal.sizes_of-sizes-requires
 sizes_of-sizes-requires c =

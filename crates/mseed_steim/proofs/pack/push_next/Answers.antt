@@ -68,5 +68,6 @@ returns-clause-reached c = λ head is.
       pushing = c.push_word.ensures s ds head used count c.requires.data is.pushing full;
       ahead = subst (λ (xs : List ℤ). IsLookahead s (known_at known.most known.cut (place + count)) xs)
           (drop-drop count used ds)
-          (known_next s known.most known.cut place count (drop used ds) is.ahead (omega (arith, c.requires.early, few)));
+          (known_next s known.most known.cut place count (drop used ds) is.ahead
+          (omega (arith, c.requires.early, few)));
     }
