@@ -4,9 +4,8 @@ ghost use Rattle.std.specs.Prelude.{◌≤◌, ◌^◌, length};
 use mseed_pack::Options;
 use mseed_record::RecordView;
 use mseed_repack::{
-    ChannelFault, RepackFault, StretchesFault, misfit_number, repack, repack_channel,
-    repack_selected, repack_selected_stretches, repack_stretches, report_broken, report_misfit,
-    report_without_time,
+    ChannelFault, RepackFault, misfit_number, repack, repack_channel, repack_selected,
+    repack_selected_stretches, repack_stretches, report_broken, report_misfit, report_without_time,
 };
 use mseed_select::Selector;
 use mseed_stream::Counted;
@@ -28,7 +27,7 @@ pub fn packed_anew(
 pub fn may_be_retried(fault: &RepackFault) -> bool {
     match fault {
         RepackFault::Write | RepackFault::Memory => true,
-        RepackFault::Stream(_) | RepackFault::Broken(_) | RepackFault::Misfit(_, _) => false,
+        RepackFault::Stream(_) | RepackFault::Broken(_) | RepackFault::Misfit(..) => false,
     }
 }
 
@@ -37,7 +36,7 @@ pub fn packed_as_far(
     alloc: Global,
     archive: &[u8],
     options: &Options,
-) -> Result<(Vec<u8>, Vec<u8>), StretchesFault> {
+) -> Result<(Vec<u8>, Vec<u8>), RepackFault> {
     let mut input = Counted::new(archive);
     let mut output = Counted::new(Vec::new(alloc));
     let mut lines = Counted::new(Vec::new(alloc));
@@ -72,7 +71,7 @@ pub fn packed_of_selected_as_far(
     selector: &Selector,
     archive: &[u8],
     options: &Options,
-) -> Result<(Vec<u8>, Vec<u8>), StretchesFault> {
+) -> Result<(Vec<u8>, Vec<u8>), RepackFault> {
     let mut input = Counted::new(archive);
     let mut output = Counted::new(Vec::new(alloc));
     let mut lines = Counted::new(Vec::new(alloc));
@@ -96,23 +95,23 @@ pub fn line_of_three(alloc: Global) -> Vec<u8> {
 }
 
 /// The line that says for which channel an archive is refused, where it is for one.
-pub fn line_of_refusal(alloc: Global, fault: &StretchesFault) -> Vec<u8> {
+pub fn line_of_refusal(alloc: Global, fault: &RepackFault) -> Vec<u8> {
     let mut line = Counted::new(Vec::new(alloc));
     match fault {
-        StretchesFault::Broken(channel) => report_broken(channel, &mut line),
-        StretchesFault::Misfit(channel, number, fault) => {
+        RepackFault::Broken(channel) => report_broken(channel, &mut line),
+        RepackFault::Misfit(channel, number, fault) => {
             report_misfit(channel, *number, *fault, &mut line)
         }
-        StretchesFault::Stream(_) | StretchesFault::Write | StretchesFault::Memory => {}
+        RepackFault::Stream(_) | RepackFault::Write | RepackFault::Memory => {}
     }
     line.into_inner()
 }
 
 /// The number by which a line says why an archive can't be packed by stretches; none where it is refused for another
 /// reason.
-pub fn number_of_misfit(fault: &StretchesFault) -> Option<u64> {
+pub fn number_of_misfit(fault: &RepackFault) -> Option<u64> {
     match fault {
-        StretchesFault::Misfit(_channel, _stretch, fault) => Some(misfit_number(*fault)),
+        RepackFault::Misfit(_channel, _stretch, fault) => Some(misfit_number(*fault)),
         _ => None,
     }
 }

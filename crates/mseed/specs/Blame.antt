@@ -3,8 +3,6 @@ use Rattle.mseed_join.specs.declared.joining.JoinsFault.{JoinsFault}
 use Rattle.mseed_join.specs.declared.joining.JoinsFault.TheVariants as joins
 use Rattle.mseed_repack.specs.declared.fault.RepackFault.{RepackFault}
 use Rattle.mseed_repack.specs.declared.fault.RepackFault.TheVariants as packing
-use Rattle.mseed_repack.specs.declared.stretches_fault.StretchesFault.{StretchesFault}
-use Rattle.mseed_repack.specs.declared.stretches_fault.StretchesFault.TheVariants as stretches
 use Rattle.mseed_input.specs.Blame.{blame_of}
 use Rattle.mseed_input.specs.declared.blame.Blame.{Blame}
 use Rattle.mseed_input.specs.declared.blame.Blame.TheVariants as blames
@@ -19,7 +17,3 @@ join_blame fault = blames.Nothing
 abbrev pub packing_blame : RepackFault → Blame
 packing_blame (packing.Stream fault) = blame_of fault
 packing_blame fault = blames.Nothing
-
-abbrev pub stretches_blame : StretchesFault → Blame
-stretches_blame (stretches.Stream fault) = blame_of fault
-stretches_blame fault = blames.Nothing

@@ -13,7 +13,6 @@ use Rattle.mseed_repack.specs.Repack.{IsRepacking}
 use Rattle.mseed_repack.specs.Selected.{IsSelectedRepacking, IsSelectedRestretching}
 use Rattle.mseed_repack.specs.declared.fault.RepackFault.{RepackFault}
 use Rattle.mseed_repack.specs.declared.refusing.Left.{Left}
-use Rattle.mseed_repack.specs.declared.stretches_fault.StretchesFault.{StretchesFault}
 use Rattle.mseed_select.specs.Select.{IsSelected}
 use Rattle.mseed_select.specs.Selection.{Selection}
 use Rattle.mseed_select.specs.declared.fault.SelectFault.{SelectFault}
@@ -78,9 +77,9 @@ HasRepacked options (Some s) ended old new = IsReported (λ (outcome : Result �
 
 -- by stretches
 abbrev pub HasRestretched : Options → Bool → Option Selection → Ended → Streams → Streams → Type 0
-HasRestretched options leave None ended old new = IsReported (λ (outcome : Result Left StretchesFault) reported.
+HasRestretched options leave None ended old new = IsReported (λ (outcome : Result Left RepackFault) reported.
     IsRestretching options leave outcome new.input old.output new.output old.errors reported) EndsStretches ended
     new.errors
-HasRestretched options leave (Some s) ended old new = IsReported (λ (outcome : Result Left StretchesFault) reported.
+HasRestretched options leave (Some s) ended old new = IsReported (λ (outcome : Result Left RepackFault) reported.
     IsSelectedRestretching s options leave outcome new.input old.output new.output old.errors reported) EndsStretches
     ended new.errors

@@ -24,7 +24,7 @@ misfit_text key fault =
 abbrev pub refusal_text : RepackFault → List ℕ
 refusal_text (Stream fault) = codes "mseed: " ++ fault_line fault
 refusal_text (Broken key) = broken_line key
-refusal_text (Misfit key fault) = misfit_text key fault
+refusal_text (Misfit key number fault) = misfit_text key fault
 refusal_text Write = write_failed
 refusal_text Memory = no_memory
 

@@ -1,10 +1,10 @@
 //! What is wrong with an input, by the fault with which a command ended.
 ghost use Rattle.std.specs.Prelude.{◌≡◌};
-ghost use Rattle.mseed.specs.Blame.{join_blame, packing_blame, stretches_blame};
+ghost use Rattle.mseed.specs.Blame.{join_blame, packing_blame};
 
 use mseed_input::{Blame, blame_of};
 use mseed_join::JoinsFault;
-use mseed_repack::{RepackFault, StretchesFault};
+use mseed_repack::RepackFault;
 
 /// What is wrong with parts that weren't joined: a bad line lies where it begins.
 pub fn join_blame(fault: &JoinsFault) -> Blame
@@ -23,16 +23,6 @@ pub fn packing_blame(fault: &RepackFault) -> Blame
 {
     match fault {
         RepackFault::Stream(fault) => blame_of(fault),
-        _ => Blame::Nothing,
-    }
-}
-
-/// What is wrong with an input that wasn't packed anew by stretches.
-pub fn stretches_blame(fault: &StretchesFault) -> Blame
-    ensures { result ≡ stretches_blame fault.now }
-{
-    match fault {
-        StretchesFault::Stream(fault) => blame_of(fault),
         _ => Blame::Nothing,
     }
 }

@@ -9,14 +9,14 @@ ghost use Rattle.mseed.specs.Restretched.{EndsStretches};
 ghost use Rattle.mseed.specs.Selected.{EndsSelect, EndsSelectedAudit, EndsSelectedEach, EndsSelectedShow, end_lines};
 ghost use Rattle.mseed.specs.Selected.{untimed_lines};
 
-use crate::blame::{join_blame, packing_blame, stretches_blame};
+use crate::blame::{join_blame, packing_blame};
 use crate::command::{refuse_memory, write_failed};
 use crate::outcome::{BROKEN, Ended};
 use crate::refusal::{refuse_input, refuse_to_join, refuse_to_repack, refuse_to_stretch};
 use mseed_audit::{AuditFault, EachFault, SelectedSummary, Summary};
 use mseed_input::{blame_by, blame_of, report_number};
 use mseed_join::{Joined, JoinsFault};
-use mseed_repack::{Left, RepackFault, StretchesFault};
+use mseed_repack::{Left, RepackFault};
 use mseed_select::{SelectFault, Selected};
 use mseed_show::{ShowFault, Shown};
 use mseed_stream::{Sink, StreamFault};
@@ -169,7 +169,7 @@ pub fn repacked<E: Sink>(outcome: Result<(), RepackFault>, errors: &mut E) -> En
 }
 
 /// Reports why an archive wasn't packed anew by stretches, and returns how packing ended: what was left out counts.
-pub fn restretched<E: Sink>(outcome: Result<Left, StretchesFault>, errors: &mut E) -> Ended
+pub fn restretched<E: Sink>(outcome: Result<Left, RepackFault>, errors: &mut E) -> Ended
     ensures { EndsStretches outcome result (E.written errors.old) (E.written errors.new) }
 {
     match outcome {
@@ -178,7 +178,7 @@ pub fn restretched<E: Sink>(outcome: Result<Left, StretchesFault>, errors: &mut 
         Ok(Left::Misfit) => Ended::with(FAULT),
         Err(fault) => Ended {
             status: refuse_to_stretch(errors, &fault),
-            blame: stretches_blame(&fault),
+            blame: packing_blame(&fault),
         },
     }
 }

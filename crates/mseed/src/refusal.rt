@@ -6,7 +6,7 @@ ghost use Rattle.mseed_stream.specs.LineWritten.{WritesLine};
 ghost use Rattle.mseed_text.specs.Fault.{fault_line};
 ghost use Rattle.mseed.specs.Joined.{join_fault_text};
 ghost use Rattle.mseed.specs.Repacked.{misfit_text, refusal_status, refusal_text};
-ghost use Rattle.mseed.specs.Restretched.{stretches_status, stretches_text};
+ghost use Rattle.mseed.specs.Restretched.{stretches_text};
 
 use crate::command::{refuse_memory, write_failed};
 use crate::outcome::BROKEN;
@@ -14,7 +14,7 @@ use mseed_input::{report_fault, report_number};
 use mseed_join::JoinsFault;
 use mseed_pack::PackFault;
 use mseed_record::Codes;
-use mseed_repack::{RepackFault, StretchesFault, misfit_number, report_broken, report_misfit};
+use mseed_repack::{RepackFault, misfit_number, report_broken, report_misfit};
 use mseed_stream::{Sink, StreamFault, report};
 use mseed_text::Line;
 use slink_links::FAULT;
@@ -27,26 +27,24 @@ pub fn refuse_to_repack<E: Sink>(errors: &mut E, fault: &RepackFault) -> u8
     match fault {
         RepackFault::Stream(fault) => refuse_input(errors, fault),
         RepackFault::Broken(channel) => refuse_broken(errors, channel),
-        RepackFault::Misfit(channel, fault) => refuse_unfit(errors, channel, *fault),
+        RepackFault::Misfit(channel, _, fault) => refuse_unfit(errors, channel, *fault),
         RepackFault::Write => write_failed(errors),
         RepackFault::Memory => refuse_memory(errors),
     }
 }
 
-/// Reports why an archive wasn't packed anew by stretches, and returns the exit status: a broken channel is no fault.
-pub fn refuse_to_stretch<E: Sink>(errors: &mut E, fault: &StretchesFault) -> u8
-    ensures status { result ≡ stretches_status fault.now }
+/// Reports why an archive wasn't packed anew by stretches, and returns the exit status, as [`refuse_to_repack`] does; but
+/// of a channel that can't be packed it says which stretch.
+pub fn refuse_to_stretch<E: Sink>(errors: &mut E, fault: &RepackFault) -> u8
+    ensures status { result ≡ refusal_status fault.now }
     ensures reported { WritesLine (stretches_text fault.now) (E.written errors.old) (E.written errors.new) }
 {
     match fault {
-        StretchesFault::Stream(fault) => refuse_input(errors, fault),
-        StretchesFault::Broken(channel) => refuse_broken(errors, channel),
-        StretchesFault::Misfit(channel, number, fault) => {
+        RepackFault::Misfit(channel, number, fault) => {
             report_misfit(channel, *number, *fault, errors);
             FAULT
         }
-        StretchesFault::Write => write_failed(errors),
-        StretchesFault::Memory => refuse_memory(errors),
+        _ => refuse_to_repack(errors, fault),
     }
 }
 

@@ -11,23 +11,17 @@ use Rattle.mseed_record.specs.declared.view.RecordView.{RecordView}
 use Rattle.mseed_stream.specs.Device.{BytesRead, BytesWritten}
 use Rattle.mseed_stream.specs.LineWritten.{WritesLine}
 use Rattle.mseed_stream.specs.Walk.{bytes_in}
+use Rattle.mseed_stream.specs.declared.fault.StreamFault.{StreamFault}
 use Rattle.mseed_select.specs.Select.{selected_bytes}
 use Rattle.mseed_select.specs.Selection.{Selection, asks_for}
 use Rattle.mseed_pack.specs.declared.options.Options.{Options}
-use Rattle.mseed_repack.specs.ByStretches.{ReportsEach, silent}
-use Rattle.mseed_repack.specs.Repack.{IsWhole}
-use Rattle.mseed_repack.specs.Selected.{IsRepackedAlone, IsRestretchedAlone, IsSelectedRepacking}
-use Rattle.mseed_repack.specs.Selected.{IsSelectedRestretching, read_of, without_time_line}
-use Rattle.mseed_repack.specs.Selected.{without_time_lines}
+use Rattle.mseed_repack.specs.ByStretches.{IsRestretching, ReportsEach, silent}
+use Rattle.mseed_repack.specs.Repack.{IsRepacking, IsWhole}
+use Rattle.mseed_repack.specs.Selected.{IsOfSelected, IsSelectedRepacking, IsSelectedRestretching, IsSoOfSelected}
+use Rattle.mseed_repack.specs.Selected.{read_of, without_time_line, without_time_lines}
 use Rattle.mseed_repack.specs.declared.fault.RepackFault.{RepackFault}
 use Rattle.mseed_repack.specs.declared.fault.RepackFault.TheVariants.{Stream, Broken, Misfit, Write, Memory}
 use Rattle.mseed_repack.specs.declared.refusing.Left.{Left}
-use Rattle.mseed_repack.specs.declared.stretches_fault.StretchesFault.{StretchesFault}
-use Rattle.mseed_repack.specs.declared.stretches_fault.StretchesFault.TheVariants.{Stream as UnreadStream}
-use Rattle.mseed_repack.specs.declared.stretches_fault.StretchesFault.TheVariants.{Broken as BrokenChannel}
-use Rattle.mseed_repack.specs.declared.stretches_fault.StretchesFault.TheVariants.{Misfit as MisfitStretch}
-use Rattle.mseed_repack.specs.declared.stretches_fault.StretchesFault.TheVariants.{Write as WriteFailed}
-use Rattle.mseed_repack.specs.declared.stretches_fault.StretchesFault.TheVariants.{Memory as LacksMemory}
 use Rattle.mseed_repack.proofs.Each.{each_kept}
 use Rattle.mseed_repack.proofs.OneRepacking.{never_unread}
 use Rattle.mseed_repack.proofs.Standings.{tells_one}
@@ -81,31 +75,35 @@ whole_kept s h views whole = record {
 }
 
 -- no archive of them alone is refused for a fault of the input
+pub selected_alone : {U : Type 0} (Alone : Result U RepackFault → BytesRead → BytesWritten → Type 0)
+    (Nothing : Type 0) (s : Selection) (result : Result U RepackFault) (h : BytesRead) (reported : BytesWritten)
+    → ((fault : StreamFault) (read : BytesRead) (views : List View) (between : BytesWritten) → IsWhole read views
+    → Alone (Err (Stream fault)) read between → ⊥)
+    → IsSoOfSelected (Alone result) s h reported → IsOfSelected Alone Nothing s result h reported
+selected_alone Alone Nothing s (Ok u) h reported never alone = alone
+selected_alone Alone Nothing s (Err (Stream fault)) h reported never alone =
+    absurd (never fault (read_of (selected_bytes s alone.views)) (filter (asks_for s) alone.views) alone.between
+    (whole_kept s h alone.views alone.whole) alone.is_so)
+selected_alone Alone Nothing s (Err (Broken key)) h reported never alone = alone
+selected_alone Alone Nothing s (Err (Misfit key number fault)) h reported never alone = alone
+selected_alone Alone Nothing s (Err Write) h reported never alone = alone
+selected_alone Alone Nothing s (Err Memory) h reported never alone = inl alone
+
 pub repacked_alone : {U : Type 0} (s : Selection) (o : Options) (result : Result U RepackFault) (h : BytesRead)
     (old new reported_old reported_new : BytesWritten)
-    → IsRepackedAlone s o result h old new reported_old reported_new
+    → IsSoOfSelected (λ read between. IsRepacking o result read old new × (reported_new ≡ between)) s h reported_old
     → IsSelectedRepacking s o result h old new reported_old reported_new
-repacked_alone s o (Ok u) h old new reported_old reported_new alone = alone
-repacked_alone s o (Err (Stream fault)) h old new reported_old reported_new alone =
-    absurd (never_unread (read_of (selected_bytes s alone.views)) fault (filter (asks_for s) alone.views)
-    alone.is_so.0.0 alone.is_so.0.1 (whole_kept s h alone.views alone.whole))
-repacked_alone s o (Err (Broken key)) h old new reported_old reported_new alone = alone
-repacked_alone s o (Err (Misfit key fault)) h old new reported_old reported_new alone = alone
-repacked_alone s o (Err Write) h old new reported_old reported_new alone = alone
-repacked_alone s o (Err Memory) h old new reported_old reported_new alone = inl alone
+repacked_alone s o result h old new reported_old reported_new alone =
+    selected_alone (λ came read between. IsRepacking o came read old new × (reported_new ≡ between)) _ s result h
+    reported_old (λ fault read views between whole is. never_unread read fault views is.0.0 is.0.1 whole) alone
 
-pub restretched_alone : (s : Selection) (o : Options) (leave : Bool) (result : Result Left StretchesFault)
+pub restretched_alone : (s : Selection) (o : Options) (leave : Bool) (result : Result Left RepackFault)
     (h : BytesRead) (old new reported_old reported_new : BytesWritten)
-    → IsRestretchedAlone s o leave result h old new reported_old reported_new
+    → IsSoOfSelected (λ read between. IsRestretching o leave result read old new between reported_new) s h reported_old
     → IsSelectedRestretching s o leave result h old new reported_old reported_new
-restretched_alone s o leave (Ok left) h old new reported_old reported_new alone = alone
-restretched_alone s o leave (Err (UnreadStream fault)) h old new reported_old reported_new alone =
-    absurd (never_unread (read_of (selected_bytes s alone.views)) fault (filter (asks_for s) alone.views)
-    alone.is_so.0 alone.is_so.1 (whole_kept s h alone.views alone.whole))
-restretched_alone s o leave (Err (BrokenChannel key)) h old new reported_old reported_new alone = alone
-restretched_alone s o leave (Err (MisfitStretch key number fault)) h old new reported_old reported_new alone = alone
-restretched_alone s o leave (Err WriteFailed) h old new reported_old reported_new alone = alone
-restretched_alone s o leave (Err LacksMemory) h old new reported_old reported_new alone = inl alone
+restretched_alone s o leave result h old new reported_old reported_new alone =
+    selected_alone (λ came read between. IsRestretching o leave came read old new between reported_new) _ s result h
+    reported_old (λ fault read views between whole is. never_unread read fault views is.0 is.1 whole) alone
 
 -- what is so of an input of the records that are asked for is so of them
 pub asked_whole : (s : Selection) (h : BytesRead) (rs kept : List RecordView) → IsWhole h (map view_of rs)

@@ -464,9 +464,9 @@ same_broken laws h views others cs ds k l a b p q =
     ds no no first q
 
 same_misfit : Laws → (o : Options) (h : BytesRead) (views others : List View) (cs ds : List Channel) (k l : List ℕ)
-    (f g : PackFault) → IsArchiveOf h views cs → IsArchiveOf h others ds
-    → FirstMisfit o views cs f k → FirstMisfit o others ds g l → Misfit k f ≡ Misfit l g
-same_misfit laws o h views others cs ds k l f g a b p q =
+    (m n : ℕ) (f g : PackFault) → IsArchiveOf h views cs → IsArchiveOf h others ds
+    → FirstMisfit o views cs f k × (m ≡ 1) → FirstMisfit o others ds g l × (n ≡ 1) → Misfit k m f ≡ Misfit l n g
+same_misfit laws o h views others cs ds k l m n f g a b (p, one) (q, other) =
     let first : FirstMisfit o others ds f k =
     same_archive laws (λ vs xs. FirstMisfit o vs xs f k) h views others cs ds a b p in
     let key : k ≡ l = one_first_key (CanBePacked o others) (CantBePacked o others f) (CantBePacked o others g) k l ds
@@ -480,7 +480,7 @@ beside : Laws → (o : Options) (h : BytesRead) (fault : RepackFault) (old new b
 beside laws o h (Stream f) old new before after p q = absurd (never_unread h f p.0 q.0 q.1 p.1.1.0.archive.whole)
 beside laws o h (Broken key) old new before after p q =
     absurd (never_broken laws h p.0 q.0 p.1.0 q.1.0 key p.1.1.0.archive q.1.1.0 p.1.1.0.continuous q.1.1.1)
-beside laws o h (Misfit key f) old new before after p q =
+beside laws o h (Misfit key n f) old new before after p q =
     absurd (never_misfit laws o h p.0 q.0 p.1.0 q.1.0 key f p.1.1.0.archive q.1.1.0 p.1.1.0.fit q.1.1.2)
 beside laws o h Write old new before after p q =
     let here = same_archive laws (λ vs xs. Wrote (ArePackedInto o vs xs) 0 old new) h p.0 q.0 p.1.0 q.1.0
@@ -496,7 +496,7 @@ one_fault laws o h (Stream f) Memory old new before after p q = inr (inl refl)
 one_fault laws o h (Stream f) (Stream g) old new before after p q =
     inr (inr (ap Stream (one_unread h f g p.0 q.0 p.1 q.1)))
 one_fault laws o h (Stream f) (Broken l) old new before after p q = absurd (never_unread h f q.0 p.0 p.1 q.1.1.0.whole)
-one_fault laws o h (Stream f) (Misfit l g) old new before after p q =
+one_fault laws o h (Stream f) (Misfit l n g) old new before after p q =
     absurd (never_unread h f q.0 p.0 p.1 q.1.1.0.whole)
 one_fault laws o h (Stream f) Write old new before after p q =
     absurd (never_unread h f q.0 p.0 p.1 q.1.1.0.archive.whole)
@@ -504,25 +504,26 @@ one_fault laws o h (Broken k) Memory old new before after p q = inr (inl refl)
 one_fault laws o h (Broken k) (Stream g) old new before after p q = absurd (never_unread h g p.0 q.0 q.1 p.1.1.0.whole)
 one_fault laws o h (Broken k) (Broken l) old new before after p q =
     inr (inr (ap Broken (same_broken laws h p.0 q.0 p.1.0 q.1.0 k l p.1.1.0 q.1.1.0 p.1.1.1 q.1.1.1)))
-one_fault laws o h (Broken k) (Misfit l g) old new before after p q =
+one_fault laws o h (Broken k) (Misfit l n g) old new before after p q =
     absurd (never_broken laws h q.0 p.0 q.1.0 p.1.0 k q.1.1.0 p.1.1.0 q.1.1.1 p.1.1.1)
 one_fault laws o h (Broken k) Write old new before after p q =
     absurd (never_broken laws h q.0 p.0 q.1.0 p.1.0 k q.1.1.0.archive p.1.1.0 q.1.1.0.continuous p.1.1.1)
-one_fault laws o h (Misfit k f) Memory old new before after p q = inr (inl refl)
-one_fault laws o h (Misfit k f) (Stream g) old new before after p q =
+one_fault laws o h (Misfit k m f) Memory old new before after p q = inr (inl refl)
+one_fault laws o h (Misfit k m f) (Stream g) old new before after p q =
     absurd (never_unread h g p.0 q.0 q.1 p.1.1.0.whole)
-one_fault laws o h (Misfit k f) (Broken l) old new before after p q =
+one_fault laws o h (Misfit k m f) (Broken l) old new before after p q =
     absurd (never_broken laws h p.0 q.0 p.1.0 q.1.0 l p.1.1.0 q.1.1.0 p.1.1.1 q.1.1.1)
-one_fault laws o h (Misfit k f) (Misfit l g) old new before after p q =
-    inr (inr (same_misfit laws o h p.0 q.0 p.1.0 q.1.0 k l f g p.1.1.0 q.1.1.0 p.1.1.2 q.1.1.2))
-one_fault laws o h (Misfit k f) Write old new before after p q =
+one_fault laws o h (Misfit k m f) (Misfit l n g) old new before after p q =
+    inr (inr (same_misfit laws o h p.0 q.0 p.1.0 q.1.0 k l m n f g p.1.1.0 q.1.1.0
+    (p.1.1.2, p.1.1.3) (q.1.1.2, q.1.1.3)))
+one_fault laws o h (Misfit k m f) Write old new before after p q =
     absurd (never_misfit laws o h q.0 p.0 q.1.0 p.1.0 k f q.1.1.0.archive p.1.1.0 q.1.1.0.fit p.1.1.2)
 one_fault laws o h Write Memory old new before after p q = inr (inl refl)
 one_fault laws o h Write (Stream g) old new before after p q =
     absurd (never_unread h g p.0 q.0 q.1 p.1.1.0.archive.whole)
 one_fault laws o h Write (Broken l) old new before after p q =
     absurd (never_broken laws h p.0 q.0 p.1.0 q.1.0 l p.1.1.0.archive q.1.1.0 p.1.1.0.continuous q.1.1.1)
-one_fault laws o h Write (Misfit l g) old new before after p q =
+one_fault laws o h Write (Misfit l n g) old new before after p q =
     absurd (never_misfit laws o h p.0 q.0 p.1.0 q.1.0 l g p.1.1.0.archive q.1.1.0 p.1.1.0.fit q.1.1.2)
 one_fault laws o h Write Write old new before after p q = inr (inr refl)
 

@@ -15,7 +15,6 @@ use Rattle.mseed_repack.specs.declared.fault.RepackFault.TheVariants.{Misfit as 
 use Rattle.mseed_repack.specs.declared.plan.Plan.{Plan}
 use Rattle.mseed_repack.specs.declared.standing.Standing.{Standing}
 use Rattle.mseed_repack.specs.declared.standing.Standing.TheVariants.{Fit, Misfit}
-use Rattle.mseed_repack.specs.declared.stretches_fault.StretchesFault.TheVariants.{Write as StretchesWrite}
 use Rattle.mseed_repack.specs.declared.stretching.Cutting.{Cutting}
 use Rattle.mseed_repack.specs.declared.stretching.Cutting.TheVariants.{Whole, Stretches}
 use Rattle.mseed_repack.proofs.Archives.{whole_fit, whole_refused}
@@ -37,11 +36,11 @@ module _ (o : Options) (room places : ℕ) (views : List View) (cs : List Channe
   pub refused : (k number : ℕ) (fault : PackFault) (c : Channel) (h : BytesRead) (s : BytesWritten)
       → IsArchiveOf h views cs → AreContinuous views cs → AreReady Whole o room places views cs ss ls → k < length ss
       → get_or ss k Fit ≡ Misfit number fault → All IsNoMisfit (take k ss)
-      → IsRepacking {U = ⊤} o (Err (MisfitChannel (get_or cs k c).0 fault)) h s s
+      → IsRepacking {U = ⊤} o (Err (MisfitChannel (get_or cs k c).0 1 fault)) h s s
   refused k number fault c h s archive continuous ready inside is before =
       let first = whole_refused o views cs ss k number fault c
       (standings_of Whole o room places views cs ss ls ready) continuous inside is before in
-      (views, (cs, (archive, continuous, first, refl)))
+      (views, (cs, (archive, continuous, first, refl, refl)))
 
   pub repacked : (h : BytesRead) (old new : BytesWritten) → IsArchiveOf h views cs → AreContinuous views cs
       → AreReady Whole o room places views cs ss ls → All IsNoMisfit ss
@@ -77,7 +76,7 @@ module _ (o : Options) (room places : ℕ) (views : List View) (cs : List Channe
       → IsArchiveOf h views cs → AreReady Stretches o room places views cs ss ls
       → (leave ≡ false → AllByRecursion IsFit ss) → ReportsEach (lines_of cs ss) first last
       → Wrote (IsTextUpTo (IsTextOn o) (IsPartOn o) (planned views cs ls)) 1 old new
-      → IsRestretching o leave (Err StretchesWrite) h old new first last
+      → IsRestretching o leave (Err Write) h old new first last
   restretched_in_part leave h old new first last archive ready fit told wrote =
       let parts = wrote_as (λ text is. kept_parts Stretches o room places views cs ss ls text ready is) wrote in
       let kept = wrote_kept (standings_of Stretches o room places views cs ss ls ready) fit told parts in

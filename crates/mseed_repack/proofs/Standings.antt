@@ -22,10 +22,9 @@ use Rattle.mseed_repack.specs.private.Reading.{channel_in, steps_of}
 use Rattle.mseed_repack.specs.private.Restretching.{IsFirstRefused, IsNoMisfit, IsUnbroken}
 use Rattle.mseed_repack.specs.declared.standing.Standing.{Standing}
 use Rattle.mseed_repack.specs.declared.standing.Standing.TheVariants.{Fit, Broken, Misfit}
-use Rattle.mseed_repack.specs.declared.stretches_fault.StretchesFault.TheVariants.{Broken as BrokenChannel}
-use Rattle.mseed_repack.specs.declared.stretches_fault.StretchesFault.{StretchesFault}
-use Rattle.mseed_repack.specs.declared.stretches_fault.StretchesFault.TheVariants.{Memory, Misfit as MisfitStretch}
-use Rattle.mseed_repack.specs.declared.stretches_fault.StretchesFault.TheVariants.{Stream, Write}
+use Rattle.mseed_repack.specs.declared.fault.RepackFault.{RepackFault}
+use Rattle.mseed_repack.specs.declared.fault.RepackFault.TheVariants.{Stream, Broken as BrokenChannel}
+use Rattle.mseed_repack.specs.declared.fault.RepackFault.TheVariants.{Misfit as MisfitStretch, Write, Memory}
 use Rattle.mseed_repack.proofs.ReadChannels.{steps_in}
 use Rattle.mseed_repack.proofs.Repacks.{first_at, says_of}
 
@@ -223,7 +222,7 @@ no_misfit (Misfit n f) fine = fine n f refl
 
 -- it is refused for the first channel that isn't to be left out
 pub refused_is : (o : Options) (leave : Bool) (h : BytesRead) (s reported : BytesWritten) (views : List View)
-    (cs : List Channel) (fault : StretchesFault) → IsFirstRefused o views cs fault → leave ≡ false
+    (cs : List Channel) (fault : RepackFault) → IsFirstRefused o views cs fault → leave ≡ false
     → IsArchiveOf h views cs → IsRestretching o leave (Err fault) h s s reported reported
 refused_is o leave h s reported views cs (Stream f) is stays archive = absurd is
 refused_is o leave h s reported views cs (BrokenChannel key) is stays archive =

@@ -5,7 +5,6 @@ use Rattle.std.specs.List.{AllByRecursion}
 use Rattle.mseed_record.specs.View.{View}
 use Rattle.mseed_stream.specs.Device.{BytesRead, BytesWritten}
 use Rattle.mseed_stream.specs.LineWritten.{WritesLine}
-use Rattle.mseed_stream.specs.declared.fault.StreamFault.{StreamFault}
 use Rattle.mseed_stream.specs.declared.fault.StreamFault.TheVariants.{Memory as NoMemory}
 use Rattle.mseed_audit.specs.Follows.{IsSound}
 use Rattle.mseed_text.specs.Name.{name_text}
@@ -14,16 +13,15 @@ use Rattle.mseed_pack.specs.declared.fault.PackFault.TheVariants.{Empty, RateToo
 use Rattle.mseed_pack.specs.declared.fault.PackFault.TheVariants.{DifferenceTooLarge, Write as WriteFailed}
 use Rattle.mseed_pack.specs.declared.options.Options.{Options}
 use Rattle.mseed_repack.specs.Repack.{AreTexts, Channel, Exists, IsArchiveOf, IsFirst, IsTextUpTo, IsUnread, Wrote}
-use Rattle.mseed_repack.specs.Repack.{input_fault, records_in}
+use Rattle.mseed_repack.specs.Repack.{records_in}
 use Rattle.mseed_repack.specs.Restretch.{ChannelFits, ChannelMisfits, IsChannelPart, IsChannelText}
+use Rattle.mseed_repack.specs.declared.fault.RepackFault.{RepackFault}
+use Rattle.mseed_repack.specs.declared.fault.RepackFault.TheVariants.{Stream, Broken as BrokenChannel}
+use Rattle.mseed_repack.specs.declared.fault.RepackFault.TheVariants.{Misfit as MisfitStretch, Write, Memory}
 use Rattle.mseed_repack.specs.declared.refusing.Left.{Left}
 use Rattle.mseed_repack.specs.declared.refusing.Left.TheVariants.{Nothing, Broken as LeftBroken, Misfit as LeftMisfit}
 use Rattle.mseed_repack.specs.declared.standing.Standing.{Standing}
 use Rattle.mseed_repack.specs.declared.standing.Standing.TheVariants.{Fit, Broken, Misfit}
-use Rattle.mseed_repack.specs.declared.stretches_fault.StretchesFault.{StretchesFault}
-use Rattle.mseed_repack.specs.declared.stretches_fault.StretchesFault.TheVariants.{Stream, Broken as BrokenChannel}
-use Rattle.mseed_repack.specs.declared.stretches_fault.StretchesFault.TheVariants.{Misfit as MisfitStretch, Write}
-use Rattle.mseed_repack.specs.declared.stretches_fault.StretchesFault.TheVariants.{Memory}
 
 -- what is found of a channel: each stretch can be packed; or some record isn't sound; or which stretch can't
 abbrev pub Stands : Options → List View → Standing → Type 0
@@ -60,10 +58,6 @@ abbrev pub IsPartStretched : Options → List View → List Channel → List ℕ
 IsPartStretched o views channels text =
     IsTextUpTo (λ (c : Channel) own. IsChannelText o (records_in views c.0) own)
     (λ (c : Channel) own. IsChannelPart o (records_in views c.0) own) channels text
-
--- a fault of the input, or refused memory
-abbrev pub stretches_fault : StreamFault → StretchesFault
-stretches_fault fault = input_fault (λ f. Stream f) Memory fault
 
 -- each record of each channel is sound
 abbrev pub AreSound : List View → List Channel → Type 0
@@ -147,7 +141,7 @@ pub record WereStretchedInPart (o : Options) (leave : Bool) (views : List View) 
 -- What packing anew by stretches comes to. Where the input is a whole archive, the channels are written of which each
 -- record is sound and each stretch can be packed, and the others are reported, or else the archive is refused for the
 -- first of them; a prefix is written where the output failed; and nothing otherwise, where memory was refused too.
-abbrev pub IsRestretching : Options → Bool → Result Left StretchesFault → BytesRead → BytesWritten → BytesWritten
+abbrev pub IsRestretching : Options → Bool → Result Left RepackFault → BytesRead → BytesWritten → BytesWritten
     → BytesWritten → BytesWritten → Type 0
 IsRestretching o leave (Ok left) h old new reported_old reported_new =
     Exists (λ views channels. IsArchiveOf h views channels

@@ -23,15 +23,9 @@ use Rattle.mseed_repack.specs.declared.fault.RepackFault.{RepackFault}
 use Rattle.mseed_repack.specs.declared.fault.RepackFault.TheVariants.{Stream, Broken, Misfit, Write, Memory}
 
 -- a fault of the input, or refused memory, which is none of the input's
-abbrev pub input_fault : {F : Type 0} → (StreamFault → F) → F → StreamFault → F
-input_fault stream memory (Frame n f) = stream (Frame n f)
-input_fault stream memory (Truncated n have) = stream (Truncated n have)
-input_fault stream memory (Read n) = stream (Read n)
-input_fault stream memory (Turns n) = stream (Turns n)
-input_fault stream memory NoMemory = memory
-
 abbrev pub stream_fault : StreamFault → RepackFault
-stream_fault fault = input_fault (λ f. Stream f) Memory fault
+stream_fault NoMemory = Memory
+stream_fault fault = Stream fault
 
 -- a channel of an archive: its key, and the verdict on it
 abbrev pub Channel : Type 0
@@ -154,6 +148,7 @@ Exists P = (views : List View) × ((channels : List Channel) × P views channels
 
 -- What packing anew comes to. All is written where the input is a whole archive, each channel continuous, and each
 -- series can be packed; a prefix of that where the output failed; and nothing otherwise, where memory was refused too.
+-- A continuous channel is one stretch, whose number is 1.
 abbrev pub IsRepacking : {U : Type 0} → Options → Result U RepackFault → BytesRead → BytesWritten → BytesWritten
     → Type 0
 IsRepacking o (Ok u) h old new =
@@ -163,9 +158,9 @@ IsRepacking o (Err (Broken key)) h old new =
     Exists (λ views channels. IsArchiveOf h views channels
     × IsFirst (λ k. IsContinuous (records_in views k)) (λ k. ¬ (IsContinuous (records_in views k))) key channels
     × (new ≡ old))
-IsRepacking o (Err (Misfit key fault)) h old new =
+IsRepacking o (Err (Misfit key number fault)) h old new =
     Exists (λ views channels. IsArchiveOf h views channels × AreContinuous views channels
-    × IsFirst (CanBePacked o views) (CantBePacked o views fault) key channels × (new ≡ old))
+    × IsFirst (CanBePacked o views) (CantBePacked o views fault) key channels × (number ≡ 1) × (new ≡ old))
 IsRepacking o (Err Write) h old new =
     Exists (λ views channels. IsFitFor o h views channels × Wrote (IsPartPacked o views channels) 1 old new)
 IsRepacking o (Err Memory) h old new = new ≡ old

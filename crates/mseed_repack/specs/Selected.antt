@@ -1,5 +1,5 @@
 -- What packing anew comes to where only some of an archive's records are asked for.
-use Rattle.std.specs.Prelude.{◌≡◌, ◌≢◌, ◌⊎◌, ℕ, zero, suc, Bool, List, [], ◌∷◌, ◌++◌, Result, Ok, Err}
+use Rattle.std.specs.Prelude.{◌≡◌, ◌≢◌, ◌⊎◌, ℕ, zero, suc, Bool, List, [], ◌∷◌, ◌++◌, Result, Err}
 use Rattle.std.specs.Prelude.{true, codes, decimal}
 use Rattle.std.specs.List.{count_by}
 use Rattle.mseed_record.specs.View.{View}
@@ -11,14 +11,8 @@ use Rattle.mseed_pack.specs.declared.options.Options.{Options}
 use Rattle.mseed_repack.specs.Repack.{IsRepacking, IsUnread, IsWhole}
 use Rattle.mseed_repack.specs.ByStretches.{IsRestretching, ReportsEach}
 use Rattle.mseed_repack.specs.declared.fault.RepackFault.{RepackFault}
-use Rattle.mseed_repack.specs.declared.fault.RepackFault.TheVariants.{Stream, Broken, Misfit, Write, Memory}
+use Rattle.mseed_repack.specs.declared.fault.RepackFault.TheVariants.{Stream, Memory}
 use Rattle.mseed_repack.specs.declared.refusing.Left.{Left}
-use Rattle.mseed_repack.specs.declared.stretches_fault.StretchesFault.{StretchesFault}
-use Rattle.mseed_repack.specs.declared.stretches_fault.StretchesFault.TheVariants.{Stream as UnreadStream}
-use Rattle.mseed_repack.specs.declared.stretches_fault.StretchesFault.TheVariants.{Broken as BrokenChannel}
-use Rattle.mseed_repack.specs.declared.stretches_fault.StretchesFault.TheVariants.{Misfit as MisfitStretch}
-use Rattle.mseed_repack.specs.declared.stretches_fault.StretchesFault.TheVariants.{Write as WriteFailed}
-use Rattle.mseed_repack.specs.declared.stretches_fault.StretchesFault.TheVariants.{Memory as LacksMemory}
 
 -- a text that was read to its end
 abbrev pub read_of : List ℕ → BytesRead
@@ -43,48 +37,25 @@ pub record IsSoOfSelected (P : BytesRead → BytesWritten → Type 0) (s : Selec
   pub told : ReportsEach (without_time_lines (count_by (lacks_time s) views)) reported between
   pub is_so : P (read_of (selected_bytes s views)) between
 
--- packing the records anew that are asked for comes to what packing an archive of them alone does
-abbrev pub IsRepackedAlone : {U : Type 0} → Selection → Options → Result U RepackFault → BytesRead → BytesWritten
-    → BytesWritten → BytesWritten → BytesWritten → Type 0
-IsRepackedAlone s o result h old new reported_old reported_new =
-    IsSoOfSelected (λ read between. IsRepacking o result read old new × (reported_new ≡ between)) s h reported_old
+-- What packing the records anew that are asked for comes to, where packing an archive of them alone comes to this. The
+-- input is refused for a fault anywhere in it, and then nothing changes; and for nothing else that stands in records
+-- that aren't asked for.
+abbrev pub IsOfSelected : {U : Type 0} → (Result U RepackFault → BytesRead → BytesWritten → Type 0) → Type 0
+    → Selection → Result U RepackFault → BytesRead → BytesWritten → Type 0
+IsOfSelected Alone Nothing s (Err (Stream fault)) h reported = (fault ≢ NoMemory) × IsUnread fault h × Nothing
+IsOfSelected Alone Nothing s (Err Memory) h reported = IsSoOfSelected (Alone (Err Memory)) s h reported ⊎ Nothing
+IsOfSelected Alone Nothing s result h reported = IsSoOfSelected (Alone result) s h reported
 
--- What packing the records anew that are asked for comes to. The input is refused for a fault anywhere in it; and for
--- nothing else that stands in records that aren't asked for.
+-- each channel whole
 abbrev pub IsSelectedRepacking : {U : Type 0} → Selection → Options → Result U RepackFault → BytesRead → BytesWritten
     → BytesWritten → BytesWritten → BytesWritten → Type 0
-IsSelectedRepacking s o (Ok u) h old new reported_old reported_new =
-    IsRepackedAlone s o (Ok u) h old new reported_old reported_new
-IsSelectedRepacking s o (Err (Stream fault)) h old new reported_old reported_new =
-    (fault ≢ NoMemory) × IsUnread fault h × (new ≡ old) × (reported_new ≡ reported_old)
-IsSelectedRepacking {U} s o (Err (Broken key)) h old new reported_old reported_new =
-    IsRepackedAlone {U = U} s o (Err (Broken key)) h old new reported_old reported_new
-IsSelectedRepacking {U} s o (Err (Misfit key fault)) h old new reported_old reported_new =
-    IsRepackedAlone {U = U} s o (Err (Misfit key fault)) h old new reported_old reported_new
-IsSelectedRepacking {U} s o (Err Write) h old new reported_old reported_new =
-    IsRepackedAlone {U = U} s o (Err Write) h old new reported_old reported_new
-IsSelectedRepacking {U} s o (Err Memory) h old new reported_old reported_new =
-    IsRepackedAlone {U = U} s o (Err Memory) h old new reported_old reported_new
-    ⊎ ((new ≡ old) × (reported_new ≡ reported_old))
+IsSelectedRepacking s o result h old new reported_old reported_new =
+    IsOfSelected (λ came read between. IsRepacking o came read old new × (reported_new ≡ between))
+    ((new ≡ old) × (reported_new ≡ reported_old)) s result h reported_old
 
--- the same by stretches
-abbrev pub IsRestretchedAlone : Selection → Options → Bool → Result Left StretchesFault → BytesRead → BytesWritten
+-- or by its stretches
+abbrev pub IsSelectedRestretching : Selection → Options → Bool → Result Left RepackFault → BytesRead → BytesWritten
     → BytesWritten → BytesWritten → BytesWritten → Type 0
-IsRestretchedAlone s o leave result h old new reported_old reported_new =
-    IsSoOfSelected (λ read between. IsRestretching o leave result read old new between reported_new) s h reported_old
-
-abbrev pub IsSelectedRestretching : Selection → Options → Bool → Result Left StretchesFault → BytesRead → BytesWritten
-    → BytesWritten → BytesWritten → BytesWritten → Type 0
-IsSelectedRestretching s o leave (Ok left) h old new reported_old reported_new =
-    IsRestretchedAlone s o leave (Ok left) h old new reported_old reported_new
-IsSelectedRestretching s o leave (Err (UnreadStream fault)) h old new reported_old reported_new =
-    (fault ≢ NoMemory) × IsUnread fault h × (new ≡ old) × (reported_new ≡ reported_old)
-IsSelectedRestretching s o leave (Err (BrokenChannel key)) h old new reported_old reported_new =
-    IsRestretchedAlone s o leave (Err (BrokenChannel key)) h old new reported_old reported_new
-IsSelectedRestretching s o leave (Err (MisfitStretch key number fault)) h old new reported_old reported_new =
-    IsRestretchedAlone s o leave (Err (MisfitStretch key number fault)) h old new reported_old reported_new
-IsSelectedRestretching s o leave (Err WriteFailed) h old new reported_old reported_new =
-    IsRestretchedAlone s o leave (Err WriteFailed) h old new reported_old reported_new
-IsSelectedRestretching s o leave (Err LacksMemory) h old new reported_old reported_new =
-    IsRestretchedAlone s o leave (Err LacksMemory) h old new reported_old reported_new
-    ⊎ ((new ≡ old) × (reported_new ≡ reported_old))
+IsSelectedRestretching s o leave result h old new reported_old reported_new =
+    IsOfSelected (λ came read between. IsRestretching o leave came read old new between reported_new)
+    ((new ≡ old) × (reported_new ≡ reported_old)) s result h reported_old

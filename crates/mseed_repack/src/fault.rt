@@ -4,15 +4,16 @@ use mseed_record::Codes;
 use mseed_stream::StreamFault;
 use std::alloc::AllocError;
 
-/// Why an archive wasn't packed anew. Nothing was written then, but for `Write`.
+/// Why an archive wasn't packed anew, whole channels or their stretches. Nothing was written then, but for `Write`.
 #[derive(Clone, Copy, Debug, PartialEq, Eq)]
 pub enum RepackFault {
     /// The input failed, or doesn't end where a record ends.
     Stream(StreamFault),
-    /// The first channel, by its key, that isn't continuous.
+    /// The first channel, by its key, that isn't continuous; by stretches, of which a record has a finding of its own.
     Broken(Codes),
-    /// The first channel, by its key, whose series can't be packed, and why.
-    Misfit(Codes, PackFault),
+    /// The first channel, by its key, of which a stretch can't be packed; the number of its first such stretch, from
+    /// 1; and why. A channel that is packed whole is one stretch.
+    Misfit(Codes, u64, PackFault),
     /// The output failed.
     Write,
     /// An allocation was refused.

@@ -10,8 +10,8 @@ ghost use Rattle.mseed_repack.specs.ByStretches.{broken_line, line_of, misfit_nu
 ghost use Rattle.mseed_repack.specs.private.Restretching.{IsFirstRefused, IsNoMisfit, IsUnbroken};
 ghost use Rattle.mseed_repack.specs.declared.standing.Standing.{Standing};
 
+use crate::fault::RepackFault;
 use crate::standing::Standing;
-use crate::stretches_fault::StretchesFault;
 use mseed_audit::Verdict;
 use mseed_pack::PackFault;
 use mseed_record::Codes;
@@ -35,7 +35,7 @@ pub(crate) fn refusal_unless(
     leave: bool,
     channels: &[(Codes, Verdict)],
     standings: &[Standing],
-) -> Option<StretchesFault>
+) -> Option<RepackFault>
     requires { length standings.now ≡ length channels.now }
     ensures some { IfSome result (λ fault. (o : Options) (views : List View)
         → AreStandings o views channels.now standings.now → IsFirstRefused o views channels.now fault) }
@@ -46,10 +46,10 @@ pub(crate) fn refusal_unless(
         return None;
     }
     if let Some(number) = first_broken(standings) {
-        return Some(StretchesFault::Broken(channels[number].0));
+        return Some(RepackFault::Broken(channels[number].0));
     }
     match first_misfit(standings) {
-        Some((number, stretch, fault)) => Some(StretchesFault::Misfit(
+        Some((number, stretch, fault)) => Some(RepackFault::Misfit(
             channels[number].0,
             stretch,
             fault,

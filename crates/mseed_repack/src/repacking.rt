@@ -24,6 +24,9 @@ use mseed_select::Selector;
 use mseed_stream::{Sink, Source, read_all_in, split_in};
 use std::alloc::Allocator;
 
+/// The number of the stretch that a continuous channel is.
+const ONLY: u64 = 1;
+
 /// Packs the archive that is read from `input` anew: the series of its channels, in the order of their keys. All are
 /// judged, and all memory is requested, before the first byte is written.
 ///
@@ -93,7 +96,7 @@ fn repack_records<A: Allocator + Copy, W: Sink>(
     }
     let mut planned = plan_archive(alloc, views, channels, &judged, Cutting::Whole, options)?;
     if let Some((number, _, fault)) = first_misfit(&planned.standings) {
-        return Err(RepackFault::Misfit(channels[number].0, fault));
+        return Err(RepackFault::Misfit(channels[number].0, ONLY, fault));
     }
     match pack_channels(
         &planned.trails.archive(views, channels),

@@ -8,11 +8,11 @@ ghost use Rattle.mseed_repack.specs.Selected.{IsSelectedRestretching};
 ghost use Rattle.mseed_select.specs.Selecting.{selection_of};
 
 use crate::asked::keep_asked;
+use crate::fault::RepackFault;
 use crate::judging::judge_records;
 use crate::packing::pack_channels;
 use crate::planned::plan_archive;
 use crate::refusing::{Left, left_of, refusal_unless, report_left};
-use crate::stretches_fault::StretchesFault;
 use crate::stretching::Cutting;
 use mseed_pack::Options;
 use mseed_record::RecordView;
@@ -38,7 +38,7 @@ pub fn repack_stretches<A: Allocator + Copy, R: Source, W: Sink, E: Sink>(
     input: &mut R,
     output: &mut W,
     errors: &mut E,
-) -> Result<Left, StretchesFault>
+) -> Result<Left, RepackFault>
     requires { R.read input.old ≡ nothing_read }
     ensures { IsRestretching options.now leave result (R.read input.new)
         (W.written output.old) (W.written output.new) (E.written errors.old) (E.written errors.new) }
@@ -63,7 +63,7 @@ pub fn repack_selected_stretches<A: Allocator + Copy, R: Source, W: Sink, E: Sin
     input: &mut R,
     output: &mut W,
     errors: &mut E,
-) -> Result<Left, StretchesFault>
+) -> Result<Left, RepackFault>
     requires { R.read input.old ≡ nothing_read }
     ensures { IsSelectedRestretching (selection_of selector.now) options.now leave result (R.read input.new)
         (W.written output.old) (W.written output.new) (E.written errors.old) (E.written errors.new) }
@@ -86,7 +86,7 @@ fn restretch_records<A: Allocator + Copy, W: Sink, E: Sink>(
     leave: bool,
     output: &mut W,
     errors: &mut E,
-) -> Result<Left, StretchesFault>
+) -> Result<Left, RepackFault>
     requires { length views.now < 2 ^ 40 }
     ensures { (read : BytesRead) → IsWhole read (map view_of views.now)
         → IsRestretching options.now leave result read
@@ -108,6 +108,6 @@ fn restretch_records<A: Allocator + Copy, W: Sink, E: Sink>(
         output,
     ) {
         Ok(()) => Ok(left_of(&planned.standings)),
-        Err(_) => Err(StretchesFault::Write),
+        Err(_) => Err(RepackFault::Write),
     }
 }

@@ -5,7 +5,7 @@ use crate::records::{change, put, view, with};
 use mseed_pack::Options;
 use mseed_record::RecordView;
 use mseed_repack::{
-    ChannelFault, Left, RepackFault, StretchesFault, repack_channel, repack_selected,
+    ChannelFault, Left, RepackFault, repack_channel, repack_selected,
     repack_selected_stretches, repack_stretches,
 };
 use mseed_select::{Patterns, Selector};
@@ -93,7 +93,7 @@ fn left_of(
     rt: &impl Abort,
     alloc: Global,
     archive: &[u8],
-) -> (Result<Left, StretchesFault>, Vec<u8>, Vec<u8>) {
+) -> (Result<Left, RepackFault>, Vec<u8>, Vec<u8>) {
     let options = Options::new(7, 3, 1).expect(rt, "options");
     let mut input = Counted::new(archive);
     let mut output = Counted::new(Vec::new(alloc));

@@ -7,14 +7,13 @@ use Rattle.mseed_pack.specs.declared.options.Options.{Options}
 use Rattle.mseed_repack.specs.Repack.{Channel, IsFirst, records_in}
 use Rattle.mseed_repack.specs.Restretch.{ChannelFits, ChannelMisfits}
 use Rattle.mseed_repack.specs.ByStretches.{AreSound}
+use Rattle.mseed_repack.specs.declared.fault.RepackFault.{RepackFault}
+use Rattle.mseed_repack.specs.declared.fault.RepackFault.TheVariants.{Stream, Broken, Misfit, Write, Memory}
 use Rattle.mseed_repack.specs.declared.standing.Standing.{Standing}
 use Rattle.mseed_repack.specs.declared.standing.Standing.TheVariants.{Fit, Broken as IsBroken, Misfit as IsMisfit}
-use Rattle.mseed_repack.specs.declared.stretches_fault.StretchesFault.{StretchesFault}
-use Rattle.mseed_repack.specs.declared.stretches_fault.StretchesFault.TheVariants.{Stream, Broken, Misfit, Write}
-use Rattle.mseed_repack.specs.declared.stretches_fault.StretchesFault.TheVariants.{Memory}
 
 -- the fault is the first broken channel, or else the first that doesn't fit
-abbrev pub IsFirstRefused : Options → List View → List Channel → StretchesFault → Type 0
+abbrev pub IsFirstRefused : Options → List View → List Channel → RepackFault → Type 0
 IsFirstRefused o views channels (Stream fault) = ⊥
 IsFirstRefused o views channels (Broken key) =
     IsFirst (λ k. AllByRecursion IsSound (records_in views k)) (λ k. ¬ (AllByRecursion IsSound (records_in views k)))

@@ -3,7 +3,7 @@ use Rattle.std.proofs.lemmas.List.Elements.{recursion_from_All}
 use Rattle.mseed_repack.specs.ByStretches.{IsFit}
 use Rattle.mseed_repack.specs.Repack.{Channel}
 use Rattle.mseed_repack.specs.private.Restretching.{IsFirstRefused}
-use Rattle.mseed_repack.specs.declared.stretches_fault.StretchesFault.TheVariants.{Broken, Misfit}
+use Rattle.mseed_repack.specs.declared.fault.RepackFault.TheVariants.{Broken, Misfit}
 use Rattle.mseed_repack.proofs.Standings.{all_fit, refused_broken, refused_misfit}
 use Rattle.mseed_repack.proofs.refusing.refusal_unless.Goals as goal
 
