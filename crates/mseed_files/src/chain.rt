@@ -1,9 +1,10 @@
 //! Files one after another, as one reader.
-ghost use Rattle.std.specs.Prelude.{◌≡◌, ◌<◌, ◌≤◌, ◌+◌, ℕ, List, [], ◌∷◌, ◌++◌, None, Some, Ok, true, false, length};
-ghost use Rattle.std.specs.Prelude.{IfOk, IfErr, IfSome, OnOk, OnErr, IsTrue, slice_index, take, vec_len, vec_capacity};
+ghost use Rattle.std.specs.Prelude.{◌≡◌, ◌<◌, ◌≤◌, ◌+◌, ℕ, [], ◌∷◌, ◌++◌, None, Some, Ok, true, false, length};
+ghost use Rattle.std.specs.Prelude.{IfOk, IfSome, OnErr, IsTrue, is_some, slice_index, take, vec_len, vec_capacity};
 ghost use Rattle.std.specs.Io.{ReadsAtMost};
 ghost use Rattle.std.specs.Io.KnownBytes.{Consumes, Keeps, ReadConsumes};
-ghost use Rattle.mseed_files.specs.ChainState.{GoesOn, HasEnded, IsPlace, ChainState, remaining_of, unread};
+ghost use Rattle.mseed_files.specs.ChainState.{ChainState, GoesOn, HasEnded, IsAlong, IsPlace, left_in, remaining_of};
+ghost use Rattle.mseed_files.specs.ChainState.{unread};
 ghost use Rattle.mseed_files.specs.private.Steps.{steps_left};
 
 use crate::open::Open;
@@ -33,10 +34,6 @@ pub struct Chain<O: Open, A: Allocator = Global> {
 }
 
 impl<O: Open, A: Allocator> Model for Chain<O, A> {
-    ghost use Rattle.std.specs.Prelude.{◌≤◌, is_some, length};
-    ghost use Rattle.std.specs.Vec.{vec_capacity, vec_len, vec_capacity};
-    ghost use Rattle.mseed_files.specs.ChainState.{IsAlong, ChainState, left_in};
-
     ghost Value = { ChainState };
 
     ghost view = { λ c. record {
@@ -130,42 +127,7 @@ impl<O: Open, A: Allocator> Chain<O, A> {
             }
         }
     }
-}
 
-/// Puts a number into a list that has room for it.
-fn put<A: Allocator>(numbers: &mut Vec<u64, A>, number: u64)
-    requires { vec_len numbers.old < vec_capacity numbers.old }
-    ensures items { numbers.new.items ≡ numbers.old.items ++ number ∷ [] }
-    ensures capacity { vec_capacity numbers.old ≤ vec_capacity numbers.new }
-{
-    match numbers.push(number) {
-        Ok(()) => {}
-        Err(_) => unreachable!(),
-    }
-}
-
-/// The last of the files that don't begin after an offset, by where they begin, and the offset within it.
-fn place_in(begins: &[u64], offset: u64) -> Option<Place>
-    ensures opened { IfSome result (λ p. p.file < length begins.now) }
-    ensures offset { IfSome result (λ p. slice_index begins.now p.file + p.offset ≡ offset) }
-    ensures last { IfSome result (λ p. (next : ℕ) → p.file < next → next < length begins.now
-        → offset < slice_index begins.now next) }
-    ensures none { result ≡ None → (file : ℕ) → file < length begins.now → offset < slice_index begins.now file }
-{
-    let mut file = begins.len();
-    while file > 0 {
-        file -= 1;
-        if begins[file] <= offset {
-            return Some(Place {
-                file,
-                offset: offset - begins[file],
-            });
-        }
-    }
-    None
-}
-
-impl<O: Open, A: Allocator> Chain<O, A> {
     /// Reads the file that is open, and closes it at its end.
     ///
     /// # Errors
@@ -203,9 +165,40 @@ impl<O: Open, A: Allocator> Chain<O, A> {
     }
 }
 
-impl<O: Open, A: Allocator> Read for Chain<O, A> {
-    ghost use Rattle.mseed_files.specs.ChainState.{remaining_of};
+/// Puts a number into a list that has room for it.
+fn put<A: Allocator>(numbers: &mut Vec<u64, A>, number: u64)
+    requires { vec_len numbers.old < vec_capacity numbers.old }
+    ensures items { numbers.new.items ≡ numbers.old.items ++ number ∷ [] }
+    ensures capacity { vec_capacity numbers.old ≤ vec_capacity numbers.new }
+{
+    match numbers.push(number) {
+        Ok(()) => {}
+        Err(_) => unreachable!(),
+    }
+}
 
+/// The last of the files that don't begin after an offset, by where they begin, and the offset within it.
+fn place_in(begins: &[u64], offset: u64) -> Option<Place>
+    ensures opened { IfSome result (λ p. p.file < length begins.now) }
+    ensures offset { IfSome result (λ p. slice_index begins.now p.file + p.offset ≡ offset) }
+    ensures last { IfSome result (λ p. (next : ℕ) → p.file < next → next < length begins.now
+        → offset < slice_index begins.now next) }
+    ensures none { result ≡ None → (file : ℕ) → file < length begins.now → offset < slice_index begins.now file }
+{
+    let mut file = begins.len();
+    while file > 0 {
+        file -= 1;
+        if begins[file] <= offset {
+            return Some(Place {
+                file,
+                offset: offset - begins[file],
+            });
+        }
+    }
+    None
+}
+
+impl<O: Open, A: Allocator> Read for Chain<O, A> {
     ghost remaining = { remaining_of };
 
     fn read(&mut self, buf: &mut [u8]) -> io::Result<usize>

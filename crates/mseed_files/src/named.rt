@@ -1,6 +1,4 @@
 //! The files that words name.
-ghost use Rattle.std.specs.Prelude.{None, Option, List, ℕ, map};
-ghost use Rattle.std.specs.Io.{ReadsAtMost};
 ghost use Rattle.mseed_files.specs.Files.{unknown};
 
 use crate::open::Open;
