@@ -1,7 +1,7 @@
 -- What the words of the command line give, one by one, and the digits of a length.
 use Rattle.std.proofs.Common.{◌≡◌, ℕ, suc, ◌+◌, ◌-◌, ◌*◌, ◌^◌, ◌<◌, ◌&&◌, ◌||◌, ◌++◌, Bool, List, [], ◌∷◌, length, map}
 use Rattle.std.proofs.Common.{take, drop, get_or, refl, sym, ap, ◌∙◌, arith, true, Option, Some, None, slice_get}
-use Rattle.std.proofs.Common.{unwrap_or, codes}
+use Rattle.std.proofs.Common.{unwrap_or}
 use Rattle.std.proofs.lemmas.Grind.{common_steps}
 use Rattle.std.specs.Borrow.{Bor}
 use Rattle.std.specs.List.{list_all, list_any}
@@ -10,12 +10,9 @@ use Rattle.std.proofs.Math.Seq.{take-suc}
 use Rattle.std.proofs.Math.Nat.{pow-suc, mul_assoc}
 use Rattle.std.proofs.lemmas.List.{length-append}
 use Rattle.clap.specs.Facts.{Entry}
-use Rattle.clap.specs.Walk.{Row, Text, first_of, row_of}
-use Rattle.mseed_steim.specs.declared.encoding.Encoding.{Encoding}
-use Rattle.mseed_words.specs.Found.{asks, has_only, is_among}
+use Rattle.clap.specs.Walk.{Row, Text, row_of}
+use Rattle.mseed_words.specs.Found.{is_among}
 use Rattle.mseed_words.specs.Numbers.{is_digit, value_of}
-use Rattle.mseed_words.specs.Words.{encoding_in, exponent_in, packing_by, packing_names, packing_of, packing_with}
-use Rattle.mseed_words.specs.declared.request.Packing.{Packing}
 
 -- a digit after others
 value_more : (xs : Text) (c : ℕ) → value_of (xs ++ c ∷ []) ≡ value_of xs * 10 + (c - 48)
@@ -63,12 +60,3 @@ ids_are (e ∷ es) = ap (λ (ids : List Text). e.0.now ∷ ids) (ids_are es)
 
 pub below : (c : ℕ) → is_digit c ≡ true → c < 58
 below c is = grind (arith, common_steps, is)
-
--- packing anew with the length and the encoding that the rows give, and by their flags
-pub packing_is : (rows : List Row) (exponent : Option ℕ) (encoding : Option Encoding) (packing : Option Packing)
-    (stretches leave : Bool) (all : has_only packing_names rows ≡ true)
-    → exponent ≡ exponent_in (first_of (codes "length") rows)
-    → encoding ≡ encoding_in (first_of (codes "encoding") rows) → packing ≡ packing_with exponent encoding
-    → stretches ≡ asks (codes "stretches") rows → leave ≡ asks (codes "leave") rows
-    → packing_by packing stretches leave ≡ packing_of rows
-packing_is rows exponent encoding packing stretches leave all e n p s l = rw (all, p, e, n, s, l) refl

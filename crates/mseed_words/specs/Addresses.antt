@@ -1,8 +1,9 @@
 -- Where a feed leads, and how long a link may be silent, as the arguments of the command line say.
 use Rattle.std.specs.Prelude.{ℕ, Bool, ◌≤◌, ◌==◌, ◌&&◌, ◌||◌, nat_le, nat_lt, [], ◌∷◌, length, if◌then◌else◌}
-use Rattle.std.specs.Prelude.{Option, Some, None, option_and_then}
+use Rattle.std.specs.Prelude.{Option, Some, None, option_and_then, option_map}
 use Rattle.std.specs.Char.{is_ascii_alphabetic, is_ascii_alphanumeric}
 use Rattle.std.specs.List.{after_first, before_first, list_all, list_any}
+use Rattle.std.specs.Option.{option_or}
 use Rattle.clap.specs.Walk.{Text}
 use Rattle.slink_wire.specs.Hosts.{name_of}
 use Rattle.slink_wire.specs.declared.host.Address.{Address}
@@ -52,36 +53,16 @@ abbrev pub name_in : Text → Option Name
 name_in text = if is_name text then name_of text else None
 
 -- an address, where there is one, and else a name
-abbrev pub host_with : Option Address → Option Name → Option Host
-host_with (Some address) name = Some (hosts.Address address)
-host_with None (Some name) = Some (hosts.Name name)
-host_with None None = None
-
 abbrev pub host_in : Text → Option Host
-host_in text = host_with (address_in text) (name_in text)
-
--- this machine
-abbrev pub here : Address
-here = record { octets = 127 ∷ 0 ∷ 0 ∷ 1 ∷ [] }
-
--- the address to listen at: that of this machine where none is given
-abbrev pub address_of : Option Text → Option Address
-address_of None = Some here
-address_of (Some text) = address_in text
-
--- whom to ask: this machine where nobody is named
-abbrev pub host_of : Option Text → Option Host
-host_of None = Some (hosts.Address here)
-host_of (Some text) = host_in text
+host_in text = option_or (option_map hosts.Address (address_in text)) (option_map hosts.Name (name_in text))
 
 -- up to a day
 abbrev pub timeout_by : ℕ → Option Timeout
 timeout_by n = if nat_le n 86400 then Some (record { seconds = n }) else None
 
--- how long a link may be silent, in seconds of up to five digits: ten minutes where nothing is given
-abbrev pub timeout_in : Option Text → Option Timeout
-timeout_in None = Some (record { seconds = 600 })
-timeout_in (Some text) = if nat_lt 5 (length text) then None else option_and_then timeout_by (number_in text)
+-- how long a link may be silent, in seconds of up to five digits
+abbrev pub timeout_in : Text → Option Timeout
+timeout_in text = if nat_lt 5 (length text) then None else option_and_then timeout_by (number_in text)
 
 abbrev pub IsTimeout : Timeout → Type 0
 IsTimeout timeout = timeout.seconds ≤ 86400

@@ -6,15 +6,15 @@ use Rattle.std.specs.Char.{is_ascii_alphanumeric}
 use Rattle.std.specs.List.{after_first, before_first, list_all, position_or_len}
 use Rattle.clap.specs.Walk.{Row, Text, first_of}
 use Rattle.slink_wire.specs.Place.{Fields, fields_of}
-use Rattle.mseed_words.specs.Found.{asks, further_in, has_only}
-use Rattle.mseed_words.specs.Numbers.{counted_in, counted_or, hexadecimal_in, number_in}
+use Rattle.mseed_words.specs.Found.{asks, further_in, has_only, text_or}
+use Rattle.mseed_words.specs.Numbers.{counted_in, hexadecimal_in, number_in}
 use Rattle.mseed_words.specs.Places.{ArePlaces, Called, places_of}
 use Rattle.mseed_words.specs.declared.feed_words.Naming.{Naming}
 use Rattle.mseed_words.specs.declared.feed_words.Naming.TheVariants.{Plain, Numbered}
 use Rattle.slink_wire.specs.declared.host.Address.{Address}
 use Rattle.slink_wire.specs.declared.host.Host.{Host}
 use Rattle.slink_wire.specs.declared.host.Timeout.{Timeout}
-use Rattle.mseed_words.specs.Addresses.{IsTimeout, address_of, host_of, timeout_in}
+use Rattle.mseed_words.specs.Addresses.{IsTimeout, address_in, host_in, timeout_in}
 use Rattle.mseed_words.specs.declared.request.Endpoint.{Endpoint}
 use Rattle.mseed_words.specs.declared.request.LiveServing.{LiveServing}
 use Rattle.mseed_words.specs.declared.request.Serving.{Serving}
@@ -34,9 +34,8 @@ place_in word = place_by (after_first (λ c. c == 95) word) (before_first (λ c.
 
 -- the place that the two options name
 abbrev pub place_named : Option Text → Option Text → Option Fields
-place_named None net = None
-place_named (Some sta) None = None
 place_named (Some sta) (Some net) = place_by sta net
+place_named _ _ = None
 
 -- a place, with the number that is given, if one is: in hexadecimal digits
 abbrev pub called_with : Option Fields → Option Text → Option Called
@@ -49,14 +48,10 @@ abbrev pub after_colon : Text → Option Text
 after_colon word =
     if nat_lt (position_or_len (λ c. c == 58) word) (length word) then Some (after_first (λ c. c == 58) word) else None
 
--- `NET_STA`, or `NET_STA:HEX`
-abbrev pub numbered_in : Text → Option Called
-numbered_in word = called_with (place_in (before_first (λ c. c == 58) word)) (after_colon word)
-
 -- a further place: `NET_STA`, or, where it can have a number, `NET_STA:HEX` as well
 abbrev pub called_in : Naming → Text → Option Called
 called_in Plain word = called_with (place_in word) None
-called_in Numbered word = numbered_in word
+called_in Numbered word = called_with (place_in (before_first (λ c. c == 58) word)) (after_colon word)
 
 -- the place of `--station` and `--network`, and the further ones
 abbrev pub places_in : Naming → Option Text → List Row → Option (List Called)
@@ -64,24 +59,12 @@ places_in naming from rows =
     places_of (called_with (place_named (first_of (codes "station") rows) (first_of (codes "network") rows)) from
     ∷ map (called_in naming) (further_in rows))
 
--- a port
-abbrev pub port_in : Option Text → Option ℕ
-port_in None = None
-port_in (Some text) = counted_in 65535 text
-
 -- a ring's capacity: from one record to a million
 abbrev pub capacity_by : ℕ → Option ℕ
 capacity_by n = if nat_le 1 n && nat_le n 1000000 then Some n else None
 
--- how many records each ring keeps: a thousand where nothing is given
-abbrev pub capacity_in : Option Text → Option ℕ
-capacity_in None = Some 1000
-capacity_in (Some text) = option_and_then capacity_by (number_in text)
-
--- the first record's number: 0 where none is given
-abbrev pub first_in : Option Text → Option ℕ
-first_in None = Some 0
-first_in (Some text) = hexadecimal_in text
+abbrev pub capacity_in : Text → Option ℕ
+capacity_in text = option_and_then capacity_by (number_in text)
 
 -- a machine, a port and a time-out, where each can be had
 abbrev pub endpoint_with : {H : Type 0} → Option H → Option ℕ → Option Timeout → Option (Endpoint H)
@@ -122,19 +105,24 @@ live_names = feed_names (codes "capacity" ∷ codes "first" ∷ codes "live" ∷
 abbrev pub fetch_names : List Text
 fetch_names = feed_names (codes "from" ∷ codes "tries" ∷ codes "tell-next" ∷ codes "holes" ∷ [])
 
--- a machine, with the port and the time-out that the options give
+-- a machine, this one where none is named
+abbrev pub machine_named : List Row → Text
+machine_named rows = text_or (codes "address") (codes "127.0.0.1") rows
+
+-- with the port that the options give, and their time-out: ten minutes where none is given
 abbrev pub endpoint_of : {H : Type 0} → Option H → List Row → Option (Endpoint H)
 endpoint_of host rows =
-    endpoint_with host (port_in (first_of (codes "port") rows)) (timeout_in (first_of (codes "timeout") rows))
+    endpoint_with host (option_and_then (counted_in 65535) (first_of (codes "port") rows))
+    (timeout_in (text_or (codes "timeout") (codes "600") rows))
 
--- a feed to be served, whatever else is named: to one connection where no number is given; its places have no numbers
--- of their own
+-- a feed to be served, whatever else is named, and where nothing is given to one connection, from rings of a thousand
+-- records, of which the first has the number 0; its places have no numbers of their own
 abbrev pub serving_in : List Row → Option Serving
 serving_in rows =
-    serving_with (endpoint_of (address_of (first_of (codes "address") rows)) rows)
-    (counted_or 1 1000000 (first_of (codes "connections") rows))
-    (capacity_in (first_of (codes "capacity") rows)) (first_in (first_of (codes "first") rows))
-    (places_in Plain None rows)
+    serving_with (endpoint_of (address_in (machine_named rows)) rows)
+    (counted_in 1000000 (text_or (codes "connections") (codes "1") rows))
+    (capacity_in (text_or (codes "capacity") (codes "1000") rows))
+    (hexadecimal_in (text_or (codes "first") (codes "0") rows)) (places_in Plain None rows)
 
 abbrev pub serving_of : List Row → Option Serving
 serving_of rows = if has_only serve_names rows then serving_in rows else None
@@ -147,15 +135,15 @@ live_serving_with _ _ = None
 abbrev pub live_serving_of : List Row → Option LiveServing
 live_serving_of rows =
     if has_only live_names rows
-    then live_serving_with (serving_in rows) (counted_or 64 1024 (first_of (codes "clients") rows))
+    then live_serving_with (serving_in rows) (counted_in 1024 (text_or (codes "clients") (codes "64") rows))
     else None
 
 -- a feed to be fetched, by one try where no number is given: `--from` is the number of the first place
 abbrev pub fetching_of : List Row → Option Fetching
 fetching_of rows =
     if has_only fetch_names rows
-    then fetching_with (endpoint_of (host_of (first_of (codes "address") rows)) rows)
-    (counted_or 1 1000000 (first_of (codes "tries") rows))
+    then fetching_with (endpoint_of (host_in (machine_named rows)) rows)
+    (counted_in 1000000 (text_or (codes "tries") (codes "1") rows))
     (places_in Numbered (first_of (codes "from") rows) rows) (asks (codes "tell-next") rows) (asks (codes "holes") rows)
     else None
 

@@ -4,6 +4,10 @@ use Rattle.std.specs.List.{list_all, list_any}
 use Rattle.std.specs.Str.{bytes_eq}
 use Rattle.clap.specs.Walk.{Row, Text, all_of, first_of}
 
+-- the first value of an option, and this one where none is given
+abbrev pub text_or : Text → Text → List Row → Text
+text_or name default rows = unwrap_or (first_of name rows) default
+
 -- the further places, in their order
 abbrev pub further_in : List Row → List Text
 further_in rows = unwrap_or (all_of (codes "place") rows) []

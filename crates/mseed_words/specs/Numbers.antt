@@ -33,8 +33,3 @@ hexadecimal_in text =
 -- a number from 1 to so many, as `clap` reads it: decimal digits, of any count and with a plus before it or none
 abbrev pub counted_in : ℕ → Text → Option ℕ
 counted_in most text = if is_unsigned_in 1 most text then Some (digits_value 10 (without_leading_plus text)) else None
-
--- and where no text is given, this one
-abbrev pub counted_or : ℕ → ℕ → Option Text → Option ℕ
-counted_or default most None = Some default
-counted_or default most (Some text) = counted_in most text

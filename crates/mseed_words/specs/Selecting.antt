@@ -31,10 +31,8 @@ selection_by channels from until =
 
 -- what is asked for, where each can be had
 abbrev pub selection_with : Option (Option Text) → Option (Option ℤ) → Option (Option ℤ) → Option Selection
-selection_with None from until = None
-selection_with (Some channels) None until = None
-selection_with (Some channels) (Some from) None = None
 selection_with (Some channels) (Some from) (Some until) = selection_by channels from until
+selection_with _ _ _ = None
 
 -- what the three options ask for
 abbrev pub selection_in : List Row → Option Selection

@@ -11,7 +11,7 @@ use Rattle.mseed_steim.specs.declared.encoding.Encoding.TheVariants.{Int16, Int3
 use Rattle.mseed_words.specs.Options.{the_command}
 use Rattle.mseed_select.specs.Selection.{Selection}
 use Rattle.mseed_words.specs.Files.{files_of}
-use Rattle.mseed_words.specs.Found.{asks, has_only}
+use Rattle.mseed_words.specs.Found.{asks, has_only, text_or}
 use Rattle.mseed_words.specs.Numbers.{number_in, number_within}
 use Rattle.mseed_words.specs.FeedWords.{CanFetch, CanServe, CanServeLive, fetching_of, live_serving_of, serving_of}
 use Rattle.mseed_words.specs.Selecting.{asked_of}
@@ -38,10 +38,8 @@ exponent_by n =
     if n == 2 ^ 7 then Some 7 else if n == 2 ^ 8 then Some 8 else if n == 2 ^ 9 then Some 9
     else if n == 2 ^ 10 then Some 10 else if n == 2 ^ 11 then Some 11 else if n == 2 ^ 12 then Some 12 else None
 
--- records of 512 bytes where no length is given
-abbrev pub exponent_in : Option Text → Option ℕ
-exponent_in None = Some 9
-exponent_in (Some text) = option_and_then exponent_by (number_in text)
+abbrev pub exponent_in : Text → Option ℕ
+exponent_in text = option_and_then exponent_by (number_in text)
 
 -- the encoding that a word names
 abbrev pub encoding_named : Text → Option Encoding
@@ -49,11 +47,6 @@ encoding_named word =
     if bytes_eq word (codes "int16") then Some Int16 else if bytes_eq word (codes "int32") then Some Int32
     else if bytes_eq word (codes "steim1") then Some Steim1 else if bytes_eq word (codes "steim2") then Some Steim2
     else None
-
--- Steim-2 where no encoding is given
-abbrev pub encoding_in : Option Text → Option Encoding
-encoding_in None = Some Steim2
-encoding_in (Some word) = encoding_named word
 
 -- what a command takes that can be met with some of the records alone: its word, files, which records, and these
 abbrev pub names_of_records : List Text → List Text
@@ -66,22 +59,22 @@ packing_names = names_of_records
     (codes "length" ∷ codes "encoding" ∷ codes "stretches" ∷ codes "leave" ∷ [])
 
 abbrev pub packing_with : Option ℕ → Option Encoding → Option Packing
-packing_with None encoding = None
-packing_with (Some exponent) None = None
 packing_with (Some exponent) (Some encoding) = Some (record { exponent = exponent; encoding = encoding })
+packing_with _ _ = None
 
 -- as it is, or by stretches, which alone can leave channels out
-abbrev pub packing_by : Option Packing → Bool → Bool → Option Request
-packing_by None stretches leave = None
-packing_by (Some packing) true leave = Some (RepackStretches packing leave)
-packing_by (Some packing) false false = Some (Repack packing)
-packing_by (Some packing) false true = None
+abbrev pub packing_by : Bool → Bool → Packing → Option Request
+packing_by true leave packing = Some (RepackStretches packing leave)
+packing_by false false packing = Some (Repack packing)
+packing_by false true packing = None
 
+-- records of 512 bytes where no length is given, in Steim-2 where no encoding is
 abbrev pub packing_of : List Row → Option Request
 packing_of rows =
     if has_only packing_names rows
-    then packing_by (packing_with (exponent_in (first_of (codes "length") rows))
-    (encoding_in (first_of (codes "encoding") rows))) (asks (codes "stretches") rows) (asks (codes "leave") rows)
+    then option_and_then (packing_by (asks (codes "stretches") rows) (asks (codes "leave") rows))
+    (packing_with (exponent_in (text_or (codes "length") (codes "512") rows))
+    (encoding_named (text_or (codes "encoding") (codes "steim2") rows)))
     else None
 
 -- two commands take nothing besides
@@ -121,23 +114,19 @@ abbrev pub expected_in : Option Text → Option (Option ℕ)
 expected_in None = Some None
 expected_in (Some text) = option_and_then expected_by (number_within 9 text)
 
-abbrev pub joining_with : Bool → Option (Option ℕ) → Option Joining
-joining_with past_faults None = None
-joining_with past_faults (Some expected) = Some (record { past_faults = past_faults; expected = expected })
-
 -- the text of an audit, with a line for each border before it or without, or a part
-abbrev pub joining_by : Bool → Bool → Option Joining → Option Request
-joining_by each part None = None
-joining_by false false (Some joining) = Some (Join joining)
-joining_by true false (Some joining) = Some (JoinEach joining)
-joining_by false true (Some joining) = Some (JoinPart joining)
-joining_by true true (Some joining) = None
+abbrev pub joining_by : Bool → Bool → Joining → Option Request
+joining_by false false joining = Some (Join joining)
+joining_by true false joining = Some (JoinEach joining)
+joining_by false true joining = Some (JoinPart joining)
+joining_by true true joining = None
 
 abbrev pub joining_of : List Row → Option Request
 joining_of rows =
     if has_only joining_names rows
-    then joining_by (asks (codes "each") rows) (asks (codes "part") rows)
-    (joining_with (asks (codes "past-faults") rows) (expected_in (first_of (codes "expect") rows)))
+    then option_and_then (λ expected. joining_by (asks (codes "each") rows) (asks (codes "part") rows)
+    (record { past_faults = asks (codes "past-faults") rows; expected = expected }))
+    (expected_in (first_of (codes "expect") rows))
     else None
 
 -- what serving asks for: all of the input first, or while it comes
@@ -156,12 +145,8 @@ request_named word rows =
     else if bytes_eq word (codes "serve") then serving_by (asks (codes "live") rows) rows
     else if bytes_eq word (codes "fetch") then option_map Fetch (fetching_of rows) else None
 
-abbrev pub request_by : Option Text → List Row → Option Request
-request_by None rows = None
-request_by (Some word) rows = request_named word rows
-
 abbrev pub request_of : List Row → Option Request
-request_of rows = request_by (first_of (codes "command") rows) rows
+request_of rows = option_and_then (λ word. request_named word rows) (first_of (codes "command") rows)
 
 -- records of 128 to 4096 bytes; a feed that can be
 abbrev pub CanBeCalled : Request → Type 0
@@ -183,9 +168,8 @@ abbrev pub requested : Request → Option Selection → List Text → Requested
 requested request asked files = record { request = request; asked = asked; files = files }
 
 abbrev pub command_by : Request → Option (Option Selection) → Option (List Text) → Option Requested
-command_by request None files = None
-command_by request (Some asked) None = None
 command_by request (Some asked) (Some files) = Some (requested request asked files)
+command_by request _ _ = None
 
 abbrev pub command_with : Option Request → List Row → Option Requested
 command_with None rows = None

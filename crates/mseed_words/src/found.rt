@@ -4,7 +4,7 @@ ghost use Rattle.std.specs.List.{list_any};
 ghost use Rattle.std.specs.Str.{bytes_eq};
 ghost use Rattle.clap.specs.Matches.{found_of};
 ghost use Rattle.clap.specs.Walk.{first_of, rows_of};
-ghost use Rattle.mseed_words.specs.Found.{asks, has_only, is_taken};
+ghost use Rattle.mseed_words.specs.Found.{asks, has_only, is_taken, text_or};
 
 use clap::ArgMatches;
 
@@ -13,6 +13,16 @@ pub(crate) fn text_of<'a>(matches: &ArgMatches<'a>, name: &str) -> Option<&'a st
     ensures { option_map (λ t. t.now) result ≡ first_of name.now (rows_of (found_of matches.now)) }
 {
     matches.get_str(name)
+}
+
+/// The first value of an option, and this one where none is given.
+pub(crate) fn text_or<'a>(matches: &ArgMatches<'a>, name: &str, default: &'a str) -> &'a str
+    ensures { result.now ≡ text_or name.now default.now (rows_of (found_of matches.now)) }
+{
+    match text_of(matches, name) {
+        Some(text) => text,
+        None => default,
+    }
 }
 
 /// The flags. `clap` finds each of them, as one that is set or isn't.

@@ -1,8 +1,8 @@
 //! Numbers as the arguments of the command line spell them.
-ghost use Rattle.std.specs.Prelude.{◌≡◌, ◌≤◌, ◌<◌, ◌^◌, IfSome, option_map};
+ghost use Rattle.std.specs.Prelude.{◌≡◌, ◌≤◌, ◌<◌, ◌^◌, IfSome};
 ghost use Rattle.std.specs.List.{list_all};
 ghost use Rattle.std.specs.Char.{is_ascii_hexdigit};
-ghost use Rattle.mseed_words.specs.Numbers.{counted_in, counted_or, hexadecimal_in, is_digit, number_in, number_within};
+ghost use Rattle.mseed_words.specs.Numbers.{counted_in, hexadecimal_in, is_digit, number_in, number_within};
 
 /// The number that one to seven decimal digits say.
 pub(crate) fn number_in(text: &str) -> Option<u32>
@@ -63,17 +63,5 @@ pub(crate) fn counted_in(most: u32, text: &str) -> Option<u32>
     match text.parse::<u32>() {
         Ok(number) if 1 <= number && number <= most => Some(number),
         _ => None,
-    }
-}
-
-/// The number from 1 to `most` that a text says to `clap`, and this one where there is none.
-pub(crate) fn counted_or(default: u32, most: u32, text: Option<&str>) -> Option<u32>
-    requires { (1 ≤ default) × (default ≤ most) }
-    ensures value { result ≡ counted_or default most (option_map (λ t. t.now) text.entry) }
-    ensures range { IfSome result (λ n. (1 ≤ n) × (n ≤ most)) }
-{
-    match text {
-        None => Some(default),
-        Some(text) => counted_in(most, text),
     }
 }

@@ -1,5 +1,6 @@
 //! The places that are requested of a feed.
-ghost use Rattle.std.specs.Prelude.{◌≡◌, ◌<◌, ◌≤◌, [], ◌∷◌, ◌++◌, length};
+ghost use Rattle.std.specs.Prelude.{◌≡◌, ◌<◌, ◌≤◌, ℕ, List, [], ◌∷◌, ◌++◌, Option, length, take};
+ghost use Rattle.slink_wire.specs.Place.{Fields};
 ghost use Rattle.mseed_words.specs.Places.{has_place};
 
 use slink_wire::Place;
@@ -16,9 +17,6 @@ pub struct Places {
 }
 
 impl Model for Places {
-    ghost use Rattle.std.specs.Prelude.{ℕ, ◌≡◌, ◌≤◌, List, Option, length, take};
-    ghost use Rattle.slink_wire.specs.Place.{Fields};
-
     ghost Value = { List (Fields × Option ℕ) };
 
     ghost view = { λ p. take p.count p.items };

@@ -57,15 +57,9 @@ fn is_selective(matches: &ArgMatches<'_>) -> bool
 fn selector_in<'a>(matches: &ArgMatches<'a>) -> Option<Selector<'a>>
     ensures { option_map selection_of result ≡ selection_in (rows_of (found_of matches.now)) }
 {
-    let Some(channels) = channels_in(text_of(matches, "channels")) else {
-        return None;
-    };
-    let Some(from) = instant_in(text_of(matches, "from")) else {
-        return None;
-    };
-    let Some(until) = instant_in(text_of(matches, "until")) else {
-        return None;
-    };
+    let channels = channels_in(text_of(matches, "channels"))?;
+    let from = instant_in(text_of(matches, "from"))?;
+    let until = instant_in(text_of(matches, "until"))?;
     selector_by(channels, from, until)
 }
 
@@ -89,10 +83,7 @@ fn channels_in<'a>(text: Option<&'a str>) -> Option<Option<Patterns<'a>>>
 {
     match text {
         None => Some(None),
-        Some(text) => match Patterns::read(text.as_bytes()) {
-            Ok(patterns) => Some(Some(patterns)),
-            Err(_) => None,
-        },
+        Some(text) => Some(Some(Patterns::read(text.as_bytes()).ok()?)),
     }
 }
 
@@ -102,9 +93,6 @@ fn instant_in(word: Option<&str>) -> Option<Option<Micros>>
 {
     match word {
         None => Some(None),
-        Some(word) => match read_time(word.as_bytes()) {
-            Ok(instant) => Some(Some(instant)),
-            Err(_) => None,
-        },
+        Some(word) => Some(Some(read_time(word.as_bytes()).ok()?)),
     }
 }

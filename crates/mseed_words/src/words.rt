@@ -4,19 +4,16 @@ ghost use Rattle.clap.specs.Matches.{found_of};
 ghost use Rattle.clap.specs.Walk.{Text, rows_of};
 ghost use Rattle.clap.specs.Kinds.{HasKind};
 ghost use Rattle.mseed_words.specs.Files.{files_of};
-ghost use Rattle.mseed_words.specs.Words.{AsksFor, CanBeCalled, IsRefusal, IsUnasked, auditing_by, auditing_names};
-ghost use Rattle.mseed_words.specs.Words.{auditing_of};
 ghost use Rattle.mseed_words.specs.Found.{has_only};
-ghost use Rattle.mseed_words.specs.Words.{command_of, encoding_in};
-ghost use Rattle.mseed_words.specs.Words.{encoding_named, entries_in, expected_by, expected_in, exponent_by};
-ghost use Rattle.mseed_words.specs.Words.{exponent_in, faults_in, joining_by, joining_of, joining_with, packing_by};
-ghost use Rattle.mseed_words.specs.Words.{packing_of, packing_with, request_named, request_of, requested};
-ghost use Rattle.mseed_words.specs.Words.{plain_of, serving_by};
+ghost use Rattle.mseed_words.specs.Words.{AsksFor, CanBeCalled, IsRefusal, IsUnasked, auditing_by, auditing_names};
+ghost use Rattle.mseed_words.specs.Words.{auditing_of, command_of, encoding_named, entries_in, expected_in, exponent_in};
+ghost use Rattle.mseed_words.specs.Words.{faults_in, joining_by, joining_of, packing_by, packing_of, plain_of};
+ghost use Rattle.mseed_words.specs.Words.{request_named, request_of, requested, serving_by};
 ghost use Rattle.mseed_select.specs.Selecting.{selection_of};
 
 use crate::feed_words::{fetching_of, live_serving_of, serving_of};
 use crate::files::{can_be_files, takes_files};
-use crate::found::{asks, has_only, text_of};
+use crate::found::{asks, has_only, text_of, text_or};
 use crate::numbers::{number_in, number_within};
 use crate::options::command;
 use crate::refusal::Refusal;
@@ -66,21 +63,18 @@ fn command_of<'a>(alloc: Global, matches: &ArgMatches<'a>) -> Result<Command<'a>
     ensures range { IfOk result (λ command. CanBeCalled command.request) }
     ensures refused { IfErr result (λ refusal. IsUnasked refusal (command_of (rows_of (found_of matches.now)))) }
 {
-    let request = match request_of(matches) {
-        Some(request) => request,
-        None => return Err(Refusal::NoRequest),
+    let Some(request) = request_of(matches) else {
+        return Err(Refusal::NoRequest);
     };
     let Some(selector) = asked_of(&request, matches) else {
         return Err(Refusal::NoRequest);
     };
-    match files_of(alloc, &request, matches) {
-        Ok(files) => Ok(Command {
-            request,
-            selector,
-            files,
-        }),
-        Err(refusal) => Err(refusal),
-    }
+    let files = files_of(alloc, &request, matches)?;
+    Ok(Command {
+        request,
+        selector,
+        files,
+    })
 }
 
 /// The files of what is requested: the further arguments, where it takes files.
@@ -144,10 +138,7 @@ fn request_of(matches: &ArgMatches<'_>) -> Option<Request>
     ensures value { result ≡ request_of (rows_of (found_of matches.now)) }
     ensures range { IfSome result CanBeCalled }
 {
-    match text_of(matches, "command") {
-        Some(word) => request_named(word, matches),
-        None => None,
-    }
+    request_named(text_of(matches, "command")?, matches)
 }
 
 /// What a command's word asks for.
@@ -226,37 +217,23 @@ fn joining_of(matches: &ArgMatches<'_>) -> Option<Request>
     ) {
         return None;
     }
-    let joining = joining_with(
-        asks(matches, "past-faults"),
-        expected_in(text_of(matches, "expect")),
-    );
+    let joining = Joining {
+        past_faults: asks(matches, "past-faults"),
+        expected: expected_in(text_of(matches, "expect"))?,
+    };
     joining_by(asks(matches, "each"), asks(matches, "part"), joining)
 }
 
 /// What is requested of joining: the text of an audit or a part, and a line for each border before the text alone.
-fn joining_by(each: bool, part: bool, joining: Option<Joining>) -> Option<Request>
+fn joining_by(each: bool, part: bool, joining: Joining) -> Option<Request>
     ensures value { result ≡ joining_by each part joining }
     ensures range { IfSome result CanBeCalled }
 {
-    match (each, part, joining) {
-        (_, _, None) => None,
-        (false, false, Some(joining)) => Some(Request::Join(joining)),
-        (true, false, Some(joining)) => Some(Request::JoinEach(joining)),
-        (false, true, Some(joining)) => Some(Request::JoinPart(joining)),
-        (true, true, Some(_)) => None,
-    }
-}
-
-/// Which parts are joined, where the number of them is one that can be given.
-fn joining_with(past_faults: bool, expected: Option<Option<u64>>) -> Option<Joining>
-    ensures { result ≡ joining_with past_faults expected }
-{
-    match expected {
-        Some(expected) => Some(Joining {
-            past_faults,
-            expected,
-        }),
-        None => None,
+    match (each, part) {
+        (false, false) => Some(Request::Join(joining)),
+        (true, false) => Some(Request::JoinEach(joining)),
+        (false, true) => Some(Request::JoinPart(joining)),
+        (true, true) => None,
     }
 }
 
@@ -264,19 +241,12 @@ fn joining_with(past_faults: bool, expected: Option<Option<u64>>) -> Option<Join
 fn expected_in(text: Option<&str>) -> Option<Option<u64>>
     ensures { result ≡ expected_in (option_map (λ t. t.now) text.entry) }
 {
-    match text {
-        None => Some(None),
-        Some(text) => expected_by(number_within(9, text)?),
-    }
-}
-
-/// How many parts there have to be: at least one.
-fn expected_by(number: u32) -> Option<Option<u64>>
-    ensures { result ≡ expected_by number }
-{
-    match number {
+    let Some(text) = text else {
+        return Some(None);
+    };
+    match number_within(9, text)? {
         0 => None,
-        _ => Some(Some(u64::from(number))),
+        number => Some(Some(u64::from(number))),
     }
 }
 
@@ -304,56 +274,32 @@ fn packing_of(matches: &ArgMatches<'_>) -> Option<Request>
     ) {
         return None;
     }
-    let packing = packing_with(
-        exponent_in(text_of(matches, "length")),
-        encoding_in(text_of(matches, "encoding")),
-    );
-    packing_by(packing, asks(matches, "stretches"), asks(matches, "leave"))
+    let packing = Packing {
+        exponent: exponent_in(text_or(matches, "length", "512"))?,
+        encoding: encoding_named(text_or(matches, "encoding", "steim2"))?,
+    };
+    packing_by(asks(matches, "stretches"), asks(matches, "leave"), packing)
 }
 
 /// Packing anew, as it is, or by stretches; these alone can leave channels out.
-fn packing_by(packing: Option<Packing>, stretches: bool, leave: bool) -> Option<Request>
-    requires { IfSome packing (λ p. (7 ≤ p.exponent) × (p.exponent ≤ 12)) }
-    ensures value { result ≡ packing_by packing stretches leave }
+fn packing_by(stretches: bool, leave: bool, packing: Packing) -> Option<Request>
+    requires { (7 ≤ packing.exponent) × (packing.exponent ≤ 12) }
+    ensures value { result ≡ packing_by stretches leave packing }
     ensures range { IfSome result CanBeCalled }
 {
-    match (packing, stretches, leave) {
-        (None, _, _) => None,
-        (Some(packing), true, leave) => Some(Request::RepackStretches { packing, leave }),
-        (Some(packing), false, false) => Some(Request::Repack(packing)),
-        (Some(_), false, true) => None,
-    }
-}
-
-/// What records are packed, where the length and the encoding are some that there are.
-fn packing_with(exponent: Option<u8>, encoding: Option<Encoding>) -> Option<Packing>
-    requires { IfSome exponent (λ e. (7 ≤ e) × (e ≤ 12)) }
-    ensures value { result ≡ packing_with exponent encoding }
-    ensures range { IfSome result (λ packing. (7 ≤ packing.exponent) × (packing.exponent ≤ 12)) }
-{
-    match (exponent, encoding) {
-        (Some(exponent), Some(encoding)) => Some(Packing { exponent, encoding }),
-        _ => None,
-    }
-}
-
-/// The power of two that a record's length is: of 512 bytes where none is given.
-fn exponent_in(text: Option<&str>) -> Option<u8>
-    ensures value { result ≡ exponent_in (option_map (λ t. t.now) text.entry) }
-    ensures range { IfSome result (λ e. (7 ≤ e) × (e ≤ 12)) }
-{
-    match text {
-        None => Some(9),
-        Some(text) => exponent_by(number_in(text)?),
+    match (stretches, leave) {
+        (true, leave) => Some(Request::RepackStretches { packing, leave }),
+        (false, false) => Some(Request::Repack(packing)),
+        (false, true) => None,
     }
 }
 
 /// The power of two that a length of 128 to 4096 bytes is.
-fn exponent_by(length: u32) -> Option<u8>
-    ensures value { result ≡ exponent_by length }
+fn exponent_in(length: &str) -> Option<u8>
+    ensures value { result ≡ exponent_in length.now }
     ensures range { IfSome result (λ e. (7 ≤ e) × (e ≤ 12)) }
 {
-    match length {
+    match number_in(length)? {
         128 => Some(7),
         256 => Some(8),
         512 => Some(9),
@@ -361,16 +307,6 @@ fn exponent_by(length: u32) -> Option<u8>
         2048 => Some(11),
         4096 => Some(12),
         _ => None,
-    }
-}
-
-/// The encoding of packed records: Steim-2 where none is given.
-fn encoding_in(word: Option<&str>) -> Option<Encoding>
-    ensures { result ≡ encoding_in (option_map (λ w. w.now) word.entry) }
-{
-    match word {
-        None => Some(Encoding::Steim2),
-        Some(word) => encoding_named(word),
     }
 }
 
