@@ -1,8 +1,7 @@
 //! What is reported of the files that words name.
 ghost use Rattle.std.specs.Prelude.{◌≡◌, ◌++◌, IfOk, map};
 ghost use Rattle.mseed_input.specs.Files.{IsReportedPlace, ReportsBlame, ReportsFault, ReportsFile, ReportsName};
-ghost use Rattle.mseed_input.specs.Files.{ReportsPlace, cannot_read, fault_in, last_of, no_memory, printed_byte};
-ghost use Rattle.mseed_stream.specs.LineWritten.{WritesLine};
+ghost use Rattle.mseed_input.specs.Files.{ReportsPlace, cannot_read, fault_in, last_of, printed_byte};
 
 use crate::blame::Blame;
 use crate::lines::report_no_memory;

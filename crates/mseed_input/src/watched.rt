@@ -1,4 +1,6 @@
 //! A source that knows how long its last whole record is.
+ghost use Rattle.std.specs.Prelude.{◌≡◌, Ok, false};
+ghost use Rattle.mseed_input.specs.Watched.{follows_records, source_of};
 
 use crate::trail::Trail;
 use mseed_stream::{Failed, Source};
@@ -14,9 +16,6 @@ pub struct Watched<R, A: Allocator = Global> {
 }
 
 impl<R: Source, A: Allocator> Watched<R, A> {
-    ghost use Rattle.std.specs.Prelude.{◌≡◌, Ok, false};
-    ghost use Rattle.mseed_input.specs.Watched.{follows_records, source_of};
-
     /// A source of which nothing was read yet. In one that isn't an archive, as a text of parts, no record is looked
     /// for.
     pub fn new(alloc: A, source: R, is_archive: bool) -> Watched<R, A>
@@ -48,8 +47,6 @@ impl<R: Source, A: Allocator> Watched<R, A> {
 }
 
 impl<R: Source, A: Allocator> Source for Watched<R, A> {
-    ghost use Rattle.mseed_input.specs.Watched.{source_of};
-
     ghost read = { λ w. R.read (source_of w) };
 
     ghost remaining = { λ w. R.remaining (source_of w) };
