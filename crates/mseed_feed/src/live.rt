@@ -1,10 +1,7 @@
 //! Serving the records of an input to many clients at once, while they come.
-ghost use Rattle.std.specs.Prelude.{◌≡◌, ◌⊎◌, [], List, IfErr, IfOk, codes, length, true};
-ghost use Rattle.mseed_stream.specs.LineWritten.{WritesLine};
+ghost use Rattle.std.specs.Prelude.{◌≡◌, ◌⊎◌, [], List, IfOk, length, true};
 ghost use Rattle.slink_feed.specs.Intake.{places_of};
 ghost use Rattle.slink_feed.specs.Window.{Window};
-ghost use Rattle.slink_live.specs.Happening.{input_of};
-ghost use Rattle.slink_live.specs.Input.{IsInputFault};
 ghost use Rattle.slink_live.specs.Served.{IsFinished, IsServing, IsSound, ServerState};
 ghost use Rattle.mseed_words.specs.FeedWords.{CanServeLive};
 ghost use Rattle.mseed_feed.specs.Filling.{feed_of};
