@@ -1,6 +1,6 @@
 //! The differences of a payload, one by one.
 
-ghost use Rattle.std.specs.Prelude.{◌≡◌, ◌≢◌, ◌≤◌, ◌<◌, ◌*◌, ⊤, ℕ, ℤ, List, [], ◌∷◌, ◌++◌, map, Some, Ok, IfSome};
+ghost use Rattle.std.specs.Prelude.{◌≡◌, ◌≢◌, ◌≤◌, ◌<◌, ◌*◌, ⊤, ℤ, List, [], ◌∷◌, ◌++◌, map, Some, Ok, IfSome};
 ghost use Rattle.std.specs.Prelude.{length, Result};
 ghost use Rattle.std.specs.Iterator.{UpTo, YieldsFirst, MakesProgress, at_most, item_count};
 ghost use Rattle.std.specs.Iterator.SizeHint.{IsWithinCount};

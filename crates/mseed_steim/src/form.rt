@@ -1,6 +1,6 @@
 //! How a payload holds samples.
 
-ghost use Rattle.std.specs.Prelude.{◌≡◌, ◌≤◌, ◌+◌, ◌*◌, length};
+ghost use Rattle.std.specs.Prelude.{◌≡◌, ◌≤◌, ◌+◌, length};
 ghost use Rattle.byteorder.specs.Endian.{twos_complement};
 ghost use Rattle.mseed_time.specs.Fields.{number_at};
 ghost use Rattle.mseed_steim.specs.Samples.{bytes_of, form_of};

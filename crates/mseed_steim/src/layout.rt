@@ -1,6 +1,6 @@
 //! How the rows of the table lay their differences out in a word, and words of them that are joined at once.
 
-ghost use Rattle.std.specs.Prelude.{◌≡◌, ◌*◌, ◌+◌, ◌%◌, ◌^◌, ◌<◌, ◌≤◌, List, ℤ, Some, length, pos, slice_index_or};
+ghost use Rattle.std.specs.Prelude.{◌≡◌, ◌*◌, ◌+◌, ◌%◌, ◌^◌, ◌<◌, ◌≤◌, List, ℤ, Some, length, slice_index_or};
 ghost use Rattle.std.specs.Prelude.{[], ◌∷◌, map, take};
 ghost use Rattle.mseed_steim.specs.Lookahead.{AreCut, IsAhead, IsCut, taken};
 ghost use Rattle.mseed_steim.specs.private.Ahead.{IsLayoutOne, IsLayoutTwo, bits_of, paired, size_of};

@@ -5,14 +5,12 @@
 //! same in all lanes, leaves the differences. The lanes after the last one hold anything: there stand the
 //! differences of the next word.
 
-ghost use Rattle.std.specs.Prelude.{◌≡◌, ◌<◌, ◌≤◌, ◌+◌, ◌-◌, ◌*◌, ◌^◌, ℕ, List, [], ◌∷◌, ◌++◌, ℤ, Ok, IfSome, map};
-ghost use Rattle.std.specs.Prelude.{take, drop, length, slice_index, slice_index_or};
+ghost use Rattle.std.specs.Prelude.{◌≡◌, ◌<◌, ◌≤◌, ◌+◌, ◌-◌, ◌*◌, ◌^◌, ℕ, List, [], ◌∷◌, ◌++◌, IfSome, map};
+ghost use Rattle.std.specs.Prelude.{take, length, slice_index};
 ghost use Rattle.std.specs.Simd.Lanes.{Each1, sum_l};
 ghost use Rattle.mseed_steim.specs.private.Digits.{digit_at, digits};
-ghost use Rattle.mseed_steim.specs.Frames.{DataWord, words_from};
-ghost use Rattle.mseed_steim.specs.private.Items.{items_of};
-ghost use Rattle.mseed_steim.specs.private.Lanes.{Begins, row_at, span, word_at, word_of, words};
-ghost use Rattle.mseed_steim.specs.private.Lanes.{all_counts, all_widths, counts_of};
+ghost use Rattle.mseed_steim.specs.private.Lanes.{Begins, all_counts, all_widths, counts_of, row_at, word_at, word_of};
+ghost use Rattle.mseed_steim.specs.private.Lanes.{words};
 ghost use Rattle.mseed_steim.specs.private.Unpacked.{AreGood, FitIn, Unpacks, lanes_of, row_of, unpacked};
 ghost use Rattle.mseed_steim.specs.private.Unpacked.{AreNarrow, AreUnpacked};
 

@@ -1,6 +1,6 @@
 //! What a word of a Steim frame spells.
 
-ghost use Rattle.std.specs.Prelude.{◌≡◌, ℕ, ◌+◌, ◌*◌, ◌<◌, ◌≤◌, IsOkAnd, IfOk, OnErr, List, ℤ};
+ghost use Rattle.std.specs.Prelude.{◌≡◌, ◌+◌, ◌*◌, ◌<◌, ◌≤◌, IsOkAnd, IfOk, OnErr, List, ℤ};
 ghost use Rattle.mseed_steim.specs.private.Digits.{digit_at, digits};
 ghost use Rattle.mseed_steim.specs.Spelling.{Spells, SpellsNone};
 

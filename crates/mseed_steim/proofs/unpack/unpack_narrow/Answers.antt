@@ -1,7 +1,6 @@
 use Rattle.std.proofs.Common.{◌<◌, ℕ, subst, arith}
 use Rattle.mseed_steim.specs.private.Lanes.{row_at}
 use Rattle.mseed_steim.proofs.FrameUnpacked.{all_spelled, all_near, begins_some, narrow_good}
-use Rattle.mseed_steim.proofs.unpack.unpack_narrow.Goals.{After-unpack_words}
 use Rattle.mseed_steim.proofs.unpack.unpack_narrow.Goals as goal
 
 pub returns : goal.returns
