@@ -12,7 +12,7 @@ use Rattle.mseed_steim.specs.private.Lanes.{span}
 use Rattle.mseed_steim.specs.declared.scheme.Scheme.{Scheme}
 use Rattle.mseed_steim.specs.declared.scheme.Scheme.TheVariants.{One, Two}
 use Rattle.mseed_steim.specs.private.Lanes.{words, word_at, row_at, counts_two, widths_two, counts_one, widths_one}
-use Rattle.mseed_steim.specs.private.Lanes.{counts_of, widths_of, spanned}
+use Rattle.mseed_steim.specs.private.Lanes.{counts_of, differences_by, widths_of}
 use Rattle.mseed_steim.specs.private.Lanes.{all_counts_two, all_widths_two, all_counts_one, all_widths_one}
 use Rattle.mseed_steim.specs.private.Lanes.{all_counts, all_widths}
 use Rattle.mseed_steim.specs.private.Unpacked.{differences_at}
@@ -20,6 +20,10 @@ use Rattle.mseed_steim.proofs.Below.{sixteen}
 use Rattle.mseed_steim.proofs.LaneSums.{long_words}
 use Rattle.mseed_steim.proofs.Words.{twice_half}
 use Rattle.mseed_steim.proofs.FrameSums.{row_small}
+
+-- how far a word's differences go in all, up and down
+abbrev spanned : Scheme → List ℕ → ℕ → ℕ → ℕ
+spanned scheme frame from word = span (differences_by (counts_of scheme) (widths_of scheme) frame from word)
 
 near : (p q x : ℕ) → q ≤ 2 * p → x < q → nat_abs (if nat_lt x p then pos x else negsuc (q - 1 - x)) ≤ p
 near p q x e lt = ⊎_elim

@@ -4,15 +4,26 @@ use Rattle.std.proofs.Common.{T, ◌^◌, map, get_or, refl, sym, ap, ◌∙◌,
 use Rattle.std.proofs.lemmas.Int.{ints}
 use lib.Lanes.{sum_l}
 use Rattle.mseed_steim.specs.declared.scheme.Scheme.TheVariants.{One}
+use Rattle.std.specs.Prelude.{slice_index}
 use Rattle.mseed_steim.specs.private.Digits.{digits}
 use Rattle.mseed_steim.specs.private.Lanes.{total, word_of}
-use Rattle.mseed_steim.specs.private.Lanes.{words, sum_z, byte_at, row_at, low_one, high_one, flipped, flipped_low}
-use Rattle.mseed_steim.specs.private.Lanes.{least_one, counts_one, widths_one, moved}
+use Rattle.mseed_steim.specs.private.Lanes.{words, sum_z, byte_at, row_at, low_one, high_one, counts_one, widths_one}
+use Rattle.mseed_steim.specs.private.Lanes.{moved, table_one, turned}
 use Rattle.mseed_steim.proofs.Below.{sixteen}
 use Rattle.mseed_steim.specs.private.Moves.{Raises}
 use Rattle.mseed_steim.proofs.FrameSums.{part_at, row_small}
 use Rattle.mseed_steim.proofs.FrameBytes.{Separate, agree_at, all_below, by_bytes, no_bytes, raised_sum, raised_tells}
 use Rattle.mseed_steim.proofs.FrameBytes.{four_is, wide_is}
+
+-- a word's bytes by its row, with the bits of signs turned over, and what its parts then count for too much
+unfoldable pub flipped : ℕ → ℕ → ℕ
+flipped row byte = turned (table_one 128 128) row byte
+
+unfoldable pub flipped_low : ℕ → ℕ → ℕ
+flipped_low row byte = turned (table_one 128 0) row byte
+
+unfoldable pub least_one : ℕ → ℕ
+least_one row = slice_index (table_one 1 128) row
 
 -- the parts of a word
 abbrev pub whole_one : ℕ → ℕ → ℕ → ℕ → ℕ → ℕ

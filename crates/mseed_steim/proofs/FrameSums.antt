@@ -7,10 +7,10 @@ use lib.Lanes.{sum_l}
 use Rattle.mseed_steim.specs.declared.scheme.Scheme.TheVariants.{Two}
 use Rattle.mseed_steim.specs.private.Lanes.{word_of}
 use Rattle.mseed_steim.specs.private.Lanes.{words, sum_z, byte_at, word_at, row_at, moved, counts_two, ones_two}
-use Rattle.mseed_steim.specs.private.Lanes.{fine_two, coarse_two, turned_a, turned_b, turned_c, turned_d, least_two}
-use Rattle.mseed_steim.specs.private.Lanes.{least_coarse_two}
+use Rattle.mseed_steim.specs.private.Lanes.{fine_two, coarse_two}
 use Rattle.mseed_steim.specs.private.Moves.{Raises}
-use Rattle.mseed_steim.proofs.FrameWords.{tells, whole, least}
+use Rattle.mseed_steim.proofs.FrameWords.{least, least_coarse_two, least_two, tells, turned_a, turned_b, turned_c}
+use Rattle.mseed_steim.proofs.FrameWords.{turned_d, whole}
 
 abbrev pub Reported : (ℕ → ℕ) → (ℕ → ℕ) → (ℕ → ℕ) → (ℕ → ℤ) → ℕ → Type 0
 Reported count whole least moved w = count w < 128 → (whole w % 128 ≡ 0)

@@ -1,13 +1,32 @@
 -- What a word's parts add up to, by its row.
 use Rattle.std.proofs.Common.{◌≡◌, ℕ, ◌+◌, ◌-◌, ◌*◌, ◌/◌, ◌%◌, ◌^◌, ◌<◌, ◌≤◌, get_or, refl, ap, ◌∙◌, arith, pos, T}
 use Rattle.std.proofs.Common.{◌+ℤ◌}
+use Rattle.std.specs.Prelude.{slice_index}
 use Rattle.mseed_steim.specs.private.Digits.{digits}
 use Rattle.mseed_steim.specs.private.Lanes.{total, word_of}
-use Rattle.mseed_steim.specs.private.Lanes.{fine_two, ones_two, coarse_two, turned_a, turned_b, turned_c, turned_d}
-use Rattle.mseed_steim.specs.private.Lanes.{least_two, least_coarse_two, counts_two, widths_two}
+use Rattle.mseed_steim.specs.private.Lanes.{fine_two, ones_two, coarse_two, counts_two, table_two, turned, widths_two}
 use Rattle.mseed_steim.proofs.Below.{sixteen}
 use Rattle.mseed_steim.proofs.FrameBytes.{Separate, agree_at, all_below, by_bytes, no_bytes, raised_sum, raised_tells}
 use Rattle.mseed_steim.proofs.FrameBytes.{four_is, two_is, three_is, five_is, six_is, seven_is}
+
+-- a word's bytes by its row, with the bits of signs turned over, and what its parts then count for too much
+unfoldable pub turned_a : ℕ → ℕ → ℕ
+turned_a row a = turned (table_two 128 32 32 32 33 8) row a
+
+unfoldable pub turned_b : ℕ → ℕ → ℕ
+turned_b row b = turned (table_two 128 0 8 130 8 136) row b
+
+unfoldable pub turned_c : ℕ → ℕ → ℕ
+turned_c row c = turned (table_two 128 64 2 8 66 136) row c
+
+unfoldable pub turned_d : ℕ → ℕ → ℕ
+turned_d row d = turned (table_two 128 0 0 32 16 136) row d
+
+unfoldable pub least_two : ℕ → ℕ
+least_two row = slice_index (table_two 64 0 192 20 12 7) row
+
+unfoldable pub least_coarse_two : ℕ → ℕ
+least_coarse_two row = slice_index (table_two 0 128 0 0 0 0) row
 
 -- 128 times what the parts of a word count for
 abbrev pub whole : ℕ → ℕ → ℕ → ℕ → ℕ → ℕ

@@ -108,24 +108,6 @@ ones_two row a b c d =
 unfoldable pub coarse_two : ℕ → ℕ → ℕ → ℕ → ℕ → ℕ
 coarse_two row a b c d = kept_by (table_two 0 63 0 0 0 0) 2 row a + kept_by (table_two 0 127 3 0 0 0) 1 row c
 
-unfoldable pub turned_a : ℕ → ℕ → ℕ
-turned_a row a = turned (table_two 128 32 32 32 33 8) row a
-
-unfoldable pub turned_b : ℕ → ℕ → ℕ
-turned_b row b = turned (table_two 128 0 8 130 8 136) row b
-
-unfoldable pub turned_c : ℕ → ℕ → ℕ
-turned_c row c = turned (table_two 128 64 2 8 66 136) row c
-
-unfoldable pub turned_d : ℕ → ℕ → ℕ
-turned_d row d = turned (table_two 128 0 0 32 16 136) row d
-
-unfoldable pub least_two : ℕ → ℕ
-least_two row = slice_index (table_two 64 0 192 20 12 7) row
-
-unfoldable pub least_coarse_two : ℕ → ℕ
-least_coarse_two row = slice_index (table_two 0 128 0 0 0 0) row
-
 -- the sum over some words
 abbrev pub sum_z : List ℤ → ℤ
 sum_z [] = pos 0
@@ -182,10 +164,6 @@ differences_by counts widths frame from word =
 abbrev pub moved : Scheme → List ℕ → ℕ → ℕ → ℤ
 moved scheme frame from word = total (differences_by (counts_of scheme) (widths_of scheme) frame from word)
 
--- how far they go in all, up and down
-abbrev pub spanned : Scheme → List ℕ → ℕ → ℕ → ℕ
-spanned scheme frame from word = span (differences_by (counts_of scheme) (widths_of scheme) frame from word)
-
 unfoldable pub low_one : ℕ → ℕ → ℕ → ℕ → ℕ → ℕ
 low_one row a b c d =
     kept_by (table_one 255 0) 1 row a + kept_by (table_one 255 255) 1 row b + kept_by (table_one 255 0) 1 row c
@@ -193,12 +171,3 @@ low_one row a b c d =
 
 unfoldable pub high_one : ℕ → ℕ → ℕ → ℕ → ℕ → ℕ
 high_one row a b c d = kept_by (table_one 0 255) 1 row a + kept_by (table_one 0 255) 1 row c
-
-unfoldable pub flipped : ℕ → ℕ → ℕ
-flipped row byte = turned (table_one 128 128) row byte
-
-unfoldable pub flipped_low : ℕ → ℕ → ℕ
-flipped_low row byte = turned (table_one 128 0) row byte
-
-unfoldable pub least_one : ℕ → ℕ
-least_one row = slice_index (table_one 1 128) row

@@ -1,6 +1,6 @@
 use Rattle.std.proofs.Common.{refl, ◌<◌, subst}
-use Rattle.mseed_steim.specs.private.Lanes.{counts_one, flipped, flipped_low, least_one}
-use Rattle.mseed_steim.proofs.FrameOne.{lanes_come_one, frame_raised_one}
+use Rattle.mseed_steim.specs.private.Lanes.{counts_one}
+use Rattle.mseed_steim.proofs.FrameOne.{flipped, flipped_low, frame_raised_one, lanes_come_one, least_one}
 use Rattle.mseed_steim.proofs.frame.frame_one.Goals as goal
 
 pub returns : goal.returns
