@@ -12,7 +12,7 @@ ghost use Rattle.mseed_steim.specs.Packing.{IsEmptyWord, IsFarthest, IsFewest, I
 ghost use Rattle.mseed_steim.specs.Packing.{IsTooLargeAt, LeavesRoom, PacksRun};
 ghost use Rattle.mseed_steim.specs.Runs.{SpellsRun};
 ghost use Rattle.mseed_steim.specs.private.Four.{AreFour, AreThree};
-ghost use Rattle.mseed_steim.specs.private.Pushing.{Filling, IsReached, Pushing};
+ghost use Rattle.mseed_steim.specs.private.Pushing.{FillsOn, Filling, HasFrame, IsReached, MovesOn, Pushing};
 
 use crate::ahead::{KNOWN, Lookahead, look};
 use crate::data_words::{FRAME, WORD};
@@ -170,26 +170,21 @@ struct Reached {
     codes: u32,
 }
 
-/// Fills a frame further by four words at once, as long as four are known ahead and have room before its end.
+/// Fills a frame further by four words at once, as long as four are known ahead and have room before its end, and then
+/// by three, where these are and have it.
 #[inline(always)]
-fn push_fours(
+fn push_known(
     scheme: Scheme,
     known: &Lookahead,
     frames: &mut [u8],
     end: usize,
     reached: Reached,
 ) -> Reached
-    requires room { 4 * end ≤ length frames.old }
-    requires whole { end % 16 ≡ 0 }
-    requires inside { reached.index ≤ end }
-    requires begun { end < reached.index + 16 }
+    requires frame { HasFrame frames.old end reached }
     requires few { reached.used < 2 ^ 63 }
     requires reached { (ds : List ℤ) × ((head : ℕ) × IsReached scheme ds known.now frames.old head reached) }
-    ensures inside { result.index ≤ end }
-    ensures few { result.used ≤ reached.used + 128 }
-    ensures moves { ((result.index ≡ reached.index) × (result.place ≡ reached.place)) ⊎ (reached.index < result.index) }
-    ensures reached { (ds : List ℤ) (head : ℕ) → IsReached scheme ds known.now frames.old head reached
-        → IsReached scheme ds known.now frames.new head result }
+    ensures moves { MovesOn end reached result }
+    ensures fills { (ds : List ℤ) → FillsOn scheme ds known.now frames.old reached frames.new result }
 {
     let mut index = reached.index;
     let mut codes = reached.codes;
@@ -202,46 +197,23 @@ fn push_fours(
         place += four.count;
         index += FOUR;
     }
-    Reached {
+    let fours = Reached {
         used: reached.used + (place - reached.place),
         place,
         index,
         codes,
+    };
+    if index + THREE > end {
+        return fours;
     }
-}
-
-/// The same, and then by three words, where four aren't known or have no room.
-#[inline(always)]
-fn push_known(
-    scheme: Scheme,
-    known: &Lookahead,
-    frames: &mut [u8],
-    end: usize,
-    reached: Reached,
-) -> Reached
-    requires room { 4 * end ≤ length frames.old }
-    requires whole { end % 16 ≡ 0 }
-    requires inside { reached.index ≤ end }
-    requires begun { end < reached.index + 16 }
-    requires few { reached.used < 2 ^ 63 }
-    requires reached { (ds : List ℤ) × ((head : ℕ) × IsReached scheme ds known.now frames.old head reached) }
-    ensures inside { result.index ≤ end }
-    ensures moves { ((result.index ≡ reached.index) × (result.place ≡ reached.place)) ⊎ (reached.index < result.index) }
-    ensures reached { (ds : List ℤ) (head : ℕ) → IsReached scheme ds known.now frames.old head reached
-        → IsReached scheme ds known.now frames.new head result }
-{
-    let reached = push_fours(scheme, known, frames, end, reached);
-    if reached.index + THREE > end {
-        return reached;
-    }
-    let Some(three) = three_ahead(scheme, known, reached.place) else {
-        return reached;
+    let Some(three) = three_ahead(scheme, known, place) else {
+        return fours;
     };
     Reached {
-        used: reached.used + three.count,
-        place: reached.place + three.count,
-        index: reached.index + THREE,
-        codes: push_three(frames, reached.index, reached.codes, &three),
+        used: fours.used + three.count,
+        place: place + three.count,
+        index: index + THREE,
+        codes: push_three(frames, index, codes, &three),
     }
 }
 
@@ -260,9 +232,7 @@ fn push_next(
     requires early { reached.place < KNOWN }
     requires reached { (head : ℕ) × IsReached scheme diffs.now known.now frames.old head reached }
     ensures moves { IfOk result (λ next. next.index ≡ reached.index + 1) }
-    ensures reached { IfOk result (λ next. (head : ℕ)
-        → IsReached scheme diffs.now known.now frames.old head reached
-        → IsReached scheme diffs.now known.now frames.new head next) }
+    ensures fills { IfOk result (FillsOn scheme diffs.now known.now frames.old reached frames.new) }
     ensures refused { IfErr result (λ fault. IsFirstTooLarge scheme diffs.now fault.index
         × LeavesRoom scheme (take fault.index diffs.now) (length (data_words frames.new))) }
 {
@@ -291,18 +261,11 @@ fn push_each(
     end: usize,
     reached: Reached,
 ) -> Result<Reached, TooLargeAt>
-    requires room { end ≤ word_count frames.old }
-    requires whole { end % 16 ≡ 0 }
-    requires inside { reached.index ≤ end }
-    requires begun { end < reached.index + 16 }
+    requires frame { HasFrame frames.old end reached }
     requires reached { (head : ℕ) × IsReached scheme diffs.now known.now frames.old head reached }
-    ensures inside { IfOk result (λ next. next.index ≤ end) }
-    ensures moves { IfOk result (λ next. ((next.index ≡ reached.index) × (next.place ≡ reached.place))
-        ⊎ (reached.index < next.index)) }
+    ensures moves { IfOk result (MovesOn end reached) }
     ensures ended { IfOk result (λ next. (next.index ≡ end) ⊎ ((next.used ≡ length diffs.now) ⊎ (KNOWN ≤ next.place))) }
-    ensures reached { IfOk result (λ next. (head : ℕ)
-        → IsReached scheme diffs.now known.now frames.old head reached
-        → IsReached scheme diffs.now known.now frames.new head next) }
+    ensures fills { IfOk result (FillsOn scheme diffs.now known.now frames.old reached frames.new) }
     ensures refused { IfErr result (λ fault. IsFirstTooLarge scheme diffs.now fault.index
         × LeavesRoom scheme (take fault.index diffs.now) (length (data_words frames.new))) }
 {

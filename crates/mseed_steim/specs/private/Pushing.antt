@@ -37,3 +37,20 @@ pub record Pushing (s : Scheme) (ds : List ℤ) (p : List ℕ) (head codes index
 pub record IsReached (s : Scheme) (ds : List ℤ) (known : Lookahead) (p : List ℕ) (head : ℕ) (r : Reached) : Type 0 where
   pub pushing : Pushing s ds p head r.codes r.index r.used
   pub ahead : IsLookahead s (known_from known r.place) (drop r.used ds)
+
+-- The frame that ends before a word has been begun, and isn't passed.
+pub record HasFrame (p : List ℕ) (end : ℕ) (r : Reached) : Type 0 where
+  pub room : 4 * end ≤ length p
+  pub whole : end % 16 ≡ 0
+  pub inside : r.index ≤ end
+  pub begun : end < r.index + 16
+
+-- It isn't passed, and some words more are filled, or none.
+pub record MovesOn (end : ℕ) (before after : Reached) : Type 0 where
+  pub inside : after.index ≤ end
+  pub moves : ((after.index ≡ before.index) × (after.place ≡ before.place)) ⊎ (before.index < after.index)
+
+-- What is packed then are as many of the differences as it says.
+abbrev pub FillsOn : Scheme → List ℤ → Lookahead → List ℕ → Reached → List ℕ → Reached → Type 0
+FillsOn s ds known p before q after =
+    (head : ℕ) → IsReached s ds known p head before → IsReached s ds known q head after

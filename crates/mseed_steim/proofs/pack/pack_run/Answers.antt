@@ -49,7 +49,7 @@ loop-next-init c =
 pub push_each-requires-clause-reached : goal.push_each-requires-clause-reached
 push_each-requires-clause-reached c = (
   c.loop-next.head,
-  c.push_known-reached.ensures.reached c.args.diffs.now c.loop-next.head c.loop-next.invariant.reached,
+  c.push_known-reached.ensures.fills c.args.diffs.now c.loop-next.head c.loop-next.invariant.reached,
 )
 
 pub returns-in-Err-clause-packed : goal.returns-in-Err-clause-packed
@@ -74,8 +74,8 @@ loop-next-preserved-then-reached-end c =
     let next = c.in-Ok.next in
     let p = c.push_each.new.frames in
     let q = c.write_word-then-reached-end.new.frames in
-    let is = c.in-Ok.ensures.reached c.loop-next.head
-    (c.push_known-reached.ensures.reached ds c.loop-next.head before.reached) in
+    let is = c.in-Ok.ensures.fills c.loop-next.head
+    (c.push_known-reached.ensures.fills ds c.loop-next.head before.reached) in
     let end : next.index ≡ c.loop-next.head + 16 = c.if-reached-end.true in
     let first : next.index % 16 ≡ 0 = omega (arith, end, before.at) in
     let more : c.loop-next.head + 16 ≢ length p / 4 = c.if-end-frames.false in
@@ -97,21 +97,21 @@ loop-next-preserved-then-reached-end c =
 
 pub offset_bounds-diffs-reached : goal.offset_bounds-diffs-reached
 offset_bounds-diffs-reached c =
-    let is = c.in-Ok.ensures.reached c.loop-next.head
-    (c.push_known-reached.ensures.reached c.args.diffs.now c.loop-next.head c.loop-next.invariant.reached) in
+    let is = c.in-Ok.ensures.fills c.loop-next.head
+    (c.push_known-reached.ensures.fills c.args.diffs.now c.loop-next.head c.loop-next.invariant.reached) in
     let inside : c.in-Ok.next.used ≤ length c.args.diffs.now = is.pushing.coding.filling.inside in
     search rules
 
 pub slice_bounds-rest-count : goal.slice_bounds-rest-count
 slice_bounds-rest-count c =
-    let is = c.in-Ok.ensures.reached c.loop-next.head
-    (c.push_known-reached.ensures.reached c.args.diffs.now c.loop-next.head c.loop-next.invariant.reached) in
+    let is = c.in-Ok.ensures.fills c.loop-next.head
+    (c.push_known-reached.ensures.fills c.args.diffs.now c.loop-next.head c.loop-next.invariant.reached) in
     is.pushing.coding.filling.inside
 
 pub slice_bounds-rest-start : goal.slice_bounds-rest-start
 slice_bounds-rest-start c =
-    let is = c.in-Ok.ensures.reached c.loop-next.head
-    (c.push_known-reached.ensures.reached c.args.diffs.now c.loop-next.head c.loop-next.invariant.reached) in
+    let is = c.in-Ok.ensures.fills c.loop-next.head
+    (c.push_known-reached.ensures.fills c.args.diffs.now c.loop-next.head c.loop-next.invariant.reached) in
     let inside : c.in-Ok.next.used ≤ length c.args.diffs.now = is.pushing.coding.filling.inside in
     search rules
 
@@ -122,8 +122,8 @@ loop-next-preserved c =
     let before = c.loop-next.invariant in
     let p = c.push_each.new.frames in
     let next = c.in-Ok.next in
-    let is = c.in-Ok.ensures.reached c.loop-next.head
-    (c.push_known-reached.ensures.reached c.args.diffs.now c.loop-next.head c.loop-next.invariant.reached) in
+    let is = c.in-Ok.ensures.fills c.loop-next.head
+    (c.push_known-reached.ensures.fills c.args.diffs.now c.loop-next.head c.loop-next.invariant.reached) in
     let new : Lookahead = record { most = c.look.new.most; cut = c.look.new.cut; place = c.loop-next.known.place } in
     let ahead = subst (λ (xs : List ℤ). IsLookahead s (known_from new 0) xs) (take_rest ds next.used) c.look.ensures in
     begun s ds new p c.loop-next.head _ (record { pushing = is.pushing; ahead = ahead })
@@ -138,8 +138,8 @@ returns-clause-packed c =
     let next = c.in-Ok.next in
     let frames = c.finish.new.frames in
     let packed = c.finish.result in
-    let is = c.in-Ok.ensures.reached c.loop-next.head
-    (c.push_known-reached.ensures.reached c.args.diffs.now c.loop-next.head c.loop-next.invariant.reached) in
+    let is = c.in-Ok.ensures.fills c.loop-next.head
+    (c.push_known-reached.ensures.fills c.args.diffs.now c.loop-next.head c.loop-next.invariant.reached) in
     let filling : Filling s ds frames next.index packed.used packed.words =
     subst (λ (n : ℕ). Filling s ds frames next.index n packed.words) (sym c.finish.ensures.used)
     (c.finish.ensures.filled s ds is.pushing) in
@@ -147,7 +147,8 @@ returns-clause-packed c =
     let all : length frames ≡ length c.loop-next.frames =
     omega (arith, long, c.push_known-reached.auto.frames, c.push_each.auto.frames) in
     let whole : length frames % 64 ≡ 0 = omega (arith, all, before.whole) in
-    let inside : next.index ≤ word_count frames = omega (arith, whole, all, c.in-Ok.ensures.inside, before.frame) in
+    let inside : next.index ≤ word_count frames =
+    omega (arith, whole, all, c.in-Ok.ensures.moves.inside, before.frame) in
     let end : (packed.used ≡ length ds) ⊎ (next.index ≡ word_count frames) = elim c.if-reached-end.branch [
       | then-reached-end+then-end-frames w ↦
           inr (omega (arith, whole, long, w.if-reached-end.true, w.if-end-frames.true))
@@ -169,7 +170,7 @@ returns-clause-packed c =
 
 pub returns-clause-known : goal.returns-clause-known
 returns-clause-known c =
-    let is = c.in-Ok.ensures.reached c.loop-next.head
-    (c.push_known-reached.ensures.reached c.args.diffs.now c.loop-next.head c.loop-next.invariant.reached) in
+    let is = c.in-Ok.ensures.fills c.loop-next.head
+    (c.push_known-reached.ensures.fills c.args.diffs.now c.loop-next.head c.loop-next.invariant.reached) in
     subst (λ (n : ℕ). IsLookahead c.args.scheme (known_from c.loop-next.known c.in-Ok.next.place)
     (drop n c.args.diffs.now)) (sym c.finish.ensures.used) is.ahead

@@ -11,9 +11,9 @@ pub loop-reached-init : goal.loop-reached-init
 loop-reached-init c =
     let is = c.requires.reached.1 in
     record {
-      inside = c.requires.inside;
-      begun = c.requires.begun;
-      room = c.requires.room;
+      inside = c.requires.frame.inside;
+      begun = c.requires.frame.begun;
+      room = omega (arith, c.requires.frame.room, c.requires.frame.whole);
       used = is.pushing.coding.filling.inside;
       place = is.ahead.place;
       moves = inl (refl, refl);
@@ -54,7 +54,7 @@ loop-reached-preserved c =
     let so_far = before.moves in
     let next : (head : ℕ) → IsReached c.args.scheme c.args.diffs.now c.args.known.now c.args.frames.now head
     c.args.reached → IsReached c.args.scheme c.args.diffs.now c.args.known.now c.push_next.new.frames head
-    c.in-Ok.next = λ head from. c.in-Ok.ensures.reached head (before.reached head from) in
+    c.in-Ok.next = λ head from. c.in-Ok.ensures.fills head (before.reached head from) in
     let is = next c.requires.reached.0 c.requires.reached.1 in
     let more : c.args.reached.index < c.in-Ok.next.index = omega (arith, moves, so_far) in
     record {

@@ -51,8 +51,8 @@ returns-in_default-clause-refused c =
     filling_refused s ds coding.whole c.args.frames.now index used (index - 3 - (index - 1) / 16) coding.filling
     (omega (arith, same, c.requires.room)) c.requires.data (omega (arith, same)) large
 
-pub returns-clause-reached : goal.returns-clause-reached
-returns-clause-reached c = λ head is.
+pub returns-clause-fills : goal.returns-clause-fills
+returns-clause-fills c = λ head is.
     let s = c.args.scheme in
     let ds = c.args.diffs.now in
     let used = c.args.reached.used in

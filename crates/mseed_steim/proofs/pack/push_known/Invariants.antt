@@ -2,7 +2,7 @@ use Rattle.std.proofs.Common.{◌≡◌, ◌⊎◌, ℕ, ℤ, List, ◌<◌, ◌
 use Rattle.mseed_steim.specs.Lookahead.{IsLookahead}
 use Rattle.mseed_steim.specs.private.Four.{known_from}
 use Rattle.mseed_steim.specs.private.Pushing.{IsReached}
-use Rattle.mseed_steim.proofs.pack.push_fours.Given as goal
+use Rattle.mseed_steim.proofs.pack.push_known.Given as goal
 
 abbrev pub invariant-loop-index : goal.invariant-loop-index
 invariant-loop-index l = record {
