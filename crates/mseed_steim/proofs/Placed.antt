@@ -1,8 +1,7 @@
 -- Differences of frames that are unpacked in their places, and the steps that they are.
 use Rattle.std.proofs.Common.{◌≡◌, ℕ, ◌+◌, ◌-◌, ◌*◌, ◌/◌, ◌<◌, ◌≤◌, List, [], ◌∷◌, ◌++◌, map, take, drop, length}
 use Rattle.std.proofs.Common.{ℤ, ◌+ℤ◌, ◌-ℤ◌, arith, refl, ap, sym, ◌∙◌, subst, append_assoc, Result, Ok}
-use Rattle.std.proofs.Common.{Bool, false, true, Option, Some, None, IfSome, get_or, min}
-use Rattle.std.specs.Bool.{OnTrue}
+use Rattle.std.proofs.Common.{Option, Some, None, IfSome, get_or, min}
 use Rattle.std.proofs.Math.ListN.{set}
 use Rattle.std.proofs.Math.Seq.{take-length}
 use Rattle.std.proofs.lemmas.Int.{ints}
@@ -10,15 +9,14 @@ use Rattle.std.proofs.lemmas.List.{length-take-le, map-append, take-append-drop,
 use borrow.Rule.Slice.PartMut.{put_mid}
 use Rattle.mseed_steim.specs.declared.differences.BadWordAt.{BadWordAt}
 use Rattle.mseed_steim.specs.declared.scheme.Scheme.{Scheme}
-use Rattle.mseed_steim.specs.Frames.{DataWord, data_words, first_constant, words_from, word_count}
+use Rattle.mseed_steim.specs.Frames.{DataWord, data_words, first_constant, word_count}
 use Rattle.mseed_steim.specs.Samples.{Adds, AreSums, StartsAndAdds, differences_from, steps_of}
-use Rattle.mseed_steim.specs.private.Digits.{differences_of}
 use Rattle.mseed_steim.specs.private.Items.{items_of}
 use Rattle.mseed_steim.specs.private.Lanes.{Begins}
 use Rattle.mseed_steim.specs.private.Unpacked.{AreUnpacked, data_in, left_from}
 use Rattle.mseed_steim.proofs.Given.{IsWord, all_after, prefix_words, words_small}
 use Rattle.mseed_steim.proofs.Summed.{put_next}
-use Rattle.mseed_steim.proofs.Walking.{frames_cut, items_group}
+use Rattle.mseed_steim.proofs.Walking.{frames_cut}
 use Rattle.std.specs.List.{AllByRecursion}
 
 -- the first of a frame's differences stand there, as many as there are places
@@ -68,35 +66,6 @@ first_items items rest done ds k e =
     e ∙ ap (λ (ys : List ℤ). map Ok ys ++ rest) cut
     ∙ ap (λ (ys : List (Result ℤ BadWordAt)). ys ++ rest) (map-append Ok (done ++ take k ds) (drop k ds))
     ∙ append_assoc (map Ok (done ++ take k ds)) (map Ok (drop k ds)) rest
-
--- a word's differences, put after others, and those for which there is no place
-pub word_put : (s : Scheme) (w : DataWord) (ws : List DataWord) (done ds full left : List ℤ)
-    → differences_of s w.code w.bits ≡ Some ds → done ++ ds ≡ full ++ left
-    → map Ok done ++ items_of s (w ∷ ws) ≡ map Ok full ++ (map Ok left ++ items_of s ws)
-word_put s w ws done ds full left e q =
-    ap (λ (items : List (Result ℤ BadWordAt)). map Ok done ++ items) (items_group s (w ∷ ws) ws w ds refl e)
-    ∙ sym (append_assoc (map Ok done) (map Ok ds) (items_of s ws))
-    ∙ ap (λ (items : List (Result ℤ BadWordAt)). items ++ items_of s ws)
-    (sym (map-append Ok done ds) ∙ ap (λ (ys : List ℤ). map {B = Result ℤ BadWordAt} Ok ys) q ∙ map-append Ok full left)
-    ∙ append_assoc (map Ok full) (map Ok left) (items_of s ws)
-
--- where a frame's words fill the places, so do those of all frames
-pub rest_put : (r : Bool) (s : Scheme) (p : List ℕ) (i met : ℕ) (out before after : List ℤ) → i < length p / 64
-    → take met before ≡ take met out
-    → items_of s (data_words p) ≡ map Ok (take met out) ++ items_of s (left_from p 0 i)
-    → OnTrue r ((rest : List DataWord) → (more : List (Result ℤ BadWordAt))
-    × (map Ok (take met before) ++ items_of s (words_from p (16 * i + data_in 0 i) (16 - data_in 0 i) ++ rest)
-    ≡ map Ok after ++ more))
-    → OnTrue r ((more : List (Result ℤ BadWordAt)) × (items_of s (data_words p) ≡ map Ok after ++ more))
-rest_put false s p i met out before after inside kept same h = tt
-rest_put true s p i met out before after inside kept same h =
-    let found = h (left_from p 0 (i + 1)) in (
-      found.0,
-      same ∙ ap (λ (ws : List DataWord). map Ok (take met out) ++ items_of s ws)
-          (frames_cut p 0 0 i 1 (omega arith) (omega (arith, inside)))
-          ∙ ap (λ (ys : List ℤ). map Ok ys ++ items_of s (words_from p (16 * i + data_in 0 i) (16 - data_in 0 i)
-          ++ left_from p 0 (i + 1))) (sym kept) ∙ found.1,
-    )
 
 -- samples that differences add up to are that far apart
 adds_steps : (x : ℤ) (ds es : List ℤ) (a b : List (Result ℤ BadWordAt)) (ss : List ℤ) → map Ok ds ++ a ≡ map Ok es ++ b

@@ -1,29 +1,25 @@
 //! What is read of a record that is known to have a reading: differences alone, of which none is added up.
 
-ghost use Rattle.std.specs.Prelude.{◌≡◌, ◌+◌, ◌-◌, ◌*◌, ◌<◌, ◌≤◌, ◌++◌, ℕ, List, [], ℤ, Result, Ok, IfSome, IsTrue};
+ghost use Rattle.std.specs.Prelude.{◌≡◌, ◌+◌, ◌-◌, ◌<◌, ◌≤◌, ◌++◌, ℕ, List, [], ℤ, Result, Ok, IfSome};
 ghost use Rattle.std.specs.Prelude.{length, map, min, take};
 ghost use Rattle.std.specs.Bool.{OnTrue};
 ghost use Rattle.mseed_record.specs.Viewing.{view_of};
 ghost use Rattle.mseed_steim.specs.declared.differences.BadWordAt.{BadWordAt};
-ghost use Rattle.mseed_steim.specs.Frames.{DataWord, data_words, first_constant, last_constant, words_from};
+ghost use Rattle.mseed_steim.specs.Frames.{data_words, first_constant, last_constant};
 ghost use Rattle.mseed_steim.specs.Reading.{count_of, IsSteim, IsWhole};
 ghost use Rattle.mseed_steim.specs.Samples.{AreEnds, AreSums, steps_of};
-ghost use Rattle.mseed_steim.specs.private.Digits.{digits};
 ghost use Rattle.mseed_steim.specs.private.Items.{items_of};
 ghost use Rattle.mseed_steim.specs.private.Lanes.{Begins};
-ghost use Rattle.mseed_steim.specs.private.Unpacked.{AreUnpacked, data_in};
+ghost use Rattle.mseed_steim.specs.private.Unpacked.{AreUnpacked};
 
 use crate::check::{constants_of, payload_of};
-use crate::data_words::{FRAME, Words};
 use crate::ends::ends_of;
 use crate::fault::Ends;
 use crate::form::Form;
-use crate::frame::{begin_in, data_in};
-use crate::group::{Group, group_of};
+use crate::frame::begin_in;
 use crate::lanes::Rows;
 use crate::read::fill_differences;
 use crate::scheme::Scheme;
-use crate::sum::next_difference;
 use crate::unpack::{PLACES, Room, unpack_frame, unpack_wide};
 use mseed_record::RecordView;
 
@@ -70,67 +66,8 @@ fn unpack_some(
     Some(some)
 }
 
-/// The differences of a group, put after so many, as far as there are places: how many there are then.
-fn unpack_group(word: u32, group: Group, met: usize, out: &mut [i32]) -> usize
-    requires met { met ≤ length out.old }
-    ensures places { length out.new ≡ length out.old }
-    ensures met { result ≤ length out.old }
-    ensures put { (left : List ℤ) × ((take met out.old ++ digits group.width word group.count
-        ≡ take result out.new ++ left) × (result < length out.old → left ≡ [])) }
-{
-    let mut met = met;
-    for i in 0..group.count {
-        if met == out.len() {
-            return met;
-        }
-        out[met] = next_difference(word, group, i);
-        met += 1;
-    }
-    met
-}
-
-/// The differences of some words, put after so many, as far as there are places: whether they fill these before a bad
-/// word comes.
-fn unpack_each(scheme: Scheme, words: Words<'_>, met: usize, out: &mut [i32]) -> bool
-    requires left { met < length out.old }
-    ensures places { length out.new ≡ length out.old }
-    ensures put { OnTrue result ((rest : List DataWord) → (more : List (Result ℤ BadWordAt))
-        × (map Ok (take met out.old) ++ items_of scheme (words.entry ++ rest) ≡ map Ok out.new ++ more)) }
-{
-    let mut met = met;
-    for word in words {
-        let Some(group) = group_of(scheme, word.code, word.bits) else {
-            return false;
-        };
-        met = unpack_group(word.bits, group, met, out);
-        if met == out.len() {
-            return true;
-        }
-    }
-    false
-}
-
-/// The same of a frame with a bad word: in a record that has a reading it stands after the last sample.
-#[cold]
-fn unpack_rest(scheme: Scheme, payload: &[u8], index: usize, met: usize, out: &mut [i32]) -> bool
-    requires inside { 64 * (index + 1) ≤ length payload.now }
-    requires left { met < length out.old }
-    ensures places { length out.new ≡ length out.old }
-    ensures put { OnTrue result ((rest : List DataWord) → (more : List (Result ℤ BadWordAt))
-        × (map Ok (take met out.old) ++ items_of scheme
-        (words_from payload.now (16 * index + data_in 0 index) (16 - data_in 0 index) ++ rest)
-        ≡ map Ok out.new ++ more)) }
-{
-    let words = Words::between(
-        payload,
-        FRAME * index + data_in(0, index),
-        FRAME * (index + 1),
-    );
-    unpack_each(scheme, words, met, out)
-}
-
-/// Unpacks the first differences of a payload's frames, as many as there are places. False where a bad word comes
-/// before that, or there are too few.
+/// Unpacks the first differences of a payload's frames, as many as there are places. False where one of these frames
+/// has a bad word, or there are too few.
 fn unpack_frames(scheme: Scheme, payload: &[u8], out: &mut [i32]) -> bool
     requires some { 0 < length out.old }
     ensures places { length out.new ≡ length out.old }
@@ -144,7 +81,7 @@ fn unpack_frames(scheme: Scheme, payload: &[u8], out: &mut [i32]) -> bool
         let begin = begin_in(0, index);
         let Some(count) = unpack_some(scheme, &frames[index], begin, &mut room, &mut out[met..])
         else {
-            return unpack_rest(scheme, payload, index, met, out);
+            return false;
         };
         met += count;
         if met == out.len() {
@@ -154,8 +91,8 @@ fn unpack_frames(scheme: Scheme, payload: &[u8], out: &mut [i32]) -> bool
     false
 }
 
-/// Fills in the steps of as many samples as there are places, where no bad word comes before, and answers the constants
-/// for the first and the last of them.
+/// Fills in the steps of as many samples as there are places, where no frame with one of them has a bad word, and
+/// answers the constants for the first and the last of them.
 #[inline(always)]
 fn fill_payload(scheme: Scheme, payload: &[u8], out: &mut [i32]) -> Option<Ends>
     requires some { 0 < length out.old }
@@ -165,9 +102,7 @@ fn fill_payload(scheme: Scheme, payload: &[u8], out: &mut [i32]) -> Option<Ends>
     ensures first { IfSome result (λ ends. ends.first ≡ first_constant payload.now) }
     ensures last { IfSome result (λ ends. ends.last ≡ last_constant payload.now) }
 {
-    let Some(constants) = constants_of(payload) else {
-        return None;
-    };
+    let constants = constants_of(payload)?;
     if !unpack_frames(scheme, payload, out) {
         return None;
     }
@@ -205,7 +140,7 @@ pub fn unpack_differences(view: &RecordView<'_>, out: &mut [i32]) -> Ends
     if let Some(ends) = fill_known(view, out) {
         return ends;
     }
-    // A record that has a reading fills its places above. No contract says so, but here there would be no error either.
+    // Where a record has a reading, a bad word stands after its last sample: the walk ends before it.
     match fill_differences(view, out) {
         Ok(()) => ends_of(view),
         Err(_) => unreachable!(),

@@ -4,8 +4,7 @@ use Rattle.std.proofs.Math.Seq.{take-length}
 use Rattle.std.proofs.lemmas.Simd.{length-chunk}
 use borrow.Rule.Slice.PartMut.{put_mid}
 use Rattle.mseed_steim.specs.declared.differences.BadWordAt.{BadWordAt}
-use Rattle.mseed_steim.proofs.Placed.{goes_on, put_on, rest_put}
-use Rattle.mseed_steim.proofs.Summed.{put_front}
+use Rattle.mseed_steim.proofs.Placed.{goes_on, put_on}
 use Rattle.mseed_steim.proofs.Walking.{frame_at}
 use Rattle.mseed_steim.proofs.known.unpack_frames.Goals as goal
 
@@ -46,11 +45,3 @@ loop-index-preserved c =
           c.in-Some.ensures.unpacked c.unpack_some.ensures.places (omega (arith, room)) (omega (arith, room, left))
           c.loop-index.invariant.same;
     }
-
-pub returns-in_default-clause-unpacked : goal.returns-in_default-clause-unpacked
-returns-in_default-clause-unpacked c =
-    let inside : c.loop-index.index < length c.args.payload.now / 64 = omega arith in
-    rest_put c.unpack_rest.result c.args.scheme c.args.payload.now c.loop-index.index c.loop-index.met c.loop-index.out
-    _ c.unpack_rest.new.out inside
-    (put_front c.loop-index.met (length c.loop-index.out - c.loop-index.met) c.loop-index.out c.unpack_some.new.out
-    (omega arith)) c.loop-index.invariant.same c.unpack_rest.ensures.put
