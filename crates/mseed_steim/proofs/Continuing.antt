@@ -9,9 +9,10 @@ use Rattle.std.proofs.lemmas.List.{map-append, take-append-drop, take-take}
 use Rattle.mseed_steim.specs.declared.differences.BadWordAt.{BadWordAt}
 use Rattle.mseed_steim.specs.declared.fault.ReadFault.{ReadFault}
 use Rattle.mseed_steim.specs.declared.keep.Taken.{Taken}
+use Rattle.mseed_steim.specs.declared.keep.Task.{Task}
 use Rattle.mseed_steim.specs.declared.sum.Sum.{Sum}
 use Rattle.mseed_steim.specs.private.Lanes.{span, total}
-use Rattle.mseed_steim.specs.private.Sums.{Continues, IsCounted, Puts, Walks, fold, in_places, kept_along}
+use Rattle.mseed_steim.specs.private.Sums.{Continues, IsCounted, Puts, Takes, Walks, fold, in_places, kept_along}
 use Rattle.mseed_steim.specs.private.Sums.{kept_in, met_in, places_for, with_first}
 use Rattle.mseed_steim.proofs.Far.{goes_far, keeps_far}
 use Rattle.mseed_steim.proofs.Folds.{fold_done, fold_first, fold_short}
@@ -159,20 +160,12 @@ continues_unused keep n s next z before after ds more some c = record {
 }
 
 -- where nothing is kept, the sum alone goes on
-nothing_continues : (keep : Option (ℤ → ℤ → ℤ)) (n : ℕ) (s next : Sum) (out : List ℤ)
-    (items behind : List (Result ℤ BadWordAt)) → keep ≡ None → length out ≡ places_for keep n
-    → fold n s items ≡ fold n next behind → next.met ≤ n → Continues keep n s out items behind out next
-nothing_continues None n s next out items behind e places folded met =
-    record { folded = folded; kept = refl; met = met; places = places }
-nothing_continues (Some keep) n s next out items behind e places folded met = cc
-
-pub nothing_kept : (keep : Option (ℤ → ℤ → ℤ)) (n : ℕ) (s : Sum) (out : List ℤ) (items : List (Result ℤ BadWordAt))
-    (behind : Taken → List (Result ℤ BadWordAt)) (o : Option Taken) → keep ≡ None → length out ≡ places_for keep n
-    → IfSome o (λ taken. fold n s items ≡ fold n taken.sum (behind taken)) → IfSome o (λ taken. taken.sum.met ≤ n)
-    → IfSome o (λ taken. Continues keep n s out items (behind taken) out taken.sum)
-nothing_kept keep n s out items behind None e places folded met = tt
-nothing_kept keep n s out items behind (Some taken) e places folded met =
-    nothing_continues keep n s taken.sum out items (behind taken) e places folded met
+pub nothing_kept : (keep : Option (ℤ → ℤ → ℤ)) (task : Task) (p : List ℕ) (i : ℕ) (s : Sum) (out : List ℤ)
+    (o : Option Taken) → keep ≡ None → length out ≡ places_for keep task.samples
+    → IfSome o (Takes None task p i s [] []) → IfSome o (Takes keep task p i s out out)
+nothing_kept None task p i s [] o e places takes = takes
+nothing_kept None task p i s (x ∷ out) o e places takes = absurd (omega (arith, places))
+nothing_kept (Some keep) task p i s out o e places takes = cc
 
 -- Differences of which the first alone are needed: those after them aren't looked at.
 parts : (k count : ℕ) (ds : List ℤ) → k ≤ count → take count ds ≡ take k ds ++ drop k (take count ds)

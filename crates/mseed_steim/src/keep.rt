@@ -1,16 +1,15 @@
 //! What a walk over a record's frames keeps of its samples, and how it takes frames at once: in lanes where nothing is
 //! kept of them, and else unpacked.
 
-ghost use Rattle.std.specs.Prelude.{◌≡◌, ◌+◌, ◌-◌, ◌*◌, ◌/◌, ◌^◌, ◌≤◌, ◌<◌, ◌∷◌, ◌++◌, [], ◌+ℤ◌, ℕ, List, ℤ, nat_abs};
-ghost use Rattle.std.specs.Prelude.{IfNone, IfSome, Ok, None, true, Option, Result, Some, length, map, take};
+ghost use Rattle.std.specs.Prelude.{◌≡◌, ◌+◌, ◌-◌, ◌*◌, ◌/◌, ◌^◌, ◌≤◌, ◌<◌, ◌∷◌, [], ◌+ℤ◌, ℕ, List, ℤ, nat_abs};
+ghost use Rattle.std.specs.Prelude.{IfNone, IfSome, Ok, None, true, Option, Result, Some, length, take};
 ghost use Rattle.mseed_steim.specs.declared.differences.BadWordAt.{BadWordAt};
 ghost use Rattle.mseed_steim.specs.Frames.{DataWord};
 ghost use Rattle.mseed_steim.specs.private.Items.{items_of};
 ghost use Rattle.mseed_steim.specs.private.Lanes.{span, total};
 ghost use Rattle.mseed_steim.specs.private.Reads.{as_data};
-ghost use Rattle.mseed_steim.specs.private.Sums.{AddsRun, Continues, HasPlaces, IsCounted, Puts, fold, kept_along};
+ghost use Rattle.mseed_steim.specs.private.Sums.{AddsRun, CanTake, IsCounted, Puts, Takes, WalksOver, kept_along};
 ghost use Rattle.mseed_steim.specs.private.Sums.{kept_at, places_for, the_difference, the_sample, with_first};
-ghost use Rattle.mseed_steim.specs.private.Unpacked.{left_from};
 
 use crate::adding::put_sums;
 use crate::data_words::{Word, first_word};
@@ -46,7 +45,7 @@ pub(crate) trait Keeper {
 
     /// Keeps a sample at its place, or its difference; of the first sample itself.
     fn keep(place: usize, difference: i32, sample: i32, out: &mut [i32])
-        requires inside { HasPlaces kept (place + 1) out.old }
+        requires inside { places_for kept (place + 1) ≤ length out.old }
         ensures put { Puts kept place (λ keep. kept_at keep place difference sample ∷ []) out.old out.new }
         ensures places { length out.new ≡ length out.old };
 
@@ -56,7 +55,7 @@ pub(crate) trait Keeper {
         requires few { count ≤ 120 }
         requires counted { IsCounted sum.met (take count differences.old) }
         requires near { nat_abs sum.last + span (take count differences.old) < 2 ^ 31 }
-        requires inside { HasPlaces kept (sum.met + count) out.old }
+        requires inside { places_for kept (sum.met + count) ≤ length out.old }
         ensures last { result ≡ sum.last +ℤ total (take count differences.old) }
         ensures put { Puts kept sum.met (λ keep. kept_along keep sum.met sum.last (take count differences.old))
             out.old out.new }
@@ -158,8 +157,7 @@ pub(crate) fn keep_needed<K: Keeper>(
     requires met { sum.met ≤ samples }
     requires places { length out.old ≡ places_for K.kept samples }
     requires near { nat_abs sum.last + span (take count differences.old) < 2 ^ 31 }
-    ensures { (more : List (Result ℤ BadWordAt)) → Continues K.kept samples sum out.old
-        (map Ok (take count differences.old) ++ more) more out.new result }
+    ensures { WalksOver K.kept samples sum out.old (take count differences.old) out.new (Ok result) }
 {
     put_first(sum.met, 0, differences);
     let needed = count.min(samples - sum.met);
@@ -167,40 +165,6 @@ pub(crate) fn keep_needed<K: Keeper>(
         met: sum.met + needed,
         last: K::keep_near(differences, needed, sum, out),
     }
-}
-
-/// Takes a frame at once, unpacked in a room for its differences, as far as these are needed. None where a word of it
-/// is bad or has a wide difference, or the limits of 32 bits are within its reach.
-#[inline(always)]
-fn keep_frame<K: Keeper>(
-    task: Task,
-    payload: &[u8],
-    index: usize,
-    sum: Sum,
-    room: &mut [i32],
-    out: &mut [i32],
-) -> Option<Taken>
-    requires inside { index < length payload.now / 64 }
-    requires left { sum.met < task.samples }
-    requires places { length out.old ≡ places_for K.kept task.samples }
-    ensures some { IfSome result (λ taken. 0 < taken.frames) }
-    ensures frames { IfSome result (λ taken. index + taken.frames ≤ length payload.now / 64) }
-    ensures continues { IfSome result (λ taken. Continues K.kept task.samples sum out.old
-        (items_of task.scheme (left_from payload.now sum.met index))
-        (items_of task.scheme (left_from payload.now taken.sum.met (index + taken.frames))) out.new taken.sum) }
-    ensures none { IfNone result (out.new ≡ out.old) }
-{
-    if sum.last.unsigned_abs() >= (1 << 31) - REACH {
-        return None;
-    }
-    let (frames, _) = payload.as_chunks::<64>();
-    let begin = begin_in(sum.met, index);
-    let differences = room.as_mut_array::<PLACES>()?;
-    let count = unpack_frame(task.scheme, &frames[index], begin, differences)?;
-    Some(Taken {
-        frames: 1,
-        sum: keep_needed::<K>(differences, count, task.samples, sum, out),
-    })
 }
 
 /// How many frames are added up at once after a sum: so many that none of their sums leaves 32 bits, as far as they
@@ -250,13 +214,7 @@ fn unused_in(task: Task, payload: &[u8], index: usize, sum: Sum) -> Option<i32>
 fn add_frames(task: Task, payload: &[u8], index: usize, sum: Sum) -> Option<Taken>
     requires inside { index < length payload.now / 64 }
     requires left { sum.met < task.samples }
-    ensures some { IfSome result (λ taken. 0 < taken.frames) }
-    ensures frames { IfSome result (λ taken. index + taken.frames ≤ length payload.now / 64) }
-    ensures folded { IfSome result (λ taken.
-        fold task.samples sum (items_of task.scheme (left_from payload.now sum.met index))
-        ≡ fold task.samples taken.sum
-        (items_of task.scheme (left_from payload.now taken.sum.met (index + taken.frames)))) }
-    ensures met { IfSome result (λ taken. taken.sum.met ≤ task.samples) }
+    ensures { IfSome result (Takes None task payload.now index sum [] []) }
 {
     let unused = unused_in(task, payload, index, sum)?;
     let (frames, _) = payload.as_chunks::<64>();
@@ -277,8 +235,9 @@ fn add_frames(task: Task, payload: &[u8], index: usize, sum: Sum) -> Option<Take
     })
 }
 
-/// Takes frames from one on at once, as many as it can. None where the first has to be looked at: where a word of it is
-/// bad or has a wide difference, or the limits of 32 bits are within its reach. Nothing is kept then.
+/// Takes frames from one on at once: where nothing is kept, as many as it can; else one, unpacked in a room for its
+/// differences, as far as these are needed. None where the first has to be looked at: where a word of it is bad or has
+/// a wide difference, or the limits of 32 bits are within its reach. Nothing is kept then.
 #[inline(always)]
 pub(crate) fn take_frames<K: Keeper>(
     task: Task,
@@ -288,19 +247,22 @@ pub(crate) fn take_frames<K: Keeper>(
     room: &mut [i32],
     out: &mut [i32],
 ) -> Option<Taken>
-    requires inside { index < length payload.now / 64 }
-    requires left { sum.met < task.samples }
-    requires places { length out.old ≡ places_for K.kept task.samples }
-    ensures some { IfSome result (λ taken. 0 < taken.frames) }
-    ensures frames { IfSome result (λ taken. index + taken.frames ≤ length payload.now / 64) }
-    ensures continues { IfSome result (λ taken. Continues K.kept task.samples sum out.old
-        (items_of task.scheme (left_from payload.now sum.met index))
-        (items_of task.scheme (left_from payload.now taken.sum.met (index + taken.frames))) out.new taken.sum) }
+    requires { CanTake K.kept task payload.now index sum out.old }
+    ensures taken { IfSome result (Takes K.kept task payload.now index sum out.old out.new) }
     ensures none { IfNone result (out.new ≡ out.old) }
 {
     if K::keeps_nothing() {
-        add_frames(task, payload, index, sum)
-    } else {
-        keep_frame::<K>(task, payload, index, sum, room, out)
+        return add_frames(task, payload, index, sum);
     }
+    if sum.last.unsigned_abs() >= (1 << 31) - REACH {
+        return None;
+    }
+    let (frames, _) = payload.as_chunks::<64>();
+    let begin = begin_in(sum.met, index);
+    let differences = room.as_mut_array::<PLACES>()?;
+    let count = unpack_frame(task.scheme, &frames[index], begin, differences)?;
+    Some(Taken {
+        frames: 1,
+        sum: keep_needed::<K>(differences, count, task.samples, sum, out),
+    })
 }

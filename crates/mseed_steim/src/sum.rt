@@ -1,11 +1,11 @@
 //! What a walk has added up, and how far from 0 the sums of differences can come.
 
 ghost use Rattle.std.specs.Prelude.{◌≡◌, ◌+◌, ◌-◌, ◌^◌, ◌≤◌, ◌<◌, List, [], ◌∷◌, ℤ, ◌+ℤ◌, nat_abs, Result};
-ghost use Rattle.std.specs.Prelude.{Ok, IfOk, length};
+ghost use Rattle.std.specs.Prelude.{Ok, Err, IfOk, MatchResult, length};
 ghost use Rattle.mseed_steim.specs.declared.differences.BadWordAt.{BadWordAt};
 ghost use Rattle.mseed_steim.specs.private.Digits.{digits};
 ghost use Rattle.mseed_steim.specs.private.Lanes.{span, total};
-ghost use Rattle.mseed_steim.specs.private.Sums.{GoesOn, fold, kept_at, met_in};
+ghost use Rattle.mseed_steim.specs.private.Sums.{fold, kept_at, met_in};
 
 use crate::fault::ReadFault;
 use crate::group::Group;
@@ -24,7 +24,9 @@ pub(crate) type Walked = Result<Sum, ReadFault>;
 /// One difference more. That of the first sample isn't used.
 pub(crate) fn add_difference(difference: i32, samples: usize, sum: Sum) -> Walked
     requires { sum.met < samples }
-    ensures goes_on { (more : List (Result ℤ BadWordAt)) → GoesOn samples sum (Ok difference ∷ more) more result }
+    ensures goes_on { (more : List (Result ℤ BadWordAt)) → MatchResult result
+        (λ next. fold samples sum (Ok difference ∷ more) ≡ fold samples next more)
+        (λ fault. fold samples sum (Ok difference ∷ more) ≡ Err fault) }
     ensures met { IfOk result (λ next. next.met ≡ sum.met + 1) }
     ensures kept { IfOk result (λ next. (keep : ℤ → ℤ → ℤ) (more : List (Result ℤ BadWordAt))
         → met_in keep samples sum (Ok difference ∷ more)

@@ -1,14 +1,15 @@
 //! One walk over a payload's frames, whatever is kept of its samples.
 
 ghost use Rattle.std.specs.Prelude.{◌≡◌, ◌≤◌, ◌<◌, ◌+◌, ◌-◌, ◌*◌, ◌/◌, ℕ, List, ◌∷◌, ◌++◌, ℤ, Result, Ok, IfOk, OnOk};
-ghost use Rattle.std.specs.Prelude.{length, map, take};
+ghost use Rattle.std.specs.Prelude.{length, take};
 ghost use Rattle.std.specs.Bool.{OnTrue};
 ghost use Rattle.mseed_steim.specs.declared.differences.BadWordAt.{BadWordAt};
 ghost use Rattle.mseed_steim.specs.Frames.{DataWord, data_words};
 ghost use Rattle.mseed_steim.specs.private.Digits.{digits};
 ghost use Rattle.mseed_steim.specs.private.Items.{items_of};
 ghost use Rattle.mseed_steim.specs.private.Reads.{as_data};
-ghost use Rattle.mseed_steim.specs.private.Sums.{Continues, Walks, in_places, fold, kept_in, lack, places_for};
+ghost use Rattle.mseed_steim.specs.private.Sums.{CanTake, Continues, Walks, WalksOver, fold, in_places};
+ghost use Rattle.mseed_steim.specs.private.Sums.{items_left, kept_in, lack, places_for};
 ghost use Rattle.mseed_steim.specs.private.Unpacked.{left_from};
 
 use crate::data_words::{FRAME, Word, Words, first_word};
@@ -50,8 +51,7 @@ fn keep_group<K: Keeper>(
 ) -> Walked
     requires met { sum.met ≤ samples }
     requires places { length out.old ≡ places_for K.kept samples }
-    ensures { (more : List (Result ℤ BadWordAt)) → Walks K.kept samples sum out.old
-        (map Ok (digits group.width word group.count) ++ more) more out.new result }
+    ensures { WalksOver K.kept samples sum out.old (digits group.width word group.count) out.new result }
 {
     let mut sum = sum;
     for i in 0..group.count {
@@ -118,8 +118,7 @@ fn keep_words<K: Keeper>(
 fn keep_checked<K: Keeper>(differences: &[i32], samples: usize, sum: Sum, out: &mut [i32]) -> Walked
     requires left { sum.met + length differences.now ≤ samples }
     requires places { length out.old ≡ places_for K.kept samples }
-    ensures walks { (more : List (Result ℤ BadWordAt))
-        → Walks K.kept samples sum out.old (map Ok differences.now ++ more) more out.new result }
+    ensures walks { WalksOver K.kept samples sum out.old differences.now out.new result }
     ensures met { IfOk result (λ next. next.met ≡ sum.met + length differences.now) }
 {
     let mut sum = sum;
@@ -143,8 +142,7 @@ fn keep_unpacked<K: Keeper>(
     requires few { count ≤ 120 }
     requires left { sum.met < samples }
     requires places { length out.old ≡ places_for K.kept samples }
-    ensures { (more : List (Result ℤ BadWordAt)) → Walks K.kept samples sum out.old
-        (map Ok (take count differences.old) ++ more) more out.new result }
+    ensures { WalksOver K.kept samples sum out.old (take count differences.old) out.new result }
 {
     if reach_of(&differences[..count]) < (1 << 31) - u64::from(sum.last.unsigned_abs()) {
         return Ok(keep_needed::<K>(differences, count, samples, sum, out));
@@ -163,12 +161,9 @@ fn keep_in_room<K: Keeper>(
     room: &mut Room,
     out: &mut [i32],
 ) -> Walked
-    requires inside { index < length payload.now / 64 }
-    requires left { sum.met < task.samples }
-    requires places { length out.old ≡ places_for K.kept task.samples }
-    ensures { (met : ℕ) → Walks K.kept task.samples sum out.old
-        (items_of task.scheme (left_from payload.now sum.met index))
-        (items_of task.scheme (left_from payload.now met (index + 1))) out.new result }
+    requires { CanTake K.kept task payload.now index sum out.old }
+    ensures { (met : ℕ) → Walks K.kept task.samples sum out.old (items_left task payload.now sum.met index)
+        (items_left task payload.now met (index + 1)) out.new result }
 {
     let (frames, _) = payload.as_chunks::<64>();
     if task.samples - sum.met >= FEW {
@@ -192,12 +187,9 @@ fn keep_other<K: Keeper>(
     room: &mut [i32],
     out: &mut [i32],
 ) -> Walked
-    requires inside { index < length payload.now / 64 }
-    requires left { sum.met < task.samples }
-    requires places { length out.old ≡ places_for K.kept task.samples }
-    ensures { (met : ℕ) → Walks K.kept task.samples sum out.old
-        (items_of task.scheme (left_from payload.now sum.met index))
-        (items_of task.scheme (left_from payload.now met (index + 1))) out.new result }
+    requires { CanTake K.kept task payload.now index sum out.old }
+    ensures { (met : ℕ) → Walks K.kept task.samples sum out.old (items_left task payload.now sum.met index)
+        (items_left task payload.now met (index + 1)) out.new result }
 {
     match room.as_mut_array::<PLACES>() {
         Some(room) => keep_in_room::<K>(task, payload, index, sum, room, out),

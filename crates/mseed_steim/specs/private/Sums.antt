@@ -5,6 +5,8 @@ use Rattle.std.specs.Prelude.{Ok, Err}
 use Rattle.mseed_steim.specs.declared.differences.BadWordAt.{BadWordAt}
 use Rattle.mseed_steim.specs.declared.fault.ReadFault.{ReadFault}
 use Rattle.mseed_steim.specs.declared.fault.ReadFault.TheVariants.{Short, BadWord, Overflow}
+use Rattle.mseed_steim.specs.declared.keep.Taken.{Taken}
+use Rattle.mseed_steim.specs.declared.keep.Task.{Task}
 use Rattle.mseed_steim.specs.declared.sum.Sum.{Sum}
 use Rattle.mseed_steim.specs.declared.scheme.Scheme.{Scheme}
 use Rattle.mseed_steim.specs.declared.fault.Ends.{Ends}
@@ -108,20 +110,10 @@ lack n met [] = if met == n then None else Some (Short met)
 lack n met (Err at ∷ more) = if met == n then None else Some (BadWord at.frame at.word)
 lack n met (Ok d ∷ more) = if met == n then None else lack n (met + 1) more
 
--- A walk over all these items goes on from the answer with those after, or ends with the answer's fault.
-abbrev pub GoesOn : ℕ → Sum → List (Result ℤ BadWordAt) → List (Result ℤ BadWordAt) → Result Sum ReadFault → Type 0
-GoesOn n sum items behind (Ok next) = (fold n sum items ≡ fold n next behind)
-GoesOn n sum items behind (Err fault) = (fold n sum items ≡ Err fault)
-
 -- how many places there are for n samples: one for each, where something is kept of them
 abbrev pub places_for : Option (ℤ → ℤ → ℤ) → ℕ → ℕ
 places_for None n = 0
 places_for (Some keep) n = n
-
--- so many places are there, where something is kept
-abbrev pub HasPlaces : Option (ℤ → ℤ → ℤ) → ℕ → List ℤ → Type 0
-HasPlaces None n out = ⊤
-HasPlaces (Some keep) n out = n ≤ length out
 
 -- where something is kept, it is put into the next places; those before are as they were
 abbrev pub Puts : Option (ℤ → ℤ → ℤ) → ℕ → ((ℤ → ℤ → ℤ) → List ℤ) → List ℤ → List ℤ → Type 0
@@ -152,6 +144,30 @@ abbrev pub Walks : Option (ℤ → ℤ → ℤ) → ℕ → Sum → List ℤ →
     → List ℤ → Result Sum ReadFault → Type 0
 Walks keep n sum before items behind after (Ok next) = Continues keep n sum before items behind after next
 Walks keep n sum before items behind after (Err fault) = fold n sum items ≡ Err fault
+
+-- over these differences, whatever stands after them
+abbrev pub WalksOver : Option (ℤ → ℤ → ℤ) → ℕ → Sum → List ℤ → List ℤ → List ℤ → Result Sum ReadFault → Type 0
+WalksOver keep n sum before ds after result =
+    (more : List (Result ℤ BadWordAt)) → Walks keep n sum before (map Ok ds ++ more) more after result
+
+-- the items of the words that aren't taken yet, from a frame on
+abbrev pub items_left : Task → List ℕ → ℕ → ℕ → List (Result ℤ BadWordAt)
+items_left task payload met frame = items_of task.scheme (left_from payload met frame)
+
+-- The frame is one of the payload's, samples are needed of it, and they have their places.
+pub record CanTake (keep : Option (ℤ → ℤ → ℤ)) (task : Task) (payload : List ℕ) (frame : ℕ) (sum : Sum) (out : List ℤ)
+    : Type 0 where
+  pub inside : frame < length payload / 64
+  pub left : sum.met < task.samples
+  pub places : length out ≡ places_for keep task.samples
+
+-- The walk goes on after so many frames.
+pub record Takes (keep : Option (ℤ → ℤ → ℤ)) (task : Task) (payload : List ℕ) (frame : ℕ) (sum : Sum)
+    (before after : List ℤ) (taken : Taken) : Type 0 where
+  pub some : 0 < taken.frames
+  pub inside : frame + taken.frames ≤ length payload / 64
+  pub continues : Continues keep task.samples sum before (items_left task payload sum.met frame)
+      (items_left task payload taken.sum.met (frame + taken.frames)) after taken.sum
 
 -- Whatever the words of a run of frames move a sum by, but for a number that isn't used, is what the walk adds up over
 -- these frames.

@@ -1,4 +1,4 @@
-use Rattle.std.proofs.Common.{◌-ℤ◌, arith, rules, w32, FitsSigned}
+use Rattle.std.proofs.Common.{◌-ℤ◌, arith, refl, rules, w32, FitsSigned}
 use Rattle.std.proofs.lemmas.Int.{to_z-of_z}
 use Rattle.mseed_steim.proofs.FirstRun.{taken_run}
 use Rattle.mseed_steim.proofs.keep.add_frames.Goals as goal
@@ -34,8 +34,8 @@ add_near-requires c =
     )
     all.near
 
-pub returns-clause-folded : goal.returns-clause-folded
-returns-clause-folded c =
+pub returns : goal.returns
+returns c =
     let by : FitsSigned w32 c.moves_of-run.result.moved.by = search rules in
     let unused : FitsSigned w32 c.in_ok-unused.unused = search rules in
     let all = taken_run c.args.task.scheme c.args.payload.now c.args.task.samples c.args.index
@@ -53,4 +53,13 @@ returns-clause-folded c =
       to_z-of_z w32 c.args.sum.last last,
     )
     at c.add_near.ensures in
-    rw (to_z-of_z w32 c.add_near.result next, sum) (all.folded _)
+    record {
+      some = search rules;
+      inside = search rules;
+      continues = record {
+        folded = rw (to_z-of_z w32 c.add_near.result next, sum) (all.folded _);
+        kept = refl;
+        met = search rules;
+        places = refl;
+      };
+    }

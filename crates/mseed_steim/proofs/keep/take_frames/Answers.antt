@@ -1,15 +1,38 @@
-use Rattle.std.proofs.Common.{◌+◌}
-use Rattle.mseed_steim.specs.declared.keep.Taken.{Taken}
-use Rattle.mseed_steim.specs.private.Items.{items_of}
-use Rattle.mseed_steim.specs.private.Unpacked.{left_from}
-use Rattle.mseed_steim.proofs.Continuing.{nothing_kept}
+use Rattle.std.proofs.Common.{◌≡◌, ◌/◌, ◌^◌, ◌≤◌, length, nat_abs, take, arith, Ok, rules, w32}
+use Rattle.std.proofs.Common.{FitsSigned}
+use Rattle.std.proofs.lemmas.Int.{to_z-of_z}
+use Rattle.mseed_steim.specs.private.Lanes.{span}
+use Rattle.mseed_steim.specs.private.Unpacked.{data_in}
+use Rattle.mseed_steim.proofs.Continuing.{nothing_kept, walks_over}
+use Rattle.mseed_steim.proofs.Walking.{frame_at, frame_items}
 use Rattle.mseed_steim.proofs.keep.take_frames.Goals as goal
 
-pub returns-then-keeps_nothing-clause-continues : goal.returns-then-keeps_nothing-clause-continues
-returns-then-keeps_nothing-clause-continues g c =
-    nothing_kept g.K.Keeper.kept c.args.task.samples c.args.sum c.args.out.now
-    (items_of c.args.task.scheme (left_from c.args.payload.now c.args.sum.met c.args.index))
-    (λ (taken : Taken). items_of c.args.task.scheme (left_from c.args.payload.now taken.sum.met
-    (c.args.index + taken.frames)))
-    c.add_frames.result (c.keeps_nothing.ensures c.if-keeps_nothing.true) c.requires.places c.add_frames.ensures.folded
-    c.add_frames.ensures.met
+pub unpack_frame-requires-clause-begins : goal.unpack_frame-requires-clause-begins
+unpack_frame-requires-clause-begins g c = (data_in c.args.sum.met c.args.index, c.begin_in-begin.ensures)
+
+pub keep_needed-requires-clause-near : goal.keep_needed-requires-clause-near
+keep_needed-requires-clause-near g c =
+    let narrow : span (take c.in_ok-count.count c.unpack_frame.new.differences) ≤ 2 ^ 20 = c.in_ok-count.ensures.near in
+    let fits : FitsSigned w32 c.args.sum.last = search rules in
+    let size : c.unsigned_abs.result ≡ nat_abs c.args.sum.last = rw to_z-of_z at c.unsigned_abs.ensures.value in
+    omega (arith, narrow, size)
+
+pub returns-then-keeps_nothing-clause-taken : goal.returns-then-keeps_nothing-clause-taken
+returns-then-keeps_nothing-clause-taken g c =
+    nothing_kept g.K.Keeper.kept c.args.task c.args.payload.now c.args.index c.args.sum c.args.out.now
+    c.add_frames.result (c.keeps_nothing.ensures c.if-keeps_nothing.true) c.requires.places c.add_frames.ensures
+
+pub returns-clause-taken : goal.returns-clause-taken
+returns-clause-taken g c =
+    let p = c.args.payload.now in
+    record {
+      some = search rules;
+      inside = search rules;
+      continues =
+          walks_over g.K.Keeper.kept c.args.task.samples c.args.sum c.args.out.now c.keep_needed.new.out _ _ _
+          (Ok c.keep_needed.result)
+          (frame_items c.args.task.scheme p _ _ c.args.sum.met c.keep_needed.result.met c.args.index _ _
+          c.requires.inside c.begin_in-begin.ensures c.in_ok-count.ensures.unpacked
+          (rw c.as_chunks.ensures.front (frame_at (length p / 64) p c.args.index c.requires.inside)))
+          (c.keep_needed.ensures _);
+    }
