@@ -1,10 +1,12 @@
 -- What is found of a series' samples.
-use Rattle.std.proofs.Common.{◌*◌, ◌%◌, ◌^◌, max, negsuc, FitsSigned, w32, of_z}
+use Rattle.std.proofs.Common.{◌*◌, ◌%◌, ◌^◌, negsuc, FitsSigned, w32, of_z}
 use Rattle.std.proofs.Common.{◌≡◌, ◌↔◌, ◌<◌, ◌≤◌, ◌+◌, ◌-◌, ℕ, zero, suc, ℤ, ◌-ℤ◌, List, length, get_or, pos}
 use Rattle.std.proofs.Common.{false, sym, subst, ap, ◌∙◌, arith, refl, All, below_more, ⊎_elim}
+use Rattle.std.specs.Int.RustNames.{bit_or}
 use Rattle.std.specs.Prelude.{IsTrue}
 use Rattle.std.proofs.lemmas.Bool.{cases_lt, false≢true}
 use Rattle.std.proofs.lemmas.Int.{ints}
+use Rattle.std.proofs.lemmas.Nat.{le_or_l, le_or_r, or_lt}
 use Rattle.std.proofs.lemmas.List.Elements.{All-from_get_or, All-get_or}
 use native.Mathlib.Numerals.{unary_clauses}
 use Rattle.mseed_steim.specs.Spelling.{IsWithin}
@@ -63,110 +65,144 @@ raised_under limit (negsuc n) small fits =
       λ under. let above = under.0 in omega (arith, ints, above, half, small),
     )
 
--- whether some number is under a bound, and is one that is so of it where it's the larger of two
-pub both_below : {P Q : Type 0} (bound a b : ℕ) → (a < bound) ↔ P → (b < bound) ↔ Q → (max a b < bound) ↔ (P × Q)
-both_below bound a b one two = (
-  λ less. (one.0 (omega (arith, less)), two.0 (omega (arith, less))),
-  λ all. let here = one.1 all.0 in let there = two.1 all.1 in omega (arith, here, there),
+-- a power of two, whichever
+abbrev pub IsPower : ℕ → Type 0
+IsPower bound = (k : ℕ) × (bound ≡ 2 ^ k)
+
+-- two numbers are under a power of two exactly where their bits are
+pub both_below : {P Q : Type 0} (bound a b : ℕ) → IsPower bound → (a < bound) ↔ P → (b < bound) ↔ Q
+    → (bit_or a b < bound) ↔ (P × Q)
+both_below bound a b power one two = (
+  λ less. (one.0 (omega (arith, less, le_or_l a b)), two.0 (omega (arith, less, le_or_r a b))),
+  λ all.
+      let fits : bit_or a b < 2 ^ power.0 = or_lt power.0 a b
+      (subst (λ (m : ℕ). a < m) power.1 (one.1 all.0)) (subst (λ (m : ℕ). b < m) power.1 (two.1 all.1)) in
+      subst (λ (m : ℕ). bit_or a b < m) (sym power.1) fits,
 )
 
-pub four_below : (limit : ℤ) (zs : List ℤ) (index part bound a b c d : ℕ)
+pub four_below : (limit : ℤ) (zs : List ℤ) (index part bound a b c d : ℕ) → IsPower bound
     → (a < bound) ↔ IsUnder limit (get_or zs index (pos 0))
     → (b < bound) ↔ IsUnder limit (get_or zs (index + part) (pos 0))
     → (c < bound) ↔ IsUnder limit (get_or zs (index + 2 * part) (pos 0))
     → (d < bound) ↔ IsUnder limit (get_or zs (index + 3 * part) (pos 0))
-    → (max (max a b) (max c d) < bound) ↔ AreFourUnder limit zs index part
-four_below limit zs index part bound a b c d one two three four =
-    let all = both_below bound (max a b) (max c d) (both_below bound a b one two) (both_below bound c d three four) in (
+    → (bit_or (bit_or (bit_or a b) c) d < bound) ↔ AreFourUnder limit zs index part
+four_below limit zs index part bound a b c d power one two three four =
+    let pair = both_below bound a b power one two in
+    let triple = both_below bound (bit_or a b) c power pair three in
+    let all = both_below bound (bit_or (bit_or a b) c) d power triple four in (
       λ less.
           let h = all.0 less in
-          record { first = h.0.0; second = h.0.1; third = h.1.0; fourth = h.1.1 },
-      λ h. all.1 ((h.first, h.second), (h.third, h.fourth)),
+          record { first = h.0.0.0; second = h.0.0.1; third = h.0.1; fourth = h.1 },
+      λ h. all.1 (((h.first, h.second), h.third), h.fourth),
     )
 
--- whether all numbers of four parts side by side are under a limit, and those after them up to a place
+-- whether all numbers of eight parts side by side are under a limit, and those after them up to a place
 pub record AreUnderTo (limit : ℤ) (zs : List ℤ) (part at last : ℕ) : Type 0 where
-  pub four : (k : ℕ) → k < at → AreFourUnder limit zs k part
-  pub behind : (k : ℕ) → 4 * part ≤ k → k < last → IsUnder limit (get_or zs k (pos 0))
+  pub eight : (k : ℕ) → k < at → AreFourUnder limit zs k part × AreFourUnder limit zs (k + 4 * part) part
+  pub behind : (k : ℕ) → 8 * part ≤ k → k < last → IsUnder limit (get_or zs k (pos 0))
 
 pub none_under : (limit : ℤ) (zs : List ℤ) (part bound : ℕ) → 0 < bound
-    → (0 < bound) ↔ AreUnderTo limit zs part 0 (4 * part)
+    → (0 < bound) ↔ AreUnderTo limit zs part 0 (8 * part)
 none_under limit zs part bound some = (
   λ less. record {
-    four = λ k h. absurd (omega (arith, h));
+    eight = λ k h. absurd (omega (arith, h));
     behind = λ k low high. absurd (omega (arith, low, high));
   },
   λ all. some,
 )
 
-pub four_more : (limit : ℤ) (zs : List ℤ) (part at bound largest raised : ℕ)
-    → (raised < bound) ↔ AreFourUnder limit zs at part → (largest < bound) ↔ AreUnderTo limit zs part at (4 * part)
-    → (max raised largest < bound) ↔ AreUnderTo limit zs part (at + 1) (4 * part)
-four_more limit zs part at bound largest raised one before =
-    let both = both_below bound raised largest one before in (
+pub eight_more : (limit : ℤ) (zs : List ℤ) (part at bound bits one two : ℕ) → IsPower bound
+    → (one < bound) ↔ AreFourUnder limit zs at part → (two < bound) ↔ AreFourUnder limit zs (at + 4 * part) part
+    → (bits < bound) ↔ AreUnderTo limit zs part at (8 * part)
+    → (bit_or (bit_or bits one) two < bound) ↔ AreUnderTo limit zs part (at + 1) (8 * part)
+eight_more limit zs part at bound bits one two power first second before =
+    let more = both_below bound bits one power before first in
+    let both = both_below bound (bit_or bits one) two power more second in (
       λ less.
           let h = both.0 less in
-          record { four = below_more _ _ h.1.four h.0; behind = h.1.behind },
-      λ all. both.1 (
-        all.four at (omega arith),
-        record { four = λ k h. all.four k (omega (arith, h)); behind = all.behind },
-      ),
+          record { eight = below_more _ _ h.0.0.eight (h.0.1, h.1); behind = h.0.0.behind },
+      λ all.
+          let here = all.eight at (omega arith) in
+          both.1 (
+            (record { eight = λ k h. all.eight k (omega (arith, h)); behind = all.behind }, here.0),
+            here.1,
+          ),
     )
 
-pub one_more : (limit : ℤ) (zs : List ℤ) (part last bound largest raised : ℕ) → 4 * part ≤ last
-    → (raised < bound) ↔ IsUnder limit (get_or zs last (pos 0)) → (largest < bound) ↔ AreUnderTo limit zs part part last
-    → (max raised largest < bound) ↔ AreUnderTo limit zs part part (last + 1)
-one_more limit zs part last bound largest raised low one before =
-    let both = both_below bound raised largest one before in (
+pub one_more : (limit : ℤ) (zs : List ℤ) (part last bound bits raised : ℕ) → IsPower bound → 8 * part ≤ last
+    → (raised < bound) ↔ IsUnder limit (get_or zs last (pos 0)) → (bits < bound) ↔ AreUnderTo limit zs part part last
+    → (bit_or bits raised < bound) ↔ AreUnderTo limit zs part part (last + 1)
+one_more limit zs part last bound bits raised power low one before =
+    let both = both_below bound bits raised power before one in (
       λ less.
           let h = both.0 less in
           record {
-            four = h.1.four;
+            eight = h.0.eight;
             behind = λ k from high. ⊎_elim
-                (λ (less : k < last). h.1.behind k from less)
+                (λ (less : k < last). h.0.behind k from less)
                 (λ (same : last ≤ k).
                 let is : last ≡ k = omega (arith, same, high) in
-                subst (λ (n : ℕ). IsUnder limit (get_or zs n (pos 0))) is h.0)
+                subst (λ (n : ℕ). IsUnder limit (get_or zs n (pos 0))) is h.1)
                 (cases_lt k last);
           },
       λ all. both.1 (
+        record { eight = all.eight; behind = λ k from high. all.behind k from (omega (arith, high)) },
         all.behind last low (omega arith),
-        record { four = all.four; behind = λ k from high. all.behind k from (omega (arith, high)) },
       ),
     )
 
--- so are all
-pub all_under : (limit : ℤ) (zs : List ℤ) (part last : ℕ) → 4 * part ≤ length zs → length zs ≤ last
-    → AreUnderTo limit zs part part last → All (IsUnder limit) zs
-all_under limit zs part last fit to h = All-from_get_or (IsUnder limit) zs (pos 0) (λ k inside. ⊎_elim
-    (λ (a : k < part). (h.four k a).first)
-    (λ (a : part ≤ k). ⊎_elim
-    (λ (b : k < 2 * part).
+-- all of four parts side by side, from a place on
+four_under : (limit : ℤ) (zs : List ℤ) (part base : ℕ)
+    → ((k n : ℕ) → k < part → n ≡ k + base → AreFourUnder limit zs n part) → (k : ℕ) → base ≤ k → k < base + 4 * part
+    → IsUnder limit (get_or zs k (pos 0))
+four_under limit zs part base h k low high = ⊎_elim
+    (λ (a : k < base + part). (h (k - base) k (omega (arith, low, a)) (omega (arith, low))).first)
+    (λ (a : base + part ≤ k). ⊎_elim
+    (λ (b : k < base + 2 * part).
     subst (λ (n : ℕ). IsUnder limit (get_or zs n (pos 0))) {x = k - part + part} {y = k} (omega (arith, a))
-    (h.four (k - part) (omega (arith, a, b))).second)
-    (λ (b : 2 * part ≤ k). ⊎_elim
-    (λ (c : k < 3 * part).
+    (h (k - part - base) (k - part) (omega (arith, a, b)) (omega (arith, a))).second)
+    (λ (b : base + 2 * part ≤ k). ⊎_elim
+    (λ (c : k < base + 3 * part).
     subst (λ (n : ℕ). IsUnder limit (get_or zs n (pos 0))) {x = k - 2 * part + 2 * part} {y = k} (omega (arith, b))
-    (h.four (k - 2 * part) (omega (arith, b, c))).third)
-    (λ (c : 3 * part ≤ k). ⊎_elim
-    (λ (d : k < 4 * part).
+    (h (k - 2 * part - base) (k - 2 * part) (omega (arith, b, c)) (omega (arith, b))).third)
+    (λ (c : base + 3 * part ≤ k).
     subst (λ (n : ℕ). IsUnder limit (get_or zs n (pos 0))) {x = k - 3 * part + 3 * part} {y = k} (omega (arith, c))
-    (h.four (k - 3 * part) (omega (arith, c, d))).fourth)
-    (λ (d : 4 * part ≤ k). h.behind k d (omega (arith, inside, to)))
+    (h (k - 3 * part - base) (k - 3 * part) (omega (arith, c, high)) (omega (arith, c))).fourth)
+    (cases_lt k (base + 3 * part)))
+    (cases_lt k (base + 2 * part)))
+    (cases_lt k (base + part))
+
+-- so are all
+pub all_under : (limit : ℤ) (zs : List ℤ) (part last : ℕ) → length zs ≤ last → AreUnderTo limit zs part part last
+    → All (IsUnder limit) zs
+all_under limit zs part last to h = All-from_get_or (IsUnder limit) zs (pos 0) (λ k inside. ⊎_elim
+    (λ (a : k < 4 * part). four_under limit zs part 0
+    (λ i n b e. subst (λ (m : ℕ). AreFourUnder limit zs m part) {x = i} {y = n} (omega (arith, e)) (h.eight i b).0)
+    k (omega arith) (omega (arith, a)))
+    (λ (a : 4 * part ≤ k). ⊎_elim
+    (λ (b : k < 8 * part). four_under limit zs part (4 * part)
+    (λ i n c e. subst (λ (m : ℕ). AreFourUnder limit zs m part) (sym e) (h.eight i c).1)
+    k a (omega (arith, b)))
+    (λ (b : 8 * part ≤ k). h.behind k b (omega (arith, inside, to)))
+    (cases_lt k (8 * part)))
     (cases_lt k (4 * part)))
-    (cases_lt k (3 * part)))
-    (cases_lt k (2 * part)))
-    (cases_lt k part))
+
+four_of : (limit : ℤ) (zs : List ℤ) (part k : ℕ) → k + 3 * part < length zs → All (IsUnder limit) zs
+    → AreFourUnder limit zs k part
+four_of limit zs part k inside all = record {
+  first = All-get_or (IsUnder limit) zs k (pos 0) (omega (arith, inside)) all;
+  second = All-get_or (IsUnder limit) zs (k + part) (pos 0) (omega (arith, inside)) all;
+  third = All-get_or (IsUnder limit) zs (k + 2 * part) (pos 0) (omega (arith, inside)) all;
+  fourth = All-get_or (IsUnder limit) zs (k + 3 * part) (pos 0) (omega (arith, inside)) all;
+}
 
 -- and none but these
-pub each_under : (limit : ℤ) (zs : List ℤ) (part last : ℕ) → 4 * part ≤ length zs → last ≤ length zs
+pub each_under : (limit : ℤ) (zs : List ℤ) (part last : ℕ) → 8 * part ≤ length zs → last ≤ length zs
     → All (IsUnder limit) zs → AreUnderTo limit zs part part last
 each_under limit zs part last fit within all = record {
-  four = λ k h. record {
-    first = All-get_or (IsUnder limit) zs k (pos 0) (omega (arith, fit, h)) all;
-    second = All-get_or (IsUnder limit) zs (k + part) (pos 0) (omega (arith, fit, h)) all;
-    third = All-get_or (IsUnder limit) zs (k + 2 * part) (pos 0) (omega (arith, fit, h)) all;
-    fourth = All-get_or (IsUnder limit) zs (k + 3 * part) (pos 0) (omega (arith, fit, h)) all;
-  };
+  eight = λ k h. (
+    four_of limit zs part k (omega (arith, fit, h)) all,
+    four_of limit zs part (k + 4 * part) (omega (arith, fit, h)) all,
+  );
   behind = λ k from high. All-get_or (IsUnder limit) zs k (pos 0) (omega (arith, high, within)) all;
 }

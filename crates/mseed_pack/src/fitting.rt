@@ -262,27 +262,30 @@ fn first_wide_difference(samples: &[i32], encoding: Encoding) -> Option<usize>
     find_large_difference(samples, encoding)
 }
 
-/// Whether each sample is less than a limit, and no less than its negative. Four parts of the list are gone through
-/// side by side, so that memory is asked for at four places at once.
+/// Whether each sample is less than a limit, a power of two, and no less than its negative. Eight parts of the list are
+/// gone through side by side, so that memory is asked for at eight places at once.
 fn are_within(samples: &[i32], limit: u32) -> bool
     requires some { 0 < limit }
+    requires power { (k : ℕ) × (2 * limit ≡ 2 ^ k) }
     requires half { limit < 2 ^ 31 }
     ensures { IsTrue result ↔ All (IsUnder (pos limit)) samples.now }
 {
-    let part = samples.len() / 4;
-    let mut largest = 0;
+    let part = samples.len() / 8;
+    let mut bits = 0;
     for index in 0..part {
-        largest = raised_four(samples, index, part, limit).max(largest);
+        bits |= bits_of_four(samples, index, part, limit);
+        bits |= bits_of_four(samples, index + 4 * part, part, limit);
     }
-    for last in 4 * part..samples.len() {
-        largest = raised(samples[last], limit).max(largest);
+    for last in 8 * part..samples.len() {
+        bits |= raised(samples[last], limit);
     }
-    largest < 2 * limit
+    bits < 2 * limit
 }
 
-/// The largest of four samples, so many apart, each raised by a limit.
+/// The bits that any of four samples has, so many apart, each raised by a limit, a power of two.
 #[inline(always)]
-fn raised_four(samples: &[i32], index: usize, part: usize, limit: u32) -> u32
+fn bits_of_four(samples: &[i32], index: usize, part: usize, limit: u32) -> u32
+    requires power { (k : ℕ) × (2 * limit ≡ 2 ^ k) }
     requires half { limit < 2 ^ 31 }
     requires inside { index + 3 * part < length samples.now }
     ensures { (result < 2 * limit) ↔ AreFourUnder (pos limit) samples.now index part }
@@ -291,7 +294,7 @@ fn raised_four(samples: &[i32], index: usize, part: usize, limit: u32) -> u32
     let second = raised(samples[index + part], limit);
     let third = raised(samples[index + 2 * part], limit);
     let fourth = raised(samples[index + 3 * part], limit);
-    first.max(second).max(third.max(fourth))
+    first | second | third | fourth
 }
 
 /// A sample and a limit added up, modulo 2^32: less than twice the limit exactly where the sample is less than the

@@ -2,7 +2,7 @@ use Rattle.std.proofs.Common.{◌≡◌, ◌↔◌, ◌<◌, ◌+◌, ◌*◌, �
 use Rattle.std.proofs.lemmas.Int.{to_z-of_z}
 use Rattle.mseed_pack.specs.private.Filling.{IsUnder}
 use Rattle.mseed_pack.proofs.Misfits.{four_below}
-use Rattle.mseed_pack.proofs.fitting.raised_four.Goals as goal
+use Rattle.mseed_pack.proofs.fitting.bits_of_four.Goals as goal
 
 held : (raised bound : ℕ) (limit z : ℤ) → to_z w32 (of_z w32 z) ≡ z
     → (raised < bound) ↔ IsUnder limit (to_z w32 (of_z w32 z)) → (raised < bound) ↔ IsUnder limit z
@@ -23,5 +23,5 @@ returns c =
     c.raised-third.ensures in
     let four = held c.raised-fourth.result bound (pos c.args.limit) (at (i + 3 * p)) (to_z-of_z w32 _ (search rules))
     c.raised-fourth.ensures in
-    rw (c.max-3.ensures, c.max.ensures, c.max-2.ensures) (four_below (pos c.args.limit) xs i p bound
-    c.raised-first.result c.raised-second.result c.raised-third.result c.raised-fourth.result one two three four)
+    four_below (pos c.args.limit) xs i p bound c.raised-first.result c.raised-second.result c.raised-third.result
+    c.raised-fourth.result c.requires.power one two three four
