@@ -1,5 +1,5 @@
 -- The differences of a series, one by one.
-use Rattle.std.proofs.Common.{◌≡◌, ◌∙◌, ℕ, zero, suc, ◌+◌, ◌<◌, ◌≤◌, List, [], ◌∷◌, length, get_or, set, refl, sym, ap}
+use Rattle.std.proofs.Common.{◌≡◌, ◌≢◌, ◌∙◌, ℕ, zero, suc, ◌+◌, ◌<◌, ◌≤◌, List, [], ◌∷◌, length, get_or, set, refl, sym, ap}
 use Rattle.std.proofs.Common.{All, ⊎_elim, arith, eqb, false, ℤ, pos, negsuc, ◌-ℤ◌, FitsSigned, w32}
 use native.Mathlib.Numerals.{unary_clauses}
 use Rattle.std.proofs.lemmas.Bool.{cases_lt, eqb-false}
@@ -45,13 +45,18 @@ within_fits (negsuc n) h = let low = h.0 in record { sfits = omega (arith, ints,
 pub some_items : (n : ℕ) → eqb n 0 ≡ false → 0 < n
 some_items n e = let not : n ≡ 0 → ⊥ = eqb-false n 0 e in omega (arith, not)
 
--- one more of them is put into a list
-pub put_more : (ds xs : List ℤ) (first i : ℕ) (z : ℤ) → i < length xs → z ≡ get_or ds (first + i) (pos 0)
-    → ((k : ℕ) → k < i → get_or xs k (pos 0) ≡ get_or ds (first + k) (pos 0)) → (k : ℕ) → k < i + 1
+-- one of them is put into a list, where others stand
+pub put_one : (ds xs : List ℤ) (first i : ℕ) (z : ℤ) → i < length xs → z ≡ get_or ds (first + i) (pos 0) → (k : ℕ)
+    → (k ≢ i → get_or xs k (pos 0) ≡ get_or ds (first + k) (pos 0))
     → get_or (set xs i z) k (pos 0) ≡ get_or ds (first + k) (pos 0)
-put_more ds xs first i z inside is before k h = ⊎_elim
-    (λ (less : k < i). get_or-set_other xs i k z (pos 0) (λ e. omega (arith, e, less)) ∙ before k less)
-    (λ (last : i ≤ k).
-    let same : k ≡ i = omega (arith, h, last) in
+put_one ds xs first i z inside is k others = ⊎_elim
+    (λ (less : k < i).
+    get_or-set_other xs i k z (pos 0) (λ e. omega (arith, e, less)) ∙ others (λ e. omega (arith, e, less)))
+    (λ (least : i ≤ k). ⊎_elim
+    (λ (more : i < k).
+    get_or-set_other xs i k z (pos 0) (λ e. omega (arith, e, more)) ∙ others (λ e. omega (arith, e, more)))
+    (λ (most : k ≤ i).
+    let same : k ≡ i = omega (arith, most, least) in
     get_or-set_at xs i k z (pos 0) same inside ∙ is ∙ ap (λ (n : ℕ). get_or ds (first + n) (pos 0)) (sym same))
+    (cases_lt i k))
     (cases_lt k i)

@@ -41,7 +41,8 @@ impl<'a> Supply for Listed<'a> {
     }
 }
 
-/// Writes the differences of the samples from one on.
+/// Writes the differences of the samples from one on. Those of two parts are taken side by side, so that memory is asked
+/// for at two places at once.
 fn put_differences(samples: &[i32], first: usize, out: &mut [i32])
     requires inside { first + length out.old ≤ length samples.now }
     requires fits { All (IsWithin 32) (differences samples.now) }
@@ -51,8 +52,13 @@ fn put_differences(samples: &[i32], first: usize, out: &mut [i32])
         return;
     }
     out[0] = difference_at(samples, first);
-    for index in 1..out.len() {
+    let part = (out.len() - 1) / 2;
+    for index in 1..part + 1 {
         out[index] = difference_after(samples, first + index);
+        out[part + index] = difference_after(samples, first + part + index);
+    }
+    for last in 2 * part + 1..out.len() {
+        out[last] = difference_after(samples, first + last);
     }
 }
 
