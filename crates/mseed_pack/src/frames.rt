@@ -1,6 +1,6 @@
 //! Samples as Steim frames.
-ghost use Rattle.std.specs.Prelude.{◌≡◌, ℕ, ℤ, List, ◌+◌, ◌-◌, ◌*◌, ◌/◌, ◌%◌, ◌<◌, ◌≤◌, ◌==◌, if◌then◌else◌, length};
-ghost use Rattle.std.specs.Prelude.{drop, min, pos, slice_index_or, slice_range, ◌++◌, All, IfSome, Ok};
+ghost use Rattle.std.specs.Prelude.{◌≡◌, ℕ, ℤ, List, ◌+◌, ◌-◌, ◌*◌, ◌/◌, ◌<◌, ◌≤◌, ◌==◌, if◌then◌else◌, length};
+ghost use Rattle.std.specs.Prelude.{drop, min, slice_range, ◌++◌, All, IfSome, Ok};
 ghost use Rattle.mseed_steim.specs.Frames.{word_at};
 ghost use Rattle.mseed_steim.specs.Lookahead.{IsLookahead};
 ghost use Rattle.mseed_steim.specs.Packed.{IsRunPacked};

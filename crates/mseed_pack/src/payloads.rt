@@ -1,5 +1,5 @@
 //! The samples of a list, in payloads of any encoding.
-ghost use Rattle.std.specs.Prelude.{◌≡◌, ◌+◌, ℤ, List};
+ghost use Rattle.std.specs.Prelude.{◌+◌, ℤ, List};
 ghost use Rattle.mseed_pack.specs.private.Filling.{AreBegun, AreFrames, AreLeft, AreTaken, GoesOn};
 ghost use Rattle.mseed_pack.specs.private.Filling.{HoldsInFrames, IsListed};
 
