@@ -4,6 +4,7 @@ mod auditing;
 mod joining;
 mod joining_each;
 
+use crate::audit::devices::assert_refusals;
 use crate::records::{START, alone, both};
 use linked_list_allocator::LocalHeap;
 use mseed_audit::Channel;
@@ -103,14 +104,9 @@ static NO_FAULTS: [&str; 6] = [
 ];
 
 /// The line of a channel with these fields.
-fn line_with(rt: &impl Abort, alloc: Global, fields: &str) -> Vec<u8> {
-    let mut line = Vec::new(alloc);
-    line.extend_from_slice(b"000A1F20FF30390941465F7E records 12 samples 345 ")
-        .expect(rt, "memory");
-    line.extend_from_slice(fields.as_bytes())
-        .expect(rt, "memory");
-    line.push(b'\n').expect(rt, "memory");
-    line
+fn line_with(rt: &impl Abort, alloc: Global, fields: &str) -> String {
+    let line = format!(in alloc; "000A1F20FF30390941465F7E records 12 samples 345 {fields}\n");
+    line.expect(rt, "memory")
 }
 
 /// Whether the line of XX_STA__BHZ reads so.
@@ -133,12 +129,10 @@ fn reads_rows(rt: HostRuntime) {
 /// Whether what is read of a channel's line is written as it was.
 fn is_written_again(rt: &impl Abort, alloc: Global, line: &[u8]) -> bool {
     let mut text = Vec::new(alloc);
-    match read_channel_line(line) {
-        Some((codes, channel)) => push_channel_line(&mut text, &codes, &channel).expect(
-            rt, "memory",
-        ),
-        None => return false,
-    }
+    let Some((codes, channel)) = read_channel_line(line) else {
+        return false;
+    };
+    push_channel_line(&mut text, &codes, &channel).expect(rt, "memory");
     text.as_slice() == line
 }
 
@@ -165,13 +159,12 @@ fn counts(rt: &impl Abort, alloc: Global) -> Vec<u8> {
 fn writes_what_it_reads(rt: HostRuntime) {
     for fields in &FIELDS {
         let line = line_with(&rt, rt.alloc(), fields);
-        assert!(rt; is_written_again(&rt, rt.alloc(), &line), "{fields}");
+        let is_same = is_written_again(&rt, rt.alloc(), line.as_bytes());
+        assert!(rt; is_same, "{fields}");
     }
     for fault in &FAULTS {
-        assert!(rt;
-            is_fault_written_again(&rt, rt.alloc(), fault.as_bytes()),
-            "{fault}"
-        );
+        let line = fault.as_bytes();
+        assert!(rt; is_fault_written_again(&rt, rt.alloc(), line), "{fault}");
     }
     let text = counts(&rt, rt.alloc());
     assert!(rt; text.as_slice() == b"records 2 bytes 256\nfaults 3\n".as_slice());
@@ -195,7 +188,7 @@ fn refuses_each() -> bool {
 fn refuses_other_texts(rt: HostRuntime) {
     for fields in &REFUSED {
         let line = line_with(&rt, rt.alloc(), fields);
-        assert!(rt; read_channel_line(&line).is_none(), "{fields}");
+        assert!(rt; read_channel_line(line.as_bytes()).is_none(), "{fields}");
     }
     for text in &NO_FAULTS {
         assert!(rt; read_fault_line(text.as_bytes(), 128).is_none(), "{text}");
@@ -217,10 +210,5 @@ fn is_enough(rt: &impl Abort, heap: &LocalHeap) -> bool {
 
 #[test]
 fn refuses_memory(rt: HostRuntime) {
-    let mut written = 0usize;
-    for size in 1..=64 {
-        let heap = LocalHeap::new(rt.alloc(), size * 16).expect(&rt, "memory");
-        written = written.saturating_add(usize::from(is_enough(&rt, &heap)));
-    }
-    assert!(rt; 0 < written && written < 64);
+    assert_refusals(&rt, rt.alloc(), 1..65, 16, |heap| is_enough(&rt, heap));
 }

@@ -114,17 +114,11 @@ fn packs_a_supply_as_its_list(rt: HostRuntime) {
         [28, 16, 15, 14, 10, 9, 1, 28],
     ];
     for (row, widths) in rows.iter().enumerate() {
-        assert!(rt;
-            are_packed_alike(&rt, rt.alloc(), *widths, 7),
-            "row {row}, 128 bytes"
-        );
-        assert!(rt;
-            are_packed_alike(&rt, rt.alloc(), *widths, 9),
-            "row {row}, 512 bytes"
-        );
-        assert!(rt;
-            are_packed_alike(&rt, rt.alloc(), *widths, 12),
-            "row {row}, 4096 bytes"
-        );
+        let are_alike = are_packed_alike(&rt, rt.alloc(), *widths, 7);
+        assert!(rt; are_alike, "row {row}, 128 bytes");
+        let are_alike = are_packed_alike(&rt, rt.alloc(), *widths, 9);
+        assert!(rt; are_alike, "row {row}, 512 bytes");
+        let are_alike = are_packed_alike(&rt, rt.alloc(), *widths, 12);
+        assert!(rt; are_alike, "row {row}, 4096 bytes");
     }
 }

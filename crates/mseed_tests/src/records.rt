@@ -1,7 +1,8 @@
 //! The records of the rows, each one sound record but for some of its bytes.
 
-use mseed_audit::{Channel, Finding, Findings, Head, Tail, Why};
+use mseed_audit::{Channel, Finding, Findings, Head, Summary, Tail, Why};
 use mseed_record::{Leap, RecordView};
+use mseed_stream::StreamFault;
 use mseed_time::{Micros, Ratio};
 use std::process::Abort;
 
@@ -118,5 +119,21 @@ pub(crate) fn both(rt: &impl Abort) -> Channel {
             head: Some(head(rt, 1, 0, START)),
             tail: Some(tail(rt, LATE_START)),
         },
+    }
+}
+
+/// The summary of so many records and channels, of which so many are broken, and of how the archive ends.
+pub(crate) fn summary(
+    records: u64,
+    channels: u64,
+    broken: u64,
+    end: Option<StreamFault>,
+) -> Summary {
+    Summary {
+        records,
+        channels,
+        broken,
+        fault: end.is_some(),
+        end,
     }
 }

@@ -2,15 +2,14 @@
 ghost use Rattle.std.specs.Prelude.{◌≤◌, ◌^◌, length};
 
 use crate::records::{change, put, view, with};
+use crate::select::selector_of;
 use mseed_pack::Options;
 use mseed_record::RecordView;
 use mseed_repack::{
     ChannelFault, Left, RepackFault, repack_channel, repack_selected,
     repack_selected_stretches, repack_stretches,
 };
-use mseed_select::{Patterns, Selector};
 use mseed_stream::{Counted, StreamFault};
-use mseed_time::Micros;
 use std::alloc::Global;
 use std::process::Abort;
 
@@ -70,15 +69,11 @@ fn is_broken(rt: &impl Abort, alloc: Global, bytes: &[u8; 128]) -> bool {
 
 #[test]
 fn refuses_what_is_not_sound(rt: HostRuntime) {
-    assert!(rt;
-        is_broken(&rt, rt.alloc(), &numbered(&[(30, &[0, 0])])),
-        "no samples"
-    );
+    let silent = numbered(&[(30, &[0, 0])]);
+    assert!(rt; is_broken(&rt, rt.alloc(), &silent), "no samples");
     // Doubles (encoding 5), which aren't read.
-    assert!(rt;
-        is_broken(&rt, rt.alloc(), &numbered(&[(52, &[5])])),
-        "doubles"
-    );
+    let doubles = numbered(&[(52, &[5])]);
+    assert!(rt; is_broken(&rt, rt.alloc(), &doubles), "doubles");
 }
 
 /// Whether these are both records of an archive without its log, with the first two numbers.
@@ -88,17 +83,37 @@ fn are_both(packed: &[u8]) -> bool {
     packed.strip_prefix(first.as_slice()) == Some(second.as_slice())
 }
 
-/// Packs an archive anew by its stretches. Answers what was left, what is written, and what is reported.
+/// An archive of a record, a log and a record after a gap of 8.4 s. The log is text (encoding 0), which isn't read, of
+/// another channel.
+fn with_log() -> [u8; 384] {
+    let log = numbered(&[(15, b"LOG"), (52, &[0])]);
+    three(&numbered(&[]), &log, &numbered(&[(26, &[10])]))
+}
+
+/// Packs an archive anew by its stretches, without what can't be packed; or those of its records that are of these
+/// channels, which all have to be. Answers what was left, what is written, and what is reported.
 fn left_of(
     rt: &impl Abort,
     alloc: Global,
+    channels: Option<&[u8]>,
     archive: &[u8],
 ) -> (Result<Left, RepackFault>, Vec<u8>, Vec<u8>) {
     let options = Options::new(7, 3, 1).expect(rt, "options");
     let mut input = Counted::new(archive);
     let mut output = Counted::new(Vec::new(alloc));
     let mut lines = Counted::new(Vec::new(alloc));
-    let left = repack_stretches(alloc, &options, true, &mut input, &mut output, &mut lines);
+    let left = match selector_of(channels, None, None) {
+        Ok(selector) if channels.is_some() => repack_selected_stretches(
+            alloc,
+            &selector,
+            &options,
+            false,
+            &mut input,
+            &mut output,
+            &mut lines,
+        ),
+        _ => repack_stretches(alloc, &options, true, &mut input, &mut output, &mut lines),
+    };
     (left, output.into_inner(), lines.into_inner())
 }
 
@@ -107,10 +122,7 @@ const REPORTED: &[u8] = b"mseed: XX_STA__LOG is broken\n";
 
 #[test]
 fn packs_an_archive_and_leaves_out_its_log(rt: HostRuntime) {
-    // Text (encoding 0), which isn't read, of another channel; and a gap of 8.4 s.
-    let log = numbered(&[(15, b"LOG"), (52, &[0])]);
-    let archive = three(&numbered(&[]), &log, &numbered(&[(26, &[10])]));
-    let (left, packed, reported) = left_of(&rt, rt.alloc(), &archive);
+    let (left, packed, reported) = left_of(&rt, rt.alloc(), None, &with_log());
     assert!(rt; left == Ok(Left::Broken) && are_both(&packed));
     assert!(rt; reported.as_slice() == REPORTED);
 }
@@ -128,15 +140,14 @@ fn packed_before(
     rt: &impl Abort,
     alloc: Global,
     channels: &[u8],
-    until: Option<Micros>,
+    until: Option<i64>,
     archive: &[u8],
 ) -> Packed {
     let options = Options::new(7, 3, 1).expect(rt, "options");
-    let patterns = Patterns::read(channels).expect(rt, "patterns");
     let mut input = Counted::new(archive);
     let mut output = Counted::new(Vec::new(alloc));
     let mut lines = Counted::new(Vec::new(alloc));
-    let answer = match Selector::new(Some(patterns), None, until) {
+    let answer = match selector_of(Some(channels), None, until) {
         Ok(selector) => repack_selected(
             alloc,
             &selector,
@@ -154,18 +165,15 @@ fn packed_before(
     }
 }
 
-/// The instant at which the second record with a gap before it begins.
-fn apart(rt: &impl Abort) -> Micros {
-    Micros::new(1_704_067_210_000_000).expect(rt, "an instant")
-}
+/// The microseconds from 1970 to the record after a gap.
+const APART: i64 = 1_704_067_210_000_000;
 
 #[test]
 fn packs_what_is_asked_for(rt: HostRuntime) {
     let first = with(&[(0, b"000001")]);
-    // A log; and the record after a gap, for which the channel is broken, but which begins too late.
-    let log = numbered(&[(15, b"LOG"), (52, &[0])]);
-    let archive = three(&numbered(&[]), &log, &numbered(&[(26, &[10])]));
-    let packed = packed_before(&rt, rt.alloc(), b"*_*_*_BH?", Some(apart(&rt)), &archive);
+    // The channel is broken for the record after the gap, but that begins too late.
+    let archive = with_log();
+    let packed = packed_before(&rt, rt.alloc(), b"*_*_*_BH?", Some(APART), &archive);
     assert!(rt; packed.answer == Ok(()) && packed.lines.is_empty());
     assert!(rt; packed.bytes.as_slice() == first.as_slice());
     let all = packed_before(&rt, rt.alloc(), b"*_*_*_BH?", None, &archive);
@@ -184,7 +192,7 @@ fn tells_what_lacks_a_time(rt: HostRuntime) {
     let untimed = numbered(&[(24, &[24])]);
     let other = numbered(&[(15, b"BHN"), (24, &[24])]);
     let archive = three(&untimed, &other, &numbered(&[]));
-    let packed = packed_before(&rt, rt.alloc(), b"*_*_*_BHZ", Some(apart(&rt)), &archive);
+    let packed = packed_before(&rt, rt.alloc(), b"*_*_*_BHZ", Some(APART), &archive);
     assert!(rt; packed.answer == Ok(()) && packed.lines.as_slice() == WITHOUT_TIME);
     assert!(rt; packed.bytes.as_slice() == first.as_slice());
     // Without a window it is asked for, and its channel broken.
@@ -203,25 +211,7 @@ fn refuses_a_fault_behind_what_is_asked_for(rt: HostRuntime) {
 
 #[test]
 fn packs_stretches_of_what_is_asked_for(rt: HostRuntime) {
-    let log = numbered(&[(15, b"LOG"), (52, &[0])]);
-    let archive = three(&numbered(&[]), &log, &numbered(&[(26, &[10])]));
-    let options = Options::new(7, 3, 1).expect(&rt, "options");
-    let patterns = Patterns::read(b"*_*_*_BHZ").expect(&rt, "patterns");
-    let Ok(selector) = Selector::new(Some(patterns), None, None) else {
-        return;
-    };
-    let mut input = Counted::new(&archive[..]);
-    let mut output = Counted::new(Vec::new(rt.alloc()));
-    let mut lines = Counted::new(Vec::new(rt.alloc()));
-    let left = repack_selected_stretches(
-        rt.alloc(),
-        &selector,
-        &options,
-        false,
-        &mut input,
-        &mut output,
-        &mut lines,
-    );
-    assert!(rt; left == Ok(Left::Nothing) && are_both(&output.into_inner()));
-    assert!(rt; lines.into_inner().is_empty());
+    let (left, packed, lines) = left_of(&rt, rt.alloc(), Some(b"*_*_*_BHZ"), &with_log());
+    assert!(rt; left == Ok(Left::Nothing) && are_both(&packed));
+    assert!(rt; lines.is_empty());
 }

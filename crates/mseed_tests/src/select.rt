@@ -1,12 +1,11 @@
 //! Records that are asked for. Instants were computed by Python's `datetime` and `fractions`.
 
-use crate::audit::devices::sink_with;
+use crate::audit::devices::{assert_refusals, sink_with};
 use crate::records::{BHN, FIRST, START, put, two, view, with};
 use linked_list_allocator::LocalHeap;
 use mseed_record::{FrameFault, RecordView};
 use mseed_select::{
-    Answer, BadPatterns, BadTime, BadWindow, Patterns, SelectFault, Selected, Selector, read_time,
-    select,
+    Answer, BadTime, BadWindow, Patterns, SelectFault, Selected, Selector, read_time, select,
 };
 use mseed_stream::{Counted, StreamFault};
 use mseed_time::Micros;
@@ -38,10 +37,7 @@ static TEXTS: [(&[u8], bool); 18] = [
 #[test]
 fn reads_patterns(rt: HostRuntime) {
     for (text, is_read) in &TEXTS {
-        match Patterns::read(text) {
-            Ok(_) => assert!(rt; *is_read),
-            Err(BadPatterns) => assert!(rt; !*is_read),
-        }
+        assert!(rt; Patterns::read(text).is_ok() == *is_read, "{text:?}");
     }
 }
 
@@ -132,6 +128,15 @@ fn patterns(text: Option<&[u8]>) -> Option<Patterns<'_>> {
     }
 }
 
+/// What asks for the records of these channels, in this window.
+pub(crate) fn selector_of<'a>(
+    channels: Option<&'a [u8]>,
+    from: Option<i64>,
+    until: Option<i64>,
+) -> Result<Selector<'a>, BadWindow> {
+    Selector::new(patterns(channels), instant(from), instant(until))
+}
+
 /// Whether a record is asked for; `None` where the window is refused.
 fn answer_for(
     channels: Option<&[u8]>,
@@ -139,10 +144,10 @@ fn answer_for(
     until: Option<i64>,
     record: &RecordView,
 ) -> Option<Answer> {
-    let Ok(selector) = Selector::new(patterns(channels), instant(from), instant(until)) else {
-        return None;
-    };
-    Some(selector.asks_for(record))
+    match selector_of(channels, from, until) {
+        Ok(selector) => Some(selector.asks_for(record)),
+        Err(BadWindow) => None,
+    }
 }
 
 /// A pattern, a channel's station, location, channel and network as they stand in a header, and whether it matches.
@@ -257,11 +262,26 @@ fn selected(
 ) -> (Option<Result<Selected, SelectFault>>, Vec<u8>) {
     let mut source = Counted::new(bytes);
     let mut sink = Counted::new(Vec::new(alloc));
-    let found = match Selector::new(patterns(channels), instant(from), None) {
+    let found = match selector_of(channels, from, None) {
         Ok(selector) => Some(select(alloc, &selector, &mut source, &mut sink)),
         Err(BadWindow) => None,
     };
     (found, sink.into_inner())
+}
+
+/// What is answered where so many of so many records are written, so many lack a time, and the archive ends so.
+fn answered(
+    written: u64,
+    records: u64,
+    without_time: u64,
+    end: Option<StreamFault>,
+) -> Option<Result<Selected, SelectFault>> {
+    Some(Ok(Selected {
+        records,
+        written,
+        without_time,
+        end,
+    }))
 }
 
 #[test]
@@ -277,26 +297,10 @@ fn writes_what_is_asked_for(rt: HostRuntime) {
     let end = Some(StreamFault::Frame(512, FrameFault::NotData));
     let (found, written) = selected(rt.alloc(), Some(b"*_*_*_BHN"), None, &bytes);
     assert!(rt; written.as_slice() == north.as_slice());
-    assert!(rt;
-        found
-            == Some(Ok(Selected {
-                records: 4,
-                written: 1,
-                without_time: 0,
-                end
-            }))
-    );
+    assert!(rt; found == answered(1, 4, 0, end));
     let (found, written) = selected(rt.alloc(), Some(b"*_*_*_BHZ"), Some(START), &bytes);
     assert!(rt; written.as_slice() == two(&FIRST).as_slice());
-    assert!(rt;
-        found
-            == Some(Ok(Selected {
-                records: 4,
-                written: 2,
-                without_time: 1,
-                end
-            }))
-    );
+    assert!(rt; found == answered(2, 4, 1, end));
 }
 
 /// More than the 64 KiB that are gathered: 600 records, each third of another channel.
@@ -316,33 +320,13 @@ fn writes_each_record_once(rt: HostRuntime) {
     let bytes = many();
     let (found, written) = selected(rt.alloc(), None, None, &bytes);
     assert!(rt; written.as_slice() == bytes.as_slice());
-    assert!(rt;
-        found
-            == Some(Ok(Selected {
-                records: 600,
-                written: 600,
-                without_time: 0,
-                end: None
-            }))
-    );
+    assert!(rt; found == answered(600, 600, 0, None));
     let (found, written) = selected(rt.alloc(), Some(b"*_*_*_BHN"), None, &bytes);
     assert!(rt; written.len() == 128 * 200);
-    assert!(rt;
-        found
-            == Some(Ok(Selected {
-                records: 600,
-                written: 200,
-                without_time: 0,
-                end: None
-            }))
-    );
+    assert!(rt; found == answered(200, 600, 0, None));
     let north = with(BHN);
-    assert!(rt;
-        written
-            .as_slice()
-            .chunks(128)
-            .all(|record| record == north.as_slice())
-    );
+    let mut records = written.as_slice().chunks(128);
+    assert!(rt; records.all(|record| record == north.as_slice()));
 }
 
 #[test]
@@ -353,12 +337,8 @@ fn writes_what_there_is_room_for(rt: HostRuntime) {
     };
     for room in [0, 1, 128, 65_535, 65_536, 65_664, 76_799] {
         let mut sink = sink_with(rt.alloc(), room);
-        let found = select(
-            rt.alloc(),
-            &asked,
-            &mut Counted::new(bytes.as_slice()),
-            &mut sink,
-        );
+        let mut source = Counted::new(bytes.as_slice());
+        let found = select(rt.alloc(), &asked, &mut source, &mut sink);
         assert!(rt; found == Err(SelectFault::Write));
         assert!(rt; sink.into_inner().taken.as_slice() == &bytes[..room]);
     }
@@ -384,12 +364,6 @@ fn is_enough(rt: &impl Abort, alloc: Global, heap: &LocalHeap, bytes: &[u8]) -> 
 #[test]
 fn writes_a_prefix_where_memory_is_refused(rt: HostRuntime) {
     let bytes = many();
-    let mut was_enough = 0usize;
-    for size in 0..20 {
-        let heap = LocalHeap::new(rt.alloc(), size * 16_384).expect(&rt, "memory");
-        if is_enough(&rt, rt.alloc(), &heap, &bytes) {
-            was_enough = was_enough.saturating_add(1);
-        }
-    }
-    assert!(rt; 0 < was_enough && was_enough < 20);
+    let is_written = |heap: &LocalHeap| is_enough(&rt, rt.alloc(), heap, &bytes);
+    assert_refusals(&rt, rt.alloc(), 0..20, 16_384, is_written);
 }

@@ -28,24 +28,18 @@ fn joins_the_samples_of_a_channel(rt: HostRuntime) {
     let other = with(BHN);
     let views = [view(&rt, &first), view(&rt, &other), view(&rt, &next)];
     let codes = views[0].codes();
-    match series(rt.alloc(), &views, &codes) {
-        Ok(series) => assert!(rt; is_twice(&series, codes)),
-        Err(_) => assert!(rt; false, "a continuous channel"),
-    }
+    let series = series(rt.alloc(), &views, &codes).expect(&rt, "a continuous channel");
+    assert!(rt; is_twice(&series, codes));
 }
 
 #[test]
 fn is_given_leap_seconds(rt: HostRuntime) {
-    let steps = vec![in rt.alloc(); (1, LeapStep::Minus), (16, LeapStep::Plus)].expect(
-        &rt, "memory",
-    );
+    let steps = vec![in rt.alloc(); (1, LeapStep::Minus), (16, LeapStep::Plus)];
+    let steps = steps.expect(&rt, "memory");
     let views = [view(&rt, &FIRST)];
-    match series(rt.alloc(), &views, &views[0].codes()) {
-        Ok(mut series) => {
-            assert!(rt; series.set_steps(steps).is_ok() && series.steps().len() == 2);
-        }
-        Err(_) => assert!(rt; false, "a continuous channel"),
-    }
+    let found = series(rt.alloc(), &views, &views[0].codes());
+    let mut series = found.expect(&rt, "a continuous channel");
+    assert!(rt; series.set_steps(steps).is_ok() && series.steps().len() == 2);
 }
 
 /// Whether there is no series for this reason.

@@ -5,11 +5,11 @@ ghost use Rattle.mseed_stream.specs.Counted.{read_by};
 ghost use Rattle.mseed_stream.specs.Cutting.{IsAlong};
 ghost use Rattle.mseed_stream.specs.Device.{nothing_read};
 
-use super::devices::{NEVER, Pieces};
+use super::devices::{NEVER, Pieces, assert_refusals};
 use crate::records::FIRST;
 use linked_list_allocator::LocalHeap;
 use mseed_stream::{Buffered, Counted, Cutter, Source, StreamFault, split, split_in};
-use std::alloc::{AllocError, Allocator, Global};
+use std::alloc::{Allocator, Global};
 use std::io;
 use std::io::BufReader;
 use std::process::Abort;
@@ -17,16 +17,21 @@ use std::process::Abort;
 /// Where blockette 1000 has the length exponent.
 const EXPONENT: usize = 54;
 
+/// The bytes in pieces, of which a read after so many others is interrupted.
+fn pieces(rest: &[u8], most: usize, calls_before_failure: usize) -> Pieces<'_> {
+    Pieces {
+        rest,
+        most,
+        calls_before_failure,
+        kind: io::ErrorKind::Interrupted,
+    }
+}
+
 /// The bytes in pieces, of which nothing was read yet.
 fn in_pieces(rest: &[u8], most: usize) -> Counted<Pieces<'_>>
     ensures { read_by result ≡ nothing_read }
 {
-    Counted::new(Pieces {
-        rest,
-        most,
-        calls_before_failure: NEVER,
-        kind: io::ErrorKind::Interrupted,
-    })
+    Counted::new(pieces(rest, most, NEVER))
 }
 
 /// What a cutter answered.
@@ -123,10 +128,8 @@ fn cuts_records_in_any_pieces(rt: HostRuntime) {
         Answer::End,
     ];
     for most in [1, 3, 48, 256, 900] {
-        assert!(rt;
-            answers(rt.alloc(), &mut in_pieces(&bytes, most)) == wanted,
-            "{most}"
-        );
+        let found = answers(rt.alloc(), &mut in_pieces(&bytes, most));
+        assert!(rt; found == wanted, "{most}");
     }
 }
 
@@ -158,28 +161,16 @@ fn lends_three<R: Source>(alloc: Global, source: &mut R) -> bool
 #[test]
 fn lends_records_where_they_lie(rt: HostRuntime) {
     let bytes = records(&rt, rt.alloc(), &[7, 8, 9]);
-    let pieces = Pieces {
-        rest: &bytes,
-        most: 700,
-        calls_before_failure: NEVER,
-        kind: io::ErrorKind::Interrupted,
-    };
-    let mut source = Buffered::new(BufReader::with_capacity(rt.alloc(), 4096, pieces).expect(
-        &rt, "memory",
-    ));
-    assert!(rt; lends_three(rt.alloc(), &mut source));
+    let pieces = pieces(&bytes, 700, NEVER);
+    let reader = BufReader::with_capacity(rt.alloc(), 4096, pieces).expect(&rt, "memory");
+    assert!(rt; lends_three(rt.alloc(), &mut Buffered::new(reader)));
 }
 
 #[test]
 fn keeps_the_fault_of_a_read(rt: HostRuntime) {
     let bytes = records(&rt, rt.alloc(), &[7, 7]);
     let fault = Answer::Fault(StreamFault::Read(128));
-    let mut source = Counted::new(Pieces {
-        rest: &bytes,
-        most: 1,
-        calls_before_failure: 200,
-        kind: io::ErrorKind::Interrupted,
-    });
+    let mut source = Counted::new(pieces(&bytes, 1, 200));
     let wanted = [Answer::Record(0, 128), fault, fault, fault];
     assert!(rt; answers(rt.alloc(), &mut source) == wanted);
     assert!(rt; source.get_ref().rest.len() == 56, "the reader would go on");
@@ -238,12 +229,7 @@ fn splits(rt: &impl Abort, heap: &LocalHeap, bytes: &[u8]) -> bool {
 #[test]
 fn answers_memory_of_a_slice(rt: HostRuntime) {
     let bytes = records(&rt, rt.alloc(), &[7; 20]);
-    let mut was_split = false;
-    for size in 0..64 {
-        let heap = LocalHeap::new(rt.alloc(), size * 64).expect(&rt, "memory");
-        was_split = splits(&rt, &heap, &bytes) || was_split;
-    }
-    assert!(rt; was_split);
+    assert_refusals(&rt, rt.alloc(), 0..64, 64, |heap| splits(&rt, heap, &bytes));
     assert!(rt; split(rt.alloc(), &bytes).expect(&rt, "records").len() == 20);
 }
 

@@ -1,4 +1,4 @@
-//! Small devices that tell, take and fail by turns.
+//! Small devices that tell, take and fail by turns, and heaps that are too small.
 ghost use Rattle.std.specs.Prelude.{◌≡◌, IfOk, IfSome};
 ghost use Rattle.mseed_stream.specs.Device.{nothing_read, nothing_written};
 
@@ -9,6 +9,7 @@ use mseed_stream::{
 use std::alloc::Global;
 use std::io;
 use std::io::{BufReader, Read, Write};
+use std::ops::Range;
 use std::process::Abort;
 
 /// After more calls than there are.
@@ -108,6 +109,28 @@ pub(crate) fn sink_with(alloc: Global, room: usize) -> Counted<Filling> {
     })
 }
 
+/// Asserts that memory is enough at some time, and refused at another: in heaps of so many blocks of this many bytes.
+pub(crate) fn assert_refusals<F: FnMut(&LocalHeap) -> bool>(
+    rt: &impl Abort,
+    alloc: Global,
+    blocks: Range<usize>,
+    bytes: usize,
+    mut is_enough: F,
+)
+    requires { F.IsAlwaysCallable is_enough }
+{
+    let (mut was_enough, mut was_refused) = (false, false);
+    for count in blocks {
+        let heap = LocalHeap::new(alloc, count.saturating_mul(bytes)).expect(rt, "memory");
+        if is_enough(&heap) {
+            was_enough = true;
+        } else {
+            was_refused = true;
+        }
+    }
+    assert!(rt; was_enough && was_refused);
+}
+
 // ---- what callers prove of a new `Counted`, with no proof of their own
 
 /// All that a reader is known to have.
@@ -148,10 +171,8 @@ fn fails_after(rt: &impl Abort, alloc: Global, reported: usize, rest: &[u8]) -> 
 fn says_where_a_read_failed(rt: HostRuntime) {
     let hello = b"hello".as_slice();
     for reported in 0..6 {
-        assert!(rt;
-            fails_after(&rt, rt.alloc(), reported, &hello[reported..]),
-            "behind {reported} bytes"
-        );
+        let fails = fails_after(&rt, rt.alloc(), reported, &hello[reported..]);
+        assert!(rt; fails, "behind {reported} bytes");
     }
 }
 
@@ -188,9 +209,8 @@ fn asks_no_reader_behind_its_end(rt: HostRuntime) {
 
 #[test]
 fn asks_a_buffered_reader_once_a_call(rt: HostRuntime) {
-    let mut source = Buffered::new(BufReader::with_capacity(rt.alloc(), 4, dripping(1)).expect(
-        &rt, "memory",
-    ));
+    let reader = BufReader::with_capacity(rt.alloc(), 4, dripping(1)).expect(&rt, "memory");
+    let mut source = Buffered::new(reader);
     let mut buf = [0; 3];
     assert!(rt; fails_once(&mut source, &mut buf));
     assert!(rt; buf[0] == b'e');
@@ -231,14 +251,8 @@ fn reads(rt: &impl Abort, heap: &LocalHeap, bytes: &[u8]) -> bool {
 
 #[test]
 fn answers_memory_where_a_allocation_is_refused(rt: HostRuntime) {
-    let mut was_read = 0usize;
-    for size in 0..100 {
-        let heap = LocalHeap::new(rt.alloc(), size * 16).expect(&rt, "memory");
-        if reads(&rt, &heap, &[7; 600]) {
-            was_read = was_read.saturating_add(1);
-        }
-    }
-    assert!(rt; 0 < was_read && was_read < 100);
+    let is_read = |heap: &LocalHeap| reads(&rt, heap, &[7; 600]);
+    assert_refusals(&rt, rt.alloc(), 0..100, 16, is_read);
 }
 
 /// Fails at its first write, and takes all bytes from then on.

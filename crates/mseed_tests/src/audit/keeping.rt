@@ -16,17 +16,12 @@ fn add(rt: &impl Abort, audit: &mut Audit, offset: u64, bytes: &[u8; 128]) -> u6
 }
 
 /// What is kept of the channels of three records of 128 bytes that stand one after another.
-fn kept(
-    rt: &impl Abort,
-    alloc: Global,
-    first: &[u8; 128],
-    second: &[u8; 128],
-    third: &[u8; 128],
-) -> Channels {
+fn kept(rt: &impl Abort, alloc: Global, records: &[[u8; 128]; 3]) -> Channels {
     let mut audit = Audit::new(alloc);
-    let offset = add(rt, &mut audit, 0, first);
-    let offset = add(rt, &mut audit, offset, second);
-    add(rt, &mut audit, offset, third);
+    let mut offset = 0;
+    for record in records {
+        offset = add(rt, &mut audit, offset, record);
+    }
     audit.into_channels(alloc).expect(rt, "memory")
 }
 
@@ -44,26 +39,22 @@ fn has(channel: &Channel, records: u64, findings: Findings) -> bool {
 
 #[test]
 fn keeps_beginnings_and_ends(rt: HostRuntime) {
-    let channels = kept(&rt, rt.alloc(), &FIRST, &with(BHN), &with(NEXT));
+    let channels = kept(&rt, rt.alloc(), &[FIRST, with(BHN), with(NEXT)]);
     let [(north, one), (vertical, two)] = channels.as_slice() else {
         panic!(rt; "two channels");
     };
     assert!(rt; north.key() < vertical.key());
-    assert!(rt; has(one, 1, nothing(head(&rt, 2, 128, START), tail(&rt, START))));
-    assert!(rt;
-        has(
-            two,
-            2,
-            nothing(head(&rt, 1, 0, START), tail(&rt, NEXT_START))
-        )
-    );
+    let alone = nothing(head(&rt, 2, 128, START), tail(&rt, START));
+    let both = nothing(head(&rt, 1, 0, START), tail(&rt, NEXT_START));
+    assert!(rt; has(one, 1, alone));
+    assert!(rt; has(two, 2, both));
 }
 
 #[test]
 fn keeps_the_first_finding(rt: HostRuntime) {
     // The first record has no rate; the third begins late after the second.
     let no_rate = with(&[(33, &[0])]);
-    let channels = kept(&rt, rt.alloc(), &no_rate, &FIRST, &with(LATE));
+    let channels = kept(&rt, rt.alloc(), &[no_rate, FIRST, with(LATE)]);
     let [(_, channel)] = channels.as_slice() else {
         panic!(rt; "one channel");
     };

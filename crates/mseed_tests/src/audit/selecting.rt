@@ -1,13 +1,12 @@
 //! Audits of the records that are asked for: rows computed by hand.
 
+use super::devices::sink_with;
 use super::telling::many;
-use crate::audit::devices::sink_with;
-use mseed_audit::{SelectedSummary, Summary, audit_each_selected, audit_selected};
-use mseed_select::{Patterns, Selector};
+use crate::records::{START, summary};
+use crate::select::selector_of;
+use mseed_audit::{SelectedSummary, audit_each_selected, audit_selected};
 use mseed_stream::{Counted, StreamFault};
-use mseed_time::Micros;
 use std::alloc::Global;
-use std::process::Abort;
 
 /// What the whole audit says of the channel BHN, and of its records with a finding.
 const OF_CHANNEL: &str =
@@ -25,30 +24,22 @@ const FROM_ON: &str = "640 XX_STA__BHZ record 6 start 2024-01-01T00:00:00.000000
 /// What is said of no record.
 const NOTHING: &str = "records 0 channels 0\nfault at 768 truncated 1\n";
 
-/// The microseconds from 1970 to 2024.
-const FROM: i64 = 1_704_067_200_000_000;
-
 /// Patterns, a begin if there is one, what is written, and how many records, channels and records without a time there
 /// are.
 type Row = (&'static [u8], Option<i64>, &'static str, (u64, u64, u64));
 
 static ROWS: [Row; 3] = [
     (b"*_*_*_BHN", None, OF_CHANNEL, (2, 1, 0)),
-    (b"XX_STA_--_?HZ", Some(FROM), FROM_ON, (2, 1, 2)),
+    (b"XX_STA_--_?HZ", Some(START), FROM_ON, (2, 1, 2)),
     (b"YY_*_*_*", None, NOTHING, (0, 0, 0)),
 ];
 
 /// What is answered of so many records and channels, of which all are broken.
 fn found(numbers: (u64, u64, u64)) -> SelectedSummary {
     let (records, channels, without_time) = numbers;
+    let end = Some(StreamFault::Truncated(768, 1));
     SelectedSummary {
-        summary: Summary {
-            records,
-            channels,
-            broken: channels,
-            fault: true,
-            end: Some(StreamFault::Truncated(768, 1)),
-        },
+        summary: summary(records, channels, channels, end),
         without_time,
     }
 }
@@ -56,14 +47,7 @@ fn found(numbers: (u64, u64, u64)) -> SelectedSummary {
 /// Whether a row's records are audited so, with the lines of findings and without.
 fn is_selected(alloc: Global, row: &Row) -> bool {
     let (patterns, from, text, numbers) = *row;
-    let Ok(patterns) = Patterns::read(patterns) else {
-        return false;
-    };
-    let from = match from {
-        Some(from) => Micros::new(from),
-        None => None,
-    };
-    let Ok(selector) = Selector::new(Some(patterns), from, None) else {
+    let Ok(selector) = selector_of(Some(patterns), from, None) else {
         return false;
     };
     let bytes = many();

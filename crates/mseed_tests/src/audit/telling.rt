@@ -1,7 +1,7 @@
 //! Audits that tell each record with a finding: rows computed by hand, outputs that fail and memory that is refused.
 
-use super::devices::{Filling, sink_with};
-use crate::records::{BHN, FIRST, LATE, put, two, with};
+use super::devices::{Filling, assert_refusals, sink_with};
+use crate::records::{BHN, FIRST, LATE, put, summary, two, with};
 use linked_list_allocator::LocalHeap;
 use mseed_audit::{EachFault, Summary, audit_each};
 use mseed_stream::{Counted, StreamFault};
@@ -51,23 +51,11 @@ fn is_reported(
 
 #[test]
 fn tells_each_finding(rt: HostRuntime) {
-    let summary = Summary {
-        records: 2,
-        channels: 1,
-        broken: 1,
-        fault: false,
-        end: None,
-    };
+    let one = summary(2, 1, 1, None);
     let bytes = two(&with(LATE));
-    assert!(rt; is_reported(rt.alloc(), &bytes, 1 << 20, Ok(summary), GAP.as_bytes()));
-    let summary = Summary {
-        records: 6,
-        channels: 2,
-        broken: 2,
-        fault: true,
-        end: Some(StreamFault::Truncated(768, 1)),
-    };
-    assert!(rt; is_reported(rt.alloc(), &many(), 1 << 20, Ok(summary), MANY.as_bytes()));
+    assert!(rt; is_reported(rt.alloc(), &bytes, 1 << 20, Ok(one), GAP.as_bytes()));
+    let both = summary(6, 2, 2, Some(StreamFault::Truncated(768, 1)));
+    assert!(rt; is_reported(rt.alloc(), &many(), 1 << 20, Ok(both), MANY.as_bytes()));
 }
 
 #[test]
@@ -75,10 +63,8 @@ fn tells_what_there_is_room_for(rt: HostRuntime) {
     let bytes = many();
     for room in 0..MANY.len() {
         let text = &MANY.as_bytes()[..room];
-        assert!(rt;
-            is_reported(rt.alloc(), &bytes, room, Err(EachFault::Write), text),
-            "{room}"
-        );
+        let fails = is_reported(rt.alloc(), &bytes, room, Err(EachFault::Write), text);
+        assert!(rt; fails, "{room}");
     }
 }
 
@@ -158,12 +144,6 @@ fn reports(rt: &impl Abort, alloc: Global, heap: &LocalHeap, bytes: &[u8]) -> bo
 #[test]
 fn tells_a_prefix_where_memory_is_refused(rt: HostRuntime) {
     let bytes = many();
-    let mut was_reported = 0usize;
-    for size in 0..400 {
-        let heap = LocalHeap::new(rt.alloc(), size * 16).expect(&rt, "memory");
-        if reports(&rt, rt.alloc(), &heap, &bytes) {
-            was_reported = was_reported.saturating_add(1);
-        }
-    }
-    assert!(rt; 0 < was_reported && was_reported < 400);
+    let is_reported = |heap: &LocalHeap| reports(&rt, rt.alloc(), heap, &bytes);
+    assert_refusals(&rt, rt.alloc(), 0..400, 16, is_reported);
 }

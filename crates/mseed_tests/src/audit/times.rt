@@ -108,9 +108,8 @@ fn new_year(rt: &impl Abort) -> Btime {
 
 #[test]
 fn clears_the_unused_byte(rt: HostRuntime) {
-    let time = Btime::read(&[0x07, 0xe8, 0, 1, 0, 0, 0, 0xff, 0, 1], Order::Big).expect(
-        &rt, "a time",
-    );
+    let read = Btime::read(&[0x07, 0xe8, 0, 1, 0, 0, 0, 0xff, 0, 1], Order::Big);
+    let time = read.expect(&rt, "a time");
     assert!(rt; time.write(Order::Big) == [0x07, 0xe8, 0, 1, 0, 0, 0, 0, 0, 1]);
     assert!(rt; time.write(Order::Little) == [0xe8, 0x07, 1, 0, 0, 0, 0, 0, 1, 0]);
 }
@@ -318,10 +317,8 @@ fn has_ratios(rt: HostRuntime) {
     assert!(rt; unreduced.num() == 2 && unreduced.den() == 20);
     assert!(rt; unreduced.same_as(tenth) && unreduced != tenth);
     for (num, den, is_ratio) in &RATIOS {
-        assert!(rt;
-            Ratio::new(*num, *den).is_some() == *is_ratio,
-            "{num}/{den}"
-        );
+        let found = Ratio::new(*num, *den);
+        assert!(rt; found.is_some() == *is_ratio, "{num}/{den}");
     }
 }
 
