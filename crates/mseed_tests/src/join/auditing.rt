@@ -1,6 +1,6 @@
 //! Audits that write the part of what was read.
 
-use crate::records::{FIRST, LATE, put, with};
+use crate::records::{FIRST, LATE, put, summary, with};
 use mseed_audit::Summary;
 use mseed_join::{audit_part, audit_part_each};
 use mseed_stream::{Counted, StreamFault};
@@ -36,16 +36,8 @@ fn both() -> [u8; 257] {
     bytes
 }
 
-/// What the summary of so many records of one channel is, which is broken and ends with a fault where `is_broken`.
-fn summary(records: u64, is_broken: bool) -> Summary {
-    Summary {
-        records,
-        channels: 1,
-        broken: u64::from(is_broken),
-        fault: is_broken,
-        end: is_broken.then_some(StreamFault::Truncated(256, 1)),
-    }
-}
+/// How those bytes end.
+const CUT_OFF: Option<StreamFault> = Some(StreamFault::Truncated(256, 1));
 
 /// Whether the audit of these bytes writes this part, and answers so.
 fn is_part(alloc: Global, bytes: &[u8], text: &str, wanted: Summary) -> bool {
@@ -56,9 +48,10 @@ fn is_part(alloc: Global, bytes: &[u8], text: &str, wanted: Summary) -> bool {
 
 #[test]
 fn writes_parts(rt: HostRuntime) {
-    assert!(rt; is_part(rt.alloc(), &FIRST, OF_FIRST, summary(1, false)));
-    assert!(rt; is_part(rt.alloc(), &with(LATE), OF_LATE, summary(1, false)));
-    assert!(rt; is_part(rt.alloc(), &both(), OF_BOTH, summary(2, true)));
+    let one = summary(1, 1, 0, None);
+    assert!(rt; is_part(rt.alloc(), &FIRST, OF_FIRST, one));
+    assert!(rt; is_part(rt.alloc(), &with(LATE), OF_LATE, one));
+    assert!(rt; is_part(rt.alloc(), &both(), OF_BOTH, summary(2, 1, 1, CUT_OFF)));
 }
 
 /// Whether a text is what is reported of both, and their part after it.
@@ -73,6 +66,6 @@ fn tells_each_before_the_part(rt: HostRuntime) {
     let bytes = both();
     let mut sink = Counted::new(Vec::new(rt.alloc()));
     let answer = audit_part_each(rt.alloc(), &mut Counted::new(bytes.as_slice()), &mut sink);
-    assert!(rt; answer == Ok(summary(2, true)));
+    assert!(rt; answer == Ok(summary(2, 1, 1, CUT_OFF)));
     assert!(rt; is_both(&sink.into_inner()));
 }

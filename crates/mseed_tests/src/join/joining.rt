@@ -1,8 +1,7 @@
 //! Parts that are joined: rows with what is written, reported and answered.
 
 use super::auditing::{OF_FIRST, OF_LATE};
-use crate::audit::devices::sink_with;
-use linked_list_allocator::LocalHeap;
+use crate::audit::devices::{self, sink_with};
 use mseed_join::{Form, Joined, JoinsFault, join, join_each};
 use mseed_stream::Counted;
 use std::alloc::{Allocator, Global};
@@ -47,14 +46,9 @@ const PASSED: &str = "XX_STA__BHZ broken findings 1 first record 2 offset 128 ga
 pub(super) const REPORTED: &str = "mseed: part 1 fault at 128 truncated 1\n";
 
 /// Three texts, one after another.
-pub(super) fn joint(rt: &impl Abort, alloc: Global, parts: &[&str; 3]) -> Vec<u8> {
-    let mut bytes = Vec::new(alloc);
-    for part in parts {
-        bytes
-            .extend_from_slice(part.as_bytes())
-            .expect(rt, "memory");
-    }
-    bytes
+pub(super) fn joint(rt: &impl Abort, alloc: Global, parts: &[&str; 3]) -> String {
+    let [first, second, third] = parts;
+    format!(in alloc; "{first}{second}{third}").expect(rt, "memory")
 }
 
 /// What comes of a join: the answer, and what is written and reported.
@@ -68,6 +62,11 @@ struct Outcome {
 /// The form into which parts are joined, or else with borders, whether faults are passed, and how many parts are
 /// expected.
 type How = (Option<Form>, bool, Option<u64>);
+
+/// Into an audit, and into a part.
+const AN_AUDIT: Option<Form> = Some(Form::Audit);
+
+const A_PART: Option<Form> = Some(Form::Part);
 
 /// Joins the parts of a text with this memory into a form, or else with a line for each border, to an output with so
 /// much room.
@@ -110,111 +109,68 @@ fn outcome_of<A: Allocator + Copy>(
 /// Room for all that is written.
 const ALL: usize = 1 << 20;
 
+/// What is answered of a join.
+pub(super) type Answer = Result<Joined, JoinsFault>;
+
 /// Three texts of parts and how they are joined; and what is written, reported and answered.
-pub(super) type Row = (
-    [&'static str; 3],
-    How,
-    &'static str,
-    &'static str,
-    Result<Joined, JoinsFault>,
-);
+pub(super) type Row = ([&'static str; 3], How, &'static str, &'static str, Answer);
 
 /// What is answered where no channel is broken, and no archive ends with a fault.
-pub(super) const WELL: Result<Joined, JoinsFault> = Ok(Joined {
+pub(super) const WELL: Answer = Ok(Joined {
     broken: 0,
     fault: false,
 });
 
 /// The same with a broken channel.
-pub(super) const BROKEN: Result<Joined, JoinsFault> = Ok(Joined {
+pub(super) const BROKEN: Answer = Ok(Joined {
     broken: 1,
     fault: false,
 });
 
 /// The same with a fault.
-pub(super) const CUT_OFF: Result<Joined, JoinsFault> = Ok(Joined {
+pub(super) const CUT_OFF: Answer = Ok(Joined {
     broken: 0,
     fault: true,
 });
 
 /// The same with both.
-pub(super) const BOTH: Result<Joined, JoinsFault> = Ok(Joined {
+pub(super) const BOTH: Answer = Ok(Joined {
     broken: 1,
     fault: true,
 });
 
+/// What is answered where there are so many parts of those that are expected.
+const NONE_OF_1: Answer = Err(JoinsFault::Count(0, 1));
+
+pub(super) const TWO_OF_1: Answer = Err(JoinsFault::Count(2, 1));
+
+pub(super) const TWO_OF_3: Answer = Err(JoinsFault::Count(2, 3));
+
 static ROWS: [Row; 5] = [
-    (NOTHING, (Some(Form::Audit), false, None), EMPTY, "", WELL),
-    (SOUND, (Some(Form::Audit), false, None), AUDIT, "", BROKEN),
-    (SOUND, (Some(Form::Part), false, None), PART, "", BROKEN),
-    (FAULTY, (Some(Form::Audit), false, None), CUT, "", CUT_OFF),
-    (
-        FAULTY,
-        (Some(Form::Audit), true, None),
-        PASSED,
-        REPORTED,
-        BOTH,
-    ),
+    (NOTHING, (AN_AUDIT, false, None), EMPTY, "", WELL),
+    (SOUND, (AN_AUDIT, false, None), AUDIT, "", BROKEN),
+    (SOUND, (A_PART, false, None), PART, "", BROKEN),
+    (FAULTY, (AN_AUDIT, false, None), CUT, "", CUT_OFF),
+    (FAULTY, (AN_AUDIT, true, None), PASSED, REPORTED, BOTH),
 ];
 
 /// Parts of which a number is expected: the one that isn't counted after a fault too.
 static COUNTED: [Row; 8] = [
-    (
-        SOUND,
-        (Some(Form::Audit), false, Some(2)),
-        AUDIT,
-        "",
-        BROKEN,
-    ),
-    (SOUND, (Some(Form::Part), false, Some(2)), PART, "", BROKEN),
-    (
-        FAULTY,
-        (Some(Form::Audit), false, Some(2)),
-        CUT,
-        "",
-        CUT_OFF,
-    ),
-    (
-        FAULTY,
-        (Some(Form::Audit), true, Some(2)),
-        PASSED,
-        REPORTED,
-        BOTH,
-    ),
-    (
-        NOTHING,
-        (Some(Form::Audit), false, Some(1)),
-        "",
-        "",
-        Err(JoinsFault::Count(0, 1)),
-    ),
-    (
-        SOUND,
-        (Some(Form::Part), false, Some(3)),
-        "",
-        "",
-        Err(JoinsFault::Count(2, 3)),
-    ),
-    (
-        FAULTY,
-        (Some(Form::Audit), false, Some(1)),
-        "",
-        "",
-        Err(JoinsFault::Count(2, 1)),
-    ),
-    (
-        FAULTY,
-        (Some(Form::Part), true, Some(1)),
-        "",
-        REPORTED,
-        Err(JoinsFault::Count(2, 1)),
-    ),
+    (SOUND, (AN_AUDIT, false, Some(2)), AUDIT, "", BROKEN),
+    (SOUND, (A_PART, false, Some(2)), PART, "", BROKEN),
+    (FAULTY, (AN_AUDIT, false, Some(2)), CUT, "", CUT_OFF),
+    (FAULTY, (AN_AUDIT, true, Some(2)), PASSED, REPORTED, BOTH),
+    (NOTHING, (AN_AUDIT, false, Some(1)), "", "", NONE_OF_1),
+    (SOUND, (A_PART, false, Some(3)), "", "", TWO_OF_3),
+    (FAULTY, (AN_AUDIT, false, Some(1)), "", "", TWO_OF_1),
+    (FAULTY, (A_PART, true, Some(1)), "", REPORTED, TWO_OF_1),
 ];
 
 /// Whether parts are joined as a row says.
 pub(super) fn is_joined(rt: &impl Abort, alloc: Global, row: &Row) -> bool {
     let (parts, how, text, reported, joined) = row;
-    let outcome = outcome_of(alloc, alloc, &joint(rt, alloc, parts), *how, ALL);
+    let bytes = joint(rt, alloc, parts);
+    let outcome = outcome_of(alloc, alloc, bytes.as_bytes(), *how, ALL);
     outcome.answer == *joined
         && outcome.written.as_slice() == text.as_bytes()
         && outcome.reported.as_slice() == reported.as_bytes()
@@ -245,13 +201,8 @@ static BAD_LINES: [(&str, u64, u64); 5] = [
 
 /// Whether the audit of a text is refused at this line, which begins at an offset, with nothing written.
 fn is_bad_at(alloc: Global, text: &str, number: u64, offset: u64) -> bool {
-    let outcome = outcome_of(
-        alloc,
-        alloc,
-        text.as_bytes(),
-        (Some(Form::Audit), false, None),
-        ALL,
-    );
+    let how = (AN_AUDIT, false, None);
+    let outcome = outcome_of(alloc, alloc, text.as_bytes(), how, ALL);
     outcome.answer == Err(JoinsFault::Line { number, offset }) && outcome.written.is_empty()
 }
 
@@ -269,7 +220,7 @@ pub(super) fn says_that_it_failed(alloc: Global, bytes: &[u8], how: How) -> bool
 
 #[test]
 fn says_that_the_output_failed(rt: HostRuntime) {
-    let how = (Some(Form::Part), false, Some(1));
+    let how = (A_PART, false, Some(1));
     assert!(rt; says_that_it_failed(rt.alloc(), OF_FIRST.as_bytes(), how));
 }
 
@@ -294,18 +245,15 @@ pub(super) fn assert_refusals(
     form: Option<Form>,
     (text, most): (&str, usize),
 ) {
-    let mut enough = 0usize;
     // The buffer for lines takes 64 KiB of it.
-    for size in 1..=64 {
-        let heap = LocalHeap::new(alloc, size * 2048).expect(rt, "memory");
-        let outcome = outcome_of(alloc, &heap, bytes, (form, false, None), ALL);
-        enough = enough.saturating_add(usize::from(is_enough(rt, &outcome, text, most)));
-    }
-    assert!(rt; 0 < enough && enough < 64);
+    devices::assert_refusals(rt, alloc, 1..65, 2048, |heap| {
+        let outcome = outcome_of(alloc, heap, bytes, (form, false, None), ALL);
+        is_enough(rt, &outcome, text, most)
+    });
 }
 
 #[test]
 fn writes_nothing_where_memory_is_refused(rt: HostRuntime) {
     let bytes = OF_FIRST.as_bytes();
-    assert_refusals(&rt, rt.alloc(), bytes, Some(Form::Part), (OF_FIRST, 0));
+    assert_refusals(&rt, rt.alloc(), bytes, A_PART, (OF_FIRST, 0));
 }

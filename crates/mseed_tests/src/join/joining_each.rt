@@ -2,8 +2,8 @@
 
 use super::auditing::{OF_FIRST, OF_LATE};
 use super::joining::{
-    BOTH, BROKEN, CUT, CUT_OFF, EMPTY, FAULTY, NOTHING, REPORTED, Row, SOUND, WELL,
-    assert_refusals, is_joined, joint, says_that_it_failed,
+    Answer, BOTH, BROKEN, CUT, CUT_OFF, EMPTY, FAULTY, NOTHING, REPORTED, Row, SOUND, TWO_OF_1,
+    TWO_OF_3, WELL, assert_refusals, is_joined, joint, says_that_it_failed,
 };
 use mseed_join::JoinsFault;
 
@@ -26,42 +26,20 @@ static ROWS: [Row; 9] = [
     (SOUND, (None, false, None), EACH, "", BROKEN),
     (FAULTY, (None, false, None), CUT, "", CUT_OFF),
     (FAULTY, (None, true, None), PASSED, REPORTED, BOTH),
-    (
-        BAD,
-        (None, false, Some(1)),
-        BORDER,
-        "",
-        Err(JoinsFault::Line {
-            number: 7,
-            offset: 312,
-        }),
-    ),
+    (BAD, (None, false, Some(1)), BORDER, "", BAD_LINE),
     (SOUND, (None, false, Some(2)), EACH, "", BROKEN),
-    (
-        SOUND,
-        (None, false, Some(1)),
-        BORDER,
-        "",
-        Err(JoinsFault::Count(2, 1)),
-    ),
-    (
-        FAULTY,
-        (None, false, Some(3)),
-        "",
-        "",
-        Err(JoinsFault::Count(2, 3)),
-    ),
-    (
-        FAULTY,
-        (None, true, Some(3)),
-        BORDER,
-        REPORTED,
-        Err(JoinsFault::Count(2, 3)),
-    ),
+    (SOUND, (None, false, Some(1)), BORDER, "", TWO_OF_1),
+    (FAULTY, (None, false, Some(3)), "", "", TWO_OF_3),
+    (FAULTY, (None, true, Some(3)), BORDER, REPORTED, TWO_OF_3),
 ];
 
-/// The parts of both records, and a text that is none.
+/// The parts of both records, and a text that is none; and what is answered there.
 const BAD: [&str; 3] = [OF_FIRST, OF_LATE, "mseed part 2\n"];
+
+const BAD_LINE: Answer = Err(JoinsFault::Line {
+    number: 7,
+    offset: 312,
+});
 
 #[test]
 fn joins_with_borders(rt: HostRuntime) {
@@ -74,14 +52,14 @@ fn joins_with_borders(rt: HostRuntime) {
 fn says_that_no_line_was_taken(rt: HostRuntime) {
     let bytes = joint(&rt, rt.alloc(), &BAD);
     // The line of the border comes before the bad line is read.
-    assert!(rt; says_that_it_failed(rt.alloc(), &bytes, (None, false, None)));
+    assert!(rt; says_that_it_failed(rt.alloc(), bytes.as_bytes(), (None, false, None)));
     // And before the parts are found to be too few.
     let bytes = joint(&rt, rt.alloc(), &SOUND);
-    assert!(rt; says_that_it_failed(rt.alloc(), &bytes, (None, false, Some(3))));
+    assert!(rt; says_that_it_failed(rt.alloc(), bytes.as_bytes(), (None, false, Some(3))));
 }
 
 #[test]
 fn writes_a_prefix_where_memory_is_refused(rt: HostRuntime) {
     let bytes = joint(&rt, rt.alloc(), &SOUND);
-    assert_refusals(&rt, rt.alloc(), &bytes, None, (EACH, EACH.len()));
+    assert_refusals(&rt, rt.alloc(), bytes.as_bytes(), None, (EACH, EACH.len()));
 }
