@@ -4,24 +4,11 @@ use super::record::{Row, STEIM_1, record};
 use mseed_record::RecordView;
 use mseed_steim::is_surely_near;
 
-/// Two samples of Steim-1, the second by a word of one difference.
-const WIDE: Row = Row {
-    samples: 2,
-    ..STEIM_1
-};
-
 /// Two samples of Steim-2.
 const STEIM_2: Row = Row {
     encoding: 11,
     samples: 2,
     frames: &[&[0x02C0_0000, 0, 7, 0x4000_0000, 0x4000_0007]],
-    ..STEIM_1
-};
-
-/// Two integers of 32 bits.
-const LONG: Row = Row {
-    encoding: 3,
-    samples: 2,
     ..STEIM_1
 };
 
@@ -33,129 +20,58 @@ const SHORT: Row = Row {
     ..STEIM_1
 };
 
+/// Two samples of Steim-1, the second by the last word of all.
+const LAST_WORD: Row = Row {
+    samples: 2,
+    frames: &[
+        &[0x0100_0000, 0, 0],
+        &[3, 0, 0, 0, 0, 0, 0, 0, 0, 0, 0, 0, 0, 0, 0, 0x4000_0000],
+    ],
+    ..STEIM_1
+};
+
+/// Integers of 32 bits: one more than there is room for.
+const TOO_FEW: Row = Row {
+    encoding: 3,
+    samples: 49,
+    ..STEIM_1
+};
+
+/// Text.
+const TEXT: Row = Row {
+    encoding: 0,
+    samples: 2,
+    ..STEIM_1
+};
+
 /// Rows, and whether they show that.
-static ROWS: [(&str, Row, bool); 17] = [
+static ROWS: [(&str, Row, bool); 6] = [
     ("steim-1", STEIM_1, true),
     ("steim-2", STEIM_2, true),
     ("16 bits", SHORT, true),
-    // The words 3 and 4 of the first frame, of one difference each.
-    (
-        "30 bits",
-        Row {
-            frames: &[&[0x03C0_0000, 0, 0, 0, 0x1FFF_FFFF]],
-            ..WIDE
-        },
-        true,
-    ),
-    (
-        "31 bits",
-        Row {
-            frames: &[&[0x03C0_0000, 0, 0, 0, 0x2000_0000]],
-            ..WIDE
-        },
-        false,
-    ),
-    (
-        "30 bits down",
-        Row {
-            frames: &[&[0x03C0_0000, 0, 0, 0, 0xE000_0000]],
-            ..WIDE
-        },
-        true,
-    ),
-    (
-        "31 bits down",
-        Row {
-            frames: &[&[0x03C0_0000, 0, 0, 0, 0xDFFF_FFFF]],
-            ..WIDE
-        },
-        false,
-    ),
-    (
-        "two differences",
-        Row {
-            frames: &[&[0x0280_0000, 0, 0, 0, 0x7FFF_8000]],
-            ..WIDE
-        },
-        true,
-    ),
-    (
-        "the last word",
-        Row {
-            frames: &[
-                &[0x0100_0000, 0, 0],
-                &[3, 0, 0, 0, 0, 0, 0, 0, 0, 0, 0, 0, 0, 0, 0, 0x4000_0000],
-            ],
-            ..WIDE
-        },
-        false,
-    ),
-    (
-        "29 bits",
-        Row {
-            frames: &[&[0x0FFF_FFFF, 0xF000_0000]],
-            ..LONG
-        },
-        true,
-    ),
-    (
-        "30 bits first",
-        Row {
-            frames: &[&[0x1000_0000, 0]],
-            ..LONG
-        },
-        false,
-    ),
-    (
-        "30 bits last",
-        Row {
-            frames: &[&[0, 0xEFFF_FFFF]],
-            ..LONG
-        },
-        false,
-    ),
-    (
-        "30 bits behind",
-        Row {
-            frames: &[&[0, 0, 0x7FFF_FFFF]],
-            ..LONG
-        },
-        true,
-    ),
-    (
-        "little",
-        Row {
-            word_order: 0,
-            frames: &[&[0x1000_0000, 0]],
-            ..LONG
-        },
-        true,
-    ),
-    (
-        "little and large",
-        Row {
-            word_order: 0,
-            frames: &[&[0x0000_0010, 0]],
-            ..LONG
-        },
-        false,
-    ),
-    (
-        "too few",
-        Row {
-            samples: 49,
-            ..LONG
-        },
-        false,
-    ),
-    (
-        "text",
-        Row {
-            encoding: 0,
-            ..LONG
-        },
-        false,
-    ),
+    ("the last word", LAST_WORD, false),
+    ("too few", TOO_FEW, false),
+    ("text", TEXT, false),
+];
+
+/// Two samples of Steim-1: the codes of the first frame, its word 4, and whether they show that.
+static WORDS: [(&str, u32, u32, bool); 5] = [
+    // The words 3 and 4, of one difference each.
+    ("30 bits", 0x03C0_0000, 0x1FFF_FFFF, true),
+    ("31 bits", 0x03C0_0000, 0x2000_0000, false),
+    ("30 bits down", 0x03C0_0000, 0xE000_0000, true),
+    ("31 bits down", 0x03C0_0000, 0xDFFF_FFFF, false),
+    ("two differences", 0x0280_0000, 0x7FFF_8000, true),
+];
+
+/// Two integers of 32 bits: their word order (1 is big-endian), their words, and whether they show that.
+static INTEGERS: [(&str, u8, &[u32], bool); 6] = [
+    ("29 bits", 1, &[0x0FFF_FFFF, 0xF000_0000], true),
+    ("30 bits first", 1, &[0x1000_0000, 0], false),
+    ("30 bits last", 1, &[0, 0xEFFF_FFFF], false),
+    ("30 bits behind", 1, &[0, 0, 0x7FFF_FFFF], true),
+    ("little", 0, &[0x1000_0000, 0], true),
+    ("little and large", 0, &[0x0000_0010, 0], false),
 ];
 
 /// Whether a row is a record that shows this.
@@ -166,9 +82,27 @@ fn shows(row: &Row, wanted: bool) -> bool {
     }
 }
 
+/// Two samples in this encoding, of this word order, and the words of their only frame.
+fn pair_of<'a>(encoding: u8, word_order: u8, frames: &'a [&'a [u32]]) -> Row<'a> {
+    Row {
+        encoding,
+        word_order,
+        samples: 2,
+        frames,
+        ..STEIM_1
+    }
+}
+
 #[test]
 fn shows_what_is_near(rt: HostRuntime) {
     for (name, row, wanted) in &ROWS {
         assert!(rt; shows(row, *wanted), "{name}");
+    }
+    for (name, codes, word, wanted) in &WORDS {
+        let words = [*codes, 0, 0, 0, *word];
+        assert!(rt; shows(&pair_of(10, 1, &[&words]), *wanted), "{name}");
+    }
+    for (name, order, words, wanted) in &INTEGERS {
+        assert!(rt; shows(&pair_of(3, *order, &[*words]), *wanted), "{name}");
     }
 }

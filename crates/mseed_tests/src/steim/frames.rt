@@ -8,11 +8,16 @@ use mseed_record::RecordView;
 use mseed_steim::{Differences, ReadFault, Scheme};
 use std::process::Abort;
 
-/// Payloads of three frames of each scheme.
-const ROUNDS: u32 = 20_000;
+/// So many payloads of three frames are made of each scheme, with at most so many samples.
+const SHORT: (u32, u16) = (20_000, 300);
 
-/// Payloads of 31 frames of each scheme.
-const LONG_ROUNDS: u32 = 2_000;
+/// The same of those of 31 frames.
+const LONG: (u32, u16) = (2_000, 2_400);
+
+/// Numbers from which payloads are made.
+const SEED: u64 = 0x2545_F491_4F6C_DD1D;
+
+const OTHER_SEED: u64 = 0x9E37_79B9_7F4A_7C15;
 
 /// Places for as many samples as 31 frames of any words have.
 const MOST: usize = 4096;
@@ -296,63 +301,43 @@ fn is_same(payload: &[u8], scheme: Scheme, samples: u16, first: i32, places: &mu
     }
 }
 
-/// Checks that made payloads of a scheme agree, by numbers from this one on, and gives the number after them.
-fn assert_made(rt: &impl Abort, scheme: Scheme, number: u64) -> u64 {
-    let mut payload = [0; 192];
+/// Checks in so many rounds that made payloads of a scheme, of at most so many samples, agree, by numbers from this one
+/// on. Gives the number after them.
+fn assert_made(
+    rt: &impl Abort,
+    payload: &mut [u8],
+    scheme: Scheme,
+    (rounds, most): (u32, u16),
+    number: u64,
+) -> u64 {
     let mut places = Places::new();
     let mut number = number;
-    for round in 0..ROUNDS {
-        number = next_number(fill(&mut payload, scheme, words_of(round), number));
-        let samples = 1 + (number >> 48) as u16 % 300;
-        assert!(rt;
-            is_same(&payload, scheme, samples, first_by(number), &mut places),
-            "{round}"
-        );
+    for round in 0..rounds {
+        number = next_number(fill(payload, scheme, words_of(round), number));
+        let samples = 1 + (number >> 48) as u16 % most.max(1);
+        let agrees = is_same(payload, scheme, samples, first_by(number), &mut places);
+        assert!(rt; agrees, "{scheme:?}, {round}");
     }
     number
 }
 
 #[test]
 fn reads_made_frames(rt: HostRuntime) {
-    let number = assert_made(&rt, Scheme::One, 0x2545_F491_4F6C_DD1D);
-    assert_made(&rt, Scheme::Two, number);
-}
-
-/// Whether made payloads of 31 frames of a scheme agree, by numbers from this one on.
-fn are_long_same(scheme: Scheme, number: u64) -> bool {
-    let mut payload = [0; 1984];
-    let mut places = Places::new();
-    let mut number = number;
-    for round in 0..LONG_ROUNDS {
-        number = next_number(fill(&mut payload, scheme, words_of(round), number));
-        let samples = 1 + (number >> 48) as u16 % 2_400;
-        if !is_same(&payload, scheme, samples, first_by(number), &mut places) {
-            return false;
-        }
-    }
-    true
+    let number = assert_made(&rt, &mut [0; 192], Scheme::One, SHORT, SEED);
+    assert_made(&rt, &mut [0; 192], Scheme::Two, SHORT, number);
 }
 
 #[test]
 fn reads_runs_of_frames(rt: HostRuntime) {
-    assert!(rt;
-        are_long_same(Scheme::One, 0x9E37_79B9_7F4A_7C15),
-        "Steim-1"
-    );
-    assert!(rt;
-        are_long_same(Scheme::Two, 0x2545_F491_4F6C_DD1D),
-        "Steim-2"
-    );
+    assert_made(&rt, &mut [0; 1984], Scheme::One, LONG, OTHER_SEED);
+    assert_made(&rt, &mut [0; 1984], Scheme::Two, LONG, SEED);
 }
 
 /// Fills each word of a payload's frames with the same code and bits.
 fn fill_alike(payload: &mut [u8], code: u32, word: u32) {
     for index in 0..payload.len() / 64 {
-        put(
-            payload,
-            64 * index,
-            &code.wrapping_mul(0x1555_5555).to_be_bytes(),
-        );
+        let codes = code.wrapping_mul(0x1555_5555);
+        put(payload, 64 * index, &codes.to_be_bytes());
         for place in 1..16usize {
             put(payload, 64 * index + 4 * place, &word.to_be_bytes());
         }
@@ -361,21 +346,12 @@ fn fill_alike(payload: &mut [u8], code: u32, word: u32) {
 
 /// Whether 31 frames of a word agree from first samples so far away from both limits.
 fn is_steep_same(payload: &[u8], scheme: Scheme, away: i32, places: &mut Places) -> bool {
+    let (high, low) = (i32::MAX.wrapping_sub(away), i32::MIN.wrapping_add(away));
     for samples in [300, 450, 926, 927] {
-        if !is_same(
-            payload,
-            scheme,
-            samples,
-            i32::MAX.wrapping_sub(away),
-            places,
-        ) || !is_same(
-            payload,
-            scheme,
-            samples,
-            i32::MIN.wrapping_add(away),
-            places,
-        ) {
-            return false;
+        for first in [high, low] {
+            if !is_same(payload, scheme, samples, first, places) {
+                return false;
+            }
         }
     }
     true
@@ -398,10 +374,8 @@ fn climbs_to_the_limits_in_runs(rt: HostRuntime) {
         for frames in 1..17i32 {
             for more in [-1, 0, 1] {
                 let away = (frames << 20).wrapping_add(more);
-                assert!(rt;
-                    is_steep_same(&payload, *scheme, away, &mut places),
-                    "{word} from {away} away"
-                );
+                let agrees = is_steep_same(&payload, *scheme, away, &mut places);
+                assert!(rt; agrees, "{word} from {away} away");
             }
         }
     }
@@ -446,7 +420,7 @@ fn is_cut_same(payload: &[u8], scheme: Scheme, first: i32, places: &mut Places) 
 /// before it.
 fn assert_spoilt(rt: &impl Abort, payload: &mut [u8], rounds: u32) {
     let mut places = Places::new();
-    let mut number = 0x9E37_79B9_7F4A_7C15;
+    let mut number = OTHER_SEED;
     for round in 0..rounds {
         let words = if round % 2 == 0 {
             Words::SomeWide
@@ -456,10 +430,8 @@ fn assert_spoilt(rt: &impl Abort, payload: &mut [u8], rounds: u32) {
         for place in 1..16usize {
             number = next_number(fill(payload, Scheme::Two, words, number));
             spoil(payload, place);
-            assert!(rt;
-                is_cut_same(payload, Scheme::Two, first_by(number), &mut places),
-                "word {place} in round {round}"
-            );
+            let agrees = is_cut_same(payload, Scheme::Two, first_by(number), &mut places);
+            assert!(rt; agrees, "word {place} in round {round}");
         }
     }
 }
@@ -484,14 +456,12 @@ fn are_few_same(payload: &[u8], scheme: Scheme, first: i32, places: &mut Places)
 fn reads_fewer_samples_than_there_are(rt: HostRuntime) {
     let mut places = Places::new();
     let mut payload = [0; 192];
-    let mut number = 0x2545_F491_4F6C_DD1D;
+    let mut number = SEED;
     for round in 0..64u32 {
         for scheme in [Scheme::One, Scheme::Two] {
             number = next_number(fill(&mut payload, scheme, words_of(round), number));
-            assert!(rt;
-                are_few_same(&payload, scheme, first_by(number), &mut places),
-                "{round}"
-            );
+            let agrees = are_few_same(&payload, scheme, first_by(number), &mut places);
+            assert!(rt; agrees, "{round}");
         }
     }
 }
@@ -513,13 +483,7 @@ fn are_same(scheme: Scheme, edges: &[(u32, u32); 18], from: usize) -> bool {
 #[test]
 fn reads_the_edges_of_each_row(rt: HostRuntime) {
     for from in 0..18usize {
-        assert!(rt;
-            are_same(Scheme::One, &EDGES_ONE, from),
-            "Steim-1 from {from}"
-        );
-        assert!(rt;
-            are_same(Scheme::Two, &EDGES_TWO, from),
-            "Steim-2 from {from}"
-        );
+        assert!(rt; are_same(Scheme::One, &EDGES_ONE, from), "Steim-1, {from}");
+        assert!(rt; are_same(Scheme::Two, &EDGES_TWO, from), "Steim-2, {from}");
     }
 }

@@ -45,12 +45,7 @@ static FRAMES: [Frame; 2] = [
 
 /// Whether a frame has these words, and zeros after them.
 fn has_words(frame: &[u8; 64], wanted: &[u32]) -> bool {
-    for index in 0..16 {
-        if word_at(frame, index) != wanted.get(index).copied().unwrap_or(0) {
-            return false;
-        }
-    }
-    true
+    (0..16).all(|index| word_at(frame, index) == wanted.get(index).copied().unwrap_or(0))
 }
 
 /// Whether a frame is packed as a row says.

@@ -14,7 +14,7 @@ use std::alloc::Global;
 
 /// The parts of a record that its samples hang on.
 #[derive(Clone, Copy)]
-pub struct Row {
+pub struct Row<'a> {
     /// The encoding of blockette 1000.
     pub encoding: u8,
     /// Its word order: 1 is big-endian.
@@ -24,7 +24,7 @@ pub struct Row {
     /// How many samples there are.
     pub samples: u8,
     /// The first words of each frame.
-    pub frames: &'static [&'static [u32]],
+    pub frames: &'a [&'a [u32]],
 }
 
 /// Four samples of Steim-1, from 100 to 103.

@@ -4,159 +4,116 @@ use super::record::{Row, STEIM_1, is_record, record};
 use mseed_steim::{BadWordAt, Differences, ReadFault, Scheme};
 use std::alloc::Global;
 
-/// A row of a table: its name, its scheme, its samples, its frames, and what is read.
+/// A row of a table: its name, its encoding (10 is Steim-1, and 11 Steim-2) and how many samples it has; its frames; and
+/// what is read.
 type Case = (
-    &'static str,
-    Scheme,
-    u8,
+    (&'static str, u8, u8),
     &'static [&'static [u32]],
     Result<&'static [i32], ReadFault>,
 );
 
 static CASES: [Case; 19] = [
     (
-        "four differences",
-        Scheme::One,
-        4,
+        ("four differences", 10, 4),
         &[&[0x0100_0000, 100, 103, 0x0001_0101]],
         Ok(&[100, 101, 102, 103]),
     ),
     (
-        "one too few",
-        Scheme::One,
-        5,
+        ("one too few", 10, 5),
         &[&[0x0100_0000, 100, 103, 0x0001_0101]],
         Err(ReadFault::Short(4)),
     ),
     (
-        "another last",
-        Scheme::One,
-        4,
+        ("another last", 10, 4),
         &[&[0x0100_0000, 100, 104, 0x0001_0101]],
         Err(ReadFault::LastDiffers(103, 104)),
     ),
     (
-        "the first isn't used",
-        Scheme::One,
-        4,
+        ("the first isn't used", 10, 4),
         &[&[0x0100_0000, 100, 103, 0x0501_0101]],
         Ok(&[100, 101, 102, 103]),
     ),
     (
-        "past the greatest",
-        Scheme::One,
-        2,
+        ("past the greatest", 10, 2),
         &[&[0x0100_0000, 0x7FFF_FFFF, 0x7FFF_FFFF, 0x0001_0000]],
         Err(ReadFault::Overflow(1)),
     ),
     (
-        "too few, and past the greatest",
-        Scheme::One,
-        5,
+        ("too few, and past the greatest", 10, 5),
         &[&[0x0100_0000, 0x7FFF_FFFF, 0x7FFF_FFFF, 0x0001_0000]],
         Err(ReadFault::Short(4)),
     ),
     (
-        "past the least",
-        Scheme::One,
-        2,
+        ("past the least", 10, 2),
         &[&[0x03C0_0000, 0x8000_0000, 0, 0, 0xFFFF_FFFF]],
         Err(ReadFault::Overflow(1)),
     ),
     (
-        "past the least, to Xn by wrapping",
-        Scheme::One,
-        2,
+        ("past the least, to Xn by wrapping", 10, 2),
         &[&[0x03C0_0000, 0x8000_0000, 0x7FFF_FFFF, 0, 0xFFFF_FFFF]],
         Err(ReadFault::Overflow(1)),
     ),
     (
-        "32 bits",
-        Scheme::One,
-        2,
+        ("32 bits", 10, 2),
         &[&[0x03C0_0000, 0xFFFF_FFFF, 0x7FFF_FFFE, 0, 0x7FFF_FFFF]],
         Ok(&[-1, 0x7FFF_FFFE]),
     ),
     (
-        "seven",
-        Scheme::Two,
-        7,
+        ("seven", 11, 7),
         &[&[0x0300_0000, 10, 9, 0x801F_782E]],
         Ok(&[10, 11, 10, 17, 9, 11, 9]),
     ),
     (
-        "seven, spare bits set",
-        Scheme::Two,
-        7,
+        ("seven, spare bits set", 11, 7),
         &[&[0x0300_0000, 10, 9, 0xB01F_782E]],
         Ok(&[10, 11, 10, 17, 9, 11, 9]),
     ),
     (
-        "code 2 without a row",
-        Scheme::Two,
-        4,
+        ("code 2 without a row", 11, 4),
         &[&[0x0200_0000, 10, 9, 0]],
         Err(ReadFault::BadWord(0, 3)),
     ),
     (
-        "code 3 without a row",
-        Scheme::Two,
-        4,
+        ("code 3 without a row", 11, 4),
         &[&[0x0300_0000, 10, 9, 0xC000_0000]],
         Err(ReadFault::BadWord(0, 3)),
     ),
     (
-        "a bad word behind the last",
-        Scheme::Two,
-        4,
+        ("a bad word behind the last", 11, 4),
         &[&[0x0180_0000, 100, 103, 0x0001_0101, 0]],
         Ok(&[100, 101, 102, 103]),
     ),
     (
-        "a bad word before the last",
-        Scheme::Two,
-        5,
+        ("a bad word before the last", 11, 5),
         &[&[0x0180_0000, 100, 103, 0x0001_0101, 0]],
         Err(ReadFault::BadWord(0, 4)),
     ),
     (
-        "one sample",
-        Scheme::One,
-        1,
+        ("one sample", 10, 1),
         &[&[0x0100_0000, 100, 100, 0x0001_0101]],
         Ok(&[100]),
     ),
     (
-        "one sample, no difference",
-        Scheme::One,
-        1,
+        ("one sample, no difference", 10, 1),
         &[&[0, 100, 100]],
         Err(ReadFault::Short(0)),
     ),
     (
-        "the second frame",
-        Scheme::One,
-        4,
+        ("the second frame", 10, 4),
         &[&[0, 5, 11], &[0x1000_0000, 0x0001_0203]],
         Ok(&[5, 6, 8, 11]),
     ),
     (
-        "a bad word of the second frame",
-        Scheme::Two,
-        4,
+        ("a bad word of the second frame", 11, 4),
         &[&[0, 5, 11], &[0x0020_0000]],
         Err(ReadFault::BadWord(1, 5)),
     ),
 ];
 
 /// Whether the record of a case is read so.
-fn is_case(alloc: Global, (_, scheme, samples, frames, wanted): &Case) -> bool {
-    let encoding = match scheme {
-        Scheme::One => 10,
-        Scheme::Two => 11,
-    };
+fn is_case(alloc: Global, ((_, encoding, samples), frames, wanted): &Case) -> bool {
     let row = Row {
-        encoding,
+        encoding: *encoding,
         samples: *samples,
         frames: *frames,
         ..STEIM_1
@@ -167,42 +124,26 @@ fn is_case(alloc: Global, (_, scheme, samples, frames, wanted): &Case) -> bool {
 #[test]
 fn reads_steim(rt: HostRuntime) {
     for case in &CASES {
-        assert!(rt; is_case(rt.alloc(), case), "{}", case.0);
+        assert!(rt; is_case(rt.alloc(), case), "{}", case.0.0);
     }
 }
 
-/// Records that have no payload, and their faults.
-static REFUSED: [(&str, Row, ReadFault); 3] = [
-    (
-        "less than a frame",
-        Row {
-            data: 200,
-            ..STEIM_1
-        },
-        ReadFault::Short(0),
-    ),
-    (
-        "little-endian",
-        Row {
-            word_order: 0,
-            ..STEIM_1
-        },
-        ReadFault::LittleSteim,
-    ),
-    (
-        "data within the header",
-        Row {
-            data: 47,
-            ..STEIM_1
-        },
-        ReadFault::DataOffset,
-    ),
+/// Where the data of records begin that have no payload, their word order, and their faults.
+static REFUSED: [(&str, u8, u8, ReadFault); 3] = [
+    ("less than a frame", 200, 1, ReadFault::Short(0)),
+    ("little-endian", 64, 0, ReadFault::LittleSteim),
+    ("data within the header", 47, 1, ReadFault::DataOffset),
 ];
 
 #[test]
 fn refuses_what_is_no_payload(rt: HostRuntime) {
-    for (name, row, fault) in &REFUSED {
-        assert!(rt; is_record(rt.alloc(), &record(row), Err(*fault)), "{name}");
+    for (name, data, word_order, fault) in &REFUSED {
+        let bytes = record(&Row {
+            data: *data,
+            word_order: *word_order,
+            ..STEIM_1
+        });
+        assert!(rt; is_record(rt.alloc(), &bytes, Err(*fault)), "{name}");
     }
 }
 
