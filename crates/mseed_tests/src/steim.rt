@@ -14,18 +14,15 @@ mod words;
 
 use mseed_steim::{BadWord, Scheme, unpack_word};
 
-/// A scheme, a code, a word, and its differences. None stands for a bad word.
-type Word = (Scheme, u8, u32, Option<&'static [i32]>);
-
 /// Whether a word is read as a row says.
-fn is_word((scheme, code, word, wanted): &Word) -> bool {
+fn is_word((scheme, code, word, wanted): &words::Row) -> bool {
     match unpack_word(*scheme, *code % 4, *word) {
         Ok(found) => *wanted == Some(found.as_slice()),
         Err(BadWord) => wanted.is_none(),
     }
 }
 
-static WORKED: [Word; 18] = [
+static WORKED: [words::Row; 18] = [
     (Scheme::One, 0, 0x0001_0101, Some(&[])),
     (Scheme::Two, 0, 0xC000_0000, Some(&[])),
     (Scheme::One, 1, 0x0001_0101, Some(&[0, 1, 1, 1])),
@@ -44,12 +41,7 @@ static WORKED: [Word; 18] = [
     (Scheme::Two, 3, 0x801F_782E, Some(&[0, 1, -1, 7, -8, 2, -2])),
     // Bits 29 and 28 aren't judged.
     (Scheme::Two, 3, 0xB01F_782E, Some(&[0, 1, -1, 7, -8, 2, -2])),
-    (
-        Scheme::Two,
-        3,
-        0x9FFF_FFFF,
-        Some(&[-1, -1, -1, -1, -1, -1, -1]),
-    ),
+    (Scheme::Two, 3, 0x9FFF_FFFF, Some(&[-1; 7])),
 ];
 
 #[test]
@@ -80,17 +72,9 @@ fn refuses_words_without_a_row(rt: HostRuntime) {
     }
 }
 
-/// Whether a word is read as a row says.
-fn is_row(row: &words::Row) -> bool {
-    match unpack_word(row.0, row.1 % 4, row.2) {
-        Ok(found) => row.4.get(..row.3) == Some(found.as_slice()),
-        Err(BadWord) => row.3 == 8,
-    }
-}
-
 #[test]
 fn reads_a_hundred_words(rt: HostRuntime) {
-    for row in &words::WORDS {
-        assert!(rt; is_row(row), "{:08x}", row.2);
+    for word in &words::WORDS {
+        assert!(rt; is_word(word), "{:08x}", word.2);
     }
 }
