@@ -1,15 +1,14 @@
 -- What calls reported, one after another.
 use Rattle.std.proofs.Common.{◌≡◌, ℕ, refl, sym, ap, ◌∙◌, List, [], ◌∷◌, ◌++◌, append_assoc, append-nil}
 use Rattle.slink_wire.specs.declared.lines.What.{What}
-use Rattle.slink_wire.specs.declared.lines.What.TheVariants.{More, Line, TooLong}
+use Rattle.slink_wire.specs.declared.lines.What.TheVariants.{Line}
 use Rattle.slink_wire.specs.Lines.{lines_of}
 use Rattle.slink_wire.specs.Taking.{AreCalls, Call, Yields, bytes_in, line_in, lines_in}
 
 reported : (what : What) (before after : List ℕ) → Yields what before after
     → (lines_of after).lines ≡ (lines_of before).lines ++ line_in what
-reported More before after h = h.0 ∙ sym (append-nil (lines_of before).lines)
 reported (Line line) before after h = h.0
-reported TooLong before after h = h.0 ∙ sym (append-nil (lines_of before).lines)
+reported what before after h = h.0 ∙ sym (append-nil (lines_of before).lines)
 
 beyond : (stream : List ℕ) (calls : List Call) → AreCalls stream calls
     → (lines_of (stream ++ bytes_in calls)).lines ≡ (lines_of stream).lines ++ lines_in calls

@@ -158,9 +158,8 @@ pub record TakenTo (old now : Held) (piece : List ℕ) (i : ℕ) : Type 0 where
 
 answers_from : (what : What) (before middle after : List ℕ) → YieldsNothing before middle → Yields what middle after
     → Yields what before after
-answers_from More before middle after p q = (q.0 ∙ p.0, q.1)
 answers_from (Line line) before middle after p q = (q.0 ∙ ap (λ ls. ls ++ line.items ∷ []) p.0, q.1)
-answers_from TooLong before middle after p q = (q.0 ∙ p.0, q.1)
+answers_from what before middle after p q = (q.0 ∙ p.0, q.1)
 
 -- the next byte, and what it yields
 pub taken_byte : (old now new : Held) (piece : List ℕ) (i : ℕ) (what : What) → i < length piece

@@ -28,17 +28,14 @@ abbrev pub IsShort : Option ℕ → Type 0
 IsShort number = IfSome number (λ n. n < 2 ^ 24)
 
 abbrev pub IsSpelled : Request → Type 0
-IsSpelled (Station place) = Unit {0}
 IsSpelled (Data number) = IsShort number
 IsSpelled (Fetch number) = IsShort number
-IsSpelled End = Unit {0}
+IsSpelled request = Unit {0}
 
 -- the fields of its station are those of codes
 abbrev pub HasPlace : Request → Type 0
 HasPlace (Station place) = IsField 5 place.station × IsField 2 place.network
-HasPlace (Data number) = Unit {0}
-HasPlace (Fetch number) = Unit {0}
-HasPlace End = Unit {0}
+HasPlace request = Unit {0}
 
 -- the command that is read from it
 abbrev pub requested : Request → Command

@@ -28,9 +28,8 @@ bytes_in (call ∷ calls) = call.bytes ++ bytes_in calls
 
 -- the lines that they reported
 abbrev pub line_in : What → List (List ℕ)
-line_in More = []
 line_in (Line line) = line.items ∷ []
-line_in TooLong = []
+line_in what = []
 
 abbrev pub lines_in : List Call → List (List ℕ)
 lines_in [] = []
