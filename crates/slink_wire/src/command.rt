@@ -1,5 +1,5 @@
 //! The commands of a client.
-ghost use Rattle.std.specs.Prelude.{◌≡◌, ◌≤◌, ℕ, [], ◌∷◌, MatchOption, codes};
+ghost use Rattle.std.specs.Prelude.{◌≡◌, ℕ, [], ◌∷◌, MatchOption, codes};
 ghost use Rattle.slink_wire.specs.declared.command.Command.{Command};
 ghost use Rattle.slink_wire.specs.Command.{IsCommand, IsNumber, IsRow, in_small_letters};
 
@@ -49,17 +49,14 @@ fn number(word: &[u8]) -> Option<u32>
 fn bare(word: &[u8]) -> Command
     ensures { IsRow result (in_small_letters word.now ∷ []) }
 {
-    let Some(keyword) = keyword_of(word) else {
-        return Command::Other;
-    };
-    match keyword {
-        Keyword::Hello => Command::Hello,
-        Keyword::Select => Command::SelectAll,
-        Keyword::Data => Command::Data(None),
-        Keyword::Fetch => Command::Fetch(None),
-        Keyword::End => Command::End,
-        Keyword::Bye => Command::Bye,
-        Keyword::Station => Command::Other,
+    match keyword_of(word) {
+        Some(Keyword::Hello) => Command::Hello,
+        Some(Keyword::Select) => Command::SelectAll,
+        Some(Keyword::Data) => Command::Data(None),
+        Some(Keyword::Fetch) => Command::Fetch(None),
+        Some(Keyword::End) => Command::End,
+        Some(Keyword::Bye) => Command::Bye,
+        Some(Keyword::Station) | None => Command::Other,
     }
 }
 
@@ -81,16 +78,13 @@ fn station(sta: &[u8]) -> Command
 fn with_word(word: &[u8], argument: &[u8]) -> Command
     ensures { IsRow result (in_small_letters word.now ∷ argument.now ∷ []) }
 {
-    let Some(keyword) = keyword_of(word) else {
-        return Command::Other;
-    };
-    match keyword {
-        Keyword::Station => station(argument),
-        Keyword::Data => match number(argument) {
+    match keyword_of(word) {
+        Some(Keyword::Station) => station(argument),
+        Some(Keyword::Data) => match number(argument) {
             Some(number) => Command::Data(Some(number)),
             None => Command::Other,
         },
-        Keyword::Fetch => match number(argument) {
+        Some(Keyword::Fetch) => match number(argument) {
             Some(number) => Command::Fetch(Some(number)),
             None => Command::Other,
         },
@@ -116,11 +110,8 @@ fn station_in(sta: &[u8], net: &[u8]) -> Command
 fn with_two_words(word: &[u8], sta: &[u8], net: &[u8]) -> Command
     ensures { IsRow result (in_small_letters word.now ∷ sta.now ∷ net.now ∷ []) }
 {
-    let Some(keyword) = keyword_of(word) else {
-        return Command::Other;
-    };
-    match keyword {
-        Keyword::Station => station_in(sta, net),
+    match keyword_of(word) {
+        Some(Keyword::Station) => station_in(sta, net),
         _ => Command::Other,
     }
 }

@@ -1,5 +1,5 @@
 //! The keywords of commands.
-ghost use Rattle.std.specs.Prelude.{◌≡◌, ◌≢◌, MatchOption, codes};
+ghost use Rattle.std.specs.Prelude.{◌≡◌, ◌≢◌, MatchOption};
 ghost use Rattle.slink_wire.specs.declared.keyword.Keyword.{Keyword};
 ghost use Rattle.slink_wire.specs.Command.{in_small_letters};
 ghost use Rattle.slink_wire.specs.private.Parsing.{text_of};

@@ -1,5 +1,6 @@
 //! Command lines out of a stream that comes in any pieces.
 ghost use Rattle.std.specs.Prelude.{◌≡◌, ◌<◌, ◌≤◌, ◌++◌, List, ℕ, [], true, false, length, take};
+ghost use Rattle.slink_wire.specs.declared.lines.TheConstants.{LONGEST};
 ghost use Rattle.slink_wire.specs.Lines.{Held, IsHeld, YieldsNothing};
 ghost use Rattle.slink_wire.specs.private.Steps.{step};
 ghost use Rattle.slink_wire.specs.Taking.{Yields};
@@ -38,10 +39,6 @@ pub struct Lines {
 }
 
 impl Model for Lines {
-    ghost use Rattle.std.specs.Prelude.{◌≤◌, length};
-    ghost use Rattle.slink_wire.specs.declared.lines.TheConstants.{LONGEST};
-    ghost use Rattle.slink_wire.specs.Lines.{Held};
-
     ghost Value = { Held };
 
     ghost view = { λ l. record { begun = l.begun.items; is_too_long = l.is_too_long } };

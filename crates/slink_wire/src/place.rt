@@ -2,8 +2,8 @@
 ghost use Rattle.std.specs.Prelude.{◌≡◌, ◌+◌, ◌++◌, ◌↔◌, ◌≤◌, IsTrue, IsOk, IfOk, IsOkAnd, OnErr, length};
 ghost use Rattle.std.specs.List.{list_all};
 ghost use Rattle.std.specs.Char.{is_ascii_alphanumeric};
-ghost use Rattle.slink_wire.specs.Place.{Bears, Fields, IsCode, SpellsPlace, code_in, filled, fields_of, label_of};
-ghost use Rattle.slink_wire.specs.Place.{matches};
+ghost use Rattle.slink_wire.specs.Place.{Bears, Fields, IsCode, IsField, SpellsPlace, code_in, filled, fields_of};
+ghost use Rattle.slink_wire.specs.Place.{label_of, matches};
 
 use crate::cut::{first, parts};
 use arrayvec::ArrayVec;
@@ -21,8 +21,6 @@ pub struct Place {
 }
 
 impl Model for Place {
-    ghost use Rattle.slink_wire.specs.Place.{Fields, IsField};
-
     ghost Value = { Fields };
 
     ghost view = { λ p. record { station = p.station; network = p.network } };
@@ -76,13 +74,13 @@ fn are_same(bytes: &[u8], field: &[u8]) -> bool
     true
 }
 
-/// Puts bytes after a label.
-fn put(label: &mut ArrayVec<u8, 8>, bytes: &[u8])
-    requires { length label.old.items + length bytes.now ≤ 8 }
-    ensures { label.new.items ≡ label.old.items ++ bytes.now }
+/// Puts bytes after a text.
+pub(crate) fn put<const N: usize>(text: &mut ArrayVec<u8, N>, bytes: &[u8])
+    requires { length text.old.items + length bytes.now ≤ N }
+    ensures { text.new.items ≡ text.old.items ++ bytes.now }
 {
     // There is room.
-    let _ = label.try_extend_from_slice(bytes);
+    let _ = text.try_extend_from_slice(bytes);
 }
 
 impl Place {

@@ -1,11 +1,11 @@
 //! The lines that a client writes.
-ghost use Rattle.std.specs.Prelude.{◌≡◌, ◌+◌, ◌++◌, ◌≤◌, length};
+ghost use Rattle.std.specs.Prelude.{◌≡◌, ◌++◌, ◌≤◌, length};
 ghost use Rattle.slink_wire.specs.Reply.{line_end};
 ghost use Rattle.slink_wire.specs.Command.{IsCommand};
 ghost use Rattle.slink_wire.specs.Request.{IsShort, IsSpelled, number_bytes, request_bytes, request_line, requested};
 
 use crate::hexadecimal::header;
-use crate::place::Place;
+use crate::place::{Place, put};
 use arrayvec::ArrayVec;
 
 /// What a client asks for.
@@ -19,15 +19,6 @@ pub enum Request {
     Fetch(Option<u32>),
     /// The records are to be sent.
     End,
-}
-
-/// Puts bytes after a line.
-fn put(line: &mut ArrayVec<u8, 32>, bytes: &[u8])
-    requires { length line.old.items + length bytes.now ≤ 32 }
-    ensures { line.new.items ≡ line.old.items ++ bytes.now }
-{
-    // There is room.
-    let _ = line.try_extend_from_slice(bytes);
 }
 
 /// The line of a station.

@@ -18,7 +18,7 @@ spells f items net sta text is_net is_sta short_net short_sta fills_net fills_st
 
 pub returns-clause-spelled : goal.returns-clause-spelled
 returns-clause-spelled c =
-    let text : c.put-3.new.label.items ≡ label_of c.args.self.now = grind (arith, common_steps) in
-    spells c.args.self.now c.put-3.new.label.items c.network.result.now c.station.result.now text
+    let text : c.put-3.new.text.items ≡ label_of c.args.self.now = grind (arith, common_steps) in
+    spells c.args.self.now c.put-3.new.text.items c.network.result.now c.station.result.now text
     c.network.ensures.value c.station.ensures.value c.network.ensures.code c.station.ensures.code
     c.network.ensures.field c.station.ensures.field
