@@ -78,9 +78,8 @@ fails_as feed old new before now after r same err = rw same at err
 module _ (feed : List Window) (old : Attending) (before : BytesRead) where
   pub sending_failed : (new : Attending) (after : BytesRead) (fault : LinkFault) → IsSendFault fault feed old new
       → after ≡ before → IsServeFault feed old new before after fault
-  sending_failed new after faults.Read fails same = absurd fails
   sending_failed new after (faults.Write count) fails same = at_send count fails same
-  sending_failed new after (faults.Output count) fails same = absurd fails
+  sending_failed new after fault fails same = absurd fails
 
   pub all_sent_and_closed : (new : Attending) (after : BytesRead) (count : ℕ) → HasSent feed old new count
       → new.session.state.phase ≡ Closed → after ≡ before → Attends feed old new before after turns.Closed
@@ -112,10 +111,9 @@ module _ (feed : List Window) (old : Attending) (before : BytesRead) where
         → after ≡ reported_once before bytes → length bytes ≤ 512
         → IsReplyFault fault feed (attending session written) new bytes count
         → IsServeFault feed old new before after fault
-    answering_failed new after bytes faults.Read read few fails = absurd fails
     answering_failed new after bytes (faults.Write n) read few fails =
         let counted : length written.bytes ≡ length old.written.bytes + count =
         subst (λ (s : BytesWritten). length s.bytes ≡ length old.written.bytes + count) (sym same) sent.counted in
         at_reply n (attending session written) bytes goes_on read few fails.fails
         (omega (arith, fails.counted, counted))
-    answering_failed new after bytes (faults.Output n) read few fails = absurd fails
+    answering_failed new after bytes fault read few fails = absurd fails

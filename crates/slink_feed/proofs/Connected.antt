@@ -15,7 +15,7 @@ use Rattle.slink_wire.specs.Lines.{IsHeld}
 use Rattle.slink_wire.specs.Reply.{reply_bytes}
 use Rattle.slink_feed.specs.declared.grant.Grant.{Grant}
 use Rattle.slink_feed.specs.declared.session.Phase.{Phase}
-use Rattle.slink_feed.specs.declared.session.Phase.TheVariants.{Fresh, Chosen, Granted, Streaming, Closed}
+use Rattle.slink_feed.specs.declared.session.Phase.TheVariants.{Streaming, Closed}
 use Rattle.slink_feed.specs.declared.session.Sent.{Sent}
 use Rattle.slink_feed.specs.declared.session.Sent.TheVariants as sents
 use Rattle.slink_feed.specs.declared.turn.LinkFault.{LinkFault}
@@ -410,11 +410,9 @@ turns_failed feeds old new on stands turns =
 
 -- before records are sent
 before_in : (p : Phase) (feed : List Window) (s : State) (k : ℕ) → IsBefore p → sent_in p feed s k ≡ (s, sents.Wait)
-before_in Fresh feed s k is = refl
-before_in (Chosen place) feed s k is = refl
-before_in (Granted place) feed s k is = refl
 before_in Streaming feed s k is = absurd is
 before_in Closed feed s k is = absurd is
+before_in phase feed s k is = refl
 
 before_given : (feed : List Window) (k last : ℕ) (s u : State) (given : List Sent) → IsBefore s.phase
     → Gives feed k s given last u → (u ≡ s) × (all_sent given ≡ [])

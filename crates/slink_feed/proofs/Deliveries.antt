@@ -93,13 +93,7 @@ joined_once given es e none = joined_more given es (event_if_any e)
 some_event : (given : Event → List ℕ) (e : Event) → given events.None ≡ [] → 0 < length (given e)
     → event_if_any e ≡ e ∷ []
 some_event given events.None none some = absurd (omega (arith, some, ap length none))
-some_event given (events.Say line) none some = refl
-some_event given (events.Record k n r) none some = refl
-some_event given events.End none some = refl
-some_event given (events.Refused k) none some = refl
-some_event given (events.Gap k want got) none some = refl
-some_event given events.Garbage none some = refl
-some_event given events.Foreign none some = refl
+some_event given event none some = refl
 
 -- what `take` says of a piece at an offset
 pub record IsPiece (now new : Listening) (bytes : List ℕ) (offset used : ℕ) (event : Event) : Type 0 where

@@ -5,7 +5,7 @@ use Rattle.std.proofs.Common.{None, slice_get}
 use Rattle.std.proofs.lemmas.Bool.Decides.{eqb_tells}
 use Rattle.slink_feed.specs.declared.grant.Grant.{Grant}
 use Rattle.slink_feed.specs.declared.session.Phase.{Phase}
-use Rattle.slink_feed.specs.declared.session.Phase.TheVariants.{Fresh, Chosen, Granted, Streaming, Closed}
+use Rattle.slink_feed.specs.declared.session.Phase.TheVariants.{Streaming, Closed}
 use Rattle.slink_feed.specs.declared.session.Sent.{Sent}
 use Rattle.slink_feed.specs.declared.session.Sent.TheVariants as sents
 use Rattle.slink_feed.specs.Session.{AreReached, Grants, State, has_sent_all, at_next, grant_at, packet_at, sent}
@@ -25,11 +25,8 @@ left_of (w ∷ ws) [] = 0
 left_of (w ∷ ws) (o ∷ gs) = left_at w o + left_of ws gs
 
 abbrev due_in : Phase → List Window → Grants → ℕ
-due_in Fresh feed gs = suc (left_of feed gs)
-due_in (Chosen k) feed gs = suc (left_of feed gs)
-due_in (Granted k) feed gs = suc (left_of feed gs)
-due_in Streaming feed gs = suc (left_of feed gs)
 due_in Closed feed gs = 0
+due_in phase feed gs = suc (left_of feed gs)
 
 abbrev pub due : List Window → State → ℕ
 due feed s = due_in s.phase feed s.grants
@@ -45,11 +42,8 @@ all_few (w ∷ ws) (o ∷ gs) = let one : left_at w o ≤ 1000000 = left_few w o
     let more : left_of ws gs ≤ 1000000 * length ws = all_few ws gs in omega (arith, one, more)
 
 few_in : (p : Phase) (feed : List Window) (gs : Grants) → due_in p feed gs ≤ 1 + 1000000 * length feed
-few_in Fresh feed gs = omega (arith, all_few feed gs)
-few_in (Chosen k) feed gs = omega (arith, all_few feed gs)
-few_in (Granted k) feed gs = omega (arith, all_few feed gs)
-few_in Streaming feed gs = omega (arith, all_few feed gs)
 few_in Closed feed gs = omega arith
+few_in phase feed gs = omega (arith, all_few feed gs)
 
 pub few_due : (feed : List Window) (s : State) → due feed s ≤ 1 + 1000000 * length feed
 few_due feed s = few_in s.phase feed s.grants
@@ -134,12 +128,10 @@ moved_of feed s k (Some g) (Some w) is reached at here few =
 moved_in : (feed : List Window) (s : State) (k : ℕ) (p : Phase) → s.phase ≡ p → AreReached feed s.grants
     → ((bytes : List ℕ) (w : Window) → (sent_in p feed s k).1 ≡ sents.Packet bytes → slice_get feed k ≡ Some w
     → length w.records ≤ 1000000) → p ≢ Closed → Moves feed s (sent_in p feed s k)
-moved_in feed s k Fresh is reached few open_still = waits refl refl
-moved_in feed s k (Chosen j) is reached few open_still = waits refl refl
-moved_in feed s k (Granted j) is reached few open_still = waits refl refl
 moved_in feed s k Streaming is reached few open_still =
     moved_of feed s k (grant_at s.grants k) (slice_get feed k) is reached refl refl few
 moved_in feed s k Closed is reached few open_still = absurd (open_still refl)
+moved_in feed s k phase is reached few open_still = waits refl refl
 
 pub moved : (feed : List Window) (s : State) (k : ℕ) → s.phase ≢ Closed → AreReached feed s.grants
     → ((bytes : List ℕ) (w : Window) → (sent feed s k).1 ≡ sents.Packet bytes → slice_get feed k ≡ Some w

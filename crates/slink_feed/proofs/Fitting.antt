@@ -6,8 +6,7 @@ use Rattle.std.proofs.lemmas.Bool.Decides.{leb_tells}
 use Rattle.std.specs.List.{position_from}
 use Rattle.std.specs.Option.{option_and_then}
 use Rattle.slink_wire.specs.declared.command.Command.{Command}
-use Rattle.slink_wire.specs.declared.command.Command.TheVariants.{Hello, Station, SelectAll, Data, Fetch, End, Bye}
-use Rattle.slink_wire.specs.declared.command.Command.TheVariants.{Other}
+use Rattle.slink_wire.specs.declared.command.Command.TheVariants.{Station, Data, Fetch, End, Bye}
 use Rattle.slink_feed.specs.declared.grant.Mode.{Mode}
 use Rattle.slink_feed.specs.declared.grant.Mode.TheVariants as Modes
 use Rattle.slink_feed.specs.declared.session.Phase.{Phase}
@@ -80,38 +79,25 @@ fits_called : (feed : List Window) (s : State) (mode : Mode) (k : ℕ) (number :
 fits_called feed s mode k number lt f = fits_ring feed s mode k number (slice_get feed k) refl lt f
 
 fits_fresh : (feed : List Window) (s : State) (c : Command) → Fits feed s → Fits feed (in_fresh feed s c).0
-fits_fresh feed s Hello f = f
 fits_fresh feed s (Station sta net) f = fits_station feed s sta net f
-fits_fresh feed s SelectAll f = f
-fits_fresh feed s (Data number) f = f
-fits_fresh feed s (Fetch number) f = f
-fits_fresh feed s End f = f
 fits_fresh feed s Bye f = (tt, f.1)
-fits_fresh feed s Other f = f
+fits_fresh feed s command f = f
 
 -- where a station is chosen, with a grant or without
 fits_when_chosen : (feed : List Window) (k : ℕ) (s : State) (c : Command) → k < length feed → Fits feed s
     → Fits feed (in_chosen feed k s c).0 × Fits feed (in_granted feed k s c).0
-fits_when_chosen feed k s Hello lt f = (f, f)
 fits_when_chosen feed k s (Station sta net) lt f = (fits_station feed s sta net f, fits_station feed s sta net f)
-fits_when_chosen feed k s SelectAll lt f = (f, f)
 fits_when_chosen feed k s (Data number) lt f =
     (fits_called feed s Modes.Data k number lt f, fits_called feed s Modes.Data k number lt f)
 fits_when_chosen feed k s (Fetch number) lt f =
     (fits_called feed s Modes.Fetch k number lt f, fits_called feed s Modes.Fetch k number lt f)
 fits_when_chosen feed k s End lt f = (f, (tt, f.1))
 fits_when_chosen feed k s Bye lt f = ((tt, f.1), (tt, f.1))
-fits_when_chosen feed k s Other lt f = (f, f)
+fits_when_chosen feed k s command lt f = (f, f)
 
 fits_streaming : (feed : List Window) (s : State) (c : Command) → Fits feed s → Fits feed (in_streaming s c).0
 fits_streaming feed s Bye f = (tt, f.1)
-fits_streaming feed s Hello f = f
-fits_streaming feed s (Station sta net) f = f
-fits_streaming feed s SelectAll f = f
-fits_streaming feed s (Data number) f = f
-fits_streaming feed s (Fetch number) f = f
-fits_streaming feed s End f = f
-fits_streaming feed s Other f = f
+fits_streaming feed s command f = f
 
 fits_in : (phase : Phase) (feed : List Window) (s : State) (c : Command) → s.phase ≡ phase → Fits feed s
     → Fits feed (answered_in phase feed s c).0
@@ -156,11 +142,9 @@ reached_pushed (v ∷ ws) (suc k) w bytes (suc j) p here reached = reached_pushe
 
 chosen_pushed : (phase : Phase) (ws : List Window) (k : ℕ) (v : Window) → IsChosenOf ws phase
     → IsChosenOf (set ws k v) phase
-chosen_pushed Fresh ws k v h = tt
 chosen_pushed (Chosen j) ws k v h = rw (length-set ws k v) h
 chosen_pushed (Granted j) ws k v h = rw (length-set ws k v) h
-chosen_pushed Streaming ws k v h = tt
-chosen_pushed Closed ws k v h = tt
+chosen_pushed phase ws k v h = tt
 
 pub fits_pushed : (feed new : List Window) (k : ℕ) (w : Window) (bytes : List ℕ) (s : State)
     → slice_get feed k ≡ Some w → new ≡ set feed k (with_record w bytes) → Fits feed s → Fits new s

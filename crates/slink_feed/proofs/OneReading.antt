@@ -5,7 +5,7 @@ use Rattle.std.proofs.lemmas.List.{append_cancel_left}
 use Rattle.slink_wire.proofs.Prefixes.{prefixes}
 use Rattle.slink_feed.specs.declared.dialogue.Event.{Event}
 use Rattle.slink_feed.specs.declared.dialogue.Stage.{Stage}
-use Rattle.slink_feed.specs.declared.dialogue.Stage.TheVariants.{Unlinked, Station, Number, Packets, Ended}
+use Rattle.slink_feed.specs.declared.dialogue.Stage.TheVariants.{Unlinked, Ended}
 use Rattle.slink_feed.specs.Cutting.{IsBegun, IsWhole}
 use Rattle.slink_feed.specs.Dialogue.{Talk, Whole, read}
 use Rattle.slink_feed.specs.Listening.{AreBrought, Brought, IsLinked, Listening, Reads, bytes_of, events_of, talk_after}
@@ -36,10 +36,8 @@ IsRest stage bytes = IsLinked stage → IsBegun stage bytes
 
 whole_linked : (stage : Stage) (a : List ℕ) (w : Whole) → IsWhole stage a w → IsLinked stage
 whole_linked Unlinked a w is = is
-whole_linked (Station k) a w is = tt
-whole_linked (Number k) a w is = tt
-whole_linked Packets a w is = tt
 whole_linked (Ended ending) a w is = is
+whole_linked stage a w is = tt
 
 pub one_brought : (t : Talk) (bs cs : List Brought) (k m : List ℕ) → AreBrought t bs → AreBrought t cs
     → bytes_of bs ++ k ≡ bytes_of cs ++ m → IsRest (talk_after t bs).stage k → IsRest (talk_after t cs).stage m

@@ -9,7 +9,7 @@ use Rattle.slink_wire.specs.Lines.{IsHeld, lines_of}
 use Rattle.slink_wire.specs.Reply.{reply_bytes}
 use Rattle.slink_feed.specs.declared.grant.Grant.{Grant}
 use Rattle.slink_feed.specs.declared.session.Phase.{Phase}
-use Rattle.slink_feed.specs.declared.session.Phase.TheVariants.{Fresh, Chosen, Granted, Streaming, Closed}
+use Rattle.slink_feed.specs.declared.session.Phase.TheVariants.{Streaming, Closed}
 use Rattle.slink_feed.specs.declared.session.Sent.{Sent}
 use Rattle.slink_feed.specs.declared.session.Sent.TheVariants as sents
 use Rattle.slink_feed.specs.declared.turn.LinkFault.{LinkFault}
@@ -54,11 +54,8 @@ idle_of feed s k (Some g) None = λ e. refl
 idle_of feed s k (Some g) (Some w) = idle_from feed s k g w (g.position == w.next)
 
 idle_in : (p : Phase) (feed : List Window) (s : State) (k : ℕ) → Idle s (sent_in p feed s k)
-idle_in Fresh feed s k = λ e. refl
-idle_in (Chosen j) feed s k = λ e. refl
-idle_in (Granted j) feed s k = λ e. refl
 idle_in Streaming feed s k = idle_of feed s k (grant_at s.grants k) (slice_get feed k)
-idle_in Closed feed s k = λ e. refl
+idle_in phase feed s k = λ e. refl
 
 -- A call for a packet leaves a session as it is, and gives no bytes.
 abbrev Still : List Window → State → ℕ → Type 0
@@ -78,11 +75,8 @@ still_of s k None = (refl, refl)
 still_of s k (Some g) = (refl, refl)
 
 still_in : (p : Phase) (s : State) (k : ℕ) → ((sent_in p [] s k).0 ≡ s) × (sent_bytes (sent_in p [] s k).1 ≡ [])
-still_in Fresh s k = (refl, refl)
-still_in (Chosen j) s k = (refl, refl)
-still_in (Granted j) s k = (refl, refl)
 still_in Streaming s k = still_of s k (grant_at s.grants k)
-still_in Closed s k = (refl, refl)
+still_in phase s k = (refl, refl)
 
 -- All further calls leave it so.
 module _ (feed : List Window) (s : State) (P : ℕ → Type 0) (next : (k : ℕ) → P k → P (place_after feed k))

@@ -9,7 +9,7 @@ use Rattle.slink_feed.specs.declared.dialogue.Ending.TheVariants as endings
 use Rattle.slink_feed.specs.declared.dialogue.Event.{Event}
 use Rattle.slink_feed.specs.declared.dialogue.Event.TheVariants as events
 use Rattle.slink_feed.specs.declared.dialogue.Stage.{Stage}
-use Rattle.slink_feed.specs.declared.dialogue.Stage.TheVariants.{Unlinked, Station, Number, Packets, Ended}
+use Rattle.slink_feed.specs.declared.dialogue.Stage.TheVariants.{Station, Number, Packets}
 use Rattle.slink_feed.specs.Cutting.{IsBegun, IsReply, IsWhole, IsWholePacket, IsWholeReply, nothing}
 use Rattle.slink_feed.specs.private.Parts.{IsPacketPart, IsReplyPart}
 use Rattle.slink_feed.specs.Dialogue.{Talk, Whole, Reply, Packet, End, Garbage, at_packet, place_of, ended, read}
@@ -44,18 +44,14 @@ paired d talk x e h is same_talk same_event = cc
 
 reply_whole : (stage : Stage) (bytes : List ℕ) (w : Whole) → AwaitsReply stage → IsWholeReply bytes w
     → IsWhole stage bytes w
-reply_whole Unlinked bytes w awaits is = absurd awaits
 reply_whole (Station k) bytes w awaits is = is
 reply_whole (Number k) bytes w awaits is = is
-reply_whole Packets bytes w awaits is = absurd awaits
-reply_whole (Ended ending) bytes w awaits is = absurd awaits
+reply_whole stage bytes w awaits is = absurd awaits
 
 garbage_read : (stage : Stage) (t : Talk) → AwaitsReply stage → read_at stage t Garbage ≡ ended endings.Garbage t
-garbage_read Unlinked t awaits = absurd awaits
 garbage_read (Station k) t awaits = refl
 garbage_read (Number k) t awaits = refl
-garbage_read Packets t awaits = absurd awaits
-garbage_read (Ended ending) t awaits = absurd awaits
+garbage_read stage t awaits = absurd awaits
 
 pub reply_brings : (t d talk : Talk) (bytes slice line kept : List ℕ) (x e : Event) → AwaitsReply t.stage
     → slice ≡ bytes → IsReply slice line → read t (Reply line) ≡ (talk, e) → d ≡ talk → x ≡ e → kept ≡ []
@@ -114,11 +110,10 @@ garbage_brings t d talk bytes kept part x e at is garbage_part h same_talk same_
 
 -- before the first byte of a whole
 pub begun_none : (stage : Stage) → IsBegun stage []
-begun_none Unlinked = refl
 begun_none (Station k) = (λ i cr lf. let bad : None ≡ Some 13 = cr in cc bad, omega arith)
 begun_none (Number k) = (λ i cr lf. let bad : None ≡ Some 13 = cr in cc bad, omega arith)
 begun_none Packets = nothing refl
-begun_none (Ended ending) = refl
+begun_none stage = refl
 
 -- as the client is seen
 pub brings_seen : (talk : Talk) (kept all more : List ℕ) (now new : Listening) (e : Event)

@@ -68,36 +68,18 @@ all_taken rs a b takes fine =
 
 -- the bytes of the record that an event reports
 pub record_bytes : (e : Event) → record_reported e ≡ bytes_in (record_in e)
-record_bytes events.None = refl
-record_bytes (events.Say line) = refl
 record_bytes (events.Record k n bytes) = sym (append-nil bytes)
-record_bytes events.End = refl
-record_bytes (events.Refused k) = refl
-record_bytes (events.Gap k want got) = refl
-record_bytes events.Garbage = refl
-record_bytes events.Foreign = refl
+record_bytes event = refl
 
 -- a line that says something reports no record
 pub line_alone : (e : Event) → 0 < length (line_written e) → record_in e ≡ []
-line_alone events.None some = refl
-line_alone (events.Say line) some = refl
 line_alone (events.Record k n bytes) some = absurd (omega (arith, some))
-line_alone events.End some = refl
-line_alone (events.Refused k) some = refl
-line_alone (events.Gap k want got) some = refl
-line_alone events.Garbage some = refl
-line_alone events.Foreign some = refl
+line_alone event some = refl
 
 -- an event with bytes for the output reports a record
 pub record_alone : (e : Event) → 0 < length (record_reported e) → (r : Numbered) × (record_in e ≡ r ∷ [])
-record_alone events.None some = absurd (omega (arith, some))
-record_alone (events.Say line) some = absurd (omega (arith, some))
 record_alone (events.Record k n bytes) some = (record { place = k; number = n; bytes = bytes }, refl)
-record_alone events.End some = absurd (omega (arith, some))
-record_alone (events.Refused k) some = absurd (omega (arith, some))
-record_alone (events.Gap k want got) some = absurd (omega (arith, some))
-record_alone events.Garbage some = absurd (omega (arith, some))
-record_alone events.Foreign some = absurd (omega (arith, some))
+record_alone event some = absurd (omega (arith, some))
 
 event_alone : (e : Event) → records_reported (event_if_any e) ≡ record_in e
 event_alone events.None = refl

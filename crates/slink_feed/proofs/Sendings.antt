@@ -6,8 +6,7 @@ use Rattle.std.proofs.lemmas.Bool.{eq-eqb}
 use Rattle.std.proofs.lemmas.Bool.Decides.{eqb_tells, leb_tells}
 use Rattle.slink_wire.specs.Packet.{packet_bytes}
 use Rattle.slink_wire.specs.declared.command.Command.{Command}
-use Rattle.slink_wire.specs.declared.command.Command.TheVariants.{Hello, Station, SelectAll, Data, Fetch, End, Bye}
-use Rattle.slink_wire.specs.declared.command.Command.TheVariants.{Other}
+use Rattle.slink_wire.specs.declared.command.Command.TheVariants.{Bye}
 use Rattle.slink_wire.specs.declared.lines.What.{What}
 use Rattle.slink_wire.specs.declared.lines.What.TheVariants.{More, Line, TooLong}
 use Rattle.slink_wire.specs.declared.reply.Reply.{Reply}
@@ -205,13 +204,7 @@ slice_sent k first pushed (a ∷ more) s g on at_k called shown =
 -- what a line leaves of a session that streams
 line_read : (s : State) (c : Command) → IsReadFrom s (in_streaming s c).0
 line_read s Bye = inr refl
-line_read s Hello = inl refl
-line_read s (Station sta net) = inl refl
-line_read s SelectAll = inl refl
-line_read s (Data number) = inl refl
-line_read s (Fetch number) = inl refl
-line_read s End = inl refl
-line_read s Other = inl refl
+line_read s command = inl refl
 
 pub answer_read : (feed : List Window) (s new : State) (what : What) (reply : Reply) → s.phase ≡ Streaming
     → IsAnswer feed s what new reply → IsReadFrom s new

@@ -82,11 +82,8 @@ waited_more given sents.Overrun n waited = (given ++ sents.Overrun ∷ [], sym (
 waited_more given sents.Closed n waited = (given ++ sents.Closed ∷ [], sym (append-nil (given ++ sents.Closed ∷ [])))
 
 waits_within : (a : Sent) (n most : ℕ) → n < most → waits_after a n ≤ most
-waits_within (sents.Packet bytes) n most lt = omega arith
 waits_within sents.Wait n most lt = omega (arith, lt)
-waits_within sents.Done n most lt = omega arith
-waits_within sents.Overrun n most lt = omega arith
-waits_within sents.Closed n most lt = omega arith
+waits_within answer n most lt = omega arith
 
 pub place_within : (feed : List Window) (k : ℕ) → k < length feed → place_after feed k < length feed
 place_within feed k lt = elim (eqb_tells (k + 1) (length feed)) [
@@ -156,9 +153,8 @@ module _ (feed : List Window) (old now new : Attending) (k waits_now written : �
 
   pub not_sent : (fault : LinkFault) → IsWriteFault fault now.written new.written (sent_bytes x.1) written
       → IsSendFault fault feed old new
-  not_sent faults.Read cut = absurd cut
   not_sent (faults.Write after) cut = unsent after cut
-  not_sent (faults.Output after) cut = absurd cut
+  not_sent fault cut = absurd cut
 
 -- less is due, or one more call gave nothing
 pub less_left : (feed : List Window) (s new : State) (x : State × Sent) (n : ℕ) → Moves feed s x → new ≡ x.0 → n < 16
@@ -303,9 +299,8 @@ module _ (feed : List Window) (old now new : Attending) (bytes : List ℕ) (star
 
   pub not_replied : (fault : LinkFault) → IsWriteFault fault now.written new.written (reply_bytes reply) written
       → IsReplyFault fault feed old new bytes before
-  not_replied faults.Read cut = absurd cut
   not_replied (faults.Write after) cut = unreplied after cut
-  not_replied (faults.Output after) cut = absurd cut
+  not_replied fault cut = absurd cut
 
 -- where no record is sent, no packet is, and few bytes are
 pub no_packet : (unsent : Unsent) (bytes : List ℕ) → sent_without unsent ≢ sents.Packet bytes

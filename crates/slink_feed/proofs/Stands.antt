@@ -9,7 +9,7 @@ use Rattle.slink_wire.specs.declared.reply.Reply.{Reply}
 use Rattle.slink_wire.specs.Lines.{IsHeld, lines_of}
 use Rattle.slink_wire.specs.Taking.{Yields}
 use Rattle.slink_feed.specs.declared.session.Phase.{Phase}
-use Rattle.slink_feed.specs.declared.session.Phase.TheVariants.{Fresh, Chosen, Granted, Streaming, Closed}
+use Rattle.slink_feed.specs.declared.session.Phase.TheVariants.{Closed}
 use Rattle.slink_feed.specs.declared.session.Sent.{Sent}
 use Rattle.slink_feed.specs.declared.session.Sent.TheVariants as sents
 use Rattle.slink_feed.specs.Running.{Stands, StandsFor}
@@ -18,11 +18,8 @@ use Rattle.slink_feed.specs.Session.{State, sent, sent_in}
 use Rattle.slink_feed.specs.Window.{Window}
 
 pub closed_or : (p : Phase) → (p ≡ Closed) ⊎ ¬ (p ≡ Closed)
-closed_or Fresh = inr (λ e. cc e)
-closed_or (Chosen k) = inr (λ e. cc e)
-closed_or (Granted k) = inr (λ e. cc e)
-closed_or Streaming = inr (λ e. cc e)
 closed_or Closed = inl refl
+closed_or phase = inr (λ e. cc e)
 
 -- a session that isn't closed once it was called for a packet wasn't closed before
 pub open_before : (feed : List Window) (s t : State) (k : ℕ) (a : Sent) → sent feed s k ≡ (t, a)
@@ -69,10 +66,9 @@ piece_taken old bytes used some stands whole closed = elim (closed_or old.state.
 -- no line is too long, since the session isn't closed
 short_after : (feed : List Window) (s new : State) (before after : List ℕ) (reply : Reply) → ¬ (new.phase ≡ Closed)
     → (what : What) → Yields what before after → IsAnswer feed s what new reply → (lines_of after).is_too_long ≡ false
-short_after feed s new before after reply unshut More tells answer = tells.1
-short_after feed s new before after reply unshut (Line line) tells answer = tells.1
 short_after feed s new before after reply unshut TooLong tells answer =
     absurd (unshut (sym (ap (λ (p : State × Reply). p.0.phase) answer)))
+short_after feed s new before after reply unshut what tells answer = tells.1
 
 pub still_stands : (feed : List Window) (old new : SessionState) (piece : List ℕ) (reply : Reply) → Stands old
     → Takes feed old piece new reply → Stands new

@@ -156,11 +156,9 @@ sends_here feed s k phase lt off =
 -- A session that doesn't send records yet sends nothing, and one that does no more is closed.
 quiet_in : (p : Phase) (feed : List Window) (s : State) → s.phase ≡ p → s.phase ≢ Streaming
     → IsWaiting feed s ⊎ (s.phase ≡ Phases.Closed)
-quiet_in Phases.Fresh feed s is ne = inl (λ k lt. ap (λ (p : Phase). sent_in p feed s k) is)
-quiet_in (Phases.Chosen j) feed s is ne = inl (λ k lt. ap (λ (p : Phase). sent_in p feed s k) is)
-quiet_in (Phases.Granted j) feed s is ne = inl (λ k lt. ap (λ (p : Phase). sent_in p feed s k) is)
 quiet_in Phases.Streaming feed s is ne = absurd (ne is)
 quiet_in Phases.Closed feed s is ne = inr is
+quiet_in phase feed s is ne = inl (λ k lt. ap (λ (p : Phase). sent_in p feed s k) is)
 
 pub quiet_or_closed : (feed : List Window) (s : State) → s.phase ≢ Streaming
     → IsWaiting feed s ⊎ (s.phase ≡ Phases.Closed)

@@ -8,7 +8,7 @@ use Rattle.slink_wire.specs.Packet.{IsPacket}
 use Rattle.slink_wire.specs.Reply.{line_end}
 use Rattle.slink_wire.proofs.Packets.{one_packet}
 use Rattle.slink_feed.specs.declared.dialogue.Stage.{Stage}
-use Rattle.slink_feed.specs.declared.dialogue.Stage.TheVariants.{Unlinked, Station, Number, Packets, Ended}
+use Rattle.slink_feed.specs.declared.dialogue.Stage.TheVariants.{Station, Number, Packets}
 use Rattle.slink_feed.specs.Cutting.{Begins, IsBegun, IsNoPacket, IsPacketBegun, IsReply, IsReplyBegun, IsWhole}
 use Rattle.slink_feed.specs.Cutting.{IsWholePacket, IsWholeReply, LacksEnd, no_first, no_end, no_head, nothing}
 use Rattle.slink_feed.specs.Cutting.{end_begun, head_begun, record_begun}
@@ -69,17 +69,15 @@ lacks_before a z line is some lacks i cr lf =
 -- bytes that are begun have no whole before it
 reply_begun_no : (a z : List ℕ) (w : Whole) → IsReplyBegun (a ++ z) → IsWholeReply a w → ⊥
 reply_begun_no a z (Reply line) begun is = reply_end a z line is.0 begun.0
-reply_begun_no a z (Packet n r) begun is = is
-reply_begun_no a z End begun is = is
 reply_begun_no a z Garbage begun is = omega (arith, begun.1, is.1, length-append a z)
+reply_begun_no a z whole begun is = is
 
 -- a prefix of a whole is begun
 reply_prefix : (a z : List ℕ) (w : Whole) → 0 < length z → IsWholeReply (a ++ z) w → IsReplyBegun a
 reply_prefix a z (Reply line) some is =
     (lacks_before a z line is.0 some is.1, omega (arith, is.2, some, length-append a z))
-reply_prefix a z (Packet n r) some is = absurd is
-reply_prefix a z End some is = absurd is
 reply_prefix a z Garbage some is = (lacks_prefix a z is.0, omega (arith, is.1, some, length-append a z))
+reply_prefix a z whole some is = absurd is
 
 no_more : (a line : List ℕ) → IsReply a line → LacksEnd a → ⊥
 no_more a line is lacks = reply_end a [] line is.0 (subst LacksEnd (sym (append-nil a)) lacks)
@@ -89,12 +87,11 @@ one_reply a (Reply l) (Reply m) p q = ap (λ x. Reply x) (append_cancel_right l 
 one_reply a (Reply l) Garbage p q = absurd (no_more a l p q.0)
 one_reply a Garbage (Reply m) p q = absurd (no_more a m q p.0)
 one_reply a Garbage Garbage p q = refl
-one_reply a (Packet n r) v p q = absurd p
-one_reply a End v p q = absurd p
 one_reply a (Reply l) (Packet n r) p q = absurd q
 one_reply a (Reply l) End p q = absurd q
 one_reply a Garbage (Packet n r) p q = absurd q
 one_reply a Garbage End p q = absurd q
+one_reply a whole v p q = absurd p
 
 -- the same of packets
 begun_no_garbage : (a z : List ℕ) → IsPacketBegun (a ++ z) → IsNoPacket a → ⊥
@@ -204,23 +201,20 @@ one_of_packets a Garbage (Reply l) p q = absurd q
 
 -- at each stage
 pub begun_no_whole : (stage : Stage) (a z : List ℕ) (w : Whole) → IsBegun stage (a ++ z) → IsWhole stage a w → ⊥
-begun_no_whole Unlinked a z w begun is = is
 begun_no_whole (Station k) a z w begun is = reply_begun_no a z w begun is
 begun_no_whole (Number k) a z w begun is = reply_begun_no a z w begun is
 begun_no_whole Packets a z w begun is = packet_begun_no a z w begun is
-begun_no_whole (Ended ending) a z w begun is = is
+begun_no_whole stage a z w begun is = is
 
 pub prefix_begun : (stage : Stage) (a z : List ℕ) (w : Whole) → 0 < length z → IsWhole stage (a ++ z) w
     → IsBegun stage a
-prefix_begun Unlinked a z w some is = absurd is
 prefix_begun (Station k) a z w some is = reply_prefix a z w some is
 prefix_begun (Number k) a z w some is = reply_prefix a z w some is
 prefix_begun Packets a z w some is = packet_prefix a z w some is
-prefix_begun (Ended ending) a z w some is = absurd is
+prefix_begun stage a z w some is = absurd is
 
 pub one_whole : (stage : Stage) (a : List ℕ) (w v : Whole) → IsWhole stage a w → IsWhole stage a v → w ≡ v
-one_whole Unlinked a w v p q = absurd p
 one_whole (Station k) a w v p q = one_reply a w v p q
 one_whole (Number k) a w v p q = one_reply a w v p q
 one_whole Packets a w v p q = one_of_packets a w v p q
-one_whole (Ended ending) a w v p q = absurd p
+one_whole stage a w v p q = absurd p

@@ -3,7 +3,7 @@ use Rattle.std.specs.Prelude.{◌≡◌, ◌≢◌, ℕ, ◌+◌, ◌≤◌, ◌
 use Rattle.slink_wire.specs.Packet.{HasHead, IsPacket}
 use Rattle.slink_wire.specs.Reply.{line_end}
 use Rattle.slink_feed.specs.declared.dialogue.Stage.{Stage}
-use Rattle.slink_feed.specs.declared.dialogue.Stage.TheVariants.{Unlinked, Station, Number, Packets, Ended}
+use Rattle.slink_feed.specs.declared.dialogue.Stage.TheVariants.{Station, Number, Packets}
 use Rattle.slink_feed.specs.Dialogue.{Whole, Reply, Packet, End, Garbage}
 
 -- No CR stands right before an LF.
@@ -41,9 +41,8 @@ pub data IsPacketBegun (bytes : List ℕ) : Type 0 where
 
 abbrev pub IsWholeReply : List ℕ → Whole → Type 0
 IsWholeReply bytes (Reply line) = IsReply bytes line
-IsWholeReply bytes (Packet n r) = ⊥
-IsWholeReply bytes End = ⊥
 IsWholeReply bytes Garbage = IsNoReply bytes
+IsWholeReply bytes whole = ⊥
 
 abbrev pub IsWholePacket : List ℕ → Whole → Type 0
 IsWholePacket bytes (Reply line) = ⊥
@@ -53,16 +52,14 @@ IsWholePacket bytes Garbage = IsNoPacket bytes
 
 -- These bytes are one whole of what a client awaits.
 abbrev pub IsWhole : Stage → List ℕ → Whole → Type 0
-IsWhole Unlinked bytes whole = ⊥
 IsWhole (Station k) bytes whole = IsWholeReply bytes whole
 IsWhole (Number k) bytes whole = IsWholeReply bytes whole
 IsWhole Packets bytes whole = IsWholePacket bytes whole
-IsWhole (Ended ending) bytes whole = ⊥
+IsWhole stage bytes whole = ⊥
 
 -- These bytes are the prefix of one, and not yet a whole.
 abbrev pub IsBegun : Stage → List ℕ → Type 0
-IsBegun Unlinked bytes = bytes ≡ []
 IsBegun (Station k) bytes = IsReplyBegun bytes
 IsBegun (Number k) bytes = IsReplyBegun bytes
 IsBegun Packets bytes = IsPacketBegun bytes
-IsBegun (Ended ending) bytes = bytes ≡ []
+IsBegun stage bytes = bytes ≡ []

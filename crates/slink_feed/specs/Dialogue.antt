@@ -17,7 +17,7 @@ use Rattle.slink_feed.specs.declared.dialogue.Ending.TheVariants as endings
 use Rattle.slink_feed.specs.declared.dialogue.Event.{Event}
 use Rattle.slink_feed.specs.declared.dialogue.Event.TheVariants as events
 use Rattle.slink_feed.specs.declared.dialogue.Stage.{Stage}
-use Rattle.slink_feed.specs.declared.dialogue.Stage.TheVariants.{Unlinked, Station, Number, Packets, Ended}
+use Rattle.slink_feed.specs.declared.dialogue.Stage.TheVariants.{Station, Number, Packets, Ended}
 use Rattle.slink_feed.specs.declared.dialogue.Wanted.{Wanted}
 
 -- the stations that are requested, in their order, and the number that each wants next
@@ -43,11 +43,9 @@ AreShort wants = (k n : ℕ) → next_at wants k ≡ Some n → n < 2 ^ 24
 
 -- a station of sixteen is requested
 abbrev pub IsStage : Stage → Type 0
-IsStage Unlinked = Unit {0}
 IsStage (Station k) = k < 16
 IsStage (Number k) = k < 16
-IsStage Packets = Unit {0}
-IsStage (Ended ending) = Unit {0}
+IsStage stage = Unit {0}
 
 -- what a client has come to; and whether it goes past holes
 pub record Talk : Type 0 where

@@ -7,36 +7,24 @@ use Rattle.slink_feed.specs.declared.dialogue.Ending.TheVariants as endings
 use Rattle.slink_feed.specs.declared.dialogue.Event.{Event}
 use Rattle.slink_feed.specs.declared.dialogue.Event.TheVariants as events
 use Rattle.slink_feed.specs.declared.dialogue.Stage.{Stage}
-use Rattle.slink_feed.specs.declared.dialogue.Stage.TheVariants.{Unlinked, Station, Number, Packets, Ended}
+use Rattle.slink_feed.specs.declared.dialogue.Stage.TheVariants.{Unlinked, Ended}
 use Rattle.slink_feed.specs.declared.turn.LinkFault.{LinkFault}
 use Rattle.slink_feed.specs.declared.turn.LinkFault.TheVariants as faults
 use Rattle.slink_feed.specs.declared.turn.Turn.{Turn}
 use Rattle.slink_feed.specs.declared.turn.Turn.TheVariants as turns
-use Rattle.slink_feed.specs.Dialogue.{Talk}
+use Rattle.slink_feed.specs.Dialogue.{Talk, event_of}
 use Rattle.slink_feed.specs.Listening.{IsLinked, Listening, Reads}
 use Rattle.slink_feed.specs.Turns.{Emitted, EmittedPrefix, failed_once, reported_once}
 
 -- the line that an event has for the link
 abbrev pub line_written : Event → List ℕ
-line_written events.None = []
 line_written (events.Say line) = line.items
-line_written (events.Record k number bytes) = []
-line_written events.End = []
-line_written (events.Refused k) = []
-line_written (events.Gap k want got) = []
-line_written events.Garbage = []
-line_written events.Foreign = []
+line_written event = []
 
 -- the bytes of the record that an event reports
 abbrev pub record_reported : Event → List ℕ
-record_reported events.None = []
-record_reported (events.Say line) = []
 record_reported (events.Record k number bytes) = bytes
-record_reported events.End = []
-record_reported (events.Refused k) = []
-record_reported (events.Gap k want got) = []
-record_reported events.Garbage = []
-record_reported events.Foreign = []
+record_reported event = []
 
 -- what each event gives, one after another
 abbrev pub joined_by : (Event → List ℕ) → List Event → List ℕ
@@ -110,17 +98,11 @@ FailsAt (faults.Output count) old new bytes = FailsToWrite old new bytes count
 -- what a client has come to: it goes on, or is at an end
 abbrev pub turn_of : Ending → Turn
 turn_of endings.End = turns.Ended
-turn_of (endings.Refused k) = turns.Stopped (events.Refused k)
-turn_of (endings.Gap k want got) = turns.Stopped (events.Gap k want got)
-turn_of endings.Garbage = turns.Stopped events.Garbage
-turn_of endings.Foreign = turns.Stopped events.Foreign
+turn_of ending = turns.Stopped (event_of ending)
 
 abbrev pub turn_at : Stage → Turn
-turn_at Unlinked = turns.Goes
-turn_at (Station k) = turns.Goes
-turn_at (Number k) = turns.Goes
-turn_at Packets = turns.Goes
 turn_at (Ended ending) = turn_of ending
+turn_at stage = turns.Goes
 
 -- Where the link gave nothing, it is closed.
 abbrev pub turn_after : List ℕ → Stage → Turn
@@ -146,8 +128,7 @@ pub record IsCutShort (old new : Fetching) (before after : BytesRead) (fault : L
 -- Where the read failed, nothing else was done.
 abbrev pub IsFetchFault : LinkFault → Fetching → Fetching → BytesRead → BytesRead → Type 0
 IsFetchFault faults.Read old new before after = (new ≡ old) × (after ≡ failed_once before)
-IsFetchFault (faults.Write count) old new before after = IsCutShort old new before after (faults.Write count)
-IsFetchFault (faults.Output count) old new before after = IsCutShort old new before after (faults.Output count)
+IsFetchFault fault old new before after = IsCutShort old new before after fault
 
 -- What a call that takes a step comes to: a step, or what failed in it. The bytes that the client had kept read as what
 -- is begun: so the step says what they read as with those of the link.

@@ -16,14 +16,8 @@ turned t (brings w) = read t w
 
 -- the numbers of the records that are reported of a station
 abbrev pub numbers_in : ℕ → Event → List ℕ
-numbers_in k events.None = []
-numbers_in k (events.Say bytes) = []
 numbers_in k (events.Record j n bytes) = if j == k then n ∷ [] else []
-numbers_in k events.End = []
-numbers_in k (events.Refused j) = []
-numbers_in k (events.Gap j want got) = []
-numbers_in k events.Garbage = []
-numbers_in k events.Foreign = []
+numbers_in k event = []
 
 abbrev pub numbers_of : ℕ → Talk → List Turn → List ℕ
 numbers_of k t [] = []

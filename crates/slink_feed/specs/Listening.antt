@@ -5,7 +5,7 @@ use Rattle.slink_feed.specs.declared.grant.Mode.{Mode}
 use Rattle.slink_feed.specs.declared.dialogue.Event.{Event}
 use Rattle.slink_feed.specs.declared.dialogue.Event.TheVariants as events
 use Rattle.slink_feed.specs.declared.dialogue.Stage.{Stage}
-use Rattle.slink_feed.specs.declared.dialogue.Stage.TheVariants.{Unlinked, Station, Number, Packets, Ended}
+use Rattle.slink_feed.specs.declared.dialogue.Stage.TheVariants.{Unlinked, Station, Number, Ended}
 use Rattle.slink_feed.specs.Cutting.{IsBegun, IsWhole}
 use Rattle.slink_feed.specs.Dialogue.{Talk, Whole, read, wants_of}
 
@@ -23,19 +23,15 @@ new_client places mode holes = record {
 
 -- A reply is awaited.
 abbrev pub AwaitsReply : Stage → Type 0
-AwaitsReply Unlinked = ⊥
 AwaitsReply (Station k) = Unit {0}
 AwaitsReply (Number k) = Unit {0}
-AwaitsReply Packets = ⊥
-AwaitsReply (Ended ending) = ⊥
+AwaitsReply stage = ⊥
 
 -- There is a link, of which more is taken.
 abbrev pub IsLinked : Stage → Type 0
 IsLinked Unlinked = ⊥
-IsLinked (Station k) = Unit {0}
-IsLinked (Number k) = Unit {0}
-IsLinked Packets = Unit {0}
 IsLinked (Ended ending) = ⊥
+IsLinked stage = Unit {0}
 
 -- What comes of bytes that are there since the last whole: they are one, which is read, and nothing is kept; or they
 -- are kept, and more are awaited.
@@ -48,13 +44,7 @@ pub data Brings (talk : Talk) (bytes : List ℕ) (new : Listening) (event : Even
 -- an event, where there is one
 abbrev pub event_if_any : Event → List Event
 event_if_any events.None = []
-event_if_any (events.Say bytes) = events.Say bytes ∷ []
-event_if_any (events.Record k number bytes) = events.Record k number bytes ∷ []
-event_if_any events.End = events.End ∷ []
-event_if_any (events.Refused k) = events.Refused k ∷ []
-event_if_any (events.Gap k want got) = events.Gap k want got ∷ []
-event_if_any events.Garbage = events.Garbage ∷ []
-event_if_any events.Foreign = events.Foreign ∷ []
+event_if_any event = event ∷ []
 
 -- a whole, with its bytes
 pub record Brought : Type 0 where

@@ -10,14 +10,8 @@ use Rattle.slink_feed.specs.Holding.{GoBy}
 
 -- the record that an event reports, where it is one
 abbrev pub record_in : Event → List Numbered
-record_in events.None = []
-record_in (events.Say bytes) = []
 record_in (events.Record k number bytes) = record { place = k; number = number; bytes = bytes } ∷ []
-record_in events.End = []
-record_in (events.Refused k) = []
-record_in (events.Gap k want got) = []
-record_in events.Garbage = []
-record_in events.Foreign = []
+record_in event = []
 
 -- the records that events report, in their order
 abbrev pub records_reported : List Event → List Numbered

@@ -27,10 +27,7 @@ AreCalled s (a ∷ more) = (t : State) × IsReadFrom s t × ((sent a.feed t a.pl
 -- the packets that were sent of a station
 abbrev pub packet_in : Sent → List (List ℕ)
 packet_in (Sents.Packet bytes) = bytes ∷ []
-packet_in Sents.Wait = []
-packet_in Sents.Done = []
-packet_in Sents.Overrun = []
-packet_in Sents.Closed = []
+packet_in answer = []
 
 abbrev pub packets_of : ℕ → List Called → List (List ℕ)
 packets_of k [] = []

@@ -48,11 +48,9 @@ AreReached feed grants = (k : ℕ) (g : Grant) → grant_at grants k ≡ Some g 
 
 -- The chosen station is one of the feed.
 abbrev pub IsChosenOf : List Window → Phase → Type 0
-IsChosenOf feed Fresh = Unit {0}
 IsChosenOf feed (Chosen k) = k < length feed
 IsChosenOf feed (Granted k) = k < length feed
-IsChosenOf feed Streaming = Unit {0}
-IsChosenOf feed Closed = Unit {0}
+IsChosenOf feed phase = Unit {0}
 
 -- The session can be served from this feed.
 abbrev pub Fits : List Window → State → Type 0
@@ -153,16 +151,13 @@ sent_from feed s k g w =
     if g.position == w.next then at_next (has_sent_all feed s.grants) s else packet_at s k g (record_at w g.position)
 
 abbrev pub sent_of : List Window → State → ℕ → Option Grant → Option Window → State × Sent
-sent_of feed s k None ring = (s, Sents.Wait)
-sent_of feed s k (Some g) None = (s, Sents.Wait)
 sent_of feed s k (Some g) (Some w) = sent_from feed s k g w
+sent_of feed s k grant ring = (s, Sents.Wait)
 
 abbrev pub sent_in : Phase → List Window → State → ℕ → State × Sent
-sent_in Fresh feed s k = (s, Sents.Wait)
-sent_in (Chosen place) feed s k = (s, Sents.Wait)
-sent_in (Granted place) feed s k = (s, Sents.Wait)
 sent_in Streaming feed s k = sent_of feed s k (grant_at s.grants k) (slice_get feed k)
 sent_in Closed feed s k = (s, Sents.Closed)
+sent_in phase feed s k = (s, Sents.Wait)
 
 -- what is sent of a station when it is requested, and the state afterwards
 abbrev pub sent : List Window → State → ℕ → State × Sent
@@ -172,9 +167,7 @@ sent feed s k = sent_in s.phase feed s k
 abbrev pub sent_bytes : Sent → List ℕ
 sent_bytes (Sents.Packet bytes) = bytes
 sent_bytes Sents.Done = codes "END"
-sent_bytes Sents.Wait = []
-sent_bytes Sents.Overrun = []
-sent_bytes Sents.Closed = []
+sent_bytes answer = []
 
 -- what is sent where no record is
 abbrev pub sent_without : Unsent → Sent
@@ -194,8 +187,6 @@ IsWaiting feed s = (k : ℕ) → k < length feed → sent feed s k ≡ (s, Sents
 
 -- before records are sent
 abbrev pub IsBefore : Phase → Type 0
-IsBefore Fresh = Unit {0}
-IsBefore (Chosen k) = Unit {0}
-IsBefore (Granted k) = Unit {0}
 IsBefore Streaming = ⊥
 IsBefore Closed = ⊥
+IsBefore phase = Unit {0}

@@ -24,17 +24,13 @@ pub record IsUnwritten (old new : BytesWritten) (bytes : List ℕ) (before after
   pub count : after ≡ before + more
 
 abbrev pub IsWriteFault : LinkFault → BytesWritten → BytesWritten → List ℕ → ℕ → Type 0
-IsWriteFault faults.Read old new bytes before = ⊥
 IsWriteFault (faults.Write after) old new bytes before = IsUnwritten old new bytes before after
-IsWriteFault (faults.Output after) old new bytes before = ⊥
+IsWriteFault fault old new bytes before = ⊥
 
 -- how often there was nothing to give, one after another
 abbrev pub waits_after : Sent → ℕ → ℕ
-waits_after (sents.Packet bytes) waits = 0
 waits_after sents.Wait waits = waits + 1
-waits_after sents.Done waits = 0
-waits_after sents.Overrun waits = 0
-waits_after sents.Closed waits = 0
+waits_after answer waits = 0
 
 -- After so many bytes, what a session gave of a station was written; so often, one after another, there was nothing.
 pub record HasGiven (feed : List Window) (k : ℕ) (old new : Attending) (before after waits waited : ℕ) : Type 0 where
@@ -62,9 +58,8 @@ pub record HasSent (feed : List Window) (old new : Attending) (count : ℕ) : Ty
   pub few : count ≤ 1099511627776
 
 abbrev pub IsSendFault : LinkFault → List Window → Attending → Attending → Type 0
-IsSendFault faults.Read feed old new = ⊥
 IsSendFault (faults.Write count) feed old new = FailsToSend feed old new count
-IsSendFault (faults.Output count) feed old new = ⊥
+IsSendFault fault feed old new = ⊥
 
 -- The link failed within a reply; with so many before, the bytes that it accepted are counted.
 pub record HasFailed (feed : List Window) (old new : Attending) (bytes : List ℕ) (before after : ℕ) : Type 0 where
@@ -72,6 +67,5 @@ pub record HasFailed (feed : List Window) (old new : Attending) (bytes : List �
   pub counted : length new.written.bytes + before ≡ length old.written.bytes + after
 
 abbrev pub IsReplyFault : LinkFault → List Window → Attending → Attending → List ℕ → ℕ → Type 0
-IsReplyFault faults.Read feed old new bytes before = ⊥
 IsReplyFault (faults.Write after) feed old new bytes before = HasFailed feed old new bytes before after
-IsReplyFault (faults.Output after) feed old new bytes before = ⊥
+IsReplyFault fault feed old new bytes before = ⊥
