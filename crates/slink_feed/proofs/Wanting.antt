@@ -29,11 +29,10 @@ short_number : (m : Option ℕ) → ((n : ℕ) → m ≡ Some n → n < 2 ^ 24) 
 short_number None short = tt
 short_number (Some n) short = short n refl
 
-pub short_next : (inside now : Wants) (k : ℕ) (o : Option Wanted) (w : Wanted) → AreShort inside → inside ≡ now
-    → o ≡ want_at now k → o ≡ Some w → IfSome w.next (λ n. n < 2 ^ 24)
-short_next inside now k o w short same read is =
-    let at : want_at inside k ≡ Some w = ap (λ ws. want_at ws k) same ∙ (sym read ∙ is) in
-    short_number w.next (λ n e. short k n (ap (option_and_then (λ (v : Wanted). v.next)) at ∙ e))
+pub short_next : (wants : Wants) (k : ℕ) (o : Option Wanted) (w : Wanted) → AreShort wants → o ≡ want_at wants k
+    → o ≡ Some w → IfSome w.next (λ n. n < 2 ^ 24)
+short_next wants k o w short read is =
+    short_number w.next (λ n e. short k n (ap (option_and_then (λ (v : Wanted). v.next)) (sym read ∙ is) ∙ e))
 
 none_next : (m k : ℕ) → next_at (replicate m None) k ≡ None
 none_next zero k = refl

@@ -4,13 +4,14 @@ ghost use Rattle.std.specs.Prelude.{length, take};
 ghost use Rattle.std.specs.Bool.{OnFalse, OnTrue};
 ghost use Rattle.slink_wire.specs.Packet.{HasHead, IsPacket};
 ghost use Rattle.slink_wire.specs.Place.{AreNumbers};
-ghost use Rattle.slink_feed.specs.Cutting.{IsReply};
+ghost use Rattle.slink_feed.specs.Cutting.{IsBegun, IsReply};
 ghost use Rattle.slink_feed.specs.private.Parts.{IsPacketPart, IsReplyPart};
 ghost use Rattle.slink_feed.specs.declared.dialogue.Ending.{Ending};
 ghost use Rattle.slink_feed.specs.declared.dialogue.Event.{Event};
 ghost use Rattle.slink_feed.specs.Dialogue.{Talk, at_packet, place_of, event_of, next_at, requests_place};
 ghost use Rattle.slink_feed.specs.Fetching.{turn_at};
-ghost use Rattle.slink_feed.specs.Listening.{AwaitsReply, Brings, IsLinked, Reads, new_client, event_if_any};
+ghost use Rattle.slink_feed.specs.Listening.{AwaitsReply, Brings, IsLinked, Listening, Reads, new_client};
+ghost use Rattle.slink_feed.specs.Listening.{event_if_any};
 
 use crate::cutting::{Part, take_packet, take_reply};
 use crate::dialogue::{Bytes, Dialogue, Ending, Event, Stage, Wanted};
@@ -33,9 +34,6 @@ pub struct Client {
 }
 
 impl Model for Client {
-    ghost use Rattle.slink_feed.specs.Cutting.{IsBegun};
-    ghost use Rattle.slink_feed.specs.Listening.{Listening};
-
     ghost Value = { Listening };
 
     ghost view = { λ c. record { talk = c.dialogue; kept = c.kept.items } };
@@ -177,10 +175,7 @@ impl Client {
         ensures yes { OnTrue result (IsLinked self.now.talk.stage) }
         ensures no { OnFalse result (¬ (IsLinked self.now.talk.stage)) }
     {
-        match self.dialogue.stage() {
-            Stage::Station(_) | Stage::Number(_) | Stage::Packets => true,
-            Stage::Unlinked | Stage::Ended(_) => false,
-        }
+        !matches!(self.dialogue.stage(), Stage::Unlinked | Stage::Ended(_))
     }
 
     /// Returns whether packets are awaited: the client has sent all its requests.
@@ -188,10 +183,7 @@ impl Client {
         ensures yes { OnTrue result (self.now.talk.stage ≡ Stage.Packets) }
         ensures no { OnFalse result (self.now.talk.stage ≢ Stage.Packets) }
     {
-        match self.dialogue.stage() {
-            Stage::Packets => true,
-            Stage::Unlinked | Stage::Station(_) | Stage::Number(_) | Stage::Ended(_) => false,
-        }
+        matches!(self.dialogue.stage(), Stage::Packets)
     }
 
     /// What a step comes to in which the link gave bytes.

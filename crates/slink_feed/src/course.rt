@@ -8,9 +8,9 @@ ghost use Rattle.slink_feed.specs.declared.grant.Grant.{Grant};
 ghost use Rattle.slink_feed.specs.declared.session.Phase.{Phase};
 ghost use Rattle.slink_feed.specs.declared.session.Sent.{Sent};
 ghost use Rattle.slink_feed.specs.Serving.{IsAnswer};
-ghost use Rattle.slink_feed.specs.Session.{AreReached, Fits, has_sent_all, answered, called, at, at_next, chosen};
-ghost use Rattle.slink_feed.specs.Session.{ended, grant_at, in_chosen, in_fresh, in_granted, in_streaming, has_sent};
-ghost use Rattle.slink_feed.specs.Session.{sent, IsAtNext, IsWaiting, sent_without};
+ghost use Rattle.slink_feed.specs.Session.{AreReached, Fits, State, has_sent_all, answered, called, at, at_next};
+ghost use Rattle.slink_feed.specs.Session.{chosen, ended, grant_at, in_chosen, in_fresh, in_granted, in_streaming};
+ghost use Rattle.slink_feed.specs.Session.{has_sent, sent, IsAtNext, IsWaiting, sent_without};
 ghost use Rattle.slink_feed.specs.Window.{record_at};
 
 use crate::feed::{Feed, STATIONS};
@@ -29,8 +29,6 @@ pub(crate) struct Course {
 }
 
 impl Model for Course {
-    ghost use Rattle.slink_feed.specs.Session.{State, at};
-
     ghost Value = { State };
 
     ghost view = { λ c. at c.phase c.grants };
@@ -265,19 +263,12 @@ impl Course {
         }
     }
 
-    /// How far the session has come.
-    fn phase(&self) -> Phase
-        ensures { result ≡ self.now.phase }
-    {
-        self.phase
-    }
-
     /// Answers a command.
     fn answer<A: Allocator>(&mut self, feed: &Feed<A>, command: Command) -> Reply
         requires { Fits feed.now self.old }
         ensures answered { answered feed.now self.old command ≡ (self.new, result) }
     {
-        match self.phase() {
+        match self.phase {
             Phase::Fresh => self.in_fresh(feed, command),
             Phase::Chosen(k) => self.in_chosen(feed, k, command),
             Phase::Granted(k) => self.in_granted(feed, k, command),

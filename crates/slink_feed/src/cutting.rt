@@ -1,6 +1,5 @@
 //! How the bytes that a link brings are cut.
-ghost use Rattle.std.specs.Prelude.{◌≡◌, ℕ, ◌+◌, ◌<◌, ◌≤◌, List, [], ◌∷◌, ◌++◌, IfOk, length, take};
-ghost use Rattle.slink_wire.specs.Packet.{HasHead};
+ghost use Rattle.std.specs.Prelude.{◌≡◌, ℕ, ◌+◌, ◌<◌, ◌≤◌, List, [], ◌∷◌, ◌++◌, length, take};
 ghost use Rattle.slink_feed.specs.Cutting.{Begins, IsPacketBegun, IsReplyBegun};
 ghost use Rattle.slink_feed.specs.private.Parts.{IsDue, IsPacketPart, IsReplyPart, TakesUpTo, ends_reply};
 
@@ -23,9 +22,9 @@ pub(crate) enum Part {
     Garbage,
 }
 
-/// Appends bytes to those that are kept.
-fn append(kept: &mut ArrayVec<u8, PACKET>, bytes: &[u8])
-    requires { length kept.old.items + length bytes.now ≤ PACKET }
+/// Puts bytes after others.
+pub(crate) fn put<const N: usize>(kept: &mut ArrayVec<u8, N>, bytes: &[u8])
+    requires { length kept.old.items + length bytes.now ≤ N }
     ensures { kept.new.items ≡ kept.old.items ++ bytes.now }
 {
     // There is room.
@@ -142,7 +141,7 @@ fn take_part(kept: &mut ArrayVec<u8, PACKET>, bytes: &[u8]) -> (usize, Part)
 {
     let room = due(kept.as_slice()) - kept.len();
     let used = room.min(bytes.len());
-    append(kept, &bytes[..used]);
+    put(kept, &bytes[..used]);
     (used, judge(kept.as_slice()))
 }
 

@@ -2,9 +2,10 @@
 ghost use Rattle.std.specs.Prelude.{◌≡◌, ◌≢◌, ◌+◌, ◌%◌, ◌<◌, ◌≤◌, IfNone, IfSome, length};
 ghost use Rattle.slink_wire.specs.Request.{IsSpelled};
 ghost use Rattle.slink_wire.specs.Place.{AreNumbers};
-ghost use Rattle.slink_feed.specs.Dialogue.{IsStage, Reply, answer_of, at_packet, place_of, ended, event_of, is_ahead};
-ghost use Rattle.slink_feed.specs.Dialogue.{is_taken, read, if_wanted, is_of_wanted, next_at, sends_line};
-ghost use Rattle.slink_feed.specs.Dialogue.{requests_number, requests_place, to_answer, want_at, wants_of, with_next};
+ghost use Rattle.slink_feed.specs.Dialogue.{AreShort, IsStage, Reply, Talk, answer_of, at_packet, ended, event_of};
+ghost use Rattle.slink_feed.specs.Dialogue.{if_wanted, is_ahead, is_of_wanted, is_taken, next_at, place_of, read};
+ghost use Rattle.slink_feed.specs.Dialogue.{requests_number, requests_place, sends_line, to_answer, want_at, wants_of};
+ghost use Rattle.slink_feed.specs.Dialogue.{with_next};
 ghost use Rattle.slink_feed.specs.Listening.{AwaitsReply};
 
 use crate::feed::STATIONS;
@@ -140,8 +141,6 @@ pub(crate) struct Dialogue {
 }
 
 impl Model for Dialogue {
-    ghost use Rattle.slink_feed.specs.Dialogue.{AreShort, IsStage, Talk};
-
     ghost Value = { Talk };
 
     ghost view = { λ d. record { mode = d.mode; wants = d.wants; stage = d.stage; holes = d.holes } };
@@ -172,6 +171,29 @@ fn wants_of(places: &[(Place, Option<u32>)]) -> [Option<Wanted>; STATIONS]
         });
     }
     wants
+}
+
+/// The station at an index, with the number that it wants next.
+pub(crate) fn want_at(wants: &[Option<Wanted>; STATIONS], k: usize) -> Option<Wanted>
+    ensures value { result ≡ want_at wants.now k }
+    ensures within { IfSome result (λ _. k < STATIONS) }
+{
+    match wants.get(k) {
+        Some(want) => *want,
+        None => None,
+    }
+}
+
+/// Wants this number next of the station at an index, if there is one.
+pub(crate) fn want_next(wants: &mut [Option<Wanted>; STATIONS], k: usize, number: u32)
+    ensures { wants.new ≡ with_next wants.old k number }
+{
+    if let Some(wanted) = want_at(wants, k) {
+        wants[k] = Some(Wanted {
+            place: wanted.place,
+            next: Some(number),
+        });
+    }
 }
 
 /// Whether a number is ahead of the one wanted by less than half of all numbers.
@@ -221,19 +243,8 @@ impl Dialogue {
     {
         // The prover learns here that the numbers are below 2^24.
         let _ = &self.wants;
-        match self.want(k) {
+        match want_at(&self.wants, k) {
             Some(wanted) => wanted.next,
-            None => None,
-        }
-    }
-
-    /// The station at an index, with the number that it wants next.
-    fn want(&self, k: usize) -> Option<Wanted>
-        ensures value { result ≡ want_at self.now.wants k }
-        ensures within { IfSome result (λ _. k < STATIONS) }
-    {
-        match self.wants.get(k) {
-            Some(want) => *want,
             None => None,
         }
     }
@@ -252,7 +263,7 @@ impl Dialogue {
     pub(crate) fn request_place(&mut self, k: usize) -> Bytes
         ensures { requests_place k self.old ≡ (self.new, Event.Say result) }
     {
-        match self.want(k) {
+        match want_at(&self.wants, k) {
             Some(wanted) => self.request_line(Stage::Station(k), Request::Station(wanted.place)),
             None => self.request_line(Stage::Packets, Request::End),
         }
@@ -349,10 +360,7 @@ impl Dialogue {
             ≡ (self.new, Event.Record k number bytes.now)) }
         ensures unread { IfNone result (self.new ≡ self.old) }
     {
-        let k = match self.place_of(bytes) {
-            Some(k) => k,
-            None => return None,
-        };
+        let k = self.place_of(bytes)?;
         match self.next(k) {
             Some(want) if !self.is_taken(want, number) => None,
             _ => {
@@ -377,21 +385,7 @@ impl Dialogue {
         requires number { number < SPAN }
         ensures { self.new ≡ record self.old { wants = with_next self.old.wants k ((number + 1) % SPAN) } }
     {
-        self.want_next(k, (number + 1) % SPAN as u32);
-    }
-
-    /// Wants this number next of a station.
-    fn want_next(&mut self, k: usize, number: u32)
-        requires place { k < STATIONS }
-        requires number { number < SPAN }
-        ensures { self.new ≡ record self.old { wants = with_next self.old.wants k number } }
-    {
-        if let Some(wanted) = self.want(k) {
-            self.wants[k] = Some(Wanted {
-                place: wanted.place,
-                next: Some(number),
-            });
-        }
+        want_next(&mut self.wants, k, (number + 1) % SPAN as u32);
     }
 
     /// The index of the first station whose codes a record's header has.

@@ -6,7 +6,8 @@ ghost use Rattle.std.specs.Bool.{OnFalse, OnTrue};
 ghost use Rattle.slink_wire.specs.Place.{Bears};
 ghost use Rattle.slink_feed.specs.Fault.{IsFeedFault};
 ghost use Rattle.slink_feed.specs.Intake.{IsOfFeed, places_of, pushed};
-ghost use Rattle.slink_feed.specs.Rings.{IsOfNoPlace, HasPlace, IsPlaceOf, LacksPlace, station_at};
+ghost use Rattle.slink_feed.specs.Rings.{AreFilled, IsOfNoPlace, HasPlace, IsPlaceOf, LacksPlace, filled_of};
+ghost use Rattle.slink_feed.specs.Rings.{station_at};
 ghost use Rattle.slink_feed.specs.Session.{Fits, State};
 ghost use Rattle.slink_feed.specs.Window.{Shows, Window, with_record};
 
@@ -36,10 +37,6 @@ pub struct Feed<A: Allocator = Global> {
 }
 
 impl<A: Allocator> Model for Feed<A> {
-    ghost use Rattle.std.specs.Prelude.{List};
-    ghost use Rattle.slink_feed.specs.Rings.{AreFilled, filled_of};
-    ghost use Rattle.slink_feed.specs.Window.{Window};
-
     ghost Value = { List Window };
 
     ghost view = { λ f. filled_of f.rings.items };

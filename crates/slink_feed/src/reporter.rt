@@ -1,14 +1,14 @@
 //! What is reported on standard error of the records of a fetch, and of what it wants next.
-ghost use Rattle.std.specs.Prelude.{◌≡◌, ◌+◌, ◌++◌, ◌<◌, ◌≤◌, true, false, length, slice_get, unwrap_or};
+ghost use Rattle.std.specs.Prelude.{◌≡◌, ◌+◌, ◌<◌, ◌≤◌, true, false, length, slice_get, unwrap_or};
 ghost use Rattle.mseed_stream.specs.LineWritten.{WritesLine};
-ghost use Rattle.slink_feed.specs.Dialogue.{want_at, with_next};
-ghost use Rattle.slink_feed.specs.Reporter.{AreReported, first_line, first_lines, hole_line, hole_lines, if_other};
-ghost use Rattle.slink_feed.specs.Reporter.{lines_at, next_line, next_line_of, named_number, options_of, reporting_of};
-ghost use Rattle.slink_feed.specs.Reporter.{reporting_past, wants_left, word_of};
+ghost use Rattle.slink_feed.specs.Reporter.{AreReported, ReporterState, first_line, first_lines, hole_line, hole_lines};
+ghost use Rattle.slink_feed.specs.Reporter.{if_other, lines_at, named_number, next_line, next_line_of, options_of};
+ghost use Rattle.slink_feed.specs.Reporter.{reporting_of, reporting_past, wants_left, word_of};
 ghost use Rattle.slink_feed.specs.private.Lines.{Appends};
 
 use crate::client::Client;
-use crate::dialogue::Wanted;
+use crate::cutting::put;
+use crate::dialogue::{Wanted, want_at, want_next};
 use crate::feed::STATIONS;
 use crate::ring::SPAN;
 use arrayvec::ArrayVec;
@@ -21,15 +21,6 @@ const LINE: usize = 320;
 
 /// A line.
 type Line = ArrayVec<u8, LINE>;
-
-/// Appends bytes to a line.
-fn put(line: &mut Line, bytes: &[u8])
-    requires { length line.old.items + length bytes.now ≤ LINE }
-    ensures { line.new.items ≡ line.old.items ++ bytes.now }
-{
-    // There is room.
-    let _ = line.try_extend_from_slice(bytes);
-}
 
 /// The line of a station's first record.
 fn first_line(place: &Place, number: u32) -> Line
@@ -120,19 +111,6 @@ fn copied(wants: &[Option<Wanted>; STATIONS]) -> [Option<Wanted>; STATIONS]
     all
 }
 
-/// Wants this number next of the station at an index, if there is one.
-fn want_next(wants: &mut [Option<Wanted>; STATIONS], k: usize, number: u32)
-    ensures { wants.new ≡ with_next wants.old k number }
-{
-    if let Some(Some(wanted)) = wants.get(k) {
-        let place = wanted.place;
-        wants[k] = Some(Wanted {
-            place,
-            next: Some(number),
-        });
-    }
-}
-
 /// Reports a hole, where another number is wanted of a station than the one that came.
 fn report_if_other<E: Sink>(place: &Place, want: Option<u32>, got: u32, errors: &mut E)
     ensures { AreReported (if_other place.now want got) (E.written errors.old) (E.written errors.new) }
@@ -182,8 +160,6 @@ pub struct Reporter {
 }
 
 impl Model for Reporter {
-    ghost use Rattle.slink_feed.specs.Reporter.{ReporterState};
-
     ghost Value = { ReporterState };
 
     ghost view = { λ t. record {
@@ -206,24 +182,11 @@ impl Reporter {
         }
     }
 
-    /// The station at an index, with the number that it wants next.
-    fn want(&self, k: usize) -> Option<Wanted>
-        ensures { result ≡ want_at self.now.reporting.wants k }
-    {
-        match self.wants.get(k) {
-            Some(want) => *want,
-            None => None,
-        }
-    }
-
     /// Whether the next record of the station at an index is its first, of which is to be reported.
     fn is_first(&self, k: usize) -> bool
         ensures { result ≡ unwrap_or (slice_get self.now.reporting.firsts k) false }
     {
-        match self.firsts.get(k) {
-            Some(is_first) => *is_first,
-            None => false,
-        }
+        self.firsts.get(k).copied().unwrap_or(false)
     }
 
     /// Notes that a record of a station was reported, and which is wanted next.
@@ -244,7 +207,7 @@ impl Reporter {
         ensures lines { AreReported (lines_at self.old.reporting k number) (E.written errors.old)
             (E.written errors.new) }
     {
-        let want = self.want(k);
+        let want = want_at(&self.wants, k);
         report_hole(&want, number, errors);
         report_first(self.is_first(k), &want, number, errors);
         self.pass(k, number);

@@ -8,7 +8,7 @@ ghost use Rattle.slink_wire.specs.Packet.{packet_bytes};
 ghost use Rattle.slink_feed.specs.declared.grant.Grant.{Grant};
 ghost use Rattle.slink_feed.specs.Window.{Window};
 ghost use Rattle.slink_feed.specs.Running.{Stands};
-ghost use Rattle.slink_feed.specs.Serving.{Answers, TakesWhole};
+ghost use Rattle.slink_feed.specs.Serving.{Answers, SessionState, TakesWhole};
 ghost use Rattle.slink_feed.specs.Session.{Fits, IsAtNext, IsWaiting, has_sent_all, at, grant_at, sent, sent_bytes};
 ghost use Rattle.slink_feed.specs.Session.{sent_without};
 
@@ -94,9 +94,6 @@ pub struct Session {
 }
 
 impl Model for Session {
-    ghost use Rattle.slink_feed.specs.Running.{Stands};
-    ghost use Rattle.slink_feed.specs.Serving.{SessionState};
-
     ghost Value = { SessionState };
 
     ghost view = { λ s. record { state = s.course; held = s.lines } };

@@ -8,45 +8,54 @@ use Rattle.slink_feed.specs.Window.{Window}
 use Rattle.slink_feed.proofs.course.Course.answer.Goals as goal
 
 -- where a session is, a command is answered as there
-answered_at : (p q : Phase) (feed : List Window) (s : State) (command : Command) (x : State × Reply) → q ≡ s.phase
-    → q ≡ p → answered_in p feed s command ≡ x → answered feed s command ≡ x
-answered_at p q feed s command x here is answer =
-    ap (λ (r : Phase). answered_in r feed s command) (sym here ∙ is) ∙ answer
+answered_at : (p : Phase) (feed : List Window) (r s : State) (command : Command) (x : State × Reply) → r ≡ s
+    → r.phase ≡ p → answered_in p feed s command ≡ x → answered feed s command ≡ x
+answered_at p feed r s command x same is answer =
+    ap (λ (q : Phase). answered_in q feed s command) (sym (ap (λ (t : State). t.phase) same) ∙ is) ∙ answer
+
+-- the station that is chosen there is one of the feed
+chosen_at : (p : Phase) (feed : List Window) (r s : State) → r ≡ s → r.phase ≡ p → IsChosenOf feed s.phase
+    → IsChosenOf feed p
+chosen_at p feed r s same is chosen =
+    subst (IsChosenOf feed) (sym (ap (λ (t : State). t.phase) same) ∙ is) chosen
 
 pub returns-in-Fresh : goal.returns-in-Fresh
 returns-in-Fresh g c = record {
-  answered = answered_at Fresh c.phase.result c.args.feed.now c.args.self.now c.args.command _ c.phase.ensures
-      c.in-Fresh.is c.in_fresh.ensures.answered;
+  answered = answered_at Fresh c.args.feed.now _ c.args.self.now c.args.command _ c.self.view_is c.in-Fresh.is
+      c.in_fresh.ensures.answered;
 }
 
 pub returns-in-Chosen : goal.returns-in-Chosen
 returns-in-Chosen g c = record {
-  answered = answered_at (Chosen c.in-Chosen.k) c.phase.result c.args.feed.now c.args.self.now c.args.command _
-      c.phase.ensures c.in-Chosen.is c.in_chosen.ensures.answered;
+  answered = answered_at (Chosen c.in-Chosen.k) c.args.feed.now _ c.args.self.now c.args.command _ c.self.view_is
+      c.in-Chosen.is c.in_chosen.ensures.answered;
 }
 
 pub returns-in-Granted : goal.returns-in-Granted
 returns-in-Granted g c = record {
-  answered = answered_at (Granted c.in-Granted.k) c.phase.result c.args.feed.now c.args.self.now c.args.command _
-      c.phase.ensures c.in-Granted.is c.in_granted.ensures.answered;
+  answered = answered_at (Granted c.in-Granted.k) c.args.feed.now _ c.args.self.now c.args.command _ c.self.view_is
+      c.in-Granted.is c.in_granted.ensures.answered;
 }
 
 pub returns-in-Streaming : goal.returns-in-Streaming
 returns-in-Streaming g c = record {
-  answered = answered_at Streaming c.phase.result c.args.feed.now c.args.self.now c.args.command _ c.phase.ensures
+  answered = answered_at Streaming c.args.feed.now _ c.args.self.now c.args.command _ c.self.view_is
       c.in-Streaming.is c.in_streaming.ensures.answered;
 }
 
 pub returns-in-Closed : goal.returns-in-Closed
 returns-in-Closed g c = record {
-  answered = answered_at Closed c.phase.result c.args.feed.now c.args.self.now c.args.command _ c.phase.ensures
-      c.in-Closed.is refl;
+  answered = answered_at Closed c.args.feed.now _ c.args.self.now c.args.command _ c.self.view_is c.in-Closed.is refl;
 }
 
 pub in_chosen-requires : goal.in_chosen-requires
-in_chosen-requires g c =
-    (search rules, subst (IsChosenOf c.args.feed.now) (sym c.phase.ensures ∙ c.in-Chosen.is) c.requires.0)
+in_chosen-requires g c = (
+  search rules,
+  chosen_at (Chosen c.in-Chosen.k) c.args.feed.now _ c.args.self.now c.self.view_is c.in-Chosen.is c.requires.0,
+)
 
 pub in_granted-requires : goal.in_granted-requires
-in_granted-requires g c =
-    (search rules, subst (IsChosenOf c.args.feed.now) (sym c.phase.ensures ∙ c.in-Granted.is) c.requires.0)
+in_granted-requires g c = (
+  search rules,
+  chosen_at (Granted c.in-Granted.k) c.args.feed.now _ c.args.self.now c.self.view_is c.in-Granted.is c.requires.0,
+)
