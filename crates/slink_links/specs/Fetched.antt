@@ -8,7 +8,7 @@ use Rattle.slink_feed.specs.declared.dialogue.Ending.TheVariants as endings
 use Rattle.slink_feed.specs.declared.dialogue.Event.{Event}
 use Rattle.slink_feed.specs.declared.dialogue.Event.TheVariants as events
 use Rattle.slink_feed.specs.declared.dialogue.Stage.{Stage}
-use Rattle.slink_feed.specs.declared.dialogue.Stage.TheVariants.{Unlinked, Station, Number, Packets, Ended}
+use Rattle.slink_feed.specs.declared.dialogue.Stage.TheVariants.{Ended}
 use Rattle.slink_feed.specs.declared.turn.LinkFault.{LinkFault}
 use Rattle.slink_feed.specs.declared.turn.LinkFault.TheVariants as faults
 use Rattle.slink_feed.specs.declared.turn.Turn.{Turn}
@@ -35,17 +35,12 @@ HaveMoved holes old new records = holes ≡ false → (k n : ℕ) → n < 2 ^ 24
 abbrev pub IsBad : Ending → Type 0
 IsBad endings.End = ⊥
 IsBad (endings.Refused k) = ⊥
-IsBad (endings.Gap k want got) = Unit {0}
-IsBad endings.Garbage = Unit {0}
-IsBad endings.Foreign = Unit {0}
+IsBad ending = Unit {0}
 
 -- The client has come to no end of its link.
 abbrev pub IsUnended : Stage → Type 0
-IsUnended Unlinked = Unit {0}
-IsUnended (Station k) = Unit {0}
-IsUnended (Number k) = Unit {0}
-IsUnended Packets = Unit {0}
 IsUnended (Ended ending) = ⊥
+IsUnended stage = Unit {0}
 
 -- What stage the client reached by each end. Where the links failed it has come to no end of the last one, or had none.
 abbrev pub Reaches : FetchEnd → Listening → Listening → Type 0

@@ -1,5 +1,6 @@
 //! A stream that is read ahead.
-ghost use Rattle.std.specs.Prelude.{◌≡◌};
+ghost use Rattle.std.specs.Prelude.{◌≡◌, ◌≤◌};
+ghost use Rattle.slink_links.specs.declared.ahead.TheConstants.{ROOM};
 
 use std::io;
 use std::io::{Read, Write};
@@ -19,9 +20,6 @@ pub(crate) struct Ahead<S> {
 }
 
 impl<S> Model for Ahead<S> {
-    ghost use Rattle.std.specs.Prelude.{◌≤◌};
-    ghost use Rattle.slink_links.specs.declared.ahead.TheConstants.{ROOM};
-
     ghost Value = { S };
 
     ghost view = { λ a. a.stream };

@@ -1,5 +1,6 @@
 //! A stream whose packets are written many at once.
 ghost use Rattle.std.specs.Prelude.{◌≡◌, ◌≤◌, IfOk, length};
+ghost use Rattle.slink_links.specs.declared.gathering.TheConstants.{ROOM};
 
 use slink_wire::PACKET;
 use std::io;
@@ -19,9 +20,6 @@ pub(crate) struct Gathering<S> {
 }
 
 impl<S> Model for Gathering<S> {
-    ghost use Rattle.std.specs.Prelude.{◌≤◌};
-    ghost use Rattle.slink_links.specs.declared.gathering.TheConstants.{ROOM};
-
     ghost Value = { S };
 
     ghost view = { λ g. g.stream };

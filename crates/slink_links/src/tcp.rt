@@ -154,21 +154,15 @@ fn stream_to_first<N: Net + Clock>(
     let mut last = ErrorKind::NotFound.into();
     for address in addresses {
         if address.is_ipv4() {
-            match stream_to(host, *address, left_of(limit, start.elapsed(host)?)) {
+            let elapsed = start.elapsed(host)?;
+            let left = limit.map(|limit| limit.saturating_sub(elapsed));
+            match stream_to(host, *address, left) {
                 Ok(stream) => return Ok(stream),
                 Err(error) => last = error,
             }
         }
     }
     Err(last)
-}
-
-/// What is left of a time.
-fn left_of(limit: Option<Duration>, elapsed: Duration) -> Option<Duration> {
-    match limit {
-        Some(limit) => Some(limit.saturating_sub(elapsed)),
-        None => None,
-    }
 }
 
 /// A port that takes connections, with its calls counted.
