@@ -58,13 +58,10 @@ module _ (old new : List Window) (s : State) (done : has_sent_all new s.grants �
 
 alike_in : (p : Phase) (old new : List Window) (s : State) → length new ≡ length old
     → (p ≡ Phases.Streaming → AreAlike old new s.grants) → (k : ℕ) → sent_in p new s k ≡ sent_in p old s k
-alike_in Phases.Fresh old new s long alike k = refl
-alike_in (Phases.Chosen j) old new s long alike k = refl
-alike_in (Phases.Granted j) old new s long alike k = refl
 alike_in Phases.Streaming old new s long alike k =
     alike_of old new s (done_alike old new s.grants long (alike refl)) k (grant_at s.grants k) (slice_get old k)
     (slice_get new k) (alike refl k)
-alike_in Phases.Closed old new s long alike k = refl
+alike_in phase old new s long alike k = refl
 
 -- What a link's session gives is the same.
 module _ (old new : List Window) (s : State) (long : length new ≡ length old)

@@ -57,11 +57,8 @@ leaves_of feed s k (Some g) None j ne = stays j s
 leaves_of feed s k (Some g) (Some w) j ne = leaves_if (g.position == w.next) feed s k g w j ne
 
 leaves_in : (p : Phase) (feed : List Window) (s : State) (k j : ℕ) → j ≢ k → Leaves j s (sent_in p feed s k).0
-leaves_in Phases.Fresh feed s k j ne = stays j s
-leaves_in (Phases.Chosen x) feed s k j ne = stays j s
-leaves_in (Phases.Granted x) feed s k j ne = stays j s
 leaves_in Phases.Streaming feed s k j ne = leaves_of feed s k (grant_at s.grants k) (slice_get feed k) j ne
-leaves_in Phases.Closed feed s k j ne = stays j s
+leaves_in phase feed s k j ne = stays j s
 
 pub leaves : (feed : List Window) (s t : State) (k j : ℕ) (a : Sent) → j ≢ k → sent feed s k ≡ (t, a) → Leaves j s t
 leaves feed s t k j a ne e = subst (Leaves j s) (ap (λ (x : State × Sent). x.0) e) (leaves_in s.phase feed s k j ne)
@@ -198,12 +195,9 @@ asked_turns feed s ring way last turn all (one_called now t m k answer on a befo
 -- What a call for a station leaves of that station: where it has no grant, all.
 leaves_here : (feed : List Window) (s : State) (k : ℕ) (p : Phase) → grant_at s.grants k ≡ None
     → Leaves k s (sent_in p feed s k).0
-leaves_here feed s k Phases.Fresh none = stays k s
-leaves_here feed s k (Phases.Chosen x) none = stays k s
-leaves_here feed s k (Phases.Granted x) none = stays k s
 leaves_here feed s k Phases.Streaming none =
     subst (λ (o : Option Grant). Leaves k s (sent_of feed s k o (slice_get feed k)).0) (sym none) (stays k s)
-leaves_here feed s k Phases.Closed none = stays k s
+leaves_here feed s k phase none = stays k s
 
 -- A call grants no station,
 pub grants_no_more : (feed : List Window) (s t : State) (k j : ℕ) (a : Sent) → sent feed s k ≡ (t, a)

@@ -41,15 +41,12 @@ comes_to events.Input s log last (reads bytes going c) =
     (Input bytes ∷ [], c, λ ended. absurd (let bad : false ≡ true = sym going ∙ ended in cc bad))
 comes_to events.Input s log last (too_often going often c) = comes_closed s log last c
 comes_to events.Input s log last (stays ended same) = comes_closed s log last (closes_none log last same)
-comes_to events.InputEnded s log last c = comes_closed s log last c
-comes_to events.InputFailed s log last c = comes_closed s log last c
 comes_to events.Dialled s log last (takes k reads_on first c) = (Opened k ∷ [], c, λ e. refl)
 comes_to events.Dialled s log last (misses k reads_on first c) = (Missed k ∷ [], c, λ e. refl)
 comes_to events.Dialled s log last (is_full none c) = comes_closed s log last c
 comes_to (events.Readable k) s log last c = comes_read (get_or s.links k None) k s log last c
 comes_to (events.Writable k) s log last c = comes_written (get_or s.links k None) k s log last c
-comes_to (events.Gone k) s log last c = comes_closed s log last c
-comes_to events.Nothing s log last c = comes_closed s log last c
+comes_to event s log last c = comes_closed s log last c
 
 -- What holds between the turns of a server, from what there was at first on.
 pub record HasServed (s t : ServerState) (first log : List Happening) : Type 0 where

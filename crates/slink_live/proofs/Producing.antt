@@ -9,7 +9,7 @@ use Rattle.slink_wire.specs.declared.reply.Reply.TheVariants as Replies
 use Rattle.slink_wire.specs.Lines.{Held, IsHeld}
 use Rattle.slink_wire.specs.Reply.{reply_bytes}
 use Rattle.slink_feed.specs.declared.session.Phase.{Phase}
-use Rattle.slink_feed.specs.declared.session.Phase.TheVariants.{Fresh, Chosen, Granted, Streaming, Closed}
+use Rattle.slink_feed.specs.declared.session.Phase.TheVariants.{Fresh, Streaming, Closed}
 use Rattle.slink_feed.specs.declared.session.Sent.{Sent}
 use Rattle.slink_feed.specs.declared.session.Sent.TheVariants as Sents
 use Rattle.slink_feed.specs.Connection.{bytes_sent}
@@ -68,11 +68,9 @@ data Stage (p : Phase) : Type 0 where
   is_closed : p ≡ Closed → Stage p
 
 stage_of : (p : Phase) → Stage p
-stage_of Fresh = is_before (λ e. cc e) (λ e. cc e) (λ feed s k. refl) (λ feed s k. refl)
-stage_of (Chosen j) = is_before (λ e. cc e) (λ e. cc e) (λ feed s k. refl) (λ feed s k. refl)
-stage_of (Granted j) = is_before (λ e. cc e) (λ e. cc e) (λ feed s k. refl) (λ feed s k. refl)
 stage_of Streaming = is_streaming refl
 stage_of Closed = is_closed refl
+stage_of phase = is_before (λ e. cc e) (λ e. cc e) (λ feed s k. refl) (λ feed s k. refl)
 
 not_streaming : (p : Phase) → p ≡ Closed → p ≢ Streaming
 not_streaming p e on = let bad : Closed ≡ Streaming = sym e ∙ on in cc bad

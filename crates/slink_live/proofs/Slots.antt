@@ -7,8 +7,8 @@ use Rattle.std.specs.List.{AllByRecursion}
 use Rattle.slink_feed.specs.Session.{Fits}
 use Rattle.slink_feed.specs.Window.{Window}
 use Rattle.slink_feed.specs.Intake.{places_of}
-use Rattle.slink_live.specs.Happening.{Happening, Input, Opened, Received, Emitted, Gone, Next, Missed, Wants}
-use Rattle.slink_live.specs.Happening.{WantsLinks, Left, input_of, is_at, piece_of}
+use Rattle.slink_live.specs.Happening.{Happening, Input, Opened, Received, Emitted, Gone, Next, Missed}
+use Rattle.slink_live.specs.Happening.{input_of, is_at, piece_of}
 use Rattle.slink_live.specs.Input.{IsFed, IsInput}
 use Rattle.slink_live.specs.Served.{IsServing, IsSound, IsHistory, LinkState, ServerState, link_state}
 use Rattle.slink_live.specs.History.{IsNew, elsewhere}
@@ -31,15 +31,9 @@ input_quiet log h e = input_append log (h ∷ [])
 
 gone_quiet : (h : Happening) → IsReport h → piece_of h ≡ []
 gone_quiet (Input bytes) g = absurd g
-gone_quiet (Opened k) g = refl
-gone_quiet (Received k bytes) g = refl
-gone_quiet (Emitted k bytes) g = refl
-gone_quiet (Gone k) g = refl
 gone_quiet (Next event) g = absurd g
 gone_quiet (Missed k) g = absurd g
-gone_quiet (Wants k interest) g = refl
-gone_quiet (WantsLinks wanted) g = refl
-gone_quiet Left g = refl
+gone_quiet h g = refl
 
 all_quiet : (gone : List Happening) → AllByRecursion IsReport gone → input_of gone ≡ []
 all_quiet [] g = refl

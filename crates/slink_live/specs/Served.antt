@@ -51,9 +51,8 @@ pub record IsSound (s : ServerState) : Type 0 where
 -- and the link didn't accept yet.
 abbrev pub Matches : Option LinkState → Option History → Type 0
 Matches None None = Unit {0}
-Matches None (Some t) = ⊥
-Matches (Some l) None = ⊥
 Matches (Some l) (Some t) = (t.session ≡ l.session) × (t.ring ≡ l.ring) × (t.produced ≡ t.emitted ++ l.pending)
+Matches o reported = ⊥
 
 -- what happened in a slot comes to a history that its link matches
 pub record IsHistory (start : List Window) (k : ℕ) (o : Option LinkState) (log : List Happening) : Type 0 where

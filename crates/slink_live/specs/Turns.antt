@@ -12,16 +12,11 @@ use Rattle.slink_live.specs.Served.{IsServing, LinkState, ServerState}
 
 -- A link was closed, or something was reported to the device.
 abbrev pub IsReport : Happening → Type 0
-IsReport (Input bytes) = ⊥
-IsReport (Opened k) = ⊥
-IsReport (Received k bytes) = ⊥
-IsReport (Emitted k bytes) = ⊥
 IsReport (Gone k) = Unit {0}
-IsReport (Next event) = ⊥
-IsReport (Missed k) = ⊥
 IsReport (Wants k interest) = Unit {0}
 IsReport (WantsLinks wanted) = Unit {0}
 IsReport Left = Unit {0}
+IsReport h = ⊥
 
 -- Links were closed and things were reported to the device, and nothing else happened.
 pub record Closes (log last : List Happening) : Type 0 where
@@ -58,13 +53,10 @@ pub data Opens (s : ServerState) (log last : List Happening) : Type 0 where
 -- which call of the device an event comes to
 abbrev pub IsCalled : Event → ServerState → List Happening → List Happening → Type 0
 IsCalled events.Input s log last = ReadsInput s log last
-IsCalled events.InputEnded s log last = Closes log last
-IsCalled events.InputFailed s log last = Closes log last
 IsCalled events.Dialled s log last = Opens s log last
 IsCalled (events.Readable k) s log last = ReadsFrom (get_or s.links k None) k log last
 IsCalled (events.Writable k) s log last = WritesTo (get_or s.links k None) k log last
-IsCalled (events.Gone k) s log last = Closes log last
-IsCalled events.Nothing s log last = Closes log last
+IsCalled event s log last = Closes log last
 
 -- From what had happened on, the device was asked again and again what can be done next. Each time no link slept, and
 -- what it said came to its call; at last, it may be, the input was given up.

@@ -5,7 +5,7 @@ ghost use Rattle.mseed_record.specs.Record.{IsRecord};
 ghost use Rattle.mseed_record.specs.Scan.{Decides};
 ghost use Rattle.mseed_stream.specs.declared.fault.StreamFault.{StreamFault};
 ghost use Rattle.slink_feed.specs.Intake.{places_of};
-ghost use Rattle.slink_live.specs.Served.{IsBelow};
+ghost use Rattle.slink_live.specs.Served.{IntakeState, IsBelow};
 ghost use Rattle.slink_live.specs.private.Cutting.{Cuts, CutsOff, IsRefused, LooksOn};
 ghost use Rattle.slink_live.specs.private.Granting.{StaysBeside, StaysBut};
 
@@ -28,8 +28,6 @@ pub(crate) struct Intake {
 }
 
 impl Model for Intake {
-    ghost use Rattle.slink_live.specs.Served.{IntakeState};
-
     ghost Value = { IntakeState };
 
     ghost view = { λ i. record { feed = i.feed; kept = i.kept.items; records = i.records } };
@@ -107,10 +105,8 @@ impl Intake {
         ensures kept { self.new ≡ record self.old { kept = self.old.kept ++ bytes.now } }
         ensures few { length self.new.kept ≤ RECORD }
     {
-        match self.kept.try_extend_from_slice(bytes) {
-            Ok(()) => {}
-            Err(_) => unreachable!(),
-        }
+        // There is room.
+        let _ = self.kept.try_extend_from_slice(bytes);
     }
 
     /// Looks whether the bytes that are kept are a record, and gives it to its ring. Returns these stations, and with

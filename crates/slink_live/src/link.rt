@@ -9,6 +9,7 @@ ghost use Rattle.slink_feed.specs.Session.{Fits, IsAtNext, IsWaiting, has_sent_a
 ghost use Rattle.slink_feed.specs.Window.{Window};
 ghost use Rattle.slink_live.specs.Awake.{HasLeft, HasRoom, IsClosable, IsFilled, IsLost, MustClose};
 ghost use Rattle.slink_live.specs.History.{Asks, IsEarlier, IsNew};
+ghost use Rattle.slink_live.specs.Served.{LinkState, link_state};
 ghost use Rattle.slink_live.specs.private.Calling.{Gives, IsRested};
 ghost use Rattle.slink_live.specs.private.Granting.{AreDue, Covers, Has};
 
@@ -49,8 +50,6 @@ pub(crate) struct Link {
 }
 
 impl Model for Link {
-    ghost use Rattle.slink_live.specs.Served.{LinkState, link_state};
-
     ghost Value = { LinkState };
 
     ghost view = { λ l. link_state l.session l.ring l.pending.bytes };

@@ -1,13 +1,13 @@
 //! The links of a server, each in a slot.
-ghost use Rattle.std.specs.Prelude.{◌≡◌, ◌+◌, ◌<◌, ◌≤◌, List, None, Some, IfOk, IfSome, get_or, length, set};
+ghost use Rattle.std.specs.Prelude.{◌≡◌, ◌+◌, ◌<◌, ◌≤◌, List, None, Option, Some, IfOk, IfSome, get_or, length, set};
 ghost use Rattle.std.specs.Bool.{OnFalse, OnTrue};
 ghost use Rattle.std.specs.Option.{is_some};
 ghost use Rattle.slink_feed.specs.Session.{Fits};
 ghost use Rattle.slink_feed.specs.Window.{Window};
-ghost use Rattle.slink_live.specs.Served.{AllFit, AreEmpty};
+ghost use Rattle.slink_live.specs.Served.{AllFit, AreEmpty, LinkState};
 ghost use Rattle.slink_live.specs.History.{IsNew};
 ghost use Rattle.slink_live.specs.private.Calling.{HasFilled, HasReceived, HasTaken, IfRested, IsOutcome};
-ghost use Rattle.slink_live.specs.private.Granting.{Changes, CoversIn, LeavesOut};
+ghost use Rattle.slink_live.specs.private.Granting.{AreCovered, Changes, CoversIn, LeavesOut};
 
 use crate::link::{Link, PIECE, Update};
 use crate::pending::ROOM;
@@ -27,10 +27,6 @@ pub(crate) struct Links {
 }
 
 impl Model for Links {
-    ghost use Rattle.std.specs.Prelude.{List, Option};
-    ghost use Rattle.slink_live.specs.Served.{LinkState};
-    ghost use Rattle.slink_live.specs.private.Granting.{AreCovered};
-
     ghost Value = { List (Option LinkState) };
 
     ghost view = { λ s. s.slots.items };

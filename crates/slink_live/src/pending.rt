@@ -1,7 +1,9 @@
 //! Bytes that wait to be written to a link.
-ghost use Rattle.std.specs.Prelude.{◌≡◌, ◌≢◌, ◌+◌, ◌^◌, ◌<◌, ◌≤◌, [], ◌++◌, drop, length, take};
+ghost use Rattle.std.specs.Prelude.{◌≡◌, ◌≢◌, ◌+◌, ◌-◌, ◌^◌, ◌<◌, ◌≤◌, [], ◌++◌, drop, length, take};
 ghost use Rattle.std.specs.Bool.{OnFalse, OnTrue};
 ghost use Rattle.slink_wire.specs.Packet.{packet_bytes};
+ghost use Rattle.slink_live.specs.declared.pending.TheConstants.{ROOM};
+ghost use Rattle.slink_live.specs.private.Waiting.{Waiting};
 
 use slink_wire::{PACKET, Packet};
 use std::marker::Model;
@@ -21,10 +23,6 @@ pub(crate) struct Pending {
 }
 
 impl Model for Pending {
-    ghost use Rattle.std.specs.Prelude.{◌≤◌, ◌-◌, drop, take};
-    ghost use Rattle.slink_live.specs.declared.pending.TheConstants.{ROOM};
-    ghost use Rattle.slink_live.specs.private.Waiting.{Waiting};
-
     ghost Value = { Waiting };
 
     ghost view = { λ p. record { bytes = drop p.begin (take p.end p.bytes); room = ROOM - p.end } };

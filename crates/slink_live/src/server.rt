@@ -1,16 +1,14 @@
 //! A server's state, and what each event does to it.
-ghost use Rattle.std.specs.Prelude.{◌≡◌, ◌+◌, ◌*◌, ◌^◌, ◌<◌, ◌≤◌, [], ◌∷◌, ◌++◌, List, Err, None, IfErr, IfNone};
+ghost use Rattle.std.specs.Prelude.{◌≡◌, ◌+◌, ◌^◌, ◌<◌, ◌≤◌, [], ◌∷◌, ◌++◌, List, Err, None, IfErr, IfNone};
 ghost use Rattle.std.specs.Prelude.{IfSome, IfOk, OnOk, ◌⊎◌, ◌&&◌, not, get_or, length, set, true, false};
 ghost use Rattle.std.specs.Bool.{OnTrue};
 ghost use Rattle.std.specs.List.{AllByRecursion};
-ghost use Rattle.slink_feed.specs.Session.{Fits};
 ghost use Rattle.slink_feed.specs.Window.{Window};
 ghost use Rattle.slink_feed.specs.Intake.{places_of};
 ghost use Rattle.slink_live.specs.Awake.{Goes, IsAwake, IsClosedRightly, IsFirstFree, has_free};
 ghost use Rattle.slink_live.specs.Happening.{Happening, Gone, Next, WantsLinks, input_of};
 ghost use Rattle.slink_live.specs.Input.{IsInputFault};
-ghost use Rattle.slink_live.specs.Served.{AreEmpty, GoesOn, IsBelow, IsFinished, IsServing, IsSound, ServerState};
-ghost use Rattle.slink_live.specs.Served.{StaysUnread};
+ghost use Rattle.slink_live.specs.Served.{AreEmpty, GoesOn, IsFinished, IsServing, IsSound, ServerState, StaysUnread};
 ghost use Rattle.slink_live.specs.private.Calling.{IfRested};
 ghost use Rattle.slink_live.specs.Turns.{Closes, HasSteps, IsCalled, Opens, ReadsFrom, ReadsInput, WritesTo};
 ghost use Rattle.slink_live.specs.private.Keeping.{AnswersFault, EndsInput, KeepsServing, Updates, KeepsAwake};
@@ -42,8 +40,6 @@ pub struct Server {
 }
 
 impl Model for Server {
-    ghost use Rattle.slink_live.specs.Served.{ServerState};
-
     ghost Value = { ServerState };
 
     ghost view = { λ s. record {

@@ -56,8 +56,6 @@ HasFilled feed (Some l) new = (now : LinkState) × (new ≡ Some now)
 -- What comes of it: no link stands there; it stands, and this is wanted of it; or it is to be closed.
 abbrev pub IsOutcome : List Window → Bool → Option LinkState → Update → Type 0
 IsOutcome feed has_ended None Empty = Unit {0}
-IsOutcome feed has_ended None (Wants interest) = ⊥
-IsOutcome feed has_ended None Closes = ⊥
-IsOutcome feed has_ended (Some l) Empty = ⊥
 IsOutcome feed has_ended (Some l) (Wants interest) = IsUpToDate feed has_ended l interest
 IsOutcome feed has_ended (Some l) Closes = IsClosable feed has_ended l
+IsOutcome feed has_ended o update = ⊥
