@@ -99,12 +99,7 @@ impl Draining {
     fn free(&self) -> Option<usize>
         ensures { IfSome result (λ index. index < length self.now.streams.items) }
     {
-        for index in 0..self.streams.len() {
-            if self.streams[index].is_none() {
-                return Some(index);
-            }
-        }
-        None
+        self.streams.iter().position(|stream| stream.is_none())
     }
 
     /// An event says that the stream with a token may have bytes, or be at its end.

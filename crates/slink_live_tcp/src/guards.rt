@@ -36,11 +36,8 @@ impl Guards {
 
     /// Whether the stream at a descriptor is closed.
     pub(crate) fn is_closed(&self, descriptor: RawFd) -> bool {
-        for index in 0..self.taken.len() {
-            if self.taken[index].as_raw_fd() == descriptor {
-                return true;
-            }
-        }
-        false
+        self.taken
+            .iter()
+            .any(|guard| guard.as_raw_fd() == descriptor)
     }
 }

@@ -60,11 +60,7 @@ impl<I: Read + AsRawFd + Drop> Input<I> {
         ensures { IfSome result (λ event. event ≡ Event.Nothing → ⊥) }
     {
         match self.stage {
-            Stage::Open => if self.may_read {
-                Some(Event::Input)
-            } else {
-                None
-            },
+            Stage::Open => self.may_read.then_some(Event::Input),
             Stage::Ended => {
                 self.stage = Stage::Left;
                 Some(Event::InputEnded)

@@ -184,18 +184,14 @@ impl Slot {
 
     /// The stream of the link, which stands here no more.
     pub(crate) fn leave(&mut self) -> Option<TcpStream> {
-        match self.connection.take() {
-            Some(connection) => Some(connection.stream),
-            None => None,
-        }
+        self.connection.take().map(|connection| connection.stream)
     }
 
     /// What the server wants, and whether that is something else than before.
     pub(crate) fn wants(&mut self, interest: Interest) -> bool {
-        match &mut self.connection {
-            Some(connection) => connection.wants(interest),
-            None => false,
-        }
+        self.connection
+            .as_mut()
+            .is_some_and(|connection| connection.wants(interest))
     }
 
     /// Notes what an event reports of the link.
@@ -208,18 +204,16 @@ impl Slot {
 
     /// Whether it has only so much time.
     pub(crate) fn is_timed(&self) -> bool {
-        match &self.connection {
-            Some(connection) => connection.is_timed(),
-            None => false,
-        }
+        self.connection
+            .as_ref()
+            .is_some_and(|connection| connection.is_timed())
     }
 
     /// Takes note of the time, and answers whether the link has waited for too long.
     pub(crate) fn look_at(&mut self, now: Instant, limit: Duration) -> bool {
-        match &mut self.connection {
-            Some(connection) => connection.look_at(now, limit),
-            None => false,
-        }
+        self.connection
+            .as_mut()
+            .is_some_and(|connection| connection.look_at(now, limit))
     }
 
     /// What can be done.
@@ -235,12 +229,8 @@ impl Slot {
         ensures { result ≤ length buf.new }
     {
         match &mut self.connection {
-            Some(connection) => if buf.is_empty() {
-                0
-            } else {
-                connection.read(buf)
-            },
-            None => 0,
+            Some(connection) if !buf.is_empty() => connection.read(buf),
+            _ => 0,
         }
     }
 
@@ -249,12 +239,8 @@ impl Slot {
         ensures { result ≤ length bytes.now }
     {
         match &mut self.connection {
-            Some(connection) => if bytes.is_empty() {
-                0
-            } else {
-                connection.write(bytes)
-            },
-            None => 0,
+            Some(connection) if !bytes.is_empty() => connection.write(bytes),
+            _ => 0,
         }
     }
 }

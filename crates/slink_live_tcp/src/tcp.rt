@@ -1,5 +1,5 @@
 //! An input, a listener and its links, by one wait for all of them.
-ghost use Rattle.std.specs.Prelude.{◌≡◌, ◌≤◌, [], IfOk, IfSome, length, true};
+ghost use Rattle.std.specs.Prelude.{◌≡◌, [], IfOk, IfSome, true};
 ghost use Rattle.slink_live_tcp.specs.Happened.{happened, has_failed};
 
 use crate::acceptor::Acceptor;
@@ -213,11 +213,7 @@ impl<C: Clock, I: Read + AsRawFd + Drop> Tcp<'_, C, I> {
             return self.input.readiness();
         }
         if token == LISTENER {
-            return if self.acceptor.is_dialled() {
-                Some(Event::Dialled)
-            } else {
-                None
-            };
+            return self.acceptor.is_dialled().then_some(Event::Dialled);
         }
         let slot = token - FIRST;
         match self.slots.get(slot)?.readiness() {
@@ -362,8 +358,6 @@ impl<C: Clock, I: Read + AsRawFd + Drop> Tcp<'_, C, I> {
 }
 
 impl<C: Clock, I: Read + AsRawFd + Drop> Ready for Tcp<'_, C, I> {
-    ghost use Rattle.slink_live_tcp.specs.Happened.{happened, has_failed};
-
     ghost log = { happened };
 
     ghost has_failed = { has_failed };
