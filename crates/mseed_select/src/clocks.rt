@@ -29,12 +29,12 @@ pub(crate) fn clock_of(text: &[u8]) -> Option<Clock>
     let (hour, rest) = first_part(text, b':');
     let hour = number_in(hour, 2, 0, 23)? as u8;
     let Some(rest) = rest else {
-        return Some(at(hour, 0));
+        return Some(clock_at(hour, 0));
     };
     match parts_of(rest, b':') {
         Parts::One(minute) => {
             let minute = number_in(minute, 2, 0, 59)? as u8;
-            Some(at(hour, minute))
+            Some(clock_at(hour, minute))
         }
         Parts::Two(minute, second) => clock_by_seconds(hour, minute, second),
         Parts::Three(..) | Parts::More => None,
@@ -42,7 +42,7 @@ pub(crate) fn clock_of(text: &[u8]) -> Option<Clock>
 }
 
 /// Returns the first microsecond of a minute.
-fn at(hour: u8, minute: u8) -> Clock
+pub(crate) fn clock_at(hour: u8, minute: u8) -> Clock
     ensures { result ≡ record { hour = hour; minute = minute; second = 0; micros = 0 } }
 {
     Clock {

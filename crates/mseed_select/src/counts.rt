@@ -1,5 +1,6 @@
 //! The counts of a selection.
 ghost use Rattle.std.specs.Prelude.{◌≡◌, ◌+◌, ◌<◌, ◌^◌, ◌≤◌};
+ghost use Rattle.mseed_select.specs.Counting.{one_if};
 ghost use Rattle.mseed_select.specs.Selection.{is_asked, is_without_time};
 
 use crate::answer::Answer;
@@ -18,8 +19,6 @@ pub struct Counts {
 }
 
 impl Counts {
-    ghost use Rattle.mseed_select.specs.Counting.{one_if};
-
     /// Returns the counts of no record.
     pub fn none() -> Counts
         ensures { result ≡ record { records = 0; asked_for = 0; without_time = 0 } }

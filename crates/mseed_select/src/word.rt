@@ -1,10 +1,10 @@
 //! Times, read from text.
 ghost use Rattle.std.specs.Prelude.{◌≡◌};
 ghost use Rattle.std.specs.Result.{result_ok};
-ghost use Rattle.mseed_select.specs.Word.{instant_at, midnight, time_of, without_zone};
+ghost use Rattle.mseed_select.specs.Word.{instant_at, time_of, without_zone};
 ghost use Rattle.mseed_select.specs.private.Ranges.{IsClock, IsDate};
 
-use crate::clocks::{Clock, clock_of};
+use crate::clocks::{Clock, clock_at, clock_of};
 use crate::dates::{Date, date_of};
 use crate::fault::BadTime;
 use crate::parts::{Parts, parts_of};
@@ -30,7 +30,7 @@ fn time_of(word: &[u8]) -> Option<Micros>
     match parts_of(without_zone(word), b'T') {
         Parts::One(date) => {
             let date = date_of(date)?;
-            Some(instant_at(date, midnight()))
+            Some(instant_at(date, clock_at(0, 0)))
         }
         Parts::Two(date, clock) => {
             let date = date_of(date)?;
@@ -48,18 +48,6 @@ fn without_zone(word: &[u8]) -> &[u8]
     match word {
         [front @ .., b'Z'] => front,
         _ => word,
-    }
-}
-
-/// Returns the first microsecond of a day.
-fn midnight() -> Clock
-    ensures { result ≡ midnight }
-{
-    Clock {
-        hour: 0,
-        minute: 0,
-        second: 0,
-        micros: 0,
     }
 }
 

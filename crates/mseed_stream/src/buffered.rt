@@ -1,5 +1,6 @@
 //! A buffered reader as a source that lends what it holds.
 ghost use Rattle.std.specs.Prelude.{◌≡◌};
+ghost use Rattle.mseed_stream.specs.Buffered.{left_of, lent_by, read_through, reader_of};
 ghost use Rattle.mseed_stream.specs.Device.{nothing_read};
 
 use crate::counted::Counted;
@@ -15,8 +16,6 @@ pub struct Buffered<T, A: Allocator = Global> {
 }
 
 impl<T: Read, A: Allocator> Buffered<T, A> {
-    ghost use Rattle.mseed_stream.specs.Buffered.{read_through, reader_of};
-
     /// Returns the reader as a source, of which nothing was read yet: what stands in its buffer is lent first.
     pub fn new(reader: BufReader<T, A>) -> Buffered<T, A>
         ensures read { read_through result ≡ nothing_read }
@@ -29,8 +28,6 @@ impl<T: Read, A: Allocator> Buffered<T, A> {
 }
 
 impl<T: Read, A: Allocator> Source for Buffered<T, A> {
-    ghost use Rattle.mseed_stream.specs.Buffered.{read_through, left_of, lent_by};
-
     ghost read = { read_through };
 
     ghost remaining = { left_of T.remaining };

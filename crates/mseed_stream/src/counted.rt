@@ -1,5 +1,6 @@
 //! A reader or writer of `std::io` as a source or sink.
 ghost use Rattle.std.specs.Prelude.{◌≡◌, refl};
+ghost use Rattle.mseed_stream.specs.Counted.{contents_of, inner_of, read_by, remaining_of, written_by};
 ghost use Rattle.mseed_stream.specs.Device.{nothing_read, nothing_written};
 
 use crate::device::{Duplex, Failed, Sink, Source};
@@ -20,8 +21,6 @@ pub struct Counted<T> {
 }
 
 impl<T> Counted<T> {
-    ghost use Rattle.mseed_stream.specs.Counted.{read_by, written_by, inner_of};
-
     /// Returns the reader or writer as a source or sink, of which nothing was called yet.
     pub fn new(inner: T) -> Counted<T>
         ensures read { read_by result ≡ nothing_read }
@@ -52,8 +51,6 @@ impl<T> Counted<T> {
 }
 
 impl<T: Read> Source for Counted<T> {
-    ghost use Rattle.mseed_stream.specs.Counted.{read_by, written_by, remaining_of};
-
     ghost read = { read_by };
 
     ghost remaining = { remaining_of T.remaining };
@@ -88,8 +85,6 @@ impl<T: Read> Source for Counted<T> {
 }
 
 impl<T: Write> Sink for Counted<T> {
-    ghost use Rattle.mseed_stream.specs.Counted.{read_by, written_by, contents_of};
-
     ghost written = { written_by };
 
     ghost contents = { contents_of T.contents };

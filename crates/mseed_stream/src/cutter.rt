@@ -1,5 +1,5 @@
 //! Cutting what is read of a source into records.
-ghost use Rattle.std.specs.Prelude.{◌≡◌, ◌≢◌, ◌↔◌, ◌+◌, ◌*◌, ◌^◌, ◌<◌, ◌≤◌, length, take, drop, true, false, IfOk};
+ghost use Rattle.std.specs.Prelude.{◌≡◌, ◌↔◌, ◌+◌, ◌*◌, ◌^◌, ◌<◌, ◌≤◌, length, take, drop, true, false, IfOk};
 ghost use Rattle.std.specs.Prelude.{IfErr, OnErr, OnOk, IsTrue, Ok, slice_range, [], ℕ, IfNone, IfSome, Some, None};
 ghost use Rattle.std.specs.Prelude.{Err, ⊤, List, ◌∷◌, ◌++◌};
 ghost use Rattle.std.specs.Io.KnownBytes.{IsAtEnd, Consumes, ReadConsumes};
@@ -10,13 +10,13 @@ ghost use Rattle.mseed_record.specs.Viewing.{view_of};
 ghost use Rattle.mseed_record.specs.declared.framer.Scan.TheVariants.{Need, Record};
 ghost use Rattle.mseed_stream.specs.Device.{read_also, nothing_read};
 ghost use Rattle.mseed_stream.specs.Archive.{HasRecords};
-ghost use Rattle.mseed_stream.specs.Cutting.{IsRead, IsAlong, IsStop, GivesMore, IsNextAnswer, asks_of, count_of};
+ghost use Rattle.mseed_stream.specs.Cutting.{IsRead, IsAlong, GivesMore, IsNextAnswer, asks_of, count_of};
 ghost use Rattle.mseed_stream.specs.Cutting.{held_of, read_from, moves_by, answer_of, kept_of, IfEnds, IsAhead};
 ghost use Rattle.mseed_stream.specs.Cutting.{lent_whole};
 ghost use Rattle.mseed_stream.specs.Walk.{HasHandedOut, AreAllViews, IfGoesOn, end_of};
 ghost use Rattle.mseed_stream.specs.private.Steps.{IsFillFault, IsAnswerAtEnd, IsCut, MayCut, lent_of, after_found};
 
-use crate::device::{Failed, READS, Sink, Source};
+use crate::device::{Failed, READS, Source};
 use crate::fault::StreamFault;
 use mseed_record::{Framer, HEADER, LONGEST_RECORD, RecordView, Scan};
 use std::alloc::{Allocator, Global};

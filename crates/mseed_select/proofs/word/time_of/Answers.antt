@@ -8,5 +8,5 @@ pub returns-in_ok-date-in-One : goal.returns-in_ok-date-in-One
 returns-in_ok-date-in-One c =
     let alone = rw c.without_zone.ensures at c.in-One.ensures in
     date_alone (slice_split (λ (x : ℕ). eqb x 84) (without_zone c.args.word.now)) c.in-One.date.now
-    c.in_ok-date-in-One.date c.midnight.result c.instant_at.result alone c.in_ok-date-in-One.ensures.value
-    c.midnight.ensures c.instant_at.ensures
+    c.in_ok-date-in-One.date c.clock_at.result c.instant_at.result alone c.in_ok-date-in-One.ensures.value
+    c.clock_at.ensures c.instant_at.ensures
