@@ -143,12 +143,14 @@ each_written s found views reported first old new text whole f are before bytes 
     let tail : List ℕ = text_in (asked s) f.audited in (
       reported_also s found views reported text whole f are,
       (
-        record {
-          summary = f.summary;
-          text = all_behind first old new text (reported_lines reported) tail before
-              (bytes ∙ ap (λ (xs : List ℕ). old.bytes ++ xs) f.text_is);
-          fine = fine ∙ same;
-        },
+        (
+          f.summary,
+          record {
+            bytes = all_behind first old new text (reported_lines reported) tail before
+                (bytes ∙ ap (λ (xs : List ℕ). old.bytes ++ xs) f.text_is);
+            fine = fine ∙ same;
+          },
+        ),
         timed s found views text whole f,
       ),
     )

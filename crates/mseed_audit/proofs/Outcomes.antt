@@ -68,11 +68,13 @@ pub written : (s : Selection) {h : BytesRead} (found : SelectedSummary) (views :
 written s found views start text old new f empty wrote fine = (
   f.audited,
   (
-    record {
-      summary = f.summary;
-      text = wrote ∙ ap (λ (xs : List ℕ). old.bytes ++ xs) (all_text s found views start text f empty);
-      fine = fine;
-    },
+    (
+      f.summary,
+      record {
+        bytes = wrote ∙ ap (λ (xs : List ℕ). old.bytes ++ xs) (all_text s found views start text f empty);
+        fine = fine;
+      },
+    ),
     timed s found views start text f,
   ),
 )

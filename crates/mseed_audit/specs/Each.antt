@@ -10,7 +10,7 @@ use Rattle.mseed_audit.specs.declared.each.EachFault.{EachFault}
 use Rattle.mseed_audit.specs.declared.each.EachFault.TheVariants.{Write, Memory}
 use Rattle.mseed_audit.specs.Audit.{Held}
 use Rattle.mseed_audit.specs.Scope.{Scope, whole}
-use Rattle.mseed_audit.specs.Summary.{AuditedIn, IsGatheredIn, IsSummaryIn, text_in, text_of}
+use Rattle.mseed_audit.specs.Summary.{AuditedIn, IsGatheredIn, IsSummaryIn, IsWritten, text_in, text_of}
 use Rattle.mseed_audit.specs.Text.{reported_lines}
 use Rattle.mseed_audit.specs.Reported.{Reported, AreReported}
 
@@ -30,13 +30,6 @@ each_text_in scope a = reported_lines a.reported ++ text_in scope a.audited
 abbrev pub each_text : {h : BytesRead} → AuditedEach h → List ℕ
 each_text a = reported_lines a.reported ++ text_of a.audited
 
--- the whole text was written
-pub record IsEachWrittenIn (scope : Scope) {h : BytesRead} (s : Summary) (a : AuditedEachIn scope h)
-    (old new : BytesWritten) : Type 0 where
-  pub summary : IsSummaryIn scope s a.audited
-  pub text : new.bytes ≡ old.bytes ++ each_text_in scope a
-  pub fine : new.failures ≡ old.failures
-
 -- what was written is so of the lines of the first records
 pub record EndsInLinesIn (scope : Scope) (Emitted : List ℕ → Type 0) (h : BytesRead) : Type 0 where
   pub offset : ℕ
@@ -54,7 +47,7 @@ EndsShortIn scope Emitted h =
 -- By the outcome. An output that failed isn't called again.
 abbrev pub IsEachOutcomeIn : Scope → Result Summary EachFault → BytesRead → BytesWritten → BytesWritten → Type 0
 IsEachOutcomeIn scope (Ok summary) h old new =
-    (a : AuditedEachIn scope h) × IsEachWrittenIn scope summary a old new
+    (a : AuditedEachIn scope h) × (IsSummaryIn scope summary a.audited × IsWritten (each_text_in scope a) old new)
 IsEachOutcomeIn scope (Err Write) h old new =
     (new.failures ≡ old.failures + 1) × EndsShortIn scope (EmittedPart old new) h
 IsEachOutcomeIn scope (Err Memory) h old new =

@@ -3,28 +3,20 @@ use Rattle.std.specs.Prelude.{◌≡◌, ◌*◌, ◌==◌, if◌then◌else◌,
 use Rattle.mseed_time.specs.declared.fault.TimeFault.{TimeFault}
 use Rattle.mseed_time.specs.declared.outcome.Join.{Join}
 use Rattle.mseed_time.specs.declared.outcome.Join.TheVariants.{Meets, Late, Early}
-use Rattle.mseed_time.specs.Btime.{first_fault}
 use Rattle.mseed_time.specs.Join.{join_of}
-use Rattle.mseed_time.specs.Rate.{Ratio, rate_of}
+use Rattle.mseed_time.specs.Rate.{Ratio}
 use Rattle.mseed_record.specs.declared.leap.Leap.{Leap}
 use Rattle.mseed_record.specs.declared.leap.Leap.TheVariants.{None as NoLeap, Positive, Negative, Both}
-use Rattle.mseed_record.specs.Header.{time_at, factor_at, multiplier_at}
 use Rattle.mseed_record.specs.View.{View, start_of, leap_of}
 pub use Rattle.mseed_record.specs.View.{step_in}
+pub use Rattle.mseed_select.specs.Selection.{rate_in, start_fault as time_fault_of}
 use Rattle.mseed_steim.specs.declared.fault.ReadFault.{ReadFault}
 use Rattle.mseed_steim.specs.Reading.{count_of, IsFault, IsWhole}
 use Rattle.mseed_audit.specs.declared.finding.Why.{Why}
 use Rattle.mseed_audit.specs.declared.finding.Why.TheVariants.{Time, Rate, Read, RateChange, Leap as UnknownLeap, Gap}
 use Rattle.mseed_audit.specs.declared.finding.Why.TheVariants.{Overlap}
 
--- the first field of the start that is out of its range
-abbrev pub time_fault_of : View → Option TimeFault
-time_fault_of v = first_fault (time_at v.order v.bytes)
-
--- the sample rate, if there is one
-abbrev pub rate_in : View → Option Ratio
-rate_in v = rate_of (factor_at v.order v.bytes) (multiplier_at v.order v.bytes)
-
+-- the sample rate, unless a field of the start is out of its range
 abbrev pub rate_unless : Option TimeFault → Option Ratio → Option Ratio
 rate_unless None rate = rate
 rate_unless (Some fault) rate = None

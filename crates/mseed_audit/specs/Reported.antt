@@ -11,6 +11,7 @@ use Rattle.mseed_audit.specs.declared.verdict.Verdict.TheVariants.{Continuous, B
 use Rattle.mseed_audit.specs.Channels.{Added, Placed, numbered, same_key}
 pub use Rattle.mseed_audit.specs.Channels.{channel_in}
 use Rattle.mseed_audit.specs.Judging.{IsFound}
+use Rattle.mseed_audit.specs.Verdict.{finding_at}
 
 -- the last of these records, or, of none, the one before them
 abbrev pub last_of : Option View → List Placed → Option View
@@ -33,13 +34,7 @@ pub record Reported : Type 0 where
 
 -- what is reported of a record, by what is found of it
 abbrev pub reported_at : Placed → Option Why → List Reported
-reported_at p None = []
-reported_at p (Some why) = record {
-  view = p.view;
-  finding =
-      record { number = p.number; offset = p.offset; why = why };
-}
-    ∷ []
+reported_at p why = map (λ f. record { view = p.view; finding = f }) (finding_at p why)
 
 -- what is reported of the records after others: each that has a finding, in their order
 pub data AreReported : List Placed → List Placed → List Reported → Type 0 where

@@ -52,16 +52,15 @@ pub record IsSummaryIn (scope : Scope) {h : BytesRead} (s : Summary) (a : Audite
 abbrev pub IsSummary : {h : BytesRead} → Summary → Audited h → Type 0
 IsSummary s a = IsSummaryIn whole s a
 
--- the whole text was written
-pub record IsWrittenIn (scope : Scope) {h : BytesRead} (s : Summary) (a : AuditedIn scope h) (old new : BytesWritten)
-    : Type 0 where
-  pub summary : IsSummaryIn scope s a
-  pub text : new.bytes ≡ old.bytes ++ text_in scope a
+-- the output accepted a whole text
+pub record IsWritten (text : List ℕ) (old new : BytesWritten) : Type 0 where
+  pub bytes : new.bytes ≡ old.bytes ++ text
   pub fine : new.failures ≡ old.failures
 
 -- By the outcome: where the output failed, so many bytes of the text were written before.
 abbrev pub IsOutcomeIn : Scope → Result Summary AuditFault → BytesRead → BytesWritten → BytesWritten → Type 0
-IsOutcomeIn scope (Ok summary) h old new = (a : AuditedIn scope h) × IsWrittenIn scope summary a old new
+IsOutcomeIn scope (Ok summary) h old new =
+    (a : AuditedIn scope h) × (IsSummaryIn scope summary a × IsWritten (text_in scope a) old new)
 IsOutcomeIn scope (Err (Write taken)) h old new = (a : AuditedIn scope h) × IsCutOff taken (text_in scope a) old new
 IsOutcomeIn scope (Err Memory) h old new = new ≡ old
 

@@ -109,10 +109,7 @@ fn channel_with(
         return channel;
     }
     match channel {
-        None => {
-            let (channel, _) = Channel::begin(view, number, offset);
-            Some(channel)
-        }
+        None => Some(Channel::begin(view, number, offset).0),
         Some(mut channel) => {
             channel.add(view, number, offset, None);
             Some(channel)

@@ -4,9 +4,9 @@ ghost use Rattle.std.specs.Prelude.{ℕ, IfErr, IsTrue, None, Ok};
 ghost use Rattle.mseed_record.specs.Header.{key_at};
 ghost use Rattle.mseed_record.specs.Viewing.{view_of};
 ghost use Rattle.mseed_steim.specs.Reading.{count_of};
-ghost use Rattle.mseed_audit.specs.Audit.{AreChannels};
+ghost use Rattle.mseed_audit.specs.Audit.{AreChannels, HoldsKey, IsAuditAmong, IsAuditOf};
 ghost use Rattle.mseed_audit.specs.Channels.{Added, Placed, numbered, records_of};
-ghost use Rattle.mseed_audit.specs.private.ChannelState.{IsLearnt};
+ghost use Rattle.mseed_audit.specs.private.ChannelState.{AreBounded, IsLearnt};
 ghost use Rattle.mseed_audit.specs.private.Gathered.{IsAdded};
 ghost use Rattle.mseed_audit.specs.Reported.{IsFoundAfter};
 ghost use Rattle.mseed_audit.specs.Verdict.{AreVerdicts, AreVerdictsAmong};
@@ -69,8 +69,6 @@ impl<T, A: Allocator> Model for ByChannel<T, A> {
 }
 
 impl<A: Allocator + Copy> Audit<A> {
-    ghost use Rattle.mseed_audit.specs.Audit.{HoldsKey, IsAuditAmong, IsAuditOf};
-
     /// An audit of no record. It takes no memory.
     pub fn new(alloc: A) -> Audit<A>
         ensures of_none { IsAuditOf result [] }

@@ -5,9 +5,10 @@ ghost use Rattle.mseed_record.specs.View.{View};
 ghost use Rattle.mseed_record.specs.Viewing.{view_of};
 ghost use Rattle.mseed_steim.specs.Reading.{count_of};
 ghost use Rattle.mseed_audit.specs.Judging.{IsFound, known_rate};
-ghost use Rattle.mseed_audit.specs.Audit.{IsTailOf, count_in, head_in, tail_in, verdict_of};
+ghost use Rattle.mseed_audit.specs.Audit.{IsTailOf, Stands, count_in, head_in, tail_in, verdict_of};
+ghost use Rattle.mseed_audit.specs.Channels.{Placed};
 ghost use Rattle.mseed_audit.specs.private.ChannelState.{IsExamined, IsLearnt, IsTailBefore, end_in, why_in, with_end};
-ghost use Rattle.mseed_audit.specs.private.ChannelState.{with_finding};
+ghost use Rattle.mseed_audit.specs.private.ChannelState.{IsBounded, with_finding};
 ghost use Rattle.mseed_audit.specs.Reported.{last_of};
 
 use crate::finding::{Finding, Why};
@@ -82,10 +83,6 @@ enum Judged {
 }
 
 impl Channel {
-    ghost use Rattle.mseed_audit.specs.Channels.{Placed};
-    ghost use Rattle.mseed_audit.specs.Audit.{Stands};
-    ghost use Rattle.mseed_audit.specs.private.ChannelState.{IsBounded};
-
     /// A channel of one record, and what is found of it.
     pub(crate) fn begin(view: &RecordView, number: u64, offset: u64) -> (Channel, Option<Why>)
         requires { 0 < count_of (view_of view.now) }
@@ -285,14 +282,8 @@ fn look_at(view: &RecordView) -> Result<Examined, Why>
     ensures unknown { IfErr result (λ _. known_rate (view_of view.now) ≡ None) }
     ensures why { IfErr result (λ why. (before : Option View) → IsFound before (view_of view.now) (Some why)) }
 {
-    let tail = match Tail::of(view) {
-        Ok(tail) => tail,
-        Err(why) => return Err(why),
-    };
-    let fault = match check_samples(view) {
-        Ok(_) => None,
-        Err(fault) => Some(fault),
-    };
+    let tail = Tail::of(view)?;
+    let fault = check_samples(view).err();
     Ok(Examined { tail, fault })
 }
 

@@ -4,7 +4,7 @@ ghost use Rattle.std.specs.Prelude.{[], length};
 ghost use Rattle.mseed_record.specs.Viewing.{view_of};
 ghost use Rattle.mseed_steim.specs.Reading.{IsWhole};
 ghost use Rattle.mseed_audit.specs.Follows.{IsSound};
-ghost use Rattle.mseed_audit.specs.Series.{AreSteps, IsBadStep, step_at};
+ghost use Rattle.mseed_audit.specs.Series.{AreSteps, IsBadStep, Trace, step_at};
 
 use mseed_record::{Codes, RecordView};
 use mseed_steim::fill_samples;
@@ -25,9 +25,6 @@ pub struct Series<A: Allocator = Global> {
 }
 
 impl<A: Allocator> Model for Series<A> {
-    ghost use Rattle.std.specs.Prelude.{length};
-    ghost use Rattle.mseed_audit.specs.Series.{Trace, AreSteps};
-
     ghost Value = { Trace };
 
     ghost view = { λ s. record {

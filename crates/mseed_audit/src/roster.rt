@@ -13,7 +13,7 @@ ghost use Rattle.mseed_audit.specs.Channels.{Placed, same_key, with_record};
 ghost use Rattle.mseed_audit.specs.Audit.{Stands, StandsAt, verdict_of};
 ghost use Rattle.mseed_audit.specs.Judging.{IsFound};
 ghost use Rattle.mseed_audit.specs.declared.channel.Channel.{Channel};
-ghost use Rattle.mseed_audit.specs.private.ChannelState.{AreBounded, IsBounded, IsLearnt};
+ghost use Rattle.mseed_audit.specs.private.ChannelState.{AreBounded, HasRoom, IsBounded, IsLearnt};
 ghost use Rattle.mseed_audit.specs.Reported.{IsFoundOf};
 
 use crate::audits::Memory;
@@ -36,10 +36,6 @@ pub(crate) struct Roster<A: Allocator = Global> {
 }
 
 impl<A: Allocator> Model for Roster<A> {
-    ghost use Rattle.std.specs.Prelude.{List, ℕ};
-    ghost use Rattle.mseed_audit.specs.declared.channel.Channel.{Channel};
-    ghost use Rattle.mseed_audit.specs.private.ChannelState.{HasRoom};
-
     ghost Value = { List (List ℕ × Channel) };
 
     ghost view = { λ r. r.channels };

@@ -25,8 +25,7 @@ pub(crate) fn push_audit<A: Allocator>(
     records: u64,
     end: &Option<StreamFault>,
 ) -> Result<(), AllocError>
-    ensures ok { OnOk result (text.new.items ≡ text.old.items ++ audit_text verdicts.now records end.now) }
-    ensures prefix { IsPrefixOf text.old.items text.new.items }
+    ensures { OnOk result (text.new.items ≡ text.old.items ++ audit_text verdicts.now records end.now) }
 {
     push_verdicts(text, verdicts)?;
     push_total_line(text, records, verdicts.len() as u64)?;
@@ -41,8 +40,7 @@ fn push_verdicts<A: Allocator>(
     text: &mut Vec<u8, A>,
     verdicts: &[(Codes, Verdict)],
 ) -> Result<(), AllocError>
-    ensures ok { OnOk result (text.new.items ≡ text.old.items ++ verdict_lines verdicts.now) }
-    ensures prefix { IsPrefixOf text.old.items text.new.items }
+    ensures { OnOk result (text.new.items ≡ text.old.items ++ verdict_lines verdicts.now) }
 {
     for (codes, verdict) in verdicts {
         push_verdict_line(text, codes, verdict)?;
@@ -138,16 +136,6 @@ pub(crate) fn push_reported_line<A: Allocator>(
     ensures unchanged { OnErr result (text.new.items ≡ text.old.items) }
 {
     let mut line = Line::new();
-    put_reported_line(&mut line, view, finding);
-    push_line(text, line.as_slice())
-}
-
-/// Puts the line of a record with a finding.
-#[inline(always)]
-fn put_reported_line(line: &mut Line, view: &RecordView, finding: &Finding)
-    requires { length line.old + 152 ≤ LONGEST_LINE }
-    ensures { line.new ≡ line.old ++ reported_line (record { view = view_of view.now; finding = finding.now }) }
-{
     line.put_count(finding.offset);
     line.put(b" ");
     line.put_name(&view.codes());
@@ -156,8 +144,9 @@ fn put_reported_line(line: &mut Line, view: &RecordView, finding: &Finding)
     line.put(b" start ");
     line.put_start(view);
     line.put(b" ");
-    put_why(line, &finding.why);
+    put_why(&mut line, &finding.why);
     line.put(b"\n");
+    push_line(text, line.as_slice())
 }
 
 /// Adds the line with the numbers of records and of channels.

@@ -8,9 +8,9 @@ use Rattle.mseed_audit.specs.declared.channel.Findings.{Findings}
 use Rattle.mseed_audit.specs.declared.channel.Findings.TheVariants.{Nothing, Counted}
 use Rattle.mseed_audit.specs.declared.channel.Head.{Head}
 use Rattle.mseed_audit.specs.declared.tail.Tail.{Tail}
-use Rattle.mseed_parts.specs.Joining.{moved_head, moved_finding, moved_findings, moved_channel, border_why, found_at}
+use Rattle.mseed_parts.specs.Joining.{moved_head, moved_finding, moved_findings, moved_channel, found_at}
 use Rattle.mseed_parts.specs.Joining.{border_of, findings_with, findings_after, channel_then, channel_joined}
-use Rattle.mseed_audit.specs.Audit.{head_in, tail_in}
+use Rattle.mseed_audit.specs.Audit.{break_by, head_in, tail_in}
 use Rattle.mseed_parts.specs.Parts.{Held, kept_of, IsJoint}
 use Rattle.mseed_parts.proofs.Following.{head_with, tail_with}
 use Rattle.mseed_parts.proofs.Joined.{same_held}
@@ -50,7 +50,7 @@ border_moved : (d e : ℕ) (t : Option Tail) (h : Option Head)
     → border_of t (option_map (moved_head d e) h) ≡ option_map (moved_finding d e) (border_of t h)
 border_moved d e None h = refl
 border_moved d e (Some t) None = refl
-border_moved d e (Some t) (Some h) = by (border_why t h)
+border_moved d e (Some t) (Some h) = by (break_by t h.start h.rate)
   where
     by : (w : Option Why) → found_at (moved_head d e h) w ≡ option_map (moved_finding d e) (found_at h w)
     by None = refl

@@ -18,8 +18,9 @@ use Rattle.mseed_audit.specs.declared.channel.Findings.{Findings}
 use Rattle.mseed_audit.specs.declared.channel.Findings.TheVariants.{Nothing, Counted}
 use Rattle.mseed_audit.specs.declared.channel.Head.{Head}
 use Rattle.mseed_audit.specs.declared.tail.Tail.{Tail}
-use Rattle.mseed_parts.specs.Joining.{border_why, found_at, border_of, findings_with, channel_then, channel_joined}
-use Rattle.mseed_audit.specs.Audit.{IsHead, IsHeadOf, IsTail, IsTailOf, head_in, tail_in, AreCounted, Stands, StandsAt}
+use Rattle.mseed_parts.specs.Joining.{found_at, border_of, findings_with, channel_then, channel_joined}
+use Rattle.mseed_audit.specs.Audit.{IsHead, IsHeadOf, IsTail, IsTailOf, break_by, head_in, tail_in, AreCounted, Stands}
+use Rattle.mseed_audit.specs.Audit.{StandsAt}
 use Rattle.mseed_audit.proofs.Lasts.{last_snoc}
 
 -- a record has one finding
@@ -46,7 +47,7 @@ sound_found before v a next (by_after other known samples whole) h is = by_after
 
 -- the border says so of the record by which the next is judged
 border_is : (t : Tail) (b : View) (h : Head) (q : Placed) → IsTail t b → IsHead h q
-    → why_after (Some b) q.view h.rate ≡ border_why t h
+    → why_after (Some b) q.view h.rate ≡ break_by t h.start h.rate
 border_is t b h q tail head =
     ap (λ (r : Option Ratio). why_from b r q.view h.rate) tail.rate
     ∙ (λ i. if t.rate.num * h.rate.den == h.rate.num * t.rate.den
@@ -90,12 +91,12 @@ found_after only None b (Some h) q why tail head k =
     }
 found_after only (Some t) b (Some h) q why tail head k =
     let is : why ≡ None = only None q.view why None k head.sound in
-    let border : List Finding = option_to_list (found_at h (border_why t h)) in
+    let border : List Finding = option_to_list (found_at h (break_by t h.start h.rate)) in
     record {
-      further = border_why t h;
+      further = break_by t h.start h.rate;
       found = subst (λ (x : Option Why). IsFound (Some b) q.view x) (border_is t b h q tail head)
           (sound_found (Some b) q.view None h.rate head.sound refl head.rate);
-      is = found_is h q (border_why t h) head ∙ sym (append-nil border)
+      is = found_is h q (break_by t h.start h.rate) head ∙ sym (append-nil border)
           ∙ ap (λ (w : Option Why). border ++ finding_at q w) (sym is);
     }
 

@@ -13,14 +13,14 @@ use Rattle.mseed_audit.specs.declared.channel.Head.{Head}
 use Rattle.mseed_audit.specs.declared.finding.Finding.{Finding}
 use Rattle.mseed_audit.specs.declared.finding.Why.{Why}
 use Rattle.mseed_audit.specs.declared.tail.Tail.{Tail}
-use Rattle.mseed_audit.specs.Audit.{IsHeadOf, Stands, StandsAt, head_in, tail_in}
+use Rattle.mseed_audit.specs.Audit.{IsHeadOf, Stands, StandsAt, break_by, head_in, tail_in}
 use Rattle.mseed_audit.specs.Channels.{Placed, added_from, is_of, numbered, records_of, same_key}
 use Rattle.mseed_audit.specs.Judging.{rate_in, rate_unless, time_fault_of}
 use Rattle.mseed_audit.specs.Reported.{Reported, AreReportedOf, last_of, reported_with}
 use Rattle.mseed_audit.proofs.Maps.{same_is}
 use Rattle.mseed_audit.proofs.OneReport.{AreReportedIn, channel_reported, key_of, nothing_in as none}
 use Rattle.mseed_parts.specs.Borders.{Border, border_at, border_with}
-use Rattle.mseed_parts.specs.Joining.{border_between, border_of, border_why, found_at, moved_channel, moved_head}
+use Rattle.mseed_parts.specs.Joining.{border_between, border_of, found_at, moved_channel, moved_head}
 use Rattle.mseed_parts.specs.Notices.{Notice, border_notices, moved_notice, moved_notices, notice_of, notices_of}
 use Rattle.mseed_parts.specs.Parts.{Held, IsPartOf, kept_of}
 use Rattle.mseed_parts.proofs.Following.{HaveOneFinding, last_is}
@@ -62,7 +62,7 @@ same_notice : (key : List ℕ) (t : Option Tail) (h : Option Head) (q : Placed) 
 same_notice key None None q e is = refl
 same_notice key None (Some h) q e is = refl
 same_notice key (Some t) None q e is = refl
-same_notice key (Some t) (Some h) q e is = by (border_why t h)
+same_notice key (Some t) (Some h) q e is = by (break_by t h.start h.rate)
   where
     by : (why : Option Why) → notices_of (border_reported q (found_at h why))
         ≡ border_notices (border_at key (Some h) (found_at h why))

@@ -13,9 +13,9 @@ use Rattle.mseed_audit.specs.declared.channel.Findings.TheVariants.{Nothing, Cou
 use Rattle.mseed_audit.specs.declared.channel.Head.{Head}
 use Rattle.mseed_audit.specs.declared.tail.Tail.{Tail}
 use Rattle.mseed_parts.specs.declared.part.JoinFault.{JoinFault}
-use Rattle.mseed_parts.specs.Joining.{moved_head, moved_findings, moved_channel, border_why, found_at, border_of}
+use Rattle.mseed_parts.specs.Joining.{moved_head, moved_findings, moved_channel, found_at, border_of}
 use Rattle.mseed_parts.specs.Joining.{findings_with, channel_then}
-use Rattle.mseed_audit.specs.Audit.{head_in, tail_in}
+use Rattle.mseed_audit.specs.Audit.{break_by, head_in, tail_in}
 use Rattle.mseed_parts.specs.Parts.{HeadFits, FirstFits, Moves, CountFits, CountsFit, IsWithin, AreWithin, kept_of}
 use Rattle.mseed_parts.proofs.Adding.{Entries}
 use Rattle.mseed_parts.proofs.Following.{head_with}
@@ -38,7 +38,7 @@ BorderFits (Some f) = (0 + f.number < 2 ^ 63) × (0 + f.offset < 2 ^ 63)
 border_fits : (t : Option Tail) (h : Option Head) → HeadFits 0 0 h → BorderFits (border_of t h)
 border_fits None h f = tt
 border_fits (Some t) None f = tt
-border_fits (Some t) (Some h) f = by (border_why t h)
+border_fits (Some t) (Some h) f = by (break_by t h.start h.rate)
   where
     by : (why : Option Why) → BorderFits (found_at h why)
     by None = tt

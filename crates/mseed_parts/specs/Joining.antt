@@ -26,10 +26,6 @@ moved_findings d e (Counted count first head tail) =
 abbrev pub moved_channel : ℕ → ℕ → Channel → Channel
 moved_channel d e c = record { records = c.records; samples = c.samples; findings = moved_findings d e c.findings }
 
--- why a record that begins so doesn't follow one that ends so
-abbrev pub border_why : Tail → Head → Option Why
-border_why t h = break_by t h.start h.rate
-
 abbrev pub found_at : Head → Option Why → Option Finding
 found_at h None = None
 found_at h (Some why) = Some (record { number = h.number; offset = h.offset; why = why })
@@ -38,7 +34,7 @@ found_at h (Some why) = Some (record { number = h.number; offset = h.offset; why
 abbrev pub border_of : Option Tail → Option Head → Option Finding
 border_of None h = None
 border_of (Some t) None = None
-border_of (Some t) (Some h) = found_at h (border_why t h)
+border_of (Some t) (Some h) = found_at h (break_by t h.start h.rate)
 
 -- the findings of both, with what is found between them
 abbrev pub findings_with : Findings → Findings → Option Finding → Findings

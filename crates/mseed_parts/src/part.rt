@@ -1,10 +1,11 @@
 //! The part of an archive.
-ghost use Rattle.std.specs.Prelude.{◌≡◌, ◌++◌, [], List, Some, None, IfOk, OnOk, OnErr, IsErrOf};
+ghost use Rattle.std.specs.Prelude.{◌≡◌, ◌++◌, ◌<◌, ◌^◌, [], List, Some, None, IfOk, OnOk, OnErr, IsErrOf};
 ghost use Rattle.mseed_record.specs.View.{View};
+ghost use Rattle.mseed_audit.specs.Places.{by_key};
 ghost use Rattle.mseed_parts.specs.declared.part.JoinFault.TheVariants.{Limit};
 ghost use Rattle.mseed_parts.specs.Joining.{border_between, moved_channel};
 ghost use Rattle.mseed_parts.specs.Parts.{IsPartOf, IsJoint, Fits, FitsAt, kept_of, one_channel};
-ghost use Rattle.mseed_parts.specs.Parts.{counts_alone, HasNewChannel, IsAscending, IsSmall};
+ghost use Rattle.mseed_parts.specs.Parts.{counts_alone, AreWithin, HasNewChannel, Held, IsAscending, IsSmall};
 
 use crate::joining::{TooLarge, add_further, counts_fit, moved, sum};
 use mseed_audit::{Channel, ChannelList, Finding, Memory, one_finding};
@@ -41,10 +42,6 @@ pub struct Part<A: Allocator = Global> {
 }
 
 impl<A: Allocator> Model for Part<A> {
-    ghost use Rattle.std.specs.Prelude.{◌<◌, ◌^◌};
-    ghost use Rattle.mseed_audit.specs.Places.{by_key};
-    ghost use Rattle.mseed_parts.specs.Parts.{AreWithin, Held};
-
     ghost Value = { Held };
 
     ghost view = { λ p. record { channels = by_key p.kept; records = p.records; bytes = p.bytes } };

@@ -2,12 +2,7 @@ use Rattle.std.proofs.Common.{◌++◌, ◌∙◌, List, ℕ, ap, take_all}
 use Rattle.mseed_audit.specs.declared.verdict.Verdict.{Verdict}
 use Rattle.mseed_audit.specs.Text.{verdict_lines}
 use Rattle.mseed_audit.proofs.OneMore.{lines_more}
-use Rattle.mseed_text.proofs.Prefixes.{prefix_from}
 use Rattle.mseed_audit.proofs.text.push_verdicts.Goals as goal
-
-pub returns-in_err-push_verdict_line-clause-prefix : goal.returns-in_err-push_verdict_line-clause-prefix
-returns-in_err-push_verdict_line-clause-prefix g c =
-    prefix_from _ _ _ _ c.loop-codes.invariant c.push_verdict_line.ensures.prefix
 
 pub loop-codes-preserved : goal.loop-codes-preserved
 loop-codes-preserved g c =
@@ -15,7 +10,7 @@ loop-codes-preserved g c =
     c.loop-codes.text.items c.push_verdict_line.new.text.items c.loop-codes-test.true c.loop-codes-item.is
     c.loop-codes.invariant c.in_ok-push_verdict_line.ensures.ok
 
-pub returns-clause-ok : goal.returns-clause-ok
-returns-clause-ok g c =
+pub returns : goal.returns
+returns g c =
     c.loop-codes.invariant ∙ ap (λ (vs : List (List ℕ × Verdict)). c.args.text.now.items ++ verdict_lines vs)
     (take_all c.loop-codes.codes-index c.args.verdicts.now c.loop-codes-test.false)

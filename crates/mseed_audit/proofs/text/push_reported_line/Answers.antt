@@ -1,4 +1,4 @@
-use Rattle.std.proofs.Common.{◌≡◌, ◌++◌, ◌∙◌, List, ℕ, append_assoc, codes, decimal}
+use Rattle.std.proofs.Common.{◌≡◌, [], ◌++◌, ◌∙◌, List, ℕ, append_assoc, codes, decimal}
 use Rattle.mseed_record.specs.Header.{key_at}
 use Rattle.mseed_record.specs.View.{View}
 use Rattle.mseed_record.specs.Viewing.{view_of}
@@ -6,7 +6,7 @@ use Rattle.mseed_audit.specs.declared.finding.Finding.{Finding}
 use Rattle.mseed_text.specs.Name.{name_text}
 use Rattle.mseed_text.specs.Time.{start_text}
 use Rattle.mseed_audit.specs.Text.{why_text}
-use Rattle.mseed_audit.proofs.text.put_reported_line.Goals as goal
+use Rattle.mseed_audit.proofs.text.push_reported_line.Goals as goal
 
 -- what was put, one after another
 joined : (line offset space name record-word number start-word start gap why end : List ℕ)
@@ -15,11 +15,12 @@ joined : (line offset space name record-word number start-word start gap why end
     ≡ line ++ (offset ++ space ++ name ++ record-word ++ number ++ start-word ++ start ++ gap ++ why ++ end)
 joined line offset space name record-word number start-word start gap why end = simp append_assoc
 
-pub returns : goal.returns
-returns c =
+pub returns-clause-ok : goal.returns-clause-ok
+returns-clause-ok g c =
     let v : View = view_of c.args.view.now in
     let f : Finding = c.args.finding.now in
-    let a2 = rw c.put_count.ensures.text at c.put.ensures.text in
+    let a1 = rw c.new-line.ensures at c.put_count.ensures.text in
+    let a2 = rw a1 at c.put.ensures.text in
     let a3 = rw (a2, c.codes.ensures) at c.put_name.ensures.text in
     let a4 = rw a3 at c.put-2.ensures.text in
     let a5 = rw a4 at c.put_count-2.ensures.text in
@@ -28,5 +29,6 @@ returns c =
     let a8 = rw a7 at c.put-4.ensures.text in
     let a9 = rw a8 at c.put_why.ensures.text in
     let a10 = rw a9 at c.put-5.ensures.text in
-    a10 ∙ joined c.args.line.now (decimal f.offset) (codes " ") (name_text (key_at v.bytes)) (codes " record ")
-    (decimal f.number) (codes " start ") (start_text v) (codes " ") (why_text f.why) (codes "\n")
+    rw (c.as_slice.ensures ∙ a10 ∙ joined [] (decimal f.offset) (codes " ") (name_text (key_at v.bytes))
+    (codes " record ") (decimal f.number) (codes " start ") (start_text v) (codes " ") (why_text f.why) (codes "\n"))
+    at c.push_line.ensures.ok
