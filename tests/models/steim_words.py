@@ -56,11 +56,10 @@ def words() -> Iterator[tuple[str, int, int]]:
 
 
 def row(scheme: str, code: int, word: int) -> str:
-    """A row of the test: the number of differences, 8 for a bad word, and the differences, with zeros after them."""
+    """A row of the test: the differences, or none of a bad word."""
     found = differences(scheme, code, word)
-    count = 8 if found is None else len(found)
-    padded = [*(found or []), *[0] * 7][:7]
-    return f"(Scheme::{scheme}, {code}, 0x{word:08X}, {count}, [{', '.join(map(str, padded))}])"
+    spelled = "None" if found is None else f"Some(&[{', '.join(map(str, found))}])"
+    return f"(Scheme::{scheme}, {code}, 0x{word:08X}, {spelled})"
 
 
 def plain(text: str) -> str:
