@@ -107,7 +107,7 @@ both_empty : (keep : ℤ → ℤ → ℤ) (l : ℤ) (xs ys : List ℤ) → xs �
 both_empty keep l xs ys e h = e ∙ sym (ap (kept_from keep l) h)
 
 -- what is kept is kept of the samples
-kept_later : (keep : ℤ → ℤ → ℤ) (n : ℕ) (s : Sum) (items : List (Result ℤ BadWordAt)) → 0 < s.met → s.met ≤ n
+pub kept_later : (keep : ℤ → ℤ → ℤ) (n : ℕ) (s : Sum) (items : List (Result ℤ BadWordAt)) → 0 < s.met → s.met ≤ n
     → met_in keep n s items ≡ kept_from keep s.last (met_in the_sample n s items)
 kept_later keep n s [] p h = both_empty keep s.last _ _ (met_none keep n s) (met_none the_sample n s)
 kept_later keep n s (Err at ∷ more) p h =
@@ -153,7 +153,7 @@ pub samples_are : (ss : List ℤ) → kept_of the_sample ss ≡ ss
 samples_are [] = refl
 samples_are (s ∷ ss) = ap (λ (zs : List ℤ). s ∷ zs) (samples_from s ss)
 
-steps_from : (l : ℤ) (ss : List ℤ) → kept_from the_difference l ss ≡ differences_from l ss
+pub steps_from : (l : ℤ) (ss : List ℤ) → kept_from the_difference l ss ≡ differences_from l ss
 steps_from l [] = refl
 steps_from l (s ∷ ss) = ap (λ (zs : List ℤ). (s -ℤ l) ∷ zs) (steps_from s ss)
 

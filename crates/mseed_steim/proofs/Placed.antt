@@ -1,19 +1,28 @@
 -- Differences of frames that are unpacked in their places, and the steps that they are.
 use Rattle.std.proofs.Common.{◌≡◌, ℕ, ◌+◌, ◌-◌, ◌*◌, ◌/◌, ◌<◌, ◌≤◌, List, [], ◌∷◌, ◌++◌, map, take, drop, length}
 use Rattle.std.proofs.Common.{ℤ, ◌+ℤ◌, ◌-ℤ◌, arith, refl, ap, sym, ◌∙◌, subst, append_assoc, Result, Ok}
-use Rattle.std.proofs.Common.{Option, Some, None, IfSome, get_or, min}
+use Rattle.std.proofs.Common.{Bool, false, true, eqb, Option, Some, None, IfSome, get_or, min, ⊎_elim}
+use Rattle.std.specs.Prelude.{IfOk}
+use Rattle.std.specs.Bool.{OnTrue}
 use Rattle.std.proofs.Math.ListN.{set}
 use Rattle.std.proofs.Math.Seq.{take-length}
+use Rattle.std.proofs.lemmas.Bool.{cases_eq, eq-eqb, ne_eqb}
 use Rattle.std.proofs.lemmas.Int.{ints}
 use Rattle.std.proofs.lemmas.List.{length-take-le, map-append, take-append-drop, take-take}
 use borrow.Rule.Slice.PartMut.{put_mid}
 use Rattle.mseed_steim.specs.declared.differences.BadWordAt.{BadWordAt}
+use Rattle.mseed_steim.specs.declared.fault.ReadFault.{ReadFault}
 use Rattle.mseed_steim.specs.declared.scheme.Scheme.{Scheme}
+use Rattle.mseed_steim.specs.declared.sum.Sum.{Sum}
 use Rattle.mseed_steim.specs.Frames.{DataWord, data_words, first_constant, word_count}
 use Rattle.mseed_steim.specs.Samples.{Adds, AreSums, StartsAndAdds, differences_from, steps_of}
 use Rattle.mseed_steim.specs.private.Items.{items_of}
 use Rattle.mseed_steim.specs.private.Lanes.{Begins}
+use Rattle.mseed_steim.specs.private.Sums.{Continues, fold, met_in, the_difference, the_sample}
 use Rattle.mseed_steim.specs.private.Unpacked.{AreUnpacked, data_in, left_from}
+use Rattle.mseed_steim.proofs.Folded.{Folds, done as done_folds, short as short_folds, bad as bad_folds}
+use Rattle.mseed_steim.proofs.Folded.{all_kept, folds, kept_later, over as over_folds, steps_from}
+use Rattle.mseed_steim.proofs.Folds.{fold_enough}
 use Rattle.mseed_steim.proofs.Given.{IsWord, all_after, prefix_words, words_small}
 use Rattle.mseed_steim.proofs.Summed.{put_next}
 use Rattle.mseed_steim.proofs.Walking.{frames_cut}
@@ -81,6 +90,50 @@ adds_steps x (d ∷ ds) (z ∷ es) a b (s ∷ ss) e l h =
     let step : z ≡ s -ℤ x = omega (arith, ints, sum, one) in
     let later : es ≡ differences_from s ss = adds_steps s ds es a b ss rest (omega arith) h.1 in
     cc
+
+-- where a walk from a later sample on fills the places, it fills them with the differences
+walked_items : (n m : ℕ) (l : ℤ) (items : List (Result ℤ BadWordAt)) (mets : List ℤ) (r : Result Sum ReadFault)
+    → Folds n m l items mets r
+    → IfOk r (λ _. (more : List (Result ℤ BadWordAt)) × (items ≡ map Ok (differences_from l mets) ++ more))
+walked_items n m l items mets r (done_folds next ds ss more e count same adds all met last kept) =
+    let steps : ds ≡ differences_from l ss = adds_steps l ds ds more more ss refl (sym same) adds in
+    (more, e ∙ ap (λ (xs : List ℤ). map Ok xs ++ more) (steps ∙ ap (λ (xs : List ℤ). differences_from l xs) (sym kept)))
+walked_items n m l items mets r (short_folds k ds e count less) = tt
+walked_items n m l items mets r (bad_folds ds at more e less) = tt
+walked_items n m l items mets r (over_folds k ds d ss more e count less same adds all not) = tt
+
+pub walked_rest : (n : ℕ) (s next : Sum) (before after : List ℤ) (items behind : List (Result ℤ BadWordAt)) → 0 < s.met
+    → s.met ≤ n → Continues (Some the_difference) n s before items behind after next
+    → OnTrue (eqb next.met n) ((more : List (Result ℤ BadWordAt))
+    × (map Ok (take s.met before) ++ items ≡ map Ok after ++ more))
+walked_rest n s next before after items behind some less c = ⊎_elim
+    (λ (e : next.met ≡ n).
+    let mets : List ℤ = met_in the_sample n s items in
+    let first : List ℤ = take s.met before in
+    let steps : List ℤ = differences_from s.last mets in
+    let found = subst (λ (r : Result Sum ReadFault). IfOk r (λ _. (more : List (Result ℤ BadWordAt))
+    × (items ≡ map Ok steps ++ more))) (c.folded ∙ fold_enough n next behind e)
+    (walked_items n s.met s.last items mets _ (folds n s items some less)) in
+    let kept : after ≡ first ++ steps = all_kept the_difference n next after behind c.places e ∙ c.kept
+    ∙ ap (λ (xs : List ℤ). first ++ xs) (kept_later the_difference n s items some less ∙ steps_from s.last mets) in
+    rw (eq-eqb next.met n e) (
+      found.0,
+      ap (λ (xs : List (Result ℤ BadWordAt)). map Ok first ++ xs) found.1
+          ∙ sym (append_assoc (map Ok first) (map Ok steps) found.0)
+          ∙ ap (λ (xs : List (Result ℤ BadWordAt)). xs ++ found.0) (sym (map-append Ok first steps))
+          ∙ ap (λ (xs : List ℤ). map Ok xs ++ found.0) (sym kept),
+    ))
+    (λ (other : next.met ≡ n → ⊥). rw (ne_eqb next.met n other) tt)
+    (cases_eq next.met n)
+
+-- what fills the places after those before it
+pub rest_put : (r : Bool) (items left : List (Result ℤ BadWordAt)) (first before after : List ℤ) → before ≡ first
+    → items ≡ map Ok first ++ left
+    → OnTrue r ((more : List (Result ℤ BadWordAt)) × (map Ok before ++ left ≡ map Ok after ++ more))
+    → OnTrue r ((more : List (Result ℤ BadWordAt)) × (items ≡ map Ok after ++ more))
+rest_put false items left first before after e same h = tt
+rest_put true items left first before after e same h =
+    (h.0, same ∙ ap (λ (xs : List ℤ). map Ok xs ++ left) (sym e) ∙ h.1)
 
 starts_steps : (x : ℤ) (ds es : List ℤ) (a b : List (Result ℤ BadWordAt)) (ss : List ℤ)
     → map Ok ds ++ a ≡ map Ok es ++ b → length es ≡ length ss → 0 < length ss → StartsAndAdds x ds ss

@@ -290,6 +290,12 @@ padded_total ds k =
     let none : total ds +ℤ pos 0 ≡ total ds = omega (arith, ints) in
     total_more ds (replicate k (pos 0)) ∙ ap (λ (z : ℤ). total ds +ℤ z) (total_zeros k) ∙ none
 
+-- what stands before a part that is put in its places
+pub put_front : (k rest : ℕ) (out after : List ℤ) → k ≤ length out → take k (put_mid k rest out after) ≡ take k out
+put_front k rest out after inside =
+    let first : length (take k out) ≡ k = length-take-le k out inside in
+    take_at (take k out) (after ++ post_of k rest out) k first
+
 -- what is put after what there is
 pub put_next : (k rest m : ℕ) (out after : List ℤ) → k ≤ length out → m ≤ length after
     → take (k + m) (put_mid k rest out after) ≡ take k out ++ take m after

@@ -118,6 +118,9 @@ later_in met zero h = absurd (omega (arith, h))
 later_in zero (suc i) h = refl
 later_in (suc met) (suc i) h = refl
 
+pub left_later : (p : List ℕ) (met later i : ℕ) → 0 < i → left_from p met i ≡ left_from p later i
+left_later p met later i h = rw (later_in met i h, later_in later i h) refl
+
 pub frames_cut : (p : List ℕ) (met later i k : ℕ) → 0 < k → i + k ≤ length p / 64
     → left_from p met i ≡ words_from p (16 * i + data_in met i) (16 * k - data_in met i) ++ left_from p later (i + k)
 frames_cut p met later i k some inside =

@@ -1,6 +1,6 @@
 //! What is read of a record that is known to have a reading: differences alone, of which none is added up.
 
-ghost use Rattle.std.specs.Prelude.{◌≡◌, ◌+◌, ◌-◌, ◌<◌, ◌≤◌, ◌++◌, ℕ, List, [], ℤ, Result, Ok, IfSome};
+ghost use Rattle.std.specs.Prelude.{◌≡◌, ◌+◌, ◌-◌, ◌/◌, ◌<◌, ◌≤◌, ◌++◌, ℕ, List, [], ℤ, Result, Ok, IfSome};
 ghost use Rattle.std.specs.Prelude.{length, map, min, take};
 ghost use Rattle.std.specs.Bool.{OnTrue};
 ghost use Rattle.mseed_record.specs.Viewing.{view_of};
@@ -10,17 +10,20 @@ ghost use Rattle.mseed_steim.specs.Reading.{count_of, IsSteim, IsWhole};
 ghost use Rattle.mseed_steim.specs.Samples.{AreEnds, AreSums, steps_of};
 ghost use Rattle.mseed_steim.specs.private.Items.{items_of};
 ghost use Rattle.mseed_steim.specs.private.Lanes.{Begins};
-ghost use Rattle.mseed_steim.specs.private.Unpacked.{AreUnpacked};
+ghost use Rattle.mseed_steim.specs.private.Unpacked.{AreUnpacked, left_from};
 
 use crate::check::{constants_of, payload_of};
 use crate::ends::ends_of;
 use crate::fault::Ends;
 use crate::form::Form;
 use crate::frame::begin_in;
+use crate::keep::{Steps, Task};
 use crate::lanes::Rows;
 use crate::read::fill_differences;
 use crate::scheme::Scheme;
+use crate::sum::Sum;
 use crate::unpack::{PLACES, Room, unpack_frame, unpack_wide};
+use crate::walk::keep_in_room;
 use mseed_record::RecordView;
 
 /// The differences of a frame's words, in their order, and the lanes after the last of them: how many there are. None
@@ -66,8 +69,35 @@ fn unpack_some(
     Some(some)
 }
 
-/// Unpacks the first differences of a payload's frames, as many as there are places. False where one of these frames
-/// has a bad word, or there are too few.
+/// Puts a frame's differences after so many of the frames before it, where it has a bad word: by the walk, which stops
+/// at the last place. Whether they fill the places before that word comes.
+#[cold]
+fn unpack_rest(
+    scheme: Scheme,
+    payload: &[u8],
+    index: usize,
+    met: usize,
+    room: &mut Room,
+    out: &mut [i32],
+) -> bool
+    requires inside { (0 < index) × (index < length payload.now / 64) }
+    requires left { (0 < met) × (met < length out.old) }
+    ensures places { length out.new ≡ length out.old }
+    ensures unpacked { OnTrue result ((more : List (Result ℤ BadWordAt)) × (map Ok (take met out.old)
+        ++ items_of scheme (left_from payload.now 0 index) ≡ map Ok out.new ++ more)) }
+{
+    let samples = out.len();
+    // The sample before isn't known: the sums count from 0.
+    let sum = Sum { met, last: 0 };
+    let task = Task { scheme, samples };
+    match keep_in_room::<Steps>(task, payload, index, sum, room, out) {
+        Ok(next) => next.met == samples,
+        Err(_) => false,
+    }
+}
+
+/// Unpacks the first differences of a payload's frames, as many as there are places. False where a bad word comes
+/// before that, or in the first of these frames, or there are too few.
 fn unpack_frames(scheme: Scheme, payload: &[u8], out: &mut [i32]) -> bool
     requires some { 0 < length out.old }
     ensures places { length out.new ≡ length out.old }
@@ -81,7 +111,10 @@ fn unpack_frames(scheme: Scheme, payload: &[u8], out: &mut [i32]) -> bool
         let begin = begin_in(0, index);
         let Some(count) = unpack_some(scheme, &frames[index], begin, &mut room, &mut out[met..])
         else {
-            return false;
+            if index == 0 || met == 0 {
+                return false;
+            }
+            return unpack_rest(scheme, payload, index, met, &mut room, out);
         };
         met += count;
         if met == out.len() {
@@ -91,8 +124,8 @@ fn unpack_frames(scheme: Scheme, payload: &[u8], out: &mut [i32]) -> bool
     false
 }
 
-/// Fills in the steps of as many samples as there are places, where no frame with one of them has a bad word, and
-/// answers the constants for the first and the last of them.
+/// Fills in the steps of as many samples as there are places, where no bad word comes before, and answers the constants
+/// for the first and the last of them.
 #[inline(always)]
 fn fill_payload(scheme: Scheme, payload: &[u8], out: &mut [i32]) -> Option<Ends>
     requires some { 0 < length out.old }

@@ -153,7 +153,7 @@ fn keep_unpacked<K: Keeper>(
 
 /// Keeps the differences of a frame that isn't taken at once, as far as they are needed: unpacked, or word by word
 /// where few are needed or a word is bad.
-fn keep_in_room<K: Keeper>(
+pub(crate) fn keep_in_room<K: Keeper>(
     task: Task,
     payload: &[u8],
     index: usize,

@@ -4,7 +4,8 @@ use Rattle.std.proofs.Math.Seq.{take-length}
 use Rattle.std.proofs.lemmas.Simd.{length-chunk}
 use borrow.Rule.Slice.PartMut.{put_mid}
 use Rattle.mseed_steim.specs.declared.differences.BadWordAt.{BadWordAt}
-use Rattle.mseed_steim.proofs.Placed.{goes_on, put_on}
+use Rattle.mseed_steim.proofs.Placed.{goes_on, put_on, rest_put}
+use Rattle.mseed_steim.proofs.Summed.{put_front}
 use Rattle.mseed_steim.proofs.Walking.{frame_at}
 use Rattle.mseed_steim.proofs.known.unpack_frames.Goals as goal
 
@@ -45,3 +46,11 @@ loop-index-preserved c =
           c.in-Some.ensures.unpacked c.unpack_some.ensures.places (omega (arith, room)) (omega (arith, room, left))
           c.loop-index.invariant.same;
     }
+
+pub returns-in_default-clause-unpacked : goal.returns-in_default-clause-unpacked
+returns-in_default-clause-unpacked c =
+    let met = c.loop-index.met in
+    let out = c.loop-index.out in
+    rest_put c.unpack_rest.result _ _ (take met out) _ c.unpack_rest.new.out
+    (put_front met (length out - met) out c.unpack_some.new.out (omega arith)) c.loop-index.invariant.same
+    c.unpack_rest.ensures.unpacked
