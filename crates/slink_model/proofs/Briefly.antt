@@ -5,7 +5,7 @@ use Rattle.std.proofs.lemmas.List.{get_or_past}
 use Rattle.std.proofs.lemmas.Bool.{cases_lt}
 use Rattle.slink_model.specs.declared.world.Setup.{Setup}
 use Rattle.slink_model.specs.declared.world.Step.{Step}
-use Rattle.slink_model.specs.declared.world.Step.TheVariants.{Append, Connect, ToServer, ToClient, Send, Cut}
+use Rattle.slink_model.specs.declared.world.Step.TheVariants.{Append, Connect, ToServer, ToClient}
 use Rattle.slink_feed.specs.Dialogue.{next_at}
 use Rattle.slink_model.specs.Slice.{HoldsSlices, IsSchedule, LackFew, LacksFew}
 use Rattle.slink_model.specs.Ties.{Holds, Places, WorldTies}
@@ -54,8 +54,7 @@ step_pushes w v (Append k b) i h = rw (← h) at (pushed_one w k i b (slice_get 
 step_pushes w v Connect i h = same_long v.pushed w.pushed i (ap (λ (x : WorldState). x.pushed) h.becomes)
 step_pushes w v (ToServer n) i h = same_long v.pushed w.pushed i (ap (λ (x : WorldState). x.pushed) h.0)
 step_pushes w v (ToClient n) i h = same_long v.pushed w.pushed i h.pushed
-step_pushes w v (Send k) i h = same_long v.pushed w.pushed i (ap (λ (x : WorldState). x.pushed) h)
-step_pushes w v Cut i h = same_long v.pushed w.pushed i (ap (λ (x : WorldState). x.pushed) h)
+step_pushes w v step i h = same_long v.pushed w.pushed i (ap (λ (x : WorldState). x.pushed) h)
 
 started_after : (first s : ℕ) (F : List (List ℕ)) (next : Option ℕ) (held : List (List ℕ))
     → Holds first F next held (Some s) → first ≤ s

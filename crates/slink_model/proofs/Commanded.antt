@@ -2,8 +2,7 @@
 use Rattle.std.proofs.Common.{◌≡◌, ℕ, ◌≤◌, inl, inr, refl, sym, subst, List, Option, Some, None, slice_get}
 use Rattle.std.specs.Option.{option_and_then}
 use Rattle.slink_wire.specs.declared.command.Command.{Command}
-use Rattle.slink_wire.specs.declared.command.Command.TheVariants.{Hello, Station, SelectAll, Data, Fetch, End, Bye}
-use Rattle.slink_wire.specs.declared.command.Command.TheVariants.{Other}
+use Rattle.slink_wire.specs.declared.command.Command.TheVariants.{Station, Data, Fetch, End, Bye}
 use Rattle.slink_wire.specs.declared.lines.What.{What}
 use Rattle.slink_wire.specs.declared.lines.What.TheVariants.{More, Line, TooLong}
 use Rattle.slink_wire.specs.declared.reply.Reply.{Reply}
@@ -51,24 +50,14 @@ module _ (feed : List Window) (s : State) where
   ask mode j number = ask_of mode j number (slice_get feed j) refl
 
   leaves_fresh : (c : Command) → Grants_stay (in_fresh feed s c).0
-  leaves_fresh Hello = stay
   leaves_fresh (Station sta net) = choose (station_at feed sta net)
-  leaves_fresh SelectAll = stay
-  leaves_fresh (Data number) = stay
-  leaves_fresh (Fetch number) = stay
-  leaves_fresh End = stay
-  leaves_fresh Bye = stay
-  leaves_fresh Other = stay
+  leaves_fresh command = stay
 
   leaves_chosen : (j : ℕ) (c : Command) → Grants_stay (in_chosen feed j s c).0
-  leaves_chosen j Hello = stay
   leaves_chosen j (Station sta net) = choose (station_at feed sta net)
-  leaves_chosen j SelectAll = stay
   leaves_chosen j (Data number) = ask modes.Data j number
   leaves_chosen j (Fetch number) = ask modes.Fetch j number
-  leaves_chosen j End = stay
-  leaves_chosen j Bye = stay
-  leaves_chosen j Other = stay
+  leaves_chosen j command = stay
 
   leaves_granted : (j : ℕ) (c : Command) → Grants_stay (in_granted feed j s c).0
   leaves_granted j End = stay
@@ -79,13 +68,7 @@ module _ (feed : List Window) (s : State) where
 
   leaves_streaming : (c : Command) → s.phase ≡ Streaming → Leaves Streaming feed s (in_streaming s c)
   leaves_streaming Bye e = (refl, refl, λ before. before)
-  leaves_streaming Hello e = (refl, refl, still e)
-  leaves_streaming (Station sta net) e = (refl, refl, still e)
-  leaves_streaming SelectAll e = (refl, refl, still e)
-  leaves_streaming (Data number) e = (refl, refl, still e)
-  leaves_streaming (Fetch number) e = (refl, refl, still e)
-  leaves_streaming End e = (refl, refl, still e)
-  leaves_streaming Other e = (refl, refl, still e)
+  leaves_streaming command e = (refl, refl, still e)
 
   shut : s.phase ≡ Closed → ¬ (IsBefore s.phase)
   shut e before = subst IsBefore e before
@@ -98,18 +81,14 @@ module _ (feed : List Window) (s : State) where
   leaves_in Closed c e = (refl, refl, shut e)
 
   leaves_ended : (phase : Phase) → s.phase ≡ phase → Leaves phase feed s (at Closed s.grants, reply_at_next phase)
-  leaves_ended Fresh e = stay
-  leaves_ended (Chosen j) e = stay
-  leaves_ended (Granted j) e = stay
   leaves_ended Streaming e = (refl, refl, λ before. before)
   leaves_ended Closed e = (refl, refl, λ before. before)
+  leaves_ended phase e = stay
 
   leaves_nothing : (phase : Phase) → s.phase ≡ phase → Leaves phase feed s (s, replies.Nothing)
-  leaves_nothing Fresh e = stay
-  leaves_nothing (Chosen j) e = stay
-  leaves_nothing (Granted j) e = stay
   leaves_nothing Streaming e = (refl, refl, still e)
   leaves_nothing Closed e = (refl, refl, shut e)
+  leaves_nothing phase e = stay
 
   -- whatever line came
   pub leaves : (what : What) (new : State) (reply : Reply) → IsAnswer feed s what new reply

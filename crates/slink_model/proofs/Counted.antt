@@ -25,8 +25,7 @@ use Rattle.slink_feed.specs.Dialogue.{Talk, Wants, Reply, Packet, End, at_packet
 use Rattle.slink_feed.specs.Dialogue.{next_at, next_set, numbered, sends_line, to_place, reported, want_at, with_next}
 use Rattle.slink_feed.specs.Listening.{AreBrought, IsLinked, events_of, talk_after, event_if_any}
 use Rattle.slink_feed.specs.Session.{Grants, State, grant_at}
-use Rattle.slink_model.specs.Ties.{Item, Accepted, Refused, Greeted, Carried, Finished, Places, item_bytes, of_place}
-use Rattle.slink_model.specs.Ties.{way_bytes}
+use Rattle.slink_model.specs.Ties.{Item, Accepted, Refused, Carried, Finished, Places, item_bytes, of_place, way_bytes}
 use Rattle.slink_model.specs.World.{Differ, Numbers}
 use Rattle.slink_feed.proofs.Closing.{Open}
 use Rattle.slink_model.proofs.Calling.{open_at}
@@ -202,9 +201,6 @@ module _ (places : Places) (differ : Differ places) (codes_are : (k : ℕ) (p : 
     same = (refl, λ f g. refl);
     after = λ _. s;
   }
-  streamed_prefix (Accepted ∷ rest) grants phase t d s = absurd s.sent.0
-  streamed_prefix (Refused ∷ rest) grants phase t d s = absurd s.sent.0
-  streamed_prefix (Greeted ∷ rest) grants phase t d s = absurd s.sent.0
   streamed_prefix (Carried k n r ∷ rest) grants phase t d s =
       let size : ℕ = length (item_bytes (Carried k n r)) in
       whole_or (Carried k n r) rest d (λ ws bs p. Prefix grants phase t ws bs p)
@@ -217,6 +213,7 @@ module _ (places : Places) (differ : Differ places) (codes_are : (k : ℕ) (p : 
       whole_or Finished [] d (λ ws bs p. Prefix grants phase t ws bs p) (λ fits. end_prefix grants phase t s)
       (λ lt. none_prefix grants phase t Finished [] d refl lt s)
   streamed_prefix (Finished ∷ i ∷ rest) grants phase t d s = absurd (let bad : i ∷ rest ≡ [] = s.ends.0 in cc bad)
+  streamed_prefix (item ∷ rest) grants phase t d s = absurd s.sent.0
 
   -- what is on its way once a client has read
   pub record Left (s : State) (taken : List ℕ) (t : Talk) (way : List ℕ) (items : List Item) : Type 0 where

@@ -20,15 +20,14 @@ use Rattle.slink_feed.specs.Session.{sent}
 use Rattle.slink_feed.specs.Window.{Window}
 use Rattle.slink_model.specs.declared.world.Setup.{Setup}
 use Rattle.slink_model.specs.declared.world.Step.{Step}
-use Rattle.slink_model.specs.declared.world.Step.TheVariants.{Append, Connect, ToServer, ToClient, Send, Cut}
+use Rattle.slink_model.specs.declared.world.Step.TheVariants.{Append, Connect, ToServer, ToClient, Send}
 use Rattle.slink_model.specs.Counted.{AreItems, AreStreamed, Counted, CountedLink, Gained, IsStreamed, answer_at}
 use Rattle.slink_model.specs.Counted.{undelivered, counted_after, counted_opening, counted_step, events_upon}
 use Rattle.slink_model.specs.Counted.{gained_by, read_by, if_come, items_sent, news, on_item, part, sent_by, served_by}
 use Rattle.slink_model.specs.Counted.{taken_by, talk_upon, waits, wholes, windows_of, with_event, with_events}
 use Rattle.slink_model.specs.Spared.{AreAskable}
 use Rattle.slink_model.specs.Slice.{IsSchedule, IsSound}
-use Rattle.slink_model.specs.Ties.{Item, Accepted, Refused, Greeted, Carried, Finished, Places, item_bytes, items_of}
-use Rattle.slink_model.specs.Ties.{way_bytes}
+use Rattle.slink_model.specs.Ties.{Item, Accepted, Refused, Carried, Finished, Places, item_bytes, items_of, way_bytes}
 use Rattle.slink_model.specs.Whole.{HoldsMore, HoldsWhole, KeepsLink, held_count, packet_count, record_in, records_in}
 use Rattle.slink_model.specs.World.{AllHappen, Differ, Happens, IsOf, Lists, Numbers, WorldState, opening, with_one}
 use Rattle.slink_model.proofs.CountedRead.{unlinked_upon}
@@ -109,12 +108,9 @@ in_replies k (suc m) is = in_replies k m is
 -- the packets of two lists of items
 counted_more : (xs ys : List Item) → packet_count (xs ++ ys) ≡ packet_count xs + packet_count ys
 counted_more [] ys = omega arith
-counted_more (Accepted ∷ xs) ys = counted_more xs ys
-counted_more (Refused ∷ xs) ys = counted_more xs ys
-counted_more (Greeted ∷ xs) ys = counted_more xs ys
 counted_more (Carried k n r ∷ xs) ys =
     let more : packet_count (xs ++ ys) ≡ packet_count xs + packet_count ys = counted_more xs ys in omega (arith, more)
-counted_more (Finished ∷ xs) ys = counted_more xs ys
+counted_more (x ∷ xs) ys = counted_more xs ys
 
 counted_replies : (m : ℕ) (is : List Item) → packet_count (replicate m Accepted ++ is) ≡ packet_count is
 counted_replies zero is = refl
@@ -144,14 +140,8 @@ holds_both old mid held xs ys a b = record {
 
 -- there stays a list for each station
 wide_event : (f : Numbers) (e : Event) (g : Gained) → length (with_event f e g).held ≡ length g.held
-wide_event f (events.Say line) g = refl
 wide_event f (events.Record k n bytes) g = length-set g.held k (get_or g.held k [] ++ bytes ∷ [])
-wide_event f events.None g = refl
-wide_event f events.End g = refl
-wide_event f (events.Refused k) g = refl
-wide_event f (events.Gap k want got) g = refl
-wide_event f events.Garbage g = refl
-wide_event f events.Foreign g = refl
+wide_event f event g = refl
 
 wide_events : (f : Numbers) (es : List Event) (g : Gained) → length (with_events f es g).held ≡ length g.held
 wide_events f [] g = refl
@@ -163,12 +153,8 @@ wide_read n c (Some l) = wide_events l.first_sent (events_upon c.talk (news n l)
     (record { held = c.held; start = c.start; to_server = l.written })
 
 wide_step : (setup : Setup) (c : Counted) (step : Step) → length (counted_step setup c step).held ≡ length c.held
-wide_step setup c (Append k b) = refl
-wide_step setup c Connect = refl
-wide_step setup c (ToServer n) = refl
 wide_step setup c (ToClient n) = wide_read n c c.link
-wide_step setup c (Send k) = refl
-wide_step setup c Cut = refl
+wide_step setup c step = refl
 
 -- what packets bring
 module _ (places : Places) (f : Numbers) where
@@ -176,9 +162,6 @@ module _ (places : Places) (f : Numbers) where
       → length g.held ≡ length places → IsLinked (talk_upon t is).stage
       → HoldsMore g.held is (with_events f (events_upon t is) g).held
   held_packets [] t g p sent matched wide linked = holds_none g.held
-  held_packets (Accepted ∷ is) t g p sent matched wide linked = absurd sent.0
-  held_packets (Refused ∷ is) t g p sent matched wide linked = absurd sent.0
-  held_packets (Greeted ∷ is) t g p sent matched wide linked = absurd sent.0
   held_packets (Carried j n r ∷ is) t g p sent matched wide linked =
       let x : Talk × Event = reported j (n % 2 ^ 24) r t in
       let h : on_item t.stage (Carried j n r) t ≡ x = ap (λ (s : Stage). on_item s (Carried j n r) t) p in
@@ -199,6 +182,7 @@ module _ (places : Places) (f : Numbers) where
       let h : on_item t.stage Finished t ≡ x = ap (λ (s : Stage). on_item s Finished t) p in
       absurd (subst (λ (u : Talk). IsLinked u.stage) (unlinked_upon x.0 is (λ l. l)).0
       (subst (λ (y : Talk × Event). IsLinked (talk_upon y.0 is).stage) h linked))
+  held_packets (i ∷ is) t g p sent matched wide linked = absurd sent.0
 
 -- a line that is given brings nothing
 placed : (f : Numbers) (k : ℕ) (o : Option Wanted) (t : Talk) (g : Gained)
@@ -344,14 +328,13 @@ module _ (setup : Setup) (differ : Differ setup.places.items) (codes : (k : ℕ)
       → Held old c.talk c.held c.link
       → Held old (counted_step setup c step).talk (counted_step setup c step).held (counted_step setup c step).link
   step_held old w c (Append k b) keep on h = h
-  step_held old w c Connect keep on h = absurd keep
   step_held old w c (ToServer n) keep on h =
       served_held old places (windows_of setup c) c.talk c.held n c.link (facts_of setup differ codes c w on.world) h
   step_held old w c (ToClient n) keep on h =
       read_held old places n c c.link on.wide (facts_of setup differ codes c w on.world) h h
   step_held old w c (Send k) keep on h =
       sent_held old places (windows_of setup c) c.talk c.held k c.link (facts_of setup differ codes c w on.world) h
-  step_held old w c Cut keep on h = absurd keep
+  step_held old w c step keep on h = absurd keep
 
   all_held : (old : Lists) (steps : List Step) (w v : WorldState) (c : Counted) (run : AllHappen w steps v)
       → AreOf places steps → AllKeep steps → IsOn c w → Held old c.talk c.held c.link
@@ -390,9 +373,6 @@ items_whole : (e : ℕ) (ps : List Item) → AreItems ps → e ≤ length (way_b
 items_whole e [] are few =
     let none : e / 520 ≡ 0 = omega (arith, few) in
     subst (λ m. AreWhole e [] (take m [])) (sym none) (none_whole e [] none)
-items_whole e (Accepted ∷ ps) are few = absurd are
-items_whole e (Refused ∷ ps) are few = absurd are
-items_whole e (Greeted ∷ ps) are few = absurd are
 items_whole e (Carried j n r ∷ ps) are few =
     let size : length (item_bytes (Carried j n r)) ≡ 520 = packet_long (n % 2 ^ 24) r are.0 in
     let all : length (way_bytes (Carried j n r ∷ ps)) ≡ length (item_bytes (Carried j n r)) + length (way_bytes ps) =
@@ -417,6 +397,7 @@ items_whole e (Finished ∷ ps) are few =
     (λ fits. subst (λ (is : List Item). AreWhole e (Finished ∷ wholes (e - 3) is) []) (sym are)
     (record { records = λ k. refl; whole = sym none; taken = sym none }))
     (λ lt. none_whole e [] none))
+items_whole e (p ∷ ps) are few = absurd are
 
 replies_length : (m : ℕ) (ps : List Item)
     → length (way_bytes (replicate m Accepted ++ ps)) ≡ 4 * m + length (way_bytes ps)

@@ -2,7 +2,7 @@
 use Rattle.std.proofs.Common.{◌≡◌, ℕ, ◌-◌, ◌*◌, ◌/◌, ◌%◌, ◌^◌, ◌+◌, ◌<◌, ◌≤◌, zero, suc, refl, sym, ap, ◌∙◌, arith}
 use Rattle.std.proofs.Common.{List, [], ◌∷◌, ◌++◌, length, replicate, take}
 use Rattle.slink_model.specs.Counted.{ArePackets, wholes}
-use Rattle.slink_model.specs.Ties.{Item, Accepted, Refused, Greeted, Carried, Finished, item_bytes}
+use Rattle.slink_model.specs.Ties.{Item, Accepted, Carried, Finished, item_bytes}
 use Rattle.slink_model.proofs.Counting.{whole_or}
 use Rattle.slink_feed.proofs.Prefixed.{packet_long}
 
@@ -22,9 +22,6 @@ packets_whole [] e are = nothing_taken (e / 520)
     nothing_taken : (n : ℕ) → ◌≡◌ {A = List Item} [] (take n [])
     nothing_taken zero = refl
     nothing_taken (suc n) = refl
-packets_whole (Accepted ∷ ps) e are = absurd are
-packets_whole (Refused ∷ ps) e are = absurd are
-packets_whole (Greeted ∷ ps) e are = absurd are
 packets_whole (Carried k n r ∷ ps) e are =
     let size : length (item_bytes (Carried k n r)) ≡ 520 = packet_long (n % 2 ^ 24) r are.0 in
     whole_or (Carried k n r) ps e (λ ws bs p. ws ≡ take (e / 520) (Carried k n r ∷ ps))
@@ -33,7 +30,7 @@ packets_whole (Carried k n r ∷ ps) e are =
     ap (λ ws. Carried k n r ∷ ws) (ap (λ s. wholes (e - s) ps) size ∙ packets_whole ps (e - 520) are.1)
     ∙ ap (λ m. take m (Carried k n r ∷ ps)) (sym count))
     (λ lt. let none : e / 520 ≡ 0 = omega (arith, lt, size) in ap (λ m. take m (Carried k n r ∷ ps)) (sym none))
-packets_whole (Finished ∷ ps) e are = absurd are
+packets_whole (p ∷ ps) e are = absurd are
 
 -- with the end after them
 packets_ending : (ps : List Item) (e : ℕ) → ArePackets ps → e < 520 * length ps + 3
@@ -41,9 +38,6 @@ packets_ending : (ps : List Item) (e : ℕ) → ArePackets ps → e < 520 * leng
 packets_ending [] e are few = whole_or Finished [] e (λ ws bs p. ws ≡ take (e / 520) [])
     (λ fits. absurd (omega (arith, few, fits)))
     (λ lt. let none : e / 520 ≡ 0 = omega (arith, lt) in ap (λ m. take m []) (sym none))
-packets_ending (Accepted ∷ ps) e are few = absurd are
-packets_ending (Refused ∷ ps) e are few = absurd are
-packets_ending (Greeted ∷ ps) e are few = absurd are
 packets_ending (Carried k n r ∷ ps) e are few =
     let size : length (item_bytes (Carried k n r)) ≡ 520 = packet_long (n % 2 ^ 24) r are.0 in
     whole_or (Carried k n r) (ps ++ Finished ∷ []) e (λ ws bs p. ws ≡ take (e / 520) (Carried k n r ∷ ps))
@@ -53,22 +47,19 @@ packets_ending (Carried k n r ∷ ps) e are few =
     ∙ packets_ending ps (e - 520) are.1 (omega (arith, few, fits, size)))
     ∙ ap (λ m. take m (Carried k n r ∷ ps)) (sym count))
     (λ lt. let none : e / 520 ≡ 0 = omega (arith, lt, size) in ap (λ m. take m (Carried k n r ∷ ps)) (sym none))
-packets_ending (Finished ∷ ps) e are few = absurd are
+packets_ending (p ∷ ps) e are few = absurd are
 
 packets_ended : (ps : List Item) (e : ℕ) → ArePackets ps → 520 * length ps + 3 ≤ e
     → wholes e (ps ++ Finished ∷ []) ≡ ps ++ Finished ∷ []
 packets_ended [] e are all =
     whole_or Finished [] e (λ ws bs p. ws ≡ Finished ∷ []) (λ fits. refl) (λ lt. absurd (omega (arith, all, lt)))
-packets_ended (Accepted ∷ ps) e are all = absurd are
-packets_ended (Refused ∷ ps) e are all = absurd are
-packets_ended (Greeted ∷ ps) e are all = absurd are
 packets_ended (Carried k n r ∷ ps) e are all =
     let size : length (item_bytes (Carried k n r)) ≡ 520 = packet_long (n % 2 ^ 24) r are.0 in
     whole_or (Carried k n r) (ps ++ Finished ∷ []) e (λ ws bs p. ws ≡ Carried k n r ∷ (ps ++ Finished ∷ []))
     (λ fits. ap (λ ws. Carried k n r ∷ ws) (ap (λ s. wholes (e - s) (ps ++ Finished ∷ [])) size
     ∙ packets_ended ps (e - 520) are.1 (omega (arith, all, size))))
     (λ lt. absurd (omega (arith, all, lt, size)))
-packets_ended (Finished ∷ ps) e are all = absurd are
+packets_ended (p ∷ ps) e are all = absurd are
 
 -- after the replies
 pub after_replies : (places delivered : ℕ) (ps : List Item) → 8 * places ≤ delivered

@@ -10,7 +10,7 @@ use Rattle.slink_wire.specs.Place.{Fields, IsField}
 use Rattle.slink_feed.specs.declared.dialogue.Event.{Event}
 use Rattle.slink_feed.specs.declared.dialogue.Event.TheVariants as events
 use Rattle.slink_feed.specs.declared.dialogue.Stage.{Stage}
-use Rattle.slink_feed.specs.declared.dialogue.Stage.TheVariants.{Unlinked, Station, Number, Packets, Ended}
+use Rattle.slink_feed.specs.declared.dialogue.Stage.TheVariants.{Unlinked, Ended}
 use Rattle.slink_model.specs.Counted.{CountedLink, Gained, undelivered, delivered_by, events_upon, news, on_item, part}
 use Rattle.slink_model.specs.Counted.{talk_upon, wholes, with_event, with_events}
 use Rattle.slink_feed.specs.Cutting.{IsBegun}
@@ -36,13 +36,7 @@ put a g = record g { to_server = a ++ g.to_server }
 prefix_event : (f : Numbers) (e : Event) (a : List ℕ) (g : Gained) → with_event f e (put a g) ≡ put a (with_event f e g)
 prefix_event f (events.Say line) a g =
     ap (λ (b : List ℕ). record g { to_server = b }) (append_assoc a g.to_server line.items)
-prefix_event f (events.Record k n bytes) a g = refl
-prefix_event f events.None a g = refl
-prefix_event f events.End a g = refl
-prefix_event f (events.Refused k) a g = refl
-prefix_event f (events.Gap k want got) a g = refl
-prefix_event f events.Garbage a g = refl
-prefix_event f events.Foreign a g = refl
+prefix_event f event a g = refl
 
 prefix_events : (f : Numbers) (es : List Event) (a : List ℕ) (g : Gained)
     → with_events f es (put a g) ≡ put a (with_events f es g)
@@ -53,10 +47,8 @@ prefix_events f (e ∷ es) a g = ap (with_events f es) (prefix_event f e a g) �
 unread : (t : Talk) (stage : Stage) (i : Item) → t.stage ≡ stage → ¬ (IsLinked stage)
     → on_item t.stage i t ≡ (t, events.None)
 unread t Unlinked i is over = ap (λ (s : Stage). on_item s i t) is
-unread t (Station k) i is over = absurd (over tt)
-unread t (Number k) i is over = absurd (over tt)
-unread t Packets i is over = absurd (over tt)
 unread t (Ended ending) i is over = ap (λ (s : Stage). on_item s i t) is
+unread t stage i is over = absurd (over tt)
 
 pub unlinked_upon : (t : Talk) (is : List Item) → ¬ (IsLinked t.stage)
     → (talk_upon t is ≡ t) × ((f : Numbers) (g : Gained) → with_events f (events_upon t is) g ≡ g)

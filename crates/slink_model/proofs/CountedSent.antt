@@ -7,7 +7,7 @@ use Rattle.slink_wire.specs.Packet.{packet_bytes}
 use Rattle.slink_wire.specs.Place.{Bears, Fields}
 use Rattle.slink_feed.specs.declared.grant.Grant.{Grant}
 use Rattle.slink_feed.specs.declared.session.Phase.{Phase}
-use Rattle.slink_feed.specs.declared.session.Phase.TheVariants.{Fresh, Chosen, Granted, Streaming, Closed}
+use Rattle.slink_feed.specs.declared.session.Phase.TheVariants.{Streaming, Closed}
 use Rattle.slink_feed.specs.declared.session.Sent.{Sent}
 use Rattle.slink_feed.specs.declared.session.Sent.TheVariants as sents
 use Rattle.slink_model.specs.Counted.{CountedLink, undelivered, carried_at, items_sent, sent_by}
@@ -15,7 +15,7 @@ use Rattle.slink_feed.specs.Dialogue.{next_at}
 use Rattle.slink_feed.specs.Listening.{Listening}
 use Rattle.slink_feed.specs.Session.{IsBefore, State, has_sent_all, at, at_next, grant_at, packet_at, sent, sent_bytes}
 use Rattle.slink_feed.specs.Session.{sent_in, sent_of}
-use Rattle.slink_model.specs.Ties.{Item, Accepted, Refused, Greeted, Carried, Finished, Places, of_place, way_bytes}
+use Rattle.slink_model.specs.Ties.{Item, Carried, Finished, Places, of_place, way_bytes}
 use Rattle.slink_feed.specs.Window.{Window, record_at}
 use Rattle.slink_model.specs.World.{LinkState, Numbers, first_after, sent_on}
 use Rattle.slink_feed.proofs.Closing.{Open}
@@ -33,11 +33,8 @@ use Rattle.slink_model.proofs.Waiting.{answered_few}
 -- what is sent goes after what was
 ends_more : (phase : Phase) (is ys : List Item) → EndsIn Streaming is → EndsIn phase ys → EndsIn phase (is ++ ys)
 ends_more phase [] ys h k = k
-ends_more phase (Accepted ∷ is) ys h k = ends_more phase is ys h k
-ends_more phase (Refused ∷ is) ys h k = ends_more phase is ys h k
-ends_more phase (Greeted ∷ is) ys h k = ends_more phase is ys h k
-ends_more phase (Carried i n r ∷ is) ys h k = ends_more phase is ys h k
 ends_more phase (Finished ∷ is) ys h k = absurd (let bad : Streaming ≡ Closed = h.1 in cc bad)
+ends_more phase (i ∷ is) ys h k = ends_more phase is ys h k
 
 module _ (places : Places) (client : Listening) (feed : List Window) (ringed : AreRinged places feed) (l : LinkState)
     (c : CountedLink) (counts : Counts places client c l) (k : ℕ) where
@@ -183,11 +180,9 @@ module _ (places : Places) (client : Listening) (feed : List Window) (ringed : A
       (at_end (has_sent_all feed s.grants) phase) (at_ring g w (record_at w g.position) phase grant here refl)
 
   in_phase : (phase : Phase) → s.phase ≡ phase → GoesOn (sent_in phase feed s k)
-  in_phase Fresh is = nothing_sent sents.Wait refl refl
-  in_phase (Chosen j) is = nothing_sent sents.Wait refl refl
-  in_phase (Granted j) is = nothing_sent sents.Wait refl refl
   in_phase Streaming is = in_stream (grant_at s.grants k) (slice_get feed k) is refl refl
   in_phase Closed is = nothing_sent sents.Closed refl refl
+  in_phase phase is = nothing_sent sents.Wait refl refl
 
   abbrev x : State × Sent
   x = sent feed s k

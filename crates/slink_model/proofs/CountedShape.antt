@@ -5,7 +5,7 @@ use Rattle.std.proofs.Common.{Option, Some, None, option_map, slice_get}
 use Rattle.std.proofs.lemmas.Option.{slice_get_within}
 use Rattle.slink_wire.specs.Place.{Fields}
 use Rattle.slink_feed.specs.declared.dialogue.Stage.{Stage}
-use Rattle.slink_feed.specs.declared.dialogue.Stage.TheVariants.{Unlinked, Station, Number, Packets, Ended}
+use Rattle.slink_feed.specs.declared.dialogue.Stage.TheVariants.{Station, Number, Packets}
 use Rattle.slink_feed.specs.declared.dialogue.Wanted.{Wanted}
 use Rattle.slink_feed.specs.declared.session.Phase.{Phase}
 use Rattle.slink_model.specs.declared.world.Setup.{Setup}
@@ -32,18 +32,15 @@ use Rattle.slink_model.proofs.Shaking.{asks_place, has_none, has_number, has_pla
 
 -- how many replies a client read that waits for this
 abbrev replies_at : Places → Stage → ℕ
-replies_at places Unlinked = 0
 replies_at places (Station k) = 2 * k
 replies_at places (Number k) = 2 * k + 1
 replies_at places Packets = 2 * length places
-replies_at places (Ended ending) = 0
+replies_at places stage = 0
 
 abbrev IsWithin : Places → Stage → Type 0
-IsWithin places Unlinked = Unit {0}
 IsWithin places (Station k) = k < length places
 IsWithin places (Number k) = k < length places
-IsWithin places Packets = Unit {0}
-IsWithin places (Ended ending) = Unit {0}
+IsWithin places stage = Unit {0}
 
 pub record Shape (places : Places) (stage : Stage) (sent : List Item) (d : ℕ) : Type 0 where
   pub packets : List Item
@@ -153,11 +150,8 @@ matched_prefix places (x ∷ xs) ys h = (h.0, matched_prefix places xs ys h.1)
 
 packets_more : (xs ys : List Item) → ArePackets xs → ArePackets ys → ArePackets (xs ++ ys)
 packets_more [] ys a b = b
-packets_more (Accepted ∷ xs) ys a b = absurd a
-packets_more (Refused ∷ xs) ys a b = absurd a
-packets_more (Greeted ∷ xs) ys a b = absurd a
 packets_more (Carried k n r ∷ xs) ys a b = (a.0, packets_more xs ys a.1 b)
-packets_more (Finished ∷ xs) ys a b = absurd a
+packets_more (x ∷ xs) ys a b = absurd a
 
 module _ (places : Places) (talk : Talk) (called : AreCalled places talk.wants) (n : ℕ) (l : CountedLink)
     (f : LinkFacts places talk l) (h : Shape places talk.stage l.sent l.delivered) where
@@ -365,11 +359,8 @@ items_are places phase [] (Refused ∷ is) a s b e = absurd s.0
 items_are places phase [] (Greeted ∷ is) a s b e = absurd s.0
 items_are places phase [] (Carried k n r ∷ is) a s b e = (b.0.2, items_are places phase [] is tt s.1 b.1 e)
 items_are places phase [] (Finished ∷ is) a s b e = e.0
-items_are places phase (Accepted ∷ prefix) is a s b e = absurd a
-items_are places phase (Refused ∷ prefix) is a s b e = absurd a
-items_are places phase (Greeted ∷ prefix) is a s b e = absurd a
 items_are places phase (Carried k n r ∷ prefix) is a s b e = (a.0, items_are places phase prefix is a.1 s b e)
-items_are places phase (Finished ∷ prefix) is a s b e = absurd a
+items_are places phase (item ∷ prefix) is a s b e = absurd a
 
 pub streamed_of : (places : Places) (talk : Talk) (q : Option CountedLink) → AreFacts places talk q
     → AreShaped places talk q → AreStreamed (length places) talk q

@@ -28,7 +28,7 @@ use Rattle.slink_feed.specs.Listening.{IsLinked, Listening}
 use Rattle.slink_feed.specs.Rings.{station_at}
 use Rattle.slink_feed.specs.Serving.{SessionState}
 use Rattle.slink_feed.specs.Session.{State, answered, at, chosen, grant_at, granted}
-use Rattle.slink_model.specs.Ties.{Item, Accepted, Refused, Greeted, Carried, Finished, Places, items_of, way_bytes}
+use Rattle.slink_model.specs.Ties.{Item, Finished, Places, items_of, way_bytes}
 use Rattle.slink_feed.specs.Window.{Window}
 use Rattle.slink_model.specs.World.{Differ, IsServed, LinkState}
 use Rattle.slink_model.proofs.Answering.{Comes, IsOn, called_on, it_came, not_yet, quiet_on}
@@ -48,11 +48,8 @@ use Rattle.slink_model.proofs.Waiting.{answered_few, asking_waits}
 -- Nothing comes after the end, which closes the session.
 abbrev pub EndsIn : Phase → List Item → Type 0
 EndsIn phase [] = Unit {0}
-EndsIn phase (Accepted ∷ is) = EndsIn phase is
-EndsIn phase (Refused ∷ is) = EndsIn phase is
-EndsIn phase (Greeted ∷ is) = EndsIn phase is
-EndsIn phase (Carried k n r ∷ is) = EndsIn phase is
 EndsIn phase (Finished ∷ is) = (is ≡ []) × (phase ≡ Closed)
+EndsIn phase (i ∷ is) = EndsIn phase is
 
 -- what was taken of the lines, and what is on its way
 pub record Pinned (places : Places) (client : Listening) (s : State) (taken way to_client : List ℕ)

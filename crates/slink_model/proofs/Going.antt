@@ -115,16 +115,13 @@ module _ (places : Places) (differ : Differ places) where
       → of_place k items ≡ prefix ++ (n, r) ∷ back → (p : Fields × Option ℕ) × (slice_get places k ≡ Some p)
       × (length r ≡ 512) × Bears r p.0) → AreOfPlace places items
   each_matched [] are each = tt
-  each_matched (Accepted ∷ is) are each = (tt, each_matched is are each)
-  each_matched (Refused ∷ is) are each = (tt, each_matched is are each)
-  each_matched (Greeted ∷ is) are each = (tt, each_matched is are each)
   each_matched (Carried k n r ∷ is) are each = (
     each k n r [] (of_place k is) (ap (λ b. b ++ of_place k is) (carried_here k n r)),
     each_matched is are.1 (λ i m x prefix back e. each i m x (carried_of i (Carried k n r) ++ prefix) back
         (ap (λ b. carried_of i (Carried k n r) ++ b) e
         ∙ sym (append_assoc (carried_of i (Carried k n r)) prefix ((m, x) ∷ back)))),
   )
-  each_matched (Finished ∷ is) are each = (tt, each_matched is are each)
+  each_matched (i ∷ is) are each = (tt, each_matched is are each)
 
 -- a record among those that come next was pushed
 next_at_split : (first : ℕ) (F : List (List ℕ)) (n : ℕ) (prefix back : List (ℕ × List ℕ)) (m : ℕ) (r : List ℕ)

@@ -5,7 +5,7 @@ use Rattle.std.proofs.lemmas.Bool.Decides.{eqb_tells}
 use Rattle.slink_wire.specs.declared.reply.Reply.{Reply}
 use Rattle.slink_wire.specs.declared.reply.Reply.TheVariants as replies
 use Rattle.slink_wire.specs.Reply.{reply_bytes}
-use Rattle.slink_model.specs.Ties.{AreWhole, Item, Accepted, Refused, Greeted, Carried, Finished, Holds, carried_of}
+use Rattle.slink_model.specs.Ties.{AreWhole, Item, Carried, Holds, carried_of}
 use Rattle.slink_model.specs.Ties.{item_bytes, items_of, of_place, way_bytes}
 
 pub way_more : (xs ys : List Item) → way_bytes (xs ++ ys) ≡ way_bytes xs ++ way_bytes ys
@@ -20,11 +20,8 @@ of_more k (x ∷ xs) ys = ap (λ b. carried_of k x ++ b) (of_more k xs ys)
 
 pub whole_more : (xs ys : List Item) → AreWhole xs → AreWhole ys → AreWhole (xs ++ ys)
 whole_more [] ys a b = b
-whole_more (Accepted ∷ xs) ys a b = whole_more xs ys a b
-whole_more (Refused ∷ xs) ys a b = whole_more xs ys a b
-whole_more (Greeted ∷ xs) ys a b = whole_more xs ys a b
 whole_more (Carried k n r ∷ xs) ys a b = (a.0, whole_more xs ys a.1 b)
-whole_more (Finished ∷ xs) ys a b = whole_more xs ys a b
+whole_more (x ∷ xs) ys a b = whole_more xs ys a b
 
 -- what is sent goes after what is on its way
 pub flow_more : (kept way bytes : List ℕ) (xs ys : List Item) → bytes ≡ way_bytes ys → kept ++ way ≡ way_bytes xs

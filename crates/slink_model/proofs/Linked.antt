@@ -116,16 +116,12 @@ module _ (places : Places) (first : ℕ) (windows : List Window) (pushed : Lists
   answered_in_phase : (phase : Phase) (s : State) (first_sent : Numbers) (way : List ℕ) (new : State) (reply : Reply)
       → s.phase ≡ phase → Leaves phase windows s (new, reply) → Linked s first_sent way
       → Linked new first_sent (way ++ reply_bytes reply)
-  answered_in_phase Fresh s first_sent way new reply e leaves l =
-      before_answered s first_sent way new reply (subst IsBefore (sym e) tt) leaves l
-  answered_in_phase (Chosen k) s first_sent way new reply e leaves l =
-      before_answered s first_sent way new reply (subst IsBefore (sym e) tt) leaves l
-  answered_in_phase (Granted k) s first_sent way new reply e leaves l =
-      before_answered s first_sent way new reply (subst IsBefore (sym e) tt) leaves l
   answered_in_phase Streaming s first_sent way new reply e leaves l =
       later_answered s first_sent way new reply leaves.0 leaves.1 leaves.2 l
   answered_in_phase Closed s first_sent way new reply e leaves l =
       later_answered s first_sent way new reply leaves.0 leaves.1 leaves.2 l
+  answered_in_phase phase s first_sent way new reply e leaves l =
+      before_answered s first_sent way new reply (subst IsBefore (sym e) tt) leaves l
 
   -- once a line was answered
   pub answered_link : (s : State) (first_sent : Numbers) (way : List ℕ) (new : State) (reply : Reply)

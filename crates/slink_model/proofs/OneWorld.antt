@@ -9,11 +9,11 @@ use Rattle.slink_wire.specs.Request.{request_line}
 use Rattle.slink_feed.specs.declared.dialogue.Event.{Event}
 use Rattle.slink_feed.specs.declared.dialogue.Event.TheVariants as events
 use Rattle.slink_feed.specs.declared.dialogue.Stage.{Stage}
-use Rattle.slink_feed.specs.declared.dialogue.Stage.TheVariants.{Unlinked, Station, Number, Packets, Ended}
+use Rattle.slink_feed.specs.declared.dialogue.Stage.TheVariants.{Unlinked, Ended}
 use Rattle.slink_feed.specs.declared.session.Phase.TheVariants.{Closed}
 use Rattle.slink_model.specs.declared.world.Setup.{Setup}
 use Rattle.slink_model.specs.declared.world.Step.{Step}
-use Rattle.slink_model.specs.declared.world.Step.TheVariants.{Append, Connect, ToServer, ToClient, Send, Cut}
+use Rattle.slink_model.specs.declared.world.Step.TheVariants.{Append, Connect, ToServer, ToClient}
 use Rattle.slink_model.specs.Counted.{Gained, with_event, with_events}
 use Rattle.slink_feed.specs.Cutting.{IsBegun, IsWhole}
 use Rattle.slink_feed.specs.Dialogue.{Talk, Whole, read, requests_place}
@@ -187,10 +187,8 @@ kept_linked k m x y p q e = sym (append-nil k) ∙ (ap (λ z. k ++ z) (sym p) �
 pub kept_same : (stage : Stage) (k m x y : List ℕ) → IsBegun stage k → IsBegun stage m → (IsLinked stage → x ≡ [])
     → (IsLinked stage → y ≡ []) → k ++ x ≡ m ++ y → k ≡ m
 kept_same Unlinked k m x y a b p q e = a ∙ sym b
-kept_same (Station j) k m x y a b p q e = kept_linked k m x y (p tt) (q tt) e
-kept_same (Number j) k m x y a b p q e = kept_linked k m x y (p tt) (q tt) e
-kept_same Packets k m x y a b p q e = kept_linked k m x y (p tt) (q tt) e
 kept_same (Ended ending) k m x y a b p q e = a ∙ sym b
+kept_same stage k m x y a b p q e = kept_linked k m x y (p tt) (q tt) e
 
 pub rest_is : (f : Numbers) (t : Taking) (bytes : List ℕ) (last : Taking) (h : ReadAllOf f t bytes last)
     → IsRest (talk_after t.client.talk h.brought).stage (last.client.kept ++ h.lost)
@@ -278,10 +276,8 @@ module _ (feed : List Window) (s : SessionState) (bytes way rest taken : List �
 -- a stage is linked, or not
 pub linked_or : (stage : Stage) → IsLinked stage ⊎ ¬ (IsLinked stage)
 linked_or Unlinked = inr (λ l. l)
-linked_or (Station k) = inl tt
-linked_or (Number k) = inl tt
-linked_or Packets = inl tt
 linked_or (Ended ending) = inr (λ l. l)
+linked_or stage = inl tt
 
 links_same : (a b : LinkState) → a.session ≡ b.session → a.first_sent ≡ b.first_sent → a.to_server ≡ b.to_server
     → a.to_client ≡ b.to_client → a ≡ b
@@ -361,14 +357,12 @@ module _ (places : Places) (differ : Differ places) (codes : (k : ℕ) (p : Fiel
       p.becomes ∙ (ap (λ (x : SessionState). linked_anew w x (requests_place 0 w.client.talk)) session ∙ sym q.becomes)
 
   pub step_once : (step : Step) (a b : WorldState) → Happens w step a → Happens w step b → a ≡ b
-  step_once (Append k bytes) a b p q = p ∙ sym q
   step_once Connect a b p q = connected_once a b p q
   step_once (ToServer n) a b p q =
       p.0 ∙ (ap (λ (x : Option LinkState). record w { link = x }) (served_links n w.link a.link b.link t.link p.1 q.1)
       ∙ sym q.0)
   step_once (ToClient n) a b p q = delivered_once n a b w.link a.link b.link p q refl refl refl p.link q.link
-  step_once (Send k) a b p q = p ∙ sym q
-  step_once Cut a b p q = p ∙ sym q
+  step_once step a b p q = p ∙ sym q
 
   -- what is kept stays begun
   read_keeps : (n : ℕ) (a : WorldState) (o x : Option LinkState) → Delivers n w a → w.link ≡ o
@@ -387,8 +381,7 @@ module _ (places : Places) (differ : Differ places) (codes : (k : ℕ) (p : Fiel
   step_keeps Connect a p = subst Keeps (sym p.becomes) (begun_none (requests_place 0 w.client.talk).0.stage)
   step_keeps (ToServer n) a p = subst Keeps (sym p.0) keeps
   step_keeps (ToClient n) a p = read_keeps n a w.link a.link p refl p.link
-  step_keeps (Send k) a p = subst Keeps (sym p) keeps
-  step_keeps Cut a p = subst Keeps (sym p) keeps
+  step_keeps step a p = subst Keeps (sym p) keeps
 
 module _ (places : Places) (differ : Differ places) (codes : (k : ℕ) (p : Fields × Option ℕ)
     → slice_get places k ≡ Some p → IsField 5 p.0.station × IsField 2 p.0.network) where

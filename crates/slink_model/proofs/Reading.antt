@@ -5,7 +5,7 @@ use Rattle.slink_feed.specs.declared.dialogue.Ending.TheVariants as endings
 use Rattle.slink_feed.specs.declared.dialogue.Event.{Event}
 use Rattle.slink_feed.specs.declared.dialogue.Event.TheVariants as events
 use Rattle.slink_feed.specs.declared.dialogue.Stage.{Stage}
-use Rattle.slink_feed.specs.declared.dialogue.Stage.TheVariants.{Unlinked, Station, Number, Packets, Ended}
+use Rattle.slink_feed.specs.declared.dialogue.Stage.TheVariants.{Unlinked, Ended}
 use Rattle.slink_feed.specs.Cutting.{IsBegun, IsWhole}
 use Rattle.slink_feed.specs.Dialogue.{Talk, event_of}
 use Rattle.slink_feed.specs.Listening.{Brings, IsLinked, Listening, begun, whole}
@@ -22,10 +22,8 @@ pub data Place (stage : Stage) : Type 0 where
 
 place_of : (stage : Stage) → Place stage
 place_of Unlinked = unlinked refl
-place_of (Station k) = linked tt
-place_of (Number k) = linked tt
-place_of Packets = linked tt
 place_of (Ended ending) = ended ending refl
+place_of stage = linked tt
 
 not_unlinked : (stage : Stage) → stage ≡ Unlinked → ¬ (IsLinked stage)
 not_unlinked stage e is = subst IsLinked e is

@@ -20,7 +20,7 @@ use Rattle.mseed_pack.specs.ReadBack.{AreViewsOf, IsAssembled, IsPartOf, ReadsAs
 use Rattle.slink_wire.specs.Place.{Bears, Fields}
 use Rattle.slink_model.specs.declared.world.Setup.{Setup}
 use Rattle.slink_model.specs.declared.world.Step.{Step}
-use Rattle.slink_model.specs.declared.world.Step.TheVariants.{Append, Connect, ToServer, ToClient, Send, Cut}
+use Rattle.slink_model.specs.declared.world.Step.TheVariants.{Append, Send}
 use Rattle.slink_model.specs.Pushed.{appended, appended_by}
 use Rattle.slink_model.specs.Ties.{Holds}
 use Rattle.slink_feed.specs.Dialogue.{next_at}
@@ -136,11 +136,8 @@ fed_of place first [] rs of bears = tt
 fed_of place first (Append k b ∷ steps) [] of bears = fed_of place first steps [] of.1 tt
 fed_of place first (Append k b ∷ steps) (r ∷ rs) of bears =
     (((place, first), is_at place first k of.0, bears.0), fed_of place first steps rs of.1 bears.1)
-fed_of place first (Connect ∷ steps) rs of bears = (tt, fed_of place first steps rs of.1 bears)
-fed_of place first (ToServer n ∷ steps) rs of bears = (tt, fed_of place first steps rs of.1 bears)
-fed_of place first (ToClient n ∷ steps) rs of bears = (tt, fed_of place first steps rs of.1 bears)
 fed_of place first (Send k ∷ steps) rs of bears = (of.0, fed_of place first steps rs of.1 bears)
-fed_of place first (Cut ∷ steps) rs of bears = (tt, fed_of place first steps rs of.1 bears)
+fed_of place first (step ∷ steps) rs of bears = (tt, fed_of place first steps rs of.1 bears)
 
 pub all_of : (setup : Setup) (codes : List ℕ) (of : IsOfChannel setup codes) (steps : List Step) (rs : List (List ℕ))
     → All IsOfOne steps → AllBear of.place rs → All (IsOf setup.places.items) (fed steps rs)
@@ -153,11 +150,7 @@ fewer [] rs = omega arith
 fewer (Append k b ∷ steps) [] = let more : length (fed steps []) ≤ length steps = fewer steps [] in omega (arith, more)
 fewer (Append k b ∷ steps) (r ∷ rs) = let more : length (fed steps rs) ≤ length steps = fewer steps rs in
     omega (arith, more)
-fewer (Connect ∷ steps) rs = let more : length (fed steps rs) ≤ length steps = fewer steps rs in omega (arith, more)
-fewer (ToServer n ∷ steps) rs = let more : length (fed steps rs) ≤ length steps = fewer steps rs in omega (arith, more)
-fewer (ToClient n ∷ steps) rs = let more : length (fed steps rs) ≤ length steps = fewer steps rs in omega (arith, more)
-fewer (Send k ∷ steps) rs = let more : length (fed steps rs) ≤ length steps = fewer steps rs in omega (arith, more)
-fewer (Cut ∷ steps) rs = let more : length (fed steps rs) ≤ length steps = fewer steps rs in omega (arith, more)
+fewer (step ∷ steps) rs = let more : length (fed steps rs) ≤ length steps = fewer steps rs in omega (arith, more)
 
 -- what is pushed are the first of the records
 here : (k : ℕ) (b : List ℕ) → k < 1 → appended_by 0 (Append k b) ≡ b ∷ []
@@ -174,11 +167,7 @@ prefix (Append k b ∷ steps) (r ∷ rs) of =
       ap (λ (qs : List (List ℕ)). r ∷ qs) more.1
           ∙ ap (λ (qs : List (List ℕ)). (qs ++ appended 0 (fed steps rs)) ++ more.0) (sym (here k r of.0)),
     )
-prefix (Connect ∷ steps) rs of = prefix steps rs of.1
-prefix (ToServer n ∷ steps) rs of = prefix steps rs of.1
-prefix (ToClient n ∷ steps) rs of = prefix steps rs of.1
-prefix (Send k ∷ steps) rs of = prefix steps rs of.1
-prefix (Cut ∷ steps) rs of = prefix steps rs of.1
+prefix (step ∷ steps) rs of = prefix steps rs of.1
 
 -- what is held are some of them, one after another
 pub record Between (rs held : List (List ℕ)) : Type 0 where
@@ -223,15 +212,7 @@ appended_few (Append k b ∷ steps) =
     let sum : length (appended 0 (Append k b ∷ steps)) ≡ length (appended_by 0 (Append k b)) + length
     (appended 0 steps) = length-append (appended_by 0 (Append k b)) (appended 0 steps) in
     omega (arith, more, one, sum)
-appended_few (Connect ∷ steps) = let more : length (appended 0 steps) ≤ length steps = appended_few steps in
-    omega (arith, more)
-appended_few (ToServer n ∷ steps) = let more : length (appended 0 steps) ≤ length steps = appended_few steps in
-    omega (arith, more)
-appended_few (ToClient n ∷ steps) = let more : length (appended 0 steps) ≤ length steps = appended_few steps in
-    omega (arith, more)
-appended_few (Send k ∷ steps) = let more : length (appended 0 steps) ≤ length steps = appended_few steps in
-    omega (arith, more)
-appended_few (Cut ∷ steps) = let more : length (appended 0 steps) ≤ length steps = appended_few steps in
+appended_few (step ∷ steps) = let more : length (appended 0 steps) ≤ length steps = appended_few steps in
     omega (arith, more)
 
 pub held_few : (pushed held : List (List ℕ)) (steps : List Step) (first : ℕ) (next start : Option ℕ)

@@ -32,8 +32,7 @@ use Rattle.slink_feed.specs.Listening.{Brings, IsLinked, Listening, begun, whole
 use Rattle.slink_feed.specs.Serving.{SessionState}
 use Rattle.slink_feed.specs.Session.{IsBefore, grant_at}
 use Rattle.slink_model.specs.Spared.{IsFair, IsSpared}
-use Rattle.slink_model.specs.Ties.{Item, Accepted, Refused, Greeted, Carried, Finished, Places, item_bytes, of_place}
-use Rattle.slink_model.specs.Ties.{way_bytes}
+use Rattle.slink_model.specs.Ties.{Item, Accepted, Refused, Carried, Finished, Places, item_bytes, of_place, way_bytes}
 use Rattle.slink_model.specs.World.{Differ, Reads, Numbers, Taking, none_read, noted, piece_read, piece_lost}
 use Rattle.slink_feed.proofs.Prefixed.{wanted_reported, packet_long}
 use Rattle.slink_feed.proofs.Received.{begun_none}
@@ -426,16 +425,12 @@ module _ (places : Places) (differ : Differ places) (codes_are : (k : ℕ) (p : 
         → new.kept ≡ [] → ClientTalks new (Way t new e) left
     stream_talks t new bytes left e w [] l spared called stage later sent answered one is h none =
         nothing_talks t new bytes left (Way t new e) w l one is
-    stream_talks t new bytes left e w (Accepted ∷ rest) l spared called stage later sent answered one is h none =
-        absurd sent.0
-    stream_talks t new bytes left e w (Refused ∷ rest) l spared called stage later sent answered one is h none =
-        absurd sent.0
-    stream_talks t new bytes left e w (Greeted ∷ rest) l spared called stage later sent answered one is h none =
-        absurd sent.0
     stream_talks t new bytes left e w (Carried k n r ∷ rest) l spared called stage later sent answered one is h none =
         packet_talks t new bytes left e w k n r rest l spared called stage later sent.1 answered one is h none
     stream_talks t new bytes left e w (Finished ∷ rest) l spared called stage later sent answered one is h none =
         end_talks t new bytes left e w rest l called stage answered one is h
+    stream_talks t new bytes left e w (item ∷ rest) l spared called stage later sent answered one is h none =
+        absurd sent.0
 
     whole_talks : (t : Taking) (new : Listening) (bytes left : List ℕ) (e : Event) (w : Whole)
         (l : LinkTalks places t.client session t.to_server (bytes ++ left)) → IsSpared t.client.talk.stage

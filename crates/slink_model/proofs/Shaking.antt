@@ -27,7 +27,7 @@ use Rattle.slink_feed.specs.Listening.{Listening}
 use Rattle.slink_feed.specs.Rings.{station_at}
 use Rattle.slink_feed.specs.Serving.{Answers, IsAnswer, Serves, SessionState, Takes, none_served, piece_served}
 use Rattle.slink_feed.specs.Session.{Grants, IsBefore, State, answered, answered_in, at, chosen, grant_at, granted}
-use Rattle.slink_model.specs.Ties.{AreSound, Item, Accepted, Refused, Greeted, Carried, Finished, Leaves, Places}
+use Rattle.slink_model.specs.Ties.{AreSound, Item, Accepted, Refused, Carried, Finished, Leaves, Places}
 use Rattle.slink_model.specs.Ties.{items_of, of_place, way_bytes}
 use Rattle.slink_feed.specs.Window.{Window}
 use Rattle.slink_model.specs.World.{Differ}
@@ -42,12 +42,9 @@ use Rattle.slink_model.proofs.Resolved.{resolved_alike}
 
 -- Of records, each has 512 bytes and is of its station.
 abbrev pub IsOfPlace : Places → Item → Type 0
-IsOfPlace places Accepted = Unit {0}
-IsOfPlace places Refused = Unit {0}
-IsOfPlace places Greeted = Unit {0}
 IsOfPlace places (Carried k n r) = (p : Fields × Option ℕ) × (slice_get places k ≡ Some p) × (length r ≡ 512)
     × Bears r p.0
-IsOfPlace places Finished = Unit {0}
+IsOfPlace places item = Unit {0}
 
 abbrev pub AreOfPlace : Places → List Item → Type 0
 AreOfPlace places [] = Unit {0}
@@ -55,11 +52,9 @@ AreOfPlace places (i ∷ is) = IsOfPlace places i × AreOfPlace places is
 
 -- what is sent once lines are no longer answered
 abbrev pub IsSent : Item → Type 0
-IsSent Accepted = ⊥
-IsSent Refused = ⊥
-IsSent Greeted = ⊥
 IsSent (Carried k n r) = Unit {0}
 IsSent Finished = Unit {0}
+IsSent item = ⊥
 
 abbrev pub AreSent : List Item → Type 0
 AreSent [] = Unit {0}
@@ -386,11 +381,9 @@ module _ (places : Places) (differ : Differ places) (codes : (k : ℕ) (p : Fiel
   -- once packets are sent no line is answered
   pub later : (phase : Phase) (s now : State) (reply : Reply) → s.phase ≡ phase → ¬ (IsBefore phase)
       → Leaves phase feed s (now, reply) → (now.grants ≡ s.grants) × (reply ≡ replies.Nothing) × ¬ (IsBefore now.phase)
-  later Fresh s now reply e not_before l = absurd (not_before tt)
-  later (Chosen k) s now reply e not_before l = absurd (not_before tt)
-  later (Granted k) s now reply e not_before l = absurd (not_before tt)
   later Streaming s now reply e not_before l = (l.0, l.1, l.2)
   later Closed s now reply e not_before l = (l.0, l.1, l.2)
+  later phase s now reply e not_before l = absurd (not_before tt)
 
   streamed : (s now : SessionState) (taken rest way : List ℕ) (items : List Item) (reply : Reply) (what : What)
       → client.talk.stage ≡ Packets → ¬ (IsBefore s.state.phase) → AreSent items → IsAnswered taken rest

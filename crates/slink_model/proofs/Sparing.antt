@@ -227,11 +227,8 @@ module _ (places : Places) (differ : Differ places) (codes_are : (k : ℕ) (p : 
 
     in_phase : (phase : Phase) (s : State) (way : List ℕ) (k : ℕ) → s.phase ≡ phase → Stands s way
         → Goes way (sent_in phase feed s k)
-    in_phase Fresh s way k is l = none_sent s way l
-    in_phase (Chosen j) s way k is l = none_sent s way l
-    in_phase (Granted j) s way k is l = none_sent s way l
     in_phase Streaming s way k is l = in_stream s way k (grant_at s.grants k) (slice_get feed k) is refl refl l
-    in_phase Closed s way k is l = none_sent s way l
+    in_phase phase s way k is l = none_sent s way l
 
     send_talks : (s : State) (way : List ℕ) (k : ℕ) → Stands s way → Goes way (sent feed s k)
     send_talks s way k l = in_phase s.phase s way k refl l

@@ -5,7 +5,7 @@ use Rattle.std.proofs.lemmas.List.{length-map}
 use Rattle.slink_wire.specs.Place.{Fields, Bears}
 use Rattle.slink_model.specs.declared.world.Setup.{Setup}
 use Rattle.slink_model.specs.declared.world.Step.{Step}
-use Rattle.slink_model.specs.declared.world.Step.TheVariants.{Append, Connect, ToServer, ToClient, Send, Cut}
+use Rattle.slink_model.specs.declared.world.Step.TheVariants.{Append, Connect, ToServer, ToClient, Send}
 use Rattle.slink_feed.specs.Rings.{HasPlace}
 use Rattle.slink_feed.specs.Session.{Fits, State}
 use Rattle.slink_model.specs.Running.{AreRings, IsPossible, IsServing}
@@ -86,10 +86,7 @@ possible places bound feed (Send k) rings small of =
     let same : length feed ≡ length places = sym (length-map feed (λ (v : Window). v.place))
     ∙ (ap length rings.places_are ∙ length-map places (λ (p : Fields × Option ℕ). p.0)) in
     omega (arith, of, same)
-possible places bound feed Connect rings small of = tt
-possible places bound feed (ToServer n) rings small of = tt
-possible places bound feed (ToClient n) rings small of = tt
-possible places bound feed Cut rings small of = tt
+possible places bound feed step rings small of = tt
 
 rings_more : (places : List (Fields × Option ℕ)) (bound : ℕ) (feed new : List Window) → AreRings places bound feed
     → new ≡ feed → AreRings places (bound + 1) new
@@ -121,9 +118,7 @@ rings_on places bound w v Connect rings happens =
 rings_on places bound w v (ToServer n) rings happens =
     rings_more places bound w.windows v.windows rings (ap (λ (u : WorldState). u.windows) happens.0)
 rings_on places bound w v (ToClient n) rings happens = rings_more places bound w.windows v.windows rings happens.windows
-rings_on places bound w v (Send k) rings happens =
-    rings_more places bound w.windows v.windows rings (ap (λ (u : WorldState). u.windows) happens)
-rings_on places bound w v Cut rings happens =
+rings_on places bound w v step rings happens =
     rings_more places bound w.windows v.windows rings (ap (λ (u : WorldState). u.windows) happens)
 
 pub happens_more : (w u last : WorldState) (steps : List Step) (i : ℕ) (d : Step) → i < length steps

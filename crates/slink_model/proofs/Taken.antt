@@ -70,15 +70,9 @@ place_is wants r j h =
 
 quiet_held : (f : Numbers) (e : Event) (t : Taking) → reported_of e ≡ None → ((noted f e t).held ≡ t.held)
     × ((noted f e t).start ≡ t.start)
-quiet_held f events.None t h = (refl, refl)
-quiet_held f (events.Say bytes) t h = (refl, refl)
 quiet_held f (events.Record k n r) t h =
     absurd (let bad : Some (record { index = k; number = n; bytes = r }) ≡ None = h in cc bad)
-quiet_held f events.End t h = (refl, refl)
-quiet_held f (events.Refused k) t h = (refl, refl)
-quiet_held f (events.Gap k want got) t h = (refl, refl)
-quiet_held f events.Garbage t h = (refl, refl)
-quiet_held f events.Foreign t h = (refl, refl)
+quiet_held f event t h = (refl, refl)
 
 pub same_client : (f : Numbers) (e : Event) (t : Taking) → (noted f e t).client ≡ t.client
 same_client f events.None t = refl
@@ -96,19 +90,13 @@ no_reported a e = absurd (let bad : None ≡ Some a = e in cc bad)
 reported_held : (f : Numbers) (e : Event) (t : Taking) (a : Reported) → reported_of e ≡ Some a
     → ((noted f e t).held ≡ with_one t.held a.index a.bytes)
     × ((noted f e t).start ≡ with_first t.start a.index (number_at f a.index))
-reported_held f events.None t a h = no_reported a h
-reported_held f (events.Say bytes) t a h = no_reported a h
 reported_held f (events.Record k n r) t a h =
     let same : (record { index = k; number = n; bytes = r }) ≡ a =
     same_Some (record { index = k; number = n; bytes = r }) a h in (
       ap (λ (x : Reported). with_one t.held x.index x.bytes) same,
       ap (λ (x : Reported). with_first t.start x.index (number_at f x.index)) same,
     )
-reported_held f events.End t a h = no_reported a h
-reported_held f (events.Refused k) t a h = no_reported a h
-reported_held f (events.Gap k want got) t a h = no_reported a h
-reported_held f events.Garbage t a h = no_reported a h
-reported_held f events.Foreign t a h = no_reported a h
+reported_held f event t a h = no_reported a h
 
 -- what is on its way of a station is granted, and was pushed
 way_first : (few : ℕ → Type 0) (first : ℕ) (F held : List (List ℕ)) (start sent : Option ℕ) (grant : Option Grant)

@@ -13,7 +13,7 @@ use Rattle.slink_feed.specs.declared.dialogue.Ending.TheVariants as endings
 use Rattle.slink_feed.specs.declared.dialogue.Event.{Event}
 use Rattle.slink_feed.specs.declared.dialogue.Event.TheVariants as events
 use Rattle.slink_feed.specs.declared.dialogue.Stage.{Stage}
-use Rattle.slink_feed.specs.declared.dialogue.Stage.TheVariants.{Unlinked, Station, Number, Packets, Ended}
+use Rattle.slink_feed.specs.declared.dialogue.Stage.TheVariants.{Unlinked, Station, Number, Packets}
 use Rattle.slink_feed.specs.declared.grant.Grant.{Grant}
 use Rattle.slink_feed.specs.declared.session.Phase.TheVariants.{Fresh, Streaming, Closed}
 use Rattle.slink_feed.specs.declared.session.Sent.{Sent}
@@ -24,7 +24,7 @@ use Rattle.slink_model.specs.declared.world.Step.TheVariants.{Append, Connect, T
 use Rattle.slink_feed.specs.Dialogue.{Talk, ended, next_at, requests_number, requests_place, reported, wants_of}
 use Rattle.slink_feed.specs.Listening.{IsLinked}
 use Rattle.slink_feed.specs.Session.{Grants, State, called, at, chosen, grant_at, sent}
-use Rattle.slink_model.specs.Ties.{Item, Accepted, Refused, Greeted, Carried, Finished, item_bytes, items_of, way_bytes}
+use Rattle.slink_model.specs.Ties.{Item, Accepted, Refused, Carried, Finished, item_bytes, items_of, way_bytes}
 use Rattle.slink_feed.specs.Window.{Window, record_at, window}
 use Rattle.slink_model.specs.World.{LinkState, Lists, Numbers, WorldState, first_after, number_at, written, with_first}
 use Rattle.slink_model.specs.World.{with_one}
@@ -59,9 +59,8 @@ shown_of setup p pushed = record {
 }
 
 abbrev pub shown_all : Setup → List (Fields × Option ℕ) → Lists → List Window
-shown_all setup [] pushed = []
-shown_all setup (p ∷ ps) [] = []
 shown_all setup (p ∷ ps) (records ∷ pushed) = shown_of setup p records ∷ shown_all setup ps pushed
+shown_all setup places pushed = []
 
 abbrev pub windows_of : Setup → Counted → List Window
 windows_of setup c = shown_all setup setup.places.items c.pushed
@@ -70,11 +69,10 @@ windows_of setup c = shown_all setup setup.places.items c.pushed
 -- granted, if
 -- there is that grant; or packets may follow.
 abbrev pub answer_at : Stage → List Window → Talk → State → State × ServerReply
-answer_at Unlinked feed t s = (s, replies.Nothing)
 answer_at (Station k) feed t s = chosen (Some k) s
 answer_at (Number k) feed t s = called feed k t.mode (next_at t.wants k) s
 answer_at Packets feed t s = (at Streaming s.grants, replies.Nothing)
-answer_at (Ended ending) feed t s = (s, replies.Nothing)
+answer_at stage feed t s = (s, replies.Nothing)
 
 -- A line waits for its answer while its CR isn't taken, which an LF follows.
 abbrev pub waits : ℕ → List ℕ → Bool
@@ -98,16 +96,13 @@ served_by feed talk n l = if_come (waits l.taken l.written && not (waits (taken_
 
 -- what a session sends of a station: the packet of the record at its position, or the end
 abbrev pub carried_at : ℕ → Option Grant → Option Window → List Item
-carried_at k None ring = []
-carried_at k (Some g) None = []
 carried_at k (Some g) (Some w) = Carried k g.position (unwrap_or (record_at w g.position) []) ∷ []
+carried_at k grant ring = []
 
 abbrev pub items_sent : List Window → Grants → ℕ → Sent → List Item
 items_sent feed grants k (sents.Packet bytes) = carried_at k (grant_at grants k) (slice_get feed k)
 items_sent feed grants k sents.Done = Finished ∷ []
-items_sent feed grants k sents.Wait = []
-items_sent feed grants k sents.Overrun = []
-items_sent feed grants k sents.Closed = []
+items_sent feed grants k answer = []
 
 -- The session is called for a packet of a station.
 abbrev pub sent_by : List Window → ℕ → CountedLink → CountedLink
@@ -160,12 +155,7 @@ abbrev pub with_event : Numbers → Event → Gained → Gained
 with_event f (events.Say line) g = record g { to_server = g.to_server ++ line.items }
 with_event f (events.Record k n bytes) g =
     record g { held = with_one g.held k bytes; start = with_first g.start k (number_at f k) }
-with_event f events.None g = g
-with_event f events.End g = g
-with_event f (events.Refused k) g = g
-with_event f (events.Gap k want got) g = g
-with_event f events.Garbage g = g
-with_event f events.Foreign g = g
+with_event f event g = g
 
 abbrev pub with_events : Numbers → List Event → Gained → Gained
 with_events f [] g = g
@@ -242,9 +232,8 @@ pub record IsCountedLink (talk : Talk) (kept : List ℕ) (c : CountedLink) (l : 
 
 abbrev pub AreCountedLinks : Talk → List ℕ → Option CountedLink → Option LinkState → Type 0
 AreCountedLinks talk kept None None = Unit {0}
-AreCountedLinks talk kept None (Some l) = ⊥
-AreCountedLinks talk kept (Some c) None = ⊥
 AreCountedLinks talk kept (Some c) (Some l) = IsCountedLink talk kept c l
+AreCountedLinks talk kept counted link = ⊥
 
 -- The world is the counted one.
 pub record IsCounted (setup : Setup) (c : Counted) (w : WorldState) : Type 0 where
@@ -258,20 +247,15 @@ pub record IsCounted (setup : Setup) (c : Counted) (w : WorldState) : Type 0 whe
 -- packets of records of 512 bytes
 abbrev pub ArePackets : List Item → Type 0
 ArePackets [] = Unit {0}
-ArePackets (Accepted ∷ is) = ⊥
-ArePackets (Refused ∷ is) = ⊥
-ArePackets (Greeted ∷ is) = ⊥
 ArePackets (Carried k n r ∷ is) = (length r ≡ 512) × ArePackets is
-ArePackets (Finished ∷ is) = ⊥
+ArePackets (i ∷ is) = ⊥
 
 -- the same, and after the last of them the end, if it was sent
 abbrev pub AreItems : List Item → Type 0
 AreItems [] = Unit {0}
-AreItems (Accepted ∷ is) = ⊥
-AreItems (Refused ∷ is) = ⊥
-AreItems (Greeted ∷ is) = ⊥
 AreItems (Carried k n r ∷ is) = (length r ≡ 512) × AreItems is
 AreItems (Finished ∷ is) = is ≡ []
+AreItems (i ∷ is) = ⊥
 
 -- Two replies of 4 bytes to each of so many stations were sent and came to the client; after them packets were sent,
 -- and after the last of these the end, if it was.

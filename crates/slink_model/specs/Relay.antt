@@ -5,7 +5,7 @@ use Rattle.slink_wire.specs.Place.{AreNumbers, Fields}
 use Rattle.slink_feed.specs.Fault.{IsCapacity}
 use Rattle.slink_model.specs.declared.world.Setup.{Setup}
 use Rattle.slink_model.specs.declared.world.Step.{Step}
-use Rattle.slink_model.specs.declared.world.Step.TheVariants.{Append, Connect, ToServer, ToClient, Send, Cut}
+use Rattle.slink_model.specs.declared.world.Step.TheVariants.{Append, Send}
 use Rattle.slink_model.specs.World.{AllHappen, WorldState, opening}
 use Rattle.mseed_record.specs.View.{View}
 use Rattle.mseed_audit.specs.Follows.{IsContinuous}
@@ -22,20 +22,13 @@ abbrev pub fed : List Step → List (List ℕ) → List Step
 fed [] records = []
 fed (Append k bytes ∷ steps) [] = fed steps []
 fed (Append k bytes ∷ steps) (r ∷ rs) = Append k r ∷ fed steps rs
-fed (Connect ∷ steps) records = Connect ∷ fed steps records
-fed (ToServer n ∷ steps) records = ToServer n ∷ fed steps records
-fed (ToClient n ∷ steps) records = ToClient n ∷ fed steps records
-fed (Send k ∷ steps) records = Send k ∷ fed steps records
-fed (Cut ∷ steps) records = Cut ∷ fed steps records
+fed (step ∷ steps) records = step ∷ fed steps records
 
 -- A step names the one station.
 abbrev pub IsOfOne : Step → Type 0
 IsOfOne (Append k bytes) = k < 1
-IsOfOne Connect = Unit {0}
-IsOfOne (ToServer n) = Unit {0}
-IsOfOne (ToClient n) = Unit {0}
 IsOfOne (Send k) = k < 1
-IsOfOne Cut = Unit {0}
+IsOfOne step = Unit {0}
 
 -- The schedule has one station, that of the channel: its codes begin with the network, and then the station.
 pub record IsOfChannel (setup : Setup) (codes : List ℕ) : Type 0 where

@@ -2,7 +2,7 @@
 use Rattle.std.specs.Prelude.{◌≡◌, ℕ, ◌^◌, ◌<◌, ◌≤◌, List, map, length, Option, Some, IfSome, slice_get}
 use Rattle.slink_wire.specs.Place.{Fields, Bears}
 use Rattle.slink_model.specs.declared.world.Step.{Step}
-use Rattle.slink_model.specs.declared.world.Step.TheVariants.{Append, Connect, ToServer, ToClient, Send, Cut}
+use Rattle.slink_model.specs.declared.world.Step.TheVariants.{Append, Send}
 use Rattle.slink_feed.specs.Cutting.{IsBegun}
 use Rattle.slink_feed.specs.Listening.{Listening}
 use Rattle.slink_feed.specs.Session.{Fits}
@@ -24,10 +24,7 @@ pub record IsRunning (w : WorldState) : Type 0 where
 abbrev pub IsPossible : List Window → Step → Type 0
 IsPossible feed (Append k bytes) = (v : Window) × (slice_get feed k ≡ Some v) × Bears bytes v.place × (v.next < 2 ^ 63)
 IsPossible feed (Send k) = k < length feed
-IsPossible feed Connect = Unit {0}
-IsPossible feed (ToServer n) = Unit {0}
-IsPossible feed (ToClient n) = Unit {0}
-IsPossible feed Cut = Unit {0}
+IsPossible feed step = Unit {0}
 
 -- The rings are of these stations, and have numbers up to a bound.
 pub record AreRings (places : List (Fields × Option ℕ)) (bound : ℕ) (feed : List Window) : Type 0 where

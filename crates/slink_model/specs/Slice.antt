@@ -6,7 +6,7 @@ use Rattle.slink_feed.specs.declared.grant.Grant.{Grant}
 use Rattle.slink_feed.specs.declared.grant.Mode.{Mode}
 use Rattle.slink_model.specs.declared.world.Setup.{Setup}
 use Rattle.slink_model.specs.declared.world.Step.{Step}
-use Rattle.slink_model.specs.declared.world.Step.TheVariants.{Append, Connect, ToServer, ToClient, Send, Cut}
+use Rattle.slink_model.specs.declared.world.Step.TheVariants.{Append}
 use Rattle.slink_feed.specs.Dialogue.{next_at}
 use Rattle.slink_feed.specs.Listening.{IsLinked}
 use Rattle.slink_feed.specs.Session.{State, called, grant_at, granted}
@@ -28,11 +28,7 @@ LackFew first w (step ∷ steps) v run = LacksFew first w × LackFew first run.0
 -- a record has 512 bytes
 abbrev pub IsSound : Step → Type 0
 IsSound (Append k bytes) = length bytes ≡ 512
-IsSound Connect = Unit {0}
-IsSound (ToServer n) = Unit {0}
-IsSound (ToClient n) = Unit {0}
-IsSound (Send k) = Unit {0}
-IsSound Cut = Unit {0}
+IsSound step = Unit {0}
 
 -- Up to sixteen different stations, and rings of up to a million records. Each step names one of the stations, and a
 -- record that is pushed has 512 bytes and is of its station.

@@ -2,9 +2,9 @@
 use Rattle.std.specs.Prelude.{◌≡◌, ℕ, ◌<◌, List, length, Option, Some, slice_get}
 use Rattle.slink_wire.specs.Place.{AreNumbers, Fields, IsField}
 use Rattle.slink_feed.specs.declared.dialogue.Ending.{Ending}
-use Rattle.slink_feed.specs.declared.dialogue.Ending.TheVariants.{End, Refused, Gap, Garbage, Foreign}
+use Rattle.slink_feed.specs.declared.dialogue.Ending.TheVariants.{End, Refused}
 use Rattle.slink_feed.specs.declared.dialogue.Stage.{Stage}
-use Rattle.slink_feed.specs.declared.dialogue.Stage.TheVariants.{Unlinked, Station, Number, Packets, Ended}
+use Rattle.slink_feed.specs.declared.dialogue.Stage.TheVariants.{Ended}
 
 -- A link ends where all that was requested was sent, or where a station is refused: not by the packet of another record
 -- than the one that is wanted, nor by that of a record of none of the stations, nor by bytes that are no reply, packet
@@ -12,16 +12,11 @@ use Rattle.slink_feed.specs.declared.dialogue.Stage.TheVariants.{Unlinked, Stati
 abbrev pub IsFair : Ending → Type 0
 IsFair End = Unit {0}
 IsFair (Refused k) = Unit {0}
-IsFair (Gap k want got) = ⊥
-IsFair Garbage = ⊥
-IsFair Foreign = ⊥
+IsFair ending = ⊥
 
 abbrev pub IsSpared : Stage → Type 0
-IsSpared Unlinked = Unit {0}
-IsSpared (Station k) = Unit {0}
-IsSpared (Number k) = Unit {0}
-IsSpared Packets = Unit {0}
 IsSpared (Ended ending) = IsFair ending
+IsSpared stage = Unit {0}
 
 -- Each has a station code and a network code.
 abbrev pub HaveCodes : List (Fields × Option ℕ) → Type 0

@@ -13,7 +13,7 @@ use Rattle.slink_feed.specs.declared.dialogue.Stage.TheVariants.{Ended}
 use Rattle.slink_feed.specs.declared.grant.Grant.{Grant}
 use Rattle.slink_feed.specs.declared.dialogue.Wanted.{Wanted}
 use Rattle.slink_feed.specs.declared.session.Phase.{Phase}
-use Rattle.slink_feed.specs.declared.session.Phase.TheVariants.{Fresh, Chosen, Granted, Streaming, Closed}
+use Rattle.slink_feed.specs.declared.session.Phase.TheVariants.{Streaming, Closed}
 use Rattle.slink_feed.specs.Dialogue.{Talk, Wants, place_of, next_at, want_at, with_next}
 use Rattle.slink_feed.specs.Listening.{IsLinked, Listening}
 use Rattle.slink_feed.specs.Session.{State, grant_at, IsBefore}
@@ -56,11 +56,8 @@ items_of replies.Hello = Greeted ∷ []
 
 -- the records of one station, with their numbers
 abbrev pub carried_of : ℕ → Item → List (ℕ × List ℕ)
-carried_of k Accepted = []
-carried_of k Refused = []
-carried_of k Greeted = []
 carried_of k (Carried j n r) = if j == k then (n, r) ∷ [] else []
-carried_of k Finished = []
+carried_of k item = []
 
 abbrev pub of_place : ℕ → List Item → List (ℕ × List ℕ)
 of_place k [] = []
@@ -102,14 +99,8 @@ pub record Reported : Type 0 where
   pub bytes : List ℕ
 
 abbrev pub reported_of : Event → Option Reported
-reported_of events.None = None
-reported_of (events.Say bytes) = None
 reported_of (events.Record k number bytes) = Some (record { index = k; number = number; bytes = bytes })
-reported_of events.End = None
-reported_of (events.Refused k) = None
-reported_of (events.Gap k want got) = None
-reported_of events.Garbage = None
-reported_of events.Foreign = None
+reported_of event = None
 
 -- what comes of bytes that a client takes
 pub data Outcome (t : Talk) (items : List Item) (bytes way : List ℕ) (new : Listening) (e : Event) : Type 0 where
@@ -126,11 +117,8 @@ pub data Outcome (t : Talk) (items : List Item) (bytes way : List ℕ) (new : Li
 -- the records that are carried are of these stations, and have 512 bytes
 abbrev pub AreWhole : List Item → Type 0
 AreWhole [] = Unit {0}
-AreWhole (Accepted ∷ is) = AreWhole is
-AreWhole (Refused ∷ is) = AreWhole is
-AreWhole (Greeted ∷ is) = AreWhole is
 AreWhole (Carried k n r ∷ is) = (length r ≡ 512) × AreWhole is
-AreWhole (Finished ∷ is) = AreWhole is
+AreWhole (i ∷ is) = AreWhole is
 
 -- What a station is granted once a command was answered: what it was, nothing, or a number from the window or the next.
 pub data IsGranted (feed : List Window) (k : ℕ) (old new : Option Grant) : Type 0 where
@@ -142,11 +130,9 @@ pub data IsGranted (feed : List Window) (k : ℕ) (old new : Option Grant) : Typ
 -- what an answer leaves: before records are sent, each station is granted so; afterwards the grants stay, and there is
 -- no reply
 abbrev pub Leaves : Phase → List Window → State → State × Reply → Type 0
-Leaves Fresh feed s x = (k : ℕ) → IsGranted feed k (grant_at s.grants k) (grant_at x.0.grants k)
-Leaves (Chosen place) feed s x = (k : ℕ) → IsGranted feed k (grant_at s.grants k) (grant_at x.0.grants k)
-Leaves (Granted place) feed s x = (k : ℕ) → IsGranted feed k (grant_at s.grants k) (grant_at x.0.grants k)
 Leaves Streaming feed s x = (x.0.grants ≡ s.grants) × (x.1 ≡ replies.Nothing) × ¬ (IsBefore x.0.phase)
 Leaves Closed feed s x = (x.0.grants ≡ s.grants) × (x.1 ≡ replies.Nothing) × ¬ (IsBefore x.0.phase)
+Leaves phase feed s x = (k : ℕ) → IsGranted feed k (grant_at s.grants k) (grant_at x.0.grants k)
 
 -- the stations, each with the number that was wanted first, and no two of which are the same
 abbrev pub Places : Type 0

@@ -2,27 +2,21 @@
 use Rattle.std.specs.Prelude.{◌≡◌, ℕ, ◌+◌, ◌-◌, ◌*◌, ◌/◌, ◌==◌, List, [], ◌∷◌, ◌++◌, length, take, slice_index_or}
 use Rattle.std.specs.Prelude.{if◌then◌else◌}
 use Rattle.slink_model.specs.declared.world.Step.{Step}
-use Rattle.slink_model.specs.declared.world.Step.TheVariants.{Append, Connect, ToServer, ToClient, Send, Cut}
+use Rattle.slink_model.specs.declared.world.Step.TheVariants.{Connect, Cut}
 use Rattle.slink_model.specs.Counted.{CountedLink, IsStreamed}
-use Rattle.slink_model.specs.Ties.{Item, Accepted, Refused, Greeted, Carried, Finished}
+use Rattle.slink_model.specs.Ties.{Item, Carried}
 use Rattle.slink_model.specs.World.{Lists}
 
 -- The step neither connects nor cuts the link.
 abbrev pub KeepsLink : Step → Type 0
-KeepsLink (Append k bytes) = Unit {0}
 KeepsLink Connect = ⊥
-KeepsLink (ToServer n) = Unit {0}
-KeepsLink (ToClient n) = Unit {0}
-KeepsLink (Send k) = Unit {0}
 KeepsLink Cut = ⊥
+KeepsLink step = Unit {0}
 
 -- the record of a station in what a server sends: one, or none
 abbrev pub record_in : ℕ → Item → List (List ℕ)
-record_in k Accepted = []
-record_in k Refused = []
-record_in k Greeted = []
 record_in k (Carried j n r) = if j == k then r ∷ [] else []
-record_in k Finished = []
+record_in k item = []
 
 -- those of all that it sends, in order
 abbrev pub records_in : ℕ → List Item → List (List ℕ)
@@ -32,11 +26,8 @@ records_in k (i ∷ is) = record_in k i ++ records_in k is
 -- how many packets there are
 abbrev pub packet_count : List Item → ℕ
 packet_count [] = 0
-packet_count (Accepted ∷ is) = packet_count is
-packet_count (Refused ∷ is) = packet_count is
-packet_count (Greeted ∷ is) = packet_count is
 packet_count (Carried k n r ∷ is) = packet_count is + 1
-packet_count (Finished ∷ is) = packet_count is
+packet_count (i ∷ is) = packet_count is
 
 -- how many records are held of all stations
 abbrev pub held_count : Lists → ℕ

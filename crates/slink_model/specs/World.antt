@@ -95,10 +95,7 @@ pub data Reads (first_sent : List (Option ℕ)) : Taking → List ℕ → Taking
 abbrev pub first_after : Numbers → Grants → ℕ → Sent → Numbers
 first_after first_sent grants k (sents.Packet bytes) =
     with_first first_sent k (option_map (λ (g : Grant). g.position) (grant_at grants k))
-first_after first_sent grants k sents.Done = first_sent
-first_after first_sent grants k sents.Wait = first_sent
-first_after first_sent grants k sents.Overrun = first_sent
-first_after first_sent grants k sents.Closed = first_sent
+first_after first_sent grants k answer = first_sent
 
 -- The link once a packet of a station was requested.
 abbrev pub sent_on : List Window → ℕ → LinkState → LinkState
@@ -128,9 +125,8 @@ pub record IsRead (n : ℕ) (w v : WorldState) (l m : LinkState) : Type 0 where
 -- A relation between two links; where there is none, there is none afterwards.
 abbrev pub Both : (LinkState → LinkState → Type 0) → Option LinkState → Option LinkState → Type 0
 Both R None None = Unit {0}
-Both R None (Some m) = ⊥
-Both R (Some l) None = ⊥
 Both R (Some l) (Some m) = R l m
+Both R old new = ⊥
 
 -- A session that has taken nothing.
 pub record IsNew (s : SessionState) : Type 0 where
@@ -209,10 +205,7 @@ Differ places = (i j : ℕ) (p q : Fields × Option ℕ) → slice_get places i 
 abbrev pub IsOf : List (Fields × Option ℕ) → Step → Type 0
 IsOf places (Append k bytes) = (p : Fields × Option ℕ) × (slice_get places k ≡ Some p) × Bears bytes p.0
 IsOf places (Send k) = k < length places
-IsOf places Connect = Unit {0}
-IsOf places (ToServer n) = Unit {0}
-IsOf places (ToClient n) = Unit {0}
-IsOf places Cut = Unit {0}
+IsOf places step = Unit {0}
 
 -- what steps see of records
 abbrev pub lists_of : Vec (Vec (List ℕ)) → Lists
