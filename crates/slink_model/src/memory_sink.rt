@@ -1,4 +1,8 @@
 //! A sink in memory.
+ghost use Rattle.std.specs.Prelude.{◌≡◌};
+ghost use Rattle.mseed_stream.specs.Device.{nothing_written};
+ghost use Rattle.slink_model.specs.private.Keeping.{written_by};
+
 use mseed_stream::{Failed, Sink, Tally};
 use std::alloc::Allocator;
 
@@ -11,10 +15,6 @@ pub struct MemorySink<A: Allocator> {
 }
 
 impl<A: Allocator> MemorySink<A> {
-    ghost use Rattle.slink_model.specs.private.Keeping.{written_by};
-    ghost use Rattle.mseed_stream.specs.Device.{nothing_written};
-    ghost use Rattle.std.specs.Prelude.{◌≡◌};
-
     /// Returns a sink to which nothing was written.
     pub fn new(alloc: A) -> MemorySink<A>
         ensures { written_by result ≡ nothing_written }
@@ -27,8 +27,6 @@ impl<A: Allocator> MemorySink<A> {
 }
 
 impl<A: Allocator> Sink for MemorySink<A> {
-    ghost use Rattle.slink_model.specs.private.Keeping.{written_by};
-
     ghost written = { written_by };
 
     fn put(&mut self, bytes: &[u8]) -> Result<usize, Failed> {

@@ -1,11 +1,11 @@
 //! A series that is packed, sent through a schedule, and put together from what the client holds.
-ghost use Rattle.std.specs.Prelude.{◌≡◌, ◌^◌, ◌<◌, ◌≤◌, All, IfErr, IfOk, [], ◌∷◌, ◌++◌, List, ℕ, Err, length, map};
+ghost use Rattle.std.specs.Prelude.{◌≡◌, ◌^◌, ◌<◌, All, IfErr, IfOk, [], ◌∷◌, ◌++◌, List, ℕ, Err, length, map};
 ghost use Rattle.std.specs.Prelude.{slice_index_or};
 ghost use Rattle.mseed_record.specs.Record.{IsRecord};
 ghost use Rattle.mseed_record.specs.Viewing.{view_of};
 ghost use Rattle.mseed_pack.specs.ReadBack.{AreViewsOf, ReadsAs};
 ghost use Rattle.slink_model.specs.World.{lists_of};
-ghost use Rattle.slink_model.specs.Relay.{ComesThrough, IsHeldAs, IsOfOne, IsRelay, IsRelayable, fed};
+ghost use Rattle.slink_model.specs.Relay.{ComesThrough, IsHeldAs, IsRelay, IsRelayable, fed};
 ghost use Rattle.slink_model.specs.private.Relaying.{FailsToPackAll, IsAmong, IsOfRecords, IsPackedAs};
 ghost use Rattle.slink_model.specs.declared.world.Step.{Step};
 ghost use Rattle.slink_model.specs.declared.relaying.RelayFault.{RelayFault};

@@ -1,5 +1,5 @@
 //! A server and a client, and what lies between them.
-ghost use Rattle.std.specs.Prelude.{◌≡◌, ◌↔◌, ◌++◌, ◌≤◌, ◌<◌, All, IsTrue, OnOk, drop, length, take};
+ghost use Rattle.std.specs.Prelude.{◌≡◌, ◌↔◌, ◌<◌, All, IsTrue, OnOk, drop, length, take};
 ghost use Rattle.slink_model.specs.Running.{IsPossible, IsRunning, IsServing, Keeps};
 ghost use Rattle.slink_model.specs.Slice.{IsSound};
 ghost use Rattle.slink_model.specs.World.{Happens, Reads, IsOf, IsServed, link_state, seen, sent_on, taken};
