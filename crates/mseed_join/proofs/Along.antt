@@ -11,13 +11,13 @@ use Rattle.mseed_join.specs.declared.joint.Place.{Place}
 use Rattle.mseed_join.specs.declared.joint.Place.TheVariants.{Start, Channels, Whole}
 use Rattle.mseed_join.specs.declared.joint.Reported.{Reported}
 use Rattle.mseed_join.specs.declared.reader.Reader.{Reader}
-use Rattle.mseed_join.specs.Joined.{AreLines, Begins, HasNoEnd, IsBadLine, IsJointOf, IsOfOneLine}
+use Rattle.mseed_join.specs.Joined.{AreLines, Begins, HasNoEnd, IsBadLine, IsJointOf, IsOfOneLine, HasNoBadLine}
 use Rattle.mseed_join.specs.Lines.{Line, counts_line, header_line}
 use Rattle.mseed_join.specs.Reached.{OpenPart, Stage, IsStage, none, begun, whole, open_part, AreReported}
 use Rattle.mseed_join.specs.Reached.{parts_at, passed_lines, start, open_text}
 use Rattle.mseed_join.specs.ReadParts.{written_of}
 use Rattle.mseed_join.specs.Written.{Written, Spells, channel_lines, part_text, texts}
-use Rattle.mseed_join.specs.private.Along.{HasEnded, IsAlong, IsBadAfter, IsFailedAt, IsStoppedAt, can_end, is_over}
+use Rattle.mseed_join.specs.private.Along.{HasEnded, IsAlong, IsBadAfter, IsStoppedAt, can_end, is_over}
 use Rattle.mseed_join.specs.private.LineReading.{GoesOn, Grows, IsLineAhead, IsOpen, IsReadBy, LiesAhead, LinesRead}
 use Rattle.mseed_join.specs.private.Taking.{IsPlace, IsReadTo, IsTaken}
 use Rattle.mseed_join.proofs.Ahead.{IsAhead, ahead, too_long}
@@ -215,10 +215,11 @@ wrong_line past h now s lines j n l one refused = record {
 
 -- and none that was held is bad
 pub fails : {A : Type 0} → (past : Bool) (h now : BytesRead) (s : Stage) (lines : LinesRead) (j : Joint A)
-    → IsLooked past h now s lines j → IsOpen lines.held → IsFailedAt past h now s
-fails past h now s lines j l held = record {
-  stopped = stops past h now s lines j l;
-  none_bad = record {
+    → IsLooked past h now s lines j → IsOpen lines.held
+    → (stopped : IsStoppedAt h now s) × HasNoBadLine past stopped.bytes
+fails past h now s lines j l held = (
+  stops past h now s lines j l,
+  record {
     lines = l.by.passed;
     rest = lines.held;
     bytes_are = refl;
@@ -227,8 +228,8 @@ fails past h now s lines j l held = record {
     begins = begun_so past h now s lines j l;
     no_end = held.1;
     short = held.0;
-  };
-}
+  },
+)
 
 long_line : {A : Type 0} → (past : Bool) (h now : BytesRead) (s : Stage) (lines : LinesRead) (j : Joint A)
     → (l : IsLooked past h now s lines j) → HasNoEnd (take 512 lines.held) → 512 ≤ length lines.held

@@ -7,6 +7,7 @@ use Rattle.mseed_stream.specs.Fault.{IsStreamFault}
 use Rattle.mseed_stream.specs.Gathered.{AreGathered, EmittedFirst, EmittedPart, IsCutOff}
 use Rattle.mseed_stream.proofs.Gathered.{all_behind, all_written, cut_part, first_behind, gathered_also, gathered_first}
 use Rattle.mseed_stream.proofs.Gathered.{gathered_written, part_after, part_of}
+use Rattle.mseed_audit.specs.Summary.{IsWritten}
 use Rattle.mseed_join.specs.declared.joining.Joined.{Joined as Answer}
 use Rattle.mseed_join.specs.declared.joining.JoinsFault.{JoinsFault}
 use Rattle.mseed_join.specs.declared.joining.JoinsFault.TheVariants.{Line, Count, Stream, Write, Memory}
@@ -19,7 +20,7 @@ use Rattle.mseed_join.specs.declared.reader.Reader.{Reader}
 use Rattle.mseed_join.specs.Borders.{AreBorders, AreBordersOf, Border, border_lines}
 use Rattle.mseed_join.specs.Joined.{HasNoBadLine, IsBadLine, join_text}
 use Rattle.mseed_join.specs.Joins.{IsAnswer, refusal}
-use Rattle.mseed_join.specs.JoinsEach.{AreEachTo, AreLinesWritten, IsJoinEachOutcome, IsReadEach}
+use Rattle.mseed_join.specs.JoinsEach.{AreEachTo, IsJoinEachOutcome, IsReadEach}
 use Rattle.mseed_join.specs.Reached.{AreLinesRead, AreReported, Stage, parts_at, passed_lines, start}
 use Rattle.mseed_join.specs.ReadParts.{AreExpected, AreReadParts, IsReadOutcome, IsStopped, written_of}
 use Rattle.mseed_join.specs.Written.{Written, Spells}
@@ -35,7 +36,7 @@ stopped_by : {A : Type 0} → (past : Bool) (h now : BytesRead) (s : Stage) (r :
     → IsNextStep {A = A} past h s (Err fault) now r → IsStoppedAt h now s
 stopped_by past h now s r (BadLine k offset) step = step.stopped
 stopped_by past h now s r (Miscount parts due) step = absurd step
-stopped_by past h now s r (Unread fault) step = step.1.stopped
+stopped_by past h now s r (Unread fault) step = step.1.0
 stopped_by past h now s r NoMemory step = step
 
 -- before it
@@ -131,8 +132,8 @@ ended_by (BadLine k offset) past expected h now s r found first at begin step bo
 ended_by (Miscount parts due) past expected h now s r found first at begin step borders are = absurd step
 ended_by (Unread fault) past expected h now s r found first at begin step borders are = (
   subst (λ (k : BytesRead). IsStreamFault fault k now) begin step.0,
-  subst (λ (b : List ℕ). HasNoBadLine past b) (all_bytes h now step.1.stopped.bytes begin step.1.stopped.reported)
-      step.1.none_bad,
+  subst (λ (b : List ℕ). HasNoBadLine past b) (all_bytes h now step.1.0.bytes begin step.1.0.reported)
+      step.1.1,
 )
 ended_by NoMemory past expected h now s r found first at begin step borders are = tt
 
@@ -311,7 +312,7 @@ flushed first old new text whole found ended fault before e bytes fine same =
     gathered_written first old new text [] (border_lines found) before.lines
     (bytes ∙ ap (λ (t : List ℕ). old.bytes ++ t) e) refl in
     inl (
-      record { text = all_written first new (border_lines found) [] all refl; fine = fine ∙ before.fine },
+      record { bytes = all_written first new (border_lines found) [] all refl; fine = fine ∙ before.fine },
       same,
     )
 
@@ -340,7 +341,7 @@ cut_by Memory past expected h found first new reported at to cut = (cut.0, inl (
 
 written_by : (ended : PartsFault) (past : Bool) (expected : Option ℕ) (h : BytesRead) (found : List Border)
     (first new reported at : BytesWritten) → AreEachTo past h found reported at
-    → IsEndedBy ended past expected h found reported at → AreLinesWritten found first new
+    → IsEndedBy ended past expected h found reported at → IsWritten (border_lines found) first new
     → IsJoinEachOutcome past expected (Err (refusal ended)) h first new reported at
 written_by (BadLine k offset) past expected h found first new reported at to by written = (found, (by, written))
 written_by (Miscount parts due) past expected h found first new reported at to by written = (found, (by, written))
@@ -348,7 +349,7 @@ written_by (Unread fault) past expected h found first new reported at to by writ
     (found, (to, written, by.0, by.1))
 written_by NoMemory past expected h found first new reported at to by written =
     let all : AreGathered first new [] (border_lines found) =
-    record { taken = border_lines found; bytes = written.text; joined = append-nil (border_lines found) } in
+    record { taken = border_lines found; bytes = written.bytes; joined = append-nil (border_lines found) } in
     (written.fine, inl (found, (to, gathered_first first new [] (border_lines found) all)))
 
 unread_by : (fault : JoinsFault) (past : Bool) (expected : Option ℕ) (h : BytesRead) (found : List Border)
@@ -392,9 +393,9 @@ each_written past expected joint h answer first old new reported at text whole s
     a.0,
     (
       a.1.0,
+      is,
       record {
-        answer_is = is;
-        text = all_behind first old new text (border_lines a.0) (join_text (written_of joint)) a.1.1.0.lines
+        bytes = all_behind first old new text (border_lines a.0) (join_text (written_of joint)) a.1.1.0.lines
             (bytes ∙ ap (λ (t : List ℕ). old.bytes ++ t) (same ∙ e));
         fine = fine ∙ a.1.1.0.fine;
       },

@@ -12,7 +12,7 @@ use Rattle.mseed_audit.specs.declared.each.EachFault.TheVariants.{Write}
 use Rattle.mseed_audit.specs.Audit.{AreChannels, Held}
 use Rattle.mseed_audit.specs.Channels.{added_from}
 use Rattle.mseed_stream.specs.Gathered.{AreGathered, IsCutOff}
-use Rattle.mseed_audit.specs.Summary.{IsGathered, broken_count}
+use Rattle.mseed_audit.specs.Summary.{IsGathered, IsSummary, IsWritten, broken_count}
 use Rattle.mseed_audit.specs.Text.{reported_lines}
 use Rattle.mseed_audit.specs.Reported.{Reported, AreReportedOf}
 use Rattle.mseed_audit.specs.Verdict.{AreVerdicts}
@@ -20,7 +20,7 @@ use Rattle.mseed_stream.proofs.Gathered.{all_behind, cut_part}
 use Rattle.mseed_audit.proofs.Outcomes.{added_length}
 use Rattle.mseed_audit.proofs.OneAudit.{HasOneInput}
 use Rattle.mseed_parts.specs.Parts.{Held as Part, IsPartOf, bytes_in}
-use Rattle.mseed_join.specs.AuditPart.{AuditedPart, IsPartEachOutcome, IsPartWritten, IsReportedWritten, ReportedPart}
+use Rattle.mseed_join.specs.AuditPart.{AuditedPart, IsPartEachOutcome, ReportedPart, reported_text}
 use Rattle.mseed_join.specs.Joined.{verdict_at}
 use Rattle.mseed_join.specs.Written.{Written, part_text}
 use Rattle.mseed_join.specs.private.Parted.{IsPushed}
@@ -91,15 +91,18 @@ pushed s held end bytes h views channels slice records text next found are verdi
 -- it was written
 pub part_written : {h : BytesRead} (s : Summary) (views : List View) (start next text : List ℕ)
     (old new : BytesWritten) → IsPushed s h views start next → start ≡ [] → text ≡ next
-    → new.bytes ≡ old.bytes ++ text → new.failures ≡ old.failures → (a : AuditedPart h) × IsPartWritten s a old new
+    → new.bytes ≡ old.bytes ++ text → new.failures ≡ old.failures
+    → (a : AuditedPart h) × (IsSummary s a.audited × IsWritten (part_text a.written) old new)
 part_written s views start next text old new p empty same bytes fine = (
   p.parted,
-  record {
-    summary = p.summary;
-    text = bytes ∙ ap (λ (xs : List ℕ). old.bytes ++ xs) (same ∙ p.text_is
-        ∙ ap (λ (xs : List ℕ). xs ++ part_text p.parted.written) empty);
-    fine = fine;
-  },
+  (
+    p.summary,
+    record {
+      bytes = bytes ∙ ap (λ (xs : List ℕ). old.bytes ++ xs) (same ∙ p.text_is
+          ∙ ap (λ (xs : List ℕ). xs ++ part_text p.parted.written) empty);
+      fine = fine;
+    },
+  ),
 )
 
 -- or a prefix of it
@@ -126,16 +129,18 @@ pub reported_written : {h : BytesRead} (s : Summary) (views : List View) (text n
     (first old new : BytesWritten) → IsPushed s h views text next → AreReportedOf (added_from 0 views) reported
     → AreGathered first old text (reported_lines reported) → taken ≡ next → new.bytes ≡ old.bytes ++ taken
     → old.failures ≡ first.failures → new.failures ≡ old.failures
-    → (a : ReportedPart h) × IsReportedWritten s a first new
+    → (a : ReportedPart h) × (IsSummary s a.parted.audited × IsWritten (reported_text a) first new)
 reported_written s views text next taken reported first old new p are before same bytes same_failures fine =
     let tail : List ℕ = part_text p.parted.written in (
       reported_part s views text next reported p are,
-      record {
-        summary = p.summary;
-        text = all_behind first old new text (reported_lines reported) tail before
-            (bytes ∙ ap (λ (xs : List ℕ). old.bytes ++ xs) (same ∙ p.text_is));
-        fine = fine ∙ same_failures;
-      },
+      (
+        p.summary,
+        record {
+          bytes = all_behind first old new text (reported_lines reported) tail before
+              (bytes ∙ ap (λ (xs : List ℕ). old.bytes ++ xs) (same ∙ p.text_is));
+          fine = fine ∙ same_failures;
+        },
+      ),
     )
 
 -- or a prefix of both

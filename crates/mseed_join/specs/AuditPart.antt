@@ -10,7 +10,7 @@ use Rattle.mseed_audit.specs.Channels.{added_from}
 use Rattle.mseed_stream.specs.Gathered.{EmittedFirst, EmittedPart, IsCutOff}
 use Rattle.mseed_audit.specs.Each.{EndsInLinesIn}
 use Rattle.mseed_audit.specs.Scope.{whole}
-use Rattle.mseed_audit.specs.Summary.{Audited, IsSummary}
+use Rattle.mseed_audit.specs.Summary.{Audited, IsSummary, IsWritten}
 use Rattle.mseed_audit.specs.Text.{reported_lines}
 use Rattle.mseed_audit.specs.Reported.{Reported, AreReportedOf}
 use Rattle.mseed_parts.specs.Parts.{IsPartOf}
@@ -24,15 +24,11 @@ pub record AuditedPart (h : BytesRead) : Type 0 where
   pub faults : written.faults ≡ 0
   pub end : written.end ≡ audited.end
 
--- the part's text was written, and the answer is that of the audit
-pub record IsPartWritten {h : BytesRead} (s : Summary) (a : AuditedPart h) (old new : BytesWritten) : Type 0 where
-  pub summary : IsSummary s a.audited
-  pub text : new.bytes ≡ old.bytes ++ part_text a.written
-  pub fine : new.failures ≡ old.failures
-
--- By the outcome: where the output failed, so many bytes of the part's text were written before.
+-- By the outcome: the answer is that of the audit; where the output failed, so many bytes of the part's text were
+-- written before.
 abbrev pub IsPartOutcome : Result Summary AuditFault → BytesRead → BytesWritten → BytesWritten → Type 0
-IsPartOutcome (Ok summary) h old new = (a : AuditedPart h) × IsPartWritten summary a old new
+IsPartOutcome (Ok summary) h old new =
+    (a : AuditedPart h) × (IsSummary summary a.audited × IsWritten (part_text a.written) old new)
 IsPartOutcome (Err (Write taken)) h old new = (a : AuditedPart h) × IsCutOff taken (part_text a.written) old new
 IsPartOutcome (Err Memory) h old new = new ≡ old
 
@@ -47,19 +43,14 @@ pub record ReportedPart (h : BytesRead) : Type 0 where
 abbrev pub reported_text : {h : BytesRead} → ReportedPart h → List ℕ
 reported_text a = reported_lines a.reported ++ part_text a.parted.written
 
--- the whole text was written
-pub record IsReportedWritten {h : BytesRead} (s : Summary) (a : ReportedPart h) (old new : BytesWritten) : Type 0 where
-  pub summary : IsSummary s a.parted.audited
-  pub text : new.bytes ≡ old.bytes ++ reported_text a
-  pub fine : new.failures ≡ old.failures
-
 -- what was written is so of a text: the lines of the first records, or the whole
 abbrev pub EndsInPart : (List ℕ → Type 0) → BytesRead → Type 0
 EndsInPart Emitted h = EndsInLinesIn whole Emitted h ⊎ ((a : ReportedPart h) × Emitted (reported_text a))
 
 -- By the outcome. An output that failed isn't called again.
 abbrev pub IsPartEachOutcome : Result Summary EachFault → BytesRead → BytesWritten → BytesWritten → Type 0
-IsPartEachOutcome (Ok summary) h old new = (a : ReportedPart h) × IsReportedWritten summary a old new
+IsPartEachOutcome (Ok summary) h old new =
+    (a : ReportedPart h) × (IsSummary summary a.parted.audited × IsWritten (reported_text a) old new)
 IsPartEachOutcome (Err NotWritten) h old new = (new.failures ≡ old.failures + 1) × EndsInPart (EmittedPart old new) h
 IsPartEachOutcome (Err NoMemory) h old new =
     (new.failures ≡ old.failures) × EndsInLinesIn whole (EmittedFirst old new) h

@@ -4,7 +4,7 @@ use Rattle.std.specs.Prelude.{Option, Result, Ok, Err}
 use Rattle.mseed_stream.specs.Device.{BytesRead, BytesWritten, nothing_read}
 use Rattle.mseed_stream.specs.Fault.{IsStreamFault}
 use Rattle.mseed_stream.specs.Gathered.{IsCutOff}
-use Rattle.mseed_audit.specs.Summary.{broken_count}
+use Rattle.mseed_audit.specs.Summary.{IsWritten, broken_count}
 use Rattle.mseed_join.specs.declared.joining.Form.{Form}
 use Rattle.mseed_join.specs.declared.joining.Form.TheVariants.{Audit, Part}
 use Rattle.mseed_join.specs.declared.joining.Joined.{Joined as Answer}
@@ -46,19 +46,13 @@ pub record IsRead (past : Bool) (expected : Option ℕ) (h : BytesRead) (w : Wri
   pub parts : AreReadParts past h.bytes w reported now
   pub number : AreExpected expected (length parts.parts)
 
--- the text was written
-pub record IsJointWritten (answer : Answer) (form : Form) (w : Written) (old new : BytesWritten) : Type 0 where
-  pub answer_is : IsAnswer answer w
-  pub text : new.bytes ≡ old.bytes ++ text_by form w
-  pub fine : new.failures ≡ old.failures
-
 -- By the outcome: of the input, of the output before and after, and of the device that faults are reported to before
 -- and after. Where the parts weren't read whole, or another number of them was expected, nothing was written; where the
 -- input failed, no bad line was read before.
 abbrev pub IsJoinOutcome : Form → Bool → Option ℕ → Result Answer JoinsFault → BytesRead → BytesWritten → BytesWritten
     → BytesWritten → BytesWritten → Type 0
 IsJoinOutcome form past expected (Ok answer) h old new reported now =
-    (w : Written) × (IsRead past expected h w reported now × IsJointWritten answer form w old new)
+    (w : Written) × (IsRead past expected h w reported now × IsAnswer answer w × IsWritten (text_by form w) old new)
 IsJoinOutcome form past expected (Err (Line k offset)) h old new reported now =
     (new ≡ old) × AreBadParts past h.bytes h.is_at_end k offset reported now
 IsJoinOutcome form past expected (Err (Count parts due)) h old new reported now =

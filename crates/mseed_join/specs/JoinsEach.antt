@@ -3,6 +3,7 @@ use Rattle.std.specs.Prelude.{◌≡◌, ◌⊎◌, ℕ, ◌+◌, List, ◌++◌
 use Rattle.mseed_stream.specs.Device.{BytesRead, BytesWritten, nothing_read}
 use Rattle.mseed_stream.specs.Fault.{IsStreamFault}
 use Rattle.mseed_stream.specs.Gathered.{EmittedFirst, EmittedPart}
+use Rattle.mseed_audit.specs.Summary.{IsWritten}
 use Rattle.mseed_join.specs.declared.joining.Joined.{Joined as Answer}
 use Rattle.mseed_join.specs.declared.joining.JoinsFault.{JoinsFault}
 use Rattle.mseed_join.specs.declared.joining.JoinsFault.TheVariants.{Line, Count, Stream, Write, Memory}
@@ -22,18 +23,6 @@ pub record IsReadEach (past : Bool) (expected : Option ℕ) (h : BytesRead) (w :
 -- the lines of the borders, and then the text of the audit
 abbrev pub each_text : List Border → Written → List ℕ
 each_text found w = border_lines found ++ join_text w
-
--- it was written
-pub record IsEachWritten (answer : Answer) (w : Written) (found : List Border) (old new : BytesWritten)
-    : Type 0 where
-  pub answer_is : IsAnswer answer w
-  pub text : new.bytes ≡ old.bytes ++ each_text found w
-  pub fine : new.failures ≡ old.failures
-
--- the lines of the borders were written, and nothing else
-pub record AreLinesWritten (found : List Border) (old new : BytesWritten) : Type 0 where
-  pub text : new.bytes ≡ old.bytes ++ border_lines found
-  pub fine : new.failures ≡ old.failures
 
 -- the first bad line, and what is found at the borders of the lines before it
 pub record AreBadEach (past : Bool) (h : BytesRead) (k offset : ℕ) (found : List Border) (reported now : BytesWritten)
@@ -67,14 +56,14 @@ abbrev pub IsJoinEachOutcome : Bool → Option ℕ → Result Answer JoinsFault 
     → BytesWritten → BytesWritten → Type 0
 IsJoinEachOutcome past expected (Ok answer) h old new reported now =
     (w : Written) × ((found : List Border) × (IsReadEach past expected h w found reported now
-    × IsEachWritten answer w found old new))
+    × IsAnswer answer w × IsWritten (each_text found w) old new))
 IsJoinEachOutcome past expected (Err (Line k offset)) h old new reported now =
-    (found : List Border) × (AreBadEach past h k offset found reported now × AreLinesWritten found old new)
+    (found : List Border) × (AreBadEach past h k offset found reported now × IsWritten (border_lines found) old new)
 IsJoinEachOutcome past expected (Err (Count parts due)) h old new reported now =
     (found : List Border) × (AreMiscountedEach past expected h parts due found reported now
-    × AreLinesWritten found old new)
+    × IsWritten (border_lines found) old new)
 IsJoinEachOutcome past expected (Err (Stream fault)) h old new reported now =
-    (found : List Border) × (AreEachTo past h found reported now × AreLinesWritten found old new
+    (found : List Border) × (AreEachTo past h found reported now × IsWritten (border_lines found) old new
     × IsStreamFault fault nothing_read h × HasNoBadLine past h.bytes)
 IsJoinEachOutcome past expected (Err Write) h old new reported now =
     (new.failures ≡ old.failures + 1) × EndsShort (EmittedPart old new) past expected h reported now

@@ -1,12 +1,12 @@
 //! The lines of what is found where parts are joined.
-ghost use Rattle.std.specs.Prelude.{◌≡◌, ◌≤◌, ◌+◌, ◌++◌, OnOk, length};
+ghost use Rattle.std.specs.Prelude.{◌≡◌, ◌++◌, OnOk};
 ghost use Rattle.mseed_join.specs.Borders.{border_line, border_lines};
 ghost use Rattle.mseed_join.specs.private.Taking.{border_by};
 
 use crate::joint::Reported;
 use mseed_audit::{Finding, put_why};
 use mseed_record::Codes;
-use mseed_text::{LONGEST_LINE, Line, push_line};
+use mseed_text::{Line, push_line};
 use mseed_time::{Micros, show_time};
 use std::alloc::{AllocError, Allocator};
 
@@ -24,8 +24,7 @@ pub(crate) fn push_reported<A: Allocator>(
             start,
             finding,
         } => push_border_line(text, codes, *start, finding),
-        Reported::Nothing => Ok(()),
-        Reported::Passed { .. } => Ok(()),
+        Reported::Nothing | Reported::Passed { .. } => Ok(()),
     }
 }
 
@@ -43,19 +42,6 @@ fn push_border_line<A: Allocator>(
     })) }
 {
     let mut line = Line::new();
-    put_border_line(&mut line, codes, start, finding);
-    push_line(text, line.as_slice())
-}
-
-/// Puts the line of what is found of a record that begins so.
-fn put_border_line(line: &mut Line, codes: &Codes, start: Micros, finding: &Finding)
-    requires { length line.old + 152 ≤ LONGEST_LINE }
-    ensures { line.new ≡ line.old ++ border_line (record {
-      key = codes.now;
-      start = start;
-      finding = finding.now;
-    }) }
-{
     line.put_count(finding.offset);
     line.put(b" ");
     line.put_name(codes);
@@ -64,6 +50,7 @@ fn put_border_line(line: &mut Line, codes: &Codes, start: Micros, finding: &Find
     line.put(b" start ");
     line.put(&show_time(start));
     line.put(b" ");
-    put_why(line, &finding.why);
+    put_why(&mut line, &finding.why);
     line.put(b"\n");
+    push_line(text, line.as_slice())
 }

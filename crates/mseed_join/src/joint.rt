@@ -211,18 +211,12 @@ impl<A: Allocator + Copy> Joint<A> {
     {
         joined_in_turn();
         joining_laws();
-        match self.so_far.end {
-            Some(_) => {
-                self.place = Place::Channels(Some(codes));
-                return Ok(Reported::Nothing);
-            }
-            None => {}
+        self.place = Place::Channels(Some(codes));
+        if let Some(_) = self.so_far.end {
+            return Ok(Reported::Nothing);
         }
         match self.so_far.part.add_channel(codes, channel) {
-            Ok(found) => {
-                self.place = Place::Channels(Some(codes));
-                Ok(reported_of(codes, channel, found))
-            }
+            Ok(found) => Ok(reported_of(codes, channel, found)),
             Err(JoinFault::Limit) => Err(LineFault::Bad),
             Err(JoinFault::Memory) => Err(LineFault::Memory),
         }
@@ -240,9 +234,8 @@ impl<A: Allocator + Copy> Joint<A> {
             bytes,
             has_faults: false,
         };
-        match self.so_far.end {
-            Some(_) => return Ok(Reported::Nothing),
-            None => {}
+        if let Some(_) = self.so_far.end {
+            return Ok(Reported::Nothing);
         }
         match self.so_far.part.add_counts(records, bytes) {
             Ok(()) => Ok(Reported::Nothing),
@@ -262,9 +255,8 @@ impl<A: Allocator + Copy> Joint<A> {
             bytes,
             has_faults: true,
         };
-        match self.so_far.end {
-            Some(_) => return Ok(Reported::Nothing),
-            None => {}
+        if let Some(_) = self.so_far.end {
+            return Ok(Reported::Nothing);
         }
         match sum(self.so_far.faults, faults) {
             Ok(all) => {
@@ -283,9 +275,8 @@ impl<A: Allocator + Copy> Joint<A> {
     {
         joining_laws();
         self.place = Place::Start;
-        match self.so_far.end {
-            Some(_) => return Ok(Reported::Nothing),
-            None => {}
+        if let Some(_) = self.so_far.end {
+            return Ok(Reported::Nothing);
         }
         if !self.past {
             self.so_far.end = Some(fault_after(self.so_far.part.bytes(), &fault));

@@ -2,9 +2,8 @@
 ghost use Rattle.std.specs.Prelude.{◌≡◌, []};
 ghost use Rattle.mseed_stream.specs.Calls.{ReadsOn};
 ghost use Rattle.mseed_stream.specs.Device.{nothing_read};
-ghost use Rattle.mseed_stream.specs.LineWritten.{WritesLine};
 ghost use Rattle.mseed_join.specs.ReadParts.{IsReadOutcome};
-ghost use Rattle.mseed_join.specs.Reached.{AreReported, passed_line};
+ghost use Rattle.mseed_join.specs.Reached.{AreReported};
 ghost use Rattle.mseed_join.specs.private.Bordered.{IsReading};
 ghost use Rattle.mseed_join.specs.private.Taking.{passed_by};
 
@@ -12,7 +11,7 @@ use crate::joint::{JointPart, Reported};
 use crate::reader::{PartsFault, Reader};
 use crate::report::{Report, Unreported};
 use mseed_audit::Memory;
-use mseed_stream::{Sink, Source, StreamFault, report};
+use mseed_stream::{Sink, Source, report};
 use mseed_text::Line;
 use std::alloc::Allocator;
 
@@ -97,25 +96,20 @@ pub(crate) fn read_with<A: Allocator + Copy, R: Source, E: Sink, O, F, P: Report
     }
 }
 
-/// Reports a fault that is passed.
+/// Reports a fault that is passed, with the number of the part that ends with it.
 fn report_passed<E: Sink>(errors: &mut E, reported: &Reported)
     ensures { AreReported (passed_by reported.now) (E.written errors.old) (E.written errors.new) }
 {
     match reported {
-        Reported::Passed { part, fault } => report_fault(errors, *part, fault),
+        Reported::Passed { part, fault } => {
+            let mut line = Line::new();
+            line.put(b"mseed: part ");
+            line.put_count(*part);
+            line.put(b" ");
+            line.put_fault_line(fault);
+            report(errors, line.as_slice());
+        }
         Reported::Nothing => {}
         Reported::Border { .. } => {}
     }
-}
-
-/// Reports the fault with which the part of this number ends.
-fn report_fault<E: Sink>(errors: &mut E, part: u64, fault: &StreamFault)
-    ensures { WritesLine (passed_line part fault.now) (E.written errors.old) (E.written errors.new) }
-{
-    let mut line = Line::new();
-    line.put(b"mseed: part ");
-    line.put_count(part);
-    line.put(b" ");
-    line.put_fault_line(fault);
-    report(errors, line.as_slice());
 }

@@ -1,6 +1,5 @@
 //! The text of a part, and of the audit that it is the part of, written.
 ghost use Rattle.std.specs.Prelude.{◌≡◌, ◌++◌, ℕ, OnOk, map};
-ghost use Rattle.mseed_stream.specs.Device.{IsPrefixOf};
 ghost use Rattle.mseed_text.specs.Fault.{end_line};
 ghost use Rattle.mseed_audit.specs.Text.{verdict_lines};
 ghost use Rattle.mseed_join.specs.Joined.{join_text, verdict_at};
@@ -24,12 +23,11 @@ pub(crate) fn push_part<A: Allocator>(
     faults: u64,
     end: &Option<StreamFault>,
 ) -> Result<(), AllocError>
-    ensures ok { OnOk result (text.new.items ≡ text.old.items ++ part_text (record {
+    ensures { OnOk result (text.new.items ≡ text.old.items ++ part_text (record {
       part = record { channels = channels.now; records = records; bytes = bytes };
       faults = faults;
       end = end.now;
     })) }
-    ensures prefix { IsPrefixOf text.old.items text.new.items }
 {
     text.extend_from_slice(HEADER)?;
     push_channels(text, channels)?;
@@ -42,8 +40,7 @@ fn push_channels<A: Allocator>(
     text: &mut Vec<u8, A>,
     channels: &[(Codes, Channel)],
 ) -> Result<(), AllocError>
-    ensures ok { OnOk result (text.new.items ≡ text.old.items ++ channel_lines channels.now) }
-    ensures prefix { IsPrefixOf text.old.items text.new.items }
+    ensures { OnOk result (text.new.items ≡ text.old.items ++ channel_lines channels.now) }
 {
     for (codes, channel) in channels {
         push_channel_line(text, codes, channel)?;
@@ -57,8 +54,7 @@ fn push_faults<A: Allocator>(
     faults: u64,
     end: &Option<StreamFault>,
 ) -> Result<(), AllocError>
-    ensures ok { OnOk result (text.new.items ≡ text.old.items ++ (faults_line faults ++ end_line end.now)) }
-    ensures prefix { IsPrefixOf text.old.items text.new.items }
+    ensures { OnOk result (text.new.items ≡ text.old.items ++ (faults_line faults ++ end_line end.now)) }
 {
     push_faults_line(text, faults)?;
     match end {
@@ -76,12 +72,11 @@ pub(crate) fn push_join<A: Allocator>(
     faults: u64,
     end: &Option<StreamFault>,
 ) -> Result<(), AllocError>
-    ensures ok { (bytes : ℕ) → OnOk result (text.new.items ≡ text.old.items ++ join_text (record {
+    ensures { (bytes : ℕ) → OnOk result (text.new.items ≡ text.old.items ++ join_text (record {
       part = record { channels = channels.now; records = records; bytes = bytes };
       faults = faults;
       end = end.now;
     })) }
-    ensures prefix { IsPrefixOf text.old.items text.new.items }
 {
     push_verdicts(text, channels)?;
     push_total_line(text, records, channels.len() as u64)?;
@@ -93,8 +88,7 @@ fn push_verdicts<A: Allocator>(
     text: &mut Vec<u8, A>,
     channels: &[(Codes, Channel)],
 ) -> Result<(), AllocError>
-    ensures ok { OnOk result (text.new.items ≡ text.old.items ++ verdict_lines (map verdict_at channels.now)) }
-    ensures prefix { IsPrefixOf text.old.items text.new.items }
+    ensures { OnOk result (text.new.items ≡ text.old.items ++ verdict_lines (map verdict_at channels.now)) }
 {
     for (codes, channel) in channels {
         push_verdict_line(text, codes, &channel.verdict())?;

@@ -61,12 +61,7 @@ pub record IsBadAfter (past : Bool) (h now : BytesRead) (s : Stage) (k offset : 
   pub bad : IsBadLine past stopped.bytes now.is_at_end k offset
   pub number : k ≡ stopped.count + 1
 
--- and no bad line was read
-pub record IsFailedAt (past : Bool) (h now : BytesRead) (s : Stage) : Type 0 where
-  pub stopped : IsStoppedAt h now s
-  pub none_bad : HasNoBadLine past stopped.bytes
-
--- by what one step answers
+-- by what one step answers: where the source failed, no bad line was read before
 abbrev pub IsNextStep : {A : Type 0} → Bool → BytesRead → Stage → Result (Option Reported) PartsFault → BytesRead
     → Reader A
     → Type 0
@@ -75,7 +70,8 @@ IsNextStep past h s (Ok (Some reported)) now r =
 IsNextStep past h s (Ok None) now r = HasEnded past h now s r
 IsNextStep past h s (Err (BadLine k offset)) now r = IsBadAfter past h now s k offset
 IsNextStep past h s (Err (Count parts due)) now r = ⊥
-IsNextStep past h s (Err (Stream fault)) now r = IsStreamFault fault h now × IsFailedAt past h now s
+IsNextStep past h s (Err (Stream fault)) now r =
+    IsStreamFault fault h now × ((stopped : IsStoppedAt h now s) × HasNoBadLine past stopped.bytes)
 IsNextStep past h s (Err Memory) now r = IsStoppedAt h now s
 
 -- All parts are read: the joint part, where they are as many as are expected; or their number, and the one that is

@@ -3,6 +3,7 @@ use Rattle.std.specs.Prelude.{⊤, ◌≡◌, ◌⊎◌, ℕ, ◌+◌, List, Boo
 use Rattle.mseed_stream.specs.Device.{BytesRead, BytesWritten, nothing_read}
 use Rattle.mseed_stream.specs.Fault.{IsStreamFault}
 use Rattle.mseed_stream.specs.Gathered.{AreGathered, EmittedFirst, EmittedPart}
+use Rattle.mseed_audit.specs.Summary.{IsWritten}
 use Rattle.mseed_join.specs.declared.joining.JoinsFault.{JoinsFault}
 use Rattle.mseed_join.specs.declared.joining.JoinsFault.TheVariants.{Line, Count, Stream, Write, Memory}
 use Rattle.mseed_join.specs.declared.joint.JointPart.{JointPart}
@@ -12,7 +13,7 @@ use Rattle.mseed_join.specs.declared.reader.PartsFault.TheVariants.{Stream as Un
 use Rattle.mseed_join.specs.Borders.{Border, border_lines}
 use Rattle.mseed_join.specs.Joined.{HasNoBadLine}
 use Rattle.mseed_join.specs.Joins.{refusal}
-use Rattle.mseed_join.specs.JoinsEach.{AreBadEach, AreEachTo, AreLinesWritten, AreMiscountedEach, IsReadEach}
+use Rattle.mseed_join.specs.JoinsEach.{AreBadEach, AreEachTo, AreMiscountedEach, IsReadEach}
 use Rattle.mseed_join.specs.ReadParts.{written_of}
 
 -- ---- any report
@@ -57,5 +58,5 @@ IsCutShort first now text Memory = (now.failures ≡ first.failures) × EmittedF
 -- the lines were written before a fault, which is the output's where the output failed
 abbrev pub IsFlushed : BytesWritten → BytesWritten → List Border → PartsFault → JoinsFault → Type 0
 IsFlushed first now found ended fault =
-    (AreLinesWritten found first now × (fault ≡ refusal ended))
+    (IsWritten (border_lines found) first now × (fault ≡ refusal ended))
     ⊎ (IsCutShort first now (border_lines found) Write × (fault ≡ Write))

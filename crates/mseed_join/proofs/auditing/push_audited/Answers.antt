@@ -13,7 +13,7 @@ returns-in-Ok g c = λ h views found.
     pushed _ c.args.audit c.args.end.now c.args.bytes h views channels c.as_slice.result.now c.added-records.result
     c.args.text.now.items c.push_part.new.text.items found are
     (c.channels_have_verdicts.ensures (added_from 0 views) channels are) c.as_slice.ensures c.added-records.ensures
-    c.in-Ok.ensures.ok c.added-records.ensures (ap length c.as_slice-in-Ok.ensures)
+    c.in-Ok.ensures c.added-records.ensures (ap length c.as_slice-in-Ok.ensures)
     (c.count_broken.ensures
     ∙ ap (λ (cs : List (List ℕ × Channel)). broken_count (map verdict_at cs)) c.as_slice-in-Ok-2.ensures)
     c.is_some.ensures refl

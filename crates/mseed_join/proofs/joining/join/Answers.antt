@@ -42,9 +42,9 @@ returns-in-Ok-write_all_of-clause-outcome g c =
         read_so c.args.past_faults c.args.expected c.in_ok-part.field-0 (g.R.Source.read c.args.source.now)
             (g.R.Source.read c.read_parts.new.source) (g.E.Sink.written c.args.errors.now)
             (g.E.Sink.written c.read_parts.new.errors) c.requires c.in_ok-part.ensures.outcome,
+        c.in-Ok.ensures.answer,
         record {
-          answer_is = c.in-Ok.ensures.answer;
-          text = write.ok
+          bytes = write.ok
               ∙ ap (λ (t : List ℕ). (g.W.Sink.written c.args.sink.now).bytes ++ t)
               (c.deref.ensures.value ∙ c.in-Ok.ensures.text
               ∙ ap (λ (t : List ℕ). t ++ text_by c.args.form (written_of c.in_ok-part.field-0))

@@ -9,11 +9,11 @@ where_ok X t answer result same is on = subst (λ r. OnOk r X) (sym same ∙ is)
 
 pub returns-in-Ok-clause-text : goal.returns-in-Ok-clause-text
 returns-in-Ok-clause-text g c = elim c.match-form.branch [
-  | in-Audit w ↦ let pushed = where_ok _ _ _ _ w.pushed-is c.in-Ok.is (w.push_join-pushed.ensures.ok c.args.part.bytes)
+  | in-Audit w ↦ let pushed = where_ok _ _ _ _ w.pushed-is c.in-Ok.is (w.push_join-pushed.ensures c.args.part.bytes)
       in
       let text = rw (w.as_slice.ensures.value, c.in_ok-channels.ensures, c.records-records.ensures.value) at pushed in
       rw (w.text-is, w.in-Audit.is) text
-  | in-Part w ↦ let pushed = where_ok _ _ _ _ w.pushed-is c.in-Ok.is w.push_part-pushed.ensures.ok in
+  | in-Part w ↦ let pushed = where_ok _ _ _ _ w.pushed-is c.in-Ok.is w.push_part-pushed.ensures in
       let text = rw (
         w.as_slice-in-Part.ensures.value,
         c.in_ok-channels.ensures,

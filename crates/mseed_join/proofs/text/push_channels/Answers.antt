@@ -1,10 +1,5 @@
-use Rattle.mseed_text.proofs.Prefixes.{prefix_from}
 use Rattle.mseed_join.proofs.Channels.{lines_more}
 use Rattle.mseed_join.proofs.text.push_channels.Goals as goal
-
-pub returns-in_err-push_channel_line-clause-prefix : goal.returns-in_err-push_channel_line-clause-prefix
-returns-in_err-push_channel_line-clause-prefix g c =
-    prefix_from _ _ _ _ c.loop-codes.invariant c.push_channel_line.ensures.prefix
 
 pub loop-codes-preserved : goal.loop-codes-preserved
 loop-codes-preserved g c =

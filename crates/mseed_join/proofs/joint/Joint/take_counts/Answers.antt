@@ -7,10 +7,10 @@ returns-in-Some g c = counts_skipped c.args.self.now _ c.in-Some.is c.args.recor
 
 pub returns-in-Ok : goal.returns-in-Ok
 returns-in-Ok g c =
-    counts_added c.joined_in_turn.ensures.counts c.args.self.now _ c.in-None.is c.args.records c.args.bytes
+    counts_added c.joined_in_turn.ensures.counts c.args.self.now _ c.in_default.is c.args.records c.args.bytes
     c.in-Ok.ensures.joined c.in-Ok.ensures.fits refl refl
 
 pub returns-in-Err : goal.returns-in-Err
 returns-in-Err g c =
-    counts_refused c.joining_laws.ensures.one c.args.self.now c.in-None.is c.args.records c.args.bytes
+    counts_refused c.joining_laws.ensures.one c.args.self.now c.in_default.is c.args.records c.args.bytes
     c.in-Err.ensures.limit

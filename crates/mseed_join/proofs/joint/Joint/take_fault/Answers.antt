@@ -8,15 +8,15 @@ returns-in-Some g c = fault_skipped c.args.self.now _ c.in-Some.is c.args.bytes 
 
 pub returns-then-not-self : goal.returns-then-not-self
 returns-then-not-self g c =
-    fault_kept c.args.self.now _ c.if-not-self.true c.in-None.is c.args.fault refl refl
+    fault_kept c.args.self.now _ c.if-not-self.true c.in_default.is c.args.fault refl refl
     (some_after _ _ _ c.args.fault c.fault_after.ensures c.bytes.ensures) c.args.bytes
 
 pub returns-in-Ok : goal.returns-in-Ok
 returns-in-Ok g c =
-    fault_passed c.args.self.now _ c.if-not-self.false c.in-None.is c.args.fault (c.in-Ok.ensures.fits.0 refl) refl
+    fault_passed c.args.self.now _ c.if-not-self.false c.in_default.is c.args.fault (c.in-Ok.ensures.fits.0 refl) refl
     c.in-Ok.ensures.value refl c.args.bytes
 
 pub returns-in-Err : goal.returns-in-Err
 returns-in-Err g c =
-    fault_refused c.joining_laws.ensures.one c.args.self.now c.if-not-self.false c.in-None.is c.args.fault
+    fault_refused c.joining_laws.ensures.one c.args.self.now c.if-not-self.false c.in_default.is c.args.fault
     (λ few. false≢true (c.in-Err.ensures.fits.1 few)) c.args.bytes

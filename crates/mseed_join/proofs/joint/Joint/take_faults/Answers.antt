@@ -9,10 +9,10 @@ returns-in-Some g c =
 
 pub returns-in-Ok : goal.returns-in-Ok
 returns-in-Ok g c =
-    faults_added c.args.self.now _ c.in-None.is c.args.bytes c.requires c.args.faults (c.in-Ok.ensures.fits.0 refl) refl
-    c.in-Ok.ensures.value refl
+    faults_added c.args.self.now _ c.in_default.is c.args.bytes c.requires c.args.faults
+    (c.in-Ok.ensures.fits.0 refl) refl c.in-Ok.ensures.value refl
 
 pub returns-in-Err : goal.returns-in-Err
 returns-in-Err g c =
-    faults_refused c.joining_laws.ensures.one c.args.self.now c.in-None.is c.args.faults
+    faults_refused c.joining_laws.ensures.one c.args.self.now c.in_default.is c.args.faults
     (λ few. false≢true (c.in-Err.ensures.fits.1 few))
