@@ -18,7 +18,7 @@ use Rattle.mseed_steim.specs.Frames.{DataWord, data_words, first_constant, word_
 use Rattle.mseed_steim.specs.Samples.{Adds, AreSums, StartsAndAdds, differences_from, steps_of}
 use Rattle.mseed_steim.specs.private.Items.{items_of}
 use Rattle.mseed_steim.specs.private.Lanes.{Begins}
-use Rattle.mseed_steim.specs.private.Sums.{Continues, fold, met_in, the_difference, the_sample}
+use Rattle.mseed_steim.specs.private.Sums.{Continues, met_in, the_difference, the_sample}
 use Rattle.mseed_steim.specs.private.Unpacked.{AreUnpacked, data_in, left_from}
 use Rattle.mseed_steim.proofs.Folded.{Folds, done as done_folds, short as short_folds, bad as bad_folds}
 use Rattle.mseed_steim.proofs.Folded.{all_kept, folds, kept_later, over as over_folds, steps_from}

@@ -130,8 +130,7 @@ abbrev pub in_places : Option (ℤ → ℤ → ℤ) → List ℤ → List ℤ
 in_places None out = []
 in_places (Some keep) out = out
 
--- A walk over all these items, with these places, goes on from the next sum with those after, and with the places
--- after it: it answers the same, and keeps the same in all.
+-- A walk over these items answers the same, and keeps the same in all, as one from the next sum on over those after.
 pub record Continues (keep : Option (ℤ → ℤ → ℤ)) (n : ℕ) (sum : Sum) (before : List ℤ)
     (items behind : List (Result ℤ BadWordAt)) (after : List ℤ) (next : Sum) : Type 0 where
   pub folded : fold n sum items ≡ fold n next behind
@@ -169,8 +168,7 @@ pub record Takes (keep : Option (ℤ → ℤ → ℤ)) (task : Task) (payload : 
   pub continues : Continues keep task.samples sum before (items_left task payload sum.met frame)
       (items_left task payload taken.sum.met (frame + taken.frames)) after taken.sum
 
--- Whatever the words of a run of frames move a sum by, but for a number that isn't used, is what the walk adds up over
--- these frames.
+-- Whatever a run of frames moves a sum by, but for a number that isn't used, is what the walk adds up over them.
 abbrev pub AddsRun : Scheme → List ℕ → ℕ → ℕ → Sum → ℤ → Type 0
 AddsRun scheme payload n index sum unused =
     (k count reach : ℕ) (by : ℤ) → 0 < k → index + k ≤ length payload / 64
