@@ -153,203 +153,277 @@ pub record HasNext {S : Type 0} (left : S → List View) (next : S) (last : ℤ)
   pub all_steim : AllByRecursion IsSteim (left next)
   pub all_fit : AllByRecursion (λ (w : View). count_of w ≤ length room) (left next)
 
-pub next_of_supply : {S : Type 0} {leads : S → Type 0} {left : S → List View} {rest next : S} {last : ℤ}
-    {room : List ℤ} {at end given : ℕ} {samples : List ℤ} {v : View}
-    → IsSupplied leads left rest last room at end samples given → end ≤ at → left rest ≡ v ∷ left next
-    → HasNext left next last room samples given v
-next_of_supply {left = left} {next = next} {last = last} {room = room} {at = at} {end = end} {given = given}
-    {samples = samples} {v = v} h empty e =
-    let sound = subst (λ (vs : List View). AllByRecursion IsSound vs) e h.sound in
-    let steim = subst (λ (vs : List View). AllByRecursion IsSteim vs) e h.steim in
-    let fits = subst (λ (vs : List View). AllByRecursion (λ (w : View). count_of w ≤ length room) vs) e h.fits in
-    let found = joined_next v (left next) h.behind (subst (λ (vs : List View). AreJoined vs h.behind) e h.joined) in
-    let s : List ℤ = found.0 in
-    let more : List ℤ = found.1.0 in
-    let same : h.behind ≡ s ++ more = found.1.1.1.1 in
-    let last_is : IsLast last h.unpacked (s ++ more) =
-    subst (λ (zs : List ℤ). IsLast last h.unpacked zs) same h.last_is in
-    let parts : samples ≡ h.unpacked ++ (s ++ more) =
-    h.parts ∙ ap (λ (zs : List ℤ). h.unpacked ++ zs) same in
-    let all_near : AreNear (h.unpacked ++ (s ++ more)) = subst (λ (zs : List ℤ). AreNear zs) parts h.near in
-    record {
-      sound = sound.0;
-      steim = steim.0;
-      fits = fits.0;
-      s = s;
-      whole = found.1.1.0;
-      long = count_is v s found.1.1.0;
-      near = near_first last s more (near_after last h.unpacked (s ++ more) last_is all_near);
-      all_near = h.near;
-      unpacked = h.unpacked;
-      more = more;
-      parts = parts;
-      last_is = last_is;
-      given_is = omega (arith, h.given_is, empty);
-      joined = found.1.1.1.0;
-      all_sound = sound.1;
-      all_steim = steim.1;
-      all_fit = fits.1;
-    }
+range_is : (xs : List ℤ) (i n : ℕ) → slice_range xs i (i + n) ≡ take n (drop i xs)
+range_is xs i n = let size : i + n - i ≡ n = omega arith in ap (λ (k : ℕ). take k (drop i xs)) size
 
--- what it is unpacked to are the next differences
-next_are : {S : Type 0} {left : S → List View} {next : S} {last : ℤ} {room samples : List ℤ} {given : ℕ} {v : View}
-    (h : HasNext left next last room samples given v) → (out : List ℤ) → out ≡ differences_from last h.s
-    → out ≡ take (count_of v) (drop given (differences samples))
-next_are {last = last} {samples = samples} {given = given} {v = v} h out e =
-    let all : List ℤ = h.s ++ h.more in
-    let place : drop given (differences samples) ≡ differences_from last all =
-    ap (λ (n : ℕ). drop n (differences samples)) h.given_is
-    ∙ ap (λ (zs : List ℤ). drop (length h.unpacked) (differences zs)) h.parts
-    ∙ after_are last h.unpacked all h.last_is in
-    e ∙ sym (first_are last h.s h.more)
-    ∙ ap (λ (n : ℕ). take n (differences_from last all)) h.long
-    ∙ ap (λ (ds : List ℤ). take (count_of v) ds) (sym place)
+-- what a call of the supply comes to
+abbrev Given : {S : Type 0} → (S → Type 0) → (S → List View) → S → ℤ → List ℤ → ℕ → ℕ → List ℤ → ℕ → List ℤ → ℕ
+    → Type 0
+Given leads left rest last room at end samples given out n =
+    IsNextGiven samples given out n × IsSupplied leads left rest last room at end samples (given + n)
 
--- how many samples there are then
-sizes : {S : Type 0} {left : S → List View} {next : S} {last : ℤ} {room samples : List ℤ} {given : ℕ} {v : View}
-    (h : HasNext left next last room samples given v)
-    → length samples ≡ given + (count_of v + length h.more)
-sizes h =
-    omega (
+-- the last of those that were given
+last_at : (x : ℤ) (xs behind : List ℤ) → get_or (x ∷ xs ++ behind) (length xs) (pos 0) ≡ last_after x xs
+last_at x [] behind = refl
+last_at x (y ∷ xs) behind = last_at y xs behind
+
+last_unpacked : (last : ℤ) (xs behind : List ℤ) → IsLast last xs behind → 0 < length xs
+    → last ≡ get_or (xs ++ behind) (length xs - 1) (pos 0)
+last_unpacked last [] behind h some = absurd (omega (arith, some))
+last_unpacked last (x ∷ xs) behind h some =
+    let at : length xs ≡ length (x ∷ xs) - 1 = omega arith in
+    sym (sym (ap (λ (n : ℕ). get_or (x ∷ xs ++ behind) n (pos 0)) at) ∙ last_at x xs behind ∙ h)
+
+-- ---- what is left of a supply
+module _ {S : Type 0} {leads : S → Type 0} {left : S → List View} {rest : S} {last : ℤ} {room : List ℤ}
+    {at end given : ℕ} {samples : List ℤ} (h : IsSupplied leads left rest last room at end samples given) where
+  pub next_of_supply : {next : S} {v : View} → end ≤ at → left rest ≡ v ∷ left next
+      → HasNext left next last room samples given v
+  next_of_supply {next = next} {v = v} empty e =
+      let sound = subst (λ (vs : List View). AllByRecursion IsSound vs) e h.sound in
+      let steim = subst (λ (vs : List View). AllByRecursion IsSteim vs) e h.steim in
+      let fits = subst (λ (vs : List View). AllByRecursion (λ (w : View). count_of w ≤ length room) vs) e h.fits in
+      let found = joined_next v (left next) h.behind (subst (λ (vs : List View). AreJoined vs h.behind) e h.joined) in
+      let s : List ℤ = found.0 in
+      let more : List ℤ = found.1.0 in
+      let same : h.behind ≡ s ++ more = found.1.1.1.1 in
+      let last_is : IsLast last h.unpacked (s ++ more) =
+      subst (λ (zs : List ℤ). IsLast last h.unpacked zs) same h.last_is in
+      let parts : samples ≡ h.unpacked ++ (s ++ more) =
+      h.parts ∙ ap (λ (zs : List ℤ). h.unpacked ++ zs) same in
+      let all_near : AreNear (h.unpacked ++ (s ++ more)) = subst (λ (zs : List ℤ). AreNear zs) parts h.near in
+      record {
+        sound = sound.0;
+        steim = steim.0;
+        fits = fits.0;
+        s = s;
+        whole = found.1.1.0;
+        long = count_is v s found.1.1.0;
+        near = near_first last s more (near_after last h.unpacked (s ++ more) last_is all_near);
+        all_near = h.near;
+        unpacked = h.unpacked;
+        more = more;
+        parts = parts;
+        last_is = last_is;
+        given_is = omega (arith, h.given_is, empty);
+        joined = found.1.1.1.0;
+        all_sound = sound.1;
+        all_steim = steim.1;
+        all_fit = fits.1;
+      }
+
+  -- some of the room
+  pub part_given : (out : List ℤ) (n : ℕ) → at < end → n ≡ min (length out) (end - at)
+      → take n out ≡ take n (drop at room) → Given leads left rest last room (at + n) end samples given out n
+  part_given out n some e items =
+      let ds : List ℤ = differences samples in
+      let few : n ≤ end - at = omega (arith, e) in
+      let later : ℕ = end - (at + n) in
+      let size : end - at ≡ n + later = omega (arith, few, h.order) in
+      let both : take (n + later) (drop at room) ≡ take (n + later) (drop given ds) =
+      subst (λ (k : ℕ). take k (drop at room) ≡ take k (drop given ds)) size h.held in (
+        record {
+          inside = omega (
+            arith,
+            ap (λ (zs : List ℤ). length zs) h.parts,
+            length-append h.unpacked h.behind,
+            h.given_is,
+            few,
+          );
+          items = items ∙ sym (take-take n (end - at) (drop at room) few) ∙ ap (λ (zs : List ℤ). take n zs) h.held
+              ∙ take-take n (end - at) (drop given ds) few ∙ sym (range_is ds given n);
+          some = λ left room. omega (arith, e, some, room);
+        },
+        record {
+          led = h.led;
+          sound = h.sound;
+          steim = h.steim;
+          fits = h.fits;
+          unpacked = h.unpacked;
+          behind = h.behind;
+          parts = h.parts;
+          joined = h.joined;
+          near = h.near;
+          last_is = h.last_is;
+          order = omega (arith, few, h.order);
+          inside = h.inside;
+          given_is = omega (arith, h.given_is, few, h.order);
+          held = sym (ap (λ (zs : List ℤ). take later zs) (drop-drop n at room))
+              ∙ sym (drop-take n later (drop at room)) ∙ ap (λ (zs : List ℤ). drop n zs) both
+              ∙ drop-take n later (drop given ds)
+              ∙ ap (λ (zs : List ℤ). take later zs) (drop-drop n given ds);
+        },
+      )
+
+  -- where no record is left, and nothing in the room, all was given
+  pub given_all : end ≤ at → left rest ≡ [] → (out : List ℤ) → IsNextGiven samples given out 0
+  given_all empty e out =
+      let none : h.behind ≡ [] =
+      joined_none h.behind (subst (λ (vs : List View). AreJoined vs h.behind) e h.joined) in
+      let size : length samples ≡ given =
+      omega (
+        arith,
+        ap (λ (zs : List ℤ). length zs) h.parts,
+        length-append h.unpacked h.behind,
+        ap (λ (zs : List ℤ). length zs) none,
+        h.given_is,
+        empty,
+      ) in
+      record {
+        inside = omega (arith, size);
+        items = sym (range_is (differences samples) given 0);
+        some = λ left room. absurd (omega (arith, left, size));
+      }
+
+  -- and the supply is as it was
+  pub supplied_still : {next : S} → left rest ≡ [] → left next ≡ [] → leads next
+      → IsSupplied leads left next last room at end samples (given + 0)
+  supplied_still e empty led =
+      let same = e ∙ sym empty in
+      let zero : given + 0 ≡ given = omega arith in
+      rw zero (record {
+        led = led;
+        sound = subst (λ (vs : List View). AllByRecursion IsSound vs) same h.sound;
+        steim = subst (λ (vs : List View). AllByRecursion IsSteim vs) same h.steim;
+        fits = subst (λ (vs : List View). AllByRecursion (λ (w : View). count_of w ≤ length room) vs) same h.fits;
+        unpacked = h.unpacked;
+        behind = h.behind;
+        parts = h.parts;
+        joined = subst (λ (vs : List View). AreJoined vs h.behind) same h.joined;
+        near = h.near;
+        last_is = h.last_is;
+        order = h.order;
+        inside = h.inside;
+        given_is = h.given_is;
+        held = h.held;
+      })
+
+  pub last_given : end ≤ at → 0 < given → last ≡ get_or samples (given - 1) (pos 0)
+  last_given done some =
+      let order = h.order in
+      let given_is = h.given_is in
+      let all : length h.unpacked ≡ given = omega (arith, order, given_is, done) in
+      subst (λ (xs : List ℤ). last ≡ get_or xs (given - 1) (pos 0)) (sym h.parts)
+      (last_unpacked last h.unpacked h.behind h.last_is (omega (arith, all, some))
+      ∙ ap (λ (n : ℕ). get_or (h.unpacked ++ h.behind) (n - 1) (pos 0)) all)
+
+-- ---- the next record is unpacked
+module _ {S : Type 0} {left : S → List View} {next : S} {last : ℤ} {room samples : List ℤ} {given : ℕ} {v : View}
+    (h : HasNext left next last room samples given v) where
+  -- to the next differences
+  next_are : (out : List ℤ) → out ≡ differences_from last h.s
+      → out ≡ take (count_of v) (drop given (differences samples))
+  next_are out e =
+      let all : List ℤ = h.s ++ h.more in
+      let place : drop given (differences samples) ≡ differences_from last all =
+      ap (λ (n : ℕ). drop n (differences samples)) h.given_is
+      ∙ ap (λ (zs : List ℤ). drop (length h.unpacked) (differences zs)) h.parts
+      ∙ after_are last h.unpacked all h.last_is in
+      e ∙ sym (first_are last h.s h.more)
+      ∙ ap (λ (n : ℕ). take n (differences_from last all)) h.long
+      ∙ ap (λ (ds : List ℤ). take (count_of v) ds) (sym place)
+
+  -- into its place
+  supplied_past : {leads : S → Type 0} (then : ℤ) (at end : ℕ) → leads next → last_after last h.s ≡ then → at ≤ end
+      → end ≤ at → end ≤ length room → IsSupplied leads left next then room at end samples (given + count_of v)
+  supplied_past then at end led e order empty inside =
+      let none : end - at ≡ 0 = omega (arith, empty) in
+      record {
+        led = led;
+        sound = h.all_sound;
+        steim = h.all_steim;
+        fits = h.all_fit;
+        unpacked = h.unpacked ++ h.s;
+        behind = h.more;
+        parts = h.parts ∙ sym (append_assoc h.unpacked h.s h.more);
+        joined = h.joined;
+        near = h.all_near;
+        last_is = last_more last then h.unpacked h.s h.more h.last_is (omega (arith, h.long, h.whole.0.some)) e;
+        order = order;
+        inside = inside;
+        given_is = omega (arith, length-append h.unpacked h.s, h.given_is, h.long, none);
+        held = rw none refl;
+      }
+
+  -- or into the room
+  supplied_here : {leads : S → Type 0} (then : ℤ) (now : List ℤ) → leads next → last_after last h.s ≡ then
+      → length now ≡ length room → take (count_of v) now ≡ differences_from last h.s
+      → IsSupplied leads left next then now 0 (count_of v) samples given
+  supplied_here then now led e size held = record {
+    led = led;
+    sound = h.all_sound;
+    steim = h.all_steim;
+    fits = subst (λ (n : ℕ). AllByRecursion (λ (w : View). count_of w ≤ n) (left next)) (sym size) h.all_fit;
+    unpacked = h.unpacked ++ h.s;
+    behind = h.more;
+    parts = h.parts ∙ sym (append_assoc h.unpacked h.s h.more);
+    joined = h.joined;
+    near = h.all_near;
+    last_is = last_more last then h.unpacked h.s h.more h.last_is (omega (arith, h.long, h.whole.0.some)) e;
+    order = omega arith;
+    inside = omega (arith, h.fits, size);
+    given_is = omega (arith, length-append h.unpacked h.s, h.given_is, h.long);
+    held = let none : count_of v - 0 ≡ count_of v = omega arith in rw none (next_are (take (count_of v) now) held);
+  }
+
+  -- its differences at once
+  given_record : (out d : List ℤ) → take (count_of v) out ≡ d → d ≡ differences_from last h.s
+      → IsNextGiven samples given out (count_of v)
+  given_record out d e is = record {
+    inside = omega (
       arith,
       ap (λ (zs : List ℤ). length zs) h.parts,
       length-append h.unpacked (h.s ++ h.more),
       length-append h.s h.more,
       h.given_is,
       h.long,
-    )
+    );
+    items = e ∙ next_are d is ∙ sym (range_is (differences samples) given (count_of v));
+    some = λ left room. h.whole.0.some;
+  }
 
--- it was unpacked: into its place, or into the room
-pub supplied_past : {S : Type 0} {leads : S → Type 0} {left : S → List View} {next : S} {last : ℤ}
-    {room samples : List ℤ} {given : ℕ} {v : View} (h : HasNext left next last room samples given v) (then : ℤ)
-    (at end : ℕ) → leads next → last_after last h.s ≡ then → at ≤ end → end ≤ at → end ≤ length room
-    → IsSupplied leads left next then room at end samples (given + count_of v)
-supplied_past {last = last} {samples = samples} {given = given} {v = v} h then at end led e order empty inside =
-    let none : end - at ≡ 0 = omega (arith, empty) in
-    record {
-      led = led;
-      sound = h.all_sound;
-      steim = h.all_steim;
-      fits = h.all_fit;
-      unpacked = h.unpacked ++ h.s;
-      behind = h.more;
-      parts = h.parts ∙ sym (append_assoc h.unpacked h.s h.more);
-      joined = h.joined;
-      near = h.all_near;
-      last_is = last_more last then h.unpacked h.s h.more h.last_is (omega (arith, h.long, h.whole.0.some)) e;
-      order = order;
-      inside = inside;
-      given_is = omega (arith, length-append h.unpacked h.s, h.given_is, h.long, none);
-      held = rw none refl;
-    }
+module _ {S : Type 0} {leads : S → Type 0} {left : S → List View} {rest next : S} {last : ℤ} {room : List ℤ}
+    {at end given : ℕ} {samples : List ℤ} {v : View}
+    (h : IsSupplied leads left rest last room at end samples given) (empty : end ≤ at)
+    (e : left rest ≡ v ∷ left next) (led : leads next) (then : ℤ) where
+  -- a record, in its place
+  pub record_given : (d more : List ℤ) (n : ℕ) → n ≡ count_of v
+      → ((s : List ℤ) → IsWhole v s → d ≡ differences_from last s)
+      → ((s : List ℤ) → IsWhole v s → last_after last s ≡ then)
+      → Given leads left next then room at end samples given (d ++ more) n
+  record_given d more n count are ends =
+      let found : HasNext left next last room samples given v = next_of_supply h empty e in
+      let is : d ≡ differences_from last found.s = are found.s found.whole in
+      let long : length d ≡ count_of v =
+      ap (λ (zs : List ℤ). length zs) is ∙ from_length last found.s ∙ found.long in
+      let first : take (count_of v) (d ++ more) ≡ d =
+      ap (λ (k : ℕ). take k (d ++ more)) (sym long) ∙ take-append_seam d more in
+      rw count (
+        given_record found (d ++ more) d first is,
+        supplied_past found then at end led (ends found.s found.whole) h.order empty h.inside,
+      )
 
-pub supplied_here : {S : Type 0} {leads : S → Type 0} {left : S → List View} {next : S} {last : ℤ}
-    {room samples : List ℤ} {given : ℕ} {v : View} (h : HasNext left next last room samples given v) (then : ℤ)
-    (now : List ℤ) → leads next → last_after last h.s ≡ then → length now ≡ length room
-    → take (count_of v) now ≡ differences_from last h.s
-    → IsSupplied leads left next then now 0 (count_of v) samples given
-supplied_here {left = left} {next = next} {last = last} {room = room} {samples = samples} {given = given} {v = v} h then
-    now led e size held =
-    record {
-      led = led;
-      sound = h.all_sound;
-      steim = h.all_steim;
-      fits = subst (λ (n : ℕ). AllByRecursion (λ (w : View). count_of w ≤ n) (left next)) (sym size) h.all_fit;
-      unpacked = h.unpacked ++ h.s;
-      behind = h.more;
-      parts = h.parts ∙ sym (append_assoc h.unpacked h.s h.more);
-      joined = h.joined;
-      near = h.all_near;
-      last_is = last_more last then h.unpacked h.s h.more h.last_is (omega (arith, h.long, h.whole.0.some)) e;
-      order = omega arith;
-      inside = omega (arith, h.fits, size);
-      given_is = omega (arith, length-append h.unpacked h.s, h.given_is, h.long);
-      held = let none : count_of v - 0 ≡ count_of v = omega arith in rw none (next_are h (take (count_of v) now) held);
-    }
-
--- ---- what is handed on
-range_is : (xs : List ℤ) (i n : ℕ) → slice_range xs i (i + n) ≡ take n (drop i xs)
-range_is xs i n = let size : i + n - i ≡ n = omega arith in ap (λ (k : ℕ). take k (drop i xs)) size
-
-pub given_part : {S : Type 0} {leads : S → Type 0} {left : S → List View} {rest : S} {last : ℤ} {room : List ℤ}
-    {at end given : ℕ} {samples : List ℤ} → IsSupplied leads left rest last room at end samples given
-    → (out : List ℤ) (n : ℕ) → at < end → n ≡ min (length out) (end - at) → take n out ≡ take n (drop at room)
-    → IsNextGiven samples given out n
-given_part {room = room} {at = at} {end = end} {given = given} {samples = samples} h out n some e items =
-    let few : n ≤ end - at = omega (arith, e) in
-    let ds : List ℤ = differences samples in
-    record {
-      inside = omega (
-        arith,
-        ap (λ (zs : List ℤ). length zs) h.parts,
-        length-append h.unpacked h.behind,
-        h.given_is,
-        few,
-      );
-      items = items ∙ sym (take-take n (end - at) (drop at room) few) ∙ ap (λ (zs : List ℤ). take n zs) h.held
-          ∙ take-take n (end - at) (drop given ds) few ∙ sym (range_is ds given n);
-      some = λ left room. omega (arith, e, some, room);
-    }
-
-pub supplied_on : {S : Type 0} {leads : S → Type 0} {left : S → List View} {rest : S} {last : ℤ} {room : List ℤ}
-    {at end given : ℕ} {samples : List ℤ} → IsSupplied leads left rest last room at end samples given
-    → (n : ℕ) → n ≤ end - at → IsSupplied leads left rest last room (at + n) end samples (given + n)
-supplied_on {room = room} {at = at} {end = end} {given = given} {samples = samples} h n few =
-    let ds : List ℤ = differences samples in
-    let left : ℕ = end - (at + n) in
-    let size : end - at ≡ n + left = omega (arith, few, h.order) in
-    let both : take (n + left) (drop at room) ≡ take (n + left) (drop given ds) =
-    subst (λ (k : ℕ). take k (drop at room) ≡ take k (drop given ds)) size h.held in
-    record {
-      led = h.led;
-      sound = h.sound;
-      steim = h.steim;
-      fits = h.fits;
-      unpacked = h.unpacked;
-      behind = h.behind;
-      parts = h.parts;
-      joined = h.joined;
-      near = h.near;
-      last_is = h.last_is;
-      order = omega (arith, few, h.order);
-      inside = h.inside;
-      given_is = omega (arith, h.given_is, few, h.order);
-      held = sym (ap (λ (zs : List ℤ). take left zs) (drop-drop n at room)) ∙ sym (drop-take n left (drop at room))
-          ∙ ap (λ (zs : List ℤ). drop n zs) both ∙ drop-take n left (drop given ds)
-          ∙ ap (λ (zs : List ℤ). take left zs) (drop-drop n given ds);
-    }
-
--- a record's differences at once
-pub given_record : {S : Type 0} {left : S → List View} {next : S} {last : ℤ} {room samples : List ℤ} {given : ℕ}
-    {v : View} (h : HasNext left next last room samples given v) (out d : List ℤ) → take (count_of v) out ≡ d
-    → d ≡ differences_from last h.s → IsNextGiven samples given out (count_of v)
-given_record {samples = samples} {given = given} {v = v} h out d e is = record {
-  inside = omega (arith, sizes h);
-  items = e ∙ next_are h d is ∙ sym (range_is (differences samples) given (count_of v));
-  some = λ left room. h.whole.0.some;
-}
-
--- where no record is left, and nothing in the room, all was given
-pub given_all : {S : Type 0} {leads : S → Type 0} {left : S → List View} {rest : S} {last : ℤ} {room : List ℤ}
-    {at end given : ℕ} {samples : List ℤ} → IsSupplied leads left rest last room at end samples given
-    → end ≤ at → left rest ≡ [] → (out : List ℤ) → IsNextGiven samples given out 0
-given_all {at = at} {end = end} {given = given} {samples = samples} h empty e out =
-    let none : h.behind ≡ [] =
-    joined_none h.behind (subst (λ (vs : List View). AreJoined vs h.behind) e h.joined) in
-    let size : length samples ≡ given =
-    omega (
-      arith,
-      ap (λ (zs : List ℤ). length zs) h.parts,
-      length-append h.unpacked h.behind,
-      ap (λ (zs : List ℤ). length zs) none,
-      h.given_is,
-      empty,
-    ) in
-    record {
-      inside = omega (arith, size);
-      items = sym (range_is (differences samples) given 0);
-      some = λ left room. absurd (omega (arith, left, size));
-    }
+  -- or through the room
+  pub room_given : (d out : List ℤ) (count n : ℕ) → count ≡ count_of v
+      → ((s : List ℤ) → IsWhole v s → d ≡ differences_from last s)
+      → ((s : List ℤ) → IsWhole v s → last_after last s ≡ then) → n ≡ min (length out) (count - 0)
+      → take n out ≡ take n (drop 0 (d ++ drop count room))
+      → Given leads left next then (d ++ drop count room) n count samples given out n
+  room_given d out count n count_is are ends size items =
+      let found : HasNext left next last room samples given v = next_of_supply h empty e in
+      let now : List ℤ = d ++ drop count room in
+      let is : d ≡ differences_from last found.s = are found.s found.whole in
+      let long : length d ≡ count_of v =
+      ap (λ (zs : List ℤ). length zs) is ∙ from_length last found.s ∙ found.long in
+      let first : take (count_of v) now ≡ d =
+      ap (λ (k : ℕ). take k now) (sym long) ∙ take-append_seam d (drop count room) in
+      let same : length now ≡ length room =
+      omega (arith, length-append d (drop count room), length-drop count room, long, count_is, found.fits) in
+      let here : IsSupplied leads left next then now 0 count samples given =
+      subst (λ (k : ℕ). IsSupplied leads left next then now 0 k samples given) (sym count_is)
+      (supplied_here found then now led (ends found.s found.whole) same (first ∙ is)) in
+      let zero_on : 0 + n ≡ n = omega arith in
+      rw zero_on at (part_given here out n (omega (arith, count_is, found.whole.0.some)) size items)
 
 -- ---- the beginning
 each_steim : (vs : List View) → AllByRecursion IsUnpackable vs → AllByRecursion IsSteim vs
@@ -427,112 +501,6 @@ unread_by {vs = vs} {nearness = nearness} start rate h sound says unpackable = r
       (sym (joined_only vs h.samples xs sound (h.are start rate).samples joined))
       (near_known nearness h.samples says h.known);
 }
-
--- ---- what a call of the supply comes to
-abbrev Given : {S : Type 0} → (S → Type 0) → (S → List View) → S → ℤ → List ℤ → ℕ → ℕ → List ℤ → ℕ → List ℤ → ℕ
-    → Type 0
-Given leads left rest last room at end samples given out n =
-    IsNextGiven samples given out n × IsSupplied leads left rest last room at end samples (given + n)
-
--- some of the room
-pub part_given : {S : Type 0} {leads : S → Type 0} {left : S → List View} {rest : S} {last : ℤ} {room : List ℤ}
-    {at end given : ℕ} {samples : List ℤ} → IsSupplied leads left rest last room at end samples given
-    → (out : List ℤ) (n : ℕ) → at < end → n ≡ min (length out) (end - at) → take n out ≡ take n (drop at room)
-    → Given leads left rest last room (at + n) end samples given out n
-part_given h out n some e items = (given_part h out n some e items, supplied_on h n (omega (arith, e)))
-
--- a record, in its place
-pub record_given : {S : Type 0} {leads : S → Type 0} {left : S → List View} {rest next : S} {last : ℤ} {room : List ℤ}
-    {at end given : ℕ} {samples : List ℤ} {v : View} → IsSupplied leads left rest last room at end samples given
-    → end ≤ at → left rest ≡ v ∷ left next → leads next → (then : ℤ) (d more : List ℤ) (n : ℕ) → n ≡ count_of v
-    → ((s : List ℤ) → IsWhole v s → d ≡ differences_from last s)
-    → ((s : List ℤ) → IsWhole v s → last_after last s ≡ then)
-    → Given leads left next then room at end samples given (d ++ more) n
-record_given {left = left} {next = next} {last = last} {room = room} {at = at} {end = end} {given = given} {samples =
-    samples} {v = v} h empty e led
-    then d more n count are ends =
-    let found : HasNext left next last room samples given v = next_of_supply h empty e in
-    let is : d ≡ differences_from last found.s = are found.s found.whole in
-    let long : length d ≡ count_of v =
-    ap (λ (zs : List ℤ). length zs) is ∙ from_length last found.s ∙ found.long in
-    let first : take (count_of v) (d ++ more) ≡ d =
-    ap (λ (k : ℕ). take k (d ++ more)) (sym long) ∙ take-append_seam d more in
-    rw count (
-      given_record found (d ++ more) d first is,
-      supplied_past found then at end led (ends found.s found.whole) h.order empty h.inside,
-    )
-
--- or through the room
-pub room_given : {S : Type 0} {leads : S → Type 0} {left : S → List View} {rest next : S} {last : ℤ} {room : List ℤ}
-    {at end given : ℕ} {samples : List ℤ} {v : View} → IsSupplied leads left rest last room at end samples given
-    → end ≤ at → left rest ≡ v ∷ left next → leads next → (then : ℤ) (d out : List ℤ) (count n : ℕ)
-    → count ≡ count_of v → ((s : List ℤ) → IsWhole v s → d ≡ differences_from last s)
-    → ((s : List ℤ) → IsWhole v s → last_after last s ≡ then) → n ≡ min (length out) (count - 0)
-    → take n out ≡ take n (drop 0 (d ++ drop count room))
-    → Given leads left next then (d ++ drop count room) n count samples given out n
-room_given {leads = leads} {left = left} {next = next} {last = last} {room = room} {given = given} {samples = samples}
-    {v = v} h empty e led then d out count n count_is are ends size items =
-    let found : HasNext left next last room samples given v = next_of_supply h empty e in
-    let now : List ℤ = d ++ drop count room in
-    let is : d ≡ differences_from last found.s = are found.s found.whole in
-    let long : length d ≡ count_of v =
-    ap (λ (zs : List ℤ). length zs) is ∙ from_length last found.s ∙ found.long in
-    let first : take (count_of v) now ≡ d =
-    ap (λ (k : ℕ). take k now) (sym long) ∙ take-append_seam d (drop count room) in
-    let same : length now ≡ length room =
-    omega (arith, length-append d (drop count room), length-drop count room, long, count_is, found.fits) in
-    let here : IsSupplied leads left next then now 0 count samples given =
-    subst (λ (k : ℕ). IsSupplied leads left next then now 0 k samples given) (sym count_is)
-    (supplied_here found then now led (ends found.s found.whole) same (first ∙ is)) in
-    let zero_on : 0 + n ≡ n = omega arith in
-    rw zero_on at (part_given here out n (omega (arith, count_is, found.whole.0.some)) size items)
-
--- where no record was left
-pub supplied_still : {S : Type 0} {leads : S → Type 0} {left : S → List View} {rest next : S} {last : ℤ} {room : List ℤ}
-    {at end given : ℕ} {samples : List ℤ} → IsSupplied leads left rest last room at end samples given
-    → left rest ≡ [] → left next ≡ [] → leads next → IsSupplied leads left next last room at end samples (given + 0)
-supplied_still {left = left} {room = room} {at = at} {end = end} {given = given} {samples = samples} h e empty led =
-    let same = e ∙ sym empty in
-    let zero : given + 0 ≡ given = omega arith in
-    rw zero (record {
-      led = led;
-      sound = subst (λ (vs : List View). AllByRecursion IsSound vs) same h.sound;
-      steim = subst (λ (vs : List View). AllByRecursion IsSteim vs) same h.steim;
-      fits = subst (λ (vs : List View). AllByRecursion (λ (w : View). count_of w ≤ length room) vs) same h.fits;
-      unpacked = h.unpacked;
-      behind = h.behind;
-      parts = h.parts;
-      joined = subst (λ (vs : List View). AreJoined vs h.behind) same h.joined;
-      near = h.near;
-      last_is = h.last_is;
-      order = h.order;
-      inside = h.inside;
-      given_is = h.given_is;
-      held = h.held;
-    })
-
--- the last of those that were given
-last_at : (x : ℤ) (xs behind : List ℤ) → get_or (x ∷ xs ++ behind) (length xs) (pos 0) ≡ last_after x xs
-last_at x [] behind = refl
-last_at x (y ∷ xs) behind = last_at y xs behind
-
-last_unpacked : (last : ℤ) (xs behind : List ℤ) → IsLast last xs behind → 0 < length xs
-    → last ≡ get_or (xs ++ behind) (length xs - 1) (pos 0)
-last_unpacked last [] behind h some = absurd (omega (arith, some))
-last_unpacked last (x ∷ xs) behind h some =
-    let at : length xs ≡ length (x ∷ xs) - 1 = omega arith in
-    sym (sym (ap (λ (n : ℕ). get_or (x ∷ xs ++ behind) n (pos 0)) at) ∙ last_at x xs behind ∙ h)
-
-pub last_given : {S : Type 0} {leads : S → Type 0} {left : S → List View} {rest : S} {last : ℤ} {room : List ℤ}
-    {at end given : ℕ} {samples : List ℤ} → IsSupplied leads left rest last room at end samples given → end ≤ at
-    → 0 < given → last ≡ get_or samples (given - 1) (pos 0)
-last_given {last = last} {given = given} h done some =
-    let order = h.order in
-    let given_is = h.given_is in
-    let all : length h.unpacked ≡ given = omega (arith, order, given_is, done) in
-    subst (λ (xs : List ℤ). last ≡ get_or xs (given - 1) (pos 0)) (sym h.parts)
-    (last_unpacked last h.unpacked h.behind h.last_is (omega (arith, all, some))
-    ∙ ap (λ (n : ℕ). get_or (h.unpacked ++ h.behind) (n - 1) (pos 0)) all)
 
 -- what packing from a supply wants to know, of records of Steim frames that fit as a series
 pub record HasSupply {S : Type 0} (leads : S → Type 0) (left : S → List View) (rest : S) (first : ℤ) (room : List ℤ)
