@@ -1,10 +1,9 @@
 -- The trails of an archive's channels, and what is found and written of their records.
-use Rattle.std.proofs.Common.{◌≡◌, ◌≢◌, ℕ, suc, ◌+◌, ◌<◌, ◌≤◌, ◌^◌, Bool, true, false, if◌then◌else◌, List, []}
+use Rattle.std.proofs.Common.{◌≡◌, ◌≢◌, ℕ, ◌+◌, ◌<◌, ◌≤◌, ◌^◌, Bool, true, false, if◌then◌else◌, List, []}
 use Rattle.std.proofs.Common.{◌∷◌, ◌++◌, length, map, take, drop, get_or, refl, sym, ap, subst, ◌∙◌, arith}
-use Rattle.std.proofs.Common.{append_assoc, All}
+use Rattle.std.proofs.Common.{append-nil, length-take, All}
 use Rattle.std.specs.List.{AllByRecursion}
-use Rattle.std.proofs.Math.Seq.{take-suc}
-use Rattle.std.proofs.lemmas.List.{get_or_default, length-map, take-append-drop, take_all, take_more}
+use Rattle.std.proofs.lemmas.List.{drop_more, get_or_default, length-map, take-append-drop, take_all, take_more}
 use Rattle.std.proofs.lemmas.List.Elements.{All-from_recursion, recursion_from_All}
 use Rattle.mseed_record.specs.View.{View}
 use Rattle.mseed_record.specs.Viewing.{view_of}
@@ -14,21 +13,22 @@ use Rattle.mseed_audit.specs.Follows.{IsSound}
 use Rattle.mseed_audit.proofs.Following.{views_are}
 use Rattle.mseed_pack.specs.declared.fault.PackFault.{PackFault}
 use Rattle.mseed_pack.specs.declared.options.Options.{Options}
-use Rattle.mseed_repack.specs.Repack.{AreContinuous, AreTexts, CanBePacked, CantBePacked, Channel, IsFirst, IsTextUpTo}
-use Rattle.mseed_repack.specs.Repack.{StretchFits, Wrote, records_in}
+use Rattle.mseed_repack.specs.Repack.{AreContinuous, CanBePacked, CantBePacked, Channel, IsFirst, StretchFits, Wrote}
+use Rattle.mseed_repack.specs.Repack.{records_in}
 use Rattle.mseed_repack.specs.ByStretches.{AreFound, IsFit, kept_of}
 use Rattle.mseed_repack.specs.private.Archives.{IsAudited, IsTrailOf, records_on}
-use Rattle.mseed_repack.specs.private.Planning.{AreWritable, CanBeWritten, IsPartOn, IsTextOn, StandsAs}
-use Rattle.mseed_repack.specs.private.Planning.{counts_of, planned, stretches_by}
+use Rattle.mseed_repack.specs.private.Planning.{AreReady, IsCutAs, IsPartAs, IsPartOn, IsReady, IsTextAs, IsTextOn}
+use Rattle.mseed_repack.specs.private.Planning.{PartsAs, StandsAs, TextsAs, stretches_by}
 use Rattle.mseed_repack.specs.private.Reading.{channel_in}
 use Rattle.mseed_repack.specs.private.Restretching.{IsNoMisfit, IsUnbroken}
 use Rattle.mseed_repack.specs.declared.plan.Plan.{Plan}
 use Rattle.mseed_repack.specs.declared.standing.Standing.{Standing}
 use Rattle.mseed_repack.specs.declared.standing.Standing.TheVariants.{Fit, Broken, Misfit}
+use Rattle.mseed_repack.specs.declared.stretching.Cutting.{Cutting}
 use Rattle.mseed_repack.specs.declared.stretching.Cutting.TheVariants.{Whole}
 use Rattle.mseed_repack.specs.declared.archive.Archive.{Archive}
 use Rattle.mseed_repack.specs.declared.archive.Trail.{Trail}
-use Rattle.mseed_repack.proofs.Planning.{as_planned, planned_at, written_at}
+use Rattle.mseed_repack.proofs.Planning.{part_as, ready_at, text_as, wrote_as}
 use Rattle.mseed_repack.proofs.Repacks.{first_at}
 use Rattle.mseed_repack.proofs.Standings.{all_fit, as_many, each_fits, each_found, first_found, fits_by_standing}
 use Rattle.mseed_repack.proofs.Standings.{stands_at}
@@ -84,64 +84,115 @@ pub some_on : (a : Archive) (k : ℕ) (t : Trail) → k < length a.channels.now 
 some_on a k t lt w continuous =
     subst (λ (vs : List View). vs ≢ []) (sym (at_index a k t w)) (continuous k w.channel lt).some
 
--- The stretches of a channel, by its trail.
+-- What is found and written of the channel of a trail.
 
-abbrev plan_of : Archive → List (List Plan) → List (List (List View))
-plan_of a ls = planned (map view_of a.views.now) a.channels.now ls
+pub ready_on : {cutting : Cutting} {o : Options} {room places : ℕ} (a : Archive) (ss : List Standing)
+    (ls : List (List Plan)) (k : ℕ) (t : Trail) (ps : List Plan) → k < length a.channels.now → IsTrailOf a k t
+    → ps ≡ get_or ls k [] → AreReady cutting o room places (map view_of a.views.now) a.channels.now ss ls
+    → IsReady cutting o room places (records_on t) (get_or ss k Fit) ps
+ready_on {cutting = cutting} {o = o} {room = room} {places = places} a ss ls k t ps lt w e all =
+    subst (λ (qs : List Plan). IsReady cutting o room places (records_on t) (get_or ss k Fit) qs) (sym e)
+    (subst (λ (vs : List View). IsReady cutting o room places vs (get_or ss k Fit) (get_or ls k []))
+    (sym (at_index a k t w)) (ready_at a.channels.now ss ls k w.channel all lt))
 
-at_plan : (a : Archive) (ls : List (List Plan)) (k : ℕ) (t : Trail) (ps : List Plan) → k < length a.channels.now
-    → IsTrailOf a k t → ps ≡ get_or ls k [] → get_or (plan_of a ls) k [] ≡ stretches_by (counts_of ps) (records_on t)
-at_plan a ls k t ps lt w e =
-    planned_at (views_of a) a.channels.now ls k w.channel [] lt
-    ∙ ap (λ (qs : List Plan). stretches_by (counts_of qs)
-    (records_in (views_of a) (get_or a.channels.now k w.channel).0)) (sym e)
-    ∙ ap (λ (vs : List View). stretches_by (counts_of ps) vs) (sym (at_index a k t w))
+-- the channels that fit, part by part
+kept_append : (cs ds : List Channel) (ss ts : List Standing) → length ss ≡ length cs
+    → kept_of (cs ++ ds) (ss ++ ts) ≡ kept_of cs ss ++ kept_of ds ts
+kept_append [] ds [] ts size = refl
+kept_append [] ds (s ∷ ss) ts size = absurd (omega (arith, size))
+kept_append (c ∷ cs) ds [] ts size = absurd (omega (arith, size))
+kept_append (c ∷ cs) ds (Fit ∷ ss) ts size =
+    ap (λ (es : List Channel). c ∷ es) (kept_append cs ds ss ts (omega (arith, size)))
+kept_append (c ∷ cs) ds (Broken ∷ ss) ts size = kept_append cs ds ss ts (omega (arith, size))
+kept_append (c ∷ cs) ds (Misfit n f ∷ ss) ts size = kept_append cs ds ss ts (omega (arith, size))
 
-inside_plan : (a : Archive) (ls : List (List Plan)) (k : ℕ) → k < length a.channels.now → k < length (plan_of a ls)
-inside_plan a ls k lt = let size = as_planned (views_of a) a.channels.now ls in omega (arith, size, lt)
+kept_from : (cs : List Channel) (ss : List Standing) (k : ℕ) → length ss ≡ length cs
+    → kept_of cs ss ≡ kept_of (take k cs) (take k ss) ++ kept_of (drop k cs) (drop k ss)
+kept_from cs ss k size =
+    ap (λ (ds : List Channel). kept_of ds ss) (sym (take-append-drop k cs))
+    ∙ ap (λ (ts : List Standing). kept_of (take k cs ++ drop k cs) ts) (sym (take-append-drop k ss))
+    ∙ kept_append (take k cs) (drop k cs) (take k ss) (drop k ss)
+    (omega (arith, size, length-take k cs, length-take k ss))
 
-pub written_next : {o : Options} {room places : ℕ} (a : Archive) (ls : List (List Plan)) (k : ℕ) (t : Trail)
-    (ps : List Plan) → k < length a.channels.now → IsTrailOf a k t → ps ≡ get_or ls k []
-    → AreWritable o room places (map view_of a.views.now) a.channels.now ls
-    → CanBeWritten o room places ps (records_on t)
-written_next {o = o} {room = room} {places = places} a ls k t ps lt w e all =
-    subst (λ (qs : List Plan). CanBeWritten o room places qs (records_on t)) (sym e)
-    (subst (λ (vs : List View). CanBeWritten o room places (get_or ls k []) vs) (sym (at_index a k t w))
-    (written_at (views_of a) a.channels.now ls k w.channel lt all))
+kept_more : (cs : List Channel) (ss : List Standing) (k : ℕ) (c : Channel) → length ss ≡ length cs → k < length cs
+    → kept_of (take (k + 1) cs) (take (k + 1) ss)
+    ≡ kept_of (take k cs) (take k ss) ++ kept_of (get_or cs k c ∷ []) (get_or ss k Fit ∷ [])
+kept_more cs ss k c size lt =
+    ap (λ (ds : List Channel). kept_of ds (take (k + 1) ss)) (take_more cs k c lt)
+    ∙ ap (λ (ts : List Standing). kept_of (take k cs ++ get_or cs k c ∷ []) ts)
+    (take_more ss k Fit (omega (arith, size, lt)))
+    ∙ kept_append (take k cs) (get_or cs k c ∷ []) (take k ss) (get_or ss k Fit ∷ [])
+    (omega (arith, size, length-take k cs, length-take k ss))
 
-pub texts_next : {o : Options} {first old new : BytesWritten} (a : Archive) (ls : List (List Plan)) (k : ℕ) (t : Trail)
-    (ps : List Plan) → k < length a.channels.now → IsTrailOf a k t → ps ≡ get_or ls k []
-    → Wrote (AreTexts (IsTextOn o) (take k (plan_of a ls))) 0 first old
-    → Wrote (IsTextOn o (stretches_by (counts_of ps) (records_on t))) 0 old new
-    → Wrote (AreTexts (IsTextOn o) (take (k + 1) (plan_of a ls))) 0 first new
-texts_next {o = o} {first = first} {old = old} {new = new} a ls k t ps lt w e before one =
-    let all : List (List (List View)) = plan_of a ls in
-    subst (λ (qs : List (List (List View))). Wrote (AreTexts (IsTextOn o) qs) 0 first new)
-    (sym (take_more all k [] (inside_plan a ls k lt)))
-    (wrote_more (IsTextOn o) (take k all) (get_or all k []) before
-    (subst (λ (ss : List (List View)). Wrote (IsTextOn o ss) 0 old new) (sym (at_plan a ls k t ps lt w e)) one))
+none_kept : (c : Channel) (s : Standing) → (s ≡ Fit → ⊥) → kept_of (c ∷ []) (s ∷ []) ≡ []
+none_kept c Fit other = absurd (other refl)
+none_kept c Broken other = refl
+none_kept c (Misfit n f) other = refl
 
-pub texts_part : {o : Options} {first old new : BytesWritten} (a : Archive) (ls : List (List Plan)) (k : ℕ) (t : Trail)
-    (ps : List Plan) → k < length a.channels.now → IsTrailOf a k t → ps ≡ get_or ls k []
-    → Wrote (AreTexts (IsTextOn o) (take k (plan_of a ls))) 0 first old
-    → Wrote (IsPartOn o (stretches_by (counts_of ps) (records_on t))) 1 old new
-    → Wrote (IsTextUpTo (IsTextOn o) (IsPartOn o) (plan_of a ls)) 1 first new
-texts_part {o = o} {old = old} {new = new} a ls k t ps lt w e before one =
-    let all : List (List (List View)) = plan_of a ls in
-    let whole_plan : all ≡ take k all ++ get_or all k [] ∷ drop (suc k) all =
-    sym (take-append-drop (suc k) all)
-    ∙ ap (λ (qs : List (List (List View))). qs ++ drop (suc k) all) (take-suc all k [] (inside_plan a ls k lt))
-    ∙ append_assoc (take k all) (get_or all k [] ∷ []) (drop (suc k) all) in
-    wrote_part (IsTextOn o) (IsPartOn o) (take k all) (drop (suc k) all) (get_or all k []) all whole_plan before
-    (subst (λ (ss : List (List View)). Wrote (IsPartOn o ss) 1 old new) (sym (at_plan a ls k t ps lt w e)) one)
+abbrev kept_to : Archive → List Standing → ℕ → List Channel
+kept_to a ss k = kept_of (take k a.channels.now) (take k ss)
 
-pub texts_all : (o : Options) {first new : BytesWritten} (a : Archive) (ls : List (List Plan)) (k : ℕ)
-    → length a.channels.now ≤ k → Wrote (AreTexts (IsTextOn o) (take k (plan_of a ls))) 0 first new
-    → Wrote (AreTexts (IsTextOn o) (plan_of a ls)) 0 first new
-texts_all o {first = first} {new = new} a ls k past wrote =
-    let size = as_planned (views_of a) a.channels.now ls in
-    subst (λ (qs : List (List (List View))). Wrote (AreTexts (IsTextOn o) qs) 0 first new)
-    (take_all k (plan_of a ls) (omega (arith, size, past))) wrote
+abbrev text_of : Cutting → Options → Archive → Channel → List ℕ → Type 0
+text_of cutting o a c own = IsTextAs cutting o (records_in (views_of a) c.0) own
+
+-- one that doesn't fit is left out
+pub texts_still : {first new : BytesWritten} (cutting : Cutting) (o : Options) (a : Archive) (ss : List Standing)
+    (k : ℕ) (t : Trail) → k < length a.channels.now → length ss ≡ length a.channels.now → (get_or ss k Fit ≡ Fit → ⊥)
+    → IsTrailOf a k t
+    → Wrote (TextsAs cutting o (map view_of a.views.now) (kept_of (take k a.channels.now) (take k ss))) 0 first new
+    → Wrote (TextsAs cutting o (map view_of a.views.now) (kept_of (take (k + 1) a.channels.now) (take (k + 1) ss))) 0
+    first new
+texts_still {first = first} {new = new} cutting o a ss k t lt size other w wrote =
+    subst (λ (ds : List Channel). Wrote (TextsAs cutting o (views_of a) ds) 0 first new)
+    (sym (kept_more a.channels.now ss k w.channel size lt
+    ∙ ap (λ (ds : List Channel). kept_to a ss k ++ ds)
+    (none_kept (get_or a.channels.now k w.channel) (get_or ss k Fit) other) ∙ append-nil (kept_to a ss k))) wrote
+
+-- of one that fits the text is written, or a part of it
+pub texts_next : {o : Options} {first old new : BytesWritten} (cutting : Cutting) (a : Archive) (ss : List Standing)
+    (k : ℕ) (t : Trail) (ps : List Plan) → k < length a.channels.now → length ss ≡ length a.channels.now
+    → get_or ss k Fit ≡ Fit → IsTrailOf a k t → IsCutAs cutting (records_on t) (stretches_by ps (records_on t))
+    → Wrote (TextsAs cutting o (map view_of a.views.now) (kept_of (take k a.channels.now) (take k ss))) 0 first old
+    → Wrote (IsTextOn o (stretches_by ps (records_on t))) 0 old new
+    → Wrote (TextsAs cutting o (map view_of a.views.now) (kept_of (take (k + 1) a.channels.now) (take (k + 1) ss))) 0
+    first new
+texts_next {o = o} {first = first} {new = new} cutting a ss k t ps lt size fit w cut before one =
+    let c : Channel = get_or a.channels.now k w.channel in
+    subst (λ (ds : List Channel). Wrote (TextsAs cutting o (views_of a) ds) 0 first new)
+    (sym (kept_more a.channels.now ss k w.channel size lt
+    ∙ ap (λ (s : Standing). kept_to a ss k ++ kept_of (c ∷ []) (s ∷ [])) fit))
+    (wrote_more (text_of cutting o a) (kept_to a ss k) c before
+    (wrote_as (λ text is. subst (λ (vs : List View). IsTextAs cutting o vs text) (at_index a k t w)
+    (text_as cutting o (records_on t) (stretches_by ps (records_on t)) text cut is)) one))
+
+pub texts_part : {o : Options} {first old new : BytesWritten} (cutting : Cutting) (a : Archive) (ss : List Standing)
+    (k : ℕ) (t : Trail) (ps : List Plan) → k < length a.channels.now → length ss ≡ length a.channels.now
+    → get_or ss k Fit ≡ Fit → IsTrailOf a k t → IsCutAs cutting (records_on t) (stretches_by ps (records_on t))
+    → Wrote (TextsAs cutting o (map view_of a.views.now) (kept_of (take k a.channels.now) (take k ss))) 0 first old
+    → Wrote (IsPartOn o (stretches_by ps (records_on t))) 1 old new
+    → Wrote (PartsAs cutting o (map view_of a.views.now) (kept_of a.channels.now ss)) 1 first new
+texts_part {o = o} cutting a ss k t ps lt size fit w cut before one =
+    let cs : List Channel = a.channels.now in
+    let c : Channel = get_or cs k w.channel in
+    let back : List Channel = kept_of (drop (k + 1) cs) (drop (k + 1) ss) in
+    let parts : kept_of cs ss ≡ kept_to a ss k ++ c ∷ back =
+    kept_from cs ss k size
+    ∙ ap (λ (ds : List Channel). kept_to a ss k ++ kept_of ds (drop k ss)) (drop_more cs k w.channel lt)
+    ∙ ap (λ (ts : List Standing). kept_to a ss k ++ kept_of (c ∷ drop (k + 1) cs) ts)
+    (drop_more ss k Fit (omega (arith, size, lt)) ∙ ap (λ (s : Standing). s ∷ drop (k + 1) ss) fit) in
+    wrote_part (text_of cutting o a) (λ (d : Channel) own. IsPartAs cutting o (records_in (views_of a) d.0) own)
+    (kept_to a ss k) back c (kept_of cs ss) parts before
+    (wrote_as (λ text is. subst (λ (vs : List View). IsPartAs cutting o vs text) (at_index a k t w)
+    (part_as cutting o (records_on t) (stretches_by ps (records_on t)) text cut is)) one)
+
+pub texts_all : (cutting : Cutting) (o : Options) {first new : BytesWritten} (a : Archive) (ss : List Standing) (k : ℕ)
+    → length a.channels.now ≤ k → length ss ≡ length a.channels.now
+    → Wrote (TextsAs cutting o (map view_of a.views.now) (kept_of (take k a.channels.now) (take k ss))) 0 first new
+    → Wrote (TextsAs cutting o (map view_of a.views.now) (kept_of a.channels.now ss)) 0 first new
+texts_all cutting o {first = first} {new = new} a ss k past size wrote =
+    subst (λ (ds : List Channel). Wrote (TextsAs cutting o (views_of a) ds) 0 first new)
+    (ap (λ (ds : List Channel). kept_of ds (take k ss)) (take_all k a.channels.now past)
+    ∙ ap (λ (ts : List Standing). kept_of a.channels.now ts) (take_all k ss (omega (arith, size, past)))) wrote
 
 -- Channels that are packed whole.
 

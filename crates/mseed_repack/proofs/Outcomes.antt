@@ -1,15 +1,14 @@
 -- What packing an archive anew comes to, by how its channels are planned.
 use Rattle.std.specs.Prelude.{⊤}
-use Rattle.std.proofs.Common.{◌≡◌, ℕ, ◌<◌, List, length, take, get_or, ap, refl, subst, arith, Bool, false, All, Ok}
-use Rattle.std.proofs.Common.{Err}
+use Rattle.std.proofs.Common.{◌≡◌, ◌∙◌, ℕ, ◌<◌, List, length, take, get_or, ap, refl, subst, Bool, false, All, Ok, Err}
 use Rattle.std.specs.List.{AllByRecursion}
 use Rattle.mseed_record.specs.View.{View}
 use Rattle.mseed_stream.specs.Device.{BytesRead, BytesWritten}
 use Rattle.mseed_pack.specs.declared.fault.PackFault.{PackFault}
 use Rattle.mseed_pack.specs.declared.options.Options.{Options}
-use Rattle.mseed_repack.specs.Repack.{AreContinuous, AreTexts, Channel, IsArchiveOf, IsRepacking, IsTextUpTo, Wrote}
-use Rattle.mseed_repack.specs.ByStretches.{IsFit, IsRestretching, ReportsEach, left_of, lines_of}
-use Rattle.mseed_repack.specs.private.Planning.{AreReady, IsPartOn, IsTextOn, StandsAs, planned}
+use Rattle.mseed_repack.specs.Repack.{AreContinuous, Channel, IsArchiveOf, IsRepacking, Wrote}
+use Rattle.mseed_repack.specs.ByStretches.{IsFit, IsRestretching, ReportsEach, kept_of, left_of, lines_of}
+use Rattle.mseed_repack.specs.private.Planning.{AreReady, PartsAs, TextsAs}
 use Rattle.mseed_repack.specs.private.Restretching.{IsNoMisfit}
 use Rattle.mseed_repack.specs.declared.fault.RepackFault.TheVariants.{Misfit as MisfitChannel, Write}
 use Rattle.mseed_repack.specs.declared.plan.Plan.{Plan}
@@ -18,18 +17,15 @@ use Rattle.mseed_repack.specs.declared.standing.Standing.TheVariants.{Fit, Misfi
 use Rattle.mseed_repack.specs.declared.stretching.Cutting.{Cutting}
 use Rattle.mseed_repack.specs.declared.stretching.Cutting.TheVariants.{Whole, Stretches}
 use Rattle.mseed_repack.proofs.Archives.{whole_fit, whole_refused}
-use Rattle.mseed_repack.proofs.Planning.{PartsAs, TextsAs, kept_parts, kept_texts, standings_of, wrote_as}
-use Rattle.mseed_repack.proofs.Standings.{as_many, wrote_kept}
+use Rattle.mseed_repack.proofs.Planning.{standing_each, standings_of, wrote_as}
+use Rattle.mseed_repack.proofs.Standings.{wrote_kept}
 
 module _ (o : Options) (room places : ℕ) (views : List View) (cs : List Channel) (ss : List Standing)
     (ls : List (List Plan)) where
   -- as many channels are found something of as there are, in whatever list that is
   pub as_found : (cutting : Cutting) (ts : List Standing) → ts ≡ ss → AreReady cutting o room places views cs ss ls
       → length ts ≡ length cs
-  as_found cutting ts same ready =
-      let size = as_many (StandsAs cutting o) views cs ss (standings_of cutting o room places views cs ss ls ready) in
-      let long = ap (λ (us : List Standing). length us) same in
-      omega (arith, size, long)
+  as_found cutting ts same ready = ap (λ (us : List Standing). length us) same ∙ standing_each cs ss ls ready
 
   -- each channel whole
 
@@ -38,46 +34,43 @@ module _ (o : Options) (room places : ℕ) (views : List View) (cs : List Channe
       → get_or ss k Fit ≡ Misfit number fault → All IsNoMisfit (take k ss)
       → IsRepacking {U = ⊤} o (Err (MisfitChannel (get_or cs k c).0 1 fault)) h s s
   refused k number fault c h s archive continuous ready inside is before =
-      let first = whole_refused o views cs ss k number fault c
-      (standings_of Whole o room places views cs ss ls ready) continuous inside is before in
+      let first = whole_refused o views cs ss k number fault c (standings_of cs ss ls ready) continuous inside is
+      before in
       (views, (cs, (archive, continuous, first, refl, refl)))
 
   pub repacked : (h : BytesRead) (old new : BytesWritten) → IsArchiveOf h views cs → AreContinuous views cs
       → AreReady Whole o room places views cs ss ls → All IsNoMisfit ss
-      → Wrote (AreTexts (IsTextOn o) (planned views cs ls)) 0 old new → IsRepacking {U = ⊤} o (Ok tt) h old new
+      → Wrote (TextsAs Whole o views (kept_of cs ss)) 0 old new → IsRepacking {U = ⊤} o (Ok tt) h old new
   repacked h old new archive continuous ready fine wrote =
-      let fit = whole_fit o views cs ss (standings_of Whole o room places views cs ss ls ready) continuous fine in
-      let texts = wrote_as (λ text is. subst (λ (ds : List Channel). TextsAs Whole o views ds text) fit.kept
-      (kept_texts Whole o room places views cs ss ls text ready is)) wrote in
+      let fit = whole_fit o views cs ss (standings_of cs ss ls ready) continuous fine in
+      let texts = wrote_as (λ text is. subst (λ (ds : List Channel). TextsAs Whole o views ds text) fit.kept is)
+      wrote in
       (views, (cs, (record { archive = archive; continuous = continuous; fit = fit.fit }, texts)))
 
   pub repacked_in_part : (h : BytesRead) (old new : BytesWritten) → IsArchiveOf h views cs → AreContinuous views cs
       → AreReady Whole o room places views cs ss ls → All IsNoMisfit ss
-      → Wrote (IsTextUpTo (IsTextOn o) (IsPartOn o) (planned views cs ls)) 1 old new
-      → IsRepacking {U = ⊤} o (Err Write) h old new
+      → Wrote (PartsAs Whole o views (kept_of cs ss)) 1 old new → IsRepacking {U = ⊤} o (Err Write) h old new
   repacked_in_part h old new archive continuous ready fine wrote =
-      let fit = whole_fit o views cs ss (standings_of Whole o room places views cs ss ls ready) continuous fine in
-      let parts = wrote_as (λ text is. subst (λ (ds : List Channel). PartsAs Whole o views ds text) fit.kept
-      (kept_parts Whole o room places views cs ss ls text ready is)) wrote in
+      let fit = whole_fit o views cs ss (standings_of cs ss ls ready) continuous fine in
+      let parts = wrote_as (λ text is. subst (λ (ds : List Channel). PartsAs Whole o views ds text) fit.kept is)
+      wrote in
       (views, (cs, (record { archive = archive; continuous = continuous; fit = fit.fit }, parts)))
 
   -- or by its stretches
 
   pub restretched : (leave : Bool) (h : BytesRead) (old new first last : BytesWritten) → IsArchiveOf h views cs
       → AreReady Stretches o room places views cs ss ls → (leave ≡ false → AllByRecursion IsFit ss)
-      → ReportsEach (lines_of cs ss) first last → Wrote (AreTexts (IsTextOn o) (planned views cs ls)) 0 old new
+      → ReportsEach (lines_of cs ss) first last → Wrote (TextsAs Stretches o views (kept_of cs ss)) 0 old new
       → IsRestretching o leave (Ok (left_of ss)) h old new first last
   restretched leave h old new first last archive ready fit told wrote =
-      let texts = wrote_as (λ text is. kept_texts Stretches o room places views cs ss ls text ready is) wrote in
-      let kept = wrote_kept (standings_of Stretches o room places views cs ss ls ready) fit told texts in
+      let kept = wrote_kept (standings_of cs ss ls ready) fit told (wrote_as (λ text is. is) wrote) in
       (views, (cs, (archive, record { standings = ss; kept = kept; left_is = refl })))
 
   pub restretched_in_part : (leave : Bool) (h : BytesRead) (old new first last : BytesWritten)
       → IsArchiveOf h views cs → AreReady Stretches o room places views cs ss ls
       → (leave ≡ false → AllByRecursion IsFit ss) → ReportsEach (lines_of cs ss) first last
-      → Wrote (IsTextUpTo (IsTextOn o) (IsPartOn o) (planned views cs ls)) 1 old new
+      → Wrote (PartsAs Stretches o views (kept_of cs ss)) 1 old new
       → IsRestretching o leave (Err Write) h old new first last
   restretched_in_part leave h old new first last archive ready fit told wrote =
-      let parts = wrote_as (λ text is. kept_parts Stretches o room places views cs ss ls text ready is) wrote in
-      let kept = wrote_kept (standings_of Stretches o room places views cs ss ls ready) fit told parts in
+      let kept = wrote_kept (standings_of cs ss ls ready) fit told (wrote_as (λ text is. is) wrote) in
       (views, (cs, (archive, record { standings = ss; kept = kept })))

@@ -1,19 +1,18 @@
 //! A channel packed anew by its stretches.
-ghost use Rattle.std.specs.Prelude.{◌≡◌, ◌↔◌, ◌≤◌, ◌^◌, IsTrue, length, map};
+ghost use Rattle.std.specs.Prelude.{◌↔◌, ◌≤◌, ◌^◌, IsTrue, length, map};
 ghost use Rattle.std.specs.List.{AllByRecursion};
 ghost use Rattle.mseed_record.specs.Viewing.{view_of};
 ghost use Rattle.mseed_audit.specs.Follows.{IsSound};
 ghost use Rattle.mseed_stretches.specs.Stretches.{AreStretches};
-ghost use Rattle.mseed_repack.specs.private.Planning.{CanBeWritten, counts_of, stretches_by};
+ghost use Rattle.mseed_repack.specs.private.Planning.{CanBeWritten, stretches_by};
 ghost use Rattle.mseed_repack.specs.Restretch.{IsChannelRepacking};
 
 use crate::channel_fault::ChannelFault;
-use crate::numbering::pack_stretches;
+use crate::packing::pack_stretches;
 use crate::plan::Plan;
 use crate::reading::count_steps;
 use crate::room::blank_steps;
-use crate::standing::{Standing, stand};
-use crate::stretching::Cutting;
+use crate::standing::{Standing, fit_stretches};
 use crate::unpacking::Unpacking;
 use crate::walk::{Part, Row, Walk};
 use mseed_pack::{Options, Packer};
@@ -52,18 +51,7 @@ pub fn repack_channel<A: Allocator + Copy, W: Sink>(
     let mut steps = blank_steps(alloc, count_steps(records))?;
     let mut samples = Vec::new(alloc);
     let mut plans = Vec::new(alloc);
-    let standing = stand(
-        alloc,
-        row,
-        true,
-        None,
-        Cutting::Stretches,
-        options,
-        &mut plans,
-        &mut samples,
-        &mut steps,
-    )?;
-    match standing {
+    match fit_stretches(alloc, row, options, &mut plans, &mut samples, &mut steps)? {
         Standing::Fit => repack_planned(row, &plans, options, &mut samples, &mut steps, output),
         Standing::Broken => Err(ChannelFault::Broken),
         Standing::Misfit(number, fault) => Err(ChannelFault::Misfit(number, fault)),
@@ -81,7 +69,7 @@ fn repack_planned<'a, R: Walk<'a>, W: Sink>(
 ) -> Result<(), ChannelFault>
     requires led { R.leads records }
     requires sound { AllByRecursion IsSound (R.left records) }
-    requires are { AreStretches (R.left records) (stretches_by (counts_of plans.now) (R.left records)) }
+    requires are { AreStretches (R.left records) (stretches_by plans.now (R.left records)) }
     requires ready { CanBeWritten options.now (length samples.old) (length steps.old) plans.now (R.left records) }
     ensures { IsChannelRepacking options.now (R.left records) result (W.written output.old) (W.written output.new) }
 {

@@ -1,61 +1,72 @@
-//! Writing the records of an archive's channels.
+//! Writing the records of channels.
 ghost use Rattle.std.specs.Prelude.{◌≡◌, ◌<◌, [], length, map, slice_index_or, IfErr, OnOk};
 ghost use Rattle.mseed_record.specs.Viewing.{view_of};
+ghost use Rattle.mseed_repack.specs.ByStretches.{kept_of};
+ghost use Rattle.mseed_repack.specs.Repack.{Wrote};
+ghost use Rattle.mseed_repack.specs.Restretch.{IsNumberedOn};
+ghost use Rattle.mseed_repack.specs.declared.stretching.Cutting.{Cutting};
 ghost use Rattle.mseed_repack.specs.private.Archives.{IsAudited};
-ghost use Rattle.mseed_repack.specs.private.Planning.{AreWritable, IsPartOn, IsTextOn, planned};
-ghost use Rattle.mseed_repack.specs.Repack.{AreTexts, IsTextUpTo, Wrote};
+ghost use Rattle.mseed_repack.specs.private.Planning.{AreReady, CanBeWritten, IsPartOn, IsTextOn, PartsAs, TextsAs};
+ghost use Rattle.mseed_repack.specs.private.Planning.{stretches_by};
 
 use crate::archive::Archive;
-use crate::numbering::pack_stretches;
 use crate::plan::Plan;
+use crate::series::pack_series;
+use crate::standing::Standing;
 use crate::unpacking::Unpacking;
-use crate::walk::Part;
+use crate::walk::{Part, Walk, skip};
 use mseed_pack::{Options, Packer};
 use mseed_stream::{Failed, Sink};
 use mseed_time::LeapStep;
 use std::alloc::Allocator;
 
-/// Writes the records of all channels, each by how its stretches are packed.
+/// Writes the records of the channels that fit, each by how its stretches are packed.
+///
+/// # Errors
+///
+/// `Failed` where the output failed: a part was written.
 pub(crate) fn pack_channels<A: Allocator, W: Sink>(
     archive: &Archive,
+    standings: &[Standing],
     plans: &[Vec<Plan, A>],
     options: &Options,
     samples: &mut [i32],
     steps: &mut [(u64, LeapStep)],
     output: &mut W,
 ) -> Result<(), Failed>
+    ghost cutting: { Cutting }
     requires audited { IsAudited archive.now }
-    requires ready { AreWritable options.now (length samples.old) (length steps.old) (map view_of archive.now.views.now)
-        archive.now.channels.now (map (λ own. own.items) plans.now) }
-    ensures ok { OnOk result (Wrote (AreTexts (IsTextOn options.now)
-        (planned (map view_of archive.now.views.now) archive.now.channels.now (map (λ own. own.items) plans.now))) 0
-        (W.written output.old) (W.written output.new)) }
-    ensures err { IfErr result (λ _. Wrote (IsTextUpTo (IsTextOn options.now) (IsPartOn options.now)
-        (planned (map view_of archive.now.views.now) archive.now.channels.now (map (λ own. own.items) plans.now))) 1
-        (W.written output.old) (W.written output.new)) }
+    requires ready { AreReady cutting options.now (length samples.old) (length steps.old)
+        (map view_of archive.now.views.now) archive.now.channels.now standings.now (map (λ own. own.items) plans.now) }
+    ensures ok { OnOk result (Wrote (TextsAs cutting options.now (map view_of archive.now.views.now)
+        (kept_of archive.now.channels.now standings.now)) 0 (W.written output.old) (W.written output.new)) }
+    ensures err { IfErr result (λ _. Wrote (PartsAs cutting options.now (map view_of archive.now.views.now)
+        (kept_of archive.now.channels.now standings.now)) 1 (W.written output.old) (W.written output.new)) }
 {
     if archive.channels.is_empty() {
         return Ok(());
     }
     let mut packer = Packer::new();
-    let first = archive.trail(0);
     let mut unpacking = Unpacking::none(Part {
-        rest: first,
+        rest: archive.trail(0),
         count: 0,
     });
     for number in 0..archive.channels.len() {
-        match pack_stretches(
-            archive.trail(number),
-            plans_at(plans, number),
-            options,
-            samples,
-            steps,
-            &mut unpacking,
-            &mut packer,
-            output,
-        ) {
-            Ok(()) => {}
-            Err(failed) => return Err(failed),
+        let trail = archive.trail(number);
+        if let Standing::Fit = standings[number] {
+            match pack_stretches(
+                trail,
+                plans_at(plans, number),
+                options,
+                samples,
+                steps,
+                &mut unpacking,
+                &mut packer,
+                output,
+            ) {
+                Ok(()) => {}
+                Err(failed) => return Err(failed),
+            }
         }
     }
     Ok(())
@@ -67,4 +78,59 @@ fn plans_at<A: Allocator>(plans: &[Vec<Plan, A>], number: usize) -> &[Plan]
     ensures { result.now ≡ slice_index_or (map (λ own. own.items) plans.now) number [] }
 {
     plans[number].as_slice()
+}
+
+/// Writes the records of a channel's stretches, of which each can be packed, by how each is.
+///
+/// # Errors
+///
+/// `Failed` where the output failed: a part was written.
+pub(crate) fn pack_stretches<'a, R: Walk<'a>, W: Sink>(
+    records: R,
+    plans: &[Plan],
+    options: &Options,
+    samples: &mut [i32],
+    steps: &mut [(u64, LeapStep)],
+    unpacking: &mut Unpacking<'a, Part<R>>,
+    packer: &mut Packer,
+    output: &mut W,
+) -> Result<(), Failed>
+    requires led { R.leads records }
+    requires ready { CanBeWritten options.now (length samples.old) (length steps.old) plans.now (R.left records) }
+    ensures ok { OnOk result (Wrote (IsTextOn options.now (stretches_by plans.now (R.left records))) 0
+        (W.written output.old) (W.written output.new)) }
+    ensures err { IfErr result (λ _. Wrote (IsPartOn options.now (stretches_by plans.now (R.left records))) 1
+        (W.written output.old) (W.written output.new)) }
+{
+    let mut next = *options;
+    let mut rest = records;
+    let mut passed = 0;
+    for plan in plans {
+        rest = skip(rest, passed);
+        let stretch = Part {
+            rest,
+            count: plan.records,
+        };
+        match pack_series(
+            stretch, plan.way, &next, samples, steps, unpacking, packer, output,
+        ) {
+            Ok(written) => next = numbered_on(&next, written),
+            Err(_) => return Err(Failed),
+        }
+        passed = plan.records;
+    }
+    Ok(())
+}
+
+/// Returns the options of what is written after so many records: their sequence numbers, of six digits, run on (SEED
+/// manual, chapter 8, fixed section of data header, field 1).
+fn numbered_on(options: &Options, count: u64) -> Options
+    ensures { IsNumberedOn options.now count result }
+{
+    let sequence = (u64::from(options.first_sequence) + count % 1_000_000) % 1_000_000;
+    Options {
+        exponent: options.exponent,
+        encoding: options.encoding,
+        first_sequence: sequence as u32,
+    }
 }

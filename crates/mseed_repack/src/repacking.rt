@@ -100,6 +100,7 @@ fn repack_records<A: Allocator + Copy, W: Sink>(
     }
     match pack_channels(
         &planned.trails.archive(views, channels),
+        &planned.standings,
         &planned.plans,
         options,
         &mut planned.samples,

@@ -101,6 +101,7 @@ fn restretch_records<A: Allocator + Copy, W: Sink, E: Sink>(
     report_left(channels, &planned.standings, errors);
     match pack_channels(
         &planned.trails.archive(views, channels),
+        &planned.standings,
         &planned.plans,
         options,
         &mut planned.samples,

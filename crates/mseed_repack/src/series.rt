@@ -8,7 +8,7 @@ ghost use Rattle.mseed_pack.specs.Options.{IsSteim};
 ghost use Rattle.mseed_pack.specs.Traces.{headed, trace_of};
 ghost use Rattle.mseed_repack.specs.private.Outline.{AreHeld, IsKnown, says_near};
 ghost use Rattle.mseed_repack.specs.private.Reading.{AreOf, CanBeRead, IsSoundWalk, samples_of};
-ghost use Rattle.mseed_repack.specs.private.Supplying.{AreCounted, AreUnread};
+ghost use Rattle.mseed_repack.specs.private.Supplying.{AreCounted};
 ghost use Rattle.mseed_repack.specs.private.Planning.{AreOfAny, GoesBy, IsBegunBy, IsFitting, IsStretchWritten};
 ghost use Rattle.mseed_repack.specs.Repack.{StretchFits};
 ghost use Rattle.mseed_repack.specs.declared.plan.Way.TheVariants.{Frames};
@@ -24,7 +24,7 @@ use mseed_audit::one_series;
 use mseed_pack::{
     Encoding, Options, PackFault, Packer, SeriesHead, SeriesView, fit_head, fit_view,
 };
-use mseed_stream::{Failed, Sink};
+use mseed_stream::Sink;
 use mseed_stretches::Stretch;
 use mseed_time::LeapStep;
 use std::alloc::{AllocError, Allocator};
@@ -147,11 +147,12 @@ fn fit_read<'a, R: Walk<'a>>(
     }
 }
 
-/// Writes the records of a series that can be packed, by the way that it goes, and returns how many there are.
+/// Writes the records of a series that can be packed, by the way that it goes, and returns how many there are. Where it
+/// goes from frames to frames, no list is made of its samples.
 ///
 /// # Errors
 ///
-/// `Failed` where the output failed: a part was written.
+/// How many bytes the output accepted before it failed.
 pub(crate) fn pack_series<'a, R: Walk<'a>, W: Sink>(
     records: R,
     way: Way,
@@ -161,81 +162,31 @@ pub(crate) fn pack_series<'a, R: Walk<'a>, W: Sink>(
     unpacking: &mut Unpacking<'a, R>,
     packer: &mut Packer,
     output: &mut W,
-) -> Result<u64, Failed>
+) -> Result<u64, u128>
     requires read { CanBeRead R.leads R.left records (length steps.old) }
     requires goes { GoesBy options.now.encoding (length samples.old) way (R.left records) }
     requires fits { StretchFits options.now (R.left records) }
     ensures { IsStretchWritten options.now (R.left records) result (W.written output.old) (W.written output.new) }
 {
+    one_series();
     match way {
         Way::Frames(count) => {
-            pack_unread(records, count, options, steps, unpacking, packer, output)
+            let borne = outline_counted(records, count, steps);
+            let head = head_of(records, borne.samples, &steps[..borne.steps]);
+            know_room(&unpacking.room);
+            unpacking.rest = records;
+            unpacking.last = head.first;
+            unpacking.at = 0;
+            unpacking.end = 0;
+            packer.pack_supplied(&head, options, unpacking, output)
         }
-        Way::Listed => pack_read(records, options, samples, steps, packer, output),
-    }
-}
-
-/// Writes the records of a series that goes from frames to frames, and has so many samples: no list is made of these.
-///
-/// # Errors
-///
-/// `Failed` where the output failed: a part was written.
-fn pack_unread<'a, R: Walk<'a>, W: Sink>(
-    records: R,
-    count: usize,
-    options: &Options,
-    steps: &mut [(u64, LeapStep)],
-    unpacking: &mut Unpacking<'a, R>,
-    packer: &mut Packer,
-    output: &mut W,
-) -> Result<u64, Failed>
-    requires read { CanBeRead R.leads R.left records (length steps.old) }
-    requires steim { IsSteim options.now.encoding }
-    requires unread { AreUnread (R.left records) }
-    requires count { count ≡ samples_of (R.left records) }
-    requires fits { StretchFits options.now (R.left records) }
-    ensures { IsStretchWritten options.now (R.left records) result (W.written output.old) (W.written output.new) }
-{
-    one_series();
-    let borne = outline_counted(records, count, steps);
-    let head = head_of(records, borne.samples, &steps[..borne.steps]);
-    know_room(&unpacking.room);
-    unpacking.rest = records;
-    unpacking.last = head.first;
-    unpacking.at = 0;
-    unpacking.end = 0;
-    match packer.pack_supplied(&head, options, unpacking, output) {
-        Ok(count) => Ok(count),
-        Err(_) => Err(Failed),
-    }
-}
-
-/// Writes the records of a series by a list of its samples, for which there is room.
-///
-/// # Errors
-///
-/// `Failed` where the output failed: a part was written.
-fn pack_read<'a, R: Walk<'a>, W: Sink>(
-    records: R,
-    options: &Options,
-    samples: &mut [i32],
-    steps: &mut [(u64, LeapStep)],
-    packer: &mut Packer,
-    output: &mut W,
-) -> Result<u64, Failed>
-    requires read { CanBeRead R.leads R.left records (length steps.old) }
-    requires samples_fit { samples_of (R.left records) ≤ length samples.old }
-    requires fits { StretchFits options.now (R.left records) }
-    ensures { IsStretchWritten options.now (R.left records) result (W.written output.old) (W.written output.new) }
-{
-    one_series();
-    let stretch = beginning(records);
-    let read = read_records(records, samples, steps);
-    let series = series_of(&stretch, &samples[..read.samples], &steps[..read.steps]);
-    // The series is the one that was found to fit.
-    match packer.pack_fitting(&series, options, output) {
-        Ok(count) => Ok(count),
-        Err(_) => Err(Failed),
+        Way::Listed => {
+            let stretch = beginning(records);
+            let read = read_records(records, samples, steps);
+            let series = series_of(&stretch, &samples[..read.samples], &steps[..read.steps]);
+            // The series is the one that was found to fit.
+            packer.pack_fitting(&series, options, output)
+        }
     }
 }
 

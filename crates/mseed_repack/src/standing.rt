@@ -6,19 +6,19 @@ ghost use Rattle.mseed_audit.specs.Follows.{IsSound};
 ghost use Rattle.mseed_audit.specs.Verdict.{says_continuous};
 ghost use Rattle.mseed_pack.specs.Options.{IsSteim};
 ghost use Rattle.mseed_repack.specs.Repack.{AreContinuous};
-ghost use Rattle.mseed_repack.specs.declared.stretching.Cutting.TheVariants.{Whole};
+ghost use Rattle.mseed_repack.specs.declared.stretching.Cutting.TheVariants.{Stretches, Whole};
 ghost use Rattle.mseed_repack.specs.private.Archives.{AreAlone, HasRoomForSteps, SaysCount};
-ghost use Rattle.mseed_repack.specs.private.Reading.{steps_of};
+ghost use Rattle.mseed_repack.specs.private.Reading.{CanBeCut, steps_of};
 ghost use Rattle.mseed_repack.specs.private.Planning.{AreReady, IsReady};
 ghost use Rattle.mseed_repack.specs.private.Supplying.{AreCounted, IsPlain};
 
 use crate::archive::Archive;
 use crate::channel::are_sound;
-use crate::fitting::fit_stretches;
 use crate::judging::Judged;
 use crate::plan::Plan;
-use crate::stretching::{Cutting, cut_records};
-use crate::walk::Walk;
+use crate::series::{Fitting, fit_series};
+use crate::stretching::{Cutting, cut_stretch};
+use crate::walk::{Part, Walk};
 use mseed_audit::Verdict;
 use mseed_pack::{Encoding, Options, PackFault};
 use mseed_time::LeapStep;
@@ -35,9 +35,9 @@ pub enum Standing {
     Misfit(u64, PackFault),
 }
 
-/// What is found of each channel, whose records are cut so, by what was found of all records.
-/// How its stretches are packed is put after the plans of the others, in a list that is empty, and of a channel that
-/// doesn't fit, nothing; the list of samples grows where a stretch goes by a list and wants more room.
+/// What is found of each channel, whose records are cut so, by what was found of all records. How its stretches are
+/// packed, if it fits, is put after the plans of the others, in a list that is empty; the list of samples grows where a
+/// stretch goes by a list and wants more room.
 ///
 /// # Errors
 ///
@@ -64,7 +64,7 @@ pub(crate) fn stand_all<A: Allocator + Copy>(
     let mut standings = Vec::new(alloc);
     for (number, channel) in archive.channels.iter().enumerate() {
         let sound = is_known_sound(&channel.1, judged.sound);
-        let plain = count_plain(&channel.1, judged.plain, cutting, options.encoding);
+        let plain = count_plain(&channel.1, judged.plain, options.encoding);
         let mut own = Vec::new(alloc);
         let standing = stand(
             alloc,
@@ -91,38 +91,30 @@ fn is_known_sound(verdict: &Verdict, sound: bool) -> bool
     sound || verdict.is_continuous()
 }
 
-/// Returns how many samples a channel has, by the verdict on it, where its records are plain, aren't cut, and are to be
+/// Returns how many samples a continuous channel has, by the verdict on it, where its records are plain, and are to be
 /// written in either Steim.
-fn count_plain(
-    verdict: &Verdict,
-    plain: bool,
-    cutting: Cutting,
-    encoding: Encoding,
-) -> Option<usize>
-    ensures { IfSome result (λ count. (plain ≡ true) × (cutting ≡ Whole) × IsSteim encoding
-        × SaysCount count verdict.now) }
+fn count_plain(verdict: &Verdict, plain: bool, encoding: Encoding) -> Option<usize>
+    ensures { IfSome result (λ count. (plain ≡ true) × IsSteim encoding × SaysCount count verdict.now) }
 {
     if !plain {
         return None;
     }
-    match (cutting, encoding, verdict) {
-        (
-            Cutting::Whole,
-            Encoding::Steim1 | Encoding::Steim2,
-            Verdict::Continuous { samples, .. },
-        ) => Some(*samples as usize),
+    match (encoding, verdict) {
+        (Encoding::Steim1 | Encoding::Steim2, Verdict::Continuous { samples, .. }) => {
+            Some(*samples as usize)
+        }
         _ => None,
     }
 }
 
 /// What is found of a channel with these records, each of which is known to be sound, or isn't. Where the channel isn't
-/// cut, they may be known to be plain, and to have so many samples. How each of its stretches is packed is put into a
-/// list, which is empty, if it fits.
+/// cut, they may be known to be plain, and to have so many samples. How each of its stretches is packed, if it fits, is
+/// put into a list, which is empty.
 ///
 /// # Errors
 ///
 /// `AllocError` where there is no memory for one of the lists.
-pub(crate) fn stand<'a, A: Allocator + Copy, R: Walk<'a>>(
+fn stand<'a, A: Allocator + Copy, R: Walk<'a>>(
     alloc: A,
     records: R,
     sound: bool,
@@ -137,8 +129,7 @@ pub(crate) fn stand<'a, A: Allocator + Copy, R: Walk<'a>>(
     requires few { length (R.left records) ≤ 2 ^ 40 }
     requires some { cutting ≡ Whole → R.left records ≢ [] }
     requires sound { sound ≡ true → AllByRecursion IsSound (R.left records) }
-    requires plain { IfSome plain (λ count. (cutting ≡ Whole)
-        × AreCounted options.now.encoding count (R.left records)) }
+    requires plain { IfSome plain (λ count. AreCounted options.now.encoding count (R.left records)) }
     requires none { plans.old.items ≡ [] }
     requires steps_fit { steps_of (R.left records) ≤ length steps.old }
     ensures ready { IfOk result (λ s. IsReady cutting options.now (length samples.new.items) (length steps.new)
@@ -148,16 +139,18 @@ pub(crate) fn stand<'a, A: Allocator + Copy, R: Walk<'a>>(
     if !are_all_sound(records, sound) {
         return Ok(Standing::Broken);
     }
-    let mut lengths = Vec::new(alloc);
-    cut_records(records, cutting, &mut lengths)?;
-    match fit_stretches(
-        alloc, records, &lengths, plain, options, plans, samples, steps,
-    )? {
-        Standing::Misfit(number, fault) => {
-            plans.clear();
-            Ok(Standing::Misfit(number, fault))
-        }
-        standing => Ok(standing),
+    match cutting {
+        Cutting::Stretches => fit_stretches(alloc, records, options, plans, samples, steps),
+        Cutting::Whole => match fit_series(alloc, records, plain, options, samples, steps)? {
+            Fitting::Fits(way) => {
+                plans.push(Plan {
+                    records: usize::MAX,
+                    way,
+                })?;
+                Ok(Standing::Fit)
+            }
+            Fitting::Misfits(fault) => Ok(Standing::Misfit(1, fault)),
+        },
     }
 }
 
@@ -171,4 +164,42 @@ fn are_all_sound<'a, R: Walk<'a>>(records: R, known: bool) -> bool
         return true;
     }
     are_sound(records)
+}
+
+/// What is found of a channel that is cut into stretches, of which each record is sound. How each stretch before the
+/// first that can't be packed is packed is put into a list, which is empty. The list of samples grows where a stretch
+/// wants more room.
+///
+/// # Errors
+///
+/// `AllocError` where there is no memory for either list.
+pub(crate) fn fit_stretches<'a, A: Allocator + Copy, R: Walk<'a>>(
+    alloc: A,
+    records: R,
+    options: &Options,
+    plans: &mut Vec<Plan, A>,
+    samples: &mut Vec<i32, A>,
+    steps: &mut [(u64, LeapStep)],
+) -> Result<Standing, AllocError>
+    requires cut { CanBeCut R.leads R.left records }
+    requires none { plans.old.items ≡ [] }
+    requires steps_fit { steps_of (R.left records) ≤ length steps.old }
+    ensures ready { IfOk result (λ standing. IsReady Stretches options.now (length samples.new.items)
+        (length steps.new) (R.left records) standing plans.new.items) }
+    ensures grown { IfOk result (λ _. length samples.old.items ≤ length samples.new.items) }
+{
+    let mut rest = records;
+    let mut after = records;
+    while let Some(count) = cut_stretch(&mut after) {
+        let stretch = Part { rest, count };
+        match fit_series(alloc, stretch, None, options, samples, steps)? {
+            Fitting::Fits(way) => plans.push(Plan {
+                records: count,
+                way,
+            })?,
+            Fitting::Misfits(fault) => return Ok(Standing::Misfit(plans.len() as u64 + 1, fault)),
+        }
+        rest = after;
+    }
+    Ok(Standing::Fit)
 }

@@ -1,5 +1,5 @@
 -- How the channels of an archive are packed: each by its stretches, of which a channel that is packed whole has one.
-use Rattle.std.specs.Prelude.{⊤, ◌≡◌, ◌≢◌, ℕ, ◌+◌, ◌≤◌, ◌^◌, ℤ, List, [], ◌∷◌, ◌++◌, length, take, drop}
+use Rattle.std.specs.Prelude.{⊤, ◌≡◌, ◌≢◌, ℕ, ◌≤◌, ◌^◌, ℤ, List, [], ◌∷◌, ◌++◌, length, take, drop}
 use Rattle.std.specs.Prelude.{Result, Ok, Err}
 use Rattle.std.specs.List.{concat, AllByRecursion}
 use Rattle.mseed_time.specs.declared.outcome.LeapStep.{LeapStep}
@@ -7,7 +7,7 @@ use Rattle.mseed_record.specs.View.{View}
 use Rattle.mseed_stream.specs.Device.{BytesWritten}
 use Rattle.mseed_audit.specs.Follows.{IsSound}
 use Rattle.mseed_stretches.specs.Clocks.{IsStretchAt}
-use Rattle.mseed_stretches.specs.Stretches.{AreStretches, IsFirstStretch}
+use Rattle.mseed_stretches.specs.Stretches.{AreStretches}
 use Rattle.mseed_stretches.specs.declared.stretch.Stretch.{Stretch}
 use Rattle.mseed_pack.specs.declared.fault.PackFault.{PackFault}
 use Rattle.mseed_pack.specs.Options.{IsSteim}
@@ -15,9 +15,9 @@ use Rattle.mseed_steim.specs.declared.encoding.Encoding.{Encoding}
 use Rattle.mseed_pack.specs.declared.options.Options.{Options}
 use Rattle.mseed_repack.specs.private.Reading.{AreOf, samples_of, steps_of}
 use Rattle.mseed_repack.specs.private.Supplying.{AreUnread}
-use Rattle.mseed_repack.specs.Repack.{Channel, IsPackedInPart, IsSeriesText, StretchFits, StretchMisfits, Wrote}
-use Rattle.mseed_repack.specs.Repack.{records_in}
-use Rattle.mseed_repack.specs.ByStretches.{Stands}
+use Rattle.mseed_repack.specs.Repack.{AreTexts, Channel, IsPackedInPart, IsSeriesText, IsTextUpTo, StretchFits}
+use Rattle.mseed_repack.specs.Repack.{StretchMisfits, Wrote, records_in}
+use Rattle.mseed_repack.specs.ByStretches.{IsFit, Stands}
 use Rattle.mseed_repack.specs.Restretch.{ArePackedOn, IsChannelPart, IsChannelText, IsNumberedOn}
 use Rattle.mseed_repack.specs.declared.plan.Plan.{Plan}
 use Rattle.mseed_repack.specs.declared.plan.Way.{Way}
@@ -48,15 +48,10 @@ abbrev pub IsStretchWritten : {E : Type 0} → Options → List View → Result 
 IsStretchWritten o s (Ok count) old new = Wrote (IsStretchText o s count) 0 old new
 IsStretchWritten o s (Err fault) old new = Wrote (IsPackedInPart o s) 1 old new
 
--- records one after another in stretches of so many each, or of as many as are left
-abbrev pub stretches_by : List ℕ → List View → List (List View)
+-- some records as stretches, one after another: each of so many as it is planned with, or of as many as are left
+abbrev pub stretches_by : List Plan → List View → List (List View)
 stretches_by [] vs = []
-stretches_by (n ∷ ns) vs = take n vs ∷ stretches_by ns (drop n vs)
-
--- how many records each stretch has
-abbrev pub counts_of : List Plan → List ℕ
-counts_of [] = []
-counts_of (p ∷ ps) = p.records ∷ counts_of ps
+stretches_by (p ∷ ps) vs = take p.records vs ∷ stretches_by ps (drop p.records vs)
 
 -- a stretch has a record, each is sound, no more than a loop can count, and there is room for so many leap seconds
 pub record IsReadable (places : ℕ) (s : List View) : Type 0 where
@@ -75,23 +70,6 @@ GoesBy encoding room Listed s = samples_of s ≤ room
 abbrev pub IsFitting : Options → ℕ → List View → Fitting → Type 0
 IsFitting o room s (Fits way) = StretchFits o s × GoesBy o.encoding room way s
 IsFitting o room s (Misfits fault) = StretchMisfits o fault s
-
--- each of some stretches goes the way that is planned
-abbrev pub EachGoes : Encoding → ℕ → List Plan → List (List View) → Type 0
-EachGoes encoding room [] [] = ⊤
-EachGoes encoding room [] (s ∷ ss) = ⊥
-EachGoes encoding room (p ∷ ps) [] = ⊥
-EachGoes encoding room (p ∷ ps) (s ∷ ss) = GoesBy encoding room p.way s × EachGoes encoding room ps ss
-
--- of some stretches the one with this number, counted from 1, is the first that can't be packed
-pub record IsFirstMisfit (o : Options) (number : ℕ) (fault : PackFault) (ss : List (List View)) : Type 0 where
-  pub before : List (List View)
-  pub stretch : List View
-  pub back : List (List View)
-  pub parts : ss ≡ before ++ stretch ∷ back
-  pub number_is : number ≡ length before + 1
-  pub fit : AllByRecursion (StretchFits o) before
-  pub misfit : StretchMisfits o fault stretch
 
 -- the text is the records of stretches, whose sequence numbers run on
 pub record IsTextOn (o : Options) (ss : List (List View)) (text : List ℕ) : Type 0 where
@@ -113,40 +91,22 @@ pub record IsPartOn (o : Options) (ss : List (List View)) (text : List ℕ) : Ty
   pub part : IsPackedInPart options stretch own
   pub text_is : text ≡ concat records ++ own
 
--- What is found of stretches of so many records each: each can be packed, as it is planned; or this is the first that
--- can't.
-abbrev pub AreFitting : Options → ℕ → List ℕ → List Plan → List (List View) → Standing → Type 0
-AreFitting o room ns ps ss Fit =
-    AllByRecursion (StretchFits o) ss × EachGoes o.encoding room ps ss × (counts_of ps ≡ ns)
-AreFitting o room ns ps ss Broken = ⊥
-AreFitting o room ns ps ss (Misfit number fault) = IsFirstMisfit o number fault ss
-
--- the records begin with stretches of so many records each, up to some that are left
-abbrev pub IsCutUpTo : List ℕ → List View → List View → Type 0
-IsCutUpTo [] vs left = vs ≡ left
-IsCutUpTo (n ∷ ns) vs left = IsFirstStretch vs (take n vs) (drop n vs) × IsCutUpTo ns (drop n vs) left
-
--- all of the records are such stretches
-abbrev pub IsCut : List ℕ → List View → Type 0
-IsCut ns vs = IsCutUpTo ns vs []
-
 -- the records of a channel are cut so: not at all, or into stretches
 abbrev pub IsCutAs : Cutting → List View → List (List View) → Type 0
 IsCutAs Whole vs ss = ss ≡ vs ∷ []
 IsCutAs Stretches vs ss = AreStretches vs ss
 
--- each stretch of some records can be packed, as it is planned
-pub record CanBeWritten (o : Options) (room places : ℕ) (ps : List Plan) (vs : List View) : Type 0 where
-  pub readable : AllByRecursion (IsReadable places) (stretches_by (counts_of ps) vs)
-  pub fit : AllByRecursion (StretchFits o) (stretches_by (counts_of ps) vs)
-  pub ways : EachGoes o.encoding room ps (stretches_by (counts_of ps) vs)
+-- a stretch can be read and packed, and goes this way
+pub record IsPlanned (o : Options) (room places : ℕ) (way : Way) (s : List View) : Type 0 where
+  pub readable : IsReadable places s
+  pub fits : StretchFits o s
+  pub goes : GoesBy o.encoding room way s
 
--- the same of each channel
-abbrev pub AreWritable : Options → ℕ → ℕ → List View → List Channel → List (List Plan) → Type 0
-AreWritable o room places views [] ls = ⊤
-AreWritable o room places views (c ∷ cs) [] = ⊥
-AreWritable o room places views (c ∷ cs) (ps ∷ ls) =
-    CanBeWritten o room places ps (records_in views c.0) × AreWritable o room places views cs ls
+-- so does each stretch of some records, as it is planned
+abbrev pub CanBeWritten : Options → ℕ → ℕ → List Plan → List View → Type 0
+CanBeWritten o room places [] vs = ⊤
+CanBeWritten o room places (p ∷ ps) vs =
+    IsPlanned o room places p.way (take p.records vs) × CanBeWritten o room places ps (drop p.records vs)
 
 -- what is found of a channel that is packed whole
 abbrev pub StandsWhole : Options → List View → Standing → Type 0
@@ -169,31 +129,29 @@ abbrev pub IsPartAs : Cutting → Options → List View → List ℕ → Type 0
 IsPartAs Whole = IsPackedInPart
 IsPartAs Stretches = IsChannelPart
 
--- a channel that fits is written by its stretches, and another by none
-abbrev pub IsPlan : Cutting → Options → ℕ → ℕ → List View → Standing → List Plan → Type 0
-IsPlan cutting o room places vs Fit ps =
-    IsCutAs cutting vs (stretches_by (counts_of ps) vs) × CanBeWritten o room places ps vs
-IsPlan cutting o room places vs Broken ps = ps ≡ []
-IsPlan cutting o room places vs (Misfit number fault) ps = ps ≡ []
+-- the texts of these channels, whose records are cut so, one after another
+abbrev pub TextsAs : Cutting → Options → List View → List Channel → List ℕ → Type 0
+TextsAs cutting o views cs text =
+    AreTexts (λ (c : Channel) own. IsTextAs cutting o (records_in views c.0) own) cs text
 
--- this is found of a channel, and as it is planned it is written
+-- or those of the first ones, and a part of the next one's
+abbrev pub PartsAs : Cutting → Options → List View → List Channel → List ℕ → Type 0
+PartsAs cutting o views cs text =
+    IsTextUpTo (λ (c : Channel) own. IsTextAs cutting o (records_in views c.0) own)
+    (λ (c : Channel) own. IsPartAs cutting o (records_in views c.0) own) cs text
+
+-- this is found of a channel; if it fits, it is cut by its plans, and can be written as these say
 pub record IsReady (cutting : Cutting) (o : Options) (room places : ℕ) (vs : List View) (s : Standing)
     (ps : List Plan) : Type 0 where
   pub stands : StandsAs cutting o vs s
-  pub plan : IsPlan cutting o room places vs s ps
+  pub cut : IsFit s → IsCutAs cutting vs (stretches_by ps vs)
+  pub can : IsFit s → CanBeWritten o room places ps vs
 
 -- the same of all channels of an archive
-abbrev pub AreReady : Cutting → Options → ℕ → ℕ → List View → List Channel → List Standing → List (List Plan) → Type 0
-AreReady cutting o room places views [] [] [] = ⊤
-AreReady cutting o room places views [] [] (ps ∷ ls) = ⊥
-AreReady cutting o room places views [] (s ∷ ss) ls = ⊥
-AreReady cutting o room places views (c ∷ cs) [] ls = ⊥
-AreReady cutting o room places views (c ∷ cs) (s ∷ ss) [] = ⊥
-AreReady cutting o room places views (c ∷ cs) (s ∷ ss) (ps ∷ ls) =
-    IsReady cutting o room places (records_in views c.0) s ps × AreReady cutting o room places views cs ss ls
-
--- the stretches of each channel, as they are planned
-abbrev pub planned : List View → List Channel → List (List Plan) → List (List (List View))
-planned views [] ls = []
-planned views (c ∷ cs) [] = [] ∷ planned views cs []
-planned views (c ∷ cs) (ps ∷ ls) = stretches_by (counts_of ps) (records_in views c.0) ∷ planned views cs ls
+pub data AreReady (cutting : Cutting) (o : Options) (room places : ℕ) (views : List View) : List Channel
+    → List Standing → List (List Plan) → Type 0 where
+  ready_none : AreReady cutting o room places views [] [] []
+  ready_next : (c : Channel) (s : Standing) (ps : List Plan) (cs : List Channel) (ss : List Standing)
+      (ls : List (List Plan)) → IsReady cutting o room places (records_in views c.0) s ps
+      → AreReady cutting o room places views cs ss ls
+      → AreReady cutting o room places views (c ∷ cs) (s ∷ ss) (ps ∷ ls)

@@ -1,5 +1,5 @@
 -- Records that are read into lists that are there.
-use Rattle.std.specs.Prelude.{◌≢◌, ℕ, ◌+◌, ◌≤◌, ◌^◌, ℤ, List, [], ◌∷◌, length}
+use Rattle.std.specs.Prelude.{◌≡◌, ◌≢◌, ℕ, ◌+◌, ◌≤◌, ◌^◌, ℤ, List, [], ◌∷◌, length, take, drop}
 use Rattle.std.specs.List.{AllByRecursion, filter}
 use Rattle.mseed_time.specs.declared.outcome.LeapStep.{LeapStep}
 use Rattle.mseed_time.specs.declared.rate.Rate.{Rate}
@@ -8,6 +8,7 @@ use Rattle.mseed_audit.specs.Channels.{is_of}
 use Rattle.mseed_audit.specs.Follows.{IsSound}
 use Rattle.mseed_audit.specs.Judging.{step_in}
 use Rattle.mseed_audit.specs.Series.{HoldsAll, step_at}
+use Rattle.mseed_stretches.specs.Stretches.{IsFirstStretch}
 pub use Rattle.mseed_stretches.specs.Stretches.{samples_of}
 
 -- how many leap seconds a record bears: one, or none
@@ -46,6 +47,13 @@ pub record CanBeCut {S : Type 0} (leads : S → Type 0) (left : S → List View)
   pub led : leads walk
   pub sound : AllByRecursion IsSound (left walk)
   pub few : length (left walk) ≤ 2 ^ 40
+
+-- the first stretch of the records to which one walk leads has so many, and another walk leads to those after it
+pub record IsCutOff {S : Type 0} (leads : S → Type 0) (left : S → List View) (walk : S) (count : ℕ) (after : S) : Type
+    0 where
+  pub led : leads after
+  pub first : IsFirstStretch (left walk) (take count (left walk)) (drop count (left walk))
+  pub left_are : left after ≡ drop count (left walk)
 
 -- no more than a loop can count, and there is room for so many leap seconds
 pub record CanBeRead {S : Type 0} (leads : S → Type 0) (left : S → List View) (walk : S) (places : ℕ) : Type 0 where

@@ -1,11 +1,24 @@
-use Rattle.mseed_repack.specs.private.Planning.{counts_of, stretches_by}
-use Rattle.mseed_repack.proofs.Planning.{channel_part, wrote_as}
+use Rattle.std.proofs.Common.{length}
+use Rattle.mseed_repack.specs.private.Planning.{stretches_by}
+use Rattle.mseed_repack.proofs.Planning.{channel_fits, channel_part, channel_text, wrote_as}
 use Rattle.mseed_repack.proofs.channel.repack_planned.Goals as goal
+
+pub returns-in-Ok : goal.returns-in-Ok
+returns-in-Ok g c =
+    let ps = c.args.plans.now in
+    let vs = g.R.Walk.left c.args.records in (
+      channel_fits c.args.options.now (length c.args.samples.now) (length c.args.steps.now) ps vs c.requires.sound
+          c.requires.are c.requires.ready,
+      wrote_as (λ text is. channel_text c.args.options.now vs (stretches_by ps vs) text c.requires.are is)
+          c.in-Ok.ensures.ok,
+    )
 
 pub returns-in-Err : goal.returns-in-Err
 returns-in-Err g c =
-    let vs = g.R.Walk.left c.args.records in
-    let ss = stretches_by (counts_of c.args.plans.now) vs in (
-      record { sound = c.requires.sound; stretches = ss; are = c.requires.are; fit = c.requires.ready.fit },
-      wrote_as (λ text is. channel_part c.args.options.now vs ss text c.requires.are is) c.in-Err.ensures.err,
+    let ps = c.args.plans.now in
+    let vs = g.R.Walk.left c.args.records in (
+      channel_fits c.args.options.now (length c.args.samples.now) (length c.args.steps.now) ps vs c.requires.sound
+          c.requires.are c.requires.ready,
+      wrote_as (λ text is. channel_part c.args.options.now vs (stretches_by ps vs) text c.requires.are is)
+          c.in-Err.ensures.err,
     )

@@ -1,47 +1,79 @@
 use Rattle.std.proofs.Common.{List, length, map, arith, refl}
 use Rattle.std.proofs.lemmas.List.{length-map}
-use Rattle.mseed_record.specs.Viewing.{view_of}
+use Rattle.mseed_repack.specs.private.Archives.{records_on}
 use Rattle.mseed_repack.specs.declared.plan.Plan.{Plan}
-use Rattle.mseed_repack.proofs.Archives.{texts_all, texts_next, texts_part, written_next}
-use Rattle.mseed_repack.proofs.Planning.{plan_each, written_on}
+use Rattle.mseed_repack.proofs.Archives.{ready_on, texts_all, texts_next, texts_part, texts_still}
+use Rattle.mseed_repack.proofs.Planning.{plan_each, standing_each, written_on}
 use Rattle.mseed_repack.proofs.packing.pack_channels.Goals as goal
+use Rattle.mseed_repack.proofs.packing.pack_channels.Goals.{in-Fit+in-Ok, in_default}
+
+pub bounds : goal.bounds
+bounds g c =
+    let size = standing_each c.args.archive.now.channels.now c.args.standings.now
+    (map (λ own. own.items) c.args.plans.now) c.requires.1.1.1 in
+    omega (arith, size, c.loop-number-test.true)
 
 pub plans_at-requires : goal.plans_at-requires
 plans_at-requires g c =
-    let each = plan_each c.args.options.now (length c.args.samples.now) (length c.args.steps.now)
-    (map view_of c.args.archive.now.views.now) c.args.archive.now.channels.now
-    (map (λ own. own.items) c.args.plans.now) c.requires.ready in
+    let each = plan_each c.args.archive.now.channels.now c.args.standings.now
+    (map (λ own. own.items) c.args.plans.now) c.requires.1.1.1 in
     let size = length-map c.args.plans.now (λ own. own.items) in
     omega (arith, each, size, c.loop-number-test.true)
 
 pub pack_stretches-requires : goal.pack_stretches-requires
 pack_stretches-requires g c κs =
     let l = c.loop-number in
-    let t = c.trail.result in
+    let t = c.trail-trail.result in
     let ps : List Plan = c.plans_at.result.now in
-    let can = written_next c.args.archive.now (map (λ own. own.items) c.args.plans.now) l.number t ps
-    c.loop-number-test.true c.trail.ensures c.plans_at.ensures c.requires.ready in (
+    let ready = ready_on c.args.archive.now c.args.standings.now (map (λ own. own.items) c.args.plans.now) l.number t ps
+    c.loop-number-test.true c.trail-trail.ensures c.plans_at.ensures c.requires.1.1.1 in (
       (refl, tt),
       (
-        c.trail.ensures.led,
-        written_on (length l.samples) (length l.steps) (omega (arith, l.auto.samples)) (omega (arith, l.auto.steps))
-            can,
+        c.trail-trail.ensures.led,
+        written_on c.args.options.now (length c.args.samples.now) (length l.samples) (length c.args.steps.now)
+            (length l.steps) ps (records_on t) (omega (arith, l.auto.samples)) (omega (arith, l.auto.steps))
+            (ready.can c.in-Fit.is),
       ),
     )
 
 pub returns-in-Err-clause-err : goal.returns-in-Err-clause-err
 returns-in-Err-clause-err g c =
-    texts_part c.args.archive.now (map (λ own. own.items) c.args.plans.now) c.loop-number.number c.trail.result
-    c.plans_at.result.now c.loop-number-test.true c.trail.ensures c.plans_at.ensures c.loop-number.invariant
-    c.in-Err.ensures.err
+    let a = c.args.archive.now in
+    let k = c.loop-number.number in
+    let t = c.trail-trail.result in
+    let ps : List Plan = c.plans_at.result.now in
+    let ls = map (λ own. own.items) c.args.plans.now in
+    let ready = ready_on a c.args.standings.now ls k t ps c.loop-number-test.true c.trail-trail.ensures
+    c.plans_at.ensures c.requires.1.1.1 in
+    texts_part g.cutting a c.args.standings.now k t ps c.loop-number-test.true
+    (standing_each a.channels.now c.args.standings.now ls c.requires.1.1.1) c.in-Fit.is c.trail-trail.ensures
+    (ready.cut c.in-Fit.is) c.loop-number.invariant c.in-Err.ensures.err
 
 pub loop-number-preserved : goal.loop-number-preserved
 loop-number-preserved g c =
-    texts_next c.args.archive.now (map (λ own. own.items) c.args.plans.now) c.loop-number.number c.trail.result
-    c.plans_at.result.now c.loop-number-test.true c.trail.ensures c.plans_at.ensures c.loop-number.invariant
-    c.in-Ok.ensures.ok
+    let a = c.args.archive.now in
+    let k = c.loop-number.number in
+    let t = c.trail-trail.result in
+    let ss = c.args.standings.now in
+    let ls = map (λ own. own.items) c.args.plans.now in
+    let size = standing_each a.channels.now ss ls c.requires.1.1.1 in
+    elim c.match-standings-number.branch [
+      | in-Fit+in-Ok w ↦
+          let ps : List Plan = w.plans_at.result.now in
+          let ready = ready_on a ss ls k t ps c.loop-number-test.true c.trail-trail.ensures w.plans_at.ensures
+          c.requires.1.1.1 in
+          rw w.output-is
+          (texts_next g.cutting a ss k t ps c.loop-number-test.true size w.in-Fit.is c.trail-trail.ensures
+          (ready.cut w.in-Fit.is) c.loop-number.invariant w.in-Ok.ensures.ok)
+      | in_default w ↦
+          rw w.output-is
+          (texts_still g.cutting c.args.options.now a ss k t c.loop-number-test.true size w.in_default.not-Fit
+          c.trail-trail.ensures c.loop-number.invariant)
+    ]
 
 pub returns-clause-ok : goal.returns-clause-ok
 returns-clause-ok g c =
-    texts_all c.args.options.now c.args.archive.now (map (λ own. own.items) c.args.plans.now) c.loop-number.number
-    (omega (arith, c.loop-number-test.false)) c.loop-number.invariant
+    texts_all g.cutting c.args.options.now c.args.archive.now c.args.standings.now c.loop-number.number
+    (omega (arith, c.loop-number-test.false))
+    (standing_each c.args.archive.now.channels.now c.args.standings.now (map (λ own. own.items) c.args.plans.now)
+    c.requires.1.1.1) c.loop-number.invariant

@@ -1,8 +1,8 @@
-use Rattle.std.proofs.Common.{arith, map}
+use Rattle.std.proofs.Common.{arith, length, map}
 use Rattle.mseed_record.specs.Viewing.{view_of}
+use Rattle.mseed_repack.specs.private.Planning.{AreReady}
 use Rattle.mseed_repack.specs.declared.stretching.Cutting.TheVariants.{Whole}
 use Rattle.mseed_repack.proofs.Outcomes.{as_found, refused, repacked, repacked_in_part}
-use Rattle.mseed_repack.proofs.Planning.{ready_planned}
 use Rattle.mseed_repack.proofs.Wholes.{archive_of}
 use Rattle.mseed_repack.proofs.repacking.repack_records.Goals as goal
 
@@ -27,17 +27,22 @@ returns-in-Some-first_misfit g c = λ read whole.
     c.in_ok-planned.ensures.ready (rw c.deref.ensures.value at m.ensures.inside)
     (rw c.deref.ensures.value at m.ensures.some) (rw c.deref.ensures.value at m.ensures.before)
 
-pub pack_channels-requires-clause-ready : goal.pack_channels-requires-clause-ready
-pack_channels-requires-clause-ready g c =
+-- the records' and the output's lifetimes come first
+pub pack_channels-requires : goal.pack_channels-requires
+pack_channels-requires g c κs within =
+    let ready : AreReady Whole c.args.options.now (length c.deref_mut.result.now) (length c.deref_mut-2.result.now)
+    (map view_of c.archive.result.views.now) c.archive.result.channels.now c.deref-2.result.now
+    (map (λ own. own.items) c.deref-3.result.now) =
     rw (
       c.deref_mut.ensures.value,
       c.deref_mut-2.ensures.value,
       c.archive.ensures.views,
       c.archive.ensures.channels,
       c.deref-2.ensures.value,
+      c.deref-3.ensures.value,
     )
-    (ready_planned Whole c.args.options.now _ _ (map view_of c.args.views.now) c.as_slice-channels.result.now _ _
-    c.in_ok-planned.ensures.ready)
+    c.in_ok-planned.ensures.ready in
+    (within.0, (within.1, (c.archive.ensures.audited, ready)))
 
 pub returns-in-Ok : goal.returns-in-Ok
 returns-in-Ok g c = λ read whole.

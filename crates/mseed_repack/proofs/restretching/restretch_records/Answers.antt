@@ -1,8 +1,9 @@
-use Rattle.std.proofs.Common.{map}
+use Rattle.std.proofs.Common.{length, map}
 use Rattle.mseed_record.specs.Viewing.{view_of}
+use Rattle.mseed_repack.specs.private.Planning.{AreReady}
 use Rattle.mseed_repack.specs.declared.stretching.Cutting.TheVariants.{Stretches}
 use Rattle.mseed_repack.proofs.Outcomes.{as_found, restretched, restretched_in_part}
-use Rattle.mseed_repack.proofs.Planning.{ready_planned, standings_of}
+use Rattle.mseed_repack.proofs.Planning.{standings_of}
 use Rattle.mseed_repack.proofs.Standings.{refused_is}
 use Rattle.mseed_repack.proofs.Wholes.{archive_of}
 use Rattle.mseed_repack.proofs.restretching.restretch_records.Goals as goal
@@ -23,21 +24,25 @@ returns-in-Some g c = λ read whole.
     refused_is c.args.options.now c.args.leave read (g.W.Sink.written c.args.output.now)
     (g.E.Sink.written c.args.errors.now) views c.as_slice-channels.result.now c.in-Some.fault
     ((rw c.deref.ensures.value at c.in-Some.ensures.some) c.args.options.now views
-    (standings_of Stretches c.args.options.now _ _ views c.as_slice-channels.result.now _ _
-    c.in_ok-planned.ensures.ready))
+    (standings_of c.as_slice-channels.result.now _ _ c.in_ok-planned.ensures.ready))
     c.in-Some.ensures.refuses (archive_of whole c.in_ok-judged.ensures.verdicts c.as_slice-channels.ensures)
 
-pub pack_channels-requires-clause-ready : goal.pack_channels-requires-clause-ready
-pack_channels-requires-clause-ready g c =
+-- the records' and the output's lifetimes come first
+pub pack_channels-requires : goal.pack_channels-requires
+pack_channels-requires g c κs within =
+    let ready : AreReady Stretches c.args.options.now (length c.deref_mut.result.now) (length c.deref_mut-2.result.now)
+    (map view_of c.archive.result.views.now) c.archive.result.channels.now c.deref-3.result.now
+    (map (λ own. own.items) c.deref-4.result.now) =
     rw (
       c.deref_mut.ensures.value,
       c.deref_mut-2.ensures.value,
       c.archive.ensures.views,
       c.archive.ensures.channels,
       c.deref-3.ensures.value,
+      c.deref-4.ensures.value,
     )
-    (ready_planned Stretches c.args.options.now _ _ (map view_of c.args.views.now) c.as_slice-channels.result.now _ _
-    c.in_ok-planned.ensures.ready)
+    c.in_ok-planned.ensures.ready in
+    (within.0, (within.1, (c.archive.ensures.audited, ready)))
 
 pub returns-in-Ok : goal.returns-in-Ok
 returns-in-Ok g c = λ read whole.

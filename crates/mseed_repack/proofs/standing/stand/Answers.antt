@@ -1,64 +1,63 @@
-use Rattle.std.proofs.Common.{◌≡◌, List, [], ◌∷◌, ℕ, length, arith, refl, subst, sym}
-use Rattle.std.specs.List.{AllByRecursion}
-use Rattle.std.proofs.lemmas.Option.{IfSome_then}
-use Rattle.mseed_record.specs.View.{View}
-use Rattle.mseed_repack.specs.private.Planning.{AreFitting, IsCutAs, stretches_by}
-use Rattle.mseed_repack.specs.private.Supplying.{AreCounted}
-use Rattle.mseed_repack.specs.declared.standing.Standing.{Standing}
-use Rattle.mseed_repack.specs.declared.stretching.Cutting.{Cutting}
-use Rattle.mseed_repack.proofs.Planning.{readable_by, ready_by, ready_misfit, some_each}
+use Rattle.std.proofs.Common.{ℕ, ◌-◌, ◌^◌, List, [], ◌∷◌, ◌++◌, ap, arith, length, refl, subst, sym, ◌∙◌}
+use Rattle.std.proofs.lemmas.Bool.{false≢true}
+use Rattle.mseed_repack.specs.private.Planning.{IsFitting}
+use Rattle.mseed_repack.specs.declared.plan.Plan.{Plan}
+use Rattle.mseed_repack.specs.declared.series.Fitting.{Fitting}
+use Rattle.mseed_repack.proofs.Planning.{broken_as, whole_fits}
 use Rattle.mseed_repack.proofs.standing.stand.Goals as goal
 
-pub fit_stretches-requires : goal.fit_stretches-requires
-fit_stretches-requires g c κs =
-    let vs = g.R.Walk.left c.args.records in
-    let ns = c.deref.result.now in
-    let cut = subst (λ (ms : List ℕ). IsCutAs c.args.cutting vs (stretches_by ms vs)) (sym c.deref.ensures.value)
-    c.in_ok-cut_records.ensures in (
-      (refl, tt),
-      (
-        c.requires.led,
-        (
-          readable_by (length c.args.steps.now) ns vs
-              (some_each c.args.cutting vs (stretches_by ns vs) c.requires.some cut)
-              (c.are_all_sound.ensures.0 c.if-not-are_all_sound.false) c.requires.few c.requires.steps_fit,
-          (
-            IfSome_then c.args.plain c.requires.plain (λ count plain.
-                let Counted = AreCounted c.args.options.now.encoding count in
-                let one : stretches_by ns vs ≡ vs ∷ [] =
-                subst (λ (how : Cutting). IsCutAs how vs (stretches_by ns vs)) plain.0 cut in
-                subst (λ (ss : List (List View)). AllByRecursion Counted ss) (sym one) (plain.1, tt)),
-            c.requires.none,
-          ),
-        ),
-      ),
-    )
+pub returns-then-not-are_all_sound-clause-ready : goal.returns-then-not-are_all_sound-clause-ready
+returns-then-not-are_all_sound-clause-ready g c =
+    broken_as c.args.cutting c.args.options.now (length c.args.samples.now.items) (length c.args.steps.now)
+    c.args.plans.now.items (g.R.Walk.left c.args.records)
+    (λ sound. false≢true (sym c.if-not-are_all_sound.true ∙ c.are_all_sound.ensures.1 sound))
 
-pub returns-in-Misfit-clause-ready : goal.returns-in-Misfit-clause-ready
-returns-in-Misfit-clause-ready g c =
+pub fit_stretches-requires : goal.fit_stretches-requires
+fit_stretches-requires g c κs = (
+  (refl, tt),
+  (
+    record {
+      led = c.requires.led;
+      sound = c.are_all_sound.ensures.0 c.if-not-are_all_sound.false;
+      few = c.requires.few;
+    },
+    (c.requires.none, c.requires.steps_fit),
+  ),
+)
+
+pub returns-in-Stretches-clause-ready : goal.returns-in-Stretches-clause-ready
+returns-in-Stretches-clause-ready g c = rw c.in-Stretches.is c.fit_stretches.ensures.ready
+
+pub fit_series-requires : goal.fit_series-requires
+fit_series-requires g c κs = (
+  (refl, tt),
+  (
+    record {
+      walks = record {
+        led = c.requires.led;
+        some = c.requires.some c.in-Whole.is;
+        sound = c.are_all_sound.ensures.0 c.if-not-are_all_sound.false;
+      };
+      few = c.requires.few;
+      steps_fit = c.requires.steps_fit;
+    },
+    c.requires.plain,
+  ),
+)
+
+pub returns-in_ok-push-in-Fits-clause-ready : goal.returns-in_ok-push-in-Fits-clause-ready
+returns-in_ok-push-in-Fits-clause-ready g c =
     let o = c.args.options.now in
     let vs = g.R.Walk.left c.args.records in
-    let ns = c.deref.result.now in
-    let room : ℕ = length c.fit_stretches.new.samples.items in
-    let cut = subst (λ (ms : List ℕ). IsCutAs c.args.cutting vs (stretches_by ms vs)) (sym c.deref.ensures.value)
-    c.in_ok-cut_records.ensures in
-    let found = subst (λ (s : Standing). AreFitting o room ns c.fit_stretches.new.plans.items (stretches_by ns vs) s)
-    c.in-Misfit.is c.in_ok-standing.ensures.found in
-    ready_misfit c.args.cutting o room (length c.fit_stretches.new.steps) (stretches_by ns vs) c.clear.new.self.items vs
-    c.in-Misfit.number c.in-Misfit.fault (c.are_all_sound.ensures.0 c.if-not-are_all_sound.false) cut found
-    c.clear.ensures.items
-
-pub returns-clause-ready : goal.returns-clause-ready
-returns-clause-ready g c =
-    let vs = g.R.Walk.left c.args.records in
-    let ns = c.deref.result.now in
-    let places : ℕ = length c.fit_stretches.new.steps in
-    let sound = c.are_all_sound.ensures.0 c.if-not-are_all_sound.false in
-    let cut = subst (λ (ms : List ℕ). IsCutAs c.args.cutting vs (stretches_by ms vs)) (sym c.deref.ensures.value)
-    c.in_ok-cut_records.ensures in
-    let some = some_each c.args.cutting vs (stretches_by ns vs) c.requires.some cut in
-    ready_by c.args.cutting c.args.options.now (length c.fit_stretches.new.samples.items) places ns
-    c.fit_stretches.new.plans.items vs sound cut
-    (readable_by places ns vs some sound c.requires.few
-    (omega (arith, c.requires.steps_fit, c.fit_stretches.auto.steps)))
-    c.in_ok-standing.standing c.in_default.not-Misfit c.in_ok-standing.ensures.found
+    let room : ℕ = length c.fit_series.new.samples.items in
+    let p : Plan = record { records = 2 ^ 64 - 1; way = c.in-Fits.way } in
+    let fits = subst (λ (f : Fitting). IsFitting o room vs f) c.in-Fits.is c.in_ok-way-in-Whole.ensures.fitting in
+    rw c.in-Whole.is
+    (whole_fits o room (length c.fit_series.new.steps) p c.push.new.self.items vs
+    (record {
+      some = c.requires.some c.in-Whole.is;
+      sound = c.are_all_sound.ensures.0 c.if-not-are_all_sound.false;
+      few = c.requires.few;
+      steps_fit = omega (arith, c.requires.steps_fit, c.fit_series.auto.steps);
+    })
+    refl (c.in_ok-push-in-Fits.ensures.items ∙ ap (λ (ps : List Plan). ps ++ p ∷ []) c.requires.none) fits.0 fits.1)

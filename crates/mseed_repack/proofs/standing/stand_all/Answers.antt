@@ -10,7 +10,7 @@ use Rattle.mseed_audit.specs.Verdict.{says_continuous}
 use Rattle.mseed_audit.proofs.Following.{views_are}
 use Rattle.mseed_repack.specs.Repack.{Channel, records_in}
 use Rattle.mseed_repack.specs.private.Archives.{records_on}
-use Rattle.mseed_repack.specs.private.Planning.{AreReady, IsReady}
+use Rattle.mseed_repack.specs.private.Planning.{AreReady, IsReady, ready_none}
 use Rattle.mseed_repack.specs.private.Supplying.{IsPlain}
 use Rattle.mseed_repack.specs.declared.plan.Plan.{Plan}
 use Rattle.mseed_repack.specs.declared.standing.Standing.{Standing}
@@ -45,16 +45,13 @@ stand-requires g c κs =
                   c.requires.places.audited.verdicts c.loop-number-test.true c.channel-item.is refl own continuous)
                   (c.is_known_sound-sound.ensures known),
               (
-                IfSome_then c.count_plain-plain.result c.count_plain-plain.ensures (λ count says. (
-                  says.1,
-                  record {
-                    written = says.2;
-                    plain = subst (AllByRecursion IsPlain) (sym own)
-                        (alone_in IsPlain d.0 views (c.requires.plain says.0));
-                    count_is = count_said views a.channels.now l.number d count (records_on t)
-                        c.requires.places.audited.verdicts c.loop-number-test.true c.channel-item.is says.3 own;
-                  },
-                )),
+                IfSome_then c.count_plain-plain.result c.count_plain-plain.ensures (λ count says. record {
+                  written = says.1;
+                  plain = subst (AllByRecursion IsPlain) (sym own)
+                      (alone_in IsPlain d.0 views (c.requires.plain says.0));
+                  count_is = count_said views a.channels.now l.number d count (records_on t)
+                      c.requires.places.audited.verdicts c.loop-number-test.true c.channel-item.is says.2 own;
+                }),
                 (
                   c.new-own.ensures.items,
                   omega (arith, fits, l.auto.steps),
@@ -65,6 +62,9 @@ stand-requires g c κs =
         ),
       ),
     )
+
+pub loop-number-init : goal.loop-number-init
+loop-number-init g c = rw (c.new-standings.ensures.items, c.requires.none) ready_none
 
 pub loop-number-preserved : goal.loop-number-preserved
 loop-number-preserved g c =
