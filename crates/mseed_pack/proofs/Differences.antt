@@ -1,6 +1,6 @@
 -- The differences of a series, one by one.
-use Rattle.std.proofs.Common.{◌≡◌, ◌≢◌, ◌∙◌, ℕ, zero, suc, ◌+◌, ◌<◌, ◌≤◌, List, [], ◌∷◌, length, get_or, set, refl, sym, ap}
-use Rattle.std.proofs.Common.{All, ⊎_elim, arith, eqb, false, ℤ, pos, negsuc, ◌-ℤ◌, FitsSigned, w32}
+use Rattle.std.proofs.Common.{◌≡◌, ◌≢◌, ◌∙◌, ℕ, zero, suc, ◌+◌, ◌<◌, ◌≤◌, List, [], ◌∷◌, length, get_or, set, refl}
+use Rattle.std.proofs.Common.{sym, ap, All, ⊎_elim, arith, eqb, false, ℤ, pos, negsuc, ◌-ℤ◌, FitsSigned, w32}
 use native.Mathlib.Numerals.{unary_clauses}
 use Rattle.std.proofs.lemmas.Bool.{cases_lt, eqb-false}
 use Rattle.std.proofs.lemmas.Grind.{get_or-set_at}

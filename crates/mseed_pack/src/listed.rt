@@ -41,8 +41,8 @@ impl<'a> Supply for Listed<'a> {
     }
 }
 
-/// Writes the differences of the samples from one on. Those of two parts are taken side by side, so that memory is asked
-/// for at two places at once.
+/// Writes the differences of the samples from one on. Those of two parts are taken side by side, so that memory is
+/// asked for at two places at once.
 fn put_differences(samples: &[i32], first: usize, out: &mut [i32])
     requires inside { first + length out.old ≤ length samples.now }
     requires fits { All (IsWithin 32) (differences samples.now) }
