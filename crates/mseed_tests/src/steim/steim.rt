@@ -4,7 +4,7 @@ use super::record::{Row, STEIM_1, is_record, record};
 use mseed_steim::{BadWordAt, Differences, ReadFault, Scheme};
 use std::alloc::Global;
 
-/// A row of a table: its name, its encoding (10 is Steim-1, and 11 Steim-2) and how many samples it has; its frames; and
+/// A row of a table: its name, its encoding (10 is Steim-1, 11 Steim-2) and how many samples it has; its frames; and
 /// what is read.
 type Case = (
     (&'static str, u8, u8),
