@@ -160,8 +160,8 @@ fn fill_known(view: &RecordView<'_>, out: &mut [i32]) -> Option<Ends>
 
 /// Fills in the steps of a record's samples, as [`fill_differences`] does: the first sample, and of each one after it
 /// its difference from the one before. The record is one of Steim frames and is known to have a reading that ends on
-/// its constants, so that nothing is added up or checked again; there are as many places as it has samples. Returns the
-/// first and the last of the samples.
+/// its constants, so that none of its samples is added up or checked again; there are as many places as it has
+/// samples. Returns the first and the last of them.
 #[inline(never)]
 pub fn unpack_differences(view: &RecordView<'_>, out: &mut [i32]) -> Ends
     requires whole { (s : List ℤ) × IsWhole (view_of view.now) s }
