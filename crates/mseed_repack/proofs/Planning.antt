@@ -4,7 +4,7 @@ use Rattle.std.proofs.Common.{length, take, drop, get_or, refl, sym, ap, subst, 
 use Rattle.std.proofs.Common.{length-append}
 use Rattle.std.specs.Prelude.{ℤ, Result, Ok, Err, IfOk, IfErr}
 use Rattle.std.specs.List.{AllByRecursion, concat}
-use Rattle.std.proofs.lemmas.List.{drop_all, drop_more, same_from_push, take-append-drop, take_all}
+use Rattle.std.proofs.lemmas.List.{drop_all, drop_more, same_from_push, take_all}
 use Rattle.std.proofs.lemmas.List.Folds.{concat-append}
 use Rattle.mseed_record.specs.View.{View}
 use Rattle.mseed_stream.specs.Device.{BytesWritten}
@@ -222,10 +222,6 @@ whole_fits o room places p ps vs readable e one fits goes =
         tt,
       );
     })
-
-pub whole_misfits : (o : Options) (room places : ℕ) (ps : List Plan) (vs : List View) (n : ℕ) (fault : PackFault)
-    → StretchMisfits o fault vs → IsReady Whole o room places vs (Misfit n fault) ps
-whole_misfits o room places ps vs n fault misfit = record { stands = misfit; cut = λ fit. cc; can = λ fit. cc }
 
 -- however it is cut, a channel is broken where a record isn't sound
 pub broken_as : (cutting : Cutting) (o : Options) (room places : ℕ) (ps : List Plan) (vs : List View)
