@@ -6,9 +6,9 @@ ghost use Rattle.clap.specs.Kinds.{HasKind};
 ghost use Rattle.mseed_words.specs.Files.{files_of};
 ghost use Rattle.mseed_words.specs.Found.{has_only};
 ghost use Rattle.mseed_words.specs.Words.{AsksFor, CanBeCalled, IsRefusal, IsUnasked, auditing_by, auditing_names};
-ghost use Rattle.mseed_words.specs.Words.{auditing_of, command_of, encoding_named, entries_in, expected_in, exponent_in};
-ghost use Rattle.mseed_words.specs.Words.{faults_in, joining_by, joining_of, packing_by, packing_of, plain_of};
-ghost use Rattle.mseed_words.specs.Words.{request_named, request_of, requested, serving_by};
+ghost use Rattle.mseed_words.specs.Words.{auditing_of, command_of, encoding_named, entries_in, expected_in};
+ghost use Rattle.mseed_words.specs.Words.{exponent_in, faults_in, joining_by, joining_of, packing_by, packing_of};
+ghost use Rattle.mseed_words.specs.Words.{plain_of, request_named, request_of, requested, serving_by};
 ghost use Rattle.mseed_select.specs.Selecting.{selection_of};
 
 use crate::feed_words::{fetching_of, live_serving_of, serving_of};
