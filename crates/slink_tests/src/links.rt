@@ -9,9 +9,10 @@ mod fetching;
 mod serving;
 mod tcp;
 
-use crate::model::record;
+use crate::live::push;
+use crate::model::{place, record};
 use mseed_stream::{Counted, Duplex, Exchanges, Failed, Sink, Source, Tally};
-use slink_feed::{Client, Feed};
+use slink_feed::{Client, Feed, Mode};
 use slink_links::{Accept, Dial, EndsHandshake, FetchPlan, Pause, ServePlan};
 use slink_wire::{Address, Host, Packet, Timeout};
 use std::alloc::Global;
@@ -34,14 +35,15 @@ fn line_of(status: u8) -> &'static [u8] {
 
 /// Tells its bytes, and takes bytes while there is room; then it fails.
 #[derive(Drop)]
-struct Pipe<'a> {
+pub(crate) struct Pipe<'a> {
     reported: &'a [u8],
     room: usize,
     taken: Vec<u8>,
 }
 
 impl<'a> Pipe<'a> {
-    fn new(alloc: Global, reported: &'a [u8], room: usize) -> Pipe<'a> {
+    /// A pipe that gives these bytes, and has room for so many.
+    pub(crate) fn new(alloc: Global, reported: &'a [u8], room: usize) -> Pipe<'a> {
         Pipe {
             reported,
             room,
@@ -165,9 +167,8 @@ impl<'a> Links<'a> {
     {
         let mut coming = Vec::new(alloc);
         for link in links.iter().rev() {
-            coming
-                .push(link.map(|(reported, room)| Pipe::new(alloc, reported, room)))
-                .expect(rt, "memory");
+            let pipe = link.map(|(reported, room)| Pipe::new(alloc, reported, room));
+            coming.push(pipe).expect(rt, "memory");
         }
         Links {
             coming,
@@ -244,6 +245,16 @@ impl<'a> Dial for Links<'a> {
     }
 }
 
+/// What a client says that lacks records 1 and 2.
+pub(crate) const REQUEST: &[u8] = b"STATION STA XX\r\nFETCH 1\r\nEND\r\n";
+
+/// A client that holds record 0 and asks for those that are there, and what it says.
+fn client(rt: &impl Abort) -> Client {
+    Client::new(&[(place(rt, b"STA"), Some(1))], Mode::Fetch)
+}
+
+const FROM_1: &[u8] = b"STATION STA XX\r\nFETCH 000001\r\nEND\r\n";
+
 /// A plan to fetch from this host by so many tries, and with so many seconds for each answer.
 fn plan_of(client: Client, tries: u32, seconds: u32) -> FetchPlan {
     FetchPlan {
@@ -271,9 +282,7 @@ fn serve_plan_of(feed: Feed, connections: u32, seconds: u32) -> ServePlan {
 fn records(rt: &impl Abort, alloc: Global, marks: Range<u8>) -> Vec<u8> {
     let mut bytes = Vec::new(alloc);
     for mark in marks {
-        bytes
-            .extend_from_slice(&record(b"STA  ", mark))
-            .expect(rt, "memory");
+        push(rt, &mut bytes, &record(b"STA  ", mark));
     }
     bytes
 }
@@ -284,20 +293,18 @@ fn two_records(rt: &impl Abort, alloc: Global) -> Vec<u8> {
 }
 
 /// The packet of the record that has this number as its mark.
-fn packet(number: u8) -> [u8; 520] {
+pub(crate) fn packet(number: u8) -> [u8; 520] {
     Packet::write(u32::from(number), &record(b"STA  ", number))
 }
 
 /// Two replies, the packets of the records of these marks, and the end.
 fn packets(rt: &impl Abort, alloc: Global, marks: Range<u8>) -> Vec<u8> {
     let mut bytes = Vec::new(alloc);
-    bytes
-        .extend_from_slice(b"OK\r\nOK\r\n")
-        .expect(rt, "memory");
+    push(rt, &mut bytes, b"OK\r\nOK\r\n");
     for mark in marks {
-        bytes.extend_from_slice(&packet(mark)).expect(rt, "memory");
+        push(rt, &mut bytes, &packet(mark));
     }
-    bytes.extend_from_slice(b"END").expect(rt, "memory");
+    push(rt, &mut bytes, b"END");
     bytes
 }
 

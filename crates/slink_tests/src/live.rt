@@ -197,59 +197,64 @@ impl Ready for Script {
     }
 }
 
-/// A record of 512 bytes of the station STA in the network XX, with a byte that is its number.
-fn record(number: u8) -> [u8; 512] {
+/// A record of 512 bytes of the network XX.
+fn blank() -> [u8; 512] {
     let mut bytes = [0; 512];
     bytes[..20].copy_from_slice(b"000001D STA  00BHZXX");
     bytes[20..24].copy_from_slice(&[7, 232, 0, 1]);
     bytes[44..56].copy_from_slice(&[0, 64, 0, 48, 3, 232, 0, 0, 10, 1, 9, 0]);
-    bytes[511] = number;
     bytes
 }
 
-/// Records, one after another.
-fn records(rt: &impl Abort, alloc: Global, count: u8) -> Vec<u8> {
+/// A record of a station in the network XX, with its number.
+pub(crate) fn record(station: &[u8; 3], number: u32) -> [u8; 512] {
+    let mut bytes = blank();
+    bytes[8..11].copy_from_slice(station);
+    bytes[508..].copy_from_slice(&number.to_be_bytes());
+    bytes
+}
+
+/// Adds bytes to others.
+pub(crate) fn push(rt: &impl Abort, bytes: &mut Vec<u8>, more: &[u8]) {
+    bytes.extend_from_slice(more).expect(rt, "memory")
+}
+
+/// Records of the station STA, one after another.
+fn records(rt: &impl Abort, alloc: Global, count: u32) -> Vec<u8> {
     let mut bytes = Vec::new(alloc);
     for number in 0..count {
-        bytes
-            .extend_from_slice(&record(number))
-            .expect(rt, "memory");
+        push(rt, &mut bytes, &record(b"STA", number));
     }
     bytes
 }
 
 /// What is owed to a client whose first request is refused, and the second granted from the first record on.
-fn owed(rt: &impl Abort, alloc: Global, count: u8) -> Vec<u8> {
+fn owed(rt: &impl Abort, alloc: Global, count: u32) -> Vec<u8> {
     let mut bytes = Vec::new(alloc);
-    bytes
-        .extend_from_slice(b"OK\r\nERROR\r\nOK\r\n")
-        .expect(rt, "memory");
+    push(rt, &mut bytes, b"OK\r\nERROR\r\nOK\r\n");
     for number in 0..count {
-        bytes.extend_from_slice(b"SL00000").expect(rt, "memory");
-        bytes
-            .extend_from_slice(&[b'0' + number % 10])
-            .expect(rt, "memory");
-        bytes
-            .extend_from_slice(&record(number))
-            .expect(rt, "memory");
+        push(rt, &mut bytes, b"SL00000");
+        push(rt, &mut bytes, &[b'0' + (number % 10) as u8]);
+        push(rt, &mut bytes, &record(b"STA", number));
     }
     bytes
 }
 
+/// What each client says.
+const SAYS: &[u8] = b"STATION STA XX\r\nDATA 999\r\nDATA 0\r\nEND\r\n";
+
 /// Three clients of one station.
 fn three_peers(rt: &impl Abort, alloc: Global) -> Vec<Peer> {
     let mut peers = Vec::new(alloc);
-    for peer in 0..3 {
+    for _ in 0..3 {
         let mut says = Vec::new(alloc);
-        says.extend_from_slice(b"STATION STA XX\r\nDATA 999\r\nDATA 0\r\nEND\r\n")
-            .expect(rt, "memory");
-        peers
-            .push(Peer {
-                says,
-                produced: 0,
-                emitted: Vec::new(alloc),
-            })
-            .expect(rt, "memory");
+        push(rt, &mut says, SAYS);
+        let peer = Peer {
+            says,
+            produced: 0,
+            emitted: Vec::new(alloc),
+        };
+        peers.push(peer).expect(rt, "memory");
     }
     peers
 }
@@ -287,11 +292,8 @@ fn script_of(rt: &impl Abort, alloc: Global, input: Vec<u8>, seed: u64) -> Scrip
 
 /// Whether each of these clients accepted all that is owed to it, or said nothing.
 fn have_what_is_owed(peers: &[Peer], owed: &[u8]) -> bool {
-    let mut is_well = true;
-    for peer in peers {
-        is_well = is_well && (peer.emitted.as_slice() == owed || peer.produced == 0);
-    }
-    is_well
+    let mut peers = peers.iter();
+    peers.all(|peer| peer.emitted.as_slice() == owed || peer.produced == 0)
 }
 
 /// Whether a server answers so by an order, and well if it goes on, with something of the order left.
@@ -318,17 +320,15 @@ fn went_well(
 #[test]
 fn each_takes_what_is_owed_in_any_order(rt: HostRuntime) {
     for seed in 0..20 {
-        assert!(rt;
-            went_well(&rt, rt.alloc(), records(&rt, rt.alloc(), 9), seed, Ok(())),
-            "{seed}"
-        );
+        let input = records(&rt, rt.alloc(), 9);
+        assert!(rt; went_well(&rt, rt.alloc(), input, seed, Ok(())), "{seed}");
     }
 }
 
 #[test]
 fn a_record_that_is_cut_off_is_reported(rt: HostRuntime) {
     let mut input = records(&rt, rt.alloc(), 9);
-    input.extend_from_slice(b"000001D ").expect(&rt, "memory");
+    push(&rt, &mut input, b"000001D ");
     let fault = InputFault::Stream(StreamFault::Truncated(4608, 8));
     assert!(rt; went_well(&rt, rt.alloc(), input, 7, Err(fault)));
 }

@@ -1,8 +1,7 @@
 //! Links over TCP, by one thread.
-ghost use Rattle.std.specs.Prelude.{◌≡◌, ◌≤◌, length};
 
 use crate::links::rest_of;
-use crate::live::server_of;
+use crate::live::{push, record, server_of};
 use slink_live_tcp::{Plan, Tcp};
 use std::alloc::Global;
 use std::io;
@@ -38,16 +37,7 @@ impl Read for Input {
     }
 }
 
-/// A record of 512 bytes of the station STA in the network XX.
-fn record() -> [u8; 512] {
-    let mut bytes = [0; 512];
-    bytes[..20].copy_from_slice(b"000001D STA  00BHZXX");
-    bytes[20..24].copy_from_slice(&[7, 232, 0, 1]);
-    bytes[44..56].copy_from_slice(&[0, 64, 0, 48, 3, 232, 0, 0, 10, 1, 9, 0]);
-    bytes
-}
-
-/// A listener for three links, with that record as its input.
+/// A listener for three links, with a record as its input.
 fn bound<N: Net + Clock>(host: &N, alloc: Global) -> io::Result<Tcp<'_, N, Input>> {
     let plan = Plan {
         address: SocketAddr::from((Ipv4Addr::LOCALHOST, 0)),
@@ -55,7 +45,7 @@ fn bound<N: Net + Clock>(host: &N, alloc: Global) -> io::Result<Tcp<'_, N, Input
         timeout: Some(Duration::from_secs(1)),
     };
     let input = Input {
-        bytes: record(),
+        bytes: record(b"STA", 0),
         given: 0,
     };
     Tcp::bind(host, alloc, plan, input)
@@ -84,9 +74,8 @@ fn all_dialled<N: Net>(
 ) -> Vec<N::Stream> {
     let mut streams = Vec::new(alloc);
     for said in SAID {
-        streams
-            .push(dialled(host, address, said).expect(rt, "a link"))
-            .expect(rt, "memory");
+        let stream = dialled(host, address, said).expect(rt, "a link");
+        streams.push(stream).expect(rt, "memory");
     }
     streams
 }
@@ -94,10 +83,8 @@ fn all_dialled<N: Net>(
 /// What a client is sent that asks for the record.
 fn sent(rt: &impl Abort, alloc: Global) -> Vec<u8> {
     let mut bytes = Vec::new(alloc);
-    bytes
-        .extend_from_slice(b"OK\r\nOK\r\nSL000000")
-        .expect(rt, "memory");
-    bytes.extend_from_slice(&record()).expect(rt, "memory");
+    push(rt, &mut bytes, b"OK\r\nOK\r\nSL000000");
+    push(rt, &mut bytes, &record(b"STA", 0));
     bytes
 }
 

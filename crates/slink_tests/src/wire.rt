@@ -120,37 +120,9 @@ fn ends_at_a_line_too_long(rt: HostRuntime) {
 }
 
 /// A line, and its command.
-static COMMANDS: [(&[u8], Command); 24] = [
+static COMMANDS: [(&[u8], Command); 20] = [
     (b"HELLO", Command::Hello),
     (b"  hello ", Command::Hello),
-    (
-        b"STATION STA",
-        Command::Station {
-            sta: *b"STA  ",
-            net: None,
-        },
-    ),
-    (
-        b" station   a1B2c  ",
-        Command::Station {
-            sta: *b"a1B2c",
-            net: None,
-        },
-    ),
-    (
-        b"STATION STA XX",
-        Command::Station {
-            sta: *b"STA  ",
-            net: Some(*b"XX"),
-        },
-    ),
-    (
-        b"Station STA  x",
-        Command::Station {
-            sta: *b"STA  ",
-            net: Some(*b"x "),
-        },
-    ),
     (b"SELECT", Command::SelectAll),
     (b" select ", Command::SelectAll),
     (b"DATA", Command::Data(None)),
@@ -171,10 +143,23 @@ static COMMANDS: [(&[u8], Command); 24] = [
     (b"", Command::Other),
 ];
 
+/// A line, and the station and the network that it chooses.
+static STATIONS: [(&[u8], [u8; 5], Option<[u8; 2]>); 4] = [
+    (b"STATION STA", *b"STA  ", None),
+    (b" station   a1B2c  ", *b"a1B2c", None),
+    (b"STATION STA XX", *b"STA  ", Some(*b"XX")),
+    (b"Station STA  x", *b"STA  ", Some(*b"x ")),
+];
+
 #[test]
 fn reads_commands(rt: HostRuntime) {
     for (line, wanted) in &COMMANDS {
         assert!(rt; Command::read(line) == *wanted, "{line:?}");
+    }
+    for (line, sta, net) in &STATIONS {
+        let (sta, net) = (*sta, *net);
+        let wanted = Command::Station { sta, net };
+        assert!(rt; Command::read(line) == wanted, "{line:?}");
     }
 }
 

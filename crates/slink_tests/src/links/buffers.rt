@@ -296,14 +296,7 @@ fn is_read_ahead(
 #[test]
 fn reads_ahead(rt: HostRuntime) {
     let sent = packets(&rt, rt.alloc(), 0..MANY);
-    assert!(rt;
-        is_read_ahead(
-            &rt,
-            rt.alloc(),
-            up_to(sent.as_slice(), 8 + 70 * 520),
-            2,
-            &LEFT
-        )
-    );
+    let cut = up_to(sent.as_slice(), 8 + 70 * 520);
+    assert!(rt; is_read_ahead(&rt, rt.alloc(), cut, 2, &LEFT));
     assert!(rt; is_read_ahead(&rt, rt.alloc(), sent.as_slice(), 0, &READ_AHEAD));
 }

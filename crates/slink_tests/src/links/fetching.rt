@@ -2,22 +2,14 @@
 ghost use Rattle.slink_links.specs.Out.{AreOut};
 
 use super::{
-    ALL, Clockless, Links, line_of, output, packets, plan_of, taken_by, two_packets, two_records,
+    ALL, Clockless, FROM_1, Links, client, line_of, output, packets, plan_of, taken_by,
+    two_packets, two_records,
 };
-use crate::model::place;
-use slink_feed::{Client, Mode};
 use slink_links::{FetchPlan, fetch_all, fetch_planned};
 use std::alloc::Global;
 use std::process::Abort;
 
-/// A client that holds record 0 and asks for those that are there.
-fn client(rt: &impl Abort) -> Client {
-    Client::new(&[(place(rt, b"STA"), Some(1))], Mode::Fetch)
-}
-
-/// What the client says from record 1 on, and from record 2 on.
-const FROM_1: &[u8] = b"STATION STA XX\r\nFETCH 000001\r\nEND\r\n";
-
+/// What the client says from record 2 on.
 const FROM_2: &[u8] = b"STATION STA XX\r\nFETCH 000002\r\nEND\r\n";
 
 /// What comes of a fetch.
@@ -31,40 +23,6 @@ struct Fetched {
     pauses: Vec<u8>,
 }
 
-/// How a fetch goes.
-#[derive(Clone, Copy)]
-struct How {
-    tries: u64,
-    room: usize,
-    tell_next: bool,
-}
-
-/// A fetch by a client over links.
-fn fetched_by(alloc: Global, client: &mut Client, mut links: Links, how: &How) -> Fetched
-    requires { AreOut 0 links.tally.calls links.tally.failures links.given_back.all }
-{
-    let mut records = output(alloc, how.room);
-    let mut errors = output(alloc, ALL);
-    let mut waits = Clockless::new(alloc);
-    let status = fetch_all(
-        client,
-        how.tries,
-        &mut links,
-        &mut waits,
-        &mut records,
-        &mut errors,
-        how.tell_next,
-    );
-    Fetched {
-        status,
-        line: taken_by(errors),
-        records: taken_by(records),
-        coming: links.coming.len(),
-        written: links.taken,
-        pauses: waits.tenths,
-    }
-}
-
 /// A fetch over links, to an output with so much room.
 fn fetch_from(
     rt: &impl Abort,
@@ -74,13 +32,27 @@ fn fetch_from(
     room: usize,
     tell_next: bool,
 ) -> Fetched {
-    let how = How {
+    let mut links = Links::new(rt, alloc, links);
+    let mut waits = Clockless::new(alloc);
+    let mut records = output(alloc, room);
+    let mut errors = output(alloc, ALL);
+    let status = fetch_all(
+        &mut client(rt),
         tries,
-        room,
+        &mut links,
+        &mut waits,
+        &mut records,
+        &mut errors,
         tell_next,
-    };
-    let mut client = client(rt);
-    fetched_by(alloc, &mut client, Links::new(rt, alloc, links), &how)
+    );
+    Fetched {
+        status,
+        line: taken_by(errors),
+        records: taken_by(records),
+        coming: links.coming.len(),
+        written: links.taken,
+        pauses: waits.tenths,
+    }
 }
 
 /// A fetch over links that give so many of these bytes.
@@ -93,20 +65,15 @@ fn fetch_over(
 ) -> Fetched {
     let mut links = Vec::new(alloc);
     for count in counts {
-        links
-            .push(count.map(|n| (all.get(..n).unwrap_or(all), ALL)))
-            .expect(rt, "memory");
+        let link = count.map(|n| (all.get(..n).unwrap_or(all), ALL));
+        links.push(link).expect(rt, "memory");
     }
     fetch_from(rt, alloc, tries, links.as_slice(), ALL, false)
 }
 
 /// Whether so many links accepted the lines of a client that lacks record 1.
 fn are_from_1(written: &[Vec<u8>], links: usize) -> bool {
-    let mut is_well = written.len() == links;
-    for lines in written {
-        is_well = is_well && lines.as_slice() == FROM_1;
-    }
-    is_well
+    written.len() == links && written.iter().all(|lines| lines.as_slice() == FROM_1)
 }
 
 /// Whether a fetch ended so, with these records.
@@ -142,11 +109,8 @@ fn fetches_over_one_link_after_another(rt: HostRuntime) {
     let all = two_packets(&rt, rt.alloc());
     let records = two_records(&rt, rt.alloc());
     for row in &FETCHES {
-        assert!(rt;
-            is_fetched(&rt, rt.alloc(), &all, &records, row),
-            "{:?}",
-            row.1
-        );
+        let is_fetched = is_fetched(&rt, rt.alloc(), &all, &records, row);
+        assert!(rt; is_fetched, "{:?}", row.1);
     }
 }
 

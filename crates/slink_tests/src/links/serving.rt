@@ -1,17 +1,14 @@
 //! Worked rows of serving.
 ghost use Rattle.slink_links.specs.Out.{AreOut};
 
-use super::{ALL, Links, line_of, output, serve_plan_of, taken_by, two_packets};
+use super::{ALL, Links, REQUEST, line_of, output, serve_plan_of, taken_by, two_packets};
 use crate::model::three_pushed;
 use slink_feed::Feed;
 use slink_links::{serve_all, serve_planned};
 use std::alloc::Global;
 use std::process::Abort;
 
-/// What a client says that lacks records 1 and 2.
-const REQUEST: &[u8] = b"STATION STA XX\r\nFETCH 1\r\nEND\r\n";
-
-/// A link whose client lacks both records, and takes all.
+/// A link whose client lacks records 1 and 2, and takes all.
 const ASKING: Option<(&[u8], usize)> = Some((REQUEST, ALL));
 
 /// How many connections, the links that come, the status, and how many of all bytes each link accepted.

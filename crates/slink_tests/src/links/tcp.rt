@@ -1,10 +1,14 @@
 //! A session over TCP: its transcript, a fetch, and a client that takes turns with a server.
 ghost use Rattle.slink_feed.specs.Session.{Fits};
 
-use super::{ALL, output, plan_of, rest_of, serve_plan_of, taken_by, two_packets, two_records};
-use crate::model::{place, three_pushed};
+use super::{
+    ALL, FROM_1, client, output, plan_of, rest_of, serve_plan_of, taken_by, two_packets,
+    two_records,
+};
+use crate::live::push;
+use crate::model::three_pushed;
 use mseed_stream::{Counted, Duplex, Sink, write_all_of};
-use slink_feed::{Client, Feed, Mode, Session, Turn, fetch_turn, serve_turn};
+use slink_feed::{Client, Feed, Session, Turn, fetch_turn, serve_turn};
 use slink_links::{fetch, serve};
 use std::alloc::{Allocator, Global};
 use std::cell::Cell;
@@ -97,9 +101,9 @@ ERROR\r\nOK\r\nOK\r\nERROR\r\n";
 /// All that is sent for those lines: the replies, and records 1 and 2.
 fn all_sent(rt: &impl Abort, alloc: Global) -> Vec<u8> {
     let mut sent = Vec::new(alloc);
-    sent.extend_from_slice(REPLIES).expect(rt, "memory");
-    sent.extend_from_slice(two_packets(rt, alloc).as_slice().get(8..).unwrap_or(b""))
-        .expect(rt, "memory");
+    push(rt, &mut sent, REPLIES);
+    let packets = two_packets(rt, alloc);
+    push(rt, &mut sent, packets.as_slice().get(8..).unwrap_or(b""));
     sent
 }
 
@@ -122,11 +126,6 @@ fn transcript<N: Net + Clock>(rt: &impl Abort, host: &N, alloc: Global) -> Vec<u
 fn serves_a_transcript(rt: HostRuntime) {
     let read = transcript(&rt, &rt, rt.alloc());
     assert!(rt; read.as_slice() == all_sent(&rt, rt.alloc()).as_slice());
-}
-
-/// A client that holds record 0.
-fn client(rt: &impl Abort) -> Client {
-    Client::new(&[(place(rt, b"STA"), Some(1))], Mode::Fetch)
 }
 
 /// The records that are fetched from a host; none where the fetch ends otherwise than it should.
@@ -152,15 +151,12 @@ fn fetched<N: Net + Clock>(
     (both.read(rt, alloc), held)
 }
 
-/// What the server takes.
-const ASKED: &[u8] = b"STATION STA XX\r\nFETCH 000001\r\nEND\r\n";
-
 #[test]
 fn fetches_over_tcp(rt: HostRuntime) {
     let packets = two_packets(&rt, rt.alloc());
     let wanted = two_records(&rt, rt.alloc());
     let (said, held) = fetched(&rt, &rt, rt.alloc(), packets.as_slice());
-    assert!(rt; said.as_slice() == ASKED && held.as_slice() == wanted.as_slice());
+    assert!(rt; said.as_slice() == FROM_1 && held.as_slice() == wanted.as_slice());
 }
 
 /// A new session, which can be served from a feed.

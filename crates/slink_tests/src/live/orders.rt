@@ -1,11 +1,11 @@
 //! What links are sent of several stations, by orders chosen at random: each byte, in its turn, and each link that is
 //! closed. The digests are those of a server that asks the session of a link again for each packet, and of one that
 //! first asks it whether anything is due: both sent the same.
-ghost use Rattle.std.specs.Prelude.{◌≡◌, ◌≢◌, ◌≤◌, ◌^◌, [], length, true};
+ghost use Rattle.std.specs.Prelude.{◌≡◌, ◌≤◌, ◌^◌, [], length, true};
 ghost use Rattle.std.specs.List.{AllByRecursion};
 ghost use Rattle.slink_live.specs.Served.{IsSound};
 
-use super::copy;
+use super::{copy, record};
 use crate::noise::Noise;
 use slink_feed::{Feed, Ring};
 use slink_live::{Event, Interest, Log, Ready, Server};
@@ -156,23 +156,6 @@ impl Order {
         self.said[slot] = said.saturating_add(count);
         count
     }
-}
-
-/// A record of 512 bytes of the network XX.
-fn blank() -> [u8; 512] {
-    let mut bytes = [0; 512];
-    bytes[..20].copy_from_slice(b"000001D AAA  00BHZXX");
-    bytes[20..24].copy_from_slice(&[7, 232, 0, 1]);
-    bytes[44..56].copy_from_slice(&[0, 64, 0, 48, 3, 232, 0, 0, 10, 1, 9, 0]);
-    bytes
-}
-
-/// A record of a station in the network XX, with its number.
-fn record(station: &[u8; 3], number: u32) -> [u8; 512] {
-    let mut bytes = blank();
-    bytes[8..11].copy_from_slice(station);
-    bytes[508..].copy_from_slice(&number.to_be_bytes());
-    bytes
 }
 
 impl Ready for Order {

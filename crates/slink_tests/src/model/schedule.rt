@@ -45,37 +45,31 @@ fn records() -> [[u8; 512]; 3] {
     ]
 }
 
+/// Adds steps to a schedule.
+fn add(rt: &impl Abort, steps: &mut Vec<Step>, more: &[Step]) {
+    steps.extend_from_slice(more).expect(rt, "memory")
+}
+
 /// The first record is pushed, and comes whole.
 fn one_comes(rt: &impl Abort, alloc: Global, records: &[[u8; 512]; 3]) -> Vec<Step> {
     let mut steps = Vec::new(alloc);
-    steps.push(Step::Append(0, records[0])).expect(rt, "memory");
-    steps.extend_from_slice(&SHAKE).expect(rt, "memory");
-    steps
-        .extend_from_slice(&[Step::Send(0), Step::ToClient(520)])
-        .expect(rt, "memory");
+    add(rt, &mut steps, &[Step::Append(0, records[0])]);
+    add(rt, &mut steps, &SHAKE);
+    add(rt, &mut steps, &[Step::Send(0), Step::ToClient(520)]);
     steps
 }
 
 /// Two more are pushed.
 fn two_are_pushed(rt: &impl Abort, steps: &mut Vec<Step>, records: &[[u8; 512]; 3]) {
-    steps
-        .extend_from_slice(&[Step::Append(0, records[1]), Step::Append(0, records[2])])
-        .expect(rt, "memory")
-}
-
-/// The next packet comes but for its last byte.
-fn is_cut(rt: &impl Abort, steps: &mut Vec<Step>) {
-    steps
-        .extend_from_slice(&[Step::Send(0), Step::ToClient(519), Step::Cut])
-        .expect(rt, "memory")
+    let both = [Step::Append(0, records[1]), Step::Append(0, records[2])];
+    add(rt, steps, &both)
 }
 
 /// Two packets come over a new link.
 fn two_come(rt: &impl Abort, steps: &mut Vec<Step>) {
-    steps.extend_from_slice(&SHAKE).expect(rt, "memory");
-    steps
-        .extend_from_slice(&[Step::Send(0), Step::Send(0), Step::ToClient(1040)])
-        .expect(rt, "memory")
+    add(rt, steps, &SHAKE);
+    let both = [Step::Send(0), Step::Send(0), Step::ToClient(1040)];
+    add(rt, steps, &both)
 }
 
 /// Whether a client holds these records after these steps, and wants this number next.
@@ -98,7 +92,8 @@ fn goes_on(
     records: &[[u8; 512]; 3],
 ) -> bool {
     two_are_pushed(rt, steps, records);
-    is_cut(rt, steps);
+    // The next packet comes but for its last byte.
+    add(rt, steps, &[Step::Send(0), Step::ToClient(519), Step::Cut]);
     let is_well = holds(rt, alloc, steps, &records[..1], 1);
     two_come(rt, steps);
     is_well && holds(rt, alloc, steps, records, 3) && was_pushed(rt, alloc, steps, records)
@@ -125,22 +120,18 @@ const TURNS: [(bool, usize); 6] = [
 /// The first so many bytes of these turns come, and the link is cut.
 fn cut_after(rt: &impl Abort, steps: &mut Vec<Step>, count: usize) {
     let mut left = count;
-    steps.push(Step::Connect).expect(rt, "memory");
+    add(rt, steps, &[Step::Connect]);
     for (to_server, length) in TURNS {
         let some = left.min(length);
         left -= some;
-        steps
-            .extend_from_slice(&[Step::Send(0), Step::Send(0)])
-            .expect(rt, "memory");
-        steps
-            .push(if to_server {
-                Step::ToServer(some)
-            } else {
-                Step::ToClient(some)
-            })
-            .expect(rt, "memory");
+        let comes = if to_server {
+            Step::ToServer(some)
+        } else {
+            Step::ToClient(some)
+        };
+        add(rt, steps, &[Step::Send(0), Step::Send(0), comes]);
     }
-    steps.push(Step::Cut).expect(rt, "memory")
+    add(rt, steps, &[Step::Cut])
 }
 
 /// The steps of a link that is cut after so many bytes, and of one that goes on.
@@ -162,9 +153,7 @@ fn goes_on_wherever_a_link_is_cut(rt: HostRuntime) {
     let records = records();
     for count in 0..1083 {
         let steps = cut_and_gone_on(&rt, rt.alloc(), &records, count);
-        assert!(rt;
-            holds(&rt, rt.alloc(), &steps, &records, 3),
-            "cut after {count} bytes"
-        );
+        let goes_on = holds(&rt, rt.alloc(), &steps, &records, 3);
+        assert!(rt; goes_on, "cut after {count} bytes");
     }
 }

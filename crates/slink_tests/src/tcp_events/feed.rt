@@ -27,38 +27,32 @@ pub(crate) struct Feed {
 }
 
 impl Feed {
-    /// The feed of a file.
-    pub(crate) fn of_file(left: u32, fails: bool) -> (Feed, Input) {
-        let feed = Feed {
-            pipe: None,
+    /// The feed of a pipe with this other end, or of a file.
+    fn new(pipe: Option<UnixStream>, left: u32, fails: bool) -> Feed {
+        let is_file = pipe.is_none();
+        Feed {
+            pipe,
             left,
-            is_file: true,
+            is_file,
             fails,
             written: 0,
             brought: 0,
             has_ended: false,
             is_told: false,
             is_left: false,
-        };
-        (feed, Input::File { left, fails })
+        }
+    }
+
+    /// The feed of a file.
+    pub(crate) fn of_file(left: u32, fails: bool) -> (Feed, Input) {
+        (Feed::new(None, left, fails), Input::File { left, fails })
     }
 
     /// The feed of a pipe.
     pub(crate) fn of_pipe(near: UnixStream, far: UnixStream) -> (Feed, Input) {
         let _ = near.set_nonblocking(true);
         let _ = far.set_nonblocking(true);
-        let feed = Feed {
-            pipe: Some(near),
-            left: 0,
-            is_file: false,
-            fails: false,
-            written: 0,
-            brought: 0,
-            has_ended: false,
-            is_told: false,
-            is_left: false,
-        };
-        (feed, Input::Pipe(far))
+        (Feed::new(Some(near), 0, false), Input::Pipe(far))
     }
 
     /// Writes so many bytes to a pipe.
