@@ -275,6 +275,7 @@ fn more_at(number: u128, bytes: &[u8]) -> Option<(u128, &[u8])>
 }
 
 /// A number with one more digit, if it fits.
+#[inline(always)]
 fn longer(number: u128, digit: u8) -> Option<u128>
     ensures some { IfSome result (λ n. n ≡ 10 * number + digit) }
     ensures none { IfNone result (2 ^ 128 ≤ 10 * number + digit) }
