@@ -33,8 +33,8 @@ pub fn refuse_to_repack<E: Sink>(errors: &mut E, fault: &RepackFault) -> u8
     }
 }
 
-/// Reports why an archive wasn't packed anew by stretches, and returns the exit status, as [`refuse_to_repack`] does; but
-/// of a channel that can't be packed it says which stretch.
+/// Reports why an archive wasn't packed anew by stretches, and returns the exit status, as [`refuse_to_repack`] does;
+/// but of a channel that can't be packed it says which stretch.
 pub fn refuse_to_stretch<E: Sink>(errors: &mut E, fault: &RepackFault) -> u8
     ensures status { result ≡ refusal_status fault.now }
     ensures reported { WritesLine (stretches_text fault.now) (E.written errors.old) (E.written errors.new) }
