@@ -18,8 +18,10 @@ fn ratio_at(bytes: &[u8]) -> Option<(Ratio, &[u8])>
     let (num, rest) = number_at(1 << 30, bytes)?;
     let rest = after(b"/", rest)?;
     let (den, rest) = number_at(1 << 30, rest)?;
-    let ratio = Ratio::new(num as u32, den as u32)?;
-    Some((ratio, rest))
+    match Ratio::new(num as u32, den as u32) {
+        Some(ratio) => Some((ratio, rest)),
+        None => None,
+    }
 }
 
 /// A record's start, and the bytes after it.
@@ -28,8 +30,10 @@ fn start_at(bytes: &[u8]) -> Option<(Micros, &[u8])>
     ensures { option_map (λ x. (x.0, x.1.now)) result ≡ start_at bytes.now }
 {
     let (start, rest) = integer_at(5_364_662_400_000_000, 7_258_118_399_999_999, bytes)?;
-    let start = Micros::new(start)?;
-    Some((start, rest))
+    match Micros::new(start) {
+        Some(start) => Some((start, rest)),
+        None => None,
+    }
 }
 
 /// The leap seconds that a record carries, and the bytes after them.
@@ -64,18 +68,18 @@ fn some_head_at(bytes: &[u8]) -> Option<(Head, &[u8])>
         return None;
     };
     let rest = after(b" ", rest)?;
-    let Some((rate, rest)) = ratio_at(rest) else {
-        return None;
-    };
-    Some((
-        Head {
-            number,
-            offset,
-            start,
-            rate,
-        },
-        rest,
-    ))
+    match ratio_at(rest) {
+        Some((rate, rest)) => Some((
+            Head {
+                number,
+                offset,
+                start,
+                rate,
+            },
+            rest,
+        )),
+        None => None,
+    }
 }
 
 /// How a channel begins, or `none`, and the bytes after it.

@@ -211,12 +211,18 @@ impl<A: Allocator + Copy> Joint<A> {
     {
         joined_in_turn();
         joining_laws();
-        self.place = Place::Channels(Some(codes));
-        if let Some(_) = self.so_far.end {
-            return Ok(Reported::Nothing);
+        match self.so_far.end {
+            Some(_) => {
+                self.place = Place::Channels(Some(codes));
+                return Ok(Reported::Nothing);
+            }
+            None => {}
         }
         match self.so_far.part.add_channel(codes, channel) {
-            Ok(found) => Ok(reported_of(codes, channel, found)),
+            Ok(found) => {
+                self.place = Place::Channels(Some(codes));
+                Ok(reported_of(codes, channel, found))
+            }
             Err(JoinFault::Limit) => Err(LineFault::Bad),
             Err(JoinFault::Memory) => Err(LineFault::Memory),
         }

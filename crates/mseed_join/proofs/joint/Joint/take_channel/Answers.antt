@@ -13,12 +13,12 @@ pub returns-in-Ok : goal.returns-in-Ok
 returns-in-Ok g c =
     let found = c.in-Ok.ensures.border in
     channel_added c.joined_in_turn.ensures.channel c.joining_laws.ensures.one c.args.self.now _ c.reported_of.result
-    c.reported_of.ensures.passed c.in_default.is c.args.codes c.args.channel.now
+    c.reported_of.ensures.passed c.in-None.is c.args.codes c.args.channel.now
     (c.reported_of.ensures.border
     ∙ ap (λ (o : Option Finding). border_at c.args.codes (head_in c.args.channel.now.findings) o) found)
     c.in-Ok.ensures.joined c.in-Ok.ensures.fits refl refl
 
 pub returns-in-Err-Limit : goal.returns-in-Err-Limit
 returns-in-Err-Limit g c =
-    channel_refused c.joining_laws.ensures.one c.args.self.now c.in_default.is c.args.codes c.args.channel.now
+    channel_refused c.joining_laws.ensures.one c.args.self.now c.in-None.is c.args.codes c.args.channel.now
     (c.in-Err-Limit.ensures.limit (ap (λ (e : JoinFault). Err e) c.in-Err-Limit.field-0-is))
