@@ -6,8 +6,8 @@ use crate::select::selector_of;
 use mseed_pack::Options;
 use mseed_record::RecordView;
 use mseed_repack::{
-    ChannelFault, Left, RepackFault, repack_channel, repack_selected,
-    repack_selected_stretches, repack_stretches,
+    ChannelFault, Left, RepackFault, repack_channel, repack_selected, repack_selected_stretches,
+    repack_stretches,
 };
 use mseed_stream::{Counted, StreamFault};
 use std::alloc::Global;
