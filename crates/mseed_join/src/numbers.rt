@@ -1,5 +1,5 @@
 //! Words and numbers at the start of a text.
-ghost use Rattle.std.specs.Prelude.{◌≡◌, ◌≢◌, ◌+◌, ◌-◌, ◌*◌, ◌≤◌, ◌<◌, ◌^◌, ℕ, IfSome, IfNone, pos, neg_ℤ};
+ghost use Rattle.std.specs.Prelude.{◌≡◌, ◌≢◌, ◌+◌, ◌-◌, ◌*◌, ◌≤◌, ◌<◌, ◌^◌, ℕ, IfSome, IfNone, nat_le, pos, neg_ℤ};
 ghost use Rattle.std.specs.Prelude.{◌≤ℤ◌, drop, get_or, length, true, false};
 ghost use Rattle.std.specs.Option.{option_map};
 ghost use Rattle.mseed_join.specs.private.Reading.{after, number_after, number_at, integer_at, more_at, is_digit};
@@ -189,56 +189,119 @@ fn digits_one_by_one(bytes: &[u8]) -> usize
     count
 }
 
-/// As [`number_after`], of a number that may be larger.
-pub(crate) fn wide_after<'a, const N: usize>(
-    word: &[u8; N],
-    bytes: &'a [u8],
-) -> Option<(u128, &'a [u8])>
-    ensures { option_map (λ x. (x.0, x.1.now)) result ≡ number_after word.now (2 ^ 128 - 1) bytes.now }
-{
-    let rest = after(word, bytes)?;
-    wide_at(rest)
-}
-
-/// As [`number_at`], of a number that may be larger.
-#[tactic(auto, unfolding(crate::specs::private::Reading::number_at))]
-fn wide_at(bytes: &[u8]) -> Option<(u128, &[u8])>
-    ensures { option_map (λ x. (x.0, x.1.now)) result ≡ number_at (2 ^ 128 - 1) bytes.now }
-{
-    match bytes {
-        [] => None,
-        [first, rest @ ..] => {
-            if *first == b'0' {
-                return Some((0, rest));
-            }
-            if !is_digit(*first) {
-                return None;
-            }
-            further_at(u128::MAX, u64::from(*first - b'0'), rest)
-        }
-    }
-}
-
 /// A number that begins with these seventeen digits, if it is at most so large, and the bytes after it.
 #[cold]
 fn long_at(largest: u64, number: u64, bytes: &[u8]) -> Option<(u64, &[u8])>
     ensures value { option_map (λ x. (x.0, x.1.now)) result ≡ within largest (more_at number bytes.now) }
     ensures bounded { IfSome result (λ x. x.0 ≤ largest) }
 {
-    match further_at(u128::from(largest), number, bytes) {
-        Some((number, rest)) => Some((number as u64, rest)),
-        None => None,
+    further_at(largest, number, bytes)
+}
+
+/// As [`number_at`], of a number that may be larger.
+pub(crate) fn wide_at(bytes: &[u8]) -> Option<(u128, &[u8])>
+    ensures { option_map (λ x. (x.0, x.1.now)) result ≡ number_at (2 ^ 128 - 1) bytes.now }
+{
+    spelled_at(u128::MAX, bytes)
+}
+
+/// A number that is read digit by digit.
+trait Spelled: Copy {
+    // The number.
+    ghost value: { Self → ℕ };
+
+    // No number of the type is as large.
+    ghost limit: { ℕ };
+
+    /// The number of one digit.
+    fn of(digit: u8) -> Self
+        ensures { value result ≡ digit };
+
+    /// The number with one more digit, if it fits.
+    fn with_digit(self, digit: u8) -> Option<Self>
+        requires { digit < 10 }
+        ensures some { IfSome result (λ n. value n ≡ 10 * value self + digit) }
+        ensures none { IfNone result (limit ≤ 10 * value self + digit) };
+
+    /// Whether the number is no larger.
+    fn is_within(self, largest: Self) -> bool
+        ensures { result ≡ nat_le (value self) (value largest) };
+}
+
+impl Spelled for u64 {
+    ghost value = { λ n. n };
+
+    ghost limit = { 2 ^ 64 };
+
+    fn of(digit: u8) -> Self {
+        u64::from(digit)
+    }
+
+    fn with_digit(self, digit: u8) -> Option<Self> {
+        self.checked_mul(10)?.checked_add(u64::from(digit))
+    }
+
+    fn is_within(self, largest: Self) -> bool {
+        self <= largest
     }
 }
 
-/// A number with its further digits, if it is at most so large, and the bytes after it.
-fn further_at(largest: u128, number: u64, bytes: &[u8]) -> Option<(u128, &[u8])>
-    ensures value { option_map (λ x. (x.0, x.1.now)) result ≡ within largest (more_at number bytes.now) }
-    ensures bounded { IfSome result (λ x. x.0 ≤ largest) }
+impl Spelled for u128 {
+    ghost value = { λ n. n };
+
+    ghost limit = { 2 ^ 128 };
+
+    fn of(digit: u8) -> Self {
+        u128::from(digit)
+    }
+
+    fn with_digit(self, digit: u8) -> Option<Self> {
+        self.checked_mul(10)?.checked_add(u128::from(digit))
+    }
+
+    fn is_within(self, largest: Self) -> bool {
+        self <= largest
+    }
+}
+
+#[inline(always)]
+fn is_digit(byte: u8) -> bool
+    ensures { result ≡ is_digit byte }
 {
-    match more_at(u128::from(number), bytes) {
+    byte >= b'0' && byte <= b'9'
+}
+
+/// A number that is at most so large, without leading zeros, and the bytes after it.
+#[tactic(auto, unfolding(crate::specs::private::Reading::number_at))]
+fn spelled_at<N: Spelled>(largest: N, bytes: &[u8]) -> Option<(N, &[u8])>
+    requires { N.value largest < N.limit }
+    ensures value { option_map (λ x. (N.value x.0, x.1.now)) result ≡ number_at (N.value largest) bytes.now }
+    ensures bounded { IfSome result (λ x. N.value x.0 ≤ N.value largest) }
+{
+    match bytes {
+        [] => None,
+        [first, rest @ ..] => {
+            if *first == b'0' {
+                return Some((N::of(0), rest));
+            }
+            if !is_digit(*first) {
+                return None;
+            }
+            further_at(largest, N::of(*first - b'0'), rest)
+        }
+    }
+}
+
+/// The number with its further digits, if it is at most so large, and the bytes after it.
+fn further_at<N: Spelled>(largest: N, number: N, bytes: &[u8]) -> Option<(N, &[u8])>
+    requires { N.value largest < N.limit }
+    ensures value { option_map (λ x. (N.value x.0, x.1.now)) result
+        ≡ within (N.value largest) (more_at (N.value number) bytes.now) }
+    ensures bounded { IfSome result (λ x. N.value x.0 ≤ N.value largest) }
+{
+    match more_at(number, bytes) {
         Some((number, rest)) => {
-            if number <= largest {
+            if number.is_within(largest) {
                 Some((number, rest))
             } else {
                 None
@@ -249,9 +312,9 @@ fn further_at(largest: u128, number: u64, bytes: &[u8]) -> Option<(u128, &[u8])>
 }
 
 /// Further digits of a number; nothing where it doesn't fit.
-fn more_at(number: u128, bytes: &[u8]) -> Option<(u128, &[u8])>
-    ensures some { IfSome result (λ x. (x.0, x.1.now) ≡ more_at number bytes.now) }
-    ensures none { IfNone result (2 ^ 128 ≤ (more_at number bytes.now).0) }
+fn more_at<N: Spelled>(number: N, bytes: &[u8]) -> Option<(N, &[u8])>
+    ensures some { IfSome result (λ x. (N.value x.0, x.1.now) ≡ more_at (N.value number) bytes.now) }
+    ensures none { IfNone result (N.limit ≤ (more_at (N.value number) bytes.now).0) }
 {
     let mut number = number;
     let mut rest = bytes;
@@ -262,7 +325,7 @@ fn more_at(number: u128, bytes: &[u8]) -> Option<(u128, &[u8])>
                 if !is_digit(*digit) {
                     return Some((number, rest));
                 }
-                match longer(number, *digit - b'0') {
+                match number.with_digit(*digit - b'0') {
                     Some(more) => {
                         number = more;
                         rest = others;
@@ -272,22 +335,6 @@ fn more_at(number: u128, bytes: &[u8]) -> Option<(u128, &[u8])>
             }
         }
     }
-}
-
-/// A number with one more digit, if it fits.
-#[inline(always)]
-fn longer(number: u128, digit: u8) -> Option<u128>
-    ensures some { IfSome result (λ n. n ≡ 10 * number + digit) }
-    ensures none { IfNone result (2 ^ 128 ≤ 10 * number + digit) }
-{
-    number.checked_mul(10)?.checked_add(u128::from(digit))
-}
-
-#[inline(always)]
-fn is_digit(byte: u8) -> bool
-    ensures { result ≡ is_digit byte }
-{
-    byte >= b'0' && byte <= b'9'
 }
 
 /// A number that is at most so large, or `-` and one that isn't 0 and at most so large, and the bytes after it.

@@ -1,10 +1,10 @@
 //! Why a record has a finding, and why a stream ends with a fault.
-ghost use Rattle.std.specs.Prelude.{◌≡◌};
+ghost use Rattle.std.specs.Prelude.{◌≡◌, ◌-◌, ◌^◌};
 ghost use Rattle.std.specs.Option.{option_map};
 ghost use Rattle.mseed_join.specs.private.Reading.{time_at, bad_word_at, last_differs_at, read_fault_at, timed_at};
-ghost use Rattle.mseed_join.specs.private.Reading.{why_at, frame_fault_at, stream_fault_at, sample_at};
+ghost use Rattle.mseed_join.specs.private.Reading.{why_at, frame_fault_at, stream_fault_at, sample_at, number_after};
 
-use crate::numbers::{LIMIT, after, integer_at, number_after, wide_after};
+use crate::numbers::{LIMIT, after, integer_at, number_after, wide_at};
 use mseed_audit::Why;
 use mseed_record::FrameFault;
 use mseed_steim::ReadFault;
@@ -101,15 +101,23 @@ fn timed_at(bytes: &[u8]) -> Option<(Why, &[u8])>
     Some((Why::Time(fault), rest))
 }
 
+/// So many microseconds after a word, and the bytes after them.
+fn micros_at<'a, const N: usize>(word: &[u8; N], bytes: &'a [u8]) -> Option<(u128, &'a [u8])>
+    ensures { option_map (λ x. (x.0, x.1.now)) result ≡ number_after word.now (2 ^ 128 - 1) bytes.now }
+{
+    let rest = after(word, bytes)?;
+    wide_at(rest)
+}
+
 /// What is found of a record, and the bytes after it.
 #[tactic(auto, unfolding(crate::specs::private::Reading::why_at))]
 pub(crate) fn why_at(bytes: &[u8]) -> Option<(Why, &[u8])>
     ensures { option_map (λ x. (x.0, x.1.now)) result ≡ why_at bytes.now }
 {
-    if let Some((micros, rest)) = wide_after(b"gap ", bytes) {
+    if let Some((micros, rest)) = micros_at(b"gap ", bytes) {
         return Some((Why::Gap(micros), rest));
     }
-    if let Some((micros, rest)) = wide_after(b"overlap ", bytes) {
+    if let Some((micros, rest)) = micros_at(b"overlap ", bytes) {
         return Some((Why::Overlap(micros), rest));
     }
     if let Some(rest) = after(b"ratechange", bytes) {
