@@ -12,8 +12,8 @@ use Rattle.mseed_steim.specs.declared.scheme.Scheme.TheVariants.{One, Two}
 use Rattle.mseed_steim.specs.declared.row.Row.{Row}
 use Rattle.mseed_steim.specs.Spelling.{IsWithin}
 use Rattle.mseed_steim.specs.Packing.{CanSpell}
-use Rattle.mseed_steim.specs.private.Rows.{row_for, row_with, size_limit, IsBestRow}
-use Rattle.mseed_steim.proofs.Rows.{FitsRow, narrower_by, spelled_fits, row_is, within_wider}
+use Rattle.mseed_steim.specs.private.Rows.{row_for, size_limit, IsBestRow, IsWide}
+use Rattle.mseed_steim.proofs.Rows.{FitsRow, pair_wider, spelled_fits, row_is, within_wider}
 
 max_by : (t e : Bool) (a b : ℕ) → ltb b a ≡ t → cond (is_lt (cond t Less (cond e Equal Greater))) a b ≡ cond t a b
 max_by true e a b h = refl
@@ -141,16 +141,14 @@ best_all s ds i o over less best =
     let is = row_is s k fits.0 fits.1.0 in
     omega (arith, is.0.most, is.1, seven)) best
 
--- where the first difference has more than 15 bits, no word of Steim-2 takes another beside it
-pub wide_alone : (ds : List ℤ) (k : ℕ) → 1 < k → k ≤ length ds → ¬ (IsWithin 15 (get_or ds 0 (pos 0)))
-    → ¬ (CanSpell Two (take k ds))
-wide_alone ds k some inside wide can =
-    let fits = prefix_fits Two ds k (omega (arith, some)) inside can in
-    let two = narrower_by k 2 fits.0 (omega arith) (omega (arith, some)) fits.1.0 in
-    let same : row_with 2 2 2 15 ≡ two.0 = cc in
-    let fifteen : fits.0.width ≤ 15 = subst (λ (x : Row). fits.0.width ≤ x.width) (sym same) two.1.1 in
+-- no word takes another difference beside a wide one
+pub wide_alone : (s : Scheme) (ds : List ℤ) (k : ℕ) → 1 < k → k ≤ length ds → IsWide s (get_or ds 0 (pos 0))
+    → ¬ (CanSpell s (take k ds))
+wide_alone s ds k some inside wide can =
+    let fits = prefix_fits s ds k (omega (arith, some)) inside can in
+    let two = pair_wider s k fits.0 some fits.1.0 in
     let long : length (take k ds) ≡ k = length-take-le k ds inside in
     let first : IsWithin fits.0.width (get_or ds 0 (pos 0)) =
     rw (get_or-take k ds 0 (pos 0) (omega (arith, some))) at
     (All-get_or (IsWithin fits.0.width) (take k ds) 0 (pos 0) (omega (arith, long, some)) fits.1.1) in
-    wide (within_wider fits.0.width 15 (get_or ds 0 (pos 0)) fifteen first)
+    wide two.0 two.1.0 (within_wider fits.0.width two.0.width (get_or ds 0 (pos 0)) two.1.1 first)

@@ -33,6 +33,7 @@ pub mod Joins
 pub mod Halves
 pub mod Fullest
 pub mod Packs
+pub mod Firsts
 pub mod Fewest
 pub mod Written
 pub mod Filling
@@ -40,6 +41,7 @@ pub mod Sizes
 pub mod Layouts
 pub mod Held
 pub mod Lookaheads
+pub mod Wrapped
 pub mod Coding
 pub mod OnePacking
 pub mod Widened

@@ -8,11 +8,11 @@ use Rattle.mseed_steim.specs.declared.ahead.Lookahead.{Lookahead}
 use Rattle.mseed_steim.specs.declared.scheme.Scheme.{Scheme}
 use Rattle.mseed_steim.specs.declared.scheme.Scheme.TheVariants.{Two}
 use Rattle.mseed_steim.specs.private.Four.{known_from}
-use Rattle.mseed_steim.specs.Lookahead.{IsAhead, AreCut, IsCut, IsLookahead, taken}
+use Rattle.mseed_steim.specs.Lookahead.{IsAhead, AreCut, AreSame, IsCut, IsLookahead, taken}
 use Rattle.mseed_steim.specs.Packing.{CanSpell}
 use Rattle.mseed_steim.specs.Spelling.{IsWithin}
 use Rattle.mseed_steim.proofs.Fullest.{prefix_fits}
-use Rattle.mseed_steim.proofs.Held.{taken_some}
+use Rattle.mseed_steim.proofs.Held.{cut_from, taken_some}
 use Rattle.mseed_steim.proofs.Rows.{row_is}
 
 abbrev pub known_at : List ℕ → List ℤ → ℕ → Lookahead
@@ -39,6 +39,20 @@ known_none s ds cut place h = record {
   none = λ i low h. zero_at 144 i;
   cut = λ i l. let none = zero_at 144 (i + place) in uncut s (drop i ds) (drop (i + place) cut) _ (omega (arith, none));
 }
+
+-- what is found ahead is kept from the first place on
+pub known_all : (s : Scheme) (ds : List ℤ) (most : List ℕ) (cut : List ℤ) → length cut ≡ 128
+    → ((i : ℕ) → i < 144 → IsAhead s (drop i ds) (get_or most i 0))
+    → ((i : ℕ) → 121 ≤ i → i < 144 → get_or most i 0 ≡ 0) → (s ≡ Two → AreSame 128 ds cut)
+    → IsLookahead s (known_at most cut 0) ds
+known_all s ds most cut long ahead none same =
+    let at : (i : ℕ) → i ≡ i + 0 = λ i. omega arith in record {
+      place = omega arith;
+      ahead = λ i h. subst (λ (n : ℕ). IsAhead s (drop i ds) (get_or most n 0)) (at i) (ahead i (omega (arith, h)));
+      none = none;
+      cut = λ i h. subst (λ (n : ℕ). IsCut s (get_or most n 0) (drop i ds) (drop n cut)) (at i)
+          (cut_from s ds most cut long none same i (omega (arith, h)));
+    }
 
 -- nothing is known of the last places
 pub known_past : (s : Scheme) (known : Lookahead) (ds others : List ℤ) → IsLookahead s known others

@@ -294,6 +294,28 @@ narrower_by (suc k) j r h l e = ⊎_elim
     (λ (same : suc k ≤ j). let one : j ≡ suc k = omega (arith, l, same) in (r, (rw one e, omega arith)))
     (cases_lt j (suc k))
 
+narrow_pair : (k n : ℕ) (r : Row) (more : Option Row) → (1 < n → r.width ≤ 16)
+    → ((q : Row) → more ≡ Some q → q.width ≤ 16) → 1 < k → (q : Row) → cond (eqb k n) (Some r) more ≡ Some q
+    → q.width ≤ 16
+narrow_pair k n r more narrow rest some =
+    cond_both (eqb k n) (Some r) more (λ (o : Option Row). (q : Row) → o ≡ Some q → q.width ≤ 16)
+    (λ e. λ q p. let one : r ≡ q = cc in let found : k ≡ n = eqb-true k n e in
+    subst (λ (x : Row). x.width ≤ 16) one (narrow (omega (arith, found, some))))
+    (λ _. rest)
+
+-- a row of two differences or more has no more bits for each than that of two
+pub pair_wider : (s : Scheme) (k : ℕ) (r : Row) → 1 < k → row_for s k ≡ Some r
+    → (w : Row) × ((row_for s 2 ≡ Some w) × (r.width ≤ w.width))
+pair_wider One k r some e = (
+  row_with 2 0 2 16,
+  (
+    refl,
+    narrow_pair k 1 _ _ (λ h. absurd (omega (arith, h))) (λ q p. narrow_pair k 2 _ _ (λ h. omega arith)
+        (λ q p. narrow_pair k 4 _ None (λ h. omega arith) (λ q e. cc) some q p) some q p) some r e,
+  ),
+)
+pair_wider Two k r some e = narrower_by k 2 r (omega arith) (omega (arith, some)) e
+
 pub within_wider : (v w : ℕ) (d : ℤ) → v ≤ w → IsWithin v d → IsWithin w d
 within_wider v w d l h =
     let less : v - 1 ≤ w - 1 = omega (arith, l) in

@@ -22,3 +22,7 @@ within_by z size e = λ w. (λ h. within z w (rw e at h), λ h. rw e (size_withi
 -- a number of 32 bits
 pub fits_within : (z : ℤ) → FitsSigned w32 z → IsWithin 32 z
 fits_within z f = within z 32 (size_small z f)
+
+pub within_fits : (z : ℤ) → IsWithin 32 z → FitsSigned w32 z
+within_fits (pos n) h = let high = h.1 in record { sfits = omega (arith, ints, high) }
+within_fits (negsuc n) h = let low = h.0 in record { sfits = omega (arith, ints, low) }

@@ -11,3 +11,4 @@ pub mod Rows
 pub mod Ahead
 pub mod Four
 pub mod Pushing
+pub mod Wrapped

@@ -6,11 +6,13 @@ ghost use Rattle.std.specs.Simd.Lanes.{Each1};
 ghost use Rattle.mseed_steim.specs.declared.scheme.Scheme.TheVariants.{One, Two};
 ghost use Rattle.mseed_steim.specs.private.Ahead.{near_size, size_of, raised, most_one, most_two, most_with};
 ghost use Rattle.mseed_steim.specs.private.Ahead.{IsMost};
+ghost use Rattle.mseed_steim.specs.private.Wrapped.{between, wrapped_from};
 ghost use Rattle.mseed_steim.specs.Lookahead.{AreSame, IsAhead, IsLookahead};
 ghost use Rattle.mseed_steim.specs.declared.scheme.Scheme.{Scheme};
 ghost use Rattle.mseed_steim.specs.Spelling.{IsWithin};
 
 use crate::lanes::{Rows, look_up};
+use crate::pending::{Listed, Neighbours, Steps, put_wrapped};
 use crate::scheme::Scheme;
 use std::simd::prelude::*;
 
@@ -103,25 +105,26 @@ fn cut_off(difference: i32) -> i16
 
 /// Half the sizes of so many differences.
 #[inline(always)]
-fn put_half_sizes(diffs: &[i32], sizes: &mut [u16; AHEAD])
-    requires { AHEAD ≤ length diffs.now }
-    ensures { (i : ℕ) → i < AHEAD → slice_index sizes.new i ≡ near_size One (slice_index_or diffs.now i (pos 0)) }
+fn put_half_sizes<D: Steps>(diffs: &D, sizes: &mut [u16; AHEAD])
+    requires { AHEAD ≤ length (D.differences diffs.now) }
+    ensures { (i : ℕ) → i < AHEAD
+        → slice_index sizes.new i ≡ near_size One (slice_index_or (D.differences diffs.now) i (pos 0)) }
 {
     for index in 0..AHEAD {
-        sizes[index] = half_size(diffs[index]);
+        sizes[index] = half_size(diffs.at(index));
     }
 }
 
 /// So many differences, cut off at 16 bits.
 #[inline(always)]
-fn put_cut(diffs: &[i32], cut: &mut Cut)
-    requires { AHEAD ≤ length diffs.now }
-    ensures near { (i : ℕ) → i < AHEAD
-        → size_of (slice_index_or cut.new i (pos 0)) ≡ near_size Two (slice_index_or diffs.now i (pos 0)) }
-    ensures same { AreSame AHEAD diffs.now cut.new }
+fn put_cut<D: Steps>(diffs: &D, cut: &mut Cut)
+    requires { AHEAD ≤ length (D.differences diffs.now) }
+    ensures near { (i : ℕ) → i < AHEAD → size_of (slice_index_or cut.new i (pos 0))
+        ≡ near_size Two (slice_index_or (D.differences diffs.now) i (pos 0)) }
+    ensures same { AreSame AHEAD (D.differences diffs.now) cut.new }
 {
     for index in 0..AHEAD {
-        cut[index] = cut_off(diffs[index]);
+        cut[index] = cut_off(diffs.at(index));
     }
 }
 
@@ -181,10 +184,10 @@ fn most_one(sizes: u16x16) -> u8x16
 
 /// The most differences of words that hold two or more, by one of them, in Steim-1.
 #[inline(always)]
-fn put_most_one(diffs: &[i32], most: &mut Most)
-    requires { AHEAD ≤ length diffs.now }
+fn put_most_one<D: Steps>(diffs: &D, most: &mut Most)
+    requires { AHEAD ≤ length (D.differences diffs.now) }
     ensures { (i : ℕ) → i < AHEAD
-        → slice_index most.new i ≡ most_one (near_size One (slice_index_or diffs.now i (pos 0))) }
+        → slice_index most.new i ≡ most_one (near_size One (slice_index_or (D.differences diffs.now) i (pos 0))) }
 {
     let mut sizes = [0; AHEAD];
     put_half_sizes(diffs, &mut sizes);
@@ -209,11 +212,12 @@ fn put_most_two(cut: &Cut, most: &mut Most)
 /// The same of a scheme. In Steim-2 the differences are cut off before anything else, in a loop of their own, so that
 /// sizes are found eight at once.
 #[inline(always)]
-fn put_most(scheme: Scheme, diffs: &[i32], most: &mut Most, cut: &mut Cut)
-    requires { AHEAD ≤ length diffs.now }
+fn put_most<D: Steps>(scheme: Scheme, diffs: &D, most: &mut Most, cut: &mut Cut)
+    requires { AHEAD ≤ length (D.differences diffs.now) }
     ensures most { (i : ℕ) → i < AHEAD
-        → slice_index most.new i ≡ most_with scheme (near_size scheme (slice_index_or diffs.now i (pos 0))) }
-    ensures cut { scheme ≡ Two → AreSame AHEAD diffs.now cut.new }
+        → slice_index most.new i
+        ≡ most_with scheme (near_size scheme (slice_index_or (D.differences diffs.now) i (pos 0))) }
+    ensures cut { scheme ≡ Two → AreSame AHEAD (D.differences diffs.now) cut.new }
 {
     match scheme {
         Scheme::One => put_most_one(diffs, most),
@@ -263,11 +267,11 @@ fn bound(held: &mut Most)
 
 /// The most differences that are held from each of the first 121 places on; nothing is reported of others.
 #[inline(always)]
-fn look_ahead(scheme: Scheme, diffs: &[i32], most: &mut Most, cut: &mut Cut)
-    requires { AHEAD ≤ length diffs.now }
-    ensures ahead { (i : ℕ) → i < ROOM → IsAhead scheme (drop i diffs.now) (slice_index most.new i) }
+fn look_ahead<D: Steps>(scheme: Scheme, diffs: &D, most: &mut Most, cut: &mut Cut)
+    requires { AHEAD ≤ length (D.differences diffs.now) }
+    ensures ahead { (i : ℕ) → i < ROOM → IsAhead scheme (drop i (D.differences diffs.now)) (slice_index most.new i) }
     ensures none { (i : ℕ) → KNOWN ≤ i → i < ROOM → slice_index most.new i ≡ 0 }
-    ensures cut { scheme ≡ Two → AreSame AHEAD diffs.now cut.new }
+    ensures cut { scheme ≡ Two → AreSame AHEAD (D.differences diffs.now) cut.new }
 {
     put_most(scheme, diffs, most, cut);
     bound(most);
@@ -294,7 +298,8 @@ fn look_at_few(scheme: Scheme, diffs: &[i32], most: &mut Most, cut: &mut Cut)
     requires few { length diffs.now < AHEAD }
     ensures { IsLookahead scheme (record { most = most.new; cut = cut.new; place = 0 }) diffs.now }
 {
-    look_ahead(scheme, &padded(diffs), most, cut);
+    let all = padded(diffs);
+    look_ahead(scheme, &Listed { differences: &all }, most, cut);
     for index in diffs.len() - 7..KNOWN {
         most[index] = 0;
     }
@@ -304,14 +309,41 @@ fn look_at_few(scheme: Scheme, diffs: &[i32], most: &mut Most, cut: &mut Cut)
 /// them: at others, where fewer than eight differences are left, and where there are so few that looking at them costs
 /// more than it saves. In Steim-2 those of which anything is known are cut off at 16 bits besides.
 #[inline(never)]
-pub(crate) fn look(scheme: Scheme, diffs: &[i32], most: &mut Most, cut: &mut Cut)
+pub(crate) fn look_at(scheme: Scheme, diffs: &[i32], most: &mut Most, cut: &mut Cut)
     ensures { IsLookahead scheme (record { most = most.new; cut = cut.new; place = 0 }) diffs.now }
 {
     if AHEAD <= diffs.len() {
-        look_ahead(scheme, diffs, most, cut);
+        look_ahead(scheme, &Listed { differences: diffs }, most, cut);
     } else if FEW <= diffs.len() {
         look_at_few(scheme, diffs, most, cut);
     } else {
         *most = [0; ROOM];
     }
+}
+
+/// The same of the differences of samples, as many as are looked at.
+#[inline(never)]
+pub(crate) fn look_at_samples(
+    scheme: Scheme,
+    before: i32,
+    samples: &[i32],
+    most: &mut Most,
+    cut: &mut Cut,
+)
+    ensures { IsLookahead scheme (record { most = most.new; cut = cut.new; place = 0 })
+        (wrapped_from before samples.now) }
+{
+    let count = samples.len().min(AHEAD);
+    let mut diffs = [0; AHEAD];
+    put_wrapped(before, &samples[..count], &mut diffs);
+    look_at(scheme, &diffs[..count], most, cut);
+}
+
+/// The same of the differences between neighbours of a list, as many as are looked at.
+#[inline(never)]
+pub(crate) fn look_at_neighbours(scheme: Scheme, samples: &[i32], most: &mut Most, cut: &mut Cut)
+    requires { AHEAD < length samples.now }
+    ensures { IsLookahead scheme (record { most = most.new; cut = cut.new; place = 0 }) (between samples.now) }
+{
+    look_ahead(scheme, &Neighbours { samples }, most, cut);
 }

@@ -1,9 +1,10 @@
 //! How the rows of the table lay their differences out in a word, and words of them that are joined at once.
 
 ghost use Rattle.std.specs.Prelude.{◌≡◌, ◌*◌, ◌+◌, ◌%◌, ◌^◌, ◌<◌, ◌≤◌, List, ℤ, Some, length, slice_index_or};
-ghost use Rattle.std.specs.Prelude.{[], ◌∷◌, map, take};
+ghost use Rattle.std.specs.Prelude.{[], ◌∷◌, map, take, drop};
 ghost use Rattle.mseed_steim.specs.Lookahead.{AreCut, IsAhead, IsCut, taken};
 ghost use Rattle.mseed_steim.specs.private.Ahead.{IsLayoutOne, IsLayoutTwo, bits_of, paired, size_of};
+ghost use Rattle.mseed_steim.specs.private.Wrapped.{wrapped_from};
 ghost use Rattle.mseed_steim.specs.Packing.{IsFullest};
 ghost use Rattle.mseed_steim.specs.private.Rows.{row_for};
 ghost use Rattle.mseed_steim.specs.Spelling.{positional};
@@ -12,13 +13,14 @@ ghost use Rattle.mseed_steim.specs.declared.row.Row.{Row};
 ghost use Rattle.mseed_steim.specs.declared.scheme.Scheme.TheVariants.{One, Two};
 
 use crate::lanes::sum_of;
+use crate::pending::{Pending, put_wrapped};
 use crate::row::Row;
 use crate::scheme::Scheme;
 use crate::unpack::{LANES, lanes_of};
 use std::simd::prelude::*;
 
 /// How the differences of a row of Steim-1 are joined.
-struct LayoutOne {
+pub(crate) struct LayoutOne {
     /// The bits of one difference, in each lane.
     masks: [u32; LANES],
     /// What each difference counts for; nothing after the last.
@@ -139,7 +141,7 @@ fn layout_two(most: usize) -> &'static LayoutTwo
 /// The first differences of eight or more, as many as a row of Steim-1 has. There is no branch on how many, which the
 /// processor could but guess: as many are joined as any word holds, be they of this one or not.
 #[inline(always)]
-fn join_one(layout: &LayoutOne, diffs: &[i32]) -> u32
+pub(crate) fn join_one(layout: &LayoutOne, diffs: &[i32]) -> u32
     requires eight { 8 ≤ length diffs.now }
     requires layout { IsLayoutOne layout.now }
     ensures { result ≡ positional layout.now.row.width (take layout.now.row.count diffs.now) }
@@ -150,6 +152,19 @@ fn join_one(layout: &LayoutOne, diffs: &[i32]) -> u32
         word = word.wrapping_add(digit.wrapping_mul(layout.places[index]));
     }
     word
+}
+
+/// The same of the differences of samples.
+#[inline(always)]
+pub(crate) fn join_samples(layout: &LayoutOne, before: i32, samples: &[i32]) -> u32
+    requires eight { 8 ≤ length samples.now }
+    requires layout { IsLayoutOne layout.now }
+    ensures { result
+        ≡ positional layout.now.row.width (take layout.now.row.count (wrapped_from before samples.now)) }
+{
+    let mut diffs = [0; LANES];
+    put_wrapped(before, &samples[..lanes_of(Scheme::One)], &mut diffs);
+    join_one(layout, &diffs)
 }
 
 /// The bits of some numbers, of 32 each.
@@ -205,14 +220,14 @@ pub(crate) fn parts_two(most: usize, cut: &[i16]) -> (u32x4, u32)
 
 /// The fullest word of Steim-1, where it is known ahead: its code, its bits and how many differences it takes.
 #[inline(always)]
-fn word_one(most: usize, diffs: &[i32]) -> (u32, u32, usize)
+fn word_one<P: Pending>(most: usize, pending: &P, from: usize) -> (u32, u32, usize)
     requires some { 2 ≤ most }
-    requires ahead { IsAhead One diffs.now most }
-    ensures { IsFullest One diffs.now result.0 result.1 result.2 }
+    requires ahead { IsAhead One (drop from (P.differences pending.now)) most }
+    ensures { IsFullest One (drop from (P.differences pending.now)) result.0 result.1 result.2 }
 {
     let layout = layout_one(most);
     let code = u32::from(layout.row.code);
-    (code, join_one(layout, diffs), taken_one(most))
+    (code, pending.join(from, layout), taken_one(most))
 }
 
 /// How many of so many that are held a word of Steim-1 takes: there is none of three.
@@ -238,19 +253,20 @@ fn word_two(most: usize, cut: &[i16]) -> (u32, u32, usize)
 
 /// The fullest word, where it is known ahead; in Steim-2 by the differences cut off at 16 bits.
 #[inline(always)]
-pub(crate) fn word_ahead(
+pub(crate) fn word_ahead<P: Pending>(
     scheme: Scheme,
     most: usize,
-    diffs: &[i32],
+    pending: &P,
+    from: usize,
     cut: &[i16],
 ) -> (u32, u32, usize)
     requires some { 2 ≤ most }
-    requires ahead { IsAhead scheme diffs.now most }
-    requires cut { IsCut scheme most diffs.now cut.now }
-    ensures { IsFullest scheme diffs.now result.0 result.1 result.2 }
+    requires ahead { IsAhead scheme (drop from (P.differences pending.now)) most }
+    requires cut { IsCut scheme most (drop from (P.differences pending.now)) cut.now }
+    ensures { IsFullest scheme (drop from (P.differences pending.now)) result.0 result.1 result.2 }
 {
     match scheme {
-        Scheme::One => word_one(most, diffs),
+        Scheme::One => word_one(most, pending, from),
         Scheme::Two => word_two(most, cut),
     }
 }

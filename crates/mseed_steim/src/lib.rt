@@ -20,6 +20,7 @@ mod lanes;
 mod law;
 mod layout;
 mod pack;
+mod pending;
 mod read;
 mod ready;
 mod row;
@@ -42,7 +43,8 @@ pub use law::{
     reading_has_count,
 };
 pub use pack::{
-    Packed, TooLarge, TooLargeAt, least_words, pack_word, pack_words, pack_words_ahead,
+    Packed, TooLarge, TooLargeAt, least_words, pack_samples_ahead, pack_word, pack_words,
+    pack_words_ahead,
 };
 pub use read::{fill_differences, fill_samples, is_steim, read_samples};
 pub use scheme::Scheme;

@@ -2,7 +2,7 @@
 
 ghost use Rattle.std.specs.Prelude.{◌≡◌, ◌≢◌, ◌⊎◌, ◌↔◌, ℕ, ◌+◌, ◌-◌, ◌*◌, ◌/◌, ◌%◌, ◌^◌, ◌<◌, ◌≤◌, ◌==◌};
 ghost use Rattle.std.specs.Prelude.{Err, IfErr, IfOk, if◌then◌else◌, nat_lt};
-ghost use Rattle.std.specs.Prelude.{MatchResult, List, ℤ, ◌++◌, length, take, drop};
+ghost use Rattle.std.specs.Prelude.{MatchResult, List, ℤ, ◌++◌, length, take, drop, All};
 ghost use Rattle.std.specs.List.{AllByRecursion};
 ghost use Rattle.mseed_steim.specs.declared.scheme.Scheme.TheVariants.{Two};
 ghost use Rattle.mseed_steim.specs.Lookahead.{IsAhead, IsCut, IsLookahead};
@@ -11,14 +11,18 @@ ghost use Rattle.mseed_steim.specs.Frames.{code_at, data_words, word_at, word_co
 ghost use Rattle.mseed_steim.specs.Packing.{IsEmptyWord, IsFarthest, IsFewest, IsFirstTooLarge, IsFullest};
 ghost use Rattle.mseed_steim.specs.Packing.{IsTooLargeAt, LeavesRoom, PacksRun};
 ghost use Rattle.mseed_steim.specs.Runs.{SpellsRun};
+ghost use Rattle.mseed_steim.specs.Samples.{differences_from};
+ghost use Rattle.mseed_steim.specs.Spelling.{IsWithin};
 ghost use Rattle.mseed_steim.specs.private.Four.{AreFour, AreThree};
+ghost use Rattle.mseed_steim.specs.private.Wrapped.{wrapped_from};
 ghost use Rattle.mseed_steim.specs.private.Pushing.{FillsOn, Filling, HasFrame, IsReached, MovesOn, Pushing};
 
-use crate::ahead::{KNOWN, Lookahead, look};
+use crate::ahead::{KNOWN, Lookahead};
 use crate::data_words::{FRAME, WORD};
 use crate::four::{FOUR, FourWords, THREE, ThreeWords, four_ahead, three_ahead};
 use crate::layout::word_ahead;
-use crate::row::{fullest_row, word_of};
+use crate::pending::{Listed, Pending, Sampled, put_wrapped};
+use crate::row::{MOST, fullest_row, is_wide, word_of};
 use crate::scheme::Scheme;
 use byteorder::{BigEndian, ByteOrder};
 
@@ -63,25 +67,70 @@ pub fn pack_word(scheme: Scheme, diffs: &[i32]) -> Result<(u8, u32, usize), TooL
     }
 }
 
-/// The same word, by the most differences that are held, where two or more are known to be.
+/// The same word of so many of the differences of samples, seven at the most.
 #[inline(always)]
-fn next_word(
+fn pack_first(
+    scheme: Scheme,
+    before: i32,
+    samples: &[i32],
+    count: usize,
+) -> Result<(u8, u32, usize), TooLarge>
+    requires some { 0 < count }
+    requires few { count ≤ MOST }
+    requires inside { count ≤ length samples.now }
+    ensures fullest { IfOk result
+        (λ word. IsFullest scheme (take count (wrapped_from before samples.now)) word.0 word.1 word.2) }
+    ensures refused { MatchResult result (λ _. ¬ (IsTooLargeAt scheme (wrapped_from before samples.now) 0))
+        (λ _. IsTooLargeAt scheme (wrapped_from before samples.now) 0) }
+{
+    let mut diffs = [0; MOST];
+    put_wrapped(before, &samples[..count], &mut diffs);
+    pack_word(scheme, &diffs[..count])
+}
+
+/// The same of all differences of samples: no more of them are written down than a word may take.
+#[inline(always)]
+pub(crate) fn pack_sampled(
+    scheme: Scheme,
+    before: i32,
+    samples: &[i32],
+) -> Result<(u8, u32, usize), TooLarge>
+    requires { 0 < length samples.now }
+    ensures fullest { IfOk result
+        (λ word. IsFullest scheme (wrapped_from before samples.now) word.0 word.1 word.2) }
+    ensures refused { MatchResult result (λ _. ¬ (IsTooLargeAt scheme (wrapped_from before samples.now) 0))
+        (λ _. IsTooLargeAt scheme (wrapped_from before samples.now) 0) }
+{
+    if is_wide(scheme, samples[0].wrapping_sub(before)) {
+        pack_first(scheme, before, samples, 1)
+    } else if samples.len() < MOST {
+        pack_first(scheme, before, samples, samples.len())
+    } else {
+        pack_first(scheme, before, samples, MOST)
+    }
+}
+
+/// The same word, by the most of them that are held, where two or more are known to be.
+#[inline(always)]
+fn next_word<P: Pending>(
     scheme: Scheme,
     most: usize,
-    diffs: &[i32],
+    pending: &P,
+    from: usize,
     cut: &[i16],
 ) -> Result<(u32, u32, usize), TooLarge>
-    requires some { 0 < length diffs.now }
-    requires ahead { IsAhead scheme diffs.now most }
-    requires cut { IsCut scheme most diffs.now cut.now }
-    ensures fullest { IfOk result (λ word. IsFullest scheme diffs.now word.0 word.1 word.2) }
-    ensures refused { MatchResult result (λ _. ¬ (IsTooLargeAt scheme diffs.now 0))
-        (λ _. IsTooLargeAt scheme diffs.now 0) }
+    requires some { from < length (P.differences pending.now) }
+    requires ahead { IsAhead scheme (drop from (P.differences pending.now)) most }
+    requires cut { IsCut scheme most (drop from (P.differences pending.now)) cut.now }
+    ensures fullest { IfOk result
+        (λ word. IsFullest scheme (drop from (P.differences pending.now)) word.0 word.1 word.2) }
+    ensures refused { MatchResult result (λ _. ¬ (IsTooLargeAt scheme (drop from (P.differences pending.now)) 0))
+        (λ _. IsTooLargeAt scheme (drop from (P.differences pending.now)) 0) }
 {
     if 2 <= most {
-        return Ok(word_ahead(scheme, most, diffs, cut));
+        return Ok(word_ahead(scheme, most, pending, from, cut));
     }
-    match pack_word(scheme, diffs) {
+    match pending.word(from, scheme) {
         Ok((code, word, count)) => Ok((u32::from(code), word, count)),
         Err(fault) => Err(fault),
     }
@@ -219,26 +268,27 @@ fn push_known(
 
 /// Fills a frame further by one word, of the next differences.
 #[inline(always)]
-fn push_next(
+fn push_next<P: Pending>(
     scheme: Scheme,
-    diffs: &[i32],
+    pending: &P,
     known: &Lookahead,
     frames: &mut [u8],
     reached: Reached,
 ) -> Result<Reached, TooLargeAt>
     requires room { reached.index < word_count frames.old }
     requires data { reached.index % 16 ≢ 0 }
-    requires some { reached.used < length diffs.now }
+    requires some { reached.used < length (P.differences pending.now) }
+    requires few { reached.used < 2 ^ 63 }
     requires early { reached.place < KNOWN }
-    requires reached { (head : ℕ) × IsReached scheme diffs.now known.now frames.old head reached }
+    requires reached { (head : ℕ) × IsReached scheme (P.differences pending.now) known.now frames.old head reached }
     ensures moves { IfOk result (λ next. next.index ≡ reached.index + 1) }
-    ensures fills { IfOk result (FillsOn scheme diffs.now known.now frames.old reached frames.new) }
-    ensures refused { IfErr result (λ fault. IsFirstTooLarge scheme diffs.now fault.index
-        × LeavesRoom scheme (take fault.index diffs.now) (length (data_words frames.new))) }
+    ensures fills { IfOk result (FillsOn scheme (P.differences pending.now) known.now frames.old reached frames.new) }
+    ensures refused { IfErr result (λ fault. IsFirstTooLarge scheme (P.differences pending.now) fault.index
+        × LeavesRoom scheme (take fault.index (P.differences pending.now)) (length (data_words frames.new))) }
 {
     let held = usize::from(known.most[reached.place]);
-    let rest = &diffs[reached.used..];
-    let Ok((code, word, count)) = next_word(scheme, held, rest, &known.cut[reached.place..]) else {
+    let cut = &known.cut[reached.place..];
+    let Ok((code, word, count)) = next_word(scheme, held, pending, reached.used, cut) else {
         return Err(TooLargeAt {
             index: reached.used,
         });
@@ -253,33 +303,35 @@ fn push_next(
 
 /// Fills a frame further word by word, until it is full, no difference is left, or nothing is known of the next one.
 #[inline(always)]
-fn push_each(
+fn push_each<P: Pending>(
     scheme: Scheme,
-    diffs: &[i32],
+    pending: &P,
     known: &Lookahead,
     frames: &mut [u8],
     end: usize,
     reached: Reached,
 ) -> Result<Reached, TooLargeAt>
     requires frame { HasFrame frames.old end reached }
-    requires reached { (head : ℕ) × IsReached scheme diffs.now known.now frames.old head reached }
+    requires reached { (head : ℕ) × IsReached scheme (P.differences pending.now) known.now frames.old head reached }
     ensures moves { IfOk result (MovesOn end reached) }
-    ensures ended { IfOk result (λ next. (next.index ≡ end) ⊎ ((next.used ≡ length diffs.now) ⊎ (KNOWN ≤ next.place))) }
-    ensures fills { IfOk result (FillsOn scheme diffs.now known.now frames.old reached frames.new) }
-    ensures refused { IfErr result (λ fault. IsFirstTooLarge scheme diffs.now fault.index
-        × LeavesRoom scheme (take fault.index diffs.now) (length (data_words frames.new))) }
+    ensures ended { IfOk result (λ next. (next.index ≡ end)
+        ⊎ ((next.used ≡ length (P.differences pending.now)) ⊎ (KNOWN ≤ next.place))) }
+    ensures fills { IfOk result (FillsOn scheme (P.differences pending.now) known.now frames.old reached frames.new) }
+    ensures refused { IfErr result (λ fault. IsFirstTooLarge scheme (P.differences pending.now) fault.index
+        × LeavesRoom scheme (take fault.index (P.differences pending.now)) (length (data_words frames.new))) }
 {
+    let count = pending.count();
     let mut reached = reached;
     while reached.index < end {
         if known.most[reached.place] < 2 {
-            if reached.used == diffs.len() {
+            if reached.used == count {
                 break;
             }
             if KNOWN <= reached.place {
                 break;
             }
         }
-        match push_next(scheme, diffs, known, frames, reached) {
+        match push_next(scheme, pending, known, frames, reached) {
             Ok(next) => reached = next,
             Err(fault) => return Err(fault),
         }
@@ -306,33 +358,60 @@ fn finish(frames: &mut [u8], head: usize, reached: Reached) -> Packed
     }
 }
 
+/// Looks at the differences that come next, where nothing is known of them.
+#[inline(always)]
+fn look_on<P: Pending>(
+    scheme: Scheme,
+    pending: &P,
+    known: &mut Lookahead,
+    reached: Reached,
+) -> Reached
+    requires { (p : List ℕ) × ((head : ℕ) × IsReached scheme (P.differences pending.now) known.old p head reached) }
+    ensures early { result.place < KNOWN }
+    ensures index { result.index ≡ reached.index }
+    ensures reached { (p : List ℕ) (head : ℕ)
+        → IsReached scheme (P.differences pending.now) known.old p head reached
+        → IsReached scheme (P.differences pending.now) known.new p head result }
+{
+    if reached.place < KNOWN {
+        return reached;
+    }
+    pending.look(reached.used, scheme, &mut known.most, &mut known.cut);
+    Reached {
+        place: 0,
+        ..reached
+    }
+}
+
 /// As [`pack_words_ahead`], for one scheme.
 #[inline(always)]
-fn pack_run(
+fn pack_run<P: Pending>(
     scheme: Scheme,
-    diffs: &[i32],
+    pending: &P,
     known: &mut Lookahead,
     frames: &mut [u8],
 ) -> Result<Packed, TooLargeAt>
     requires some { 0 < length frames.old }
     requires whole { length frames.old % 64 ≡ 0 }
-    requires known { (more : List ℤ) × IsLookahead scheme known.old (diffs.now ++ more) }
-    ensures packed { IsRunPacked scheme diffs.now frames.new result }
-    ensures known { IfOk result (λ p. IsLookahead scheme known.new (drop p.used diffs.now)) }
+    requires known { (more : List ℤ) × IsLookahead scheme known.old (P.differences pending.now ++ more) }
+    ensures packed { IsRunPacked scheme (P.differences pending.now) frames.new result }
+    ensures known { IfOk result (λ p. IsLookahead scheme known.new (drop p.used (P.differences pending.now))) }
 {
     write_word(frames, 1, 0);
     write_word(frames, 2, 0);
+    let count = pending.count();
     let mut head = 0;
     let mut reached = Reached {
         used: 0,
-        place: known.begin(diffs.len()),
+        place: known.begin(count),
         index: 3,
         codes: 0,
     };
     loop {
         let end = head + FRAME;
+        reached = look_on(scheme, pending, known, reached);
         reached = push_known(scheme, known, frames, end, reached);
-        match push_each(scheme, diffs, known, frames, end, reached) {
+        match push_each(scheme, pending, known, frames, end, reached) {
             Ok(next) => reached = next,
             Err(fault) => return Err(fault),
         }
@@ -344,16 +423,33 @@ fn pack_run(
             head = end;
             reached.codes = 0;
             reached.index += 1;
-        } else if reached.used == diffs.len() {
+        } else if reached.used == count {
             break;
-        } else {
-            let rest = &diffs[reached.used..];
-            look(scheme, rest, &mut known.most, &mut known.cut);
-            reached.place = 0;
         }
     }
     known.place = reached.place;
     Ok(finish(frames, head, reached))
+}
+
+/// As [`pack_words_ahead`], of the differences that are to be packed.
+#[inline(always)]
+fn pack_ahead<P: Pending>(
+    scheme: Scheme,
+    pending: &P,
+    known: &mut Lookahead,
+    frames: &mut [u8],
+) -> Result<Packed, TooLargeAt>
+    requires some { 0 < length frames.old }
+    requires whole { length frames.old % 64 ≡ 0 }
+    requires known { (more : List ℤ) × IsLookahead scheme known.old (P.differences pending.now ++ more) }
+    ensures packed { IsRunPacked scheme (P.differences pending.now) frames.new result }
+    ensures known { IfOk result (λ p. IsLookahead scheme known.new (drop p.used (P.differences pending.now))) }
+{
+    // A body for each scheme, with its own table and lanes.
+    match scheme {
+        Scheme::One => pack_run(Scheme::One, pending, known, frames),
+        Scheme::Two => pack_run(Scheme::Two, pending, known, frames),
+    }
 }
 
 /// Packs differences into frames, from the first on: each data word in turn takes the largest number of
@@ -411,11 +507,34 @@ pub fn pack_words_ahead(
     // What is known is known of the differences that weren't used.
     ensures known { IfOk result (λ p. IsLookahead scheme known.new (drop p.used diffs.now)) }
 {
-    // A body for each scheme, with its own table and lanes.
-    match scheme {
-        Scheme::One => pack_run(Scheme::One, diffs, known, frames),
-        Scheme::Two => pack_run(Scheme::Two, diffs, known, frames),
-    }
+    pack_ahead(scheme, &Listed { differences: diffs }, known, frames)
+}
+
+/// Packs the differences of samples, each from the one before it and that of the first from `before`, as
+/// [`pack_words_ahead`] packs a list of them. The next call is given the samples whose differences this one didn't use,
+/// or the first of them, and any number of further ones.
+///
+/// # Errors
+///
+/// `TooLargeAt` as `pack_words` does; what is known then is open.
+pub fn pack_samples_ahead(
+    scheme: Scheme,
+    before: i32,
+    samples: &[i32],
+    known: &mut Lookahead,
+    frames: &mut [u8],
+) -> Result<Packed, TooLargeAt>
+    requires some { 0 < length frames.old }
+    requires whole { length frames.old % 64 ≡ 0 }
+    requires fits { All (IsWithin 32) (differences_from before samples.now) }
+    requires known { (more : List ℤ) × IsLookahead scheme known.old (differences_from before samples.now ++ more) }
+    // What is packed, and what is refused, is what it is by `pack_words` of the differences.
+    ensures packed { IsRunPacked scheme (differences_from before samples.now) frames.new result }
+    // What is known is known of the differences that weren't used.
+    ensures known { IfOk result
+        (λ p. IsLookahead scheme known.new (drop p.used (differences_from before samples.now))) }
+{
+    pack_ahead(scheme, &Sampled { before, samples }, known, frames)
 }
 
 /// The fewest words of Steim-2 that hold the differences, 0 where there are none.

@@ -1,14 +1,14 @@
 //! The rows of the table of groups, by how many differences they have, and the fullest word.
 
 ghost use Rattle.std.specs.Prelude.{◌≡◌, ◌↔◌, ◌+◌, ◌-◌, ◌*◌, ◌^◌, ◌<◌, ◌≤◌, ℕ, length, pos, slice_index_or, take};
-ghost use Rattle.mseed_steim.specs.private.Rows.{row_with, row_for, size_limit, IsBestRow};
+ghost use Rattle.std.specs.Prelude.{IsTrue};
+ghost use Rattle.mseed_steim.specs.private.Rows.{row_with, row_for, size_limit, IsBestRow, IsWide};
 ghost use Rattle.mseed_steim.specs.Spelling.{IsWithin, positional};
-ghost use Rattle.mseed_steim.specs.declared.scheme.Scheme.TheVariants.{Two};
 
 use crate::scheme::Scheme;
 
 /// The most differences that a word holds.
-const MOST: usize = 7;
+pub(crate) const MOST: usize = 7;
 
 /// A row of the table: its code and dnib, how many differences its words hold, and of how many bits each is.
 #[derive(Clone, Copy, Debug, PartialEq, Eq)]
@@ -96,17 +96,25 @@ fn most_held(scheme: Scheme, diffs: &[i32], high: usize) -> usize
     count
 }
 
-/// The same of seven or more in Steim-2. Where the first has more than 15 bits, no word takes another beside it.
+/// Whether a difference has more bits than each of two in a word: so no word takes another beside it.
 #[inline(always)]
-fn most_of_seven(diffs: &[i32]) -> usize
+pub(crate) fn is_wide(scheme: Scheme, difference: i32) -> bool
+    ensures { IsTrue result ↔ IsWide scheme difference }
+{
+    size_of(difference) >= size_limit(scheme, 2)
+}
+
+/// The same of seven or more.
+#[inline(always)]
+fn most_of_seven(scheme: Scheme, diffs: &[i32]) -> usize
     requires { 7 ≤ length diffs.now }
-    ensures best { IsBestRow Two diffs.now 7 (row_for Two result) }
+    ensures best { IsBestRow scheme diffs.now 7 (row_for scheme result) }
     ensures fits { IsWithin 32 (slice_index_or diffs.now 0 (pos 0)) }
 {
-    if size_of(diffs[0]) < 1 << 14 {
-        most_held(Scheme::Two, diffs, MOST)
+    if is_wide(scheme, diffs[0]) {
+        most_held(scheme, diffs, 1)
     } else {
-        most_held(Scheme::Two, diffs, 1)
+        most_held(scheme, diffs, MOST)
     }
 }
 
@@ -121,8 +129,8 @@ pub(crate) fn fullest_row(scheme: Scheme, diffs: &[i32]) -> Option<Row>
     } else {
         // A body for each scheme, of a known number of turns.
         match scheme {
-            Scheme::One => most_held(Scheme::One, diffs, MOST),
-            Scheme::Two => most_of_seven(diffs),
+            Scheme::One => most_of_seven(Scheme::One, diffs),
+            Scheme::Two => most_of_seven(Scheme::Two, diffs),
         }
     };
     row_of(scheme, count)

@@ -32,6 +32,10 @@ abbrev pub size_limit : Option Row → ℕ
 size_limit None = 0
 size_limit (Some row) = 2 ^ (row.width - 1)
 
+-- it has more bits than each of two differences of a word
+abbrev pub IsWide : Scheme → ℤ → Type 0
+IsWide scheme d = (row : Row) → row_for scheme 2 ≡ Some row → ¬ (IsWithin row.width d)
+
 -- no word spells a prefix of more than `low` and at most `high` of the differences
 abbrev pub NoneSpelled : Scheme → List ℤ → ℕ → ℕ → Type 0
 NoneSpelled scheme ds low high = (k : ℕ) → low < k → k ≤ high → ¬ (CanSpell scheme (take k ds))

@@ -7,16 +7,16 @@ use Rattle.mseed_steim.proofs.Held.{is_ahead}
 use Rattle.mseed_steim.proofs.ahead.look_ahead.Goals as goal
 
 pub loop-index-init : goal.loop-index-init
-loop-index-init c = record {
-  ahead = λ i h. is_ahead c.args.scheme c.args.diffs.now c.put_most.new.most i _ c.requires h
+loop-index-init g c = record {
+  ahead = λ i h. is_ahead c.args.scheme (g.D.Steps.differences c.args.diffs.now) c.put_most.new.most i _ c.requires h
       c.put_most.ensures.most
       (c.bound.ensures i (omega (arith, h)));
   none = λ i h l. absurd (omega (arith, h, l));
 }
 
 pub loop-index-preserved : goal.loop-index-preserved
-loop-index-preserved c = record {
-  ahead = λ i h. subst (λ (x : ℕ). IsAhead c.args.scheme (drop i c.args.diffs.now) x)
+loop-index-preserved g c = record {
+  ahead = λ i h. subst (λ (x : ℕ). IsAhead c.args.scheme (drop i (g.D.Steps.differences c.args.diffs.now)) x)
       (sym (get_or-set_other c.loop-index.most c.loop-index.index i 0 0
       (λ e. absurd (omega (arith, e, h, c.loop-index.auto.index)))))
       (c.loop-index.invariant.ahead i h);
@@ -32,12 +32,13 @@ loop-index-preserved c = record {
 }
 
 pub returns : goal.returns
-returns c =
+returns g c =
     let none : (i : ℕ) → 121 ≤ i → i < 144 → get_or c.loop-index.most i 0 ≡ 0 =
     λ i b h. c.loop-index.invariant.none i b (omega (arith, h, c.loop-index-test.false)) in record {
       ahead = λ i h. ⊎_elim
           (λ (a : i < 121). c.loop-index.invariant.ahead i a)
-          (λ (b : 121 ≤ i). subst (λ (x : ℕ). IsAhead c.args.scheme (drop i c.args.diffs.now) x) (sym (none i b h))
+          (λ (b : 121 ≤ i). subst (λ (x : ℕ). IsAhead c.args.scheme (drop i (g.D.Steps.differences c.args.diffs.now)) x)
+          (sym (none i b h))
           (λ some. absurd (omega (arith, some))))
           (cases_lt i 121);
       none = none;

@@ -3,7 +3,7 @@ use Rattle.mseed_steim.specs.Lookahead.{IsAhead}
 use Rattle.mseed_steim.proofs.ahead.look_ahead.Given as goal
 
 abbrev pub invariant-loop-index : goal.invariant-loop-index
-invariant-loop-index l = record {
-  ahead : (i : ℕ) → i < 121 → IsAhead l.fn.scheme (drop i l.fn.diffs) (get_or l.most i 0);
+invariant-loop-index g l = record {
+  ahead : (i : ℕ) → i < 121 → IsAhead l.fn.scheme (drop i (g.D.Steps.differences l.fn.diffs)) (get_or l.most i 0);
   none : (i : ℕ) → 121 ≤ i → i < l.index → get_or l.most i 0 ≡ 0;
 }

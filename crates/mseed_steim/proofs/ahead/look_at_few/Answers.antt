@@ -12,16 +12,16 @@ pub loop-index-init : goal.loop-index-init
 loop-index-init c =
     let s = c.args.scheme in
     let ds = c.args.diffs.now in
-    let zeros = c.padded.ensures.0 in
+    let zeros = c.padded-all.ensures.0 in
     let most = c.look_ahead.new.most in
     let cut = c.look_ahead.new.cut in
-    let all = c.padded.result in
+    let all = c.padded-all.result in
     record {
       ahead = λ i h. few_ahead s ds zeros i (get_or most i 0) (omega (arith, h))
-          (subst (λ (xs : List ℤ). IsAhead s (drop i xs) (get_or most i 0)) c.padded.ensures.1
+          (subst (λ (xs : List ℤ). IsAhead s (drop i xs) (get_or most i 0)) c.padded-all.ensures.1
           (c.look_ahead.ensures.ahead i (omega (arith, h, c.requires.few))));
       cut = λ i h. few_cut s ds zeros (drop i cut) i (get_or most i 0) (omega (arith, h))
-          (subst (λ (xs : List ℤ). IsCut s (get_or most i 0) (drop i xs) (drop i cut)) c.padded.ensures.1
+          (subst (λ (xs : List ℤ). IsCut s (get_or most i 0) (drop i xs) (drop i cut)) c.padded-all.ensures.1
           (cut_from s all most cut (search rules) c.look_ahead.ensures.none c.look_ahead.ensures.cut i
           (omega (arith, h, c.requires.few))));
       none = λ i low h which. ⊎_elim

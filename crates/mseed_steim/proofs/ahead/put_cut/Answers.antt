@@ -1,4 +1,4 @@
-use Rattle.std.proofs.Common.{◌≡◌, ◌<◌, ◌≤◌, ◌∙◌, ℕ, arith, rules, ap, sym, subst, get_or, pos, length, ⊎_elim}
+use Rattle.std.proofs.Common.{◌≡◌, ◌<◌, ◌≤◌, ◌∙◌, ℕ, ℤ, arith, rules, ap, sym, subst, get_or, pos, length, ⊎_elim}
 use Rattle.std.proofs.Common.{FitsSigned, w16, w32}
 use Rattle.std.proofs.lemmas.Bool.{cases_lt}
 use Rattle.std.proofs.lemmas.Grind.{get_or-set_at}
@@ -10,18 +10,22 @@ use Rattle.mseed_steim.specs.private.Ahead.{near_size, size_of}
 use Rattle.mseed_steim.proofs.ahead.put_cut.Goals as goal
 
 pub loop-index-preserved : goal.loop-index-preserved
-loop-index-preserved c =
+loop-index-preserved g c =
     let index = c.loop-index.index in
     let cut = c.loop-index.cut in
-    let diffs = c.args.diffs.now in
+    let diffs = g.D.Steps.differences c.args.diffs.now in
+    let step = c.at.result in
     let value = c.cut_off.result in
     let long : length cut ≡ 128 = c.loop-index.invariant.room in
     let fits : FitsSigned w16 value = search rules in
-    let held : FitsSigned w32 (get_or diffs index (pos 0)) = search rules in
+    let read : step ≡ get_or diffs index (pos 0) = c.at.ensures in
+    let held : FitsSigned w32 step = record { sfits = c.at.type_inv } in
+    let near = rw (to_z-of_z w32 step held) at c.cut_off.ensures.near in
+    let same = rw (to_z-of_z w32 step held) at c.cut_off.ensures.same in
     let said : size_of value ≡ near_size Two (get_or diffs index (pos 0)) =
-    rw (to_z-of_z w32 (get_or diffs index (pos 0)) held) at c.cut_off.ensures.near in
+    subst (λ (z : ℤ). size_of value ≡ near_size Two z) read near in
     let kept : IsWithin 16 (get_or diffs index (pos 0)) → value ≡ get_or diffs index (pos 0) =
-    rw (to_z-of_z w32 (get_or diffs index (pos 0)) held) at c.cut_off.ensures.same in
+    subst (λ (z : ℤ). IsWithin 16 z → value ≡ z) read same in
     rw (to_z-of_z w16 value fits) (record {
       room = search rules;
       same = λ i h within. ⊎_elim

@@ -5,8 +5,9 @@ use Rattle.mseed_steim.specs.private.Ahead.{near_size, size_of}
 use Rattle.mseed_steim.proofs.ahead.put_cut.Given as goal
 
 abbrev pub invariant-loop-index : goal.invariant-loop-index
-invariant-loop-index l = record {
+invariant-loop-index g l = record {
   room : length l.cut ≡ 128;
-  same : AreSame l.index l.diffs l.cut;
-  done : (i : ℕ) → i < l.index → size_of (get_or l.cut i (pos 0)) ≡ near_size Two (get_or l.diffs i (pos 0));
+  same : AreSame l.index (g.D.Steps.differences l.diffs) l.cut;
+  done : (i : ℕ) → i < l.index
+      → size_of (get_or l.cut i (pos 0)) ≡ near_size Two (get_or (g.D.Steps.differences l.diffs) i (pos 0));
 }

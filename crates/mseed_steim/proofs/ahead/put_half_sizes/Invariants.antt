@@ -4,4 +4,5 @@ use Rattle.mseed_steim.specs.private.Ahead.{near_size}
 use Rattle.mseed_steim.proofs.ahead.put_half_sizes.Given as goal
 
 abbrev pub invariant-loop-index : goal.invariant-loop-index
-invariant-loop-index l = (i : ℕ) → i < l.index → get_or l.sizes i 0 ≡ near_size One (get_or l.diffs i (pos 0))
+invariant-loop-index g l = (i : ℕ) → i < l.index
+    → get_or l.sizes i 0 ≡ near_size One (get_or (g.D.Steps.differences l.diffs) i (pos 0))

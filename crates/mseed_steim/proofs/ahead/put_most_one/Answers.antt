@@ -8,18 +8,18 @@ use Rattle.mseed_steim.proofs.Sizes.{put_length, put_below, put_at, near_part, l
 use Rattle.mseed_steim.proofs.ahead.put_most_one.Goals as goal
 
 pub most_one-requires : goal.most_one-requires
-most_one-requires c =
+most_one-requires g c =
     let told : length c.put_half_sizes.new.sizes ≡ 128 = search rules in
     near_part 128 (16 * c.loop-turn.turn) c.put_half_sizes.new.sizes told (omega (arith, c.loop-turn-test.true))
     (λ i h. subst (λ (x : ℕ). x < 32768) (sym (c.put_half_sizes.ensures i h))
-    (near_small One (get_or c.args.diffs.now i (pos 0))))
+    (near_small One (get_or (g.D.Steps.differences c.args.diffs.now) i (pos 0))))
 
 pub returns : goal.returns
-returns c = λ i h. c.loop-turn.invariant.done i (omega (arith, h, c.loop-turn-test.false))
+returns g c = λ i h. c.loop-turn.invariant.done i (omega (arith, h, c.loop-turn-test.false))
     ∙ ap most_one (c.put_half_sizes.ensures i h)
 
 pub loop-turn-preserved : goal.loop-turn-preserved
-loop-turn-preserved c =
+loop-turn-preserved g c =
     let at = 16 * c.loop-turn.turn in
     let inside : at + 16 ≤ 128 = omega (arith, c.loop-turn-test.true) in
     let room = c.loop-turn.invariant.room in

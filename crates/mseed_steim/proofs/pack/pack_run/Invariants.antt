@@ -1,11 +1,11 @@
-use Rattle.std.proofs.Common.{◌≡◌, ℕ, ℤ, List, ◌<◌, ◌≤◌, ◌+◌, ◌-◌, ◌*◌, ◌/◌, ◌%◌, if◌then◌else◌, length, nat_lt}
+use Rattle.std.proofs.Common.{◌≡◌, ℕ, ℤ, List, ◌<◌, ◌≤◌, ◌+◌, ◌-◌, ◌/◌, ◌%◌, length}
 use Rattle.mseed_steim.specs.declared.ahead.Lookahead.{Lookahead}
 use Rattle.mseed_steim.specs.declared.pack.Reached.{Reached}
 use Rattle.mseed_steim.specs.declared.scheme.Scheme.{Scheme}
 use Rattle.mseed_steim.specs.private.Pushing.{IsReached}
 use Rattle.mseed_steim.proofs.pack.pack_run.Given as goal
 
--- what holds before each word and each frame
+-- what holds before each frame, and before what lies ahead is looked at within one
 pub record Begun (s : Scheme) (ds : List ℤ) (known : Lookahead) (p : List ℕ) (head : ℕ) (r : Reached) : Type 0 where
   pub reached : IsReached s ds known p head r
   pub frame : head + 16 ≤ length p / 4
@@ -17,8 +17,7 @@ pub record Begun (s : Scheme) (ds : List ℤ) (known : Lookahead) (p : List ℕ)
   pub high : r.index ≤ head + 16
 
 abbrev pub invariant-loop-next : goal.invariant-loop-next
-invariant-loop-next l = Begun l.scheme l.diffs l.known l.frames l.head l.reached
+invariant-loop-next g l = Begun l.scheme (g.P.Pending.differences l.pending) l.known l.frames l.head l.reached
 
--- a word is filled, or what lies ahead is looked at after the last place that is known
 abbrev pub decreases-loop-next : goal.decreases-loop-next
-decreases-loop-next l = 2 * (length l.frames - l.reached.index) + (if nat_lt l.reached.place 121 then 0 else 1)
+decreases-loop-next g l = length l.frames - l.reached.index

@@ -1,14 +1,14 @@
-use Rattle.std.proofs.Common.{◌≢◌, ℕ, ◌<◌, arith, drop, inl, inr, length, refl}
+use Rattle.std.proofs.Common.{◌≢◌, ℕ, ◌<◌, arith, drop, inl, inr, refl}
 use Rattle.std.proofs.lemmas.List.{length-drop}
 use Rattle.mseed_steim.specs.private.Four.{known_from}
 use Rattle.mseed_steim.specs.private.Pushing.{IsReached}
 use Rattle.mseed_steim.proofs.Lookaheads.{known_early, known_here}
 use Rattle.mseed_steim.proofs.pack.push_each.Goals.{else-known-reached-lt2}
-use Rattle.mseed_steim.proofs.pack.push_each.Goals.{then-known-reached-lt2+else-reached-diffs+else-reached-ge-KNOWN}
+use Rattle.mseed_steim.proofs.pack.push_each.Goals.{then-known-reached-lt2+else-reached-count+else-reached-ge-KNOWN}
 use Rattle.mseed_steim.proofs.pack.push_each.Goals as goal
 
 pub loop-reached-init : goal.loop-reached-init
-loop-reached-init c =
+loop-reached-init g c =
     let is = c.requires.reached.1 in
     record {
       inside = c.requires.frame.inside;
@@ -21,40 +21,42 @@ loop-reached-init c =
     }
 
 pub push_next-requires-clause-some : goal.push_next-requires-clause-some
-push_next-requires-clause-some c =
+push_next-requires-clause-some g c =
     let is = c.loop-reached.invariant.reached c.requires.reached.0 c.requires.reached.1 in
     let inside = c.loop-reached.invariant.used in
     elim c.if-known-reached-lt2.branch [
-      | then-known-reached-lt2+else-reached-diffs+else-reached-ge-KNOWN w ↦
-          let more : c.loop-reached.reached.used ≢ length c.args.diffs.now = w.if-reached-diffs.false in
-          omega (arith, more, inside)
+      | then-known-reached-lt2+else-reached-count+else-reached-ge-KNOWN w ↦
+          let more : c.loop-reached.reached.used ≢ c.count-count.result = w.if-reached-count.false in
+          omega (arith, more, inside, c.count-count.ensures.value)
       | else-known-reached-lt2 w ↦
           let here = (known_here c.args.scheme _ _ is.ahead).0 (omega (arith, w.if-known-reached-lt2.false)) in
-          omega (arith, here.1, length-drop c.loop-reached.reached.used c.args.diffs.now)
+          omega (arith, here.1, length-drop c.loop-reached.reached.used (g.P.Pending.differences c.args.pending.now))
     ]
 
 pub push_next-requires-clause-early : goal.push_next-requires-clause-early
-push_next-requires-clause-early c =
+push_next-requires-clause-early g c =
     let is = c.loop-reached.invariant.reached c.requires.reached.0 c.requires.reached.1 in
     elim c.if-known-reached-lt2.branch [
-      | then-known-reached-lt2+else-reached-diffs+else-reached-ge-KNOWN w ↦ omega (arith, w.if-reached-ge-KNOWN.false)
+      | then-known-reached-lt2+else-reached-count+else-reached-ge-KNOWN w ↦ omega (arith, w.if-reached-ge-KNOWN.false)
       | else-known-reached-lt2 w ↦ known_early c.args.scheme (known_from c.args.known.now
-          c.loop-reached.reached.place) (drop c.loop-reached.reached.used c.args.diffs.now) _ is.ahead refl
+          c.loop-reached.reached.place) (drop c.loop-reached.reached.used (g.P.Pending.differences c.args.pending.now)) _
+          is.ahead refl
           (omega (arith, w.if-known-reached-lt2.false))
     ]
 
 pub push_next-requires-clause-reached : goal.push_next-requires-clause-reached
-push_next-requires-clause-reached c =
+push_next-requires-clause-reached g c =
     (c.requires.reached.0, c.loop-reached.invariant.reached c.requires.reached.0 c.requires.reached.1)
 
 pub loop-reached-preserved : goal.loop-reached-preserved
-loop-reached-preserved c =
+loop-reached-preserved g c =
     let before = c.loop-reached.invariant in
     let moves = c.in-Ok.ensures.moves in
     let so_far = before.moves in
-    let next : (head : ℕ) → IsReached c.args.scheme c.args.diffs.now c.args.known.now c.args.frames.now head
-    c.args.reached → IsReached c.args.scheme c.args.diffs.now c.args.known.now c.push_next.new.frames head
-    c.in-Ok.next = λ head from. c.in-Ok.ensures.fills head (before.reached head from) in
+    let ds = g.P.Pending.differences c.args.pending.now in
+    let next : (head : ℕ) → IsReached c.args.scheme ds c.args.known.now c.args.frames.now head c.args.reached
+    → IsReached c.args.scheme ds c.args.known.now c.push_next.new.frames head c.in-Ok.next =
+    λ head from. c.in-Ok.ensures.fills head (before.reached head from) in
     let is = next c.requires.reached.0 c.requires.reached.1 in
     let more : c.args.reached.index < c.in-Ok.next.index = omega (arith, moves, so_far) in
     record {

@@ -4,17 +4,17 @@ use Rattle.mseed_steim.specs.private.Pushing.{IsReached}
 use Rattle.mseed_steim.proofs.pack.push_each.Given as goal
 
 abbrev pub invariant-loop-reached : goal.invariant-loop-reached
-invariant-loop-reached l = record {
+invariant-loop-reached g l = record {
   inside : l.reached.index ≤ l.end;
   begun : l.end < l.reached.index + 16;
   room : l.end ≤ word_count l.frames;
-  used : l.reached.used ≤ length l.diffs;
+  used : l.reached.used ≤ length (g.P.Pending.differences l.pending);
   place : l.reached.place ≤ 128;
   moves : ((l.reached.index ≡ l.fn.reached.index) × (l.reached.place ≡ l.fn.reached.place))
       ⊎ (l.fn.reached.index < l.reached.index);
-  reached : (head : ℕ) → IsReached l.scheme l.diffs l.known l.fn.frames head l.fn.reached
-      → IsReached l.scheme l.diffs l.known l.frames head l.reached;
+  reached : (head : ℕ) → IsReached l.scheme (g.P.Pending.differences l.pending) l.known l.fn.frames head l.fn.reached
+      → IsReached l.scheme (g.P.Pending.differences l.pending) l.known l.frames head l.reached;
 }
 
 abbrev pub decreases-loop-reached : goal.decreases-loop-reached
-decreases-loop-reached l = l.end - l.reached.index
+decreases-loop-reached g l = l.end - l.reached.index

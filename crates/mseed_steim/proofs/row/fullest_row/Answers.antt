@@ -13,14 +13,15 @@ returns-clause-best c =
     (elim c.if-diffs-lt-MOST.branch [
       | then-diffs-lt-MOST w ↦ rw w.count-is w.most_held-count.ensures.best
       | else-diffs-lt-MOST+in-One w ↦ rw (w.count-is, w.in-One.is)
-          (best_all _ ds 7 _ (omega arith) (omega (arith, w.if-diffs-lt-MOST.false)) w.most_held.ensures.best)
-      | else-diffs-lt-MOST+in-Two w ↦ rw (w.count-is, w.in-Two.is)
           (best_all _ ds 7 _ (omega arith) (omega (arith, w.if-diffs-lt-MOST.false)) w.most_of_seven.ensures.best)
+      | else-diffs-lt-MOST+in-Two w ↦ rw (w.count-is, w.in-Two.is)
+          (best_all _ ds 7 _ (omega arith) (omega (arith, w.if-diffs-lt-MOST.false))
+          w.most_of_seven-in-Two.ensures.best)
     ])
 
 pub returns-clause-fits : goal.returns-clause-fits
 returns-clause-fits c = λ h. elim c.if-diffs-lt-MOST.branch [
   | then-diffs-lt-MOST w ↦ w.most_held-count.ensures.fits h
-  | else-diffs-lt-MOST+in-One w ↦ w.most_held.ensures.fits (omega arith)
-  | else-diffs-lt-MOST+in-Two w ↦ w.most_of_seven.ensures.fits
+  | else-diffs-lt-MOST+in-One w ↦ w.most_of_seven.ensures.fits
+  | else-diffs-lt-MOST+in-Two w ↦ w.most_of_seven-in-Two.ensures.fits
 ]
