@@ -22,6 +22,9 @@ pub(crate) const AHEAD: usize = 128;
 /// How many places are reported: for a word eight differences are read.
 pub(crate) const KNOWN: usize = AHEAD - 7;
 
+/// Where so many of them are behind, too few are known for four words.
+pub(crate) const EARLY: usize = 100;
+
 /// Fewer differences than these aren't looked at ahead.
 const FEW: usize = 24;
 

@@ -17,7 +17,7 @@ ghost use Rattle.mseed_steim.specs.private.Four.{AreFour, AreThree};
 ghost use Rattle.mseed_steim.specs.private.Wrapped.{wrapped_from};
 ghost use Rattle.mseed_steim.specs.private.Pushing.{FillsOn, Filling, HasFrame, IsReached, MovesOn, Pushing};
 
-use crate::ahead::{KNOWN, Lookahead};
+use crate::ahead::{AHEAD, EARLY, KNOWN, Lookahead};
 use crate::data_words::{FRAME, WORD};
 use crate::four::{FOUR, FourWords, THREE, ThreeWords, four_ahead, three_ahead};
 use crate::layout::word_ahead;
@@ -301,21 +301,24 @@ fn push_next<P: Pending>(
     })
 }
 
-/// Fills a frame further word by word, until it is full, no difference is left, or nothing is known of the next one.
+/// Fills a frame further word by word, until it is full, no difference is left, or the next one's place in what is known
+/// is that at which it is due to look ahead.
 #[inline(always)]
 fn push_each<P: Pending>(
     scheme: Scheme,
     pending: &P,
     known: &Lookahead,
+    due: usize,
     frames: &mut [u8],
     end: usize,
     reached: Reached,
 ) -> Result<Reached, TooLargeAt>
+    requires due { due ≤ KNOWN }
     requires frame { HasFrame frames.old end reached }
     requires reached { (head : ℕ) × IsReached scheme (P.differences pending.now) known.now frames.old head reached }
     ensures moves { IfOk result (MovesOn end reached) }
     ensures ended { IfOk result (λ next. (next.index ≡ end)
-        ⊎ ((next.used ≡ length (P.differences pending.now)) ⊎ (KNOWN ≤ next.place))) }
+        ⊎ ((next.used ≡ length (P.differences pending.now)) ⊎ (due ≤ next.place))) }
     ensures fills { IfOk result (FillsOn scheme (P.differences pending.now) known.now frames.old reached frames.new) }
     ensures refused { IfErr result (λ fault. IsFirstTooLarge scheme (P.differences pending.now) fault.index
         × LeavesRoom scheme (take fault.index (P.differences pending.now)) (length (data_words frames.new))) }
@@ -323,13 +326,11 @@ fn push_each<P: Pending>(
     let count = pending.count();
     let mut reached = reached;
     while reached.index < end {
-        if known.most[reached.place] < 2 {
-            if reached.used == count {
-                break;
-            }
-            if KNOWN <= reached.place {
-                break;
-            }
+        if due <= reached.place {
+            break;
+        }
+        if known.most[reached.place] < 2 && reached.used == count {
+            break;
         }
         match push_next(scheme, pending, known, frames, reached) {
             Ok(next) => reached = next,
@@ -358,22 +359,34 @@ fn finish(frames: &mut [u8], head: usize, reached: Reached) -> Packed
     }
 }
 
-/// Looks at the differences that come next, where nothing is known of them.
+/// The place at which it is due to look ahead: where many differences are left, before nothing is known of the next one,
+/// so that words are joined by fours still.
+#[inline(always)]
+fn due_in(left: usize) -> usize
+    ensures some { 0 < result }
+    ensures few { result ≤ KNOWN }
+{
+    if left < 2 * AHEAD { KNOWN } else { EARLY }
+}
+
+/// Looks ahead at the differences that come next, where it is due.
 #[inline(always)]
 fn look_on<P: Pending>(
     scheme: Scheme,
     pending: &P,
     known: &mut Lookahead,
+    due: usize,
     reached: Reached,
 ) -> Reached
-    requires { (p : List ℕ) × ((head : ℕ) × IsReached scheme (P.differences pending.now) known.old p head reached) }
-    ensures early { result.place < KNOWN }
+    requires due { 0 < due }
+    requires reached { (p : List ℕ) × ((head : ℕ) × IsReached scheme (P.differences pending.now) known.old p head reached) }
+    ensures early { result.place < due }
     ensures index { result.index ≡ reached.index }
     ensures reached { (p : List ℕ) (head : ℕ)
         → IsReached scheme (P.differences pending.now) known.old p head reached
         → IsReached scheme (P.differences pending.now) known.new p head result }
 {
-    if reached.place < KNOWN {
+    if reached.place < due {
         return reached;
     }
     pending.look(reached.used, scheme, &mut known.most, &mut known.cut);
@@ -409,9 +422,10 @@ fn pack_run<P: Pending>(
     };
     loop {
         let end = head + FRAME;
-        reached = look_on(scheme, pending, known, reached);
+        let due = due_in(count - reached.used);
+        reached = look_on(scheme, pending, known, due, reached);
         reached = push_known(scheme, known, frames, end, reached);
-        match push_each(scheme, pending, known, frames, end, reached) {
+        match push_each(scheme, pending, known, due, frames, end, reached) {
             Ok(next) => reached = next,
             Err(fault) => return Err(fault),
         }

@@ -2,9 +2,9 @@ use Rattle.std.proofs.Common.{◌≢◌, ℕ, ◌<◌, arith, drop, inl, inr, re
 use Rattle.std.proofs.lemmas.List.{length-drop}
 use Rattle.mseed_steim.specs.private.Four.{known_from}
 use Rattle.mseed_steim.specs.private.Pushing.{IsReached}
-use Rattle.mseed_steim.proofs.Lookaheads.{known_early, known_here}
-use Rattle.mseed_steim.proofs.pack.push_each.Goals.{else-known-reached-lt2}
-use Rattle.mseed_steim.proofs.pack.push_each.Goals.{then-known-reached-lt2+else-reached-count+else-reached-ge-KNOWN}
+use Rattle.mseed_steim.proofs.Lookaheads.{known_here}
+use Rattle.mseed_steim.proofs.pack.push_each.Goals.{else-known-reached-lt2-via-else-known-reached-lt2}
+use Rattle.mseed_steim.proofs.pack.push_each.Goals.{else-known-reached-lt2-via-then-known-reached-lt2+else-reached-count}
 use Rattle.mseed_steim.proofs.pack.push_each.Goals as goal
 
 pub loop-reached-init : goal.loop-reached-init
@@ -24,25 +24,17 @@ pub push_next-requires-clause-some : goal.push_next-requires-clause-some
 push_next-requires-clause-some g c =
     let is = c.loop-reached.invariant.reached c.requires.reached.0 c.requires.reached.1 in
     let inside = c.loop-reached.invariant.used in
-    elim c.if-known-reached-lt2.branch [
-      | then-known-reached-lt2+else-reached-count+else-reached-ge-KNOWN w ↦
+    elim c.else-known-reached-lt2.branch [
+      | else-known-reached-lt2-via-then-known-reached-lt2+else-reached-count w ↦
           let more : c.loop-reached.reached.used ≢ c.count-count.result = w.if-reached-count.false in
           omega (arith, more, inside, c.count-count.ensures.value)
-      | else-known-reached-lt2 w ↦
+      | else-known-reached-lt2-via-else-known-reached-lt2 w ↦
           let here = (known_here c.args.scheme _ _ is.ahead).0 (omega (arith, w.if-known-reached-lt2.false)) in
           omega (arith, here.1, length-drop c.loop-reached.reached.used (g.P.Pending.differences c.args.pending.now))
     ]
 
 pub push_next-requires-clause-early : goal.push_next-requires-clause-early
-push_next-requires-clause-early g c =
-    let is = c.loop-reached.invariant.reached c.requires.reached.0 c.requires.reached.1 in
-    elim c.if-known-reached-lt2.branch [
-      | then-known-reached-lt2+else-reached-count+else-reached-ge-KNOWN w ↦ omega (arith, w.if-reached-ge-KNOWN.false)
-      | else-known-reached-lt2 w ↦ known_early c.args.scheme (known_from c.args.known.now
-          c.loop-reached.reached.place) (drop c.loop-reached.reached.used (g.P.Pending.differences c.args.pending.now)) _
-          is.ahead refl
-          (omega (arith, w.if-known-reached-lt2.false))
-    ]
+push_next-requires-clause-early g c = omega (arith, c.if-due-reached.false, c.requires.due)
 
 pub push_next-requires-clause-reached : goal.push_next-requires-clause-reached
 push_next-requires-clause-reached g c =
