@@ -1,6 +1,8 @@
 -- The differences of a series, one by one.
-use Rattle.std.proofs.Common.{◌≡◌, ◌≢◌, ◌∙◌, ℕ, zero, suc, ◌+◌, ◌<◌, ◌≤◌, List, [], ◌∷◌, length, get_or, set, refl}
-use Rattle.std.proofs.Common.{sym, ap, All, ⊎_elim, arith, eqb, false, ℤ, pos, negsuc, ◌-ℤ◌, FitsSigned, w32}
+use Rattle.std.proofs.Common.{◌≡◌, ◌≢◌, ◌∙◌, ℕ, zero, suc, ◌+◌, ◌-◌, ◌<◌, ◌≤◌, List, [], ◌∷◌, length, get_or, set, refl}
+use Rattle.std.proofs.Common.{sym, ap, take, drop, All, ⊎_elim, arith, eqb, false, ℤ, pos, negsuc, ◌-ℤ◌}
+use Rattle.std.proofs.Common.{FitsSigned, w32}
+use Rattle.std.specs.Prelude.{slice_range}
 use native.Mathlib.Numerals.{unary_clauses}
 use Rattle.std.proofs.lemmas.Bool.{cases_lt, eqb-false}
 use Rattle.std.proofs.lemmas.Grind.{get_or-set_at}
@@ -8,7 +10,9 @@ use Rattle.std.proofs.lemmas.Int.{ints}
 use Rattle.std.proofs.lemmas.List.{get_or-set_other}
 use Rattle.std.proofs.lemmas.List.Elements.{All-get_or}
 use Rattle.mseed_steim.specs.Spelling.{IsWithin}
-use Rattle.mseed_pack.specs.Stretches.{differences_from, differences}
+use Rattle.mseed_steim.specs.Samples.{differences_from}
+use Rattle.mseed_pack.specs.private.Marks.{sample_before}
+use Rattle.mseed_pack.specs.Stretches.{differences}
 
 from_at : (before : ℤ) (xs : List ℤ) (i : ℕ) → i < length xs
     → get_or (differences_from before xs) i (pos 0) ≡ get_or xs i (pos 0) -ℤ get_or (before ∷ xs) i (pos 0)
@@ -32,6 +36,37 @@ length_from before (x ∷ xs) = ap (λ (n : ℕ). suc n) (length_from x xs)
 pub length-differences : (xs : List ℤ) → length (differences xs) ≡ length xs
 length-differences [] = refl
 length-differences (x ∷ xs) = ap (λ (n : ℕ). suc n) (length_from x xs)
+
+from_take : (before : ℤ) (xs : List ℤ) (n : ℕ)
+    → take n (differences_from before xs) ≡ differences_from before (take n xs)
+from_take before xs zero = refl
+from_take before [] (suc n) = refl
+from_take before (x ∷ xs) (suc n) = ap (λ (ds : List ℤ). (x -ℤ before) ∷ ds) (from_take x xs n)
+
+from_drop : (before : ℤ) (xs : List ℤ) (n : ℕ)
+    → drop n (differences_from before xs) ≡ differences_from (get_or (before ∷ xs) n (pos 0)) (drop n xs)
+from_drop before xs zero = refl
+from_drop before [] (suc n) = refl
+from_drop before (x ∷ xs) (suc n) = from_drop x xs n
+
+none_from : (x : ℤ) → pos 0 ≡ x -ℤ x
+none_from x = omega (arith, ints)
+
+drop_differences : (xs : List ℤ) (n : ℕ)
+    → drop n (differences xs) ≡ differences_from (sample_before xs n) (drop n xs)
+drop_differences [] zero = refl
+drop_differences [] (suc n) = refl
+drop_differences (x ∷ xs) zero = ap (λ (z : ℤ). z ∷ differences_from x xs) (none_from x)
+drop_differences (x ∷ xs) (suc n) =
+    let place : n ≡ suc n - 1 = omega arith in
+    from_drop x xs n ∙ ap (λ (k : ℕ). differences_from (get_or (x ∷ xs) k (pos 0)) (drop n xs)) place
+
+-- those of some samples, the first of them from the sample before it
+pub part_differences : (xs : List ℤ) (first end : ℕ)
+    → differences_from (sample_before xs first) (slice_range xs first end) ≡ slice_range (differences xs) first end
+part_differences xs first end =
+    sym (from_take (sample_before xs first) (drop first xs) (end - first))
+    ∙ ap (λ (ds : List ℤ). take (end - first) ds) (sym (drop_differences xs first))
 
 pub difference_fits : (xs : List ℤ) (i : ℕ) → i < length xs → All (IsWithin 32) (differences xs)
     → IsWithin 32 (get_or (differences xs) i (pos 0))

@@ -3,8 +3,8 @@ use Rattle.std.proofs.Common.{◌≡◌, ℕ, zero, suc, List, [], ◌∷◌, ta
 use Rattle.std.proofs.Common.{◌-ℤ◌, Some}
 use Rattle.std.specs.Prelude.{slice_get}
 use Rattle.std.proofs.lemmas.Int.{ints}
-use Rattle.mseed_steim.specs.Samples.{Adds, StartsAndAdds}
-use Rattle.mseed_pack.specs.Stretches.{differences, differences_from}
+use Rattle.mseed_steim.specs.Samples.{Adds, StartsAndAdds, differences_from}
+use Rattle.mseed_pack.specs.Stretches.{differences}
 
 back : (x before : ℤ) → x ≡ before +ℤ (x -ℤ before)
 back x before = omega (arith, ints)

@@ -1,14 +1,10 @@
 -- The differences of a series, and how far a record can go on.
-use Rattle.std.specs.Prelude.{ℕ, ◌==◌, nat_lt, List, [], ◌∷◌, length, slice_range, ℤ, pos, ◌-ℤ◌, Option, Some, None}
+use Rattle.std.specs.Prelude.{ℕ, ◌==◌, nat_lt, List, [], ◌∷◌, length, slice_range, ℤ, pos, Option, Some, None}
 use Rattle.std.specs.Prelude.{unwrap_or, option_map, find}
 use Rattle.mseed_time.specs.declared.outcome.LeapStep.{LeapStep}
 use Rattle.mseed_time.specs.declared.outcome.LeapStep.TheVariants.{Plus, Minus}
+use Rattle.mseed_steim.specs.Samples.{differences_from}
 use Rattle.mseed_audit.specs.Series.{Trace}
-
--- each number minus the one before it
-abbrev pub differences_from : ℤ → List ℤ → List ℤ
-differences_from before [] = []
-differences_from before (x ∷ xs) = (x -ℤ before) ∷ differences_from x xs
 
 -- each sample minus the one before it; the first one's difference is 0
 abbrev pub differences : List ℤ → List ℤ

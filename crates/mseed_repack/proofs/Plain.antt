@@ -4,7 +4,7 @@ use Rattle.std.specs.List.{AllByRecursion}
 use Rattle.std.proofs.lemmas.Int.{ints}
 use Rattle.std.proofs.lemmas.List.Elements.{All-from_recursion, All-weaker}
 use Rattle.mseed_record.specs.View.{View}
-use Rattle.mseed_steim.specs.Samples.{AreEnds}
+use Rattle.mseed_steim.specs.Samples.{AreEnds, differences_from}
 use Rattle.mseed_steim.specs.Spelling.{IsWithin}
 use Rattle.mseed_steim.specs.declared.encoding.Encoding.{Encoding}
 use Rattle.mseed_steim.specs.declared.encoding.Encoding.TheVariants.{Int16, Int32, Steim1, Steim2}
@@ -12,7 +12,7 @@ use Rattle.mseed_steim.specs.declared.fault.Ends.{Ends}
 use Rattle.mseed_steim.proofs.Rows.{within_wider}
 use Rattle.mseed_audit.specs.Series.{AreJoined, none, one}
 use Rattle.mseed_pack.specs.Options.{IsSteim}
-use Rattle.mseed_pack.specs.Stretches.{differences, differences_from}
+use Rattle.mseed_pack.specs.Stretches.{differences}
 use Rattle.mseed_repack.specs.private.Outline.{AreHeld, AreNear, last_after}
 use Rattle.mseed_repack.specs.private.Supplying.{AreBounded, AreUnread, IsPlain, IsUnpackable}
 use Rattle.mseed_repack.proofs.Near.{after_near, ends_on, zero_near}

@@ -12,14 +12,14 @@ use Rattle.mseed_time.specs.declared.outcome.LeapStep.{LeapStep}
 use Rattle.mseed_time.specs.declared.rate.Rate.{Rate}
 use Rattle.mseed_record.specs.View.{View}
 use Rattle.mseed_steim.specs.Reading.{IsSteim, IsWhole, count_of}
-use Rattle.mseed_steim.specs.Samples.{AreEnds, differences_from as differences_in, steps_of}
+use Rattle.mseed_steim.specs.Samples.{AreEnds, differences_from, steps_of}
 use Rattle.mseed_steim.specs.Spelling.{IsWithin}
 use Rattle.mseed_steim.specs.declared.fault.Ends.{Ends}
 use Rattle.mseed_audit.specs.Follows.{IsSound}
 use Rattle.mseed_audit.specs.Series.{AreJoined, IsSeriesOf, Trace, none, one}
 use Rattle.mseed_audit.proofs.Joined.{count_is}
 use Rattle.mseed_pack.specs.Fitting.{Fits}
-use Rattle.mseed_pack.specs.Stretches.{differences, differences_from}
+use Rattle.mseed_pack.specs.Stretches.{differences}
 use Rattle.mseed_pack.specs.Supplies.{IsNextGiven}
 use Rattle.mseed_pack.specs.Traces.{headed}
 use Rattle.mseed_pack.specs.declared.options.Options.{Options}
@@ -31,10 +31,6 @@ use Rattle.mseed_repack.specs.private.Supplying.{AreUnread, IsLast, IsSupplied, 
 use Rattle.mseed_repack.specs.declared.outline.Nearness.{Nearness}
 use Rattle.mseed_repack.specs.declared.outline.Nearness.TheVariants.{Empty, Near, Unknown}
 use Rattle.mseed_repack.proofs.Near.{ends_on, last_append}
-
-same_differences : (before : ℤ) (xs : List ℤ) → differences_in before xs ≡ differences_from before xs
-same_differences before [] = refl
-same_differences before (x ∷ xs) = ap (λ (ds : List ℤ). (x -ℤ before) ∷ ds) (same_differences x xs)
 
 pub within_fits : (z : ℤ) → IsWithin 30 z → FitsSigned w32 z
 within_fits (pos n) h = let high = h.1 in record { sfits = omega (arith, ints, high) }
@@ -56,8 +52,7 @@ pub first_set : (before d : ℤ) (out s : List ℤ) → 0 < length s → out ≡
 first_set before d out [] some e is = absurd (omega (arith, some))
 first_set before d out (x ∷ s) some e is =
     let first : d ≡ x -ℤ before = is ∙ ap (λ (xs : List ℤ). get_or xs 0 (pos 0) -ℤ before) e in
-    ap (λ (xs : List ℤ). set xs 0 d) e ∙ ap (λ (z : ℤ). z ∷ differences_in x s) first
-    ∙ ap (λ (ds : List ℤ). (x -ℤ before) ∷ ds) (same_differences x s)
+    ap (λ (xs : List ℤ). set xs 0 d) e ∙ ap (λ (z : ℤ). z ∷ differences_from x s) first
 
 pub last_is_end : (before : ℤ) (ends : Ends) (s : List ℤ) → AreEnds ends s → last_after before s ≡ ends.last
 last_is_end before ends [] h = let none : slice_get {X = ℤ} [] 0 ≡ Some ends.first = h.0 in cc
