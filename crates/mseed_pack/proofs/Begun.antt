@@ -1,10 +1,10 @@
 -- Before the first sample of a series is packed.
 use Rattle.std.proofs.Common.{◌≡◌, ℕ, ◌<◌, ◌^◌, ℤ, pos, List, length, get_or, arith, refl, sym, subst, All}
-use Rattle.std.proofs.Common.{FitsSigned, w32, to_z, of_z}
-use Rattle.std.proofs.lemmas.Int.{ints, to_z-of_z}
-use Rattle.std.proofs.lemmas.List.Elements.{All-weaker}
+use Rattle.std.proofs.Common.{Bor, FitsSigned, w32, to_z, of_z}
+use Rattle.std.proofs.lemmas.Int.{to_z-of_z}
 use Rattle.mseed_steim.specs.declared.scheme.Scheme.{Scheme}
 use Rattle.mseed_steim.specs.declared.scheme.Scheme.TheVariants.{One, Two}
+use Rattle.mseed_steim.specs.Lookahead.{IsLookahead}
 use Rattle.mseed_steim.specs.Spelling.{IsWithin}
 use Rattle.mseed_audit.specs.Series.{Trace}
 use Rattle.mseed_pack.specs.declared.batch.Job.{Job}
@@ -19,8 +19,9 @@ use Rattle.mseed_pack.specs.Options.{IsSteim}
 use Rattle.mseed_pack.specs.Stretches.{differences}
 use Rattle.mseed_pack.specs.Supplies.{SuppliesFitting}
 use Rattle.mseed_pack.specs.Traces.{headed, trace_of}
-use Rattle.mseed_pack.specs.private.Filling.{AreBegun, GoesOn, GoesOnIn, IsListed, StandsInList, width_of}
+use Rattle.mseed_pack.specs.private.Filling.{AreBegun, GoOnAt, GoesOn, GoesOnIn, IsListed, StandsInList, width_of}
 use Rattle.mseed_pack.specs.private.Spans.{CanBegin}
+use Rattle.mseed_pack.proofs.Filled.{scheme_fits}
 
 -- as it is passed, in 32 bits
 pub begun_by : (f : Frames) (first : ℤ) → FitsSigned w32 first → AreBegun f (to_z w32 (of_z w32 first))
@@ -41,9 +42,11 @@ begun supplies f supply scheme xs supplied few begins fit differences_fit =
         high = omega (arith, high);
       };
       before = begins.before;
-      fit = fit;
-      differences_fit = differences_fit;
-      known = begins.known scheme (differences xs);
+      ahead = record {
+        fit = fit;
+        differences_fit = differences_fit;
+        known = begins.known scheme (differences xs);
+      };
       few = few;
     }
 
@@ -57,10 +60,6 @@ frames_begun supplies f supply Steim1 xs steim supplied few begins fit differenc
 frames_begun supplies f supply Steim2 xs steim supplied few begins fit differences_fit =
     begun supplies f supply Two xs supplied few begins fit differences_fit
 
--- 30 bits are held in 32
-wider : (z : ℤ) → IsWithin 30 z → IsWithin 32 z
-wider z h = (omega (arith, ints, h.0), omega (arith, ints, h.1))
-
 listed : (list : Listed) (xs : List ℤ) → list.samples.now ≡ xs → list.given ≡ 0 → All (IsWithin 32) (differences xs)
     → IsListed list xs 0
 listed list xs same none fits = record { samples_are = same; given_is = none; inside = omega arith; fits = fits }
@@ -72,32 +71,32 @@ list_supplies list Int16 xs steim same none fits = absurd steim
 list_supplies list Int32 xs steim same none fits = absurd steim
 list_supplies list Steim1 xs steim same none fits = listed list xs same none fits
 list_supplies list Steim2 xs steim same none fits =
-    listed list xs same none (All-weaker (IsWithin 30) (IsWithin 32) wider (differences xs) fits)
+    listed list xs same none (scheme_fits Two (differences xs) fits)
 
-pub list_begun : (p : Payloads) (list : Listed) (e : Encoding) (xs : List ℤ) → list.samples.now ≡ xs → list.given ≡ 0
-    → length xs < 2 ^ 64 → AreBegun p.frames (get_or xs 0 (pos 0)) → All (IsSampleOf e) xs
-    → All (IsDifferenceOf e) (differences xs)
-    → StandsInList p list e xs 0
-list_begun p list Int16 xs same none few begins fit differences_fit = (same, fit)
-list_begun p list Int32 xs same none few begins fit differences_fit = (same, fit)
-list_begun p list Steim1 xs same none few begins fit differences_fit =
-    begun IsListed p.frames list One xs (list_supplies list Steim1 xs tt same none differences_fit) few begins fit
-    differences_fit
-list_begun p list Steim2 xs same none few begins fit differences_fit =
-    begun IsListed p.frames list Two xs (list_supplies list Steim2 xs tt same none differences_fit) few begins fit
-    differences_fit
+-- whatever comes, payloads go on at its first sample
+pub list_begun : (p : Payloads) (e : Encoding) (xs : List ℤ)
+    → ((scheme : Scheme) (ds : List ℤ) → IsLookahead scheme p.known ds) → All (IsSampleOf e) xs
+    → All (IsDifferenceOf e) (differences xs) → GoOnAt p e xs 0
+list_begun p Int16 xs new fit differences_fit = fit
+list_begun p Int32 xs new fit differences_fit = fit
+list_begun p Steim1 xs new fit differences_fit =
+    record { fit = fit; differences_fit = differences_fit; known = new One (differences xs) }
+list_begun p Steim2 xs new fit differences_fit =
+    record { fit = fit; differences_fit = differences_fit; known = new Two (differences xs) }
 
 -- a series where it lies
-pub series_begins : (p : Payloads) (list : Listed) (job : Job) (view : SeriesView)
+pub series_begins : (p : Payloads) (list : Bor (List ℤ)) (job : Job) (view : SeriesView)
     → headed job.head.now view.samples.now ≡ trace_of view → job.head.now.count ≡ length view.samples.now
-    → job.head.now.first ≡ get_or view.samples.now 0 (pos 0) → Fits (trace_of view) job.options.now
-    → list.samples.now ≡ view.samples.now → list.given ≡ 0 → length view.samples.now < 2 ^ 64
-    → AreBegun p.frames job.head.now.first → CanBegin StandsInList job p list view.samples.now
-series_begins p list job view trace count first fits same none few begins = record {
+    → Fits (trace_of view) job.options.now → list.now ≡ view.samples.now
+    → ((scheme : Scheme) (ds : List ℤ) → IsLookahead scheme p.known ds)
+    → CanBegin StandsInList job p list view.samples.now
+series_begins p list job view trace count fits same new = record {
   count = sym count;
   fits = subst (λ (s : Trace). Fits s job.options.now) (sym trace) fits;
-  stands_first = list_begun p list job.options.now.encoding view.samples.now same none few
-      (subst (λ (z : ℤ). AreBegun p.frames z) first begins) fits.samples fits.differences_fit;
+  stands_first = (
+    same,
+    list_begun p job.options.now.encoding view.samples.now new fits.samples fits.differences_fit,
+  );
 }
 
 -- one that comes from a supply

@@ -1,27 +1,29 @@
 -- Steim frames that hold the differences that are left, as far as there is room.
-use Rattle.std.proofs.Common.{◌≡◌, ℕ, suc, ◌+◌, ◌-◌, ◌*◌, ◌/◌, ◌%◌, ◌<◌, ◌≤◌, List, ◌∷◌, length, take, drop, get_or}
-use Rattle.std.proofs.Common.{sym, ap, subst, ◌∙◌, arith, ℤ, pos, ◌⊎◌, inl, inr, ⊎_elim, Some, All, min, Ok}
+use Rattle.std.proofs.Common.{◌≡◌, ℕ, suc, ◌+◌, ◌-◌, ◌*◌, ◌/◌, ◌%◌, ◌^◌, ◌<◌, ◌≤◌, List, ◌∷◌, length, take, drop}
+use Rattle.std.proofs.Common.{get_or, sym, ap, subst, ◌∙◌, arith, ℤ, pos, ◌⊎◌, inl, inr, ⊎_elim, Some, All, min, Ok}
 use Rattle.std.specs.Prelude.{slice_range, slice_get}
 use Rattle.std.specs.List.{AllByRecursion}
 use Rattle.std.proofs.lemmas.List.{length-drop, length-take-le, take-take, get_or-take, get_or-drop, ext_get_or}
 use Rattle.std.proofs.lemmas.Option.{slice_get-get_or}
-use Rattle.std.proofs.lemmas.List.Elements.{All-drop, All-get_or, All-take}
+use Rattle.std.proofs.lemmas.List.Elements.{All-drop, All-get_or, All-take, All-weaker}
 use Rattle.std.proofs.lemmas.Bool.{cases_lt}
 use Rattle.mseed_steim.specs.declared.scheme.Scheme.{Scheme}
-use Rattle.mseed_steim.specs.declared.scheme.Scheme.TheVariants.{Two}
+use Rattle.mseed_steim.specs.declared.scheme.Scheme.TheVariants.{One, Two}
 use Rattle.mseed_steim.specs.Spelling.{IsWithin}
 use Rattle.mseed_steim.specs.Frames.{DataWord, data_word, data_words, words_from, word_count, code_at}
 use Rattle.mseed_steim.specs.Packed.{IsRunPacked}
 use Rattle.mseed_steim.specs.Packing.{IsEmptyWord, PacksRun}
 use Rattle.mseed_steim.proofs.Packs.{rest_shorter}
+use Rattle.mseed_steim.proofs.Rows.{within_wider}
 use Rattle.mseed_pack.specs.declared.payload.Left.{Left}
 use Rattle.mseed_pack.specs.declared.window.Window.{Window}
-use Rattle.mseed_pack.specs.private.Filling.{AreFrames, AreLeft, AreSet, HoldsDifferences, width_of}
+use Rattle.mseed_pack.specs.private.Filling.{AreFrames, AreLeft, AreSet, AreTaken, HoldsDifferences}
+use Rattle.mseed_pack.specs.private.Filling.{width_of}
 use Rattle.mseed_pack.specs.Packing.{HoldsFrames}
 use Rattle.mseed_pack.specs.Stretches.{differences}
 use Rattle.mseed_pack.proofs.Constants.{words_step}
 use Rattle.mseed_pack.proofs.Differences.{length-differences}
-use Rattle.mseed_pack.proofs.Room.{packs_on, used_is, words_fit}
+use Rattle.mseed_pack.proofs.Room.{packs_on, run_few, used_is, words_fit}
 
 -- a part of a list
 pub length_part : {X : Type 0} (xs : List X) (i j : ℕ) → i ≤ j → j ≤ length xs → length (slice_range xs i j) ≡ j - i
@@ -95,14 +97,11 @@ part_long s xs first end n used words p f =
     (omega (arith, fits, inside, length-differences xs)) in
     (fits, size ∙ (let e : first + n - first ≡ n = omega arith in e))
 
--- Where seven for each word are packed, those are packed of all that are left.
-record OfAll (s : Scheme) (xs : List ℤ) (first end used words : ℕ) (p : List ℕ) : Type 0 where
-  run : PacksRun s (take words (data_words p)) (slice_range (differences xs) first end)
-      (drop used (slice_range (differences xs) first end))
-  few : used ≤ 7 * words
-
+-- where seven for each word are packed, those are packed of all that are left
 of_all : (s : Scheme) (xs : List ℤ) (first end n used words : ℕ) (p : List ℕ) → Fills s xs first end n used words p
-    → (7 * (length p / 4) ≤ n) × (first + n ≤ end) → OfAll s xs first end used words p
+    → (7 * (length p / 4) ≤ n) × (first + n ≤ end)
+    → PacksRun s (take words (data_words p)) (slice_range (differences xs) first end)
+    (drop used (slice_range (differences xs) first end))
 of_all s xs first end n used words p f b =
     let left = slice_range (differences xs) first end in
     let part = slice_range (differences xs) first (first + n) in
@@ -117,11 +116,7 @@ of_all s xs first end n used words p f b =
     let same : used ≡ on.used =
     used_is part used on.used f.used_fits inside (on.rest_is
     ∙ ap (λ (ds : List ℤ). drop on.used ds) (sym prefix)) in
-    let few = on.few in
-    record {
-      run = subst (λ (u : ℕ). PacksRun s ws left (drop u left)) (sym same) on.run;
-      few = omega (arith, same, few, count);
-    }
+    subst (λ (u : ℕ). PacksRun s ws left (drop u left)) (sym same) on.run
 
 run_left : (s : Scheme) (xs : List ℤ) (first end n used words : ℕ) (p : List ℕ) → Fills s xs first end n used words p
     → PacksRun s (take words (data_words p)) (slice_range (differences xs) first end)
@@ -130,7 +125,7 @@ run_left s xs first end n used words p f =
     ⊎_elim
     (λ (e : first + n ≡ end). subst (λ (j : ℕ). PacksRun s (take words (data_words p))
     (slice_range (differences xs) first j) (drop used (slice_range (differences xs) first j))) e f.packed)
-    (λ (b : (7 * (length p / 4) ≤ n) × (first + n ≤ end)). (of_all s xs first end n used words p f b).run)
+    (of_all s xs first end n used words p f)
     f.enough
 
 pub some_used_of : (s : Scheme) (xs : List ℤ) (first end n used words : ℕ) (p : List ℕ)
@@ -159,6 +154,24 @@ used_most s xs first end n used words p f =
     let fits = f.used_fits in
     omega (arith, fits, sized.1)
 
+-- each word takes seven at the most
+used_seven : (s : Scheme) (xs : List ℤ) (first end n used words : ℕ) (p : List ℕ)
+    → Fills s xs first end n used words p → used ≤ 7 * words
+used_seven s xs first end n used words p f =
+    let part = slice_range (differences xs) first (first + n) in
+    let run = run_few s (take words (data_words p)) part (drop used part) f.packed in
+    let count : length (take words (data_words p)) ≡ words = length-take-le words (data_words p) f.words_fit in
+    let fits = f.used_fits in
+    omega (arith, run, fits, count, length-drop used part)
+
+pub taken_of : (s : Scheme) (xs : List ℤ) (l : Left) (n used words : ℕ) (p : List ℕ)
+    → Fills s xs l.first l.end n used words p → length p ≤ 4032 → AreTaken l used
+taken_of s xs l n used words p f short =
+    let some = some_used_of s xs l.first l.end n used words p f in
+    let seven = used_seven s xs l.first l.end n used words p f in
+    let fits = f.words_fit in
+    record { some = some.0; within = some.1; few = omega (arith, seven, fits, short, words_fit p) }
+
 pub holds : (s : Scheme) (xs : List ℤ) (first end n used words : ℕ) (p q : List ℕ)
     → Fills s xs first end n used words p → length q ≡ length p
     → AreSet p q (get_or xs first (pos 0)) (get_or xs (first + used - 1) (pos 0))
@@ -180,7 +193,7 @@ holds s xs first end n used words p q f size set =
     (λ (e : used ≡ length (slice_range (differences xs) first (first + n))). ⊎_elim
     (λ (j : first + n ≡ end). inl (omega (arith, count, e, sized.1, all, j)))
     (λ (b : (7 * (length p / 4) ≤ n) × (first + n ≤ end)).
-    let few = (of_all s xs first end n used words p f b).few in
+    let few = used_seven s xs first end n used words p f in
     let fits = f.words_fit in
     let most = words_fit p in
     let long = f.long in
@@ -214,27 +227,36 @@ holds s xs first end n used words p q f size set =
     }
 
 -- by what packing answered
-fills_by : (s : Scheme) (xs : List ℤ) (first end n used words size : ℕ) (p : List ℕ) (ds : List ℤ)
-    → ds ≡ slice_range (differences xs) first (first + n) → first < end → end ≤ length xs
-    → (first + n ≡ end) ⊎ ((7 * (size / 4) ≤ n) × (first + n ≤ end)) → length p ≡ size → 64 ≤ size → size % 64 ≡ 0
-    → PacksRun s (take words (data_words p)) ds (drop used ds) → (used ≤ length ds) × (words ≤ length (data_words p))
-    → (used ≡ length ds) ⊎ (words ≡ length (data_words p))
-    → AllByRecursion IsEmptyWord (drop words (data_words p))
-    → ((k : ℕ) → k < word_count p → (k < 3) ⊎ (k % 16 ≡ 0) → code_at p k ≡ 0) → Fills s xs first end n used words p
-fills_by s xs first end n used words size p ds e order inside enough long some whole_frames packed fits whole behind
-    codes = record {
-      order = order;
-      inside = inside;
-      enough = subst (λ (m : ℕ). (first + n ≡ end) ⊎ ((7 * (m / 4) ≤ n) × (first + n ≤ end))) (sym long) enough;
-      long = omega (arith, long, some);
-      whole_frames = ap (λ (m : ℕ). m % 64) long ∙ whole_frames;
-      packed = subst (λ (l : List ℤ). PacksRun s (take words (data_words p)) l (drop used l)) e packed;
-      used_fits = subst (λ (l : List ℤ). used ≤ length l) e fits.0;
-      words_fit = fits.1;
-      whole = subst (λ (l : List ℤ). (used ≡ length l) ⊎ (words ≡ length (data_words p))) e whole;
-      behind = behind;
-      codes = codes;
+pub fills_by : (s : Scheme) (xs : List ℤ) (l : Left) (n used words : ℕ) (old p : List ℕ) (ds : List ℤ) → AreLeft xs l
+    → AreFrames old → ds ≡ slice_range (differences xs) l.first (l.first + n)
+    → (l.first + n ≡ l.end) ⊎ ((7 * (length old / 4) ≤ n) × (l.first + n ≤ l.end)) → length p ≡ length old
+    → IsRunPacked s ds p (Ok (record { used = used; words = words })) → Fills s xs l.first l.end n used words p
+fills_by s xs l n used words old p ds left frames e enough size run =
+    let long = frames.long in
+    record {
+      order = left.some;
+      inside = left.inside;
+      enough = subst (λ (m : ℕ). (l.first + n ≡ l.end) ⊎ ((7 * (m / 4) ≤ n) × (l.first + n ≤ l.end))) (sym size)
+          enough;
+      long = omega (arith, size, long);
+      whole_frames = ap (λ (m : ℕ). m % 64) size ∙ frames.whole;
+      packed = subst (λ (ys : List ℤ). PacksRun s (take words (data_words p)) ys (drop used ys)) e run.packed;
+      used_fits = subst (λ (ys : List ℤ). used ≤ length ys) e run.inside.0;
+      words_fit = run.inside.1;
+      whole = subst (λ (ys : List ℤ). (used ≡ length ys) ⊎ (words ≡ length (data_words p))) e run.whole;
+      behind = run.behind;
+      codes = run.codes;
     }
+
+-- the same, of all that are left
+pub fills_all : (s : Scheme) (xs : List ℤ) (l : Left) (used words : ℕ) (old p : List ℕ) → AreLeft xs l → AreFrames old
+    → length p ≡ length old → IsRunPacked s (slice_range (differences xs) l.first l.end) p
+    (Ok (record { used = used; words = words })) → Fills s xs l.first l.end (l.end - l.first) used words p
+fills_all s xs l used words old p left frames size run =
+    let some = left.some in
+    let all : l.end ≡ l.first + (l.end - l.first) = omega (arith, some) in
+    fills_by s xs l (l.end - l.first) used words old p (slice_range (differences xs) l.first l.end) left frames
+    (ap (λ (n : ℕ). slice_range (differences xs) l.first n) all) (inl (sym all)) size run
 
 -- a window holds enough of the samples that are left: all, or seven for each word of so many bytes
 pub held_enough : (w : Window) (l : Left) (bytes end : ℕ) → l.first < l.end → w.first ≤ l.first
@@ -256,11 +278,9 @@ pub fills_from : (s : Scheme) (xs : List ℤ) (l : Left) (w : Window) (end used 
 fills_from s xs l w end used words old p left frames held low high room is size run =
     let some = left.some in
     let long = frames.long in
-    fills_by s xs l.first l.end (end - l.first) used words (length old) p
-    (slice_range w.differences (l.first - w.first) (end - w.first))
-    (held_part xs w l.first end held low (omega (arith, is, some, high, long)) (omega (arith, is)) room) left.some
-    left.inside (held_enough w l (length old) end left.some low high frames.long is) size frames.long frames.whole
-    run.packed run.inside run.whole run.behind run.codes
+    fills_by s xs l (end - l.first) used words old p (slice_range w.differences (l.first - w.first) (end - w.first))
+    left frames (held_part xs w l.first end held low (omega (arith, is, some, high, long)) (omega (arith, is)) room)
+    (held_enough w l (length old) end some low high long is) size run
 
 -- no difference is too large where each fits the scheme
 pub none_large : (s : Scheme) (ds : List ℤ) (i : ℕ) → All (IsWithin (width_of s)) ds
@@ -269,7 +289,13 @@ none_large s ds i fit large =
     large.2 (subst (λ (k : Scheme). IsWithin (width_of k) (get_or ds i (pos 0))) large.1
     (All-get_or (IsWithin (width_of s)) ds i (pos 0) large.0 fit))
 
--- what a window holds of differences that fit does so too
+-- what fits a scheme has 32 bits at the most
+pub scheme_fits : (s : Scheme) (ds : List ℤ) → All (IsWithin (width_of s)) ds → All (IsWithin 32) ds
+scheme_fits One ds fit = fit
+scheme_fits Two ds fit =
+    All-weaker (IsWithin 30) (IsWithin 32) (λ z h. within_wider 30 32 z (omega arith) h) ds fit
+
+-- some of the differences fit as all do
 pub part_fits : (width : ℕ) (xs : List ℤ) (ds : List ℤ) (first end : ℕ)
     → ds ≡ slice_range (differences xs) first end → All (IsWithin width) (differences xs) → All (IsWithin width) ds
 part_fits width xs ds first end is fit =

@@ -97,7 +97,7 @@ length_flat w (z ∷ zs) = omega (
 -- some are taken, and all of them stand before the end
 pub taken : (w : Width) (xs : List ℤ) (left : Left) (size r count : ℕ) → r ≡ bytes_in w
     → count ≡ min (left.end - left.first) (size / r) → AreLeft xs left → 64 ≤ size → size ≤ 4032
-    → AreTaken left (record { samples = count; frames = 0 })
+    → AreTaken left count
 taken Short xs left size r count e m l long short =
     let some = l.some in
     let most : count ≡ min (left.end - left.first) (size / 2) =

@@ -48,13 +48,12 @@ pub record PacksOn (s : Scheme) (ws : List DataWord) (ds prefix rest : List ℤ)
   pub used : ℕ
   pub run : PacksRun s ws ds (drop used ds)
   pub rest_is : rest ≡ drop used prefix
-  pub few : used ≤ 7 * length ws
   pub inside : used ≤ length prefix
 
 pub packs_on : (s : Scheme) (ws : List DataWord) (ds rest : List ℤ) (n : ℕ) → 7 * length ws ≤ n
     → PacksRun s ws (take n ds) rest → PacksOn s ws ds (take n ds) rest
 packs_on s [] ds rest n h run =
-    record { used = 0; run = refl; rest_is = sym run; few = omega arith; inside = omega arith }
+    record { used = 0; run = refl; rest_is = sym run; inside = omega arith }
 packs_on s (w ∷ ws) ds rest n h run =
     let used = run.0 in
     let full = run.1.0 in
@@ -68,7 +67,6 @@ packs_on s (w ∷ ws) ds rest n h run =
     let behind : drop later.used (drop used ds) ≡ drop (used + later.used) ds = drop-drop later.used used ds in
     let rest_is : rest ≡ drop (used + later.used) (take n ds) =
     later.rest_is ∙ ap (λ (xs : List ℤ). drop later.used xs) (sym left) ∙ drop-drop later.used used (take n ds) in
-    let small = later.few in
     let short = later.inside in
     let size : length (take (n - used) (drop used ds)) ≡ length (take n ds) - used =
     ap (λ (xs : List ℤ). length xs) (sym left) ∙ length-drop used (take n ds) in
@@ -82,9 +80,18 @@ packs_on s (w ∷ ws) ds rest n h run =
         ),
       );
       rest_is = rest_is;
-      few = omega (arith, few, small);
       inside = omega (arith, short, size, inside);
     }
+
+-- each word takes seven at the most
+pub run_few : (s : Scheme) (ws : List DataWord) (ds rest : List ℤ) → PacksRun s ws ds rest
+    → length ds ≤ 7 * length ws + length rest
+run_few s [] ds rest run = let same : length ds ≡ length rest = ap (λ (xs : List ℤ). length xs) run in
+    omega (arith, same)
+run_few s (w ∷ ws) ds rest run =
+    let few : run.0 ≤ 7 = used_seven s ds w.code w.bits run.0 run.1.0 in
+    let later : length (drop run.0 ds) ≤ 7 * length ws + length rest = run_few s ws (drop run.0 ds) rest run.1.1 in
+    omega (arith, few, later, length-drop run.0 ds)
 
 -- what is left tells how many were used
 pub used_is : (ds : List ℤ) (m n : ℕ) → m ≤ length ds → n ≤ length ds → drop m ds ≡ drop n ds → m ≡ n

@@ -1,15 +1,14 @@
 //! Samples as Steim frames.
 ghost use Rattle.std.specs.Prelude.{◌≡◌, ℕ, ℤ, List, ◌+◌, ◌-◌, ◌*◌, ◌/◌, ◌<◌, ◌≤◌, ◌==◌, if◌then◌else◌, length};
-ghost use Rattle.std.specs.Prelude.{drop, min, slice_range, ◌++◌, All, IfSome, Ok};
+ghost use Rattle.std.specs.Prelude.{drop, min, slice_range, ◌++◌, All, Ok};
 ghost use Rattle.mseed_steim.specs.Frames.{word_at};
 ghost use Rattle.mseed_steim.specs.Lookahead.{IsLookahead};
 ghost use Rattle.mseed_steim.specs.Packed.{IsRunPacked};
 ghost use Rattle.mseed_steim.specs.Spelling.{IsWithin};
 ghost use Rattle.mseed_pack.specs.declared.window.TheConstants.{ROOM};
-ghost use Rattle.mseed_pack.specs.private.Filling.{AreBegun, AreFrames, AreLeft, AreRunEnds, AreSet, AreTaken, GoesOn};
-ghost use Rattle.mseed_pack.specs.private.Filling.{Holds, HoldsDifferences, HoldsInFrames, width_of};
+ghost use Rattle.mseed_pack.specs.private.Filling.{AreAhead, AreBegun, AreFrames, AreLeft, AreRunEnds, AreSet, AreTaken};
+ghost use Rattle.mseed_pack.specs.private.Filling.{GoesOn, Holds, HoldsDifferences, HoldsInFrames, width_of};
 ghost use Rattle.mseed_pack.specs.private.Marks.{sample_before};
-ghost use Rattle.mseed_pack.specs.Stretches.{differences};
 
 use crate::marks::Mark;
 use crate::options::Encoding;
@@ -97,54 +96,45 @@ impl<S: Supply> Filler<S> for Frames {
         payload: &mut [u8],
     ) -> Filled {
         match encoding {
-            Encoding::Steim1 => fill_frames(Scheme::One, left, None, self, supply, payload),
-            Encoding::Steim2 => fill_frames(Scheme::Two, left, None, self, supply, payload),
+            Encoding::Steim1 => fill_frames(Scheme::One, left, self, supply, payload),
+            Encoding::Steim2 => fill_frames(Scheme::Two, left, self, supply, payload),
             Encoding::Int16 | Encoding::Int32 => unreachable!(),
         }
     }
 }
 
 /// Packs the samples from one on, as many as there is room for, into Steim frames. Their differences are taken through
-/// the window. Where a list of all samples is at hand, the first and the last of those that were packed are read in it.
-pub(crate) fn fill_frames<S: Supply>(
+/// the window.
+fn fill_frames<S: Supply>(
     scheme: Scheme,
     left: Left,
-    list: Option<&[i32]>,
     frames: &mut Frames,
     supply: &mut S,
     payload: &mut [u8],
 ) -> Filled
     requires frames { AreFrames payload.old }
     requires left { (samples : List ℤ) × (GoesOn S.supplies frames.old supply.old scheme samples left.first
-        × AreLeft samples left × IfSome list (λ all. all.now ≡ samples)) }
+        × AreLeft samples left) }
     ensures filled { (samples : List ℤ) → GoesOn S.supplies frames.old supply.old scheme samples left.first
-        → AreLeft samples left → IfSome list.entry (λ all. all.now ≡ samples)
-        → HoldsInFrames scheme samples left result payload.new
+        → AreLeft samples left → HoldsInFrames scheme samples left result payload.new
         × GoesOn S.supplies frames.new supply.new scheme samples (left.first + result.samples) }
-    ensures taken { AreTaken left result }
+    ensures taken { AreTaken left result.samples }
     ensures beside { S.beside supply.new ≡ S.beside supply.old }
 {
     let count = (left.end - left.first).min(MOST * (payload.len() / WORD));
     frames.window.hold(supply, left.first, count);
-    pack_held(scheme, left, list, frames, payload)
+    pack_held(scheme, left, frames, payload)
 }
 
 /// The same of what the window holds: of all samples that are left the differences, or of as many as there is room for.
-fn pack_held(
-    scheme: Scheme,
-    left: Left,
-    list: Option<&[i32]>,
-    frames: &mut Frames,
-    payload: &mut [u8],
-) -> Filled
+fn pack_held(scheme: Scheme, left: Left, frames: &mut Frames, payload: &mut [u8]) -> Filled
     requires frames { AreFrames payload.old }
-    requires held { (samples : List ℤ) × (Holds frames.old scheme samples left (length payload.old)
-        × IfSome list (λ all. all.now ≡ samples)) }
+    requires held { (samples : List ℤ) × Holds frames.old scheme samples left (length payload.old) }
     ensures filled { (samples : List ℤ) → Holds frames.old scheme samples left (length payload.old)
-        → IfSome list.entry (λ all. all.now ≡ samples) → HoldsInFrames scheme samples left result payload.new
+        → HoldsInFrames scheme samples left result payload.new
         × (frames.new.before ≡ sample_before samples (left.first + result.samples))
-        × IsLookahead scheme frames.new.known (drop (left.first + result.samples) (differences samples)) }
-    ensures taken { AreTaken left result }
+        × AreAhead frames.new.known scheme samples (left.first + result.samples) }
+    ensures taken { AreTaken left result.samples }
     ensures few { left.first + result.samples ≤ frames.old.window.end }
     ensures window { frames.new.window ≡ frames.old.window }
 {
@@ -152,7 +142,7 @@ fn pack_held(
     let end = left.end.min(window.end);
     let known = &mut frames.known;
     let packed = pack_part(scheme, left.first, end, window, known, payload);
-    let ends = find_ends(list, frames, left.first, packed.used);
+    let ends = frames.add_ends(left.first, packed.used);
     put_constants(payload, ends.first, ends.last);
     frames.before = ends.last;
     Filled {
@@ -195,46 +185,15 @@ fn pack_part(
 }
 
 /// How many frames hold so many data words: 15 each, the first one two fewer.
-fn frames_of(words: usize) -> u8
+pub(crate) fn frames_of(words: usize) -> u8
     requires { words ≤ 1008 }
     ensures { result ≡ (words + 16) / 15 }
 {
     ((words + 16) / 15) as u8
 }
 
-/// The first and the last of so many samples from one on. Where a list of all samples is at hand, they are read in it.
-fn find_ends(list: Option<&[i32]>, frames: &mut Frames, place: usize, count: usize) -> Ends
-    requires some { 0 < count }
-    requires low { frames.old.window.first ≤ place }
-    requires high { place + count ≤ frames.old.window.end }
-    requires held { (samples : List ℤ) × (HoldsDifferences samples frames.old.window
-        × IfSome list (λ all. all.now ≡ samples)) }
-    ensures ends { (samples : List ℤ) → HoldsDifferences samples frames.old.window → All (IsWithin 32) samples
-        → frames.old.before ≡ sample_before samples place → IfSome list.entry (λ all. all.now ≡ samples)
-        → AreRunEnds result samples place count }
-    ensures window { frames.new.window ≡ frames.old.window }
-    ensures known { frames.new.known ≡ frames.old.known }
-{
-    match list {
-        Some(samples) => ends_in(samples, place, count),
-        None => frames.add_ends(place, count),
-    }
-}
-
-/// The first and the last of so many samples, from one on.
-fn ends_in(samples: &[i32], place: usize, count: usize) -> Ends
-    requires some { 0 < count }
-    requires inside { place + count ≤ length samples.now }
-    ensures { AreRunEnds result samples.now place count }
-{
-    Ends {
-        first: samples[place],
-        last: samples[place + count - 1],
-    }
-}
-
 /// Writes the first and the last sample into the words 1 and 2 of some frames.
-fn put_constants(frames: &mut [u8], first: i32, last: i32)
+pub(crate) fn put_constants(frames: &mut [u8], first: i32, last: i32)
     requires { 64 ≤ length frames.old }
     ensures { AreSet frames.old frames.new first last }
 {

@@ -32,7 +32,7 @@ pub(crate) fn fill_integers(width: Width, samples: &[i32], left: Left, payload: 
     requires fits { All (IsWithin (8 * bytes_in width)) samples.now }
     ensures holds { HoldsIntegers (bytes_in width) (left.end - left.first)
         (slice_range samples.now left.first (left.first + result.samples)) result.frames payload.new }
-    ensures taken { AreTaken left result }
+    ensures taken { AreTaken left result.samples }
 {
     let bytes = bytes_in(width);
     let count = (left.end - left.first).min(payload.len() / bytes);

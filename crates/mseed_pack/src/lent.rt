@@ -9,7 +9,6 @@ ghost use Rattle.mseed_pack.specs.private.Spans.{CanGoOn, IsFilledTo, StandsAt};
 ghost use Rattle.mseed_pack.specs.Traces.{trace_of};
 
 use crate::batch::{Batch, Job, Place, first_place, gather};
-use crate::listed::Listed;
 use crate::options::Options;
 use crate::payloads::Payloads;
 use crate::record::LONGEST;
@@ -25,9 +24,8 @@ pub fn pack_into(series: &SeriesView, options: &Options, room: &mut [u8]) -> u64
 {
     let mut records = [0; LONGEST];
     let mut payloads = Payloads::new();
-    let mut list = Listed::of(series.samples);
+    let mut list = series.samples;
     let head = series.head();
-    payloads.begin(head.first);
     let job = Job {
         head: &head,
         options,
@@ -48,7 +46,7 @@ fn fill_on(
     job: &Job,
     place: Place,
     payloads: &mut Payloads,
-    list: &mut Listed,
+    list: &mut &[i32],
     records: &mut [u8],
     room: &mut [u8],
 ) -> Batch

@@ -15,8 +15,8 @@ ghost use Rattle.mseed_pack.specs.private.Spans.{CanBegin};
 use crate::batch::{Job, first_place, gather};
 use crate::fault::PackFault;
 use crate::fitting::fit_view;
+use crate::frames::Frames;
 use crate::law::{fewest_words, reads_back};
-use crate::listed::Listed;
 use crate::options::Options;
 use crate::payload::Filler;
 use crate::payloads::Payloads;
@@ -113,7 +113,7 @@ fn pack_if_fit<W: Sink>(
 #[derive(Drop)]
 pub struct Packer {
     records: [u8; GATHERED],
-    payloads: Payloads,
+    frames: Frames,
 }
 
 impl Packer {
@@ -121,7 +121,7 @@ impl Packer {
     pub fn new() -> Packer {
         Packer {
             records: [0; GATHERED],
-            payloads: Payloads::new(),
+            frames: Frames::new(),
         }
     }
 
@@ -152,9 +152,9 @@ impl Packer {
             head: &head,
             options,
         };
-        let mut list = Listed::of(series.samples);
-        self.payloads.begin(head.first);
-        write_records(&job, &mut self.payloads, &mut list, &mut self.records, sink)
+        let mut payloads = Payloads::new();
+        let mut list = series.samples;
+        write_records(&job, &mut payloads, &mut list, &mut self.records, sink)
     }
 
     /// [`Packer::pack_fitting`] in either Steim, of a series whose samples come from a supply, from the first on: what
@@ -188,9 +188,8 @@ impl Packer {
     {
         know_count(head.count);
         let job = Job { head, options };
-        let frames = &mut self.payloads.frames;
-        frames.begin(head.first);
-        write_records(&job, frames, supply, &mut self.records, sink)
+        self.frames.begin(head.first);
+        write_records(&job, &mut self.frames, supply, &mut self.records, sink)
     }
 }
 

@@ -36,6 +36,6 @@ pub(crate) trait Filler<S> {
         ensures filled { (samples : List ℤ) → stands self.old supply.old encoding samples left.first
             → AreLeft samples left → IsFilled encoding samples left result payload.new
             × stands self.new supply.new encoding samples (left.first + result.samples) }
-        ensures taken { AreTaken left result }
+        ensures taken { AreTaken left result.samples }
         ensures beside { beside supply.new ≡ beside supply.old };
 }

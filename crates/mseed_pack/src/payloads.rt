@@ -1,38 +1,35 @@
 //! The samples of a list, in payloads of any encoding.
-ghost use Rattle.std.specs.Prelude.{◌+◌, ℤ, List};
-ghost use Rattle.mseed_pack.specs.private.Filling.{AreBegun, AreFrames, AreLeft, AreTaken, GoesOn};
-ghost use Rattle.mseed_pack.specs.private.Filling.{HoldsInFrames, IsListed};
+ghost use Rattle.std.specs.Prelude.{ℤ, List, ◌+◌, slice_range, Ok};
+ghost use Rattle.mseed_steim.specs.Lookahead.{IsLookahead};
+ghost use Rattle.mseed_steim.specs.Packed.{IsRunPacked};
+ghost use Rattle.mseed_steim.specs.declared.scheme.Scheme.{Scheme};
+ghost use Rattle.mseed_pack.specs.private.Filling.{AreAhead, AreFrames, AreLeft, AreTaken, HoldsInFrames};
+ghost use Rattle.mseed_pack.specs.Stretches.{differences};
 
-use crate::frames::{Frames, fill_frames};
+use crate::frames::{frames_of, put_constants};
 use crate::integers::{Width, fill_integers};
-use crate::listed::Listed;
 use crate::options::Encoding;
 use crate::payload::{Filled, Filler, Left};
-use mseed_steim::Scheme;
+use mseed_steim::{Lookahead, Packed, Scheme, pack_samples_ahead};
 
-/// What payloads of any encoding are filled from, beside the list.
+/// What payloads of any encoding are filled from, beside the list: what is known ahead of its next sample.
 #[derive(Drop)]
 pub(crate) struct Payloads {
-    pub(crate) frames: Frames,
+    pub(crate) known: Lookahead,
 }
 
 impl Payloads {
     /// Before any samples.
-    pub(crate) fn new() -> Payloads {
-        Payloads {
-            frames: Frames::new(),
-        }
-    }
-
-    /// Begins with the first sample of a series, whatever was filled in before.
-    pub(crate) fn begin(&mut self, first: i32)
-        ensures { AreBegun self.new.frames first }
+    pub(crate) fn new() -> Payloads
+        ensures { (scheme : Scheme) (ds : List ℤ) → IsLookahead scheme result.known ds }
     {
-        self.frames.begin(first);
+        Payloads {
+            known: Lookahead::new(),
+        }
     }
 }
 
-impl<'a> Filler<Listed<'a>> for Payloads {
+impl<'a> Filler<&'a [i32]> for Payloads {
     ghost use Rattle.mseed_pack.specs.private.Filling.{StandsInList};
 
     ghost stands = { λ s list encoding samples place. StandsInList s list encoding samples place };
@@ -41,33 +38,64 @@ impl<'a> Filler<Listed<'a>> for Payloads {
         &mut self,
         encoding: Encoding,
         left: Left,
-        list: &mut Listed<'a>,
+        list: &mut &'a [i32],
         payload: &mut [u8],
     ) -> Filled {
+        let known = &mut self.known;
         match encoding {
-            Encoding::Int16 => fill_integers(Width::Two, list.samples, left, payload),
-            Encoding::Int32 => fill_integers(Width::Four, list.samples, left, payload),
-            Encoding::Steim1 => fill_listed(Scheme::One, left, &mut self.frames, list, payload),
-            Encoding::Steim2 => fill_listed(Scheme::Two, left, &mut self.frames, list, payload),
+            Encoding::Int16 => fill_integers(Width::Two, *list, left, payload),
+            Encoding::Int32 => fill_integers(Width::Four, *list, left, payload),
+            Encoding::Steim1 => fill_listed(Scheme::One, *list, left, known, payload),
+            Encoding::Steim2 => fill_listed(Scheme::Two, *list, left, known, payload),
         }
     }
 }
 
-/// Packs the samples of a list from one on, as many as there is room for, into Steim frames.
+/// Packs the samples from one on, as many as there is room for, into Steim frames.
 fn fill_listed(
     scheme: Scheme,
+    samples: &[i32],
     left: Left,
-    frames: &mut Frames,
-    list: &mut Listed<'_>,
+    known: &mut Lookahead,
     payload: &mut [u8],
 ) -> Filled
     requires frames { AreFrames payload.old }
-    requires left { (samples : List ℤ) × (GoesOn IsListed frames.old list.old scheme samples left.first
-        × AreLeft samples left) }
-    ensures filled { (samples : List ℤ) → GoesOn IsListed frames.old list.old scheme samples left.first
-        → AreLeft samples left → HoldsInFrames scheme samples left result payload.new
-        × GoesOn IsListed frames.new list.new scheme samples (left.first + result.samples) }
-    ensures taken { AreTaken left result }
+    requires left { AreLeft samples.now left }
+    requires ahead { AreAhead known.old scheme samples.now left.first }
+    ensures filled { HoldsInFrames scheme samples.now left result payload.new }
+    ensures ahead { AreAhead known.new scheme samples.now (left.first + result.samples) }
+    ensures taken { AreTaken left result.samples }
 {
-    fill_frames(scheme, left, Some(list.samples), frames, list, payload)
+    let packed = pack_left(scheme, samples, left, known, payload);
+    let last = left.first + packed.used - 1;
+    put_constants(payload, samples[left.first], samples[last]);
+    Filled {
+        samples: packed.used,
+        frames: frames_of(packed.words),
+    }
+}
+
+/// The same but for the first and the last sample, which it doesn't write. Before the first of all stands that one
+/// itself, so that its difference is 0.
+fn pack_left(
+    scheme: Scheme,
+    samples: &[i32],
+    left: Left,
+    known: &mut Lookahead,
+    payload: &mut [u8],
+) -> Packed
+    requires frames { AreFrames payload.old }
+    requires left { AreLeft samples.now left }
+    requires ahead { AreAhead known.old scheme samples.now left.first }
+    ensures packed { IsRunPacked scheme (slice_range (differences samples.now) left.first left.end) payload.new
+        (Ok result) }
+    ensures ahead { AreAhead known.new scheme samples.now (left.first + result.used) }
+    ensures taken { AreTaken left result.used }
+{
+    let before = samples[left.first.saturating_sub(1)];
+    match pack_samples_ahead(scheme, before, &samples[left.first..left.end], known, payload) {
+        Ok(packed) => packed,
+        // Each difference fits the scheme.
+        Err(_) => unreachable!(),
+    }
 }

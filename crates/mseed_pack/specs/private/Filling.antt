@@ -1,7 +1,9 @@
 -- Steps of filling a payload.
 use Rattle.std.specs.Prelude.{◌≡◌, ℕ, ◌+◌, ◌-◌, ◌*◌, ◌/◌, ◌%◌, ◌^◌, ◌<◌, ◌≤◌, List, length, drop, min}
 use Rattle.std.specs.Prelude.{slice_index_or, slice_range, ℤ, pos, neg_ℤ, ◌≤ℤ◌, ◌<ℤ◌, All}
+use Rattle.std.specs.Borrow.{Bor}
 use Rattle.byteorder.specs.Endian.{big_bytes}
+use Rattle.mseed_steim.specs.declared.ahead.Lookahead.{Lookahead}
 use Rattle.mseed_steim.specs.Lookahead.{IsLookahead}
 use Rattle.mseed_steim.specs.Spelling.{IsWithin, residue}
 use Rattle.mseed_pack.specs.declared.frames.Frames.{Frames}
@@ -76,10 +78,10 @@ pub record AreFrames (payload : List ℕ) : Type 0 where
   pub whole : length payload % 64 ≡ 0
 
 -- some of them were put there
-pub record AreTaken (left : Left) (filled : Filled) : Type 0 where
-  pub some : 0 < filled.samples
-  pub within : left.first + filled.samples ≤ left.end
-  pub few : filled.samples < 2 ^ 16
+pub record AreTaken (left : Left) (count : ℕ) : Type 0 where
+  pub some : 0 < count
+  pub within : left.first + count ≤ left.end
+  pub few : count < 2 ^ 16
 
 -- the payload holds so many of those that are left, as the encoding has them
 abbrev pub IsFilled : Encoding → List ℤ → Left → Filled → List ℕ → Type 0
@@ -116,14 +118,18 @@ pub record AreBegun (frames : Frames) (first : ℤ) : Type 0 where
   pub held : (samples : List ℤ) → first ≡ slice_index_or samples 0 (pos 0) → HoldsDifferences samples frames.window
   pub known : (scheme : Scheme) (ds : List ℤ) → IsLookahead scheme frames.known ds
 
+-- a scheme holds the samples and their differences, of which this is known from a place on
+pub record AreAhead (ahead : Lookahead) (scheme : Scheme) (samples : List ℤ) (place : ℕ) : Type 0 where
+  pub fit : All (IsWithin 32) samples
+  pub differences_fit : All (IsWithin (width_of scheme)) (differences samples)
+  pub known : IsLookahead scheme ahead (drop place (differences samples))
+
 -- frames go on in a scheme at a place of the samples, whose differences it holds
 pub record GoesOn {S : Type 0} (supplies : S → List ℤ → ℕ → Type 0) (frames : Frames) (supply : S) (scheme : Scheme)
     (samples : List ℤ) (place : ℕ) : Type 0 where
   pub draws : Draws supplies samples supply frames.window place
   pub before : frames.before ≡ sample_before samples place
-  pub fit : All (IsWithin 32) samples
-  pub differences_fit : All (IsWithin (width_of scheme)) (differences samples)
-  pub known : IsLookahead scheme frames.known (drop place (differences samples))
+  pub ahead : AreAhead frames.known scheme samples place
   pub few : length samples < 2 ^ 64
 
 -- frames hold differences of the samples that are left: of all, or at least seven for each word of so many bytes
@@ -132,9 +138,7 @@ pub record Holds (frames : Frames) (scheme : Scheme) (samples : List ℤ) (left 
   pub low : frames.window.first ≤ left.first
   pub high : min left.end (left.first + 7 * (bytes / 4)) ≤ frames.window.end
   pub before : frames.before ≡ sample_before samples left.first
-  pub fit : All (IsWithin 32) samples
-  pub differences_fit : All (IsWithin (width_of scheme)) (differences samples)
-  pub known : IsLookahead scheme frames.known (drop left.first (differences samples))
+  pub ahead : AreAhead frames.known scheme samples left.first
   pub are_left : AreLeft samples left
 
 -- frames go on so in an encoding, which is either Steim
@@ -144,16 +148,16 @@ GoesOnIn supplies frames supply Int32 samples place = ⊥
 GoesOnIn supplies frames supply Steim1 samples place = GoesOn supplies frames supply One samples place
 GoesOnIn supplies frames supply Steim2 samples place = GoesOn supplies frames supply Two samples place
 
--- a list of these samples, which have at most so many bits
-abbrev pub HasIntegers : Listed → ℕ → List ℤ → Type 0
-HasIntegers list width samples = (list.samples.now ≡ samples) × All (IsWithin width) samples
+-- in an encoding, payloads go on at a place of these samples
+abbrev pub GoOnAt : Payloads → Encoding → List ℤ → ℕ → Type 0
+GoOnAt payloads Int16 samples place = All (IsWithin 16) samples
+GoOnAt payloads Int32 samples place = All (IsWithin 32) samples
+GoOnAt payloads Steim1 samples place = AreAhead payloads.known One samples place
+GoOnAt payloads Steim2 samples place = AreAhead payloads.known Two samples place
 
--- payloads go on at a place of the samples of a list
-abbrev pub StandsInList : Payloads → Listed → Encoding → List ℤ → ℕ → Type 0
-StandsInList payloads list Int16 samples place = HasIntegers list 16 samples
-StandsInList payloads list Int32 samples place = HasIntegers list 32 samples
-StandsInList payloads list Steim1 samples place = GoesOn IsListed payloads.frames list One samples place
-StandsInList payloads list Steim2 samples place = GoesOn IsListed payloads.frames list Two samples place
+-- a list is these samples, at a place of which payloads go on
+abbrev pub StandsInList : Payloads → Bor (List ℤ) → Encoding → List ℤ → ℕ → Type 0
+StandsInList payloads list encoding samples place = (list.now ≡ samples) × GoOnAt payloads encoding samples place
 
 -- the first and the last of so many samples from a place on
 pub record AreRunEnds (ends : Ends) (samples : List ℤ) (place count : ℕ) : Type 0 where

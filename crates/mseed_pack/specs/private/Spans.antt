@@ -1,6 +1,7 @@
 -- What is kept of a series' leap seconds while its samples are gone through.
 use Rattle.std.specs.Prelude.{◌≡◌, ℕ, ◌+◌, ◌*◌, ◌^◌, ◌<◌, ◌≤◌, ℤ, List, [], ◌∷◌, ◌++◌, length, nat_abs}
 use Rattle.std.specs.Prelude.{slice_range, take, drop}
+use Rattle.std.specs.Borrow.{Bor}
 use Rattle.std.specs.List.{AllByRecursion}
 use Rattle.mseed_time.specs.declared.outcome.LeapStep.{LeapStep}
 use Rattle.mseed_audit.specs.Series.{AreStepsFrom}
@@ -8,7 +9,6 @@ use Rattle.mseed_pack.specs.declared.batch.Batch.{Batch}
 use Rattle.mseed_pack.specs.declared.batch.Job.{Job}
 use Rattle.mseed_pack.specs.declared.batch.Place.{Place}
 use Rattle.mseed_steim.specs.declared.encoding.Encoding.{Encoding}
-use Rattle.mseed_pack.specs.declared.listed.Listed.{Listed}
 use Rattle.mseed_pack.specs.declared.payloads.Payloads.{Payloads}
 use Rattle.mseed_pack.specs.declared.span.Span.{Span}
 use Rattle.mseed_pack.specs.Clock.{added_before}
@@ -78,7 +78,7 @@ pub record IsRecorded {F S : Type 0} (stands : F → S → Encoding → List ℤ
   pub stands_after : stands filler supply job.options.now.encoding samples (place.first + count)
 
 -- so many bytes of records from a place on were put over a room, as many of them as it has
-pub record IsFilledTo (job : Job) (payloads : Payloads) (list : Listed) (place : Place) (batch : Batch)
+pub record IsFilledTo (job : Job) (payloads : Payloads) (list : Bor (List ℤ)) (place : Place) (batch : Batch)
     (old new : List ℕ) (samples : List ℤ) : Type 0 where
   pub bytes : List ℕ
   pub to : ComesTo StandsInList job payloads list place batch.next bytes samples

@@ -24,23 +24,18 @@ pack_held-requires-clause-held g c =
     let inside = left.inside in
     let drawn = c.hold.ensures.drawn xs goes.draws (omega (arith, c.min-count.ensures, some, inside)) in (
       xs,
-      (
-        record {
-          held = drawn.0.held;
-          low = drawn.0.low;
-          high = omega (arith, drawn.1, c.min-count.ensures, some);
-          before = goes.before;
-          fit = goes.fit;
-          differences_fit = goes.differences_fit;
-          known = goes.known;
-          are_left = left;
-        },
-        c.requires.left.1.2,
-      ),
+      record {
+        held = drawn.0.held;
+        low = drawn.0.low;
+        high = omega (arith, drawn.1, c.min-count.ensures, some);
+        before = goes.before;
+        ahead = goes.ahead;
+        are_left = left;
+      },
     )
 
 pub returns-clause-filled : goal.returns-clause-filled
-returns-clause-filled g c = λ xs goes left listed.
+returns-clause-filled g c = λ xs goes left.
     let first = c.args.left.first in
     let n = c.pack_held.result.samples in
     let some = left.some in
@@ -52,11 +47,9 @@ returns-clause-filled g c = λ xs goes left listed.
       low = drawn.0.low;
       high = omega (arith, drawn.1, c.min-count.ensures, some);
       before = goes.before;
-      fit = goes.fit;
-      differences_fit = goes.differences_fit;
-      known = goes.known;
+      ahead = goes.ahead;
       are_left = left;
-    }) listed in (
+    }) in (
       filled.0,
       record {
         draws = subst (λ (w : Window). Draws g.S.Supply.supplies xs c.hold.new.supply w (first + n))
@@ -67,9 +60,7 @@ returns-clause-filled g c = λ xs goes left listed.
               high = omega (arith, c.pack_held.ensures.few);
             });
         before = filled.1;
-        fit = goes.fit;
-        differences_fit = goes.differences_fit;
-        known = filled.2;
+        ahead = filled.2;
         few = goes.few;
       },
     )

@@ -3,11 +3,10 @@ use Rattle.std.proofs.Common.{◌∙◌, w32, to_z, of_z}
 use Rattle.std.specs.Prelude.{slice_range}
 use Rattle.std.proofs.lemmas.Int.{to_z-of_z}
 use Rattle.mseed_steim.specs.declared.ahead.Lookahead.{Lookahead}
-use Rattle.mseed_steim.specs.Lookahead.{IsLookahead}
 use Rattle.mseed_pack.specs.Packing.{HoldsFrames}
-use Rattle.mseed_pack.specs.private.Filling.{AreSet, width_of}
+use Rattle.mseed_pack.specs.private.Filling.{AreAhead, AreSet, width_of}
 use Rattle.mseed_pack.specs.Stretches.{differences}
-use Rattle.mseed_pack.proofs.Filled.{fills_from, held_part, holds, part_fits, some_used_of, used_most}
+use Rattle.mseed_pack.proofs.Filled.{fills_from, held_part, holds, part_fits, some_used_of, taken_of, used_most}
 use Rattle.mseed_pack.proofs.Onward.{known_of, known_on}
 use Rattle.mseed_pack.proofs.Room.{words_fit}
 use Rattle.mseed_pack.proofs.frames.pack_held.Goals as goal
@@ -15,7 +14,7 @@ use Rattle.mseed_pack.proofs.frames.pack_held.Goals as goal
 pub pack_part-packed-requires : goal.pack_part-packed-requires
 pack_part-packed-requires c =
     let xs = c.requires.held.0 in
-    let h = c.requires.held.1.0 in
+    let h = c.requires.held.1 in
     let l = c.args.left in
     let w = c.args.frames.now.window in
     let end = c.min-end.result in
@@ -32,17 +31,17 @@ pack_part-packed-requires c =
       order = ordered;
       high = inside;
       room = h.held.few;
-      fit = part_fits (width_of c.args.scheme) xs part l.first (l.first + (end - l.first)) drawn h.differences_fit;
+      fit = part_fits (width_of c.args.scheme) xs part l.first (l.first + (end - l.first)) drawn h.ahead.differences_fit;
       known = (
         drop (l.first + (end - l.first)) (differences xs),
-        known_of c.args.scheme c.args.frames.now.known part (differences xs) l.first (end - l.first) drawn h.known,
+        known_of c.args.scheme c.args.frames.now.known part (differences xs) l.first (end - l.first) drawn h.ahead.known,
       );
     }
 
-pub find_ends-ends-requires : goal.find_ends-ends-requires
-find_ends-ends-requires c =
+pub add_ends-ends-requires : goal.add_ends-ends-requires
+add_ends-ends-requires c =
     let xs = c.requires.held.0 in
-    let h = c.requires.held.1.0 in
+    let h = c.requires.held.1 in
     let l = c.args.left in
     let r = c.pack_part-packed.result in
     let fills = fills_from c.args.scheme xs l c.args.frames.now.window c.min-end.result r.used r.words
@@ -54,7 +53,7 @@ find_ends-ends-requires c =
       some = some.0;
       low = h.low;
       high = omega (arith, few, some, c.min-end.ensures);
-      held = (xs, (h.held, c.requires.held.1.1));
+      held = (xs, h.held);
     })
 
 pub put_constants-requires : goal.put_constants-requires
@@ -70,7 +69,7 @@ frames_of-requires c =
     omega (arith, inside, most, size, c.requires.frames.short)
 
 pub returns-clause-filled : goal.returns-clause-filled
-returns-clause-filled c = λ xs h listed.
+returns-clause-filled c = λ xs h.
     let s = c.args.scheme in
     let l = c.args.left in
     let w = c.args.frames.now.window in
@@ -86,8 +85,8 @@ returns-clause-filled c = λ xs h listed.
     let high = h.high in
     let ordered : l.first ≤ end = omega (arith, c.min-end.ensures, some, high, c.requires.frames.long) in
     let drawn = held_part xs w l.first end h.held h.low ordered (omega (arith, c.min-end.ensures)) (search rules) in
-    let ends = c.find_ends-ends.ensures.ends xs (rw c.pack_part-packed.ensures.window h.held) h.fit h.before listed in
-    let r = c.find_ends-ends.result in
+    let ends = c.add_ends-ends.ensures.ends xs (rw c.pack_part-packed.ensures.window h.held) h.ahead.fit h.before in
+    let r = c.add_ends-ends.result in
     let first_held : to_z w32 (of_z w32 r.first) ≡ r.first = to_z-of_z w32 r.first (search rules) in
     let last_held : to_z w32 (of_z w32 r.last) ≡ r.last = to_z-of_z w32 r.last (search rules) in
     let set : AreSet old new (get_or xs l.first (pos 0)) (get_or xs (l.first + used - 1) (pos 0)) =
@@ -98,36 +97,31 @@ returns-clause-filled c = λ xs h listed.
           (slice_range xs l.first (l.first + used)) m new) (sym c.frames_of.ensures)
           (holds s xs l.first l.end (end - l.first) used words old new fills (search rules) set),
       to_z-of_z w32 _ (search rules) ∙ ends.last_is,
-      subst (λ (k : Lookahead). IsLookahead s k (drop (l.first + used) (differences xs)))
-          (sym c.find_ends-ends.ensures.known)
-          (known_on s c.pack_part-packed.new.known (slice_range w.differences (l.first - w.first) (end - w.first))
-          (differences xs) l.first (end - l.first) used drawn c.pack_part-packed.ensures.packed.inside.0
-          c.pack_part-packed.ensures.known),
+      subst (λ (k : Lookahead). AreAhead k s xs (l.first + used)) (sym c.add_ends-ends.ensures.known) (record {
+        fit = h.ahead.fit;
+        differences_fit = h.ahead.differences_fit;
+        known = known_on s c.pack_part-packed.new.known (slice_range w.differences (l.first - w.first) (end - w.first))
+            (differences xs) l.first (end - l.first) used drawn c.pack_part-packed.ensures.packed.inside.0
+            c.pack_part-packed.ensures.known;
+      }),
     )
 
 pub returns-clause-taken : goal.returns-clause-taken
 returns-clause-taken c =
     let xs = c.requires.held.0 in
-    let h = c.requires.held.1.0 in
+    let h = c.requires.held.1 in
     let l = c.args.left in
     let r = c.pack_part-packed.result in
     let fills = fills_from c.args.scheme xs l c.args.frames.now.window c.min-end.result r.used r.words
     c.args.payload.now c.pack_part-packed.new.payload h.are_left c.requires.frames h.held h.low h.high (search rules)
     c.min-end.ensures (search rules) c.pack_part-packed.ensures.packed in
-    let some = some_used_of _ _ _ _ _ _ _ _ fills in
-    let few = used_most _ _ _ _ _ _ _ _ fills in
-    let room = h.held.few in
-    let low = h.low in
-    record {
-      some = some.0;
-      within = some.1;
-      few = omega (arith, few, c.min-end.ensures, room, low);
-    }
+    let size : length c.pack_part-packed.new.payload ≡ length c.args.payload.now = search rules in
+    taken_of c.args.scheme xs l _ r.used r.words _ fills (omega (arith, size, c.requires.frames.short))
 
 pub returns-clause-few : goal.returns-clause-few
 returns-clause-few c =
     let xs = c.requires.held.0 in
-    let h = c.requires.held.1.0 in
+    let h = c.requires.held.1 in
     let l = c.args.left in
     let r = c.pack_part-packed.result in
     let fills = fills_from c.args.scheme xs l c.args.frames.now.window c.min-end.result r.used r.words

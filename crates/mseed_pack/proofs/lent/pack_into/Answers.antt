@@ -1,4 +1,4 @@
-use Rattle.std.proofs.Common.{◌≡◌, ℕ, ◌+◌, List, ◌++◌, length, drop, sym, ap, subst, ◌∙◌, arith, rules}
+use Rattle.std.proofs.Common.{◌≡◌, ℕ, ◌+◌, List, ◌++◌, length, drop, refl, sym, ap, subst, ◌∙◌, arith}
 use Rattle.std.proofs.Common.{ℤ, [], length-append}
 use Rattle.std.proofs.lemmas.List.{drop_all}
 use Rattle.std.specs.List.{concat}
@@ -7,8 +7,7 @@ use Rattle.mseed_audit.specs.Series.{Trace}
 use Rattle.mseed_pack.specs.Fitting.{Fits}
 use Rattle.mseed_pack.specs.Packing.{PacksUpTo}
 use Rattle.mseed_pack.specs.Traces.{headed}
-use Rattle.mseed_pack.specs.private.Filling.{AreBegun}
-use Rattle.mseed_pack.proofs.Begun.{begun_by, list_begun}
+use Rattle.mseed_pack.proofs.Begun.{list_begun}
 use Rattle.mseed_pack.proofs.Growing.{packs_none}
 use Rattle.mseed_pack.proofs.Overwritten.{over, over_none, over_more}
 use Rattle.mseed_pack.proofs.lent.pack_into.Goals as goal
@@ -17,13 +16,12 @@ pub loop-place-init : goal.loop-place-init
 loop-place-init c =
     let xs = c.args.series.now.samples.now in
     let first = c.first_place-place.ensures.first in
-    let begins = list_begun c.begin.new.self c.of-list.result c.args.options.now.encoding xs c.of-list.ensures.samples
-    c.of-list.ensures.given (search rules) (subst (λ (z : ℤ). AreBegun c.begin.new.self.frames z)
-    c.head-head.ensures.first (begun_by _ _ (search rules) c.begin.ensures)) c.requires.fits.samples
-    c.requires.fits.differences_fit in
+    let begins = list_begun c.new-payloads.result c.args.options.now.encoding xs c.new-payloads.ensures
+    c.requires.fits.samples c.requires.fits.differences_fit in
     record {
       standing = c.first_place-place.ensures.standing;
-      stands_there = rw first begins;
+      listed = refl;
+      goes_on = rw first begins;
       written = (
         [],
         (
@@ -44,7 +42,7 @@ fill_on-batch-requires-clause-on c = (
     fits = subst (λ (s : Trace). Fits s c.args.options.now) (sym c.head-head.ensures.trace) c.requires.fits;
     standing = c.loop-place.invariant.standing;
     more = c.loop-place-test.true;
-    stands_there = c.loop-place.invariant.stands_there;
+    stands_there = (c.loop-place.invariant.listed, c.loop-place.invariant.goes_on);
   },
 )
 
@@ -56,7 +54,7 @@ loop-place-preserved c =
       fits = subst (λ (s : Trace). Fits s c.args.options.now) (sym c.head-head.ensures.trace) c.requires.fits;
       standing = c.loop-place.invariant.standing;
       more = c.loop-place-test.true;
-      stands_there = c.loop-place.invariant.stands_there;
+      stands_there = (c.loop-place.invariant.listed, c.loop-place.invariant.goes_on);
     }) in
     let packs = on.to.on in
     let count = on.count in
@@ -69,7 +67,8 @@ loop-place-preserved c =
     ap (λ (l : List ℕ). length l) all ∙ length-append (concat before.0) on.bytes in
     record {
       standing = c.fill_on-batch.ensures.standing;
-      stands_there = on.to.stands_next;
+      listed = on.to.stands_next.0;
+      goes_on = on.to.stands_next.1;
       written = (
         records,
         (

@@ -11,7 +11,7 @@ returns-in-Steim1-clause-filled g c = λ xs stands left.
     c.in-Steim1.is stands in
     subst (λ (e : Encoding). IsFilled e xs l r c.fill_frames.new.payload
     × GoesOnIn g.S.Supply.supplies c.fill_frames.new.frames c.fill_frames.new.supply e xs (l.first + r.samples))
-    (sym c.in-Steim1.is) (c.fill_frames.ensures.filled xs goes left tt)
+    (sym c.in-Steim1.is) (c.fill_frames.ensures.filled xs goes left)
 
 pub returns-in-Steim2-clause-filled : goal.returns-in-Steim2-clause-filled
 returns-in-Steim2-clause-filled g c = λ xs stands left.
@@ -22,4 +22,4 @@ returns-in-Steim2-clause-filled g c = λ xs stands left.
     subst (λ (e : Encoding). IsFilled e xs l r c.fill_frames-in-Steim2.new.payload
     × GoesOnIn g.S.Supply.supplies c.fill_frames-in-Steim2.new.frames c.fill_frames-in-Steim2.new.supply e xs
     (l.first + r.samples))
-    (sym c.in-Steim2.is) (c.fill_frames-in-Steim2.ensures.filled xs goes left tt)
+    (sym c.in-Steim2.is) (c.fill_frames-in-Steim2.ensures.filled xs goes left)

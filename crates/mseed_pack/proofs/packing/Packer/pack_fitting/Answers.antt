@@ -1,16 +1,15 @@
-use Rattle.std.proofs.Common.{ℕ, subst, rules}
+use Rattle.std.proofs.Common.{ℕ, subst, refl}
 use Rattle.std.proofs.lemmas.Result.{IfOk-weaker, IfErr-weaker}
 use Rattle.mseed_audit.specs.Series.{Trace}
 use Rattle.mseed_pack.specs.Outcome.{EmittedAll, EmittedPrefix}
-use Rattle.mseed_pack.proofs.Begun.{begun_by, series_begins}
+use Rattle.mseed_pack.proofs.Begun.{series_begins}
 use Rattle.mseed_pack.proofs.packing.Packer.pack_fitting.Goals as goal
 
 pub write_records-requires-clause-begins : goal.write_records-requires-clause-begins
 write_records-requires-clause-begins g c = (
   c.args.series.now.samples.now,
-  series_begins _ _ _ c.args.series.now c.head-head.ensures.trace c.head-head.ensures.count
-      c.head-head.ensures.first c.requires.fits c.of-list.ensures.samples c.of-list.ensures.given (search rules)
-      (begun_by _ _ (search rules) c.begin.ensures),
+  series_begins _ _ _ c.args.series.now c.head-head.ensures.trace c.head-head.ensures.count c.requires.fits refl
+      c.new-payloads.ensures,
 )
 
 pub returns-clause-ok : goal.returns-clause-ok
@@ -21,8 +20,7 @@ returns-clause-ok g c =
     IfOk-weaker _ _ (λ (count : ℕ). EmittedAll _ o count old new)
     (λ count all. subst (λ (s : Trace). EmittedAll s o count old new) c.head-head.ensures.trace
     (all c.args.series.now.samples.now (series_begins _ _ _ c.args.series.now c.head-head.ensures.trace
-    c.head-head.ensures.count c.head-head.ensures.first c.requires.fits c.of-list.ensures.samples
-    c.of-list.ensures.given (search rules) (begun_by _ _ (search rules) c.begin.ensures))))
+    c.head-head.ensures.count c.requires.fits refl c.new-payloads.ensures)))
     c.write_records.ensures.ok
 
 pub returns-clause-err : goal.returns-clause-err
@@ -33,6 +31,5 @@ returns-clause-err g c =
     IfErr-weaker _ _ (λ (taken : ℕ). EmittedPrefix _ o taken old new)
     (λ taken all. subst (λ (s : Trace). EmittedPrefix s o taken old new) c.head-head.ensures.trace
     (all c.args.series.now.samples.now (series_begins _ _ _ c.args.series.now c.head-head.ensures.trace
-    c.head-head.ensures.count c.head-head.ensures.first c.requires.fits c.of-list.ensures.samples
-    c.of-list.ensures.given (search rules) (begun_by _ _ (search rules) c.begin.ensures))))
+    c.head-head.ensures.count c.requires.fits refl c.new-payloads.ensures)))
     c.write_records.ensures.err

@@ -1,0 +1,82 @@
+use Rattle.std.proofs.Common.{◌≡◌, ◌+◌, ◌-◌, ◌<◌, ◌∙◌, ℕ, ℤ, pos, List, Ok, Result, refl, arith, rules, length, drop, get_or}
+use Rattle.std.proofs.Common.{ap, sym, subst, FitsSigned, w32, to_z, of_z}
+use Rattle.std.specs.Prelude.{slice_range}
+use Rattle.std.proofs.lemmas.Int.{to_z-of_z}
+use Rattle.mseed_steim.specs.Packed.{IsRunPacked}
+use Rattle.mseed_steim.specs.Samples.{differences_from}
+use Rattle.mseed_pack.specs.declared.payload.Left.{Left}
+use Rattle.mseed_pack.specs.private.Filling.{width_of}
+use Rattle.mseed_pack.specs.private.Marks.{sample_before}
+use Rattle.mseed_pack.specs.Stretches.{differences}
+use Rattle.mseed_pack.proofs.Differences.{part_differences}
+use Rattle.mseed_pack.proofs.Filled.{fills_all, none_large, part_fits, scheme_fits, taken_of}
+use Rattle.mseed_pack.proofs.Onward.{known_of, known_on}
+use Rattle.mseed_pack.proofs.payloads.pack_left.Goals as goal
+
+-- the differences that are packed are those that are left
+packed_are : (xs : List ℤ) (l : Left) (n : ℕ) → n ≡ l.first - 1 → FitsSigned w32 (get_or xs n (pos 0))
+    → differences_from (to_z w32 (of_z w32 (get_or xs n (pos 0)))) (slice_range xs l.first l.end)
+    ≡ slice_range (differences xs) l.first l.end
+packed_are xs l n e fits =
+    ap (λ (z : ℤ). differences_from z (slice_range xs l.first l.end))
+    (to_z-of_z w32 (get_or xs n (pos 0)) fits ∙ ap (λ (k : ℕ). get_or xs k (pos 0)) e)
+    ∙ part_differences xs l.first l.end
+
+pub pack_samples_ahead-requires-clause-fits : goal.pack_samples_ahead-requires-clause-fits
+pack_samples_ahead-requires-clause-fits c =
+    let xs = c.args.samples.now in
+    let l = c.args.left in
+    scheme_fits c.args.scheme _ (part_fits (width_of c.args.scheme) xs _ l.first l.end
+    (packed_are xs l _ c.saturating_sub.ensures (search rules)) c.requires.ahead.differences_fit)
+
+pub pack_samples_ahead-requires-clause-known : goal.pack_samples_ahead-requires-clause-known
+pack_samples_ahead-requires-clause-known c =
+    let xs = c.args.samples.now in
+    let l = c.args.left in
+    let some = c.requires.left.some in
+    let all : l.first + (l.end - l.first) ≡ l.end = omega (arith, some) in (
+      drop (l.first + (l.end - l.first)) (differences xs),
+      known_of c.args.scheme c.args.known.now _ (differences xs) l.first (l.end - l.first)
+          (packed_are xs l _ c.saturating_sub.ensures (search rules)
+          ∙ ap (λ (n : ℕ). slice_range (differences xs) l.first n) (sym all)) c.requires.ahead.known,
+    )
+
+pub unreachable-requires : goal.unreachable-requires
+unreachable-requires c =
+    let xs = c.args.samples.now in
+    let l = c.args.left in
+    let large = (c.in-Err.ensures.packed.refused c.in-Err.field-0.index).0 refl in
+    none_large c.args.scheme _ c.in-Err.field-0.index (part_fits (width_of c.args.scheme) xs _ l.first l.end
+    (packed_are xs l _ c.saturating_sub.ensures (search rules)) c.requires.ahead.differences_fit) large.0.0
+
+pub returns-clause-packed : goal.returns-clause-packed
+returns-clause-packed c =
+    subst (λ (ds : List ℤ). IsRunPacked c.args.scheme ds c.pack_samples_ahead.new.frames (Ok c.in-Ok.packed))
+    (packed_are c.args.samples.now c.args.left _ c.saturating_sub.ensures (search rules)) c.in-Ok.ensures.packed
+
+pub returns-clause-ahead : goal.returns-clause-ahead
+returns-clause-ahead c =
+    let xs = c.args.samples.now in
+    let l = c.args.left in
+    let some = c.requires.left.some in
+    let all : l.first + (l.end - l.first) ≡ l.end = omega (arith, some) in
+    record {
+      fit = c.requires.ahead.fit;
+      differences_fit = c.requires.ahead.differences_fit;
+      known = known_on c.args.scheme c.pack_samples_ahead.new.known _ (differences xs) l.first (l.end - l.first)
+          c.in-Ok.packed.used (packed_are xs l _ c.saturating_sub.ensures (search rules)
+          ∙ ap (λ (n : ℕ). slice_range (differences xs) l.first n) (sym all)) c.in-Ok.ensures.packed.inside.0
+          c.in-Ok.ensures.known;
+    }
+
+pub returns-clause-taken : goal.returns-clause-taken
+returns-clause-taken c =
+    let p = c.pack_samples_ahead.new.frames in
+    let packed = c.in-Ok.packed in
+    let size : length p ≡ length c.args.payload.now = search rules in
+    let fills = fills_all c.args.scheme c.args.samples.now c.args.left packed.used packed.words c.args.payload.now p
+    c.requires.left c.requires.frames size
+    (subst (λ (ds : List ℤ). IsRunPacked c.args.scheme ds p (Ok packed))
+    (packed_are c.args.samples.now c.args.left _ c.saturating_sub.ensures (search rules)) c.in-Ok.ensures.packed) in
+    taken_of c.args.scheme c.args.samples.now c.args.left _ packed.used packed.words p fills
+    (omega (arith, size, c.requires.frames.short))
