@@ -1,10 +1,10 @@
 -- The differences of a series, one by one.
 use Rattle.std.proofs.Common.{◌≡◌, ◌≢◌, ◌∙◌, ℕ, zero, suc, ◌+◌, ◌-◌, ◌<◌, ◌≤◌, List, [], ◌∷◌, length, get_or, set, refl}
-use Rattle.std.proofs.Common.{sym, ap, take, drop, All, ⊎_elim, arith, eqb, false, ℤ, pos, negsuc, ◌-ℤ◌}
+use Rattle.std.proofs.Common.{sym, ap, take, drop, All, ⊎_elim, arith, ℤ, pos, negsuc, ◌-ℤ◌}
 use Rattle.std.proofs.Common.{FitsSigned, w32}
 use Rattle.std.specs.Prelude.{slice_range}
 use native.Mathlib.Numerals.{unary_clauses}
-use Rattle.std.proofs.lemmas.Bool.{cases_lt, eqb-false}
+use Rattle.std.proofs.lemmas.Bool.{cases_lt}
 use Rattle.std.proofs.lemmas.Grind.{get_or-set_at}
 use Rattle.std.proofs.lemmas.Int.{ints}
 use Rattle.std.proofs.lemmas.List.{get_or-set_other}
@@ -76,9 +76,6 @@ difference_fits xs i inside all =
 pub within_fits : (z : ℤ) → IsWithin 32 z → FitsSigned w32 z
 within_fits (pos n) h = let high = h.1 in record { sfits = omega (arith, ints, high) }
 within_fits (negsuc n) h = let low = h.0 in record { sfits = omega (arith, ints, low) }
-
-pub some_items : (n : ℕ) → eqb n 0 ≡ false → 0 < n
-some_items n e = let not : n ≡ 0 → ⊥ = eqb-false n 0 e in omega (arith, not)
 
 -- one of them is put into a list, where others stand
 pub put_one : (ds xs : List ℤ) (first i : ℕ) (z : ℤ) → i < length xs → z ≡ get_or ds (first + i) (pos 0) → (k : ℕ)

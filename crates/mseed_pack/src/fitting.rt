@@ -320,7 +320,7 @@ fn find_large_difference(samples: &[i32], encoding: Encoding) -> Option<usize>
 }
 
 /// The difference of a sample from the one before it.
-fn difference_at(samples: &[i32], index: usize) -> i64
+pub(crate) fn difference_at(samples: &[i32], index: usize) -> i64
     requires some { 0 < index }
     requires inside { index < length samples.now }
     ensures { result ≡ slice_index_or (differences samples.now) index (pos 0) }

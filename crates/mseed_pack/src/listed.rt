@@ -6,6 +6,7 @@ ghost use Rattle.mseed_pack.specs.Fitting.{IsDifferenceOf};
 ghost use Rattle.mseed_pack.specs.Options.{IsSteim};
 ghost use Rattle.mseed_pack.specs.Stretches.{differences};
 
+use crate::fitting::difference_at;
 use crate::supply::Supply;
 
 /// The samples of a list, as a supply: so many of them were given.
@@ -41,8 +42,7 @@ impl<'a> Supply for Listed<'a> {
     }
 }
 
-/// Writes the differences of the samples from one on. Those of two parts are taken side by side, so that memory is
-/// asked for at two places at once.
+/// Writes the differences of the samples from one on.
 fn put_differences(samples: &[i32], first: usize, out: &mut [i32])
     requires inside { first + length out.old ≤ length samples.now }
     requires fits { All (IsWithin 32) (differences samples.now) }
@@ -51,19 +51,14 @@ fn put_differences(samples: &[i32], first: usize, out: &mut [i32])
     if out.is_empty() {
         return;
     }
-    out[0] = difference_at(samples, first);
-    let part = (out.len() - 1) / 2;
-    for index in 1..part + 1 {
+    out[0] = difference_or_0(samples, first);
+    for index in 1..out.len() {
         out[index] = difference_after(samples, first + index);
-        out[part + index] = difference_after(samples, first + part + index);
-    }
-    for last in 2 * part + 1..out.len() {
-        out[last] = difference_after(samples, first + last);
     }
 }
 
 /// The difference of a sample from the one before it; of the first one, 0.
-fn difference_at(samples: &[i32], index: usize) -> i32
+fn difference_or_0(samples: &[i32], index: usize) -> i32
     requires inside { index < length samples.now }
     requires fits { IsWithin 32 (slice_index_or (differences samples.now) index (pos 0)) }
     ensures { result ≡ slice_index_or (differences samples.now) index (pos 0) }
@@ -82,5 +77,5 @@ fn difference_after(samples: &[i32], index: usize) -> i32
     requires fits { IsWithin 32 (slice_index_or (differences samples.now) index (pos 0)) }
     ensures { result ≡ slice_index_or (differences samples.now) index (pos 0) }
 {
-    samples[index] - samples[index - 1]
+    difference_at(samples, index) as i32
 }
