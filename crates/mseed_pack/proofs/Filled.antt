@@ -1,5 +1,5 @@
 -- Steim frames that hold the differences that are left, as far as there is room.
-use Rattle.std.proofs.Common.{◌≡◌, ℕ, suc, ◌+◌, ◌-◌, ◌*◌, ◌/◌, ◌%◌, ◌^◌, ◌<◌, ◌≤◌, List, ◌∷◌, length, take, drop}
+use Rattle.std.proofs.Common.{◌≡◌, ℕ, suc, ◌+◌, ◌-◌, ◌*◌, ◌/◌, ◌%◌, ◌<◌, ◌≤◌, List, ◌∷◌, length, take, drop}
 use Rattle.std.proofs.Common.{get_or, sym, ap, subst, ◌∙◌, arith, ℤ, pos, ◌⊎◌, inl, inr, ⊎_elim, Some, All, min, Ok}
 use Rattle.std.specs.Prelude.{slice_range, slice_get}
 use Rattle.std.specs.List.{AllByRecursion}
@@ -35,31 +35,26 @@ part_at xs i j k h = get_or-take (j - i) (drop i xs) k (pos 0) h ∙ get_or-drop
 -- what a window holds from a place on
 pub held_part : (xs : List ℤ) (w : Window) (first end : ℕ) → HoldsDifferences xs w → w.first ≤ first → first ≤ end
     → end ≤ w.end → length w.differences ≡ 7056
-    → slice_range w.differences (first - w.first) (end - w.first)
-    ≡ slice_range (differences xs) first (first + (end - first))
+    → slice_range w.differences (first - w.first) (end - w.first) ≡ slice_range (differences xs) first end
 held_part xs w first end h low order high long =
     let at = first - w.first in
     let few = h.few in
     let inside = h.inside in
     let left : length (slice_range w.differences at (end - w.first)) ≡ end - w.first - at =
     length_part w.differences at (end - w.first) (omega (arith, low, order)) (omega (arith, long, few, high)) in
-    let right : length (slice_range (differences xs) first (first + (end - first))) ≡ first + (end - first) - first =
-    length_part (differences xs) first (first + (end - first)) (omega arith)
-    (omega (arith, inside, high, order, length-differences xs)) in
-    ext_get_or (pos 0) (slice_range w.differences at (end - w.first))
-    (slice_range (differences xs) first (first + (end - first)))
+    let right : length (slice_range (differences xs) first end) ≡ end - first =
+    length_part (differences xs) first end order (omega (arith, inside, high, length-differences xs)) in
+    ext_get_or (pos 0) (slice_range w.differences at (end - w.first)) (slice_range (differences xs) first end)
     (omega (arith, left, right, low, order))
     (λ k b. let here : k < end - first = omega (arith, b, left, low, order) in
     let place : w.first + (at + k) ≡ first + k = omega (arith, low) in
     part_at w.differences at (end - w.first) k (omega (arith, here, low))
     ∙ h.each (at + k) (omega (arith, here, low, high))
     ∙ ap (λ (m : ℕ). get_or (differences xs) m (pos 0)) place
-    ∙ sym (part_at (differences xs) first (first + (end - first)) k (omega (arith, here))))
+    ∙ sym (part_at (differences xs) first end k here))
 
-part_prefix : (xs : List ℤ) (i n j : ℕ) → i + n ≤ j → slice_range xs i (i + n) ≡ take n (slice_range xs i j)
-part_prefix xs i n j h =
-    let count : i + n - i ≡ n = omega arith in
-    ap (λ (m : ℕ). take m (drop i xs)) count ∙ sym (take-take n (j - i) (drop i xs) (omega (arith, h)))
+part_prefix : (xs : List ℤ) (i j k : ℕ) → j ≤ k → slice_range xs i j ≡ take (j - i) (slice_range xs i k)
+part_prefix xs i j k h = sym (take-take (j - i) (k - i) (drop i xs) (omega (arith, h)))
 
 -- frames have a data word
 some_word : (p : List ℕ) → 64 ≤ length p → 0 < length (data_words p)
@@ -71,46 +66,51 @@ some_word p h =
     let size : length (data_words p) ≡ suc (length (words_from p 4 n)) = ap (λ (ws : List DataWord). length ws) first in
     omega (arith, size)
 
--- what is packed of the first n differences that are left: all of them, or seven for each word
-pub record Fills (s : Scheme) (xs : List ℤ) (first end n used words : ℕ) (p : List ℕ) : Type 0 where
+-- what is packed of the differences up to a place: of all that are left, or of seven for each word
+pub record Fills (s : Scheme) (xs : List ℤ) (first end until used words : ℕ) (p : List ℕ) : Type 0 where
   pub order : first < end
+  pub most : until ≤ end
   pub inside : end ≤ length xs
-  pub enough : (first + n ≡ end) ⊎ ((7 * (length p / 4) ≤ n) × (first + n ≤ end))
+  pub enough : (until ≡ end) ⊎ (first + 7 * (length p / 4) ≤ until)
   pub long : 64 ≤ length p
   pub whole_frames : length p % 64 ≡ 0
-  pub packed : PacksRun s (take words (data_words p)) (slice_range (differences xs) first (first + n))
-      (drop used (slice_range (differences xs) first (first + n)))
-  pub used_fits : used ≤ length (slice_range (differences xs) first (first + n))
+  pub packed : PacksRun s (take words (data_words p)) (slice_range (differences xs) first until)
+      (drop used (slice_range (differences xs) first until))
+  pub used_fits : used ≤ length (slice_range (differences xs) first until)
   pub words_fit : words ≤ length (data_words p)
-  pub whole : (used ≡ length (slice_range (differences xs) first (first + n))) ⊎ (words ≡ length (data_words p))
+  pub whole : (used ≡ length (slice_range (differences xs) first until)) ⊎ (words ≡ length (data_words p))
   pub behind : AllByRecursion IsEmptyWord (drop words (data_words p))
   pub codes : (k : ℕ) → k < word_count p → (k < 3) ⊎ (k % 16 ≡ 0) → code_at p k ≡ 0
 
-part_long : (s : Scheme) (xs : List ℤ) (first end n used words : ℕ) (p : List ℕ) → Fills s xs first end n used words p
-    → (first + n ≤ end) × (length (slice_range (differences xs) first (first + n)) ≡ n)
-part_long s xs first end n used words p f =
+part_long : (s : Scheme) (xs : List ℤ) (first end until used words : ℕ) (p : List ℕ)
+    → Fills s xs first end until used words p
+    → (first < until) × (length (slice_range (differences xs) first until) ≡ until - first)
+part_long s xs first end until used words p f =
+    let order = f.order in
+    let most = f.most in
     let inside = f.inside in
-    let fits : first + n ≤ end =
-    ⊎_elim (λ (e : first + n ≡ end). omega (arith, e)) (λ (b : (7 * (length p / 4) ≤ n) × (first + n ≤ end)). b.1)
-    f.enough in
-    let size = length_part (differences xs) first (first + n) (omega arith)
-    (omega (arith, fits, inside, length-differences xs)) in
-    (fits, size ∙ (let e : first + n - first ≡ n = omega arith in e))
+    let long = f.long in
+    let some : first < until = ⊎_elim (λ (e : until ≡ end). omega (arith, e, order))
+    (λ (b : first + 7 * (length p / 4) ≤ until). omega (arith, b, long)) f.enough in (
+      some,
+      length_part (differences xs) first until (omega (arith, some))
+          (omega (arith, most, inside, length-differences xs)),
+    )
 
 -- where seven for each word are packed, those are packed of all that are left
-of_all : (s : Scheme) (xs : List ℤ) (first end n used words : ℕ) (p : List ℕ) → Fills s xs first end n used words p
-    → (7 * (length p / 4) ≤ n) × (first + n ≤ end)
+of_all : (s : Scheme) (xs : List ℤ) (first end until used words : ℕ) (p : List ℕ)
+    → Fills s xs first end until used words p → first + 7 * (length p / 4) ≤ until
     → PacksRun s (take words (data_words p)) (slice_range (differences xs) first end)
     (drop used (slice_range (differences xs) first end))
-of_all s xs first end n used words p f b =
+of_all s xs first end until used words p f b =
     let left = slice_range (differences xs) first end in
-    let part = slice_range (differences xs) first (first + n) in
+    let part = slice_range (differences xs) first until in
     let ws = take words (data_words p) in
-    let prefix : part ≡ take n left = part_prefix (differences xs) first n end b.1 in
+    let prefix : part ≡ take (until - first) left = part_prefix (differences xs) first until end f.most in
     let count : length ws ≡ words = length-take-le words (data_words p) f.words_fit in
     let most = words_fit p in
     let fits = f.words_fit in
-    let on = packs_on s ws left (drop used part) n (omega (arith, count, fits, most, b.0))
+    let on = packs_on s ws left (drop used part) (until - first) (omega (arith, count, fits, most, b))
     (subst (λ (ds : List ℤ). PacksRun s ws ds (drop used part)) prefix f.packed) in
     let inside : on.used ≤ length part = subst (λ (ds : List ℤ). on.used ≤ length ds) (sym prefix) on.inside in
     let same : used ≡ on.used =
@@ -118,87 +118,83 @@ of_all s xs first end n used words p f b =
     ∙ ap (λ (ds : List ℤ). drop on.used ds) (sym prefix)) in
     subst (λ (u : ℕ). PacksRun s ws left (drop u left)) (sym same) on.run
 
-run_left : (s : Scheme) (xs : List ℤ) (first end n used words : ℕ) (p : List ℕ) → Fills s xs first end n used words p
+run_left : (s : Scheme) (xs : List ℤ) (first end until used words : ℕ) (p : List ℕ)
+    → Fills s xs first end until used words p
     → PacksRun s (take words (data_words p)) (slice_range (differences xs) first end)
     (drop used (slice_range (differences xs) first end))
-run_left s xs first end n used words p f =
+run_left s xs first end until used words p f =
     ⊎_elim
-    (λ (e : first + n ≡ end). subst (λ (j : ℕ). PacksRun s (take words (data_words p))
+    (λ (e : until ≡ end). subst (λ (j : ℕ). PacksRun s (take words (data_words p))
     (slice_range (differences xs) first j) (drop used (slice_range (differences xs) first j))) e f.packed)
-    (of_all s xs first end n used words p f)
+    (of_all s xs first end until used words p f)
     f.enough
 
-pub some_used_of : (s : Scheme) (xs : List ℤ) (first end n used words : ℕ) (p : List ℕ)
-    → Fills s xs first end n used words p → (0 < used) × (first + used ≤ end)
-some_used_of s xs first end n used words p f =
-    let part = slice_range (differences xs) first (first + n) in
-    let sized = part_long s xs first end n used words p f in
+pub some_used_of : (s : Scheme) (xs : List ℤ) (first end until used words : ℕ) (p : List ℕ)
+    → Fills s xs first end until used words p → (0 < used) × (first + used ≤ until)
+some_used_of s xs first end until used words p f =
+    let part = slice_range (differences xs) first until in
+    let sized = part_long s xs first end until used words p f in
     let count : length (take words (data_words p)) ≡ words = length-take-le words (data_words p) f.words_fit in
     let each = rest_shorter s (take words (data_words p)) part (drop used part) f.packed in
     let word = some_word p f.long in
     let fits = f.used_fits in
-    let order = f.order in
-    let long = f.long in
-    let some_n : 0 < n = ⊎_elim (λ (e : first + n ≡ end). omega (arith, e, order))
-    (λ (b : (7 * (length p / 4) ≤ n) × (first + n ≤ end)). omega (arith, b.0, long)) f.enough in
     let some : 0 < used = ⊎_elim
-    (λ (e : used ≡ length part). omega (arith, e, sized.1, some_n))
+    (λ (e : used ≡ length part). omega (arith, e, sized.1, sized.0))
     (λ (e : words ≡ length (data_words p)). omega (arith, e, word, each, count, length-drop used part, fits))
     f.whole in
     (some, omega (arith, fits, sized.0, sized.1))
 
-pub used_most : (s : Scheme) (xs : List ℤ) (first end n used words : ℕ) (p : List ℕ)
-    → Fills s xs first end n used words p → used ≤ n
-used_most s xs first end n used words p f =
-    let sized = part_long s xs first end n used words p f in
-    let fits = f.used_fits in
-    omega (arith, fits, sized.1)
-
 -- each word takes seven at the most
-used_seven : (s : Scheme) (xs : List ℤ) (first end n used words : ℕ) (p : List ℕ)
-    → Fills s xs first end n used words p → used ≤ 7 * words
-used_seven s xs first end n used words p f =
-    let part = slice_range (differences xs) first (first + n) in
+used_seven : (s : Scheme) (xs : List ℤ) (first end until used words : ℕ) (p : List ℕ)
+    → Fills s xs first end until used words p → used ≤ 7 * words
+used_seven s xs first end until used words p f =
+    let part = slice_range (differences xs) first until in
     let run = run_few s (take words (data_words p)) part (drop used part) f.packed in
     let count : length (take words (data_words p)) ≡ words = length-take-le words (data_words p) f.words_fit in
     let fits = f.used_fits in
     omega (arith, run, fits, count, length-drop used part)
 
-pub taken_of : (s : Scheme) (xs : List ℤ) (l : Left) (n used words : ℕ) (p : List ℕ)
-    → Fills s xs l.first l.end n used words p → length p ≤ 4032 → AreTaken l used
-taken_of s xs l n used words p f short =
-    let some = some_used_of s xs l.first l.end n used words p f in
-    let seven = used_seven s xs l.first l.end n used words p f in
+pub taken_of : (s : Scheme) (xs : List ℤ) (l : Left) (until used words : ℕ) (p : List ℕ)
+    → Fills s xs l.first l.end until used words p → length p ≤ 4032 → AreTaken l used
+taken_of s xs l until used words p f short =
+    let some = some_used_of s xs l.first l.end until used words p f in
+    let seven = used_seven s xs l.first l.end until used words p f in
+    let most = f.most in
     let fits = f.words_fit in
-    record { some = some.0; within = some.1; few = omega (arith, seven, fits, short, words_fit p) }
+    record {
+      some = some.0;
+      within = omega (arith, some.1, most);
+      few = omega (arith, seven, fits, short, words_fit p);
+    }
 
-pub holds : (s : Scheme) (xs : List ℤ) (first end n used words : ℕ) (p q : List ℕ)
-    → Fills s xs first end n used words p → length q ≡ length p
+pub holds : (s : Scheme) (xs : List ℤ) (first end until used words : ℕ) (p q : List ℕ)
+    → Fills s xs first end until used words p → length q ≡ length p
     → AreSet p q (get_or xs first (pos 0)) (get_or xs (first + used - 1) (pos 0))
     → HoldsFrames s (slice_range (differences xs) first end) (slice_range xs first (first + used)) ((words + 16) / 15) q
-holds s xs first end n used words p q f size set =
+holds s xs first end until used words p q f size set =
     let left = slice_range (differences xs) first end in
     let mine = slice_range xs first (first + used) in
     let order = f.order in
+    let most = f.most in
     let inside = f.inside in
-    let some = some_used_of s xs first end n used words p f in
-    let sized = part_long s xs first end n used words p f in
-    let run = run_left s xs first end n used words p f in
-    let count : length mine ≡ used = length_part xs first (first + used) (omega arith) (omega (arith, some.1, inside))
+    let some = some_used_of s xs first end until used words p f in
+    let sized = part_long s xs first end until used words p f in
+    let run = run_left s xs first end until used words p f in
+    let count : length mine ≡ used =
+    length_part xs first (first + used) (omega arith) (omega (arith, some.1, most, inside))
     ∙ (let e : first + used - first ≡ used = omega arith in e) in
     let all : length left ≡ end - first =
     length_part (differences xs) first end (omega (arith, order)) (omega (arith, inside, length-differences xs)) in
     let same = set.words in
     let full : (length mine ≡ length left) ⊎ (words ≡ length (data_words q)) = ⊎_elim
-    (λ (e : used ≡ length (slice_range (differences xs) first (first + n))). ⊎_elim
-    (λ (j : first + n ≡ end). inl (omega (arith, count, e, sized.1, all, j)))
-    (λ (b : (7 * (length p / 4) ≤ n) × (first + n ≤ end)).
-    let few = used_seven s xs first end n used words p f in
+    (λ (e : used ≡ length (slice_range (differences xs) first until)). ⊎_elim
+    (λ (j : until ≡ end). inl (omega (arith, count, e, sized.1, all, j)))
+    (λ (b : first + 7 * (length p / 4) ≤ until).
+    let few = used_seven s xs first end until used words p f in
     let fits = f.words_fit in
-    let most = words_fit p in
     let long = f.long in
     let whole_frames = f.whole_frames in
-    absurd (omega (arith, few, e, sized.1, b.0, fits, most, long, whole_frames)))
+    absurd (omega (arith, few, e, sized.1, b, fits, words_fit p, long, whole_frames)))
     f.enough)
     (λ (e : words ≡ length (data_words p)). inr (e ∙ ap (λ (ws : List DataWord). length ws) (sym same)))
     f.whole in
@@ -227,17 +223,17 @@ holds s xs first end n used words p q f size set =
     }
 
 -- by what packing answered
-pub fills_by : (s : Scheme) (xs : List ℤ) (l : Left) (n used words : ℕ) (old p : List ℕ) (ds : List ℤ) → AreLeft xs l
-    → AreFrames old → ds ≡ slice_range (differences xs) l.first (l.first + n)
-    → (l.first + n ≡ l.end) ⊎ ((7 * (length old / 4) ≤ n) × (l.first + n ≤ l.end)) → length p ≡ length old
-    → IsRunPacked s ds p (Ok (record { used = used; words = words })) → Fills s xs l.first l.end n used words p
-fills_by s xs l n used words old p ds left frames e enough size run =
+pub fills_by : (s : Scheme) (xs : List ℤ) (l : Left) (until used words : ℕ) (old p : List ℕ) (ds : List ℤ)
+    → AreLeft xs l → AreFrames old → ds ≡ slice_range (differences xs) l.first until → until ≤ l.end
+    → (until ≡ l.end) ⊎ (l.first + 7 * (length old / 4) ≤ until) → length p ≡ length old
+    → IsRunPacked s ds p (Ok (record { used = used; words = words })) → Fills s xs l.first l.end until used words p
+fills_by s xs l until used words old p ds left frames e most enough size run =
     let long = frames.long in
     record {
       order = left.some;
+      most = most;
       inside = left.inside;
-      enough = subst (λ (m : ℕ). (l.first + n ≡ l.end) ⊎ ((7 * (m / 4) ≤ n) × (l.first + n ≤ l.end))) (sym size)
-          enough;
+      enough = subst (λ (m : ℕ). (until ≡ l.end) ⊎ (l.first + 7 * (m / 4) ≤ until)) (sym size) enough;
       long = omega (arith, size, long);
       whole_frames = ap (λ (m : ℕ). m % 64) size ∙ frames.whole;
       packed = subst (λ (ys : List ℤ). PacksRun s (take words (data_words p)) ys (drop used ys)) e run.packed;
@@ -248,25 +244,12 @@ fills_by s xs l n used words old p ds left frames e enough size run =
       codes = run.codes;
     }
 
--- the same, of all that are left
-pub fills_all : (s : Scheme) (xs : List ℤ) (l : Left) (used words : ℕ) (old p : List ℕ) → AreLeft xs l → AreFrames old
-    → length p ≡ length old → IsRunPacked s (slice_range (differences xs) l.first l.end) p
-    (Ok (record { used = used; words = words })) → Fills s xs l.first l.end (l.end - l.first) used words p
-fills_all s xs l used words old p left frames size run =
-    let some = left.some in
-    let all : l.end ≡ l.first + (l.end - l.first) = omega (arith, some) in
-    fills_by s xs l (l.end - l.first) used words old p (slice_range (differences xs) l.first l.end) left frames
-    (ap (λ (n : ℕ). slice_range (differences xs) l.first n) all) (inl (sym all)) size run
-
 -- a window holds enough of the samples that are left: all, or seven for each word of so many bytes
-pub held_enough : (w : Window) (l : Left) (bytes end : ℕ) → l.first < l.end → w.first ≤ l.first
-    → min l.end (l.first + 7 * (bytes / 4)) ≤ w.end → 64 ≤ bytes → end ≡ min l.end w.end
-    → (l.first + (end - l.first) ≡ l.end)
-    ⊎ ((7 * (bytes / 4) ≤ end - l.first) × (l.first + (end - l.first) ≤ l.end))
-held_enough w l bytes end some low high long is = ⊎_elim
-    (λ (less : w.end < l.end). inr (omega (arith, less, high, long, is), omega (arith, less, high, long, is)))
-    (λ (all : l.end ≤ w.end). inl (omega (arith, all, some, is)))
-    (cases_lt w.end l.end)
+held_enough : (all held few until : ℕ) → min all few ≤ held → until ≡ min all held → (until ≡ all) ⊎ (few ≤ until)
+held_enough all held few until high is = ⊎_elim
+    (λ (less : held < all). inr (omega (arith, less, high, is)))
+    (λ (more : all ≤ held). inl (omega (arith, more, is)))
+    (cases_lt held all)
 
 -- the same, of what a window holds of the samples that are left
 pub fills_from : (s : Scheme) (xs : List ℤ) (l : Left) (w : Window) (end used words : ℕ) (old p : List ℕ) → AreLeft xs l
@@ -274,13 +257,13 @@ pub fills_from : (s : Scheme) (xs : List ℤ) (l : Left) (w : Window) (end used 
     → length w.differences ≡ 7056 → end ≡ min l.end w.end → length p ≡ length old
     → IsRunPacked s (slice_range w.differences (l.first - w.first) (end - w.first)) p
     (Ok (record { used = used; words = words }))
-    → Fills s xs l.first l.end (end - l.first) used words p
+    → Fills s xs l.first l.end end used words p
 fills_from s xs l w end used words old p left frames held low high room is size run =
     let some = left.some in
     let long = frames.long in
-    fills_by s xs l (end - l.first) used words old p (slice_range w.differences (l.first - w.first) (end - w.first))
-    left frames (held_part xs w l.first end held low (omega (arith, is, some, high, long)) (omega (arith, is)) room)
-    (held_enough w l (length old) end some low high long is) size run
+    fills_by s xs l end used words old p (slice_range w.differences (l.first - w.first) (end - w.first)) left frames
+    (held_part xs w l.first end held low (omega (arith, is, some, high, long)) (omega (arith, is)) room)
+    (omega (arith, is)) (held_enough l.end w.end _ end high is) size run
 
 -- no difference is too large where each fits the scheme
 pub none_large : (s : Scheme) (ds : List ℤ) (i : ℕ) → All (IsWithin (width_of s)) ds

@@ -6,8 +6,9 @@ ghost use Rattle.mseed_steim.specs.Lookahead.{IsLookahead};
 ghost use Rattle.mseed_steim.specs.Packed.{IsRunPacked};
 ghost use Rattle.mseed_steim.specs.Spelling.{IsWithin};
 ghost use Rattle.mseed_pack.specs.declared.window.TheConstants.{ROOM};
-ghost use Rattle.mseed_pack.specs.private.Filling.{AreAhead, AreBegun, AreFrames, AreLeft, AreRunEnds, AreSet, AreTaken};
-ghost use Rattle.mseed_pack.specs.private.Filling.{GoesOn, Holds, HoldsDifferences, HoldsInFrames, width_of};
+ghost use Rattle.mseed_pack.specs.private.Filling.{AreAhead, AreBegun, AreFrames, AreLeft, AreRunEnds, AreSet};
+ghost use Rattle.mseed_pack.specs.private.Filling.{AreTaken, GoesOn, Holds, HoldsDifferences, HoldsInFrames};
+ghost use Rattle.mseed_pack.specs.private.Filling.{width_of};
 ghost use Rattle.mseed_pack.specs.private.Marks.{sample_before};
 
 use crate::marks::Mark;

@@ -93,7 +93,8 @@ fn pack_left(
     ensures taken { AreTaken left result.used }
 {
     let before = samples[left.first.saturating_sub(1)];
-    match pack_samples_ahead(scheme, before, &samples[left.first..left.end], known, payload) {
+    let rest = &samples[left.first..left.end];
+    match pack_samples_ahead(scheme, before, rest, known, payload) {
         Ok(packed) => packed,
         // Each difference fits the scheme.
         Err(_) => unreachable!(),

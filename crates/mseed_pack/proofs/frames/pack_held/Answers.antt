@@ -6,7 +6,7 @@ use Rattle.mseed_steim.specs.declared.ahead.Lookahead.{Lookahead}
 use Rattle.mseed_pack.specs.Packing.{HoldsFrames}
 use Rattle.mseed_pack.specs.private.Filling.{AreAhead, AreSet, width_of}
 use Rattle.mseed_pack.specs.Stretches.{differences}
-use Rattle.mseed_pack.proofs.Filled.{fills_from, held_part, holds, part_fits, some_used_of, taken_of, used_most}
+use Rattle.mseed_pack.proofs.Filled.{fills_from, held_part, holds, part_fits, some_used_of, taken_of}
 use Rattle.mseed_pack.proofs.Onward.{known_of, known_on}
 use Rattle.mseed_pack.proofs.Room.{words_fit}
 use Rattle.mseed_pack.proofs.frames.pack_held.Goals as goal
@@ -31,10 +31,10 @@ pack_part-packed-requires c =
       order = ordered;
       high = inside;
       room = h.held.few;
-      fit = part_fits (width_of c.args.scheme) xs part l.first (l.first + (end - l.first)) drawn h.ahead.differences_fit;
+      fit = part_fits (width_of c.args.scheme) xs part l.first end drawn h.ahead.differences_fit;
       known = (
-        drop (l.first + (end - l.first)) (differences xs),
-        known_of c.args.scheme c.args.frames.now.known part (differences xs) l.first (end - l.first) drawn h.ahead.known,
+        drop end (differences xs),
+        known_of c.args.scheme c.args.frames.now.known part (differences xs) l.first end ordered drawn h.ahead.known,
       );
     }
 
@@ -48,11 +48,10 @@ add_ends-ends-requires c =
     c.args.payload.now c.pack_part-packed.new.payload h.are_left c.requires.frames h.held h.low h.high (search rules)
     c.min-end.ensures (search rules) c.pack_part-packed.ensures.packed in
     let some = some_used_of _ _ _ _ _ _ _ _ fills in
-    let few = used_most _ _ _ _ _ _ _ _ fills in
     rw c.pack_part-packed.ensures.window (record {
       some = some.0;
       low = h.low;
-      high = omega (arith, few, some, c.min-end.ensures);
+      high = omega (arith, some.1, c.min-end.ensures);
       held = (xs, h.held);
     })
 
@@ -95,13 +94,13 @@ returns-clause-filled c = λ xs h.
     c.put_constants.ensures) in (
       subst (λ (m : ℕ). HoldsFrames s (slice_range (differences xs) l.first l.end)
           (slice_range xs l.first (l.first + used)) m new) (sym c.frames_of.ensures)
-          (holds s xs l.first l.end (end - l.first) used words old new fills (search rules) set),
+          (holds s xs l.first l.end end used words old new fills (search rules) set),
       to_z-of_z w32 _ (search rules) ∙ ends.last_is,
       subst (λ (k : Lookahead). AreAhead k s xs (l.first + used)) (sym c.add_ends-ends.ensures.known) (record {
         fit = h.ahead.fit;
         differences_fit = h.ahead.differences_fit;
         known = known_on s c.pack_part-packed.new.known (slice_range w.differences (l.first - w.first) (end - w.first))
-            (differences xs) l.first (end - l.first) used drawn c.pack_part-packed.ensures.packed.inside.0
+            (differences xs) l.first end used ordered drawn c.pack_part-packed.ensures.packed.inside.0
             c.pack_part-packed.ensures.known;
       }),
     )
@@ -128,5 +127,4 @@ returns-clause-few c =
     c.args.payload.now c.pack_part-packed.new.payload h.are_left c.requires.frames h.held h.low h.high (search rules)
     c.min-end.ensures (search rules) c.pack_part-packed.ensures.packed in
     let some = some_used_of _ _ _ _ _ _ _ _ fills in
-    let few = used_most _ _ _ _ _ _ _ _ fills in
-    omega (arith, few, some.0, c.min-end.ensures)
+    omega (arith, some.1, c.min-end.ensures)

@@ -1,15 +1,14 @@
-use Rattle.std.proofs.Common.{◌≡◌, ◌+◌, ◌-◌, ◌<◌, ◌∙◌, ℕ, ℤ, pos, List, Ok, Result, refl, arith, rules, length, drop, get_or}
-use Rattle.std.proofs.Common.{ap, sym, subst, FitsSigned, w32, to_z, of_z}
+use Rattle.std.proofs.Common.{◌≡◌, ◌-◌, ◌∙◌, ℕ, ℤ, pos, List, Ok, refl, arith, rules, length, drop, get_or}
+use Rattle.std.proofs.Common.{ap, subst, FitsSigned, w32, to_z, of_z, inl}
 use Rattle.std.specs.Prelude.{slice_range}
 use Rattle.std.proofs.lemmas.Int.{to_z-of_z}
 use Rattle.mseed_steim.specs.Packed.{IsRunPacked}
 use Rattle.mseed_steim.specs.Samples.{differences_from}
 use Rattle.mseed_pack.specs.declared.payload.Left.{Left}
 use Rattle.mseed_pack.specs.private.Filling.{width_of}
-use Rattle.mseed_pack.specs.private.Marks.{sample_before}
 use Rattle.mseed_pack.specs.Stretches.{differences}
 use Rattle.mseed_pack.proofs.Differences.{part_differences}
-use Rattle.mseed_pack.proofs.Filled.{fills_all, none_large, part_fits, scheme_fits, taken_of}
+use Rattle.mseed_pack.proofs.Filled.{fills_by, none_large, part_fits, scheme_fits, taken_of}
 use Rattle.mseed_pack.proofs.Onward.{known_of, known_on}
 use Rattle.mseed_pack.proofs.payloads.pack_left.Goals as goal
 
@@ -33,12 +32,10 @@ pub pack_samples_ahead-requires-clause-known : goal.pack_samples_ahead-requires-
 pack_samples_ahead-requires-clause-known c =
     let xs = c.args.samples.now in
     let l = c.args.left in
-    let some = c.requires.left.some in
-    let all : l.first + (l.end - l.first) ≡ l.end = omega (arith, some) in (
-      drop (l.first + (l.end - l.first)) (differences xs),
-      known_of c.args.scheme c.args.known.now _ (differences xs) l.first (l.end - l.first)
-          (packed_are xs l _ c.saturating_sub.ensures (search rules)
-          ∙ ap (λ (n : ℕ). slice_range (differences xs) l.first n) (sym all)) c.requires.ahead.known,
+    let some = c.requires.left.some in (
+      drop l.end (differences xs),
+      known_of c.args.scheme c.args.known.now _ (differences xs) l.first l.end (omega (arith, some))
+          (packed_are xs l _ c.saturating_sub.ensures (search rules)) c.requires.ahead.known,
     )
 
 pub unreachable-requires : goal.unreachable-requires
@@ -59,24 +56,22 @@ returns-clause-ahead c =
     let xs = c.args.samples.now in
     let l = c.args.left in
     let some = c.requires.left.some in
-    let all : l.first + (l.end - l.first) ≡ l.end = omega (arith, some) in
     record {
       fit = c.requires.ahead.fit;
       differences_fit = c.requires.ahead.differences_fit;
-      known = known_on c.args.scheme c.pack_samples_ahead.new.known _ (differences xs) l.first (l.end - l.first)
-          c.in-Ok.packed.used (packed_are xs l _ c.saturating_sub.ensures (search rules)
-          ∙ ap (λ (n : ℕ). slice_range (differences xs) l.first n) (sym all)) c.in-Ok.ensures.packed.inside.0
-          c.in-Ok.ensures.known;
+      known = known_on c.args.scheme c.pack_samples_ahead.new.known _ (differences xs) l.first l.end
+          c.in-Ok.packed.used (omega (arith, some)) (packed_are xs l _ c.saturating_sub.ensures (search rules))
+          c.in-Ok.ensures.packed.inside.0 c.in-Ok.ensures.known;
     }
 
 pub returns-clause-taken : goal.returns-clause-taken
 returns-clause-taken c =
+    let xs = c.args.samples.now in
+    let l = c.args.left in
+    let r = c.in-Ok.packed in
     let p = c.pack_samples_ahead.new.frames in
-    let packed = c.in-Ok.packed in
     let size : length p ≡ length c.args.payload.now = search rules in
-    let fills = fills_all c.args.scheme c.args.samples.now c.args.left packed.used packed.words c.args.payload.now p
-    c.requires.left c.requires.frames size
-    (subst (λ (ds : List ℤ). IsRunPacked c.args.scheme ds p (Ok packed))
-    (packed_are c.args.samples.now c.args.left _ c.saturating_sub.ensures (search rules)) c.in-Ok.ensures.packed) in
-    taken_of c.args.scheme c.args.samples.now c.args.left _ packed.used packed.words p fills
-    (omega (arith, size, c.requires.frames.short))
+    let fills = fills_by c.args.scheme xs l l.end r.used r.words c.args.payload.now p _ c.requires.left
+    c.requires.frames (packed_are xs l _ c.saturating_sub.ensures (search rules)) (omega arith) (inl refl) size
+    c.in-Ok.ensures.packed in
+    taken_of c.args.scheme xs l l.end r.used r.words p fills (omega (arith, size, c.requires.frames.short))
