@@ -2,7 +2,7 @@
 use Rattle.std.proofs.Common.{◌≡◌, ℕ, zero, suc, ◌+◌, ◌-◌, ◌*◌, ◌/◌, ◌%◌, ◌^◌, ◌<◌, ◌≤◌, List, [], ◌∷◌, length, ℤ}
 use Rattle.std.proofs.Common.{arith, sym, ap, subst, refl, All, ⊎_elim, Bool, true, false, cond, eqb, Option, Some}
 use Rattle.std.proofs.Common.{if◌then◌else◌}
-use Rattle.std.proofs.Common.{None, w32, to_z}
+use Rattle.std.proofs.Common.{None, w16, w32, to_z}
 use Rattle.std.proofs.lemmas.Nat.{pow_pos, mod-pow-add}
 use Rattle.std.proofs.lemmas.Int.{ints}
 use Rattle.std.proofs.lemmas.Bool.{cases_lt, lt-ltb, le-ltb, ne_eqb, eqb-true}
@@ -122,6 +122,14 @@ signed_32 n h = ⊎_elim
     (λ (high : 2 ^ 31 ≤ n). let same : 2 ^ 32 - 1 - n ≡ 2 ^ 32 - suc n = omega arith in
     rw (le-ltb n (2 ^ 31) high, same) refl)
     (cases_lt n (2 ^ 31))
+
+-- and of 16
+pub signed_16 : (n : ℕ) → n < 2 ^ 16 → signed 16 n ≡ to_z w16 n
+signed_16 n h = ⊎_elim
+    (λ (low : n < 2 ^ 15). rw (lt-ltb n (2 ^ 15) low) refl)
+    (λ (high : 2 ^ 15 ≤ n). let same : 2 ^ 16 - 1 - n ≡ 2 ^ 16 - suc n = omega arith in
+    rw (le-ltb n (2 ^ 15) high, same) refl)
+    (cases_lt n (2 ^ 15))
 
 -- after the last digit there's none
 pub digits_over : (w word count i : ℕ) → count ≤ i → digits w word (count - i) ≡ []

@@ -1,6 +1,6 @@
 use Rattle.std.proofs.Common.{◌≡◌, ℕ, ◌+◌, ◌*◌, ◌<◌, ◌≤◌, ◌∙◌, ap, refl, sym, subst, arith, ⊎_elim, ℤ, w32, to_z, of_z}
 use Rattle.std.proofs.Common.{rules}
-use Rattle.std.proofs.lemmas.Bool.{cases_lt}
+use Rattle.std.proofs.lemmas.Bool.{cases_lt, false≢true}
 use Rattle.std.proofs.lemmas.Int.{to_z-of_z}
 use Rattle.byteorder.specs.Endian.{twos_complement}
 use Rattle.mseed_steim.specs.Frames.{code_at, word_at}
@@ -10,6 +10,22 @@ use Rattle.mseed_steim.proofs.Nearness.{code_is, word_value}
 use Rattle.mseed_steim.proofs.ends.are_words_narrow.Goals.{else-code_in-eq3-via-then-code_in-eq3+else-not-is_narrow}
 use Rattle.mseed_steim.proofs.ends.are_words_narrow.Goals.{else-code_in-eq3-via-else-code_in-eq3}
 use Rattle.mseed_steim.proofs.ends.are_words_narrow.Goals as goal
+
+pub returns-then-not-is_narrow : goal.returns-then-not-is_narrow
+returns-then-not-is_narrow c =
+    let at : ℕ = 16 * c.args.frame + c.loop-place.place in
+    let code : c.code_in.result ≡ code_at c.args.payload.now at = c.code_in.ensures.value
+    ∙ code_is c.args.payload.now c.args.codes c.args.frame c.loop-place.place (omega (arith, c.loop-place-test.true))
+    c.requires.codes in
+    let same : to_z w32 (of_z w32 c.cast_signed.result) ≡ c.cast_signed.result = to_z-of_z w32 _ (search rules) in
+    let value : c.cast_signed.result ≡ twos_complement 4 (word_at c.args.payload.now at) = c.cast_signed.ensures
+    ∙ ap (to_z w32) c.read_word.ensures
+    ∙ sym (word_value c.args.payload.now at (λ i. (c.type_inv.payload i).fits)) in (
+      (λ no. absurd (false≢true no)),
+      (λ all. c.if-not-is_narrow.ensures.1
+      (subst (λ (z : ℤ). IsWithin 30 z) (sym (same ∙ value))
+      (all at (omega (arith, c.loop-place.auto)) (omega (arith, c.loop-place-test.true)) (sym code ∙ c.if-code_in-eq3.true)))),
+    )
 
 pub loop-place-preserved : goal.loop-place-preserved
 loop-place-preserved c = λ k from less.
