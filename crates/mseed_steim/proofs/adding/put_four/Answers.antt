@@ -45,3 +45,9 @@ returns-clause-whole c =
     ap (λ (xs : List ℤ). length (map (to_z w32) (map (of_z w32) xs))) (value c)
     ∙ ap (λ (xs : List ℤ). length xs) (sums_held begin four c.requires.near)
     ∙ length-sums begin four ∙ long
+
+pub sums_of-four-requires-clause-near : goal.sums_of-four-requires-clause-near
+sums_of-four-requires-clause-near c =
+    let four = take 4 (drop c.args.at c.args.differences.now) in
+    let near : span four < 2 ^ 31 = omega (arith, c.requires.near) in
+    rw (top_held c.args.past c.requires.whole (omega (arith, c.requires.near)), all_held four near) c.requires.near

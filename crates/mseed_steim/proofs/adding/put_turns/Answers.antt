@@ -1,7 +1,8 @@
 use Rattle.std.proofs.Common.{◌≡◌, ◌+◌, ◌*◌, ◌^◌, ◌<◌, ℕ, ◌∙◌, nat_abs, w32, to_z, of_z, map, get_or, pos}
-use Rattle.std.proofs.Common.{FitsSigned, arith, rules, refl}
-use Rattle.std.proofs.lemmas.Int.{to_z-of_z}
+use Rattle.std.proofs.Common.{FitsSigned, arith, rules, refl, drop, []}
+use Rattle.std.proofs.lemmas.Int.{ints, to_z-of_z}
 use Rattle.std.proofs.lemmas.List.{length-map}
+use Rattle.std.proofs.Math.ListN.{drop_of_length-le}
 use Rattle.mseed_steim.proofs.Summed.{next_some, span_cut, top_held}
 use Rattle.mseed_steim.proofs.adding.put_turns.Goals as goal
 
@@ -39,3 +40,20 @@ loop-turn-preserved c =
       whole = length-map c.put_four-sum.result (of_z w32) ∙ c.put_four-sum.ensures.whole;
       summed = rw (turn, top_held c.put_four-sum.result c.put_four-sum.ensures.whole near_last, to_z-of_z) whole;
     }
+
+pub returns-clause-last : goal.returns-clause-last
+returns-clause-last c =
+    let ds = c.args.differences.now in
+    let over : drop (8 * c.loop-turn.turn) ds ≡ [] = drop_of_length-le ds
+    (omega (arith, c.requires.whole.1, c.loop-turn-test.false)) in
+    let moved = rw over at c.loop-turn.invariant.summed.moved in
+    let same = to_z-of_z w32 (get_or (map (to_z w32) c.loop-turn.sum) 3 (pos 0)) (search rules) in
+    same ∙ omega (arith, ints, moved)
+
+pub put_four-sum-requires-clause-whole : goal.put_four-sum-requires-clause-whole
+put_four-sum-requires-clause-whole c =
+    length-map (map (of_z w32) c.put_four-half.result) (to_z w32) ∙ length-map c.put_four-half.result (of_z w32)
+    ∙ c.put_four-half.ensures.whole
+
+pub put_four-half-requires-clause-whole : goal.put_four-half-requires-clause-whole
+put_four-half-requires-clause-whole c = length-map c.loop-turn.sum (to_z w32) ∙ c.loop-turn.invariant.whole
