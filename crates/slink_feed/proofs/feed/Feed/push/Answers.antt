@@ -1,5 +1,7 @@
-use Rattle.std.proofs.Common.{◌≡◌, arith, ap, length, sym, ◌∙◌, subst, ◌<◌, ◌^◌, [], ◌∷◌, ◌++◌, Option, Some, IsSomeAnd}
+use Rattle.std.proofs.Common.{rules, ◌≡◌, arith, ap, length, sym, ◌∙◌, subst, ◌<◌, ◌^◌, [], ◌∷◌, ◌++◌, Option, Some}
+use Rattle.std.proofs.Common.{IsSomeAnd}
 use Rattle.std.proofs.Common.{slice_get, option_map}
+use borrow.Author.Rules.{scaled_Fits}
 use Rattle.slink_wire.specs.Place.{Bears}
 use Rattle.slink_feed.specs.Window.{Shows, Window, with_record}
 use Rattle.slink_feed.proofs.Done.{some_at}
@@ -58,3 +60,6 @@ returns-clause-others g c j ne =
     let at = some_at c.args.self.now c.args.k c.requires.in_range in
     ap (λ ws. slice_get ws j) (returns-clause-pushed g c at.0 at.1)
     ∙ get_there c.args.self.now c.args.k j (with_record at.0 c.args.bytes.now) ne
+
+pub offset_bounds-slots-k : goal.offset_bounds-slots-k
+offset_bounds-slots-k g c = scaled_Fits _ _ _ c.if-k-slots.false c.as_mut_slice-slots.type_inv.1
