@@ -1,12 +1,13 @@
 -- The stations that a client asks for.
-use Rattle.std.proofs.Common.{◌≡◌, ℕ, ◌+◌, ◌-◌, ◌<◌, ◌≤◌, ◌^◌, suc, zero, refl, sym, ap, subst, ◌∙◌, arith, List, []}
+use Rattle.std.proofs.Common.{◌≡◌, ℕ, ◌+◌, ◌-◌, ◌%◌, ◌<◌, ◌≤◌, ◌^◌, suc, zero, refl, sym, ap, subst, ◌∙◌, arith, List}
+use Rattle.std.proofs.Common.{[]}
 use Rattle.std.proofs.Common.{◌∷◌, ◌++◌, length, map, replicate, take, set, get_or, append_assoc, length-take-le}
 use Rattle.std.proofs.Common.{Option, Some, None, IfSome}
 use Rattle.std.proofs.lemmas.List.{length-map, map_more, set_at}
 use Rattle.std.specs.Option.{option_and_then}
 use Rattle.slink_wire.specs.Place.{AreNumbers, Fields}
 use Rattle.slink_feed.specs.declared.dialogue.Wanted.{Wanted}
-use Rattle.slink_feed.specs.Dialogue.{AreShort, Wants, next_at, want_at, wanted_of, wants_of}
+use Rattle.slink_feed.specs.Dialogue.{AreShort, Wants, next_at, next_set, want_at, wanted_of, wants_of}
 
 -- one station more is written
 pub wanted_more : (places : List (Fields × Option ℕ)) (k : ℕ) (p : Fields × Option ℕ) → k < length places
@@ -53,3 +54,19 @@ short_each (p ∷ ps) m each (suc k) n is = short_each ps m (λ j d lt. each (su
 pub short_all : (places : List (Fields × Option ℕ)) (wants : Wants) → AreNumbers places → wants ≡ wants_of places
     → AreShort wants
 short_all places wants each e = subst AreShort (sym e) (short_each places (16 - length places) each)
+
+short_set : (wants : Wants) (k n : ℕ) (w : Wanted) → AreShort wants → n < 2 ^ 24 → w.next ≡ Some n
+    → AreShort (set wants k (Some w))
+short_set [] k n w short lt is j m there = short j m there
+short_set (v ∷ wants) zero n w short lt is zero m there =
+    number_short (Some n) m lt (sym is ∙ there)
+short_set (v ∷ wants) zero n w short lt is (suc j) m there = short (suc j) m there
+short_set (v ∷ wants) (suc k) n w short lt is zero m there = short zero m there
+short_set (v ∷ wants) (suc k) n w short lt is (suc j) m there =
+    short_set wants k n w (λ i x e. short (suc i) x e) lt is j m there
+
+-- another number is wanted next of a station
+pub short_with : (o : Option Wanted) (wants : Wants) (k number : ℕ) → AreShort wants
+    → AreShort (next_set o wants k ((number + 1) % 2 ^ 24))
+short_with None wants k number short = short
+short_with (Some w) wants k number short = short_set wants k ((number + 1) % 2 ^ 24) _ short (omega arith) refl
