@@ -6,7 +6,7 @@ use Rattle.std.proofs.lemmas.Bool.Decides.{eqb_tells}
 use Rattle.slink_wire.specs.Packet.{packet_bytes}
 use Rattle.slink_feed.specs.declared.grant.Grant.{Grant}
 use Rattle.slink_feed.specs.declared.session.Phase.{Phase}
-use Rattle.slink_feed.specs.declared.session.Phase.TheVariants.{Streaming}
+use Rattle.slink_feed.specs.declared.session.Phase.TheVariants.{Chosen, Fresh, Granted, Streaming}
 use Rattle.slink_feed.specs.declared.session.Phase.TheVariants as Phases
 use Rattle.slink_feed.specs.declared.session.Sent.{Sent}
 use Rattle.slink_feed.specs.declared.session.Sent.TheVariants.{Closed, Done, Overrun, Packet, Wait}
@@ -163,3 +163,14 @@ quiet_in phase feed s is ne = inl (λ k lt. ap (λ (p : Phase). sent_in p feed s
 pub quiet_or_closed : (feed : List Window) (s : State) → s.phase ≢ Streaming
     → IsWaiting feed s ⊎ (s.phase ≡ Phases.Closed)
 quiet_or_closed feed s ne = quiet_in s.phase feed s refl ne
+
+-- before records are sent
+pub waits_before : (feed : List Window) (r s : State) → r ≡ s
+    → (r.phase ≡ Fresh) ⊎ (((k : ℕ) × (r.phase ≡ Chosen k)) ⊎ ((k : ℕ) × (r.phase ≡ Granted k)))
+    → (k : ℕ) → sent feed s k ≡ (s, Wait)
+waits_before feed r s same (inl is) k =
+    ap (λ (p : Phase). sent_in p feed s k) (sym (ap (λ (t : State). t.phase) same) ∙ is)
+waits_before feed r s same (inr (inl is)) k =
+    ap (λ (p : Phase). sent_in p feed s k) (sym (ap (λ (t : State). t.phase) same) ∙ is.1)
+waits_before feed r s same (inr (inr is)) k =
+    ap (λ (p : Phase). sent_in p feed s k) (sym (ap (λ (t : State). t.phase) same) ∙ is.1)

@@ -1,6 +1,6 @@
-use Rattle.std.proofs.Common.{◌≡◌, ◌∙◌, rules, arith, sym, inl, inr, true, false}
+use Rattle.std.proofs.Common.{◌≡◌, ◌∙◌, rules, arith, refl, sym, inl, inr, true, false}
 use Rattle.std.proofs.lemmas.Bool.Decides.{eqb_tells}
-use Rattle.slink_feed.proofs.Waits.{sends_closed}
+use Rattle.slink_feed.proofs.Waits.{sends_closed, waits_before}
 use Rattle.slink_feed.proofs.course.Course.is_waiting.Goals as goal
 
 pub returns-in-Closed : goal.returns-in-Closed
@@ -12,3 +12,6 @@ returns-in-Closed g c = elim (eqb_tells c.len.result 0) [
         (omega (arith, some.1, c.len.ensures.value)) waits),
   )
 ]
+
+pub returns-in-Fresh : goal.returns-in-Fresh
+returns-in-Fresh g c = (λ is k lt. waits_before _ _ _ c.self.view_is c.in-Fresh.is k, λ waits. refl)

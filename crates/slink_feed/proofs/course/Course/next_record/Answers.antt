@@ -1,5 +1,6 @@
 use Rattle.std.proofs.Common.{◌∙◌, ap, rules, sym}
 use Rattle.slink_feed.specs.Session.{State}
+use Rattle.slink_feed.proofs.Waits.{waits_before}
 use Rattle.slink_feed.proofs.course.Course.next_record.Goals as goal
 
 pub returns-in-Some-clause-sent : goal.returns-in-Some-clause-sent
@@ -28,3 +29,12 @@ next_from-requires g c = (
     ),
   ),
 )
+
+pub returns-in-Fresh : goal.returns-in-Fresh
+returns-in-Fresh g c = record {
+  sent = tt;
+  unsent = waits_before _ _ _ c.self.view_is c.in-Fresh.is c.args.k;
+  number = tt;
+  fits = c.requires.fits;
+  few = tt;
+}
