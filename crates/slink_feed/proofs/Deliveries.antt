@@ -6,14 +6,17 @@ use Rattle.std.proofs.lemmas.List.{take_rest}
 use Rattle.mseed_stream.specs.Device.{BytesRead, IsPrefixOf, BytesWritten}
 use Rattle.slink_feed.specs.declared.dialogue.Event.{Event}
 use Rattle.slink_feed.specs.declared.dialogue.Event.TheVariants as events
+use Rattle.slink_feed.specs.declared.dialogue.Stage.{Stage}
 use Rattle.slink_feed.specs.declared.dialogue.Stage.TheVariants.{Unlinked}
 use Rattle.slink_feed.specs.declared.fetching.Counts.{Counts}
 use Rattle.slink_feed.specs.declared.turn.LinkFault.{LinkFault}
 use Rattle.slink_feed.specs.declared.turn.LinkFault.TheVariants as faults
 use Rattle.slink_feed.specs.declared.turn.Turn.TheVariants as turns
+use Rattle.slink_feed.specs.declared.turn.Turn.{Turn}
 use Rattle.slink_feed.specs.private.Delivery.{ComesTo, FailsAtEvent, IsDelivered, IsUndelivered}
 use Rattle.slink_feed.specs.Fetching.{Delivers, FailsAt, FailsAtLast, Fetches, Fetching, ReadsOn, Takes, bytes_reported}
-use Rattle.slink_feed.specs.Fetching.{joined_by, line_written, lines_written, record_reported}
+use Rattle.slink_feed.specs.Fetching.{IsFetchFault, joined_by, line_written, lines_written, record_reported, turn_after}
+use Rattle.slink_feed.specs.Fetching.{turn_at}
 use Rattle.slink_feed.specs.Listening.{Brings, IsLinked, Listening, Reads, event_if_any}
 use Rattle.slink_feed.specs.Turns.{Emitted, EmittedPrefix, reported_once}
 use Rattle.slink_feed.proofs.Goings.{lines_on, still_linked, reports_on}
@@ -271,3 +274,36 @@ closed_turn old new before after same read = record {
   nothing = λ none. same;
   turn_is = refl;
 }
+
+-- A step that read some bytes, and what came of them.
+at_some : (bytes : List ℕ) (stage : Stage) → 0 < length bytes → turn_at stage ≡ turn_after bytes stage
+at_some [] stage some = absurd (omega (arith, some))
+at_some (b ∷ bytes) stage some = refl
+
+module _ (old now new : Fetching) (before after : BytesRead) (bytes : List ℕ) (same : now ≡ old)
+    (read : after ≡ reported_once before bytes) (most : length bytes ≤ 1024) where
+  pub delivered_turn : (turn : Turn) → 0 < length bytes → Delivers now new bytes
+      → turn ≡ turn_at new.client.talk.stage → Fetches old new before after turn
+  delivered_turn turn some delivers is = record {
+    bytes = bytes;
+    read = read;
+    most = most;
+    delivers = subst (λ (f : Fetching). Delivers f new bytes) same delivers;
+    nothing = λ none. absurd (omega (arith, some, ap length none));
+    turn_is = is ∙ at_some bytes new.client.talk.stage some;
+  }
+
+  pub cut_turn : (fault : LinkFault) → FailsAt fault now new bytes → IsFetchFault fault old new before after
+  cut_turn faults.Read fails = absurd fails
+  cut_turn (faults.Write count) fails = record {
+    bytes = bytes;
+    read = read;
+    most = most;
+    fails = subst (λ (f : Fetching). FailsAt (faults.Write count) f new bytes) same fails;
+  }
+  cut_turn (faults.Output count) fails = record {
+    bytes = bytes;
+    read = read;
+    most = most;
+    fails = subst (λ (f : Fetching). FailsAt (faults.Output count) f new bytes) same fails;
+  }

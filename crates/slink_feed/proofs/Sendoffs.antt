@@ -2,6 +2,7 @@
 use Rattle.std.proofs.Common.{◌≡◌, ◌≢◌, ℕ, ◌+◌, ◌-◌, ◌*◌, ◌≤◌, ◌<◌, ◌⊎◌, zero, suc, refl, sym, ap, subst, ◌∙◌, arith}
 use Rattle.std.proofs.Common.{inl, inr, if◌then◌else◌, List, [], ◌∷◌, ◌++◌, append_assoc, append-nil, length}
 use Rattle.std.proofs.Common.{length-append, length-take, replicate, take, take-append-drop, drop, Result, Err, IfErr}
+use Rattle.std.proofs.Common.{IfOk}
 use Rattle.std.proofs.lemmas.Bool.Decides.{eqb_tells}
 use Rattle.slink_wire.specs.declared.reply.Reply.{Reply}
 use Rattle.slink_wire.specs.declared.reply.Reply.TheVariants as replies
@@ -319,3 +320,8 @@ few_without unsents.Closed = omega arith
 pub passed_on : {T : Type 0} (r : Result T LinkFault) (fault : LinkFault) (P : LinkFault → Type 0)
     → ((x : LinkFault) × (r ≡ Err x) × (x ≡ fault)) → P fault → IfErr r P
 passed_on r fault P got fails = subst (λ s. IfErr s P) (sym got.1) (subst P (sym got.2) fails)
+
+-- where a `?` passes a fault on, nothing is said of a result
+pub not_ok : {T : Type 0} {Q : LinkFault → Type 0} (r : Result T LinkFault) (P : T → Type 0)
+    → ((x : LinkFault) × (r ≡ Err x) × Q x) → IfOk r P
+not_ok r P got = subst (λ s. IfOk s P) (sym got.1) tt
