@@ -1,5 +1,4 @@
-use Rattle.std.proofs.lemmas.Grind.{common_steps}
-use Rattle.std.proofs.Common.{◌≤◌, ◌<◌, ◌∙◌, arith, inl, inr, refl, length}
+use Rattle.std.proofs.Common.{◌≤◌, ◌<◌, ◌∙◌, arith, inl, inr, refl, rules, length}
 use Rattle.std.proofs.lemmas.Result.{err_from_is_err_and}
 use Rattle.slink_feed.specs.Attending.{attending}
 use Rattle.slink_feed.specs.private.Replying.{FailsToGive, HasGiven, IsSendFault, waits_after}
@@ -79,11 +78,22 @@ returns-then-is_closed-clause-ok g c =
     let most : length c.args.feed.now ≤ 16 = omega (arith, c.len.ensures.value, c.len.ensures.most) in
     has_sent _ _ _ _ _ _ most (inl c.if-is_closed.ensures.yes) c.loop-waits.invariant.so_far
 
-pub give-requires : goal.give-requires
-give-requires g c = grind (arith, common_steps)
-
 pub returns-in_err-given-clause-ok : goal.returns-in_err-given-clause-ok
-returns-in_err-given-clause-ok g c = grind (arith, common_steps)
+returns-in_err-given-clause-ok g c =
+    let e = err_from_is_err_and c.from_residual.result c.from_residual.ensures.1 in rw e.1 tt
 
 pub next_place-k-requires : goal.next_place-k-requires
-next_place-k-requires g c = grind (arith, common_steps)
+next_place-k-requires g c =
+    (search rules, c.loop-waits.invariant.so_far.within (omega (arith, c.loop-waits-test.true, c.len.ensures.value)))
+
+pub give-requires : goal.give-requires
+give-requires g c = (
+  search rules,
+  (
+    c.loop-waits.invariant.so_far.within (omega (arith, c.loop-waits-test.true, c.len.ensures.value)),
+    (
+      c.loop-waits.invariant.fits,
+      (c.loop-waits.invariant.few, omega (arith, c.loop-waits-test.true, c.len.ensures.most)),
+    ),
+  ),
+)
