@@ -6,7 +6,7 @@ use Rattle.mseed_select.specs.Selection.{Selection}
 use Rattle.mseed_words.specs.declared.request.Request.{Request}
 use Rattle.mseed_words.specs.Files.{files_of}
 use Rattle.mseed_words.specs.Selecting.{asked_of}
-use Rattle.mseed_words.specs.Words.{command_by, command_of, command_with, request_of, requested}
+use Rattle.mseed_words.specs.Words.{command_by, command_of, command_with, request_of}
 use Rattle.mseed_words.proofs.words.command_of.Goals as goal
 
 -- What is asked for, by what is requested, and of which records.
@@ -28,7 +28,8 @@ returns-clause-command c =
     c.in_ok-files.ensures.files
 
 pub returns-in_default-clause-refused : goal.returns-in_default-clause-refused
-returns-in_default-clause-refused c = with_request (rows_of (found_of c.args.matches.now)) None c.in_default.ensures.value
+returns-in_default-clause-refused c =
+    with_request (rows_of (found_of c.args.matches.now)) None c.in_default.ensures.value
 
 pub returns-in_default-asked_of-clause-refused : goal.returns-in_default-asked_of-clause-refused
 returns-in_default-asked_of-clause-refused c =

@@ -34,19 +34,24 @@ unnamed word rows audit join show select repack serve fetch =
     ∙ past word (codes "fetch") _ _ fetch)))))
 
 pub returns-in-audit-clause-value : goal.returns-in-audit-clause-value
-returns-in-audit-clause-value c = named _ (rows_of (found_of c.args.matches.now)) (codes "audit") _ c.in-audit.is c.auditing_of.ensures.value
+returns-in-audit-clause-value c =
+    named _ (rows_of (found_of c.args.matches.now)) (codes "audit") _ c.in-audit.is c.auditing_of.ensures.value
 
 pub returns-in-join-clause-value : goal.returns-in-join-clause-value
-returns-in-join-clause-value c = named _ (rows_of (found_of c.args.matches.now)) (codes "join") _ c.in-join.is c.joining_of.ensures.value
+returns-in-join-clause-value c =
+    named _ (rows_of (found_of c.args.matches.now)) (codes "join") _ c.in-join.is c.joining_of.ensures.value
 
 pub returns-in-show-clause-value : goal.returns-in-show-clause-value
-returns-in-show-clause-value c = named _ (rows_of (found_of c.args.matches.now)) (codes "show") _ c.in-show.is c.plain_of.ensures.value
+returns-in-show-clause-value c =
+    named _ (rows_of (found_of c.args.matches.now)) (codes "show") _ c.in-show.is c.plain_of.ensures.value
 
 pub returns-in-select-clause-value : goal.returns-in-select-clause-value
-returns-in-select-clause-value c = named _ (rows_of (found_of c.args.matches.now)) (codes "select") _ c.in-select.is c.plain_of-in-select.ensures.value
+returns-in-select-clause-value c =
+    named _ (rows_of (found_of c.args.matches.now)) (codes "select") _ c.in-select.is c.plain_of-in-select.ensures.value
 
 pub returns-in-repack-clause-value : goal.returns-in-repack-clause-value
-returns-in-repack-clause-value c = named _ (rows_of (found_of c.args.matches.now)) (codes "repack") _ c.in-repack.is c.packing_of.ensures.value
+returns-in-repack-clause-value c =
+    named _ (rows_of (found_of c.args.matches.now)) (codes "repack") _ c.in-repack.is c.packing_of.ensures.value
 
 pub returns-in-serve-clause-value : goal.returns-in-serve-clause-value
 returns-in-serve-clause-value c =
@@ -56,7 +61,8 @@ returns-in-serve-clause-value c =
 
 pub returns-in_ok-fetching_of-in-fetch-clause-value : goal.returns-in_ok-fetching_of-in-fetch-clause-value
 returns-in_ok-fetching_of-in-fetch-clause-value c =
-    named _ (rows_of (found_of c.args.matches.now)) (codes "fetch") _ c.in-fetch.is (ap (option_map Fetch) c.in_ok-fetching_of-in-fetch.ensures.value)
+    named _ (rows_of (found_of c.args.matches.now)) (codes "fetch") _ c.in-fetch.is
+    (ap (option_map Fetch) c.in_ok-fetching_of-in-fetch.ensures.value)
 
 pub returns-in_err-fetching_of-in-fetch-clause-value : goal.returns-in_err-fetching_of-in-fetch-clause-value
 returns-in_err-fetching_of-in-fetch-clause-value c =
@@ -65,5 +71,6 @@ returns-in_err-fetching_of-in-fetch-clause-value c =
 
 pub returns-in_default-clause-value : goal.returns-in_default-clause-value
 returns-in_default-clause-value c =
-    sym (unnamed _ (rows_of (found_of c.args.matches.now)) c.in_default.not-audit c.in_default.not-join c.in_default.not-show c.in_default.not-select
-    c.in_default.not-repack c.in_default.not-serve c.in_default.not-fetch)
+    sym (unnamed _ (rows_of (found_of c.args.matches.now)) c.in_default.not-audit c.in_default.not-join
+    c.in_default.not-show c.in_default.not-select c.in_default.not-repack c.in_default.not-serve
+    c.in_default.not-fetch)
