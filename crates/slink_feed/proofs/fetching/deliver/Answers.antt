@@ -1,6 +1,7 @@
 use Rattle.std.proofs.Common.{ap}
 use Rattle.slink_feed.specs.Reported.{record_in}
 use Rattle.slink_feed.proofs.ReportLines.{reported_four, reported_quiet, reported_two}
+use Rattle.slink_feed.proofs.Noting.{nothing_noted}
 use Rattle.slink_feed.proofs.fetching.deliver.Goals as goal
 
 pub returns-in-Ok-clause-lines : goal.returns-in-Ok-clause-lines
@@ -36,3 +37,27 @@ returns-in-None-3-clause-lines g c =
 pub returns-in-None-4-clause-lines : goal.returns-in-None-4-clause-lines
 returns-in-None-4-clause-lines g c =
     reported_four c.args.reporter.now.reporting c.args.event.now (g.E.Sink.written c.args.errors.now) c.in-None.is
+
+pub returns-in-Ok-clause-received : goal.returns-in-Ok-clause-received
+returns-in-Ok-clause-received g c = nothing_noted _ _
+
+pub returns-in-Err-clause-received : goal.returns-in-Err-clause-received
+returns-in-Err-clause-received g c = nothing_noted _ _
+
+pub returns-in-None-clause-received : goal.returns-in-None-clause-received
+returns-in-None-clause-received g c = nothing_noted _ _
+
+pub returns-in-None-2-clause-received : goal.returns-in-None-2-clause-received
+returns-in-None-2-clause-received g c = nothing_noted _ _
+
+pub returns-in-None-3-clause-received : goal.returns-in-None-3-clause-received
+returns-in-None-3-clause-received g c = nothing_noted _ _
+
+pub returns-in-None-4-clause-received : goal.returns-in-None-4-clause-received
+returns-in-None-4-clause-received g c = nothing_noted _ _
+
+pub returns-in-Garbage-clause-received : goal.returns-in-Garbage-clause-received
+returns-in-Garbage-clause-received g c = nothing_noted _ _
+
+pub returns-in-Garbage-2-clause-received : goal.returns-in-Garbage-2-clause-received
+returns-in-Garbage-2-clause-received g c = nothing_noted _ _
