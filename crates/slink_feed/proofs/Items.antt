@@ -40,6 +40,9 @@ module _ {X : Type 0} where
   within_is (y ∷ xs) zero lt = (y, refl)
   within_is (y ∷ xs) (suc k) lt = within_is xs k (omega (arith, lt))
 
+  pub no_value : (x : X) → Some x ≡ None → ⊥
+  no_value x e = let bad : Some x ≡ None = e in cc bad
+
   pub one_value : (o : Option X) (x y : X) → o ≡ Some x → o ≡ Some y → x ≡ y
   one_value o x y p q = let both : Some x ≡ Some y = sym p ∙ q in cc both
 

@@ -32,3 +32,6 @@ returns-in-Some-clause-fits g c =
 pub returns-in-Some-clause-few : goal.returns-in-Some-clause-few
 returns-in-Some-clause-few g c w there =
     rw (same_Some w c.ring-ring.result.now (sym there ∙ c.ring-ring.ensures.ring)) c.get.ensures.few
+
+pub returns-in-None-clause-fits : goal.returns-in-None-clause-fits
+returns-in-None-clause-fits g c = (subst (IsChosenOf c.args.feed.now) (sym c.requires.phase) tt, c.requires.fits)

@@ -1,5 +1,6 @@
 use Rattle.std.proofs.Common.{arith}
 use Rattle.std.proofs.lemmas.Option.{slice_get_within}
+use Rattle.slink_feed.proofs.Items.{no_value}
 use Rattle.slink_feed.proofs.Places.{carries_by, carries_not, none_more}
 use Rattle.slink_feed.proofs.feed.Feed.place_of.Goals as goal
 
@@ -23,4 +24,4 @@ returns-clause-none g c =
     (omega (arith, slice_get_within c.args.self.now k w there, c.len-k-end.ensures.value, c.loop-k-test.false)) there
 
 pub returns-then-bears-clause-none : goal.returns-then-bears-clause-none
-returns-then-bears-clause-none g c none = absurd (cc none)
+returns-then-bears-clause-none g c none = absurd (no_value c.loop-k.k none)

@@ -1,4 +1,4 @@
-use Rattle.std.proofs.Common.{rules, ◌≡◌, arith, ap, length, sym, ◌∙◌, subst, ◌<◌, ◌^◌, [], ◌∷◌, ◌++◌, Option, Some}
+use Rattle.std.proofs.Common.{◌≡◌, arith, ap, length, sym, ◌∙◌, subst, ◌<◌, ◌^◌, [], ◌∷◌, ◌++◌, Option, Some}
 use Rattle.std.proofs.Common.{IsSomeAnd}
 use Rattle.std.proofs.Common.{slice_get, option_map}
 use borrow.Author.Rules.{scaled_Fits}

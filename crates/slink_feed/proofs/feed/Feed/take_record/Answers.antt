@@ -21,3 +21,6 @@ returns-in-Some-place_of-clause-pushed g c =
 
 pub returns-in-None-clause-foreign : goal.returns-in-None-clause-foreign
 returns-in-None-clause-foreign g c = not_of_feed _ _ _ c.in-Some.ensures.cases.same (c.in-None.ensures.none refl)
+
+pub returns-in-Some-place_of-clause-most : goal.returns-in-Some-place_of-clause-most
+returns-in-Some-place_of-clause-most g c = c.in-Some-place_of.ensures.most
