@@ -71,15 +71,3 @@ returns-clause-ok g c start sent =
 pub slice_bounds-reply_to_all-end : goal.slice_bounds-reply_to_all-end
 slice_bounds-reply_to_all-end g c =
     sym (length-take-le c.in-Ok.count c.pull.new.buf c.in-Ok.ensures.bound)
-
-pub reply_to_all-requires : goal.reply_to_all-requires
-reply_to_all-requires g c = (
-  search rules,
-  (
-    c.requires.fits,
-    (
-      c.requires.stands,
-      (few_read c.in-Ok.count c.pull.new.buf c.in-Ok.ensures.bound (omega (arith, c.pull.auto.buf)), c.requires.few),
-    ),
-  ),
-)

@@ -1,10 +1,17 @@
-use Rattle.std.proofs.lemmas.Grind.{common_steps}
-use Rattle.std.proofs.Common.{arith}
+use Rattle.std.proofs.Common.{rules, subst, sym}
+use Rattle.slink_feed.specs.Serving.{SessionState}
+use Rattle.slink_feed.specs.Session.{Fits}
 use Rattle.slink_feed.proofs.Stands.{open_before}
 use Rattle.slink_feed.proofs.session.Session.packet.Goals as goal
 
 pub packet-requires : goal.packet-requires
-packet-requires g c = grind (arith, common_steps)
+packet-requires g c = (
+  search rules,
+  (
+    c.requires.in_range,
+    subst (λ (s : SessionState). Fits c.args.feed.now s.state) (sym c.self.view_is) c.requires.fits,
+  ),
+)
 
 pub invariant_of-self : goal.invariant_of-self
 invariant_of-self g c = λ awake.
