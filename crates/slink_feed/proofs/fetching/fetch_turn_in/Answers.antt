@@ -1,4 +1,4 @@
-use Rattle.std.proofs.Common.{◌≡◌, ◌≢◌, ◌<◌, ◌≤◌, ◌++◌, ◌∙◌, List, [], Ok, ℕ, ap, arith, length, length-take, rules}
+use Rattle.std.proofs.Common.{◌≡◌, ◌≢◌, ◌≤◌, ◌++◌, ◌∙◌, List, [], Ok, ℕ, ap, arith, length, length-take, rules}
 use Rattle.std.proofs.Common.{subst}
 use Rattle.std.proofs.Common.{take}
 use Rattle.std.proofs.lemmas.List.{length-take-le, take-append-le}
