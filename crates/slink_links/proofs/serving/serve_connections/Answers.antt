@@ -1,4 +1,4 @@
-use Rattle.std.proofs.Common.{◌≡◌, arith, false, refl, rules, true}
+use Rattle.std.proofs.Common.{◌≡◌, ◌∙◌, arith, false, refl, sym, true}
 use Rattle.slink_links.proofs.Serves.{each_both, each_none, fails_more, fails_still}
 use Rattle.slink_links.proofs.serving.serve_connections.Goals.{then-not-serve_next, else-not-serve_next}
 use Rattle.slink_links.proofs.serving.serve_connections.Goals as goal
@@ -8,15 +8,15 @@ loop-connection-preserved g c =
     elim c.if-not-serve_next.branch [
       | then-not-serve_next w ↦ record {
         accepts = omega (arith, c.serve_next.ensures.accepts, c.loop-connection.invariant.accepts);
-        fine = search rules;
+        fine = λ is. absurd (let bad : false ≡ true = sym w.is_fine-is ∙ is in cc bad);
         failed = λ is. fails_more _ _ _ _ _ _ _ _ c.loop-connection.invariant.fine c.loop-connection.invariant.failed
-            (search rules) c.serve_next.ensures.failed;
+            (w.if-not-serve_next).true c.serve_next.ensures.failed;
         out = c.serve_next.ensures.out;
         served = each_both _ _ _ _ c.loop-connection.invariant.served c.serve_next.ensures.served;
       }
       | else-not-serve_next w ↦
           let still = fails_still _ c.if-not-serve_next.is_fine _ _ _ _ _ _ _ c.loop-connection.invariant.fine
-          c.loop-connection.invariant.failed (search rules) (search rules) c.serve_next.ensures.fine in record {
+          c.loop-connection.invariant.failed w.is_fine-is (w.if-not-serve_next).false c.serve_next.ensures.fine in record {
             accepts = omega (arith, c.serve_next.ensures.accepts, c.loop-connection.invariant.accepts);
             fine = still.0;
             failed = still.1;
