@@ -1,7 +1,6 @@
 -- The stations that a client asks for.
 use Rattle.std.proofs.Common.{◌≡◌, ℕ, ◌+◌, ◌-◌, ◌%◌, ◌<◌, ◌≤◌, ◌^◌, suc, zero, refl, sym, ap, subst, ◌∙◌, arith, List}
-use Rattle.std.proofs.Common.{[]}
-use Rattle.std.proofs.Common.{◌∷◌, ◌++◌, length, map, replicate, take, set, get_or, append_assoc, length-take-le}
+use Rattle.std.proofs.Common.{[], ◌∷◌, ◌++◌, length, map, replicate, take, set, get_or, append_assoc, length-take-le}
 use Rattle.std.proofs.Common.{Option, Some, None, IfSome}
 use Rattle.std.proofs.lemmas.List.{length-map, map_more, set_at}
 use Rattle.std.specs.Option.{option_and_then}

@@ -1,5 +1,4 @@
-use Rattle.std.proofs.Common.{◌≡◌, arith, ap, length, sym, ◌∙◌, subst, ◌<◌, ◌^◌, [], ◌∷◌, ◌++◌, Option, Some}
-use Rattle.std.proofs.Common.{IsSomeAnd}
+use Rattle.std.proofs.Common.{◌≡◌, arith, ap, length, sym, ◌∙◌, subst, ◌<◌, ◌^◌, [], ◌∷◌, ◌++◌, Option, Some, IsSomeAnd}
 use Rattle.std.proofs.Common.{slice_get, option_map}
 use borrow.Author.Rules.{scaled_Fits}
 use Rattle.slink_wire.specs.Place.{Bears}
