@@ -36,3 +36,9 @@ returns-clause-called g c request asked files asks = elim (c.in-Err.ensures.call
   | inl command ↦ absurd command
   | inr lacks ↦ (nothing_read, inr (lacks, c.command_of.ensures.unwritten))
 ]
+
+pub returns-clause-bad : goal.returns-clause-bad
+returns-clause-bad g c nothing = (c.in-Err.ensures.bad nothing, c.command_of.ensures.unwritten)
+
+pub returns-clause-refused : goal.returns-clause-refused
+returns-clause-refused g c refused = (c.in-Err.ensures.refused refused, c.command_of.ensures.unwritten)

@@ -1,5 +1,6 @@
-use Rattle.std.proofs.Common.{refl}
+use Rattle.std.proofs.Common.{refl, subst}
 use Rattle.mseed_stream.specs.Device.{nothing_read}
+use Rattle.mseed_words.specs.Words.{CanBeCalled}
 use Rattle.mseed.proofs.Done.{done_over}
 use Rattle.mseed.proofs.effect.execute.Goals as goal
 
@@ -16,3 +17,6 @@ pub returns-in_default-clause-done : goal.returns-in_default-clause-done
 returns-in_default-clause-done g c =
     done_over _ c.args.command.now.request _ _ c.run_over_named.result _ _ _ _ c.in_default.not-Serve
     c.in_default.not-Live c.in_default.not-Fetch c.run_over_named.ensures.ok
+
+pub serve-requires-clause-called : goal.serve-requires-clause-called
+serve-requires-clause-called g c = subst CanBeCalled c.in-Serve.is c.requires
