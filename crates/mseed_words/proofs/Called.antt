@@ -1,7 +1,7 @@
 -- What the words of the command line give, one by one, and the digits of a length.
 use Rattle.std.proofs.Common.{◌≡◌, ℕ, suc, ◌+◌, ◌-◌, ◌*◌, ◌^◌, ◌<◌, ◌&&◌, ◌||◌, ◌++◌, Bool, List, [], ◌∷◌, length, map}
 use Rattle.std.proofs.Common.{take, drop, get_or, refl, sym, ap, ◌∙◌, arith, true, Option, Some, None, slice_get}
-use Rattle.std.proofs.Common.{unwrap_or}
+use Rattle.std.proofs.Common.{unwrap_or, IfSome, subst}
 use Rattle.std.proofs.lemmas.Grind.{common_steps}
 use Rattle.std.specs.Borrow.{Bor}
 use Rattle.std.specs.List.{list_all, list_any}
@@ -60,3 +60,7 @@ ids_are (e ∷ es) = ap (λ (ids : List Text). e.0.now ∷ ids) (ids_are es)
 
 pub below : (c : ℕ) → is_digit c ≡ true → c < 58
 below c is = grind (arith, common_steps, is)
+
+-- where nothing is asked for
+pub unasked : {X : Type 0} (asked : Option X) (P : X → Type 0) → asked ≡ None → IfSome asked P
+unasked asked P none = subst (λ o. IfSome o P) (sym none) tt

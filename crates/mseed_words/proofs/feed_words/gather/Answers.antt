@@ -1,5 +1,5 @@
-use Rattle.std.proofs.Common.{◌≡◌, ℕ, false, ◌+◌, ◌≤◌, ◌<◌, ◌^◌, ◌∷◌, [], ◌++◌, Some, Option, List, map, drop, get_or}
-use Rattle.std.proofs.Common.{length, ap, sym, subst, ◌∙◌, arith, IfSome, length-append}
+use Rattle.std.proofs.Common.{◌≡◌, ℕ, false, ◌+◌, ◌≤◌, ◌<◌, ◌^◌, ◌∷◌, [], ◌++◌, None, Some, Option, List, map, drop}
+use Rattle.std.proofs.Common.{get_or, length, ap, sym, subst, ◌∙◌, arith, IfSome, length-append}
 use Rattle.std.specs.Borrow.{Bor}
 use Rattle.std.proofs.lemmas.List.{drop_all, drop_more}
 use Rattle.std.proofs.lemmas.List.Elements.{All-push}
@@ -8,6 +8,7 @@ use Rattle.slink_wire.specs.Place.{AreNumbers}
 use Rattle.mseed_words.specs.FeedWords.{called_in}
 use Rattle.mseed_words.specs.Places.{Called, are_different, has_place}
 use Rattle.mseed_words.specs.declared.feed_words.Naming.{Naming}
+use Rattle.mseed_words.proofs.Called.{unasked}
 use Rattle.mseed_words.proofs.Different.{all_taken, different_more, doubled, one_more, too_many, with_rest}
 use Rattle.mseed_words.proofs.feed_words.gather.Goals as goal
 use Rattle.mseed_words.proofs.feed_words.gather.Goals.{then-len-eq16-via-then-len-eq16}
@@ -18,9 +19,9 @@ abbrev called_of : Naming → List (Bor Text) → List (Option Called)
 called_of naming words = map (called_in naming) (map (λ (w : Bor Text). w.now) words)
 
 -- the next word, and the others
-next : (naming : Naming) (words : List (Bor Text)) (i : ℕ) (d : Bor Text) (p : Called) → i < length words
-    → Some p ≡ called_in naming (get_or words i d).now
-    → called_of naming (drop i words) ≡ Some p ∷ called_of naming (drop (i + 1) words)
+next : (naming : Naming) (words : List (Bor Text)) (i : ℕ) (d : Bor Text) (p : Option Called) → i < length words
+    → p ≡ called_in naming (get_or words i d).now
+    → called_of naming (drop i words) ≡ p ∷ called_of naming (drop (i + 1) words)
 next naming words i d p lt is =
     ap (called_of naming) (drop_more words i d lt)
     ∙ ap (λ (o : Option Called). o ∷ called_of naming (drop (i + 1) words))
@@ -30,7 +31,7 @@ pub returns-then-len-eq16-clause-value : goal.returns-then-len-eq16-clause-value
 returns-then-len-eq16-clause-value c =
     let left = called_of c.args.naming (drop (c.loop-word.word-index + 1) c.args.words.now) in
     let before = ap (with_rest c.loop-word.places)
-    (sym (next c.args.naming c.args.words.now c.loop-word.word-index _ c.in_ok-place.place c.loop-word-test.true
+    (sym (next c.args.naming c.args.words.now c.loop-word.word-index _ (Some c.in_ok-place.place) c.loop-word-test.true
     c.in_ok-place.ensures.value)) ∙ c.loop-word.invariant.0 in
     elim c.then-len-eq16.branch [
       | then-len-eq16-via-then-len-eq16 w ↦ sym
@@ -45,7 +46,7 @@ loop-word-preserved c =
     let p : Called = c.in_ok-place.place in
     let left : List (Option Called) = called_of c.args.naming (drop (c.loop-word.word-index + 1) c.args.words.now) in
     let before = ap (with_rest places)
-    (sym (next c.args.naming c.args.words.now c.loop-word.word-index _ p c.loop-word-test.true
+    (sym (next c.args.naming c.args.words.now c.loop-word.word-index _ (Some p) c.loop-word-test.true
     c.in_ok-place.ensures.value)) ∙ c.loop-word.invariant.0 in
     let lacks : has_place p.0 places ≡ false = sym c.has.ensures ∙ c.if-has.false in
     let count : length (places ++ p ∷ []) ≡ length places + 1 = length-append places (p ∷ []) in
@@ -75,3 +76,12 @@ returns-clause-range c = record {
   different = c.loop-word.invariant.1;
   numbers = c.loop-word.invariant.2;
 }
+
+pub returns-in_err-place-clause-value : goal.returns-in_err-place-clause-value
+returns-in_err-place-clause-value c =
+    c.from_residual-in_err-place.ensures ∙ (ap (with_rest c.loop-word.places)
+    (sym (next c.args.naming c.args.words.now c.loop-word.word-index _ None c.loop-word-test.true
+    c.in_err-place.ensures.value)) ∙ c.loop-word.invariant.0)
+
+pub returns-in_err-place-clause-range : goal.returns-in_err-place-clause-range
+returns-in_err-place-clause-range c = unasked _ _ c.from_residual-in_err-place.ensures
