@@ -21,3 +21,6 @@ returns-clause-read c = (
       c.in-Ok.ensures.packet,
   c.read_packet.ensures.read,
 )
+
+pub returns-clause-reported : goal.returns-clause-reported
+returns-clause-reported c = c.read_packet.ensures.reported
