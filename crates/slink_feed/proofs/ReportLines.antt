@@ -1,11 +1,14 @@
 -- The lines of a record, and those of what is wanted next.
 use Rattle.std.proofs.Common.{◌≡◌, ◌≢◌, ℕ, ◌+◌, inl, inr, zero, suc, sym, ap, subst, ◌∙◌, arith, Bool, true, false, ◌⊎◌}
 use Rattle.std.proofs.Common.{if◌then◌else◌, List, [], ◌∷◌, ◌++◌, append_assoc, append-nil, Option, Some, None, ◌-◌}
-use Rattle.std.proofs.Common.{◌<◌, drop, get_or, length, length-drop, take, take_all, slice_get, unwrap_or}
+use Rattle.std.proofs.Common.{◌<◌, ◌≤◌, drop, get_or, length, length-append, length-drop, take, take_all, slice_get}
+use Rattle.std.proofs.Common.{unwrap_or}
 use Rattle.std.proofs.lemmas.Bool.Decides.{eqb_tells}
 use Rattle.mseed_stream.specs.Device.{BytesWritten}
 use Rattle.mseed_stream.specs.LineWritten.{WritesLine}
+use Rattle.slink_wire.specs.Hexadecimal.{hexadecimal}
 use Rattle.slink_wire.specs.Place.{Fields}
+use Rattle.slink_wire.proofs.Digits.{length-hexadecimal}
 use Rattle.slink_feed.specs.declared.dialogue.Event.{Event}
 use Rattle.slink_feed.specs.declared.dialogue.Event.TheVariants as events
 use Rattle.slink_feed.specs.declared.dialogue.Wanted.{Wanted}
@@ -124,3 +127,26 @@ after_the_first ws = take_all (length ws - 1) (drop 1 ws) (omega (arith, length-
 pub first_is : (ws : Wants) (o : Option Wanted) → 0 < length ws → o ≡ get_or ws 0 o → o ≡ want_at ws 0
 first_is [] o some is = absurd (omega (arith, some))
 first_is (x ∷ xs) o some is = is
+
+-- How long a line is, piece by piece.
+pub grown : (old more new : List ℕ) → new ≡ old ++ more → length new ≡ length old + length more
+grown old more new is = ap length is ∙ length-append old more
+
+pub six_long : (digits : List ℕ) (n : ℕ) → digits ≡ hexadecimal 6 n → length digits ≡ 6
+six_long digits n is = ap length is ∙ length-hexadecimal 6 n
+
+pub six_more : (old digits new : List ℕ) (n : ℕ) → digits ≡ hexadecimal 6 n → new ≡ old ++ digits
+    → length new ≡ length old + 6
+six_more old digits new n is more = omega (arith, grown old digits new more, six_long digits n is)
+
+-- a line's first words, with the label of a station and one byte
+pub begun_line : (words start head label named begun : List ℕ) (c : ℕ) → start ≡ [] → head ≡ start ++ words
+    → named ≡ head ++ label → begun ≡ named ++ c ∷ [] → length label ≤ 8 → length begun ≤ length words + 9
+begun_line words start head label named begun c empty first second third short = omega (
+  arith,
+  ap length empty,
+  grown start words head first,
+  grown head label named second,
+  grown named (c ∷ []) begun third,
+  short,
+)
