@@ -16,7 +16,8 @@ loop-connection-preserved g c =
       }
       | else-not-serve_next w ↦
           let still = fails_still _ c.if-not-serve_next.is_fine _ _ _ _ _ _ _ c.loop-connection.invariant.fine
-          c.loop-connection.invariant.failed w.is_fine-is (w.if-not-serve_next).false c.serve_next.ensures.fine in record {
+          c.loop-connection.invariant.failed w.is_fine-is (w.if-not-serve_next).false c.serve_next.ensures.fine in
+          record {
             accepts = omega (arith, c.serve_next.ensures.accepts, c.loop-connection.invariant.accepts);
             fine = still.0;
             failed = still.1;
