@@ -1,8 +1,14 @@
+use Rattle.std.proofs.Common.{Option, Result, Some, Err, refl, rules}
 use Rattle.std.proofs.Common.{◌≡◌, ◌∙◌, ◌++◌, ◌∷◌, [], List, None, ℕ, length, take, sym, subst, ap, arith}
+use Rattle.mseed_record.specs.declared.view.RecordView.{RecordView}
 use Rattle.mseed_record.specs.View.{View}
 use Rattle.mseed_record.specs.Viewing.{view_of}
-use Rattle.mseed_stream.specs.Device.{BytesRead}
-use Rattle.mseed_stream.specs.Cutting.{IsAhead}
+use Rattle.mseed_stream.specs.Calls.{ReadsOn}
+use Rattle.mseed_stream.specs.Device.{BytesWritten, BytesRead}
+use Rattle.mseed_stream.specs.CutterState.{CutterState}
+use Rattle.mseed_stream.specs.Cutting.{IfEnds, IsNextAnswer, IsAhead}
+use Rattle.mseed_stream.specs.declared.fault.StreamFault.{StreamFault}
+use Rattle.mseed_stream.specs.declared.fault.StreamFault.TheVariants.{Frame, Truncated, Read, Turns, Memory}
 use Rattle.mseed_stream.specs.Walk.{AreAllViews, HasHandedOut}
 use Rattle.mseed_stream.proofs.Calls.{reads_none}
 use Rattle.mseed_select.proofs.Copied.{stay}
@@ -86,3 +92,49 @@ returns-in_err-judge-in-Ok-Some-clause-next g c = λ first now views before judg
     _ _ (g.P.Report.stands first c.judge-in-Ok-Some.new.report now)
     c.from_residual-in_err-judge-in-Ok-Some.ensures.1 shown
     (c.in_err-judge-in-Ok-Some.ensures first now _ views at judged)
+
+-- what the cutter's next answer says of what was read
+reads_next : (result : Result (Option RecordView) StreamFault) (c : CutterState) (old new : BytesRead)
+    (left rest : Option (List ℕ)) (apart later : BytesWritten) → IsNextAnswer result c old new left rest
+    → later ≡ apart → c.answer ≡ None → ReadsOn old new left rest apart later
+reads_next result c old new left rest apart later is beside goes_on = record {
+  more = is.more;
+  known = is.known goes_on;
+  beside = beside;
+}
+
+-- a fault other than refused memory ends the records
+ends : (e : StreamFault) (P : Type 0) → (e ≡ Memory → ⊥) → IfEnds {X = RecordView} (Err e) P → P
+ends (Frame n f) P other end = end
+ends (Truncated n have) P other end = end
+ends (Read n) P other end = end
+ends (Turns n) P other end = end
+ends Memory P other end = absurd (other refl)
+
+pub returns-in_ok-judge-in-Ok-Some-clause-reads : goal.returns-in_ok-judge-in-Ok-Some-clause-reads
+returns-in_ok-judge-in-Ok-Some-clause-reads g c =
+    reads_next c.next.result c.args.cutter.now _ _ _ _ _ _ c.next.ensures.answer c.next.ensures.beside
+
+pub returns-in-Ok-None-clause-reads : goal.returns-in-Ok-None-clause-reads
+returns-in-Ok-None-clause-reads g c =
+    reads_next c.next.result c.args.cutter.now _ _ _ _ _ _ c.next.ensures.answer c.next.ensures.beside
+
+pub returns-in-Err-Memory-clause-reads : goal.returns-in-Err-Memory-clause-reads
+returns-in-Err-Memory-clause-reads g c =
+    reads_next c.next.result c.args.cutter.now _ _ _ _ _ _ c.next.ensures.answer c.next.ensures.beside
+
+pub returns-in-Err-clause-reads : goal.returns-in-Err-clause-reads
+returns-in-Err-clause-reads g c =
+    reads_next c.next.result c.args.cutter.now _ _ _ _ _ _ c.next.ensures.answer c.next.ensures.beside
+
+pub returns-in-Err-clause-next : goal.returns-in-Err-clause-next
+returns-in-Err-clause-next g c = λ first now views before judged.
+    let other : c.in-Err.fault ≡ Memory → ⊥ = search rules in
+    let all : AreAllViews (g.R.Source.read c.next.new.source) views (Some c.in-Err.fault) =
+    ends c.in-Err.fault _ other (c.in-Err.ensures.all views before) in (
+      record {
+        all = record { all = all; audit = judged.audit; size = before.records.offset_is };
+        passed = judged.passed;
+      },
+      judged.report,
+    )
