@@ -1,7 +1,7 @@
 -- Where channels stand on a roster, and what is kept of them there.
 use Rattle.std.proofs.Common.{◌≡◌, ℕ, zero, suc, ◌+◌, ◌<◌, ◌≤◌, List, [], ◌∷◌, ◌++◌, Bool, true, false, cond, length}
 use Rattle.std.proofs.Common.{get_or, set, is_some, Option, IsSome, Some, None, if◌then◌else◌, refl, sym, ap, subst}
-use Rattle.std.proofs.Common.{◌∙◌, arith, append-nil, append_assoc}
+use Rattle.std.proofs.Common.{◌∙◌, arith, append-nil, append_assoc, length-append}
 use Rattle.std.specs.List.{All, slice_get}
 use Rattle.std.specs.Map.{keys_of, lookup, set_value, values_of}
 use Rattle.std.specs.Option.{option_map, unwrap_or}
@@ -348,11 +348,17 @@ making_begin {X = X} f es old first places made room is are same none fits = rec
 pub making_more : {X : Type 0} (f : Channel → X) (es : List (List ℕ × Channel)) (first : List (List ℕ × ℕ))
     (key : List ℕ) (i : ℕ) (rest : List (List ℕ × ℕ)) (e : List ℕ × Channel) (x : X) (made more : List (List ℕ × X))
     (room now : ℕ) → IsMaking f es first ((key, i) ∷ rest) made room → e ≡ get_or es i e → x ≡ f e.1
-    → more ≡ made ++ (key, x) ∷ [] → length more + length rest ≤ now → IsMaking f es first rest more now
-making_more f es first key i rest e x made more room now before at is pushed fits = record {
+    → more ≡ made ++ (key, x) ∷ [] → room ≤ now → IsMaking f es first rest more now
+making_more {X = X} f es first key i rest e x made more room now before at is pushed fits = record {
   all = made_also f es key i rest e x made more (made_at f es first) before.all (before.within 0 0 (omega arith)) at is
       pushed;
-  fits = fits;
+  fits = omega (
+    arith,
+    fits,
+    before.fits,
+    ap (λ (xs : List (List ℕ × X)). length xs) pushed,
+    length-append made ((key, x) ∷ []),
+  );
   within = λ k d l. before.within (suc k) d (omega (arith, l));
 }
 

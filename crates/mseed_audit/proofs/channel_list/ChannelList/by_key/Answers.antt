@@ -1,4 +1,4 @@
-use Rattle.std.proofs.Common.{◌∙◌, List, ℕ, get_or, refl, subst, ap, rules}
+use Rattle.std.proofs.Common.{◌∙◌, ◌<◌, List, ℕ, get_or, length, refl, subst, sym, ap, arith, rules}
 use Rattle.mseed_audit.specs.declared.channel.Channel.{Channel}
 use Rattle.mseed_audit.specs.Places.{ArePlaces}
 use Rattle.mseed_audit.proofs.ByKey.{itself, made_by_key}
@@ -7,8 +7,17 @@ use Rattle.mseed_audit.proofs.channel_list.ChannelList.by_key.Goals as goal
 
 pub loop-codes-init : goal.loop-codes-init
 loop-codes-init g c =
-    making_begin itself c.self.inside.channels.items c.args.self.now _ c.self.inside.places.entries _ _ (search rules)
-    c.self.invariant.0.places c.self.view_is (search rules) (search rules)
+    making_begin itself c.self.inside.channels.items c.args.self.now _ c.self.inside.places.entries _ _
+    (c.into_iter-codes-iterator.ensures.into_iter_gives ∙ c.iter-codes-items.ensures.rest)
+    c.self.invariant.0.places c.self.view_is c.in-Ok.ensures.items (omega (arith, c.len.ensures, c.in-Ok.ensures.exact))
+
+pub index-requires : goal.index-requires
+index-requires g c =
+    let inv = rw c.in-Some.ensures.steps at c.loop-codes.invariant in
+    let within : c.in-Some.index.now < length c.self.inside.channels.items =
+    subst (λ (fs : List (List ℕ × Channel)). c.in-Some.index.now < length fs) (sym c.self.view_is)
+    (inv.within 0 0 (omega arith)) in
+    omega (arith, within)
 
 pub loop-codes-preserved : goal.loop-codes-preserved
 loop-codes-preserved g c =
@@ -17,7 +26,7 @@ loop-codes-preserved g c =
     (rw c.in-Some.ensures.steps at c.loop-codes.invariant)
     (c.index.ensures ∙ ap (λ (fs : List (List ℕ × Channel)). get_or fs c.in-Some.index.now c.index.result.now)
     c.self.view_is)
-    refl (search rules) (search rules)
+    refl c.in-Ok-push.ensures.items c.in-Ok-push.ensures.capacity
 
 pub returns : goal.returns
 returns g c =

@@ -1,4 +1,4 @@
-use Rattle.std.proofs.Common.{◌≡◌, ◌≤◌, List, ℕ, get_or, length, refl, subst, arith, rules}
+use Rattle.std.proofs.Common.{◌≡◌, ◌≤◌, ◌<◌, ◌∙◌, List, ℕ, get_or, length, refl, subst, sym, ap, arith, rules}
 use Rattle.std.specs.Vec.{vec_capacity}
 use Rattle.mseed_audit.specs.Audit.{verdict_of}
 use Rattle.mseed_audit.specs.declared.channel.Channel.{Channel}
@@ -16,11 +16,14 @@ loop-codes-init g c =
 pub loop-codes-preserved : goal.loop-codes-preserved
 loop-codes-preserved g c =
     let e : List ℕ × Channel = c.index-as_slice-index.result in
-    let at : e ≡ get_or c.args.self c.in-Some.index.now e = search rules in
-    let is : c.verdict.result ≡ verdict_of e.1 = search rules in
+    let at : e ≡ get_or c.args.self c.in-Some.index.now e = c.index-as_slice-index.is
+    ∙ ap (λ (fs : List (List ℕ × Channel)). get_or fs c.in-Some.index.now e) (c.as_slice.ensures ∙ c.self.view_is) in
+    let is : c.verdict.result ≡ verdict_of e.1 = c.verdict.ensures
+    ∙ ap (λ (x : List ℕ × Channel). verdict_of x.1) (sym c.index-as_slice-index.is) in
     making_more verdict_of c.args.self _ c.in-Some.codes.now c.in-Some.index.now c.next.new.self
     e c.verdict.result c.loop-codes.verdicts.items c.push.new.self.items _ _
-    (rw c.in-Some.ensures.steps at c.loop-codes.invariant) at is (search rules) (search rules)
+    (rw c.in-Some.ensures.steps at c.loop-codes.invariant) at is c.in-Ok.ensures.items
+    c.in-Ok.ensures.capacity
 
 pub returns : goal.returns
 returns g c =
@@ -29,3 +32,9 @@ returns g c =
     (subst (λ (fs : List (List ℕ × Channel)). ArePlaces c.places.result.now.entries fs) c.self.view_is
     c.places.ensures.places) c.places.ensures.ascending refl in
     record { ascending = all.ascending; each = all.each }
+
+pub bounds-as_slice-index : goal.bounds-as_slice-index
+bounds-as_slice-index g c =
+    let inv = rw c.in-Some.ensures.steps at c.loop-codes.invariant in
+    subst (λ (fs : List (List ℕ × Channel)). c.in-Some.index.now < length fs)
+    (sym (c.as_slice.ensures ∙ c.self.view_is)) (inv.within 0 0 (omega arith))
