@@ -1,5 +1,6 @@
-use Rattle.std.proofs.Common.{◌∙◌, ◌++◌, ◌∷◌, [], List, ap, append-nil, sym, ℕ}
+use Rattle.std.proofs.Common.{◌∙◌, ◌++◌, ◌∷◌, [], List, ap, append-nil, subst, sym, ℕ}
 use Rattle.mseed_record.specs.Viewing.{view_of}
+use Rattle.mseed_audit.specs.private.Gathered.{AreLined}
 use Rattle.mseed_audit.specs.Reported.{Reported}
 use Rattle.mseed_audit.specs.Text.{reported_line}
 use Rattle.mseed_audit.proofs.Gathers.{lined_more}
@@ -11,3 +12,9 @@ returns-in-Ok g c = λ first now reported before.
     lined_more (g.W.Sink.written first) (g.W.Sink.written now) _ _ _ _ c.args.self.now.items
     c.push_reported_line.new.text.items reported (here ∷ []) before
     (c.in-Ok.ensures.ok ∙ ap (λ (xs : List ℕ). c.args.self.now.items ++ xs) (sym (append-nil (reported_line here))))
+
+pub returns-in-Err : goal.returns-in-Err
+returns-in-Err g c = λ first now reported before.
+    subst (λ (xs : List ℕ). AreLined (g.W.Sink.written first) (g.W.Sink.written now) (g.W.Sink.contents first)
+    (g.W.Sink.contents now) (g.W.Sink.beside first) (g.W.Sink.beside now) xs reported)
+    (sym c.in-Err.ensures.unchanged) before
