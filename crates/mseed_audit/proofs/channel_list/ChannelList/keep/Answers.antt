@@ -1,4 +1,4 @@
-use Rattle.std.proofs.Common.{◌≡◌, ◌++◌, ◌∷◌, [], ◌∙◌, ℕ, List, None, length, ap, rules}
+use Rattle.std.proofs.Common.{◌≡◌, ◌++◌, ◌∷◌, [], ◌∙◌, ℕ, List, None, length, ap, arith}
 use Rattle.std.specs.BTreeMap.{insert_entry}
 use Rattle.std.specs.Cmp.Lexicographic.{slice_cmp}
 use Rattle.std.specs.Ordering.{nat_cmp}
@@ -17,7 +17,8 @@ invariant_of-self-2 g c =
     let more : List (List ℕ × ℕ) = c.insert.new.self.entries in
     let place : place_of (same_key code) es ≡ None =
     ap (λ (fs : List (List ℕ × Channel)). place_of (same_key code) fs) c.self.view_is ∙ c.requires in
-    let index : c.len-index.result ≡ length es = search rules in
+    let index : c.len-index.result ≡ length es =
+    omega (arith, c.len-index.ensures, ap (λ (xs : List (List ℕ × Channel)). length xs) c.make_room.ensures.items) in
     let items : c.push.new.self.items ≡ es ++ (code, c.args.channel) ∷ [] =
     c.in-Ok-push.ensures.items
     ∙ ap (λ (xs : List (List ℕ × Channel)). xs ++ (code, c.args.channel) ∷ []) c.make_room.ensures.items in
@@ -27,3 +28,12 @@ invariant_of-self-2 g c =
           entries c.in-Ok.ensures.ordered,
       tt,
     )
+
+pub returns-clause-kept : goal.returns-clause-kept
+returns-clause-kept g c =
+    c.in-Ok-push.ensures.items
+    ∙ ap (λ (xs : List (List ℕ × Channel)). xs ++ (c.args.codes, c.args.channel) ∷ [])
+    (c.make_room.ensures.items ∙ c.self.view_is)
+
+pub returns-in-Err-clause-unchanged : goal.returns-in-Err-clause-unchanged
+returns-in-Err-clause-unchanged g c = c.make_room.ensures.items ∙ c.self.view_is

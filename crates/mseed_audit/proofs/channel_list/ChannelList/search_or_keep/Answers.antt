@@ -1,4 +1,4 @@
-use Rattle.std.proofs.Common.{◌≡◌, ◌++◌, ◌∷◌, [], ◌∙◌, ℕ, List, None, Some, length, ap, rules}
+use Rattle.std.proofs.Common.{◌≡◌, ◌++◌, ◌∷◌, [], ◌∙◌, ℕ, List, None, Some, length, ap, subst, sym, arith, rules}
 use Rattle.std.specs.BTreeMap.{insert_entry}
 use Rattle.std.specs.Cmp.Lexicographic.{slice_cmp}
 use Rattle.std.specs.List.Sorted.{IsStrictlySortedBy}
@@ -6,7 +6,7 @@ use Rattle.std.specs.Map.{keys_of}
 use Rattle.std.specs.Ordering.{nat_cmp}
 use Rattle.mseed_audit.specs.declared.channel.Channel.{Channel}
 use Rattle.mseed_audit.specs.Channels.{same_key}
-use Rattle.mseed_audit.specs.Places.{place_of}
+use Rattle.mseed_audit.specs.Places.{ArePlaced, place_of}
 use Rattle.mseed_audit.proofs.Placed.{placed_push}
 use Rattle.mseed_audit.proofs.Rosters.{none_there, place_within}
 use Rattle.mseed_audit.proofs.channel_list.ChannelList.search_or_keep.Goals as goal
@@ -27,12 +27,20 @@ invariant_of-self-2 g c =
     let ps : List (List ℕ × ℕ) = c.self.inside.places.entries in
     let more : List (List ℕ × ℕ) = c.find_or_enter.new.places.entries in
     let place : place_of (same_key code) es ≡ None = search rules in
-    let index : c.len-index.result ≡ length es = search rules in
+    let index : c.len-index.result ≡ length es = omega (arith, c.len-index.ensures) in
     let items : c.push.new.self.items ≡ es ++ (code, c.args.channel.now) ∷ [] = c.in-Ok.ensures.items in
     let entered : more ≡ insert_entry (slice_cmp nat_cmp) ps code c.len-index.result =
     rw c.in_default.is at c.in_ok-index.ensures.entered in
-    let ascending : IsStrictlySortedBy (slice_cmp nat_cmp) (keys_of more) = search rules in (
+    let ascending : IsStrictlySortedBy (slice_cmp nat_cmp) (keys_of more) =
+    rw c.in_default.is at c.in_ok-index.ensures.ordered in (
       placed_push ps more es _ code c.args.channel.now c.self.invariant.0 items (none_there (same_key code) es place)
           (entered ∙ ap (λ (n : ℕ). insert_entry (slice_cmp nat_cmp) ps code n) index) ascending,
       tt,
     )
+
+pub invariant_of-self : goal.invariant_of-self
+invariant_of-self g c = (
+  subst (λ (ps : List (List ℕ × ℕ)). ArePlaced ps c.self.inside.channels.items)
+      (sym c.in_err-index.ensures.unchanged) c.self.invariant.0,
+  c.self.invariant.1,
+)
