@@ -1,4 +1,4 @@
--- Verdicts, one after another.
+-- Verdicts and texts, one after another.
 use Rattle.std.proofs.Common.{◌≡◌, ℕ, ◌+◌, ◌<◌, ◌++◌, List, [], ◌∷◌, length, take, get_or, if◌then◌else◌, refl, sym, ap}
 use Rattle.std.proofs.Common.{◌∙◌, append_assoc, append-nil, arith}
 use Rattle.std.proofs.lemmas.List.{take_more}
@@ -7,6 +7,12 @@ use Rattle.mseed_audit.specs.declared.verdict.Verdict.TheVariants.{Continuous, B
 use Rattle.mseed_audit.specs.Text.{verdict_line, verdict_lines}
 use Rattle.mseed_audit.specs.Verdict.{says_continuous}
 use Rattle.mseed_audit.specs.Summary.{broken_count}
+
+-- a text that was put after another
+pub put_more : (line before after text more : List ℕ) → before ≡ line ++ text → after ≡ before ++ more
+    → after ≡ line ++ (text ++ more)
+put_more line before after text more is next =
+    next ∙ (ap (λ (xs : List ℕ). xs ++ more) is ∙ append_assoc line text more)
 
 -- the prefix with one more
 pub prefix_more : {X : Type 0} (vs : List X) (n : ℕ) (v : X) → n < length vs → v ≡ get_or vs n v
