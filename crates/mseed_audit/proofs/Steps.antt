@@ -1,5 +1,5 @@
 -- One more record, by channel.
-use Rattle.std.proofs.Common.{◌≡◌, ℕ, ◌+◌, ◌<◌, ◌&&◌, Option, IsSome, nat_lt, List, [], ◌∷◌, ◌++◌, Bool, true, false}
+use Rattle.std.proofs.Common.{◌≡◌, ℕ, ◌<◌, ◌&&◌, Option, IsSome, nat_lt, List, [], ◌∷◌, ◌++◌, Bool, true, false}
 use Rattle.std.proofs.Common.{cond, if◌then◌else◌, Some, None, sym, ap, subst, refl, ◌∙◌, rules}
 use Rattle.std.specs.Map.{lookup}
 use Rattle.mseed_record.specs.Header.{key_at}
