@@ -1,13 +1,23 @@
 use Rattle.std.proofs.Common.{◌≡◌, ℕ, ◌+◌, ◌-◌, ◌≤◌, ◌<◌, ◌++◌, ◌∙◌, [], List, sym, ap, take, drop, length, slice_range}
-use Rattle.std.proofs.Common.{arith, length-take, length-drop, true, false, ◌==◌, inl, inr, refl}
+use Rattle.std.proofs.Common.{arith, length-take, length-drop, true, false, ◌==◌, inl, inr, refl, Bool, Result, Ok, Err}
+use Rattle.std.proofs.lemmas.Bool.{false≢true}
 use Rattle.std.proofs.lemmas.Bool.Decides.{eqb_tells}
 use Rattle.std.proofs.lemmas.List.{append-nil}
 use Rattle.std.proofs.KnownBytes.{Consumes-nil, Consumes-kept}
 use Rattle.mseed_stream.specs.Device.{BytesRead}
+use Rattle.mseed_stream.specs.declared.fault.StreamFault.{StreamFault}
 use Rattle.mseed_stream.proofs.Filled.{written_back}
 use Rattle.mseed_join.specs.private.LineReading.{LinesRead}
 use Rattle.mseed_join.proofs.LinesAhead.{failed_before, held_more, reading_on, reported_end}
 use Rattle.mseed_join.proofs.line_reader.LineReader.read.Goals as goal
+
+-- answers that are the same have the same value
+ok_same : (a b : Bool) → ◌≡◌ {A = Result Bool StreamFault} (Ok a) (Ok b) → a ≡ b
+ok_same a b same = cc
+
+-- a fault is no answer
+not_ok : (e : StreamFault) (b : Bool) → ◌≡◌ {A = Result Bool StreamFault} (Err e) (Ok b) → ⊥
+not_ok e b same = cc
 
 pub returns-in-Ok-clause-more : goal.returns-in-Ok-clause-more
 returns-in-Ok-clause-more g c =
@@ -82,14 +92,14 @@ returns-in-Ok-clause-read g c =
     record {
       called = ap (λ (r : LinesRead). r.reads + 1) c.self.view_is;
       whole = λ goes.
-          let test : (n == 0) ≡ false = cc goes in
+          let test : (n == 0) ≡ false = ok_same _ _ goes in
           ap (λ (h : BytesRead). h.is_at_end) c.in-Ok.ensures.read
           ∙ reading_on (g.R.Source.read c.args.source.now).is_at_end _ n c.in-Ok.ensures.silent test;
       ended = λ ends.
-          let test : (n == 0) ≡ true = cc ends in
+          let test : (n == 0) ≡ true = ok_same _ _ ends in
           let zero : n ≡ 0 = elim (eqb_tells n 0) [
             | inl same ↦ same.1
-            | inr other ↦ absurd (let e : true ≡ false = sym test ∙ other.0 in cc e)
+            | inr other ↦ absurd (false≢true (sym other.0 ∙ test))
           ] in (
             ap (λ (h : BytesRead). h.is_at_end) c.in-Ok.ensures.read
                 ∙ reported_end (g.R.Source.read c.args.source.now).is_at_end n (drop i.end now) zero some,
@@ -106,8 +116,8 @@ pub returns-in-Err-clause-read : goal.returns-in-Err-clause-read
 unfolding returns-in-Err-clause-more
 returns-in-Err-clause-read g c = record {
   called = tt;
-  whole = λ e. cc e;
-  ended = λ e. cc e;
+  whole = λ goes. absurd (not_ok _ _ goes);
+  ended = λ ends. absurd (not_ok _ _ ends);
   fine = tt;
   fault = (
     refl,
