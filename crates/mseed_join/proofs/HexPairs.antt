@@ -1,9 +1,10 @@
 -- Bytes that are read four at a time, by eight digits.
 use Rattle.std.proofs.Common.{◌≡◌, ◌∙◌, ◌+◌, ◌-◌, ◌*◌, ◌<◌, ◌≤◌, ◌&&◌, nat_le, ℕ, zero, suc, List, [], ◌∷◌, ◌++◌, Bool}
 use Rattle.std.proofs.Common.{true, false, cond, Option, Some, None, length, map, get_or, take, drop, refl, sym, ap}
-use Rattle.std.proofs.Common.{arith, append_assoc, length-take}
+use Rattle.std.proofs.Common.{arith, append_assoc, length-take, mod-eq_of_lt, ◌%◌}
 use Rattle.std.proofs.lemmas.Bool.Decides.{nat_tests}
-use Rattle.std.proofs.lemmas.List.{drop-drop, drop_more, get_or-map, get_or-take, length-map, take_rest}
+use Rattle.std.proofs.lemmas.List.{drop-drop, drop_more, get_or_append_left, get_or-map, get_or-take, length-map}
+use Rattle.std.proofs.lemmas.List.{take_rest}
 use Rattle.std.proofs.lemmas.Option.{same_Some}
 use Rattle.mseed_join.specs.private.Reading.{◌>>=◌, is_digit, nibble_of, bytes_at}
 
@@ -88,6 +89,23 @@ module _ (bytes values : List ℕ) (room : 8 ≤ length bytes)
       (append_assoc b (pair 4 ∷ []) (pair 6 ∷ [])
       ∙ append_assoc a (pair 2 ∷ []) (pair 4 ∷ pair 6 ∷ [])
       ∙ append_assoc done (pair 0 ∷ []) (pair 2 ∷ pair 4 ∷ pair 6 ∷ []))
+
+-- two values make a byte, which fits
+pub pair_fits : (values : List ℕ) (i : ℕ) → length values ≡ 8 → i + 1 < 8
+    → ((k : ℕ) → k < 8 → get_or values k 0 < 16)
+    → (16 * get_or (values ++ values) i 0 % 256 + get_or (values ++ values) (i + 1) 0) % 256
+    ≡ 16 * get_or values i 0 + get_or values (i + 1) 0
+pair_fits values i size within small =
+    let high : ℕ = get_or values i 0 in
+    let low : ℕ = get_or values (i + 1) 0 in
+    let few : high < 16 = small i (omega (arith, within)) in
+    let few_low : low < 16 = small (i + 1) within in
+    let first : get_or (values ++ values) i 0 ≡ high = get_or_append_left values values 0 i (omega arith) in
+    let second : get_or (values ++ values) (i + 1) 0 ≡ low = get_or_append_left values values 0 (i + 1) (omega arith) in
+    let fits : 16 * high % 256 ≡ 16 * high = mod-eq_of_lt (omega (arith, few)) in
+    ap (λ (n : ℕ). (16 * n % 256 + get_or (values ++ values) (i + 1) 0) % 256) first
+    ∙ (ap (λ (n : ℕ). (16 * high % 256 + n) % 256) second
+    ∙ (ap (λ (n : ℕ). (n + low) % 256) fits ∙ mod-eq_of_lt (omega (arith, few, few_low))))
 
 -- ---- where a digit is none
 none_high : (o : Option ℕ) (n : ℕ) (done rest : List ℕ) (p : Option ℕ) → o ≡ None
