@@ -14,6 +14,7 @@ pub mod HexPairs
 pub mod Each
 pub mod Ended
 pub mod Faults
+pub mod FirstReason
 pub mod Fitting
 pub mod Prefixes
 pub mod Keys
