@@ -42,6 +42,21 @@ held_parts items begin size end =
     ∙ (drop-drop size begin (take end items) ∙ sym (between_is items (begin + size) end)) in
     sym (take-append-drop size held) ∙ ap (λ (xs : List ℕ). take size held ++ xs) rest
 
+-- what is held grows so where there was other room
+pub grows_after : (old new : BytesRead) (left rest : Option (List ℕ)) (roomy r after : LinesRead) (room : ℕ)
+    → roomy ≡ record r { room = room } → Grows old new left rest roomy after → Grows old new left rest r after
+grows_after old new left rest roomy r after room is grows = record {
+  more = grows.more;
+  called = grows.called;
+  reported = grows.reported;
+  known = grows.known;
+  held = grows.held ∙ ap (λ (s : LinesRead). s.held ++ grows.more) is;
+  lines = grows.lines ∙ ap (λ (s : LinesRead). s.lines) is;
+  bytes = grows.bytes ∙ ap (λ (s : LinesRead). s.bytes + length grows.more) is;
+  calls = grows.calls;
+  reads = grows.reads ∙ ap (λ (s : LinesRead). s.reads + grows.called) is;
+}
+
 pub grows_not : (h : BytesRead) (left : Option (List ℕ)) (r : LinesRead) → Grows h h left left r r
 grows_not h left r = record {
   more = [];

@@ -78,3 +78,6 @@ returns-in-Ok-take_line-clause-few g c =
     let known = c.requires in
     let l = looked known.0 known.1 _ _ _ _ known.2 _ _ known.3 c.look.ensures.more in
     omega (arith, c.look.ensures.more.lines, (looked_few _ _ _ _ _ _ l c.lines-number.ensures.few).1)
+
+pub pass-requires : goal.pass-requires
+pass-requires g c = rw c.in-Line.is at c.in-Ok.ensures.ahead
