@@ -31,6 +31,9 @@ visits_more order b o (q ∷ vs) p h e = (h.0, h.1, visits_more order b (next_at
 pub head_small : (kind : ℕ) → head_of kind ≤ 8
 head_small kind = grind (arith, nat_tests)
 
+pub head_long : (kind o n : ℕ) → o + head_of kind ≤ n → (o + 2 ≤ n) × (o + 4 ≤ n)
+head_long kind o n within = (grind (arith, nat_tests), grind (arith, nat_tests))
+
 -- the chain goes on through the blockettes before the first 1000
 pub passes_visits : (order : Order) (b : List ℕ) (o : ℕ) (os : List ℕ) (last : ℕ) → last + 8 ≤ length b
     → Passes order b o os last → Visits order b o os last

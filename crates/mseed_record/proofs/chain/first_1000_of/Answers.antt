@@ -41,5 +41,6 @@ pub returns : goal.returns
 returns c =
     let order = c.args.order in
     let b : List ℕ = c.args.bytes.now in
-    let here : type_at order b c.chain.offset ≡ 1000 = cc (c.u16_at-in-chain.ensures, c.chain-test.false) in
+    let here : type_at order b c.chain.offset ≡ 1000 =
+    sym c.u16_at-in-chain.ensures ∙ c.chain-test.false in
     ahead_here order b c.chain.offset c.chain.invariant here
