@@ -5,6 +5,7 @@ use Rattle.std.proofs.Common.{negsuc, ◌+ℤ◌, FitsSigned, w8, w16}
 use Rattle.std.proofs.lemmas.List.{take-append-drop}
 use Rattle.std.proofs.lemmas.Bool.Decides.{nat_tests}
 use Rattle.std.proofs.lemmas.Int.{ints}
+use Rattle.std.proofs.Math.IntN.{+ℤ_idr}
 use Rattle.std.proofs.Math.Pow.{pow_mono}
 use Rattle.std.specs.List.{list_all}
 use Rattle.std.specs.Int.{cast_unsigned, byte_at, bit_at}
@@ -181,8 +182,8 @@ time_is h b s = λ i. record {
 }
 
 no_shift : (t : Parts) (is_applied : Bool) (u : ℤ) → instant_of t (pos 0) is_applied u ≡ microsecond_of t +ℤ u
-no_shift t true u = omega (arith, ints)
-no_shift t false u = omega (arith, ints)
+no_shift t true u = ap (λ (n : ℤ). n +ℤ u) (+ℤ_idr (microsecond_of t))
+no_shift t false u = ap (λ (n : ℤ). n +ℤ u) (+ℤ_idr (microsecond_of t))
 
 pub reads_back : (h : Header) (b : List ℕ) → IsWritable h → IsHeaded h b → ReadsBack h b
 reads_back h b w e =

@@ -35,3 +35,6 @@ pub returns-clause-bound : goal.returns-clause-bound
 returns-clause-bound c =
     (scanned c.args.prefix.now c.go_along-answer.result.1 (λ i. (c.type_inv.prefix i).fits)
     c.go_along-answer.ensures.decides).bound
+
+pub returns-in-Err-clause-goes_on : goal.returns-in-Err-clause-goes_on
+returns-in-Err-clause-goes_on c more = rw c.in-None.is tt

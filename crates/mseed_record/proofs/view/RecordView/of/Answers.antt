@@ -28,24 +28,26 @@ none_there b s it other = (λ e. absurd (false≢true e), λ r. absurd (other r.
 pub returns-in-Err-Need-clause-ok : goal.returns-in-Err-Need-clause-ok
 returns-in-Err-Need-clause-ok c =
     none_there c.args.bytes.now (Need c.in-Err-Need.k) (scanned_as c.args.bytes.now c.in-Err-Need.field-0
-    (Need c.in-Err-Need.k) (λ i. (c.type_inv.bytes i).fits) (cc) c.in-Err-Need.ensures.err) (λ k e. cc e)
+    (Need c.in-Err-Need.k) (λ i. (c.type_inv.bytes i).fits)
+    c.in-Err-Need.field-0-is c.in-Err-Need.ensures.err) (λ k e. cc e)
 
 pub returns-in-Err-Need-clause-needed : goal.returns-in-Err-Need-clause-needed
 returns-in-Err-Need-clause-needed c k e =
     let it = scanned_as c.args.bytes.now c.in-Err-Need.field-0 (Need c.in-Err-Need.k) (λ i. (c.type_inv.bytes i).fits)
-    (cc) c.in-Err-Need.ensures.err in
+    c.in-Err-Need.field-0-is c.in-Err-Need.ensures.err in
     let same : c.in-Err-Need.k ≡ k = cc in
     subst (λ (n : ℕ). Needs c.args.bytes.now n) same (it.needed_is c.in-Err-Need.k refl)
 
 pub returns-in-Err-Not-clause-ok : goal.returns-in-Err-Not-clause-ok
 returns-in-Err-Not-clause-ok c =
     none_there c.args.bytes.now (Not c.in-Err-Not.fault) (scanned_as c.args.bytes.now c.in-Err-Not.field-0
-    (Not c.in-Err-Not.fault) (λ i. (c.type_inv.bytes i).fits) (cc) c.in-Err-Not.ensures.err) (λ k e. cc e)
+    (Not c.in-Err-Not.fault) (λ i. (c.type_inv.bytes i).fits)
+    c.in-Err-Not.field-0-is c.in-Err-Not.ensures.err) (λ k e. cc e)
 
 pub returns-in-Err-Not-clause-refused : goal.returns-in-Err-Not-clause-refused
 returns-in-Err-Not-clause-refused c f e =
-    (scanned_as c.args.bytes.now c.in-Err-Not.field-0 (Not c.in-Err-Not.fault) (λ i. (c.type_inv.bytes i).fits) (cc)
-    c.in-Err-Not.ensures.err).refused_is c.in-Err-Not.fault refl
+    (scanned_as c.args.bytes.now c.in-Err-Not.field-0 (Not c.in-Err-Not.fault) (λ i. (c.type_inv.bytes i).fits)
+    c.in-Err-Not.field-0-is c.in-Err-Not.ensures.err).refused_is c.in-Err-Not.fault refl
 
 pub returns-in-Ok-clause-ok : goal.returns-in-Ok-clause-ok
 returns-in-Ok-clause-ok c =
