@@ -1,4 +1,4 @@
-use Rattle.std.proofs.Common.{◌≡◌, ℕ, None, Some, sym, ◌∙◌}
+use Rattle.std.proofs.Common.{◌≡◌, ℕ, [], refl, None, Some, sym, ◌∙◌}
 use Rattle.mseed_time.specs.declared.order.Order.{Order}
 use Rattle.mseed_record.specs.declared.fault.FrameFault.TheVariants.{Order as NoOrder}
 use Rattle.mseed_record.specs.declared.framer.Scan.TheVariants.{Not, Record}
@@ -11,6 +11,18 @@ not_record k same = cc same
 
 not_there : {order : Order} → Some order ≡ None → ⊥
 not_there same = cc same
+
+pub returns-in-Some-clause-ok : goal.returns-in-Some-clause-ok
+returns-in-Some-clause-ok c =
+    let fixed = sym c.has_fixed_bytes.ensures ∙ c.if-not-has_fixed_bytes.false in record {
+      other_version = no_version3 c.args.prefix.now fixed;
+      header = c.if-prefix-lt-HEADER.false;
+      fixed = fixed;
+      order_is = sym c.order_of.ensures ∙ c.in-Some.is;
+      low = c.if-prefix-lt-HEADER.false;
+      small = rw c.from.ensures c.u16_at.type_inv;
+      passed = ([], (refl, sym (c.from.ensures ∙ c.u16_at.ensures)));
+    }
 
 pub returns-in-None-clause-early : goal.returns-in-None-clause-early
 returns-in-None-clause-early c k same = not_record k same
