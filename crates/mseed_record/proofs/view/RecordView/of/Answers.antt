@@ -34,7 +34,7 @@ returns-in-Err-Need-clause-ok c =
 pub returns-in-Err-Need-clause-needed : goal.returns-in-Err-Need-clause-needed
 returns-in-Err-Need-clause-needed c k e =
     let it = scanned_as c.args.bytes.now c.in-Err-Need.field-0 (Need c.in-Err-Need.k) (λ i. (c.type_inv.bytes i).fits)
-    c.in-Err-Need.field-0-is c.in-Err-Need.ensures.err in
+    (cc) c.in-Err-Need.ensures.err in
     let same : c.in-Err-Need.k ≡ k = cc in
     subst (λ (n : ℕ). Needs c.args.bytes.now n) same (it.needed_is c.in-Err-Need.k refl)
 
