@@ -1,14 +1,16 @@
 //! Calls of `mseed_steim`.
-ghost use Rattle.std.specs.Prelude.{◌≡◌, ◌<◌, ℤ, List, length};
+ghost use Rattle.std.specs.Prelude.{◌≡◌, ◌<◌, ℤ, List, length, All};
 ghost use Rattle.mseed_record.specs.Viewing.{view_of};
 ghost use Rattle.mseed_steim.specs.Reading.{IsSteim, IsWhole, count_of};
+ghost use Rattle.mseed_steim.specs.Samples.{differences_from};
+ghost use Rattle.mseed_steim.specs.Spelling.{IsWithin};
 
 use mseed_record::RecordView;
 use mseed_steim::{
     BadWord, BadWordAt, Differences, Encoding, Lookahead, ReadFault, Scheme, TooLarge, TooLargeAt,
     check_samples, ends_of, fill_differences, fill_samples, is_steim, is_surely_near, least_words,
-    near_ends, pack_word, pack_words, pack_words_ahead, read_samples, unpack_differences,
-    unpack_word, widen_bytes,
+    near_ends, pack_samples_ahead, pack_word, pack_words, pack_words_ahead, read_samples,
+    unpack_differences, unpack_word, widen_bytes,
 };
 use std::alloc::Allocator;
 
@@ -143,6 +145,19 @@ pub fn pack_two_records(
     let one = pack_words_ahead(Scheme::Two, differences, &mut known, first)?;
     let two = pack_words_ahead(Scheme::Two, &differences[one.used..], &mut known, second)?;
     Ok((one.used, two.used))
+}
+
+/// Packs the samples after another one into a record, and says how many of them it holds.
+pub fn pack_samples_after(
+    before: i32,
+    samples: &[i32],
+    frames: &mut [u8; 448],
+) -> Result<usize, TooLargeAt>
+    requires { All (IsWithin 32) (differences_from before samples.now) }
+{
+    let mut known = Lookahead::new();
+    let packed = pack_samples_ahead(Scheme::Two, before, samples, &mut known, frames)?;
+    Ok(packed.used)
 }
 
 /// The bytes of the fewest words of Steim-2 that hold the differences.
