@@ -98,10 +98,10 @@ MISQUOTED = [
 ]
 # Rows of a table of crates that are wrong, and one that is right but for some lines.
 MISCOUNTED = [
-    ("| `mseed_time` | 41 | 797 | 311 | 714 | 6 |", False),
-    ("| `mseed_time` | 63 | 797 | 311 | 714 | 5 |", False),
-    ("| `mseed_time` | 41 | 1,797 | 311 | 714 | 5 |", False),
-    ("| `mseed_time` | 41 | 797 | 310 | 714 | 5 |", True),
+    ("| `mseed_time` | 41 | 797 | 311 | 784 | 6 |", False),
+    ("| `mseed_time` | 63 | 797 | 311 | 784 | 5 |", False),
+    ("| `mseed_time` | 41 | 1,797 | 311 | 784 | 5 |", False),
+    ("| `mseed_time` | 41 | 797 | 310 | 784 | 5 |", True),
 ]
 
 
