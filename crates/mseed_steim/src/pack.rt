@@ -301,8 +301,8 @@ fn push_next<P: Pending>(
     })
 }
 
-/// Fills a frame further word by word, until it is full, no difference is left, or the next one's place in what is known
-/// is that at which it is due to look ahead.
+/// Fills a frame further word by word, until it is full, no difference is left, or it is due to look ahead: from such a
+/// place on in what is known.
 #[inline(always)]
 fn push_each<P: Pending>(
     scheme: Scheme,
@@ -329,7 +329,7 @@ fn push_each<P: Pending>(
         if due <= reached.place {
             break;
         }
-        if known.most[reached.place] < 2 && reached.used == count {
+        if reached.used == count && known.most[reached.place] < 2 {
             break;
         }
         match push_next(scheme, pending, known, frames, reached) {
@@ -359,8 +359,8 @@ fn finish(frames: &mut [u8], head: usize, reached: Reached) -> Packed
     }
 }
 
-/// The place at which it is due to look ahead: where many differences are left, before nothing is known of the next one,
-/// so that words are joined by fours still.
+/// The place from which on it is due to look ahead: where many differences are left, before nothing is known of the next
+/// one, so that words are still joined by fours.
 #[inline(always)]
 fn due_in(left: usize) -> usize
     ensures some { 0 < result }
@@ -379,7 +379,8 @@ fn look_on<P: Pending>(
     reached: Reached,
 ) -> Reached
     requires due { 0 < due }
-    requires reached { (p : List ℕ) × ((head : ℕ) × IsReached scheme (P.differences pending.now) known.old p head reached) }
+    requires reached { (p : List ℕ)
+        × ((head : ℕ) × IsReached scheme (P.differences pending.now) known.old p head reached) }
     ensures early { result.place < due }
     ensures index { result.index ≡ reached.index }
     ensures reached { (p : List ℕ) (head : ℕ)

@@ -1,10 +1,9 @@
-use Rattle.std.proofs.Common.{◌≢◌, ℕ, ◌<◌, arith, drop, inl, inr, refl}
+use Rattle.std.proofs.Common.{◌≢◌, ℕ, ◌<◌, arith, inl, inr, refl}
 use Rattle.std.proofs.lemmas.List.{length-drop}
-use Rattle.mseed_steim.specs.private.Four.{known_from}
 use Rattle.mseed_steim.specs.private.Pushing.{IsReached}
 use Rattle.mseed_steim.proofs.Lookaheads.{known_here}
-use Rattle.mseed_steim.proofs.pack.push_each.Goals.{else-known-reached-lt2-via-else-known-reached-lt2}
-use Rattle.mseed_steim.proofs.pack.push_each.Goals.{else-known-reached-lt2-via-then-known-reached-lt2+else-reached-count}
+use Rattle.mseed_steim.proofs.pack.push_each.Goals.{else-reached-count-via-else-reached-count}
+use Rattle.mseed_steim.proofs.pack.push_each.Goals.{else-reached-count-via-then-reached-count+else-known-reached-lt2}
 use Rattle.mseed_steim.proofs.pack.push_each.Goals as goal
 
 pub loop-reached-init : goal.loop-reached-init
@@ -24,11 +23,11 @@ pub push_next-requires-clause-some : goal.push_next-requires-clause-some
 push_next-requires-clause-some g c =
     let is = c.loop-reached.invariant.reached c.requires.reached.0 c.requires.reached.1 in
     let inside = c.loop-reached.invariant.used in
-    elim c.else-known-reached-lt2.branch [
-      | else-known-reached-lt2-via-then-known-reached-lt2+else-reached-count w ↦
+    elim c.else-reached-count.branch [
+      | else-reached-count-via-else-reached-count w ↦
           let more : c.loop-reached.reached.used ≢ c.count-count.result = w.if-reached-count.false in
           omega (arith, more, inside, c.count-count.ensures.value)
-      | else-known-reached-lt2-via-else-known-reached-lt2 w ↦
+      | else-reached-count-via-then-reached-count+else-known-reached-lt2 w ↦
           let here = (known_here c.args.scheme _ _ is.ahead).0 (omega (arith, w.if-known-reached-lt2.false)) in
           omega (arith, here.1, length-drop c.loop-reached.reached.used (g.P.Pending.differences c.args.pending.now))
     ]
