@@ -12,5 +12,5 @@ pub returns-then-not-is_frame_narrow : goal.returns-then-not-is_frame_narrow
 returns-then-not-is_frame_narrow c = (
   (λ no. absurd (false≢true no)),
   (λ all. c.if-not-is_frame_narrow.ensures.1 (λ k from to. all k (omega (arith, to, c.loop-frame-test.true))
-  (λ (head : k % 16 ≡ 0). absurd (omega (arith, head, from, to))))),
+      (λ (head : k % 16 ≡ 0). absurd (omega (arith, head, from, to))))),
 )

@@ -23,9 +23,9 @@ returns-then-not-is_narrow c =
     ∙ sym (word_value c.args.payload.now at (λ i. (c.type_inv.payload i).fits)) in (
       (λ no. absurd (false≢true no)),
       (λ all. c.if-not-is_narrow.ensures.1
-      (subst (λ (z : ℤ). IsWithin 30 z) (sym (same ∙ value))
-      (all at (omega (arith, c.loop-place.auto)) (omega (arith, c.loop-place-test.true))
-      (sym code ∙ c.if-code_in-eq3.true)))),
+          (subst (λ (z : ℤ). IsWithin 30 z) (sym (same ∙ value))
+          (all at (omega (arith, c.loop-place.auto)) (omega (arith, c.loop-place-test.true))
+          (sym code ∙ c.if-code_in-eq3.true)))),
     )
 
 pub loop-place-preserved : goal.loop-place-preserved
