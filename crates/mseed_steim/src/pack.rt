@@ -359,8 +359,8 @@ fn finish(frames: &mut [u8], head: usize, reached: Reached) -> Packed
     }
 }
 
-/// The place from which on it is due to look ahead: where many differences are left, before nothing is known of the next
-/// one, so that words are still joined by fours.
+/// The place from which on it is due to look ahead: where many differences are left, while some are still known, so
+/// that words go on by fours.
 #[inline(always)]
 fn due_in(left: usize) -> usize
     ensures some { 0 < result }
