@@ -359,14 +359,17 @@ fn finish(frames: &mut [u8], head: usize, reached: Reached) -> Packed
     }
 }
 
-/// The place from which on it is due to look ahead: where many differences are left, while some are still known, so
-/// that words go on by fours.
+/// The place from which on it is due to look ahead: in Steim-2, where many differences are left, while some are still
+/// known, so that words go on by fours.
 #[inline(always)]
-fn due_in(left: usize) -> usize
+fn due_in(scheme: Scheme, left: usize) -> usize
     ensures some { 0 < result }
     ensures few { result ≤ KNOWN }
 {
-    if left < 2 * AHEAD { KNOWN } else { EARLY }
+    match scheme {
+        Scheme::Two if 2 * AHEAD <= left => EARLY,
+        Scheme::One | Scheme::Two => KNOWN,
+    }
 }
 
 /// Looks ahead at the differences that come next, where it is due.
@@ -423,7 +426,7 @@ fn pack_run<P: Pending>(
     };
     loop {
         let end = head + FRAME;
-        let due = due_in(count - reached.used);
+        let due = due_in(scheme, count - reached.used);
         reached = look_on(scheme, pending, known, due, reached);
         reached = push_known(scheme, known, frames, end, reached);
         match push_each(scheme, pending, known, due, frames, end, reached) {
