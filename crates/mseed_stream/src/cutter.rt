@@ -2,6 +2,7 @@
 ghost use Rattle.std.specs.Prelude.{◌≡◌, ◌↔◌, ◌+◌, ◌*◌, ◌^◌, ◌<◌, ◌≤◌, length, take, drop, true, false, IfOk};
 ghost use Rattle.std.specs.Prelude.{IfErr, OnErr, OnOk, IsTrue, Ok, slice_range, [], ℕ, IfNone, IfSome, Some, None};
 ghost use Rattle.std.specs.Prelude.{Err, ⊤, List, ◌∷◌, ◌++◌};
+ghost use Rattle.std.specs.Bool.{OnTrue};
 ghost use Rattle.std.specs.Io.KnownBytes.{IsAtEnd, Consumes, ReadConsumes};
 ghost use Rattle.mseed_record.specs.Record.{IsRecord};
 ghost use Rattle.mseed_record.specs.Scan.{Decides};
@@ -329,6 +330,9 @@ impl<A: Allocator> Cutter<A> {
         ensures known { (R.read source.new).is_at_end ≡ true → IsAtEnd (R.remaining source.new) }
         ensures beside { R.beside source.new ≡ R.beside source.old }
     {
+        if self.take_lent(source) {
+            return Ok(true);
+        }
         let mut is_at_end = false;
         'stops: loop {
             match self.look() {
@@ -338,6 +342,46 @@ impl<A: Allocator> Cutter<A> {
                 Scan::Need(needed) => is_at_end = self.fill(source, needed)?,
             }
         }
+    }
+
+    /// Takes the next record out of what the source holds, where it is whole there and the buffer has room for it: by
+    /// two calls, as it would be read. Returns whether it did; nothing has changed where it didn't.
+    #[inline(always)]
+    fn take_lent<R: Source>(&mut self, source: &mut R) -> bool
+        requires { MayCut (R.read source.old) self.old }
+        ensures cut { OnTrue result (IsCut (Ok true) self.old self.new (R.read source.old) (R.read source.new)) }
+        ensures more { OnTrue result (GivesMore (R.read source.old) (R.read source.new) (R.remaining source.old)
+            (R.remaining source.new)) }
+        ensures beside { R.beside source.new ≡ R.beside source.old }
+        ensures unchanged { result ≡ false → (self.new ≡ self.old) × (source.new ≡ source.old) }
+    {
+        let lent = source.lend();
+        // Fewer bytes than the longest record so far has may end within the next, which would be framed for nothing.
+        if self.have > 0 || self.reads > READS - 2 || lent.len() < self.held.len() {
+            return false;
+        }
+        let Ok(view) = RecordView::of(lent) else {
+            return false;
+        };
+        let size = view.bytes().len();
+        if self.held.len() < size {
+            return false;
+        }
+        self.hold(view.bytes());
+        pass_whole(source, size);
+        true
+    }
+
+    /// Holds these bytes in place of those that it held: two reads more have brought them.
+    fn hold(&mut self, bytes: &[u8])
+        requires room { length bytes.now ≤ self.old.room }
+        requires reads { self.old.reads + 2 ≤ READS }
+        ensures { self.new ≡ record self.old { prefix = bytes.now; reads = self.old.reads + 2 } }
+    {
+        copy_to_front(bytes, &mut self.held);
+        self.have = bytes.len();
+        self.reads += 2;
+        self.framer = Framer::new();
     }
 
     /// Returns false where no bytes are left at the input's end.
@@ -443,6 +487,15 @@ fn pass_whole<R: Source>(source: &mut R, size: usize)
 {
     source.consume(HEADER);
     source.consume(size - HEADER);
+}
+
+/// Copies these bytes to the beginning of a buffer.
+#[inline(always)]
+fn copy_to_front(bytes: &[u8], held: &mut [u8])
+    requires { length bytes.now ≤ length held.old }
+    ensures { take (length bytes.now) held.new ≡ bytes.now }
+{
+    held[..bytes.len()].copy_from_slice(bytes);
 }
 
 /// Reads once, into the bytes from index `begin` to `end`, and returns how many bytes were read.
