@@ -24,13 +24,17 @@ pub continues_self : (keep : Option (ℤ → ℤ → ℤ)) (n : ℕ) (s : Sum) (
     → Continues keep n s out items items out s
 continues_self keep n s out items met places = record { folded = refl; kept = refl; met = met; places = places }
 
-pub walks_then : (keep : Option (ℤ → ℤ → ℤ)) (n : ℕ) (s t : Sum) (before between after : List ℤ)
-    (items later behind : List (Result ℤ BadWordAt)) (r : Result Sum ReadFault)
-    → Continues keep n s before items later between t → Walks keep n t between later behind after r
-    → Walks keep n s before items behind after r
-walks_then keep n s t before between after items later behind (Ok next) c w =
-    record { folded = c.folded ∙ w.folded; kept = w.kept ∙ c.kept; met = w.met; places = w.places }
-walks_then keep n s t before between after items later behind (Err fault) c w = c.folded ∙ w
+-- from what is kept so far, over the items that are left
+pub walks_on : {keep : Option (ℤ → ℤ → ℤ)} {n : ℕ} {s t next : Sum} {before between same after : List ℤ}
+    {items later others behind : List (Result ℤ BadWordAt)} → Continues keep n s before items later between t
+    → later ≡ others → same ≡ between → Continues keep n t same others behind after next
+    → Continues keep n s before items behind after next
+walks_on {n = n} {t = t} c e f d = record {
+  folded = c.folded ∙ ap (fold n t) e ∙ d.folded;
+  kept = d.kept ∙ rw (f, ← e) c.kept;
+  met = d.met;
+  places = d.places;
+}
 
 -- over the same items
 pub walks_over : (keep : Option (ℤ → ℤ → ℤ)) (n : ℕ) (s : Sum) (before after : List ℤ)

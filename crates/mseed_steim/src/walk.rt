@@ -31,13 +31,9 @@ fn keep_difference<K: Keeper>(difference: i32, samples: usize, sum: Sum, out: &m
     ensures met { IfOk result (λ next. next.met ≡ sum.met + 1) }
     ensures places { length out.new ≡ places_for K.kept samples }
 {
-    match add_difference(difference, samples, sum) {
-        Ok(next) => {
-            K::keep(sum.met, difference, next.last, out);
-            Ok(next)
-        }
-        Err(fault) => Err(fault),
-    }
+    let next = add_difference(difference, samples, sum)?;
+    K::keep(sum.met, difference, next.last, out);
+    Ok(next)
 }
 
 /// Keeps the differences of a group in the low bits of a word, as far as they are needed.
@@ -58,10 +54,7 @@ fn keep_group<K: Keeper>(
         if sum.met == samples {
             return Ok(sum);
         }
-        match keep_difference::<K>(next_difference(word, group, i), samples, sum, out) {
-            Ok(next) => sum = next,
-            Err(fault) => return Err(fault),
-        }
+        sum = keep_difference::<K>(next_difference(word, group, i), samples, sum, out)?;
     }
     Ok(sum)
 }
@@ -105,10 +98,7 @@ fn keep_words<K: Keeper>(
 {
     let mut sum = sum;
     for word in words {
-        match keep_word::<K>(scheme, word, samples, sum, out) {
-            Ok(next) => sum = next,
-            Err(fault) => return Err(fault),
-        }
+        sum = keep_word::<K>(scheme, word, samples, sum, out)?;
     }
     Ok(sum)
 }
@@ -123,10 +113,7 @@ fn keep_checked<K: Keeper>(differences: &[i32], samples: usize, sum: Sum, out: &
 {
     let mut sum = sum;
     for i in 0..differences.len() {
-        match keep_difference::<K>(differences[i], samples, sum, out) {
-            Ok(next) => sum = next,
-            Err(fault) => return Err(fault),
-        }
+        sum = keep_difference::<K>(differences[i], samples, sum, out)?;
     }
     Ok(sum)
 }
@@ -266,10 +253,7 @@ pub(crate) fn walk<K: Keeper>(
                 next += taken.frames;
             }
             None => {
-                match keep_other::<K>(task, payload, next, sum, room, out) {
-                    Ok(more) => sum = more,
-                    Err(fault) => return Err(fault),
-                }
+                sum = keep_other::<K>(task, payload, next, sum, room, out)?;
                 next += 1;
             }
         }

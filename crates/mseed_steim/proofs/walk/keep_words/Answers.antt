@@ -1,17 +1,21 @@
-use Rattle.std.proofs.Common.{[], ◌++◌, List, Ok, ap}
+use Rattle.std.proofs.Common.{[], ◌++◌, ◌∙◌, List, ap, refl}
+use Rattle.std.proofs.lemmas.Result.{err_from_is_err_and}
 use Rattle.mseed_steim.specs.Frames.{DataWord}
 use Rattle.mseed_steim.specs.private.Items.{items_of}
-use Rattle.mseed_steim.proofs.Continuing.{walks_over, walks_then}
+use Rattle.mseed_steim.specs.private.Sums.{fold}
+use Rattle.mseed_steim.proofs.Continuing.{walks_on}
 use Rattle.mseed_steim.proofs.walk.keep_words.Goals as goal
+
+pub returns-in_err-sum : goal.returns-in_err-sum
+returns-in_err-sum g c =
+    let fault = err_from_is_err_and c.from_residual.result c.from_residual.ensures.1 in
+    rw (fault.1, fault.2) (λ rest. (c.loop-word.invariant.walked rest).folded
+    ∙ ap (λ (ws : List DataWord). fold c.args.samples c.loop-word.sum (items_of c.args.scheme (ws ++ rest)))
+    c.in-Some.ensures.steps ∙ c.in_err-sum.ensures (c.next.new.self ++ rest))
 
 pub loop-word-preserved : goal.loop-word-preserved
 loop-word-preserved g c =
-    let walked = λ (rest : List DataWord).
-    walks_then g.K.Keeper.kept c.args.samples c.args.sum c.loop-word.sum c.args.out.now c.loop-word.out
-    c.keep_word.new.out _ _ (items_of c.args.scheme (c.next.new.self ++ rest)) (Ok c.in-Ok.next)
-    (c.loop-word.invariant.walked rest)
-    (walks_over g.K.Keeper.kept c.args.samples c.loop-word.sum c.loop-word.out c.keep_word.new.out _ _ _
-    (Ok c.in-Ok.next)
-    (ap (λ (ws : List DataWord). items_of c.args.scheme (ws ++ rest)) c.in-Some.ensures.steps)
-    (c.in-Ok.ensures (c.next.new.self ++ rest))) in
+    let walked = λ (rest : List DataWord). walks_on (c.loop-word.invariant.walked rest)
+    (ap (λ (ws : List DataWord). items_of c.args.scheme (ws ++ rest)) c.in-Some.ensures.steps) refl
+    (c.in_ok-sum.ensures (c.next.new.self ++ rest)) in
     record { places = (walked []).places; met = (walked []).met; walked = walked }
