@@ -1,6 +1,6 @@
 -- The ends of a record's reading, none of which is read.
 use Rattle.std.proofs.Common.{◌≡◌, ℕ, ◌-◌, ◌<◌, List, [], ◌∷◌, length, ap, sym, subst, ◌∙◌, arith, ℤ, slice_get, Some}
-use Rattle.std.proofs.Common.{Ok, Err, Result, IfOk, IfErr, IfSome, None, Option}
+use Rattle.std.proofs.Common.{IfSome, None, Option}
 use Rattle.mseed_record.specs.View.{View, payload_of}
 use Rattle.mseed_steim.specs.declared.scheme.Scheme.{Scheme}
 use Rattle.mseed_steim.specs.declared.form.Form.TheVariants.{Frames}
@@ -8,21 +8,15 @@ use Rattle.mseed_steim.specs.declared.fault.Ends.{Ends}
 use Rattle.mseed_steim.specs.declared.fault.ReadFault.{ReadFault}
 use Rattle.mseed_steim.specs.declared.fault.ReadFault.TheVariants.{Short}
 use Rattle.mseed_steim.specs.Frames.{first_constant, last_constant}
-use Rattle.mseed_steim.specs.Reading.{HoldsIn, IsAnswer, IsFault, IsWhole, count_of, in_payload}
+use Rattle.mseed_steim.specs.Reading.{HoldsIn, IsFault, IsWhole, count_of, in_payload}
 use Rattle.mseed_steim.specs.Samples.{AreEnds, IsFrameFault, StartsAndAdds}
 use Rattle.mseed_steim.proofs.Ended.{no_frame}
 use Rattle.mseed_steim.proofs.Laws.{denied, fault_denies, reading_one, same_payload}
 
--- the answer of a check has the ends of any reading
-pub answer_ends : (v : View) (r : Result Ends ReadFault) → IsAnswer v r
-    → IfOk r (λ ends. (s : List ℤ) → IsWhole v s → AreEnds ends s)
-answer_ends v (Ok ends) h = λ s whole. subst (λ (xs : List ℤ). AreEnds ends xs) (reading_one v h.0 s h.1.0 whole.0)
-    h.1.2
-answer_ends v (Err f) h = tt
-
-pub answer_fault : (v : View) (r : Result Ends ReadFault) → IsAnswer v r → IfErr r (λ f. IsFault v f)
-answer_fault v (Ok ends) h = tt
-answer_fault v (Err f) h = h
+-- the ends of a reading are those of any
+pub one_ends : (v : View) (ends : Ends) → (s : List ℤ) × (IsWhole v s × AreEnds ends s) → (s : List ℤ) → IsWhole v s
+    → AreEnds ends s
+one_ends v ends h s whole = subst (λ (xs : List ℤ). AreEnds ends xs) (reading_one v h.0 s h.1.0.0 whole.0) h.1.1
 
 first_is : (first : ℤ) (ds s : List ℤ) → 0 < length s → StartsAndAdds first ds s → slice_get s 0 ≡ Some first
 first_is first ds [] some h = absurd (omega (arith, some))

@@ -10,7 +10,7 @@ use Rattle.mseed_steim.specs.declared.fault.ReadFault.TheVariants.{Short, LastDi
 use Rattle.mseed_steim.specs.declared.sum.Sum.{Sum}
 use Rattle.mseed_steim.specs.Frames.{word_count, data_words, first_constant, last_constant}
 use Rattle.mseed_steim.specs.private.Items.{items_of}
-use Rattle.mseed_steim.specs.Samples.{IsSample, AreSums, IsFrameFault, short, last_differs, IsChecked}
+use Rattle.mseed_steim.specs.Samples.{IsSample, AreSums, IsFrameFault, short, last_differs}
 use Rattle.mseed_steim.specs.private.Sums.{AreKept, IsKept, fold, in_places, kept_in, met_in, lack}
 use Rattle.mseed_steim.specs.private.Sums.{the_sample, walk}
 use Rattle.mseed_steim.proofs.Walking.{words_none}
@@ -117,16 +117,12 @@ walk_kept keep s p n constants (Ok sum) out before (Ok ends) h octets e kept fir
       (
         (refl, m.sums, m.range),
         found,
-        (ap (λ (z : ℤ). Some z) (sym starts), found ∙ ap (λ (z : ℤ). Some z) (sym ends_on)),
-        subst (λ (xs : List ℤ). AreKept keep xs out) m.kept (ends_kept keep s p n out before h kept),
+        (
+          (ap (λ (z : ℤ). Some z) (sym starts), found ∙ ap (λ (z : ℤ). Some z) (sym ends_on)),
+          subst (λ (xs : List ℤ). AreKept keep xs out) m.kept (ends_kept keep s p n out before h kept),
+        ),
       ),
     )
 walk_kept keep s p n constants (Err f) out before (Ok ends) h octets e kept first last same met fault = absurd met
 walk_kept keep s p n constants (Ok sum) out before (Err g) h octets e kept first last same met fault = fault
 walk_kept keep s p n constants (Err f) out before (Err g) h octets e kept first last same met fault = fault
-
--- where nothing is kept
-pub kept_checked : (s : Scheme) (p : List ℕ) (n : ℕ) (out : List ℤ) (r : Result Ends ReadFault)
-    → IsKept None (Frames s) Big p n out r → IsChecked (Frames s) Big p n r
-kept_checked s p n out (Ok ends) h = (h.0, (h.1.0, h.1.1, h.1.2))
-kept_checked s p n out (Err fault) h = h

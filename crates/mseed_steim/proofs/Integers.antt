@@ -14,7 +14,7 @@ use Rattle.mseed_steim.specs.declared.form.Form.TheVariants.{Integers}
 use Rattle.mseed_steim.specs.declared.fault.Ends.{Ends}
 use Rattle.mseed_steim.specs.Spelling.{IsWithin}
 use Rattle.mseed_steim.specs.private.Digits.{signed}
-use Rattle.mseed_steim.specs.Samples.{bytes_of, BeginsWith, IsChecked, IsPayloadReading}
+use Rattle.mseed_steim.specs.Samples.{AnswersPayload, AreEnds, BeginsWith, IsPayloadReading, bytes_of}
 use Rattle.mseed_steim.proofs.Spelled.{signed_within, signed_residue}
 use Rattle.mseed_steim.proofs.Framed.{minus}
 
@@ -79,7 +79,7 @@ pub integers_checked : (order : Order) (width : Width) (p : List ℕ) (n : ℕ) 
     → ((i : ℕ) → get_or p i 0 < 256) → bytes_of width * n ≤ length p
     → ends.first ≡ twos_complement (bytes_of width) (number_at order (bytes_of width) 0 p)
     → ends.last ≡ twos_complement (bytes_of width) (number_at order (bytes_of width) (bytes_of width * (n - 1)) p)
-    → IsChecked (Integers width) order p n (Ok ends)
+    → AnswersPayload (Integers width) order p n AreEnds (Ok ends)
 integers_checked order width p n ends h octets long first last =
     let count = length-integers order (bytes_of width) p 0 n in
     let zeroth : 0 + bytes_of width * 0 ≡ 0 = omega arith in

@@ -11,21 +11,18 @@ use Rattle.mseed_steim.specs.declared.form.Width.{Width}
 use Rattle.mseed_steim.specs.declared.form.Width.TheVariants.{Two, Four}
 use Rattle.mseed_steim.specs.declared.form.Form.{Form}
 use Rattle.mseed_steim.specs.declared.form.Form.TheVariants.{Integers, Frames}
-use Rattle.mseed_steim.specs.declared.fault.Ends.{Ends}
 use Rattle.mseed_steim.specs.declared.fault.ReadFault.{ReadFault}
 use Rattle.mseed_steim.specs.declared.fault.ReadFault.TheVariants.{Blockette100, Encoding, LittleSteim, DataOffset}
 use Rattle.mseed_steim.specs.declared.fault.ReadFault.TheVariants.{Short, BadWord, Overflow, LastDiffers, Memory}
 use Rattle.mseed_steim.specs.Frames.{last_constant}
 use Rattle.mseed_steim.specs.Samples.{bytes_of, form_of, BeginsWith, IsPayloadReading, EndsOnConstant, IsPayloadFault}
-use Rattle.mseed_steim.specs.Samples.{IsSample, AreEnds, short, bad_word, overflow, last_differs, IsFrameFault}
-use Rattle.mseed_steim.specs.Samples.{IsChecked, IsFilled, steps_of}
-use Rattle.mseed_steim.specs.private.Sums.{IsKept, the_difference, the_sample}
+use Rattle.mseed_steim.specs.Samples.{IsSample, short, bad_word, overflow, last_differs, IsFrameFault}
+use Rattle.mseed_steim.specs.Samples.{AnswersPayload}
 use Rattle.mseed_steim.specs.Reading.{count_of, IsReading, EndsOnConstants, HasOneReading, IsReadable, IsFault}
 use Rattle.mseed_steim.specs.Reading.{blockette_100, encoding, little_steim, data_offset, in_payload, Denies, HoldsIn}
-use Rattle.mseed_steim.specs.Reading.{IsAnswer, is_little_steim, IsWhole, IsRefusal}
+use Rattle.mseed_steim.specs.Reading.{AnswersRecord, is_little_steim, IsWhole, IsRefusal}
 use Rattle.mseed_steim.proofs.Words.{residue_one}
 use Rattle.mseed_steim.proofs.Runs.{sums_one, fault_one, not_short, not_bad, not_in}
-use Rattle.mseed_steim.proofs.Folded.{samples_are, steps_are}
 use Rattle.mseed_steim.proofs.Ended.{get_pushed}
 
 begins_one : (order : Order) (w : ℕ) (p : List ℕ) (place : ℕ) (ss ts : List ℤ) → 0 < w → length ss ≡ length ts
@@ -181,28 +178,29 @@ denied v (Overflow index) s h r e = h s r
 denied v (LastDiffers found constant) s h r e = (h.1.1 s r).1 e
 denied v Memory s h r e = h s r
 
--- what the answer of a check means
-pub answer_ends : (v : View) (r : Result Ends ReadFault) → IsAnswer v r
-    → IfOk r (λ ends. (s : List ℤ) × (IsReading v s × EndsOnConstants v s × AreEnds ends s))
-answer_ends v (Ok ends) h = h
-answer_ends v (Err f) h = tt
+-- What an answer means: there is no other reading, and no other fault.
+pub answers_only : {X : Type 0} (v : View) (told : X → List ℤ → Type 0) (r : Result X ReadFault) → 0 < count_of v
+    → AnswersRecord v told r → (s : List ℤ) → IsWhole v s → IsOkAnd r (λ x. told x s)
+answers_only v told (Ok x) some h s w = subst (λ (xs : List ℤ). told x xs) (reading_one v h.0 s h.1.0.0 w.0) h.1.1
+answers_only v told (Err f) some h s w = absurd (denied v f s (fault_denies v f some h) w.0 w.1)
 
-pub answer_only : (v : View) (r : Result Ends ReadFault) → 0 < count_of v → IsAnswer v r → (s : List ℤ) → IsReading v s
-    → EndsOnConstants v s → IsOkAnd r (λ ends. AreEnds ends s)
-answer_only v (Ok ends) some h s a e = subst (λ (xs : List ℤ). AreEnds ends xs) (reading_one v h.0 s h.1.0 a) h.1.2
-answer_only v (Err f) some h s a e = absurd (denied v f s (fault_denies v f some h) a e)
-
-pub answer_fault : (v : View) (r : Result Ends ReadFault) → 0 < count_of v → IsAnswer v r → (f : ReadFault)
-    → (r ≡ Err f) ↔ IsFault v f
-answer_fault v (Ok ends) some h f = ((λ e. cc), (λ q. absurd (denied v f h.0 (fault_denies v f some q) h.1.0 h.1.1)))
-answer_fault v (Err g) some h f = (
+pub answers_fault : {X : Type 0} (v : View) (told : X → List ℤ → Type 0) (r : Result X ReadFault) → 0 < count_of v
+    → AnswersRecord v told r → (f : ReadFault) → (r ≡ Err f) ↔ IsFault v f
+answers_fault v told (Ok x) some h f =
+    ((λ e. cc), (λ q. absurd (denied v f h.0 (fault_denies v f some q) h.1.0.0 h.1.0.1)))
+answers_fault v told (Err g) some h f = (
   (λ e. let same : g ≡ f = cc in subst (λ (x : ReadFault). IsFault v x) same h),
   (λ q. ap Err (record_fault_one v g f h q)),
 )
 
-pub answer_denies : (v : View) (r : Result Ends ReadFault) → 0 < count_of v → IsAnswer v r → IfErr r (λ f. Denies v f)
-answer_denies v (Ok ends) some h = tt
-answer_denies v (Err f) some h = fault_denies v f some h
+pub answers_denies : {X : Type 0} (v : View) (told : X → List ℤ → Type 0) (r : Result X ReadFault) → 0 < count_of v
+    → AnswersRecord v told r → IfErr r (λ f. Denies v f)
+answers_denies v told (Ok x) some h = tt
+answers_denies v told (Err f) some h = fault_denies v f some h
+
+pub answers_done : {X : Type 0} (r : Result X ReadFault) (P : Type 0) → IsOkAnd r (λ x. P) → IsOk r × P
+answers_done (Ok x) P h = (refl, h)
+answers_done (Err f) P h = absurd h
 
 -- a reading of the payload is one of the record, as is a fault
 payload_read : (v : View) (form : Form) (p : List ℕ) (n : ℕ) (order : Order) (s : List ℤ) → 0 < count_of v
@@ -233,14 +231,15 @@ payload_lacks v form p n f holds count h =
     (subst (λ (m : ℕ). IsPayloadFault form (payload_of v) m f) count
     (subst (λ (q : List ℕ). IsPayloadFault form q n f) holds.4 h))
 
--- so a check of the payload is one of the record
-pub payload_answer : (v : View) (form : Form) (p : List ℕ) (n : ℕ) (order : Order) (r : Result Ends ReadFault)
-    → 0 < count_of v → HoldsIn v form p → n ≡ count_of v → order ≡ v.payload_order → IsChecked form order p n r
-    → IsAnswer v r
-payload_answer v form p n order (Ok ends) some holds count ordered h =
-    let whole = payload_read v form p n order h.0 some holds count ordered h.1.0 h.1.1 in
-    (h.0, (whole.0, whole.1, h.1.2))
-payload_answer v form p n order (Err f) some holds count ordered h = payload_lacks v form p n f holds count h
+-- so what a payload answers, its record does
+pub payload_answers : {X : Type 0} (v : View) (form : Form) (p : List ℕ) (n : ℕ) (order : Order)
+    (told more : X → List ℤ → Type 0) (r : Result X ReadFault) → 0 < count_of v → HoldsIn v form p → n ≡ count_of v
+    → order ≡ v.payload_order → ((x : X) (s : List ℤ) → told x s → more x s) → AnswersPayload form order p n told r
+    → AnswersRecord v more r
+payload_answers v form p n order told more (Ok x) some holds count ordered tells h =
+    (h.0, (payload_read v form p n order h.0 some holds count ordered h.1.0 h.1.1, tells x h.0 h.1.2))
+payload_answers v form p n order told more (Err f) some holds count ordered tells h =
+    payload_lacks v form p n f holds count h
 
 little_in : (v : View) (form : Form) (order : Order) → v.has_rate_blockette ≡ false → form_of v.encoding ≡ Some form
     → v.payload_order ≡ order → is_little_steim form order ≡ true → IsFault v LittleSteim
@@ -258,94 +257,21 @@ readable_else (Integers width) order h = tt
 readable_else (Frames scheme) Big h = refl
 readable_else (Frames scheme) Little h = cc
 
--- a filled payload is a record's
-pub payload_filled : (v : View) (form : Form) (p : List ℕ) (n : ℕ) (order : Order) (out : List ℤ)
-    (r : Result (Unit {0}) ReadFault) → 0 < count_of v → HoldsIn v form p → n ≡ count_of v → order ≡ v.payload_order
-    → IsFilled form order p n out r → MatchResult r (λ _. IsWhole v out) (λ f. IsFault v f)
-payload_filled v form p n order out (Ok done) some holds count ordered h =
-    payload_read v form p n order out some holds count ordered h.0 h.1
-payload_filled v form p n order out (Err f) some holds count ordered h = payload_lacks v form p n f holds count h
-
--- where samples are kept, they are the record's, and where differences are, these are its samples' steps
-pub payload_kept : (v : View) (form : Form) (p : List ℕ) (n : ℕ) (order : Order) (out : List ℤ)
-    (r : Result Ends ReadFault) → 0 < count_of v → HoldsIn v form p → n ≡ count_of v → order ≡ v.payload_order
-    → IsKept (Some the_sample) form order p n out r → MatchResult r (λ _. IsWhole v out) (λ f. IsFault v f)
-payload_kept v form p n order out (Ok ends) some holds count ordered h =
-    rw (h.1.3 ∙ samples_are h.0) (payload_read v form p n order h.0 some holds count ordered h.1.0 h.1.1)
-payload_kept v form p n order out (Err f) some holds count ordered h = payload_lacks v form p n f holds count h
-
-pub payload_stepped : (v : View) (form : Form) (p : List ℕ) (n : ℕ) (order : Order) (out : List ℤ)
-    (r : Result Ends ReadFault) → 0 < count_of v → HoldsIn v form p → n ≡ count_of v → order ≡ v.payload_order
-    → IsKept (Some the_difference) form order p n out r
-    → MatchResult r (λ _. (s : List ℤ) × (IsWhole v s × (out ≡ steps_of s))) (λ f. IsFault v f)
-payload_stepped v form p n order out (Ok ends) some holds count ordered h =
-    (h.0, (payload_read v form p n order h.0 some holds count ordered h.1.0 h.1.1, h.1.3 ∙ steps_are h.0))
-payload_stepped v form p n order out (Err f) some holds count ordered h = payload_lacks v form p n f holds count h
-
 -- what the answer of a read means
 pub read_only : {X : Type 0} (v : View) (items : X → List ℤ) (r : Result X ReadFault) → 0 < count_of v
-    → MatchResult r (λ x. IsWhole v (items x)) (λ f. IsRefusal v f) → (s : List ℤ) → IsWhole v s
+    → IfOk r (λ x. IsWhole v (items x)) → IfErr r (λ f. IsRefusal v f) → (s : List ℤ) → IsWhole v s
     → MatchResult r (λ x. items x ≡ s) (λ f. f ≡ Memory)
-read_only v items (Ok x) some h s w = reading_one v (items x) s h.0 w.0
-read_only v items (Err f) some (inl h) s w = absurd (denied v f s (fault_denies v f some h) w.0 w.1)
-read_only v items (Err f) some (inr h) s w = h.0
+read_only v items (Ok x) some whole refused s w = reading_one v (items x) s whole.0 w.0
+read_only v items (Err f) some whole (inl h) s w = absurd (denied v f s (fault_denies v f some h) w.0 w.1)
+read_only v items (Err f) some whole (inr h) s w = h.0
 
 pub read_fault : {X : Type 0} (v : View) (items : X → List ℤ) (r : Result X ReadFault) → 0 < count_of v
-    → MatchResult r (λ x. IsWhole v (items x)) (λ f. IsRefusal v f) → (f : ReadFault) → IsFault v f → r ≡ Err f
-read_fault v items (Ok x) some h f q = absurd (denied v f (items x) (fault_denies v f some q) h.0 h.1)
-read_fault v items (Err g) some (inl h) f q = ap Err (record_fault_one v g f h q)
-read_fault v items (Err g) some (inr h) f q = absurd (denied v f h.1.0 (fault_denies v f some q) h.1.1.0 h.1.1.1)
+    → IfOk r (λ x. IsWhole v (items x)) → IfErr r (λ f. IsRefusal v f) → (f : ReadFault) → IsFault v f → r ≡ Err f
+read_fault v items (Ok x) some whole refused f q =
+    absurd (denied v f (items x) (fault_denies v f some q) whole.0 whole.1)
+read_fault v items (Err g) some whole (inl h) f q = ap Err (record_fault_one v g f h q)
+read_fault v items (Err g) some whole (inr h) f q = absurd (denied v f h.1.0 (fault_denies v f some q) h.1.1.0 h.1.1.1)
 
-pub read_denies : {X : Type 0} (v : View) (items : X → List ℤ) (r : Result X ReadFault) → 0 < count_of v
-    → MatchResult r (λ x. IsWhole v (items x)) (λ f. IsRefusal v f) → IfErr r (λ f. f ≢ Memory → Denies v f)
-read_denies v items (Ok x) some h = tt
-read_denies v items (Err f) some (inl h) = λ not. fault_denies v f some h
-read_denies v items (Err f) some (inr h) = λ not. absurd (not h.0)
-
-pub read_whole : {X : Type 0} (v : View) (items : X → List ℤ) (r : Result X ReadFault)
-    → MatchResult r (λ x. IsWhole v (items x)) (λ f. IsRefusal v f) → IfOk r (λ x. IsWhole v (items x))
-read_whole v items (Ok x) h = h
-read_whole v items (Err f) h = tt
-
-pub read_refused : {X : Type 0} (v : View) (items : X → List ℤ) (r : Result X ReadFault)
-    → MatchResult r (λ x. IsWhole v (items x)) (λ f. IsRefusal v f) → IfErr r (λ f. IsRefusal v f)
-read_refused v items (Ok x) h = tt
-read_refused v items (Err f) h = h
-
--- what the answer of a fill means
-pub filled_only : (v : View) (out : List ℤ) (r : Result (Unit {0}) ReadFault) → 0 < count_of v
-    → MatchResult r (λ _. IsWhole v out) (λ f. IsFault v f) → (s : List ℤ) → IsWhole v s → IsOk r × (out ≡ s)
-filled_only v out (Ok done) some h s w = (refl, reading_one v out s h.0 w.0)
-filled_only v out (Err f) some h s w = absurd (denied v f s (fault_denies v f some h) w.0 w.1)
-
-pub filled_fault : (v : View) (out : List ℤ) (r : Result (Unit {0}) ReadFault) → 0 < count_of v
-    → MatchResult r (λ _. IsWhole v out) (λ f. IsFault v f) → (f : ReadFault) → (r ≡ Err f) ↔ IsFault v f
-filled_fault v out (Ok done) some h f = ((λ e. cc), (λ q. absurd (denied v f out (fault_denies v f some q) h.0 h.1)))
-filled_fault v out (Err g) some h f = (
-  (λ e. let same : g ≡ f = cc in subst (λ (x : ReadFault). IsFault v x) same h),
-  (λ q. ap Err (record_fault_one v g f h q)),
-)
-
-pub filled_denies : (v : View) (out : List ℤ) (r : Result (Unit {0}) ReadFault) → 0 < count_of v
-    → MatchResult r (λ _. IsWhole v out) (λ f. IsFault v f) → IfErr r (λ f. Denies v f)
-filled_denies v out (Ok done) some h = tt
-filled_denies v out (Err f) some h = fault_denies v f some h
-
--- and what that of a fill with steps does
-pub stepped_only : (v : View) (out : List ℤ) (r : Result (Unit {0}) ReadFault) → 0 < count_of v
-    → MatchResult r (λ _. (s : List ℤ) × (IsWhole v s × (out ≡ steps_of s))) (λ f. IsFault v f) → (s : List ℤ)
-    → IsWhole v s → IsOk r × (out ≡ steps_of s)
-stepped_only v out (Ok done) some h s w = (refl, h.1.1 ∙ ap steps_of (reading_one v h.0 s h.1.0.0 w.0))
-stepped_only v out (Err f) some h s w = absurd (denied v f s (fault_denies v f some h) w.0 w.1)
-
-pub stepped_fault : (v : View) (out : List ℤ) (r : Result (Unit {0}) ReadFault) → 0 < count_of v
-    → MatchResult r (λ _. (s : List ℤ) × (IsWhole v s × (out ≡ steps_of s))) (λ f. IsFault v f) → (f : ReadFault)
-    → (r ≡ Err f) ↔ IsFault v f
-stepped_fault v out (Ok done) some h f = filled_fault v h.0 (Ok done) some h.1.0 f
-stepped_fault v out (Err g) some h f = filled_fault v out (Err g) some h f
-
-pub stepped_denies : (v : View) (out : List ℤ) (r : Result (Unit {0}) ReadFault) → 0 < count_of v
-    → MatchResult r (λ _. (s : List ℤ) × (IsWhole v s × (out ≡ steps_of s))) (λ f. IsFault v f)
-    → IfErr r (λ f. Denies v f)
-stepped_denies v out (Ok done) some h = tt
-stepped_denies v out (Err f) some h = fault_denies v f some h
+pub refused_denies : (v : View) (f : ReadFault) → 0 < count_of v → IsRefusal v f → f ≢ Memory → Denies v f
+refused_denies v f some (inl h) not = fault_denies v f some h
+refused_denies v f some (inr h) not = absurd (not h.0)

@@ -1,5 +1,5 @@
 -- The samples that a record says, and why it says none (SEED manual, chapters 8 and appendix B).
-use Rattle.std.specs.Prelude.{◌≡◌, ◌⊎◌, ⊤, ℕ, ◌<◌, Bool, true, false, List, ℤ, Some, None, Result, Ok, Err}
+use Rattle.std.specs.Prelude.{◌≡◌, ◌⊎◌, ⊤, ℕ, ◌<◌, Bool, true, false, List, ℤ, Some, None, Result, MatchResult}
 use Rattle.mseed_time.specs.declared.order.Order.{Order}
 use Rattle.mseed_time.specs.declared.order.Order.TheVariants.{Big, Little}
 use Rattle.mseed_record.specs.Header.{samples_at}
@@ -7,11 +7,10 @@ use Rattle.mseed_record.specs.View.{View, HasPayload, payload_of}
 use Rattle.mseed_steim.specs.declared.scheme.Scheme.{Scheme}
 use Rattle.mseed_steim.specs.declared.form.Form.{Form}
 use Rattle.mseed_steim.specs.declared.form.Form.TheVariants.{Integers, Frames}
-use Rattle.mseed_steim.specs.declared.fault.Ends.{Ends}
 use Rattle.mseed_steim.specs.declared.fault.ReadFault.{ReadFault}
 use Rattle.mseed_steim.specs.declared.fault.ReadFault.TheVariants.{Blockette100, Encoding, LittleSteim, DataOffset}
 use Rattle.mseed_steim.specs.declared.fault.ReadFault.TheVariants.{LastDiffers, Memory}
-use Rattle.mseed_steim.specs.Samples.{form_of, IsPayloadReading, EndsOnConstant, IsPayloadFault, AreEnds}
+use Rattle.mseed_steim.specs.Samples.{form_of, IsPayloadReading, EndsOnConstant, IsPayloadFault}
 
 -- the number of samples
 abbrev pub count_of : View → ℕ
@@ -74,14 +73,14 @@ HoldsIn v form payload =
     (v.has_rate_blockette ≡ false) × (form_of v.encoding ≡ Some form) × IsReadable form v.payload_order × HasPayload v
     × (payload ≡ payload_of v)
 
--- the ends of a reading that ends on its constants, or why there's none
-abbrev pub IsAnswer : View → Result Ends ReadFault → Type 0
-IsAnswer v (Ok ends) = (s : List ℤ) × (IsReading v s × EndsOnConstants v s × AreEnds ends s)
-IsAnswer v (Err fault) = IsFault v fault
-
 -- the samples are the reading, and end on their constant
 abbrev pub IsWhole : View → List ℤ → Type 0
 IsWhole v s = IsReading v s × EndsOnConstants v s
+
+-- what is told of such samples, or why there are none
+abbrev pub AnswersRecord : {X : Type 0} → View → (X → List ℤ → Type 0) → Result X ReadFault → Type 0
+AnswersRecord v told r =
+    MatchResult r (λ answer. (s : List ℤ) × (IsWhole v s × told answer s)) (λ fault. IsFault v fault)
 
 -- Why samples aren't kept: a fault; or, where there's none, no memory for them.
 abbrev pub IsRefusal : View → ReadFault → Type 0

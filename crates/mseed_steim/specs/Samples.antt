@@ -1,6 +1,6 @@
 -- The samples that a payload's bytes say (SEED manual, chapter 8, blockette 1000, field 4, and appendix B).
 use Rattle.std.specs.Prelude.{◌≡◌, ◌≢◌, ⊤, ℕ, ◌+◌, ◌-◌, ◌*◌, ◌/◌, ◌^◌, ◌<◌, ◌≤◌, ◌==◌, if◌then◌else◌, List, [], ◌∷◌}
-use Rattle.std.specs.Prelude.{◌++◌, length, slice_get, ℤ, ◌+ℤ◌, ◌-ℤ◌, Option, Some, None, Result, Ok, Err, All}
+use Rattle.std.specs.Prelude.{◌++◌, length, slice_get, ℤ, ◌+ℤ◌, ◌-ℤ◌, Option, Some, None, Result, MatchResult, All}
 use Rattle.mseed_time.specs.declared.order.Order.{Order}
 use Rattle.mseed_time.specs.declared.order.Order.TheVariants.{Big}
 use Rattle.mseed_time.specs.Fields.{number_at}
@@ -107,18 +107,12 @@ abbrev pub AreEnds : Ends → List ℤ → Type 0
 AreEnds ends samples = (slice_get samples 0 ≡ Some ends.first)
     × (slice_get samples (length samples - 1) ≡ Some ends.last)
 
--- the ends of samples that are a reading and end on their constant, or why there are none
-abbrev pub IsChecked : Form → Order → List ℕ → ℕ → Result Ends ReadFault → Type 0
-IsChecked form order payload n (Ok ends) =
-    (samples : List ℤ) × (IsPayloadReading form order payload n samples × EndsOnConstant form payload samples
-    × AreEnds ends samples)
-IsChecked form order payload n (Err fault) = IsPayloadFault form payload n fault
-
--- samples that are a reading and end on their constant, or why there are none
-abbrev pub IsFilled : Form → Order → List ℕ → ℕ → List ℤ → Result (Unit {0}) ReadFault → Type 0
-IsFilled form order payload n samples (Ok done) = IsPayloadReading form order payload n samples
-    × EndsOnConstant form payload samples
-IsFilled form order payload n samples (Err fault) = IsPayloadFault form payload n fault
+-- what is told of samples that are a reading and end on their constant, or why there are none
+abbrev pub AnswersPayload : {X : Type 0} → Form → Order → List ℕ → ℕ → (X → List ℤ → Type 0) → Result X ReadFault
+    → Type 0
+AnswersPayload form order payload n told r =
+    MatchResult r (λ answer. (s : List ℤ) × (IsPayloadReading form order payload n s × EndsOnConstant form payload s
+    × told answer s)) (λ fault. IsPayloadFault form payload n fault)
 
 -- each number less the one before it
 abbrev pub differences_from : ℤ → List ℤ → List ℤ

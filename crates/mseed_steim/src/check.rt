@@ -1,16 +1,16 @@
 //! Payloads that are checked, with what is kept of their samples or without keeping any.
 
-ghost use Rattle.std.specs.Prelude.{◌≡◌, ◌↔◌, ◌<◌, ◌≤◌, ℕ, List, ℤ, IfOk, IfErr, IfSome, IfNone, IsOkAnd, OnOk, Err};
-ghost use Rattle.std.specs.Prelude.{length};
+ghost use Rattle.std.specs.Prelude.{◌≡◌, ◌↔◌, ◌<◌, ◌≤◌, ℕ, List, [], ℤ, None, IfOk, IfErr, IfSome, IfNone, IsOkAnd, OnOk};
+ghost use Rattle.std.specs.Prelude.{Err, length};
 ghost use Rattle.mseed_record.specs.Viewing.{view_of};
 ghost use Rattle.mseed_time.specs.declared.order.Order.TheVariants.{Big};
 ghost use Rattle.mseed_steim.specs.declared.form.Form.TheVariants.{Integers, Frames};
 ghost use Rattle.mseed_steim.specs.Frames.{first_constant, last_constant};
-ghost use Rattle.mseed_steim.specs.Samples.{IsChecked, IsFrameFault, AreEnds};
+ghost use Rattle.mseed_steim.specs.Samples.{AnswersPayload, AreEnds, IsFrameFault};
 ghost use Rattle.mseed_steim.specs.private.Sums.{IsKept, places_for, walk};
 ghost use Rattle.mseed_steim.specs.declared.fault.ReadFault.{ReadFault};
-ghost use Rattle.mseed_steim.specs.Reading.{count_of, IsReading, EndsOnConstants, IsFault, Denies, HoldsIn, IsAnswer};
-ghost use Rattle.mseed_steim.specs.Reading.{is_little_steim};
+ghost use Rattle.mseed_steim.specs.Reading.{count_of, IsReading, EndsOnConstants, IsFault, Denies, HoldsIn};
+ghost use Rattle.mseed_steim.specs.Reading.{AnswersRecord, is_little_steim};
 
 use crate::data_words::read_word;
 use crate::fault::{Ends, ReadFault};
@@ -102,7 +102,7 @@ pub(crate) fn walk_frames<K: Keeper>(
 #[inline(never)]
 fn check_frames(payload: &[u8], scheme: Scheme, samples: usize) -> Result<Ends, ReadFault>
     requires { 0 < samples }
-    ensures { IsChecked (Frames scheme) Big payload.now samples result }
+    ensures { IsKept None (Frames scheme) Big payload.now samples [] result }
 {
     walk_frames::<Sums>(payload, scheme, samples, &mut [], &mut [])
 }
@@ -116,7 +116,7 @@ pub(crate) fn check_integers(
     samples: usize,
 ) -> Result<Ends, ReadFault>
     requires { 0 < samples }
-    ensures { IsChecked (Integers width) order payload.now samples result }
+    ensures { AnswersPayload (Integers width) order payload.now samples AreEnds result }
 {
     let found = payload.len() / width.bytes();
     if found < samples {
@@ -169,12 +169,9 @@ pub(crate) fn payload_of<'a>(view: &RecordView<'a>) -> Result<(Form, &'a [u8]), 
 #[inline(always)]
 fn check_record(view: &RecordView<'_>) -> Result<Ends, ReadFault>
     requires { 0 < count_of (view_of view.now) }
-    ensures { IsAnswer (view_of view.now) result }
+    ensures { AnswersRecord (view_of view.now) AreEnds result }
 {
-    let (form, payload) = match payload_of(view) {
-        Ok(found) => found,
-        Err(fault) => return Err(fault),
-    };
+    let (form, payload) = payload_of(view)?;
     let samples = usize::from(view.samples());
     match form {
         Form::Integers(width) => check_integers(payload, width, view.payload_order(), samples),

@@ -39,10 +39,7 @@ fn find_ends(view: &RecordView<'_>) -> Result<Ends, ReadFault>
     ensures ends { IfOk result (λ ends. (s : List ℤ) → IsWhole (view_of view.now) s → AreEnds ends s) }
     ensures fault { IfErr result (λ fault. IsFault (view_of view.now) fault) }
 {
-    let (form, payload) = match payload_of(view) {
-        Ok(found) => found,
-        Err(fault) => return Err(fault),
-    };
+    let (form, payload) = payload_of(view)?;
     let samples = usize::from(view.samples());
     match form {
         Form::Integers(width) => { check_integers(payload, width, view.payload_order(), samples) }

@@ -7,12 +7,12 @@ ghost use Rattle.mseed_time.specs.declared.order.Order.TheVariants.{Big};
 ghost use Rattle.mseed_steim.specs.declared.form.Form.TheVariants.{Integers, Frames};
 ghost use Rattle.mseed_steim.specs.declared.fault.ReadFault.{ReadFault};
 ghost use Rattle.mseed_steim.specs.declared.fault.ReadFault.TheVariants.{Memory};
-ghost use Rattle.mseed_steim.specs.Reading.{count_of, IsFault, IsSteim, IsWhole, IsRefusal, Denies};
-ghost use Rattle.mseed_steim.specs.Samples.{IsFilled, steps_of};
-ghost use Rattle.mseed_steim.specs.private.Sums.{IsKept, places_for};
+ghost use Rattle.mseed_steim.specs.Reading.{AnswersRecord, count_of, IsFault, IsSteim, IsWhole, IsRefusal, Denies};
+ghost use Rattle.mseed_steim.specs.Samples.{AnswersPayload, steps_of};
+ghost use Rattle.mseed_steim.specs.private.Sums.{AreKept, places_for};
 
 use crate::check::{check_samples, payload_of, walk_frames};
-use crate::fault::{Ends, ReadFault};
+use crate::fault::ReadFault;
 use crate::form::{Form, Width, form_of, integer_at};
 use crate::keep::{Keeper, Samples, Steps};
 use crate::scheme::Scheme;
@@ -21,20 +21,21 @@ use mseed_record::RecordView;
 use mseed_time::Order;
 use std::alloc::{AllocError, Allocator};
 
-/// The ends of so many samples of Steim frames, with what is kept of each put in its place. It stands apart, so that
-/// its room is cleared for frames alone.
+/// Fills in what is kept of so many samples of Steim frames. It stands apart, so that its room is cleared for frames
+/// alone.
 #[inline(never)]
 fn fill_frames<K: Keeper>(
     payload: &[u8],
     scheme: Scheme,
     samples: usize,
     out: &mut [i32],
-) -> Result<Ends, ReadFault>
+) -> Result<(), ReadFault>
     requires some { 0 < samples }
     requires places { length out.old ≡ places_for K.kept samples }
-    ensures { IsKept K.kept (Frames scheme) Big payload.now samples out.new result }
+    ensures { AnswersPayload (Frames scheme) Big payload.now samples (λ _ s. AreKept K.kept s out.new) result }
 {
-    walk_frames::<K>(payload, scheme, samples, &mut [0; PLACES], out)
+    walk_frames::<K>(payload, scheme, samples, &mut [0; PLACES], out)?;
+    Ok(())
 }
 
 /// Fills in so many integers.
@@ -46,7 +47,7 @@ fn fill_integers(
     out: &mut [i32],
 ) -> Result<(), ReadFault>
     requires { length out.old ≡ samples }
-    ensures { IsFilled (Integers width) order payload.now samples out.new result }
+    ensures { AnswersPayload (Integers width) order payload.now samples (λ _ s. out.new ≡ s) result }
 {
     let bytes = width.bytes();
     let found = payload.len() / bytes;
@@ -64,19 +65,13 @@ fn fill_integers(
 fn fill_record(view: &RecordView<'_>, out: &mut [i32]) -> Result<(), ReadFault>
     requires some { 0 < count_of (view_of view.now) }
     requires room { length out.old ≡ count_of (view_of view.now) }
-    ensures { MatchResult result (λ _. IsWhole (view_of view.now) out.new) (λ fault. IsFault (view_of view.now) fault) }
+    ensures { AnswersRecord (view_of view.now) (λ _ s. out.new ≡ s) result }
 {
-    let (form, payload) = match payload_of(view) {
-        Ok(found) => found,
-        Err(fault) => return Err(fault),
-    };
+    let (form, payload) = payload_of(view)?;
     let samples = usize::from(view.samples());
     match form {
         Form::Integers(width) => fill_integers(payload, width, view.payload_order(), samples, out),
-        Form::Frames(scheme) => match fill_frames::<Samples>(payload, scheme, samples, out) {
-            Ok(_) => Ok(()),
-            Err(fault) => Err(fault),
-        },
+        Form::Frames(scheme) => fill_frames::<Samples>(payload, scheme, samples, out),
     }
 }
 
@@ -117,21 +112,13 @@ fn fill_steps(view: &RecordView<'_>, out: &mut [i32]) -> Result<(), ReadFault>
     requires some { 0 < count_of (view_of view.now) }
     requires steim { IsSteim (view_of view.now) }
     requires places { length out.old ≡ count_of (view_of view.now) }
-    ensures { MatchResult result (λ _. (s : List ℤ) × (IsWhole (view_of view.now) s × (out.new ≡ steps_of s)))
-        (λ fault. IsFault (view_of view.now) fault) }
+    ensures { AnswersRecord (view_of view.now) (λ _ s. out.new ≡ steps_of s) result }
 {
-    let (form, payload) = match payload_of(view) {
-        Ok(found) => found,
-        Err(fault) => return Err(fault),
-    };
+    let (form, payload) = payload_of(view)?;
     match form {
         Form::Integers(_) => unreachable!(),
         Form::Frames(scheme) => {
-            let samples = usize::from(view.samples());
-            match fill_frames::<Steps>(payload, scheme, samples, out) {
-                Ok(_) => Ok(()),
-                Err(fault) => Err(fault),
-            }
+            fill_frames::<Steps>(payload, scheme, usize::from(view.samples()), out)
         }
     }
 }
@@ -175,23 +162,19 @@ fn read_record<A: Allocator + Drop>(
     view: &RecordView<'_>,
 ) -> Result<Vec<i32, A>, ReadFault>
     requires { 0 < count_of (view_of view.now) }
-    ensures { MatchResult result (λ samples. IsWhole (view_of view.now) samples.items)
-        (λ fault. IsRefusal (view_of view.now) fault) }
+    ensures reading { IfOk result (λ samples. IsWhole (view_of view.now) samples.items) }
+    ensures refused { IfErr result (λ fault. IsRefusal (view_of view.now) fault) }
 {
     let samples = usize::from(view.samples());
     let mut out = match zeros(alloc, samples) {
         Ok(out) => out,
         Err(_) => {
-            return match check_samples(view) {
-                Ok(_) => Err(ReadFault::Memory),
-                Err(fault) => Err(fault),
-            };
+            check_samples(view)?;
+            return Err(ReadFault::Memory);
         }
     };
-    match fill_record(view, &mut out) {
-        Ok(()) => Ok(out),
-        Err(fault) => Err(fault),
-    }
+    fill_record(view, &mut out)?;
+    Ok(out)
 }
 
 /// A record's samples: those of its one reading, where it ends on the payload's constant. The record has at

@@ -13,7 +13,7 @@ use Rattle.mseed_steim.specs.declared.fault.Ends.{Ends}
 use Rattle.mseed_steim.specs.Frames.{data_words, first_constant, words_from}
 use Rattle.mseed_time.specs.declared.order.Order.{Order}
 use Rattle.mseed_steim.specs.declared.form.Form.{Form}
-use Rattle.mseed_steim.specs.Samples.{AreEnds, EndsOnConstant, IsPayloadFault, IsPayloadReading}
+use Rattle.mseed_steim.specs.Samples.{AnswersPayload, AreEnds}
 use Rattle.mseed_steim.specs.private.Items.{items_of}
 use Rattle.mseed_steim.specs.private.Moves.{Moves, MovesBy}
 use Rattle.mseed_steim.specs.private.Unpacked.{data_in, left_from}
@@ -94,10 +94,8 @@ AreKept (Some keep) samples out = out ≡ kept_of keep samples
 
 -- the ends of samples that are a reading and end on their constant, with what is kept of them; or why there are none
 abbrev pub IsKept : Option (ℤ → ℤ → ℤ) → Form → Order → List ℕ → ℕ → List ℤ → Result Ends ReadFault → Type 0
-IsKept keep form order payload n out (Ok ends) =
-    (samples : List ℤ) × (IsPayloadReading form order payload n samples × EndsOnConstant form payload samples
-    × AreEnds ends samples × AreKept keep samples out)
-IsKept keep form order payload n out (Err fault) = IsPayloadFault form payload n fault
+IsKept keep form order payload n out r =
+    AnswersPayload form order payload n (λ ends samples. AreEnds ends samples × AreKept keep samples out) r
 
 -- the sums of some differences, each with those before it
 abbrev pub sums : ℤ → List ℤ → List ℤ

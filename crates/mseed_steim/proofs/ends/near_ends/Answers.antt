@@ -6,10 +6,10 @@ use Rattle.mseed_steim.specs.declared.form.Form.{Form}
 use Rattle.mseed_steim.specs.declared.form.Form.TheVariants.{Integers, Frames}
 use Rattle.mseed_steim.specs.Frames.{AreOctets}
 use Rattle.mseed_steim.specs.Nearness.{AreNear, IsSurelyNear}
-use Rattle.mseed_steim.specs.Reading.{HoldsIn, IsWhole, count_of}
-use Rattle.mseed_steim.specs.Samples.{IsPayloadReading}
-use Rattle.mseed_steim.proofs.Constants.{answer_ends, answer_fault, constants_end, frameless, whole_fault}
-use Rattle.mseed_steim.proofs.Laws.{payload_answer}
+use Rattle.mseed_steim.specs.Reading.{AnswersRecord, HoldsIn, IsWhole, count_of}
+use Rattle.mseed_steim.specs.Samples.{AreEnds, IsPayloadReading}
+use Rattle.mseed_steim.proofs.Constants.{constants_end, frameless, one_ends, whole_fault}
+use Rattle.mseed_steim.proofs.Laws.{payload_answers}
 use Rattle.mseed_steim.proofs.Nearness.{near_whole, shown_near}
 use Rattle.mseed_steim.proofs.ends.near_ends.Goals as goal
 
@@ -22,11 +22,12 @@ near v form o p n held count order octets surely = near_whole v form p n held co
 
 pub unreachable-requires : goal.unreachable-requires
 unreachable-requires c =
-    let answer = payload_answer (view_of c.args.view.now) (Integers c.in-Integers.width) c.in-Ok.payload.now _ _
+    let answer : AnswersRecord (view_of c.args.view.now) AreEnds c.check_integers.result =
+    payload_answers (view_of c.args.view.now) (Integers c.in-Integers.width) c.in-Ok.payload.now _ _ AreEnds AreEnds
     c.check_integers.result c.requires.1.0.some (rw c.in-Integers.is at c.in-Ok.ensures.held)
-    (c.from-samples.ensures ∙ c.samples.ensures) c.payload_order-order.ensures c.check_integers.ensures in
-    whole_fault (view_of c.args.view.now) c.requires.0 c.in-Err.field-0 c.requires.1
-    (rw c.in-Err.is at (answer_fault (view_of c.args.view.now) c.check_integers.result answer))
+    (c.from-samples.ensures ∙ c.samples.ensures) c.payload_order-order.ensures (λ ends s are. are)
+    c.check_integers.ensures in
+    whole_fault (view_of c.args.view.now) c.requires.0 c.in-Err.field-0 c.requires.1 (rw c.in-Err.is at answer)
 
 pub unreachable-requires-in-None : goal.unreachable-requires-in-None
 unreachable-requires-in-None c =
@@ -38,12 +39,12 @@ unreachable-requires-in-None c =
 
 pub returns-in-Ok-check_integers-clause-ends : goal.returns-in-Ok-check_integers-clause-ends
 returns-in-Ok-check_integers-clause-ends c s whole =
-    let answer = payload_answer (view_of c.args.view.now) (Integers c.in-Integers.width) c.in-Ok.payload.now _ _
+    let answer : AnswersRecord (view_of c.args.view.now) AreEnds c.check_integers.result =
+    payload_answers (view_of c.args.view.now) (Integers c.in-Integers.width) c.in-Ok.payload.now _ _ AreEnds AreEnds
     c.check_integers.result c.requires.1.0.some (rw c.in-Integers.is at c.in-Ok.ensures.held)
-    (c.from-samples.ensures ∙ c.samples.ensures) c.payload_order-order.ensures c.check_integers.ensures in
-    let found = answer_ends (view_of c.args.view.now) c.check_integers.result answer in
-    let ends = rw c.in-Ok-check_integers.is at found in (
-      ends s whole,
+    (c.from-samples.ensures ∙ c.samples.ensures) c.payload_order-order.ensures (λ ends s are. are)
+    c.check_integers.ensures in (
+      one_ends (view_of c.args.view.now) c.in-Ok-check_integers.ends (rw c.in-Ok-check_integers.is at answer) s whole,
       near (view_of c.args.view.now) c.in-Ok.form c.payload_order-order.result c.in-Ok.payload.now
           c.from-samples.result c.in-Ok.ensures.held (c.from-samples.ensures ∙ c.samples.ensures)
           c.payload_order-order.ensures c.shows_near.ensures.octets

@@ -1,4 +1,4 @@
-use Rattle.std.proofs.Common.{◌≡◌, ◌<◌, ◌≤◌, ◌+◌, ◌*◌, ◌-◌, ◌/◌, ◌++◌, ◌∙◌, List, ℤ, arith, ap, sym, rules, w32}
+use Rattle.std.proofs.Common.{◌≡◌, ◌<◌, ◌≤◌, ◌+◌, ◌*◌, ◌-◌, ◌/◌, ◌++◌, ◌∙◌, List, ℤ, arith, ap, refl, sym, rules, w32}
 use Rattle.std.proofs.Common.{FitsSigned, length, take, append-nil}
 use Rattle.std.proofs.Math.Seq.{take-length}
 use Rattle.std.proofs.lemmas.Int.{to_z-of_z}
@@ -32,8 +32,8 @@ returns c =
     let all : c.loop-i.i ≡ length c.loop-i.out = omega arith in
     let whole : take c.loop-i.i c.loop-i.out ≡ c.loop-i.out = ap (λ k. take k c.loop-i.out) all
     ∙ take-length c.loop-i.out in
-    let same = rw (over, append-nil, whole) at c.loop-i.invariant.kept in (
-      filled c.args.order c.args.width c.args.payload.now c.args.samples c.loop-i.out (λ i. (c.type_inv.payload i).fits)
-          (whole_count c.args.width c.args.samples (length c.args.payload.now) enough) same,
-      tt,
-    )
+    let same = rw (over, append-nil, whole) at c.loop-i.invariant.kept in
+    let reading = filled c.args.order c.args.width c.args.payload.now c.args.samples c.loop-i.out
+    (λ i. (c.type_inv.payload i).fits)
+    (whole_count c.args.width c.args.samples (length c.args.payload.now) enough) same in
+    (c.loop-i.out, (reading, tt, refl))
