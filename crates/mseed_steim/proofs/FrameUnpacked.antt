@@ -10,13 +10,16 @@ use Rattle.mseed_steim.specs.declared.scheme.Scheme.{Scheme}
 use Rattle.mseed_steim.specs.declared.scheme.Scheme.TheVariants.{One, Two}
 use Rattle.mseed_steim.specs.declared.differences.BadWordAt.{BadWordAt}
 use Rattle.mseed_steim.specs.declared.unpack.Unpacking.{Unpacking}
+use Rattle.mseed_steim.specs.declared.unpack.Widest.{Widest}
+use Rattle.mseed_steim.specs.declared.unpack.Widest.TheVariants.{Bits16, Bits32}
 use Rattle.mseed_steim.specs.private.Digits.{differences_of}
 use Rattle.mseed_steim.specs.Frames.{DataWord, data_word, word_at, code_at, words_from}
 use Rattle.mseed_steim.specs.private.Items.{items_of}
 use Rattle.mseed_steim.specs.private.Lanes.{span, words, row_at, Begins, code_from, all_counts_one, all_counts_two}
 use Rattle.mseed_steim.specs.private.Lanes.{word_at as lanes_word_at}
 use Rattle.mseed_steim.specs.private.Lanes.{counts_of, all_counts, all_widths}
-use Rattle.mseed_steim.specs.private.Unpacked.{AreGood, FitIn, Unpacks, differences_at, lanes_of, unpacked}
+use Rattle.mseed_steim.specs.private.Unpacked.{AreGood, AreUpTo, FitIn, Unpacks, counts_up_to}
+use Rattle.mseed_steim.specs.private.Unpacked.{differences_at, lanes_of, unpacked}
 use Rattle.mseed_steim.proofs.Below.{sixteen}
 use Rattle.mseed_steim.proofs.Walking.{words_none, words_step, items_group}
 use Rattle.mseed_steim.proofs.FrameItems.{Reads, reads_all, none_at, span-append}
@@ -81,7 +84,7 @@ after_3 s p f k reads =
     rw (n1, n2) refl
 
 -- what the words of the frame spell
-pub all_spelled : (s : Scheme) (p f begin : List ℕ) (k from : ℕ) → Begins begin from → f ≡ take 64 (drop (64 * k) p)
+all_spelled : (s : Scheme) (p f begin : List ℕ) (k from : ℕ) → Begins begin from → f ≡ take 64 (drop (64 * k) p)
     → ((i : ℕ) → get_or f i 0 < 256) → AreGood s f from
     → (rest : List DataWord) → items_of s (words_from p (16 * k + from) (16 - from) ++ rest)
     ≡ map Ok (unpacked s f from 1 15) ++ items_of s rest
@@ -108,7 +111,7 @@ near_sum : (s : Scheme) (f : List ℕ) (from : ℕ) → sum_l (map (λ w. span (
 unfolding words
 near_sum s f from most = let all = span_unpacked s f from 15 1 in omega (arith, all, most)
 
-pub all_near : (s : Scheme) (f : List ℕ) (from : ℕ) → ((i : ℕ) → get_or f i 0 < 256)
+all_near : (s : Scheme) (f : List ℕ) (from : ℕ) → ((i : ℕ) → get_or f i 0 < 256)
     → sum_l (map (λ w. get_or (counts_of s) (row_at f from w) 0) words) < 128 → span (unpacked s f from 1 15) ≤ 2 ^ 20
 all_near s f from octets few = near_sum s f from (unpacked_near s f from octets few)
 
@@ -166,7 +169,7 @@ no_more_than_4 s f from octets some other good = inr (λ word less.
     few_by_row s (row_at f from word) (row_small f from octets word) (omega (arith, code, top)) (good word less))
 
 -- where the words have few differences in all, none is bad
-pub all_good : (s : Scheme) (f : List ℕ) (from : ℕ)
+all_good : (s : Scheme) (f : List ℕ) (from : ℕ)
     → sum_l (map (λ w. get_or (all_counts s) (row_at f from w) 0) words) < 128 → AreGood s f from
 all_good s f from few word less =
     let one = one_of_sum (map (λ w. get_or (all_counts s) (row_at f from w) 0) words) word in
@@ -174,13 +177,37 @@ all_good s f from few word less =
     omega (arith, one, at, few)
 
 -- nor where none has one of 30 or 32 bits
-pub narrow_good : (s : Scheme) (f : List ℕ) (from : ℕ) → ((i : ℕ) → get_or f i 0 < 256)
+narrow_good : (s : Scheme) (f : List ℕ) (from : ℕ) → ((i : ℕ) → get_or f i 0 < 256)
     → sum_l (map (λ w. get_or (counts_of s) (row_at f from w) 0) words) < 128 → AreGood s f from
 narrow_good s f from octets few word less =
     let one = one_of_sum (map (λ w. get_or (counts_of s) (row_at f from w) 0) words) word in
     let at = at_word (λ w. get_or (counts_of s) (row_at f from w) 0) word less in
     let same = alike s (row_at f from word) (row_small f from octets word) (omega (arith, one, at, few)) in
     omega (arith, one, at, few, same.0)
+
+good_up_to : (w : Widest) (s : Scheme) (f : List ℕ) (from : ℕ) → ((i : ℕ) → get_or f i 0 < 256)
+    → sum_l (map (λ w'. get_or (counts_up_to w s) (row_at f from w') 0) words) < 128 → AreGood s f from
+good_up_to Bits16 s f from octets few = narrow_good s f from octets few
+good_up_to Bits32 s f from octets few = all_good s f from few
+
+-- what the words of a frame are unpacked to
+pub up_to : (w : Widest) (s : Scheme) (begin f : List ℕ) (ds : List ℤ) (count : ℕ) → ((i : ℕ) → get_or f i 0 < 256)
+    → (from : ℕ) × Begins begin from → count ≤ 120
+    → ((from : ℕ) → Begins begin from
+    → sum_l (map (λ x. get_or (counts_up_to w s) (row_at f from x) 0) words) < 128)
+    → ((from : ℕ) → Begins begin from → AreGood s f from → take count ds ≡ unpacked s f from 1 15)
+    → AreUpTo w s begin f ds count
+up_to w s begin f ds count octets some inside few same = record {
+  unpacked = record {
+    few = inside;
+    items = λ p k from rest begins e.
+        let good = good_up_to w s f from octets (few from begins) in
+        rw (same from begins good) (all_spelled s p f begin k from begins e octets good rest);
+  };
+  near = λ e.
+      let good = good_up_to w s f some.0 octets (few some.0 some.1) in
+      rw (same some.0 some.1 good) (all_near s f some.0 octets (rw e at (few some.0 some.1)));
+}
 
 -- the words in two parts
 unpacked_cut : (s : Scheme) (f : List ℕ) (from n m j : ℕ)

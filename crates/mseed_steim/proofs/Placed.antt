@@ -13,13 +13,14 @@ use borrow.Rule.Slice.PartMut.{put_mid}
 use Rattle.mseed_steim.specs.declared.differences.BadWordAt.{BadWordAt}
 use Rattle.mseed_steim.specs.declared.fault.ReadFault.{ReadFault}
 use Rattle.mseed_steim.specs.declared.scheme.Scheme.{Scheme}
+use Rattle.mseed_steim.specs.declared.unpack.Widest.{Widest}
 use Rattle.mseed_steim.specs.declared.sum.Sum.{Sum}
 use Rattle.mseed_steim.specs.Frames.{DataWord, data_words, first_constant, word_count}
 use Rattle.mseed_steim.specs.Samples.{Adds, AreSums, StartsAndAdds, differences_from, steps_of}
 use Rattle.mseed_steim.specs.private.Items.{items_of}
 use Rattle.mseed_steim.specs.private.Lanes.{Begins}
 use Rattle.mseed_steim.specs.private.Sums.{Continues, met_in, the_difference, the_sample}
-use Rattle.mseed_steim.specs.private.Unpacked.{AreUnpacked, data_in, left_from}
+use Rattle.mseed_steim.specs.private.Unpacked.{AreUnpacked, AreUpTo, data_in, left_from}
 use Rattle.mseed_steim.proofs.Folded.{Folds, done as done_folds, short as short_folds, bad as bad_folds}
 use Rattle.mseed_steim.proofs.Folded.{all_kept, folds, kept_later, over as over_folds, steps_from}
 use Rattle.mseed_steim.proofs.Folds.{fold_enough}
@@ -43,13 +44,13 @@ put_of s begin frame room out count k places all inside least put =
     record { few = omega (arith, long, all.few); items = all.items } in
     (take count room, (unpacked, rw long least, put))
 
-pub put_in_place : (s : Scheme) (begin frame : List ℕ) (r : Option ℕ) (out : List ℤ) (places : ℕ)
-    → length out ≡ places → 128 ≤ places → IfSome r (λ count. AreUnpacked s begin frame (take count out) count)
+pub put_in_place : (w : Widest) (s : Scheme) (begin frame : List ℕ) (r : Option ℕ) (out : List ℤ) (places : ℕ)
+    → length out ≡ places → 128 ≤ places → IfSome r (AreUpTo w s begin frame out)
     → IfSome r (λ count. Put s begin frame places out count)
-put_in_place s begin frame None out places e room h = tt
-put_in_place s begin frame (Some count) out places e room h =
-    let few : count ≤ 120 = h.few in
-    put_of s begin frame out out count count places h (omega (arith, e, room, few)) (omega (arith, few, room))
+put_in_place w s begin frame None out places e room h = tt
+put_in_place w s begin frame (Some count) out places e room h =
+    let few : count ≤ 120 = h.unpacked.few in
+    put_of s begin frame out out count count places h.unpacked (omega (arith, e, room, few)) (omega (arith, few, room))
     (sym (take-take count count out (omega arith)))
 
 -- a frame's differences, after those of the frames before it

@@ -6,7 +6,7 @@ ghost use Rattle.mseed_steim.specs.declared.scheme.Scheme.TheVariants.{One, Two}
 ghost use Rattle.mseed_steim.specs.private.Lanes.{AddsUp, AreLanes, Begins, row_at, turned_at};
 ghost use Rattle.mseed_steim.specs.private.Lanes.{fine_two, ones_two, coarse_two, low_one, high_one};
 ghost use Rattle.mseed_steim.specs.Frames.{words_from};
-ghost use Rattle.mseed_steim.specs.private.Moves.{Adds, AreFrames, MovesBy, Raises, Tells};
+ghost use Rattle.mseed_steim.specs.private.Moves.{Adds, IsRun, Raises, Tells};
 ghost use Rattle.mseed_steim.specs.private.Unpacked.{data_in};
 
 use crate::lanes::{
@@ -24,21 +24,15 @@ pub(crate) struct MovedLanes {
     by: u32x4,
 }
 
-/// What some differences are in all.
-#[derive(Clone, Copy)]
-pub(crate) struct Moved {
-    /// How many there are.
-    pub(crate) count: u32,
-    /// Their sum.
-    pub(crate) by: i32,
-}
-
 /// What the differences of the first of some frames are in all.
 #[derive(Clone, Copy)]
 pub(crate) struct Run {
     /// How many frames these are.
     pub(crate) frames: usize,
-    pub(crate) moved: Moved,
+    /// How many differences there are.
+    pub(crate) count: u32,
+    /// Their sum.
+    pub(crate) by: i32,
 }
 
 /// No sum of a frame's differences is further from 0 than this, unless one of them has 30 or 32 bits.
@@ -301,58 +295,36 @@ fn begin_at(index: usize, first: Rows) -> Rows
     if index == 0 { first } else { FROM_1 }
 }
 
-/// The first frames, so many, by their count and the lanes of their sum.
-#[inline(always)]
-fn run_up_to(frames: usize, count: u32, by: u32x4) -> Run
-    ensures frames { result.frames ≡ frames }
-    ensures count { (result.moved).count ≡ count }
-    ensures by { (number : ℤ) → nat_abs number < 2 ^ 24 → Raises (sum_l by) number → (result.moved).by ≡ number }
-{
-    Run {
-        frames,
-        moved: Moved {
-            count,
-            by: lowered(by),
-        },
-    }
-}
-
 /// The differences of frames from a word of the first one on, at most so many: of the first frames, up to one with
 /// more, or with a word that is bad or has one of 30 or 32 bits. A frame after those with so many isn't looked at.
 #[inline(always)]
 fn run_of(scheme: Scheme, frames: &[[u8; 64]], begin: Rows, most: usize) -> Run
     requires { length frames.now ≤ RUN }
-    ensures inside { result.frames ≤ length frames.now }
-    ensures few { result.moved.count ≤ most }
-    ensures moves { (p : List ℕ) (k from : ℕ) → Begins begin from → AreFrames frames.now p k
-        → MovesBy scheme (words_from p (16 * k + from) (16 * result.frames - from)) result.moved.count result.moved.by
-        (REACH * result.frames) }
+    ensures { IsRun scheme frames.now begin most result }
 {
+    let mut taken = 0;
     let mut count = 0;
     let mut by = u32x4::splat(0);
-    for index in 0..frames.len() {
-        let left = most - count as usize;
-        if left == 0 {
-            return run_up_to(index, count, by);
+    while taken < frames.len() && (count as usize) < most {
+        let lanes = frame_lanes(scheme, &frames[taken], begin_at(taken, begin));
+        if lanes.count >= 128 || most < (count + lanes.count) as usize {
+            break;
         }
-        let lanes = frame_lanes(scheme, &frames[index], begin_at(index, begin));
-        if lanes.count >= 128 || left < lanes.count as usize {
-            return run_up_to(index, count, by);
-        }
+        taken += 1;
         count += lanes.count;
         by = plus(by, lanes.by);
     }
-    run_up_to(frames.len(), count, by)
+    Run {
+        frames: taken,
+        count,
+        by: lowered(by),
+    }
 }
 
 /// The same, by a body for each scheme.
 pub(crate) fn moves_of(scheme: Scheme, frames: &[[u8; 64]], begin: Rows, most: usize) -> Run
     requires { length frames.now ≤ RUN }
-    ensures inside { result.frames ≤ length frames.now }
-    ensures few { result.moved.count ≤ most }
-    ensures moves { (p : List ℕ) (k from : ℕ) → Begins begin from → AreFrames frames.now p k
-        → MovesBy scheme (words_from p (16 * k + from) (16 * result.frames - from)) result.moved.count result.moved.by
-        (REACH * result.frames) }
+    ensures { IsRun scheme frames.now begin most result }
 {
     match scheme {
         Scheme::One => run_of(Scheme::One, frames, begin, most),

@@ -17,7 +17,7 @@ use crate::frame::{REACH, RUN, begin_in, moves_of};
 use crate::group::group_of;
 use crate::scheme::Scheme;
 use crate::sum::{Sum, add_all, add_near};
-use crate::unpack::{PLACES, Room, unpack_frame};
+use crate::unpack::{PLACES, Room, Widest, unpack_frame};
 use crate::word::read_digit;
 
 /// What is asked of a walk over a payload.
@@ -224,9 +224,9 @@ fn add_frames(task: Task, payload: &[u8], index: usize, sum: Sum) -> Option<Take
     if run.frames == 0 {
         return None;
     }
-    let by = run.moved.by - unused;
+    let by = run.by - unused;
     let sum = Sum {
-        met: sum.met + run.moved.count as usize,
+        met: sum.met + run.count as usize,
         last: add_near(sum.last, by),
     };
     Some(Taken {
@@ -260,7 +260,13 @@ pub(crate) fn take_frames<K: Keeper>(
     let (frames, _) = payload.as_chunks::<64>();
     let begin = begin_in(sum.met, index);
     let differences = room.as_mut_array::<PLACES>()?;
-    let count = unpack_frame(task.scheme, &frames[index], begin, differences)?;
+    let count = unpack_frame(
+        task.scheme,
+        Widest::Bits16,
+        &frames[index],
+        begin,
+        differences,
+    )?;
     Some(Taken {
         frames: 1,
         sum: keep_needed::<K>(differences, count, task.samples, sum, out),

@@ -22,28 +22,9 @@ use crate::lanes::Rows;
 use crate::read::fill_differences;
 use crate::scheme::Scheme;
 use crate::sum::Sum;
-use crate::unpack::{PLACES, Room, unpack_frame, unpack_wide};
+use crate::unpack::{PLACES, Room, Widest, unpack_frame};
 use crate::walk::keep_in_room;
 use mseed_record::RecordView;
-
-/// The differences of a frame's words, in their order, and the lanes after the last of them: how many there are. None
-/// where a word is bad.
-#[inline(always)]
-fn unpack_any(
-    scheme: Scheme,
-    frame: &[u8; 64],
-    begin: Rows,
-    differences: &mut [i32],
-) -> Option<usize>
-    requires begins { (from : ℕ) × Begins begin from }
-    requires room { 120 ≤ length differences.old }
-    ensures { IfSome result (λ count. AreUnpacked scheme begin frame.now (take count differences.new) count) }
-{
-    match unpack_frame(scheme, frame, begin, differences) {
-        Some(count) => Some(count),
-        None => unpack_wide(scheme, frame, begin, differences),
-    }
-}
 
 /// The differences of a frame, put in their places, as far as there are places: how many were put. None where a word is
 /// bad.
@@ -61,9 +42,9 @@ fn unpack_some(
         × (count ≡ min (length ds) (length out.old)) × (take count out.new ≡ take count ds))) }
 {
     if out.len() >= PLACES {
-        return unpack_any(scheme, frame, begin, out);
+        return unpack_frame(scheme, Widest::Bits32, frame, begin, out);
     }
-    let count = unpack_any(scheme, frame, begin, room)?;
+    let count = unpack_frame(scheme, Widest::Bits32, frame, begin, room)?;
     let some = count.min(out.len());
     out[..some].copy_from_slice(&room[..some]);
     Some(some)

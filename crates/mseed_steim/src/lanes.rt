@@ -83,21 +83,13 @@ pub(crate) fn part_by(plane: u8x16, rows: u8x16, mask: Rows, weight: u8) -> u32x
     kept.dot4(u8x16::splat(weight))
 }
 
-/// The sums of four bytes each.
-#[inline(always)]
-pub(crate) fn total(bytes: u8x16) -> u32x4
-    ensures { sum_l result ≡ sum_l bytes }
-{
-    bytes.dot4(u8x16::splat(1))
-}
-
 /// What a table says of all the rows.
 #[inline(always)]
 pub(crate) fn tally(rows: u8x16, table: Rows) -> u32x4
     requires { Each1 (λ r. r < 16) rows }
     ensures { (row : ℕ → ℕ) → rows ≡ map row words → sum_l result ≡ sum_l (map (λ w. slice_index table (row w)) words) }
 {
-    total(look_up(table, rows))
+    look_up(table, rows).dot4(u8x16::splat(1))
 }
 
 /// A byte of each word.

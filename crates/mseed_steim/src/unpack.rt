@@ -7,12 +7,12 @@
 
 ghost use Rattle.std.specs.Prelude.{◌≡◌, ◌<◌, ◌≤◌, ◌+◌, ◌-◌, ◌*◌, ◌^◌, ℕ, List, [], ◌∷◌, ◌++◌, IfSome, map};
 ghost use Rattle.std.specs.Prelude.{take, length, slice_index};
-ghost use Rattle.std.specs.Simd.Lanes.{Each1, sum_l};
+ghost use Rattle.std.specs.Simd.Lanes.{Each1, all_below};
 ghost use Rattle.mseed_steim.specs.private.Digits.{digit_at, digits};
-ghost use Rattle.mseed_steim.specs.private.Lanes.{Begins, all_counts, all_widths, counts_of, row_at, word_at, word_of};
-ghost use Rattle.mseed_steim.specs.private.Lanes.{words};
+ghost use Rattle.mseed_steim.specs.private.Lanes.{Begins, all_counts, all_widths, row_at, word_at, word_of, words};
 ghost use Rattle.mseed_steim.specs.private.Unpacked.{AreGood, FitIn, Unpacks, lanes_of, row_of, unpacked};
-ghost use Rattle.mseed_steim.specs.private.Unpacked.{AreNarrow, AreUnpacked};
+ghost use Rattle.mseed_steim.specs.private.Unpacked.{AreUpTo, counts_up_to};
+ghost use lib.Dec.{T};
 
 use crate::ends::has_no_code_3;
 use crate::frame::{COUNT_ONE, COUNT_TWO};
@@ -113,10 +113,36 @@ static ROWS_ONE: [Unpacking; 16] = [
     WHOLE, WHOLE,
 ];
 
-/// How many differences a word of a row has, those of 30 or 32 bits too; 128 where it is bad.
 const ALL_TWO: Rows = [0, 0, 0, 0, 4, 4, 4, 4, 128, 1, 2, 3, 5, 6, 7, 128];
 
 const ALL_ONE: Rows = [0, 0, 0, 0, 4, 4, 4, 4, 2, 2, 2, 2, 1, 1, 1, 1];
+
+/// How wide a frame's differences are at the most where it is unpacked.
+#[derive(Clone, Copy)]
+pub(crate) enum Widest {
+    /// They have 16 bits.
+    Bits16,
+    /// They have 32 bits, as all have.
+    Bits32,
+}
+
+/// How many differences a word of a row has; 128 where it is bad, or has one that is wider.
+#[inline(always)]
+fn counts_of(scheme: Scheme, widest: Widest) -> Rows
+    ensures counts { result ≡ counts_up_to widest scheme }
+    ensures few { T (all_below 129 result) }
+{
+    match widest {
+        Widest::Bits16 => match scheme {
+            Scheme::One => COUNT_ONE,
+            Scheme::Two => COUNT_TWO,
+        },
+        Widest::Bits32 => match scheme {
+            Scheme::One => ALL_ONE,
+            Scheme::Two => ALL_TWO,
+        },
+    }
+}
 
 /// How a word of a row is unpacked.
 #[inline(always)]
@@ -176,32 +202,6 @@ fn rows_in(frame: &[u8; 64], begin: Rows) -> u8x16
 {
     let (tops, _, _, _) = planes(frame);
     rows_of(frame, tops, begin)
-}
-
-/// How many differences words of these rows have: 128 or more where one is bad or has one of 30 or 32 bits.
-#[inline(always)]
-fn count_narrow(scheme: Scheme, rows: u8x16) -> u32
-    requires { Each1 (λ r. r < 16) rows }
-    ensures { (row : ℕ → ℕ) → rows ≡ map row words
-        → result ≡ sum_l (map (λ w. slice_index (counts_of scheme) (row w)) words) }
-{
-    match scheme {
-        Scheme::One => counted(rows, COUNT_ONE),
-        Scheme::Two => counted(rows, COUNT_TWO),
-    }
-}
-
-/// The same with those of 30 and 32 bits: 128 or more where a word is bad.
-#[inline(always)]
-fn count_all(scheme: Scheme, rows: u8x16) -> u32
-    requires { Each1 (λ r. r < 16) rows }
-    ensures { (row : ℕ → ℕ) → rows ≡ map row words
-        → result ≡ sum_l (map (λ w. slice_index (all_counts scheme) (row w)) words) }
-{
-    match scheme {
-        Scheme::One => counted(rows, ALL_ONE),
-        Scheme::Two => counted(rows, ALL_TWO),
-    }
 }
 
 /// The row of a word.
@@ -309,20 +309,21 @@ fn unpack_words(scheme: Scheme, frame: &[u8; 64], rows: u8x16, differences: &mut
 }
 
 /// The differences of a frame's words from word 1 or word 4 on, in their order: how many there are. None where a word
-/// is bad or has a difference of 30 or 32 bits.
+/// is bad, or a difference is wider.
 #[inline(always)]
-fn unpack_narrow(
+fn unpack_by(
     scheme: Scheme,
+    widest: Widest,
     frame: &[u8; 64],
     begin: Rows,
     differences: &mut [i32],
 ) -> Option<usize>
     requires begins { (from : ℕ) × Begins begin from }
     requires room { 120 ≤ length differences.old }
-    ensures { IfSome result (λ count. AreNarrow scheme begin frame.now (take count differences.new) count) }
+    ensures { IfSome result (AreUpTo widest scheme begin frame.now differences.new) }
 {
     let rows = rows_in(frame, begin);
-    if count_narrow(scheme, rows) >= 128 {
+    if counted(rows, counts_of(scheme, widest)) >= 128 {
         return None;
     }
     Some(unpack_words(scheme, frame, rows, differences))
@@ -332,53 +333,17 @@ fn unpack_narrow(
 #[inline(always)]
 pub(crate) fn unpack_frame(
     scheme: Scheme,
+    widest: Widest,
     frame: &[u8; 64],
     begin: Rows,
     differences: &mut [i32],
 ) -> Option<usize>
     requires begins { (from : ℕ) × Begins begin from }
     requires room { 120 ≤ length differences.old }
-    ensures { IfSome result (λ count. AreNarrow scheme begin frame.now (take count differences.new) count) }
+    ensures { IfSome result (AreUpTo widest scheme begin frame.now differences.new) }
 {
     match scheme {
-        Scheme::One => unpack_narrow(Scheme::One, frame, begin, differences),
-        Scheme::Two => unpack_narrow(Scheme::Two, frame, begin, differences),
-    }
-}
-
-/// The same where some may have 30 or 32 bits. None where a word is bad.
-#[inline(always)]
-fn unpack_all_widths(
-    scheme: Scheme,
-    frame: &[u8; 64],
-    begin: Rows,
-    differences: &mut [i32],
-) -> Option<usize>
-    requires begins { (from : ℕ) × Begins begin from }
-    requires room { 120 ≤ length differences.old }
-    ensures { IfSome result (λ count. AreUnpacked scheme begin frame.now (take count differences.new) count) }
-{
-    let rows = rows_in(frame, begin);
-    if count_all(scheme, rows) >= 128 {
-        return None;
-    }
-    Some(unpack_words(scheme, frame, rows, differences))
-}
-
-/// The same, by a body for each scheme.
-#[cold]
-pub(crate) fn unpack_wide(
-    scheme: Scheme,
-    frame: &[u8; 64],
-    begin: Rows,
-    differences: &mut [i32],
-) -> Option<usize>
-    requires begins { (from : ℕ) × Begins begin from }
-    requires room { 120 ≤ length differences.old }
-    ensures { IfSome result (λ count. AreUnpacked scheme begin frame.now (take count differences.new) count) }
-{
-    match scheme {
-        Scheme::One => unpack_all_widths(Scheme::One, frame, begin, differences),
-        Scheme::Two => unpack_all_widths(Scheme::Two, frame, begin, differences),
+        Scheme::One => unpack_by(Scheme::One, widest, frame, begin, differences),
+        Scheme::Two => unpack_by(Scheme::Two, widest, frame, begin, differences),
     }
 }

@@ -19,7 +19,7 @@ use crate::group::{Group, group_of};
 use crate::keep::{Keeper, Task, keep_needed, take_frames};
 use crate::scheme::Scheme;
 use crate::sum::{Sum, Walked, add_difference, all_met, next_difference, reach_of};
-use crate::unpack::{FEW, PLACES, Room, unpack_wide};
+use crate::unpack::{FEW, PLACES, Room, Widest, unpack_frame};
 
 /// Keeps one sample more, by its difference; that of the first sample isn't used.
 #[inline(always)]
@@ -155,7 +155,13 @@ pub(crate) fn keep_in_room<K: Keeper>(
     let (frames, _) = payload.as_chunks::<64>();
     if task.samples - sum.met >= FEW {
         let begin = begin_in(sum.met, index);
-        if let Some(count) = unpack_wide(task.scheme, &frames[index], begin, room) {
+        if let Some(count) = unpack_frame(
+            task.scheme,
+            Widest::Bits32,
+            &frames[index],
+            begin,
+            room,
+        ) {
             return keep_unpacked::<K>(room, count, task.samples, sum, out);
         }
     }

@@ -1,14 +1,15 @@
 -- What is added up at once.
-use Rattle.std.specs.Prelude.{◌≡◌, ◌<◌, ◌≤◌, ◌+◌, ◌*◌, ◌%◌, ℕ, List, [], ◌++◌, map}
+use Rattle.std.specs.Prelude.{◌≡◌, ◌<◌, ◌≤◌, ◌+◌, ◌-◌, ◌*◌, ◌%◌, ℕ, List, [], ◌++◌, map}
 use Rattle.std.specs.Prelude.{length, slice_index, ℤ, pos, ◌+ℤ◌, Ok}
 use Rattle.std.specs.Prelude.{drop, take, slice_index_or}
 use Rattle.std.specs.Simd.Lanes.{sum_l}
 use Rattle.mseed_steim.specs.declared.scheme.Scheme.{Scheme}
 use Rattle.mseed_steim.specs.declared.frame.MovedLanes.{MovedLanes}
+use Rattle.mseed_steim.specs.declared.frame.Run.{Run}
 use Rattle.mseed_steim.specs.declared.frame.TheConstants.{REACH}
-use Rattle.mseed_steim.specs.Frames.{DataWord}
+use Rattle.mseed_steim.specs.Frames.{DataWord, words_from}
 use Rattle.mseed_steim.specs.private.Items.{items_of}
-use Rattle.mseed_steim.specs.private.Lanes.{total, span, words, row_at, counts_of, moved, sum_z}
+use Rattle.mseed_steim.specs.private.Lanes.{Begins, counts_of, moved, row_at, span, sum_z, total, words}
 
 -- the differences are so many, and their sum is this; none of their sums is further from 0 than that
 pub record Moves (count : ℕ) (by : ℤ) (reach : ℕ) (ds : List ℤ) : Type 0 where
@@ -42,3 +43,10 @@ Tells scheme words lanes =
 abbrev pub AreFrames : List (List ℕ) → List ℕ → ℕ → Type 0
 AreFrames frames payload k =
     (i : ℕ) → i < length frames → slice_index_or frames i [] ≡ take 64 (drop (64 * (k + i)) payload)
+
+-- the run is what the first of the frames, from a word of the first one on, move by: at most so many differences
+pub record IsRun (scheme : Scheme) (frames : List (List ℕ)) (begin : List ℕ) (most : ℕ) (run : Run) : Type 0 where
+  pub inside : run.frames ≤ length frames
+  pub few : run.count ≤ most
+  pub moves : (p : List ℕ) (k from : ℕ) → Begins begin from → AreFrames frames p k
+      → MovesBy scheme (words_from p (16 * k + from) (16 * run.frames - from)) run.count run.by (REACH * run.frames)

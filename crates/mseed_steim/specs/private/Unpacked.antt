@@ -5,9 +5,12 @@ use Rattle.mseed_steim.specs.declared.scheme.Scheme.{Scheme}
 use Rattle.mseed_steim.specs.declared.scheme.Scheme.TheVariants.{One, Two}
 use Rattle.mseed_steim.specs.declared.frame.TheConstants.{REACH}
 use Rattle.mseed_steim.specs.declared.unpack.Unpacking.{Unpacking}
+use Rattle.mseed_steim.specs.declared.unpack.Widest.{Widest}
+use Rattle.mseed_steim.specs.declared.unpack.Widest.TheVariants.{Bits16, Bits32}
 use Rattle.mseed_steim.specs.Frames.{DataWord, word_count, words_from}
 use Rattle.mseed_steim.specs.private.Items.{items_of}
-use Rattle.mseed_steim.specs.private.Lanes.{Begins, all_counts, all_widths, differences_by, row_at, span}
+use Rattle.mseed_steim.specs.private.Lanes.{Begins, all_counts, all_widths, counts_of, differences_by, row_at}
+use Rattle.mseed_steim.specs.private.Lanes.{span}
 
 -- no fewer than the differences of a word, as far as they have at most 16 bits
 abbrev pub lanes_of : Scheme → ℕ
@@ -53,10 +56,16 @@ pub record AreUnpacked (scheme : Scheme) (begin frame : List ℕ) (differences :
   pub items : (p : List ℕ) (k from : ℕ) (rest : List DataWord) → Begins begin from → frame ≡ take 64 (drop (64 * k) p)
       → items_of scheme (words_from p (16 * k + from) (16 - from) ++ rest) ≡ map Ok differences ++ items_of scheme rest
 
--- the same, where none of them has 30 or 32 bits
-pub record AreNarrow (scheme : Scheme) (begin frame : List ℕ) (differences : List ℤ) (count : ℕ) : Type 0 where
-  pub unpacked : AreUnpacked scheme begin frame differences count
-  pub near : span differences ≤ REACH
+-- how many differences a word of a row has; 128 where it is bad, or has one that is wider
+abbrev pub counts_up_to : Widest → Scheme → List ℕ
+counts_up_to Bits16 scheme = counts_of scheme
+counts_up_to Bits32 scheme = all_counts scheme
+
+-- so many of these are the differences of a frame, of which none is wider
+pub record AreUpTo (widest : Widest) (scheme : Scheme) (begin frame : List ℕ) (differences : List ℤ) (count : ℕ)
+    : Type 0 where
+  pub unpacked : AreUnpacked scheme begin frame (take count differences) count
+  pub near : widest ≡ Bits16 → span (take count differences) ≤ REACH
 
 -- The first data word of a frame that isn't taken yet, once so many samples have been met. The first frame has the
 -- payload's constants in front; its first data word may be taken alone.

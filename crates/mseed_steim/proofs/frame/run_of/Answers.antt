@@ -1,5 +1,6 @@
-use Rattle.std.proofs.Common.{◌≡◌, ◌<◌, ◌≤◌, ◌+◌, ◌-◌, ◌*◌, ◌^◌, ◌++◌, ◌∙◌, ◌+ℤ◌, ℕ, List, pos, nat_abs, length}
-use Rattle.std.proofs.Common.{arith, rules, ap, sym, subst, refl, ⊎_elim}
+use Rattle.std.proofs.Common.{◌≡◌, ◌<◌, ◌≤◌, ◌+◌, ◌-◌, ◌*◌, ◌^◌, ◌++◌, ◌∙◌, ◌+ℤ◌, ℕ, List, pos, nat_abs}
+use Rattle.std.proofs.Common.{arith, rules, ap, sym, subst, refl, w32, FitsSigned, ⊎_elim}
+use Rattle.std.proofs.lemmas.Int.{to_z-of_z}
 use Rattle.std.proofs.lemmas.Bool.{cases_lt}
 use Rattle.mseed_steim.specs.Frames.{DataWord, words_from}
 use Rattle.mseed_steim.specs.private.Lanes.{Begins}
@@ -9,8 +10,9 @@ use Rattle.mseed_steim.proofs.Raised.{moves_more, moves_none, raised_none, raise
 use Rattle.mseed_steim.proofs.Walking.{words_cut, words_none, words_skip}
 use Rattle.mseed_steim.proofs.frame.run_of.Goals as goal
 
-pub loop-index-init : goal.loop-index-init
-loop-index-init c = record {
+pub loop-taken-init : goal.loop-taken-init
+loop-taken-init c = record {
+  inside = omega arith;
   few = omega arith;
   most = omega arith;
   lanes = refl;
@@ -37,18 +39,19 @@ first_more p k from i e =
     let place : 16 * (k + i) + from ≡ 16 * k + from = omega (arith, e) in
     rw (none, one, place, words_none p (16 * k + from)) refl
 
-pub loop-index-preserved : goal.loop-index-preserved
-loop-index-preserved c =
-    let i = c.loop-index.index in
+pub loop-taken-preserved : goal.loop-taken-preserved
+loop-taken-preserved c =
+    let i = c.loop-taken.taken in
     let s = c.args.scheme in
     let reach : 2 ^ 20 * i + 2 ^ 20 ≡ 2 ^ 20 * (i + 1) = omega arith in
     record {
-      few = omega (arith, c.loop-index.invariant.few);
+      inside = omega arith;
+      few = omega (arith, c.loop-taken.invariant.few);
       most = omega arith;
       lanes = search rules;
       so_far = λ p k from begins frames.
-          let before = c.loop-index.invariant.so_far p k from begins frames in
-          let here = frames i c.loop-index-test.true in
+          let before = c.loop-taken.invariant.so_far p k from begins frames in
+          let here = frames i c.loop-taken-test.true in
           ⊎_elim
           (λ (some : 0 < i).
           let low = begins_low c.args.begin from begins in
@@ -74,31 +77,22 @@ loop-index-preserved c =
           (cases_lt 0 i);
     }
 
-pub returns-then-left-eq0-clause-moves : goal.returns-then-left-eq0-clause-moves
-returns-then-left-eq0-clause-moves c = λ p k from begins frames.
-    let so_far = c.loop-index.invariant.so_far p k from begins frames in
-    let all = total_near so_far.1.1.0 in
-    let near : nat_abs so_far.0 < 2 ^ 24 =
-    rw (← so_far.1.1.1.0.by_is) (omega (arith, all, so_far.1.1.1.0.near, c.requires, c.loop-index-test.true)) in
-    let same = c.run_up_to.ensures.by so_far.0 near so_far.1.0 in
-    rw (c.run_up_to.ensures.frames, c.run_up_to.ensures.count, same) so_far.1.1
-
-pub returns-then-lanes-ge128-clause-moves : goal.returns-then-lanes-ge128-clause-moves
-returns-then-lanes-ge128-clause-moves c = λ p k from begins frames.
-    let so_far = c.loop-index.invariant.so_far p k from begins frames in
-    let all = total_near so_far.1.1.0 in
-    let near : nat_abs so_far.0 < 2 ^ 24 =
-    rw (← so_far.1.1.1.0.by_is) (omega (arith, all, so_far.1.1.1.0.near, c.requires, c.loop-index-test.true)) in
-    let same = c.run_up_to-then-lanes-ge128.ensures.by so_far.0 near so_far.1.0 in
-    rw (c.run_up_to-then-lanes-ge128.ensures.frames, c.run_up_to-then-lanes-ge128.ensures.count, same) so_far.1.1
-
-pub returns-clause-moves : goal.returns-clause-moves
-returns-clause-moves c = λ p k from begins frames.
-    let so_far = c.loop-index.invariant.so_far p k from begins frames in
-    let all = total_near so_far.1.1.0 in
-    let whole : c.loop-index.index ≡ length c.args.frames.now =
-    omega (arith, c.loop-index-test.false, c.loop-index.auto.index-end) in
-    let near : nat_abs so_far.0 < 2 ^ 24 =
-    rw (← so_far.1.1.1.0.by_is) (omega (arith, all, so_far.1.1.1.0.near, c.requires, whole)) in
-    let same = c.run_up_to-2.ensures.by so_far.0 near so_far.1.0 in
-    rw (c.run_up_to-2.ensures.frames, c.run_up_to-2.ensures.count, same, ← whole) so_far.1.1
+pub returns : goal.returns
+returns c =
+    let fits : FitsSigned w32 c.lowered.result = search rules in
+    rw (to_z-of_z w32 c.lowered.result fits) (record {
+      inside = c.loop-taken.invariant.inside;
+      few = c.loop-taken.invariant.most;
+      moves = λ p k from begins frames.
+          let so_far = c.loop-taken.invariant.so_far p k from begins frames in
+          let all = total_near so_far.1.1.0 in
+          let near : nat_abs so_far.0 < 2 ^ 24 =
+          rw (← so_far.1.1.1.0.by_is) (omega (
+            arith,
+            all,
+            so_far.1.1.1.0.near,
+            c.requires,
+            c.loop-taken.invariant.inside,
+          )) in
+          rw (c.lowered.ensures so_far.0 near so_far.1.0) so_far.1.1;
+    })

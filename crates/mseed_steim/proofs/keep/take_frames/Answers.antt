@@ -1,4 +1,4 @@
-use Rattle.std.proofs.Common.{◌≡◌, ◌/◌, ◌^◌, ◌≤◌, length, nat_abs, take, arith, Ok, rules, w32}
+use Rattle.std.proofs.Common.{◌≡◌, ◌/◌, ◌^◌, ◌≤◌, length, nat_abs, take, arith, refl, Ok, rules, w32}
 use Rattle.std.proofs.Common.{FitsSigned}
 use Rattle.std.proofs.lemmas.Int.{to_z-of_z}
 use Rattle.mseed_steim.specs.private.Lanes.{span}
@@ -12,7 +12,8 @@ unpack_frame-requires-clause-begins g c = (data_in c.args.sum.met c.args.index, 
 
 pub keep_needed-requires-clause-near : goal.keep_needed-requires-clause-near
 keep_needed-requires-clause-near g c =
-    let narrow : span (take c.in_ok-count.count c.unpack_frame.new.differences) ≤ 2 ^ 20 = c.in_ok-count.ensures.near in
+    let narrow : span (take c.in_ok-count.count c.unpack_frame.new.differences) ≤ 2 ^ 20 =
+    c.in_ok-count.ensures.near refl in
     let fits : FitsSigned w32 c.args.sum.last = search rules in
     let size : c.unsigned_abs.result ≡ nat_abs c.args.sum.last = rw to_z-of_z at c.unsigned_abs.ensures.value in
     omega (arith, narrow, size)

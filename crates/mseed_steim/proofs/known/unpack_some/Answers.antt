@@ -5,15 +5,15 @@ use Rattle.mseed_steim.proofs.known.unpack_some.Goals as goal
 
 pub returns-then-out-ge-PLACES-clause-unpacked : goal.returns-then-out-ge-PLACES-clause-unpacked
 returns-then-out-ge-PLACES-clause-unpacked c =
-    put_in_place c.args.scheme c.args.begin c.args.frame.now c.unpack_any.result c.unpack_any.new.differences
-    (length c.args.out.now) c.unpack_any.auto.differences (omega arith) c.unpack_any.ensures
+    put_in_place _ c.args.scheme c.args.begin c.args.frame.now c.unpack_frame.result c.unpack_frame.new.differences
+    (length c.args.out.now) c.unpack_frame.auto.differences (omega arith) c.unpack_frame.ensures
 
 pub returns-clause-unpacked : goal.returns-clause-unpacked
 returns-clause-unpacked c =
-    let room = c.unpack_any-2.new.differences in
+    let room = c.unpack_frame-2.new.differences in
     let count : ℕ = c.in_ok-count.count in
     let k : ℕ = c.min-some.result in
-    let found = c.in_ok-count.ensures in
+    let found = c.in_ok-count.ensures.unpacked in
     let all : length room ≡ 128 = search rules in
     let least : k ≤ count = omega (arith, c.min-some.ensures) in
     let long : length (take k room) ≡ k = length-take-le k room (omega (arith, all, least, found.few)) in

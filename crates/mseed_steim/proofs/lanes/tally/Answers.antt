@@ -1,10 +1,21 @@
-use Rattle.std.proofs.Common.{◌∙◌, ap}
-use lib.Lanes.{sum_l}
+use Rattle.std.proofs.Common.{◌∷◌, [], ◌∙◌, ap, get_or, length, rules, w8, Fits}
+use Rattle.std.proofs.lemmas.Simd.{dot4_Fits}
+use lib.Lanes.{Each1, sum_l}
 use Rattle.mseed_steim.specs.private.Lanes.{words}
 use Rattle.mseed_steim.proofs.LaneSums.{table_words}
+use Rattle.mseed_steim.proofs.LaneTables.{length_of_table, sum_of_bytes}
 use Rattle.mseed_steim.proofs.lanes.tally.Goals as goal
+
+pub dot4 : goal.dot4
+dot4 c =
+    let fits : Each1 (Fits w8) c.look_up.result = search rules in (
+      dot4_Fits c.look_up.result (1 ∷ 1 ∷ 1 ∷ 1 ∷ 1 ∷ 1 ∷ 1 ∷ 1 ∷ 1 ∷ 1 ∷ 1 ∷ 1 ∷ 1 ∷ 1 ∷ 1 ∷ 1 ∷ []) fits tt,
+      tt,
+    )
 
 pub returns : goal.returns
 returns c = λ row f.
-    c.total.ensures ∙ ap sum_l (table_words c.look_up.result c.args.rows c.args.table row words c.look_up.ensures.value
-    f)
+    let long = ap length c.look_up.ensures.value
+    ∙ length_of_table (λ r. get_or c.args.table r 0) c.args.rows c.fits-rows.0 in
+    sum_of_bytes c.look_up.result long
+    ∙ ap sum_l (table_words c.look_up.result c.args.rows c.args.table row words c.look_up.ensures.value f)

@@ -12,7 +12,7 @@ returns-in-Some g c = λ met.
     walks_over g.K.Keeper.kept c.args.task.samples c.args.sum c.args.out.now c.keep_unpacked.new.out _ _ _
     c.keep_unpacked.result
     (frame_items c.args.task.scheme p _ _ c.args.sum.met met c.args.index _ _ c.requires.inside
-    c.begin_in-begin.ensures c.in-Some.ensures
+    c.begin_in-begin.ensures c.in-Some.ensures.unpacked
     (rw c.as_chunks.ensures.front (frame_at (length p / 64) p c.args.index c.requires.inside)))
     (c.keep_unpacked.ensures _)
 

@@ -1,0 +1,15 @@
+use Rattle.std.proofs.Common.{◌<◌, ℕ, subst, arith}
+use Rattle.mseed_steim.specs.private.Lanes.{row_at}
+use Rattle.mseed_steim.proofs.FrameUnpacked.{begins_some, up_to}
+use Rattle.mseed_steim.proofs.unpack.unpack_by.Goals as goal
+
+pub returns : goal.returns
+returns c =
+    let rows = c.rows_in-rows.ensures.rows in
+    up_to c.args.widest c.args.scheme c.args.begin c.args.frame.now c.unpack_words.new.differences _ c.fits-frame
+    c.requires.begins c.unpack_words.ensures.few
+    (λ from begins. subst (λ (n : ℕ). n < 128)
+    (rw c.counts_of.ensures.counts at (c.counted.ensures (row_at c.args.frame.now from) (rows from begins)))
+    (omega arith))
+    (λ from begins good. c.unpack_words.ensures.unpacked from (begins_some c.args.begin from begins) (rows from begins)
+    good)
