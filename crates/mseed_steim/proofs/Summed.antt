@@ -1,19 +1,20 @@
 -- Sums of differences, four at once and in whole turns.
 use Rattle.std.proofs.Common.{◌≡◌, ℕ, ◌+◌, ◌-◌, ◌<◌, ◌≤◌, ◌^◌, suc, List, [], ◌∷◌, ◌++◌, map, take, drop, length}
-use Rattle.std.proofs.Common.{ℤ, pos, ◌+ℤ◌, nat_abs, w32, to_z, of_z, FitsSigned, arith, refl, ap, sym, ◌∙◌}
-use Rattle.std.specs.Prelude.{⊤}
-use Rattle.std.proofs.Common.{append_assoc, get_or, zero}
+use Rattle.std.proofs.Common.{◌%◌, ℤ, pos, negsuc, ◌+ℤ◌, nat_abs, w32, to_z, of_z, FitsSigned, arith, refl, ap, sym}
+use Rattle.std.proofs.Common.{◌∙◌, append_assoc, get_or, zero}
 use Rattle.std.specs.Prelude.{replicate}
 use Rattle.std.proofs.Math.Seq.{take-append-add}
 use Rattle.std.proofs.lemmas.List.{length-append, length-take-le, take-append-le, take-take, take_at}
 use Rattle.std.proofs.lemmas.Simd.{chunk-drop, length-chunk, put_chunk_is}
 use borrow.Rule.Slice.PartMut.{mid_of, post_of, put_mid}
 use lib.Lanes.{put_chunk}
-use Rattle.std.proofs.lemmas.Int.{ints, to_z-of_z}
+use Rattle.std.specs.Int.{int_wrap}
+use Rattle.std.proofs.lemmas.Int.{int_wrap-add_left, int_wrap-add_right, int_wrap_fits, ints, to_z-of_z}
+use Rattle.std.proofs.lemmas.Int.{wrapping_add-bits}
 use Rattle.mseed_steim.specs.private.Lanes.{total, span}
 use Rattle.mseed_steim.specs.private.Sums.{sums}
 use Rattle.mseed_steim.proofs.Far.{abs_sum, near_signed, total_near}
-use Rattle.mseed_steim.proofs.FrameItems.{span-append}
+use Rattle.mseed_steim.proofs.FrameItems.{span-append, total-append}
 
 -- a list of four
 pub record IsFour (xs : List ℤ) : Type 0 where
@@ -42,149 +43,63 @@ top_held xs long near =
     let f = four_of xs long in
     rw f.same (to_z-of_z w32 f.d (near_signed f.d (rw f.same at near)))
 
--- no sum of four differences, nor one on its way, leaves 32 bits
-pub record Fours (l a b c d : ℤ) : Type 0 where
-  pub last : FitsSigned w32 l
-  pub first : FitsSigned w32 a
-  pub second : FitsSigned w32 b
-  pub third : FitsSigned w32 c
-  pub fourth : FitsSigned w32 d
-  pub one : FitsSigned w32 (a +ℤ pos 0)
-  pub two : FitsSigned w32 (b +ℤ a)
-  pub three : FitsSigned w32 (c +ℤ pos 0)
-  pub four : FitsSigned w32 (d +ℤ c)
-  pub to_one : FitsSigned w32 ((a +ℤ pos 0) +ℤ pos 0)
-  pub to_two : FitsSigned w32 ((b +ℤ a) +ℤ pos 0)
-  pub to_three : FitsSigned w32 ((c +ℤ pos 0) +ℤ (b +ℤ a))
-  pub to_four : FitsSigned w32 ((d +ℤ c) +ℤ (b +ℤ a))
-  pub sum_one : FitsSigned w32 (l +ℤ ((a +ℤ pos 0) +ℤ pos 0))
-  pub sum_two : FitsSigned w32 (l +ℤ ((b +ℤ a) +ℤ pos 0))
-  pub sum_three : FitsSigned w32 (l +ℤ ((c +ℤ pos 0) +ℤ (b +ℤ a)))
-  pub sum_four : FitsSigned w32 (l +ℤ ((d +ℤ c) +ℤ (b +ℤ a)))
+-- the bits are those of a number, modulo 2^32
+pub record Holds (bits : ℕ) (z : ℤ) : Type 0 where
+  pub below : bits < 2 ^ 32
+  pub is : to_z w32 bits ≡ int_wrap w32 z
 
-pub fours : (l a b c d : ℤ) → nat_abs l + span (a ∷ b ∷ c ∷ d ∷ []) < 2 ^ 31 → Fours l a b c d
-fours l a b c d near =
-    let one = abs_sum a (pos 0) in
-    let two = abs_sum b a in
-    let three = abs_sum c (pos 0) in
-    let four = abs_sum d c in
-    let to_one = abs_sum (a +ℤ pos 0) (pos 0) in
-    let to_two = abs_sum (b +ℤ a) (pos 0) in
-    let to_three = abs_sum (c +ℤ pos 0) (b +ℤ a) in
-    let to_four = abs_sum (d +ℤ c) (b +ℤ a) in
-    record {
-      last = near_signed l (omega (arith, near));
-      first = near_signed a (omega (arith, near));
-      second = near_signed b (omega (arith, near));
-      third = near_signed c (omega (arith, near));
-      fourth = near_signed d (omega (arith, near));
-      one = near_signed (a +ℤ pos 0) (omega (arith, near, one));
-      two = near_signed (b +ℤ a) (omega (arith, near, two));
-      three = near_signed (c +ℤ pos 0) (omega (arith, near, three));
-      four = near_signed (d +ℤ c) (omega (arith, near, four));
-      to_one = near_signed ((a +ℤ pos 0) +ℤ pos 0) (omega (arith, near, one, to_one));
-      to_two = near_signed ((b +ℤ a) +ℤ pos 0) (omega (arith, near, two, to_two));
-      to_three = near_signed ((c +ℤ pos 0) +ℤ (b +ℤ a)) (omega (arith, near, two, three, to_three));
-      to_four = near_signed ((d +ℤ c) +ℤ (b +ℤ a)) (omega (arith, near, two, four, to_four));
-      sum_one = near_signed (l +ℤ ((a +ℤ pos 0) +ℤ pos 0))
-          (omega (arith, near, one, to_one, abs_sum l ((a +ℤ pos 0) +ℤ pos 0)));
-      sum_two = near_signed (l +ℤ ((b +ℤ a) +ℤ pos 0))
-          (omega (arith, near, two, to_two, abs_sum l ((b +ℤ a) +ℤ pos 0)));
-      sum_three = near_signed (l +ℤ ((c +ℤ pos 0) +ℤ (b +ℤ a)))
-          (omega (arith, near, two, three, to_three, abs_sum l ((c +ℤ pos 0) +ℤ (b +ℤ a))));
-      sum_four = near_signed (l +ℤ ((d +ℤ c) +ℤ (b +ℤ a)))
-          (omega (arith, near, two, four, to_four, abs_sum l ((d +ℤ c) +ℤ (b +ℤ a))));
-    }
+holds : (z : ℤ) → nat_abs z < 2 ^ 31 → Holds (of_z w32 z) z
+holds z near =
+    let fits : FitsSigned w32 z = near_signed z near in
+    record { below = below z near; is = to_z-of_z w32 z fits ∙ sym (int_wrap_fits w32 z fits) }
+  where
+    below : (z : ℤ) → nat_abs z < 2 ^ 31 → of_z w32 z < 2 ^ 32
+    below (pos n) h = omega (arith, h)
+    below (negsuc n) h = omega (arith, h)
 
--- what a number is, once it is held in 32 bits
-abbrev pub held : ℤ → ℤ
-held z = to_z w32 (of_z w32 z)
+abbrev added : ℕ → ℕ → ℕ
+added m n = (m + n) % 2 ^ 32
 
-abbrev pub FitFour : ℤ → ℤ → ℤ → ℤ → Type 0
-FitFour a b c d = FitsSigned w32 a × (FitsSigned w32 b × (FitsSigned w32 c × (FitsSigned w32 d × ⊤)))
+holds_sum : {m n : ℕ} {y z : ℤ} → Holds m y → Holds n z → Holds (added m n) (y +ℤ z)
+holds_sum {m} {n} {y} {z} h k = record {
+  below = omega arith;
+  is = wrapping_add-bits w32 m n h.below k.below
+      ∙ rw (h.is, k.is) (int_wrap-add_left w32 y (int_wrap w32 z) ∙ int_wrap-add_right w32 y z);
+}
 
-pub pairs_fit : {l a b c d : ℤ} → Fours l a b c d
-    → FitFour (held a +ℤ pos 0) (held b +ℤ held a) (held c +ℤ pos 0) (held d +ℤ held c)
-pairs_fit {l} {a} {b} {c} {d} n =
-    rw (to_z-of_z w32 a n.first, to_z-of_z w32 b n.second, to_z-of_z w32 c n.third, to_z-of_z w32 d n.fourth)
-    (n.one, (n.two, (n.three, (n.four, tt))))
-
-pub fours_fit : {l a b c d : ℤ} → Fours l a b c d
-    → FitFour (held (held a +ℤ pos 0) +ℤ pos 0) (held (held b +ℤ held a) +ℤ pos 0)
-    (held (held c +ℤ pos 0) +ℤ held (held b +ℤ held a)) (held (held d +ℤ held c) +ℤ held (held b +ℤ held a))
-fours_fit {l} {a} {b} {c} {d} n =
-    rw (to_z-of_z w32 a n.first, to_z-of_z w32 b n.second, to_z-of_z w32 c n.third, to_z-of_z w32 d n.fourth)
-    (rw (
-      to_z-of_z w32 (a +ℤ pos 0) n.one,
-      to_z-of_z w32 (b +ℤ a) n.two,
-      to_z-of_z w32 (c +ℤ pos 0) n.three,
-      to_z-of_z w32 (d +ℤ c) n.four,
-    ) (n.to_one, (n.to_two, (n.to_three, (n.to_four, tt)))))
-
-by_held : {l a b c d : ℤ} (P : ℤ → ℤ → ℤ → ℤ → Type 0) → Fours l a b c d
-    → P (l +ℤ ((a +ℤ pos 0) +ℤ pos 0)) (l +ℤ ((b +ℤ a) +ℤ pos 0)) (l +ℤ ((c +ℤ pos 0) +ℤ (b +ℤ a)))
-    (l +ℤ ((d +ℤ c) +ℤ (b +ℤ a)))
-    → P (held l +ℤ held (held (held a +ℤ pos 0) +ℤ pos 0)) (held l +ℤ held (held (held b +ℤ held a) +ℤ pos 0))
-    (held l +ℤ held (held (held c +ℤ pos 0) +ℤ held (held b +ℤ held a)))
-    (held l +ℤ held (held (held d +ℤ held c) +ℤ held (held b +ℤ held a)))
-by_held {l} {a} {b} {c} {d} P n h =
-    rw (
-      to_z-of_z w32 a n.first,
-      to_z-of_z w32 b n.second,
-      to_z-of_z w32 c n.third,
-      to_z-of_z w32 d n.fourth,
-      to_z-of_z w32 l n.last,
-    )
-    (rw (
-      to_z-of_z w32 (a +ℤ pos 0) n.one,
-      to_z-of_z w32 (b +ℤ a) n.two,
-      to_z-of_z w32 (c +ℤ pos 0) n.three,
-      to_z-of_z w32 (d +ℤ c) n.four,
-    )
-    (rw (
-      to_z-of_z w32 ((a +ℤ pos 0) +ℤ pos 0) n.to_one,
-      to_z-of_z w32 ((b +ℤ a) +ℤ pos 0) n.to_two,
-      to_z-of_z w32 ((c +ℤ pos 0) +ℤ (b +ℤ a)) n.to_three,
-      to_z-of_z w32 ((d +ℤ c) +ℤ (b +ℤ a)) n.to_four,
-    ) h))
-
-pub sums_fit : {l a b c d : ℤ} → Fours l a b c d
-    → FitFour (held l +ℤ held (held (held a +ℤ pos 0) +ℤ pos 0)) (held l +ℤ held (held (held b +ℤ held a) +ℤ pos 0))
-    (held l +ℤ held (held (held c +ℤ pos 0) +ℤ held (held b +ℤ held a)))
-    (held l +ℤ held (held (held d +ℤ held c) +ℤ held (held b +ℤ held a)))
-sums_fit n = by_held FitFour n (n.sum_one, (n.sum_two, (n.sum_three, (n.sum_four, tt))))
+held_in : {m : ℕ} {z : ℤ} (t : ℤ) → Holds m z → z ≡ t → nat_abs t < 2 ^ 31 → to_z w32 m ≡ t
+held_in t h e near = h.is ∙ ap (int_wrap w32) e ∙ int_wrap_fits w32 t (near_signed t near)
 
 -- pair by pair, the sums are those one by one
-sums_by_pairs : (l a b c d : ℤ)
-    → (l +ℤ ((a +ℤ pos 0) +ℤ pos 0)) ∷ (l +ℤ ((b +ℤ a) +ℤ pos 0)) ∷ (l +ℤ ((c +ℤ pos 0) +ℤ (b +ℤ a)))
-    ∷ (l +ℤ ((d +ℤ c) +ℤ (b +ℤ a))) ∷ [] ≡ sums l (a ∷ b ∷ c ∷ d ∷ [])
-sums_by_pairs l a b c d =
-    let one : l +ℤ ((a +ℤ pos 0) +ℤ pos 0) ≡ l +ℤ a = omega (arith, ints) in
-    let two : l +ℤ ((b +ℤ a) +ℤ pos 0) ≡ (l +ℤ a) +ℤ b = omega (arith, ints) in
-    let three : l +ℤ ((c +ℤ pos 0) +ℤ (b +ℤ a)) ≡ ((l +ℤ a) +ℤ b) +ℤ c = omega (arith, ints) in
-    let four : l +ℤ ((d +ℤ c) +ℤ (b +ℤ a)) ≡ (((l +ℤ a) +ℤ b) +ℤ c) +ℤ d = omega (arith, ints) in
+pub held_sums : (l a b c d : ℤ) → nat_abs l + span (a ∷ b ∷ c ∷ d ∷ []) < 2 ^ 31
+    → to_z w32 (added (of_z w32 l) (added (added (of_z w32 a) 0) 0))
+    ∷ to_z w32 (added (of_z w32 l) (added (added (of_z w32 b) (of_z w32 a)) 0))
+    ∷ to_z w32 (added (of_z w32 l) (added (added (of_z w32 c) 0) (added (of_z w32 b) (of_z w32 a))))
+    ∷ to_z w32 (added (of_z w32 l) (added (added (of_z w32 d) (of_z w32 c)) (added (of_z w32 b) (of_z w32 a)))) ∷ []
+    ≡ sums l (a ∷ b ∷ c ∷ d ∷ [])
+held_sums l a b c d near =
+    let none = holds (pos 0) (omega arith) in
+    let past = holds l (omega (arith, near)) in
+    let first = holds a (omega (arith, near)) in
+    let second = holds b (omega (arith, near)) in
+    let third = holds c (omega (arith, near)) in
+    let fourth = holds d (omega (arith, near)) in
+    let pair = holds_sum second first in
+    let to_a = abs_sum l a in
+    let to_b = abs_sum (l +ℤ a) b in
+    let to_c = abs_sum ((l +ℤ a) +ℤ b) c in
+    let to_d = abs_sum (((l +ℤ a) +ℤ b) +ℤ c) d in
+    let one = held_in (l +ℤ a) (holds_sum past (holds_sum (holds_sum first none) none)) (omega (arith, ints))
+    (omega (arith, near, to_a)) in
+    let two = held_in ((l +ℤ a) +ℤ b) (holds_sum past (holds_sum pair none)) (omega (arith, ints))
+    (omega (arith, near, to_a, to_b)) in
+    let three = held_in (((l +ℤ a) +ℤ b) +ℤ c) (holds_sum past (holds_sum (holds_sum third none) pair))
+    (omega (arith, ints)) (omega (arith, near, to_a, to_b, to_c)) in
+    let four = held_in ((((l +ℤ a) +ℤ b) +ℤ c) +ℤ d) (holds_sum past (holds_sum (holds_sum fourth third) pair))
+    (omega (arith, ints)) (omega (arith, near, to_a, to_b, to_c, to_d)) in
     rw (one, two, three, four) refl
 
-pub held_sums : {l a b c d : ℤ} → Fours l a b c d
-    → held (held l +ℤ held (held (held a +ℤ pos 0) +ℤ pos 0))
-    ∷ held (held l +ℤ held (held (held b +ℤ held a) +ℤ pos 0))
-    ∷ held (held l +ℤ held (held (held c +ℤ pos 0) +ℤ held (held b +ℤ held a)))
-    ∷ held (held l +ℤ held (held (held d +ℤ held c) +ℤ held (held b +ℤ held a))) ∷ []
-    ≡ sums l (a ∷ b ∷ c ∷ d ∷ [])
-held_sums {l} {a} {b} {c} {d} n =
-    by_held (λ w x y z. held w ∷ held x ∷ held y ∷ held z ∷ [] ≡ sums l (a ∷ b ∷ c ∷ d ∷ [])) n (rw (
-      to_z-of_z w32 (l +ℤ ((a +ℤ pos 0) +ℤ pos 0)) n.sum_one,
-      to_z-of_z w32 (l +ℤ ((b +ℤ a) +ℤ pos 0)) n.sum_two,
-      to_z-of_z w32 (l +ℤ ((c +ℤ pos 0) +ℤ (b +ℤ a))) n.sum_three,
-      to_z-of_z w32 (l +ℤ ((d +ℤ c) +ℤ (b +ℤ a))) n.sum_four,
-    )
-    (sums_by_pairs l a b c d))
-
 -- sums of more differences
-pub total_more : (xs ys : List ℤ) → total (xs ++ ys) ≡ total xs +ℤ total ys
-total_more [] ys = omega (arith, ints)
-total_more (x ∷ xs) ys = let later = total_more xs ys in omega (arith, ints, later)
-
 pub sums_more : (l : ℤ) (xs ys : List ℤ) → sums l (xs ++ ys) ≡ sums l xs ++ sums (l +ℤ total xs) ys
 sums_more l [] ys =
     let none : l +ℤ pos 0 ≡ l = omega (arith, ints) in
@@ -230,7 +145,7 @@ next_some ds begin k m n out after last next at s put moved =
     let some : List ℤ = take m (drop k ds) in
     let cut : drop k ds ≡ some ++ drop n ds = rw at (chunk-drop k m ds) in
     let spans : span (drop k ds) ≡ span some + span (drop n ds) = rw at (span_cut ds k m) in
-    let totals : total (drop k ds) ≡ total some +ℤ total (drop n ds) = ap total cut ∙ total_more some (drop n ds) in
+    let totals : total (drop k ds) ≡ total some +ℤ total (drop n ds) = ap total cut ∙ total-append some (drop n ds) in
     let step = abs_sum last (total some) in
     record {
       near = rw moved (omega (arith, s.near, spans, step, total_near some));
@@ -288,7 +203,7 @@ padded_span ds k = let more = span-append ds (replicate k (pos 0)) in omega (ari
 pub padded_total : (ds : List ℤ) (k : ℕ) → total (ds ++ replicate k (pos 0)) ≡ total ds
 padded_total ds k =
     let none : total ds +ℤ pos 0 ≡ total ds = omega (arith, ints) in
-    total_more ds (replicate k (pos 0)) ∙ ap (λ (z : ℤ). total ds +ℤ z) (total_zeros k) ∙ none
+    total-append ds (replicate k (pos 0)) ∙ ap (λ (z : ℤ). total ds +ℤ z) (total_zeros k) ∙ none
 
 -- what stands before a part that is put in its places
 pub put_front : (k rest : ℕ) (out after : List ℤ) → k ≤ length out → take k (put_mid k rest out after) ≡ take k out

@@ -21,9 +21,9 @@ fn sums_of(past: i32x4, four: i32x4) -> i32x4
     ensures { result ≡ sums (slice_index_or past 3 (pos 0)) four }
 {
     let none = i32x4::splat(0);
-    let pairs = four.strict_add(four.shuffle(none, [4, 0, 4, 2]));
-    let fours = pairs.strict_add(pairs.shuffle(none, [4, 4, 1, 1]));
-    past.swizzle::<4>([3, 3, 3, 3]).strict_add(fours)
+    let pairs = four + four.shuffle(none, [4, 0, 4, 2]);
+    let fours = pairs + pairs.shuffle(none, [4, 4, 1, 1]);
+    past.swizzle::<4>([3, 3, 3, 3]) + fours
 }
 
 /// Four differences added up, and the sums put in their places.
