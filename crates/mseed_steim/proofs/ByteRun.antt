@@ -16,7 +16,6 @@ use Rattle.mseed_steim.specs.private.Items.{items_of}
 use Rattle.mseed_steim.specs.Runs.{SpellsRun}
 use Rattle.mseed_steim.proofs.Given.{word_small}
 use Rattle.mseed_steim.proofs.Spelled.{by_row, bytes_row, differences_spelled}
-use Rattle.mseed_steim.proofs.Table.{spells_one}
 use Rattle.mseed_steim.proofs.Walking.{words_none, words_skip, words_step, words_cut, items_group, is_head}
 
 -- what bytes stand for
@@ -175,14 +174,6 @@ run_count p frame zero k h = rw (words_none p k) refl
 run_count p frame (suc m) k h =
     let one = first_bytes p frame k m h in
     rw (words_step p k m one.1) (ap suc (run_count p frame m (k + 1) (next_bytes p frame k m h)))
-
--- words spell one list at most
-pub run_one : (s : Scheme) (ws : List DataWord) (ds es : List ℤ) → SpellsRun s ws ds → SpellsRun s ws es → ds ≡ es
-run_one s [] ds es h k = h ∙ sym k
-run_one s (w ∷ ws) ds es h k =
-    let one : h.0 ≡ k.0 = spells_one s w.code w.bits h.0 k.0 h.1.1.1.0 k.1.1.1.0 in
-    let later : h.1.0 ≡ k.1.0 = run_one s ws h.1.0 k.1.0 h.1.1.1.1 k.1.1.1.1 in
-    h.1.1.0 ∙ ap (λ (xs : List ℤ). xs ++ h.1.0) one ∙ ap (λ (xs : List ℤ). k.0 ++ xs) later ∙ sym k.1.1.0
 
 -- the next word, and those after it
 pub prefix : (p : List ℕ) (k end : ℕ) → k < end → k % 16 ≢ 0

@@ -1,7 +1,7 @@
 -- Frames that are filled word by word.
 use Rattle.std.proofs.Common.{◌≡◌, ◌≢◌, ℕ, zero, suc, ◌+◌, ◌-◌, ◌*◌, ◌/◌, ◌%◌, ◌^◌, ◌<◌, ◌≤◌, List, [], ◌∷◌, ◌++◌}
 use Rattle.std.proofs.Common.{length, take, drop, ℤ, arith, refl, ap, sym, ◌∙◌, subst, ⊎_elim, ◌⊎◌, inl, inr}
-use Rattle.std.proofs.Common.{cond, eqb, length-append, replicate}
+use Rattle.std.proofs.Common.{append-nil, cond, eqb, length-append, replicate}
 use Rattle.std.specs.List.{AllByRecursion}
 use Rattle.std.proofs.Math.Nat.{zero-div}
 use Rattle.std.proofs.lemmas.Bool.{cases_eq, ne_eqb, eq-eqb}
@@ -13,7 +13,7 @@ use Rattle.mseed_steim.specs.Runs.{SpellsRun}
 use Rattle.mseed_steim.specs.Packing.{IsFullest, PacksRun, IsEmptyWord, IsTooLargeAt, IsFirstTooLarge, IsFewest}
 use Rattle.mseed_steim.specs.Packing.{IsFarthest, LeavesRoom}
 use Rattle.mseed_steim.specs.private.Pushing.{Filling}
-use Rattle.mseed_steim.proofs.Walking.{words_none, words_skip, words_step}
+use Rattle.mseed_steim.proofs.Walking.{words_cut, words_none, words_skip, words_step}
 use Rattle.mseed_steim.proofs.Written.{word_zero}
 use Rattle.mseed_steim.proofs.Packs.{run_more, run_prefix, prefix_spelled, first_large, taken_not_large}
 use Rattle.mseed_steim.proofs.Fewest.{is_fewest, is_farthest, no_room}
@@ -21,54 +21,16 @@ use Rattle.mseed_steim.proofs.Fewest.{is_fewest, is_farthest, no_room}
 -- one more word at the end: data, or a frame's first
 words_push : (p : List ℕ) (k n : ℕ) → (k + n) % 16 ≢ 0
     → words_from p k (suc n) ≡ words_from p k n ++ data_word p (k + n) ∷ []
-words_push p k zero h =
-    let same : k + 0 ≡ k = omega arith in
-    let plain : k % 16 ≢ 0 = λ e. h (ap (λ (i : ℕ). i % 16) same ∙ e) in
-    words_step p k 0 plain ∙ rw (words_none p (k + 1), words_none p k, same) refl
-words_push p k (suc n) h =
-    let place : k + suc n ≡ k + 1 + n = omega arith in
-    let later : words_from p (k + 1) (suc n) ≡ words_from p (k + 1) n ++ data_word p (k + suc n) ∷ [] =
-    subst (λ (i : ℕ). words_from p (k + 1) (suc n) ≡ words_from p (k + 1) n ++ data_word p i ∷ []) (sym place)
-    (words_push p (k + 1) n (λ e. h (ap (λ (i : ℕ). i % 16) place ∙ e))) in
-    ⊎_elim
-    (λ (first : k % 16 ≡ 0). words_skip p k (suc n) first ∙ later
-    ∙ ap (λ (ws : List DataWord). ws ++ data_word p (k + suc n) ∷ []) (sym (words_skip p k n first)))
-    (λ (plain : k % 16 ≡ 0 → ⊥). words_step p k (suc n) plain ∙ ap (λ (ws : List DataWord). data_word p k ∷ ws) later
-    ∙ ap (λ (ws : List DataWord). ws ++ data_word p (k + suc n) ∷ []) (sym (words_step p k n plain)))
-    (cases_eq (k % 16) 0)
+words_push p k n h =
+    let one : suc n ≡ n + 1 = omega arith in
+    rw one (words_cut p k n 1 ∙ ap (λ (ws : List DataWord). words_from p k n ++ ws) (words_step p (k + n) 0 h
+    ∙ ap (λ (ws : List DataWord). data_word p (k + n) ∷ ws) (words_none p (k + n + 1))))
 
 words_pass : (p : List ℕ) (k n : ℕ) → (k + n) % 16 ≡ 0 → words_from p k (suc n) ≡ words_from p k n
-words_pass p k zero h =
-    let same : k + 0 ≡ k = omega arith in
-    words_skip p k 0 (sym (ap (λ (i : ℕ). i % 16) same) ∙ h) ∙ words_none p (k + 1) ∙ sym (words_none p k)
-words_pass p k (suc n) h =
-    let place : k + suc n ≡ k + 1 + n = omega arith in
-    let later : words_from p (k + 1) (suc n) ≡ words_from p (k + 1) n =
-    words_pass p (k + 1) n (sym (ap (λ (i : ℕ). i % 16) place) ∙ h) in
-    ⊎_elim
-    (λ (first : k % 16 ≡ 0). words_skip p k (suc n) first ∙ later ∙ sym (words_skip p k n first))
-    (λ (plain : k % 16 ≡ 0 → ⊥). words_step p k (suc n) plain ∙ ap (λ (ws : List DataWord). data_word p k ∷ ws) later
-    ∙ sym (words_step p k n plain))
-    (cases_eq (k % 16) 0)
-
--- a cut
-words_split : (p : List ℕ) (k n m : ℕ) → words_from p k (n + m) ≡ words_from p k n ++ words_from p (k + n) m
-words_split p k zero m =
-    let all : 0 + m ≡ m = omega arith in
-    let same : k + 0 ≡ k = omega arith in
-    rw (all, words_none p k, same) refl
-words_split p k (suc n) m =
-    let all : suc n + m ≡ suc (n + m) = omega arith in
-    let place : k + suc n ≡ k + 1 + n = omega arith in
-    let later : words_from p (k + 1) (n + m) ≡ words_from p (k + 1) n ++ words_from p (k + suc n) m =
-    words_split p (k + 1) n m ∙ ap (λ (i : ℕ). words_from p (k + 1) n ++ words_from p i m) (sym place) in
-    ap (λ (i : ℕ). words_from p k i) all
-    ∙ ⊎_elim
-    (λ (first : k % 16 ≡ 0). words_skip p k (n + m) first ∙ later
-    ∙ ap (λ (ws : List DataWord). ws ++ words_from p (k + suc n) m) (sym (words_skip p k n first)))
-    (λ (plain : k % 16 ≡ 0 → ⊥). words_step p k (n + m) plain ∙ ap (λ (ws : List DataWord). data_word p k ∷ ws) later
-    ∙ ap (λ (ws : List DataWord). ws ++ words_from p (k + suc n) m) (sym (words_step p k n plain)))
-    (cases_eq (k % 16) 0)
+words_pass p k n h =
+    let one : suc n ≡ n + 1 = omega arith in
+    rw one (words_cut p k n 1 ∙ ap (λ (ws : List DataWord). words_from p k n ++ ws) (words_skip p (k + n) 0 h
+    ∙ words_none p (k + n + 1)) ∙ append-nil (words_from p k n))
 
 pub words_same : (p q : List ℕ) (k n : ℕ) → ((i : ℕ) → k ≤ i → i < k + n → i % 16 ≢ 0 → data_word p i ≡ data_word q i)
     → words_from p k n ≡ words_from q k n
@@ -201,7 +163,7 @@ filled s ds p index used words f h end =
     subst (λ (xs : List ℤ). PacksRun s ws xs (drop used ds)) (sym (take-append-drop used ds)) f.run in
     let cut : word_count p - 3 ≡ index - 3 + (word_count p - index) = omega (arith, from, h) in
     let both : data_words p ≡ ws ++ words_from p index (word_count p - index) =
-    ap (λ (i : ℕ). words_from p 3 i) cut ∙ words_split p 3 (index - 3) (word_count p - index)
+    ap (λ (i : ℕ). words_from p 3 i) cut ∙ words_cut p 3 (index - 3) (word_count p - index)
     ∙ ap (λ (i : ℕ). ws ++ words_from p i (word_count p - index)) place in
     let prefix : take words (data_words p) ≡ ws = ap (λ (xs : List DataWord). take words xs) both
     ∙ take_at ws (words_from p index (word_count p - index)) words f.count in
@@ -255,7 +217,7 @@ filling_refused s ds p q index used words f h plain e large =
     let both : length (data_words q) ≡ length (words_from q 3 (suc (index - 3))) + length
     (words_from q (3 + suc (index - 3)) (word_count q - (index + 1))) =
     ap (λ (i : ℕ). length (words_from q 3 i)) cut
-    ∙ ap (λ (xs : List DataWord). length xs) (words_split q 3 (suc (index - 3)) (word_count q - (index + 1)))
+    ∙ ap (λ (xs : List DataWord). length xs) (words_cut q 3 (suc (index - 3)) (word_count q - (index + 1)))
     ∙ length-append (words_from q 3 (suc (index - 3)))
     (words_from q (3 + suc (index - 3)) (word_count q - (index + 1))) in
     let more : length (words_from q 3 (suc (index - 3))) ≡ length (words_from q 3 (index - 3)) + 1 =

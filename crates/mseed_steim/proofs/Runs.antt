@@ -130,7 +130,8 @@ first_bad s (w ∷ ba) a aa (v ∷ bb) b ab ds es e h k na nb =
     let rest : ba ++ a ∷ aa ≡ bb ++ b ∷ ab = cc in
     first_bad s ba a aa bb b ab h.1.0 k.1.0 rest h.1.1.1.1 k.1.1.1.1 na nb
 
-run_one : (s : Scheme) (ws : List DataWord) (ds es : List ℤ) → SpellsRun s ws ds → SpellsRun s ws es → ds ≡ es
+-- words spell one list at most
+pub run_one : (s : Scheme) (ws : List DataWord) (ds es : List ℤ) → SpellsRun s ws ds → SpellsRun s ws es → ds ≡ es
 run_one s [] ds es h k = h ∙ sym k
 run_one s (w ∷ ws) ds es h k =
     let one : h.0 ≡ k.0 = spells_one s w.code w.bits h.0 k.0 h.1.1.1.0 k.1.1.1.0 in

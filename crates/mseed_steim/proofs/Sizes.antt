@@ -151,55 +151,54 @@ lanes_bounded n p ms hs i e f inside k =
 zero-add : (n : ℕ) → 0 + n ≡ n
 zero-add n = omega arith
 
--- sixteen of a list
-pub sixteen_at : {A : Type 0} (d : A) (xs : List A) (from i : ℕ) → 16 + from ≤ length xs → i < 16
-    → get_or (chunk 0 16 (take (length xs - from) (drop from xs))) i d ≡ get_or xs (i + from) d
-sixteen_at d xs from i room inside =
-    get_or-chunk 0 16 (take (length xs - from) (drop from xs)) i d inside
-    ∙ ap (λ (n : ℕ). get_or (take (length xs - from) (drop from xs)) n d) (zero-add i)
-    ∙ get_or-take (length xs - from) (drop from xs) i d (omega (arith, room, inside)) ∙ get_or-drop from xs i d
-    ∙ ap (λ (n : ℕ). get_or xs n d) (omega arith)
+-- sixteen of a list, whose length is known
+pub part_at : {A : Type 0} (d : A) (n from i : ℕ) (xs : List A) → length xs ≡ n → 16 + from ≤ n → i < 16
+    → get_or (chunk 0 16 (mid_of from (n - from) xs)) i d ≡ get_or xs (i + from) d
+part_at d n from i xs e room inside =
+    get_or-chunk 0 16 (take (n - from) (drop from xs)) i d inside
+    ∙ ap (λ (m : ℕ). get_or (take (n - from) (drop from xs)) m d) (zero-add i)
+    ∙ get_or-take (n - from) (drop from xs) i d (omega (arith, room, inside)) ∙ get_or-drop from xs i d
+    ∙ ap (λ (m : ℕ). get_or xs m d) (omega arith)
 
-pub length_sixteen : {A : Type 0} (xs : List A) (from : ℕ) → 16 + from ≤ length xs
-    → length (chunk 0 16 (take (length xs - from) (drop from xs))) ≡ 16
-length_sixteen xs from room =
-    length-chunk 0 16 (take (length xs - from) (drop from xs))
-    (rw (length-take-le (length xs - from) (drop from xs) (omega (arith, length-drop from xs))) (omega (arith, room)))
+pub length_part : {A : Type 0} (n from : ℕ) (xs : List A) → length xs ≡ n → 16 + from ≤ n
+    → length (chunk 0 16 (mid_of from (n - from) xs)) ≡ 16
+length_part n from xs e room =
+    length-chunk 0 16 (take (n - from) (drop from xs))
+    (rw (length-take-le (n - from) (drop from xs) (omega (arith, e, length-drop from xs))) (omega (arith, room)))
 
 -- sixteen lanes that are stored
-pub stored_below : (a i : ℕ) (xs ys : List ℕ) → a ≤ length xs → i < a
-    → get_or (put_mid a (length xs - a) xs (put_chunk 0 (mid_of a (length xs - a) xs) ys)) i 0 ≡ get_or xs i 0
-stored_below a i xs ys room less =
-    get_or_append_left (take a xs) (put_chunk 0 (mid_of a (length xs - a) xs) ys ++ post_of a (length xs - a) xs) 0 i
-    (rw (length-take-le a xs room) less) ∙ get_or-take a xs i 0 less
+pub put_below : (n a i : ℕ) (xs ys : List ℕ) → length xs ≡ n → a ≤ n → i < a
+    → get_or (put_mid a (n - a) xs (put_chunk 0 (mid_of a (n - a) xs) ys)) i 0 ≡ get_or xs i 0
+put_below n a i xs ys e room less =
+    get_or_append_left (take a xs) (put_chunk 0 (mid_of a (n - a) xs) ys ++ post_of a (n - a) xs) 0 i
+    (rw (length-take-le a xs (omega (arith, e, room))) less) ∙ get_or-take a xs i 0 less
 
-behind : (a i : ℕ) (xs ys : List ℕ) → a ≤ length xs → a ≤ i
-    → get_or (put_mid a (length xs - a) xs (put_chunk 0 (mid_of a (length xs - a) xs) ys)) i 0
+behind : (n a i : ℕ) (xs ys : List ℕ) → length xs ≡ n → a ≤ n → a ≤ i
+    → get_or (put_mid a (n - a) xs (put_chunk 0 (mid_of a (n - a) xs) ys)) i 0
     ≡ get_or (put_chunk 0 (drop a xs) ys) (i - a) 0
-behind a i xs ys room more =
-    let none : post_of a (length xs - a) xs ≡ [] =
-    drop_all (length xs - a) (drop a xs) (omega (arith, length-drop a xs)) in
-    let all : mid_of a (length xs - a) xs ≡ drop a xs = take_rest xs a in
-    get_or-append_right (take a xs) (put_chunk 0 (mid_of a (length xs - a) xs) ys ++ post_of a (length xs - a) xs) a i
-    0 (length-take-le a xs room) more
-    ∙ ap (λ (l : List ℕ). get_or (put_chunk 0 (mid_of a (length xs - a) xs) ys ++ l) (i - a) 0) none
-    ∙ ap (λ (l : List ℕ). get_or l (i - a) 0) (append-nil (put_chunk 0 (mid_of a (length xs - a) xs) ys))
+behind n a i xs ys e room more =
+    let none : post_of a (n - a) xs ≡ [] = drop_all (n - a) (drop a xs) (omega (arith, e, length-drop a xs)) in
+    let all : mid_of a (n - a) xs ≡ drop a xs = rw (← e) (take_rest xs a) in
+    get_or-append_right (take a xs) (put_chunk 0 (mid_of a (n - a) xs) ys ++ post_of a (n - a) xs) a i 0
+    (length-take-le a xs (omega (arith, e, room))) more
+    ∙ ap (λ (l : List ℕ). get_or (put_chunk 0 (mid_of a (n - a) xs) ys ++ l) (i - a) 0) none
+    ∙ ap (λ (l : List ℕ). get_or l (i - a) 0) (append-nil (put_chunk 0 (mid_of a (n - a) xs) ys))
     ∙ ap (λ (l : List ℕ). get_or (put_chunk 0 l ys) (i - a) 0) all
 
-pub stored_at : (a i : ℕ) (xs ys : List ℕ) → a + 16 ≤ length xs → length ys ≡ 16 → a ≤ i → i < a + 16
-    → get_or (put_mid a (length xs - a) xs (put_chunk 0 (mid_of a (length xs - a) xs) ys)) i 0 ≡ get_or ys (i - a) 0
-stored_at a i xs ys room long more less =
-    behind a i xs ys (omega (arith, room)) more ∙ ap (λ (n : ℕ). get_or (put_chunk 0 (drop a xs) ys) n 0)
+pub put_at : (n a i : ℕ) (xs ys : List ℕ) → length xs ≡ n → a + 16 ≤ n → length ys ≡ 16 → a ≤ i → i < a + 16
+    → get_or (put_mid a (n - a) xs (put_chunk 0 (mid_of a (n - a) xs) ys)) i 0 ≡ get_or ys (i - a) 0
+put_at n a i xs ys e room long more less =
+    behind n a i xs ys e (omega (arith, room)) more ∙ ap (λ (m : ℕ). get_or (put_chunk 0 (drop a xs) ys) m 0)
     (sym (zero-add (i - a))) ∙ get_or-put_chunk_at 0 (drop a xs) ys (i - a) 0 (omega (arith, long, more, less))
-    (omega (arith, long, room, length-drop a xs))
+    (omega (arith, e, long, room, length-drop a xs))
 
-pub stored_above : (a i : ℕ) (xs ys : List ℕ) → a + 16 ≤ length xs → length ys ≡ 16 → a + 16 ≤ i
-    → get_or (put_mid a (length xs - a) xs (put_chunk 0 (mid_of a (length xs - a) xs) ys)) i 0 ≡ get_or xs i 0
-stored_above a i xs ys room long more =
+pub put_above : (n a i : ℕ) (xs ys : List ℕ) → length xs ≡ n → a + 16 ≤ n → length ys ≡ 16 → a + 16 ≤ i
+    → get_or (put_mid a (n - a) xs (put_chunk 0 (mid_of a (n - a) xs) ys)) i 0 ≡ get_or xs i 0
+put_above n a i xs ys e room long more =
     let place : a + (i - a) ≡ i = omega (arith, more) in
-    behind a i xs ys (omega (arith, room)) (omega (arith, more))
+    behind n a i xs ys e (omega (arith, room)) (omega (arith, more))
     ∙ get_or-put_chunk_above 0 (drop a xs) ys (i - a) 0 (omega (arith, long, more)) ∙ get_or-drop a xs (i - a) 0
-    ∙ ap (λ (n : ℕ). get_or xs n 0) place
+    ∙ ap (λ (m : ℕ). get_or xs m 0) place
 
 -- by seven tests in turn
 test_by : (items : ℕ → ℕ) (k j : ℕ) → j < 7 → ((j : ℕ) → j < k → j < 7 → k ≤ items j) → (k ≤ items j) ⊎ (k ≤ j)
@@ -235,37 +234,6 @@ most_is items m k h = (
     first : ((j : ℕ) → j < k → j < 7 → k ≤ items j) → k ≤ items 0
     first all = ⊎_elim (λ (some : 0 < k). all 0 some (omega arith)) (λ (none : k ≤ 0). omega (arith, none))
         (cases_lt 0 k)
-
--- where the list's length is known
-pub put_below : (n a i : ℕ) (xs ys : List ℕ) → length xs ≡ n → a ≤ n → i < a
-    → get_or (put_mid a (n - a) xs (put_chunk 0 (mid_of a (n - a) xs) ys)) i 0 ≡ get_or xs i 0
-put_below n a i xs ys e room less =
-    subst (λ (m : ℕ). get_or (put_mid a (m - a) xs (put_chunk 0 (mid_of a (m - a) xs) ys)) i 0 ≡ get_or xs i 0) e
-    (stored_below a i xs ys (omega (arith, e, room)) less)
-
-pub put_at : (n a i : ℕ) (xs ys : List ℕ) → length xs ≡ n → a + 16 ≤ n → length ys ≡ 16 → a ≤ i → i < a + 16
-    → get_or (put_mid a (n - a) xs (put_chunk 0 (mid_of a (n - a) xs) ys)) i 0 ≡ get_or ys (i - a) 0
-put_at n a i xs ys e room long more less =
-    subst (λ (m : ℕ). get_or (put_mid a (m - a) xs (put_chunk 0 (mid_of a (m - a) xs) ys)) i 0 ≡ get_or ys (i - a) 0) e
-    (stored_at a i xs ys (omega (arith, e, room)) long more less)
-
-pub put_above : (n a i : ℕ) (xs ys : List ℕ) → length xs ≡ n → a + 16 ≤ n → length ys ≡ 16 → a + 16 ≤ i
-    → get_or (put_mid a (n - a) xs (put_chunk 0 (mid_of a (n - a) xs) ys)) i 0 ≡ get_or xs i 0
-put_above n a i xs ys e room long more =
-    subst (λ (m : ℕ). get_or (put_mid a (m - a) xs (put_chunk 0 (mid_of a (m - a) xs) ys)) i 0 ≡ get_or xs i 0) e
-    (stored_above a i xs ys (omega (arith, e, room)) long more)
-
-pub part_at : {A : Type 0} (d : A) (n from i : ℕ) (xs : List A) → length xs ≡ n → 16 + from ≤ n → i < 16
-    → get_or (chunk 0 16 (mid_of from (n - from) xs)) i d ≡ get_or xs (i + from) d
-part_at d n from i xs e room inside =
-    subst (λ (m : ℕ). get_or (chunk 0 16 (mid_of from (m - from) xs)) i d ≡ get_or xs (i + from) d) e
-    (sixteen_at d xs from i (omega (arith, e, room)) inside)
-
-pub length_part : {A : Type 0} (n from : ℕ) (xs : List A) → length xs ≡ n → 16 + from ≤ n
-    → length (chunk 0 16 (mid_of from (n - from) xs)) ≡ 16
-length_part n from xs e room =
-    subst (λ (m : ℕ). length (chunk 0 16 (mid_of from (m - from) xs)) ≡ 16) e
-    (length_sixteen xs from (omega (arith, e, room)))
 
 pub near_part : (n from : ℕ) (xs : List ℕ) → length xs ≡ n → 16 + from ≤ n → ((i : ℕ) → i < n → get_or xs i 0 < 32768)
     → Each1 (λ x. x < 32768) (chunk 0 16 (mid_of from (n - from) xs))

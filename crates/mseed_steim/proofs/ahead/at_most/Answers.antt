@@ -1,12 +1,12 @@
-use Rattle.std.proofs.Common.{◌≡◌, ◌-◌, length, take, drop}
+use Rattle.std.proofs.Common.{◌≡◌, ◌-◌, length, take, drop, refl}
 use lib.Lanes.{chunk}
-use Rattle.mseed_steim.proofs.Sizes.{lanes_bounded, sixteen_at, length_sixteen}
+use Rattle.mseed_steim.proofs.Sizes.{lanes_bounded, part_at, length_part}
 use Rattle.mseed_steim.proofs.ahead.at_most.Goals as goal
 
 pub returns : goal.returns
 returns c = λ i inside k.
     let place : c.from.result ≡ c.args.place = c.from.ensures in
-    rw (place, ← sixteen_at 0 c.args.held.now c.args.place i c.requires.long inside)
+    rw (place, ← part_at 0 (length c.args.held.now) c.args.place i c.args.held.now refl c.requires.long inside)
     (lanes_bounded 16 c.args.place c.args.most
     (chunk 0 16 (take (length c.args.held.now - c.args.place) (drop c.args.place c.args.held.now))) i c.fits-most.0
-    (length_sixteen c.args.held.now c.args.place c.requires.long) inside k)
+    (length_part (length c.args.held.now) c.args.place c.args.held.now refl c.requires.long) inside k)

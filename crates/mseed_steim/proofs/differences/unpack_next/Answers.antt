@@ -11,7 +11,8 @@ use Rattle.mseed_steim.proofs.Unpacking.{nothing_taken, past_begins, some_of}
 use Rattle.mseed_steim.proofs.Walking.{items_group, items_bad, no_items}
 use Rattle.mseed_steim.proofs.differences.unpack_next.Goals.{After-is_empty}
 use Rattle.mseed_steim.specs.ByteRuns.{byte_run, past_empty}
-use Rattle.mseed_steim.proofs.ByteRun.{widened, run_one}
+use Rattle.mseed_steim.proofs.ByteRun.{widened}
+use Rattle.mseed_steim.proofs.Runs.{run_one}
 use Rattle.mseed_steim.proofs.differences.unpack_next.Goals as goal
 
 pub returns-then-not-is_empty-clause-run : goal.returns-then-not-is_empty-clause-run
