@@ -14,7 +14,8 @@ use Rattle.mseed_steim.specs.declared.differences.BadWordAt.{BadWordAt}
 use Rattle.mseed_steim.specs.Frames.{DataWord, words_from}
 use Rattle.mseed_steim.specs.private.Digits.{differences_of, digit_at, digits}
 use Rattle.mseed_steim.specs.private.Items.{items_of}
-use Rattle.mseed_steim.specs.private.Moves.{AreFrames, Moves, MovesBy}
+use Rattle.mseed_steim.specs.private.Moves.{AreFrames, IsRun, Moves, MovesBy}
+use Rattle.mseed_steim.specs.declared.frame.Run.{Run}
 use Rattle.mseed_steim.specs.declared.frame.TheConstants.{REACH}
 use Rattle.mseed_steim.specs.declared.sum.Sum.{Sum}
 use Rattle.mseed_steim.specs.private.Lanes.{Begins}
@@ -143,23 +144,23 @@ frames_from n k m p inside i less =
     ∙ frame_at n p (k + i) (omega (arith, few, inside))
 
 -- what a run adds up of the frames from one on, as many of them as are taken at once
-pub taken_run : (s : Scheme) (p : List ℕ) (n i k m most count : ℕ) (by unused : ℤ) (sum : Sum) (begin : List ℕ)
-    (frames : List (List ℕ)) → AddsRun s p n i sum unused → Begins begin (data_in sum.met i)
+pub taken_run : {s : Scheme} {begin : List ℕ} {frames : List (List ℕ)} {m most : ℕ} {run : Run}
+    (p : List ℕ) (n i : ℕ) (sum : Sum) (unused : ℤ) → AddsRun s p n i sum unused → Begins begin (data_in sum.met i)
     → frames ≡ first_chunks 64 (length p / 64) p → m ≡ min (length frames) (i + most)
-    → (0 < most → nat_abs sum.last + REACH * most < 2 ^ 31) → k ≤ length (take (m - i) (drop i frames))
-    → ((q : List ℕ) (j from : ℕ) → Begins begin from → AreFrames (take (m - i) (drop i frames)) q j
-    → MovesBy s (words_from q (16 * j + from) (16 * k - from)) count by (REACH * k))
-    → i < length p / 64 → sum.met + count ≤ n → 0 < k → RunAdds s p n i k count (by -ℤ unused) sum
-taken_run s p n i k m most count by unused sum begin frames adds begins front least near few moves inside room some =
+    → (0 < most → nat_abs sum.last + REACH * most < 2 ^ 31)
+    → IsRun s (take (m - i) (drop i frames)) begin (n - sum.met) run → i < length p / 64 → sum.met < n → 0 < run.frames
+    → RunAdds s p n i run.frames run.count (run.by -ℤ unused) sum
+taken_run {s} {begin} {frames} {m} {most} {run} p n i sum unused adds begins front least near is inside left some =
     let long = length-first_chunks (length p / 64) p in
     let all : length frames ≡ length p / 64 = rw front long in
     let within : i + (m - i) ≤ length p / 64 = omega (arith, least, all, inside) in
     let all_taken = take_most (m - i) (drop i frames) in
-    let taken : k ≤ most = omega (arith, least, all_taken, few) in
+    let taken : run.frames ≤ most = omega (arith, least, all_taken, is.inside) in
     let reach = near (omega (arith, taken, some)) in
-    run_adds s p n i k count (REACH * k) by unused sum adds some (omega (arith, within, all_taken, few))
-    (moves p i (data_in sum.met i) begins (rw front (frames_from (length p / 64) i (m - i) p within))) room
-    (omega (arith, reach, taken))
+    run_adds s p n i run.frames run.count (REACH * run.frames) run.by unused sum adds some
+    (omega (arith, within, all_taken, is.inside))
+    (is.moves p i (data_in sum.met i) begins (rw front (frames_from (length p / 64) i (m - i) p within)))
+    (omega (arith, is.few, left)) (omega (arith, reach, taken))
 
 -- a word of one difference
 one_item : (s : Scheme) (w : DataWord) (width bits count : ℕ)

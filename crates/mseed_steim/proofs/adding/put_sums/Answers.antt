@@ -1,9 +1,7 @@
-use Rattle.std.proofs.Common.{◌≡◌, ◌+◌, ◌-◌, ◌*◌, ◌/◌, ◌≤◌, ◌++◌, ◌∙◌, ℕ, ℤ, ◌+ℤ◌, take, pos, length, ap, arith, rules}
+use Rattle.std.proofs.Common.{◌≡◌, ◌+◌, ◌-◌, ◌*◌, ◌/◌, ◌≤◌, ◌∙◌, ℕ, ℤ, ◌+ℤ◌, take, length, ap, arith, rules}
 use Rattle.std.proofs.Common.{w32, FitsSigned}
-use Rattle.std.specs.Prelude.{replicate}
 use Rattle.std.proofs.lemmas.Int.{to_z-of_z}
 use Rattle.std.proofs.lemmas.List.{length-take-le}
-use Rattle.mseed_steim.specs.private.Lanes.{total}
 use Rattle.mseed_steim.proofs.Summed.{padded, padded_span, padded_total, whole_put}
 use Rattle.mseed_steim.proofs.adding.put_sums.Goals as goal
 
@@ -24,28 +22,19 @@ put_turns-requires-clause-near c =
     rw (padded ds count whole long c.requires.few (turns_more count) (turns_less count), to_z-of_z)
     (omega (arith, padded_span (take count ds) (whole - count), c.requires.near))
 
-pub returns-clause-sums : goal.returns-clause-sums
-returns-clause-sums c =
+pub returns : goal.returns
+returns c =
     let ds = c.args.differences.now in
     let count : ℕ = c.args.count in
-    let whole : ℕ = 8 * ((count + 7) / 8) in
+    let more : ℕ = 8 * ((count + 7) / 8) - count in
     let all : length ds ≡ 128 = search rules in
     let long : length (take count ds) ≡ count = length-take-le count ds (omega (arith, all, c.requires.few)) in
     let fits : FitsSigned w32 c.args.last = search rules in
-    whole_put count (whole - count) (take count ds) c.put_turns.new.out c.args.last long
-    (rw (padded ds count whole all c.requires.few (turns_more count) (turns_less count), to_z-of_z)
-    at c.put_turns.ensures.sums)
-
-pub returns-clause-last : goal.returns-clause-last
-returns-clause-last c =
-    let ds = c.args.differences.now in
-    let count : ℕ = c.args.count in
-    let whole : ℕ = 8 * ((count + 7) / 8) in
-    let all : length ds ≡ 128 = search rules in
-    let fits : FitsSigned w32 c.args.last = search rules in
     let last : FitsSigned w32 c.put_turns.result = search rules in
-    let sum : c.put_turns.result ≡ c.args.last +ℤ total (take count ds ++ replicate (whole - count) (pos 0)) =
-    rw (padded ds count whole all c.requires.few (turns_more count) (turns_less count), to_z-of_z)
-    at c.put_turns.ensures.last in
-    rw (to_z-of_z w32 c.put_turns.result last)
-    (sum ∙ ap (λ (z : ℤ). c.args.last +ℤ z) (padded_total (take count ds) (whole - count)))
+    let put = rw (padded ds count (8 * ((count + 7) / 8)) all c.requires.few (turns_more count) (turns_less count),
+    to_z-of_z) at c.put_turns.ensures in
+    record {
+      sums = whole_put count more (take count ds) c.put_turns.new.out c.args.last long put.sums;
+      last = rw to_z-of_z (put.last ∙ ap (λ (z : ℤ). c.args.last +ℤ z) (padded_total (take count ds) more));
+      places = search rules;
+    }
