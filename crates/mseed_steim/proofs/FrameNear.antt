@@ -12,7 +12,7 @@ use Rattle.mseed_steim.specs.private.Lanes.{span}
 use Rattle.mseed_steim.specs.declared.scheme.Scheme.{Scheme}
 use Rattle.mseed_steim.specs.declared.scheme.Scheme.TheVariants.{One, Two}
 use Rattle.mseed_steim.specs.private.Lanes.{words, word_at, row_at, counts_two, widths_two, counts_one, widths_one}
-use Rattle.mseed_steim.specs.private.Lanes.{counts_of, differences_by, widths_of}
+use Rattle.mseed_steim.specs.private.Lanes.{counts_of, widths_of}
 use Rattle.mseed_steim.specs.private.Lanes.{all_counts_two, all_widths_two, all_counts_one, all_widths_one}
 use Rattle.mseed_steim.specs.private.Lanes.{all_counts, all_widths}
 use Rattle.mseed_steim.specs.private.Unpacked.{differences_at}
@@ -20,10 +20,6 @@ use Rattle.mseed_steim.proofs.Below.{sixteen}
 use Rattle.mseed_steim.proofs.LaneSums.{long_words}
 use Rattle.mseed_steim.proofs.Words.{twice_half}
 use Rattle.mseed_steim.proofs.FrameSums.{row_small}
-
--- how far a word's differences go in all, up and down
-abbrev spanned : Scheme → List ℕ → ℕ → ℕ → ℕ
-spanned scheme frame from word = span (differences_by (counts_of scheme) (widths_of scheme) frame from word)
 
 near : (p q x : ℕ) → q ≤ 2 * p → x < q → nat_abs (if nat_lt x p then pos x else negsuc (q - 1 - x)) ≤ p
 near p q x e lt = ⊎_elim
@@ -91,14 +87,6 @@ all_near count far h (w ∷ ws) lt =
 near_row : (s : Scheme) (word row : ℕ) → row < 16 → Near (widths_of s) (counts_of s) word row
 near_row One = near_one
 near_row Two = near_two
-
-pub frame_near : (s : Scheme) (f : List ℕ) (from : ℕ) → ((k : ℕ) → get_or f k 0 < 256)
-    → sum_l (map (λ w. get_or (counts_of s) (row_at f from w) 0) words) < 128
-    → sum_l (map (spanned s f from) words) ≤ 1048576
-frame_near s f from h few =
-    subst (λ n. sum_l (map (spanned s f from) words) ≤ 65536 * n) long_words
-    (all_near (λ w. get_or (counts_of s) (row_at f from w) 0) (spanned s f from)
-    (λ w. near_row s (word_at f w) (row_at f from w) (row_small f from h w)) words few)
 
 -- ---- rows without a difference of 30 or 32 bits
 abbrev Alike : Scheme → ℕ → Type 0

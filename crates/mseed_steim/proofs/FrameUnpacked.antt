@@ -1,7 +1,8 @@
 -- A frame's words, unpacked one after another, spell what they say.
 use Rattle.std.proofs.Common.{◌≡◌, ◌≢◌, ℕ, zero, suc, ◌+◌, ◌-◌, ◌*◌, ◌%◌, ◌^◌, ◌<◌, ◌≤◌, List, ◌∷◌, ◌++◌, map}
 use Rattle.std.proofs.Common.{take, drop, get_or, ℤ, refl, sym, ap, subst, ◌∙◌, append_assoc, append-nil, arith, inl}
-use Rattle.std.proofs.Common.{inr, Some, Ok, Result, ◌/◌, ⊎_elim}
+use Rattle.std.proofs.Common.{inr, Some, Ok, Result, ◌/◌, ⊎_elim, [], ◌+ℤ◌, length, length-append, pos}
+use Rattle.std.proofs.lemmas.Int.{ints}
 use Rattle.std.specs.List.{range_with_len}
 use Rattle.std.proofs.lemmas.Bool.{cases_lt, lt-ltb, le-ltb}
 use Rattle.std.proofs.lemmas.List.{map-append}
@@ -12,17 +13,21 @@ use Rattle.mseed_steim.specs.declared.differences.BadWordAt.{BadWordAt}
 use Rattle.mseed_steim.specs.declared.unpack.Unpacking.{Unpacking}
 use Rattle.mseed_steim.specs.declared.unpack.Widest.{Widest}
 use Rattle.mseed_steim.specs.declared.unpack.Widest.TheVariants.{Bits16, Bits32}
+use Rattle.mseed_steim.specs.declared.frame.MovedLanes.{MovedLanes}
 use Rattle.mseed_steim.specs.private.Digits.{differences_of}
+use Rattle.mseed_steim.specs.private.Moves.{Adds, Tells}
 use Rattle.mseed_steim.specs.Frames.{DataWord, data_word, word_at, code_at, words_from}
 use Rattle.mseed_steim.specs.private.Items.{items_of}
-use Rattle.mseed_steim.specs.private.Lanes.{span, words, row_at, Begins, code_from, all_counts_one, all_counts_two}
+use Rattle.mseed_steim.specs.private.Lanes.{moved, span, sum_z, total, words, row_at, Begins, code_from}
+use Rattle.mseed_steim.specs.private.Lanes.{all_counts_one, all_counts_two}
 use Rattle.mseed_steim.specs.private.Lanes.{word_at as lanes_word_at}
 use Rattle.mseed_steim.specs.private.Lanes.{counts_of, all_counts, all_widths}
 use Rattle.mseed_steim.specs.private.Unpacked.{AreGood, AreUpTo, FitIn, Unpacks, counts_up_to}
 use Rattle.mseed_steim.specs.private.Unpacked.{differences_at, lanes_of, unpacked}
 use Rattle.mseed_steim.proofs.Below.{sixteen}
 use Rattle.mseed_steim.proofs.Walking.{words_none, words_step, items_group}
-use Rattle.mseed_steim.proofs.FrameItems.{Reads, reads_all, none_at, span-append}
+use Rattle.mseed_steim.proofs.FrameItems.{Reads, begins_low, none_at, reads_all, span-append, total-append}
+use Rattle.mseed_steim.proofs.Spelled.{length-digits}
 use Rattle.mseed_steim.proofs.LaneDigits.{at_word, one_of_sum}
 use Rattle.mseed_steim.proofs.FrameNear.{alike, unpacked_near}
 use Rattle.mseed_steim.proofs.FrameSums.{row_small}
@@ -43,7 +48,7 @@ unpacked_more s f from j (suc n) =
     (differences_at s f from (j + suc n))))
 
 -- what the words from one on spell
-spelled : (s : Scheme) (p f : List ℕ) (k from : ℕ) → Reads s (all_counts s) (all_widths s) p f k from
+spelled : (s : Scheme) (p f : List ℕ) (k from : ℕ) → Reads s p f k from
     → AreGood s f from → (n j : ℕ) → 0 < j → from ≤ j → j + n ≡ 16
     → (rest : List DataWord) → items_of s (words_from p (16 * k + j) n ++ rest) ≡ map Ok (unpacked s f from j n)
     ++ items_of s rest
@@ -66,21 +71,21 @@ spelled s p f k from reads good (suc n) j some behind end rest =
     ∙ ap (λ (xs : List (Result ℤ BadWordAt)). xs ++ items_of s rest) (sym (map-append Ok group others))
 
 -- no word before the first has any
-after_4 : (s : Scheme) (p f : List ℕ) (k : ℕ) → Reads s (all_counts s) (all_widths s) p f k 4
+after_4 : (s : Scheme) (p f : List ℕ) (k : ℕ) → Reads s p f k 4
     → unpacked s f 4 1 15 ≡ unpacked s f 4 4 12
 unfolding unpacked
 after_4 s p f k reads =
-    let n1 = none_at (all_counts s) (all_widths s) f 4 1 (reads.empty 1 (omega arith)) in
-    let n2 = none_at (all_counts s) (all_widths s) f 4 2 (reads.empty 2 (omega arith)) in
-    let n3 = none_at (all_counts s) (all_widths s) f 4 3 (reads.empty 3 (omega arith)) in
+    let n1 = none_at s f 4 1 (reads.empty 1 (omega arith)) in
+    let n2 = none_at s f 4 2 (reads.empty 2 (omega arith)) in
+    let n3 = none_at s f 4 3 (reads.empty 3 (omega arith)) in
     rw (n1, n2, n3) refl
 
-after_3 : (s : Scheme) (p f : List ℕ) (k : ℕ) → Reads s (all_counts s) (all_widths s) p f k 3
+after_3 : (s : Scheme) (p f : List ℕ) (k : ℕ) → Reads s p f k 3
     → unpacked s f 3 1 15 ≡ unpacked s f 3 3 13
 unfolding unpacked
 after_3 s p f k reads =
-    let n1 = none_at (all_counts s) (all_widths s) f 3 1 (reads.empty 1 (omega arith)) in
-    let n2 = none_at (all_counts s) (all_widths s) f 3 2 (reads.empty 2 (omega arith)) in
+    let n1 = none_at s f 3 1 (reads.empty 1 (omega arith)) in
+    let n2 = none_at s f 3 2 (reads.empty 2 (omega arith)) in
     rw (n1, n2) refl
 
 -- what the words of the frame spell
@@ -114,11 +119,6 @@ near_sum s f from most = let all = span_unpacked s f from 15 1 in omega (arith, 
 all_near : (s : Scheme) (f : List ℕ) (from : ℕ) → ((i : ℕ) → get_or f i 0 < 256)
     → sum_l (map (λ w. get_or (counts_of s) (row_at f from w) 0) words) < 128 → span (unpacked s f from 1 15) ≤ 2 ^ 20
 all_near s f from octets few = near_sum s f from (unpacked_near s f from octets few)
-
-pub begins_some : (begin : List ℕ) (from : ℕ) → Begins begin from → 0 < from
-begins_some begin from (inl h) = omega (arith, h.0)
-begins_some begin from (inr (inl h)) = omega (arith, h.0)
-begins_some begin from (inr (inr h)) = omega (arith, h.0)
 
 pub lanes_few : (s : Scheme) → lanes_of s ≤ 8
 lanes_few One = omega arith
@@ -231,3 +231,72 @@ pub unpacked_fives : (s : Scheme) (f : List ℕ) (from : ℕ)
 unpacked_fives s f from =
     ap (λ (xs : List ℤ). xs ++ unpacked s f from 11 5) (sym (unpacked_cut s f from 5 5 1))
     ∙ sym (unpacked_cut s f from 10 5 1)
+
+-- ---- what is counted and added up of a frame
+length_unpacked : (s : Scheme) (f : List ℕ) (from n j : ℕ) → length (unpacked s f from j n)
+    ≡ sum_l (map (λ w. get_or (all_counts s) (row_at f from w) 0) (range_with_len j n))
+unfolding unpacked
+length_unpacked s f from zero j = refl
+length_unpacked s f from (suc n) j =
+    let long = length-digits (get_or (all_widths s) (row_at f from j) 0) (lanes_word_at f j)
+    (get_or (all_counts s) (row_at f from j) 0) in
+    let later = length_unpacked s f from n (j + 1) in
+    length-append (differences_at s f from j) (unpacked s f from (j + 1) n) ∙ omega (arith, long, later)
+
+total_unpacked : (s : Scheme) (f : List ℕ) (from n j : ℕ)
+    → total (unpacked s f from j n) ≡ sum_z (map (λ w. total (differences_at s f from w)) (range_with_len j n))
+unfolding unpacked
+total_unpacked s f from zero j = refl
+total_unpacked s f from (suc n) j =
+    total-append (differences_at s f from j) (unpacked s f from (j + 1) n)
+    ∙ ap (λ (z : ℤ). total (differences_at s f from j) +ℤ z) (total_unpacked s f from n (j + 1))
+
+-- the first word, which has the codes, counts for nothing
+past_codes : (g : ℕ → ℕ) → g 0 ≡ 0 → sum_l (map g words) ≡ sum_l (map g (range_with_len 1 15))
+unfolding words
+past_codes g e = omega (arith, e)
+
+past_codes_z : (g : ℕ → ℤ) → g 0 ≡ pos 0 → sum_z (map g words) ≡ sum_z (map g (range_with_len 1 15))
+unfolding words
+past_codes_z g e = omega (arith, ints, e)
+
+-- what is the same of each word that has few differences
+same_words : {A : Type 0} (count : ℕ → ℕ) (g h : ℕ → A) → ((w : ℕ) → count w < 128 → g w ≡ h w) → (ws : List ℕ)
+    → sum_l (map count ws) < 128 → map g ws ≡ map h ws
+same_words count g h same [] few = refl
+same_words count g h same (w ∷ ws) few =
+    let one = same w (omega (arith, few)) in
+    let later = same_words count g h same ws (omega (arith, few)) in
+    cc (one, later)
+
+pub told_by : (s : Scheme) (p f begin : List ℕ) (k from : ℕ) (lanes : MovedLanes) → Begins begin from
+    → f ≡ take 64 (drop (64 * k) p) → ((i : ℕ) → get_or f i 0 < 256) → Adds s f from lanes
+    → Tells s (words_from p (16 * k + from) (16 - from)) lanes
+told_by s p f begin k from lanes begins e h a = λ few.
+    let narrow = subst (λ (n : ℕ). n < 128) a.count few in
+    let none = (reads_all s p f k from e h).empty 0 (begins_low begin from begins).0 in
+    let empty = none_at s f from 0 none in
+    let same = λ (w : ℕ). alike s (row_at f from w) (row_small f from h w) in
+    let counts = same_words (λ w. get_or (counts_of s) (row_at f from w) 0)
+    (λ w. get_or (all_counts s) (row_at f from w) 0) (λ w. get_or (counts_of s) (row_at f from w) 0)
+    (λ w few. (same w few).0) words narrow in
+    let totals = same_words (λ w. get_or (counts_of s) (row_at f from w) 0) (λ w. total (differences_at s f from w))
+    (moved s f from) (λ w few. let are = same w few in rw (are.0, are.1) refl) words narrow in (
+      sum_z (map (moved s f from) words),
+      (
+        a.by few,
+        (
+          unpacked s f from 1 15,
+          (
+            record {
+              count_is = length_unpacked s f from 15 1 ∙ sym (a.count ∙ ap sum_l (sym counts)
+                  ∙ past_codes (λ w. get_or (all_counts s) (row_at f from w) 0) none);
+              by_is = total_unpacked s f from 15 1
+                  ∙ sym (past_codes_z (λ w. total (differences_at s f from w)) (ap total empty)) ∙ ap sum_z totals;
+              near = all_near s f from h narrow;
+            },
+            all_spelled s p f begin k from begins e h (narrow_good s f from h narrow),
+          ),
+        ),
+      ),
+    )

@@ -31,8 +31,10 @@ returns c =
     let long : length (take count ds) ≡ count = length-take-le count ds (omega (arith, all, c.requires.few)) in
     let fits : FitsSigned w32 c.args.last = search rules in
     let last : FitsSigned w32 c.put_turns.result = search rules in
-    let put = rw (padded ds count (8 * ((count + 7) / 8)) all c.requires.few (turns_more count) (turns_less count),
-    to_z-of_z) at c.put_turns.ensures in
+    let put = rw (
+      padded ds count (8 * ((count + 7) / 8)) all c.requires.few (turns_more count) (turns_less count),
+      to_z-of_z,
+    ) at c.put_turns.ensures in
     record {
       sums = whole_put count more (take count ds) c.put_turns.new.out c.args.last long put.sums;
       last = rw to_z-of_z (put.last ∙ ap (λ (z : ℤ). c.args.last +ℤ z) (padded_total (take count ds) more));

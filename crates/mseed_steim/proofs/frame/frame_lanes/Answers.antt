@@ -1,5 +1,5 @@
 use Rattle.mseed_steim.specs.declared.scheme.Scheme.TheVariants.{One, Two}
-use Rattle.mseed_steim.proofs.FrameItems.{told_by}
+use Rattle.mseed_steim.proofs.FrameUnpacked.{told_by}
 use Rattle.mseed_steim.proofs.frame.frame_lanes.Goals as goal
 
 pub returns-in-One : goal.returns-in-One

@@ -1,6 +1,7 @@
 use Rattle.std.proofs.Common.{◌<◌, ℕ, subst, arith}
 use Rattle.mseed_steim.specs.private.Lanes.{row_at}
-use Rattle.mseed_steim.proofs.FrameUnpacked.{begins_some, up_to}
+use Rattle.mseed_steim.proofs.FrameItems.{begins_low}
+use Rattle.mseed_steim.proofs.FrameUnpacked.{up_to}
 use Rattle.mseed_steim.proofs.unpack.unpack_by.Goals as goal
 
 pub returns : goal.returns
@@ -11,5 +12,5 @@ returns c =
     (λ from begins. subst (λ (n : ℕ). n < 128)
     (rw c.counts_of.ensures.counts at (c.counted.ensures (row_at c.args.frame.now from) (rows from begins)))
     (omega arith))
-    (λ from begins good. c.unpack_words.ensures.unpacked from (begins_some c.args.begin from begins) (rows from begins)
-    good)
+    (λ from begins good. c.unpack_words.ensures.unpacked from (begins_low c.args.begin from begins).0
+    (rows from begins) good)
