@@ -56,13 +56,8 @@ fn ends_of_walk(
     ensures fault { IfErr result (λ fault. IsFrameFault scheme payload.now samples fault) }
 {
     match walked {
-        Ok(sum) => {
-            if sum.last == constants.last {
-                Ok(constants)
-            } else {
-                Err(ReadFault::LastDiffers(sum.last, constants.last))
-            }
-        }
+        Ok(sum) if sum.last == constants.last => Ok(constants),
+        Ok(sum) => Err(ReadFault::LastDiffers(sum.last, constants.last)),
         Err(fault) => match find_lack(payload, scheme, samples) {
             Some(earlier) => Err(earlier),
             None => Err(fault),
@@ -132,13 +127,7 @@ pub(crate) fn check_integers(
 fn is_little_steim(form: Form, order: Order) -> bool
     ensures { result ≡ is_little_steim form order }
 {
-    match form {
-        Form::Integers(_) => false,
-        Form::Frames(_) => match order {
-            Order::Big => false,
-            Order::Little => true,
-        },
-    }
+    matches!((form, order), (Form::Frames(_), Order::Little))
 }
 
 /// How a record holds its samples, and the bytes that do.

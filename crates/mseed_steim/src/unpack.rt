@@ -194,16 +194,6 @@ fn spread(word: u32, by: &Unpacking, lanes: usize, at: usize, differences: &mut 
     }
 }
 
-/// The rows of a frame's words.
-#[inline(always)]
-fn rows_in(frame: &[u8; 64], begin: Rows) -> u8x16
-    ensures small { Each1 (λ r. r < 16) result }
-    ensures rows { (from : ℕ) → Begins begin from → result ≡ map (row_at frame.now from) words }
-{
-    let (tops, _, _, _) = planes(frame);
-    rows_of(frame, tops, begin)
-}
-
 /// The row of a word.
 #[inline(always)]
 fn row_in(rows: &[u64; 2], word: usize) -> usize
@@ -322,7 +312,8 @@ fn unpack_by(
     requires room { 120 ≤ length differences.old }
     ensures { IfSome result (AreUpTo widest scheme begin frame.now differences.new) }
 {
-    let rows = rows_in(frame, begin);
+    let (tops, _, _, _) = planes(frame);
+    let rows = rows_of(frame, tops, begin);
     if counted(rows, counts_of(scheme, widest)) >= 128 {
         return None;
     }

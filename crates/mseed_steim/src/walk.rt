@@ -213,17 +213,15 @@ fn begin<K: Keeper>(task: Task, payload: &[u8], first: i32, out: &mut [i32]) -> 
         (items_of task.scheme (data_words payload.now))
         (items_of task.scheme (left_from payload.now result.met 0)) out.new result }
 {
-    if is_single(task.scheme, first_word(payload)) {
-        K::keep(0, 0, first, out);
-        return Sum {
-            met: 1,
-            last: first,
-        };
-    }
-    Sum {
+    let start = Sum {
         met: 0,
         last: first,
+    };
+    if is_single(task.scheme, first_word(payload)) {
+        K::keep(0, 0, first, out);
+        return Sum { met: 1, ..start };
     }
+    start
 }
 
 /// The sum of so many samples, of which this is the first, with what is kept of each put in its place; or what comes

@@ -6,7 +6,7 @@ use Rattle.mseed_steim.proofs.unpack.unpack_by.Goals as goal
 
 pub returns : goal.returns
 returns c =
-    let rows = c.rows_in-rows.ensures.rows in
+    let rows = c.rows_of-rows.ensures.value in
     up_to c.args.widest c.args.scheme c.args.begin c.args.frame.now c.unpack_words.new.differences _ c.fits-frame
     c.requires.begins c.unpack_words.ensures.few
     (λ from begins. subst (λ (n : ℕ). n < 128)

@@ -26,7 +26,7 @@ returns-then-is_single g c =
     let word = as_data c.first_word.result in
     let items = ap (λ (ws : List DataWord). items_of s ws) (first_behind p word c.requires.framed c.first_word.ensures)
     ∙ single.1 (words_from p 4 (word_count p - 4)) in
-    rw (to_z-of_z w32 c.args.first first) (record {
+    simp to_z-of_z (record {
       folded = ap (λ (xs : List (Result ℤ BadWordAt)). fold n start xs) items
           ∙ fold_first n start d rest c.requires.some refl;
       kept = puts_kept g.K.Keeper.kept n start next c.args.out.now c.keep.new.out
