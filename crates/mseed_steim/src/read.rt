@@ -115,12 +115,11 @@ fn fill_steps(view: &RecordView<'_>, out: &mut [i32]) -> Result<(), ReadFault>
     ensures { AnswersRecord (view_of view.now) (λ _ s. out.new ≡ steps_of s) result }
 {
     let (form, payload) = payload_of(view)?;
-    match form {
-        Form::Integers(_) => unreachable!(),
-        Form::Frames(scheme) => {
-            fill_frames::<Steps>(payload, scheme, usize::from(view.samples()), out)
-        }
-    }
+    let Form::Frames(scheme) = form else {
+        unreachable!()
+    };
+    let samples = usize::from(view.samples());
+    fill_frames::<Steps>(payload, scheme, samples, out)
 }
 
 /// Fills in the steps of a record's samples: the first sample, and of each one after it its difference from the one

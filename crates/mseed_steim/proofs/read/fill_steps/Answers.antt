@@ -11,5 +11,5 @@ returns c =
     let held : HoldsIn (view_of c.args.view.now) (Frames c.in-Frames.scheme) c.in_ok-form.payload.now =
     rw c.in-Frames.is at c.in_ok-form.ensures.held in
     payload_answers (view_of c.args.view.now) (Frames c.in-Frames.scheme) c.in_ok-form.payload.now _ _ _ _
-    c.fill_frames.result c.requires.some held (c.from.ensures ∙ c.samples.ensures) (sym held.2)
+    c.fill_frames.result c.requires.some held (c.from-samples.ensures ∙ c.samples.ensures) (sym held.2)
     (λ done s kept. kept ∙ steps_are s) c.fill_frames.ensures
