@@ -85,7 +85,8 @@ abbrev pub raised_sum : ℕ → ℕ → ℕ → ℕ
 raised_sum w word zero = 0
 raised_sum w word (suc n) = (word / 2 ^ (w * n) % 2 ^ w + 2 ^ (w - 1)) % 2 ^ w + raised_sum w word n
 
-raised_total : (w word : ℕ) → 0 < w → (n : ℕ)
+-- their sum tells that of the differences
+pub raised_total : (w word : ℕ) → 0 < w → (n : ℕ)
     → pos (raised_sum w word n) ≡ total (digits w word n) +ℤ pos (n * 2 ^ (w - 1))
 unfolding digits
 raised_total w word some zero = omega (arith, ints)
@@ -94,22 +95,6 @@ raised_total w word some (suc n) =
     let later = raised_total w word some n in
     let more : suc n * 2 ^ (w - 1) ≡ 2 ^ (w - 1) + n * 2 ^ (w - 1) = omega arith in
     rw more (omega (arith, ints, one, later))
-
-raised_small : (w word n : ℕ) → raised_sum w word n ≤ n * 2 ^ w
-raised_small w word zero = omega arith
-raised_small w word (suc n) =
-    let one = mod-lt (word / 2 ^ (w * n) % 2 ^ w + 2 ^ (w - 1)) (pow_pos w) in
-    let later = raised_small w word n in
-    let more : suc n * 2 ^ w ≡ 2 ^ w + n * 2 ^ w = omega arith in
-    omega (arith, one, later, more)
-
--- so the sum of the digits tells that of the differences, and how far both go
-pub raised_tells : (w n word s : ℕ) → 0 < w → raised_sum w word n ≡ s
-    → (pos s ≡ total (digits w word n) +ℤ pos (n * 2 ^ (w - 1))) × (s ≤ n * 2 ^ w)
-    × (2 * (n * 2 ^ (w - 1)) ≡ n * 2 ^ w)
-raised_tells w n word s some e =
-    let half : 2 * (n * 2 ^ (w - 1)) ≡ n * 2 ^ w = rw (twice_half w some) (omega arith) in
-    (rw (← e) (raised_total w word some n), rw (← e) (raised_small w word n), half)
 
 -- 4 differences of 8 bits
 pub four_is : (a b c d : ℕ) → a < 256 → b < 256 → c < 256 → d < 256

@@ -1,7 +1,6 @@
 -- Steim-1: what a word's parts add up to, by its row, and a frame's words.
-use Rattle.std.proofs.Common.{◌≡◌, ℕ, ◌+◌, ◌-◌, ◌*◌, ◌%◌, ◌<◌, ◌≤◌, List, [], ◌∷◌, length}
-use Rattle.std.proofs.Common.{T, ◌^◌, map, get_or, refl, sym, ap, ◌∙◌, arith, ℤ, pos, ◌+ℤ◌}
-use Rattle.std.proofs.lemmas.Int.{ints}
+use Rattle.std.proofs.Common.{◌≡◌, ℕ, ◌+◌, ◌-◌, ◌*◌, ◌%◌, ◌<◌, List, [], ◌∷◌}
+use Rattle.std.proofs.Common.{T, ◌/◌, ◌^◌, map, get_or, refl, sym, arith, pos, ◌+ℤ◌}
 use lib.Lanes.{sum_l}
 use Rattle.mseed_steim.specs.declared.scheme.Scheme.TheVariants.{One}
 use Rattle.std.specs.Prelude.{slice_index}
@@ -11,8 +10,8 @@ use Rattle.mseed_steim.specs.private.Lanes.{words, sum_z, byte_at, row_at, low_o
 use Rattle.mseed_steim.specs.private.Lanes.{moved, table_one, turned}
 use Rattle.mseed_steim.proofs.Below.{sixteen}
 use Rattle.mseed_steim.specs.private.Moves.{Raises}
-use Rattle.mseed_steim.proofs.FrameSums.{part_at, row_small}
-use Rattle.mseed_steim.proofs.FrameBytes.{Separate, agree_at, all_below, by_bytes, no_bytes, raised_sum, raised_tells}
+use Rattle.mseed_steim.proofs.FrameSums.{Reported, part_at, raises_by, row_small}
+use Rattle.mseed_steim.proofs.FrameBytes.{Separate, agree_at, all_below, by_bytes, no_bytes, raised_sum, raised_total}
 use Rattle.mseed_steim.proofs.FrameBytes.{four_is, wide_is}
 
 -- a word's bytes by its row, with the bits of signs turned over, and what its parts then count for too much
@@ -36,7 +35,6 @@ Tells_one row a b c d =
     get_or counts_one row 0 < 128
     → (pos (whole_one row a b c d)
     ≡ total (digits (get_or widths_one row 0) (word_of a b c d) (get_or counts_one row 0)) +ℤ pos (512 * least_one row))
-    × (whole_one row a b c d ≤ 131072) × (512 * least_one row ≤ 65536)
 
 abbrev AllTell_one : ℕ → Type 0
 AllTell_one row = (a b c d : ℕ) → a < 256 → b < 256 → c < 256 → d < 256 → Tells_one row a b c d
@@ -46,55 +44,34 @@ told_one : (row : ℕ) (sum : ℕ → ℕ → ℕ → ℕ → ℕ)
     → ((a b c d : ℕ) → a < 256 → b < 256 → c < 256 → d < 256
     → raised_sum (get_or widths_one row 0) (word_of a b c d) (get_or counts_one row 0) ≡ sum a b c d)
     → 512 * least_one row ≡ get_or counts_one row 0 * 2 ^ (get_or widths_one row 0 - 1) → 0 < get_or widths_one row 0
-    → get_or counts_one row 0 * 2 ^ get_or widths_one row 0 ≤ 131072 → Separate (whole_one row) → Separate sum
+    → Separate (whole_one row) → Separate sum
     → T (all_below (agree_at (whole_one row) sum) 256) → AllTell_one row
-told_one row sum is low some high F G agree a b c d A B C D few =
+told_one row sum is low some F G agree a b c d A B C D few =
     let e : whole_one row a b c d ≡ sum a b c d = by_bytes (whole_one row) sum F G agree a b c d A B C D in
-    let all = raised_tells (get_or widths_one row 0) (get_or counts_one row 0) (word_of a b c d) (sum a b c d) some
-    (is a b c d A B C D) in
-    (rw (e, low) all.0, omega (arith, e, all.1, high), omega (arith, low, all.2, high))
+    rw (e, ← is a b c d A B C D, low)
+    (raised_total (get_or widths_one row 0) (word_of a b c d) some (get_or counts_one row 0))
 
 none_told : (row : ℕ) → Separate (whole_one row) → T (all_below (agree_at (whole_one row) (λ a b c d. 0)) 256)
     → get_or counts_one row 0 ≡ 0 → least_one row ≡ 0 → AllTell_one row
 unfolding digits
 none_told row F agree none low a b c d A B C D few =
     let e = no_bytes (whole_one row) F agree a b c d A B C D in
-    (rw (e, none, low) refl, omega (arith, e), omega (arith, low))
+    rw (e, none, low) refl
 
 all_tell : (row : ℕ) → row < 16 → AllTell_one row
 unfolding low_one high_one flipped flipped_low least_one counts_one widths_one
 all_tell =
     let none : AllTell_one 0 = none_told 0 (λ a b c d. omega arith) tt refl refl in
     let bytes : AllTell_one 4 =
-    told_one 4 _ four_is refl (omega arith) (omega arith) (λ a b c d. omega arith) (λ a b c d. omega arith) tt in
+    told_one 4 _ four_is refl (omega arith) (λ a b c d. omega arith) (λ a b c d. omega arith) tt in
     let pairs : AllTell_one 8 =
-    told_one 8 _ wide_is refl (omega arith) (omega arith) (λ a b c d. omega arith) (λ a b c d. omega arith) tt in
+    told_one 8 _ wide_is refl (omega arith) (λ a b c d. omega arith) (λ a b c d. omega arith) tt in
     sixteen AllTell_one none none none none bytes bytes bytes bytes pairs pairs pairs pairs
     (λ a b c d A B C D few. absurd (omega (arith, few))) (λ a b c d A B C D few. absurd (omega (arith, few)))
     (λ a b c d A B C D few. absurd (omega (arith, few))) (λ a b c d A B C D few. absurd (omega (arith, few)))
 
 pub tells_one : (a b c d : ℕ) → a < 256 → b < 256 → c < 256 → d < 256 → (row : ℕ) → row < 16 → Tells_one row a b c d
 tells_one a b c d A B C D row less = all_tell row less a b c d A B C D
-
-abbrev pub Reported_one : (ℕ → ℕ) → (ℕ → ℕ) → (ℕ → ℕ) → (ℕ → ℤ) → ℕ → Type 0
-Reported_one count whole least moved w = count w < 128 → (pos (whole w) ≡ moved w +ℤ pos (least w)) × (whole w ≤ 131072)
-    × (least w ≤ 65536)
-
-step : (x X l L : ℕ) (m M : ℤ) → pos x ≡ m +ℤ pos l → pos X ≡ M +ℤ pos L → pos (x + X) ≡ (m +ℤ M) +ℤ pos (l + L)
-step x X l L m M f h = omega (arith, ints, f, h)
-
-reported_all_one : (count whole least : ℕ → ℕ) (moved : ℕ → ℤ) → ((w : ℕ) → Reported_one count whole least moved w)
-    → (ws : List ℕ) → sum_l (map count ws) < 128
-    → (pos (sum_l (map whole ws)) ≡ sum_z (map moved ws) +ℤ pos (sum_l (map least ws)))
-    × (sum_l (map whole ws) ≤ 131072 * length ws) × (sum_l (map least ws) ≤ 65536 * length ws)
-reported_all_one count whole least moved h [] lt = (refl, omega arith, omega arith)
-reported_all_one count whole least moved h (w ∷ ws) lt =
-    let a = h w (omega (arith, lt)) in
-    let b = reported_all_one count whole least moved h ws (omega (arith, lt)) in (
-      step (whole w) (sum_l (map whole ws)) (least w) (sum_l (map least ws)) (moved w) (sum_z (map moved ws)) a.0 b.0,
-      omega (arith, a.1, b.1),
-      omega (arith, a.2, b.2),
-    )
 
 -- what the lanes come to, modulo 2^32
 pub lanes_come_one : (low high least LO HI t8 p1 t9 m s : ℕ)
@@ -106,7 +83,7 @@ pub lanes_come_one : (low high least LO HI t8 p1 t9 m s : ℕ)
 lanes_come_one low high least LO HI t8 p1 t9 m s e1 e2 e3 e4 e5 e6 e7 = omega (arith, e1, e2, e3, e4, e5, e6, e7)
 
 sums_256 : (o f : ℕ → ℕ) (ws : List ℕ)
-    → sum_l (map (λ w. o w + 256 * f w) ws) ≡ sum_l (map o ws) + 256 * sum_l (map f ws)
+    → sum_l (map (λ w. 128 * (o w + 256 * f w)) ws) ≡ 128 * (sum_l (map o ws) + 256 * sum_l (map f ws))
 sums_256 o f [] = refl
 sums_256 o f (w ∷ ws) = let ih = sums_256 o f ws in omega (arith, ih)
 
@@ -118,11 +95,13 @@ abbrev whole_at_one : List ℕ → ℕ → ℕ → ℕ
 whole_at_one f from w = whole_one (row_at f from w) (byte_at f 0 w) (byte_at f 1 w) (byte_at f 2 w) (byte_at f 3 w)
 
 reported_one : (f : List ℕ) (from : ℕ) → ((k : ℕ) → get_or f k 0 < 256) → (w : ℕ)
-    → Reported_one (λ w. get_or counts_one (row_at f from w) 0) (whole_at_one f from)
+    → Reported (λ w. get_or counts_one (row_at f from w) 0) (λ w. 128 * whole_at_one f from w)
     (λ w. 512 * least_one (row_at f from w)) (moved One f from) w
-reported_one f from h w =
-    tells_one (byte_at f 0 w) (byte_at f 1 w) (byte_at f 2 w) (byte_at f 3 w) (h (4 * w + 0)) (h (4 * w + 1))
-    (h (4 * w + 2)) (h (4 * w + 3)) (row_at f from w) (row_small f from h w)
+reported_one f from h w few =
+    let told = tells_one (byte_at f 0 w) (byte_at f 1 w) (byte_at f 2 w) (byte_at f 3 w) (h (4 * w + 0)) (h (4 * w + 1))
+    (h (4 * w + 2)) (h (4 * w + 3)) (row_at f from w) (row_small f from h w) few in
+    let back : 128 * whole_at_one f from w / 128 ≡ whole_at_one f from w = omega arith in
+    (omega arith, rw back told)
 
 pub frame_raised_one : (f : List ℕ) (from : ℕ) → ((k : ℕ) → get_or f k 0 < 256) → (x le LO HI : ℕ)
     → (x + 128 * (512 * le)) % 4294967296 ≡ 128 * (LO + 256 * HI) % 4294967296
@@ -132,21 +111,9 @@ pub frame_raised_one : (f : List ℕ) (from : ℕ) → ((k : ℕ) → get_or f k
     → sum_l (map (λ w. get_or counts_one (row_at f from w) 0) words) < 128
     → Raises x (sum_z (map (moved One f from) words))
 frame_raised_one f from h x le LO HI come lo hi l few =
-    let all = reported_all_one (λ w. get_or counts_one (row_at f from w) 0) (whole_at_one f from)
-    (λ w. 512 * least_one (row_at f from w)) (moved One f from) (reported_one f from h) words few in
-    let W : ℕ = sum_l (map (whole_at_one f from) words) in
-    let L : ℕ = sum_l (map (λ w. 512 * least_one (row_at f from w)) words) in
-    let is_w : LO + 256 * HI ≡ W =
-    rw (lo, hi) (sym (sums_256 (part_at low_one flipped flipped_low flipped flipped_low f from)
-    (part_at high_one flipped flipped_low flipped flipped_low f from) words)) in
-    let is_l : 512 * le ≡ L = rw l (sym (sums_512 (λ w. least_one (row_at f from w)) words)) in (
-      W,
-      (
-        L,
-        (
-          all.0,
-          ap (λ n. (x + 128 * n) % 4294967296) (sym is_l) ∙ come
-              ∙ ap (λ n. 128 * n % 4294967296) is_w,
-        ),
-      ),
-    )
+    raises_by (λ w. get_or counts_one (row_at f from w) 0) (λ w. 128 * whole_at_one f from w)
+    (λ w. 512 * least_one (row_at f from w)) (moved One f from) (reported_one f from h) x (128 * (LO + 256 * HI))
+    (512 * le) come
+    (rw (lo, hi) (sym (sums_256 (part_at low_one flipped flipped_low flipped flipped_low f from)
+    (part_at high_one flipped flipped_low flipped flipped_low f from) words)))
+    (rw l (sym (sums_512 (λ w. least_one (row_at f from w)) words))) few

@@ -1,6 +1,6 @@
 -- What a frame's words add up to.
 use Rattle.std.proofs.Common.{◌≡◌, ◌-◌, ◌^◌, Bool, true, false, if◌then◌else◌, nat_lt, ℕ, ◌+◌}
-use Rattle.std.proofs.Common.{◌*◌, ◌/◌, ◌%◌, ◌<◌, ◌≤◌, List, [], ◌∷◌, length, map, get_or, refl, sym, ap, ◌∙◌}
+use Rattle.std.proofs.Common.{◌*◌, ◌/◌, ◌%◌, ◌<◌, List, [], ◌∷◌, map, get_or, refl, sym, ap, ◌∙◌}
 use Rattle.std.proofs.Common.{arith, ℤ, pos, ◌+ℤ◌}
 use Rattle.std.proofs.lemmas.Int.{ints}
 use lib.Lanes.{sum_l}
@@ -15,7 +15,6 @@ use Rattle.mseed_steim.proofs.FrameWords.{turned_d, whole}
 abbrev pub Reported : (ℕ → ℕ) → (ℕ → ℕ) → (ℕ → ℕ) → (ℕ → ℤ) → ℕ → Type 0
 Reported count whole least moved w = count w < 128 → (whole w % 128 ≡ 0)
     × (pos (whole w / 128) ≡ moved w +ℤ pos (least w))
-    × (whole w / 128 ≤ 65536) × (least w ≤ 32768)
 
 step : (x X l L : ℕ) (m M : ℤ) → x % 128 ≡ 0 → pos (x / 128) ≡ m +ℤ pos l → X % 128 ≡ 0 → pos (X / 128) ≡ M +ℤ pos L
     → pos ((x + X) / 128) ≡ (m +ℤ M) +ℤ pos (l + L)
@@ -23,22 +22,26 @@ step x X l L m M e f g h =
     let k : (x + X) / 128 ≡ x / 128 + X / 128 = omega (arith, e, g) in
     ap pos k ∙ omega (arith, ints, f, h)
 
-pub reported_all : (count whole least : ℕ → ℕ) (moved : ℕ → ℤ) → ((w : ℕ) → Reported count whole least moved w)
-    → (ws : List ℕ)
-    → sum_l (map count ws) < 128
-    → (sum_l (map whole ws) % 128 ≡ 0)
+reported_all : (count whole least : ℕ → ℕ) (moved : ℕ → ℤ) → ((w : ℕ) → Reported count whole least moved w)
+    → (ws : List ℕ) → sum_l (map count ws) < 128 → (sum_l (map whole ws) % 128 ≡ 0)
     × (pos (sum_l (map whole ws) / 128) ≡ sum_z (map moved ws) +ℤ pos (sum_l (map least ws)))
-    × (sum_l (map whole ws) / 128 ≤ 65536 * length ws) × (sum_l (map least ws) ≤ 32768 * length ws)
-reported_all count whole least moved h [] lt = (refl, refl, omega arith, omega arith)
+reported_all count whole least moved h [] lt = (refl, refl)
 reported_all count whole least moved h (w ∷ ws) lt =
     let a = h w (omega (arith, lt)) in
     let b = reported_all count whole least moved h ws (omega (arith, lt)) in (
       omega (arith, a.0, b.0),
       step (whole w) (sum_l (map whole ws)) (least w) (sum_l (map least ws)) (moved w) (sum_z (map moved ws)) a.0 a.1
           b.0 b.1,
-      omega (arith, a.0, b.0, a.2, b.2),
-      omega (arith, a.3, b.3),
     )
+
+-- lanes that come to what the words report tell what these move by
+pub raises_by : (count whole least : ℕ → ℕ) (moved : ℕ → ℤ) → ((w : ℕ) → Reported count whole least moved w)
+    → (x W L : ℕ) → (x + 128 * L) % 4294967296 ≡ W % 4294967296 → W ≡ sum_l (map whole words)
+    → L ≡ sum_l (map least words) → sum_l (map count words) < 128 → Raises x (sum_z (map moved words))
+raises_by count whole least moved h x W L come w l few =
+    let all = rw (← w, ← l) at (reported_all count whole least moved h words few) in
+    let even : W ≡ 128 * (W / 128) = omega (arith, all.0) in
+    (W / 128, (L, (all.1, come ∙ ap (λ n. n % 4294967296) even)))
 
 -- what the lanes come to, modulo 2^32
 pub lanes_come : (ones fine coarse least far ON FI CO t7 p1 m1 t15 p2 t10 m2 : ℕ)
@@ -93,11 +96,6 @@ reported f from h w =
     tells (byte_at f 0 w) (byte_at f 1 w) (byte_at f 2 w) (byte_at f 3 w) (h (4 * w + 0)) (h (4 * w + 1))
     (h (4 * w + 2)) (h (4 * w + 3)) (row_at f from w) (row_small f from h w)
 
-whole_raised : (x W L : ℕ) → (x + 128 * L) % 4294967296 ≡ W % 4294967296 → W % 128 ≡ 0
-    → (x + 128 * L) % 4294967296 ≡ 128 * (W / 128) % 4294967296
-whole_raised x W L e even = let same : W ≡ 128 * (W / 128) = omega (arith, even) in
-    e ∙ ap (λ n. n % 4294967296) same
-
 pub frame_raised : (f : List ℕ) (from : ℕ) → ((k : ℕ) → get_or f k 0 < 256) → (x le far ON FI CO : ℕ)
     → (x + 128 * (8 * le + 256 * far)) % 4294967296 ≡ (128 * ON + FI + 32768 * CO) % 4294967296
     → ON ≡ sum_l (map (part_at ones_two turned_a turned_b turned_c turned_d f from) words)
@@ -108,18 +106,10 @@ pub frame_raised : (f : List ℕ) (from : ℕ) → ((k : ℕ) → get_or f k 0 <
     → sum_l (map (λ w. get_or counts_two (row_at f from w) 0) words) < 128
     → Raises x (sum_z (map (moved Two f from) words))
 frame_raised f from h x le far ON FI CO come on fi co l c few =
-    let all = reported_all (λ w. get_or counts_two (row_at f from w) 0) (whole_at f from) (λ w. least (row_at f from w))
-    (moved Two f from) (reported f from h) words few in
-    let W : ℕ = sum_l (map (whole_at f from) words) in
-    let L : ℕ = sum_l (map (λ w. least (row_at f from w)) words) in
-    let is_w : 128 * ON + FI + 32768 * CO ≡ W =
-    rw (on, fi, co) (sym (three_sums
-    (part_at ones_two turned_a turned_b turned_c turned_d f from)
+    raises_by (λ w. get_or counts_two (row_at f from w) 0) (whole_at f from) (λ w. least (row_at f from w))
+    (moved Two f from) (reported f from h) x (128 * ON + FI + 32768 * CO) (8 * le + 256 * far) come
+    (rw (on, fi, co) (sym (three_sums (part_at ones_two turned_a turned_b turned_c turned_d f from)
     (part_at fine_two turned_a turned_b turned_c turned_d f from)
-    (part_at coarse_two turned_a turned_b turned_c turned_d f from) words)) in
-    let is_l : 8 * le + 256 * far ≡ L =
-    rw (l, c) (sym (least_sums (λ w. least_two (row_at f from w)) (λ w. least_coarse_two (row_at f from w))
-    words)) in
-    let e : (x + 128 * L) % 4294967296 ≡ W % 4294967296 =
-    ap (λ n. (x + 128 * n) % 4294967296) (sym is_l) ∙ come ∙ ap (λ n. n % 4294967296) is_w in
-    (W / 128, (L, (all.1, whole_raised x W L e all.0)))
+    (part_at coarse_two turned_a turned_b turned_c turned_d f from) words)))
+    (rw (l, c) (sym (least_sums (λ w. least_two (row_at f from w)) (λ w. least_coarse_two (row_at f from w)) words)))
+    few
