@@ -19,10 +19,10 @@ use Rattle.mseed_steim.proofs.Folds.{fold_done, fold_first, fold_short}
 use Rattle.mseed_steim.proofs.Folded.{all_kept, met_enough, met_first}
 use Rattle.mseed_steim.proofs.FrameItems.{span-append}
 
-pub continues_self : (keep : Option (ℤ → ℤ → ℤ)) (n : ℕ) (s : Sum) (out : List ℤ)
-    (items : List (Result ℤ BadWordAt)) → s.met ≤ n → length out ≡ places_for keep n
+pub continues_self : {keep : Option (ℤ → ℤ → ℤ)} {n : ℕ} {s : Sum} {out : List ℤ}
+    {items : List (Result ℤ BadWordAt)} → s.met ≤ n → length out ≡ places_for keep n
     → Continues keep n s out items items out s
-continues_self keep n s out items met places = record { folded = refl; kept = refl; met = met; places = places }
+continues_self met places = record { folded = refl; kept = refl; met = met; places = places }
 
 -- from what is kept so far, over the items that are left
 pub walks_on : {keep : Option (ℤ → ℤ → ℤ)} {n : ℕ} {s t next : Sum} {before between same after : List ℤ}
@@ -50,10 +50,10 @@ kept_done None n s out items later e = refl
 kept_done (Some keep) n s out items later e =
     ap (λ (xs : List ℤ). take s.met out ++ xs) (met_enough keep n s items e ∙ sym (met_enough keep n s later e))
 
-pub continues_done : (keep : Option (ℤ → ℤ → ℤ)) (n : ℕ) (s next : Sum) (before after : List ℤ)
-    (items behind later : List (Result ℤ BadWordAt)) → Continues keep n s before items behind after next
-    → next.met ≡ n → Continues keep n s before items later after next
-continues_done keep n s next before after items behind later c e = record {
+pub continues_done : {keep : Option (ℤ → ℤ → ℤ)} {n : ℕ} {s next : Sum} {before after : List ℤ}
+    {items behind : List (Result ℤ BadWordAt)} (later : List (Result ℤ BadWordAt))
+    → Continues keep n s before items behind after next → next.met ≡ n → Continues keep n s before items later after next
+continues_done {keep} {n} {next = next} {after = after} {behind = behind} later c e = record {
   folded = c.folded ∙ fold_done n next behind later e;
   kept = kept_done keep n next after later behind e ∙ c.kept;
   met = c.met;
@@ -95,12 +95,12 @@ length-kept_along keep m l [] = refl
 length-kept_along keep m l (d ∷ ds) = ap suc (length-kept_along keep (m + 1) (l +ℤ d) ds)
 
 -- while the limits of 32 bits are out of reach
-pub continues_near : (keep : Option (ℤ → ℤ → ℤ)) (n : ℕ) (ds : List ℤ) (s next : Sum) (before after : List ℤ)
+pub continues_near : {keep : Option (ℤ → ℤ → ℤ)} {n : ℕ} {before after : List ℤ} (ds : List ℤ) (s next : Sum)
     (more : List (Result ℤ BadWordAt)) → IsCounted s.met ds → s.met + length ds ≤ n → nat_abs s.last + span ds < 2 ^ 31
     → next.met ≡ s.met + length ds → next.last ≡ s.last +ℤ total ds
     → Puts keep s.met (λ k. kept_along k s.met s.last ds) before after → length after ≡ places_for keep n
     → Continues keep n s before (map Ok ds ++ more) more after next
-continues_near keep n ds s next before after more counted room near met last puts places = record {
+continues_near {keep} {n} {before} {after} ds s next more counted room near met last puts places = record {
   folded = let far = goes_far n ds s more counted room near in rw (← met, ← last) at far;
   kept = puts_kept keep n s next before after (λ k. kept_along k s.met s.last ds) (map Ok ds ++ more) more
       (λ k. met ∙ ap (λ (i : ℕ). s.met + i) (sym (length-kept_along k s.met s.last ds))) puts
@@ -152,11 +152,11 @@ kept_unused None n s z out ds more some = refl
 kept_unused (Some keep) n s z out ds more some =
     ap (λ (xs : List ℤ). take s.met out ++ xs) (met_unused keep n s z ds more some)
 
-pub continues_unused : (keep : Option (ℤ → ℤ → ℤ)) (n : ℕ) (s next : Sum) (z : ℤ) (before after ds : List ℤ)
-    (more : List (Result ℤ BadWordAt)) → 0 < n
+pub continues_unused : {keep : Option (ℤ → ℤ → ℤ)} {n : ℕ} {s next : Sum} {before after : List ℤ} (z : ℤ)
+    (ds : List ℤ) (more : List (Result ℤ BadWordAt)) → 0 < n
     → Continues keep n s before (map Ok (with_first s.met z ds) ++ more) more after next
     → Continues keep n s before (map Ok ds ++ more) more after next
-continues_unused keep n s next z before after ds more some c = record {
+continues_unused {keep} {n} {s} {before = before} z ds more some c = record {
   folded = fold_unused n s z ds more some ∙ c.folded;
   kept = c.kept ∙ sym (kept_unused keep n s z before ds more some);
   met = c.met;
@@ -197,8 +197,7 @@ enough : (keep : Option (ℤ → ℤ → ℤ)) (n : ℕ) (s : Sum) (ds : List �
     → IfOk r (λ next. next.met ≡ s.met + k) → Walks keep n s before (map Ok (take count ds) ++ rest) rest after r
 enough keep n s ds count k before after rest (Ok next) less all walks met =
     let behind : List (Result ℤ BadWordAt) = map Ok (drop k (take count ds)) ++ rest in
-    continues_done keep n s next before after (map Ok (take count ds) ++ rest) behind rest
-    (walks_over keep n s before after (map Ok (take count ds) ++ rest) (map Ok (take k ds) ++ behind) behind (Ok next)
+    continues_done rest (walks_over keep n s before after (map Ok (take count ds) ++ rest) (map Ok (take k ds) ++ behind) behind (Ok next)
     (cut k count ds rest less) (walks behind)) (met ∙ all)
 enough keep n s ds count k before after rest (Err fault) less all walks met =
     ap (λ (items : List (Result ℤ BadWordAt)). fold n s items) (cut k count ds rest less)

@@ -37,9 +37,8 @@ returns g c = λ more.
     let put = c.put_first.ensures k in
     rw (to_z-of_z w32 c.keep_near.result fits_last) (walks_needed g.K.Keeper.kept c.args.samples sum ds c.args.count k
     c.args.out.now c.keep_near.new.out more (Ok next) c.requires.met c.min-needed.ensures
-    (λ rest. continues_unused g.K.Keeper.kept c.args.samples sum next (pos 0) c.args.out.now c.keep_near.new.out
-    (take k ds) rest c.requires.some (continues_near g.K.Keeper.kept c.args.samples counted sum next c.args.out.now
-    c.keep_near.new.out rest (first_counted sum.met (take k ds))
+    (λ rest. continues_unused (pos 0) (take k ds) rest c.requires.some (continues_near counted sum next rest
+    (first_counted sum.met (take k ds))
     (omega (arith, same, c.min-needed.ensures, c.requires.met)) near (ap (λ (i : ℕ). sum.met + i) (rw same refl))
     (rw put at c.keep_near.ensures.last)
     (rw put at c.keep_near.ensures.put)

@@ -8,8 +8,7 @@ use Rattle.mseed_steim.proofs.walk.keep_group.Goals as goal
 
 pub returns-then-sum-samples : goal.returns-then-sum-samples
 returns-then-sum-samples g c = λ more.
-    continues_done g.K.Keeper.kept c.args.samples c.args.sum c.loop-i.sum c.args.out.now c.loop-i.out _ _ more
-    (c.loop-i.invariant.walked more) c.if-sum-samples.true
+    continues_done more (c.loop-i.invariant.walked more) c.if-sum-samples.true
 
 pub returns-in_err-sum : goal.returns-in_err-sum
 returns-in_err-sum g c =
