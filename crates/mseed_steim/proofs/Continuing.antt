@@ -52,7 +52,8 @@ kept_done (Some keep) n s out items later e =
 
 pub continues_done : {keep : Option (ℤ → ℤ → ℤ)} {n : ℕ} {s next : Sum} {before after : List ℤ}
     {items behind : List (Result ℤ BadWordAt)} (later : List (Result ℤ BadWordAt))
-    → Continues keep n s before items behind after next → next.met ≡ n → Continues keep n s before items later after next
+    → Continues keep n s before items behind after next → next.met ≡ n
+    → Continues keep n s before items later after next
 continues_done {keep} {n} {next = next} {after = after} {behind = behind} later c e = record {
   folded = c.folded ∙ fold_done n next behind later e;
   kept = kept_done keep n next after later behind e ∙ c.kept;
@@ -197,7 +198,8 @@ enough : (keep : Option (ℤ → ℤ → ℤ)) (n : ℕ) (s : Sum) (ds : List �
     → IfOk r (λ next. next.met ≡ s.met + k) → Walks keep n s before (map Ok (take count ds) ++ rest) rest after r
 enough keep n s ds count k before after rest (Ok next) less all walks met =
     let behind : List (Result ℤ BadWordAt) = map Ok (drop k (take count ds)) ++ rest in
-    continues_done rest (walks_over keep n s before after (map Ok (take count ds) ++ rest) (map Ok (take k ds) ++ behind) behind (Ok next)
+    continues_done rest
+    (walks_over keep n s before after (map Ok (take count ds) ++ rest) (map Ok (take k ds) ++ behind) behind (Ok next)
     (cut k count ds rest less) (walks behind)) (met ∙ all)
 enough keep n s ds count k before after rest (Err fault) less all walks met =
     ap (λ (items : List (Result ℤ BadWordAt)). fold n s items) (cut k count ds rest less)

@@ -14,11 +14,12 @@ use Rattle.mseed_steim.specs.declared.sum.Sum.{Sum}
 use Rattle.mseed_steim.specs.Frames.{word_at, data_words, first_constant}
 use Rattle.mseed_steim.specs.Runs.{Gives}
 use Rattle.mseed_steim.specs.Samples.{IsSample, Adds, StartsAndAdds, AreSums, IsFrameFault, short, bad_word, overflow}
-use Rattle.mseed_steim.specs.private.Sums.{fold, met_in, the_sample}
+use Rattle.mseed_steim.specs.private.Sums.{fold, met_in, sums, the_sample}
 use Rattle.mseed_steim.proofs.Given.{word_small}
 use Rattle.mseed_steim.proofs.Folds.{fold_first, fold_bad, fold_short}
 use Rattle.mseed_steim.proofs.Folded.{last_of, Folds, done, short as short_folds, bad as bad_folds, over as over_folds}
 use Rattle.mseed_steim.proofs.Folded.{folds, met_first, Lacks, nothing, short as short_lacks, bad as bad_lacks}
+use Rattle.mseed_steim.proofs.Summed.{length-sums}
 use Rattle.mseed_steim.proofs.Prefixes.{Prefixed, prefixed, spelled_all, broken_at}
 
 -- the payload's first constant is a sample
@@ -132,19 +133,9 @@ is_lacking s p n items f g (short_lacks k ds e count less) = is_short s p n k it
 is_lacking s p n items f g (bad_lacks ds at more e less) = is_bad s p n items ds at more g e (omega arith)
 
 -- the whole sums, from one that 32 bits don't hold on
-more_sums : ℤ → List ℤ → List ℤ
-more_sums x [] = []
-more_sums x (d ∷ ds) = (x +ℤ d) ∷ more_sums (x +ℤ d) ds
-
-more_adds : (x : ℤ) (ds : List ℤ) → Adds x ds (more_sums x ds)
-unfolding more_sums
-more_adds x [] = tt
-more_adds x (d ∷ ds) = (refl, more_adds (x +ℤ d) ds)
-
-length-more_sums : (x : ℤ) (ds : List ℤ) → length (more_sums x ds) ≡ length ds
-unfolding more_sums
-length-more_sums x [] = refl
-length-more_sums x (d ∷ ds) = ap suc (length-more_sums (x +ℤ d) ds)
+sums_add : (x : ℤ) (ds : List ℤ) → Adds x ds (sums x ds)
+sums_add x [] = tt
+sums_add x (d ∷ ds) = (refl, sums_add (x +ℤ d) ds)
 
 adds_past : (x : ℤ) (ds ss es ts : List ℤ) → length ss ≡ length ds → Adds x ds ss → Adds (last_of x ss) es ts
     → Adds x (ds ++ es) (ss ++ ts)
@@ -172,20 +163,20 @@ is_over : (s : Scheme) (p : List ℕ) (n k : ℕ) (c d : ℤ) (ds ss es : List �
 is_over s p n k c d ds ss es more later g fit e count place less same adds all not =
     let found = agreed (c ∷ ds) es d more later (omega arith) e in
     let sum : ℤ = last_of (first_constant p) ss +ℤ d in
-    let rest : List ℤ = more_sums sum found.0 in
+    let rest : List ℤ = sums sum found.0 in
     let whole : length es ≡ length (c ∷ ds) + suc (length found.0) = ap (λ (xs : List ℤ). length xs) found.1
     ∙ length-append (c ∷ ds) (d ∷ found.0) in
     let prefix = prefixed s (data_words p) (Ok c ∷ map Ok ds ++ Ok d ∷ more) es later g e in
     let prefix' : Prefixed s (data_words p) (c ∷ (ds ++ d ∷ found.0)) =
     subst (λ (xs : List ℤ). Prefixed s (data_words p) xs) found.1 prefix in
     let added : Adds (first_constant p) (ds ++ d ∷ found.0) (ss ++ sum ∷ rest) =
-    adds_past (first_constant p) ds ss (d ∷ found.0) (sum ∷ rest) same adds (refl, more_adds sum found.0) in
-    let sums = sums_of s p n c (ds ++ d ∷ found.0) (ss ++ sum ∷ rest) prefix'
+    adds_past (first_constant p) ds ss (d ∷ found.0) (sum ∷ rest) same adds (refl, sums_add sum found.0) in
+    let all_sums = sums_of s p n c (ds ++ d ∷ found.0) (ss ++ sum ∷ rest) prefix'
     (omega (arith, whole, length-append ds (d ∷ found.0)))
-    (omega (arith, length-append ds (d ∷ found.0), length-append ss (sum ∷ rest), length-more_sums sum found.0))
+    (omega (arith, length-append ds (d ∷ found.0), length-append ss (sum ∷ rest), length-sums sum found.0))
     added in
     subst (λ (m : ℕ). IsFrameFault s p n (Overflow m)) (omega arith)
-    (overflow (first_constant p ∷ ss) sum rest sums (All-cons IsSample (first_constant p) ss fit all) not)
+    (overflow (first_constant p ∷ ss) sum rest all_sums (All-cons IsSample (first_constant p) ss fit all) not)
 
 pub is_fault : (s : Scheme) (p : List ℕ) (n : ℕ) (mets : List ℤ) (items : List (Result ℤ BadWordAt)) (f : ReadFault)
     → 0 < n → Gives s (data_words p) items → IsSample (first_constant p)

@@ -64,10 +64,11 @@ all_after s (w ∷ ws) ds h run more =
     ap (λ (zs : List ℤ). map {B = Result ℤ BadWordAt} Ok zs) run.1.1.0 ∙ map-append Ok first rest in
     rw (found, later, joined) (sym (append_assoc (map Ok first) (map Ok rest) (items_of s more)))
 
-pub prefix_words : (before after : List DataWord) → AllByRecursion IsWord (before ++ after)
-    → AllByRecursion IsWord before
-prefix_words [] after h = tt
-prefix_words (w ∷ ws) after h = (h.0, prefix_words ws after h.1)
+-- what holds of all words holds of the first of them
+pub prefix_words : (P : DataWord → Type 0) (before after : List DataWord) → AllByRecursion P (before ++ after)
+    → AllByRecursion P before
+prefix_words P [] after h = tt
+prefix_words P (w ∷ ws) after h = (h.0, prefix_words P ws after h.1)
 
 word_after : (before : List DataWord) (bad : DataWord) (after : List DataWord)
     → AllByRecursion IsWord (before ++ bad ∷ after) → bad.bits < 2 ^ 32
@@ -101,7 +102,7 @@ given_items s ws items h (broken before bad after ds cut run fails e) =
     let there : AllByRecursion IsWord (before ++ bad ∷ after) =
     subst (λ (xs : List DataWord). AllByRecursion IsWord xs) cut h in
     let prefix : items_of s (before ++ bad ∷ after) ≡ map Ok ds ++ items_of s (bad ∷ after) =
-    all_after s before ds (prefix_words before (bad ∷ after) there) run (bad ∷ after) in
+    all_after s before ds (prefix_words IsWord before (bad ∷ after) there) run (bad ∷ after) in
     let last : items_of s (bad ∷ after) ≡ Err (place_of bad) ∷ [] =
     bad_items s bad after (word_after before bad after there) fails in
     rw cut (e ∙ sym (prefix ∙ ap (λ (xs : List (Result ℤ BadWordAt)). map Ok ds ++ xs) last))

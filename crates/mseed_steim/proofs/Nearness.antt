@@ -1,5 +1,5 @@
 -- Samples that are near one another, by the words or integers that say them.
-use Rattle.std.proofs.Common.{◌≡◌, ◌≢◌, ℕ, zero, suc, ◌+◌, ◌-◌, ◌*◌, ◌/◌, ◌%◌, ◌^◌, ◌<◌, ◌≤◌, List, [], ◌∷◌, ◌++◌}
+use Rattle.std.proofs.Common.{◌≡◌, ◌≢◌, ℕ, zero, suc, ◌+◌, ◌-◌, ◌*◌, ◌/◌, ◌%◌, ◌^◌, ◌<◌, ◌≤◌, List, [], ◌∷◌}
 use Rattle.std.proofs.Common.{length, map, not, eqb, get_or, refl, sym, ap, ◌∙◌, subst, arith, ℤ, ◌-ℤ◌, Option, Some}
 use Rattle.std.proofs.Common.{None, All, cond, of_z, to_z, w32, FitsSigned, ⊎_elim, false, bit_and, pos, negsuc}
 use Rattle.std.specs.Int.{bit_at}
@@ -30,7 +30,7 @@ use Rattle.mseed_steim.specs.Samples.{Adds, AreSums, BeginsWith, IsPayloadReadin
 use Rattle.mseed_steim.specs.Spelling.{IsGroup, IsWithin, Spells, empty, residue}
 use Rattle.mseed_steim.proofs.Widths.{within_by}
 use Rattle.mseed_steim.proofs.Below.{sixteen}
-use Rattle.mseed_steim.proofs.Given.{word_small}
+use Rattle.mseed_steim.proofs.Given.{prefix_words, word_small}
 use Rattle.mseed_steim.proofs.Integers.{number_lt, signed_is}
 use Rattle.mseed_steim.proofs.Laws.{same_payload}
 use Rattle.mseed_steim.proofs.Rows.{all_wider, narrower_by, spelled_fits, within_wider}
@@ -125,11 +125,6 @@ words_near_one : (p : List ℕ) → ((i : ℕ) → get_or p i 0 < 256) → (k n 
 unfolding words_from
 words_near_one p octets k n narrow = all_near_one p octets k n narrow
 
-prefix_of : (P : DataWord → Type 0) (prefix rest : List DataWord) → AllByRecursion P (prefix ++ rest)
-    → AllByRecursion P prefix
-prefix_of P [] rest h = tt
-prefix_of P (w ∷ prefix) rest h = (h.0, prefix_of P prefix rest h.1)
-
 run_near : (s : Scheme) (ws : List DataWord) (ds : List ℤ) → AllByRecursion (IsNearWord s) ws → SpellsRun s ws ds
     → All (IsWithin 30) ds
 run_near s [] ds near e = subst (λ (xs : List ℤ). All (IsWithin 30) xs) (sym e) (All-nil (IsWithin 30))
@@ -152,7 +147,7 @@ starts_near first (d ∷ ds) (s ∷ ss) h all = adds_near s ds ss (subst (λ (z 
 sums_near : (s : Scheme) (p : List ℕ) (n : ℕ) (ss : List ℤ) → AreSums s p n ss
     → AllByRecursion (IsNearWord s) (data_words p) → AreNear ss
 sums_near s p n ss sums near =
-    let prefix = prefix_of (IsNearWord s) sums.prefix sums.rest
+    let prefix = prefix_words (IsNearWord s) sums.prefix sums.rest
     (subst (λ (ws : List DataWord). AllByRecursion (IsNearWord s) ws) sums.cut near) in
     starts_near (first_constant p) sums.differences ss sums.sums
     (recursion_from_All (IsWithin 30) sums.differences (run_near s sums.prefix sums.differences prefix sums.spelled))

@@ -155,8 +155,8 @@ pub payload_steps : (s : Scheme) (p : List ℕ) (out : List ℤ) (first : ℤ) (
 payload_steps s p out first more ss octets some constant unpacked sums =
     let small : AllByRecursion IsWord (sums.prefix ++ sums.rest) =
     subst (λ (ws : List DataWord). AllByRecursion IsWord ws) sums.cut (words_small p octets 3 (word_count p - 3)) in
-    let spelled = all_after s sums.prefix sums.differences (prefix_words sums.prefix sums.rest small) sums.spelled
-    sums.rest in
+    let spelled = all_after s sums.prefix sums.differences (prefix_words IsWord sums.prefix sums.rest small)
+    sums.spelled sums.rest in
     let same = sym spelled ∙ ap (λ (ws : List DataWord). items_of s ws) (sym sums.cut) ∙ unpacked in
     let long : length ss ≡ length out = sums.count in
     starts_steps first sums.differences out (items_of s sums.rest) more ss same (sym long) (omega (arith, long, some))
