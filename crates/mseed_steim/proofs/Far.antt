@@ -1,8 +1,7 @@
 -- Differences that are added up at once, while the limits of 32 bits are out of reach.
-use Rattle.std.proofs.Common.{◌≡◌, ℕ, ◌+◌, ◌<◌, ◌≤◌, ◌^◌, suc, List, [], ◌∷◌, ◌++◌, map, drop, get_or, length, ℤ, pos}
+use Rattle.std.proofs.Common.{◌≡◌, ℕ, ◌+◌, ◌<◌, ◌≤◌, ◌^◌, List, [], ◌∷◌, ◌++◌, map, drop, get_or, length, ℤ, pos}
 use Rattle.std.proofs.Common.{negsuc, ◌+ℤ◌, nat_abs, w32, FitsSigned, arith, refl, ap, ◌∙◌, true, Ok, Result}
 use Rattle.std.proofs.Common.{⊎_elim}
-use Rattle.std.proofs.Math.Seq.{drop-cons}
 use Rattle.std.proofs.lemmas.Int.{ints}
 use Rattle.std.proofs.lemmas.Bool.{cases_eq, eq-eqb, lt-ltb, ne_eqb}
 use Rattle.mseed_steim.specs.declared.differences.BadWordAt.{BadWordAt}
@@ -11,7 +10,7 @@ use Rattle.mseed_steim.specs.private.Lanes.{total, span}
 use Rattle.mseed_steim.specs.private.Sums.{IsCounted, fits, fold, kept_along, kept_at, met_in, one_more, sums}
 use Rattle.mseed_steim.specs.private.Sums.{the_difference, the_sample, with_first}
 use Rattle.mseed_steim.proofs.Folds.{fold_add, fold_first}
-use Rattle.mseed_steim.proofs.Folded.{met_add, met_first}
+use Rattle.mseed_steim.proofs.Folded.{met_add, met_first, next_cut}
 
 pub abs_sum : (a b : ℤ) → nat_abs (a +ℤ b) ≤ nat_abs a + nat_abs b
 abs_sum (pos a) (pos b) = omega arith
@@ -122,11 +121,6 @@ near_signed (pos n) h = record { sfits = omega (arith, h) }
 near_signed (negsuc n) h = record { sfits = omega (arith, h) }
 
 -- the next of some differences, and those after it
-pub next_cut : (ds : List ℤ) (i : ℕ) (z : ℤ) → i < length ds → drop i ds ≡ get_or ds i z ∷ drop (i + 1) ds
-next_cut ds i z h =
-    let next : suc i ≡ i + 1 = omega arith in
-    drop-cons ds i z h ∙ ap (λ (k : ℕ). get_or ds i z ∷ drop k ds) next
-
 pub span_step : (ds : List ℤ) (i : ℕ) (z : ℤ) → i < length ds
     → span (drop i ds) ≡ nat_abs (get_or ds i z) + span (drop (i + 1) ds)
 span_step ds i z h = ap span (next_cut ds i z h)

@@ -4,9 +4,9 @@ use Rattle.std.proofs.Math.ListN.{set}
 use Rattle.std.proofs.Common.{take, drop, get_or, append_assoc, append-nil, ◌≡◌, ℕ, ◌+◌, ◌<◌, ◌≤◌, ◌^◌, List, [], ◌∷◌}
 use Rattle.std.proofs.Common.{◌++◌, map, length, ℤ, pos, negsuc, ◌+ℤ◌, ◌-ℤ◌, arith, refl, ap, sym, ◌∙◌, subst, false}
 use Rattle.std.proofs.Common.{true}
-use Rattle.std.proofs.Common.{Option, Some, None, Result, Ok, Err, All, ⊎_elim, eqb, suc}
+use Rattle.std.proofs.Common.{Option, Some, None, Result, Ok, Err, All, ⊎_elim, suc}
 use Rattle.std.proofs.lemmas.Int.{ints}
-use Rattle.std.proofs.lemmas.Bool.{ne_eqb, eq-eqb, cases_lt}
+use Rattle.std.proofs.lemmas.Bool.{eq-eqb, cases_lt}
 use Rattle.std.proofs.lemmas.Bool.Decides.{nat_tests}
 use Rattle.std.proofs.lemmas.List.Elements.{All-cons, All-nil}
 use Rattle.mseed_steim.specs.declared.differences.BadWordAt.{BadWordAt}
@@ -16,7 +16,7 @@ use Rattle.mseed_steim.specs.declared.sum.Sum.{Sum}
 use Rattle.mseed_steim.specs.Samples.{IsSample, Adds, differences_from, steps_of}
 use Rattle.mseed_steim.specs.private.Sums.{fits, fold, kept_from, kept_of, met_in, lack, one_more, the_difference}
 use Rattle.mseed_steim.specs.private.Sums.{the_sample}
-use Rattle.mseed_steim.proofs.Folds.{fold_enough, fold_add, fold_over, fold_bad, fold_short}
+use Rattle.mseed_steim.proofs.Folds.{fold_enough, fold_add, fold_over, fold_bad, fold_short, not_met, some_met}
 
 -- the last of some samples, or the one before them
 abbrev pub last_of : ℤ → List ℤ → ℤ
@@ -72,26 +72,18 @@ met_enough keep n s (Err at ∷ more) e = refl
 pub met_first : (keep : ℤ → ℤ → ℤ) (n : ℕ) (s : Sum) (d : ℤ) (more : List (Result ℤ BadWordAt)) → s.met < n
     → s.met ≡ 0 → met_in keep n s (Ok d ∷ more) ≡ s.last ∷ met_in keep n (one_more s s.last) more
 unfolding met_in
-met_first keep n s d more h e =
-    let less : eqb s.met n ≡ false = ne_eqb s.met n (λ (z : s.met ≡ n). omega arith) in
-    rw (less, eq-eqb s.met 0 e) refl
+met_first keep n s d more h e = rw (not_met s.met n h, eq-eqb s.met 0 e) refl
 
 pub met_add : (keep : ℤ → ℤ → ℤ) (n : ℕ) (s : Sum) (d : ℤ) (more : List (Result ℤ BadWordAt)) → s.met < n
     → 0 < s.met → fits (s.last +ℤ d) ≡ true
     → met_in keep n s (Ok d ∷ more) ≡ keep d (s.last +ℤ d) ∷ met_in keep n (one_more s (s.last +ℤ d)) more
 unfolding met_in
-met_add keep n s d more h p e =
-    let less : eqb s.met n ≡ false = ne_eqb s.met n (λ (z : s.met ≡ n). omega arith) in
-    let some : eqb s.met 0 ≡ false = ne_eqb s.met 0 (λ (z : s.met ≡ 0). omega arith) in
-    rw (less, some, e) refl
+met_add keep n s d more h p e = rw (not_met s.met n h, some_met s.met p, e) refl
 
 met_over : (keep : ℤ → ℤ → ℤ) (n : ℕ) (s : Sum) (d : ℤ) (more : List (Result ℤ BadWordAt)) → s.met < n → 0 < s.met
     → fits (s.last +ℤ d) ≡ false → met_in keep n s (Ok d ∷ more) ≡ []
 unfolding met_in
-met_over keep n s d more h p e =
-    let less : eqb s.met n ≡ false = ne_eqb s.met n (λ (z : s.met ≡ n). omega arith) in
-    let some : eqb s.met 0 ≡ false = ne_eqb s.met 0 (λ (z : s.met ≡ 0). omega arith) in
-    rw (less, some, e) refl
+met_over keep n s d more h p e = rw (not_met s.met n h, some_met s.met p, e) refl
 
 met_none : (keep : ℤ → ℤ → ℤ) (n : ℕ) (s : Sum) → met_in keep n s [] ≡ []
 unfolding met_in
@@ -215,16 +207,16 @@ lack_enough n m (Err at ∷ more) e = rw (eq-eqb m n e) refl
 pub lack_more : (n m : ℕ) (d : ℤ) (more : List (Result ℤ BadWordAt)) → m < n
     → lack n m (Ok d ∷ more) ≡ lack n (m + 1) more
 unfolding lack
-lack_more n m d more h = rw (ne_eqb m n (λ (z : m ≡ n). omega arith)) refl
+lack_more n m d more h = rw (not_met m n h) refl
 
 pub lack_bad : (n m : ℕ) (at : BadWordAt) (more : List (Result ℤ BadWordAt)) → m < n
     → lack n m (Err at ∷ more) ≡ Some (BadWord at.frame at.word)
 unfolding lack
-lack_bad n m at more h = rw (ne_eqb m n (λ (z : m ≡ n). omega arith)) refl
+lack_bad n m at more h = rw (not_met m n h) refl
 
 pub lack_short : (n m : ℕ) → m < n → lack n m [] ≡ Some (Short m)
 unfolding lack
-lack_short n m h = rw (ne_eqb m n (λ (z : m ≡ n). omega arith)) refl
+lack_short n m h = rw (not_met m n h) refl
 
 more_lacked : (n m : ℕ) (d : ℤ) (items : List (Result ℤ BadWordAt)) (o : Option ReadFault) → Lacks n (m + 1) items o
     → Lacks n m (Ok d ∷ items) o
@@ -273,13 +265,14 @@ lack_none n m (d ∷ ds) more h e = ⊎_elim
     (cases_lt (m + 1) n)
 
 -- the next of some differences, and those after it
+pub next_cut : (ds : List ℤ) (i : ℕ) (z : ℤ) → i < length ds → drop i ds ≡ get_or ds i z ∷ drop (i + 1) ds
+next_cut ds i z h =
+    let next : suc i ≡ i + 1 = omega arith in
+    drop-cons ds i z h ∙ ap (λ (k : ℕ). get_or ds i z ∷ drop k ds) next
+
 pub drop_step : (ds : List ℤ) (i : ℕ) (z : ℤ) (more : List (Result ℤ BadWordAt)) → i < length ds
     → map Ok (drop i ds) ++ more ≡ Ok (get_or ds i z) ∷ (map Ok (drop (i + 1) ds) ++ more)
-drop_step ds i z more h =
-    let next : suc i ≡ i + 1 = omega arith in
-    let cut : drop i ds ≡ get_or ds i z ∷ drop (i + 1) ds = drop-cons ds i z h
-    ∙ ap (λ (k : ℕ). get_or ds i z ∷ drop k ds) next in
-    ap (λ (xs : List ℤ). map Ok xs ++ more) cut
+drop_step ds i z more h = ap (λ (xs : List ℤ). map Ok xs ++ more) (next_cut ds i z h)
 
 -- a sample put in its place
 pub take_put : (out : List ℤ) (i k : ℕ) (z : ℤ) (xs : List ℤ) → i < length out → k ≡ i + 1
@@ -295,8 +288,3 @@ pub all_kept : (keep : ℤ → ℤ → ℤ) (n : ℕ) (s : Sum) (out : List ℤ)
 all_kept keep n s out items room e =
     let whole : take s.met out ≡ out = ap (λ (k : ℕ). take k out) (e ∙ sym room) ∙ take-length out in
     sym (ap (λ (xs : List ℤ). take s.met out ++ xs) (met_enough keep n s items e) ∙ append-nil (take s.met out) ∙ whole)
-
--- after all differences there is none
-pub no_more : (ds : List ℤ) → drop (length ds) ds ≡ []
-no_more [] = refl
-no_more (d ∷ ds) = no_more ds

@@ -22,28 +22,27 @@ fold_enough n s [] e = rw (eq-eqb s.met n e) refl
 fold_enough n s (Ok d ∷ more) e = rw (eq-eqb s.met n e) refl
 fold_enough n s (Err at ∷ more) e = rw (eq-eqb s.met n e) refl
 
+-- fewer samples have been met than are needed, and some
+pub not_met : (m n : ℕ) → m < n → eqb m n ≡ false
+not_met m n h = ne_eqb m n (λ (z : m ≡ n). omega (arith, h, z))
+
+pub some_met : (m : ℕ) → 0 < m → eqb m 0 ≡ false
+some_met m h = ne_eqb m 0 (λ (z : m ≡ 0). omega (arith, h, z))
+
 pub fold_first : (n : ℕ) (s : Sum) (d : ℤ) (more : List (Result ℤ BadWordAt)) → s.met < n → s.met ≡ 0
     → fold n s (Ok d ∷ more) ≡ fold n (one_more s s.last) more
 unfolding fold
-fold_first n s d more h e =
-    let less : eqb s.met n ≡ false = ne_eqb s.met n (λ (z : s.met ≡ n). omega arith) in
-    rw (less, eq-eqb s.met 0 e) refl
+fold_first n s d more h e = rw (not_met s.met n h, eq-eqb s.met 0 e) refl
 
 pub fold_add : (n : ℕ) (s : Sum) (d : ℤ) (more : List (Result ℤ BadWordAt)) → s.met < n → 0 < s.met
     → fits (s.last +ℤ d) ≡ true → fold n s (Ok d ∷ more) ≡ fold n (one_more s (s.last +ℤ d)) more
 unfolding fold
-fold_add n s d more h p e =
-    let less : eqb s.met n ≡ false = ne_eqb s.met n (λ (z : s.met ≡ n). omega arith) in
-    let some : eqb s.met 0 ≡ false = ne_eqb s.met 0 (λ (z : s.met ≡ 0). omega arith) in
-    rw (less, some, e) refl
+fold_add n s d more h p e = rw (not_met s.met n h, some_met s.met p, e) refl
 
 pub fold_over : (n : ℕ) (s : Sum) (d : ℤ) (more : List (Result ℤ BadWordAt)) → s.met < n → 0 < s.met
     → fits (s.last +ℤ d) ≡ false → fold n s (Ok d ∷ more) ≡ Err (Overflow s.met)
 unfolding fold
-fold_over n s d more h p e =
-    let less : eqb s.met n ≡ false = ne_eqb s.met n (λ (z : s.met ≡ n). omega arith) in
-    let some : eqb s.met 0 ≡ false = ne_eqb s.met 0 (λ (z : s.met ≡ 0). omega arith) in
-    rw (less, some, e) refl
+fold_over n s d more h p e = rw (not_met s.met n h, some_met s.met p, e) refl
 
 -- the test of 32 bits
 pub fits_true : (z : ℤ) → FitsSigned w32 z → fits z ≡ true
@@ -57,8 +56,7 @@ fits_false (negsuc n) h = le-ltb n (2 ^ 31) (omega (arith, λ (l : n < 2 ^ 31). 
 pub fold_bad : (n : ℕ) (s : Sum) (at : BadWordAt) (more : List (Result ℤ BadWordAt)) → s.met < n
     → fold n s (Err at ∷ more) ≡ Err (BadWord at.frame at.word)
 unfolding fold
-fold_bad n s at more h = let less : eqb s.met n ≡ false = ne_eqb s.met n (λ (z : s.met ≡ n). omega arith) in
-    rw less refl
+fold_bad n s at more h = rw (not_met s.met n h) refl
 
 -- at the end of the items
 pub fold_short : (n : ℕ) (s : Sum) → s.met ≢ n → fold n s [] ≡ Err (Short s.met)

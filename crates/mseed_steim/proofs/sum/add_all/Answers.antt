@@ -1,7 +1,7 @@
-use Rattle.std.proofs.Common.{◌≡◌, ℤ, ◌+ℤ◌, length, get_or, pos, to_z, arith, rules, w32, FitsSigned}
+use Rattle.std.proofs.Common.{◌≡◌, ℤ, ◌+ℤ◌, get_or, pos, to_z, arith, rules, w32, FitsSigned}
 use Rattle.std.proofs.lemmas.Int.{ints, to_z-of_z}
+use Rattle.std.proofs.Math.ListN.{drop_of_length-le}
 use Rattle.mseed_steim.proofs.Far.{abs_sum, span_step, total_step}
-use Rattle.mseed_steim.proofs.Folded.{no_more}
 use Rattle.mseed_steim.proofs.sum.add_all.Goals as goal
 
 pub add_near-sum-requires : goal.add_near-sum-requires
@@ -31,7 +31,6 @@ loop-i-preserved c =
 
 pub returns : goal.returns
 returns c =
-    let all : c.loop-i.i ≡ length c.args.differences.now = omega arith in
-    let none = no_more c.args.differences.now in
-    let moved = rw (all, none) at c.loop-i.invariant.moved in
+    let none = drop_of_length-le c.args.differences.now c.loop-i-test.false in
+    let moved = rw none at c.loop-i.invariant.moved in
     omega (arith, ints, moved)

@@ -1,8 +1,8 @@
 use Rattle.std.proofs.Common.{◌≡◌, ◌+◌, ◌*◌, ◌≤◌, ℕ, nat_abs, get_or, length, arith, pos, rules, w32, FitsSigned}
 use Rattle.std.proofs.lemmas.Int.{to_z-of_z}
 use Rattle.std.proofs.Math.Nat.{mul-le-mul_left, mul-le-mul_right}
+use Rattle.std.proofs.Math.ListN.{drop_of_length-le}
 use Rattle.mseed_steim.proofs.Far.{span_step}
-use Rattle.mseed_steim.proofs.Folded.{no_more}
 use Rattle.mseed_steim.proofs.Fullest.{max_is}
 use Rattle.mseed_steim.proofs.sum.reach_of.Goals as goal
 
@@ -34,6 +34,6 @@ overflow_mul-result c =
 pub returns : goal.returns
 returns c =
     let all : c.loop-i.i ≡ length c.args.differences.now = omega arith in
-    let none = no_more c.args.differences.now in
-    let so_far = rw (all, none) at c.loop-i.invariant.so_far in
+    let none = drop_of_length-le c.args.differences.now c.loop-i-test.false in
+    let so_far = rw (none, all) at c.loop-i.invariant.so_far in
     rw c.from.ensures (omega (arith, so_far))

@@ -1,10 +1,11 @@
-use Rattle.std.proofs.Common.{◌≡◌, ◌∙◌, get_or, pos, length, List, Result, ℤ, ap, arith, refl, rules}
+use Rattle.std.proofs.Common.{◌∙◌, get_or, pos, List, Result, ℤ, ap, arith, refl, rules}
 use Rattle.std.proofs.Common.{w32, FitsSigned}
 use Rattle.std.proofs.lemmas.Int.{to_z-of_z}
 use Rattle.std.proofs.lemmas.Result.{err_from_is_err_and}
+use Rattle.std.proofs.Math.ListN.{drop_of_length-le}
 use Rattle.mseed_steim.specs.declared.differences.BadWordAt.{BadWordAt}
 use Rattle.mseed_steim.specs.private.Sums.{fold}
-use Rattle.mseed_steim.proofs.Folded.{drop_step, no_more}
+use Rattle.mseed_steim.proofs.Folded.{drop_step}
 use Rattle.mseed_steim.proofs.Continuing.{walks_on}
 use Rattle.mseed_steim.proofs.walk.keep_checked.Goals as goal
 
@@ -32,6 +33,5 @@ loop-i-preserved g c =
 
 pub returns-clause-walks : goal.returns-clause-walks
 returns-clause-walks g c =
-    let all : c.loop-i.i ≡ length c.args.differences.now = omega arith in
-    let none = no_more c.args.differences.now in
-    rw (all, none) at c.loop-i.invariant.walked
+    let none = drop_of_length-le c.args.differences.now c.loop-i-test.false in
+    rw none at c.loop-i.invariant.walked
