@@ -1,6 +1,6 @@
 -- What two runs over the same words have in common.
 use Rattle.std.proofs.Common.{◌≡◌, ℕ, suc, ◌+◌, ◌<◌, ◌≤◌, List, [], ◌∷◌, ◌++◌, length, ℤ, ◌+ℤ◌, arith, refl, ap}
-use Rattle.std.proofs.Common.{sym, ◌∙◌, subst, length-append, All}
+use Rattle.std.proofs.Common.{append-nil, sym, ◌∙◌, subst, length-append, All}
 use Rattle.std.proofs.lemmas.List.Elements.{All-head, All-tail}
 use Rattle.mseed_steim.specs.declared.scheme.Scheme.{Scheme}
 use Rattle.mseed_steim.specs.declared.fault.ReadFault.{ReadFault}
@@ -71,40 +71,26 @@ sums_one s p n ss ts a b =
     (runs_agree s a.prefix a.rest b.prefix b.rest a.differences b.differences (sym a.cut ∙ b.cut) a.spelled b.spelled)
     (a.count ∙ sym b.count) a.sums b.sums
 
--- a prefix of words spells no more than all of them do
-prefix_shorter : (s : Scheme) (fa fb rb : List DataWord) (ds es : List ℤ) → fa ≡ fb ++ rb → SpellsRun s fa ds
-    → SpellsRun s fb es → length es ≤ length ds
-prefix_shorter s fa [] rb ds es e h k = let none : length es ≡ 0 = ap (λ (xs : List ℤ). length xs) k in
-    omega (arith, none)
-prefix_shorter s [] (v ∷ fb) rb ds es e h k = cc
-prefix_shorter s (w ∷ fa) (v ∷ fb) rb ds es e h k =
-    let same : w ≡ v = cc in
-    let rest : fa ≡ fb ++ rb = cc in
-    let one : h.0 ≡ k.0 = spells_one s v.code v.bits h.0 k.0
-    (subst (λ (u : DataWord). Spells s u.code u.bits h.0) same h.1.1.1.0) k.1.1.1.0 in
-    let later : length k.1.0 ≤ length h.1.0 = prefix_shorter s fa fb rb h.1.0 k.1.0 rest h.1.1.1.1 k.1.1.1.1 in
-    let left : length ds ≡ length k.0 + length h.1.0 =
-    ap (λ (xs : List ℤ). length xs) (h.1.1.0 ∙ ap (λ (xs : List ℤ). xs ++ h.1.0) one) ∙ length-append k.0 h.1.0 in
-    let right : length es ≡ length k.0 + length k.1.0 = ap (λ (xs : List ℤ). length xs) k.1.1.0
-    ∙ length-append k.0 k.1.0 in
-    omega (arith, later, left, right)
+-- words end, or go on with a bad one
+abbrev Stops : Scheme → List DataWord → Type 0
+Stops s [] = Unit {0}
+Stops s (bad ∷ after) = SpellsNone s bad.code bad.bits
 
--- nor does one that is spelled go past a bad word
-bad_bounds : (s : Scheme) (before : List DataWord) (bad : DataWord) (after fb rb : List DataWord) (ds es : List ℤ)
-    → before ++ bad ∷ after ≡ fb ++ rb → SpellsRun s before ds → SpellsNone s bad.code bad.bits → SpellsRun s fb es
-    → length es ≤ length ds
-bad_bounds s before bad after [] rb ds es e h none k = let nil : length es ≡ 0 = ap (λ (xs : List ℤ). length xs) k in
+-- no prefix of words spells more than all of them do, nor goes past a bad one
+bounds : (s : Scheme) (fa ra fb rb : List DataWord) (ds es : List ℤ) → fa ++ ra ≡ fb ++ rb → SpellsRun s fa ds
+    → Stops s ra → SpellsRun s fb es → length es ≤ length ds
+bounds s fa ra [] rb ds es e h stops k = let nil : length es ≡ 0 = ap (λ (xs : List ℤ). length xs) k in
     omega (arith, nil)
-bad_bounds s [] bad after (v ∷ fb) rb ds es e h none k =
+bounds s [] [] (v ∷ fb) rb ds es e h stops k = cc
+bounds s [] (bad ∷ after) (v ∷ fb) rb ds es e h none k =
     let same : v ≡ bad = cc in
     absurd (none k.0 (subst (λ (u : DataWord). Spells s u.code u.bits k.0) same k.1.1.1.0))
-bad_bounds s (w ∷ before) bad after (v ∷ fb) rb ds es e h none k =
+bounds s (w ∷ fa) ra (v ∷ fb) rb ds es e h stops k =
     let same : w ≡ v = cc in
-    let rest : before ++ bad ∷ after ≡ fb ++ rb = cc in
+    let rest : fa ++ ra ≡ fb ++ rb = cc in
     let one : h.0 ≡ k.0 = spells_one s v.code v.bits h.0 k.0
     (subst (λ (u : DataWord). Spells s u.code u.bits h.0) same h.1.1.1.0) k.1.1.1.0 in
-    let later : length k.1.0 ≤ length h.1.0 =
-    bad_bounds s before bad after fb rb h.1.0 k.1.0 rest h.1.1.1.1 none k.1.1.1.1 in
+    let later : length k.1.0 ≤ length h.1.0 = bounds s fa ra fb rb h.1.0 k.1.0 rest h.1.1.1.1 stops k.1.1.1.1 in
     let left : length ds ≡ length k.0 + length h.1.0 =
     ap (λ (xs : List ℤ). length xs) (h.1.1.0 ∙ ap (λ (xs : List ℤ). xs ++ h.1.0) one) ∙ length-append k.0 h.1.0 in
     let right : length es ≡ length k.0 + length k.1.0 = ap (λ (xs : List ℤ). length xs) k.1.1.0
@@ -166,14 +152,15 @@ last_one (x ∷ fa) a (y ∷ fb) b e = let rest : fa ++ a ∷ [] ≡ fb ++ b ∷
 pub not_short : (s : Scheme) (p : List ℕ) (n : ℕ) (ss ds : List ℤ) → AreSums s p n ss → SpellsRun s (data_words p) ds
     → length ds < n → ⊥
 not_short s p n ss ds a h less =
-    let most = prefix_shorter s (data_words p) a.prefix a.rest ds a.differences a.cut h a.spelled in
+    let most = bounds s (data_words p) [] a.prefix a.rest ds a.differences
+    (append-nil (data_words p) ∙ a.cut) h tt a.spelled in
     omega (arith, most, a.enough)
 
 pub not_bad : (s : Scheme) (p : List ℕ) (n : ℕ) (ss : List ℤ) (before : List DataWord) (bad : DataWord)
     (after : List DataWord) (ds : List ℤ) → AreSums s p n ss → data_words p ≡ before ++ bad ∷ after
     → SpellsRun s before ds → length ds < n → SpellsNone s bad.code bad.bits → ⊥
 not_bad s p n ss before bad after ds a cut h less none =
-    let most = bad_bounds s before bad after a.prefix a.rest ds a.differences (sym cut ∙ a.cut) h none a.spelled in
+    let most = bounds s before (bad ∷ after) a.prefix a.rest ds a.differences (sym cut ∙ a.cut) h none a.spelled in
     omega (arith, most, a.enough)
 
 -- Frames have one fault at most.
