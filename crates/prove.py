@@ -47,8 +47,11 @@ PROVED = "proved"
 MOST, PROCESSES = 4, 8
 # Of a crate that isn't in minutes.txt: bytes of sources that take a minute, and memory.
 BYTES_A_MINUTE, MEMORY = 150_000, 2.5
-# What no second process makes shorter, of a crate's proof; and how much more memory several processes take than one.
-ALONE, SHARED = 0.2, 1.3
+# Each process of a crate reads for itself what was proved below it. Where that took more than so many minutes, several
+# are hardly faster than one; elsewhere they take such a share of the time of one.
+READ, SHORTER = 14, 0.7
+# How much more memory several processes take than one.
+SHARED = 1.3
 # The share of the longest way from which on another one is near it: a crate there gets more than one process.
 NEAR = 7 / 8
 # Where the system says what this process and those beside it in its group may use.
@@ -76,9 +79,9 @@ class Work(NamedTuple):
 
 class Standing(enum.Enum):
     """How a crate stands among those that run beside it: none does; its way up is the longest one, near that, or far
-    from it."""
+    from it. Or high, on so much that it hardly gains by a second process."""
 
-    ALONE, LONGEST, NEAR, FAR = range(4)
+    ALONE, LONGEST, NEAR, FAR, HIGH = range(5)
 
 
 @functools.lru_cache(maxsize=None)
@@ -117,19 +120,27 @@ def ways(on: dict[str, set[str]], costs: dict[str, Cost]) -> dict[str, float]:
     return found
 
 
-def minutes_left(left: dict[str, float], on: dict[str, set[str]], cores: int) -> float:
-    """The minutes by the clock until crates are proved of which so many minutes of processors are left: those of all on
-    all cores, and on the longest way what no second process makes shorter, with the other cores idle."""
-    costs = {crate: Cost(minutes, 0) for crate, minutes in left.items()}
-    longest = max(ways({crate: on[crate] for crate in left}, costs).values())
-    return sum(left.values()) / cores + ALONE * longest * (1 - 1 / cores)
+def high(on: dict[str, set[str]], costs: dict[str, Cost]) -> set[str]:
+    """The crates that hardly gain by a second process, by the minutes of those below them."""
+    return {crate for crate, those in on.items() if sum(costs[at].minutes for at in those) > READ}
+
+
+def minutes_left(left: dict[str, float], on: dict[str, set[str]], highs: set[str], cores: int) -> float:
+    """The minutes by the clock until crates are proved of which so many minutes of processors are left: the one that
+    waits for all others has its own, and those of the others are on all cores, unless their longest way is longer."""
+    clock = {at: Cost(minutes * (SHORTER if cores > 2 and at not in highs else 1), 0) for at, minutes in left.items()}
+    for crate, cost in clock.items():
+        others = {at: minutes for at, minutes in left.items() if at != crate}
+        if others.keys() <= on[crate]:
+            return cost.minutes + (minutes_left(others, on, highs, cores) if others else 0)
+    return max(sum(left.values()) / cores, *ways({at: on[at] for at in left}, clock).values())
 
 
 def processes(cores: int, standing: Standing) -> int:
     """How many processes prove a crate: more on the longest way, and few far from it, since each takes processor time
     of its own besides what it shares."""
     most = {Standing.ALONE: cores, Standing.LONGEST: cores - 1, Standing.NEAR: cores // 2,
-            Standing.FAR: cores // 2 - 1}[standing]
+            Standing.FAR: cores // 2 - 1, Standing.HIGH: 1}[standing]
     return min(max(most, 1), PROCESSES)
 
 
@@ -226,6 +237,7 @@ class Build:
         self.crate, self.command = crate, command
         self.on = {at: below(at) for at in [crate, *below(crate)]}
         self.costs = {at: cost_of(at) for at in self.on}
+        self.highs = high(self.on, self.costs)
         self.cores, self.free = processors(), memory()
         self.ways = ways(self.on, self.costs)
         ordered = sorted(self.on, key=self.ways.get, reverse=True)
@@ -247,13 +259,16 @@ class Build:
     def left_of(self, crate: str) -> float:
         """The minutes of processors that a crate that runs still takes: by the functions that it has checked, or else
         by the time that has gone."""
-        whole = 60 * self.pace() * minutes_left({crate: self.costs[crate].minutes}, self.on, self.cores)
+        minutes = {crate: self.costs[crate].minutes}
+        whole = 60 * self.pace() * minutes_left(minutes, self.on, self.highs, self.cores)
         done, of = checked(crate)
         share = done / of if of else (time.monotonic() - self.running[crate].began) / max(whole, 1)
         return self.costs[crate].minutes * max(1 - share, 0.1)
 
     def standing(self, crate: str, is_alone: bool) -> Standing:
         """How a crate that is about to begin stands among those that run, of whose ways up only what is left counts."""
+        if crate in self.highs:
+            return Standing.HIGH
         if is_alone:
             return Standing.ALONE
         ways = [self.ways[at] - self.costs[at].minutes + self.left_of(at) for at in self.running]
@@ -265,7 +280,7 @@ class Build:
     def minutes(self) -> int:
         """About so many minutes are left."""
         left = {at: self.costs[at].minutes for at in self.left} | {at: self.left_of(at) for at in self.running}
-        return round(self.pace() * minutes_left(left, self.on, self.cores)) if left else 0
+        return round(self.pace() * minutes_left(left, self.on, self.highs, self.cores)) if left else 0
 
     def text(self) -> str:
         """How far it is."""

@@ -25,19 +25,27 @@ SLOW = "0.3"
 
 
 def reckoned() -> Cases:
-    """The order and what is left, by hand: c stands on b, b on a, and d on a. A fifth of what a crate takes is for one
-    process alone."""
+    """The order and what is left, by hand: c stands on b, b on a, and d on a. Several processes take seven tenths of
+    the time of one, but for a crate that stands on more than fourteen minutes."""
     on = {"a": set(), "b": {"a"}, "c": {"a", "b"}, "d": {"a"}}
     costs = {"a": 1.0, "b": 2.0, "c": 4.0, "d": 5.0}
     found = prove.ways(on, {crate: prove.Cost(minutes, 1) for crate, minutes in costs.items()})
     yield Fact("the longest ways up", {"a": 7.0, "b": 6.0, "c": 4.0, "d": 5.0}, found)
-    for cores, left, wanted in [(1, costs, 12.0), (2, costs, 6.7), (4, costs, 4.05), (1, {"c": 4.0}, 4.0),
-                                (4, {"c": 4.0}, 1.6), (4, {"a": 2.0, "b": 2.0, "c": 2.0}, 2.4), (8, {"d": 2.0}, 0.6)]:
-        yield Fact(f"what is left of {left} on {cores} cores", wanted, round(prove.minutes_left(left, on, cores), 3))
+    for minutes, wanted in [(2.0, set()), (13.0, set()), (13.5, {"c"}), (14.5, {"b", "c", "d"})]:
+        yield Fact(f"high are, with {minutes} minutes of a and 1 of b", wanted,
+                   prove.high(on, {"a": prove.Cost(minutes, 1), "b": prove.Cost(1.0, 1)}))
+    three = {"a": 2.0, "b": 2.0, "c": 2.0}
+    for cores, left, highs, wanted in [(1, costs, set(), 12.0), (2, costs, set(), 7.0), (4, costs, set(), 4.9),
+                                       (4, costs, {"c", "d"}, 6.1), (1, {"c": 4.0}, set(), 4.0),
+                                       (4, {"c": 4.0}, set(), 2.8), (4, {"c": 4.0}, {"c"}, 4.0),
+                                       (4, three, set(), 4.2), (4, three, {"c"}, 4.8), (2, three, {"c"}, 6.0),
+                                       (8, {"d": 2.0}, set(), 1.4), (8, {"c": 9.0, "d": 8.0}, {"c", "d"}, 9.0)]:
+        yield Fact(f"what is left of {left} on {cores} cores, high are {sorted(highs)}", wanted,
+                   round(prove.minutes_left(left, on, highs, cores), 3))
     for cores, wanted in [(1, [1, 1, 1, 1]), (2, [2, 1, 1, 1]), (4, [4, 3, 2, 1]), (8, [8, 7, 4, 3]),
                           (64, [8, 8, 8, 8])]:
-        yield Fact(f"the processes of a crate alone, on the longest way, near it and far from it, on {cores} cores", wanted,
-                   [prove.processes(cores, standing) for standing in prove.Standing])
+        yield Fact("the processes of a crate alone, on the longest way, near it, far from it and high, on "
+                   f"{cores} cores", [*wanted, 1], [prove.processes(cores, standing) for standing in prove.Standing])
     yield from by_standing()
     yield from by_memory()
     yield from by_group()
@@ -67,6 +75,9 @@ def by_standing() -> Cases:
     minutes = {"mseed_join": 6.0, "mseed_repack": 4.0, "mseed_text": 1.0, "mseed": 5.0}
     build.costs = {crate: prove.Cost(minutes.get(crate, 2.0), 1) for crate in build.on}
     build.ways = prove.ways(build.on, build.costs)
+    yield Fact("high, alone and beside others", [prove.Standing.HIGH] * 2,
+               [build.standing("mseed", True), build.standing("mseed_repack", False)])
+    build.highs = set()
     yield Fact("alone", prove.Standing.ALONE, build.standing("mseed_text", True))
     far, near, longest = prove.Standing.FAR, prove.Standing.NEAR, prove.Standing.LONGEST
     for done, repack, show in [(0, far, far), (30, near, far), (60, longest, near)]:
