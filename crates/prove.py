@@ -54,6 +54,8 @@ READ, SHORTER = 14, 0.7
 SHARED = 1.3
 # The share of the longest way from which on another one is near it: a crate there gets more than one process.
 NEAR = 7 / 8
+# What is far from it takes what time of the processors the others leave.
+LATER = ["nice", "-n", "10"]
 # Where the system says what this process and those beside it in its group may use.
 GROUP = Path("/sys/fs/cgroup")
 # The status of `rt` where the system killed a proof, most likely for memory.
@@ -317,13 +319,16 @@ class Build:
                 taken -= self.costs[at].memory
         return found
 
+    def command_of(self, crate: str, standing: Standing) -> list[str]:
+        """The command that proves a crate."""
+        verb, *arguments = self.command if crate == self.crate else ["lib"]
+        jobs = 1 if crate in self.killed else processes(self.cores, standing)
+        return [*(LATER if standing is Standing.FAR else []), "rt", verb, "--jobs", str(jobs), *arguments]
+
     def start(self, crate: str, is_alone: bool) -> None:
         """Begins a crate: a library in a room of its own, and the last one in its own folder."""
-        is_last = crate == self.crate
-        verb, *arguments = self.command if is_last else ["lib"]
-        jobs = 1 if crate in self.killed else processes(self.cores, self.standing(crate, is_alone))
-        command = ["rt", verb, "--jobs", str(jobs), *arguments]
-        folder = CRATES / crate if is_last else room_of(crate, self.on[crate])
+        command = self.command_of(crate, self.standing(crate, is_alone))
+        folder = CRATES / crate if crate == self.crate else room_of(crate, self.on[crate])
         is_first = not (folder / "out" / KEPT).exists()
         log = CRATES / crate / "out" / LOG
         log.parent.mkdir(exist_ok=True)

@@ -77,9 +77,14 @@ def by_standing() -> Cases:
     build.ways = prove.ways(build.on, build.costs)
     yield Fact("high, alone and beside others", [prove.Standing.HIGH] * 2,
                [build.standing("mseed", True), build.standing("mseed_repack", False)])
-    build.highs = set()
+    build.highs, build.cores = set(), 4
+    far, near, longest, high = prove.Standing.FAR, prove.Standing.NEAR, prove.Standing.LONGEST, prove.Standing.HIGH
+    for crate, standing, wanted in [("mseed_steim", longest, "rt lib --jobs 3"),
+                                    ("mseed_select", near, "rt lib --jobs 2"),
+                                    ("slink_feed", far, "nice -n 10 rt lib --jobs 1"),
+                                    ("mseed", high, "rt run --jobs 1")]:
+        yield Fact(f"the command of {crate}", wanted, " ".join(build.command_of(crate, standing)))
     yield Fact("alone", prove.Standing.ALONE, build.standing("mseed_text", True))
-    far, near, longest = prove.Standing.FAR, prove.Standing.NEAR, prove.Standing.LONGEST
     for done, repack, show in [(0, far, far), (30, near, far), (60, longest, near)]:
         build.running = {"mseed_join": prove.Work(0, None, True)}
         with looked_up("mseed_join", done):
