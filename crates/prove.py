@@ -260,11 +260,11 @@ class Build:
 
     def left_of(self, crate: str) -> float:
         """The minutes of processors that a crate that runs still takes: by the functions that it has checked, or else
-        by the time that has gone."""
+        by the time that has gone. A single process counts none before it is done."""
         minutes = {crate: self.costs[crate].minutes}
         whole = 60 * self.pace() * minutes_left(minutes, self.on, self.highs, self.cores)
         done, of = checked(crate)
-        share = done / of if of else (time.monotonic() - self.running[crate].began) / max(whole, 1)
+        share = done / of if done else (time.monotonic() - self.running[crate].began) / max(whole, 1)
         return self.costs[crate].minutes * max(1 - share, 0.1)
 
     def standing(self, crate: str, is_alone: bool) -> Standing:
@@ -292,7 +292,7 @@ class Build:
     def show(self, ended: str = "") -> None:
         """Says how far it is: on a terminal over and over in one line, and elsewhere in one for each crate."""
         if self.is_shown and self.asked:
-            running = [f"{at} {done} of {of}" if of else at for at in self.running for done, of in [checked(at)]]
+            running = [f"{at} {done} of {of}" if done else at for at in self.running for done, of in [checked(at)]]
             line = f"{self.text()}{': ' if running else ''}{', '.join(running)}"
             line = line[:shutil.get_terminal_size().columns - 1]
             print(f"\r\033[K{line}" if line != self.shown else "", end="", flush=True)

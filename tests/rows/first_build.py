@@ -86,11 +86,17 @@ def by_standing() -> Cases:
         yield Fact(f"the command of {crate}", wanted, " ".join(build.command_of(crate, standing)))
     yield Fact("alone", prove.Standing.ALONE, build.standing("mseed_text", True))
     for done, repack, show in [(0, far, far), (30, near, far), (60, longest, near)]:
-        build.running = {"mseed_join": prove.Work(0, None, True)}
+        build.running = {"mseed_join": prove.Work(time.monotonic(), None, True)}
         with looked_up("mseed_join", done):
             yield Fact(f"repack beside a join of which {done} of 100 functions are checked", repack,
                        build.standing("mseed_repack", False))
             yield Fact(f"the list beside it, with {done} checked", show, build.standing("mseed_show", False))
+    build.highs = {"mseed_join"}
+    for done, minutes, wanted in [(0, 0, 6.0), (0, 3, 3.0), (0, 9, 0.6), (75, 3, 1.5)]:
+        build.running = {"mseed_join": prove.Work(time.monotonic() - 60 * minutes, None, True)}
+        with looked_up("mseed_join", done):
+            yield Fact(f"what is left of six minutes after {minutes}, with {done} checked", wanted,
+                       round(build.left_of("mseed_join"), 1))
 
 
 @contextlib.contextmanager
