@@ -21,6 +21,7 @@ CRATES = {
     "mseed_time": (1.5, "instants, rates, joins"),
     "mseed_record": (1.5, "framing, views, headers"),
     "mseed_steim": (1, "words, frames, samples"),
+    "mseed_steim_pack": (0.25, "words and frames, packed"),
     "mseed_stream": (2, "devices, the cutter"),
     "mseed_text": (2, "lines of text"),
     "mseed_select": (3, "records that are asked for"),

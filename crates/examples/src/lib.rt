@@ -18,6 +18,7 @@ pub mod record;
 pub mod repacks;
 pub mod selecting;
 pub mod steim;
+pub mod steim_pack;
 pub mod stream;
 pub mod stretches;
 pub mod text;

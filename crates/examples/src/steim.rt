@@ -1,15 +1,12 @@
 //! Calls of `mseed_steim`.
-ghost use Rattle.std.specs.Prelude.{◌≡◌, ◌<◌, ℤ, List, length, All};
+ghost use Rattle.std.specs.Prelude.{◌≡◌, ◌<◌, ℤ, List, length};
 ghost use Rattle.mseed_record.specs.Viewing.{view_of};
 ghost use Rattle.mseed_steim.specs.Reading.{IsSteim, IsWhole, count_of};
-ghost use Rattle.mseed_steim.specs.Samples.{differences_from};
-ghost use Rattle.mseed_steim.specs.Spelling.{IsWithin};
 
 use mseed_record::RecordView;
 use mseed_steim::{
-    BadWord, BadWordAt, Differences, Encoding, Lookahead, ReadFault, Scheme, TooLarge, TooLargeAt,
-    check_samples, ends_of, fill_differences, fill_samples, is_steim, is_surely_near, least_words,
-    near_ends, pack_samples_ahead, pack_word, pack_words, pack_words_ahead, read_samples,
+    BadWord, BadWordAt, Differences, Encoding, ReadFault, Scheme, check_samples, ends_of,
+    fill_differences, fill_samples, is_steim, is_surely_near, near_ends, read_samples,
     unpack_differences, unpack_word, widen_bytes,
 };
 use std::alloc::Allocator;
@@ -119,50 +116,6 @@ pub fn count_in_word(code: u8, word: u32) -> Result<usize, BadWord>
     requires { code < 4 }
 {
     Ok(unpack_word(Scheme::Two, code, word)?.len())
-}
-
-/// How many of the differences the first word of Steim-2 takes.
-pub fn taken_by_first(differences: &[i32]) -> Result<usize, TooLarge>
-    requires { 0 < length differences.now }
-{
-    let (_code, _word, count) = pack_word(Scheme::Two, differences)?;
-    Ok(count)
-}
-
-/// Packs differences into seven frames, and says how many of them these hold.
-pub fn pack_seven_frames(differences: &[i32], frames: &mut [u8; 448]) -> Result<usize, TooLargeAt> {
-    let packed = pack_words(Scheme::Two, differences, frames)?;
-    Ok(packed.used)
-}
-
-/// Packs the differences of a series into two records, and says how many of them each holds.
-pub fn pack_two_records(
-    differences: &[i32],
-    first: &mut [u8; 448],
-    second: &mut [u8; 448],
-) -> Result<(usize, usize), TooLargeAt> {
-    let mut known = Lookahead::new();
-    let one = pack_words_ahead(Scheme::Two, differences, &mut known, first)?;
-    let two = pack_words_ahead(Scheme::Two, &differences[one.used..], &mut known, second)?;
-    Ok((one.used, two.used))
-}
-
-/// Packs the samples after another one into a record, and says how many of them it holds.
-pub fn pack_samples_after(
-    before: i32,
-    samples: &[i32],
-    frames: &mut [u8; 448],
-) -> Result<usize, TooLargeAt>
-    requires { All (IsWithin 32) (differences_from before samples.now) }
-{
-    let mut known = Lookahead::new();
-    let packed = pack_samples_ahead(Scheme::Two, before, samples, &mut known, frames)?;
-    Ok(packed.used)
-}
-
-/// The bytes of the fewest words of Steim-2 that hold the differences.
-pub fn least_bytes(differences: &[i32]) -> Result<u64, TooLargeAt> {
-    Ok(least_words(differences)?.saturating_mul(4))
 }
 
 /// Four bytes as signed numbers.

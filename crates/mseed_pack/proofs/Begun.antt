@@ -4,8 +4,8 @@ use Rattle.std.proofs.Common.{Bor, FitsSigned, w32, to_z, of_z}
 use Rattle.std.proofs.lemmas.Int.{to_z-of_z}
 use Rattle.mseed_steim.specs.declared.scheme.Scheme.{Scheme}
 use Rattle.mseed_steim.specs.declared.scheme.Scheme.TheVariants.{One, Two}
-use Rattle.mseed_steim.specs.Lookahead.{IsLookahead}
 use Rattle.mseed_steim.specs.Spelling.{IsWithin}
+use Rattle.mseed_steim_pack.specs.Lookahead.{IsLookahead}
 use Rattle.mseed_audit.specs.Series.{Trace}
 use Rattle.mseed_pack.specs.declared.batch.Job.{Job}
 use Rattle.mseed_pack.specs.declared.frames.Frames.{Frames}

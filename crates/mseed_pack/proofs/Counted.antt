@@ -3,7 +3,7 @@ use Rattle.std.proofs.Common.{◌≡◌, ℕ, ◌+◌, ◌*◌, ◌≤◌, List,
 use Rattle.std.proofs.lemmas.List.{length-drop, length-take-le}
 use Rattle.mseed_steim.specs.declared.scheme.Scheme.{Scheme}
 use Rattle.mseed_steim.specs.Frames.{DataWord, data_words, word_count}
-use Rattle.mseed_steim.specs.Packing.{PacksRun}
+use Rattle.mseed_steim_pack.specs.Packing.{PacksRun}
 use Rattle.mseed_pack.proofs.Room.{spelled_seven, words_fit}
 
 -- words hold seven differences each at the most

@@ -10,7 +10,7 @@ use Rattle.mseed_steim.specs.Groups.{Group, group_of}
 use Rattle.std.proofs.Common.{Some}
 use Rattle.mseed_steim.specs.Spelling.{Spells, empty, row}
 use Rattle.mseed_steim.specs.Frames.{DataWord, data_words}
-use Rattle.mseed_steim.specs.Packing.{IsEmptyWord, IsFewest, PacksRun}
+use Rattle.mseed_steim_pack.specs.Packing.{IsEmptyWord, IsFewest, PacksRun}
 use Rattle.mseed_audit.specs.Series.{Trace}
 use Rattle.mseed_steim.specs.declared.encoding.Encoding.{Encoding}
 use Rattle.mseed_steim.specs.declared.encoding.Encoding.TheVariants.{Steim2}

@@ -11,10 +11,10 @@ use Rattle.mseed_steim.specs.declared.scheme.Scheme.{Scheme}
 use Rattle.mseed_steim.specs.declared.scheme.Scheme.TheVariants.{One, Two}
 use Rattle.mseed_steim.specs.Spelling.{IsWithin}
 use Rattle.mseed_steim.specs.Frames.{DataWord, data_word, data_words, words_from, word_count, code_at}
-use Rattle.mseed_steim.specs.Packed.{IsRunPacked}
-use Rattle.mseed_steim.specs.Packing.{IsEmptyWord, PacksRun}
-use Rattle.mseed_steim.proofs.Packs.{rest_shorter}
-use Rattle.mseed_steim.proofs.Rows.{within_wider}
+use Rattle.mseed_steim.proofs.Widths.{within_wider}
+use Rattle.mseed_steim_pack.specs.Packed.{IsRunPacked}
+use Rattle.mseed_steim_pack.specs.Packing.{IsEmptyWord, PacksRun}
+use Rattle.mseed_steim_pack.proofs.Packs.{rest_shorter}
 use Rattle.mseed_pack.specs.declared.payload.Left.{Left}
 use Rattle.mseed_pack.specs.declared.window.Window.{Window}
 use Rattle.mseed_pack.specs.private.Filling.{AreFrames, AreLeft, AreSet, AreTaken, HoldsDifferences}

@@ -15,7 +15,7 @@ use Rattle.mseed_steim.specs.declared.scheme.Scheme.{Scheme}
 use Rattle.mseed_steim.specs.declared.scheme.Scheme.TheVariants.{One, Two}
 use Rattle.mseed_steim.specs.Frames.{DataWord, data_word, data_words, is_data, words_from, word_count, first_constant}
 use Rattle.mseed_steim.specs.Frames.{last_constant}
-use Rattle.mseed_steim.specs.Packing.{IsEmptyWord, PacksRun, contents}
+use Rattle.mseed_steim_pack.specs.Packing.{IsEmptyWord, PacksRun, contents}
 use Rattle.mseed_audit.specs.Series.{Trace}
 use Rattle.mseed_steim.specs.declared.encoding.Encoding.{Encoding}
 use Rattle.mseed_steim.specs.declared.encoding.Encoding.TheVariants.{Int16, Int32, Steim1, Steim2}

@@ -3,10 +3,10 @@ use Rattle.std.proofs.Common.{◌≡◌, ◌∙◌, ℕ, ◌+◌, ◌-◌, ◌�
 use Rattle.std.specs.Prelude.{slice_range}
 use Rattle.std.proofs.lemmas.List.{drop-append-le, drop-drop}
 use Rattle.std.proofs.lemmas.Simd.{chunk-drop}
-use Rattle.mseed_steim.specs.declared.ahead.Lookahead.{Lookahead}
 use Rattle.mseed_steim.specs.declared.scheme.Scheme.{Scheme}
-use Rattle.mseed_steim.specs.Lookahead.{IsLookahead}
-use Rattle.mseed_steim.proofs.Lookaheads.{known_more}
+use Rattle.mseed_steim_pack.specs.declared.ahead.Lookahead.{Lookahead}
+use Rattle.mseed_steim_pack.specs.Lookahead.{IsLookahead}
+use Rattle.mseed_steim_pack.proofs.Lookaheads.{known_more}
 
 -- some of a list from a place on, and those after them
 parts : (xs : List ℤ) (first end : ℕ) → first ≤ end → slice_range xs first end ++ drop end xs ≡ drop first xs

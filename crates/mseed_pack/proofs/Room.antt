@@ -8,8 +8,8 @@ use Rattle.std.proofs.lemmas.List.FromFn.{length-range_with_len}
 use Rattle.mseed_steim.specs.declared.scheme.Scheme.{Scheme}
 use Rattle.mseed_steim.specs.Spelling.{Spells, empty, row}
 use Rattle.mseed_steim.specs.Frames.{DataWord, data_word, is_data, words_from, data_words, word_count}
-use Rattle.mseed_steim.specs.Packing.{CanSpell, IsFullest, PacksRun}
 use Rattle.mseed_steim.proofs.Table.{group_sized}
+use Rattle.mseed_steim_pack.specs.Packing.{CanSpell, IsFullest, PacksRun}
 
 pub spelled_seven : (s : Scheme) (c w : ℕ) (ds : List ℤ) → Spells s c w ds → length ds ≤ 7
 spelled_seven s c w ds (empty e none) = let size : length ds ≡ 0 = ap (λ (xs : List ℤ). length xs) none in

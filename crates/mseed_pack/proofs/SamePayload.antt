@@ -11,8 +11,8 @@ use Rattle.byteorder.specs.Endian.{twos_complement}
 use Rattle.byteorder.specs.Numbers.{big_from-lt}
 use Rattle.mseed_steim.specs.Frames.{DataWord, words_from, data_words, word_at, code_at, word_count}
 use Rattle.mseed_steim.specs.Frames.{first_constant, last_constant}
-use Rattle.mseed_steim.specs.Packing.{contents}
 use Rattle.mseed_steim.proofs.Walking.{words_skip, words_step}
+use Rattle.mseed_steim_pack.specs.Packing.{contents}
 
 abbrev Alike : List ℕ → List ℕ → ℕ → Type 0
 Alike p q k = (code_at p k ≡ code_at q k) × (word_at p k ≡ word_at q k)

@@ -28,9 +28,9 @@ use Rattle.mseed_steim.specs.declared.form.Form.{Form}
 use Rattle.mseed_steim.specs.declared.form.Form.TheVariants.{Integers, Frames}
 use Rattle.mseed_steim.specs.Frames.{DataWord, data_words, first_constant}
 use Rattle.mseed_steim.specs.Runs.{SpellsRun}
-use Rattle.mseed_steim.specs.Packing.{PacksRun}
 use Rattle.mseed_steim.specs.Samples.{form_of, IsSample, StartsAndAdds, IsPayloadReading, EndsOnConstant}
 use Rattle.mseed_steim.specs.Reading.{count_of, IsWhole}
+use Rattle.mseed_steim_pack.specs.Packing.{PacksRun}
 use Rattle.mseed_audit.specs.Judging.{step_in, known_rate, rate_unless}
 use Rattle.mseed_audit.specs.Series.{Trace}
 use Rattle.mseed_steim.specs.declared.encoding.Encoding.{Encoding}

@@ -2,7 +2,7 @@
 use Rattle.std.specs.Prelude.{◌≡◌, ℕ, ◌+◌, ◌==◌, not, List, length, drop, slice_range}
 use Rattle.std.specs.List.{AllByRecursion, filter}
 use Rattle.mseed_steim.specs.Frames.{DataWord, data_words}
-use Rattle.mseed_steim.specs.Packing.{IsFewest}
+use Rattle.mseed_steim_pack.specs.Packing.{IsFewest}
 use Rattle.mseed_audit.specs.Series.{Trace}
 use Rattle.mseed_pack.specs.Packing.{IsPacking, Piece}
 use Rattle.mseed_pack.specs.Stretches.{differences}

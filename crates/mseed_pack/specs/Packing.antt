@@ -9,7 +9,7 @@ use Rattle.mseed_steim.specs.declared.scheme.Scheme.{Scheme}
 use Rattle.mseed_steim.specs.declared.scheme.Scheme.TheVariants.{One, Two}
 use Rattle.mseed_steim.specs.Spelling.{residue}
 use Rattle.mseed_steim.specs.Frames.{code_at, data_words, first_constant, last_constant, word_count}
-use Rattle.mseed_steim.specs.Packing.{IsEmptyWord, PacksRun}
+use Rattle.mseed_steim_pack.specs.Packing.{IsEmptyWord, PacksRun}
 use Rattle.mseed_audit.specs.Series.{Trace}
 use Rattle.mseed_steim.specs.declared.encoding.Encoding.{Encoding}
 use Rattle.mseed_steim.specs.declared.encoding.Encoding.TheVariants.{Int16, Int32, Steim1, Steim2}

@@ -2,9 +2,9 @@
 ghost use Rattle.std.specs.Prelude.{◌≡◌, ℕ, ℤ, List, ◌+◌, ◌-◌, ◌*◌, ◌/◌, ◌<◌, ◌≤◌, ◌==◌, if◌then◌else◌, length};
 ghost use Rattle.std.specs.Prelude.{drop, min, slice_range, ◌++◌, All, Ok};
 ghost use Rattle.mseed_steim.specs.Frames.{word_at};
-ghost use Rattle.mseed_steim.specs.Lookahead.{IsLookahead};
-ghost use Rattle.mseed_steim.specs.Packed.{IsRunPacked};
 ghost use Rattle.mseed_steim.specs.Spelling.{IsWithin};
+ghost use Rattle.mseed_steim_pack.specs.Lookahead.{IsLookahead};
+ghost use Rattle.mseed_steim_pack.specs.Packed.{IsRunPacked};
 ghost use Rattle.mseed_pack.specs.declared.window.TheConstants.{ROOM};
 ghost use Rattle.mseed_pack.specs.private.Filling.{AreAhead, AreBegun, AreFrames, AreLeft, AreRunEnds, AreSet};
 ghost use Rattle.mseed_pack.specs.private.Filling.{AreTaken, GoesOn, Holds, HoldsDifferences, HoldsInFrames};
@@ -17,7 +17,8 @@ use crate::payload::{Filled, Filler, Left};
 use crate::supply::Supply;
 use crate::window::Window;
 use byteorder::{BigEndian, ByteOrder};
-use mseed_steim::{Ends, Lookahead, Packed, Scheme, pack_words_ahead};
+use mseed_steim::{Ends, Scheme};
+use mseed_steim_pack::{Lookahead, Packed, pack_words_ahead};
 
 /// Bytes of a word.
 const WORD: usize = 4;

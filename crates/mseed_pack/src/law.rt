@@ -27,7 +27,8 @@ use crate::options::Options;
 use crate::series_view::SeriesView;
 use mseed_audit::{continuous_exactly, one_series};
 use mseed_record::header_reads_back;
-use mseed_steim::{one_packing as one_run, one_reading, packed_spells};
+use mseed_steim::one_reading;
+use mseed_steim_pack::{one_packing as one_run, packed_spells};
 use mseed_stream::one_input;
 use mseed_time::one_name;
 

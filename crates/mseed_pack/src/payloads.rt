@@ -1,8 +1,8 @@
 //! The samples of a list, in payloads of any encoding.
 ghost use Rattle.std.specs.Prelude.{ℤ, List, ◌+◌, slice_range, Ok};
-ghost use Rattle.mseed_steim.specs.Lookahead.{IsLookahead};
-ghost use Rattle.mseed_steim.specs.Packed.{IsRunPacked};
 ghost use Rattle.mseed_steim.specs.declared.scheme.Scheme.{Scheme};
+ghost use Rattle.mseed_steim_pack.specs.Lookahead.{IsLookahead};
+ghost use Rattle.mseed_steim_pack.specs.Packed.{IsRunPacked};
 ghost use Rattle.mseed_pack.specs.private.Filling.{AreAhead, AreFrames, AreLeft, AreTaken, HoldsInFrames};
 ghost use Rattle.mseed_pack.specs.Stretches.{differences};
 
@@ -10,7 +10,8 @@ use crate::frames::{frames_of, put_constants};
 use crate::integers::{Width, fill_integers};
 use crate::options::Encoding;
 use crate::payload::{Filled, Filler, Left};
-use mseed_steim::{Lookahead, Packed, Scheme, pack_samples_ahead};
+use mseed_steim::Scheme;
+use mseed_steim_pack::{Lookahead, Packed, pack_samples_ahead};
 
 /// What payloads of any encoding are filled from, beside the list: what is known ahead of its next sample.
 #[derive(Drop)]

@@ -15,7 +15,7 @@ use Rattle.mseed_steim.specs.Nearness.{AreNearFrom, AreNear as AreNeighboursNear
 use Rattle.mseed_steim.specs.Reading.{count_of, IsWhole}
 use Rattle.mseed_steim.specs.Samples.{AreEnds, BeginsWith, IsPayloadReading, bytes_of, differences_from}
 use Rattle.mseed_steim.specs.Spelling.{IsWithin}
-use Rattle.mseed_steim.proofs.Rows.{within_wider}
+use Rattle.mseed_steim.proofs.Widths.{within_wider}
 use Rattle.mseed_repack.specs.private.Outline.{AreNear, IsKnown, last_after}
 use Rattle.mseed_repack.specs.declared.outline.Nearness.TheVariants.{Near}
 

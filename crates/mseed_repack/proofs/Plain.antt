@@ -9,7 +9,7 @@ use Rattle.mseed_steim.specs.Spelling.{IsWithin}
 use Rattle.mseed_steim.specs.declared.encoding.Encoding.{Encoding}
 use Rattle.mseed_steim.specs.declared.encoding.Encoding.TheVariants.{Int16, Int32, Steim1, Steim2}
 use Rattle.mseed_steim.specs.declared.fault.Ends.{Ends}
-use Rattle.mseed_steim.proofs.Rows.{within_wider}
+use Rattle.mseed_steim.proofs.Widths.{within_wider}
 use Rattle.mseed_audit.specs.Series.{AreJoined, none, one}
 use Rattle.mseed_pack.specs.Options.{IsSteim}
 use Rattle.mseed_pack.specs.Stretches.{differences}

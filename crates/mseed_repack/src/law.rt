@@ -20,7 +20,8 @@ ghost use Rattle.mseed_repack.specs.declared.fault.RepackFault.{RepackFault};
 use mseed_audit::{continuous_exactly, one_list_of_verdicts, one_series};
 use mseed_pack::{archive_reads_back, one_misfit, one_packing, reads_back};
 use mseed_record::header_reads_back;
-use mseed_steim::{one_reading, packed_spells};
+use mseed_steim::one_reading;
+use mseed_steim_pack::packed_spells;
 use mseed_stream::one_input;
 use mseed_stretches::{instants_stay_near, one_list_of_stretches, stretches_are_continuous};
 

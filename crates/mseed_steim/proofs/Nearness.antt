@@ -1,7 +1,8 @@
 -- Samples that are near one another, by the words or integers that say them.
 use Rattle.std.proofs.Common.{◌≡◌, ◌≢◌, ℕ, zero, suc, ◌+◌, ◌-◌, ◌*◌, ◌/◌, ◌%◌, ◌^◌, ◌<◌, ◌≤◌, List, [], ◌∷◌}
 use Rattle.std.proofs.Common.{length, map, not, eqb, get_or, refl, sym, ap, ◌∙◌, subst, arith, ℤ, ◌-ℤ◌, Option, Some}
-use Rattle.std.proofs.Common.{None, All, cond, of_z, to_z, w32, FitsSigned, ⊎_elim, false, bit_and, pos, negsuc}
+use Rattle.std.proofs.Common.{None, All, Bool, true, false, cond, of_z, to_z, w32, FitsSigned, ⊎_elim, bit_and, pos}
+use Rattle.std.proofs.Common.{negsuc}
 use Rattle.std.specs.Int.{bit_at}
 use Rattle.std.specs.List.{AllByRecursion, filter, range_with_len}
 use Rattle.std.specs.Prelude.{◌↔◌, max}
@@ -22,19 +23,18 @@ use Rattle.mseed_steim.specs.declared.form.Form.TheVariants.{Integers, Frames}
 use Rattle.mseed_steim.specs.private.Digits.{signed}
 use Rattle.mseed_steim.specs.Frames.{DataWord, code_at, data_word, data_words, first_constant, is_data, word_at}
 use Rattle.mseed_steim.specs.Frames.{word_count, words_from}
-use Rattle.mseed_steim.specs.Groups.{Group, group_of, plain}
+use Rattle.mseed_steim.specs.Groups.{Group, group_of, narrow_group, plain, wide_group}
 use Rattle.mseed_steim.specs.Nearness.{AreNear, AreNearFrom, IsNarrowAt, IsSurelyNear}
 use Rattle.mseed_steim.specs.Reading.{HoldsIn, IsWhole, count_of}
 use Rattle.mseed_steim.specs.Runs.{SpellsRun}
 use Rattle.mseed_steim.specs.Samples.{Adds, AreSums, BeginsWith, IsPayloadReading, StartsAndAdds}
 use Rattle.mseed_steim.specs.Spelling.{IsGroup, IsWithin, Spells, empty, residue}
-use Rattle.mseed_steim.proofs.Widths.{within_by}
 use Rattle.mseed_steim.proofs.Below.{sixteen}
 use Rattle.mseed_steim.proofs.Given.{prefix_words, word_small}
 use Rattle.mseed_steim.proofs.Integers.{number_lt, signed_is}
 use Rattle.mseed_steim.proofs.Laws.{same_payload}
-use Rattle.mseed_steim.proofs.Rows.{all_wider, narrower_by, spelled_fits, within_wider}
 use Rattle.mseed_steim.proofs.Spelled.{signed_32, signed_residue, signed_within}
+use Rattle.mseed_steim.proofs.Widths.{all_wider, within_wider}
 use Rattle.mseed_steim.proofs.Words.{residue_one}
 
 -- what a word spells has 30 bits at the most
@@ -47,16 +47,39 @@ value_is x z small range e =
     residue_one 32 z (signed 32 x) (omega arith) range (signed_within 32 x (omega arith) small) (sym e
     ∙ sym (signed_residue 32 x (omega arith) small)) ∙ sym (signed_is 4 x small)
 
+-- where there is a group, its differences have 30 bits at the most
+abbrev IsNarrow : Option Group → Type 0
+IsNarrow o = (g : Group) → o ≡ Some g → g.width ≤ 30
+
+narrow_some : (g : Group) → g.width ≤ 30 → IsNarrow (Some g)
+narrow_some g narrow h e = let same : g ≡ h = cc in subst (λ (x : Group). x.width ≤ 30) same narrow
+
+narrow_either : (b : Bool) (o more : Option Group) → IsNarrow o → IsNarrow more → IsNarrow (cond b o more)
+narrow_either true o more this other = this
+narrow_either false o more this other = other
+
+wide_group_narrow : (dnib : ℕ) → IsNarrow (wide_group dnib)
+wide_group_narrow dnib =
+    narrow_either (eqb dnib 1) _ _ (narrow_some _ (omega arith))
+    (narrow_either (eqb dnib 2) _ _ (narrow_some _ (omega arith))
+    (narrow_either (eqb dnib 3) _ _ (narrow_some _ (omega arith)) (λ g e. cc)))
+
+narrow_group_narrow : (dnib : ℕ) → IsNarrow (narrow_group dnib)
+narrow_group_narrow dnib =
+    narrow_either (eqb dnib 0) _ _ (narrow_some _ (omega arith))
+    (narrow_either (eqb dnib 1) _ _ (narrow_some _ (omega arith))
+    (narrow_either (eqb dnib 2) _ _ (narrow_some _ (omega arith)) (λ g e. cc)))
+
+two_narrow : (code dnib : ℕ) → IsNarrow (group_of Steim2 code dnib)
+two_narrow code dnib =
+    narrow_either (eqb code 1) _ _ (narrow_some _ (omega arith))
+    (narrow_either (eqb code 2) _ _ (wide_group_narrow dnib)
+    (narrow_either (eqb code 3) _ _ (narrow_group_narrow dnib) (λ g e. cc)))
+
 -- Steim-2
 near_two : (w : DataWord) → IsNearWord Steim2 w
-near_two w [] s = All-nil (IsWithin 30)
-near_two w (d ∷ ds) s =
-    let fits = spelled_fits Steim2 (d ∷ ds) (omega arith) (w.code, (w.bits, s)) in
-    let wide = narrower_by (length (d ∷ ds)) 1 fits.row (omega arith) (omega arith) fits.found in
-    let found = wide.1.0 in
-    let thirty : wide.0.width ≡ 30 = cc in
-    let less = wide.1.1 in
-    all_wider fits.row.width 30 (d ∷ ds) (omega (arith, thirty, less)) fits.range
+near_two w ds (empty e q) = subst (λ (xs : List ℤ). All (IsWithin 30) xs) (sym q) (All-nil (IsWithin 30))
+near_two w ds (Spells.row g dnib e p) = all_wider g.width 30 ds (two_narrow w.code dnib g e) p.range
 
 all_near_two : (ws : List DataWord) → AllByRecursion (IsNearWord Steim2) ws
 all_near_two [] = tt
@@ -237,10 +260,14 @@ near_whole v form p n held count near s whole = near s (rw (held.4, count) (same
 
 -- a number with 2^28 added, modulo 2^32, is less than 2^29 where the number has 29 bits at the most
 pub above_is : (z : ℤ) → FitsSigned w32 z → ((of_z w32 z + 268435456) % 4294967296 < 536870912) ↔ IsWithin 29 z
-above_is (pos n) f = let w = within_by (pos n) n refl 29 in
-    (λ h. w.0 (omega (arith, h, f.sfits)), λ h. let l = w.1 h in omega (arith, l))
-above_is (negsuc n) f = let w = within_by (negsuc n) n refl 29 in
-    (λ h. w.0 (omega (arith, h, f.sfits)), λ h. let l = w.1 h in omega (arith, l, f.sfits))
+above_is (pos n) f = (
+  λ h. let less : n < 268435456 = omega (arith, h, f.sfits) in (omega (arith, ints, less), omega (arith, ints, less)),
+  λ h. let less : n < 268435456 = omega (arith, ints, h.1) in omega (arith, less),
+)
+above_is (negsuc n) f = (
+  λ h. let less : n < 268435456 = omega (arith, h, f.sfits) in (omega (arith, ints, less), omega (arith, ints, less)),
+  λ h. let less : n < 268435456 = omega (arith, ints, h.0) in omega (arith, less, f.sfits),
+)
 
 -- what holds of all places up to one more, by the greatest of what they have
 pub all_below_next : (P : ℕ → Type 0) (a b most n limit : ℕ) → most ≡ max a b

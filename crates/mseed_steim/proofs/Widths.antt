@@ -1,28 +1,15 @@
--- The bits that a number takes in two's complement.
-use Rattle.std.proofs.Common.{◌≡◌, ◌↔◌, ℕ, ◌-◌, ◌^◌, ◌<◌, ℤ, pos, negsuc, arith, FitsSigned, w32}
+-- What a width holds, a wider one does.
+use Rattle.std.proofs.Common.{ℕ, ◌-◌, ◌^◌, ◌≤◌, List, ℤ, arith, lit<, All}
+use Rattle.std.proofs.Math.Nat.{pow-le-pow_right}
 use Rattle.std.proofs.lemmas.Int.{ints}
+use Rattle.std.proofs.lemmas.List.Elements.{All-weaker}
 use Rattle.mseed_steim.specs.Spelling.{IsWithin}
-use Rattle.mseed_steim.specs.private.Ahead.{size_of}
 
-size_small : (z : ℤ) → FitsSigned w32 z → size_of z < 2 ^ 31
-size_small (pos n) f = f.sfits
-size_small (negsuc n) f = omega (arith, f.sfits)
+pub within_wider : (v w : ℕ) (d : ℤ) → v ≤ w → IsWithin v d → IsWithin w d
+within_wider v w d l h =
+    let less : v - 1 ≤ w - 1 = omega (arith, l) in
+    let most : 2 ^ (v - 1) ≤ 2 ^ (w - 1) = pow-le-pow_right (lit< tt) less in
+    (omega (arith, ints, h.0, most), omega (arith, ints, h.1, most))
 
-within : (z : ℤ) (w : ℕ) → size_of z < 2 ^ (w - 1) → IsWithin w z
-within (pos n) w h = (omega (arith, ints, h), omega (arith, ints, h))
-within (negsuc n) w h = (omega (arith, ints, h), omega (arith, ints, h))
-
-size_within : (z : ℤ) (w : ℕ) → IsWithin w z → size_of z < 2 ^ (w - 1)
-size_within (pos n) w h = omega (arith, ints, h.1)
-size_within (negsuc n) w h = omega (arith, ints, h.0)
-
-pub within_by : (z : ℤ) (size : ℕ) → size ≡ size_of z → (w : ℕ) → (size < 2 ^ (w - 1)) ↔ IsWithin w z
-within_by z size e = λ w. (λ h. within z w (rw e at h), λ h. rw e (size_within z w h))
-
--- a number of 32 bits
-pub fits_within : (z : ℤ) → FitsSigned w32 z → IsWithin 32 z
-fits_within z f = within z 32 (size_small z f)
-
-pub within_fits : (z : ℤ) → IsWithin 32 z → FitsSigned w32 z
-within_fits (pos n) h = let high = h.1 in record { sfits = omega (arith, ints, high) }
-within_fits (negsuc n) h = let low = h.0 in record { sfits = omega (arith, ints, low) }
+pub all_wider : (v w : ℕ) (ds : List ℤ) → v ≤ w → All (IsWithin v) ds → All (IsWithin w) ds
+all_wider v w ds l h = All-weaker (IsWithin v) (IsWithin w) (λ d p. within_wider v w d l p) ds h

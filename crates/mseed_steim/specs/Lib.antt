@@ -7,8 +7,5 @@ pub mod Left
 pub mod Samples
 pub mod Reading
 pub mod Nearness
-pub mod Packing
-pub mod Packed
-pub mod Lookahead
 pub mod Encoding
 pub mod private

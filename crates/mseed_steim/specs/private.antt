@@ -7,8 +7,3 @@ pub mod Lanes
 pub mod Moves
 pub mod Unpacked
 pub mod Sums
-pub mod Rows
-pub mod Ahead
-pub mod Four
-pub mod Pushing
-pub mod Wrapped

@@ -3,7 +3,6 @@
 #![tactic(auto)]
 
 mod adding;
-mod ahead;
 mod check;
 mod data_words;
 mod differences;
@@ -11,19 +10,14 @@ mod encoding;
 mod ends;
 mod fault;
 mod form;
-mod four;
 mod frame;
 mod group;
 mod keep;
 mod known;
 mod lanes;
 mod law;
-mod layout;
-mod pack;
-mod pending;
 mod read;
 mod ready;
-mod row;
 mod scheme;
 mod sum;
 mod unpack;
@@ -31,21 +25,13 @@ mod walk;
 mod widen;
 mod word;
 
-pub use ahead::Lookahead;
 pub use check::check_samples;
 pub use differences::{BadWordAt, Differences};
 pub use encoding::Encoding;
 pub use ends::{ends_of, is_surely_near, near_ends};
 pub use fault::{Ends, ReadFault};
 pub use known::unpack_differences;
-pub use law::{
-    lookahead_stays, one_fault, one_fewest, one_packing, one_reading, packed_spells,
-    reading_has_count,
-};
-pub use pack::{
-    Packed, TooLarge, TooLargeAt, least_words, pack_samples_ahead, pack_word, pack_words,
-    pack_words_ahead,
-};
+pub use law::{one_fault, one_reading, reading_has_count};
 pub use read::{fill_differences, fill_samples, is_steim, read_samples};
 pub use scheme::Scheme;
 pub use widen::widen_bytes;

@@ -3,9 +3,9 @@ use Rattle.std.specs.Prelude.{◌≡◌, ℕ, ◌+◌, ◌-◌, ◌*◌, ◌/◌
 use Rattle.std.specs.Prelude.{slice_index_or, slice_range, ℤ, pos, neg_ℤ, ◌≤ℤ◌, ◌<ℤ◌, All}
 use Rattle.std.specs.Borrow.{Bor}
 use Rattle.byteorder.specs.Endian.{big_bytes}
-use Rattle.mseed_steim.specs.declared.ahead.Lookahead.{Lookahead}
-use Rattle.mseed_steim.specs.Lookahead.{IsLookahead}
 use Rattle.mseed_steim.specs.Spelling.{IsWithin, residue}
+use Rattle.mseed_steim_pack.specs.declared.ahead.Lookahead.{Lookahead}
+use Rattle.mseed_steim_pack.specs.Lookahead.{IsLookahead}
 use Rattle.mseed_pack.specs.declared.frames.Frames.{Frames}
 use Rattle.mseed_pack.specs.declared.integers.Width.{Width}
 use Rattle.mseed_pack.specs.declared.listed.Listed.{Listed}

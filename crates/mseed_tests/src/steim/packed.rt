@@ -1,6 +1,7 @@
 //! Packed words, worked by hand from the manual's tables.
 
-use mseed_steim::{Packed, Scheme, TooLargeAt, least_words, pack_word, pack_words};
+use mseed_steim::Scheme;
+use mseed_steim_pack::{Packed, TooLargeAt, least_words, pack_word, pack_words};
 
 static DIFFERENCES: [i32; 5] = [300, 1, 1, 1, 1];
 

@@ -3,7 +3,8 @@
 
 ghost use Rattle.std.specs.Prelude.{◌≡◌, ◌<◌, ◌%◌, length};
 
-use mseed_steim::{Scheme, pack_words};
+use mseed_steim::Scheme;
+use mseed_steim_pack::pack_words;
 
 /// The number of differences that are made: more than the largest frames hold.
 const LONGEST: usize = 7056;

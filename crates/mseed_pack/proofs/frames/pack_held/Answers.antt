@@ -2,7 +2,7 @@ use Rattle.std.proofs.Common.{◌≡◌, ◌+◌, ◌-◌, ◌≤◌, ℕ, ℤ, 
 use Rattle.std.proofs.Common.{◌∙◌, w32, to_z, of_z}
 use Rattle.std.specs.Prelude.{slice_range}
 use Rattle.std.proofs.lemmas.Int.{to_z-of_z}
-use Rattle.mseed_steim.specs.declared.ahead.Lookahead.{Lookahead}
+use Rattle.mseed_steim_pack.specs.declared.ahead.Lookahead.{Lookahead}
 use Rattle.mseed_pack.specs.Packing.{HoldsFrames}
 use Rattle.mseed_pack.specs.private.Filling.{AreAhead, AreSet, width_of}
 use Rattle.mseed_pack.specs.Stretches.{differences}

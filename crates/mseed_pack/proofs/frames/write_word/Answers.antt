@@ -1,5 +1,5 @@
 use Rattle.std.proofs.Common.{arith}
-use Rattle.mseed_steim.proofs.Written.{word_written}
+use Rattle.mseed_steim_pack.proofs.Written.{word_written}
 use Rattle.mseed_pack.proofs.frames.write_word.Goals as goal
 
 pub returns : goal.returns

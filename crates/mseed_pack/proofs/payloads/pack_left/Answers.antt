@@ -2,8 +2,8 @@ use Rattle.std.proofs.Common.{◌≡◌, ◌-◌, ◌∙◌, ℕ, ℤ, pos, List
 use Rattle.std.proofs.Common.{ap, subst, FitsSigned, w32, to_z, of_z, inl}
 use Rattle.std.specs.Prelude.{slice_range}
 use Rattle.std.proofs.lemmas.Int.{to_z-of_z}
-use Rattle.mseed_steim.specs.Packed.{IsRunPacked}
 use Rattle.mseed_steim.specs.Samples.{differences_from}
+use Rattle.mseed_steim_pack.specs.Packed.{IsRunPacked}
 use Rattle.mseed_pack.specs.declared.payload.Left.{Left}
 use Rattle.mseed_pack.specs.private.Filling.{width_of}
 use Rattle.mseed_pack.specs.Stretches.{differences}

@@ -3,7 +3,7 @@ use Rattle.std.proofs.lemmas.Int.{to_z-of_z}
 use Rattle.std.proofs.Math.Nat.{mul-le-mul_left, mul-le-mul_right}
 use Rattle.std.proofs.Math.ListN.{drop_of_length-le}
 use Rattle.mseed_steim.proofs.Far.{span_step}
-use Rattle.mseed_steim.proofs.Fullest.{max_is}
+use Rattle.mseed_steim.proofs.Greatest.{max_is}
 use Rattle.mseed_steim.proofs.sum.reach_of.Goals as goal
 
 -- one more

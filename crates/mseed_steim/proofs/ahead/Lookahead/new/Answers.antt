@@ -1,6 +1,0 @@
-use Rattle.std.proofs.Common.{arith}
-use Rattle.mseed_steim.proofs.Lookaheads.{known_none}
-use Rattle.mseed_steim.proofs.ahead.Lookahead.new.Goals as goal
-
-pub returns : goal.returns
-returns c = λ s ds. known_none s ds _ 121 (omega arith)

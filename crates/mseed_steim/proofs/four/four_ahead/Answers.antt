@@ -1,4 +1,0 @@
-use Rattle.mseed_steim.proofs.four.four_ahead.Goals as goal
-
-pub returns-in-Two : goal.returns-in-Two
-returns-in-Two c = rw c.in-Two.is c.four_two.ensures

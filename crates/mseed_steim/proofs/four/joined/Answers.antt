@@ -1,5 +1,0 @@
-use Rattle.std.proofs.Common.{refl}
-use Rattle.mseed_steim.proofs.four.joined.Goals as goal
-
-pub returns : goal.returns
-returns c = rw c.sums_of-words.ensures refl

@@ -1,5 +1,0 @@
-use Rattle.mseed_steim.proofs.Lookaheads.{known_more}
-use Rattle.mseed_steim.proofs.law.lookahead_stays.Goals as goal
-
-pub returns : goal.returns
-returns c = λ s known ds more is. known_more s known ds more is

@@ -1,5 +1,0 @@
-use Rattle.mseed_steim.proofs.Fewest.{one_fewest}
-use Rattle.mseed_steim.proofs.law.one_fewest.Goals as goal
-
-pub returns : goal.returns
-returns c = one_fewest

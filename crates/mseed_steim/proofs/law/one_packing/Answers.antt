@@ -1,5 +1,0 @@
-use Rattle.mseed_steim.proofs.OnePacking.{one_word, one_run}
-use Rattle.mseed_steim.proofs.law.one_packing.Goals as goal
-
-pub returns : goal.returns
-returns c = record { word = one_word; run = one_run }

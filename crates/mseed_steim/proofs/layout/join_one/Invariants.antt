@@ -1,5 +1,0 @@
-use Rattle.mseed_steim.proofs.Joins.{Placed}
-use Rattle.mseed_steim.proofs.layout.join_one.Given as goal
-
-abbrev pub invariant-loop-index : goal.invariant-loop-index
-invariant-loop-index l = Placed l.fn.layout.row.width l.fn.layout.row.count l.diffs l.index l.word

@@ -1,9 +1,0 @@
-use Rattle.mseed_steim.specs.private.Rows.{row_for, IsBestRow}
-use Rattle.mseed_steim.proofs.Fullest.{Sized}
-use Rattle.mseed_steim.proofs.row.most_held.Given as goal
-
-abbrev pub invariant-loop-index : goal.invariant-loop-index
-invariant-loop-index l = record {
-  known : Sized l.diffs l.index l.size;
-  best : IsBestRow l.scheme l.diffs l.index (row_for l.scheme l.count);
-}

@@ -1,0 +1,245 @@
+-- Words that take the largest number of the differences that are left.
+use Rattle.std.proofs.Common.{◌≡◌, ℕ, ◌+◌, ◌-◌, ◌*◌, ◌/◌, ◌%◌, ◌^◌, ◌<◌, ◌≤◌, List, [], ◌∷◌, ◌++◌, length, take, drop}
+use Rattle.std.proofs.Common.{get_or, ℤ, pos, arith, refl, ap, sym, ◌∙◌, subst, All, ⊎_elim, Some, length-append}
+use Rattle.std.proofs.Common.{Result, Err, ◌↔◌}
+use Rattle.std.proofs.lemmas.Bool.{cases_lt}
+use Rattle.std.proofs.lemmas.List.{length_push, drop-drop, length-take-le, length-drop, take_more, get_or-take}
+use Rattle.std.proofs.lemmas.List.{get_or-drop, append_cancel_right, drop-append-le, take-append-le, take-append-drop}
+use Rattle.std.proofs.lemmas.List.{append_assoc}
+use Rattle.std.proofs.lemmas.List.Elements.{All-weaker, All-get_or, All-cons, All-nil}
+use Rattle.mseed_steim.specs.declared.scheme.Scheme.{Scheme}
+use Rattle.mseed_steim.specs.declared.scheme.Scheme.TheVariants.{One, Two}
+use Rattle.mseed_steim.specs.Spelling.{Spells, IsWithin, positional}
+use Rattle.mseed_steim.specs.Frames.{DataWord}
+use Rattle.mseed_steim.specs.Runs.{SpellsRun}
+use Rattle.mseed_steim.proofs.Words.{positional_lt}
+use Rattle.mseed_steim.proofs.Widths.{within_wider}
+use Rattle.mseed_steim_pack.specs.declared.row.Row.{Row}
+use Rattle.mseed_steim_pack.specs.declared.pack.TooLargeAt.{TooLargeAt}
+use Rattle.mseed_steim_pack.specs.Packing.{CanSpell, IsFullest, PacksRun, IsTooLargeAt, IsFirstTooLarge, LeavesRoom}
+use Rattle.mseed_steim_pack.specs.private.Rows.{row_with, row_for, NoneSpelled, IsBestRow}
+use Rattle.mseed_steim_pack.proofs.Rows.{FitsRow, row_is, row_spells, fits_spelled, spelled_fits, narrower_by}
+
+-- the word of the best row
+seven_plain : (r : Row) (ds : List ℤ) → row_for Two 7 ≡ Some r → length ds ≡ 7
+    → (r.dnib * 2 ^ 30 + positional r.width ds) / 2 ^ 28 % 4 ≡ 0
+seven_plain r ds e long =
+    let same : row_with 3 2 7 4 ≡ r = cc in
+    let bound : positional 4 ds < 2 ^ 28 = subst (λ (n : ℕ). positional 4 ds < 2 ^ (4 * n)) long (positional_lt 4 ds) in
+    subst (λ (x : Row). (x.dnib * 2 ^ 30 + positional x.width ds) / 2 ^ 28 % 4 ≡ 0) same (omega (arith, bound))
+
+pub is_fullest : (s : Scheme) (ds : List ℤ) (r : Row) (word : ℕ) → row_for s r.count ≡ Some r → r.count ≤ length ds
+    → All (IsWithin r.width) (take r.count ds) → NoneSpelled s ds r.count (length ds)
+    → word ≡ r.dnib * 2 ^ 30 + positional r.width (take r.count ds) → IsFullest s ds r.code word r.count
+is_fullest s ds r word found in' range none e =
+    let is = row_is s r.count r found in
+    let long : length (take r.count ds) ≡ r.count = length-take-le r.count ds in' in record {
+      some = is.0.some;
+      inside = in';
+      spelled = rw e (row_spells s r (take r.count ds) is.0 long range);
+      plain = λ two seven. rw e
+          (seven_plain r (take r.count ds)
+          (subst (λ (n : ℕ). row_for Two n ≡ Some r) seven
+          (subst (λ (x : Scheme). row_for x r.count ≡ Some r) two found)) (long ∙ seven));
+      largest = none;
+    }
+
+-- a word of Steim-2 has 30 bits at the most for a difference
+fits_thirty : (ds : List ℤ) → FitsRow Two ds → 0 < length ds → All (IsWithin 30) ds
+fits_thirty ds f h =
+    let wide = narrower_by (length ds) 1 f.row (omega arith) (omega (arith, h)) f.found in
+    let same : row_with 2 1 1 30 ≡ wide.0 = cc in
+    let thirty : f.row.width ≤ 30 = (subst (λ (x : Row). f.row.width ≤ x.width) (sym same) wide.1.1) in
+    all_thirty f.row.width ds thirty f.range
+  where
+    all_thirty : (v : ℕ) (xs : List ℤ) → v ≤ 30 → All (IsWithin v) xs → All (IsWithin 30) xs
+    all_thirty v xs l h = All-weaker (IsWithin v) (IsWithin 30) (λ d p. within_wider v 30 d l p) xs h
+
+pub taken_thirty : (ds : List ℤ) (code word used k : ℕ) → IsFullest Two ds code word used → k < used
+    → IsWithin 30 (get_or ds k (pos 0))
+taken_thirty ds code word used k full h =
+    let long : length (take used ds) ≡ used = length-take-le used ds full.inside in
+    let some : 0 < length (take used ds) = omega (arith, long, full.some) in
+    let range = fits_thirty (take used ds) (spelled_fits Two (take used ds) some (code, (word, full.spelled))) some in
+    let inside : k < length (take used ds) = omega (arith, long, h) in
+    rw (get_or-take used ds k (pos 0) h) at (All-get_or (IsWithin 30) (take used ds) k (pos 0) inside range)
+
+pub fullest_not_large : (s : Scheme) (ds : List ℤ) (code word used k : ℕ) → IsFullest s ds code word used → k < used
+    → ¬ (IsTooLargeAt s ds k)
+fullest_not_large s ds code word used k full h large =
+    large.2 (taken_thirty ds code word used k (subst (λ (x : Scheme). IsFullest x ds code word used) large.1 full) h)
+
+-- where no word spells the first difference, it's too large for Steim-2
+one_row : (s : Scheme) (ds : List ℤ) (r : Row) → row_for s 1 ≡ Some r → 0 < length ds
+    → IsWithin r.width (get_or ds 0 (pos 0)) → CanSpell s (take 1 ds)
+one_row s ds r e h fit =
+    let long : length (take 1 ds) ≡ 1 = length-take-le 1 ds h in
+    let prefix : take (0 + 1) ds ≡ take 0 ds ++ get_or ds 0 (pos 0) ∷ [] = take_more ds 0 (pos 0) h in
+    let range : All (IsWithin r.width) (take 1 ds) =
+    rw prefix (All-cons (IsWithin r.width) (get_or ds 0 (pos 0)) [] fit (All-nil (IsWithin r.width))) in
+    fits_spelled s (take 1 ds) (record { row = r; found = rw long e; range = range })
+
+pub none_large : (s : Scheme) (ds : List ℤ) → 0 < length ds → IsWithin 32 (get_or ds 0 (pos 0))
+    → NoneSpelled s ds 0 (length ds) → IsTooLargeAt s ds 0
+none_large One ds h fits none =
+    absurd (none 1 (omega arith) (omega (arith, h)) (one_row One ds (row_with 3 0 1 32) refl h fits))
+none_large Two ds h fits none =
+    (h, refl, λ fit. none 1 (omega arith) (omega (arith, h)) (one_row Two ds (row_with 2 1 1 30) refl h fit))
+
+-- as many differences at the most as before, and one at least for each word
+pub rest_shorter : (s : Scheme) (ws : List DataWord) (ds rest : List ℤ) → PacksRun s ws ds rest
+    → length rest + length ws ≤ length ds
+rest_shorter s [] ds rest run = let same = ap (λ (xs : List ℤ). length xs) run in omega (arith, same)
+rest_shorter s (w ∷ ws) ds rest run =
+    let later = rest_shorter s ws (drop run.0 ds) rest run.1.1 in
+    let some = run.1.0.some in
+    let inside = run.1.0.inside in
+    omega (arith, later, some, inside, length-drop run.0 ds)
+
+-- one more word
+pub run_more : (s : Scheme) (ws : List DataWord) (w : DataWord) (ds mid : List ℤ) (used : ℕ) → PacksRun s ws ds mid
+    → IsFullest s mid w.code w.bits used → PacksRun s (ws ++ w ∷ []) ds (drop used mid)
+run_more s [] w ds mid used run full = (
+  used,
+  (
+    subst (λ (xs : List ℤ). IsFullest s xs w.code w.bits used) (sym run) full,
+    ap (λ (xs : List ℤ). drop used xs) run,
+  ),
+)
+run_more s (v ∷ ws) w ds mid used run full = (run.0, (run.1.0, run_more s ws w (drop run.0 ds) mid used run.1.1 full))
+
+-- what is packed is spelled
+pub run_spelled : (s : Scheme) (ws : List DataWord) (ds rest : List ℤ) → PacksRun s ws ds rest
+    → (prefix : List ℤ) × ((ds ≡ prefix ++ rest) × SpellsRun s ws prefix)
+run_spelled s [] ds rest run = ([], (run, refl))
+run_spelled s (w ∷ ws) ds rest run =
+    let later = run_spelled s ws (drop run.0 ds) rest run.1.1 in
+    let whole : ds ≡ (take run.0 ds ++ later.0) ++ rest = sym (take-append-drop run.0 ds)
+    ∙ ap (λ (xs : List ℤ). take run.0 ds ++ xs) later.1.0 ∙ sym (append_assoc (take run.0 ds) later.0 rest) in
+    (take run.0 ds ++ later.0, (whole, (take run.0 ds, (later.0, (refl, (run.1.0.spelled, later.1.1))))))
+
+pub prefix_spelled : (s : Scheme) (ws : List DataWord) (ds : List ℤ) (used : ℕ) → PacksRun s ws ds (drop used ds)
+    → SpellsRun s ws (take used ds)
+prefix_spelled s ws ds used run =
+    let found = run_spelled s ws ds (drop used ds) run in
+    let same : found.0 ≡ take used ds =
+    append_cancel_right found.0 (take used ds) (drop used ds) (sym found.1.0 ∙ sym (take-append-drop used ds)) in
+    subst (λ (xs : List ℤ). SpellsRun s ws xs) same found.1.1
+
+-- it's a packing of those differences alone, too
+prefix_fullest : (s : Scheme) (prefix rest : List ℤ) (code word used : ℕ) → IsFullest s (prefix ++ rest) code word used
+    → used ≤ length prefix → IsFullest s prefix code word used
+prefix_fullest s prefix rest code word used full h = record {
+  some = full.some;
+  inside = h;
+  spelled = subst (λ (xs : List ℤ). Spells s code word xs) (take-append-le used prefix rest h) full.spelled;
+  plain = full.plain;
+  largest = λ k more less can. full.largest k more (omega (arith, less, length-append prefix rest))
+      (subst (λ (xs : List ℤ). CanSpell s xs) (sym (take-append-le k prefix rest less)) can);
+}
+
+pub run_prefix : (s : Scheme) (ws : List DataWord) (prefix rest : List ℤ) → PacksRun s ws (prefix ++ rest) rest
+    → PacksRun s ws prefix []
+run_prefix s [] prefix rest run = append_cancel_right prefix [] rest run
+run_prefix s (w ∷ ws) prefix rest run =
+    let later = rest_shorter s ws (drop run.0 (prefix ++ rest)) rest run.1.1 in
+    let inside = run.1.0.inside in
+    let less : run.0 ≤ length prefix =
+    omega (arith, later, inside, length-drop run.0 (prefix ++ rest), length-append prefix rest) in
+    let cut : drop run.0 (prefix ++ rest) ≡ drop run.0 prefix ++ rest = drop-append-le run.0 prefix rest less in (
+      run.0,
+      (
+        prefix_fullest s prefix rest w.code w.bits run.0 run.1.0 less,
+        run_prefix s ws (drop run.0 prefix) rest (subst (λ (xs : List ℤ). PacksRun s ws xs rest) cut run.1.1),
+      ),
+    )
+
+-- none of the differences that words accepted is too large
+large_later : (s : Scheme) (ds : List ℤ) (used k : ℕ) → used ≤ k → IsTooLargeAt s ds k
+    → IsTooLargeAt s (drop used ds) (k - used)
+large_later s ds used k h large =
+    let place : used + (k - used) ≡ k = omega (arith, h) in
+    let inside = large.0 in (
+      omega (arith, inside, h, length-drop used ds),
+      large.1,
+      subst (λ (z : ℤ). ¬ (IsWithin 30 z))
+          (sym (get_or-drop used ds (k - used) (pos 0) ∙ ap (λ (n : ℕ). get_or ds n (pos 0)) place)) large.2,
+    )
+
+pub taken_not_large : (s : Scheme) (ws : List DataWord) (ds rest : List ℤ) (k : ℕ) → PacksRun s ws ds rest
+    → k + length rest < length ds → ¬ (IsTooLargeAt s ds k)
+taken_not_large s [] ds rest k run h large = let same = ap (λ (xs : List ℤ). length xs) run in omega (arith, same, h)
+taken_not_large s (w ∷ ws) ds rest k run h large = ⊎_elim
+    (λ (less : k < run.0). fullest_not_large s ds w.code w.bits run.0 k run.1.0 less large)
+    (λ (more : run.0 ≤ k).
+    let inside = run.1.0.inside in
+    taken_not_large s ws (drop run.0 ds) rest (k - run.0) run.1.1
+    (omega (arith, h, more, inside, length-drop run.0 ds)) (large_later s ds run.0 k more large))
+    (cases_lt k run.0)
+
+pub first_large : (s : Scheme) (ws : List DataWord) (ds : List ℤ) (used : ℕ) → used ≤ length ds
+    → PacksRun s ws ds (drop used ds) → IsTooLargeAt s (drop used ds) 0 → IsFirstTooLarge s ds used
+first_large s ws ds used h run large =
+    let inside = large.0 in
+    let place : used + 0 ≡ used = omega arith in
+    let here : used < length ds = omega (arith, inside, length-drop used ds) in (
+      (
+        here,
+        large.1,
+        subst (λ (z : ℤ). ¬ (IsWithin 30 z)) (get_or-drop used ds 0 (pos 0)
+            ∙ ap (λ (n : ℕ). get_or ds n (pos 0)) place) large.2,
+      ),
+      λ k less. taken_not_large s ws ds (drop used ds) k run (omega (arith, less, here, length-drop used ds)),
+    )
+
+pub one_first_large : (s : Scheme) (ds : List ℤ) (i j : ℕ) → IsFirstTooLarge s ds i → IsFirstTooLarge s ds j → i ≡ j
+one_first_large s ds i j a b = ⊎_elim
+    (λ (less : i < j). absurd (b.1 i less a.0))
+    (λ (more : j ≤ i). ⊎_elim (λ (less : j < i). absurd (a.1 j less b.0)) (λ (same : i ≤ j). omega (arith, more, same))
+    (cases_lt j i))
+    (cases_lt i j)
+
+-- one more word of Steim-2, by the best row
+pub least_more : (ds : List ℤ) (used words : ℕ) (r : Row)
+    → (ws : List DataWord) × ((length ws ≡ words) × PacksRun Two ws ds (drop used ds))
+    → IsBestRow Two (drop used ds) (length (drop used ds)) (Some r)
+    → (ws : List DataWord) × ((length ws ≡ words + 1) × PacksRun Two ws ds (drop (used + r.count) ds))
+least_more ds used words r run best =
+    let w : DataWord = record {
+      frame = 0;
+      place = 0;
+      code = r.code;
+      bits = r.dnib * 2 ^ 30 + positional r.width (take r.count (drop used ds));
+    } in
+    let full : IsFullest Two (drop used ds) w.code w.bits r.count =
+    is_fullest Two (drop used ds) r w.bits best.0 best.1 best.2 best.3 refl in (
+      run.0 ++ w ∷ [],
+      (
+        length_push run.0 w ∙ ap (λ (n : ℕ). n + 1) run.1.0,
+        subst (λ (xs : List ℤ). PacksRun Two (run.0 ++ w ∷ []) ds xs) (drop-drop r.count used ds)
+            (run_more Two run.0 w ds (drop used ds) r.count run.1.1 full),
+      ),
+    )
+
+-- a fault names one place
+pub same_index : (T : Type 0) (a b : ℕ)
+    → ◌≡◌ {A = Result T TooLargeAt} (Err (record { index = a })) (Err (record { index = b })) → a ≡ b
+same_index T a b e = let one : ◌≡◌ {A = TooLargeAt} (record { index = a }) (record { index = b }) = cc in
+    ap (λ (x : TooLargeAt). x.index) one
+
+pub refused_least : (T : Type 0) (ds : List ℤ) (used : ℕ) → IsFirstTooLarge Two ds used → (i : ℕ)
+    → (◌≡◌ {A = Result T TooLargeAt} (Err (record { index = used })) (Err (record { index = i })))
+    ↔ IsFirstTooLarge Two ds i
+refused_least T ds used large i = (
+  λ e. subst (λ (n : ℕ). IsFirstTooLarge Two ds n) (same_index T used i e) large,
+  λ h. ap (λ (n : ℕ). Err (record { index = n })) (one_first_large Two ds used i large h),
+)
+
+pub refused_packed : (T : Type 0) (s : Scheme) (ds : List ℤ) (used room : ℕ)
+    → IsFirstTooLarge s ds used × LeavesRoom s (take used ds) room
+    → (i : ℕ) → (◌≡◌ {A = Result T TooLargeAt} (Err (record { index = used })) (Err (record { index = i })))
+    ↔ (IsFirstTooLarge s ds i × LeavesRoom s (take i ds) room)
+refused_packed T s ds used room large i = (
+  λ e. subst (λ (n : ℕ). IsFirstTooLarge s ds n × LeavesRoom s (take n ds) room) (same_index T used i e) large,
+  λ h. ap (λ (n : ℕ). Err (record { index = n })) (one_first_large s ds used i large.0 h.0),
+)

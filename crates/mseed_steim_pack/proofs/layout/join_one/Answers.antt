@@ -1,0 +1,31 @@
+use Rattle.std.proofs.Common.{◌≡◌, ◌<◌, get_or, length, pos, rules, w32, of_z, FitsSigned, arith}
+use Rattle.std.proofs.lemmas.Int.{to_z-of_z}
+use Rattle.mseed_steim.specs.declared.scheme.Scheme.TheVariants.{One}
+use Rattle.mseed_steim_pack.proofs.Rows.{four_at_most, row_is}
+use Rattle.mseed_steim_pack.proofs.Joins.{placed_none, placed_next, placed_all}
+use Rattle.mseed_steim_pack.proofs.layout.join_one.Goals as goal
+
+pub loop-index-init : goal.loop-index-init
+loop-index-init c = placed_none c.args.layout.now.row.width c.args.layout.now.row.count c.args.diffs.now
+
+pub loop-index-preserved : goal.loop-index-preserved
+loop-index-preserved c =
+    let i = c.loop-index.index in
+    let layout = c.args.layout.now in
+    let is = (row_is One layout.row.count layout.row c.requires.layout.0).0 in
+    let lane : i < 8 = omega (arith, c.loop-index-test.true) in
+    let inside : i < length c.args.diffs.now = omega (arith, lane, c.requires.eight) in
+    let fits : FitsSigned w32 (get_or c.args.diffs.now i (pos 0)) = search rules in
+    let digit : c.cast_unsigned.result ≡ of_z w32 (get_or c.args.diffs.now i (pos 0)) =
+    rw to_z-of_z at c.cast_unsigned.ensures in
+    placed_next layout.row.width layout.row.count i c.args.diffs.now c.loop-index.word c.cast_unsigned.result
+    (get_or layout.masks i 0) (get_or layout.places i 0) is.wide is.narrow is.room
+    (omega (arith, is.most, c.requires.eight)) c.loop-index.invariant fits digit
+    (c.requires.layout.2 i lane) (c.requires.layout.3 i lane)
+
+pub returns : goal.returns
+returns c =
+    let layout = c.args.layout.now in
+    let enough = four_at_most layout.row.count layout.row c.requires.layout.0 in
+    placed_all layout.row.width layout.row.count c.args.diffs.now c.loop-index.index c.loop-index.word
+    (omega (arith, c.loop-index-test.false, enough)) c.loop-index.invariant

@@ -1,0 +1,59 @@
+use Rattle.std.proofs.Common.{◌≡◌, ◌∙◌, ◌<◌, ◌≤◌, ◌+◌, ◌-◌, ◌%◌, ℕ, ℤ, pos, ◌-ℤ◌, List, ◌∷◌, length, take}
+use Rattle.std.proofs.Common.{get_or, set, add-one, refl, sym, ap, arith, ⊎_elim, rules, FitsSigned, w32, to_z, of_z}
+use Rattle.std.specs.Int.{int_wrap}
+use Rattle.std.proofs.lemmas.Bool.{cases_lt}
+use Rattle.std.proofs.lemmas.Grind.{get_or-set_at}
+use Rattle.std.proofs.lemmas.Int.{to_z-of_z, wrapping_sub-bits}
+use Rattle.std.proofs.lemmas.List.{ext_get_or, get_or-set_other, get_or-take, length-set, length-take-le}
+use Rattle.mseed_steim_pack.specs.private.Wrapped.{wrapped_from}
+use Rattle.mseed_steim_pack.proofs.Wrapped.{wrapped_at, wrapped_length}
+use Rattle.mseed_steim_pack.proofs.pending.put_wrapped.Goals as goal
+
+-- one more is put after those before it
+put_more : (before last z : ℤ) (xs ds : List ℤ) (i : ℕ) → i < length xs → length xs ≤ length ds
+    → last ≡ get_or (before ∷ xs) i (pos 0) → z ≡ int_wrap w32 (get_or xs i (pos 0) -ℤ last)
+    → ((k : ℕ) → k < i → get_or ds k (pos 0) ≡ get_or (wrapped_from before xs) k (pos 0))
+    → (k : ℕ) → k < i + 1 → get_or (set ds i z) k (pos 0) ≡ get_or (wrapped_from before xs) k (pos 0)
+put_more before last z xs ds i inside room last_is is done k h = ⊎_elim
+    (λ (less : k < i). get_or-set_other ds i k z (pos 0) (λ e. omega (arith, e, less)) ∙ done k less)
+    (λ (more : i ≤ k).
+    let at : k ≡ i = omega (arith, h, more) in
+    get_or-set_at ds i k z (pos 0) at (omega (arith, inside, room)) ∙ is
+    ∙ ap (λ (y : ℤ). int_wrap w32 (get_or xs i (pos 0) -ℤ y)) last_is ∙ sym (wrapped_at before xs i inside)
+    ∙ ap (λ (n : ℕ). get_or (wrapped_from before xs) n (pos 0)) (sym at))
+    (cases_lt k i)
+
+pub loop-index-preserved : goal.loop-index-preserved
+loop-index-preserved c =
+    let before = c.args.before in
+    let xs = c.args.samples.now in
+    let ds = c.loop-index.differences in
+    let i = c.loop-index.index in
+    let bits = c.loop-index.last-bits in
+    let x = get_or xs i (pos 0) in
+    let fits : FitsSigned w32 x = search rules in
+    let z = to_z w32 ((of_z w32 x + (4294967296 - bits)) % 4294967296) in
+    let is : z ≡ int_wrap w32 (x -ℤ to_z w32 bits) =
+    wrapping_sub-bits w32 (of_z w32 x) bits (search rules) (search rules)
+    ∙ ap (λ (y : ℤ). int_wrap w32 (y -ℤ to_z w32 bits)) (to_z-of_z w32 x fits) in
+    let same : to_z w32 (of_z w32 before) ≡ before = to_z-of_z w32 before c.ranges.before in
+    let last = rw same at c.loop-index.invariant.last in
+    let done = rw same at c.loop-index.invariant.done in
+    rw same (record {
+      room = omega (arith, c.loop-index.invariant.room, length-set ds i z);
+      last = to_z-of_z w32 x fits ∙ rw add-one refl;
+      done = put_more before (to_z w32 bits) z xs ds i c.loop-index-test.true c.loop-index.invariant.room
+          last is done;
+    })
+
+pub returns : goal.returns
+returns c =
+    let before = c.args.before in
+    let xs = c.args.samples.now in
+    let ds = c.loop-index.differences in
+    let long : length (take (length xs) ds) ≡ length xs = length-take-le (length xs) ds c.loop-index.invariant.room in
+    let done = rw (to_z-of_z w32 before c.ranges.before) at c.loop-index.invariant.done in
+    ext_get_or (pos 0) (take (length xs) ds) (wrapped_from before xs) (long ∙ sym (wrapped_length before xs))
+    (λ k h.
+    let inside : k < length xs = omega (arith, h, long) in
+    get_or-take (length xs) ds k (pos 0) inside ∙ done k (omega (arith, inside, c.loop-index-test.false)))

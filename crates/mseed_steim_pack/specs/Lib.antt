@@ -1,0 +1,4 @@
+pub mod Packing
+pub mod Packed
+pub mod Lookahead
+pub mod private

@@ -1,0 +1,59 @@
+-- The rows of the table of groups, by how many differences they have. What a word spells is stated in Spelling.
+use Rattle.std.specs.Prelude.{◌≡◌, ℕ, ◌-◌, ◌*◌, ◌^◌, ◌<◌, ◌≤◌, ◌==◌, nat_lt, if◌then◌else◌, List, take, slice_index_or}
+use Rattle.std.specs.Prelude.{ℤ, Option, Some, None, All}
+use Rattle.mseed_steim.specs.declared.scheme.Scheme.{Scheme}
+use Rattle.mseed_steim.specs.declared.scheme.Scheme.TheVariants.{One, Two}
+use Rattle.mseed_steim.specs.Spelling.{IsWithin}
+use Rattle.mseed_steim_pack.specs.declared.row.Row.{Row}
+use Rattle.mseed_steim_pack.specs.Packing.{CanSpell}
+
+abbrev pub row_with : ℕ → ℕ → ℕ → ℕ → Row
+row_with code dnib count width = record { code = code; dnib = dnib; count = count; width = width }
+
+-- the row of so many differences
+abbrev pub row_for : Scheme → ℕ → Option Row
+row_for One count =
+    if count == 1 then Some (row_with 3 0 1 32)
+    else if count == 2 then Some (row_with 2 0 2 16)
+    else if count == 4 then Some (row_with 1 0 4 8)
+    else None
+row_for Two count =
+    if count == 1 then Some (row_with 2 1 1 30)
+    else if count == 2 then Some (row_with 2 2 2 15)
+    else if count == 3 then Some (row_with 2 3 3 10)
+    else if count == 4 then Some (row_with 1 0 4 8)
+    else if count == 5 then Some (row_with 3 0 5 6)
+    else if count == 6 then Some (row_with 3 1 6 5)
+    else if count == 7 then Some (row_with 3 2 7 4)
+    else None
+
+-- half of what the bits of a row's differences tell apart: the sizes of those that fit are less; 0 where there's no row
+abbrev pub size_limit : Option Row → ℕ
+size_limit None = 0
+size_limit (Some row) = 2 ^ (row.width - 1)
+
+-- it has more bits than each of two differences of a word
+abbrev pub IsWide : Scheme → ℤ → Type 0
+IsWide scheme d = (row : Row) → row_for scheme 2 ≡ Some row → ¬ (IsWithin row.width d)
+
+-- no word spells a prefix of more than `low` and at most `high` of the differences
+abbrev pub NoneSpelled : Scheme → List ℤ → ℕ → ℕ → Type 0
+NoneSpelled scheme ds low high = (k : ℕ) → low < k → k ≤ high → ¬ (CanSpell scheme (take k ds))
+
+-- the row that takes the largest number of the first `high` differences, or none where no word spells the first
+abbrev pub IsBestRow : Scheme → List ℤ → ℕ → Option Row → Type 0
+IsBestRow scheme ds high None = NoneSpelled scheme ds 0 high
+IsBestRow scheme ds high (Some row) =
+    (row_for scheme row.count ≡ Some row) × (row.count ≤ high) × All (IsWithin row.width) (take row.count ds)
+    × NoneSpelled scheme ds row.count high
+
+-- what a difference of a word counts for where it holds so many of a width, the last one for 1; nothing after them
+abbrev pub place_of : ℕ → ℕ → ℕ → ℕ
+place_of width count i = if nat_lt i count then 2 ^ (width * (count - 1 - i)) else 0
+
+abbrev pub ArePlaces : ℕ → ℕ → List ℕ → Type 0
+ArePlaces width count places = (i : ℕ) → i < 8 → slice_index_or places i 0 ≡ place_of width count i
+
+-- the bits of one difference of a width, in each lane
+abbrev pub AreMasks : ℕ → List ℕ → Type 0
+AreMasks width masks = (i : ℕ) → i < 8 → slice_index_or masks i 0 ≡ 2 ^ width - 1
