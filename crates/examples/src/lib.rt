@@ -13,6 +13,7 @@ pub mod live;
 pub mod live_tcp;
 pub mod model;
 pub mod pack;
+pub mod part_lines;
 pub mod parts;
 pub mod record;
 pub mod repacks;

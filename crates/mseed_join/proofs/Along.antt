@@ -4,6 +4,7 @@ use Rattle.std.proofs.Common.{false, Option, refl, sym, ap, ◌∙◌, subst, ar
 use Rattle.std.proofs.Common.{length-append, take-append-drop, length-take}
 use Rattle.std.proofs.lemmas.List.{append_cancel_left, append_cancel_right, nil_from_length}
 use Rattle.mseed_stream.specs.Device.{BytesRead, BytesWritten}
+use Rattle.mseed_part_lines.specs.Lines.{Line, counts_line, header_line}
 use Rattle.mseed_join.specs.declared.line_reader.Ahead.{Ahead}
 use Rattle.mseed_join.specs.declared.line_reader.Ahead.TheVariants.{Line as WholeLine, TooLong, Unended, Nothing}
 use Rattle.mseed_join.specs.declared.joint.Joint.{Joint}
@@ -12,7 +13,6 @@ use Rattle.mseed_join.specs.declared.joint.Place.TheVariants.{Start, Channels, W
 use Rattle.mseed_join.specs.declared.joint.Reported.{Reported}
 use Rattle.mseed_join.specs.declared.reader.Reader.{Reader}
 use Rattle.mseed_join.specs.Joined.{AreLines, Begins, HasNoEnd, IsBadLine, IsJointOf, IsOfOneLine, HasNoBadLine}
-use Rattle.mseed_join.specs.Lines.{Line, counts_line, header_line}
 use Rattle.mseed_join.specs.Reached.{OpenPart, Stage, IsStage, none, begun, whole, open_part, AreReported}
 use Rattle.mseed_join.specs.Reached.{parts_at, passed_lines, start, open_text}
 use Rattle.mseed_join.specs.ReadParts.{written_of}

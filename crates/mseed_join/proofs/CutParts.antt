@@ -10,9 +10,9 @@ use Rattle.mseed_stream.specs.Device.{BytesRead}
 use Rattle.mseed_stream.specs.Walk.{bytes_in}
 use Rattle.mseed_text.specs.Fault.{end_line}
 use Rattle.mseed_parts.specs.Parts.{Held, IsPartOf}
+use Rattle.mseed_part_lines.specs.Lines.{header_line, counts_line, faults_line}
 use Rattle.mseed_join.specs.AuditPart.{AuditedPart}
 use Rattle.mseed_join.specs.Headline.{EndsByBytes, IsReadOf, without_end}
-use Rattle.mseed_join.specs.Lines.{header_line, counts_line, faults_line}
 use Rattle.mseed_join.specs.Written.{Written, channel_lines, part_text}
 use Rattle.mseed_join.proofs.Cuts.{IsKnown, known, one_known, read_joined}
 use Rattle.mseed_join.proofs.Parting.{sizes}

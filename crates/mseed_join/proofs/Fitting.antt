@@ -21,10 +21,10 @@ use Rattle.mseed_parts.specs.Parts.{CountFits, CountsFit, FirstFits, Fits, FitsA
 use Rattle.mseed_parts.specs.Parts.{bytes_in as size_of, kept_of}
 use Rattle.mseed_parts.proofs.Moving.{stands_at_moved}
 use Rattle.mseed_parts.proofs.Placing.{bytes_append, moved}
+use Rattle.mseed_part_lines.specs.Lines.{HasChannelLine, HasFindings, HasHead}
 use Rattle.mseed_join.specs.AuditPart.{AuditedPart}
 use Rattle.mseed_join.specs.Headline.{AreParted, EndsByBytes, IsReadOf, last, more, none as no_pieces}
 use Rattle.mseed_join.specs.Joined.{AreJoined, IsJointOf, IsNext, counted, counted_by, moved_fault, none, nothing, one}
-use Rattle.mseed_join.specs.Lines.{HasChannelLine, HasFindings, HasHead}
 use Rattle.mseed_join.specs.Written.{Written}
 use Rattle.mseed_join.proofs.Cuts.{IsKnown, known, known_after, known_none, one_known}
 use Rattle.mseed_join.proofs.Merging.{JoinsChannel, JoinsCounts, JoinsNone, joint_of}

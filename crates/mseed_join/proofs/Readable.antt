@@ -50,10 +50,10 @@ use Rattle.mseed_audit.proofs.Outcomes.{numbered_length}
 use Rattle.mseed_audit.proofs.Views.{added_length}
 use Rattle.mseed_parts.specs.Parts.{IsAscending, bytes_in as size_of, kept_of}
 use Rattle.mseed_parts.proofs.Turns.{past_head}
+use Rattle.mseed_part_lines.specs.Lines.{HasChannelLine, HasFaultLine, HasFinding, HasFindings, HasFrameFault, HasHead}
+use Rattle.mseed_part_lines.specs.Lines.{HasTail, HasWhy}
 use Rattle.mseed_join.specs.AuditPart.{AuditedPart}
 use Rattle.mseed_join.specs.Headline.{IsWithinLimits}
-use Rattle.mseed_join.specs.Lines.{HasChannelLine, HasFaultLine, HasFinding, HasFindings, HasFrameFault, HasHead}
-use Rattle.mseed_join.specs.Lines.{HasTail, HasWhy}
 use Rattle.mseed_join.specs.Written.{HasText}
 use Rattle.mseed_join.proofs.Cuts.{read_joined, read_size}
 use Rattle.mseed_join.proofs.Faults.{found_has, middle}

@@ -16,7 +16,7 @@ use Rattle.mseed_parts.specs.Joining.{moved_channel, channel_joined}
 use Rattle.mseed_parts.specs.Parts.{Held, IsAscending, IsJoint, Fits, FitsAt, kept_of, channels_alone, one_channel}
 use Rattle.mseed_parts.specs.Parts.{counts_alone}
 use Rattle.mseed_parts.proofs.Adding.{joined_none}
-use Rattle.mseed_join.specs.Lines.{Line, text_of_line, IsLine, IsFaultAfter}
+use Rattle.mseed_part_lines.specs.Lines.{Line, text_of_line, IsLine, IsFaultAfter}
 use Rattle.mseed_join.specs.Written.{Written}
 use Rattle.mseed_join.specs.Joined.{none as no_more, one, IsNext, IsJointOf, counted, moved_fault, nothing}
 use Rattle.mseed_join.specs.Reached.{Stage, begun_part, parts_at, passed_lines}

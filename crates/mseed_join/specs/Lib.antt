@@ -1,4 +1,3 @@
-pub mod Lines
 pub mod Written
 pub mod Joined
 pub mod Borders

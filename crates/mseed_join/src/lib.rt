@@ -1,25 +1,18 @@
-//! The text of a part of an audit, written and read back.
+//! Parts of audits as texts: made of an archive, read and joined.
 #![tactic(auto)]
 
 mod auditing;
 mod borders;
 mod composed;
-mod fields;
-mod hex;
 mod joining;
 mod joining_each;
 mod joint;
 mod law;
 mod line_reader;
-mod lines;
-mod numbers;
 mod parts;
 mod reader;
-mod reading;
-mod reasons;
 mod report;
 mod text;
-mod writing;
 
 pub use auditing::{audit_part, audit_part_each};
 pub use composed::{
@@ -29,8 +22,6 @@ pub use composed::{
 pub use joining::{Form, Joined, JoinsFault, join};
 pub use joining_each::join_each;
 pub use joint::JointPart;
-pub use law::{lines_are_short, one_channel, one_line, one_list_of_borders, one_part_of_input};
-pub use lines::{read_channel_line, read_counts_line, read_fault_line, read_faults_line};
+pub use law::{lines_are_short, one_list_of_borders, one_part_of_input};
 pub use parts::read_parts;
 pub use reader::PartsFault;
-pub use writing::{HEADER, push_channel_line, push_counts_line, push_faults_line};

@@ -7,6 +7,7 @@ use Rattle.std.specs.declared.cmp.Ordering.TheVariants.{Less}
 use Rattle.mseed_stream.specs.declared.fault.StreamFault.{StreamFault}
 use Rattle.mseed_stream.specs.declared.fault.StreamFault.TheVariants.{Frame, Truncated, Read, Turns, Memory}
 use Rattle.mseed_audit.specs.declared.channel.Channel.{Channel}
+use Rattle.mseed_part_lines.specs.Lines.{Line, text_of_line}
 use Rattle.mseed_join.specs.declared.joint.Joint.{Joint}
 use Rattle.mseed_join.specs.declared.joint.LineFault.{LineFault}
 use Rattle.mseed_join.specs.declared.joint.LineFault.TheVariants.{Bad, Memory as NoMemory}
@@ -16,7 +17,6 @@ use Rattle.mseed_join.specs.declared.joint.Reported.{Reported}
 use Rattle.mseed_join.specs.declared.joint.Reported.TheVariants.{Nothing, Border as AtBorder, Passed}
 use Rattle.mseed_join.specs.Borders.{AreBordersOf, Border}
 use Rattle.mseed_join.specs.Joined.{Begins, IsJointOf}
-use Rattle.mseed_join.specs.Lines.{Line, text_of_line}
 use Rattle.mseed_join.specs.Reached.{OpenPart, none, begun, whole, Stage, parts_at, IsStage, passed_line, passed_lines}
 use Rattle.mseed_join.specs.ReadParts.{written_of}
 use Rattle.mseed_join.specs.private.Steps.{to}

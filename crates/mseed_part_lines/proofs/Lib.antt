@@ -1,0 +1,11 @@
+pub mod Backwards
+pub mod Digits
+pub mod DigitLanes
+pub mod HexLanes
+pub mod HexPairs
+pub mod FirstReason
+pub mod Prefixes
+pub mod Keys
+pub mod Lined
+pub mod OneLine
+pub mod Spelled

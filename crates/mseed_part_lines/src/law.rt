@@ -1,0 +1,15 @@
+//! Laws: a line is one thing at most.
+ghost use Rattle.std.specs.Prelude.{◌≡◌, List, ℕ};
+ghost use Rattle.mseed_audit.specs.declared.channel.Channel.{Channel};
+ghost use Rattle.mseed_part_lines.specs.Lines.{channel_line, HasChannelLine, Line, text_of_line, IsLine};
+
+/// A line is of one channel at most.
+pub fn one_channel()
+    ensures { (key other : List ℕ) (c d : Channel) → HasChannelLine key c → HasChannelLine other d
+        → channel_line key c ≡ channel_line other d → (key ≡ other) × (c ≡ d) }
+{}
+
+/// A line is of one kind at most, and says one thing.
+pub fn one_line()
+    ensures { (x y : Line) → IsLine x → IsLine y → text_of_line x ≡ text_of_line y → x ≡ y }
+{}
