@@ -20,6 +20,7 @@ import contextlib
 import enum
 import fcntl
 import functools
+import math
 import os
 import re
 import shutil
@@ -135,7 +136,7 @@ def minutes_left(left: dict[str, float], on: dict[str, set[str]], highs: set[str
         others = {at: minutes for at, minutes in left.items() if at != crate}
         if others.keys() <= on[crate]:
             return cost.minutes + (minutes_left(others, on, highs, cores) if others else 0)
-    return max(sum(left.values()) / cores, *ways({at: on[at] for at in left}, clock).values())
+    return max(math.fsum(left.values()) / cores, *ways({at: on[at] for at in left}, clock).values())
 
 
 def processes(cores: int, standing: Standing) -> int:
