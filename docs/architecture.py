@@ -24,6 +24,7 @@ CRATES = {
     "mseed_steim_pack": (0.25, "words and frames, packed"),
     "mseed_stream": (2, "devices, the cutter"),
     "mseed_text": (2, "lines of text"),
+    "mseed_choice": (3, "what is asked for"),
     "mseed_select": (3, "records that are asked for"),
     "mseed_audit": (1, "findings, verdicts, text"),
     "mseed_parts": (0, "parts of audits, joined"),

@@ -1,7 +1,7 @@
 -- Words ask for one command, of the same files.
 use Rattle.std.proofs.Common.{◌≡◌, ℕ, inl, List, map, Option, Ok, option_map, refl, unwrap_or, ap, sym, ◌∙◌}
 use Rattle.mseed_select.specs.Selecting.{selection_of}
-use Rattle.mseed_select.specs.Selection.{Selection}
+use Rattle.mseed_choice.specs.Selection.{Selection}
 use Rattle.mseed_stream.specs.Device.{BytesWritten}
 use Rattle.mseed_words.specs.Words.{AsksFor, Requested, requested}
 use Rattle.mseed_words.specs.declared.request.Command.{Command}

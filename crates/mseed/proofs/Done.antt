@@ -2,7 +2,7 @@
 use Rattle.std.proofs.Common.{◌≡◌, ◌∙◌, ◌⊎◌, ℕ, IfErr, IfOk, inl, inr, List, map, Option, option_map, Ok, Err}
 use Rattle.std.proofs.Common.{refl, Result, subst}
 use Rattle.mseed_select.specs.Selecting.{selection_of}
-use Rattle.mseed_select.specs.Selection.{Selection}
+use Rattle.mseed_choice.specs.Selection.{Selection}
 use Rattle.mseed_stream.specs.Device.{BytesRead, BytesWritten, nothing_read}
 use Rattle.mseed_words.specs.declared.request.Command.{Command}
 use Rattle.mseed_words.specs.declared.request.Fetching.{Fetching}

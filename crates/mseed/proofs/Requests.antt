@@ -1,6 +1,6 @@
 -- Requests that are carried out with all records of an input.
 use Rattle.std.proofs.Common.{◌≡◌, Bool, Some, None, refl}
-use Rattle.mseed_select.specs.Selection.{Selection}
+use Rattle.mseed_choice.specs.Selection.{Selection}
 use Rattle.mseed_words.specs.declared.request.Packing.{Packing}
 use Rattle.mseed_words.specs.declared.request.Request.{Request}
 use Rattle.mseed_words.specs.declared.request.Request.TheVariants.{Audit, AuditEach, Show, Select, Repack}

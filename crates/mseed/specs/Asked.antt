@@ -1,7 +1,7 @@
 -- What reading the words of a command line comes to: a command, or the exit status of words that request nothing.
 use Rattle.std.specs.Prelude.{◌≡◌, ◌⊎◌, List, ℕ, map, Option, option_map, Result, Ok, Err}
 use Rattle.mseed_select.specs.Selecting.{selection_of}
-use Rattle.mseed_select.specs.Selection.{Selection}
+use Rattle.mseed_choice.specs.Selection.{Selection}
 use Rattle.mseed_stream.specs.Device.{BytesWritten}
 use Rattle.mseed_stream.specs.LineWritten.{WritesLine}
 use Rattle.mseed_words.specs.declared.request.Command.{Command}

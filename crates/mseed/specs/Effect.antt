@@ -3,7 +3,7 @@ use Rattle.std.specs.Prelude.{◌≡◌, ◌⊎◌, ℕ, List, [], Option, Resul
 use Rattle.std.specs.declared.alloc.AllocError.{AllocError}
 use Rattle.mseed_files.specs.ChainState.{ChainState}
 use Rattle.mseed_input.specs.Files.{Names, ReportsBlame, ReportsName, cannot_read}
-use Rattle.mseed_select.specs.Selection.{Selection}
+use Rattle.mseed_choice.specs.Selection.{Selection}
 use Rattle.mseed_stream.specs.Device.{BytesWritten}
 use Rattle.mseed_feed.specs.Commands.{HasFetchedRequested, HasServedInput}
 use Rattle.mseed_feed.specs.Filling.{feed_of}

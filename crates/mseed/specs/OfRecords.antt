@@ -14,7 +14,7 @@ use Rattle.mseed_repack.specs.Selected.{IsSelectedRepacking, IsSelectedRestretch
 use Rattle.mseed_repack.specs.declared.fault.RepackFault.{RepackFault}
 use Rattle.mseed_repack.specs.declared.refusing.Left.{Left}
 use Rattle.mseed_select.specs.Select.{IsSelected}
-use Rattle.mseed_select.specs.Selection.{Selection}
+use Rattle.mseed_choice.specs.Selection.{Selection}
 use Rattle.mseed_select.specs.declared.fault.SelectFault.{SelectFault}
 use Rattle.mseed_select.specs.declared.selected.Selected.{Selected}
 use Rattle.mseed_show.specs.Show.{IsSelectedShown, IsShown}

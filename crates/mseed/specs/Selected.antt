@@ -5,7 +5,7 @@ use Rattle.mseed_audit.specs.declared.each.EachFault.TheVariants as each
 use Rattle.mseed_audit.specs.declared.summary.AuditFault.{AuditFault}
 use Rattle.mseed_audit.specs.declared.summary.AuditFault.TheVariants as audits
 use Rattle.mseed_audit.specs.declared.summary.SelectedSummary.{SelectedSummary}
-use Rattle.mseed_select.specs.Selection.{Selection}
+use Rattle.mseed_choice.specs.Selection.{Selection}
 use Rattle.mseed_select.specs.declared.fault.SelectFault.{SelectFault}
 use Rattle.mseed_select.specs.declared.fault.SelectFault.TheVariants.{Write, Memory}
 use Rattle.mseed_select.specs.declared.selected.Selected.{Selected}

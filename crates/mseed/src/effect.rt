@@ -1,7 +1,7 @@
 //! From the arguments of the command line to their effect.
 ghost use Rattle.std.specs.Prelude.{◌≡◌, ℕ, IfErr, IfOk, List, map, Option, option_map};
 ghost use Rattle.mseed_select.specs.Selecting.{selection_of};
-ghost use Rattle.mseed_select.specs.Selection.{Selection};
+ghost use Rattle.mseed_choice.specs.Selection.{Selection};
 ghost use Rattle.mseed_stream.specs.Device.{BytesRead, nothing_read};
 ghost use Rattle.mseed_words.specs.Words.{AreRefused, AsksFor, AsksForNothing, CanBeCalled};
 ghost use Rattle.mseed_words.specs.declared.request.Request.{Request};

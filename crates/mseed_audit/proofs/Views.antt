@@ -11,8 +11,8 @@ use Rattle.mseed_stream.specs.Calls.{ReadsOn}
 use Rattle.mseed_stream.specs.Cutting.{lent_whole}
 use Rattle.mseed_stream.specs.Device.{BytesRead, BytesWritten}
 use Rattle.mseed_stream.specs.Walk.{AreViews}
-use Rattle.mseed_select.proofs.Copied.{count_more}
-use Rattle.mseed_select.specs.Selection.{Selection, asks_for, lacks_time}
+use Rattle.mseed_choice.proofs.Counted.{count_more}
+use Rattle.mseed_choice.specs.Selection.{Selection, asks_for, lacks_time}
 use Rattle.mseed_audit.specs.declared.passed.Passed.{Passed}
 use Rattle.mseed_audit.specs.Audit.{Held, IsAuditAmong}
 use Rattle.mseed_audit.specs.Channels.{Added, Placed, added_from, numbered}

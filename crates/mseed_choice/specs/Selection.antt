@@ -6,9 +6,9 @@ use Rattle.mseed_time.specs.Rate.{Ratio, rate_of}
 use Rattle.mseed_time.specs.declared.fault.TimeFault.{TimeFault}
 use Rattle.mseed_record.specs.Header.{key_at, time_at, samples_at, factor_at, multiplier_at}
 use Rattle.mseed_record.specs.View.{View, start_of}
-use Rattle.mseed_select.specs.Pattern.{IsOfChannels, is_of_channels}
-use Rattle.mseed_select.specs.declared.answer.Answer.{Answer}
-use Rattle.mseed_select.specs.declared.answer.Answer.TheVariants.{AskedFor, Left, NoTime}
+use Rattle.mseed_choice.specs.Pattern.{IsOfChannels, is_of_channels}
+use Rattle.mseed_choice.specs.declared.answer.Answer.{Answer}
+use Rattle.mseed_choice.specs.declared.answer.Answer.TheVariants.{AskedFor, Left, NoTime}
 
 -- What is asked for: the channels that these patterns match, and a window from one instant up to another, which isn't
 -- part of it, in microseconds from 1970-01-01T00:00:00. What is `None` bounds nothing.

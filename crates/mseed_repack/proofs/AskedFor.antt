@@ -13,7 +13,7 @@ use Rattle.mseed_stream.specs.LineWritten.{WritesLine}
 use Rattle.mseed_stream.specs.Walk.{bytes_in}
 use Rattle.mseed_stream.specs.declared.fault.StreamFault.{StreamFault}
 use Rattle.mseed_select.specs.Select.{selected_bytes}
-use Rattle.mseed_select.specs.Selection.{Selection, asks_for}
+use Rattle.mseed_choice.specs.Selection.{Selection, asks_for}
 use Rattle.mseed_pack.specs.declared.options.Options.{Options}
 use Rattle.mseed_repack.specs.ByStretches.{IsRestretching, ReportsEach, silent}
 use Rattle.mseed_repack.specs.Repack.{IsRepacking, IsWhole}

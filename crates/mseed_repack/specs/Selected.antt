@@ -6,7 +6,7 @@ use Rattle.mseed_record.specs.View.{View}
 use Rattle.mseed_stream.specs.Device.{BytesRead, BytesWritten}
 use Rattle.mseed_stream.specs.declared.fault.StreamFault.TheVariants.{Memory as NoMemory}
 use Rattle.mseed_select.specs.Select.{selected_bytes}
-use Rattle.mseed_select.specs.Selection.{Selection, lacks_time}
+use Rattle.mseed_choice.specs.Selection.{Selection, lacks_time}
 use Rattle.mseed_pack.specs.declared.options.Options.{Options}
 use Rattle.mseed_repack.specs.Repack.{IsRepacking, IsUnread, IsWhole}
 use Rattle.mseed_repack.specs.ByStretches.{IsRestretching, ReportsEach}

@@ -17,8 +17,9 @@ use Rattle.mseed_stream.specs.Walk.{AreViews, HasHandedOut, bytes_in}
 use Rattle.mseed_select.specs.Counting.{counts_of, one_if}
 use Rattle.mseed_select.specs.Formatted.{IsFormatted, Texts, asked_text, texts_of, whole_text}
 use Rattle.mseed_select.specs.Halves.{Placed, placed_from}
-use Rattle.mseed_select.specs.Selection.{Selection, answer_of, asks_for, is_asked, is_without_time, lacks_time}
-use Rattle.mseed_select.specs.declared.answer.Answer.{Answer}
+use Rattle.mseed_choice.proofs.Counted.{count_more}
+use Rattle.mseed_choice.specs.Selection.{Selection, answer_of, asks_for, is_asked, is_without_time, lacks_time}
+use Rattle.mseed_choice.specs.declared.answer.Answer.{Answer}
 use Rattle.mseed_select.specs.declared.copying.Step.{Step}
 use Rattle.mseed_select.specs.declared.counts.Counts.{Counts}
 use Rattle.mseed_select.specs.declared.fault.SelectFault.{SelectFault}
@@ -33,16 +34,6 @@ stay old new c views more before e =
     views_stay old.bytes new.bytes more c.offset views (omega (arith, before.along.read.reported)) e before.records
 
 -- ---- one more record
-one_alone : (b : Bool) → 0 + cond b 1 0 ≡ one_if b
-one_alone true = refl
-one_alone false = refl
-
--- it is counted where a test holds of it
-pub count_more : (p : View → Bool) (views : List View) (v : View)
-    → count_by p (views ++ v ∷ []) ≡ count_by p views + one_if (p v)
-count_more p views v = sum_by-append (λ (w : View). cond (p w) 1 0) views (v ∷ [])
-    ∙ ap (λ (n : ℕ). count_by p views + n) (one_alone (p v))
-
 abbrev made : ℕ → ℕ → ℕ → Counts
 made records asked_for without_time =
     record { records = records; asked_for = asked_for; without_time = without_time }

@@ -1,6 +1,4 @@
-pub mod Pattern
 pub mod Word
-pub mod Selection
 pub mod Counting
 pub mod Selecting
 pub mod Select

@@ -1,36 +1,12 @@
-//! Which records are asked for.
+//! A selector is a choice of records.
 ghost use Rattle.std.specs.Prelude.{◌≡◌};
 ghost use Rattle.mseed_record.specs.Viewing.{view_of};
+ghost use Rattle.mseed_choice.specs.Selection.{answer_of};
 ghost use Rattle.mseed_select.specs.Selecting.{selection_of};
-ghost use Rattle.mseed_select.specs.Selection.{Selection, answer_of, everything};
 
-use crate::answer::Answer;
 use crate::selector::Selector;
+use mseed_choice::{Answer, Choice};
 use mseed_record::RecordView;
-
-/// Which records of an input are asked for: those of a [`Selector`], or [`All`] of them. A loop over records is generic
-/// over the choice, so that asking for all costs nothing.
-pub trait Choice {
-    // What is asked for.
-    ghost selection: { Self → Selection };
-
-    /// Returns whether a record is asked for.
-    fn answer(&self, view: &RecordView) -> Answer
-        ensures { result ≡ answer_of (selection self.now) (view_of view.now) };
-}
-
-/// The choice of all records.
-#[derive(Clone, Copy, Debug)]
-pub struct All;
-
-impl Choice for All {
-    ghost selection = { λ _. everything };
-
-    #[inline(always)]
-    fn answer(&self, _view: &RecordView) -> Answer {
-        Answer::AskedFor
-    }
-}
 
 impl<'a> Choice for Selector<'a> {
     ghost selection = { λ s. selection_of s };

@@ -8,16 +8,15 @@ ghost use Rattle.mseed_stream.specs.Walk.{HasHandedOut};
 ghost use Rattle.mseed_select.specs.Formatted.{IsFormatted};
 ghost use Rattle.mseed_select.specs.Select.{IsSelected};
 ghost use Rattle.mseed_select.specs.Selecting.{selection_of};
-ghost use Rattle.mseed_select.specs.Selection.{answer_of};
+ghost use Rattle.mseed_choice.specs.Selection.{answer_of};
 ghost use Rattle.mseed_select.specs.private.Copying.{IsCopying, IsHeld, IsNext, text_by};
 
-use crate::answer::Answer;
-use crate::choice::Choice;
 use crate::counts::Counts;
 use crate::fault::SelectFault;
 use crate::format::{Format, Verbatim};
 use crate::selected::Selected;
 use crate::selector::Selector;
+use mseed_choice::{Answer, Choice};
 use mseed_record::RecordView;
 use mseed_stream::{Cutter, Sink, Source, StreamFault, write_all_of, write_beyond};
 use std::alloc::{AllocError, Allocator};

@@ -5,8 +5,8 @@ ghost use Rattle.mseed_time.specs.Rate.{Ratio};
 ghost use Rattle.mseed_record.specs.Header.{key_at};
 ghost use Rattle.mseed_record.specs.View.{IsView, View};
 ghost use Rattle.mseed_select.specs.Halves.{AreMerged, asked_of, others_of, placed_from};
-ghost use Rattle.mseed_select.specs.Pattern.{Fits, IsOfChannels, fits};
-ghost use Rattle.mseed_select.specs.Selection.{HasSampleIn, IsAskedFor, Selection, asks_for};
+ghost use Rattle.mseed_choice.specs.Pattern.{Fits, IsOfChannels, fits};
+ghost use Rattle.mseed_choice.specs.Selection.{HasSampleIn, IsAskedFor, Selection, asks_for};
 
 /// The test of a pattern's field is exact.
 pub fn fits_exactly()

@@ -1,7 +1,6 @@
 //! The records of an archive that are asked for, by channel and by a window of time: as they are, or in another format.
 #![tactic(auto)]
 
-mod answer;
 mod choice;
 mod clocks;
 mod copying;
@@ -19,13 +18,12 @@ mod selected;
 mod selector;
 mod word;
 
-pub use answer::Answer;
-pub use choice::{All, Choice};
 pub use copying::{select, write_selected};
 pub use counts::Counts;
 pub use fault::{BadPatterns, BadTime, BadWindow, SelectFault};
 pub use format::Format;
 pub use law::{asked_for_exactly, fits_exactly, samples_in_window, two_halves};
+pub use mseed_choice::{All, Answer, Choice};
 pub use patterns::Patterns;
 pub use selected::Selected;
 pub use selector::Selector;

@@ -4,7 +4,7 @@ use Rattle.mseed_stream.specs.Device.{BytesRead, BytesWritten}
 use Rattle.mseed_stream.specs.declared.fault.StreamFault.{StreamFault}
 use Rattle.mseed_text.specs.Fault.{end_line}
 use Rattle.mseed_select.specs.Formatted.{IsFormatted, Texts}
-use Rattle.mseed_select.specs.Selection.{Selection, everything}
+use Rattle.mseed_choice.specs.Selection.{Selection, everything}
 use Rattle.mseed_select.specs.declared.fault.SelectFault.{SelectFault}
 use Rattle.mseed_select.specs.declared.fault.SelectFault.TheVariants.{Write as NotWritten, Memory as NoMemory}
 use Rattle.mseed_select.specs.declared.selected.Selected.{Selected}

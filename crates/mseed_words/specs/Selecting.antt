@@ -2,8 +2,8 @@
 use Rattle.std.specs.Prelude.{Bool, true, false, ◌||◌, List, if◌then◌else◌, ℤ, int_lt, codes}
 use Rattle.std.specs.Prelude.{Option, Some, None, is_some, option_map}
 use Rattle.clap.specs.Walk.{Row, Text, first_of}
-use Rattle.mseed_select.specs.Pattern.{are_patterns}
-use Rattle.mseed_select.specs.Selection.{Selection}
+use Rattle.mseed_choice.specs.Pattern.{are_patterns}
+use Rattle.mseed_choice.specs.Selection.{Selection}
 use Rattle.mseed_select.specs.Word.{time_of}
 use Rattle.mseed_words.specs.declared.request.Request.{Request}
 use Rattle.mseed_words.specs.declared.request.Request.TheVariants.{Audit, AuditEach, Show, Select, Repack}

@@ -9,7 +9,7 @@ use Rattle.clap.specs.Faults.{fault_of}
 use Rattle.mseed_steim.specs.declared.encoding.Encoding.{Encoding}
 use Rattle.mseed_steim.specs.declared.encoding.Encoding.TheVariants.{Int16, Int32, Steim1, Steim2}
 use Rattle.mseed_words.specs.Options.{the_command}
-use Rattle.mseed_select.specs.Selection.{Selection}
+use Rattle.mseed_choice.specs.Selection.{Selection}
 use Rattle.mseed_words.specs.Files.{files_of}
 use Rattle.mseed_words.specs.Found.{asks, has_only, text_or}
 use Rattle.mseed_words.specs.Numbers.{number_in, number_within}

@@ -11,7 +11,7 @@ use Rattle.mseed_stream.specs.declared.fault.StreamFault.{StreamFault}
 use Rattle.mseed_stream.specs.declared.fault.StreamFault.TheVariants.{Frame, Truncated, Read, Turns, Memory}
 use Rattle.mseed_stream.specs.Walk.{AreAllViews, HasHandedOut}
 use Rattle.mseed_stream.proofs.Calls.{reads_none}
-use Rattle.mseed_select.proofs.Copied.{stay}
+use Rattle.mseed_stream.proofs.Handed.{views_stay}
 use Rattle.mseed_audit.proofs.Reporting.{next_none}
 use Rattle.mseed_audit.proofs.Views.{reads_whole}
 use Rattle.mseed_audit.proofs.summary.take_next.Goals as goal
@@ -33,11 +33,13 @@ returns-in-Ok-None-clause-next g c = λ first now views before judged.
     )
 
 pub returns-in-Err-Memory-clause-next : goal.returns-in-Err-Memory-clause-next
-returns-in-Err-Memory-clause-next g c = λ first now views before judged. (
-  stay (g.R.Source.read c.args.source.now) (g.R.Source.read c.next.new.source) c.args.cutter.now views
-      c.next.ensures.answer.more.0 before c.next.ensures.answer.more.1,
-  judged.report,
-)
+returns-in-Err-Memory-clause-next g c = λ first now views before judged.
+    let old : BytesRead = g.R.Source.read c.args.source.now in
+    let new : BytesRead = g.R.Source.read c.next.new.source in (
+      views_stay old.bytes new.bytes c.next.ensures.answer.more.0 c.args.cutter.now.offset views
+          (omega (arith, before.along.read.reported)) c.next.ensures.answer.more.1 before.records,
+      judged.report,
+    )
 
 pub returns-in_ok-judge-in-Some-clause-next : goal.returns-in_ok-judge-in-Some-clause-next
 returns-in_ok-judge-in-Some-clause-next g c = λ first now views before judged.
@@ -85,8 +87,10 @@ returns-in_ok-judge-in-Ok-Some-clause-next g c = λ first now views before judge
 
 pub returns-in_err-judge-in-Ok-Some-clause-next : goal.returns-in_err-judge-in-Ok-Some-clause-next
 returns-in_err-judge-in-Ok-Some-clause-next g c = λ first now views before judged.
-    let shown = stay (g.R.Source.read c.args.source.now) (g.R.Source.read c.next.new.source) c.args.cutter.now views
-    c.next.ensures.answer.more.0 before c.next.ensures.answer.more.1 in
+    let old : BytesRead = g.R.Source.read c.args.source.now in
+    let new : BytesRead = g.R.Source.read c.next.new.source in
+    let shown = views_stay old.bytes new.bytes c.next.ensures.answer.more.0 c.args.cutter.now.offset views
+    (omega (arith, before.along.read.reported)) c.next.ensures.answer.more.1 before.records in
     let at = rw (← c.offset-offset.ensures) at before.records in
     next_none (g.C.Choice.selection c.args.choice.now) c.from_residual-in_err-judge-in-Ok-Some.result _ views _ _ _ _
     _ _ (g.P.Report.stands first c.judge-in-Ok-Some.new.report now)

@@ -2,7 +2,7 @@ use Rattle.std.proofs.Common.{◌≡◌, ◌∙◌, List, None, Option, Some, ap
 use Rattle.clap.specs.Matches.{found_of}
 use Rattle.clap.specs.Walk.{Row, rows_of}
 use Rattle.mseed_select.specs.Selecting.{selection_of}
-use Rattle.mseed_select.specs.Selection.{Selection}
+use Rattle.mseed_choice.specs.Selection.{Selection}
 use Rattle.mseed_words.specs.declared.request.Request.{Request}
 use Rattle.mseed_words.specs.Files.{files_of}
 use Rattle.mseed_words.specs.Selecting.{asked_of}
