@@ -108,8 +108,8 @@ def minutes_from(lowest: str) -> Callable[[Sources], int]:
 
 
 def constant_of(path: str, name: str) -> int:
-    """A constant of a source file: a number or another of its constants, or two with `<<`, `*` or `+` between them."""
-    found = re.search(rf"\bconst {name}: \w+ = ([\w]+)(?: (<<|\*|\+) ([\w]+))?;", text_of(path))
+    """A constant of a source file: a number, another of its constants, or two with `<<`, `*`, `+` or `-` between."""
+    found = re.search(rf"\bconst {name}: \w+ = ([\w]+)(?: (<<|\*|\+|-) ([\w]+))?;", text_of(path))
     if not found:
         raise ValueError(f"{path} has no constant {name}")
 
@@ -119,7 +119,8 @@ def constant_of(path: str, name: str) -> int:
     first, sign, second = found.groups()
     if not sign:
         return number_of(first)
-    return {"<<": operator.lshift, "*": operator.mul, "+": operator.add}[sign](number_of(first), number_of(second))
+    signs = {"<<": operator.lshift, "*": operator.mul, "+": operator.add, "-": operator.sub}
+    return signs[sign](number_of(first), number_of(second))
 
 
 def size(page: str, before: str, after: str, path: str, name: str) -> Figure:
@@ -143,6 +144,9 @@ FIGURES = [
            minutes_from("mseed_audit")),
     Figure("docs/DECISIONS.md", "the most of each crate**, ", " of ", in_gate),
     Figure("docs/DECISIONS.md", " of ", "; the others are in `tests/must-fail`", edits),
+    size("docs/DECISIONS.md", "is found ahead** by `pack_words`, for ", " places", "mseed_steim_pack/src/ahead.rt",
+         "KNOWN"),
+    size("docs/DECISIONS.md", "all words once fewer than ", " differences", "mseed_steim_pack/src/ahead.rt", "FEW"),
     size("docs/format.md", "if it has samples, at most ", " a second", "mseed_pack/src/fitting.rt", "FASTEST"),
     size("docs/protocol.md", "A packet has ", " bytes: `SL`", "slink_wire/src/packet.rt", "PACKET"),
     size("docs/protocol.md", "and has at most ", " bytes including it", "slink_feed/src/cutting.rt", "LONGEST_REPLY"),
