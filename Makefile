@@ -26,6 +26,8 @@ VERSION := $(shell cat VERSION)
 NAME := mseed-$(VERSION)
 KIT = $(patsubst %/,%,$(dir $(shell rt doc)))
 LIB := crates/mseed_c/out/lib
+# KEEP=--keep has what is proved kept for rt check: docs/developing.md.
+KEEP ?=
 # The folder of packages, as this Python says.
 PYTHON ?= python3
 PYTHON_DIR ?= $(shell $(PYTHON) python/package_folder.py "$(PREFIX)")
@@ -70,13 +72,13 @@ readable:
 # isn't proved isn't built. How far it is and how long it may take is said where something has to be proved: nothing was
 # built by this word, or by another toolchain, or a source is newer.
 build:
-	@python3 crates/prove.py mseed run -- audit
+	@python3 crates/prove.py $(KEEP) mseed run -- audit
 	@echo 'Proved and built.'
 
 # The archive holds the toolchain's part of the C library too, so that a program links with one file. Of the shared
 # library only the calls that include/mseed.h declares are seen.
 lib:
-	@python3 crates/prove.py mseed_c lib
+	@python3 crates/prove.py $(KEEP) mseed_c lib
 	@rm -rf $(LIB) && install -d $(LIB)
 	@printf '%s\n' 'create $(LIB)/libmseed_c.a' 'addlib crates/mseed_c/out/libmseed_c.a' \
 	    'addlib $(KIT)/c/liblibc_c.a' save end | ar -M

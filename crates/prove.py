@@ -1,16 +1,21 @@
 #!/usr/bin/env python3
 """Proves and builds a crate, and before it the libraries that it stands on, side by side.
 
-    prove.py CRATE [lib | run -- ARGUMENT ..]
+    prove.py [--keep] CRATE [lib | run -- ARGUMENT ..]
     prove.py --measure
 
-`rt` proves the libraries of a crate one after another, and locks all those below the one that it works on. Here each
-is proved once those below it are, in a room of its own: with links to its sources and to what those below it were built
-to. What comes of it is moved to its folder `out`, where `rt` finds it. Those on the longest way to the crate come
-first, by the minutes of minutes.txt. Then `rt lib` or `rt run` builds the crate itself, where that is asked for. What
-is built already is left as it is. How far it is stands in a line that is written over on a terminal, and elsewhere in a
-line for each crate. What was interrupted goes on where it was when it is called again. With --measure nothing is
-proved: what the last first proof of each crate took is written to minutes.txt.
+Each library is proved once those below it are, as `rt ci` proves it: it reads what those promise, and not how that was
+proved. Those on the longest way to the crate come first, by the minutes of minutes.txt. Then the crate itself is built,
+and run, where that is asked for. What is built already is left as it is. How far it is stands in a line that is written
+over on a terminal, and elsewhere in a line for each crate. When what was interrupted is called again, the crates that
+were proved by then stay proved.
+
+With --keep, or where `rt check` has kept something of one of the crates, each is proved by `rt lib`, which keeps what
+the next check goes on from, and reads the proofs below. `rt` locks all crates below the one that it works on. So each
+is proved in a room of its own: with links to its sources and to what those below it were built to. What comes of it is
+moved to its folder `out`, where `rt` finds it.
+
+With --measure nothing is proved: what the last proof of each crate without --keep took is written to minutes.txt.
 """
 
 from __future__ import annotations
@@ -35,32 +40,34 @@ CRATES = Path(__file__).resolve().parent
 ROOT = CRATES.parent
 MINUTES = CRATES / "minutes.txt"
 SOURCES = ["src", "specs", "proofs"]
-# In a crate's folder `out`: what those above need of a library, what checks keep for the next one, where it is proved,
-# what was printed there, and what its first proof took.
+# In a crate's folder `out`: what those above need of a library, what checks keep for the next one, where it is proved
+# with --keep, what was printed there, and what its last proof without took.
 BUILT, KEPT, ROOM, LOG, TAKEN = "rlib", "incremental", "room", "log", "taken"
-# What `rt` says where it begins with the proofs of another copy of the tree.
-OTHERS = r"begins with what a check kept|another copy of the repository"
-# What it says of a crate on its way: how many functions it has checked of how many.
+# What `rt` says of a crate on its way: how many functions it has checked of how many.
 SO_FAR = r"^so far: (\d+) of (\d+) functions checked"
 # Where the version of the toolchain stands by which a crate was proved and built.
 PROVED = "proved"
 # So many crates at the same time, and so many processes for one: more gain nothing.
 MOST, PROCESSES = 4, 8
+# The machine for which a program is made.
+TARGET = "x86_64-unknown-linux-gnu"
 # Of a crate that isn't in minutes.txt: bytes of sources that take a minute, and memory.
 BYTES_A_MINUTE, MEMORY = 150_000, 2.5
-# Each process of a crate reads for itself what was proved below it. Where that took more than so many minutes, several
-# are hardly faster than one; elsewhere they take such a share of the time of one.
+# With --keep each process of a crate reads for itself what was proved below it. Where that took more than so many
+# minutes, several are hardly faster than one; elsewhere they take such a share of the time of one.
 READ, SHORTER = 14, 0.7
 # How much more memory several processes take than one.
 SHARED = 1.3
-# The share of the longest way from which on another one is near it: a crate there gets more than one process.
+# The share of the longest way from which on another one is near it.
 NEAR = 7 / 8
-# What is far from it takes what time of the processors the others leave.
-LATER = ["nice", "-n", "10"]
+# A crate that is far from it leaves the others the larger part of the processors, but isn't kept waiting by them.
+LATER = ["nice", "-n", "5"]
 # Where the system says what this process and those beside it in its group may use.
 GROUP = Path("/sys/fs/cgroup")
 # The status of `rt` where the system killed a proof, most likely for memory.
 KILLED = 256 - signal.SIGKILL
+# What a proof prints of all that is well.
+IS_WELL = re.compile(r": proved$|modules loaded=")
 # Seconds from one look at what runs to the next.
 TURN = 0.1
 
@@ -73,16 +80,20 @@ class Cost(NamedTuple):
 
 
 class Work(NamedTuple):
-    """A crate that is being proved: since when, by which process, and whether nothing is kept of earlier checks."""
+    """A crate that is being proved: since when, by which process, by which commands after that one, and whether from
+    nothing; and what seconds of processors and GB the commands before took."""
 
     began: float
     process: subprocess.Popen
-    is_first: bool
+    steps: list[list[str]]
+    is_whole: bool
+    seconds: float = 0
+    peak: float = 0
 
 
 class Standing(enum.Enum):
     """How a crate stands among those that run beside it: none does; its way up is the longest one, near that, or far
-    from it. Or high, on so much that it hardly gains by a second process."""
+    from it. Or, with --keep, high, on so much that it hardly gains by a second process."""
 
     ALONE, LONGEST, NEAR, FAR, HIGH = range(5)
 
@@ -172,15 +183,63 @@ def version() -> str:
     return subprocess.run(["rt", "version"], check=False, stdout=subprocess.PIPE, text=True).stdout
 
 
-def is_built(crate: str) -> bool:
-    """Whether there is what a crate is built to, and neither its sources nor those that it stands on have changed since
-    this toolchain proved it."""
+@functools.lru_cache(maxsize=None)
+def kit() -> Path:
+    """The folder of the toolchain."""
+    return Path(subprocess.run(["rt", "doc"], check=False, stdout=subprocess.PIPE, text=True).stdout.strip()).parent
+
+
+def library(crate: str) -> Path:
+    """What those above a library read of it."""
+    return CRATES / crate / "out" / BUILT / f"{crate}.rlib"
+
+
+def steps_to(crate: str, jobs: int) -> list[list[str]]:
+    """The commands that prove and build a crate over what those below it promise, by so many processes."""
+    out, used = CRATES / crate / "out", lines()[crate].partition(":")[2].split()
+    root = "main" if (CRATES / crate / "src" / "main.rt").exists() else "lib"
+    externs = {at: library(at) if at in lines() else kit() / "rlibs" / f"{at}.rlib" for at in ["std", *used]}
+    folders = [kit() / "rlibs", *(library(at).parent for at in sorted(below(crate)))]
+    logic = ["--antt-project", kit() / "rattle/logic/antt-project.json", "--logic-built", kit() / "logic_built"]
+    words = [kit() / "bin/rattle", "build", "--crate-name", crate, f"src/{root}.rt",
+             *(word for at, path in externs.items() for word in ("--extern", f"{at}={path}")),
+             *(word for folder in folders for word in ("-L", f"dependency={folder}")),
+             *logic, "--links", f"{crate}=", "--jobs", jobs]
+    toolchain = ["--toolchain", kit() / "toolchain"]
+    steps = [[*words, "--statements", "-o", library(crate)]]
+    if "staticlib" in lines()[crate].partition(":")[0].split():
+        steps = [[*words, "--crate-type", "staticlib", *toolchain, "-o", out / f"lib{crate}.a"]]
+    elif root == "main":
+        made = out / f"{crate}.o"
+        steps = [[*words, *toolchain, "-o", made],
+                 [kit() / "bin/rattle-link", "--target", TARGET, *toolchain, "-o", out / crate, made,
+                  kit() / "c/libos_c.a", kit() / "c/liblibc_c.a"]]
+    return [[str(word) for word in step] for step in steps]
+
+
+def has_statements() -> bool:
+    """Whether this toolchain builds a library to what it promises."""
+    said = subprocess.run([kit() / "bin/rattle", "build", "--help"], check=False, capture_output=True, text=True)
+    return "--statements" in said.stdout
+
+
+def has_kept(crate: str) -> bool:
+    """Whether a check has kept something of a crate."""
+    return any((CRATES / crate / "out" / KEPT).glob("*"))
+
+
+def is_built(crate: str, keeps: bool) -> bool:
+    """Whether there is what a crate is built to, and neither its sources nor those that it stands on, nor what these
+    were built to, have changed since this toolchain proved it. Where checks keep something, `rt` has to know it."""
     out = CRATES / crate / "out"
-    mark, made = out / PROVED, [out / BUILT / "stamp", out / crate, out / f"lib{crate}.a"]
-    if not mark.exists() or not any(path.exists() for path in made):
+    mark, made = out / PROVED, [out / crate, out / f"lib{crate}.a", *([] if keeps else [library(crate) / "format"])]
+    if not mark.exists() or not any(path.exists() for path in [*made, out / BUILT / "stamp"]):
         return False
     files = [(ROOT / name).stat() for name in ("crates.txt", "HANDLES")]
     files += [file for at in [crate, *below(crate)] for file in sources(at)]
+    if not keeps:
+        outs = [CRATES / at / "out" / PROVED for at in below(crate)] + [library(at) / "format" for at in below(crate)]
+        files += [path.stat() for path in outs if path.exists()]
     since = mark.stat().st_mtime
     return version() == mark.read_text(encoding="utf-8") and all(file.st_mtime <= since for file in files)
 
@@ -224,6 +283,20 @@ def leave_room(crate: str) -> None:
     shutil.rmtree(out / ROOM, ignore_errors=True)
 
 
+def begun(step: Sequence[str], folder: Path, log: Path) -> subprocess.Popen:
+    """A command that has begun, in a group of its own, so that it can be ended with all that it began. Not in a session
+    of its own: Linux gives each session the same share of the processors, whatever the priorities."""
+    with log.open("ab") as file:
+        return subprocess.Popen(step, cwd=folder, stdin=subprocess.DEVNULL, stdout=file, stderr=file,
+                                preexec_fn=os.setpgrp)
+
+
+def is_killed(status: int) -> bool:
+    """Whether a command ended so since the system killed it, or what `rt` began."""
+    return os.WIFEXITED(status) and os.WEXITSTATUS(status) == KILLED \
+        or os.WIFSIGNALED(status) and os.WTERMSIG(status) == signal.SIGKILL
+
+
 def is_locked(folder: int) -> bool:
     """Keeps others out of a crate's folder, as `rt` does, unless one of them works there."""
     try:
@@ -236,17 +309,24 @@ def is_locked(folder: int) -> bool:
 class Build:
     """The proofs of a crate and of those that it stands on, on their way."""
 
-    def __init__(self, crate: str, command: Sequence[str]):
+    def __init__(self, crate: str, command: Sequence[str], keeps: bool = False):
         self.crate, self.command = crate, command
         self.on = {at: below(at) for at in [crate, *below(crate)]}
+        self.keeps = keeps or any(map(has_kept, self.on)) or not has_statements()
         self.costs = {at: cost_of(at) for at in self.on}
-        self.highs = high(self.on, self.costs)
+        self.highs = high(self.on, self.costs) if self.keeps else set()
         self.cores, self.free = processors(), memory()
         self.ways = ways(self.on, self.costs)
         ordered = sorted(self.on, key=self.ways.get, reverse=True)
-        self.left = [at for at in ordered if at != crate and not is_built(at)] + [crate] * bool(command)
-        # `rt` looks at the last one anyway: nothing is said where it will find that nothing has changed.
-        self.asked = 0 if self.left == [crate] and is_built(crate) else len(self.left)
+        lacking = {at for at in self.on if not is_built(at, self.keeps)}
+        if not self.keeps:
+            # What the compiler built fits what stands below it as that was then.
+            lacking |= {at for at in self.on if lacking & self.on[at]}
+        self.left = [at for at in ordered if at != crate and at in lacking]
+        has_all = not self.left and crate not in lacking
+        # Nothing is said where nothing has changed: the last one is run, or `rt` looks at it, all the same.
+        self.left += [crate] if command and (self.keeps or not has_all or command[0] == "run") else []
+        self.asked = 0 if has_all else len(self.left)
         self.running: dict[str, Work] = {}
         self.failed: list[str] = []
         # Those that were killed once: each is tried once more with nothing beside it, by one process.
@@ -320,31 +400,39 @@ class Build:
                 taken -= self.costs[at].memory
         return found
 
-    def command_of(self, crate: str, standing: Standing) -> list[str]:
-        """The command that proves a crate."""
+    def steps_of(self, crate: str, standing: Standing) -> list[list[str]]:
+        """The commands that prove a crate, one after another, and run it where that is asked for."""
         verb, *arguments = self.command if crate == self.crate else ["lib"]
         jobs = 1 if crate in self.killed else processes(self.cores, standing)
-        return [*(LATER if standing is Standing.FAR else []), "rt", verb, "--jobs", str(jobs), *arguments]
+        if self.keeps:
+            steps = [["rt", verb, "--jobs", str(jobs), *arguments]]
+        else:
+            steps = steps_to(crate, jobs) if self.asked else []
+            steps += [[str(CRATES / crate / "out" / crate), *arguments[1:]]] if verb == "run" else []
+        return [[*(LATER if standing is Standing.FAR else []), *step] for step in steps]
 
     def start(self, crate: str, is_alone: bool) -> None:
-        """Begins a crate: a library in a room of its own, and the last one in its own folder."""
-        command = self.command_of(crate, self.standing(crate, is_alone))
-        folder = CRATES / crate if crate == self.crate else room_of(crate, self.on[crate])
-        is_first = not (folder / "out" / KEPT).exists()
-        log = CRATES / crate / "out" / LOG
-        log.parent.mkdir(exist_ok=True)
-        with log.open("wb") as file:
-            process = subprocess.Popen(command, cwd=folder, stdin=subprocess.DEVNULL, stdout=file, stderr=file)
+        """Begins a crate: in its own folder or, with --keep, a library in a room of its own."""
+        steps = self.steps_of(crate, self.standing(crate, is_alone))
+        out = CRATES / crate / "out"
+        is_whole = not self.keeps and bool(self.asked)
+        out.mkdir(exist_ok=True)
+        (out / LOG).write_bytes(b"")
+        if is_whole:
+            # Of what `rt` built there is no mark that it would find any more.
+            shutil.rmtree(out / BUILT, ignore_errors=True)
+            (out / BUILT).mkdir()
         self.left.remove(crate)
-        self.running[crate] = Work(time.monotonic(), process, is_first)
+        folder = room_of(crate, self.on[crate]) if self.keeps and crate != self.crate else CRATES / crate
+        self.running[crate] = Work(time.monotonic(), begun(steps[0], folder, out / LOG), steps[1:], is_whole)
 
-    def end(self, crate: str, status: int, seconds: float, peak: float) -> None:
+    def end(self, crate: str, status: int) -> None:
         """What has ended is moved where it belongs, and counted."""
         work = self.running.pop(crate)
         out = CRATES / crate / "out"
-        if crate != self.crate:
+        if self.keeps and crate != self.crate:
             leave_room(crate)
-        if os.WIFEXITED(status) and os.WEXITSTATUS(status) == KILLED and crate not in self.killed:
+        if is_killed(status) and crate not in self.killed:
             self.killed.add(crate)
             self.left.insert(0, crate)
             return
@@ -352,22 +440,31 @@ class Build:
             self.failed.append(crate)
             self.left = [at for at in self.left if crate not in self.on[at]]
             return
-        (out / PROVED).write_text(version(), encoding="utf-8")
-        if work.is_first and not re.search(OTHERS, (out / LOG).read_text(encoding="utf-8", errors="replace")):
-            (out / TAKEN).write_text(f"{seconds / 60:.1f} {peak:.1f}\n", encoding="ascii")
-            self.used += seconds / 60
+        if self.keeps or work.is_whole:
+            (out / PROVED).write_text(version(), encoding="utf-8")
+        if work.is_whole:
+            (out / TAKEN).write_text(f"{work.seconds / 60:.1f} {work.peak:.1f}\n", encoding="ascii")
+            self.used += work.seconds / 60
             self.expected += self.costs[crate].minutes
         (out / LOG).unlink()
         self.show(crate)
 
     def wait(self) -> None:
-        """Waits for a turn, and ends what has ended in it."""
+        """Waits for a turn, and ends what has ended in it, or goes on to its next command."""
         time.sleep(TURN)
         for crate, work in list(self.running.items()):
             found, status, usage = os.wait4(work.process.pid, os.WNOHANG)
             if found:
                 work.process.returncode = status
-                self.end(crate, status, usage.ru_utime + usage.ru_stime, usage.ru_maxrss / 1e6 * SHARED)
+                work = work._replace(seconds=work.seconds + usage.ru_utime + usage.ru_stime,
+                                     peak=max(work.peak, usage.ru_maxrss / 1e6 * SHARED))
+                self.running[crate] = work
+                if status or not work.steps:
+                    self.end(crate, status)
+                else:
+                    step, *steps = work.steps
+                    process = begun(step, CRATES / crate, CRATES / crate / "out" / LOG)
+                    self.running[crate] = work._replace(process=process, steps=steps)
 
     def go_on(self, crates: set[str]) -> None:
         """Proves these crates, until no more can be."""
@@ -379,16 +476,15 @@ class Build:
             self.show()
             self.wait()
 
-    def prove_libraries(self) -> None:
-        """Proves what the crate stands on, once nobody else works there."""
-        libraries = set(self.on) - {self.crate}
-        with contextlib.ExitStack() as held:
-            for crate in sorted(libraries if libraries & set(self.left) else []):
+    def prove(self, crates: set[str], held: set[str]) -> None:
+        """Proves these crates, once nobody else works in those that are held."""
+        with contextlib.ExitStack() as locks:
+            for crate in sorted(held if crates & set(self.left) else []):
                 folder = os.open(CRATES / crate, os.O_RDONLY)
-                held.callback(os.close, folder)
+                locks.callback(os.close, folder)
                 while not is_locked(folder) and not self.is_stopped:
                     time.sleep(TURN)
-            self.go_on(libraries)
+            self.go_on(crates)
 
     def run(self) -> int:
         """Proves what isn't built, and says why where that can't be. The status is 0 where all is proved."""
@@ -397,13 +493,16 @@ class Build:
         try:
             if self.asked:
                 print(f"Proving and building: about {self.minutes()} min for {self.asked} crates.", flush=True)
-            self.prove_libraries()
-            self.go_on({self.crate})
+            libraries = set(self.on) - {self.crate}
+            self.prove(libraries, libraries)
+            # `rt` locks by itself.
+            self.prove({self.crate}, set() if self.keeps else set(self.on))
         finally:
             self.leave()
         self.close("Interrupted: the same command goes on from here." if self.is_stopped else "")
         for crate in [] if self.is_stopped else self.failed:
-            print((CRATES / crate / "out" / LOG).read_text(encoding="utf-8", errors="replace"), end="")
+            log = (CRATES / crate / "out" / LOG).read_text(encoding="utf-8", errors="replace")
+            print(*(line for line in log.splitlines() if not IS_WELL.search(line)), sep="\n")
         return 130 if self.is_stopped else 1 if self.failed else 0
 
     def stop(self, *_: object) -> None:
@@ -413,9 +512,10 @@ class Build:
     def leave(self) -> None:
         """Ends what runs, and leaves what was kept where the next call finds it."""
         for crate, work in self.running.items():
-            work.process.terminate()
+            with contextlib.suppress(ProcessLookupError):
+                os.killpg(work.process.pid, signal.SIGTERM)
             work.process.wait()
-            if crate != self.crate:
+            if self.keeps and crate != self.crate:
                 leave_room(crate)
 
 
@@ -435,6 +535,7 @@ def main() -> int:
     parser = argparse.ArgumentParser(description="Proves and builds the libraries of a crate, side by side.",
                                      epilog="Example: crates/prove.py mseed run -- --version")
     parser.add_argument("--measure", action="store_true", help="write minutes.txt anew, by what the last proofs took")
+    parser.add_argument("--keep", action="store_true", help="keep what `rt check` goes on from")
     parser.add_argument("crate", nargs="?", choices=sorted(lines()), metavar="CRATE", help="a crate of crates.txt")
     parser.add_argument("command", nargs=argparse.REMAINDER, help="lib or run: build the crate itself, or run it")
     given = parser.parse_args()
@@ -446,7 +547,7 @@ def main() -> int:
     if not shutil.which("rt"):
         print("rt: not found. The toolchain's command has to be on the path: see README.md.", file=sys.stderr)
         return 2
-    return Build(given.crate, given.command).run()
+    return Build(given.crate, given.command, given.keep).run()
 
 
 if __name__ == "__main__":

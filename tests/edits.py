@@ -67,7 +67,7 @@ def tried(edits: Sequence[Path]) -> int:
         copied(Path(room), edits)
         for crate in crates:
             # The toolchain would prove them one after another, each by one process.
-            subprocess.run([sys.executable, "crates/prove.py", crate], cwd=room, check=False)
+            subprocess.run([sys.executable, "crates/prove.py", "--keep", crate], cwd=room, check=False)
         return subprocess.run(["rt", "must-fail", *crates], cwd=room, check=False).returncode
 
 

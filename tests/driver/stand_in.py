@@ -22,13 +22,14 @@ class Copy:
     """The copy, and the stand-in."""
 
     def __init__(self, folder: Path):
-        self.folder, self.bin, self.log = folder / "copy", folder / "bin", folder / "log"
+        self.folder, self.bin, self.log = folder / "copy", folder / "kit" / "bin", folder / "log"
         for name in (*FILES, *self.sources()):
             (self.folder / name).parent.mkdir(parents=True, exist_ok=True)
             shutil.copy(ROOT / name, self.folder / name)
         shutil.copytree(SAMPLES, self.folder / "samples")
-        self.bin.mkdir()
-        (self.bin / "rt").symlink_to(SOURCES / "local_rt.sh")
+        self.bin.mkdir(parents=True)
+        for name in ("rt", "rattle", "rattle-link"):
+            (self.bin / name).symlink_to(SOURCES / "local_rt.sh")
 
     @staticmethod
     def sources() -> list[str]:

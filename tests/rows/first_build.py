@@ -1,5 +1,6 @@
-"""crates/prove.py, over a stand-in for the toolchain: each crate is begun once those below it are built, the longest
-way first; it is said how far it is; what is interrupted leaves nothing behind and goes on; and what fails is shown."""
+"""crates/prove.py, over a stand-in for the toolchain, with and without --keep: each crate is begun once those below it
+are built, the longest way first; it is said how far it is; what is interrupted leaves nothing behind and goes on; what
+fails is shown; and what was built is found again, but for what has changed below it."""
 
 from __future__ import annotations
 
@@ -7,19 +8,22 @@ import contextlib
 import os
 import pty
 import re
+import shutil
 import signal
 import subprocess
 import tempfile
 import time
 from pathlib import Path
-from typing import Iterator
+from typing import Iterator, Sequence
 
 from driver.program import CRATES, LIMIT
 from driver.proving import prove
-from driver.rows import Cases, Fact, holds
+from driver.rows import Cases, Fact, Skipped, holds
 from driver.stand_in import FIRST, NEXT, Copy
+from driver.tools import rest
 
 PROGRAM = ["mseed", "run", "--", "audit"]
+KEEPING = ["--keep", *PROGRAM]
 # Seconds for each crate, so that some are on their way when it is looked.
 SLOW = "0.3"
 
@@ -71,7 +75,7 @@ def by_group() -> Cases:
 
 def by_standing() -> Cases:
     """Of a crate that runs, only what is left of its way counts: the join's is the longer one until half is done."""
-    build = prove.Build("mseed", ["run"])
+    build = prove.Build("mseed", ["run"], keeps=True)
     minutes = {"mseed_join": 6.0, "mseed_repack": 4.0, "mseed_text": 1.0, "mseed": 5.0}
     build.costs = {crate: prove.Cost(minutes.get(crate, 2.0), 1) for crate in build.on}
     build.ways = prove.ways(build.on, build.costs)
@@ -81,19 +85,19 @@ def by_standing() -> Cases:
     far, near, longest, high = prove.Standing.FAR, prove.Standing.NEAR, prove.Standing.LONGEST, prove.Standing.HIGH
     for crate, standing, wanted in [("mseed_steim", longest, "rt lib --jobs 3"),
                                     ("mseed_select", near, "rt lib --jobs 2"),
-                                    ("slink_feed", far, "nice -n 10 rt lib --jobs 1"),
+                                    ("slink_feed", far, "nice -n 5 rt lib --jobs 1"),
                                     ("mseed", high, "rt run --jobs 1")]:
-        yield Fact(f"the command of {crate}", wanted, " ".join(build.command_of(crate, standing)))
+        yield Fact(f"the command of {crate}, with --keep", [wanted.split()], build.steps_of(crate, standing))
     yield Fact("alone", prove.Standing.ALONE, build.standing("mseed_text", True))
     for done, repack, show in [(0, far, far), (30, near, far), (60, longest, near)]:
-        build.running = {"mseed_join": prove.Work(time.monotonic(), None, True)}
+        build.running = {"mseed_join": prove.Work(time.monotonic(), None, [], True)}
         with looked_up("mseed_join", done):
             yield Fact(f"repack beside a join of which {done} of 100 functions are checked", repack,
                        build.standing("mseed_repack", False))
             yield Fact(f"the list beside it, with {done} checked", show, build.standing("mseed_show", False))
     build.highs = {"mseed_join"}
     for done, minutes, wanted in [(0, 0, 6.0), (0, 3, 3.0), (0, 9, 0.6), (75, 3, 1.5)]:
-        build.running = {"mseed_join": prove.Work(time.monotonic() - 60 * minutes, None, True)}
+        build.running = {"mseed_join": prove.Work(time.monotonic() - 60 * minutes, None, [], True)}
         with looked_up("mseed_join", done):
             yield Fact(f"what is left of six minutes after {minutes}, with {done} checked", wanted,
                        round(build.left_of("mseed_join"), 1))
@@ -110,7 +114,7 @@ def looked_up(crate: str, done: int) -> Iterator[None]:
 
 def by_memory() -> Cases:
     """As many as there is memory for are begun side by side, and one in any case."""
-    build = prove.Build("mseed", ["run"])
+    build = prove.Build("mseed", ["run"], keeps=True)
     libraries = set(build.on) - {"mseed"}
     build.left = sorted(build.on, key=build.ways.get, reverse=True)
     build.costs, build.cores = {crate: prove.Cost(1, 2) for crate in build.on}, 4
@@ -121,9 +125,38 @@ def by_memory() -> Cases:
         yield Fact(f"with {free} GB so many of 2 GB are begun", (wanted, set()), (len(found), set(found) - low))
 
 
-def ordered(copy: Copy) -> Cases:
+def compiled() -> Cases:
+    """The commands of a library, of the one for C and of the program, by the compiler: over what stands below."""
+    where = {name: prove.CRATES / name / "out" / "rlib" for name in ("mseed_time", "mseed_record", "mseed_steim")}
+    kit = prove.kit()
+    [words] = prove.steps_to("mseed_steim", 2)
+    yield Fact("mseed_steim by two processes",
+               [str(kit / "bin/rattle"), "build", "--crate-name", "mseed_steim", "src/lib.rt",
+                "--extern", f"std={kit}/rlibs/std.rlib",
+                "--extern", f"mseed_record={where['mseed_record']}/mseed_record.rlib",
+                "--extern", f"mseed_time={where['mseed_time']}/mseed_time.rlib",
+                "--extern", f"arrayvec={kit}/rlibs/arrayvec.rlib", "--extern", f"byteorder={kit}/rlibs/byteorder.rlib",
+                "-L", f"dependency={kit}/rlibs", "-L", f"dependency={where['mseed_record']}",
+                "-L", f"dependency={where['mseed_time']}",
+                "--antt-project", f"{kit}/rattle/logic/antt-project.json", "--logic-built", f"{kit}/logic_built",
+                "--links", "mseed_steim=", "--jobs", "2", "--statements",
+                "-o", f"{where['mseed_steim']}/mseed_steim.rlib"], words)
+    [words] = prove.steps_to("mseed_c", 1)
+    out = prove.CRATES / "mseed_c" / "out"
+    yield Fact("the library for C", ["--jobs", "1", "--crate-type", "staticlib", "--toolchain", f"{kit}/toolchain",
+                                     "-o", f"{out}/libmseed_c.a"], words[words.index("--jobs"):])
+    words, link = prove.steps_to("mseed", 4)
+    out = prove.CRATES / "mseed" / "out"
+    yield Fact("the program", ["src/main.rt", "--jobs", "4", "--toolchain", f"{kit}/toolchain", "-o", f"{out}/mseed.o"],
+               [words[4], *words[words.index("--jobs"):]])
+    yield Fact("and how it is linked",
+               [f"{kit}/bin/rattle-link", "--target", "x86_64-unknown-linux-gnu", "--toolchain", f"{kit}/toolchain",
+                "-o", f"{out}/mseed", f"{out}/mseed.o", f"{kit}/c/libos_c.a", f"{kit}/c/liblibc_c.a"], link)
+
+
+def ordered(copy: Copy, words: Sequence[str]) -> Cases:
     """What is begun and when, and what is said."""
-    status, (first, *others) = copy.prove(*PROGRAM, RT_SLEEP="0.1")
+    status, (first, *others) = copy.prove(*words, RT_SLEEP="0.1")
     yield Fact("prove.py mseed ends", 0, status)
     yield holds("it says at first how long it may take", FIRST.fullmatch(first), first)
     said = [NEXT.fullmatch(line) for line in others]
@@ -146,10 +179,51 @@ def ordered(copy: Copy) -> Cases:
                [crate for crate in asked if not prove.below(crate) <= begun.get(crate, set())])
     yield holds("several side by side", min(2, len(os.sched_getaffinity(0))) <= most <= prove.MOST, most)
     yield Fact("the last is the program", "mseed", list(begun)[-1])
-    status, lines = copy.prove(*PROGRAM)
-    yield Fact("and once more: only the program is looked at", (0, [], [("begin", "mseed"), ("end", "mseed")]),
-               (status, lines, copy.logged()))
+    status, lines = copy.prove(*words)
+    looked = [("begin", "mseed"), ("end", "mseed")] if words == KEEPING else []
+    yield Fact("and once more: nothing is proved", (0, [], looked), (status, lines, copy.logged()))
     yield Fact("no room is left", [], list(copy.folder.glob("crates/*/out/room")))
+
+
+def ordered_alone(copy: Copy) -> Cases:
+    """Without --keep."""
+    yield from ordered(copy, PROGRAM)
+
+
+def ordered_keeping(copy: Copy) -> Cases:
+    """With it."""
+    yield from ordered(copy, KEEPING)
+
+
+def begun_again(copy: Copy, *words: str, **more: str) -> set[str]:
+    """Which crates are proved now."""
+    copy.logged()
+    copy.prove(*words, **more)
+    return {crate for word, crate in copy.logged() if word == "begin"}
+
+
+def found_again(copy: Copy) -> Cases:
+    """What was built is found again, unless something changed below it; `rt` finds what it built itself."""
+    everything = {"mseed", *prove.below("mseed")}
+    above = {at for at in everything if "mseed_text" in {at, *prove.below(at)}}
+    text = copy.folder / "crates" / "mseed_text" / "out" / "rlib"
+    yield Fact("nothing has changed", set(), begun_again(copy, *PROGRAM))
+    rest()
+    os.utime(copy.folder / "crates" / "mseed_text" / "src" / "lib.rt")
+    yield Fact("a source has changed", above, begun_again(copy, *PROGRAM))
+    rest()
+    (text / "stamp").write_bytes(b"")
+    os.utime(text / "mseed_text.rlib" / "format")
+    yield Fact("rt has built a library anew", above - {"mseed_text"}, begun_again(copy, *PROGRAM))
+    rest()
+    shutil.rmtree(text)
+    yield Fact("a library is gone", above, begun_again(copy, *PROGRAM))
+    yield Fact("of what the compiler built rt has no mark", everything, begun_again(copy, *KEEPING))
+    yield Fact("with --keep once more", {"mseed"}, begun_again(copy, *KEEPING))
+    yield Fact("where checks have kept something, it goes on as with --keep", {"mseed"}, begun_again(copy, *PROGRAM))
+    for kept in copy.folder.glob("crates/*/out/incremental"):
+        shutil.rmtree(kept)
+    yield Fact("by a toolchain that knows of no statements too", {"mseed"}, begun_again(copy, *PROGRAM, RT_OLD="1"))
 
 
 def measured(copy: Copy) -> Cases:
@@ -169,9 +243,19 @@ def measured(copy: Copy) -> Cases:
 
 def interrupted(copy: Copy) -> Cases:
     """By each signal that ends a command: what was proved stays, and the same command goes on."""
+    yield from interrupted_by(copy, PROGRAM)
+
+
+def interrupted_keeping(copy: Copy) -> Cases:
+    """With --keep what was kept of a check stays too."""
+    yield from interrupted_by(copy, KEEPING)
+
+
+def interrupted_by(copy: Copy, words: Sequence[str]) -> Cases:
+    """A command that is ended by each signal, and at last killed, and called again."""
     done: set[str] = set()
     for name in (signal.SIGINT, signal.SIGTERM, signal.SIGHUP):
-        run = copy.proving(*PROGRAM, RT_SLEEP=SLOW)
+        run = copy.proving(*words, RT_SLEEP=SLOW)
         lines = [run.stdout.readline() for _ in range(3)]
         run.send_signal(name)
         rest = run.communicate(timeout=LIMIT)[0].splitlines()
@@ -182,23 +266,24 @@ def interrupted(copy: Copy) -> Cases:
         yield Fact(f"{name.name}: nothing is proved twice", set(), done & ended)
         done |= {line.split(":")[0] for line in [*lines[1:], *rest[:-1]]}
         yield Fact(f"{name.name}: no room is left", [], list(copy.folder.glob("crates/*/out/room")))
-        begun = {crate for word, crate in log if word == "begin"}
+        begun = {crate for word, crate in log if word == "begin"} if words == KEEPING else set()
         yield Fact(f"{name.name}: what was kept of a check stays", set(),
                    {at for at in begun if not (copy.folder / "crates" / at / "out" / "incremental").is_dir()})
         time.sleep(float(SLOW) * 2)
         yield Fact(f"{name.name}: nothing runs on", [], copy.logged())
-    run = copy.proving(*PROGRAM, RT_SLEEP=SLOW)
+    run = copy.proving(*words, RT_SLEEP=SLOW)
     run.stdout.readline()
     run.stdout.close()
     yield Fact("where nobody reads what it says, it ends and leaves no room", (True, []),
                (run.wait(LIMIT) != 0, list(copy.folder.glob("crates/*/out/room"))))
-    run = copy.proving(*PROGRAM, RT_SLEEP=SLOW)
+    run = copy.proving(*words, RT_SLEEP=SLOW)
     run.stdout.readline()
     run.kill()
     run.communicate(timeout=LIMIT)
     copy.logged()
-    status, lines = copy.prove(*PROGRAM)
-    built = [crate for crate in prove.below("mseed") if (copy.folder / "crates" / crate / "out/rlib/stamp").exists()]
+    status, lines = copy.prove(*words)
+    made = "stamp" if words == KEEPING else "*.rlib/format"
+    built = [crate for crate in prove.below("mseed") if [*(copy.folder / "crates" / crate / "out/rlib").glob(made)]]
     yield Fact("after all of these, and one that was killed, it goes on to the end",
                (0, prove.below("mseed"), []), (status, set(built), list(copy.folder.glob("crates/*/out/room"))))
 
@@ -217,6 +302,7 @@ def failing(copy: Copy) -> Cases:
     """A crate that isn't proved: what was printed of it is shown, and nothing above it is begun."""
     status, lines = copy.prove(*PROGRAM, RT_FAILS="mseed_steim")
     yield Fact("a crate that isn't proved", (1, "fn mseed_steim::it: not proved"), (status, lines[-1]))
+    yield holds("of what is well nothing is said", "fn mseed_steim::other: proved" not in lines, lines)
     begun = {crate for word, crate in copy.logged() if word == "begin"}
     above = {crate for crate in prove.lines() if "mseed_steim" in prove.below(crate)}
     yield Fact("nothing above it is begun", set(), above & begun)
@@ -260,7 +346,9 @@ def on_a_terminal(copy: Copy) -> Cases:
 def rows() -> Cases:
     """All of them."""
     yield from reckoned()
-    for part in ([ordered, measured], [interrupted], [failing], [on_a_terminal]):
+    yield from compiled() if shutil.which("rt") else [Skipped("the compiler's commands", "rt")]
+    for part in ([ordered_alone, measured, found_again], [ordered_keeping], [interrupted], [interrupted_keeping],
+                 [failing], [on_a_terminal]):
         with tempfile.TemporaryDirectory() as folder:
             copy = Copy(Path(folder))
             for cases in part:
