@@ -55,7 +55,7 @@ TARGET = "x86_64-unknown-linux-gnu"
 BYTES_A_MINUTE, MEMORY = 150_000, 2.5
 # With --keep each process of a crate reads for itself what was proved below it. Where that took more than so many
 # minutes, several are hardly faster than one; elsewhere they take such a share of the time of one.
-READ, SHORTER = 14, 0.7
+READ, SHORTER = 26, 0.7
 # How much more memory several processes take than one.
 SHARED = 1.3
 # The share of the longest way from which on another one is near it.

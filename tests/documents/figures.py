@@ -94,9 +94,8 @@ def minutes_of_first(cores: int) -> Callable[[Sources], int]:
 
     def counted(_: Sources) -> int:
         on = {crate: prove.below(crate) for crate in ["mseed", *prove.below("mseed")]}
-        costs = {crate: prove.cost_of(crate) for crate in on}
-        minutes = {crate: cost.minutes for crate, cost in costs.items()}
-        return round(prove.minutes_left(minutes, on, prove.high(on, costs), cores))
+        minutes = {crate: prove.cost_of(crate).minutes for crate in on}
+        return round(prove.minutes_left(minutes, on, set(), cores))
 
     return counted
 

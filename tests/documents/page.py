@@ -26,9 +26,9 @@ from driver.program import ROOT
 # Where the words of the programs' output and of the feed's lines stand, in backticks and blocks.
 TEXTS = ["docs/texts.md", "docs/protocol.md", "docs/format.md"]
 # Words that stand nowhere else: programs, commands of SeedLink that no server knows, the last line of the tests, types
-# of the standard library, and a range.
+# of the standard library, a range, and options of prove.py and of the compiler.
 OTHERS = ["make", "rt", "mseed", "main", "BATCH", "CAT", "INFO", "TIME", "N passed, M failed",
-          "logic=proved functions=", "out", "AllocError", "Vec", "0..u64::MAX"]
+          "logic=proved functions=", "out", "AllocError", "Vec", "0..u64::MAX", "--keep", "KEEP=--keep", "--statements"]
 
 # Columns of tables in which a single word is no word of a text.
 FOR_NAMES = ["contract", "carried by", "call", "definition"]

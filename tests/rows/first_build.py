@@ -30,12 +30,12 @@ SLOW = "0.3"
 
 def reckoned() -> Cases:
     """The order and what is left, by hand: c stands on b, b on a, and d on a. Several processes take seven tenths of
-    the time of one, but for a crate that stands on more than fourteen minutes."""
+    the time of one, but for a crate that stands on more than 26 minutes."""
     on = {"a": set(), "b": {"a"}, "c": {"a", "b"}, "d": {"a"}}
     costs = {"a": 1.0, "b": 2.0, "c": 4.0, "d": 5.0}
     found = prove.ways(on, {crate: prove.Cost(minutes, 1) for crate, minutes in costs.items()})
     yield Fact("the longest ways up", {"a": 7.0, "b": 6.0, "c": 4.0, "d": 5.0}, found)
-    for minutes, wanted in [(2.0, set()), (13.0, set()), (13.5, {"c"}), (14.5, {"b", "c", "d"})]:
+    for minutes, wanted in [(2.0, set()), (25.0, set()), (25.5, {"c"}), (26.5, {"b", "c", "d"})]:
         yield Fact(f"high are, with {minutes} minutes of a and 1 of b", wanted,
                    prove.high(on, {"a": prove.Cost(minutes, 1), "b": prove.Cost(1.0, 1)}))
     three = {"a": 2.0, "b": 2.0, "c": 2.0}
