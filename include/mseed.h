@@ -54,7 +54,7 @@ enum mseed_code
   MSEED_NOT_DATA = 16,
   /* the year and the day of its start can be read in neither byte order; */
   MSEED_ORDER = 17,
-  /* a blockette begins within the header or within the one before it; */
+  /* a blockette begins within the header, or less than 4 bytes after the one that names it, or before that one; */
   MSEED_CHAIN = 18,
   /* no blockette 1000 gives the record's length; */
   MSEED_NO_1000 = 19,
@@ -158,7 +158,7 @@ typedef struct mseed_progress
 {
   uint64_t rows;   /* the rows that were written */
   uint64_t offset; /* where the next record begins: the archive's size, where all of it was read */
-  uint64_t filled; /* the samples of these rows */
+  uint64_t filled; /* the samples of these rows; by mseed_read those that were read */
   uint64_t needed; /* of MSEED_NO_ROOM: the places that the next record needs; of MSEED_TRUNCATED: the bytes, from the
                     * record's beginning; of MSEED_LENGTH: the exponent; else 0 */
 } mseed_progress;
