@@ -69,21 +69,22 @@ pub fn command_of<'a, R: Source, W: Sink, E: Sink>(
     }
 }
 
-/// Carries out a command with an input of which nothing was read yet, and returns how that ended. An allocator that
-/// refuses can be lent.
+/// Carries out a command, any but `serve` and `fetch`, with an input of which nothing was read yet, and returns how
+/// that ended. An allocator that refuses can be lent: where memory was refused the status is 2, and `errors` takes a
+/// line that says so.
 ///
 /// `audit` writes the audit of the records of `input` to `output`: status 0 where every channel is continuous, 1 where
 /// one is broken, and 2 where the input ended with a fault, which the text names, or where the text couldn't be written
 /// whole; with `--each` a line for each record with a finding comes first, and with `--part` the part of the archive is
 /// written instead of the text. `join` reads parts, one after another, and writes the audit of their archives one
-/// after another, or with `--part` their joint part; with `--each` a line for each border with a finding comes before
-/// the audit, and where there aren't as many parts as `--expect` says, a line on `errors` says so in place of it:
-/// status 2. `show` lists the records: status 0, or 2 where the input ended with a fault, which the listing names, or
-/// where it couldn't be written whole. `select` writes the records that are asked for, as they are: status 0, or 2
-/// where the input ended with a fault, which `errors` takes after the number of the records that lack a time, or where
-/// they couldn't be written. `repack` packs the archive anew: status 0, 1 where a channel is broken, and 2 where the
-/// input is no whole archive, where a channel can't be packed, or where the output failed; `errors` takes a line that
-/// says so.
+/// after another, or with `--part` their joint part, and has the status of that audit; with `--each` a line for each
+/// border with a finding comes before the audit, and where the parts can't be read or joined, or aren't as many as
+/// `--expect` says, a line on `errors` says so in place of it: status 2. `show` lists the records: status 0, or 2 where
+/// the input ended with a fault, which the listing names, or where it couldn't be written whole. `select` writes the
+/// records that are asked for, as they are: status 0, or 2 where the input ended with a fault, which `errors` takes
+/// after the number of the records that lack a time, or where they couldn't be written. `repack` packs the archive
+/// anew: status 0, 1 where a channel is broken, and 2 where the input is no whole archive, where a channel can't be
+/// packed, or where the output failed; `errors` takes a line that says so.
 pub fn run<A: Allocator + Copy, R: Source, W: Sink, E: Sink>(
     alloc: A,
     command: &Command<'_>,

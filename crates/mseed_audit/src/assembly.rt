@@ -33,7 +33,7 @@ pub enum NotContinuous {
     Memory,
 }
 
-/// Returns the series of a channel: the samples of its records, one after another.
+/// Returns the series of a channel: the samples of its records, one after another, among fewer than 2^40 records.
 ///
 /// # Errors
 ///

@@ -25,7 +25,7 @@ use std::marker::Model;
 pub struct Memory;
 
 /// The audit of records as they come, of any number of channels. It holds one value of a fixed size for each
-/// channel with samples, and no record.
+/// channel with samples, and no record. A call that adds or passes a record wants fewer than 2^40 before it.
 ///
 /// Contracts see an audit as what is `Held`, and say by `IsAuditOf` of which records it is the audit, or, where it
 /// passed some, by `IsAuditAmong`.

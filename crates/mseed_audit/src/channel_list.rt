@@ -297,8 +297,8 @@ fn find_or_enter<A: Allocator + Copy>(
     }
 }
 
-/// Makes room for a further channel. A list that is full grows by an eighth of what it holds, so that no more than that
-/// is left unused.
+/// Makes room for a further channel. A list that is full grows by an eighth of what it holds and by four, so that no
+/// more than that is left unused.
 #[inline(always)]
 fn make_room<A: Allocator>(channels: &mut Vec<(Codes, Channel), A>) -> Result<(), Memory>
     ensures items { channels.new.items ≡ channels.old.items }

@@ -1,5 +1,5 @@
 -- The codes that calls return, and the numbers that belong to them. 0 is done, 1 and 2 are the statuses of an audit, 3
--- is refused memory.
+-- is refused memory; 80 to 82, of a selection that can't be asked for, are in `Asked`.
 use Rattle.std.specs.Prelude.{ℕ, pos, Result, Ok, Err}
 use Rattle.mseed_record.specs.declared.fault.FrameFault.{FrameFault}
 use Rattle.mseed_record.specs.declared.fault.FrameFault.TheVariants.{NotData, Order, Chain, No1000, Length, Outside}

@@ -12,7 +12,7 @@ use Rattle.mseed_c.specs.declared.codes.Refusal.{Refusal}
 use Rattle.mseed_c.specs.declared.codes.Refusal.TheVariants.{Option as BadOptions, Rate, Start, Leap}
 use Rattle.mseed_c.specs.declared.heading.Heading.{Heading}
 
--- the power of two that a record's length is; 0 for a length that no record has
+-- the power of two that a record's length is; 0 for a length that isn't written
 abbrev pub exponent_of : ℕ → ℕ
 exponent_of n =
     if n == 128 then 7

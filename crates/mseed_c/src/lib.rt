@@ -2,7 +2,8 @@
 //! records of some channels and a window of time, and packing (SEED Reference Manual 2.4).
 //!
 //! Each call returns a code, writes its results into memory that its caller lends, and keeps no state. The codes are
-//! defined in `specs/Codes`; `include/mseed.h` declares the calls for C.
+//! defined in `specs/Codes`, but those of a selection that can't be asked for in `specs/Asked`; `include/mseed.h`
+//! declares the calls for C.
 #![tactic(auto)]
 
 mod auditing;

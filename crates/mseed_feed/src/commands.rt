@@ -13,7 +13,7 @@ use std::time::Clock;
 
 /// Serves the records of an input over TCP, to one connection after another, once all of it is read, and returns the
 /// exit status: 0 where each of the connections was served to its end, and 2 otherwise, after a line on `errors` that
-/// says why. The input is dropped before the first connection is taken.
+/// says why. Nothing may have been read of the input before; it is dropped before the first connection is taken.
 pub fn serve<N: Net + Clock, R: Source + Drop, E: Sink>(
     host: &N,
     alloc: Global,

@@ -33,8 +33,8 @@ impl<C: Clock, I: Read + AsRawFd + Drop> Device for Tcp<'_, C, I> {
     }
 }
 
-/// Serves a feed over TCP to many clients at once, as the records of an input come, and returns the exit status. A port
-/// that can't be had is as a link that failed.
+/// Serves a feed over TCP to many clients at once, as the records of an input come, and returns the exit status, as
+/// [`serve_live`] does. A port that can't be had is as a link that failed.
 pub fn serve_live_tcp<N: Net + Clock, I: Read + AsRawFd + Drop, E: Sink>(
     host: &N,
     alloc: Global,
@@ -56,7 +56,7 @@ pub fn serve_live_tcp<N: Net + Clock, I: Read + AsRawFd + Drop, E: Sink>(
     }
 }
 
-/// Where links are taken, how many stand at once, and how long each may be silent.
+/// Where links are taken, how many stand at once, and how long a handshake may take and a link take nothing.
 fn links_of(live: &LiveServing) -> Plan {
     let listener = &live.serving.listener;
     let address = Ipv4Addr::from(listener.host.octets);
@@ -67,11 +67,12 @@ fn links_of(live: &LiveServing) -> Plan {
     }
 }
 
-/// Serves a feed to the links of a device, as the records of its input come, and returns the exit status. Each place
+/// Serves a feed to the links of a device, at which nothing happened yet, as the records of its input come. Each place
 /// has a ring of the capacity that was requested, without records at first.
 ///
-/// What is wrong with the input is reported on `errors` at once. What came before it stays served, and nothing after
-/// it is.
+/// Returns the exit status: 0 where the input ended where a record ended and the device didn't fail, and 2 otherwise,
+/// after a line on `errors` that says why. What is wrong with the input is reported at once: what came before it stays
+/// served, and nothing after it is.
 pub fn serve_live<R: Device, E: Sink>(
     alloc: Global,
     live: &LiveServing,

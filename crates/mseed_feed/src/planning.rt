@@ -13,7 +13,8 @@ use slink_feed::{Client, Mode};
 use slink_links::{FAULT, FetchPlan, ServePlan};
 use std::alloc::Allocator;
 
-/// Fills the feed that is to be served with the records of an input, and returns how it is served.
+/// Fills the feed that is to be served with the records of an input, of which nothing was read yet, and returns how it
+/// is served.
 ///
 /// # Errors
 ///

@@ -48,7 +48,7 @@ open_text none = []
 open_text (begun channels) = header_line ++ channel_lines channels
 open_text (whole w) = part_text w
 
--- no part stands there, or the last ends with a fault
+-- there are parts, and the last ends with a fault
 pub record EndsByFault (over : List Written) : Type 0 where
   pub parts : List Written
   pub last : Written
@@ -56,7 +56,8 @@ pub record EndsByFault (over : List Written) : Type 0 where
   pub are : over ≡ parts ++ last ∷ []
   pub ends : last.end ≡ Some fault
 
--- nothing can go on but what is over: a part without a fault is over until the next begins
+-- what can stand after the parts that are over: nothing, before the first part or after a fault; a part that has begun;
+-- or a whole one without a fault, which is over once the next part begins
 abbrev pub IsWhere : List Written → OpenPart → Type 0
 IsWhere over none = (over ≡ []) ⊎ EndsByFault over
 IsWhere over (begun channels) = ⊤

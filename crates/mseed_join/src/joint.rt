@@ -26,9 +26,10 @@ use std::cmp::Ordering;
 pub struct JointPart<A: Allocator = Global> {
     /// What is held of the channels, and how many records and bytes there are.
     pub part: Part<A>,
-    /// How many archives before the last end with a fault, which was passed.
+    /// How many of the archives end with a fault that was passed, the last one too.
     pub faults: u64,
-    /// The fault with which the last archive ends, if with one.
+    /// The fault with which the last archive that counts ends, if with one that wasn't passed. Its offset is that in
+    /// the joint part.
     pub end: Option<StreamFault>,
 }
 

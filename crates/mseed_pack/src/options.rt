@@ -38,7 +38,8 @@ impl Options {
     ///
     /// # Errors
     ///
-    /// The first of them that is none.
+    /// The first that applies: `Exponent` where the exponent isn't in 7 to 12, `Encoding` where the code isn't 1, 3, 10
+    /// or 11, `Sequence` where the number is above 999,999.
     pub fn new(exponent: u8, encoding: u8, first_sequence: u32) -> Result<Options, BadOption>
         ensures fault { result_err result ≡ first_bad_option exponent encoding first_sequence }
         ensures exponent { IfOk result (λ o. o.exponent ≡ exponent) }

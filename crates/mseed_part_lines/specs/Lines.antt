@@ -87,7 +87,7 @@ channel_line key c =
 abbrev pub counts_line : ℕ → ℕ → List ℕ
 counts_line records bytes = codes "records " ++ decimal records ++ codes " bytes " ++ decimal bytes ++ codes "\n"
 
--- how many faults were passed, if any does
+-- how many faults were passed, if any was
 abbrev pub faults_line : ℕ → List ℕ
 faults_line zero = []
 faults_line (suc n) = codes "faults " ++ decimal (suc n) ++ codes "\n"

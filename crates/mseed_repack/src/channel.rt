@@ -27,7 +27,7 @@ use std::alloc::Allocator;
 /// before it, too: for how each stretch is packed, for all leap seconds, and for the samples of the largest stretch
 /// that goes by a list. A stretch goes from frames to frames, and no memory is requested for its samples, where its
 /// records are Steim, and so is what is written, no record has more than 7,056 samples, and it shows without reading
-/// them that each sample is the one before it plus a difference of 30 bits.
+/// them that each sample is the one before it plus a difference of 30 bits. There are at most 2^40 records.
 ///
 /// # Errors
 ///

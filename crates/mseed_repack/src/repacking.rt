@@ -28,7 +28,8 @@ use std::alloc::Allocator;
 const ONLY: u64 = 1;
 
 /// Packs the archive that is read from `input` anew: the series of its channels, in the order of their keys. All are
-/// judged, and all memory is requested, before the first byte is written.
+/// judged, and all memory is requested, before the first byte is written. Nothing may have been read of the input
+/// before.
 ///
 /// # Errors
 ///

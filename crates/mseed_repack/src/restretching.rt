@@ -24,13 +24,13 @@ use std::alloc::Allocator;
 /// All are judged, and all memory is requested, before the first byte is written. An archive with a channel of which a
 /// record has a finding of its own, or a stretch can't be packed, is refused; or else, where such channels are to be
 /// left out, a line for each is written to `errors`, and the others are written as they would be alone. Returns the
-/// worst of what was left out.
+/// worst of what was left out. Nothing may have been read of the input before.
 ///
 /// # Errors
 ///
-/// `Stream` where the input is no whole archive, `Broken` where a record has a finding of its own, `Misfit` where a
-/// stretch can't be packed: each is checked of the whole archive before the next. `Write` where the output failed,
-/// `Memory` where an allocation was refused.
+/// `Stream` where the input failed or is no whole archive, `Broken` where a record has a finding of its own, `Misfit`
+/// where a stretch can't be packed: each is checked of the whole archive before the next. `Write` where the output
+/// failed, `Memory` where an allocation was refused.
 pub fn repack_stretches<A: Allocator + Copy, R: Source, W: Sink, E: Sink>(
     alloc: A,
     options: &Options,

@@ -30,7 +30,8 @@ impl Counts {
         }
     }
 
-    /// Counts one more record, by whether it is asked for.
+    /// Counts one more record, by whether it is asked for. Fewer than 2^60 were counted, and neither other count is
+    /// above theirs.
     pub fn add(&mut self, answer: Answer)
         requires records { self.old.records < 2 ^ 60 }
         requires asked_for { self.old.asked_for ≤ self.old.records }

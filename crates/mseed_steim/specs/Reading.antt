@@ -67,7 +67,7 @@ Denies v (LastDiffers found constant) =
     (s : List ℤ) × (IsReading v s × ((t : List ℤ) → IsReading v t → (s ≡ t) × (¬ (EndsOnConstants v t))))
 Denies v fault = (s : List ℤ) → ¬ (IsReading v s)
 
--- How a record holds its samples, and where; or the fault that comes before its payload is read.
+-- How a record holds its samples, and where: it has no fault that comes before its payload is read.
 abbrev pub HoldsIn : View → Form → List ℕ → Type 0
 HoldsIn v form payload =
     (v.has_rate_blockette ≡ false) × (form_of v.encoding ≡ Some form) × IsReadable form v.payload_order × HasPayload v

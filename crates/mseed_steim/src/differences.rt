@@ -105,9 +105,9 @@ impl<'a> Differences<'a> {
         // What is handed out is what the words spell, or those before the first bad word, and its place, and nothing
         // else.
         ensures items { Gives scheme (data_words payload.now) result.items }
-        // No more than seven for each word.
         ensures only { (items : List (Result ℤ BadWordAt)) → Gives scheme (data_words payload.now) items
             → items ≡ result.items }
+        // No more than seven for each word.
         ensures few { 4 * length result.items ≤ 7 * length payload.now }
         ensures bounded { 4 * most_left result ≤ 7 * length payload.now }
         // Nothing is unpacked yet.

@@ -298,8 +298,8 @@ fn unpack_words(scheme: Scheme, frame: &[u8; 64], rows: u8x16, differences: &mut
     unpack_all(scheme, lanes_of(scheme), &bits, &rows, differences)
 }
 
-/// The differences of a frame's words from word 1 or word 4 on, in their order: how many there are. None where a word
-/// is bad, or a difference is wider.
+/// The differences of a frame's words from word 1, 3 or 4 on, in their order: how many there are. None where a word is
+/// bad, or a difference is wider.
 #[inline(always)]
 fn unpack_by(
     scheme: Scheme,

@@ -34,7 +34,7 @@ pub(crate) fn differences_in(word: u32, group: Group) -> ArrayVec<i32, 7>
     differences
 }
 
-/// The differences that a data word of this code spells: none where the code is 0, and else those of its
+/// The differences that a data word of this code, 0 to 3, spells: none where the code is 0, and else those of its
 /// row of the table.
 ///
 /// # Errors

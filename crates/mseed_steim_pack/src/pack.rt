@@ -51,8 +51,8 @@ pub struct Packed {
     pub words: usize,
 }
 
-/// The word that takes the largest number of the differences, from the first on: its code, its bits and
-/// how many it takes.
+/// The word that takes the largest number of the differences, of which there is at least one, from the first on: its
+/// code, its bits and how many it takes.
 ///
 /// # Errors
 ///
@@ -475,8 +475,9 @@ fn pack_ahead<P: Pending>(
     }
 }
 
-/// Packs differences into frames, from the first on: each data word in turn takes the largest number of
-/// those that are left, until no difference or no word is left. X0 and Xn, and all words after the last, are 0.
+/// Packs differences into frames, from the first on: each data word in turn takes the largest number of those that are
+/// left, until no difference or no word is left. X0 and Xn, and all words after the last, are 0. The frames are whole
+/// ones, of 64 bytes each, and at least one.
 ///
 /// # Errors
 ///
@@ -510,8 +511,8 @@ pub fn pack_words(scheme: Scheme, diffs: &[i32], frames: &mut [u8]) -> Result<Pa
 }
 
 /// Packs the differences of a series into the frames of one record after another, as [`pack_words`] does. What is found
-/// ahead of the differences is kept for the next call, which is given those that this one didn't use, or the first of
-/// them, and any number of further ones.
+/// ahead of the differences is kept for the next call, which is of the same scheme and is given those that this one
+/// didn't use, or the first of them, and any number of further ones.
 ///
 /// # Errors
 ///
@@ -534,8 +535,8 @@ pub fn pack_words_ahead(
 }
 
 /// Packs the differences of samples, each from the one before it and that of the first from `before`, as
-/// [`pack_words_ahead`] packs a list of them. The next call is given the samples whose differences this one didn't use,
-/// or the first of them, and any number of further ones.
+/// [`pack_words_ahead`] packs a list of them: each fits 32 bits. The next call is of the same scheme and is given the
+/// samples whose differences this one didn't use, or the first of them, and any number of further ones.
 ///
 /// # Errors
 ///

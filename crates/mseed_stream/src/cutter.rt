@@ -220,7 +220,8 @@ impl<A: Allocator> Cutter<A> {
     }
 
     /// Goes past a record of so many bytes that the source holds whole, as [`next`](Cutter::next) does where it returns
-    /// one: by two calls of the source, for the header and for the rest.
+    /// one: by two calls of the source, for the header and for the rest. It is the record that [`peek`](Cutter::peek)
+    /// returned, and neither the cutter nor the source moved since.
     pub fn pass<R: Source>(&mut self, source: &mut R, size: usize)
         requires along { IsAlong (R.read source.old) self.old }
         requires ahead { IsAhead size self.old (R.lent source.old) }

@@ -24,8 +24,8 @@ pub enum StreamFault {
 }
 
 impl StreamFault {
-    /// Returns the offset (in bytes) of what is no record, or of the record that is cut off; `None` for a read that
-    /// failed and memory that was refused, which lie in no byte of the input.
+    /// Returns the offset (in bytes) of what is no record, of the record that is cut off, or where the reads ran out
+    /// (`Turns`); `None` for a read that failed and memory that was refused, which lie in no byte of the input.
     pub fn offset(&self) -> Option<u64>
         ensures { result ≡ offset_of self.now }
     {

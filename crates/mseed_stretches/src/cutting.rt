@@ -10,7 +10,8 @@ use crate::stretch::Stretch;
 use mseed_record::RecordView;
 
 /// Returns the first stretch of some records of a channel, each of which is sound: how its first record begins, and how
-/// many records and samples it has. Called again for the records after those, it returns the next stretch.
+/// many records and samples it has. Called again for the records after those, it returns the next stretch. There is at
+/// least one record, and there are at most 2^40.
 pub fn first_stretch(views: &[RecordView]) -> Stretch
     requires some { 0 < length views.now }
     requires few { length views.now ≤ 2 ^ 40 }

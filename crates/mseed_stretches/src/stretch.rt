@@ -90,7 +90,7 @@ impl Stretch {
         is_on_time(self.start, self.samples, own, self.added, next.0)
     }
 
-    /// Returns the stretch with one more record.
+    /// Returns the stretch with one more record, where it has fewer than 2^40.
     pub fn with(&self, view: &RecordView) -> Stretch
         requires { self.now.records < 2 ^ 40 }
         ensures stretch { (vs : List View) → IsStretchOf self.now vs

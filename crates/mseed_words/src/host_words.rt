@@ -59,7 +59,7 @@ fn are_in_name(text: &[u8]) -> bool
     text.iter().all(|byte| is_in_name(*byte))
 }
 
-/// Whether a byte is a letter.
+/// Whether one of the bytes is a letter.
 fn has_letter(text: &[u8]) -> bool
     ensures { result ≡ list_any is_ascii_alphabetic text.now }
 {

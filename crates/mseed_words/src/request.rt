@@ -79,7 +79,8 @@ pub struct Endpoint<H> {
     pub host: H,
     /// The port there, 1 to 65,535.
     pub port: u16,
-    /// How long the other side may be silent where it has something to say: up to a day.
+    /// How long a handshake may take as a whole, and after it a write, and of one who fetches a read too: up to a day.
+    /// 0 stands for any time.
     pub timeout: Timeout,
 }
 

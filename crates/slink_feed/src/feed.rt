@@ -118,8 +118,8 @@ impl<A: Allocator> Feed<A> {
         }
     }
 
-    /// Gives a record to the ring at an index, of whose station it is, under the ring's next number. The oldest record
-    /// leaves a full ring.
+    /// Gives a record to the ring at an index, of whose station it is, under the ring's next number, which is below
+    /// 2^63. The oldest record leaves a full ring.
     pub fn push(&mut self, k: usize, bytes: &[u8; 512])
         requires in_range { k < length self.old }
         requires bears { ForSome (slice_get self.old k) (λ w. Bears bytes.now w.place) }
@@ -156,7 +156,7 @@ impl<A: Allocator> Feed<A> {
     }
 
     /// Gives the record of this number of an input, counted from 1, to the first ring of its station, and returns that
-    /// ring's index.
+    /// ring's index. The next number of each ring is below 2^63.
     ///
     /// # Errors
     ///

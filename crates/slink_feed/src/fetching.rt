@@ -53,8 +53,8 @@ pub fn fetch_turn<S: Duplex, W: Sink>(
     fetch_turn_reporting(client, link, output, &mut nowhere, &mut reporter)
 }
 
-/// Takes one step with a client's link as [`fetch_turn`] does. Each record is reported on `errors` before it is
-/// written, and the reporter notes that the output accepted one.
+/// Takes one step with a client's link as [`fetch_turn`] does. What the reporter reports of a record, if anything, is
+/// written to `errors` before the record is, and the reporter notes that the output accepted one.
 ///
 /// # Errors
 ///

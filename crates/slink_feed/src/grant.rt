@@ -8,9 +8,9 @@ use std::alloc::Allocator;
 /// Which records a client asks for.
 #[derive(Clone, Copy, Debug, PartialEq, Eq)]
 pub enum Mode {
-    /// Those that are there and those that come.
+    /// Records as they come: from the number that is requested on or, where none is, from the next one on.
     Data,
-    /// Those that are there.
+    /// Records that are there: from the number that is requested on or, where none is, from the oldest one on.
     Fetch,
 }
 

@@ -149,8 +149,8 @@ fn report_first<E: Sink>(is_first: bool, want: &Option<Wanted>, number: u32, err
     }
 }
 
-/// Reports on standard error each record that is about to be written: that it comes after a hole, and that it is the
-/// first one of its station.
+/// Reports, of the records that are about to be written, each one that comes after a hole and, where that is requested,
+/// the first one of each station.
 #[derive(Drop)]
 pub struct Reporter {
     wants: [Option<Wanted>; STATIONS],

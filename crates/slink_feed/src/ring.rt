@@ -83,7 +83,8 @@ impl<A: Allocator> Ring<A> {
         }
     }
 
-    /// Takes a record of the ring's station under the next number. The oldest record leaves a full ring.
+    /// Takes a record of the ring's station under the next number, which is below 2^63. The oldest record leaves a full
+    /// ring.
     pub fn push(&mut self, bytes: &[u8; 512])
         requires bears { Bears bytes.now self.old.place }
         requires room { self.old.next < 2 ^ 63 }

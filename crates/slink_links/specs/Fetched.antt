@@ -253,8 +253,8 @@ abbrev pub HasBrought : Bool → List Numbered → Type 0
 HasBrought received [] = received ≡ false
 HasBrought received (r ∷ rs) = received ≡ true
 
--- One try: its dial failed; or a link was had and fetched over, which brought a record or didn't. Where the fetch ends
--- by it, that isn't called.
+-- One try: its dial failed; or a link was had and fetched over, which brought a record or didn't, as `received` says.
+-- Where the fetch ends otherwise than by links that failed, `received` says nothing.
 pub data IsTry (end : FetchEnd) (received : Bool) (old new : Listening) (a b : BytesWritten) : List Exchange → Type 0
   where
     undialled : end ≡ LinkFailed → received ≡ false → new ≡ old → b ≡ a → IsTry end received old new a b []

@@ -12,7 +12,8 @@ pub struct ServePlan<A: Allocator = Global> {
     pub port: u16,
     /// The number of connections that are served, one after another.
     pub connections: u32,
-    /// How long a client may be silent that has something to say.
+    /// How long a client's handshake may take as a whole, and each write to it after that. What it says after its
+    /// handshake is waited for for any time.
     pub timeout: Timeout,
     /// The records, each in the ring of its station.
     pub feed: Feed<A>,
@@ -27,7 +28,7 @@ pub struct FetchPlan {
     pub port: u16,
     /// The most connections that are tried.
     pub tries: u32,
-    /// How long the server may be silent.
+    /// How long it may take to connect, how long the handshake may take as a whole, and each read or write after it.
     pub timeout: Timeout,
     /// Whether standard error is informed of the first record of each station and, at the end, of what is wanted next.
     pub report_next: bool,

@@ -1,4 +1,4 @@
--- The input: records of the stations that are served, one after another (own).
+-- The input: records of the stations that are served, one after another.
 use Rattle.std.specs.Prelude.{◌≡◌, ℕ, ◌*◌, ◌+◌, ◌<◌, ◌⊎◌, List, [], ◌∷◌, ◌++◌, length, take, slice_get, Some}
 use Rattle.std.specs.List.{AllByRecursion, concat}
 use Rattle.mseed_record.specs.declared.framer.Scan.TheVariants as scans

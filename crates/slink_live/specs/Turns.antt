@@ -24,7 +24,7 @@ pub record Closes (log last : List Happening) : Type 0 where
   pub each : AllByRecursion IsReport gone
   pub last_is : last ≡ log ++ gone
 
--- This happened, and then links were closed.
+-- This happened, and then links were closed and things were reported to the device.
 abbrev pub Calls : List Happening → Happening → List Happening → Type 0
 Calls log h last = Closes (log ++ h ∷ []) last
 

@@ -51,7 +51,7 @@ impl Model for Server {
 }
 
 impl Server {
-    /// Returns a server of these rings, with so many slots for links.
+    /// Returns a server of these rings, with so many slots for links. The next number of each ring is at most 2^62.
     ///
     /// # Errors
     ///

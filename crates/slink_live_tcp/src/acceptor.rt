@@ -16,7 +16,7 @@ pub(crate) struct Acceptor {
 }
 
 impl Acceptor {
-    /// A door at which links are wanted.
+    /// An acceptor of links, which are wanted at first.
     pub(crate) fn new(listener: TcpListener) -> Acceptor {
         Acceptor {
             listener,
@@ -40,7 +40,7 @@ impl Acceptor {
         self.may_accept = true;
     }
 
-    /// Whether a link is wanted.
+    /// Notes whether a link is wanted.
     pub(crate) fn wants(&mut self, wanted: bool) {
         self.wants_links = wanted;
     }

@@ -19,7 +19,7 @@ impl Round {
     /// Where there is no memory.
     pub(crate) fn new(alloc: Global, count: usize) -> Result<Self, AllocError> {
         let mut words = Vec::new(alloc);
-        for word in 0..count.div_ceil(WORD) {
+        for _ in 0..count.div_ceil(WORD) {
             words.push(0)?;
         }
         Ok(Round { words })
@@ -42,14 +42,14 @@ impl Round {
     /// Returns the first token from this one on with which there may be something to do.
     pub(crate) fn next(&self, from: usize) -> Option<usize> {
         let first = from / WORD;
-        for token in first..self.words.len() {
-            let mut bits = self.words[token];
-            if token == first {
+        for index in first..self.words.len() {
+            let mut bits = self.words[index];
+            if index == first {
                 bits &= u64::MAX << (from % WORD);
             }
             if bits != 0 {
                 let low = bits.trailing_zeros() as usize;
-                return Some(token.saturating_mul(WORD).saturating_add(low));
+                return Some(index.saturating_mul(WORD).saturating_add(low));
             }
         }
         None

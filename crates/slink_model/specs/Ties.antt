@@ -134,7 +134,7 @@ Leaves Streaming feed s x = (x.0.grants ≡ s.grants) × (x.1 ≡ replies.Nothin
 Leaves Closed feed s x = (x.0.grants ≡ s.grants) × (x.1 ≡ replies.Nothing) × ¬ (IsBefore x.0.phase)
 Leaves phase feed s x = (k : ℕ) → IsGranted feed k (grant_at s.grants k) (grant_at x.0.grants k)
 
--- the stations, each with the number that was wanted first, and no two of which are the same
+-- the stations, each with the number that was wanted first
 abbrev pub Places : Type 0
 Places = List (Fields × Option ℕ)
 

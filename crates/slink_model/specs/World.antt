@@ -52,7 +52,7 @@ pub record WorldState : Type 0 where
 abbrev pub with_one : Lists → ℕ → List ℕ → Lists
 with_one lists k bytes = slice_set lists k (slice_index_or lists k [] ++ bytes ∷ [])
 
--- a number of a station, unless there is one already
+-- the number of a station, where there is one
 abbrev pub number_at : Numbers → ℕ → Option ℕ
 number_at numbers k = unwrap_or (slice_get numbers k) None
 
@@ -60,6 +60,7 @@ abbrev pub or_else : Option ℕ → Option ℕ → Option ℕ
 or_else None other = other
 or_else (Some n) other = Some n
 
+-- with a number of a station, unless there is one already
 abbrev pub with_first : Numbers → ℕ → Option ℕ → Numbers
 with_first numbers k number = slice_set numbers k (or_else (number_at numbers k) number)
 
@@ -196,7 +197,7 @@ opening setup = record {
   link = None;
 }
 
--- The stations are of different stations, or in different networks.
+-- No two are the same: they differ by the station's code or by the network's.
 abbrev pub Differ : List (Fields × Option ℕ) → Type 0
 Differ places = (i j : ℕ) (p q : Fields × Option ℕ) → slice_get places i ≡ Some p → slice_get places j ≡ Some q
     → p.0 ≡ q.0 → i ≡ j

@@ -97,9 +97,9 @@ fn open(alloc: Global, setup: &Setup) -> Result<World, Memory>
 
 /// Carries out a schedule: pushes, deliveries, cuts and reconnections in any order.
 ///
-/// The stations are different. The capacity is from 1 to 1,000,000 records, the first number and those that the client
-/// wants first are below 2^24. A step names one of the stations, and a record that is pushed is of the
-/// station that it is pushed to.
+/// The stations are different, at most sixteen. The capacity is from 1 to 1,000,000 records, the first number and those
+/// that the client wants first are below 2^24. There are fewer than 2^40 steps: a step names one of the stations, and a
+/// record that is pushed is of the station that it is pushed to.
 ///
 /// # Errors
 ///

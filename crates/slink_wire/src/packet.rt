@@ -18,8 +18,8 @@ pub struct NotPacket;
 pub struct Packet;
 
 impl Packet {
-    /// Returns the packet of a record: `SL`, its number in six hexadecimal digits, in capitals, and its 512 bytes
-    /// (SeedLink 3, packets).
+    /// Returns the packet of a record: `SL`, its number, below 2^24, in six hexadecimal digits, in capitals, and its
+    /// 512 bytes (SeedLink 3, packets).
     #[tactic(auto, using(crate::proofs::Packets::read_back))]
     pub fn write(number: u32, bytes: &[u8; 512]) -> [u8; PACKET]
         requires { number < 2 ^ 24 }
@@ -42,7 +42,7 @@ impl Packet {
     }
 
     /// Returns the number of a packet's record, modulo 2^24, by the packet's first eight bytes, whose digits may stand
-    /// in either case; `None` where they begin no packet.
+    /// in either case; `None` where they begin no packet. There are at least these eight.
     pub fn number(bytes: &[u8]) -> Option<u32>
         requires { HEAD ≤ length bytes.now }
         ensures number { IfSome result (HasHead bytes.now) }

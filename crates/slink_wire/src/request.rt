@@ -52,7 +52,7 @@ fn numbered_line(keyword: &[u8], number: Option<u32>) -> ArrayVec<u8, 32>
 }
 
 impl Request {
-    /// Returns the line of the request, with CR LF: in capitals, a number in six digits.
+    /// Returns the line of the request, with CR LF: in capitals, a number, which is below 2^24, in six digits.
     #[tactic(auto, using(crate::proofs::Requests::data_written, crate::proofs::Requests::fetch_written, crate::proofs::Requests::end_written))]
     pub fn bytes(&self) -> ArrayVec<u8, 32>
         requires { IsSpelled self.now }

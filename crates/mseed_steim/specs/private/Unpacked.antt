@@ -50,7 +50,7 @@ unpacked scheme frame from word zero = []
 unpacked scheme frame from word (suc n) =
     differences_at scheme frame from word ++ unpacked scheme frame from (word + 1) n
 
--- so many differences are those of a frame's words from word 1 or word 4 on, wherever it stands in a payload
+-- so many differences are those of a frame's words from word 1, 3 or 4 on, wherever it stands in a payload
 pub record AreUnpacked (scheme : Scheme) (begin frame : List ℕ) (differences : List ℤ) (count : ℕ) : Type 0 where
   pub few : count ≤ 120
   pub items : (p : List ℕ) (k from : ℕ) (rest : List DataWord) → Begins begin from → frame ≡ take 64 (drop (64 * k) p)
