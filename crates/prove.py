@@ -2,6 +2,7 @@
 """Proves and builds a crate, and before it the libraries that it stands on, side by side.
 
     prove.py [--keep] CRATE [lib | run -- ARGUMENT ..]
+    prove.py --gate
     prove.py --measure
 
 Each library is proved once those below it are, as `rt ci` proves it: it reads what those promise, and not how that was
@@ -14,6 +15,9 @@ With --keep, or where `rt check` has kept something of one of the crates, each i
 the next check goes on from, and reads the proofs below. `rt` locks all crates below the one that it works on. So each
 is proved in a room of its own: with links to its sources and to what those below it were built to. What comes of it is
 moved to its folder `out`, where `rt` finds it.
+
+With --gate it runs the toolchain's gate, `rt ci`, which proves every crate from nothing, and what that has built is
+found again as what was proved without --keep.
 
 With --measure nothing is proved: what the last proof of each crate without --keep took is written to minutes.txt.
 """
@@ -228,15 +232,25 @@ def has_kept(crate: str) -> bool:
     return any((CRATES / crate / "out" / KEPT).glob("*"))
 
 
+def read_for(crate: str) -> list[os.stat_result]:
+    """The files of the repository that a crate's proof rests on."""
+    return [(ROOT / name).stat() for name in ("crates.txt", "HANDLES")] \
+        + [file for at in [crate, *below(crate)] for file in sources(at)]
+
+
+def stamp(crate: str) -> Path:
+    """What `rt` leaves beside a library by which it finds it again: it has none where it built what is promised."""
+    return CRATES / crate / "out" / BUILT / "stamp"
+
+
 def is_built(crate: str, keeps: bool) -> bool:
     """Whether there is what a crate is built to, and neither its sources nor those that it stands on, nor what these
     were built to, have changed since this toolchain proved it. Where checks keep something, `rt` has to know it."""
     out = CRATES / crate / "out"
     mark, made = out / PROVED, [out / crate, out / f"lib{crate}.a", *([] if keeps else [library(crate) / "format"])]
-    if not mark.exists() or not any(path.exists() for path in [*made, out / BUILT / "stamp"]):
+    if not mark.exists() or not any(path.exists() for path in [*made, stamp(crate)]):
         return False
-    files = [(ROOT / name).stat() for name in ("crates.txt", "HANDLES")]
-    files += [file for at in [crate, *below(crate)] for file in sources(at)]
+    files = read_for(crate)
     if not keeps:
         outs = [CRATES / at / "out" / PROVED for at in below(crate)] + [library(at) / "format" for at in below(crate)]
         files += [path.stat() for path in outs if path.exists()]
@@ -499,7 +513,7 @@ class Build:
             self.prove({self.crate}, set() if self.keeps else set(self.on))
         finally:
             self.leave()
-        self.close("Interrupted: the same command goes on from here." if self.is_stopped else "")
+        self.close("Interrupted: the same command goes on with the crates that are left." if self.is_stopped else "")
         for crate in [] if self.is_stopped else self.failed:
             log = (CRATES / crate / "out" / LOG).read_text(encoding="utf-8", errors="replace")
             print(*(line for line in log.splitlines() if not IS_WELL.search(line)), sep="\n")
@@ -519,6 +533,25 @@ class Build:
                 leave_room(crate)
 
 
+def gate() -> int:
+    """Runs the toolchain's gate. Where it ends well, what it has built counts as proved, unless a source has changed
+    since it began."""
+    for crate in lines():
+        # The gate would put back what it finds in place of its own.
+        if not stamp(crate).exists():
+            shutil.rmtree(CRATES / crate / "out" / BUILT, ignore_errors=True)
+    # Ctrl-C ends the gate, which then puts back what it has laid aside.
+    signal.signal(signal.SIGINT, lambda *_: None)
+    began = time.time()
+    status = subprocess.run(["rt", "ci"], cwd=ROOT, check=False).returncode
+    for crate in [] if status else sorted(lines(), key=lambda at: len(below(at))):
+        made = [CRATES / crate / "out" / crate, library(crate) / "format"]
+        is_ours = not stamp(crate).exists() and any(path.exists() for path in made)
+        if is_ours and all(file.st_mtime < began for file in read_for(crate)):
+            (CRATES / crate / "out" / PROVED).write_text(version(), encoding="utf-8")
+    return status
+
+
 def measure() -> None:
     """Writes what the last first proof of each crate took."""
     taken = {at: CRATES / at / "out" / TAKEN for at in lines()}
@@ -534,6 +567,7 @@ def main() -> int:
     """Does what the arguments ask for."""
     parser = argparse.ArgumentParser(description="Proves and builds the libraries of a crate, side by side.",
                                      epilog="Example: crates/prove.py mseed run -- --version")
+    parser.add_argument("--gate", action="store_true", help="run `rt ci`, and find again what it has built")
     parser.add_argument("--measure", action="store_true", help="write minutes.txt anew, by what the last proofs took")
     parser.add_argument("--keep", action="store_true", help="keep what `rt check` goes on from")
     parser.add_argument("crate", nargs="?", choices=sorted(lines()), metavar="CRATE", help="a crate of crates.txt")
@@ -542,12 +576,12 @@ def main() -> int:
     if given.measure:
         measure()
         return 0
-    if not given.crate:
+    if not given.crate and not given.gate:
         parser.error("no crate is named")
     if not shutil.which("rt"):
         print("rt: not found. The toolchain's command has to be on the path: see README.md.", file=sys.stderr)
         return 2
-    return Build(given.crate, given.command, given.keep).run()
+    return gate() if given.gate else Build(given.crate, given.command, given.keep).run()
 
 
 if __name__ == "__main__":

@@ -8,13 +8,15 @@ They are the files tests/must-fail/CRATE/NAME.edit, written as those of crates/C
 of the crates, over what the toolchain keeps of checks on this machine; where it keeps nothing, the crates are proved
 first, and what they stand on side by side by crates/prove.py. Without names, those of all crates are tried. With
 --tenth it is a tenth of the list, as `make test` does: which one goes by a checksum of the crates, so that each change
-has its turn, and the same tree the same tenth.
+has its turn, and the same tree the same tenth. These are tried by the toolchain's gate, which proves nothing again that
+it has proved on this machine.
 """
 
 from __future__ import annotations
 
 import argparse
 import hashlib
+import re
 import shutil
 import subprocess
 import sys
@@ -23,6 +25,7 @@ from pathlib import Path
 from typing import Sequence
 
 from driver.program import CRATES, ROOT
+from driver.toolchain import copied
 
 EDITS = ROOT / "tests" / "must-fail"
 PARTS = 10
@@ -49,26 +52,44 @@ def turn(crates: Path = CRATES) -> int:
     return int.from_bytes(found.digest()[:8], "big") % PARTS
 
 
-def copied(folder: Path, edits: Sequence[Path]) -> None:
-    """A copy of what the toolchain reads, in which the crates have these edits in place of their own."""
-    for name in ("crates.txt", "HANDLES"):
-        shutil.copy(ROOT / name, folder)
-    shutil.copytree(CRATES, folder / "crates", ignore=shutil.ignore_patterns("out", "must-fail"))
+def placed(folder: Path, edits: Sequence[Path]) -> list[str]:
+    """A copy of the crates of these edits and of those below them, which have these in place of their own; and the
+    crates of the edits."""
+    crates = sorted({edit.parent.name for edit in edits})
+    there = copied(folder, crates)
+    for name in ("prove.py", "minutes.txt"):
+        shutil.copy(CRATES / name, there)
     for edit in edits:
-        there = folder / "crates" / edit.parent.name / "must-fail"
-        there.mkdir(exist_ok=True)
-        shutil.copy(edit, there)
+        to = there / edit.parent.name / "must-fail"
+        to.mkdir(exist_ok=True)
+        shutil.copy(edit, to)
+    return crates
 
 
 def tried(edits: Sequence[Path]) -> int:
     """Has the toolchain try edits, and shows what it says. The status is 0 where it refused each."""
-    crates = sorted({edit.parent.name for edit in edits})
     with tempfile.TemporaryDirectory() as room:
-        copied(Path(room), edits)
+        crates = placed(Path(room), edits)
         for crate in crates:
             # The toolchain would prove them one after another, each by one process.
             subprocess.run([sys.executable, "crates/prove.py", "--keep", crate], cwd=room, check=False)
         return subprocess.run(["rt", "must-fail", *crates], cwd=room, check=False).returncode
+
+
+def tried_by_gate(edits: Sequence[Path]) -> int:
+    """The same by the toolchain's gate, which lets pass an edit that it can't apply."""
+    refused: set[str] = set()
+    with tempfile.TemporaryDirectory() as room:
+        placed(Path(room), edits)
+        with subprocess.Popen(["rt", "ci"], cwd=room, stdout=subprocess.PIPE, stderr=subprocess.STDOUT, text=True,
+                              errors="replace") as run:
+            for line in run.stdout:
+                print(line, end="", flush=True)
+                refused |= set(re.findall(r"must-fail (\S+\.edit): refused, as it must be", line))
+    lacking = {f"{edit.parent.name}/{edit.name}" for edit in edits} - refused
+    if lacking:
+        print(f"not refused: {', '.join(sorted(lacking))}")
+    return 1 if run.returncode or lacking else 0
 
 
 def main() -> int:
@@ -82,7 +103,7 @@ def main() -> int:
     unknown = [crate for crate in given.crates if crate not in there]
     if unknown:
         parser.error(f"no edits of {unknown[0]} in tests/must-fail")
-    return tried(tenths()[turn()] if given.tenth else edits_of(given.crates))
+    return tried_by_gate(tenths()[turn()]) if given.tenth else tried(edits_of(given.crates))
 
 
 if __name__ == "__main__":

@@ -6,10 +6,10 @@
 
 Runs the row files in tests/rows, N side by side (as many as there are cores, where no number is given), or those that
 are named. The program is that of the build, or the one that $MSEED names; where there is none, it is built first. With
---gate the toolchain's own gate (`rt ci`) runs before, from nothing, and its count is added. A row that fails is printed
-with what was expected and what came, with -v also each one that passes. What isn't installed is counted as skipped and
-named. With --gate a tenth of the edits of tests/must-fail is tried too (edits.py), and what it all took stands before
-the last line, which is `N passed, M failed`.
+--gate the toolchain's own gate (`rt ci`, called by crates/prove.py) runs before, from nothing, and its count is added. A
+row that fails is printed with what was expected and what came, with -v also each one that passes. What isn't installed
+is counted as skipped and named. With --gate a tenth of the edits of tests/must-fail is tried too (edits.py), and what it
+all took stands before the last line, which is `N passed, M failed`.
 """
 
 from __future__ import annotations
@@ -33,12 +33,13 @@ from driver.side_by_side import run_all, run_and_report
 
 def gate() -> Count:
     """Runs the toolchain's gate, shows what it prints, and counts what its last line counts. A gate that fails without
-    such a line, or that ran nothing, is a failure. It leaves the program that it proved and built, and no library."""
+    such a line, or that ran nothing, is a failure. It leaves the program that it proved and built, and what it proved of
+    the libraries, over which `make lib` builds the one for C."""
     BUILT.unlink(missing_ok=True)
     shutil.rmtree(library.BUILT, ignore_errors=True)
     last = ""
-    with subprocess.Popen(["rt", "ci"], cwd=ROOT, stdout=subprocess.PIPE, stderr=subprocess.STDOUT, text=True,
-                          errors="replace") as run:
+    with subprocess.Popen([sys.executable, "crates/prove.py", "--gate"], cwd=ROOT, stdout=subprocess.PIPE,
+                          stderr=subprocess.STDOUT, text=True, errors="replace") as run:
         for line in run.stdout:
             print(line, end="", flush=True)
             last = line if re.match(r"\d+ passed, \d+ failed", line) else last
@@ -54,7 +55,7 @@ def edits_in_turn() -> Count:
     """Tries the tenth of tests/must-fail whose turn it is. Where one isn't refused, the toolchain says which."""
     part, parts = edits.turn(), edits.tenths()
     print(f"edits of tests/must-fail: tenth {part + 1} of {len(parts)}, {len(parts[part])} edits", flush=True)
-    status = edits.tried(parts[part])
+    status = edits.tried_by_gate(parts[part])
     if status == 0:
         return Count(passed=len(parts[part]))
     print(f"FAILED tests/edits.py --tenth: status {status}")

@@ -49,9 +49,8 @@ def library() -> Optional[Path]:
 
 
 def build() -> None:
-    """Builds it, unless that takes too long: whatever was started is over then. What is kept of the proofs is what
-    the edits go on from."""
-    with subprocess.Popen(["make", "--silent", "lib", "KEEP=--keep"], cwd=ROOT, start_new_session=True,
+    """Builds it, unless that takes too long: whatever was started is over then."""
+    with subprocess.Popen(["make", "--silent", "lib"], cwd=ROOT, start_new_session=True,
                           stdout=subprocess.DEVNULL, stderr=subprocess.DEVNULL) as run:
         try:
             run.wait(MOST)

@@ -1,4 +1,4 @@
-"""Code that is compiled with copies of the crate slink_model and of those below it, which no command runs."""
+"""The toolchain, over a copy of some crates."""
 
 from __future__ import annotations
 
@@ -8,9 +8,9 @@ from pathlib import Path
 from typing import Sequence
 
 from driver.program import CRATES, ROOT
+from driver.proving import prove
 
 TOOLCHAIN = "the toolchain, rt"
-CRATE = "slink_model"
 
 
 def is_installed() -> bool:
@@ -18,20 +18,15 @@ def is_installed() -> bool:
     return shutil.which("rt") is not None
 
 
-def copied(folder: Path, more: str = "") -> Path:
-    """A copy of the crate and of those below it, with another line in crates.txt: the folder of its crates."""
+def copied(folder: Path, crates: Sequence[str], more: str = "") -> Path:
+    """A copy of these crates and of those below them, without their edits and what was built, with another line in
+    crates.txt: the folder of its crates."""
     shutil.copy(ROOT / "HANDLES", folder)
-    text = (ROOT / "crates.txt").read_text(encoding="utf-8")
-    lines = {line.partition(":")[0]: line for line in text.splitlines() if ":" in line and line[0] != "#"}
-    below, left = set(), [CRATE]
-    while left:
-        crate = left.pop()
-        below.add(crate)
-        left += {word for word in lines[crate].partition(":")[2].split() if word in lines} - below
-    (folder / "crates.txt").write_text("\n".join([*(lines[crate] for crate in sorted(below)), more]) + "\n", encoding="utf-8")
-    for crate in below:
-        for part in ("src", "specs", "proofs"):
-            shutil.copytree(CRATES / crate / part, folder / "crates" / crate / part)
+    every = {at for crate in crates for at in [crate, *prove.below(crate)]}
+    text = "\n".join([line for at, line in prove.lines().items() if at in every] + [more])
+    (folder / "crates.txt").write_text(f"{text}\n", encoding="utf-8")
+    for crate in every:
+        shutil.copytree(CRATES / crate, folder / "crates" / crate, ignore=shutil.ignore_patterns("out", "must-fail"))
     return folder / "crates"
 
 

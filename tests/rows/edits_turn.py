@@ -3,6 +3,9 @@ its crate has the file, and the text that it turns stands there once."""
 
 from __future__ import annotations
 
+import contextlib
+import io
+import os
 import re
 import shutil
 import tempfile
@@ -10,7 +13,7 @@ from pathlib import Path
 from typing import Optional
 
 import edits
-from driver.program import CRATES
+from driver.program import CRATES, SOURCES
 from driver.rows import Cases, Fact, holds
 
 
@@ -41,6 +44,27 @@ def by_turn() -> Cases:
         yield holds("a file's name counts, and its folder", names != {met[-1]}, names)
 
 
+def by_gate() -> Cases:
+    """A tenth by a stand-in for the toolchain: each edit has to be refused."""
+    some = edits.tenths()[0]
+    there = dict(os.environ)
+    with tempfile.TemporaryDirectory() as folder:
+        (Path(folder) / "rt").symlink_to(SOURCES / "local_rt.sh")
+        os.environ.update(PATH=f"{folder}:{os.environ['PATH']}", RT_PROGRAM=os.devnull)
+        for name, more, wanted in [("all are refused", {}, 0), ("one is not", {"RT_MISSED": some[-1].name}, 1),
+                                   ("the gate fails", {"RT_FAILS": "all"}, 1)]:
+            os.environ.update(more)
+            with contextlib.redirect_stdout(io.StringIO()) as said:
+                found = edits.tried_by_gate(some)
+            yield Fact(f"{name}: the status", wanted, found)
+            lacking = f"not refused: {some[-1].parent.name}/{some[-1].name}" in said.getvalue().splitlines()
+            yield Fact(f"{name}: which one is named", "RT_MISSED" in more, lacking)
+            for word in more:
+                del os.environ[word]
+    os.environ.clear()
+    os.environ.update(there)
+
+
 def fault_of(edit: Path) -> Optional[str]:
     """Why an edit can't be applied, if it can't."""
     crate, texts, path, old = CRATES / edit.parent.name, {}, "", None
@@ -68,6 +92,7 @@ def fault_of(edit: Path) -> Optional[str]:
 def rows() -> Cases:
     """All of them."""
     yield from by_turn()
+    yield from by_gate()
     there = {edit.parent.name for edit in edits.edits_of()}
     yield Fact("each folder is a crate's", set(), {name for name in there if not (CRATES / name).is_dir()})
     for edit in edits.edits_of():

@@ -226,6 +226,33 @@ def found_again(copy: Copy) -> Cases:
     yield Fact("by a toolchain that knows of no statements too", {"mseed"}, begun_again(copy, *PROGRAM, RT_OLD="1"))
 
 
+def gated(copy: Copy) -> Cases:
+    """What the toolchain's gate has built is found again, unless it failed or a source changed meanwhile; and nothing
+    that was built before it."""
+    everything = {"mseed", *prove.below("mseed")}
+    above = {at for at in everything if "mseed_text" in {at, *prove.below(at)}}
+    source = copy.folder / "crates" / "mseed_text" / "src" / "lib.rt"
+    passed, failed = ["1 passed, 0 failed"], ["0 passed, 1 failed"]
+    yield Fact("prove.py --gate ends as the gate does", (0, passed), copy.prove("--gate"))
+    yield Fact("what it has built is found again", set(), begun_again(copy, *PROGRAM))
+    yield Fact("the library for C is proved over that", {"mseed_c"}, begun_again(copy, "mseed_c", "lib"))
+    rest()
+    os.utime(source)
+    yield Fact("what has changed since is proved", above, begun_again(copy, *PROGRAM))
+    rest()
+    yield Fact("where a source changes while it runs", (0, passed), copy.prove("--gate", RT_TOUCHED=str(source)))
+    yield Fact("what stands on that is proved", above, begun_again(copy, *PROGRAM))
+    rest()
+    yield Fact("where it fails", (1, failed), copy.prove("--gate", RT_FAILS="mseed_text"))
+    yield Fact("nothing is found", everything, begun_again(copy, *PROGRAM))
+    rest()
+    copy.prove(*KEEPING)
+    yield Fact("where rt has built all", (0, passed), copy.prove("--gate"))
+    marks = {path.parents[1].name for path in copy.folder.glob("crates/*/out/proved")}
+    yield Fact("the gate gives that back, and rt finds it by its own marks", ({"mseed"}, everything),
+               (marks & everything, begun_again(copy, *KEEPING)))
+
+
 def measured(copy: Copy) -> Cases:
     """What first proofs took is written down."""
     minutes = copy.folder / "crates" / "minutes.txt"
@@ -259,7 +286,8 @@ def interrupted_by(copy: Copy, words: Sequence[str]) -> Cases:
         lines = [run.stdout.readline() for _ in range(3)]
         run.send_signal(name)
         rest = run.communicate(timeout=LIMIT)[0].splitlines()
-        yield Fact(f"{name.name}: it ends", (130, "Interrupted: the same command goes on from here."),
+        yield Fact(f"{name.name}: it ends",
+                   (130, "Interrupted: the same command goes on with the crates that are left."),
                    (run.returncode, rest[-1]))
         log = copy.logged()
         ended = {crate for word, crate in log if word == "end"}
@@ -347,8 +375,8 @@ def rows() -> Cases:
     """All of them."""
     yield from reckoned()
     yield from compiled() if shutil.which("rt") else [Skipped("the compiler's commands", "rt")]
-    for part in ([ordered_alone, measured, found_again], [ordered_keeping], [interrupted], [interrupted_keeping],
-                 [failing], [on_a_terminal]):
+    for part in ([ordered_alone, measured, found_again], [ordered_keeping], [gated], [interrupted],
+                 [interrupted_keeping], [failing], [on_a_terminal]):
         with tempfile.TemporaryDirectory() as folder:
             copy = Copy(Path(folder))
             for cases in part:

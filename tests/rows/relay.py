@@ -19,7 +19,7 @@ def rows() -> Cases:
         yield Skipped("relays", TOOLCHAIN)
         return
     with tempfile.TemporaryDirectory() as name:
-        crate = copied(Path(name)) / "slink_model"
+        crate = copied(Path(name), ["slink_model"]) / "slink_model"
         shutil.copy(SOURCES / "relay_rows.source", crate / "src" / "rows.rt")
         with (crate / "src" / "lib.rt").open("a", encoding="utf-8") as file:
             file.write("\n#[cfg(test)]\nmod rows;\n")

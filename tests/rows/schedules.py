@@ -33,7 +33,8 @@ def schedules() -> Cases:
     rows = list(two_stations())
     at_random = [schedule(random.Random(seed)) for seed in range(COUNT)]
     with tempfile.TemporaryDirectory() as name:
-        crate = copied(Path(name), "schedules: slink_model slink_feed slink_wire mseed_stream") / "schedules"
+        line = "schedules: slink_model slink_feed slink_wire mseed_stream"
+        crate = copied(Path(name), ["slink_model"], line) / "schedules"
         (crate / "src").mkdir(parents=True)
         shutil.copy(SOURCES / "schedules.source", crate / "src" / "main.rt")
         # The interpreter, which would take a second look, is left out.
