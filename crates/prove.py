@@ -62,9 +62,7 @@ BYTES_A_MINUTE, MEMORY = 150_000, 2.5
 READ, SHORTER = 26, 0.7
 # How much more memory several processes take than one.
 SHARED = 1.3
-# The share of the longest way from which on another one is near it.
-NEAR = 7 / 8
-# A crate that is far from it leaves the others the larger part of the processors, but isn't kept waiting by them.
+# A crate that isn't on the longest way leaves that one the larger part of the processors, but isn't kept waiting by it.
 LATER = ["nice", "-n", "5"]
 # Where the system says what this process and those beside it in its group may use.
 GROUP = Path("/sys/fs/cgroup")
@@ -96,10 +94,10 @@ class Work(NamedTuple):
 
 
 class Standing(enum.Enum):
-    """How a crate stands among those that run beside it: none does; its way up is the longest one, near that, or far
-    from it. Or, with --keep, high, on so much that it hardly gains by a second process."""
+    """How a crate stands among those that run: there is no other; its way up is the longest one; or it isn't, and the
+    crate runs beside that one. Or, with --keep, high, on so much that it hardly gains by a second process."""
 
-    ALONE, LONGEST, NEAR, FAR, HIGH = range(5)
+    ALONE, LONGEST, BESIDE, HIGH = range(4)
 
 
 @functools.lru_cache(maxsize=None)
@@ -155,11 +153,10 @@ def minutes_left(left: dict[str, float], on: dict[str, set[str]], highs: set[str
 
 
 def processes(cores: int, standing: Standing) -> int:
-    """How many processes prove a crate: more on the longest way, and few far from it, since each takes processor time
-    of its own besides what it shares."""
-    most = {Standing.ALONE: cores, Standing.LONGEST: cores - 1, Standing.NEAR: cores // 2,
-            Standing.FAR: cores // 2 - 1, Standing.HIGH: 1}[standing]
-    return min(max(most, 1), PROCESSES)
+    """How many processes prove a crate: no more than there are processors for, since each takes processor time of its
+    own besides what it shares, and more on the longest way than beside it."""
+    most = {Standing.ALONE: cores, Standing.LONGEST: cores // 2, Standing.BESIDE: cores // 4, Standing.HIGH: 1}
+    return min(max(most[standing], 1), PROCESSES)
 
 
 def memory() -> float:
@@ -369,10 +366,7 @@ class Build:
         if is_alone:
             return Standing.ALONE
         ways = [self.ways[at] - self.costs[at].minutes + self.left_of(at) for at in self.running]
-        longest = max(ways, default=0)
-        if self.ways[crate] >= longest:
-            return Standing.LONGEST
-        return Standing.NEAR if self.ways[crate] >= NEAR * longest else Standing.FAR
+        return Standing.LONGEST if self.ways[crate] >= max(ways, default=0) else Standing.BESIDE
 
     def minutes(self) -> int:
         """About so many minutes are left."""
@@ -423,7 +417,7 @@ class Build:
         else:
             steps = steps_to(crate, jobs) if self.asked else []
             steps += [[str(CRATES / crate / "out" / crate), *arguments[1:]]] if verb == "run" else []
-        return [[*(LATER if standing is Standing.FAR else []), *step] for step in steps]
+        return [[*(LATER if standing is Standing.BESIDE else []), *step] for step in steps]
 
     def start(self, crate: str, is_alone: bool) -> None:
         """Begins a crate: in its own folder or, with --keep, a library in a room of its own."""

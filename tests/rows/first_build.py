@@ -46,10 +46,9 @@ def reckoned() -> Cases:
                                        (8, {"d": 2.0}, set(), 1.4), (8, {"c": 9.0, "d": 8.0}, {"c", "d"}, 9.0)]:
         yield Fact(f"what is left of {left} on {cores} cores, high are {sorted(highs)}", wanted,
                    round(prove.minutes_left(left, on, highs, cores), 3))
-    for cores, wanted in [(1, [1, 1, 1, 1]), (2, [2, 1, 1, 1]), (4, [4, 3, 2, 1]), (8, [8, 7, 4, 3]),
-                          (64, [8, 8, 8, 8])]:
-        yield Fact("the processes of a crate alone, on the longest way, near it, far from it and high, on "
-                   f"{cores} cores", [*wanted, 1], [prove.processes(cores, standing) for standing in prove.Standing])
+    for cores, wanted in [(1, [1, 1, 1]), (2, [2, 1, 1]), (4, [4, 2, 1]), (8, [8, 4, 2]), (64, [8, 8, 8])]:
+        yield Fact(f"the processes of a crate alone, on the longest way, beside it and high, on {cores} cores",
+                   [*wanted, 1], [prove.processes(cores, standing) for standing in prove.Standing])
     yield from by_standing()
     yield from by_memory()
     yield from by_group()
@@ -82,19 +81,18 @@ def by_standing() -> Cases:
     yield Fact("high, alone and beside others", [prove.Standing.HIGH] * 2,
                [build.standing("mseed", True), build.standing("mseed_repack", False)])
     build.highs, build.cores = set(), 4
-    far, near, longest, high = prove.Standing.FAR, prove.Standing.NEAR, prove.Standing.LONGEST, prove.Standing.HIGH
-    for crate, standing, wanted in [("mseed_steim", longest, "rt lib --jobs 3"),
-                                    ("mseed_select", near, "rt lib --jobs 2"),
-                                    ("slink_feed", far, "nice -n 5 rt lib --jobs 1"),
+    beside, longest, high = prove.Standing.BESIDE, prove.Standing.LONGEST, prove.Standing.HIGH
+    for crate, standing, wanted in [("mseed_steim", longest, "rt lib --jobs 2"),
+                                    ("slink_feed", beside, "nice -n 5 rt lib --jobs 1"),
                                     ("mseed", high, "rt run --jobs 1")]:
         yield Fact(f"the command of {crate}, with --keep", [wanted.split()], build.steps_of(crate, standing))
     yield Fact("alone", prove.Standing.ALONE, build.standing("mseed_text", True))
-    for done, repack, show in [(0, far, far), (30, near, far), (60, longest, near)]:
+    for done, repack in [(0, beside), (30, beside), (60, longest)]:
         build.running = {"mseed_join": prove.Work(time.monotonic(), None, [], True)}
         with looked_up("mseed_join", done):
             yield Fact(f"repack beside a join of which {done} of 100 functions are checked", repack,
                        build.standing("mseed_repack", False))
-            yield Fact(f"the list beside it, with {done} checked", show, build.standing("mseed_show", False))
+            yield Fact(f"the list beside it, with {done} checked", beside, build.standing("mseed_show", False))
     build.highs = {"mseed_join"}
     for done, minutes, wanted in [(0, 0, 6.0), (0, 3, 3.0), (0, 9, 0.6), (75, 3, 1.5)]:
         build.running = {"mseed_join": prove.Work(time.monotonic() - 60 * minutes, None, [], True)}
