@@ -229,7 +229,7 @@ def has_kept(crate: str) -> bool:
     return any((CRATES / crate / "out" / KEPT).glob("*"))
 
 
-def read_for(crate: str) -> list[os.stat_result]:
+def rests_on(crate: str) -> list[os.stat_result]:
     """The files of the repository that a crate's proof rests on."""
     return [(ROOT / name).stat() for name in ("crates.txt", "HANDLES")] \
         + [file for at in [crate, *below(crate)] for file in sources(at)]
@@ -247,7 +247,7 @@ def is_built(crate: str, keeps: bool) -> bool:
     mark, made = out / PROVED, [out / crate, out / f"lib{crate}.a", *([] if keeps else [library(crate) / "format"])]
     if not mark.exists() or not any(path.exists() for path in [*made, stamp(crate)]):
         return False
-    files = read_for(crate)
+    files = rests_on(crate)
     if not keeps:
         outs = [CRATES / at / "out" / PROVED for at in below(crate)] + [library(at) / "format" for at in below(crate)]
         files += [path.stat() for path in outs if path.exists()]
@@ -541,7 +541,7 @@ def gate() -> int:
     for crate in [] if status else sorted(lines(), key=lambda at: len(below(at))):
         made = [CRATES / crate / "out" / crate, library(crate) / "format"]
         is_ours = not stamp(crate).exists() and any(path.exists() for path in made)
-        if is_ours and all(file.st_mtime < began for file in read_for(crate)):
+        if is_ours and all(file.st_mtime < began for file in rests_on(crate)):
             (CRATES / crate / "out" / PROVED).write_text(version(), encoding="utf-8")
     return status
 

@@ -11,6 +11,7 @@ import shutil
 import tempfile
 from pathlib import Path
 from typing import Optional
+from unittest import mock
 
 import edits
 from driver.program import CRATES, SOURCES
@@ -47,22 +48,16 @@ def by_turn() -> Cases:
 def by_gate() -> Cases:
     """A tenth by a stand-in for the toolchain: each edit has to be refused."""
     some = edits.tenths()[0]
-    there = dict(os.environ)
     with tempfile.TemporaryDirectory() as folder:
         (Path(folder) / "rt").symlink_to(SOURCES / "local_rt.sh")
-        os.environ.update(PATH=f"{folder}:{os.environ['PATH']}", RT_PROGRAM=os.devnull)
+        words = {"PATH": f"{folder}:{os.environ['PATH']}", "RT_PROGRAM": os.devnull}
         for name, more, wanted in [("all are refused", {}, 0), ("one is not", {"RT_MISSED": some[-1].name}, 1),
                                    ("the gate fails", {"RT_FAILS": "all"}, 1)]:
-            os.environ.update(more)
-            with contextlib.redirect_stdout(io.StringIO()) as said:
+            with mock.patch.dict(os.environ, {**words, **more}), contextlib.redirect_stdout(io.StringIO()) as said:
                 found = edits.tried_by_gate(some)
             yield Fact(f"{name}: the status", wanted, found)
             lacking = f"not refused: {some[-1].parent.name}/{some[-1].name}" in said.getvalue().splitlines()
             yield Fact(f"{name}: which one is named", "RT_MISSED" in more, lacking)
-            for word in more:
-                del os.environ[word]
-    os.environ.clear()
-    os.environ.update(there)
 
 
 def fault_of(edit: Path) -> Optional[str]:

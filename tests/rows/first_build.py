@@ -233,6 +233,13 @@ def gated(copy: Copy) -> Cases:
     passed, failed = ["1 passed, 0 failed"], ["0 passed, 1 failed"]
     yield Fact("prove.py --gate ends as the gate does", (0, passed), copy.prove("--gate"))
     yield Fact("what it has built is found again", set(), begun_again(copy, *PROGRAM))
+    rest()
+    os.utime(source)
+    copy.prove(*PROGRAM)
+    copy.prove("--gate")
+    yield Fact("and that it is, not what was built before it", ("gate\n", set()),
+               ((copy.folder / "crates/mseed_text/out/rlib/mseed_text.rlib/format").read_text(encoding="ascii"),
+                begun_again(copy, *PROGRAM)))
     yield Fact("the library for C is proved over that", {"mseed_c"}, begun_again(copy, "mseed_c", "lib"))
     rest()
     os.utime(source)

@@ -25,7 +25,7 @@ case $(basename "$0") in
                 for folder in crates/*/; do
                     name=$(basename "$folder") out=${folder}out
                     rm -rf aside && { [ ! -d "$out" ] || mv "$out" aside; }
-                    mkdir -p "$out/rlib/$name.rlib" && : > "$out/rlib/$name.rlib/format"
+                    mkdir -p "$out/rlib/$name.rlib" && echo gate > "$out/rlib/$name.rlib/format"
                     case $name in
                         mseed) cp "$RT_PROGRAM" "$out/mseed" ;;
                         mseed_c) rm -r "$out/rlib" ;;
