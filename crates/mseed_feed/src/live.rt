@@ -70,9 +70,9 @@ fn links_of(live: &LiveServing) -> Plan {
 /// Serves a feed to the links of a device, at which nothing happened yet, as the records of its input come. Each place
 /// has a ring of the capacity that was requested, without records at first.
 ///
-/// Returns the exit status: 0 where the input ended where a record ended and the device didn't fail, and 2 otherwise,
-/// after a line on `errors` that says why. What is wrong with the input is reported at once: what came before it stays
-/// served, and nothing after it is.
+/// Returns the exit status: 0, without a line, where the input is read no more and no link is left, and else 2, after a
+/// line on `errors` that says why. What is wrong with the input is reported at once: what came before it stays served,
+/// and nothing after it is.
 pub fn serve_live<R: Device, E: Sink>(
     alloc: Global,
     live: &LiveServing,

@@ -12,8 +12,8 @@ pub struct ServePlan<A: Allocator = Global> {
     pub port: u16,
     /// The number of connections that are served, one after another.
     pub connections: u32,
-    /// How long a client's handshake may take as a whole, and each write to it after that. What it says after its
-    /// handshake is waited for for any time.
+    /// How long a client's handshake may take as a whole, and each write to it after that. After its handshake it may
+    /// be silent for any time.
     pub timeout: Timeout,
     /// The records, each in the ring of its station.
     pub feed: Feed<A>,
