@@ -16,14 +16,14 @@ use Rattle.mseed_time.specs.Calendar.{begun, year_start, year_of, place_in_year,
 use Rattle.mseed_time.proofs.Days.{days_from_civil-first}
 
 -- starts that don't fall, up to n
-abbrev Rises : (ℕ → ℕ) → ℕ → Type 0
+abbrev pub Rises : (ℕ → ℕ) → ℕ → Type 0
 Rises start n = (i j : ℕ) → i ≤ j → j ≤ n → start i ≤ start j
 
 -- the last of the spans 0 to n that have begun at a place
-record IsLast (start : ℕ → ℕ) (n place k : ℕ) : Type 0 where
-  within : k ≤ n
-  begins : start k ≤ place
-  next : k < n → place < start (suc k)
+pub record IsLast (start : ℕ → ℕ) (n place k : ℕ) : Type 0 where
+  pub within : k ≤ n
+  pub begins : start k ≤ place
+  pub next : k < n → place < start (suc k)
 
 begun_step : (start : ℕ → ℕ) (n place k : ℕ) → Rises start (suc n) → IsLast start n place k
     → IsLast start (suc n) place (k + cond (leb (start (suc n)) place) 1 0)
@@ -41,7 +41,8 @@ begun_step start n place k rises h = ⊎_elim
     rw (yes, all) (record { within = omega arith; begins = le; next = past }))
     (cases_lt place (start (suc n)))
 
-begun_is : (start : ℕ → ℕ) (n place : ℕ) → Rises start n → start 0 ≤ place → IsLast start n place (begun start n place)
+pub begun_is : (start : ℕ → ℕ) (n place : ℕ) → Rises start n → start 0 ≤ place
+    → IsLast start n place (begun start n place)
 unfolding begun
 begun_is start zero place rises first =
     let past : zero < zero → place < start (suc zero) = λ l. absurd (omega arith) in
@@ -51,17 +52,18 @@ begun_is start (suc n) place rises first =
     (begun_is start n place (λ i j h k. rises i j h (omega arith)) first)
 
 -- there is one such span
-last_one : (start : ℕ → ℕ) (n place j k : ℕ) → Rises start n → IsLast start n place j → IsLast start n place k → j ≡ k
+pub last_one : (start : ℕ → ℕ) (n place j k : ℕ) → Rises start n → IsLast start n place j
+    → IsLast start n place k → j ≡ k
 last_one start n place j k rises a b = ⊎_elim (λ e. e)
     (λ o. absurd (⊎_elim
     (λ l. omega (arith, a.next (omega (arith, l, b.within)), rises (suc j) k l b.within, b.begins))
     (λ l. omega (arith, b.next (omega (arith, l, a.within)), rises (suc k) j l a.within, a.begins)) o))
     (cases_order j k)
 
-year_start-day_of : (y : ℕ) → 1800 ≤ y → day_of y 1 +ℤ pos 62_091 ≡ pos (year_start y)
+pub year_start-day_of : (y : ℕ) → 1800 ≤ y → day_of y 1 +ℤ pos 62_091 ≡ pos (year_start y)
 year_start-day_of y low = omega (arith, signed_arith)
 
-years_rise : Rises (λ n. year_start (1800 + n)) 399
+pub years_rise : Rises (λ n. year_start (1800 + n)) 399
 years_rise i j h k = omega arith
 
 -- the calendar counts its days from the year -10000
@@ -101,10 +103,10 @@ year_is d day high counted =
     (omega (arith, counted, here, last.begins)) (omega (arith, counted, here, there, year, next))
 
 -- the start of a month is the calendar's
-month_start-days_of_months : (y n : ℕ) → n < 12 → month_start y n ≡ days_of_months (pos y) n
+pub month_start-days_of_months : (y n : ℕ) → n < 12 → month_start y n ≡ days_of_months (pos y) n
 month_start-days_of_months y n h = sym (days_of_months_table (pos y) n h)
 
-months_rise : (y : ℕ) → Rises (month_start y) 11
+pub months_rise : (y : ℕ) → Rises (month_start y) 11
 months_rise y i j h k =
     omega (
       arith,
@@ -113,7 +115,7 @@ months_rise y i j h k =
       days_of_months_mono (pos y) i j h,
     )
 
-month_is : (y m place day : ℕ) → 1 ≤ m → m ≤ 12 → 1 ≤ day → day ≤ days_in_month (pos y) m
+pub month_is : (y m place day : ℕ) → 1 ≤ m → m ≤ 12 → 1 ≤ day → day ≤ days_in_month (pos y) m
     → place + 1 ≡ days_of_months (pos y) (m - 1) + day → (m ≡ begun (month_start y) 11 place + 1)
     × (day ≡ place - month_start y (begun (month_start y) 11 place) + 1)
 month_is y m place day low high first last e =

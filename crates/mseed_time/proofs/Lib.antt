@@ -6,3 +6,4 @@ pub mod Joining
 pub mod Reading
 pub mod Pairs
 pub mod Digits
+pub mod Dating

@@ -13,7 +13,7 @@ use Rattle.mseed_time.proofs.Days.{microsecond_of-counted}
 abbrev pub days_before : ℕ → ℕ
 days_before year = 365 * year + leap_days year
 
-days_before-next : (y : ℕ) → 1 ≤ y → days_before (suc y) ≡ days_before y + days_in_year y
+pub days_before-next : (y : ℕ) → 1 ≤ y → days_before (suc y) ≡ days_before y + days_in_year y
 days_before-next y low = grind (arith, nat_tests)
 
 days_before-rises : (y k : ℕ) → 1 ≤ y → days_before y ≤ days_before (k + y)

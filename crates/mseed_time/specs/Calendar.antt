@@ -1,6 +1,7 @@
 -- The civil date of a day, by counting the years and the months that have begun.
-use Rattle.std.specs.Prelude.{ℕ, zero, suc, ◌+◌, ◌-◌, ◌*◌, nat_le, nat_lt, if◌then◌else◌, List, [], ◌∷◌, slice_index}
-use Rattle.mseed_time.specs.Btime.{is_leap, leap_days}
+use Rattle.std.specs.Prelude.{◌≡◌, ℕ, zero, suc, ◌+◌, ◌-◌, ◌*◌, ◌≤◌, ◌==◌, ◌&&◌, nat_le, nat_lt, if◌then◌else◌}
+use Rattle.std.specs.Prelude.{List, [], ◌∷◌, slice_index, Option, Some, None}
+use Rattle.mseed_time.specs.Btime.{days_in_year, is_leap, is_within, leap_days}
 
 -- of the spans 1 to n, each of which begins at its start, how many have begun at a place
 unfoldable pub begun : (ℕ → ℕ) → ℕ → ℕ → ℕ
@@ -35,3 +36,23 @@ months_over day = begun (month_start (year_of day)) 11 (place_in_year day)
 -- the day of the month, from 1
 abbrev pub day_of_month : ℕ → ℕ
 day_of_month day = place_in_year day - month_start (year_of day) (months_over day) + 1
+
+-- ---- a date by its month
+-- the days of a month from 1 to 12: up to the first of the next one, of the last one up to the end of the year
+abbrev pub days_in_month : ℕ → ℕ → ℕ
+days_in_month year month =
+    (if month == 12 then days_in_year year else month_start year month) - month_start year (month - 1)
+
+-- the day of the year, from 1, of a day of a month, where the year has that day
+abbrev pub day_in_year : ℕ → ℕ → ℕ → Option ℕ
+day_in_year year month day =
+    if is_within 1 12 month && is_within 1 (days_in_month year month) day
+    then Some (month_start year (month - 1) + day) else None
+
+-- the day of the year, from 1, is the one that the text of a date has as this day of this month
+pub record IsDatedSo (year month day n : ℕ) : Type 0 where
+  pub first : 1 ≤ n
+  pub last : n ≤ days_in_year year
+  pub year_is : year_of (year_start year + n - 1) ≡ year
+  pub month_is : months_over (year_start year + n - 1) + 1 ≡ month
+  pub day_is : day_of_month (year_start year + n - 1) ≡ day

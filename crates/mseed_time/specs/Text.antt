@@ -2,7 +2,7 @@
 use Rattle.std.specs.Prelude.{ℕ, zero, suc, ◌+◌, ◌/◌, ◌%◌, ◌^◌, List, [], ◌∷◌, ◌++◌, codes, ℤ, pos, ◌+ℤ◌, unsigned_abs}
 use Rattle.mseed_time.specs.declared.fault.TimeFault.{TimeFault}
 use Rattle.mseed_time.specs.declared.fault.TimeFault.TheVariants.{Year, Day, Hour, Minute, Second, Fraction}
-use Rattle.mseed_time.specs.Calendar.{year_of, months_over, day_of_month}
+use Rattle.mseed_time.specs.Calendar.{year_of, months_over, day_of_month, place_in_year}
 
 -- a number in n decimal digits, its last ones, with leading zeros
 abbrev pub padded_decimal : ℕ → ℕ → List ℕ
@@ -18,6 +18,10 @@ abbrev pub date_text : ℕ → List ℕ
 date_text day =
     padded_decimal 4 (year_of day) ++ codes "-" ++ padded_decimal 2 (months_over day + 1) ++ codes "-"
     ++ padded_decimal 2 (day_of_month day)
+
+-- the same by the day of the year, as 2024-135
+abbrev pub ordinal_text : ℕ → List ℕ
+ordinal_text day = padded_decimal 4 (year_of day) ++ codes "-" ++ padded_decimal 3 (place_in_year day + 1)
 
 -- a time of day, by its microseconds
 abbrev pub clock_text : ℕ → List ℕ

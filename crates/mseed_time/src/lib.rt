@@ -3,6 +3,7 @@
 #![tactic(auto)]
 
 mod btime;
+mod calendar;
 mod fault;
 mod joins;
 mod law;
@@ -14,9 +15,10 @@ mod ratio;
 mod show;
 
 pub use btime::Btime;
+pub use calendar::day_in_year;
 pub use fault::{OutOfRange, TimeFault};
 pub use joins::{drift, join, step_micros};
-pub use law::one_name;
+pub use law::{one_date, one_name};
 pub use micros::Micros;
 pub use order::Order;
 pub use outcome::{Join, LeapStep};
