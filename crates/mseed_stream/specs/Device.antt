@@ -1,6 +1,7 @@
 -- What a device did so far, and what one more call adds, by its answer.
-use Rattle.std.specs.Prelude.{◌≡◌, ℕ, Bool, false, ◌==◌, ◌&&◌, ◌||◌, ◌+◌, ◌++◌, not, length, List, [], take, Result, Ok}
-use Rattle.std.specs.Prelude.{Err}
+use Rattle.std.specs.Prelude.{◌≡◌, ◌≤◌, ℕ, Bool, false, ◌==◌, ◌&&◌, ◌||◌, ◌+◌, ◌++◌, not, length, List, [], take, drop}
+use Rattle.std.specs.Prelude.{Result, Ok, Err, Option}
+use Rattle.mseed_record.specs.Record.{IsRecord}
 
 -- what was read of a source: its bytes, the calls made and failed, and whether the input is at its end
 pub record BytesRead : Type 0 where
@@ -14,6 +15,16 @@ pub record BytesWritten : Type 0 where
   pub bytes : List ℕ
   pub calls : ℕ
   pub failures : ℕ
+
+-- what a read of a source leaves as it was: what it accepted, where it is a sink as well, and the bytes of each file
+-- that it reads, where it reads files and the bytes are known
+pub record Beside : Type 0 where
+  pub written : BytesWritten
+  pub files : List (Option (List ℕ))
+
+-- what it accepted, of a source that reads no files
+abbrev pub accepted : BytesWritten → Beside
+accepted written = record { written = written; files = [] }
 
 -- no call of the source yet
 abbrev pub nothing_read : BytesRead
@@ -72,3 +83,8 @@ written_also s r bytes = record {
 -- the whole is the prefix, with something or nothing after it
 abbrev pub IsPrefixOf : List ℕ → List ℕ → Type 0
 IsPrefixOf prefix whole = (more : List ℕ) × (whole ≡ prefix ++ more)
+
+-- of these bytes, so many are a record from an offset on
+pub record HasRecordAt (bytes : List ℕ) (offset size : ℕ) : Type 0 where
+  pub inside : offset + size ≤ length bytes
+  pub is_record : IsRecord (take size (drop offset bytes))

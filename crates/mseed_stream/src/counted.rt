@@ -1,7 +1,7 @@
 //! A reader or writer of `std::io` as a source or sink.
 ghost use Rattle.std.specs.Prelude.{◌≡◌, refl};
 ghost use Rattle.mseed_stream.specs.Counted.{contents_of, inner_of, read_by, remaining_of, written_by};
-ghost use Rattle.mseed_stream.specs.Device.{nothing_read, nothing_written};
+ghost use Rattle.mseed_stream.specs.Device.{accepted, nothing_read, nothing_written};
 
 use crate::device::{Duplex, Failed, Sink, Source};
 use crate::tally::Tally;
@@ -55,7 +55,7 @@ impl<T: Read> Source for Counted<T> {
 
     ghost remaining = { remaining_of T.remaining };
 
-    ghost beside = { written_by };
+    ghost beside = { λ c. accepted (written_by c) };
 
     fn pull(&mut self, buf: &mut [u8]) -> Result<usize, Failed> {
         if self.is_at_end {

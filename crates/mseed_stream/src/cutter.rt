@@ -246,7 +246,7 @@ impl<A: Allocator> Cutter<A> {
             → v.bytes ≡ take size (R.lent source.old) → HasHandedOut (R.read source.new) self.new (views ++ v ∷ []) }
     {
         self.forget();
-        pass_whole(source, size);
+        pass_whole(source, self.offset, size);
         self.reads += 2;
         self.offset += size as u64;
     }
@@ -337,7 +337,10 @@ impl<A: Allocator> Cutter<A> {
         let mut is_at_end = false;
         'stops: loop {
             match self.look() {
-                Scan::Record(_) => return Ok(true),
+                Scan::Record(size) => {
+                    self.note_held(source, size);
+                    return Ok(true);
+                }
                 Scan::Not(fault) => return Err(StreamFault::Frame(self.offset, fault)),
                 Scan::Need(_) if is_at_end => return self.end(),
                 Scan::Need(needed) => is_at_end = self.fill(source, needed)?,
@@ -369,8 +372,22 @@ impl<A: Allocator> Cutter<A> {
             return false;
         }
         self.hold(view.bytes());
-        pass_whole(source, size);
+        pass_whole(source, self.offset, size);
         true
+    }
+
+    /// Tells the source of the record of so many bytes that is held.
+    #[inline(always)]
+    fn note_held<R: Source>(&self, source: &mut R, size: usize)
+        requires read { IsRead (R.read source.old) self.now }
+        requires not_lent { self.now.is_lent ≡ false }
+        requires inside { size ≤ length self.now.prefix }
+        requires is_record { IsRecord (take size self.now.prefix) }
+        ensures read { R.read source.new ≡ R.read source.old }
+        ensures remaining { R.remaining source.new ≡ R.remaining source.old }
+        ensures beside { R.beside source.new ≡ R.beside source.old }
+    {
+        source.note_record(self.offset, size);
     }
 
     /// Holds these bytes in place of those that it held: two reads more have brought them.
@@ -477,10 +494,13 @@ impl<A: Allocator> Cutter<A> {
     }
 }
 
-/// Goes past so many of the bytes that the source holds, as framing asks for them: the header, and then the rest.
-fn pass_whole<R: Source>(source: &mut R, size: usize)
+/// Goes past a record of so many bytes that the source holds, as framing asks for them: the header, and then the rest.
+/// It begins at an offset, where reading has come to.
+fn pass_whole<R: Source>(source: &mut R, offset: u64, size: usize)
     requires header { HEADER ≤ size }
     requires whole { size ≤ length (R.lent source.old) }
+    requires offset { offset ≡ length (R.read source.old).bytes }
+    requires is_record { IsRecord (take size (R.lent source.old)) }
     ensures reported { R.read source.new ≡ lent_whole (R.read source.old) (take size (R.lent source.old)) }
     ensures rest { R.lent source.new ≡ drop size (R.lent source.old) }
     ensures known { Consumes (R.remaining source.old) (R.remaining source.new) (take size (R.lent source.old)) }
@@ -488,6 +508,7 @@ fn pass_whole<R: Source>(source: &mut R, size: usize)
 {
     source.consume(HEADER);
     source.consume(size - HEADER);
+    source.note_record(offset, size);
 }
 
 /// Copies these bytes to the beginning of a buffer.

@@ -2,8 +2,8 @@
 ghost use Rattle.std.specs.Prelude.{◌≡◌, List, ℕ, IsTrue, ◌<◌, ◌≤◌, [], length, take, drop, IfOk, IfSome, Option, None};
 ghost use Rattle.std.specs.Io.{StartsWith};
 ghost use Rattle.std.specs.Io.KnownBytes.{Consumes, ReadConsumes, WriteAppends};
-ghost use Rattle.mseed_stream.specs.Device.{BytesRead, BytesWritten, nothing_read, nothing_written, read_also};
-ghost use Rattle.mseed_stream.specs.Device.{lent_also, written_also, ComesFirst};
+ghost use Rattle.mseed_stream.specs.Device.{Beside, BytesRead, BytesWritten, nothing_read, nothing_written, read_also};
+ghost use Rattle.mseed_stream.specs.Device.{accepted, lent_also, written_also, ComesFirst, HasRecordAt};
 
 /// One input is read at most so often.
 pub(crate) const READS: u64 = 1 << 40;
@@ -16,7 +16,8 @@ pub struct Failed;
 ///
 /// Contracts name four things of a source: `read`, the record of what was read of it so far;
 /// `remaining`, the bytes that it has left, where they are known; `lent`, those of them that it
-/// holds already; and `beside`, what it accepted, where it is a sink as well.
+/// holds already; and `beside`, what a read leaves as it was: what it accepted, where it is a sink as
+/// well, and the bytes of the files that it reads.
 pub trait Source {
     // What was read of it so far.
     ghost read: { Self → BytesRead };
@@ -27,8 +28,8 @@ pub trait Source {
     // The bytes that it holds already, which are read next.
     ghost lent: { Self → List ℕ } = { λ _. [] };
 
-    // What it accepted so far, where it is a sink as well. A read leaves it as it was.
-    ghost beside: { Self → BytesWritten } = { λ _. nothing_written };
+    // What it accepted so far, where it is a sink as well, and which files it reads. A read leaves both as they were.
+    ghost beside: { Self → Beside } = { λ _. accepted nothing_written };
 
     /// Reads once, into the beginning of `buf`, and returns how many bytes were read.
     ///
@@ -59,6 +60,17 @@ pub trait Source {
         ensures rest { lent self.new ≡ drop amount (lent self.old) }
         ensures known { Consumes (remaining self.old) (remaining self.new) (take amount (lent self.old)) }
         ensures beside { beside self.new ≡ beside self.old };
+
+    /// Is told by a cutter, of each record that was read, at which offset it begins and how many bytes it has. A source
+    /// that has no use for that leaves it.
+    #[inline(always)]
+    fn note_record(&mut self, _offset: u64, _size: usize)
+        requires { HasRecordAt (read self.old).bytes _offset _size }
+        ensures read { read self.new ≡ read self.old }
+        ensures remaining { remaining self.new ≡ remaining self.old }
+        ensures lent { lent self.new ≡ lent self.old }
+        ensures beside { beside self.new ≡ beside self.old }
+    {}
 }
 
 /// Where bytes go to.
@@ -94,7 +106,7 @@ pub trait Sink {
 /// nothing.
 pub trait Duplex: Source + Sink {
     // What a read leaves as it was is what it accepted.
-    ghost reads_apart: { (s : Self) → Self.Source.beside s ≡ Self.Sink.written s };
+    ghost reads_apart: { (s : Self) → Self.Source.beside s ≡ accepted (Self.Sink.written s) };
 
     // What a write leaves as it was is what was read of it.
     ghost writes_apart: { (s : Self) → Self.Sink.beside s ≡ Self.Source.read s };

@@ -1,9 +1,9 @@
 //! Reading a source to its end, writing all of a slice, and writing a text that is gathered some at a time.
-ghost use Rattle.std.specs.Prelude.{◌≡◌, ◌≤◌, ◌+◌, ◌++◌, ◌<◌, length, take, OnOk, IfErr, OnErr, MatchResult};
+ghost use Rattle.std.specs.Prelude.{◌≡◌, ◌≤◌, ◌+◌, ◌++◌, ◌<◌, [], length, take, IsOk, OnOk, IfErr, OnErr, MatchResult};
 ghost use Rattle.std.specs.Io.KnownBytes.{Appends};
-ghost use Rattle.mseed_stream.specs.Calls.{WritesOn};
+ghost use Rattle.mseed_stream.specs.Calls.{ReadsOn, WritesOn};
 ghost use Rattle.mseed_stream.specs.Gathered.{AreGathered, IsCutOff};
-ghost use Rattle.mseed_stream.specs.Whole.{ReadsAll};
+ghost use Rattle.mseed_stream.specs.Whole.{ReadsAll, ReadsInto};
 
 use crate::device::{Failed, READS, Sink, Source};
 use crate::fault::StreamFault;
@@ -19,8 +19,12 @@ const ROOM: usize = 4096;
 /// `Read` where the source failed, with the number of bytes read before; `Turns` where it wasn't at its end after 2^40
 /// reads; `Memory` where memory for what was read was refused. The bytes that were read in the call are lost then.
 pub fn read_all<R: Source>(alloc: Global, source: &mut R) -> Result<Vec<u8>, StreamFault>
-    ensures { ReadsAll result (R.read source.old) (R.read source.new) (R.remaining source.old) (R.beside source.old)
+    ensures all { ReadsAll result (R.read source.old) (R.read source.new) (R.remaining source.old) (R.beside source.old)
         (R.beside source.new) }
+
+    // What the source is known to have left is what was read of it, up to its end where it is at its end.
+    ensures reads { ReadsOn (R.read source.old) (R.read source.new) (R.remaining source.old) (R.remaining source.new)
+        (R.beside source.old) (R.beside source.new) }
 {
     read_all_in(alloc, source)
 }
@@ -34,14 +38,42 @@ pub fn read_all_in<A: Allocator, R: Source>(
     alloc: A,
     source: &mut R,
 ) -> Result<Vec<u8, A>, StreamFault>
-    ensures { ReadsAll result (R.read source.old) (R.read source.new) (R.remaining source.old) (R.beside source.old)
+    ensures all { ReadsAll result (R.read source.old) (R.read source.new) (R.remaining source.old) (R.beside source.old)
         (R.beside source.new) }
+
+    // What the source is known to have left is what was read of it, up to its end where it is at its end.
+    ensures reads { ReadsOn (R.read source.old) (R.read source.new) (R.remaining source.old) (R.remaining source.new)
+        (R.beside source.old) (R.beside source.new) }
 {
     let mut bytes = Vec::new(alloc);
+    match read_all_into(source, &mut bytes) {
+        Ok(()) => Ok(bytes),
+        Err(fault) => Err(fault),
+    }
+}
+
+/// Reads the source from here to its end, and puts the bytes into a list, which is empty. Where the source fails, or
+/// isn't at its end after 2^40 reads, the list has what was read before.
+///
+/// # Errors
+///
+/// Those of [`read_all`]. Where memory was refused, the list lacks the bytes of the last read.
+pub fn read_all_into<A: Allocator, R: Source>(
+    source: &mut R,
+    bytes: &mut Vec<u8, A>,
+) -> Result<(), StreamFault>
+    requires { bytes.old.items ≡ [] }
+    ensures all { ReadsInto result bytes.new.items (R.read source.old) (R.read source.new) (R.remaining source.old)
+        (R.beside source.old) (R.beside source.new) }
+
+    // What the source is known to have left is what was read of it, up to its end where it is at its end.
+    ensures reads { ReadsOn (R.read source.old) (R.read source.new) (R.remaining source.old) (R.remaining source.new)
+        (R.beside source.old) (R.beside source.new) }
+{
     let mut buf = [0; ROOM];
     for reads in 0..READS {
         match source.pull(&mut buf) {
-            Ok(0) => return Ok(bytes),
+            Ok(0) => return Ok(()),
             Ok(n) => match bytes.extend_from_slice(&buf[..n]) {
                 Ok(()) => {}
                 Err(_) => return Err(StreamFault::Memory),
@@ -83,6 +115,9 @@ pub fn write_all_of<W: Sink>(sink: &mut W, bytes: &[u8]) -> Result<(), usize>
     Ok(())
 }
 
+/// At most so many bytes of a text are gathered before they are written, whichever command gathers them.
+pub const GATHERED: usize = (1 << 16) - 1;
+
 /// Writes a text that was gathered, where it has more than `most` bytes, and empties it then: a text of `most` bytes or
 /// fewer is left as it is, and the sink isn't called.
 ///
@@ -98,6 +133,13 @@ pub fn write_beyond<A: Allocator, W: Sink>(
     ensures most { OnOk result (length text.new.items ≤ most) }
     ensures fine { OnOk result ((W.written sink.new).failures ≡ (W.written sink.old).failures) }
     ensures err { IfErr result (λ taken. IsCutOff taken text.old.items (W.written sink.old) (W.written sink.new)) }
+
+    // A text that isn't longer is answered Ok, and stays, as the sink does.
+    ensures kept { length text.old.items ≤ most → (IsOk result × (text.new ≡ text.old) × (sink.new ≡ sink.old)) }
+
+    // Of a longer one all is written, and nothing is left.
+    ensures whole { most < length text.old.items → OnOk result ((text.new.items ≡ [])
+        × ((W.written sink.new).bytes ≡ (W.written sink.old).bytes ++ text.old.items)) }
 
     // What the sink is known to hold grew by what it accepted.
     ensures writes { WritesOn (W.written sink.old) (W.written sink.new) (W.contents sink.old) (W.contents sink.new)

@@ -23,7 +23,7 @@ use Rattle.mseed_stream.proofs.cutter.Cutter.cut.Goals as goal
 pub returns-in-Record-clause-cut : goal.returns-in-Record-clause-cut
 returns-in-Record-clause-cut g c =
     let inv = c.stops.invariant in
-    let k : ℕ = c.in-Record.field-0 in
+    let k : ℕ = c.in-Record.size in
     let n : ℕ = c.requires.asks.0 in
     let prefix : List ℕ = c.stops.self.prefix in
     let before : BytesRead = g.R.Source.read c.args.source.now in
@@ -49,7 +49,8 @@ returns-in-Record-clause-cut g c =
       fine = inv.failures;
       fault = tt;
     } in
-    subst (λ (s : CutterState). IsCut (Ok true) c.args.self.now s before after) (sym c.look.ensures.stays) cut
+    subst (λ (h : BytesRead). IsCut (Ok true) c.args.self.now c.look.new.self before h) (sym c.note_held.ensures.read)
+    (subst (λ (s : CutterState). IsCut (Ok true) c.args.self.now s before after) (sym c.look.ensures.stays) cut)
 
 pub returns-in-Not-clause-cut : goal.returns-in-Not-clause-cut
 returns-in-Not-clause-cut g c =

@@ -1,6 +1,6 @@
 use Rattle.std.proofs.Common.{◌≡◌, ◌+◌, ◌++◌, ◌<◌, false}
 use Rattle.std.specs.Io.KnownBytes.{Consumes}
-use Rattle.mseed_stream.proofs.whole.read_all_in.Given as goal
+use Rattle.mseed_stream.proofs.whole.read_all_into.Given as goal
 
 abbrev pub invariant-loop-reads : goal.invariant-loop-reads
 invariant-loop-reads g l = record {
