@@ -40,5 +40,6 @@ pub mod LaneWords
 pub mod FrameUnpacked
 pub mod Below
 pub mod Summed
+pub mod Slid
 pub mod Continuing
 pub mod Placed

@@ -32,11 +32,7 @@ four_of (a ∷ b ∷ []) h = absurd (omega (arith, h))
 four_of (a ∷ b ∷ c ∷ []) h = absurd (omega (arith, h))
 four_of (a ∷ b ∷ c ∷ d ∷ e ∷ more) h = absurd (omega (arith, h))
 
--- the last lane of four, each held in 32 bits, as it is picked
-pub top_lane : (xs : List ℤ) → length xs ≡ 4
-    → get_or (map (of_z w32) xs ++ map (of_z w32) xs) 3 0 ≡ of_z w32 (get_or xs 3 (pos 0))
-top_lane xs long = let f = four_of xs long in rw f.same refl
-
+-- the last lane of four, held in 32 bits
 pub top_held : (xs : List ℤ) → length xs ≡ 4 → nat_abs (get_or xs 3 (pos 0)) < 2 ^ 31
     → get_or (map (to_z w32) (map (of_z w32) xs)) 3 (pos 0) ≡ get_or xs 3 (pos 0)
 top_held xs long near =
@@ -48,7 +44,7 @@ pub record Holds (bits : ℕ) (z : ℤ) : Type 0 where
   pub below : bits < 2 ^ 32
   pub is : to_z w32 bits ≡ int_wrap w32 z
 
-holds : (z : ℤ) → nat_abs z < 2 ^ 31 → Holds (of_z w32 z) z
+pub holds : (z : ℤ) → nat_abs z < 2 ^ 31 → Holds (of_z w32 z) z
 holds z near =
     let fits : FitsSigned w32 z = near_signed z near in
     record { below = below z near; is = to_z-of_z w32 z fits ∙ sym (int_wrap_fits w32 z fits) }
@@ -57,47 +53,18 @@ holds z near =
     below (pos n) h = omega (arith, h)
     below (negsuc n) h = omega (arith, h)
 
-abbrev added : ℕ → ℕ → ℕ
+abbrev pub added : ℕ → ℕ → ℕ
 added m n = (m + n) % 2 ^ 32
 
-holds_sum : {m n : ℕ} {y z : ℤ} → Holds m y → Holds n z → Holds (added m n) (y +ℤ z)
+pub holds_sum : {m n : ℕ} {y z : ℤ} → Holds m y → Holds n z → Holds (added m n) (y +ℤ z)
 holds_sum {m} {n} {y} {z} h k = record {
   below = omega arith;
   is = wrapping_add-bits w32 m n h.below k.below
       ∙ rw (h.is, k.is) (int_wrap-add_left w32 y (int_wrap w32 z) ∙ int_wrap-add_right w32 y z);
 }
 
-held_in : {m : ℕ} {z : ℤ} (t : ℤ) → Holds m z → z ≡ t → nat_abs t < 2 ^ 31 → to_z w32 m ≡ t
+pub held_in : {m : ℕ} {z : ℤ} (t : ℤ) → Holds m z → z ≡ t → nat_abs t < 2 ^ 31 → to_z w32 m ≡ t
 held_in t h e near = h.is ∙ ap (int_wrap w32) e ∙ int_wrap_fits w32 t (near_signed t near)
-
--- pair by pair, the sums are those one by one
-pub held_sums : (l a b c d : ℤ) → nat_abs l + span (a ∷ b ∷ c ∷ d ∷ []) < 2 ^ 31
-    → to_z w32 (added (of_z w32 l) (added (added (of_z w32 a) 0) 0))
-    ∷ to_z w32 (added (of_z w32 l) (added (added (of_z w32 b) (of_z w32 a)) 0))
-    ∷ to_z w32 (added (of_z w32 l) (added (added (of_z w32 c) 0) (added (of_z w32 b) (of_z w32 a))))
-    ∷ to_z w32 (added (of_z w32 l) (added (added (of_z w32 d) (of_z w32 c)) (added (of_z w32 b) (of_z w32 a)))) ∷ []
-    ≡ sums l (a ∷ b ∷ c ∷ d ∷ [])
-held_sums l a b c d near =
-    let none = holds (pos 0) (omega arith) in
-    let past = holds l (omega (arith, near)) in
-    let first = holds a (omega (arith, near)) in
-    let second = holds b (omega (arith, near)) in
-    let third = holds c (omega (arith, near)) in
-    let fourth = holds d (omega (arith, near)) in
-    let pair = holds_sum second first in
-    let to_a = abs_sum l a in
-    let to_b = abs_sum (l +ℤ a) b in
-    let to_c = abs_sum ((l +ℤ a) +ℤ b) c in
-    let to_d = abs_sum (((l +ℤ a) +ℤ b) +ℤ c) d in
-    let one = held_in (l +ℤ a) (holds_sum past (holds_sum (holds_sum first none) none)) (omega (arith, ints))
-    (omega (arith, near, to_a)) in
-    let two = held_in ((l +ℤ a) +ℤ b) (holds_sum past (holds_sum pair none)) (omega (arith, ints))
-    (omega (arith, near, to_a, to_b)) in
-    let three = held_in (((l +ℤ a) +ℤ b) +ℤ c) (holds_sum past (holds_sum (holds_sum third none) pair))
-    (omega (arith, ints)) (omega (arith, near, to_a, to_b, to_c)) in
-    let four = held_in ((((l +ℤ a) +ℤ b) +ℤ c) +ℤ d) (holds_sum past (holds_sum (holds_sum fourth third) pair))
-    (omega (arith, ints)) (omega (arith, near, to_a, to_b, to_c, to_d)) in
-    rw (one, two, three, four) refl
 
 -- sums of more differences
 pub sums_more : (l : ℤ) (xs ys : List ℤ) → sums l (xs ++ ys) ≡ sums l xs ++ sums (l +ℤ total xs) ys
@@ -137,6 +104,10 @@ pub record Summed (ds : List ℤ) (begin : ℤ) (k : ℕ) (out : List ℤ) (last
   pub near : nat_abs last + span (drop k ds) ≤ nat_abs begin + span ds
   pub kept : take k out ++ sums last (drop k ds) ≡ sums begin ds
   pub moved : last +ℤ total (drop k ds) ≡ begin +ℤ total ds
+
+-- at the beginning none is added
+pub begun : (ds : List ℤ) (begin : ℤ) (out : List ℤ) → Summed ds begin 0 out begin
+begun ds begin out = record { near = omega arith; kept = refl; moved = refl }
 
 pub next_some : (ds : List ℤ) (begin : ℤ) (k m n : ℕ) (out after : List ℤ) (last next : ℤ) → n ≡ k + m
     → Summed ds begin k out last → take n after ≡ take k out ++ sums last (take m (drop k ds))

@@ -1,7 +1,7 @@
 -- A walk over items that adds them up. What it answers is stated in Samples.
 use Rattle.std.specs.Prelude.{◌≡◌, ⊤, ℕ, ◌+◌, ◌-◌, ◌*◌, ◌/◌, ◌^◌, ◌<◌, ◌≤◌, ◌==◌, nat_lt, Bool, if◌then◌else◌, List}
-use Rattle.std.specs.Prelude.{[], ◌∷◌, ◌++◌, map, take, length, ℤ, pos, negsuc, ◌+ℤ◌, ◌-ℤ◌, Option, Some, None, Result}
-use Rattle.std.specs.Prelude.{Ok, Err}
+use Rattle.std.specs.Prelude.{[], ◌∷◌, ◌++◌, map, take, length, ℤ, pos, negsuc, ◌+ℤ◌, ◌-ℤ◌, nat_abs, Option, Some, None}
+use Rattle.std.specs.Prelude.{Result, Ok, Err}
 use Rattle.mseed_steim.specs.declared.differences.BadWordAt.{BadWordAt}
 use Rattle.mseed_steim.specs.declared.fault.ReadFault.{ReadFault}
 use Rattle.mseed_steim.specs.declared.fault.ReadFault.TheVariants.{Short, BadWord, Overflow}
@@ -101,6 +101,19 @@ IsKept keep form order payload n out r =
 abbrev pub sums : ℤ → List ℤ → List ℤ
 sums last [] = []
 sums last (d ∷ ds) = (last +ℤ d) ∷ sums (last +ℤ d) ds
+
+-- The last four sums of some differences, and of the last two differences, of which this is the last one, their sums
+-- each with the one before it: no sum with differences that go so far more leaves 32 bits.
+pub record IsWindow (reach : ℕ) (last : ℤ) (four pairs : List ℤ) : Type 0 where
+  pub first : ℤ
+  pub second : ℤ
+  pub third : ℤ
+  pub sums_are : four ≡ first ∷ (first +ℤ second) ∷ ((first +ℤ second) +ℤ third)
+      ∷ (((first +ℤ second) +ℤ third) +ℤ last) ∷ []
+  pub one : ℤ
+  pub other : ℤ
+  pub pairs_are : pairs ≡ one ∷ other ∷ (third +ℤ second) ∷ (last +ℤ third) ∷ []
+  pub near : nat_abs first + (nat_abs second + (nat_abs third + nat_abs last)) + reach < 2 ^ 31
 
 -- what comes first in place of one of n differences, where any does
 unfoldable pub lack : ℕ → ℕ → List (Result ℤ BadWordAt) → Option ReadFault

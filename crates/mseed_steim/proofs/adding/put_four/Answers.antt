@@ -1,40 +1,59 @@
-use Rattle.std.proofs.Common.{◌≡◌, ◌+◌, ◌^◌, ◌<◌, ◌∙◌, List, ℤ, take, drop, length, get_or, map, ap, pos}
-use Rattle.std.proofs.Common.{w32, to_z, of_z, arith, rules}
+use Rattle.std.proofs.Common.{◌≡◌, ◌+◌, ◌-◌, ◌^◌, ◌<◌, ◌∙◌, List, ℤ, take, drop, length, get_or, map, ap, pos, nat_abs}
+use Rattle.std.proofs.Common.{w32, to_z, of_z, arith, refl, rules, subst}
 use lib.Lanes.{put_chunk}
-use Rattle.std.proofs.lemmas.Simd.{length-chunk, take_more_put_chunk}
+use Rattle.std.proofs.lemmas.Simd.{get_or-chunk, length-chunk, take_more_put_chunk}
 use Rattle.mseed_steim.specs.private.Lanes.{span}
-use Rattle.mseed_steim.specs.private.Sums.{sums}
-use Rattle.mseed_steim.proofs.Summed.{all_held, length-sums, sums_held, last_of_four, top_held}
-use Rattle.mseed_steim.proofs.adding.put_four.Goals.{After-sums_of-four}
+use Rattle.mseed_steim.specs.private.Sums.{IsWindow, sums}
+use Rattle.mseed_steim.proofs.Slid.{before_held, four_held, window_held, window_last, window_long}
+use Rattle.mseed_steim.proofs.Summed.{length-sums, sums_held, last_of_four, top_held}
 use Rattle.mseed_steim.proofs.adding.put_four.Goals as goal
 
--- the sums that are put in their places
-value : (c : After-sums_of-four) → c.sums_of-four.result
-    ≡ sums (get_or c.args.past 3 (pos 0)) (take 4 (drop c.args.at c.args.differences.now))
-value c =
-    let four = take 4 (drop c.args.at c.args.differences.now) in
-    let near : span four < 2 ^ 31 = omega (arith, c.requires.near) in
-    rw (top_held c.args.past c.requires.whole (omega (arith, c.requires.near)), all_held four near)
-    at c.sums_of-four.ensures
+pub slide-requires-clause-window : goal.slide-requires-clause-window
+slide-requires-clause-window c =
+    let ds = c.args.differences.now in
+    let w = c.requires.window in
+    let four = four_held ds c.args.at (get_or ds (c.args.at - 1) (pos 0)) c.args.past c.args.pairs w in
+    let before = before_held ds c.args.at c.args.past c.args.pairs c.requires.later c.requires.some w in
+    rw (four, before) (window_held _ _ c.args.past c.args.pairs w)
+
+pub slide-requires-clause-long : goal.slide-requires-clause-long
+slide-requires-clause-long c =
+    let ds = c.args.differences.now in
+    rw (four_held ds c.args.at (get_or ds (c.args.at - 1) (pos 0)) c.args.past c.args.pairs c.requires.window)
+    (length-chunk c.args.at 4 ds c.requires.some)
+
+pub slide-requires-clause-behind : goal.slide-requires-clause-behind
+slide-requires-clause-behind c =
+    let ds = c.args.differences.now in
+    let w = c.requires.window in
+    let four = four_held ds c.args.at (get_or ds (c.args.at - 1) (pos 0)) c.args.past c.args.pairs w in
+    let before = before_held ds c.args.at c.args.past c.args.pairs c.requires.later c.requires.some w in
+    rw (four, before) refl
 
 pub returns : goal.returns
 returns c =
-    let four = take 4 (drop c.args.at c.args.differences.now) in
-    let begin = get_or c.args.past 3 (pos 0) in
-    let long : length four ≡ 4 = length-chunk c.args.at 4 c.args.differences.now c.requires.some in
-    let held : map (to_z w32) (map (of_z w32) c.sums_of-four.result) ≡ sums begin four =
-    ap (λ (xs : List ℤ). map (to_z w32) (map (of_z w32) xs)) (value c) ∙ sums_held begin four c.requires.near in
+    let ds = c.args.differences.now in
+    let at = c.args.at in
+    let w = c.requires.window in
+    let d : ℤ = get_or ds (at - 1) (pos 0) in
+    let four : List ℤ = take 4 (drop at ds) in
+    let past : ℤ = get_or c.args.past 3 (pos 0) in
+    let long : length four ≡ 4 = length-chunk at 4 ds c.requires.some in
+    let near : nat_abs past + span four < 2 ^ 31 = window_last (span four) d c.args.past c.args.pairs w in
+    let top = top_held c.args.past (window_long (span four) d c.args.past c.args.pairs w) (omega (arith, near)) in
+    let same = four_held ds at d c.args.past c.args.pairs w in
+    let value : c.slide.result.0 ≡ sums past four = rw (top, same) at c.slide.ensures.sums in
+    let next = rw (top, same) at c.slide.ensures.window in
+    let held : map (to_z w32) (map (of_z w32) c.slide.result.0) ≡ sums past four =
+    ap (λ (xs : List ℤ). map (to_z w32) (map (of_z w32) xs)) value ∙ sums_held past four near in
     record {
-      sums = ap (λ (xs : List ℤ). take (c.args.at + 4) (put_chunk c.args.at c.args.out.now xs)) held
-          ∙ take_more_put_chunk c.args.at c.args.out.now (sums begin four) (c.args.at + 4)
-          (omega (arith, long, length-sums begin four)) c.requires.places;
-      last = ap (λ (xs : List ℤ). get_or xs 3 (pos 0)) held ∙ last_of_four begin four long;
-      whole = ap (λ (xs : List ℤ). length xs) held ∙ length-sums begin four ∙ long;
+      sums = ap (λ (xs : List ℤ). take (at + 4) (put_chunk at c.args.out.now xs)) held
+          ∙ take_more_put_chunk at c.args.out.now (sums past four) (at + 4) (omega (arith, long, length-sums past four))
+          c.requires.places;
+      last = ap (λ (xs : List ℤ). get_or xs 3 (pos 0)) held ∙ last_of_four past four long;
+      window = λ reach more.
+          window_held reach (get_or ds (at + 3) (pos 0)) c.slide.result.0 c.slide.result.1
+          (subst (λ (z : ℤ). IsWindow reach z c.slide.result.0 c.slide.result.1)
+          (get_or-chunk at 4 ds 3 (pos 0) (omega arith)) (next reach more));
       places = search rules;
     }
-
-pub sums_of-four-requires-clause-near : goal.sums_of-four-requires-clause-near
-sums_of-four-requires-clause-near c =
-    let four = take 4 (drop c.args.at c.args.differences.now) in
-    let near : span four < 2 ^ 31 = omega (arith, c.requires.near) in
-    rw (top_held c.args.past c.requires.whole (omega (arith, c.requires.near)), all_held four near) c.requires.near
