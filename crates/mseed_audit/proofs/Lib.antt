@@ -29,3 +29,5 @@ pub mod Steps
 pub mod Reporting
 pub mod Views
 pub mod Channelwise
+pub mod PrintedCodes
+pub mod OneSelected

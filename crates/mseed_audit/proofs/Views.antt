@@ -1,15 +1,10 @@
 -- The records of an archive with one more, as they are added.
-use Rattle.std.proofs.Common.{◌≡◌, ℕ, ◌+◌, ◌++◌, List, [], ◌∷◌, Option, false, length, map}
+use Rattle.std.proofs.Common.{◌≡◌, ℕ, ◌+◌, ◌++◌, List, [], ◌∷◌, length, map}
 use Rattle.std.proofs.Common.{sym, ap, subst, ◌∙◌, arith, refl, suc, Bool, if◌then◌else◌}
-use Rattle.std.proofs.lemmas.Bool.{false≢true}
 use Rattle.std.proofs.lemmas.List.{length-append}
 use Rattle.std.proofs.lemmas.List.Elements.{filter-append}
-use Rattle.std.specs.Io.KnownBytes.{Consumes}
 use Rattle.std.specs.List.{concat, filter}
 use Rattle.mseed_record.specs.View.{View}
-use Rattle.mseed_stream.specs.Calls.{ReadsOn}
-use Rattle.mseed_stream.specs.Cutting.{lent_whole}
-use Rattle.mseed_stream.specs.Device.{BytesRead, BytesWritten}
 use Rattle.mseed_stream.specs.Walk.{AreViews}
 use Rattle.mseed_choice.proofs.Counted.{count_more}
 use Rattle.mseed_choice.specs.Selection.{Selection, asks_for, lacks_time}
@@ -94,13 +89,3 @@ judged_also s bytes offset views v held next p q Before After shown is adds pass
       };
       report = subst (λ (qs : List Placed). HasReport qs After) (sym all) report;
     }
-
--- a record that a source held whole was read
-pub reads_whole : (old new : BytesRead) (bytes : List ℕ) (left rest : Option (List ℕ)) (x y : BytesWritten)
-    → new ≡ lent_whole old bytes → Consumes left rest bytes → y ≡ x → old.is_at_end ≡ false
-    → ReadsOn old new left rest x y
-reads_whole old new bytes left rest x y e consumes beside goes_on = record {
-  more = (bytes, ap (λ (h : BytesRead). h.bytes) e, consumes);
-  known = λ end. absurd (false≢true (sym (ap (λ (h : BytesRead). h.is_at_end) e ∙ goes_on) ∙ end));
-  beside = beside;
-}

@@ -12,3 +12,4 @@ pub mod Scope
 pub mod Selected
 pub mod Verdict
 pub mod private
+pub mod Printed

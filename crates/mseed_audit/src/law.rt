@@ -1,6 +1,6 @@
 //! Laws: what the definitions determine, they determine once.
 ghost use Rattle.std.specs.Prelude.{◌≡◌, ◌↔◌, ◌++◌, List, ℕ, ℤ, length, map, Option, None, IsTrue};
-ghost use Rattle.std.specs.List.{filter};
+ghost use Rattle.std.specs.List.{filter, join_with_byte};
 ghost use Rattle.std.specs.Map.{lookup};
 ghost use Rattle.mseed_record.specs.Header.{key_at};
 ghost use Rattle.mseed_record.specs.View.{View};
@@ -12,17 +12,21 @@ ghost use Rattle.mseed_audit.specs.declared.verdict.Verdict.{Verdict};
 ghost use Rattle.mseed_audit.specs.Audit.{AreChannels, verdict_of};
 ghost use Rattle.mseed_audit.specs.Channels.{Added, Placed, records_of, same_key, views_in};
 ghost use Rattle.mseed_audit.specs.Each.{AuditedEach, AuditedEachIn, each_text};
-ghost use Rattle.mseed_audit.specs.Scope.{HasNoWindow, asked};
-ghost use Rattle.mseed_choice.specs.Pattern.{is_of_channels};
+ghost use Rattle.mseed_audit.specs.Scope.{HasNoWindow, Scope, asked};
+ghost use Rattle.mseed_audit.specs.Selected.{IsEachSelectedOutcome, IsSelectedOutcome};
+ghost use Rattle.mseed_audit.specs.Printed.{MatchesPrinted, printed_codes};
+ghost use Rattle.mseed_text.specs.Name.{name_text};
+ghost use Rattle.mseed_choice.specs.Pattern.{Matches, is_of_channels, is_pattern};
 ghost use Rattle.mseed_choice.specs.Selection.{Selection};
 ghost use Rattle.mseed_audit.specs.Text.{reported_lines};
 ghost use Rattle.mseed_audit.specs.Reported.{Reported, AreReportedOf, finding_count, findings_in, reported_with};
 ghost use Rattle.mseed_audit.specs.Follows.{IsContinuous};
 ghost use Rattle.mseed_audit.specs.Judging.{IsFound};
 ghost use Rattle.mseed_audit.specs.Series.{Trace, AreJoined, IsBadStep, IsSeriesOf};
-ghost use Rattle.mseed_stream.specs.Device.{BytesRead, IsPrefixOf};
+ghost use Rattle.mseed_stream.specs.Device.{BytesRead, BytesWritten, IsPrefixOf};
+ghost use Rattle.mseed_audit.specs.declared.summary.SelectedSummary.{SelectedSummary};
 ghost use Rattle.mseed_audit.specs.declared.summary.Summary.{Summary};
-ghost use Rattle.mseed_audit.specs.Summary.{Audited, AuditedIn, IsSummary, text_of};
+ghost use Rattle.mseed_audit.specs.Summary.{Audited, AuditedIn, IsSummary, text_in, text_of};
 ghost use Rattle.mseed_audit.specs.Verdict.{AreFindings, AreVerdicts, IsVerdict, says_continuous};
 
 use mseed_steim::{one_fault, one_reading};
@@ -78,6 +82,29 @@ pub fn one_audit()
     one_fault();
     one_input();
 }
+
+/// What was read has one audit of those of its records that are judged, by their numbers and offsets in the whole: of
+/// those that are asked for one text and one answer, with a line for each record with a finding or without.
+pub fn one_selected_audit()
+    ensures text { (scope : Scope) (h : BytesRead) (a b : AuditedIn scope h) → text_in scope a ≡ text_in scope b }
+    ensures outcome { (s : Selection) (h : BytesRead) (found other : SelectedSummary) (old new latter : BytesWritten)
+        → IsSelectedOutcome s (Ok found) h old new → IsSelectedOutcome s (Ok other) h old latter
+        → (found ≡ other) × (new.bytes ≡ latter.bytes) }
+    ensures each { (s : Selection) (h : BytesRead) (found other : SelectedSummary) (old new latter : BytesWritten)
+        → IsEachSelectedOutcome s (Ok found) h old new → IsEachSelectedOutcome s (Ok other) h old latter
+        → (found ≡ other) × (new.bytes ≡ latter.bytes) }
+{
+    one_fault();
+    one_input();
+}
+
+/// A pattern matches a channel exactly where its four fields fit the channel's codes as an audit prints them, `--` as
+/// location the empty one too; and a name is printed as these codes, with `_` between them.
+pub fn matches_as_printed()
+    ensures codes { (key : List ℕ) → name_text key ≡ join_with_byte 95 (printed_codes key) }
+    ensures exactly { (pattern key : List ℕ) → IsTrue (is_pattern pattern)
+        → (Matches pattern key ↔ MatchesPrinted pattern (printed_codes key)) }
+{}
 
 /// What is reported of an archive's records is determined, and what was read has one text that reports it.
 pub fn one_report()

@@ -62,7 +62,7 @@ records-preserved g c =
             passed = next.judged.passed;
             report = report_on (asked_of (g.C.Choice.selection c.args.choice.now) all) _
                 (g.P.Report.stands c.args.output.now c.write.new.self c.write.new.output) next.judged.report
-                (c.in-Ok.ensures c.args.output.now);
+                (c.in-Ok.ensures.reported c.args.output.now);
           },
         ),
       );
@@ -120,7 +120,7 @@ returns-in-Err-write-clause-gathered g c =
           next.handed.records,
           report_on (asked_of (g.C.Choice.selection c.args.choice.now) all) _
               (g.P.Report.fails c.args.output.now c.write.new.output) next.judged.report
-              (c.in-Err-write.ensures c.args.output.now),
+              (c.in-Err-write.ensures.reported c.args.output.now),
         ),
       ),
     )

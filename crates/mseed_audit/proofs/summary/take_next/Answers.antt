@@ -1,19 +1,16 @@
-use Rattle.std.proofs.Common.{Option, Result, Some, Err, refl, rules}
+use Rattle.std.proofs.Common.{Some, Err, refl, rules}
 use Rattle.std.proofs.Common.{◌≡◌, ◌∙◌, ◌++◌, ◌∷◌, [], List, None, ℕ, length, take, sym, subst, ap, arith}
 use Rattle.mseed_record.specs.declared.view.RecordView.{RecordView}
 use Rattle.mseed_record.specs.View.{View}
 use Rattle.mseed_record.specs.Viewing.{view_of}
-use Rattle.mseed_stream.specs.Calls.{ReadsOn}
-use Rattle.mseed_stream.specs.Device.{BytesWritten, BytesRead}
-use Rattle.mseed_stream.specs.CutterState.{CutterState}
-use Rattle.mseed_stream.specs.Cutting.{IfEnds, IsNextAnswer, IsAhead}
+use Rattle.mseed_stream.specs.Device.{BytesRead}
+use Rattle.mseed_stream.specs.Cutting.{IfEnds, IsAhead}
 use Rattle.mseed_stream.specs.declared.fault.StreamFault.{StreamFault}
 use Rattle.mseed_stream.specs.declared.fault.StreamFault.TheVariants.{Frame, Truncated, Read, Turns, Memory}
 use Rattle.mseed_stream.specs.Walk.{AreAllViews, HasHandedOut}
-use Rattle.mseed_stream.proofs.Calls.{reads_none}
+use Rattle.mseed_stream.proofs.Calls.{reads_next, reads_none, reads_whole}
 use Rattle.mseed_stream.proofs.Handed.{views_stay}
 use Rattle.mseed_audit.proofs.Reporting.{next_none}
-use Rattle.mseed_audit.proofs.Views.{reads_whole}
 use Rattle.mseed_audit.proofs.summary.take_next.Goals as goal
 
 pub pass-requires-clause-ahead : goal.pass-requires-clause-ahead
@@ -96,16 +93,6 @@ returns-in_err-judge-in-Ok-Some-clause-next g c = λ first now views before judg
     _ _ (g.P.Report.stands first c.judge-in-Ok-Some.new.report now)
     c.from_residual-in_err-judge-in-Ok-Some.ensures.1 shown
     (c.in_err-judge-in-Ok-Some.ensures first now _ views at judged)
-
--- what the cutter's next answer says of what was read
-reads_next : (result : Result (Option RecordView) StreamFault) (c : CutterState) (old new : BytesRead)
-    (left rest : Option (List ℕ)) (apart later : BytesWritten) → IsNextAnswer result c old new left rest
-    → later ≡ apart → c.answer ≡ None → ReadsOn old new left rest apart later
-reads_next result c old new left rest apart later is beside goes_on = record {
-  more = is.more;
-  known = is.known goes_on;
-  beside = beside;
-}
 
 -- a fault other than refused memory ends the records
 ends : (e : StreamFault) (P : Type 0) → (e ≡ Memory → ⊥) → IfEnds {X = RecordView} (Err e) P → P

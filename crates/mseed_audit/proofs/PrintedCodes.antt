@@ -1,0 +1,176 @@
+-- A pattern that fits a channel's codes fits them as they are printed, and the other way round.
+use Rattle.std.proofs.Common.{◌≡◌, ◌⊎◌, ℕ, ◌≤◌, refl, sym, ap, subst, ◌∙◌, arith, Bool, true, false, ◌&&◌}
+use Rattle.std.proofs.Common.{cond, eqb}
+use Rattle.std.proofs.Common.{List, [], ◌∷◌, ◌++◌, length, map, inl, inr, append_assoc, nat_le}
+use Rattle.std.specs.Prelude.{slice_range}
+use Rattle.std.specs.List.{join_with_byte, list_all}
+use Rattle.std.proofs.lemmas.Bool.{and_parts}
+use Rattle.std.proofs.lemmas.Bool.Decides.{nat_tests}
+use Rattle.std.proofs.lemmas.List.{length-map, map-append}
+use Rattle.std.proofs.lemmas.List.Folds.{list_all-append}
+use Rattle.std.proofs.lemmas.List.Splits.{join_with_byte-slice_split}
+use Rattle.mseed_choice.specs.Pattern.{Fits, FitsLocation, Matches, Takes, channel_of, fields_in, is_character}
+use Rattle.mseed_choice.specs.Pattern.{is_pattern}
+use Rattle.mseed_choice.specs.Pattern.{location_of, network_of, station_of}
+use Rattle.mseed_text.specs.Name.{code_text, name_text, printed}
+use Rattle.mseed_audit.specs.Printed.{MatchesPrinted, printed_codes}
+
+-- ---- a character
+-- what a pattern may have is printed as itself
+in_range : (c : ℕ) → is_character c ≡ true → (33 ≤ c) × (c ≤ 126)
+in_range c e = (grind (arith, nat_tests, e), grind (arith, nat_tests, e))
+
+printed_itself : (c : ℕ) → 33 ≤ c → c ≤ 126 → printed c ≡ c
+printed_itself c low high = grind (arith, nat_tests)
+
+printed_cases : (x : ℕ) → (printed x ≡ x) ⊎ (printed x ≡ 63)
+printed_cases x = by (nat_le 33 x && nat_le x 126)
+  where
+    by : (b : Bool) → (cond b x 63 ≡ x) ⊎ (cond b x 63 ≡ 63)
+    by true = inl refl
+    by false = inr refl
+
+takes_printed : (c : ℕ) (taken : List ℕ) → is_character c ≡ true → Takes c taken → Takes c (map printed taken)
+takes_printed c taken e (inl same) =
+    let range = in_range c e in
+    inl (ap (λ (xs : List ℕ). map printed xs) same ∙ ap (λ (x : ℕ). x ∷ []) (printed_itself c range.0 range.1))
+takes_printed c taken e (inr (inl one)) = inr (inl (one.0, length-map taken printed ∙ one.1))
+takes_printed c taken e (inr (inr star)) = inr (inr star)
+
+takes_back : (c : ℕ) (taken : List ℕ) → Takes c (map printed taken) → Takes c taken
+takes_back c [] (inl same) = absurd (omega (arith, ap (λ (xs : List ℕ). length xs) same))
+takes_back c (x ∷ []) (inl same) = by (printed_cases x)
+  where
+    first : printed x ≡ c
+    first = cc same
+
+    by : (printed x ≡ x) ⊎ (printed x ≡ 63) → Takes c (x ∷ [])
+    by (inl e) = inl (ap (λ (y : ℕ). y ∷ []) (sym e ∙ first))
+    by (inr e) = inr (inl (sym first ∙ e, refl))
+takes_back c (x ∷ y ∷ xs) (inl same) = absurd (omega (arith, ap (λ (zs : List ℕ). length zs) same))
+takes_back c taken (inr (inl one)) = inr (inl (one.0, sym (length-map taken printed) ∙ one.1))
+takes_back c taken (inr (inr star)) = inr (inr star)
+
+-- ---- a field
+pub fits_printed : (field code : List ℕ) → list_all is_character field ≡ true → Fits field code
+    → Fits field (map printed code)
+fits_printed [] code all fits = ap (λ (xs : List ℕ). map printed xs) fits
+fits_printed (c ∷ cs) code all (taken, (rest, (whole, takes, more))) =
+    let both = and_parts (is_character c) (list_all is_character cs) all in (
+      map printed taken,
+      (
+        map printed rest,
+        (
+          ap (λ (xs : List ℕ). map printed xs) whole ∙ map-append printed taken rest,
+          takes_printed c taken both.0 takes,
+          fits_printed cs rest both.1 more,
+        ),
+      ),
+    )
+
+-- what is printed in two parts is in two parts
+record IsInTwo (code one other : List ℕ) : Type 0 where
+  front : List ℕ
+  back : List ℕ
+  whole : code ≡ front ++ back
+  front_is : map printed front ≡ one
+  back_is : map printed back ≡ other
+
+in_two : (code one other : List ℕ) → map printed code ≡ one ++ other → IsInTwo code one other
+in_two code [] other e = record { front = []; back = code; whole = refl; front_is = refl; back_is = e }
+in_two [] (y ∷ ys) other e = absurd (omega (arith, ap (λ (xs : List ℕ). length xs) e))
+in_two (x ∷ xs) (y ∷ ys) other e =
+    let first : printed x ≡ y = cc e in
+    let others : map printed xs ≡ ys ++ other = cc e in
+    let more = in_two xs ys other others in record {
+      front = x ∷ more.front;
+      back = more.back;
+      whole = ap (λ (zs : List ℕ). x ∷ zs) more.whole;
+      front_is = λ i. first i ∷ more.front_is i;
+      back_is = more.back_is;
+    }
+
+nothing_printed : (code : List ℕ) → map printed code ≡ [] → code ≡ []
+nothing_printed [] e = refl
+nothing_printed (x ∷ xs) e = absurd (omega (arith, ap (λ (zs : List ℕ). length zs) e))
+
+pub fits_back : (field code : List ℕ) → Fits field (map printed code) → Fits field code
+fits_back [] code fits = nothing_printed code fits
+fits_back (c ∷ cs) code (taken, (rest, (whole, takes, more))) =
+    let two = in_two code taken rest whole in (
+      two.front,
+      (
+        two.back,
+        (
+          two.whole,
+          takes_back c two.front (subst (λ (xs : List ℕ). Takes c xs) (sym two.front_is) takes),
+          fits_back cs two.back (subst (λ (xs : List ℕ). Fits cs xs) (sym two.back_is) more),
+        ),
+      ),
+    )
+
+location_printed : (field code : List ℕ) → list_all is_character field ≡ true → FitsLocation field code
+    → FitsLocation field (map printed code)
+location_printed field code all (inl dashes) = inl (dashes.0, ap (λ (xs : List ℕ). map printed xs) dashes.1)
+location_printed field code all (inr fits) = inr (fits_printed field code all fits)
+
+location_back : (field code : List ℕ) → FitsLocation field (map printed code) → FitsLocation field code
+location_back field code (inl dashes) = inl (dashes.0, nothing_printed code dashes.1)
+location_back field code (inr fits) = inr (fits_back field code fits)
+
+-- ---- a pattern
+part : (a rest : List ℕ) → list_all is_character (a ++ 95 ∷ rest) ≡ true
+    → (list_all is_character a ≡ true) × (list_all is_character rest ≡ true)
+part a rest e = and_parts (list_all is_character a) (list_all is_character rest)
+    (sym (list_all-append is_character a (95 ∷ rest)) ∙ e)
+
+pub pattern_printed : (pattern key : List ℕ) → is_pattern pattern ≡ true → Matches pattern key
+    → MatchesPrinted pattern (printed_codes key)
+pattern_printed pattern key e m =
+    let characters = (and_parts (list_all is_character pattern) (eqb (length (fields_in pattern)) 4) e).0 in
+    let joins : pattern ≡ join_with_byte 95 (m.network ∷ m.station ∷ m.location ∷ m.channel ∷ []) =
+    sym (join_with_byte-slice_split 95 pattern) ∙ ap (λ (ps : List (List ℕ)). join_with_byte 95 ps) m.fields in
+    let one = part m.network (m.station ++ 95 ∷ (m.location ++ 95 ∷ m.channel))
+    (sym (ap (λ (xs : List ℕ). list_all is_character xs) joins) ∙ characters) in
+    let two = part m.station (m.location ++ 95 ∷ m.channel) one.1 in
+    let three = part m.location m.channel two.1 in record {
+      network = m.network;
+      station = m.station;
+      location = m.location;
+      channel = m.channel;
+      network_code = code_text (slice_range key 0 2);
+      station_code = code_text (slice_range key 2 7);
+      location_code = code_text (slice_range key 7 9);
+      channel_code = code_text (slice_range key 9 12);
+      fields = m.fields;
+      codes_are = refl;
+      fits_network = fits_printed m.network (network_of key) one.0 m.fits_network;
+      fits_station = fits_printed m.station (station_of key) two.0 m.fits_station;
+      fits_location = location_printed m.location (location_of key) three.0 m.fits_location;
+      fits_channel = fits_printed m.channel (channel_of key) three.1 m.fits_channel;
+    }
+
+pub pattern_back : (pattern key : List ℕ) → MatchesPrinted pattern (printed_codes key) → Matches pattern key
+pattern_back pattern key m =
+    let network : m.network_code ≡ map printed (network_of key) = sym (cc m.codes_are) in
+    let station : m.station_code ≡ map printed (station_of key) = sym (cc m.codes_are) in
+    let location : m.location_code ≡ map printed (location_of key) = sym (cc m.codes_are) in
+    let channel : m.channel_code ≡ map printed (channel_of key) = sym (cc m.codes_are) in record {
+      network = m.network;
+      station = m.station;
+      location = m.location;
+      channel = m.channel;
+      fields = m.fields;
+      fits_network = fits_back m.network (network_of key) (subst (λ
+          (xs : List ℕ). Fits m.network xs) network m.fits_network);
+      fits_station = fits_back m.station (station_of key) (subst (λ
+          (xs : List ℕ). Fits m.station xs) station m.fits_station);
+      fits_location = location_back m.location (location_of key)
+          (subst (λ (xs : List ℕ). FitsLocation m.location xs) location m.fits_location);
+      fits_channel = fits_back m.channel (channel_of key) (subst (λ
+          (xs : List ℕ). Fits m.channel xs) channel m.fits_channel);
+    }
+
+-- a name is its codes with `_` between them
+pub name_is : (key : List ℕ) → name_text key ≡ join_with_byte 95 (printed_codes key)
+name_is key = simp append_assoc
