@@ -29,7 +29,7 @@ use mseed_stream::{Sink, write_all_of};
 use std::alloc::Allocator;
 
 /// The bytes that are gathered before they are written: whole records of any length.
-const GATHERED: usize = 1 << 15;
+const GATHERED: usize = 1 << 14;
 
 /// Packs a series into records, which it writes one after another, and answers how many there are. It takes no memory.
 ///

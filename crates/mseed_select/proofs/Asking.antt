@@ -14,6 +14,7 @@ use Rattle.mseed_record.specs.View.{View, start_of}
 use Rattle.mseed_choice.specs.Pattern.{is_of_channels}
 use Rattle.mseed_choice.specs.Selection.{BeginsBefore, IsAskedFor, IsInWindow, LacksTime, LastsTo, Reaches, Selection}
 use Rattle.mseed_choice.specs.Selection.{answer_by, answer_in, answer_of, asks_for, begins_before, is_asked}
+use Rattle.mseed_choice.specs.Selection.{is_without_time, lacks_time}
 use Rattle.mseed_choice.specs.Selection.{lasts_to, rate_in, reaches, start_fault}
 use Rattle.mseed_choice.specs.declared.answer.Answer.{Answer}
 use Rattle.mseed_choice.specs.declared.answer.Answer.TheVariants.{AskedFor, Left, NoTime}
@@ -156,3 +157,14 @@ lasts_is start n rate instant miss e =
     ap (λ (m : ℤ). int_le m (pos 0))
     (e ∙ ap (λ (d : ℤ). d *ℤ pos rate.num -ℤ due) (no_more instant start))
     ∙ less_than ((instant -ℤ start) *ℤ pos rate.num) due
+
+unknown_yes : (a : Answer) → is_without_time a ≡ true → a ≡ NoTime
+unknown_yes AskedFor e = absurd (let f : false ≡ true = e in cc f)
+unknown_yes Left e = absurd (let f : false ≡ true = e in cc f)
+unknown_yes NoTime e = refl
+
+pub lacks_time_yes : (s : Selection) (v : View) → lacks_time s v ≡ true → LacksTime s v
+lacks_time_yes s v e = lacks_yes s v (unknown_yes (answer_of s v) e)
+
+pub lacks_time_back : (s : Selection) (v : View) → LacksTime s v → lacks_time s v ≡ true
+lacks_time_back s v l = ap (λ (a : Answer). is_without_time a) (lacks_back s v l)

@@ -3,7 +3,6 @@ use Rattle.std.proofs.Common.{◌≡◌, ℕ, ◌+◌, ◌++◌, List, [], ◌�
 use Rattle.std.proofs.Common.{append_assoc, append-nil, arith, inl, inr, Bool, true, false, cond, Result, Ok, Err}
 use Rattle.std.proofs.lemmas.List.{length-append}
 use Rattle.std.proofs.lemmas.List.Elements.{filter-append}
-use Rattle.std.proofs.lemmas.List.Sums.{sum_by-append}
 use Rattle.std.specs.List.{concat, count_by, filter}
 use Rattle.std.specs.Result.{IsErrAnd}
 use Rattle.mseed_record.specs.View.{View}

@@ -9,3 +9,10 @@ pub mod Sampled
 pub mod Halving
 pub mod Digits
 pub mod Wording
+pub mod Padded
+pub mod TimeParts
+pub mod TimeClocks
+pub mod TimeValues
+pub mod TimeDates
+pub mod Times
+pub mod Letters

@@ -1,4 +1,5 @@
 pub mod Word
+pub mod TimeTexts
 pub mod Counting
 pub mod Selecting
 pub mod Select

@@ -1,8 +1,9 @@
 -- What a word for a time means: a date by its month or by its day of the year, with a time of day or without.
 use Rattle.std.specs.Prelude.{ℕ, ◌+◌, ◌-◌, ◌*◌, ◌^◌, ◌==◌, ◌&&◌, Bool, if◌then◌else◌, List, [], ◌∷◌}
-use Rattle.std.specs.Prelude.{length, take, slice_index, fold, sum, Option, Some, None, ℤ, pos, ◌+ℤ◌}
+use Rattle.std.specs.Prelude.{length, take, slice_index, fold, Option, Some, None, ℤ, pos, ◌+ℤ◌}
 use Rattle.std.specs.List.{list_all, slice_split}
-use Rattle.mseed_time.specs.Btime.{days_in_year, is_leap, is_within, microsecond_of}
+use Rattle.mseed_time.specs.Btime.{days_in_year, is_within, microsecond_of}
+use Rattle.mseed_time.specs.Calendar.{day_in_year}
 use Rattle.mseed_select.specs.declared.clocks.Clock.{Clock}
 use Rattle.mseed_select.specs.declared.dates.Date.{Date}
 
@@ -19,31 +20,23 @@ number_in count low high text =
     if (length text == count) && are_digits text && is_within low high (number_of text)
     then Some (number_of text) else None
 
--- how many days the months of a year have
-abbrev pub month_lengths : ℕ → List ℕ
-month_lengths year = 31 ∷ (if is_leap year then 29 else 28) ∷ 31 ∷ 30 ∷ 31 ∷ 30 ∷ 31 ∷ 31 ∷ 30 ∷ 31 ∷ 30 ∷ 31 ∷ []
-
--- the date of a day in a month, by the days of the months before
-abbrev pub date_in_month : ℕ → ℕ → Option ℕ → Option Date
-date_in_month year month (Some day) =
-    Some (record { year = year; day = sum (take (month - 1) (month_lengths year)) + day })
-date_in_month year month None = None
-
-abbrev pub date_by_month : ℕ → Option ℕ → List ℕ → Option Date
-date_by_month year (Some month) day =
-    date_in_month year month (number_in 2 1 (slice_index (month_lengths year) (month - 1)) day)
-date_by_month year None day = None
-
+-- a date by its year and its day of the year, where there is such a day
 abbrev pub date_by_day : ℕ → Option ℕ → Option Date
 date_by_day year (Some day) = Some (record { year = year; day = day })
 date_by_day year None = None
+
+-- the date of a day in a month
+abbrev pub date_by_month : ℕ → Option ℕ → Option ℕ → Option Date
+date_by_month year (Some month) (Some day) = date_by_day year (day_in_year year month day)
+date_by_month year (Some month) None = None
+date_by_month year None day = None
 
 -- by what stands after the year, between `-`: the month and the day in it, or the day of the year
 abbrev pub date_in_year : Option ℕ → List (List ℕ) → Option Date
 date_in_year None parts = None
 date_in_year (Some year) [] = None
 date_in_year (Some year) (day ∷ []) = date_by_day year (number_in 3 1 (days_in_year year) day)
-date_in_year (Some year) (month ∷ day ∷ []) = date_by_month year (number_in 2 1 12 month) day
+date_in_year (Some year) (month ∷ day ∷ []) = date_by_month year (number_in 2 0 99 month) (number_in 2 0 99 day)
 date_in_year (Some year) (a ∷ b ∷ c ∷ more) = None
 
 abbrev pub date_by_parts : List (List ℕ) → Option Date

@@ -1,7 +1,8 @@
 //! Writing the records of an input that are asked for.
-ghost use Rattle.std.specs.Prelude.{◌≡◌, ◌++◌, List, [], IfOk, OnOk};
+ghost use Rattle.std.specs.Prelude.{◌≡◌, ◌++◌, List, [], IfOk, None, OnOk};
 ghost use Rattle.mseed_record.specs.View.{View};
 ghost use Rattle.mseed_record.specs.Viewing.{view_of};
+ghost use Rattle.mseed_stream.specs.Calls.{ReadsOn};
 ghost use Rattle.mseed_stream.specs.Cutting.{IsAlong};
 ghost use Rattle.mseed_stream.specs.Device.{BytesWritten, nothing_read};
 ghost use Rattle.mseed_stream.specs.Walk.{HasHandedOut};
@@ -18,11 +19,8 @@ use crate::selected::Selected;
 use crate::selector::Selector;
 use mseed_choice::{Answer, Choice};
 use mseed_record::RecordView;
-use mseed_stream::{Cutter, Sink, Source, StreamFault, write_all_of, write_beyond};
+use mseed_stream::{Cutter, GATHERED, Sink, Source, StreamFault, write_all_of, write_beyond};
 use std::alloc::{AllocError, Allocator};
-
-/// At most so many bytes are gathered before they are written.
-const GATHERED: usize = 1 << 16;
 
 /// What was read next of an input.
 #[derive(Clone, Copy)]
@@ -50,6 +48,10 @@ pub fn select<A: Allocator + Copy, R: Source, W: Sink>(
     requires unread { R.read input.old ≡ nothing_read }
     ensures selected { IsSelected (selection_of selector.now) result (R.read input.new) (W.written output.old)
         (W.written output.new) }
+
+    // What the input is known to have left is what was read of it, up to its end where it is at its end.
+    ensures reads { ReadsOn (R.read input.old) (R.read input.new) (R.remaining input.old) (R.remaining input.new)
+        (R.beside input.old) (R.beside input.new) }
 {
     write_selected(alloc, selector, &Verbatim, input, output)
 }
@@ -72,6 +74,10 @@ pub fn write_selected<A: Allocator + Copy, C: Choice, F: Format<A>, R: Source, W
     requires unread { R.read input.old ≡ nothing_read }
     ensures written { IsFormatted (F.texts format.now) (C.selection choice.now) result (R.read input.new)
         (W.written output.old) (W.written output.new) }
+
+    // What the input is known to have left is what was read of it, up to its end where it is at its end.
+    ensures reads { ReadsOn (R.read input.old) (R.read input.new) (R.remaining input.old) (R.remaining input.new)
+        (R.beside input.old) (R.beside input.new) }
 {
     let mut text = Vec::new(alloc);
     let found = copy(alloc, choice, format, input, output, &mut text)?;
@@ -98,8 +104,10 @@ fn copy<A: Allocator + Copy, C: Choice, F: Format<A>, R: Source, W: Sink>(
 ) -> Result<Selected, SelectFault>
     requires read { R.read input.old ≡ nothing_read }
     requires text { text.old.items ≡ [] }
-    ensures { IsCopying (F.texts format.now) (C.selection choice.now) result (R.read input.new) (W.written output.old)
-        (W.written output.new) text.new.items }
+    ensures copied { IsCopying (F.texts format.now) (C.selection choice.now) result (R.read input.new)
+        (W.written output.old) (W.written output.new) text.new.items }
+    ensures reads { ReadsOn (R.read input.old) (R.read input.new) (R.remaining input.old) (R.remaining input.new)
+        (R.beside input.old) (R.beside input.new) }
 {
     let mut cutter = Cutter::new(alloc);
     let mut counts = Counts::none();
@@ -130,10 +138,12 @@ fn push_next<A: Allocator, C: Choice, F: Format<A>, R: Source, W: Sink>(
     text: &mut Vec<u8, A>,
 ) -> Result<Step, SelectFault>
     requires { IsAlong (R.read input.old) cutter.old }
-    ensures { (first : BytesWritten) (views : List View) → HasHandedOut (R.read input.old) cutter.old views
+    ensures next { (first : BytesWritten) (views : List View) → HasHandedOut (R.read input.old) cutter.old views
         → IsHeld (F.texts format.now) (C.selection choice.now) first (W.written output.old) text.old.items views
         → IsNext (F.texts format.now) (C.selection choice.now) result views (R.read input.old) (R.read input.new)
         cutter.new first (W.written output.new) text.new.items }
+    ensures reads { cutter.old.answer ≡ None → ReadsOn (R.read input.old) (R.read input.new) (R.remaining input.old)
+        (R.remaining input.new) (R.beside input.old) (R.beside input.new) }
 {
     let offset = cutter.offset();
     if let Some(view) = cutter.peek(input) {
@@ -163,10 +173,12 @@ fn ask_next<A: Allocator, C: Choice, F: Format<A>, R: Source>(
 ) -> Result<Step, SelectFault>
     requires along { IsAlong (R.read input.old) cutter.old }
     requires written { text.old.items ≡ [] }
-    ensures { (first now : BytesWritten) (views : List View) → HasHandedOut (R.read input.old) cutter.old views
+    ensures next { (first now : BytesWritten) (views : List View) → HasHandedOut (R.read input.old) cutter.old views
         → IsHeld (F.texts format.now) (C.selection choice.now) first now text.old.items views
         → IsNext (F.texts format.now) (C.selection choice.now) result views (R.read input.old) (R.read input.new)
         cutter.new first now text.new.items }
+    ensures reads { cutter.old.answer ≡ None → ReadsOn (R.read input.old) (R.read input.new) (R.remaining input.old)
+        (R.remaining input.new) (R.beside input.old) (R.beside input.new) }
 {
     let offset = cutter.offset();
     match cutter.next(input) {

@@ -1,12 +1,24 @@
 //! Laws of what is asked for.
-ghost use Rattle.std.specs.Prelude.{◌↔◌, IsTrue, List, ℕ};
+ghost use Rattle.std.specs.Prelude.{◌≡◌, ◌↔◌, IsTrue, List, ℕ, ℤ, ◌≤ℤ◌, ◌<ℤ◌, Some};
 ghost use Rattle.std.specs.List.{AllByRecursion};
 ghost use Rattle.mseed_time.specs.Rate.{Ratio};
 ghost use Rattle.mseed_record.specs.Header.{key_at};
 ghost use Rattle.mseed_record.specs.View.{IsView, View};
+ghost use Rattle.mseed_time.specs.Naming.{year_begins};
+ghost use Rattle.mseed_time.specs.Text.{time_text};
+ghost use Rattle.mseed_select.specs.TimeTexts.{IsWordFor};
+ghost use Rattle.mseed_select.specs.Word.{time_of};
 ghost use Rattle.mseed_select.specs.Halves.{AreMerged, asked_of, others_of, placed_from};
-ghost use Rattle.mseed_choice.specs.Pattern.{Fits, IsOfChannels, fits};
-ghost use Rattle.mseed_choice.specs.Selection.{HasSampleIn, IsAskedFor, Selection, asks_for};
+ghost use Rattle.mseed_choice.specs.Letters.{AreFourFields, IsFourFields};
+ghost use Rattle.mseed_choice.specs.Pattern.{Fits, IsOfChannels, are_patterns, fits, is_pattern};
+ghost use Rattle.mseed_choice.specs.Selection.{HasSampleIn, IsAskedFor, LacksTime, Selection, asks_for, lacks_time};
+
+/// A text is a pattern exactly where it is four fields of letters and digits, `-`, `*` and `?`, with `_` between them,
+/// and patterns exactly where it is one or more of them, with `,` between them.
+pub fn patterns_exactly()
+    ensures one { (text : List ℕ) → (IsTrue (is_pattern text) ↔ IsFourFields text) }
+    ensures all { (text : List ℕ) → (IsTrue (are_patterns text) ↔ AreFourFields text) }
+{}
 
 /// The test of a pattern's field is exact.
 pub fn fits_exactly()
@@ -16,6 +28,11 @@ pub fn fits_exactly()
 /// The test of a record is exact.
 pub fn asked_for_exactly()
     ensures { (s : Selection) (v : View) → IsTrue (asks_for s v) ↔ IsAskedFor s v }
+{}
+
+/// The test of whether a record of a channel that is asked for lacks a time is exact: for what any choice asks for.
+pub fn lacks_time_exactly()
+    ensures { (s : Selection) (v : View) → (IsTrue (lacks_time s v) ↔ LacksTime s v) }
 {}
 
 /// The records that are asked for and the others, merged by offset, are all the records.
@@ -30,4 +47,15 @@ pub fn two_halves()
 pub fn samples_in_window()
     ensures { (s : Selection) (v : View) (rate : Ratio) (i : ℕ) → IsOfChannels s.channels (key_at v.bytes)
         → HasSampleIn s.from s.until v rate i → IsAskedFor s v }
+{}
+
+/// A word is read as an instant exactly where it is a text of it: a date of the years 1900 to 2100 as the text of the
+/// instant has it, by the month or by the day of the year, and of the time of day behind it as much as isn't zeros that
+/// may be left out, with a `Z` or without. Second 60 stands for the next minute's first.
+pub fn times_exactly()
+    ensures words { (word : List ℕ) (instant : ℤ) → ((time_of word ≡ Some instant) ↔ IsWordFor word instant) }
+
+    // So the text that is written of each instant of these years is read as that instant.
+    ensures shown { (instant : ℤ) → year_begins 1900 ≤ℤ instant → instant <ℤ year_begins 2101
+        → time_of (time_text instant) ≡ Some instant }
 {}

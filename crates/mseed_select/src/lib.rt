@@ -22,7 +22,10 @@ pub use copying::{select, write_selected};
 pub use counts::Counts;
 pub use fault::{BadPatterns, BadTime, BadWindow, SelectFault};
 pub use format::Format;
-pub use law::{asked_for_exactly, fits_exactly, samples_in_window, two_halves};
+pub use law::{
+    asked_for_exactly, fits_exactly, lacks_time_exactly, patterns_exactly, samples_in_window,
+    times_exactly, two_halves,
+};
 pub use mseed_choice::{All, Answer, Choice};
 pub use patterns::Patterns;
 pub use selected::Selected;

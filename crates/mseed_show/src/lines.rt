@@ -98,7 +98,7 @@ fn put_rate(line: &mut Line, view: &RecordView)
     }
 }
 
-/// Puts how a record's payload is encoded, and whether a blockette 100 gives another rate, at a line's end.
+/// Puts how a record's payload is encoded, and whether there is a blockette 100, at a line's end.
 #[inline(always)]
 fn put_payload(line: &mut Line, view: &RecordView)
     requires { length line.old + 51 ≤ LONGEST_LINE }

@@ -1,5 +1,6 @@
 //! The listing of an input's records.
 ghost use Rattle.std.specs.Prelude.{◌≡◌};
+ghost use Rattle.mseed_stream.specs.Calls.{ReadsOn};
 ghost use Rattle.mseed_stream.specs.Device.{nothing_read};
 ghost use Rattle.mseed_show.specs.Show.{IsSelectedShown, IsShown, listing_texts};
 
@@ -37,6 +38,10 @@ pub fn show<A: Allocator + Copy, R: Source, W: Sink>(
 ) -> Result<Option<StreamFault>, ShowFault>
     requires unread { R.read input.old ≡ nothing_read }
     ensures shown { IsShown result (R.read input.new) (W.written output.old) (W.written output.new) }
+
+    // What the input is known to have left is what was read of it, up to its end where it is at its end.
+    ensures reads { ReadsOn (R.read input.old) (R.read input.new) (R.remaining input.old) (R.remaining input.new)
+        (R.beside input.old) (R.beside input.new) }
 {
     match show_selected(alloc, &All, input, output) {
         Ok(shown) => Ok(shown.end),
@@ -59,6 +64,10 @@ pub fn show_selected<A: Allocator + Copy, C: Choice, R: Source, W: Sink>(
     requires unread { R.read input.old ≡ nothing_read }
     ensures shown { IsSelectedShown (C.selection choice.now) result (R.read input.new) (W.written output.old)
         (W.written output.new) }
+
+    // What the input is known to have left is what was read of it, up to its end where it is at its end.
+    ensures reads { ReadsOn (R.read input.old) (R.read input.new) (R.remaining input.old) (R.remaining input.new)
+        (R.beside input.old) (R.beside input.new) }
 {
     match write_selected(alloc, choice, &Listing, input, output) {
         Ok(found) => Ok(Shown {

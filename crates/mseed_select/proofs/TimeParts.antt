@@ -1,0 +1,80 @@
+-- The parts of a text, put together and taken apart.
+use Rattle.std.proofs.Common.{◌≡◌, ℕ, zero, suc, ◌+◌, ◌≤◌, refl, sym, ap, ◌∙◌, arith, Bool, false, eqb, List, [], ◌∷◌}
+use Rattle.std.proofs.Common.{◌++◌, length, get_or, inl, inr}
+use Rattle.std.proofs.lemmas.List.{append-nil, length-append}
+use Rattle.std.proofs.lemmas.Bool.Decides.{leb_tells}
+use Rattle.std.specs.List.{join_with_byte, slice_split}
+use Rattle.std.proofs.lemmas.List.Splits.{join_with_byte-slice_split, slice_split_at, slice_split_none}
+use Rattle.std.proofs.lemmas.Bool.Decides.{nat_tests}
+use Rattle.mseed_select.proofs.Padded.{Lacks}
+
+itself : (c : ℕ) → eqb c c ≡ Rattle.std.proofs.Common.true
+itself c = grind (arith, nat_tests)
+
+-- ---- put together
+pub one_part : (c : ℕ) (a : List ℕ) → Lacks c a → slice_split (λ (x : ℕ). eqb x c) a ≡ a ∷ []
+one_part c a none = slice_split_none (λ (x : ℕ). eqb x c) a none
+
+pub next_part : (c : ℕ) (a b : List ℕ) → Lacks c a
+    → slice_split (λ (x : ℕ). eqb x c) (a ++ c ∷ b) ≡ a ∷ slice_split (λ (x : ℕ). eqb x c) b
+next_part c a b none = slice_split_at (λ (x : ℕ). eqb x c) a c b none (itself c)
+
+pub two_parts : (c : ℕ) (a b : List ℕ) → Lacks c a → Lacks c b
+    → slice_split (λ (x : ℕ). eqb x c) (a ++ c ∷ b) ≡ a ∷ b ∷ []
+two_parts c a b one two = next_part c a b one ∙ ap (λ (ps : List (List ℕ)). a ∷ ps) (one_part c b two)
+
+pub three_parts : (c : ℕ) (a b d : List ℕ) → Lacks c a → Lacks c b → Lacks c d
+    → slice_split (λ (x : ℕ). eqb x c) (a ++ c ∷ (b ++ c ∷ d)) ≡ a ∷ b ∷ d ∷ []
+three_parts c a b d one two three =
+    next_part c a (b ++ c ∷ d) one ∙ ap (λ (ps : List (List ℕ)). a ∷ ps) (two_parts c b d two three)
+
+-- ---- taken apart
+pub joined : (c : ℕ) (text : List ℕ) (parts : List (List ℕ)) → slice_split (λ (x : ℕ). eqb x c) text ≡ parts
+    → text ≡ join_with_byte c parts
+joined c text parts e =
+    sym (join_with_byte-slice_split c text) ∙ ap (λ (ps : List (List ℕ)). join_with_byte c ps) e
+
+-- what stands behind a known beginning
+pub record IsBehind (front behind whole rest : List ℕ) (middle : List ℕ) : Type 0 where
+  pub whole_is : whole ≡ front ++ middle
+  pub rest_is : middle ++ rest ≡ behind
+
+pub cut_after : (front behind whole rest : List ℕ) → whole ++ rest ≡ front ++ behind → length front ≤ length whole
+    → (middle : List ℕ) × IsBehind front behind whole rest middle
+cut_after [] behind whole rest e h = (whole, record { whole_is = refl; rest_is = e })
+cut_after (f ∷ fs) behind [] rest e h = absurd (omega (arith, h))
+cut_after (f ∷ fs) behind (w ∷ ws) rest e h =
+    let first : w ≡ f = cc in
+    let others : ws ++ rest ≡ fs ++ behind = cc in
+    let more = cut_after fs behind ws rest others (omega (arith, h)) in
+    (more.0, record { whole_is = λ i. first i ∷ more.1.whole_is i; rest_is = more.1.rest_is })
+
+pub nothing : (xs : List ℕ) → length xs ≡ 0 → xs ≡ []
+nothing [] e = refl
+nothing (x ∷ xs) e = absurd (omega (arith, e))
+
+-- the beginning and the end are these, where the ends are equally long
+pub exactly : (front behind whole rest : List ℕ) → whole ++ rest ≡ front ++ behind → length rest ≡ length behind
+    → (whole ≡ front) × (rest ≡ behind)
+exactly front behind whole rest e same =
+    let long : length whole ≡ length front =
+    omega (arith, same, ap (λ (xs : List ℕ). length xs) e, length-append whole rest, length-append front behind) in
+    let cut = cut_after front behind whole rest e (omega (arith, long)) in
+    let none : cut.0 ≡ [] = nothing cut.0
+    (omega (arith, long, ap (λ (xs : List ℕ). length xs) cut.1.whole_is, length-append front cut.0)) in (
+      cut.1.whole_is ∙ ap (λ (xs : List ℕ). front ++ xs) none ∙ append-nil front,
+      ap (λ (xs : List ℕ). xs ++ rest) (sym none) ∙ cut.1.rest_is,
+    )
+
+-- a text that lacks a character has it nowhere
+pub lacks_at : (c : ℕ) (text : List ℕ) (i : ℕ) → 1 ≤ c → Lacks c text → eqb (get_or text i 0) c ≡ false
+lacks_at c text i some none = elim (leb_tells (suc i) (length text)) [
+  | inl lt ↦ none i 0 (omega (arith, lt.1))
+  | inr ge ↦ ap (λ (x : ℕ). eqb x c) (get_or_past text i (omega (arith, ge.1)))
+      ∙ (let e : eqb 0 c ≡ false = grind (arith, nat_tests, some) in e)
+]
+  where
+    get_or_past : (xs : List ℕ) (k : ℕ) → length xs ≤ k → get_or xs k 0 ≡ 0
+    get_or_past [] k h = refl
+    get_or_past (x ∷ xs) zero h = absurd (omega (arith, h))
+    get_or_past (x ∷ xs) (suc k) h = get_or_past xs k (omega (arith, h))
