@@ -7,6 +7,7 @@ use Rattle.std.proofs.lemmas.List.{drop_more, get_or_default, length-map, take-a
 use Rattle.std.proofs.lemmas.List.Elements.{All-from_recursion, recursion_from_All}
 use Rattle.mseed_record.specs.View.{View}
 use Rattle.mseed_record.specs.Viewing.{view_of}
+use Rattle.mseed_record.specs.declared.view.RecordView.{RecordView}
 use Rattle.mseed_stream.specs.Device.{BytesWritten}
 use Rattle.mseed_audit.specs.Channels.{is_of}
 use Rattle.mseed_audit.specs.Follows.{IsSound}
@@ -20,7 +21,7 @@ use Rattle.mseed_repack.specs.private.Archives.{IsAudited, IsTrailOf, records_on
 use Rattle.mseed_repack.specs.private.Planning.{AreReady, IsCutAs, IsPartAs, IsPartOn, IsReady, IsTextAs, IsTextOn}
 use Rattle.mseed_repack.specs.private.Planning.{PartsAs, StandsAs, TextsAs, stretches_by}
 use Rattle.mseed_repack.specs.private.Reading.{channel_in}
-use Rattle.mseed_repack.specs.private.Restretching.{IsNoMisfit, IsUnbroken}
+use Rattle.mseed_repack.specs.private.Restretching.{AreUnsound, IsNoMisfit, IsUnbroken}
 use Rattle.mseed_repack.specs.declared.plan.Plan.{Plan}
 use Rattle.mseed_repack.specs.declared.standing.Standing.{Standing}
 use Rattle.mseed_repack.specs.declared.standing.Standing.TheVariants.{Fit, Broken, Misfit}
@@ -31,7 +32,7 @@ use Rattle.mseed_repack.specs.declared.archive.Trail.{Trail}
 use Rattle.mseed_repack.proofs.Planning.{part_as, ready_at, text_as, wrote_as}
 use Rattle.mseed_repack.proofs.Repacks.{first_at}
 use Rattle.mseed_repack.proofs.Standings.{all_fit, as_many, each_fits, each_found, first_found, fits_by_standing}
-use Rattle.mseed_repack.proofs.Standings.{stands_at}
+use Rattle.mseed_repack.proofs.Standings.{stands_at, unsound_at}
 use Rattle.mseed_repack.proofs.Texts.{wrote_more, wrote_part}
 
 abbrev views_of : Archive → List View
@@ -51,6 +52,25 @@ few_in key (v ∷ vs) = by (is_of key v) (few_in key vs)
 pub on_trail : (a : Archive) (k : ℕ) (t : Trail) (w : IsTrailOf a k t)
     → records_on t ≡ channel_in w.channel.0 (map view_of a.views.now)
 on_trail a k t w = w.records_are ∙ views_are w.channel.0 (views_of a)
+
+-- all of them
+pub all_on : (a : Archive) (k : ℕ) (t : Trail) → IsTrailOf a k t → t.views.now ≡ a.views.now
+    → records_on t ≡ channel_in t.codes.now (map view_of t.views.now)
+all_on a k t w same = on_trail a k t w ∙ ap (λ (key : List ℕ). channel_in key (views_of a)) (sym w.codes_are)
+    ∙ ap (λ (rs : List RecordView). channel_in t.codes.now (map view_of rs)) (sym same)
+
+-- not all of those of a broken channel are sound
+pub unsound_on : (a : Archive) (ss : List Standing) (k : ℕ) (t : Trail) → IsTrailOf a k t
+    → AreUnsound (map view_of a.views.now) a.channels.now ss → k < length a.channels.now
+    → length ss ≡ length a.channels.now → get_or ss k Fit ≡ Broken → ¬ (AllByRecursion IsSound (records_on t))
+unsound_on a ss k t w all lt size broken =
+    subst (λ (vs : List View). ¬ (AllByRecursion IsSound vs)) (sym w.records_are)
+    (unsound_at (map view_of a.views.now) a.channels.now ss k w.channel all lt size w.at broken)
+
+-- the channel is the one at its number
+pub channel_on : (a : Archive) (k : ℕ) (t : Trail) (c : Channel) (w : IsTrailOf a k t) → k < length a.channels.now
+    → c ≡ get_or a.channels.now k c → w.channel ≡ c
+channel_on a k t c w lt is = w.at ∙ get_or_default a.channels.now k w.channel c lt ∙ sym is
 
 -- however the channel is met
 pub of_channel : (a : Archive) (k : ℕ) (t : Trail) (c : Channel) → k < length a.channels.now

@@ -266,7 +266,11 @@ pub each_restretching : (P : List View → List Channel → List ℕ → Type 0)
     → AllByRecursion (λ (c : Channel). ChannelFits o (records_in views c.0)) (kept_of channels ss)
     → AreStretched o views (kept_of channels ss) text → P views (kept_of channels ss) text)
     → EachRestretching (WroteFitting P)
-each_restretching P follows o leave left h old new reported_old reported_new (views, (channels, (archive, were))) =
+each_restretching P follows place o leave left h old new reported_old reported_new came =
+    let views = came.0 in
+    let channels = came.1.0 in
+    let archive = came.1.1.0 in
+    let were = came.1.1.1 in
     let kept = were.kept in
     record {
       views = views;

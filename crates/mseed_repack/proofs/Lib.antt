@@ -2,6 +2,7 @@ pub mod Each
 pub mod Texts
 pub mod Repacks
 pub mod AskedFor
+pub mod Untimed
 pub mod Wholes
 pub mod OneRepacking
 pub mod Near
@@ -25,3 +26,6 @@ pub mod Borders
 pub mod Bordered
 pub mod StretchedArchive
 pub mod Outcomes
+pub mod InPlaces
+pub mod Passed
+pub mod OwnFindings

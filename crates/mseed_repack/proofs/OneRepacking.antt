@@ -24,10 +24,12 @@ use Rattle.mseed_stream.specs.declared.fault.StreamFault.{StreamFault}
 use Rattle.mseed_stream.specs.declared.fault.StreamFault.TheVariants.{Frame, Truncated, Read, Turns, Memory as NoMemory}
 use Rattle.mseed_stream.proofs.Ends.{one_end}
 use Rattle.mseed_stream.proofs.Records.{one_archive}
-use Rattle.mseed_audit.specs.Channels.{Added, added_from}
+use Rattle.mseed_audit.specs.Channels.{Added, Placed, added_from, channel_in}
 use Rattle.mseed_audit.specs.Follows.{IsContinuous}
+use Rattle.mseed_audit.specs.Scope.{placed_of}
 use Rattle.mseed_audit.specs.Series.{Trace, IsSeriesOf}
-use Rattle.mseed_audit.specs.Verdict.{AreVerdicts}
+use Rattle.mseed_audit.specs.Verdict.{AreFindings, AreVerdicts}
+use Rattle.mseed_audit.specs.declared.finding.Finding.{Finding}
 use Rattle.mseed_audit.specs.declared.verdict.Verdict.{Verdict}
 use Rattle.mseed_pack.specs.Fitting.{Fits, IsMisfit}
 use Rattle.mseed_pack.specs.Prefixes.{ArePrefixes, HaveTakenPrefixes}
@@ -37,6 +39,7 @@ use Rattle.mseed_pack.specs.declared.options.Options.{Options}
 use Rattle.mseed_pack.proofs.Prefixes.{either_bytes}
 use Rattle.mseed_repack.specs.OneRepacking.{ComeToOne, HasWrittenPrefix, HaveWrittenOne}
 use Rattle.mseed_repack.specs.Repack.{ArePackedInto, CanBePacked, CantBePacked, Channel, IsArchiveOf, IsFirst, IsFitFor}
+use Rattle.mseed_repack.specs.Repack.{IsFirstFinding}
 use Rattle.mseed_repack.specs.Repack.{IsPackedInPart, IsPartPacked, IsRepacking, IsSeriesText, IsUnread, IsWhole}
 use Rattle.mseed_repack.specs.Repack.{Wrote, records_in}
 use Rattle.mseed_repack.specs.declared.fault.RepackFault.{RepackFault}
@@ -50,6 +53,10 @@ OneInput = (h : BytesRead) (views others : List View) (end other : Option Stream
 
 abbrev OneList : Type 0
 OneList = (added : List Added) (vs ws : List Channel) → AreVerdicts added vs → AreVerdicts added ws → vs ≡ ws
+
+abbrev OneFinding : Type 0
+OneFinding = (before : Option View) (ps : List Placed) (a b : List Finding) → AreFindings before ps a
+    → AreFindings before ps b → a ≡ b
 
 abbrev OneSeries : Type 0
 OneSeries = (s t : Trace) (vs : List View) → IsSeriesOf s vs → IsSeriesOf t vs → s ≡ t
@@ -76,6 +83,7 @@ NoMisfit = (s : Trace) (o : Options) (f : PackFault) → Fits s o → ¬ (IsMisf
 pub record Laws : Type 0 where
   pub input : OneInput
   pub list : OneList
+  pub finding : OneFinding
   pub series : OneSeries
   pub packing : OnePacking
   pub prefix : OnePrefix
@@ -463,6 +471,20 @@ same_broken laws h views others cs ds k l a b p q =
     one_first_key (Whole others) (λ (key : List ℕ). ¬ (Whole others key)) (λ (key : List ℕ). ¬ (Whole others key)) k l
     ds no no first q
 
+-- it has one first finding
+same_finding : Laws → (h : BytesRead) (views others : List View) (cs ds : List Channel) (k l : List ℕ) (f g : Finding)
+    → IsArchiveOf h views cs → IsArchiveOf h others ds → k ≡ l → IsFirstFinding (channel_in k (placed_of views)) f
+    → IsFirstFinding (channel_in l (placed_of others)) g → Broken k f ≡ Broken l g
+same_finding laws h views others cs ds k l f g a b key p q =
+    let moved : IsFirstFinding (channel_in k (placed_of others)) f =
+    same_archive laws (λ vs xs. IsFirstFinding (channel_in k (placed_of vs)) f) h views others cs ds a b p in
+    let here : IsFirstFinding (channel_in l (placed_of others)) f =
+    subst (λ (x : List ℕ). IsFirstFinding (channel_in x (placed_of others)) f) key moved in
+    let lists : f ∷ here.0 ≡ g ∷ q.0 =
+    laws.finding None (channel_in l (placed_of others)) (f ∷ here.0) (g ∷ q.0) here.1 q.1 in
+    let same : f ≡ g = cc in
+    λ i. Broken (key i) (same i)
+
 same_misfit : Laws → (o : Options) (h : BytesRead) (views others : List View) (cs ds : List Channel) (k l : List ℕ)
     (m n : ℕ) (f g : PackFault) → IsArchiveOf h views cs → IsArchiveOf h others ds
     → FirstMisfit o views cs f k × (m ≡ 1) → FirstMisfit o others ds g l × (n ≡ 1) → Misfit k m f ≡ Misfit l n g
@@ -478,7 +500,7 @@ beside : Laws → (o : Options) (h : BytesRead) (fault : RepackFault) (old new b
     → IsRepacking {U = ⊤} o (Ok tt) h old new → IsRepacking {U = ⊤} o (Err fault) h before after
     → ComeToOne (Ok tt) (Err fault) old new before after
 beside laws o h (Stream f) old new before after p q = absurd (never_unread h f p.0 q.0 q.1 p.1.1.0.archive.whole)
-beside laws o h (Broken key) old new before after p q =
+beside laws o h (Broken key first) old new before after p q =
     absurd (never_broken laws h p.0 q.0 p.1.0 q.1.0 key p.1.1.0.archive q.1.1.0 p.1.1.0.continuous q.1.1.1)
 beside laws o h (Misfit key n f) old new before after p q =
     absurd (never_misfit laws o h p.0 q.0 p.1.0 q.1.0 key f p.1.1.0.archive q.1.1.0 p.1.1.0.fit q.1.1.2)
@@ -495,23 +517,26 @@ one_fault laws o h Memory g old new before after p q = inl refl
 one_fault laws o h (Stream f) Memory old new before after p q = inr (inl refl)
 one_fault laws o h (Stream f) (Stream g) old new before after p q =
     inr (inr (ap Stream (one_unread h f g p.0 q.0 p.1 q.1)))
-one_fault laws o h (Stream f) (Broken l) old new before after p q = absurd (never_unread h f q.0 p.0 p.1 q.1.1.0.whole)
+one_fault laws o h (Stream f) (Broken l e) old new before after p q =
+    absurd (never_unread h f q.0 p.0 p.1 q.1.1.0.whole)
 one_fault laws o h (Stream f) (Misfit l n g) old new before after p q =
     absurd (never_unread h f q.0 p.0 p.1 q.1.1.0.whole)
 one_fault laws o h (Stream f) Write old new before after p q =
     absurd (never_unread h f q.0 p.0 p.1 q.1.1.0.archive.whole)
-one_fault laws o h (Broken k) Memory old new before after p q = inr (inl refl)
-one_fault laws o h (Broken k) (Stream g) old new before after p q = absurd (never_unread h g p.0 q.0 q.1 p.1.1.0.whole)
-one_fault laws o h (Broken k) (Broken l) old new before after p q =
-    inr (inr (ap Broken (same_broken laws h p.0 q.0 p.1.0 q.1.0 k l p.1.1.0 q.1.1.0 p.1.1.1 q.1.1.1)))
-one_fault laws o h (Broken k) (Misfit l n g) old new before after p q =
+one_fault laws o h (Broken k d) Memory old new before after p q = inr (inl refl)
+one_fault laws o h (Broken k d) (Stream g) old new before after p q =
+    absurd (never_unread h g p.0 q.0 q.1 p.1.1.0.whole)
+one_fault laws o h (Broken k d) (Broken l e) old new before after p q =
+    let key : k ≡ l = same_broken laws h p.0 q.0 p.1.0 q.1.0 k l p.1.1.0 q.1.1.0 p.1.1.1 q.1.1.1 in
+    inr (inr (same_finding laws h p.0 q.0 p.1.0 q.1.0 k l d e p.1.1.0 q.1.1.0 key p.1.1.2 q.1.1.2))
+one_fault laws o h (Broken k d) (Misfit l n g) old new before after p q =
     absurd (never_broken laws h q.0 p.0 q.1.0 p.1.0 k q.1.1.0 p.1.1.0 q.1.1.1 p.1.1.1)
-one_fault laws o h (Broken k) Write old new before after p q =
+one_fault laws o h (Broken k d) Write old new before after p q =
     absurd (never_broken laws h q.0 p.0 q.1.0 p.1.0 k q.1.1.0.archive p.1.1.0 q.1.1.0.continuous p.1.1.1)
 one_fault laws o h (Misfit k m f) Memory old new before after p q = inr (inl refl)
 one_fault laws o h (Misfit k m f) (Stream g) old new before after p q =
     absurd (never_unread h g p.0 q.0 q.1 p.1.1.0.whole)
-one_fault laws o h (Misfit k m f) (Broken l) old new before after p q =
+one_fault laws o h (Misfit k m f) (Broken l e) old new before after p q =
     absurd (never_broken laws h p.0 q.0 p.1.0 q.1.0 l p.1.1.0 q.1.1.0 p.1.1.1 q.1.1.1)
 one_fault laws o h (Misfit k m f) (Misfit l n g) old new before after p q =
     inr (inr (same_misfit laws o h p.0 q.0 p.1.0 q.1.0 k l m n f g p.1.1.0 q.1.1.0
@@ -521,7 +546,7 @@ one_fault laws o h (Misfit k m f) Write old new before after p q =
 one_fault laws o h Write Memory old new before after p q = inr (inl refl)
 one_fault laws o h Write (Stream g) old new before after p q =
     absurd (never_unread h g p.0 q.0 q.1 p.1.1.0.archive.whole)
-one_fault laws o h Write (Broken l) old new before after p q =
+one_fault laws o h Write (Broken l e) old new before after p q =
     absurd (never_broken laws h p.0 q.0 p.1.0 q.1.0 l p.1.1.0.archive q.1.1.0 p.1.1.0.continuous q.1.1.1)
 one_fault laws o h Write (Misfit l n g) old new before after p q =
     absurd (never_misfit laws o h p.0 q.0 p.1.0 q.1.0 l g p.1.1.0.archive q.1.1.0 p.1.1.0.fit q.1.1.2)

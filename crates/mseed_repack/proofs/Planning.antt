@@ -52,7 +52,8 @@ wrote_as is wrote = record {
 pub goes_on : (encoding other : Encoding) (room next : ℕ) (way : Way) (s : List View) → other ≡ encoding → room ≤ next
     → GoesBy encoding room way s → GoesBy other next way s
 goes_on encoding other room next (Frames count) s e le goes =
-    subst (λ (f : Encoding). GoesBy f next (Frames count) s) (sym e) goes
+    subst (λ (f : Encoding). GoesBy f next (Frames count) s) (sym e)
+    (goes.0, goes.1, goes.2, omega (arith, goes.3, le))
 goes_on encoding other room next Listed s e le fits = omega (arith, fits, le)
 
 -- and so does one that is planned, where there is room for more leap seconds too

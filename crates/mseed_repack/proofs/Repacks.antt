@@ -21,12 +21,13 @@ use Rattle.mseed_steim.specs.Reading.{count_of}
 use Rattle.mseed_audit.specs.Channels.{Added, Placed, added_from, records_of, same_key, sample_count, views_in}
 use Rattle.mseed_audit.specs.Follows.{IsContinuous}
 use Rattle.mseed_audit.specs.Verdict.{AreVerdicts, IsExactAt, IsVerdict, IsVerdictAt, says_continuous}
+use Rattle.mseed_audit.specs.declared.finding.Finding.{Finding}
 use Rattle.mseed_audit.specs.declared.verdict.Verdict.{Verdict}
 use Rattle.mseed_audit.specs.declared.verdict.Verdict.TheVariants.{Continuous, Broken}
 use Rattle.mseed_audit.specs.Audit.{Held, IsAuditOf}
 use Rattle.mseed_audit.proofs.Following.{end_of, views_are}
 use Rattle.mseed_audit.proofs.Maps.{same_back, same_itself}
-use Rattle.mseed_repack.specs.Repack.{AreContinuous, Channel, IsFirst, records_in}
+use Rattle.mseed_repack.specs.Repack.{AreContinuous, Channel, IsFirst, IsFirstFinding, records_in}
 use Rattle.mseed_repack.specs.private.Archives.{SaysCount}
 use Rattle.mseed_repack.specs.private.Reading.{channel_in, samples_of}
 
@@ -119,20 +120,34 @@ counted (Continuous start rate records samples) ps count is says =
     all (q ∷ qs) = ap (λ (n : ℕ). count_of q.view + n) (all qs)
 counted (Broken first findings) ps count is says = absurd says
 
-pub count_said : (views : List View) (cs : List Channel) (i : ℕ) (c : Channel) (count : ℕ) (vs : List View)
-    → AreVerdicts (added_from 0 views) cs → i < length cs → c ≡ get_or cs i c → SaysCount count c.1
-    → vs ≡ channel_in c.0 views → count ≡ samples_of vs
-count_said views cs i c count vs are lt is says of =
+-- the verdict on a channel is one on its records
+verdict_said : (views : List View) (cs : List Channel) (i : ℕ) (c : Channel) → AreVerdicts (added_from 0 views) cs
+    → i < length cs → c ≡ get_or cs i c → IsVerdict c.1 (records_of c.0 (added_from 0 views))
+verdict_said views cs i c are lt is =
     let added = added_from 0 views in
     let verdicts : All (λ (d : Channel). IsVerdict d.1 (records_of d.0 added)) cs =
     All-weaker (λ (d : Channel). lookup (same_key d.0) cs ≡ Some d.1)
     (λ (d : Channel). IsVerdict d.1 (records_of d.0 added))
     (λ d e. subst (λ (o : Option Verdict). IsVerdictAt o (records_of d.0 added)) e (are.each d.0)) cs
     (All-from_recursion (λ (d : Channel). lookup (same_key d.0) cs ≡ Some d.1) cs (found cs are.ascending)) in
-    let here : IsVerdict c.1 (records_of c.0 added) =
     subst (λ (d : Channel). IsVerdict d.1 (records_of d.0 added)) (sym is)
-    (All-get_or (λ (d : Channel). IsVerdict d.1 (records_of d.0 added)) cs i c lt verdicts) in
-    counted c.1 (records_of c.0 added) count here says ∙ ap samples_of (views_are c.0 views ∙ sym of)
+    (All-get_or (λ (d : Channel). IsVerdict d.1 (records_of d.0 added)) cs i c lt verdicts)
+
+-- and has the first finding of a channel that is broken
+pub first_said : (views : List View) (cs : List Channel) (i : ℕ) (c : Channel) (first : Finding) (count : ℕ)
+    → AreVerdicts (added_from 0 views) cs → i < length cs → c ≡ get_or cs i c → c.1 ≡ Broken first count
+    → IsFirstFinding (records_of c.0 (added_from 0 views)) first
+first_said views cs i c first count are lt is e =
+    let broken = subst (λ (v : Verdict). IsVerdict v (records_of c.0 (added_from 0 views))) e
+    (verdict_said views cs i c are lt is) in
+    (broken.0, broken.1.0)
+
+pub count_said : (views : List View) (cs : List Channel) (i : ℕ) (c : Channel) (count : ℕ) (vs : List View)
+    → AreVerdicts (added_from 0 views) cs → i < length cs → c ≡ get_or cs i c → SaysCount count c.1
+    → vs ≡ channel_in c.0 views → count ≡ samples_of vs
+count_said views cs i c count vs are lt is says of =
+    counted c.1 (records_of c.0 (added_from 0 views)) count (verdict_said views cs i c are lt is) says
+    ∙ ap samples_of (views_are c.0 views ∙ sym of)
 
 -- what a verdict says of its channel
 pub says_of : (views : List View) (cs : List Channel) (i : ℕ) (c : Channel) (b : Bool)

@@ -23,7 +23,7 @@ use Rattle.mseed_repack.specs.private.Archives.{AreAlone, has_own}
 use Rattle.mseed_repack.specs.private.Reading.{channel_in}
 
 -- a record of which no finding of its own is found
-sound_found : HaveOneReading → (before : Option View) (v : View) (why : Option Why) → IsFound before v why
+pub sound_found : HaveOneReading → (before : Option View) (v : View) (why : Option Why) → IsFound before v why
     → has_own why ≡ false → IsSound v
 sound_found single before v _ (time fault e) none = absurd (false≢true (sym none))
 sound_found single before v _ (rate e r) none = absurd (false≢true (sym none))

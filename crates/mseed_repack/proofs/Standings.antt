@@ -7,19 +7,21 @@ use Rattle.std.proofs.lemmas.List.Elements.{All-from_recursion, All-take, recurs
 use Rattle.mseed_record.specs.View.{View}
 use Rattle.mseed_stream.specs.Device.{BytesRead, BytesWritten}
 use Rattle.mseed_stream.specs.LineWritten.{WritesLine}
-use Rattle.mseed_audit.specs.Channels.{added_from}
+use Rattle.mseed_audit.specs.Channels.{Placed, added_from, channel_in as placed_in}
 use Rattle.mseed_audit.specs.Follows.{IsSound}
 use Rattle.mseed_audit.specs.Verdict.{AreVerdicts, says_continuous}
+use Rattle.mseed_audit.specs.declared.finding.Finding.{Finding}
 use Rattle.mseed_audit.proofs.Following.{views_are}
 use Rattle.mseed_pack.specs.declared.options.Options.{Options}
 use Rattle.mseed_pack.specs.declared.fault.PackFault.{PackFault}
 use Rattle.mseed_repack.specs.Repack.{Channel, IsArchiveOf, IsFirst, Wrote, records_in}
 use Rattle.mseed_repack.specs.Restretch.{ChannelFits, ChannelMisfits}
-use Rattle.mseed_repack.specs.ByStretches.{AreFound, AreStandings, IsFit, IsRestretching, ReportsEach, Stands}
-use Rattle.mseed_repack.specs.ByStretches.{WroteKept}
-use Rattle.mseed_repack.specs.ByStretches.{also, kept_of, line_of, lines_of, silent}
+use Rattle.mseed_repack.specs.ByStretches.{AreFound, AreStandings, IsFit, ReportsEach, Stands}
+use Rattle.mseed_repack.specs.ByStretches.{AreReported, AreReportsOf, IsFirstOwn, IsReportOf, WroteKept}
+use Rattle.mseed_repack.specs.ByStretches.{also, kept_of, silent}
 use Rattle.mseed_repack.specs.private.Reading.{channel_in, steps_of}
-use Rattle.mseed_repack.specs.private.Restretching.{IsFirstRefused, IsNoMisfit, IsUnbroken}
+use Rattle.mseed_repack.specs.private.Restretching.{AreUnsound, IsFirstRefused, IsNoMisfit, IsRestretchingIfLeft}
+use Rattle.mseed_repack.specs.private.Restretching.{IsUnbroken}
 use Rattle.mseed_repack.specs.declared.standing.Standing.{Standing}
 use Rattle.mseed_repack.specs.declared.standing.Standing.TheVariants.{Fit, Broken, Misfit}
 use Rattle.mseed_repack.specs.declared.fault.RepackFault.{RepackFault}
@@ -94,10 +96,10 @@ steps_gathered key vs views room e le =
     omega (arith, same, most, le)
 
 -- what was written of the channels that fit, and reported of the others
-pub wrote_kept : {P : List Channel → List ℕ → Type 0} {failures : ℕ} {o : Options} {leave : Bool} {views : List View}
-    {cs : List Channel} {ss : List Standing} {old new reported_old reported_new : BytesWritten}
+pub wrote_kept : {P : List Channel → List ℕ → Type 0} {failures : ℕ} {o : Options} {leave : Bool}
+    {views : List View} {cs : List Channel} {ss : List Standing} {old new reported_old reported_new : BytesWritten}
     → AreStandings o views cs ss → (leave ≡ false → AllByRecursion IsFit ss)
-    → ReportsEach (lines_of cs ss) reported_old reported_new → Wrote (P (kept_of cs ss)) failures old new
+    → AreReported cs ss reported_old reported_new → Wrote (P (kept_of cs ss)) failures old new
     → WroteKept P failures o leave views cs ss old new reported_old reported_new
 wrote_kept are whole reported wrote = record { are = are; whole = whole; reported = reported; wrote = wrote }
 
@@ -127,27 +129,51 @@ each_fits ss k un fine =
     by (Broken ∷ ts) un fine = absurd un.0
     by (Misfit n f ∷ ts) un fine = absurd fine.0
 
+-- what is said of each channel that is broken
+unsound_by : (o : Options) (vs : List View) (s : Standing) → Stands o vs s → s ≡ Broken
+    → ¬ (AllByRecursion IsSound vs)
+unsound_by o vs s is e = subst (λ (t : Standing). Stands o vs t) e is
+
+pub unsound_all : (o : Options) (views : List View) (cs : List Channel) (ss : List Standing)
+    → AreStandings o views cs ss → AreUnsound views cs ss
+unsound_all o views [] [] all = tt
+unsound_all o views [] (s ∷ ss) all = absurd all
+unsound_all o views (c ∷ cs) [] all = absurd all
+unsound_all o views (c ∷ cs) (s ∷ ss) all =
+    (unsound_by o (records_in views c.0) s all.0, unsound_all o views cs ss all.1)
+
+pub unsound_at : (views : List View) (cs : List Channel) (ss : List Standing) (k : ℕ) (c : Channel)
+    → AreUnsound views cs ss → k < length cs → length ss ≡ length cs → c ≡ get_or cs k c → get_or ss k Fit ≡ Broken
+    → ¬ (AllByRecursion IsSound (records_in views c.0))
+unsound_at views cs ss k c all lt size at broken =
+    let inside : k < length ss = omega (arith, lt, size) in
+    stands_at (λ vs t. t ≡ Broken → ¬ (AllByRecursion IsSound vs)) views cs ss k c Broken all lt at
+    (sym broken ∙ get_or_default ss k Fit Broken inside) refl
+
 -- the first broken channel is why an archive is refused
-pub refused_broken : (o : Options) (views : List View) (cs : List Channel) (ss : List Standing) (k : ℕ) (c : Channel)
-    → k < length ss → length ss ≡ length cs → c ≡ get_or cs k c → get_or ss k Fit ≡ Broken
-    → All IsUnbroken (take k ss) → AreStandings o views cs ss → IsFirstRefused o views cs (BrokenChannel c.0)
-refused_broken o views cs ss k c lt size at is before all =
+pub refused_broken : (o : Options) (ps : List Placed) (views : List View) (cs : List Channel) (ss : List Standing)
+    (k : ℕ) (c : Channel) (first : Finding) → k < length ss → length ss ≡ length cs → c ≡ get_or cs k c
+    → get_or ss k Fit ≡ Broken → All IsUnbroken (take k ss) → AreStandings o views cs ss
+    → IsFirstOwn (placed_in c.0 ps) first → IsFirstRefused o ps views cs (BrokenChannel c.0 first)
+refused_broken o ps views cs ss k c first lt size at is before all own =
     let Sound : List ℕ → Type 0 = λ key. AllByRecursion IsSound (records_in views key) in
     let Unsound : List ℕ → Type 0 = λ key. ¬ (AllByRecursion IsSound (records_in views key)) in
     let less : k < length cs = omega (arith, lt, size) in
     let here : Stands o (records_in views c.0) Broken =
     stands_at (Stands o) views cs ss k c Broken all less at (sym is ∙ get_or_default ss k Fit Broken lt) in
+    let is_first : IsFirst Sound Unsound c.0 cs =
     subst (λ (key : List ℕ). IsFirst Sound Unsound key cs) (sym (ap (λ (d : Channel). d.0) at))
     (first_at Sound Unsound cs k c less
     (first_found (Stands o) IsUnbroken (AllByRecursion IsSound) (sound_by_standing o) views cs ss k all before)
-    (subst (λ (d : Channel). Unsound d.0) at here))
+    (subst (λ (d : Channel). Unsound d.0) at here)) in
+    (is_first, own)
 
 -- or else the first that doesn't fit
-pub refused_misfit : (o : Options) (views : List View) (cs : List Channel) (ss : List Standing) (k n : ℕ)
-    (fault : PackFault) (c : Channel) → k < length ss → length ss ≡ length cs → c ≡ get_or cs k c
+pub refused_misfit : (o : Options) (ps : List Placed) (views : List View) (cs : List Channel) (ss : List Standing)
+    (k n : ℕ) (fault : PackFault) (c : Channel) → k < length ss → length ss ≡ length cs → c ≡ get_or cs k c
     → get_or ss k Fit ≡ Misfit n fault → All IsUnbroken ss → All IsNoMisfit (take k ss) → AreStandings o views cs ss
-    → IsFirstRefused o views cs (MisfitStretch c.0 n fault)
-refused_misfit o views cs ss k n fault c lt size at is un before all =
+    → IsFirstRefused o ps views cs (MisfitStretch c.0 n fault)
+refused_misfit o ps views cs ss k n fault c lt size at is un before all =
     let Fits : List ℕ → Type 0 = λ key. ChannelFits o (records_in views key) in
     let Misfits : List ℕ → Type 0 = λ key. ChannelMisfits o n fault (records_in views key) in
     let less : k < length cs = omega (arith, lt, size) in
@@ -170,19 +196,34 @@ all_fit ss un fine =
     subst (All IsFit) (take_all (length ss) ss (omega arith))
     (each_fits ss (length ss) un (subst (All IsNoMisfit) (sym (take_all (length ss) ss (omega arith))) fine))
 
--- the lines of the channels so far, and of one more
-lines_next : (cs : List Channel) (ss : List Standing) (k : ℕ) (c : Channel) (s : Standing) → k < length cs
-    → length ss ≡ length cs → c ≡ get_or cs k c
-    → lines_of (take (k + 1) cs) (take (k + 1) ss) ≡ lines_of (take k cs) (take k ss) ++ line_of c.0 (get_or ss k s)
-lines_next [] ss k c s lt size at = absurd (omega (arith, lt))
-lines_next (d ∷ ds) [] k c s lt size at = absurd (omega (arith, size))
-lines_next (d ∷ ds) (t ∷ ts) zero c s lt size at =
-    append-nil (line_of d.0 t) ∙ ap (λ (e : Channel). line_of e.0 t) (sym at)
-lines_next (d ∷ ds) (t ∷ ts) (suc k) c s lt size at =
-    ap (λ (n : ℕ). lines_of (take n (d ∷ ds)) (take n (t ∷ ts))) {x = suc k + 1} {y = suc (k + 1)} (omega arith)
-    ∙ ap (λ (xs : List (List ℕ)). line_of d.0 t ++ xs)
-    (lines_next ds ts k c s (omega (arith, lt)) (omega (arith, size)) at)
-    ∙ sym (append_assoc (line_of d.0 t) (lines_of (take k ds) (take k ts)) (line_of c.0 (get_or ts k s)))
+-- what is reported of the channels so far, and of one more
+reports_next : (cs : List Channel) (ss : List Standing) (k : ℕ) (c : Channel) (s : Standing)
+    (lines own : List (List ℕ)) → k < length cs → length ss ≡ length cs → c ≡ get_or cs k c
+    → AreReportsOf (take k cs) (take k ss) lines → IsReportOf c.0 (get_or ss k s) own
+    → AreReportsOf (take (k + 1) cs) (take (k + 1) ss) (lines ++ own)
+reports_next [] ss k c s lines own lt size at before one = absurd (omega (arith, lt))
+reports_next (d ∷ ds) [] k c s lines own lt size at before one = absurd (omega (arith, size))
+reports_next (d ∷ ds) (t ∷ ts) zero c s lines own lt size at before one = (
+  own,
+  (
+    [],
+    (
+      ap (λ (ls : List (List ℕ)). ls ++ own) before ∙ sym (append-nil own),
+      subst (λ (e : Channel). IsReportOf e.0 t own) at one,
+      refl,
+    ),
+  ),
+)
+reports_next (d ∷ ds) (t ∷ ts) (suc k) c s lines own lt size at (mine, (rest, (joined, here, others))) one =
+    let later = reports_next ds ts k c s rest own (omega (arith, lt)) (omega (arith, size)) at others one in
+    let same : suc (k + 1) ≡ suc k + 1 = omega arith in
+    subst (λ (n : ℕ). AreReportsOf (take n (d ∷ ds)) (take n (t ∷ ts)) (lines ++ own)) same (
+      mine,
+      (
+        rest ++ own,
+        (ap (λ (ls : List (List ℕ)). ls ++ own) joined ∙ append_assoc mine rest own, here, later),
+      ),
+    )
 
 -- lines that are reported after others
 tells_append : (leading back : List (List ℕ)) (old between new : BytesWritten) → ReportsEach leading old between
@@ -198,11 +239,17 @@ tells_one line old new reported = also [] line old old new (silent old) reported
 
 pub tells_next : (cs : List Channel) (ss : List Standing) (k : ℕ) (c : Channel) (s : Standing)
     (first old new : BytesWritten) → k < length cs → length ss ≡ length cs → c ≡ get_or cs k c
-    → ReportsEach (lines_of (take k cs) (take k ss)) first old → ReportsEach (line_of c.0 (get_or ss k s)) old new
-    → ReportsEach (lines_of (take (k + 1) cs) (take (k + 1) ss)) first new
-tells_next cs ss k c s first old new lt size at before one =
-    subst (λ (ls : List (List ℕ)). ReportsEach ls first new) (sym (lines_next cs ss k c s lt size at))
-    (tells_append (lines_of (take k cs) (take k ss)) (line_of c.0 (get_or ss k s)) first old new before one)
+    → AreReported (take k cs) (take k ss) first old
+    → (lines : List (List ℕ)) × (IsReportOf c.0 (get_or ss k s) lines × ReportsEach lines old new)
+    → AreReported (take (k + 1) cs) (take (k + 1) ss) first new
+tells_next cs ss k c s first old new lt size at before one = record {
+  lines = before.lines ++ one.0;
+  are = reports_next cs ss k c s before.lines one.0 lt size at before.are one.1.0;
+  each = tells_append before.lines one.0 first old new before.each one.1.1;
+}
+
+pub tells_none : (first : BytesWritten) → AreReported [] [] first first
+tells_none first = record { lines = []; are = refl; each = silent first }
 
 -- where all were looked at, what holds of those holds of all
 pub all_to_end : {X : Type 0} (P : X → Type 0) (xs : List X) (n : ℕ) → length xs ≤ n → All P (take n xs) → All P xs
@@ -221,13 +268,14 @@ no_misfit Broken fine = tt
 no_misfit (Misfit n f) fine = fine n f refl
 
 -- it is refused for the first channel that isn't to be left out
-pub refused_is : (o : Options) (leave : Bool) (h : BytesRead) (s reported : BytesWritten) (views : List View)
-    (cs : List Channel) (fault : RepackFault) → IsFirstRefused o views cs fault → leave ≡ false
-    → IsArchiveOf h views cs → IsRestretching o leave (Err fault) h s s reported reported
-refused_is o leave h s reported views cs (Stream f) is stays archive = absurd is
-refused_is o leave h s reported views cs (BrokenChannel key) is stays archive =
-    (views, (cs, (archive, is, stays, refl, refl)))
-refused_is o leave h s reported views cs (MisfitStretch key n f) is stays archive =
+pub refused_is : (place : List View → List Placed) (o : Options) (leave : Bool) (count : ℕ) (h : BytesRead)
+    (s reported : BytesWritten) (views : List View) (cs : List Channel) (fault : RepackFault)
+    → IsFirstRefused o (place views) views cs fault → leave ≡ false
+    → IsArchiveOf h views cs → IsRestretchingIfLeft place o leave count (Err fault) h s s reported reported
+refused_is place o leave count h s reported views cs (Stream f) is stays archive = absurd is
+refused_is place o leave count h s reported views cs (BrokenChannel key first) is stays archive =
     (views, (cs, (archive, is.0, is.1, stays, refl, refl)))
-refused_is o leave h s reported views cs Write is stays archive = absurd is
-refused_is o leave h s reported views cs Memory is stays archive = absurd is
+refused_is place o leave count h s reported views cs (MisfitStretch key n f) is stays archive =
+    (views, (cs, (archive, is.0, is.1, stays, refl, refl)))
+refused_is place o leave count h s reported views cs Write is stays archive = absurd is
+refused_is place o leave count h s reported views cs Memory is stays archive = absurd is

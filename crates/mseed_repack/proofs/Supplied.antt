@@ -6,7 +6,7 @@ use Rattle.std.specs.List.{AllByRecursion}
 use Rattle.std.specs.Prelude.{slice_range}
 use Rattle.std.proofs.lemmas.Bool.{false≢true}
 use Rattle.std.proofs.lemmas.Int.{ints, to_z-of_z}
-use Rattle.std.proofs.lemmas.List.{drop-drop, drop-take, length-drop, take-take}
+use Rattle.std.proofs.lemmas.List.{drop-drop, drop-take, take-take}
 use Rattle.std.proofs.Math.Seq.{drop-append_seam, take-append_seam}
 use Rattle.mseed_time.specs.declared.outcome.LeapStep.{LeapStep}
 use Rattle.mseed_time.specs.declared.rate.Rate.{Rate}
@@ -399,24 +399,18 @@ module _ {S : Type 0} {leads : S → Type 0} {left : S → List View} {rest next
       )
 
   -- or through the room
-  pub room_given : (d out : List ℤ) (count n : ℕ) → count ≡ count_of v
-      → ((s : List ℤ) → IsWhole v s → d ≡ differences_from last s)
+  pub room_given : (now out : List ℤ) (count n : ℕ) → count ≡ count_of v → length now ≡ length room
+      → ((s : List ℤ) → IsWhole v s → take count now ≡ differences_from last s)
       → ((s : List ℤ) → IsWhole v s → last_after last s ≡ then) → n ≡ min (length out) (count - 0)
-      → take n out ≡ take n (drop 0 (d ++ drop count room))
-      → Given leads left next then (d ++ drop count room) n count samples given out n
-  room_given d out count n count_is are ends size items =
+      → take n out ≡ take n (drop 0 now)
+      → Given leads left next then now n count samples given out n
+  room_given now out count n count_is same are ends size items =
       let found : HasNext left next last room samples given v = next_of_supply h empty e in
-      let now : List ℤ = d ++ drop count room in
-      let is : d ≡ differences_from last found.s = are found.s found.whole in
-      let long : length d ≡ count_of v =
-      ap (λ (zs : List ℤ). length zs) is ∙ from_length last found.s ∙ found.long in
-      let first : take (count_of v) now ≡ d =
-      ap (λ (k : ℕ). take k now) (sym long) ∙ take-append_seam d (drop count room) in
-      let same : length now ≡ length room =
-      omega (arith, length-append d (drop count room), length-drop count room, long, count_is, found.fits) in
+      let is : take (count_of v) now ≡ differences_from last found.s =
+      ap (λ (k : ℕ). take k now) (sym count_is) ∙ are found.s found.whole in
       let here : IsSupplied leads left next then now 0 count samples given =
       subst (λ (k : ℕ). IsSupplied leads left next then now 0 k samples given) (sym count_is)
-      (supplied_here found then now led (ends found.s found.whole) same (first ∙ is)) in
+      (supplied_here found then now led (ends found.s found.whole) same is) in
       let zero_on : 0 + n ≡ n = omega arith in
       rw zero_on at (part_given here out n (omega (arith, count_is, found.whole.0.some)) size items)
 
@@ -455,6 +449,13 @@ supplied_first {left = left} {rest = rest} {first = first} {room = room} {xs = x
       given_is = refl;
       held = refl;
     }
+
+-- whatever says so of itself
+pub supplied_as : {S : Type 0} {leads : S → Type 0} {left : S → List View} {rest other : S} {first last : ℤ}
+    {room place : List ℤ} {at end : ℕ} {samples : List ℤ} → IsSupplied leads left rest first room 0 0 samples 0
+    → other ≡ rest → last ≡ first → place ≡ room → at ≡ 0 → end ≡ 0
+    → IsSupplied leads left other last place at end samples 0
+supplied_as is same_rest same_last same_room at_0 end_0 = rw (same_rest, same_last, same_room, at_0, end_0) is
 
 -- the first sample of some records
 pub first_joined : (v : View) (vs : List View) (xs : List ℤ) (ends : Ends)

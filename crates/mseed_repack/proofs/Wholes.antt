@@ -13,6 +13,7 @@ use Rattle.mseed_stream.specs.Walk.{bytes_in}
 use Rattle.mseed_audit.specs.Channels.{added_from}
 use Rattle.mseed_audit.specs.Verdict.{AreVerdicts}
 use Rattle.mseed_repack.specs.Repack.{Channel, IsArchiveOf, IsWhole}
+use Rattle.mseed_repack.specs.private.Places.{AreAllOf}
 
 bytes_are : (rs : List RecordView) → bytes_of_each rs ≡ bytes_in (map view_of rs)
 bytes_are [] = refl
@@ -38,6 +39,14 @@ whole_read rs {h = h} {bytes = bytes} unread joined fine ended archive each few 
       ended = ended;
       fine = fine ∙ ap (λ (x : BytesRead). x.failures) unread;
     }
+
+-- so they are all of those bytes
+pub all_of : (rs : List RecordView) {bytes : List ℕ} → IsArchive bytes (bytes_of_each rs) []
+    → AllByRecursion (λ (r : RecordView). IsView (view_of r)) rs → AreAllOf bytes (map view_of rs)
+all_of rs {bytes = bytes} archive each = record {
+  archive = subst (λ (bs : List (List ℕ)). IsArchive bytes bs []) (bytes_are rs) archive;
+  each = views_each rs each;
+}
 
 -- and with the verdicts on its records it is an archive of these channels
 pub archive_of : {h : BytesRead} {views : List View} {cs ds : List Channel} → IsWhole h views

@@ -1,12 +1,17 @@
 -- An archive whose channels are packed anew by their stretches.
 use Rattle.std.specs.Prelude.{⊤, ◌≡◌, ◌≢◌, Bool, false, ℕ, List, [], ◌∷◌, ◌++◌, All, Result, Ok, Err}
-use Rattle.std.specs.Prelude.{codes, decimal}
+use Rattle.std.specs.Prelude.{None, Some, codes, decimal}
 use Rattle.std.specs.List.{AllByRecursion}
 use Rattle.mseed_record.specs.View.{View}
 use Rattle.mseed_stream.specs.Device.{BytesRead, BytesWritten}
 use Rattle.mseed_stream.specs.LineWritten.{WritesLine}
 use Rattle.mseed_stream.specs.declared.fault.StreamFault.TheVariants.{Memory as NoMemory}
+use Rattle.mseed_audit.specs.Channels.{Placed, channel_in, views_in}
 use Rattle.mseed_audit.specs.Follows.{IsSound}
+use Rattle.mseed_audit.specs.Judging.{IsFound}
+use Rattle.mseed_audit.specs.Scope.{placed_of}
+use Rattle.mseed_audit.specs.Text.{why_text}
+use Rattle.mseed_audit.specs.declared.finding.Finding.{Finding}
 use Rattle.mseed_text.specs.Name.{name_text}
 use Rattle.mseed_pack.specs.declared.fault.PackFault.{PackFault}
 use Rattle.mseed_pack.specs.declared.fault.PackFault.TheVariants.{Empty, RateTooHigh, TimeOutOfRange, SampleTooLarge}
@@ -88,32 +93,62 @@ misfit_number (SampleTooLarge index) = 4
 misfit_number (DifferenceTooLarge index) = 5
 misfit_number (WriteFailed taken) = 6
 
--- the lines about a channel
+-- of these records of a channel the first that has a finding of its own has this one
+pub record IsFirstOwn (ps : List Placed) (f : Finding) : Type 0 where
+  pub leading : List Placed
+  pub at : Placed
+  pub back : List Placed
+  pub parts : ps ≡ leading ++ at ∷ back
+  pub sound : AllByRecursion IsSound (views_in leading)
+  pub number : f.number ≡ at.number
+  pub offset : f.offset ≡ at.offset
+  pub found : IsFound None at.view (Some f.why)
+
+-- the line about a channel
 abbrev pub broken_line : List ℕ → List ℕ
 broken_line key = codes "mseed: " ++ name_text key ++ codes " is broken\n"
 
+-- the line more about a record with a finding, as an audit's text has it
+abbrev pub finding_line : Finding → List ℕ
+finding_line f =
+    codes "mseed: record " ++ decimal f.number ++ codes " offset " ++ decimal f.offset ++ codes " " ++ why_text f.why
+    ++ codes "\n"
+
+-- both of a channel that is broken, by such a finding
+abbrev pub broken_text : List ℕ → Finding → List ℕ
+broken_text key f = broken_line key ++ finding_line f
+
+-- the line about a channel of which a stretch can't be packed
 abbrev pub misfit_line : List ℕ → ℕ → PackFault → List ℕ
 misfit_line key number fault =
     codes "mseed: " ++ name_text key ++ codes " does not fit " ++ decimal (misfit_number fault) ++ codes " stretch "
     ++ decimal number ++ codes "\n"
 
--- of a channel that is left out
-abbrev pub line_of : List ℕ → Standing → List (List ℕ)
-line_of key Fit = []
-line_of key Broken = broken_line key ∷ []
-line_of key (Misfit number fault) = misfit_line key number fault ∷ []
+-- what is reported of a channel that is left out
+abbrev pub IsReportOf : List ℕ → Standing → List (List ℕ) → Type 0
+IsReportOf key Fit lines = lines ≡ []
+IsReportOf key Broken lines = lines ≡ broken_line key ∷ []
+IsReportOf key (Misfit number fault) lines = lines ≡ misfit_line key number fault ∷ []
 
--- of each that is, in the order of the channels
-abbrev pub lines_of : List Channel → List Standing → List (List ℕ)
-lines_of [] ss = []
-lines_of (c ∷ cs) [] = []
-lines_of (c ∷ cs) (s ∷ ss) = line_of c.0 s ++ lines_of cs ss
+-- and of each that is, in the order of the channels
+abbrev pub AreReportsOf : List Channel → List Standing → List (List ℕ) → Type 0
+AreReportsOf [] ss lines = lines ≡ []
+AreReportsOf (c ∷ cs) [] lines = lines ≡ []
+AreReportsOf (c ∷ cs) (s ∷ ss) lines =
+    (own : List (List ℕ)) × ((rest : List (List ℕ)) × ((lines ≡ own ++ rest) × IsReportOf c.0 s own
+    × AreReportsOf cs ss rest))
 
 -- lines are reported one after another, each as far as the device takes it
 pub data ReportsEach : List (List ℕ) → BytesWritten → BytesWritten → Type 0 where
   silent : (s : BytesWritten) → ReportsEach [] s s
   also : (lines : List (List ℕ)) (line : List ℕ) (old between new : BytesWritten) → ReportsEach lines old between
       → WritesLine line between new → ReportsEach (lines ++ line ∷ []) old new
+
+-- the channels that are left out are reported
+pub record AreReported (channels : List Channel) (standings : List Standing) (old new : BytesWritten) : Type 0 where
+  pub lines : List (List ℕ)
+  pub are : AreReportsOf channels standings lines
+  pub each : ReportsEach lines old new
 
 -- Of the channels that fit a text was written of which this is so; and the others were reported, unless there was to be
 -- none.
@@ -122,46 +157,56 @@ pub record WroteKept (P : List Channel → List ℕ → Type 0) (failures : ℕ)
     (old new reported_old reported_new : BytesWritten) : Type 0 where
   pub are : AreStandings o views channels standings
   pub whole : leave ≡ false → AllByRecursion IsFit standings
-  pub reported : ReportsEach (lines_of channels standings) reported_old reported_new
+  pub reported : AreReported channels standings reported_old reported_new
   pub wrote : Wrote (P (kept_of channels standings)) failures old new
 
 -- What was written by stretches: of each channel that fits its stretches' records.
-pub record WereStretched (o : Options) (leave : Bool) (views : List View) (channels : List Channel) (left : Left)
-    (old new reported_old reported_new : BytesWritten) : Type 0 where
+pub record WereStretched (o : Options) (leave : Bool) (views : List View)
+    (channels : List Channel) (left : Left) (old new reported_old reported_new : BytesWritten) : Type 0 where
   pub standings : List Standing
   pub kept : WroteKept (AreStretched o views) 0 o leave views channels standings old new reported_old reported_new
   pub left_is : left ≡ left_of standings
 
 -- the same, where the output failed
-pub record WereStretchedInPart (o : Options) (leave : Bool) (views : List View) (channels : List Channel)
-    (old new reported_old reported_new : BytesWritten) : Type 0 where
+pub record WereStretchedInPart (o : Options) (leave : Bool) (views : List View)
+    (channels : List Channel) (old new reported_old reported_new : BytesWritten) : Type 0 where
   pub standings : List Standing
-  pub kept : WroteKept (IsPartStretched o views) 1 o leave views channels standings old new reported_old reported_new
+  pub kept : WroteKept (IsPartStretched o views) 1 o leave views channels standings old new reported_old
+      reported_new
 
--- What packing anew by stretches comes to. Where the input is a whole archive, the channels are written of which each
--- record is sound and each stretch can be packed, and the others are reported, or else the archive is refused for the
--- first of them; a prefix is written where the output failed; and nothing otherwise, where memory was refused too.
-abbrev pub IsRestretching : Options → Bool → Result Left RepackFault → BytesRead → BytesWritten → BytesWritten
-    → BytesWritten → BytesWritten → Type 0
-IsRestretching o leave (Ok left) h old new reported_old reported_new =
+-- What packing anew by stretches comes to, where each record of the archive stands at such a place in what was read.
+-- Where the input is a whole archive, the channels are written of which each record is sound and each stretch can be
+-- packed, and the others are reported, or else the archive is refused for the first of them; a prefix is written where
+-- the output failed; and nothing otherwise, where memory was refused too. Of a channel that isn't sound the first
+-- finding that is a record's own is answered.
+abbrev pub IsRestretchingAmong : (List View → List Placed) → Options → Bool → Result Left RepackFault → BytesRead
+    → BytesWritten → BytesWritten → BytesWritten → BytesWritten → Type 0
+IsRestretchingAmong place o leave (Ok left) h old new reported_old reported_new =
     Exists (λ views channels. IsArchiveOf h views channels
     × WereStretched o leave views channels left old new reported_old reported_new)
-IsRestretching o leave (Err (Stream fault)) h old new reported_old reported_new =
+IsRestretchingAmong place o leave (Err (Stream fault)) h old new reported_old reported_new =
     (fault ≢ NoMemory) × IsUnread fault h × (new ≡ old) × (reported_new ≡ reported_old)
-IsRestretching o leave (Err (BrokenChannel key)) h old new reported_old reported_new =
+IsRestretchingAmong place o leave (Err (BrokenChannel key first)) h old new reported_old reported_new =
     Exists (λ views channels. IsArchiveOf h views channels
     × IsFirst (λ k. AllByRecursion IsSound (records_in views k)) (λ k. ¬ (AllByRecursion IsSound (records_in views k)))
-    key channels
+    key channels × IsFirstOwn (channel_in key (place views)) first
     × (leave ≡ false) × (new ≡ old) × (reported_new ≡ reported_old))
-IsRestretching o leave (Err (MisfitStretch key number fault)) h old new reported_old reported_new =
+IsRestretchingAmong place o leave (Err (MisfitStretch key number fault)) h old new reported_old reported_new =
     Exists (λ views channels. IsArchiveOf h views channels × AreSound views channels
     × IsFirst (λ k. ChannelFits o (records_in views k)) (λ k. ChannelMisfits o number fault (records_in views k)) key
     channels
     × (leave ≡ false) × (new ≡ old) × (reported_new ≡ reported_old))
-IsRestretching o leave (Err Write) h old new reported_old reported_new =
+IsRestretchingAmong place o leave (Err Write) h old new reported_old reported_new =
     Exists (λ views channels. IsArchiveOf h views channels
     × WereStretchedInPart o leave views channels old new reported_old reported_new)
-IsRestretching o leave (Err Memory) h old new reported_old reported_new = (new ≡ old) × (reported_new ≡ reported_old)
+IsRestretchingAmong place o leave (Err Memory) h old new reported_old reported_new =
+    (new ≡ old) × (reported_new ≡ reported_old)
+
+-- the same, where the archive is all that was read
+abbrev pub IsRestretching : Options → Bool → Result Left RepackFault → BytesRead → BytesWritten → BytesWritten
+    → BytesWritten → BytesWritten → Type 0
+IsRestretching o leave result h old new reported_old reported_new =
+    IsRestretchingAmong placed_of o leave result h old new reported_old reported_new
 
 -- Of an archive the channels that fit were written, as a text of which this is so.
 pub record WroteFitting (P : List View → List Channel → List ℕ → Type 0) (o : Options) (h : BytesRead)
@@ -176,5 +221,6 @@ pub record WroteFitting (P : List View → List Channel → List ℕ → Type 0)
 -- this is so of whatever an archive was packed into by stretches
 abbrev pub EachRestretching : (Options → BytesRead → BytesWritten → BytesWritten → Type 0) → Type 0
 EachRestretching P =
-    (o : Options) (leave : Bool) (left : Left) (read : BytesRead) (old new reported_old reported_new : BytesWritten)
-    → IsRestretching o leave (Ok left) read old new reported_old reported_new → P o read old new
+    (place : List View → List Placed) (o : Options) (leave : Bool) (left : Left) (read : BytesRead)
+    (old new reported_old reported_new : BytesWritten)
+    → IsRestretchingAmong place o leave (Ok left) read old new reported_old reported_new → P o read old new

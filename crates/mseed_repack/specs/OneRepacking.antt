@@ -21,7 +21,7 @@ pub record HasWrittenPrefix (old new before after : BytesWritten) : Type 0 where
 -- what only the output or the memory can make of what is packed otherwise: a prefix of its text, or nothing
 abbrev pub FailsBeside : RepackFault → BytesWritten → BytesWritten → BytesWritten → BytesWritten → Type 0
 FailsBeside (Stream fault) old new before after = ⊥
-FailsBeside (Broken key) old new before after = ⊥
+FailsBeside (Broken key first) old new before after = ⊥
 FailsBeside (Misfit key number fault) old new before after = ⊥
 FailsBeside Write old new before after = HasWrittenPrefix old new before after
 FailsBeside Memory old new before after = ⊤

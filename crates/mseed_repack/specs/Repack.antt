@@ -1,6 +1,6 @@
 -- What is written when an archive is packed anew.
 use Rattle.std.specs.Prelude.{ℤ, ◌≡◌, ◌≢◌, ◌⊎◌, ℕ, ◌+◌, ◌<◌, ◌^◌, List, [], ◌∷◌, ◌++◌, length, take, IsTrue, All}
-use Rattle.std.specs.Prelude.{Result, Ok, Err}
+use Rattle.std.specs.Prelude.{Result, Ok, Err, None}
 use Rattle.std.specs.List.{concat, AllByRecursion}
 use Rattle.mseed_record.specs.View.{View, IsView}
 use Rattle.mseed_stream.specs.Archive.{IsArchive}
@@ -9,11 +9,13 @@ use Rattle.mseed_stream.specs.Fault.{IsStreamFault}
 use Rattle.mseed_stream.specs.Split.{IsSplitFault}
 use Rattle.mseed_stream.specs.Walk.{bytes_in}
 use Rattle.mseed_stream.specs.declared.fault.StreamFault.{StreamFault}
-use Rattle.mseed_stream.specs.declared.fault.StreamFault.TheVariants.{Frame, Truncated, Read, Turns, Memory as NoMemory}
-use Rattle.mseed_audit.specs.Channels.{added_from, records_of, views_in}
+use Rattle.mseed_stream.specs.declared.fault.StreamFault.TheVariants.{Memory as NoMemory}
+use Rattle.mseed_audit.specs.Channels.{Placed, added_from, channel_in, records_of, views_in}
 use Rattle.mseed_audit.specs.Follows.{IsContinuous}
+use Rattle.mseed_audit.specs.Scope.{placed_of}
 use Rattle.mseed_audit.specs.Series.{Trace, IsSeriesOf}
-use Rattle.mseed_audit.specs.Verdict.{AreVerdicts}
+use Rattle.mseed_audit.specs.Verdict.{AreFindings, AreVerdicts}
+use Rattle.mseed_audit.specs.declared.finding.Finding.{Finding}
 use Rattle.mseed_audit.specs.declared.verdict.Verdict.{Verdict}
 use Rattle.mseed_pack.specs.Fitting.{Fits, IsMisfit}
 use Rattle.mseed_pack.specs.Packing.{IsPacking, PacksUpTo}
@@ -85,6 +87,10 @@ pub record IsFirst (Before At : List ℕ → Type 0) (key : List ℕ) (channels 
   pub before : All (λ c. Before c.0) prefix
   pub is_it : At key
 
+-- of the findings of these records of a channel this is the first
+abbrev pub IsFirstFinding : List Placed → Finding → Type 0
+IsFirstFinding ps first = (rest : List Finding) × AreFindings None ps (first ∷ rest)
+
 -- the text is the records that the series of some records is packed into
 pub record IsSeriesText (o : Options) (vs : List View) (text : List ℕ) : Type 0 where
   pub records : List (List ℕ)
@@ -146,21 +152,27 @@ pub record Wrote (P : List ℕ → Type 0) (failures : ℕ) (old new : BytesWrit
 abbrev pub Exists : (List View → List Channel → Type 0) → Type 0
 Exists P = (views : List View) × ((channels : List Channel) × P views channels)
 
--- What packing anew comes to. All is written where the input is a whole archive, each channel continuous, and each
--- series can be packed; a prefix of that where the output failed; and nothing otherwise, where memory was refused too.
--- A continuous channel is one stretch, whose number is 1.
-abbrev pub IsRepacking : {U : Type 0} → Options → Result U RepackFault → BytesRead → BytesWritten → BytesWritten
-    → Type 0
-IsRepacking o (Ok u) h old new =
+-- What packing anew comes to, where each record of the archive stands at such a place in what was read. All is written
+-- where the input is a whole archive, each channel continuous, and each series can be packed; a prefix of that where
+-- the output failed; and nothing otherwise, where memory was refused too. A continuous channel is one stretch, whose
+-- number is 1. Of a channel that isn't continuous the first finding is answered.
+abbrev pub IsRepackingAmong : {U : Type 0} → (List View → List Placed) → Options → Result U RepackFault → BytesRead
+    → BytesWritten → BytesWritten → Type 0
+IsRepackingAmong place o (Ok u) h old new =
     Exists (λ views channels. IsFitFor o h views channels × Wrote (ArePackedInto o views channels) 0 old new)
-IsRepacking o (Err (Stream fault)) h old new = (fault ≢ NoMemory) × IsUnread fault h × (new ≡ old)
-IsRepacking o (Err (Broken key)) h old new =
+IsRepackingAmong place o (Err (Stream fault)) h old new = (fault ≢ NoMemory) × IsUnread fault h × (new ≡ old)
+IsRepackingAmong place o (Err (Broken key first)) h old new =
     Exists (λ views channels. IsArchiveOf h views channels
     × IsFirst (λ k. IsContinuous (records_in views k)) (λ k. ¬ (IsContinuous (records_in views k))) key channels
-    × (new ≡ old))
-IsRepacking o (Err (Misfit key number fault)) h old new =
+    × IsFirstFinding (channel_in key (place views)) first × (new ≡ old))
+IsRepackingAmong place o (Err (Misfit key number fault)) h old new =
     Exists (λ views channels. IsArchiveOf h views channels × AreContinuous views channels
     × IsFirst (CanBePacked o views) (CantBePacked o views fault) key channels × (number ≡ 1) × (new ≡ old))
-IsRepacking o (Err Write) h old new =
+IsRepackingAmong place o (Err Write) h old new =
     Exists (λ views channels. IsFitFor o h views channels × Wrote (IsPartPacked o views channels) 1 old new)
-IsRepacking o (Err Memory) h old new = new ≡ old
+IsRepackingAmong place o (Err Memory) h old new = new ≡ old
+
+-- the same, where the archive is all that was read
+abbrev pub IsRepacking : {U : Type 0} → Options → Result U RepackFault → BytesRead → BytesWritten → BytesWritten
+    → Type 0
+IsRepacking o result h old new = IsRepackingAmong placed_of o result h old new

@@ -1,5 +1,5 @@
 //! An archive: its records, its channels, and which records each channel has.
-ghost use Rattle.std.specs.Prelude.{◌<◌, length};
+ghost use Rattle.std.specs.Prelude.{◌≡◌, ◌<◌, length};
 ghost use Rattle.mseed_repack.specs.private.Archives.{IsAudited, IsLed, IsTrailOf, records_on};
 
 use crate::walk::Walk;
@@ -21,7 +21,8 @@ impl<'r, 'a> Archive<'r, 'a> {
     pub(crate) fn trail(&self, number: usize) -> Trail<'r, 'a>
         requires audited { IsAudited self.now }
         requires inside { number < length self.now.channels.now }
-        ensures { IsTrailOf self.now number result }
+        ensures trail { IsTrailOf self.now number result }
+        ensures views { result.views.now ≡ self.now.views.now }
     {
         let channels = self.channels;
         let channel = &channels[number];

@@ -1,32 +1,35 @@
-//! The records of an archive that are asked for.
-ghost use Rattle.std.specs.Prelude.{◌≡◌, map};
+//! The records of an archive that are asked for, and what is reported of those that lack a time.
+ghost use Rattle.std.specs.Prelude.{◌≡◌, List, if◌then◌else◌, map};
 ghost use Rattle.std.specs.List.{count_by, filter};
+ghost use Rattle.mseed_record.specs.View.{View};
 ghost use Rattle.mseed_record.specs.Viewing.{view_of};
 ghost use Rattle.mseed_select.specs.Selecting.{selection_of};
 ghost use Rattle.mseed_choice.specs.Selection.{asks_for, lacks_time};
 ghost use Rattle.mseed_repack.specs.ByStretches.{ReportsEach};
-ghost use Rattle.mseed_repack.specs.Selected.{without_time_lines};
+ghost use Rattle.mseed_repack.specs.Repack.{stream_fault};
+ghost use Rattle.mseed_repack.specs.Selected.{AreRecordsOf, ReportsIfLeft, without_time_lines};
+ghost use Rattle.mseed_repack.specs.private.Restretching.{ReportsAfter, ReportsAtFault, ReportsUnlessLeft};
 
+use crate::fault::RepackFault;
+use crate::refusing::Left;
 use mseed_record::RecordView;
 use mseed_select::{Answer, Selector};
-use mseed_stream::{Sink, report};
+use mseed_stream::{Sink, StreamFault, report};
 use mseed_text::Line;
 use std::alloc::Allocator;
 
-/// Lets go of the records that aren't asked for, once a line is written to `errors` that says how many lack a time,
-/// where there are any.
-pub(crate) fn keep_asked<A: Allocator, E: Sink>(
+/// Lets go of the records that aren't asked for, and returns how many records of the channels that are asked for lack a
+/// time.
+pub(crate) fn keep_asked<A: Allocator>(
     views: &mut Vec<RecordView<'_>, A>,
     selector: &Selector<'_>,
-    errors: &mut E,
-)
+) -> u64
     ensures kept { views.new.items ≡ filter (λ r. asks_for (selection_of selector.now) (view_of r)) views.old.items }
-    ensures told { ReportsEach (without_time_lines
-        (count_by (lacks_time (selection_of selector.now)) (map view_of views.old.items)))
-        (E.written errors.old) (E.written errors.new) }
+    ensures count { result ≡ count_by (lacks_time (selection_of selector.now)) (map view_of views.old.items) }
 {
-    report_without_time(count_without_time(views, selector), errors);
+    let count = count_without_time(views, selector);
     views.retain(|view| matches!(selector.asks_for(view), Answer::AskedFor));
+    count
 }
 
 /// Returns how many records of the channels that are asked for lack a time.
@@ -40,6 +43,95 @@ fn count_without_time(views: &[RecordView], selector: &Selector<'_>) -> u64
         }
     }
     count
+}
+
+/// Returns how many records of the channels that are asked for lack a time, of those that some bytes begin with, one
+/// after another.
+fn count_in_bytes(bytes: &[u8], selector: &Selector<'_>) -> u64
+    ensures { (views : List View) × (AreRecordsOf bytes.now views
+        × (result ≡ count_by (lacks_time (selection_of selector.now)) views)) }
+{
+    let mut count = 0;
+    let mut offset = 0;
+    while offset < bytes.len() {
+        let view = match RecordView::of(&bytes[offset..]) {
+            Ok(view) => view,
+            Err(_) => return count,
+        };
+        count += count_one(&view, selector);
+        offset += view.bytes().len();
+    }
+    count
+}
+
+/// Returns 1 for a record of a channel that is asked for that lacks a time, and 0 for any other.
+fn count_one(view: &RecordView, selector: &Selector<'_>) -> u64
+    ensures { result ≡ (if lacks_time (selection_of selector.now) (view_of view.now) then 1 else 0) }
+{
+    match selector.asks_for(view) {
+        Answer::NoTime => 1,
+        Answer::AskedFor | Answer::Left => 0,
+    }
+}
+
+/// Returns why an archive isn't packed of which these bytes were read before this fault. Where it is the input's, it is
+/// reported how many records lack a time before it.
+pub(crate) fn refuse_input<E: Sink>(
+    fault: StreamFault,
+    bytes: &[u8],
+    selector: &Selector<'_>,
+    errors: &mut E,
+) -> RepackFault
+    ensures fault { result ≡ stream_fault fault }
+    ensures reported { ReportsAtFault (selection_of selector.now) fault bytes.now (E.written errors.old)
+        (E.written errors.new) }
+{
+    match fault {
+        StreamFault::Memory => RepackFault::Memory,
+        fault => {
+            report_without_time(count_in_bytes(bytes, selector), errors);
+            RepackFault::Stream(fault)
+        }
+    }
+}
+
+/// Reports how many records lack a time once an archive was packed, or refused for a channel: where the output failed,
+/// or memory was refused, nothing.
+pub(crate) fn report_after<E: Sink>(
+    outcome: &Result<(), RepackFault>,
+    without_time: u64,
+    errors: &mut E,
+)
+    ensures { ReportsAfter outcome.now without_time (E.written errors.old) (E.written errors.new) }
+{
+    match outcome {
+        Err(RepackFault::Write | RepackFault::Memory) => {}
+        _ => report_without_time(without_time, errors),
+    }
+}
+
+/// Reports how many records lack a time before anything is written, where a channel is left out.
+pub(crate) fn report_if_left<E: Sink>(left: Left, without_time: u64, errors: &mut E)
+    ensures { ReportsIfLeft left without_time (E.written errors.old) (E.written errors.new) }
+{
+    match left {
+        Left::Nothing => {}
+        Left::Broken | Left::Misfit => report_without_time(without_time, errors),
+    }
+}
+
+/// Reports it afterwards, as [`report_after`] does, where no channel was left out.
+pub(crate) fn report_unless_left<E: Sink>(
+    outcome: &Result<Left, RepackFault>,
+    without_time: u64,
+    errors: &mut E,
+)
+    ensures { ReportsUnlessLeft outcome.now without_time (E.written errors.old) (E.written errors.new) }
+{
+    match outcome {
+        Ok(Left::Broken | Left::Misfit) | Err(RepackFault::Write | RepackFault::Memory) => {}
+        _ => report_without_time(without_time, errors),
+    }
 }
 
 /// Writes a line to `errors` that says how many records of the channels that are asked for lack a time, so that nobody

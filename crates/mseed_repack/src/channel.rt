@@ -13,8 +13,7 @@ use crate::plan::Plan;
 use crate::reading::count_steps;
 use crate::room::blank_steps;
 use crate::standing::{Standing, fit_stretches};
-use crate::unpacking::Unpacking;
-use crate::walk::{Part, Row, Walk};
+use crate::walk::{Row, Walk};
 use mseed_pack::{Options, Packer};
 use mseed_record::RecordView;
 use mseed_stream::Sink;
@@ -25,9 +24,9 @@ use std::alloc::Allocator;
 /// Packs the records of one channel, in their order, anew: stretch by stretch, each from its own start, with sequence
 /// numbers that run on. All stretches are known to fit before the first byte is written. Memory is requested
 /// before it, too: for how each stretch is packed, for all leap seconds, and for the samples of the largest stretch
-/// that goes by a list. A stretch goes from frames to frames, and no memory is requested for its samples, where its
-/// records are Steim, and so is what is written, no record has more than 7,056 samples, and it shows without reading
-/// them that each sample is the one before it plus a difference of 30 bits. There are at most 2^40 records.
+/// that goes by a list. A stretch goes from frames to frames, and memory is requested for 7,056 samples of it alone,
+/// where its records are Steim, and so is what is written, no record has more samples than that, and it shows without
+/// reading them that each sample is the one before it plus a difference of 30 bits. There are at most 2^40 records.
 ///
 /// # Errors
 ///
@@ -74,20 +73,7 @@ fn repack_planned<'a, R: Walk<'a>, W: Sink>(
     ensures { IsChannelRepacking options.now (R.left records) result (W.written output.old) (W.written output.new) }
 {
     let mut packer = Packer::new();
-    let mut unpacking = Unpacking::none(Part {
-        rest: records,
-        count: 0,
-    });
-    match pack_stretches(
-        records,
-        plans,
-        options,
-        samples,
-        steps,
-        &mut unpacking,
-        &mut packer,
-        output,
-    ) {
+    match pack_stretches(records, plans, options, samples, steps, &mut packer, output) {
         Ok(()) => Ok(()),
         Err(_) => Err(ChannelFault::Write),
     }

@@ -1,4 +1,5 @@
 //! How packing anew ends early.
+use mseed_audit::Finding;
 use mseed_pack::PackFault;
 use mseed_record::Codes;
 use mseed_stream::StreamFault;
@@ -9,8 +10,9 @@ use std::alloc::AllocError;
 pub enum RepackFault {
     /// The input failed, or doesn't end where a record ends.
     Stream(StreamFault),
-    /// The first channel, by its key, that isn't continuous; by stretches, of which a record has a finding of its own.
-    Broken(Codes),
+    /// The first channel, by its key, that isn't continuous, and its first finding; by stretches, the first of which a
+    /// record has a finding of its own, and the first such finding. Number and offset are those in all that was read.
+    Broken(Codes, Finding),
     /// The first channel, by its key, of which a stretch can't be packed; the number of its first such stretch, from
     /// 1; and why. A channel that is packed whole is one stretch.
     Misfit(Codes, u64, PackFault),

@@ -17,7 +17,7 @@ ghost use Rattle.mseed_repack.specs.Restretch.{ChannelFits, IsChannelPacked};
 ghost use Rattle.mseed_repack.specs.StretchesReadBack.{IsChannelReadBack, IsStretchedBack};
 ghost use Rattle.mseed_repack.specs.declared.fault.RepackFault.{RepackFault};
 
-use mseed_audit::{continuous_exactly, one_list_of_verdicts, one_series};
+use mseed_audit::{continuous_exactly, one_finding, one_list_of_verdicts, one_series};
 use mseed_pack::{archive_reads_back, one_misfit, one_packing, reads_back};
 use mseed_record::header_reads_back;
 use mseed_steim::one_reading;
@@ -36,6 +36,7 @@ pub fn one_repacking()
 {
     one_input();
     one_list_of_verdicts();
+    one_finding();
     one_series();
     one_packing();
     one_misfit();

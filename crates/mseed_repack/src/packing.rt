@@ -13,7 +13,6 @@ use crate::archive::Archive;
 use crate::plan::Plan;
 use crate::series::pack_series;
 use crate::standing::Standing;
-use crate::unpacking::Unpacking;
 use crate::walk::{Part, Walk, skip};
 use mseed_pack::{Options, Packer};
 use mseed_stream::{Failed, Sink};
@@ -43,14 +42,7 @@ pub(crate) fn pack_channels<A: Allocator, W: Sink>(
     ensures err { IfErr result (λ _. Wrote (PartsAs cutting options.now (map view_of archive.now.views.now)
         (kept_of archive.now.channels.now standings.now)) 1 (W.written output.old) (W.written output.new)) }
 {
-    if archive.channels.is_empty() {
-        return Ok(());
-    }
     let mut packer = Packer::new();
-    let mut unpacking = Unpacking::none(Part {
-        rest: archive.trail(0),
-        count: 0,
-    });
     for number in 0..archive.channels.len() {
         let trail = archive.trail(number);
         if let Standing::Fit = standings[number] {
@@ -60,7 +52,6 @@ pub(crate) fn pack_channels<A: Allocator, W: Sink>(
                 options,
                 samples,
                 steps,
-                &mut unpacking,
                 &mut packer,
                 output,
             ) {
@@ -91,7 +82,6 @@ pub(crate) fn pack_stretches<'a, R: Walk<'a>, W: Sink>(
     options: &Options,
     samples: &mut [i32],
     steps: &mut [(u64, LeapStep)],
-    unpacking: &mut Unpacking<'a, Part<R>>,
     packer: &mut Packer,
     output: &mut W,
 ) -> Result<(), Failed>
@@ -111,9 +101,7 @@ pub(crate) fn pack_stretches<'a, R: Walk<'a>, W: Sink>(
             rest,
             count: plan.records,
         };
-        match pack_series(
-            stretch, plan.way, &next, samples, steps, unpacking, packer, output,
-        ) {
+        match pack_series(stretch, plan.way, &next, samples, steps, packer, output) {
             Ok(written) => next = numbered_on(&next, written),
             Err(_) => return Err(Failed),
         }

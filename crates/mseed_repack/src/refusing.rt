@@ -1,22 +1,30 @@
 //! Channels that aren't packed: an archive is refused for them, or they are left out.
-ghost use Rattle.std.specs.Prelude.{◌≡◌, ◌<◌, ◌≤◌, List, length, take, false, All, IfNone, IfSome};
+ghost use Rattle.std.specs.Prelude.{◌≡◌, ◌<◌, ◌≤◌, ◌+◌, ◌++◌, ℕ, List, [], length, map, take, false, All};
+ghost use Rattle.std.specs.Prelude.{IfNone, IfSome};
 ghost use Rattle.std.specs.Prelude.{slice_index_or};
 ghost use Rattle.std.specs.List.{AllByRecursion};
-ghost use Rattle.mseed_record.specs.View.{View};
+ghost use Rattle.mseed_record.specs.Viewing.{view_of};
 ghost use Rattle.mseed_stream.specs.LineWritten.{WritesLine};
+ghost use Rattle.mseed_audit.specs.Channels.{Placed};
 ghost use Rattle.mseed_pack.specs.declared.options.Options.{Options};
-ghost use Rattle.mseed_repack.specs.ByStretches.{AreStandings, IsFit, ReportsEach, left_of, lines_of, misfit_line};
-ghost use Rattle.mseed_repack.specs.ByStretches.{broken_line, line_of, misfit_number, worse_of};
-ghost use Rattle.mseed_repack.specs.private.Restretching.{IsFirstRefused, IsNoMisfit, IsUnbroken};
+ghost use Rattle.mseed_repack.specs.ByStretches.{AreReported, AreStandings, IsFit, IsReportOf, ReportsEach};
+ghost use Rattle.mseed_repack.specs.ByStretches.{broken_line, broken_text, finding_line, left_of, misfit_line};
+ghost use Rattle.mseed_repack.specs.ByStretches.{misfit_number, worse_of};
+ghost use Rattle.mseed_repack.specs.private.Archives.{IsAudited};
+ghost use Rattle.mseed_repack.specs.private.Places.{ArePlaces};
+ghost use Rattle.mseed_repack.specs.private.Restretching.{AreUnsound, IsFirstRefused, IsNoMisfit, IsUnbroken};
 ghost use Rattle.mseed_repack.specs.declared.standing.Standing.{Standing};
 
+use crate::archive::Archive;
 use crate::fault::RepackFault;
+use crate::own::first_own;
+use crate::places::Places;
 use crate::standing::Standing;
-use mseed_audit::Verdict;
+use mseed_audit::{Finding, Verdict, put_why};
 use mseed_pack::PackFault;
 use mseed_record::Codes;
 use mseed_stream::{Sink, report};
-use mseed_text::Line;
+use mseed_text::{LONGEST_LINE, Line};
 
 /// What was left out, the worst of it.
 #[derive(Clone, Copy, Debug, PartialEq, Eq)]
@@ -33,12 +41,17 @@ pub enum Left {
 /// first that doesn't fit.
 pub(crate) fn refusal_unless(
     leave: bool,
-    channels: &[(Codes, Verdict)],
+    archive: &Archive<'_, '_>,
     standings: &[Standing],
+    places: &Places<'_, '_>,
 ) -> Option<RepackFault>
-    requires { length standings.now ≡ length channels.now }
-    ensures some { IfSome result (λ fault. (o : Options) (views : List View)
-        → AreStandings o views channels.now standings.now → IsFirstRefused o views channels.now fault) }
+    requires audited { IsAudited archive.now }
+    requires each { length standings.now ≡ length archive.now.channels.now }
+    requires unsound { AreUnsound (map view_of archive.now.views.now) archive.now.channels.now standings.now }
+    ensures some { IfSome result (λ fault. (o : Options) (ps : List Placed)
+        → ArePlaces places.now (map view_of archive.now.views.now) ps
+        → AreStandings o (map view_of archive.now.views.now) archive.now.channels.now standings.now
+        → IsFirstRefused o ps (map view_of archive.now.views.now) archive.now.channels.now fault) }
     ensures refuses { IfSome result (λ _. leave ≡ false) }
     ensures fit { IfNone result (leave ≡ false → AllByRecursion IsFit standings.now) }
 {
@@ -46,11 +59,12 @@ pub(crate) fn refusal_unless(
         return None;
     }
     if let Some(number) = first_broken(standings) {
-        return Some(RepackFault::Broken(channels[number].0));
+        let first = first_own(&archive.trail(number), places);
+        return Some(RepackFault::Broken(archive.channels[number].0, first));
     }
     match first_misfit(standings) {
         Some((number, stretch, fault)) => Some(RepackFault::Misfit(
-            channels[number].0,
+            archive.channels[number].0,
             stretch,
             fault,
         )),
@@ -97,7 +111,7 @@ pub(crate) fn report_left<E: Sink>(
     errors: &mut E,
 )
     requires { length standings.now ≡ length channels.now }
-    ensures { ReportsEach (lines_of channels.now standings.now) (E.written errors.old) (E.written errors.new) }
+    ensures { AreReported channels.now standings.now (E.written errors.old) (E.written errors.new) }
 {
     for (number, channel) in channels.iter().enumerate() {
         report_standing(&channel.0, &standings[number], errors);
@@ -106,24 +120,59 @@ pub(crate) fn report_left<E: Sink>(
 
 /// Writes a line to `errors` that says why a channel is left out, where it is.
 fn report_standing<E: Sink>(channel: &Codes, standing: &Standing, errors: &mut E)
-    ensures { ReportsEach (line_of channel.now standing.now) (E.written errors.old) (E.written errors.new) }
+    ensures { (lines : List (List ℕ)) × (IsReportOf channel.now standing.now lines
+        × ReportsEach lines (E.written errors.old) (E.written errors.new)) }
 {
     match *standing {
         Standing::Fit => {}
-        Standing::Broken => report_broken(channel, errors),
+        Standing::Broken => report_left_broken(channel, errors),
         Standing::Misfit(stretch, fault) => report_misfit(channel, stretch, fault, errors),
     }
 }
 
-/// Writes a line to `errors` that says that a channel is broken. A failure of `errors` is ignored.
-pub fn report_broken<E: Sink>(channel: &Codes, errors: &mut E)
+/// Writes a line to `errors` that says that a channel that is left out is broken. A failure of `errors` is ignored.
+fn report_left_broken<E: Sink>(channel: &Codes, errors: &mut E)
     ensures { WritesLine (broken_line channel.now) (E.written errors.old) (E.written errors.new) }
 {
     let mut line = Line::new();
+    put_broken(&mut line, channel);
+    report(errors, line.as_slice());
+}
+
+/// Writes a line to `errors` that says that a channel is broken, and one with a finding of a record of its, as an
+/// audit's text has it. A failure of `errors` is ignored.
+pub fn report_broken<E: Sink>(channel: &Codes, finding: &Finding, errors: &mut E)
+    ensures { WritesLine (broken_text channel.now finding.now) (E.written errors.old) (E.written errors.new) }
+{
+    let mut line = Line::new();
+    put_broken(&mut line, channel);
+    put_finding(&mut line, finding);
+    report(errors, line.as_slice());
+}
+
+/// Puts the line that says that a channel is broken into a line without text.
+fn put_broken(line: &mut Line, channel: &Codes)
+    requires { line.old ≡ [] }
+    ensures text { line.new ≡ broken_line channel.now }
+    ensures most { length line.new ≤ 64 }
+{
     line.put(b"mseed: ");
     line.put_name(channel);
     line.put(b" is broken\n");
-    report(errors, line.as_slice());
+}
+
+/// Puts the line with a finding at the end of a line.
+fn put_finding(line: &mut Line, finding: &Finding)
+    requires { length line.old + 118 ≤ LONGEST_LINE }
+    ensures { line.new ≡ line.old ++ finding_line finding.now }
+{
+    line.put(b"mseed: record ");
+    line.put_count(finding.number);
+    line.put(b" offset ");
+    line.put_count(finding.offset);
+    line.put(b" ");
+    put_why(line, &finding.why);
+    line.put(b"\n");
 }
 
 /// Writes a line to `errors` that says which stretch of a channel can't be packed, by its number, from 1, and why, by

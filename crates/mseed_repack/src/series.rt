@@ -1,6 +1,6 @@
 //! The series of some records: how it begins, whether it can be packed, and how it is written.
 ghost use Rattle.std.specs.Prelude.{◌≡◌, ◌≢◌, ◌<◌, ◌≤◌, ℤ, List, length, pos, slice_index_or, All, IfOk, IfSome};
-ghost use Rattle.std.specs.Prelude.{ℕ, IsTrue, Some, true};
+ghost use Rattle.std.specs.Prelude.{ℕ, IfErr, IsTrue, OnOk, Some, true};
 ghost use Rattle.mseed_record.specs.View.{View};
 ghost use Rattle.mseed_steim.specs.Spelling.{IsWithin};
 ghost use Rattle.mseed_audit.specs.Series.{AreJoined, IsSeriesOf};
@@ -10,7 +10,9 @@ ghost use Rattle.mseed_repack.specs.private.Outline.{AreHeld, IsKnown, says_near
 ghost use Rattle.mseed_repack.specs.private.Reading.{AreOf, CanBeRead, IsSoundWalk, samples_of};
 ghost use Rattle.mseed_repack.specs.private.Supplying.{AreCounted};
 ghost use Rattle.mseed_repack.specs.private.Planning.{AreOfAny, GoesBy, IsBegunBy, IsFitting, IsStretchWritten};
-ghost use Rattle.mseed_repack.specs.Repack.{StretchFits};
+ghost use Rattle.mseed_repack.specs.private.Planning.{room_of};
+ghost use Rattle.mseed_repack.specs.declared.unpacking.TheConstants.{ROOM};
+ghost use Rattle.mseed_repack.specs.Repack.{StretchFits, StretchMisfits};
 ghost use Rattle.mseed_repack.specs.declared.plan.Way.TheVariants.{Frames};
 ghost use Rattle.mseed_repack.specs.declared.series.Fitting.TheVariants.{Fits};
 
@@ -18,7 +20,7 @@ use crate::outline::{Nearness, Outline, nearness_before, outline_counted, outlin
 use crate::plan::Way;
 use crate::reading::read_records;
 use crate::room::make_room;
-use crate::unpacking::{Unpacking, first_sample, know_room};
+use crate::unpacking::{ROOM, Unpacking, first_sample};
 use crate::walk::Walk;
 use mseed_audit::one_series;
 use mseed_pack::{
@@ -40,8 +42,8 @@ pub(crate) enum Fitting {
 
 /// Returns whether the series of some records can be packed, and which way it goes. Where they are known to be plain,
 /// and to have so many samples, none of them is looked at but the first. The samples are read only where less doesn't
-/// show that they fit. Memory is requested only where the series goes by a list and needs more room than the list of
-/// samples has; where it goes from frames to frames, that list stays as it was.
+/// show that they fit. Memory is requested only where the list of samples is too short: for all samples of a series
+/// that goes by a list, and for those of one record where the series goes from frames to frames.
 ///
 /// # Errors
 ///
@@ -59,14 +61,16 @@ pub(crate) fn fit_series<'a, A: Allocator + Copy, R: Walk<'a>>(
     ensures fitting { IfOk result (λ fitting.
         IsFitting options.now (length samples.new.items) (R.left records) fitting) }
     ensures grown { IfOk result (λ _. length samples.old.items ≤ length samples.new.items) }
-    ensures kept { IfOk result (λ fitting.
-        (count : ℕ) → fitting ≡ Fits (Frames count) → samples.new.items ≡ samples.old.items) }
-    // The list grows to no more than this series has.
-    ensures exact { IfOk result (λ _. length samples.old.items < length samples.new.items
-        → length samples.new.items ≡ samples_of (R.left records)) }
+    // The list grows to no more than the way of this series wants.
+    ensures exact { IfOk result (λ fitting. length samples.old.items < length samples.new.items
+        → length samples.new.items ≡ room_of fitting (R.left records)) }
 {
     if let Some(count) = plain {
-        return Ok(fit_plain(records, count, options, steps));
+        if let Err(fault) = fit_plain(records, count, options, steps) {
+            return Ok(Fitting::Misfits(fault));
+        }
+        make_room(alloc, samples, ROOM)?;
+        return Ok(Fitting::Fits(Way::Frames(count)));
     }
     let outline = outline_records(records, nearness_before(options.encoding), steps);
     let head = head_of(records, outline.samples, &steps[..outline.steps]);
@@ -75,6 +79,7 @@ pub(crate) fn fit_series<'a, A: Allocator + Copy, R: Walk<'a>>(
     }
     let held = held_way(&outline, options.encoding);
     if let Some(Way::Frames(count)) = held {
+        make_room(alloc, samples, ROOM)?;
         return Ok(Fitting::Fits(Way::Frames(count)));
     }
     make_room(alloc, samples, outline.samples)?;
@@ -84,24 +89,26 @@ pub(crate) fn fit_series<'a, A: Allocator + Copy, R: Walk<'a>>(
     }
 }
 
-/// Returns whether the series of some records can be packed that are plain, and have so many samples: it goes from
-/// frames to frames.
+/// Tells whether the series of some records can be packed that are plain, and have so many samples: it goes from frames
+/// to frames, where there is room for the samples of one record.
+///
+/// # Errors
+///
+/// Why it can't be packed.
 fn fit_plain<'a, R: Walk<'a>>(
     records: R,
     count: usize,
     options: &Options,
     steps: &mut [(u64, LeapStep)],
-) -> Fitting
+) -> Result<(), PackFault>
     requires read { CanBeRead R.leads R.left records (length steps.old) }
     requires plain { AreCounted options.now.encoding count (R.left records) }
-    ensures { (room : ℕ) → IsFitting options.now room (R.left records) result }
+    ensures fits { OnOk result (IsFitting options.now ROOM (R.left records) (Fits (Frames count))) }
+    ensures misfits { IfErr result (λ fault. StretchMisfits options.now fault (R.left records)) }
 {
     let outline = outline_counted(records, count, steps);
     let head = head_of(records, outline.samples, &steps[..outline.steps]);
-    match fit_head(&head) {
-        Ok(()) => Fitting::Fits(Way::Frames(count)),
-        Err(fault) => Fitting::Misfits(fault),
-    }
+    fit_head(&head)
 }
 
 /// Returns which way a series of this outline goes whose samples the encoding surely holds, before they are read. It
@@ -148,7 +155,7 @@ fn fit_read<'a, R: Walk<'a>>(
 }
 
 /// Writes the records of a series that can be packed, by the way that it goes, and returns how many there are. Where it
-/// goes from frames to frames, no list is made of its samples.
+/// goes from frames to frames, no list is made of its samples: then the list is the room for those of one record.
 ///
 /// # Errors
 ///
@@ -159,7 +166,6 @@ pub(crate) fn pack_series<'a, R: Walk<'a>, W: Sink>(
     options: &Options,
     samples: &mut [i32],
     steps: &mut [(u64, LeapStep)],
-    unpacking: &mut Unpacking<'a, R>,
     packer: &mut Packer,
     output: &mut W,
 ) -> Result<u64, u128>
@@ -173,12 +179,8 @@ pub(crate) fn pack_series<'a, R: Walk<'a>, W: Sink>(
         Way::Frames(count) => {
             let borne = outline_counted(records, count, steps);
             let head = head_of(records, borne.samples, &steps[..borne.steps]);
-            know_room(&unpacking.room);
-            unpacking.rest = records;
-            unpacking.last = head.first;
-            unpacking.at = 0;
-            unpacking.end = 0;
-            packer.pack_supplied(&head, options, unpacking, output)
+            let mut unpacking = Unpacking::of(records, head.first, samples);
+            packer.pack_supplied(&head, options, &mut unpacking, output)
         }
         Way::Listed => {
             let stretch = beginning(records);

@@ -27,19 +27,19 @@ const LINE: usize = 64;
 const TOUCHED: usize = 8;
 
 /// The most differences of a record that is unpacked: as many as 1008 words hold, seven each.
-const ROOM: usize = 7 * 1008;
+pub(crate) const ROOM: usize = 7 * 1008;
 
 /// The differences of the samples of some records, each of Steim frames, of which no list is made. Each record is
-/// unpacked where its differences are wanted, or, where there isn't place for all of them, in a room, from which they
-/// are handed on.
+/// unpacked where its differences are wanted, or, where there isn't place for all of them, in a room that is lent, from
+/// which they are handed on.
 #[derive(Drop)]
-pub(crate) struct Unpacking<'a, R> {
+pub(crate) struct Unpacking<'r, 'a, R> {
     /// The records that weren't unpacked yet.
     pub(crate) rest: R,
     /// The last sample of those that were; or, where there is none, the first of those that come.
     pub(crate) last: i32,
     /// Room for the differences of any of the records.
-    pub(crate) room: [i32; ROOM],
+    pub(crate) room: &'r mut [i32],
     /// Where the differences in the room begin that weren't handed on yet.
     pub(crate) at: usize,
     /// Where they end.
@@ -50,8 +50,9 @@ pub(crate) struct Unpacking<'a, R> {
     pub(crate) records: PhantomData<RecordView<'a>>,
 }
 
-impl<'a, R: Walk<'a>> Supply for Unpacking<'a, R> {
-    ghost supplies = { λ s samples given. IsSupplied R.leads R.left s.rest s.last s.room s.at s.end samples given };
+impl<'r, 'a, R: Walk<'a>> Supply for Unpacking<'r, 'a, R> {
+    ghost supplies = { λ s samples given.
+        IsSupplied R.leads R.left s.rest s.last s.room.now s.at s.end samples given };
 
     fn fill(&mut self, out: &mut [i32]) -> usize {
         let (at, end, last) = (self.at, self.end, self.last);
@@ -69,7 +70,7 @@ impl<'a, R: Walk<'a>> Supply for Unpacking<'a, R> {
             self.last = unpack(&view, last, &mut out[..count]);
             return count;
         }
-        self.last = unpack(&view, last, &mut self.room[..count]);
+        self.last = unpack_into(&view, last, count, self.room);
         self.at = 0;
         self.end = count;
         let begun = self.hand_on(out);
@@ -85,13 +86,19 @@ impl<'a, R: Walk<'a>> Supply for Unpacking<'a, R> {
     }
 }
 
-impl<'a, R> Unpacking<'a, R> {
-    /// Nothing yet, with any records in place of those that come.
-    pub(crate) fn none(rest: R) -> Unpacking<'a, R> {
+impl<'r, 'a, R> Unpacking<'r, 'a, R> {
+    /// The differences of some records, of which none was unpacked, with their first sample, and a room.
+    pub(crate) fn of(rest: R, first: i32, room: &'r mut [i32]) -> Unpacking<'r, 'a, R>
+        ensures rest { result.rest ≡ rest }
+        ensures last { result.last ≡ first }
+        ensures room { result.room.now ≡ room.entry.now }
+        ensures at { result.at ≡ 0 }
+        ensures end { result.end ≡ 0 }
+    {
         Unpacking {
             rest,
-            last: 0,
-            room: [0; ROOM],
+            last: first,
+            room,
             at: 0,
             end: 0,
             touched: 0,
@@ -102,9 +109,9 @@ impl<'a, R> Unpacking<'a, R> {
     /// Hands on the differences in the room, as many as there are places for.
     fn hand_on(&self, out: &mut [i32]) -> usize
         requires order { self.now.at ≤ self.now.end }
-        requires inside { self.now.end ≤ length self.now.room }
+        requires inside { self.now.end ≤ length self.now.room.now }
         ensures count { result ≡ min (length out.old) (self.now.end - self.now.at) }
-        ensures items { take result out.new ≡ take result (drop self.now.at self.now.room) }
+        ensures items { take result out.new ≡ take result (drop self.now.at self.now.room.now) }
     {
         let count = out.len().min(self.end - self.at);
         out[..count].copy_from_slice(&self.room[self.at..self.at + count]);
@@ -132,11 +139,6 @@ fn touch(bytes: &[u8]) -> u8 {
     }
     touched
 }
-
-/// How long a room is.
-pub(crate) fn know_room(room: &[i32; ROOM])
-    ensures { length room.now ≡ ROOM }
-{}
 
 /// Whether a record is of Steim frames, and has no more differences than there is room for.
 pub(crate) fn is_unpackable(view: &RecordView) -> bool
@@ -174,6 +176,21 @@ fn unpack(view: &RecordView<'_>, before: i32, out: &mut [i32]) -> i32
     let last = unpack_differences(view, out).last;
     out[0] = difference_of(out[0], before);
     last
+}
+
+/// [`unpack`] to the beginning of a room, by how many samples the record has.
+fn unpack_into(view: &RecordView<'_>, before: i32, count: usize, room: &mut [i32]) -> i32
+    requires sound { IsSound (view_of view.now) }
+    requires steim { IsSteim (view_of view.now) }
+    requires count { count ≡ count_of (view_of view.now) }
+    requires places { count ≤ length room.old }
+    requires near { (s : List ℤ) → IsWhole (view_of view.now) s
+        → AllByRecursion (IsWithin 30) (differences_from before s) }
+    ensures differences { (s : List ℤ) → IsWhole (view_of view.now) s
+        → take count room.new ≡ differences_from before s }
+    ensures last { (s : List ℤ) → IsWhole (view_of view.now) s → last_after before s ≡ result }
+{
+    unpack(view, before, &mut room[..count])
 }
 
 /// How much a sample differs from the one before it.

@@ -9,7 +9,6 @@ use Rattle.mseed_audit.specs.Follows.{IsSound}
 use Rattle.mseed_stretches.specs.Clocks.{IsStretchAt}
 use Rattle.mseed_stretches.specs.Stretches.{AreStretches}
 use Rattle.mseed_stretches.specs.declared.stretch.Stretch.{Stretch}
-use Rattle.mseed_pack.specs.declared.fault.PackFault.{PackFault}
 use Rattle.mseed_pack.specs.Options.{IsSteim}
 use Rattle.mseed_steim.specs.declared.encoding.Encoding.{Encoding}
 use Rattle.mseed_pack.specs.declared.options.Options.{Options}
@@ -26,6 +25,7 @@ use Rattle.mseed_repack.specs.declared.series.Fitting.{Fitting}
 use Rattle.mseed_repack.specs.declared.series.Fitting.TheVariants.{Fits, Misfits}
 use Rattle.mseed_repack.specs.declared.standing.Standing.{Standing}
 use Rattle.mseed_repack.specs.declared.standing.Standing.TheVariants.{Fit, Broken, Misfit}
+use Rattle.mseed_repack.specs.declared.unpacking.TheConstants.{ROOM}
 use Rattle.mseed_repack.specs.declared.stretching.Cutting.{Cutting}
 use Rattle.mseed_repack.specs.declared.stretching.Cutting.TheVariants.{Whole, Stretches}
 
@@ -60,16 +60,22 @@ pub record IsReadable (places : ℕ) (s : List View) : Type 0 where
   pub few : length s ≤ 2 ^ 40
   pub steps_fit : steps_of s ≤ places
 
--- A stretch goes this way: from frames to frames, where its records can, and it has so many samples; or by a list,
--- where there is room for them.
+-- A stretch goes this way: from frames to frames, where its records can, it has so many samples, and there is room for
+-- those of one record; or by a list, where there is room for all.
 abbrev pub GoesBy : Encoding → ℕ → Way → List View → Type 0
-GoesBy encoding room (Frames count) s = IsSteim encoding × AreUnread s × (count ≡ samples_of s)
+GoesBy encoding room (Frames count) s = IsSteim encoding × AreUnread s × (count ≡ samples_of s) × (ROOM ≤ room)
 GoesBy encoding room Listed s = samples_of s ≤ room
 
 -- what is found of a series: it can be packed, and goes this way; or it can't, for this reason
 abbrev pub IsFitting : Options → ℕ → List View → Fitting → Type 0
 IsFitting o room s (Fits way) = StretchFits o s × GoesBy o.encoding room way s
 IsFitting o room s (Misfits fault) = StretchMisfits o fault s
+
+-- so many samples there has to be room for: by a list, and where only the samples show that they don't fit, for all
+abbrev pub room_of : Fitting → List View → ℕ
+room_of (Fits (Frames count)) s = ROOM
+room_of (Fits Listed) s = samples_of s
+room_of (Misfits fault) s = samples_of s
 
 -- the text is the records of stretches, whose sequence numbers run on
 pub record IsTextOn (o : Options) (ss : List (List View)) (text : List ℕ) : Type 0 where

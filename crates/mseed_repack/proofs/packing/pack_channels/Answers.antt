@@ -26,10 +26,10 @@ pack_stretches-requires g c κs =
     let t = c.trail-trail.result in
     let ps : List Plan = c.plans_at.result.now in
     let ready = ready_on c.args.archive.now c.args.standings.now (map (λ own. own.items) c.args.plans.now) l.number t ps
-    c.loop-number-test.true c.trail-trail.ensures c.plans_at.ensures c.requires.1.1.1 in (
+    c.loop-number-test.true c.trail-trail.ensures.trail c.plans_at.ensures c.requires.1.1.1 in (
       (refl, tt),
       (
-        c.trail-trail.ensures.led,
+        c.trail-trail.ensures.trail.led,
         written_on c.args.options.now (length c.args.samples.now) (length l.samples) (length c.args.steps.now)
             (length l.steps) ps (records_on t) (omega (arith, l.auto.samples)) (omega (arith, l.auto.steps))
             (ready.can c.in-Fit.is),
@@ -43,10 +43,10 @@ returns-in-Err-clause-err g c =
     let t = c.trail-trail.result in
     let ps : List Plan = c.plans_at.result.now in
     let ls = map (λ own. own.items) c.args.plans.now in
-    let ready = ready_on a c.args.standings.now ls k t ps c.loop-number-test.true c.trail-trail.ensures
+    let ready = ready_on a c.args.standings.now ls k t ps c.loop-number-test.true c.trail-trail.ensures.trail
     c.plans_at.ensures c.requires.1.1.1 in
     texts_part g.cutting a c.args.standings.now k t ps c.loop-number-test.true
-    (standing_each a.channels.now c.args.standings.now ls c.requires.1.1.1) c.in-Fit.is c.trail-trail.ensures
+    (standing_each a.channels.now c.args.standings.now ls c.requires.1.1.1) c.in-Fit.is c.trail-trail.ensures.trail
     (ready.cut c.in-Fit.is) c.loop-number.invariant c.in-Err.ensures.err
 
 pub loop-number-preserved : goal.loop-number-preserved
@@ -60,15 +60,15 @@ loop-number-preserved g c =
     elim c.match-standings-number.branch [
       | in-Fit+in-Ok w ↦
           let ps : List Plan = w.plans_at.result.now in
-          let ready = ready_on a ss ls k t ps c.loop-number-test.true c.trail-trail.ensures w.plans_at.ensures
+          let ready = ready_on a ss ls k t ps c.loop-number-test.true c.trail-trail.ensures.trail w.plans_at.ensures
           c.requires.1.1.1 in
           rw w.output-is
-          (texts_next g.cutting a ss k t ps c.loop-number-test.true size w.in-Fit.is c.trail-trail.ensures
+          (texts_next g.cutting a ss k t ps c.loop-number-test.true size w.in-Fit.is c.trail-trail.ensures.trail
           (ready.cut w.in-Fit.is) c.loop-number.invariant w.in-Ok.ensures.ok)
       | in_default w ↦
           rw w.output-is
           (texts_still g.cutting c.args.options.now a ss k t c.loop-number-test.true size w.in_default.not-Fit
-          c.trail-trail.ensures c.loop-number.invariant)
+          c.trail-trail.ensures.trail c.loop-number.invariant)
     ]
 
 pub returns-clause-ok : goal.returns-clause-ok

@@ -1,28 +1,54 @@
-use Rattle.std.proofs.Common.{subst}
+use Rattle.std.proofs.Common.{◌≤◌, ◌<◌, ◌^◌, ◌∙◌, ℕ, List, arith, length, map, subst, sym}
 use Rattle.std.proofs.lemmas.List.Elements.{recursion_from_All}
-use Rattle.mseed_repack.specs.ByStretches.{IsFit}
+use Rattle.mseed_record.specs.Viewing.{view_of}
+use Rattle.mseed_record.specs.declared.view.RecordView.{RecordView}
+use Rattle.mseed_audit.specs.Channels.{channel_in}
+use Rattle.mseed_repack.specs.ByStretches.{IsFirstOwn, IsFit}
 use Rattle.mseed_repack.specs.Repack.{Channel}
+use Rattle.mseed_repack.specs.private.Places.{ArePlaces}
 use Rattle.mseed_repack.specs.private.Restretching.{IsFirstRefused}
 use Rattle.mseed_repack.specs.declared.fault.RepackFault.TheVariants.{Broken, Misfit}
+use Rattle.mseed_repack.proofs.Archives.{all_on, channel_on, unsound_on}
 use Rattle.mseed_repack.proofs.Standings.{all_fit, refused_broken, refused_misfit}
 use Rattle.mseed_repack.proofs.refusing.refusal_unless.Goals as goal
 
+pub first_own-first-requires : goal.first_own-first-requires
+first_own-first-requires c =
+    let inside : c.in-Some.number < length c.args.archive.now.channels.now =
+    omega (arith, c.in-Some.ensures.inside, c.requires.each) in
+    record {
+      few = subst (λ (rs : List RecordView). length rs ≤ 2 ^ 40) (sym c.trail.ensures.views) c.requires.audited.few;
+      all = all_on c.args.archive.now c.in-Some.number c.trail.result c.trail.ensures.trail c.trail.ensures.views;
+      broken = unsound_on c.args.archive.now c.args.standings.now c.in-Some.number c.trail.result
+          c.trail.ensures.trail c.requires.unsound inside c.requires.each c.in-Some.ensures.some;
+    }
+
 pub returns-in-Some-clause-some : goal.returns-in-Some-clause-some
-returns-in-Some-clause-some c = λ o views all.
-    let r = c.index-channels-number.result in
-    subst (λ (d : Channel). IsFirstRefused o views c.args.channels.now (Broken d.0)) c.index-channels-number.is
-    (refused_broken o views c.args.channels.now c.args.standings.now c.in-Some.number r c.in-Some.ensures.inside
-    c.requires c.index-channels-number.is c.in-Some.ensures.some c.in-Some.ensures.before all)
+returns-in-Some-clause-some c = λ o ps at all.
+    let a = c.args.archive.now in
+    let r = c.index-archive-number.result in
+    let vs = map view_of a.views.now in
+    let w = c.trail.ensures.trail in
+    let inside : c.in-Some.number < length a.channels.now = omega (arith, c.in-Some.ensures.inside, c.requires.each) in
+    let here = subst (λ (rs : List RecordView). ArePlaces c.args.places.now (map view_of rs) ps)
+    (sym c.trail.ensures.views) at in
+    let own = subst (λ (key : List ℕ). IsFirstOwn (channel_in key ps) c.first_own-first.result) w.codes_are
+    (c.first_own-first.ensures ps here) in
+    let same = channel_on a c.in-Some.number c.trail.result r w inside c.index-archive-number.is in
+    subst (λ (d : Channel). IsFirstRefused o ps vs a.channels.now (Broken d.0 c.first_own-first.result))
+    (same ∙ c.index-archive-number.is)
+    (refused_broken o ps vs a.channels.now c.args.standings.now c.in-Some.number w.channel c.first_own-first.result
+    c.in-Some.ensures.inside c.requires.each w.at c.in-Some.ensures.some c.in-Some.ensures.before all own)
 
 pub returns-in-Some-first_misfit-clause-some : goal.returns-in-Some-first_misfit-clause-some
-returns-in-Some-first_misfit-clause-some c = λ o views all.
+returns-in-Some-first_misfit-clause-some c = λ o ps _ all.
+    let cs = c.args.archive.now.channels.now in
+    let vs = map view_of c.args.archive.now.views.now in
     let found = c.in-Some-first_misfit in
-    let r = c.index-channels-number-in-Some-first_misfit.result in
-    subst (λ (d : Channel). IsFirstRefused o views c.args.channels.now (Misfit d.0 found.stretch found.fault))
-    c.index-channels-number-in-Some-first_misfit.is
-    (refused_misfit o views c.args.channels.now c.args.standings.now found.number found.stretch found.fault r
-    found.ensures.inside c.requires c.index-channels-number-in-Some-first_misfit.is found.ensures.some
-    c.in_default.ensures.none found.ensures.before all)
+    let at = c.index-archive-number-in-Some-first_misfit in
+    subst (λ (d : Channel). IsFirstRefused o ps vs cs (Misfit d.0 found.stretch found.fault)) at.is
+    (refused_misfit o ps vs cs c.args.standings.now found.number found.stretch found.fault at.result
+    found.ensures.inside c.requires.each at.is found.ensures.some c.in_default.ensures.none found.ensures.before all)
 
 pub returns-in-None-clause-fit : goal.returns-in-None-clause-fit
 returns-in-None-clause-fit c = λ _.

@@ -4,8 +4,6 @@ use Rattle.mseed_repack.proofs.refusing.report_broken.Goals as goal
 
 pub returns : goal.returns
 returns g c =
-    let a1 = rw c.new-line.ensures at c.put.ensures.text in
-    let a2 = rw a1 at c.put_name.ensures.text in
-    let a3 = rw a2 at c.put-2.ensures.text in
+    let both = rw c.put_broken.ensures.text at c.put_finding.ensures in
     subst (λ line. WritesLine line (g.E.Sink.written c.args.errors.now) (g.E.Sink.written c.report.new.errors))
-    (c.as_slice.ensures ∙ a3) c.report.ensures
+    (c.as_slice.ensures ∙ both) c.report.ensures

@@ -1,10 +1,9 @@
-use Rattle.mseed_repack.specs.ByStretches.{silent}
 use Rattle.mseed_repack.specs.declared.standing.Standing.TheVariants.{Fit}
-use Rattle.mseed_repack.proofs.Standings.{tells_next}
+use Rattle.mseed_repack.proofs.Standings.{tells_next, tells_none}
 use Rattle.mseed_repack.proofs.refusing.report_left.Goals as goal
 
 pub loop-number-init : goal.loop-number-init
-loop-number-init g c = silent (g.E.Sink.written c.args.errors.now)
+loop-number-init g c = tells_none (g.E.Sink.written c.args.errors.now)
 
 pub loop-number-preserved : goal.loop-number-preserved
 loop-number-preserved g c =

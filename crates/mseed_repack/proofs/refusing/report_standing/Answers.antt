@@ -1,18 +1,21 @@
+use Rattle.std.proofs.Common.{refl, [], ◌∷◌}
 use Rattle.mseed_repack.specs.ByStretches.{broken_line, misfit_line, silent}
 use Rattle.mseed_repack.proofs.Standings.{tells_one}
 use Rattle.mseed_repack.proofs.refusing.report_standing.Goals as goal
 
 pub returns-in-Fit : goal.returns-in-Fit
-returns-in-Fit g c = rw c.in-Fit.is (silent (g.E.Sink.written c.args.errors.now))
+returns-in-Fit g c = rw c.in-Fit.is ([], (refl, silent (g.E.Sink.written c.args.errors.now)))
 
 pub returns-in-Broken : goal.returns-in-Broken
 returns-in-Broken g c =
-    let reported = tells_one (broken_line c.args.channel.now) (g.E.Sink.written c.args.errors.now)
-    (g.E.Sink.written c.report_broken.new.errors) c.report_broken.ensures in
-    rw c.in-Broken.is reported
+    let line = broken_line c.args.channel.now in
+    let reported = tells_one line (g.E.Sink.written c.args.errors.now)
+    (g.E.Sink.written c.report_left_broken.new.errors) c.report_left_broken.ensures in
+    rw c.in-Broken.is (line ∷ [], (refl, reported))
 
 pub returns-in-Misfit : goal.returns-in-Misfit
 returns-in-Misfit g c =
-    let reported = tells_one (misfit_line c.args.channel.now c.in-Misfit.stretch c.in-Misfit.fault)
-    (g.E.Sink.written c.args.errors.now) (g.E.Sink.written c.report_misfit.new.errors) c.report_misfit.ensures in
-    rw c.in-Misfit.is reported
+    let line = misfit_line c.args.channel.now c.in-Misfit.stretch c.in-Misfit.fault in
+    let reported = tells_one line (g.E.Sink.written c.args.errors.now) (g.E.Sink.written c.report_misfit.new.errors)
+    c.report_misfit.ensures in
+    rw c.in-Misfit.is (line ∷ [], (refl, reported))

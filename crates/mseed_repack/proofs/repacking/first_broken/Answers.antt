@@ -1,21 +1,36 @@
-use Rattle.std.proofs.Common.{arith, map}
+use Rattle.std.proofs.Common.{arith, map, ap, sym, refl, true, false}
 use Rattle.mseed_record.specs.Viewing.{view_of}
 use Rattle.mseed_audit.specs.Follows.{IsContinuous}
+use Rattle.mseed_audit.specs.Verdict.{says_continuous}
 use Rattle.mseed_repack.specs.Repack.{Channel, records_in}
-use Rattle.mseed_repack.proofs.Repacks.{all_passed, broken_at, continuous_next}
+use Rattle.mseed_repack.proofs.InPlaces.{first_number}
+use Rattle.mseed_repack.proofs.Repacks.{all_passed, broken_at, continuous_next, first_said}
 use Rattle.mseed_repack.proofs.repacking.first_broken.Goals as goal
 
-pub returns-then-not-is_continuous-clause-some : goal.returns-then-not-is_continuous-clause-some
-returns-then-not-is_continuous-clause-some c =
+pub returns-in-Some-clause-some : goal.returns-in-Some-clause-some
+returns-in-Some-clause-some c =
     broken_at (map view_of c.args.views.now) c.args.channels.now c.loop-channel.channel-index c.channel-item.result
-    c.is_continuous.result c.requires c.loop-channel-test.true c.channel-item.is
-    c.is_continuous.ensures c.if-not-is_continuous.true c.loop-channel.invariant
+    false c.requires c.loop-channel-test.true c.channel-item.is (sym (ap says_continuous c.in-Some.ensures.some.1)) refl
+    c.loop-channel.invariant
+
+pub returns-in-Some-clause-first : goal.returns-in-Some-clause-first
+returns-in-Some-clause-first c =
+    first_said (map view_of c.args.views.now) c.args.channels.now c.loop-channel.channel-index c.channel-item.result
+    c.in-Some.first c.in-Some.ensures.some.0 c.requires c.loop-channel-test.true c.channel-item.is
+    c.in-Some.ensures.some.1
+
+pub returns-in-Some-clause-number : goal.returns-in-Some-clause-number
+returns-in-Some-clause-number c =
+    first_number c.channel-item.result.0 (map view_of c.args.views.now) c.in-Some.first
+    (first_said (map view_of c.args.views.now) c.args.channels.now c.loop-channel.channel-index c.channel-item.result
+    c.in-Some.first c.in-Some.ensures.some.0 c.requires c.loop-channel-test.true c.channel-item.is
+    c.in-Some.ensures.some.1)
 
 pub loop-channel-preserved : goal.loop-channel-preserved
 loop-channel-preserved c =
     continuous_next (map view_of c.args.views.now) c.args.channels.now c.loop-channel.channel-index
-    c.channel-item.result c.is_continuous.result c.requires c.loop-channel-test.true c.channel-item.is
-    c.is_continuous.ensures c.if-not-is_continuous.false c.loop-channel.invariant
+    c.channel-item.result true c.requires c.loop-channel-test.true c.channel-item.is
+    (sym c.in_default.ensures.none) refl c.loop-channel.invariant
 
 pub returns-clause-none : goal.returns-clause-none
 returns-clause-none c =

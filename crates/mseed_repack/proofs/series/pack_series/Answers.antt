@@ -1,4 +1,4 @@
-use Rattle.std.proofs.Common.{arith, length, refl, rules, subst, to_z, of_z, w32}
+use Rattle.std.proofs.Common.{arith, length, refl, rules, subst, w32, ◌∙◌}
 use Rattle.std.proofs.lemmas.Int.{to_z-of_z}
 use Rattle.mseed_audit.specs.Series.{Trace}
 use Rattle.mseed_pack.specs.Fitting.{Fits}
@@ -7,7 +7,7 @@ use Rattle.mseed_repack.specs.private.Planning.{GoesBy}
 use Rattle.mseed_repack.specs.declared.plan.Way.{Way}
 use Rattle.mseed_repack.proofs.Planning.{emitted, emitted_supplied}
 use Rattle.mseed_repack.proofs.Stretched.{head_places}
-use Rattle.mseed_repack.proofs.Supplied.{has_supply}
+use Rattle.mseed_repack.proofs.Supplied.{has_supply, supplied_as}
 use Rattle.mseed_repack.proofs.series.pack_series.Goals as goal
 
 pub outline_counted-borne-requires : goal.outline_counted-borne-requires
@@ -22,14 +22,16 @@ pack_supplied-requires g c =
     let h = c.outline_counted-borne.ensures.outline head.codes in
     let goes = subst (λ (way : Way). GoesBy c.args.options.now.encoding (length c.args.samples.now) way
     (g.R.Walk.left c.args.records)) c.in-Frames.is c.requires.goes in
-    let p = has_supply head (to_z w32 (of_z w32 head.first)) c.args.options.now c.args.unpacking.now.room h goes.1
-    c.requires.read.walks (c.head_of-head.ensures.series h.samples h.are) c.head_of-head.ensures.count
-    (omega (arith, c.know_room.ensures)) (to_z-of_z w32 _ (search rules)) c.head_of-head.ensures.first c.requires.fits
-    c.one_series.ensures.series in
+    let p = has_supply head head.first c.args.options.now c.args.samples.now h goes.1 c.requires.read.walks
+    (c.head_of-head.ensures.series h.samples h.are) c.head_of-head.ensures.count (omega (arith, goes.3)) refl
+    c.head_of-head.ensures.first c.requires.fits c.one_series.ensures.series in
+    let last = c.of-unpacking.ensures.last ∙ to_z-of_z w32 _ (search rules) in
+    let supplied = supplied_as p.supplied c.of-unpacking.ensures.rest last c.of-unpacking.ensures.room
+    c.of-unpacking.ensures.at c.of-unpacking.ensures.end in
     record {
       steim = goes.0;
       steps = head_places _ _ _ _ c.head_of-head.ensures.count c.head_of-head.ensures.steps h.places;
-      supplied = (p.samples, record { supplied = p.supplied; count = p.count; first = p.first_is; fits = p.fits });
+      supplied = (p.samples, record { supplied = supplied; count = p.count; first = p.first_is; fits = p.fits });
     }
 
 pub returns-in-Frames : goal.returns-in-Frames
@@ -38,13 +40,15 @@ returns-in-Frames g c =
     let h = c.outline_counted-borne.ensures.outline head.codes in
     let goes = subst (λ (way : Way). GoesBy c.args.options.now.encoding (length c.args.samples.now) way
     (g.R.Walk.left c.args.records)) c.in-Frames.is c.requires.goes in
-    let p = has_supply head (to_z w32 (of_z w32 head.first)) c.args.options.now c.args.unpacking.now.room h goes.1
-    c.requires.read.walks (c.head_of-head.ensures.series h.samples h.are) c.head_of-head.ensures.count
-    (omega (arith, c.know_room.ensures)) (to_z-of_z w32 _ (search rules)) c.head_of-head.ensures.first c.requires.fits
-    c.one_series.ensures.series in
+    let p = has_supply head head.first c.args.options.now c.args.samples.now h goes.1 c.requires.read.walks
+    (c.head_of-head.ensures.series h.samples h.are) c.head_of-head.ensures.count (omega (arith, goes.3)) refl
+    c.head_of-head.ensures.first c.requires.fits c.one_series.ensures.series in
+    let last = c.of-unpacking.ensures.last ∙ to_z-of_z w32 _ (search rules) in
+    let supplied = supplied_as p.supplied c.of-unpacking.ensures.rest last c.of-unpacking.ensures.room
+    c.of-unpacking.ensures.at c.of-unpacking.ensures.end in
     emitted_supplied c.args.options.now (g.R.Walk.left c.args.records) head p.samples _ c.pack_supplied.result
     (g.W.Sink.written c.args.output.now) (g.W.Sink.written c.pack_supplied.new.sink)
-    (record { supplied = p.supplied; count = p.count; first = p.first_is; fits = p.fits }) p.series
+    (record { supplied = supplied; count = p.count; first = p.first_is; fits = p.fits }) p.series
     c.pack_supplied.ensures.ok c.pack_supplied.ensures.err
 
 pub pack_fitting-requires-clause-fits : goal.pack_fitting-requires-clause-fits

@@ -28,15 +28,15 @@ stand-requires g c κs =
     let t = c.trail.result in
     let d : Channel = c.channel-item.result in
     let views : List View = map view_of a.views.now in
-    let own = of_channel a l.number t d c.loop-number-test.true c.channel-item.is c.trail.ensures in
+    let own = of_channel a l.number t d c.loop-number-test.true c.channel-item.is c.trail.ensures.trail in
     let fits = steps_gathered d.0 (records_on t) views (length c.args.steps.now) own c.requires.places.steps_fit in (
       (refl, tt),
       (
-        c.trail.ensures.led,
+        c.trail.ensures.trail.led,
         (
-          few_trail a l.number t c.trail.ensures c.requires.places.audited,
+          few_trail a l.number t c.trail.ensures.trail c.requires.places.audited,
           (
-            λ whole. some_on a l.number t c.loop-number-test.true c.trail.ensures (c.requires.whole whole),
+            λ whole. some_on a l.number t c.loop-number-test.true c.trail.ensures.trail (c.requires.whole whole),
             (
               λ known. ⊎_elim
                   (λ sound. subst (AllByRecursion IsSound) (sym own)
@@ -82,7 +82,8 @@ loop-number-preserved g c =
     let all = ap (λ ls. map (λ own. own.items) ls) c.in_ok-push-2.ensures.items in
     let parts = map-append (λ own. own.items) l.plans.items (_ ∷ []) in
     let same : records_on c.trail.result ≡ records_in views d.0 =
-    of_channel c.args.archive.now l.number c.trail.result d c.loop-number-test.true c.channel-item.is c.trail.ensures
+    of_channel c.args.archive.now l.number c.trail.result d c.loop-number-test.true c.channel-item.is
+    c.trail.ensures.trail
     ∙ sym (views_are d.0 views) in
     let next : take l.number cs ++ d ∷ [] ≡ take (l.number + 1) cs =
     ap (λ (e : Channel). take l.number cs ++ e ∷ []) c.channel-item.is

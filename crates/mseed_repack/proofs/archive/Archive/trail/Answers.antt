@@ -4,8 +4,8 @@ use Rattle.mseed_audit.proofs.Following.{views_are}
 use Rattle.mseed_repack.proofs.Trails.{nexts_after, trail_at}
 use Rattle.mseed_repack.proofs.archive.Archive.trail.Goals as goal
 
-pub returns : goal.returns
-returns c =
+pub returns-clause-trail : goal.returns-clause-trail
+returns-clause-trail c =
     let a = c.args.self.now in
     let channel = c.index-channels-number.result in
     let laid = c.requires.audited.laid in

@@ -31,8 +31,8 @@ returns-then-count-out-clause-next g c = λ samples given h.
     (λ s whole. rw same at (c.unpack-self.ensures.differences s whole))
     (λ s whole. (rw same at (c.unpack-self.ensures.last s whole)) ∙ sym (to_z-of_z w32 _ (search rules)))
 
-pub unpack-self-requires-2-clause-near : goal.unpack-self-requires-2-clause-near
-unpack-self-requires-2-clause-near g c = λ s whole.
+pub unpack_into-self-requires-clause-near : goal.unpack_into-self-requires-clause-near
+unpack_into-self-requires-clause-near g c = λ s whole.
     let found = next_of_supply c.requires.1.1 c.if-at-end.false c.in-Some.ensures.next in
     let same : to_z w32 (of_z w32 c.args.self.now.last) ≡ c.args.self.now.last = to_z-of_z w32 _ (search rules) in
     rw (same, only_one (view_of c.in-Some.view) found.s s found.sound found.whole whole) found.near
@@ -41,8 +41,9 @@ pub returns-clause-next : goal.returns-clause-next
 returns-clause-next g c = λ samples given h.
     let same : to_z w32 (of_z w32 c.args.self.now.last) ≡ c.args.self.now.last = to_z-of_z w32 _ (search rules) in
     room_given h c.if-at-end.false c.in-Some.ensures.next c.in-Some.ensures.leads
-    (to_z w32 (of_z w32 c.unpack-self-2.result)) c.unpack-self-2.new.out c.hand_on-begun.new.out c.from-count.result
-    c.hand_on-begun.result (c.from-count.ensures ∙ c.samples.ensures)
-    (λ s whole. rw same at (c.unpack-self-2.ensures.differences s whole))
-    (λ s whole. (rw same at (c.unpack-self-2.ensures.last s whole)) ∙ sym (to_z-of_z w32 _ (search rules)))
+    (to_z w32 (of_z w32 c.unpack_into-self.result)) c.unpack_into-self.new.room c.hand_on-begun.new.out
+    c.from-count.result c.hand_on-begun.result (c.from-count.ensures ∙ c.samples.ensures)
+    (omega (arith, c.unpack_into-self.auto.room))
+    (λ s whole. rw same at (c.unpack_into-self.ensures.differences s whole))
+    (λ s whole. (rw same at (c.unpack_into-self.ensures.last s whole)) ∙ sym (to_z-of_z w32 _ (search rules)))
     (omega (arith, c.hand_on-begun.ensures.count, c.hand_on-begun.auto.out)) c.hand_on-begun.ensures.items

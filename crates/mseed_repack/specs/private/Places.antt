@@ -1,0 +1,48 @@
+-- Where records that are packed stand in what was read.
+use Rattle.std.specs.Prelude.{◌≡◌, ℕ, List, [], ◌∷◌, ◌++◌, length, None, Some, true}
+use Rattle.std.specs.List.{AllByRecursion}
+use Rattle.mseed_record.specs.View.{View, IsView}
+use Rattle.mseed_stream.specs.Archive.{IsArchive}
+use Rattle.mseed_stream.specs.Walk.{bytes_in}
+use Rattle.mseed_select.specs.Selecting.{selection_of}
+use Rattle.mseed_audit.specs.Channels.{Placed, is_of, views_in}
+use Rattle.mseed_audit.specs.Follows.{IsSound}
+use Rattle.mseed_audit.specs.Judging.{IsFound}
+use Rattle.mseed_audit.specs.Scope.{asked_of, placed_of}
+use Rattle.mseed_audit.specs.declared.finding.Finding.{Finding}
+use Rattle.mseed_repack.specs.private.Reading.{channel_in}
+use Rattle.mseed_repack.specs.declared.places.Places.{Places}
+use Rattle.mseed_repack.specs.declared.places.Places.TheVariants.{All, Asked}
+
+-- the bytes are these records, one after another, and nothing else
+pub record AreAllOf (bytes : List ℕ) (views : List View) : Type 0 where
+  pub archive : IsArchive bytes (bytes_in views) []
+  pub each : AllByRecursion IsView views
+
+-- the records that are packed, each at its place in what was read
+abbrev pub ArePlaces : Places → List View → List Placed → Type 0
+ArePlaces All vs ps = ps ≡ placed_of vs
+ArePlaces (Asked bytes selector) vs ps =
+    (views : List View) × (AreAllOf bytes.now views × (ps ≡ asked_of (selection_of selector.now) views)
+    × (views_in ps ≡ vs))
+
+-- what is found stands at the record with this index, from 0
+pub record StandsAt (ps : List Placed) (index : ℕ) (f : Finding) : Type 0 where
+  pub leading : List Placed
+  pub at : Placed
+  pub back : List Placed
+  pub parts : ps ≡ leading ++ at ∷ back
+  pub index_is : length leading ≡ index
+  pub number : f.number ≡ at.number
+  pub offset : f.offset ≡ at.offset
+
+-- the record with this index is the first of the channel that has a finding of its own, which is this one
+pub record IsOwnAt (key : List ℕ) (vs : List View) (index : ℕ) (f : Finding) : Type 0 where
+  pub leading : List View
+  pub at : View
+  pub back : List View
+  pub parts : vs ≡ leading ++ at ∷ back
+  pub index_is : length leading ≡ index
+  pub of : is_of key at ≡ true
+  pub sound : AllByRecursion IsSound (channel_in key leading)
+  pub found : IsFound None at (Some f.why)
