@@ -12,12 +12,15 @@ use Rattle.mseed_join.specs.declared.joint.Place.{Place}
 use Rattle.mseed_join.specs.declared.joint.Place.TheVariants.{Start, Channels, Whole}
 use Rattle.mseed_join.specs.declared.joint.Reported.{Reported}
 use Rattle.mseed_join.specs.declared.reader.Reader.{Reader}
+use Rattle.mseed_join.specs.declared.flaw.Flaw.{Flaw}
+use Rattle.mseed_join.specs.declared.flaw.Flaw.TheVariants.{Long, Unended as NoEnd, Missing}
+use Rattle.mseed_join.specs.Flaws.{IsFlaw, IsFlawOf}
 use Rattle.mseed_join.specs.Joined.{AreLines, Begins, HasNoEnd, IsBadLine, IsJointOf, IsOfOneLine, HasNoBadLine}
 use Rattle.mseed_join.specs.Reached.{OpenPart, Stage, IsStage, none, begun, whole, open_part, AreReported}
 use Rattle.mseed_join.specs.Reached.{parts_at, passed_lines, start, open_text}
 use Rattle.mseed_join.specs.ReadParts.{written_of}
 use Rattle.mseed_join.specs.Written.{Written, Spells, channel_lines, part_text, texts}
-use Rattle.mseed_join.specs.private.Along.{HasEnded, IsAlong, IsBadAfter, IsStoppedAt, can_end, is_over}
+use Rattle.mseed_join.specs.private.Along.{HasEnded, IsAlong, IsBadAfter, IsStoppedAt, can_end, flaw_of, is_over}
 use Rattle.mseed_join.specs.private.LineReading.{GoesOn, Grows, IsLineAhead, IsOpen, IsReadBy, LiesAhead, LinesRead}
 use Rattle.mseed_join.specs.private.Taking.{IsPlace, IsReadTo, IsTaken}
 use Rattle.mseed_join.proofs.Ahead.{IsAhead, ahead, too_long}
@@ -201,16 +204,17 @@ stops past h now s lines j l = record {
 
 -- the first bytes that are held are wrong
 pub wrong_line : {A : Type 0} → (past : Bool) (h now : BytesRead) (s : Stage) (lines : LinesRead) (j : Joint A)
-    (n : ℕ) → (l : IsLooked past h now s lines j) → IsOfOneLine (take n lines.held)
-    → (Begins past (l.by.passed ++ take n lines.held) → ⊥)
-    → IsBadAfter past h now s (lines.lines + 1) (length l.by.passed)
-wrong_line past h now s lines j n l one refused = record {
+    (n : ℕ) (flaw : Flaw) → (l : IsLooked past h now s lines j) → IsOfOneLine (take n lines.held)
+    → (Begins past (l.by.passed ++ take n lines.held) → ⊥) → IsFlaw flaw s.last lines.held now.is_at_end
+    → IsBadAfter past h now s (lines.lines + 1) (length l.by.passed) flaw
+wrong_line past h now s lines j n flaw l one refused why = record {
   stopped = stops past h now s lines j l;
   bad = IsBadLine.wrong l.by.passed (take n lines.held) (drop n lines.held) lines.lines
       (ap (λ (t : List ℕ). l.by.passed ++ t) (sym (take-append-drop n lines.held))
       ∙ sym (append_assoc l.by.passed (take n lines.held) (drop n lines.held))) l.by.lines
       (begun_so past h now s lines j l) one refused;
   number = refl;
+  flaw_is = why;
 }
 
 -- and none that was held is bad
@@ -233,20 +237,21 @@ fails past h now s lines j l held = (
 
 long_line : {A : Type 0} → (past : Bool) (h now : BytesRead) (s : Stage) (lines : LinesRead) (j : Joint A)
     → (l : IsLooked past h now s lines j) → HasNoEnd (take 512 lines.held) → 512 ≤ length lines.held
-    → IsBadAfter past h now s (lines.lines + 1) (length l.by.passed)
+    → IsBadAfter past h now s (lines.lines + 1) (length l.by.passed) Long
 long_line past h now s lines j l no_end long =
-    wrong_line past h now s lines j 512 l (IsOfOneLine.begun (take 512 lines.held) no_end)
+    wrong_line past h now s lines j 512 Long l (IsOfOneLine.begun (take 512 lines.held) no_end)
     (too_long past s l.by.passed (take 512 lines.held) l.read.stage no_end
-    (omega (arith, long, length-take 512 lines.held)))
+    (omega (arith, long, length-take 512 lines.held))) (IsFlaw.long s.last lines.held now.is_at_end no_end long)
 
 unended_line : {A : Type 0} → (past : Bool) (h now : BytesRead) (s : Stage) (lines : LinesRead) (j : Joint A)
     → (l : IsLooked past h now s lines j) → now.is_at_end ≡ true → HasNoEnd lines.held → lines.held ≢ []
-    → IsBadAfter past h now s (lines.lines + 1) (length l.by.passed)
-unended_line past h now s lines j l at_end no_end some = record {
+    → length lines.held < 512 → IsBadAfter past h now s (lines.lines + 1) (length l.by.passed) NoEnd
+unended_line past h now s lines j l at_end no_end some short = record {
   stopped = stops past h now s lines j l;
   bad = IsBadLine.unended l.by.passed lines.held lines.lines at_end refl l.by.lines
       (begun_so past h now s lines j l) some no_end;
   number = refl;
+  flaw_is = IsFlaw.unended s.last lines.held now.is_at_end at_end some no_end short;
 }
 
 -- nothing is held
@@ -270,14 +275,24 @@ stops_all past h now s lines j l held = record {
   };
 }
 
+-- a part has begun here
+missing_at : (place : Place) (b : OpenPart) (at_end : Bool) → IsPlace place b → can_end place ≡ false → at_end ≡ true
+    → IsFlaw Missing b [] at_end
+missing_at Start b at_end p e ended = absurd (let no : true ≡ false = e in cc no)
+missing_at (Channels last) none at_end p e ended = absurd p
+missing_at (Channels last) (begun channels) at_end p e ended = IsFlaw.missing channels at_end ended
+missing_at (Channels last) (whole w) at_end p e ended = absurd p
+missing_at (Whole bytes has) b at_end p e ended = absurd (let no : true ≡ false = e in cc no)
+
 lacking : {A : Type 0} → (past : Bool) (h now : BytesRead) (s : Stage) (lines : LinesRead) (j : Joint A)
     → (l : IsLooked past h now s lines j) → now.is_at_end ≡ true → lines.held ≡ [] → can_end j.place ≡ false
-    → IsBadAfter past h now s (lines.lines + 1) (length l.by.passed)
+    → IsBadAfter past h now s (lines.lines + 1) (length l.by.passed) Missing
 lacking past h now s lines j l at_end held e = record {
   stopped = stops_all past h now s lines j l held;
   bad = IsBadLine.lacks lines.lines at_end l.by.lines (begun_so past h now s lines j l)
       (lacks l.by.passed s j l.read e);
   number = refl;
+  flaw_is = missing_at j.place s.last now.is_at_end l.read.place e at_end;
 }
 
 has_ended : {A : Type 0} → (past : Bool) (h now : BytesRead) (s : Stage) (r : Reader A)
@@ -302,10 +317,10 @@ over_at past h now s r Nothing l lies e = has_ended past h now s r l lies.0 lies
 
 pub bad_at : {A : Type 0} → (past : Bool) (h now : BytesRead) (s : Stage) (lines : LinesRead) (j : Joint A) (a : Ahead)
     → (l : IsLooked past h now s lines j) → LiesAhead a lines now.is_at_end → a ≢ WholeLine
-    → is_over a j.place ≡ false → IsBadAfter past h now s (lines.lines + 1) (length l.by.passed)
+    → is_over a j.place ≡ false → IsBadAfter past h now s (lines.lines + 1) (length l.by.passed) (flaw_of a)
 bad_at past h now s lines j WholeLine l lies other e = absurd (other refl)
 bad_at past h now s lines j TooLong l lies other e = long_line past h now s lines j l lies.0 lies.1
-bad_at past h now s lines j Unended l lies other e = unended_line past h now s lines j l lies.0 lies.1 lies.2
+bad_at past h now s lines j Unended l lies other e = unended_line past h now s lines j l lies.0 lies.1 lies.2 lies.3
 bad_at past h now s lines j Nothing l lies other e = lacking past h now s lines j l lies.0 lies.1 e
 
 -- ---- a line that was taken
@@ -328,24 +343,36 @@ line_taken past h now s t line lines after j r report l same held c goes taken =
 -- a bad line is the one after those that were passed
 -- it begins where what was passed ends
 pub bad_next : (past : Bool) (h now : BytesRead) (s : Stage) (lines : LinesRead) (by : IsReadBy h now lines)
-    (n offset : ℕ) → n ≡ lines.lines → offset + length lines.held ≡ lines.bytes
-    → IsBadAfter past h now s (lines.lines + 1) (length by.passed) → IsBadAfter past h now s (n + 1) offset
-bad_next past h now s lines by n offset same place bad =
+    (n offset : ℕ) (flaw : Flaw) → n ≡ lines.lines → offset + length lines.held ≡ lines.bytes
+    → IsBadAfter past h now s (lines.lines + 1) (length by.passed) flaw → IsBadAfter past h now s (n + 1) offset flaw
+bad_next past h now s lines by n offset flaw same place bad =
     let there : offset ≡ length by.passed = omega (arith, place, by.bytes) in
-    subst (λ (m : ℕ). IsBadAfter past h now s (n + 1) m) (sym there)
-    (subst (λ (k : ℕ). IsBadAfter past h now s (k + 1) (length by.passed)) (sym same) bad)
+    subst (λ (m : ℕ). IsBadAfter past h now s (n + 1) m flaw) (sym there)
+    (subst (λ (k : ℕ). IsBadAfter past h now s (k + 1) (length by.passed) flaw) (sym same) bad)
 
 -- a whole line that is refused
 pub whole_line : {A : Type 0} → (past : Bool) (h now : BytesRead) (s : Stage) (lines : LinesRead) (j : Joint A)
-    (line : List ℕ) → (l : IsLooked past h now s lines j) → IsLineAhead lines.size lines.held
-    → line ≡ take lines.size lines.held → (Begins j.past (l.by.passed ++ line) → ⊥)
-    → IsBadAfter past h now s (lines.lines + 1) (length l.by.passed)
-whole_line past h now s lines j line l a same refused =
+    (line : List ℕ) (flaw : Flaw) → (l : IsLooked past h now s lines j) → IsLineAhead lines.size lines.held
+    → line ≡ take lines.size lines.held → (Begins j.past (l.by.passed ++ line) → ⊥) → IsFlawOf flaw s.last line
+    → IsBadAfter past h now s (lines.lines + 1) (length l.by.passed) flaw
+whole_line past h now s lines j line flaw l a same refused why =
     let whole_one : IsOfOneLine (take lines.size lines.held) =
     subst IsOfOneLine (sym a.line.2) (IsOfOneLine.whole a.line.0 a.line.1) in
-    wrong_line past h now s lines j lines.size l whole_one
+    let split : lines.held ≡ (a.line.0 ++ 10 ∷ []) ++ drop lines.size lines.held =
+    sym (take-append-drop lines.size lines.held)
+    ∙ ap (λ (t : List ℕ). t ++ drop lines.size lines.held) a.line.2 in
+    let few : length a.line.0 < 512 = omega (
+      arith,
+      a.short,
+      ap length a.line.2,
+      length-append a.line.0 (10 ∷ []),
+      length-take lines.size lines.held,
+    ) in
+    wrong_line past h now s lines j lines.size flaw l whole_one
     (λ b. refused (subst (λ (t : List ℕ). Begins j.past (l.by.passed ++ t)) (sym same)
     (subst (λ (p : Bool). Begins p (l.by.passed ++ take lines.size lines.held)) (sym l.past_is) b)))
+    (IsFlaw.line flaw s.last a.line.0 (drop lines.size lines.held) lines.held now.is_at_end a.line.1 few split
+    (subst (λ (t : List ℕ). IsFlawOf flaw s.last t) (same ∙ a.line.2) why))
 
 -- a line isn't empty, so there was a read
 pub some_read : (h now : BytesRead) (lines : LinesRead) → IsReadBy h now lines → IsLineAhead lines.size lines.held

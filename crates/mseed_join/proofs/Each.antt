@@ -18,6 +18,7 @@ use Rattle.mseed_join.specs.declared.reader.PartsFault.TheVariants.{Line as BadL
 use Rattle.mseed_join.specs.declared.reader.PartsFault.TheVariants.{Stream as Unread, Memory as NoMemory}
 use Rattle.mseed_join.specs.declared.reader.Reader.{Reader}
 use Rattle.mseed_join.specs.Borders.{AreBorders, AreBordersOf, Border, border_lines}
+use Rattle.mseed_join.specs.Flaws.{IsFlaw}
 use Rattle.mseed_join.specs.Joined.{HasNoBadLine, IsBadLine, join_text}
 use Rattle.mseed_join.specs.Joins.{IsAnswer, refusal}
 use Rattle.mseed_join.specs.JoinsEach.{AreEachTo, IsJoinEachOutcome, IsReadEach}
@@ -34,7 +35,7 @@ use Rattle.mseed_join.proofs.Bordering.{lines_append}
 -- by any step that ends reading
 stopped_by : {A : Type 0} → (past : Bool) (h now : BytesRead) (s : Stage) (r : Reader A) (fault : PartsFault)
     → IsNextStep {A = A} past h s (Err fault) now r → IsStoppedAt h now s
-stopped_by past h now s r (BadLine k offset) step = step.stopped
+stopped_by past h now s r (BadLine k offset flaw) step = step.stopped
 stopped_by past h now s r (Miscount parts due) step = absurd step
 stopped_by past h now s r (Unread fault) step = step.1.0
 stopped_by past h now s r NoMemory step = step
@@ -115,16 +116,20 @@ ended_by : {A : Type 0} → (ended : PartsFault) (past : Bool) (expected : Optio
     (r : Reader A) (found : List Border) (first at : BytesWritten) → h ≡ nothing_read
     → IsNextStep {A = A} past h s (Err ended) now r → AreBordersOf past (parts_at s) found
     → AreReported (passed_lines past (parts_at s)) first at → IsEndedBy ended past expected now found first at
-ended_by (BadLine k offset) past expected h now s r found first at begin step borders are =
+ended_by (BadLine k offset flaw) past expected h now s r found first at begin step borders are =
     let stop : IsStoppedAt h now s = step.stopped in
     let all : stop.bytes ≡ now.bytes = all_bytes h now stop.bytes begin stop.reported in
+    let before : (r : AreLinesRead now.bytes stop.count s) × IsFlaw flaw s.last r.rest now.is_at_end =
+    subst (λ (b : List ℕ). (r : AreLinesRead b stop.count s) × IsFlaw flaw s.last r.rest now.is_at_end) all
+    (stop.before, step.flaw_is) in
     record {
       bad = record {
         bad = subst (λ (b : List ℕ). IsBadLine past b now.is_at_end k offset) all step.bad;
         count = stop.count;
         number = step.number;
         stage = s;
-        before = subst (λ (b : List ℕ). AreLinesRead b stop.count s) all stop.before;
+        before = before.0;
+        flaw_is = before.1;
         reported = are;
       };
       borders = borders;
@@ -185,7 +190,7 @@ counted_by (Miscount parts due) past expected h now s r found first at begin e f
   };
   borders = borders;
 }
-counted_by (BadLine k offset) past expected h now s r found first at begin e f borders are = absurd f
+counted_by (BadLine k offset flaw) past expected h now s r found first at begin e f borders are = absurd f
 counted_by (Unread fault) past expected h now s r found first at begin e f borders are = absurd f
 counted_by NoMemory past expected h now s r found first at begin e f borders are = absurd f
 
@@ -240,7 +245,7 @@ refused_by : (A : Type 0) (fault : PartsFault) (past : Bool) (expected : Option 
     (found : List Border) (first at : BytesWritten) → AreEachTo past h found first at
     → IsEndedBy fault past expected h found first at
     → IsReadOutcome {A = A} (Err fault) past expected nothing_read h first at
-refused_by A (BadLine k offset) past expected h found first at to by = (h.bytes, (refl, by.bad))
+refused_by A (BadLine k offset flaw) past expected h found first at to by = (h.bytes, (refl, by.bad))
 refused_by A (Miscount parts due) past expected h found first at to by = (h.bytes, (refl, by.whole, by.miscounted))
 refused_by A (Unread fault) past expected h found first at to by =
     (by.0, record { stopped = stopped past h found first at to; none_bad = by.1 })
@@ -333,7 +338,7 @@ cut_by : (fault : JoinsFault) (past : Bool) (expected : Option ℕ) (h : BytesRe
     (first new reported at : BytesWritten) → AreEachTo past h found reported at
     → IsCutShort first new (border_lines found) fault
     → IsJoinEachOutcome past expected (Err fault) h first new reported at
-cut_by (Line k offset) past expected h found first new reported at to cut = absurd cut
+cut_by (Line k offset flaw) past expected h found first new reported at to cut = absurd cut
 cut_by (Count parts due) past expected h found first new reported at to cut = absurd cut
 cut_by (Stream fault) past expected h found first new reported at to cut = absurd cut
 cut_by Write past expected h found first new reported at to cut = (cut.0, inl (found, (to, cut.1)))
@@ -343,7 +348,7 @@ written_by : (ended : PartsFault) (past : Bool) (expected : Option ℕ) (h : Byt
     (first new reported at : BytesWritten) → AreEachTo past h found reported at
     → IsEndedBy ended past expected h found reported at → IsWritten (border_lines found) first new
     → IsJoinEachOutcome past expected (Err (refusal ended)) h first new reported at
-written_by (BadLine k offset) past expected h found first new reported at to by written = (found, (by, written))
+written_by (BadLine k offset flaw) past expected h found first new reported at to by written = (found, (by, written))
 written_by (Miscount parts due) past expected h found first new reported at to by written = (found, (by, written))
 written_by (Unread fault) past expected h found first new reported at to by written =
     (found, (to, written, by.0, by.1))

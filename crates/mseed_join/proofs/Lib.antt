@@ -15,6 +15,7 @@ pub mod LinesAhead
 pub mod Longer
 pub mod Machine
 pub mod Merging
+pub mod OneFlaw
 pub mod OneText
 pub mod Parting
 pub mod Pieces

@@ -11,7 +11,7 @@ use Rattle.std.proofs.Math.Seq.{take-add}
 use Rattle.std.proofs.KnownBytes.{Consumes-nil, Consumes-trans}
 use Rattle.std.specs.Io.KnownBytes.{IsAtEnd}
 use Rattle.mseed_stream.specs.Calls.{ReadsOn}
-use Rattle.mseed_stream.specs.Device.{BytesRead, BytesWritten}
+use Rattle.mseed_stream.specs.Device.{Beside, BytesRead}
 use Rattle.mseed_stream.specs.Fault.{IsStreamFault}
 use Rattle.mseed_stream.specs.declared.fault.StreamFault.{StreamFault}
 use Rattle.mseed_stream.specs.declared.fault.StreamFault.TheVariants.{Frame, Truncated, Read, Turns, Memory}
@@ -216,13 +216,13 @@ no_end_by (Turns n) after old new fault before = ap (λ (h : BytesRead). h.is_at
 no_end_by Memory after old new fault before = absurd fault
 
 -- what the source is known to have left is what was read of it, up to its end
-pub reads_to : (old new : BytesRead) (left rest : Option (List ℕ)) (r after : LinesRead) (x y : BytesWritten)
+pub reads_to : (old new : BytesRead) (left rest : Option (List ℕ)) (r after : LinesRead) (x y : Beside)
     → Grows old new left rest r after → (new.is_at_end ≡ true → IsAtEnd rest) → y ≡ x → ReadsOn old new left rest x y
 reads_to old new left rest r after x y grows known beside =
     record { more = (grows.more, grows.reported, grows.known); known = known; beside = beside }
 
 -- or not yet to its end
-pub reads_so_far : (old new : BytesRead) (left rest : Option (List ℕ)) (r after : LinesRead) (x y : BytesWritten)
+pub reads_so_far : (old new : BytesRead) (left rest : Option (List ℕ)) (r after : LinesRead) (x y : Beside)
     → Grows old new left rest r after → new.is_at_end ≡ false → y ≡ x → ReadsOn old new left rest x y
 reads_so_far old new left rest r after x y grows goes_on beside =
     reads_to old new left rest r after x y grows (λ end. absurd (false≢true (sym goes_on ∙ end))) beside

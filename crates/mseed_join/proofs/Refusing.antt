@@ -18,9 +18,9 @@ refused_so A form past expected fault start h old reported now begin outcome =
   where
     by : (f : PartsFault) → IsReadOutcome {A = A} (Err f) past expected nothing_read h reported now
         → IsJoinOutcome form past expected (Err (refusal f)) h old old reported now
-    by (Line k offset) o = (
+    by (Line k offset flaw) o = (
       refl,
-      subst (λ (b : List ℕ). AreBadParts past b h.is_at_end k offset reported now) (sym o.1.0) o.1.1,
+      subst (λ (b : List ℕ). AreBadParts past b h.is_at_end k offset flaw reported now) (sym o.1.0) o.1.1,
     )
     by (Count parts due) o = (
       refl,

@@ -26,7 +26,11 @@ use Rattle.mseed_join.specs.declared.joint.Place.{Place}
 use Rattle.mseed_join.specs.declared.joint.Place.TheVariants.{Start, Channels, Whole}
 use Rattle.mseed_join.specs.declared.joint.Reported.{Reported}
 use Rattle.mseed_join.specs.private.Steps.{May, to}
-use Rattle.mseed_join.specs.private.Taking.{IsAfterKey, IsLastKey, IsLineStep, IsPlace, IsReadTo, IsStep, IsTaken}
+use Rattle.mseed_join.specs.declared.flaw.Flaw.{Flaw}
+use Rattle.mseed_join.specs.declared.flaw.Flaw.TheVariants.{Beginning, Ending, Order, Row}
+use Rattle.mseed_join.specs.Flaws.{IsFlawOf, IsNoChannel, IsNoCounts, IsNoFault}
+use Rattle.mseed_join.specs.private.Taking.{IsAfterKey, IsFlawed, IsLastKey, IsLimit, IsLineStep, IsPlace, IsReadTo}
+use Rattle.mseed_join.specs.private.Taking.{IsStep, IsTaken}
 use Rattle.mseed_join.proofs.Ahead.{IsNextLine, next_line}
 use Rattle.mseed_join.proofs.Machine.{Entries}
 use Rattle.mseed_join.proofs.Pieces.{of_nothing}
@@ -83,7 +87,8 @@ pub step_line : {A : Type 0} → (lines : List ℕ) (s : Stage) (x : Line) (line
     (old new : Joint A) → line ≡ text_of_line x → IsStep lines s x r old new → IsLineStep lines s line r old new
 step_line lines s x line (Ok reported) old new e h =
     (to s x, subst (λ (t : List ℕ). IsTaken lines t s (to s x) reported old new) (sym e) h)
-step_line lines s x line (Err Bad) old new e h = λ b. h (subst (λ (t : List ℕ). Begins old.past (lines ++ t)) e b)
+step_line lines s x line (Err (Bad flaw)) old new e h = λ b.
+    h (subst (λ (t : List ℕ). Begins old.past (lines ++ t)) e b)
 step_line lines s x line (Err Memory) old new e h = tt
 
 -- ---- after a header or a channel
@@ -238,19 +243,117 @@ abbrev pub IsHeaderStep : {A : Type 0} → Result Reported LineFault → Joint A
 IsHeaderStep r old new = (lines : List ℕ) (s : Stage) → IsReadTo lines s old → May s.last header
     → OnOk r (IsStep lines s header r old new)
 
-pub header_or_none : {A : Type 0} → (old new : Joint A) (place : Place) (line : List ℕ) (r : Result Reported LineFault)
-    → old.place ≡ place → ((last : Option (List ℕ)) → place ≡ Channels last → ⊥) → IsEndedLine line
+pub header_or_none : {A : Type 0} → (flaw : Flaw) (old new : Joint A) (place : Place) (line : List ℕ)
+    (r : Result Reported LineFault) → old.place ≡ place
+    → ((last : Option (List ℕ)) → place ≡ Channels last → ⊥) → IsEndedLine line
     → IsHeaderStep r old new → OnOk r (line ≡ header_line)
-    → IfErr r (λ e. (e ≡ Bad) × (line ≢ header_line)) → IsNoOther place line
+    → IfErr r (λ e. (e ≡ Bad flaw) × (line ≢ header_line)) → IsNoOther place line
     → (lines : List ℕ) (s : Stage) → IsReadTo lines s old → IsLineStep lines s line r old new
-header_or_none old new place line (Ok reported) at never ends step is bad other lines s q =
+header_or_none flaw old new place line (Ok reported) at never ends step is bad other lines s q =
     step_line lines s header line (Ok reported) old new is (step lines s q
     (header_may place s.last (subst (λ (p : Place). IsPlace p s.last) at q.place) never))
-header_or_none old new place line (Err Bad) at never ends step is bad other lines s q = λ b.
+header_or_none flaw old new place line (Err (Bad any)) at never ends step is bad other lines s q = λ b.
     let n : IsNextLine old.past s line = next_line old.past s lines ends.0 line q.stage ends.1 ends.2 b in
     no_ending place line s.last n.x (subst (λ (p : Place). IsPlace p s.last) at q.place) n.is_line n.text n.may
     bad.1 other
-header_or_none old new place line (Err Memory) at never ends step is bad other lines s q = tt
+header_or_none flaw old new place line (Err Memory) at never ends step is bad other lines s q = tt
+
+-- ---- what is wrong with a line
+pub limit_flaw : (e : LineFault) (last : OpenPart) (x : Line) (line : List ℕ) → IsLimit e → IsLine x → May last x
+    → text_of_line x ≡ line → IsFlawed e last line
+limit_flaw (Bad flaw) last x line e i m t =
+    subst (λ (f : Flaw). IsFlawOf f last line) (sym e) (IsFlawOf.limit last x line i m t)
+limit_flaw Memory last x line e i m t = tt
+
+order_at : (last : Option (List ℕ)) (line : List ℕ) (b : OpenPart) (key : List ℕ) (c : Channel)
+    → IsPlace (Channels last) b → line ≡ channel_line key c → HasChannelLine key c → (IsAfterKey last key → ⊥)
+    → IsFlawOf (Order key) b line
+order_at last line none key c p is fits never = absurd p
+order_at last line (begun cs) key c p is fits never =
+    IsFlawOf.order cs key c line fits is (λ a. never (out_of_order last cs key c p a))
+order_at last line (whole w) key c p is fits never = absurd p
+
+pub order_flaw : {A : Type 0} → (old : Joint A) (last : Option (List ℕ)) (line : List ℕ) (key : List ℕ) (c : Channel)
+    → old.place ≡ Channels last → line ≡ channel_line key c → HasChannelLine key c → (IsAfterKey last key → ⊥)
+    → (lines : List ℕ) (s : Stage) → IsReadTo lines s old → IsFlawOf (Order key) s.last line
+order_flaw old last line key c at is fits never lines s q =
+    order_at last line s.last key c (row_place old last s.last at q.place) is fits never
+
+row_at : (last : Option (List ℕ)) (line : List ℕ) (b : OpenPart) → IsPlace (Channels last) b → IsNoChannel line
+    → IsNoCounts line → IsFlawOf Row b line
+row_at last line none p f g = absurd p
+row_at last line (begun cs) p f g = IsFlawOf.row cs line f g
+row_at last line (whole w) p f g = absurd p
+
+pub row_flaw : {A : Type 0} → (old : Joint A) (last : Option (List ℕ)) (line : List ℕ) → old.place ≡ Channels last
+    → IsNoChannel line → IsNoCounts line → (lines : List ℕ) (s : Stage) → IsReadTo lines s old
+    → IsFlawOf Row s.last line
+row_flaw old last line at f g lines s q = row_at last line s.last (row_place old last s.last at q.place) f g
+
+pub channel_flaw : {A : Type 0} → (old : Joint A) (last : Option (List ℕ)) (line : List ℕ) (key : List ℕ) (c : Channel)
+    (r : Result Reported LineFault) → old.place ≡ Channels last → line ≡ channel_line key c → HasChannelLine key c
+    → IsAfterKey last key → IfErr r IsLimit → (lines : List ℕ) (s : Stage) → IsReadTo lines s old
+    → IfErr r (λ e. IsFlawed e s.last line)
+channel_flaw old last line key c (Ok reported) at is fits later limit lines s q = tt
+channel_flaw old last line key c (Err e) at is fits later limit lines s q =
+    limit_flaw e s.last (channel key c) line limit fits
+    (channel_may last s.over s.last key c (row_place old last s.last at q.place) q.stage.each later) (sym is)
+
+pub counts_flaw : {A : Type 0} → (old : Joint A) (last : Option (List ℕ)) (line : List ℕ) (n l : ℕ)
+    (r : Result Reported LineFault) → old.place ≡ Channels last → line ≡ counts_line n l → HasCountsLine n l
+    → IfErr r IsLimit → (lines : List ℕ) (s : Stage) → IsReadTo lines s old → IfErr r (λ e. IsFlawed e s.last line)
+counts_flaw old last line n l (Ok reported) at is fits limit lines s q = tt
+counts_flaw old last line n l (Err e) at is fits limit lines s q =
+    limit_flaw e s.last (counts n l) line limit fits
+    (counts_may last s.last n l (row_place old last s.last at q.place)) (sym is)
+
+pub fault_flaw : {A : Type 0} → (old : Joint A) (l : ℕ) (has : Bool) (line : List ℕ) (f : StreamFault)
+    (r : Result Reported LineFault) → old.place ≡ Whole l has → line ≡ fault_line f → HasFaultLine l f
+    → IfErr r IsLimit → (lines : List ℕ) (s : Stage) → IsReadTo lines s old → IfErr r (λ e. IsFlawed e s.last line)
+fault_flaw old l has line f (Ok reported) at is fits limit lines s q = tt
+fault_flaw old l has line f (Err e) at is fits limit lines s q =
+    limit_flaw e s.last (fault l f) line limit fits
+    (fault_may l has s.last f (whole_place old l has s.last at q.place)) (sym is)
+
+pub faults_flaw : {A : Type 0} → (old : Joint A) (l : ℕ) (line : List ℕ) (n : ℕ) (r : Result Reported LineFault)
+    → old.place ≡ Whole l false → line ≡ faults_line n → HasFaultsLine n
+    → IfErr r IsLimit → (lines : List ℕ) (s : Stage) → IsReadTo lines s old → IfErr r (λ e. IsFlawed e s.last line)
+faults_flaw old l line n (Ok reported) at is fits limit lines s q = tt
+faults_flaw old l line n (Err e) at is fits limit lines s q =
+    limit_flaw e s.last (faults n) line limit fits
+    (faults_may l s.last n (whole_place old l false s.last at q.place)) (sym is)
+
+beginning_at : (line : List ℕ) (b : OpenPart) → IsPlace Start b → line ≢ header_line → IsFlawOf Beginning b line
+beginning_at line none p other = IsFlawOf.beginning line other
+beginning_at line (begun cs) p other = absurd p
+beginning_at line (whole w) p other = absurd p
+
+pub beginning_flaw : {A : Type 0} → (old : Joint A) (line : List ℕ) (r : Result Reported LineFault) → old.place ≡ Start
+    → IfErr r (λ e. (e ≡ Bad Beginning) × (line ≢ header_line)) → (lines : List ℕ) (s : Stage)
+    → IsReadTo lines s old → IfErr r (λ e. IsFlawed e s.last line)
+beginning_flaw old line (Ok reported) at bad lines s q = tt
+beginning_flaw old line (Err e) at bad lines s q =
+    subst (λ (f : LineFault). IsFlawed f s.last line) (sym bad.0)
+    (beginning_at line s.last (subst (λ (p : Place). IsPlace p s.last) at q.place) bad.1)
+
+ending_at : (l : ℕ) (has : Bool) (line : List ℕ) (b : OpenPart) → IsPlace (Whole l has) b → line ≢ header_line
+    → IsNoOther (Whole l has) line → IsFlawOf Ending b line
+ending_at l has line none p named other = absurd p
+ending_at l has line (begun cs) p named other = absurd p
+ending_at l false line (whole w) p named other =
+    IsFlawOf.ending w line named (subst (λ (n : ℕ). IsNoFault n line) p.0 other.0) (λ z. other.1)
+ending_at l true line (whole w) p named other =
+    IsFlawOf.ending w line named (subst (λ (n : ℕ). IsNoFault n line) p.0 other)
+    (λ z. absurd (omega (arith, p.1, z)))
+
+pub ending_flaw : {A : Type 0} → (old : Joint A) (l : ℕ) (has : Bool) (line : List ℕ) (r : Result Reported LineFault)
+    → old.place ≡ Whole l has → IfErr r (λ e. (e ≡ Bad Ending) × (line ≢ header_line))
+    → IsNoOther (Whole l has) line → (lines : List ℕ) (s : Stage) → IsReadTo lines s old
+    → IfErr r (λ e. IsFlawed e s.last line)
+ending_flaw old l has line (Ok reported) at bad other lines s q = tt
+ending_flaw old l has line (Err e) at bad other lines s q =
+    subst (λ (f : LineFault). IsFlawed f s.last line) (sym bad.0)
+    (ending_at l has line s.last (whole_place old l has s.last at q.place) bad.1 other)
 
 pub start_no : (last : Option (List ℕ)) → Start ≡ Channels last → ⊥
 start_no last e = cc

@@ -24,7 +24,7 @@ text_by Part w = part_text w
 
 -- why parts aren't joined that weren't read
 abbrev pub refusal : PartsFault → JoinsFault
-refusal (BadLine k offset) = Line k offset
+refusal (BadLine k offset flaw) = Line k offset flaw
 refusal (Miscount parts due) = Count parts due
 refusal (Unread fault) = Stream fault
 refusal NoMemory = Memory
@@ -53,8 +53,8 @@ abbrev pub IsJoinOutcome : Form → Bool → Option ℕ → Result Answer JoinsF
     → BytesWritten → BytesWritten → Type 0
 IsJoinOutcome form past expected (Ok answer) h old new reported now =
     (w : Written) × (IsRead past expected h w reported now × IsAnswer answer w × IsWritten (text_by form w) old new)
-IsJoinOutcome form past expected (Err (Line k offset)) h old new reported now =
-    (new ≡ old) × AreBadParts past h.bytes h.is_at_end k offset reported now
+IsJoinOutcome form past expected (Err (Line k offset flaw)) h old new reported now =
+    (new ≡ old) × AreBadParts past h.bytes h.is_at_end k offset flaw reported now
 IsJoinOutcome form past expected (Err (Count parts due)) h old new reported now =
     (new ≡ old) × (h.is_at_end ≡ true) × AreMiscounted past expected h.bytes parts due reported now
 IsJoinOutcome form past expected (Err (Stream fault)) h old new reported now =

@@ -7,6 +7,7 @@ use Rattle.mseed_audit.specs.Summary.{IsWritten}
 use Rattle.mseed_join.specs.declared.joining.Joined.{Joined as Answer}
 use Rattle.mseed_join.specs.declared.joining.JoinsFault.{JoinsFault}
 use Rattle.mseed_join.specs.declared.joining.JoinsFault.TheVariants.{Line, Count, Stream, Write, Memory}
+use Rattle.mseed_join.specs.declared.flaw.Flaw.{Flaw}
 use Rattle.mseed_join.specs.Borders.{AreBordersOf, Border, border_lines}
 use Rattle.mseed_join.specs.Joined.{HasNoBadLine, join_text}
 use Rattle.mseed_join.specs.Joins.{IsAnswer, IsRead}
@@ -24,10 +25,10 @@ pub record IsReadEach (past : Bool) (expected : Option ℕ) (h : BytesRead) (w :
 abbrev pub each_text : List Border → Written → List ℕ
 each_text found w = border_lines found ++ join_text w
 
--- the first bad line, and what is found at the borders of the lines before it
-pub record AreBadEach (past : Bool) (h : BytesRead) (k offset : ℕ) (found : List Border) (reported now : BytesWritten)
-    : Type 0 where
-  pub bad : AreBadParts past h.bytes h.is_at_end k offset reported now
+-- the first bad line, what is wrong with it, and what is found at the borders of the lines before it
+pub record AreBadEach (past : Bool) (h : BytesRead) (k offset : ℕ) (flaw : Flaw) (found : List Border)
+    (reported now : BytesWritten) : Type 0 where
+  pub bad : AreBadParts past h.bytes h.is_at_end k offset flaw reported now
   pub borders : AreBordersOf past (parts_at bad.stage) found
 
 -- the whole input was read: it is so many parts, where another number is expected, and this is found at their borders
@@ -57,8 +58,9 @@ abbrev pub IsJoinEachOutcome : Bool → Option ℕ → Result Answer JoinsFault 
 IsJoinEachOutcome past expected (Ok answer) h old new reported now =
     (w : Written) × ((found : List Border) × (IsReadEach past expected h w found reported now
     × IsAnswer answer w × IsWritten (each_text found w) old new))
-IsJoinEachOutcome past expected (Err (Line k offset)) h old new reported now =
-    (found : List Border) × (AreBadEach past h k offset found reported now × IsWritten (border_lines found) old new)
+IsJoinEachOutcome past expected (Err (Line k offset flaw)) h old new reported now =
+    (found : List Border)
+    × (AreBadEach past h k offset flaw found reported now × IsWritten (border_lines found) old new)
 IsJoinEachOutcome past expected (Err (Count parts due)) h old new reported now =
     (found : List Border) × (AreMiscountedEach past expected h parts due found reported now
     × IsWritten (border_lines found) old new)

@@ -2,6 +2,7 @@ pub mod Written
 pub mod Joined
 pub mod Borders
 pub mod Reached
+pub mod Flaws
 pub mod ReadParts
 pub mod AuditPart
 pub mod Joins

@@ -5,6 +5,8 @@ use Rattle.mseed_stream.specs.Fault.{IsStreamFault}
 use Rattle.mseed_join.specs.declared.joint.JointPart.{JointPart}
 use Rattle.mseed_join.specs.declared.reader.PartsFault.{PartsFault}
 use Rattle.mseed_join.specs.declared.reader.PartsFault.TheVariants.{Line, Count, Stream, Memory}
+use Rattle.mseed_join.specs.declared.flaw.Flaw.{Flaw}
+use Rattle.mseed_join.specs.Flaws.{IsFlaw}
 use Rattle.mseed_join.specs.Joined.{HasNoBadLine, IsBadLine, IsJointOf}
 use Rattle.mseed_join.specs.Reached.{AreLinesRead, AreReported, Stage, parts_at, passed_lines}
 use Rattle.mseed_join.specs.Written.{Written, Spells}
@@ -38,14 +40,15 @@ pub record AreMiscounted (past : Bool) (expected : Option ℕ) (bytes : List ℕ
   pub due_is : expected ≡ Some due
   pub differ : parts ≢ due
 
--- the first bad line; of the lines before it each fault that was passed was reported
-pub record AreBadParts (past : Bool) (bytes : List ℕ) (at_end : Bool) (k offset : ℕ) (old new : BytesWritten)
-    : Type 0 where
+-- the first bad line, and what is wrong with it; of the lines before it each fault that was passed was reported
+pub record AreBadParts (past : Bool) (bytes : List ℕ) (at_end : Bool) (k offset : ℕ) (flaw : Flaw)
+    (old new : BytesWritten) : Type 0 where
   pub bad : IsBadLine past bytes at_end k offset
   pub count : ℕ
   pub number : k ≡ count + 1
   pub stage : Stage
   pub before : AreLinesRead bytes count stage
+  pub flaw_is : IsFlaw flaw stage.last before.rest at_end
   pub reported : AreReported (passed_lines past (parts_at stage)) old new
 
 -- the whole lines that were read are those of parts up to this stage; each fault that was passed was reported
@@ -72,8 +75,8 @@ abbrev pub IsReadOutcome : {A : Type 0} → Result (JointPart A) PartsFault → 
 IsReadOutcome (Ok joint) past expected old h s new =
     (bytes : List ℕ) × (ReadMore old h bytes × (h.is_at_end ≡ true)
     × ((read : AreReadParts past bytes (written_of joint) s new) × AreExpected expected (length read.parts)))
-IsReadOutcome (Err (Line k offset)) past expected old h s new =
-    (bytes : List ℕ) × (ReadMore old h bytes × AreBadParts past bytes h.is_at_end k offset s new)
+IsReadOutcome (Err (Line k offset flaw)) past expected old h s new =
+    (bytes : List ℕ) × (ReadMore old h bytes × AreBadParts past bytes h.is_at_end k offset flaw s new)
 IsReadOutcome (Err (Count parts due)) past expected old h s new =
     (bytes : List ℕ) × (ReadMore old h bytes × (h.is_at_end ≡ true)
     × AreMiscounted past expected bytes parts due s new)

@@ -5,6 +5,7 @@ ghost use Rattle.mseed_stream.specs.Device.{nothing_read};
 ghost use Rattle.mseed_join.specs.Joins.{IsAnswer, IsJoinOutcome, refusal, text_by};
 
 use crate::auditing::count_broken;
+use crate::flaw::Flaw;
 use crate::joint::JointPart;
 use crate::parts::read_parts;
 use crate::reader::PartsFault;
@@ -43,6 +44,8 @@ pub enum JoinsFault {
         number: u64,
         /// The offset at which it begins, in bytes of the input: where the input ends and lacks it, its length.
         offset: u64,
+        /// What is wrong with it.
+        flaw: Flaw,
     },
     /// So many parts were read, and so many were expected. Nothing was written, or by `join_each` the lines of their
     /// borders.
@@ -65,7 +68,15 @@ impl From<PartsFault> for JoinsFault {
 
     fn from(unread: PartsFault) -> JoinsFault {
         match unread {
-            PartsFault::Line { number, offset } => JoinsFault::Line { number, offset },
+            PartsFault::Line {
+                number,
+                offset,
+                flaw,
+            } => JoinsFault::Line {
+                number,
+                offset,
+                flaw,
+            },
             PartsFault::Count(parts, expected) => JoinsFault::Count(parts, expected),
             PartsFault::Stream(fault) => JoinsFault::Stream(fault),
             PartsFault::Memory => JoinsFault::Memory,

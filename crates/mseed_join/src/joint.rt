@@ -8,8 +8,9 @@ ghost use Rattle.mseed_join.specs.Reached.{Stage, start};
 ghost use Rattle.mseed_join.specs.private.Along.{can_end};
 ghost use Rattle.mseed_join.specs.private.Steps.{May};
 ghost use Rattle.mseed_join.specs.private.Taking.{IsAfterKey, IsLineStep, IsReadTo, IsStep, border_by, fault_after};
-ghost use Rattle.mseed_join.specs.private.Taking.{passed_by};
+ghost use Rattle.mseed_join.specs.private.Taking.{IsFlawed, IsLimit, passed_by};
 
+use crate::flaw::Flaw;
 use mseed_audit::{Channel, Finding};
 use mseed_part_lines::{
     HEADER, read_channel_line, read_counts_line, read_fault_line, read_faults_line,
@@ -60,8 +61,8 @@ pub(crate) enum Reported {
 /// Why a line wasn't taken.
 #[derive(Clone, Copy)]
 pub(crate) enum LineFault {
-    /// No parts go on so.
-    Bad,
+    /// No parts go on so: what is wrong with the line.
+    Bad(Flaw),
     /// An allocation was refused.
     Memory,
 }
@@ -119,9 +120,11 @@ impl<A: Allocator + Copy> Joint<A> {
         requires ended { (body : List ℕ) × HasNoEnd body × (line.now ≡ body ++ codes "\n") }
         ensures step { (lines : List ℕ) (s : Stage) → IsReadTo lines s self.old
             → IsLineStep lines s line.now result self.old self.new }
+        ensures flaw { (lines : List ℕ) (s : Stage) → IsReadTo lines s self.old
+            → IfErr result (λ e. IsFlawed e s.last line.now) }
     {
         match self.place {
-            Place::Start => self.take_header(line),
+            Place::Start => self.take_header(Flaw::Beginning, line),
             Place::Channels(last) => self.take_row(last, line),
             Place::Whole { bytes, has_faults } => self.take_ending(bytes, has_faults, line),
         }
@@ -144,17 +147,17 @@ impl<A: Allocator + Copy> Joint<A> {
         self.so_far
     }
 
-    /// Takes the first line of a part.
-    fn take_header(&mut self, line: &[u8]) -> Result<Reported, LineFault>
+    /// Takes the first line of a part. If it is none, this is wrong with it.
+    fn take_header(&mut self, flaw: Flaw, line: &[u8]) -> Result<Reported, LineFault>
         requires { self.old.parts < 2 ^ 63 }
         ensures step { (lines : List ℕ) (s : Stage) → IsReadTo lines s self.old → May s.last Line.header
             → OnOk result (IsStep lines s Line.header result self.old self.new) }
         ensures line { OnOk result (line.now ≡ header_line) }
-        ensures bad { IfErr result (λ fault. (fault ≡ LineFault.Bad) × (line.now ≢ header_line)) }
+        ensures bad { IfErr result (λ fault. (fault ≡ LineFault.Bad flaw) × (line.now ≢ header_line)) }
     {
         joined_in_turn();
         if line != HEADER {
-            return Err(LineFault::Bad);
+            return Err(LineFault::Bad(flaw));
         }
         self.parts += 1;
         self.place = Place::Channels(None);
@@ -167,15 +170,17 @@ impl<A: Allocator + Copy> Joint<A> {
         requires ended { (body : List ℕ) × HasNoEnd body × (line.now ≡ body ++ codes "\n") }
         ensures step { (lines : List ℕ) (s : Stage) → IsReadTo lines s self.old
             → IsLineStep lines s line.now result self.old self.new }
+        ensures flaw { (lines : List ℕ) (s : Stage) → IsReadTo lines s self.old
+            → IfErr result (λ e. IsFlawed e s.last line.now) }
     {
         if let Some((codes, channel)) = read_channel_line(line) {
             if !is_after(last, codes) {
-                return Err(LineFault::Bad);
+                return Err(LineFault::Bad(Flaw::Order(codes)));
             }
             return self.take_channel(codes, &channel);
         }
         let Some((records, bytes)) = read_counts_line(line) else {
-            return Err(LineFault::Bad);
+            return Err(LineFault::Bad(Flaw::Row));
         };
         self.take_counts(records, bytes)
     }
@@ -192,24 +197,27 @@ impl<A: Allocator + Copy> Joint<A> {
         requires ended { (body : List ℕ) × HasNoEnd body × (line.now ≡ body ++ codes "\n") }
         ensures step { (lines : List ℕ) (s : Stage) → IsReadTo lines s self.old
             → IsLineStep lines s line.now result self.old self.new }
+        ensures flaw { (lines : List ℕ) (s : Stage) → IsReadTo lines s self.old
+            → IfErr result (λ e. IsFlawed e s.last line.now) }
     {
         if let Some(fault) = read_fault_line(line, bytes) {
             return self.take_fault(fault, bytes);
         }
         if has_faults {
-            return self.take_header(line);
+            return self.take_header(Flaw::Ending, line);
         }
         if let Some(faults) = read_faults_line(line) {
             return self.take_faults(faults, bytes);
         }
-        self.take_header(line)
+        self.take_header(Flaw::Ending, line)
     }
 
     /// Takes a channel that is in order.
     fn take_channel(&mut self, codes: Codes, channel: &Channel) -> Result<Reported, LineFault>
-        ensures { (lines : List ℕ) (s : Stage) → IsReadTo lines s self.old → IsLine (Line.channel codes channel.now)
-            → May s.last (Line.channel codes channel.now)
+        ensures step { (lines : List ℕ) (s : Stage) → IsReadTo lines s self.old
+            → IsLine (Line.channel codes channel.now) → May s.last (Line.channel codes channel.now)
             → IsStep lines s (Line.channel codes channel.now) result self.old self.new }
+        ensures limit { IfErr result IsLimit }
     {
         joined_in_turn();
         joining_laws();
@@ -225,16 +233,17 @@ impl<A: Allocator + Copy> Joint<A> {
                 self.place = Place::Channels(Some(codes));
                 Ok(reported_of(codes, channel, found))
             }
-            Err(JoinFault::Limit) => Err(LineFault::Bad),
+            Err(JoinFault::Limit) => Err(LineFault::Bad(Flaw::Limit)),
             Err(JoinFault::Memory) => Err(LineFault::Memory),
         }
     }
 
     /// Takes the counts.
     fn take_counts(&mut self, records: u64, bytes: u64) -> Result<Reported, LineFault>
-        ensures { (lines : List ℕ) (s : Stage) → IsReadTo lines s self.old → IsLine (Line.counts records bytes)
+        ensures step { (lines : List ℕ) (s : Stage) → IsReadTo lines s self.old → IsLine (Line.counts records bytes)
             → May s.last (Line.counts records bytes)
             → IsStep lines s (Line.counts records bytes) result self.old self.new }
+        ensures limit { IfErr result IsLimit }
     {
         joined_in_turn();
         joining_laws();
@@ -247,16 +256,17 @@ impl<A: Allocator + Copy> Joint<A> {
         }
         match self.so_far.part.add_counts(records, bytes) {
             Ok(()) => Ok(Reported::Nothing),
-            Err(_) => Err(LineFault::Bad),
+            Err(_) => Err(LineFault::Bad(Flaw::Limit)),
         }
     }
 
     /// Takes the number of faults passed.
     fn take_faults(&mut self, faults: u64, bytes: u64) -> Result<Reported, LineFault>
         requires { self.old.place ≡ Place.Whole bytes false }
-        ensures { (lines : List ℕ) (s : Stage) → IsReadTo lines s self.old → IsLine (Line.faults faults)
+        ensures step { (lines : List ℕ) (s : Stage) → IsReadTo lines s self.old → IsLine (Line.faults faults)
             → May s.last (Line.faults faults)
             → IsStep lines s (Line.faults faults) result self.old self.new }
+        ensures limit { IfErr result IsLimit }
     {
         joining_laws();
         self.place = Place::Whole {
@@ -271,15 +281,16 @@ impl<A: Allocator + Copy> Joint<A> {
                 self.so_far.faults = all;
                 Ok(Reported::Nothing)
             }
-            Err(_) => Err(LineFault::Bad),
+            Err(_) => Err(LineFault::Bad(Flaw::Limit)),
         }
     }
 
     /// Takes the fault with which a part of so many bytes ends.
     fn take_fault(&mut self, fault: StreamFault, bytes: u64) -> Result<Reported, LineFault>
-        ensures { (lines : List ℕ) (s : Stage) → IsReadTo lines s self.old → IsLine (Line.fault bytes fault)
+        ensures step { (lines : List ℕ) (s : Stage) → IsReadTo lines s self.old → IsLine (Line.fault bytes fault)
             → May s.last (Line.fault bytes fault)
             → IsStep lines s (Line.fault bytes fault) result self.old self.new }
+        ensures limit { IfErr result IsLimit }
     {
         joining_laws();
         self.place = Place::Start;
@@ -298,7 +309,7 @@ impl<A: Allocator + Copy> Joint<A> {
                     fault,
                 })
             }
-            Err(_) => Err(LineFault::Bad),
+            Err(_) => Err(LineFault::Bad(Flaw::Limit)),
         }
     }
 }

@@ -1,10 +1,13 @@
-//! Laws: a line is short; what was read has one part, and parts have one list of borders.
-ghost use Rattle.std.specs.Prelude.{◌≡◌, ◌≤◌, Bool, List, length};
+//! Laws: a line is short, and has one flaw at most; what was read has one part, and parts have one list of borders.
+ghost use Rattle.std.specs.Prelude.{◌≡◌, ◌≤◌, Bool, List, ℕ, length};
 ghost use Rattle.mseed_stream.specs.Device.{BytesRead};
 ghost use Rattle.mseed_part_lines.specs.Lines.{IsLine, Line, text_of_line};
 ghost use Rattle.mseed_join.specs.AuditPart.{AuditedPart};
 ghost use Rattle.mseed_join.specs.Borders.{AreBordersOf, Border};
+ghost use Rattle.mseed_join.specs.declared.flaw.Flaw.{Flaw};
+ghost use Rattle.mseed_join.specs.Flaws.{IsFlaw};
 ghost use Rattle.mseed_join.specs.Joined.{IsJointOf};
+ghost use Rattle.mseed_join.specs.Reached.{OpenPart};
 ghost use Rattle.mseed_join.specs.Written.{Written};
 
 use mseed_parts::{joining_laws, one_part};
@@ -22,6 +25,12 @@ pub fn one_part_of_input()
     one_input();
     one_part();
 }
+
+/// One thing is wrong with a line at most.
+pub fn one_flaw()
+    ensures { (flaw other : Flaw) (last : OpenPart) (bytes : List ℕ) (at_end : Bool) → IsFlaw flaw last bytes at_end
+        → IsFlaw other last bytes at_end → flaw ≡ other }
+{}
 
 /// What is found at the borders of parts that can be joined is found once.
 pub fn one_list_of_borders()

@@ -4,6 +4,7 @@
 mod auditing;
 mod borders;
 mod composed;
+mod flaw;
 mod joining;
 mod joining_each;
 mod joint;
@@ -19,9 +20,10 @@ pub use composed::{
     cut_part, joined_audit, joined_each, joined_texts, no_bad_line, one_text, part_reads_back,
     parts_can_be_joined,
 };
+pub use flaw::Flaw;
 pub use joining::{Form, Joined, JoinsFault, join};
 pub use joining_each::join_each;
 pub use joint::JointPart;
-pub use law::{lines_are_short, one_list_of_borders, one_part_of_input};
+pub use law::{lines_are_short, one_flaw, one_list_of_borders, one_part_of_input};
 pub use parts::read_parts;
 pub use reader::PartsFault;

@@ -202,7 +202,8 @@ impl<A: Allocator> LineReader<A> {
 
     /// Returns what lies ahead at the input's end.
     fn left(&self) -> Ahead
-        requires { HasNoEnd self.now.held }
+        requires no_end { HasNoEnd self.now.held }
+        requires short { length self.now.held < LONGEST }
         ensures ahead { LiesAhead result self.now true }
         ensures ends { IfGoesOn (Ok result) ⊥ }
     {

@@ -3,8 +3,9 @@ ghost use Rattle.std.specs.Prelude.{◌≡◌, ◌≤◌, ◌+◌, ◌^◌, Bool
 ghost use Rattle.mseed_stream.specs.Calls.{ReadsOn};
 ghost use Rattle.mseed_stream.specs.Device.{BytesRead};
 ghost use Rattle.mseed_join.specs.Reached.{Stage, start};
-ghost use Rattle.mseed_join.specs.private.Along.{IsAlong, IsFinished, IsNextStep, is_over};
+ghost use Rattle.mseed_join.specs.private.Along.{IsAlong, IsFinished, IsNextStep, flaw_of, is_over};
 
+use crate::flaw::Flaw;
 use crate::joint::{Joint, JointPart, LineFault, Reported};
 use crate::law::lines_are_short;
 use crate::line_reader::{Ahead, LineReader};
@@ -23,6 +24,8 @@ pub enum PartsFault {
         number: u64,
         /// The offset at which it begins, in bytes of the input: where the input ends and lacks it, its length.
         offset: u64,
+        /// What is wrong with it.
+        flaw: Flaw,
     },
     /// So many parts were read, and so many were expected.
     #[error("{0} parts, not {1}")]
@@ -86,14 +89,23 @@ impl<A: Allocator + Copy> Reader<A> {
                     self.lines.pass();
                     Ok(Some(reported))
                 }
-                Err(LineFault::Bad) => Err(PartsFault::Line { number, offset }),
+                Err(LineFault::Bad(flaw)) => Err(PartsFault::Line {
+                    number,
+                    offset,
+                    flaw,
+                }),
                 Err(LineFault::Memory) => Err(PartsFault::Memory),
             },
             other => {
                 if self.is_over(other) {
                     Ok(None)
                 } else {
-                    Err(PartsFault::Line { number, offset })
+                    let flaw = flaw_of(other);
+                    Err(PartsFault::Line {
+                        number,
+                        offset,
+                        flaw,
+                    })
                 }
             }
         }
@@ -120,5 +132,16 @@ impl<A: Allocator + Copy> Reader<A> {
             Some(due) if parts != due => Err(PartsFault::Count(parts, due)),
             _ => Ok(self.joint.into_part()),
         }
+    }
+}
+
+/// What is wrong with what lies ahead, where it is no line, and no part can be over.
+fn flaw_of(ahead: Ahead) -> Flaw
+    ensures { result ≡ flaw_of ahead }
+{
+    match ahead {
+        Ahead::Line | Ahead::TooLong => Flaw::Long,
+        Ahead::Unended => Flaw::Unended,
+        Ahead::Nothing => Flaw::Missing,
     }
 }

@@ -1,5 +1,6 @@
 //! What is done with the borders that have a finding.
-ghost use Rattle.std.specs.Prelude.{◌≡◌, ◌++◌, ⊤, List, MatchResult};
+ghost use Rattle.std.specs.Prelude.{◌≡◌, ◌≤◌, ◌++◌, ⊤, ℕ, IfOk, List, MatchResult, length};
+ghost use Rattle.mseed_stream.specs.declared.whole.TheConstants.{GATHERED};
 ghost use Rattle.mseed_stream.specs.Calls.{WritesOn};
 ghost use Rattle.mseed_join.specs.Borders.{Border, border_lines};
 ghost use Rattle.mseed_join.specs.declared.joining.JoinsFault.{JoinsFault};
@@ -11,11 +12,8 @@ use crate::borders::push_reported;
 use crate::joining::JoinsFault;
 use crate::joint::Reported;
 use crate::reader::PartsFault;
-use mseed_stream::{Sink, write_all_of, write_beyond};
+use mseed_stream::{GATHERED, Sink, write_all_of, write_beyond};
 use std::alloc::Allocator;
-
-/// How many bytes of lines are gathered at most, before they are written.
-const GATHERED: usize = (1 << 16) - 1;
 
 /// What is done with the borders that have a finding: nothing, or a line for each goes to an output. The loop over the
 /// lines of parts takes any report; `F` says why parts weren't read, or why what is reported of them wasn't written.
@@ -29,16 +27,20 @@ pub(crate) trait Report<O, F> {
     // So the output stands where the parts ended with a fault after these, and which one is answered then.
     ghost stops: { O → O → List Border → PartsFault → F → Type 0 };
 
+    // So many bytes of lines wait to be written.
+    ghost waiting: { Self → ℕ };
+
     /// Adds the border that a line reports, if it reports one, and writes to the output what was gathered, once it has
-    /// many bytes.
+    /// more than [`GATHERED`] bytes.
     ///
     /// # Errors
     ///
     /// Where the output failed, or an allocation was refused: it isn't called again.
     fn add(&mut self, output: &mut O, reported: &Reported) -> Result<(), F>
-        ensures { (first : O) (found : List Border) → stands first self.old output.old found → MatchResult result
-            (λ _. stands first self.new output.new (found ++ border_by reported.now))
-            (λ fault. cuts first output.new (found ++ border_by reported.now) fault) };
+        ensures reported { (first : O) (found : List Border) → stands first self.old output.old found
+            → MatchResult result (λ _. stands first self.new output.new (found ++ border_by reported.now))
+            (λ fault. cuts first output.new (found ++ border_by reported.now) fault) }
+        ensures few { IfOk result (λ _. waiting self.new ≤ GATHERED) };
 
     /// Writes to the output what was gathered, since the parts end with a fault, and returns the fault: the output's
     /// where the output failed.
@@ -57,6 +59,8 @@ impl Report<(), PartsFault> for Unreported {
     ghost cuts = { λ _ _ _ _. ⊥ };
 
     ghost stops = { λ _ _ _ ended fault. fault ≡ ended };
+
+    ghost waiting = { λ _. 0 };
 
     #[inline(always)]
     fn add(&mut self, _output: &mut (), _reported: &Reported) -> Result<(), PartsFault> {
@@ -82,6 +86,8 @@ impl<A: Allocator, W: Sink> Report<W, JoinsFault> for Vec<u8, A> {
     ghost stops = { λ first now found ended fault. IsFlushed (W.written first) (W.written now) found ended fault
         × WritesOn (W.written first) (W.written now) (W.contents first) (W.contents now) (W.beside first)
         (W.beside now) };
+
+    ghost waiting = { λ text. length text.items };
 
     fn add(&mut self, output: &mut W, reported: &Reported) -> Result<(), JoinsFault> {
         match push_reported(self, reported) {

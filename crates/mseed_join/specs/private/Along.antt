@@ -13,6 +13,9 @@ use Rattle.mseed_join.specs.declared.joint.Reported.{Reported}
 use Rattle.mseed_join.specs.declared.reader.PartsFault.{PartsFault}
 use Rattle.mseed_join.specs.declared.reader.PartsFault.TheVariants.{Line as BadLine, Count, Stream, Memory}
 use Rattle.mseed_join.specs.declared.reader.Reader.{Reader}
+use Rattle.mseed_join.specs.declared.flaw.Flaw.{Flaw}
+use Rattle.mseed_join.specs.declared.flaw.Flaw.TheVariants.{Long, Unended as NoEnd, Missing}
+use Rattle.mseed_join.specs.Flaws.{IsFlaw}
 use Rattle.mseed_join.specs.Joined.{HasNoBadLine, IsBadLine, IsJointOf}
 use Rattle.mseed_join.specs.Reached.{AreLinesRead, Stage, parts_at}
 use Rattle.mseed_join.specs.ReadParts.{AreExpected, written_of}
@@ -32,6 +35,13 @@ is_over Line place = false
 is_over TooLong place = false
 is_over Unended place = false
 is_over Nothing place = can_end place
+
+-- what is wrong where no line lies ahead
+abbrev pub flaw_of : Ahead → Flaw
+flaw_of Line = Long
+flaw_of TooLong = Long
+flaw_of Unended = NoEnd
+flaw_of Nothing = Missing
 
 -- the lines that were passed are parts up to this stage, whose joint part is kept
 pub record IsAlong {A : Type 0} (past : Bool) (h now : BytesRead) (s : Stage) (r : Reader A) : Type 0 where
@@ -56,10 +66,11 @@ pub record HasEnded {A : Type 0} (past : Bool) (h now : BytesRead) (s : Stage) (
   pub number : r.joint.parts ≡ length (parts_at s)
 
 -- a bad line, after those that were passed
-pub record IsBadAfter (past : Bool) (h now : BytesRead) (s : Stage) (k offset : ℕ) : Type 0 where
+pub record IsBadAfter (past : Bool) (h now : BytesRead) (s : Stage) (k offset : ℕ) (flaw : Flaw) : Type 0 where
   pub stopped : IsStoppedAt h now s
   pub bad : IsBadLine past stopped.bytes now.is_at_end k offset
   pub number : k ≡ stopped.count + 1
+  pub flaw_is : IsFlaw flaw s.last stopped.before.rest now.is_at_end
 
 -- by what one step answers: where the source failed, no bad line was read before
 abbrev pub IsNextStep : {A : Type 0} → Bool → BytesRead → Stage → Result (Option Reported) PartsFault → BytesRead
@@ -68,7 +79,7 @@ abbrev pub IsNextStep : {A : Type 0} → Bool → BytesRead → Stage → Result
 IsNextStep past h s (Ok (Some reported)) now r =
     (t : Stage) × (IsAlong past h now t r × IsReportedMore past s t reported × (now.is_at_end ≡ false))
 IsNextStep past h s (Ok None) now r = HasEnded past h now s r
-IsNextStep past h s (Err (BadLine k offset)) now r = IsBadAfter past h now s k offset
+IsNextStep past h s (Err (BadLine k offset flaw)) now r = IsBadAfter past h now s k offset flaw
 IsNextStep past h s (Err (Count parts due)) now r = ⊥
 IsNextStep past h s (Err (Stream fault)) now r =
     IsStreamFault fault h now × ((stopped : IsStoppedAt h now s) × HasNoBadLine past stopped.bytes)
@@ -79,6 +90,6 @@ IsNextStep past h s (Err Memory) now r = IsStoppedAt h now s
 abbrev pub IsFinished : {A : Type 0} → Joint A → Option ℕ → Result (JointPart A) PartsFault → Type 0
 IsFinished j expected (Ok joint) = (joint ≡ j.so_far) × AreExpected expected j.parts
 IsFinished j expected (Err (Count parts due)) = (parts ≡ j.parts) × (expected ≡ Some due) × (parts ≢ due)
-IsFinished j expected (Err (BadLine k offset)) = ⊥
+IsFinished j expected (Err (BadLine k offset flaw)) = ⊥
 IsFinished j expected (Err (Stream fault)) = ⊥
 IsFinished j expected (Err Memory) = ⊥

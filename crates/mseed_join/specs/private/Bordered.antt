@@ -19,7 +19,7 @@ use Rattle.mseed_join.specs.ReadParts.{written_of}
 -- ---- any report
 -- by the fault with which the parts end, after these borders
 abbrev pub IsEndedBy : PartsFault → Bool → Option ℕ → BytesRead → List Border → BytesWritten → BytesWritten → Type 0
-IsEndedBy (BadLine k offset) past expected h found first at = AreBadEach past h k offset found first at
+IsEndedBy (BadLine k offset flaw) past expected h found first at = AreBadEach past h k offset flaw found first at
 IsEndedBy (Miscount n due) past expected h found first at = AreMiscountedEach past expected h n due found first at
 IsEndedBy (Unread f) past expected h found first at = IsStreamFault f nothing_read h × HasNoBadLine past h.bytes
 IsEndedBy NoMemory past expected h found first at = ⊤
@@ -49,7 +49,7 @@ pub record AreLined (first now : BytesWritten) (text : List ℕ) (found : List B
 
 -- a prefix of a text was written before the fault
 abbrev pub IsCutShort : BytesWritten → BytesWritten → List ℕ → JoinsFault → Type 0
-IsCutShort first now text (Line k offset) = ⊥
+IsCutShort first now text (Line k offset flaw) = ⊥
 IsCutShort first now text (Count parts due) = ⊥
 IsCutShort first now text (Stream fault) = ⊥
 IsCutShort first now text Write = (now.failures ≡ first.failures + 1) × EmittedPart first now text

@@ -37,7 +37,7 @@ IsOpen held = (length held < 512) × HasNoEnd held
 abbrev pub LiesAhead : Ahead → LinesRead → Bool → Type 0
 LiesAhead Line r at_end = IsLineAhead r.size r.held
 LiesAhead TooLong r at_end = HasNoEnd (take 512 r.held) × (512 ≤ length r.held)
-LiesAhead Unended r at_end = (at_end ≡ true) × HasNoEnd r.held × (r.held ≢ [])
+LiesAhead Unended r at_end = (at_end ≡ true) × HasNoEnd r.held × (r.held ≢ []) × (length r.held < 512)
 LiesAhead Nothing r at_end = (at_end ≡ true) × (r.held ≡ [])
 
 -- what more was read, and is held after what was held before

@@ -1,29 +1,11 @@
 -- How far reading is after one more line: no public contract is stated by these words.
-use Rattle.std.specs.Prelude.{⊤, ◌≡◌, ℕ, List, [], ◌∷◌, ◌++◌, Some, None}
+use Rattle.std.specs.Prelude.{ℕ, List, [], ◌∷◌, ◌++◌, Some, None}
 use Rattle.mseed_stream.specs.declared.fault.StreamFault.{StreamFault}
 use Rattle.mseed_audit.specs.declared.channel.Channel.{Channel}
-use Rattle.mseed_parts.specs.Parts.{IsAscending}
 use Rattle.mseed_part_lines.specs.Lines.{Line, header, channel, counts, faults, fault}
+pub use Rattle.mseed_join.specs.Flaws.{May}
 use Rattle.mseed_join.specs.Reached.{OpenPart, none, begun, whole, Stage}
 use Rattle.mseed_join.specs.Written.{Written}
-
--- this line can stand here
-abbrev pub May : OpenPart → Line → Type 0
-May none header = ⊤
-May none (channel key c) = ⊥
-May none (counts records bytes) = ⊥
-May none (faults n) = ⊥
-May none (fault bytes f) = ⊥
-May (begun channels) header = ⊥
-May (begun channels) (channel key c) = IsAscending (channels ++ (key, c) ∷ [])
-May (begun channels) (counts records bytes) = ⊤
-May (begun channels) (faults n) = ⊥
-May (begun channels) (fault bytes f) = ⊥
-May (whole w) header = ⊤
-May (whole w) (channel key c) = ⊥
-May (whole w) (counts records bytes) = ⊥
-May (whole w) (faults n) = w.faults ≡ 0
-May (whole w) (fault bytes f) = w.part.bytes ≡ bytes
 
 abbrev pub counted_part : List (List ℕ × Channel) → ℕ → ℕ → Written
 counted_part channels records bytes = record {

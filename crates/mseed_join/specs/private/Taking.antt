@@ -16,6 +16,8 @@ use Rattle.mseed_join.specs.declared.joint.Place.TheVariants.{Start, Channels, W
 use Rattle.mseed_join.specs.declared.joint.Reported.{Reported}
 use Rattle.mseed_join.specs.declared.joint.Reported.TheVariants.{Nothing, Border as AtBorder, Passed}
 use Rattle.mseed_join.specs.Borders.{AreBordersOf, Border}
+use Rattle.mseed_join.specs.declared.flaw.Flaw.TheVariants.{Limit}
+use Rattle.mseed_join.specs.Flaws.{IsFlawOf}
 use Rattle.mseed_join.specs.Joined.{Begins, IsJointOf}
 use Rattle.mseed_join.specs.Reached.{OpenPart, none, begun, whole, Stage, parts_at, IsStage, passed_line, passed_lines}
 use Rattle.mseed_join.specs.ReadParts.{written_of}
@@ -83,14 +85,24 @@ pub record IsTaken {A : Type 0} (lines line : List ℕ) (s t : Stage) (report : 
 -- this line, which can stand there
 abbrev pub IsStep : {A : Type 0} → List ℕ → Stage → Line → Result Reported LineFault → Joint A → Joint A → Type 0
 IsStep lines s x (Ok reported) old new = IsTaken lines (text_of_line x) s (to s x) reported old new
-IsStep lines s x (Err Bad) old new = Begins old.past (lines ++ text_of_line x) → ⊥
+IsStep lines s x (Err (Bad flaw)) old new = Begins old.past (lines ++ text_of_line x) → ⊥
 IsStep lines s x (Err NoMemory) old new = ⊤
 
 -- any line
 abbrev pub IsLineStep : {A : Type 0} → List ℕ → Stage → List ℕ → Result Reported LineFault → Joint A → Joint A → Type 0
 IsLineStep lines s line (Ok reported) old new = (t : Stage) × IsTaken lines line s t reported old new
-IsLineStep lines s line (Err Bad) old new = Begins old.past (lines ++ line) → ⊥
+IsLineStep lines s line (Err (Bad flaw)) old new = Begins old.past (lines ++ line) → ⊥
 IsLineStep lines s line (Err NoMemory) old new = ⊤
+
+-- why a line wasn't taken that can stand there
+abbrev pub IsLimit : LineFault → Type 0
+IsLimit (Bad flaw) = flaw ≡ Limit
+IsLimit NoMemory = ⊤
+
+-- why a line wasn't taken, by what stands before it
+abbrev pub IsFlawed : LineFault → OpenPart → List ℕ → Type 0
+IsFlawed (Bad flaw) last line = IsFlawOf flaw last line
+IsFlawed NoMemory last line = ⊤
 
 -- a fault after so many bytes
 abbrev pub fault_after : ℕ → StreamFault → StreamFault

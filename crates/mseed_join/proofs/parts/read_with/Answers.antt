@@ -46,7 +46,7 @@ lines-preserved g c =
     record {
       along = on_way c.args.past h _ _ _ c.next.new.self c.in-Ok-Some.reported _ _ _ _
           (g.P.Report.stands c.args.output.now c.add.new.self c.add.new.output) i.along step c.report_passed.ensures
-          (c.in-Ok-add.ensures c.args.output.now);
+          (c.in-Ok-add.ensures.reported c.args.output.now);
       goes_on = step.1.2;
       more = reads.more;
       beside = reads.beside;
@@ -61,7 +61,7 @@ returns-in-Err-add-clause-outcome g c =
     (g.P.Report.cuts c.args.output.now c.add.new.output) _ c.requires.read
     (on_way c.args.past h _ _ _ c.next.new.self c.in-Ok-Some.reported _ _ _ _
     (λ (found : List Border). g.P.Report.cuts c.args.output.now c.add.new.output found c.in-Err-add.fault) i.along step
-    c.report_passed.ensures (c.in-Err-add.ensures c.args.output.now))
+    c.report_passed.ensures (c.in-Err-add.ensures.reported c.args.output.now))
 
 pub returns-in-Ok-finish-clause-outcome : goal.returns-in-Ok-finish-clause-outcome
 returns-in-Ok-finish-clause-outcome g c =

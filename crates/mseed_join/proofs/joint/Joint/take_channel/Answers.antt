@@ -6,11 +6,11 @@ use Rattle.mseed_parts.specs.declared.part.JoinFault.{JoinFault}
 use Rattle.mseed_join.proofs.Steps.{channel_added, channel_refused, channel_skipped}
 use Rattle.mseed_join.proofs.joint.Joint.take_channel.Goals as goal
 
-pub returns-in-Some : goal.returns-in-Some
-returns-in-Some g c = channel_skipped c.args.self.now _ c.in-Some.is c.args.codes c.args.channel.now
+pub returns-in-Some-clause-step : goal.returns-in-Some-clause-step
+returns-in-Some-clause-step g c = channel_skipped c.args.self.now _ c.in-Some.is c.args.codes c.args.channel.now
 
-pub returns-in-Ok : goal.returns-in-Ok
-returns-in-Ok g c =
+pub returns-in-Ok-clause-step : goal.returns-in-Ok-clause-step
+returns-in-Ok-clause-step g c =
     let found = c.in-Ok.ensures.border in
     channel_added c.joined_in_turn.ensures.channel c.joining_laws.ensures.one c.args.self.now _ c.reported_of.result
     c.reported_of.ensures.passed c.in-None.is c.args.codes c.args.channel.now
@@ -18,7 +18,7 @@ returns-in-Ok g c =
     ∙ ap (λ (o : Option Finding). border_at c.args.codes (head_in c.args.channel.now.findings) o) found)
     c.in-Ok.ensures.joined c.in-Ok.ensures.fits refl refl
 
-pub returns-in-Err-Limit : goal.returns-in-Err-Limit
-returns-in-Err-Limit g c =
+pub returns-in-Err-Limit-clause-step : goal.returns-in-Err-Limit-clause-step
+returns-in-Err-Limit-clause-step g c =
     channel_refused c.joining_laws.ensures.one c.args.self.now c.in-None.is c.args.codes c.args.channel.now
     (c.in-Err-Limit.ensures.limit (ap (λ (e : JoinFault). Err e) c.in-Err-Limit.field-0-is))

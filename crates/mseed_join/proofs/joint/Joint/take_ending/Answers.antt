@@ -1,20 +1,27 @@
 use Rattle.std.proofs.Common.{ap, ◌∙◌, Bool}
 use Rattle.mseed_join.specs.declared.joint.Place.TheVariants.{Whole}
-use Rattle.mseed_join.proofs.Rows.{ending_fault, ending_faults, header_or_none, whole_no}
+use Rattle.mseed_join.specs.declared.flaw.Flaw.TheVariants.{Ending}
+use Rattle.mseed_join.proofs.Rows.{ending_fault, ending_faults, ending_flaw, fault_flaw, faults_flaw, header_or_none}
+use Rattle.mseed_join.proofs.Rows.{whole_no}
 use Rattle.mseed_join.proofs.joint.Joint.take_ending.Goals as goal
 
 pub returns-in-Some : goal.returns-in-Some
 returns-in-Some g c = record {
   step = ending_fault c.args.self.now c.take_fault.new.self c.args.bytes c.args.has_faults c.args.line.now
       c.in-Some.fault c.take_fault.result c.requires.place c.in-Some.ensures.read c.in-Some.ensures.fits
-      c.take_fault.ensures;
+      c.take_fault.ensures.step;
+  flaw = fault_flaw c.args.self.now c.args.bytes c.args.has_faults c.args.line.now c.in-Some.fault c.take_fault.result
+      c.requires.place c.in-Some.ensures.read c.in-Some.ensures.fits c.take_fault.ensures.limit;
 }
 
 pub returns-then-has_faults : goal.returns-then-has_faults
 returns-then-has_faults g c = record {
-  step = header_or_none c.args.self.now c.take_header.new.self _ c.args.line.now c.take_header.result
+  step = header_or_none Ending c.args.self.now c.take_header.new.self _ c.args.line.now c.take_header.result
       (c.requires.place ∙ ap (λ (b : Bool). Whole c.args.bytes b) c.if-has_faults.true) (whole_no c.args.bytes _)
       c.requires.ended c.take_header.ensures.step c.take_header.ensures.line c.take_header.ensures.bad
+      c.in_default.ensures.none;
+  flaw = ending_flaw c.args.self.now c.args.bytes _ c.args.line.now c.take_header.result
+      (c.requires.place ∙ ap (λ (b : Bool). Whole c.args.bytes b) c.if-has_faults.true) c.take_header.ensures.bad
       c.in_default.ensures.none;
 }
 
@@ -23,13 +30,19 @@ returns-in-Some-read_faults_line g c = record {
   step = ending_faults c.args.self.now c.take_faults.new.self c.args.bytes c.args.line.now
       c.in-Some-read_faults_line.faults c.take_faults.result
       (c.requires.place ∙ ap (λ (b : Bool). Whole c.args.bytes b) c.if-has_faults.false)
-      c.in-Some-read_faults_line.ensures.read c.in-Some-read_faults_line.ensures.fits c.take_faults.ensures;
+      c.in-Some-read_faults_line.ensures.read c.in-Some-read_faults_line.ensures.fits c.take_faults.ensures.step;
+  flaw = faults_flaw c.args.self.now c.args.bytes c.args.line.now c.in-Some-read_faults_line.faults
+      c.take_faults.result (c.requires.place ∙ ap (λ (b : Bool). Whole c.args.bytes b) c.if-has_faults.false)
+      c.in-Some-read_faults_line.ensures.read c.in-Some-read_faults_line.ensures.fits c.take_faults.ensures.limit;
 }
 
 pub returns : goal.returns
 returns g c = record {
-  step = header_or_none c.args.self.now c.take_header-2.new.self _ c.args.line.now c.take_header-2.result
+  step = header_or_none Ending c.args.self.now c.take_header-2.new.self _ c.args.line.now c.take_header-2.result
       (c.requires.place ∙ ap (λ (b : Bool). Whole c.args.bytes b) c.if-has_faults.false) (whole_no c.args.bytes _)
       c.requires.ended c.take_header-2.ensures.step c.take_header-2.ensures.line c.take_header-2.ensures.bad
+      (c.in_default.ensures.none, c.in_default-read_faults_line.ensures.none);
+  flaw = ending_flaw c.args.self.now c.args.bytes _ c.args.line.now c.take_header-2.result
+      (c.requires.place ∙ ap (λ (b : Bool). Whole c.args.bytes b) c.if-has_faults.false) c.take_header-2.ensures.bad
       (c.in_default.ensures.none, c.in_default-read_faults_line.ensures.none);
 }

@@ -3,20 +3,20 @@ use Rattle.std.proofs.lemmas.Bool.{false≢true}
 use Rattle.mseed_join.proofs.Steps.{fault_kept, fault_passed, fault_refused, fault_skipped, some_after}
 use Rattle.mseed_join.proofs.joint.Joint.take_fault.Goals as goal
 
-pub returns-in-Some : goal.returns-in-Some
-returns-in-Some g c = fault_skipped c.args.self.now _ c.in-Some.is c.args.bytes c.args.fault
+pub returns-in-Some-clause-step : goal.returns-in-Some-clause-step
+returns-in-Some-clause-step g c = fault_skipped c.args.self.now _ c.in-Some.is c.args.bytes c.args.fault
 
-pub returns-then-not-self : goal.returns-then-not-self
-returns-then-not-self g c =
+pub returns-then-not-self-clause-step : goal.returns-then-not-self-clause-step
+returns-then-not-self-clause-step g c =
     fault_kept c.args.self.now _ c.if-not-self.true c.in_default.is c.args.fault refl refl
     (some_after _ _ _ c.args.fault c.fault_after.ensures c.bytes.ensures) c.args.bytes
 
-pub returns-in-Ok : goal.returns-in-Ok
-returns-in-Ok g c =
+pub returns-in-Ok-clause-step : goal.returns-in-Ok-clause-step
+returns-in-Ok-clause-step g c =
     fault_passed c.args.self.now _ c.if-not-self.false c.in_default.is c.args.fault (c.in-Ok.ensures.fits.0 refl) refl
     c.in-Ok.ensures.value refl c.args.bytes
 
-pub returns-in-Err : goal.returns-in-Err
-returns-in-Err g c =
+pub returns-in-Err-clause-step : goal.returns-in-Err-clause-step
+returns-in-Err-clause-step g c =
     fault_refused c.joining_laws.ensures.one c.args.self.now c.if-not-self.false c.in_default.is c.args.fault
     (λ few. false≢true (c.in-Err.ensures.fits.1 few)) c.args.bytes

@@ -1,11 +1,14 @@
 use Rattle.std.proofs.Common.{sym, ◌∙◌}
 use Rattle.std.proofs.lemmas.Bool.{false≢true}
-use Rattle.mseed_join.proofs.Rows.{row_counted, row_refused, row_taken, row_unknown}
+use Rattle.mseed_join.proofs.Rows.{channel_flaw, counts_flaw, order_flaw, row_counted, row_flaw}
+use Rattle.mseed_join.proofs.Rows.{row_refused, row_taken, row_unknown}
 use Rattle.mseed_join.proofs.joint.Joint.take_row.Goals as goal
 
 pub returns-then-not-is_after : goal.returns-then-not-is_after
 returns-then-not-is_after g c = record {
   step = row_refused c.args.self.now c.args.last c.args.line.now _ _ c.requires.place c.in-Some.ensures.read
+      c.in-Some.ensures.fits (λ k. false≢true (sym c.if-not-is_after.true ∙ c.is_after.ensures.1 k));
+  flaw = order_flaw c.args.self.now c.args.last c.args.line.now _ _ c.requires.place c.in-Some.ensures.read
       c.in-Some.ensures.fits (λ k. false≢true (sym c.if-not-is_after.true ∙ c.is_after.ensures.1 k));
 }
 
@@ -13,18 +16,26 @@ pub returns-in-Some : goal.returns-in-Some
 returns-in-Some g c = record {
   step = row_taken c.args.self.now c.take_channel.new.self c.args.last c.args.line.now _ _ c.take_channel.result
       c.requires.place c.in-Some.ensures.read c.in-Some.ensures.fits
-      (c.is_after.ensures.0 c.if-not-is_after.false) c.take_channel.ensures;
+      (c.is_after.ensures.0 c.if-not-is_after.false) c.take_channel.ensures.step;
+  flaw = channel_flaw c.args.self.now c.args.last c.args.line.now _ _ c.take_channel.result c.requires.place
+      c.in-Some.ensures.read c.in-Some.ensures.fits (c.is_after.ensures.0 c.if-not-is_after.false)
+      c.take_channel.ensures.limit;
 }
 
 pub returns-in_default-read_counts_line : goal.returns-in_default-read_counts_line
 returns-in_default-read_counts_line g c = record {
   step = row_unknown c.args.self.now c.args.last c.args.line.now c.requires.place c.requires.ended
       c.in_default.ensures.none c.in_default-read_counts_line.ensures.none;
+  flaw = row_flaw c.args.self.now c.args.last c.args.line.now c.requires.place c.in_default.ensures.none
+      c.in_default-read_counts_line.ensures.none;
 }
 
 pub returns : goal.returns
 returns g c = record {
   step = row_counted c.args.self.now c.take_counts.new.self c.args.last c.args.line.now
       c.in-Some-read_counts_line.records c.in-Some-read_counts_line.bytes c.take_counts.result c.requires.place
-      c.in-Some-read_counts_line.ensures.read c.in-Some-read_counts_line.ensures.fits c.take_counts.ensures;
+      c.in-Some-read_counts_line.ensures.read c.in-Some-read_counts_line.ensures.fits c.take_counts.ensures.step;
+  flaw = counts_flaw c.args.self.now c.args.last c.args.line.now c.in-Some-read_counts_line.records
+      c.in-Some-read_counts_line.bytes c.take_counts.result c.requires.place c.in-Some-read_counts_line.ensures.read
+      c.in-Some-read_counts_line.ensures.fits c.take_counts.ensures.limit;
 }

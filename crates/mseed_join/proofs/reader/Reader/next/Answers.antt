@@ -1,5 +1,7 @@
-use Rattle.std.proofs.Common.{◌≡◌, ◌++◌, ℕ, List, Bool, arith, refl, sym, ap, subst, ◌∙◌}
+use Rattle.std.proofs.Common.{◌≡◌, ◌+◌, ◌++◌, ℕ, List, Bool, arith, refl, sym, ap, subst, ◌∙◌}
 use Rattle.mseed_stream.specs.Device.{BytesRead}
+use Rattle.mseed_join.specs.declared.flaw.Flaw.{Flaw}
+use Rattle.mseed_join.specs.private.Along.{IsBadAfter}
 use Rattle.mseed_join.specs.private.LineReading.{GoesOn, IsLineAhead}
 use Rattle.mseed_join.specs.private.Taking.{IsReportedMore}
 use Rattle.mseed_join.proofs.Along.{bad_at, bad_next, fails, line_taken, looked, looked_few, over_at, some_read}
@@ -51,10 +53,12 @@ pub returns-in-Err-Bad-clause-step : goal.returns-in-Err-Bad-clause-step
 returns-in-Err-Bad-clause-step g c = λ past h s along.
     let l = looked past h _ _ _ _ s _ _ along c.look.ensures.more in
     let refused = rw c.in-Err-Bad.field-0-is at c.in-Err-Bad.ensures.step l.by.passed s l.read in
+    let why = rw c.in-Err-Bad.field-0-is at c.in-Err-Bad.ensures.flaw l.by.passed s l.read in
     let lies = c.in-Ok.ensures.ahead in
     let line : IsLineAhead c.look.new.self.size c.look.new.self.held = rw c.in-Line.is at lies in
-    bad_next past h _ s c.look.new.self l.by _ _ c.lines-number.ensures.value c.offset-offset.ensures
-    (whole_line past h _ s c.look.new.self c.args.self.now.joint c.line.result.now l line c.line.ensures refused)
+    bad_next past h _ s c.look.new.self l.by _ _ _ c.lines-number.ensures.value c.offset-offset.ensures
+    (whole_line past h _ s c.look.new.self c.args.self.now.joint c.line.result.now _ l line c.line.ensures refused
+    why)
 
 pub returns-in-Err-Memory-clause-step : goal.returns-in-Err-Memory-clause-step
 returns-in-Err-Memory-clause-step g c = λ past h s along.
@@ -69,9 +73,11 @@ returns-then-is_over-clause-step g c = λ past h s along.
 pub returns-else-is_over-clause-step : goal.returns-else-is_over-clause-step
 returns-else-is_over-clause-step g c = λ past h s along.
     let l = looked past h _ _ _ _ s _ _ along c.look.ensures.more in
-    bad_next past h _ s c.look.new.self l.by _ _ c.lines-number.ensures.value c.offset-offset.ensures
+    subst (λ (f : Flaw). IsBadAfter past h (g.R.Source.read c.look.new.source) s (c.lines-number.result + 1)
+    c.offset-offset.result f) (sym c.flaw_of-flaw.ensures)
+    (bad_next past h _ s c.look.new.self l.by _ _ _ c.lines-number.ensures.value c.offset-offset.ensures
     (bad_at past h _ s c.look.new.self c.args.self.now.joint c.in-Ok.ahead l c.in-Ok.ensures.ahead
-    c.in_default.not-Line (sym c.is_over.ensures ∙ c.if-is_over.false))
+    c.in_default.not-Line (sym c.is_over.ensures ∙ c.if-is_over.false)))
 
 pub returns-in-Ok-take_line-clause-few : goal.returns-in-Ok-take_line-clause-few
 returns-in-Ok-take_line-clause-few g c =

@@ -3,8 +3,8 @@ use Rattle.mseed_join.specs.private.Taking.{border_by}
 use Rattle.mseed_join.proofs.Each.{lined_in_part, lined_more, lined_no_more}
 use Rattle.mseed_join.proofs.report.VecU8ReportJoinsFault.add.Goals as goal
 
-pub returns-in-Ok-write_beyond : goal.returns-in-Ok-write_beyond
-returns-in-Ok-write_beyond g c = λ first found before.
+pub returns-in-Ok-write_beyond-clause-reported : goal.returns-in-Ok-write_beyond-clause-reported
+returns-in-Ok-write_beyond-clause-reported g c = λ first found before.
     let write = c.in-Ok-write_beyond.ensures in (
       lined_more (g.W.Sink.written first) (g.W.Sink.written c.args.output.now)
           (g.W.Sink.written c.write_beyond.new.sink) c.args.self.now.items c.push_reported.new.text.items
@@ -13,15 +13,15 @@ returns-in-Ok-write_beyond g c = λ first found before.
       writes_on _ _ _ _ _ _ _ _ _ before.1 write.writes,
     )
 
-pub returns-in-Err : goal.returns-in-Err
-returns-in-Err g c = λ first found before. (
+pub returns-in-Err-clause-reported : goal.returns-in-Err-clause-reported
+returns-in-Err-clause-reported g c = λ first found before. (
   lined_no_more (g.W.Sink.written first) (g.W.Sink.written c.args.output.now) c.args.self.now.items found
       (border_by c.args.reported.now) before.0,
   before.1,
 )
 
-pub returns-in-Err-write_beyond : goal.returns-in-Err-write_beyond
-returns-in-Err-write_beyond g c = λ first found before.
+pub returns-in-Err-write_beyond-clause-reported : goal.returns-in-Err-write_beyond-clause-reported
+returns-in-Err-write_beyond-clause-reported g c = λ first found before.
     let write = c.in-Err-write_beyond.ensures in (
       lined_in_part (g.W.Sink.written first) (g.W.Sink.written c.args.output.now)
           (g.W.Sink.written c.write_beyond.new.sink) c.in-Err-write_beyond.field-0 c.args.self.now.items

@@ -1,0 +1,205 @@
+-- One thing is wrong with a line at most.
+use Rattle.std.proofs.Common.{◌≡◌, ◌≢◌, ◌⊎◌, ◌+◌, ◌<◌, ◌≤◌, ℕ, List, [], ◌∷◌, ◌++◌, length, take, drop, Bool, refl, sym}
+use Rattle.std.proofs.Common.{ap, ◌∙◌, subst, arith, inl, inr, append_assoc, append-nil, length-append, length-take}
+use Rattle.std.proofs.Common.{take-append-drop}
+use Rattle.mseed_audit.specs.declared.channel.Channel.{Channel}
+use Rattle.mseed_parts.specs.Parts.{IsAscending}
+use Rattle.mseed_part_lines.specs.Lines.{Line, header, channel, counts, faults, fault, text_of_line, IsLine}
+use Rattle.mseed_part_lines.specs.Lines.{header_line, channel_line, HasChannelLine, HasFaultLine}
+use Rattle.mseed_part_lines.proofs.OneLine.{channel_one, line_one}
+use Rattle.mseed_join.specs.declared.flaw.Flaw.{Flaw}
+use Rattle.mseed_join.specs.declared.flaw.Flaw.TheVariants.{Beginning, Row, Order, Ending, Limit, Long}
+use Rattle.mseed_join.specs.declared.flaw.Flaw.TheVariants.{Unended as NoEnd, Missing}
+use Rattle.mseed_join.specs.Flaws.{May, IsNoChannel, IsNoCounts, IsNoFault, IsNoFaults, IsFlawOf, IsFlaw}
+use Rattle.mseed_join.specs.Joined.{HasNoEnd}
+use Rattle.mseed_join.specs.Reached.{OpenPart, none, begun, whole}
+use Rattle.mseed_join.specs.Written.{Written}
+use Rattle.mseed_join.proofs.Ended.{plain_from, same_line, within_line}
+
+-- ---- a whole line
+-- it can stand there
+record Stands (last : OpenPart) (line : List ℕ) : Type 0 where
+  x : Line
+  is_line : IsLine x
+  may : May last x
+  text : text_of_line x ≡ line
+
+-- its channel is out of order
+record IsDisordered (channels : List (List ℕ × Channel)) (key line : List ℕ) : Type 0 where
+  c : Channel
+  fits : HasChannelLine key c
+  is : line ≡ channel_line key c
+  never : IsAscending (channels ++ (key, c) ∷ []) → ⊥
+
+record IsNoEnding (w : Written) (line : List ℕ) : Type 0 where
+  other : line ≢ header_line
+  fault : IsNoFault w.part.bytes line
+  faults : w.faults ≡ 0 → IsNoFaults line
+
+-- a flaw, by what stands before the line
+abbrev Told : Flaw → OpenPart → List ℕ → Type 0
+Told f none line = ((f ≡ Beginning) × (line ≢ header_line)) ⊎ ((f ≡ Limit) × Stands none line)
+Told f (begun channels) line =
+    ((f ≡ Row) × IsNoChannel line × IsNoCounts line)
+    ⊎ (((key : List ℕ) × ((f ≡ Order key) × IsDisordered channels key line))
+    ⊎ ((f ≡ Limit) × Stands (begun channels) line))
+Told f (whole w) line = ((f ≡ Ending) × IsNoEnding w line) ⊎ ((f ≡ Limit) × Stands (whole w) line)
+
+stands_told : (last : OpenPart) (line : List ℕ) → Stands last line → Told Limit last line
+stands_told none line s = inr (refl, s)
+stands_told (begun channels) line s = inr (inr (refl, s))
+stands_told (whole w) line s = inr (refl, s)
+
+told : (f : Flaw) (last : OpenPart) (line : List ℕ) → IsFlawOf f last line → Told f last line
+told _ _ _ (IsFlawOf.beginning line other) = inl (refl, other)
+told _ _ _ (IsFlawOf.row channels line no_channel no_counts) = inl (refl, no_channel, no_counts)
+told _ _ _ (IsFlawOf.order channels key c line fits is never) =
+    inr (inl (key, (refl, record { c = c; fits = fits; is = is; never = never })))
+told _ _ _ (IsFlawOf.ending w line other no_fault no_faults) =
+    inl (refl, record { other = other; fault = no_fault; faults = no_faults })
+told _ _ _ (IsFlawOf.limit last x line is_line may text) =
+    stands_told last line (record { x = x; is_line = is_line; may = may; text = text })
+
+-- what can stand there has no other flaw
+no_beginning : (line : List ℕ) → line ≢ header_line → Stands none line → ⊥
+no_beginning line other s = by s.x s.may s.text
+  where
+    by : (x : Line) → May none x → text_of_line x ≡ line → ⊥
+    by header m t = other (sym t)
+    by (channel key c) m t = m
+    by (counts n l) m t = m
+    by (faults n) m t = m
+    by (fault l f) m t = m
+
+no_row : (channels : List (List ℕ × Channel)) (line : List ℕ) → IsNoChannel line → IsNoCounts line
+    → Stands (begun channels) line → ⊥
+no_row channels line no_channel no_counts s = by s.x s.is_line s.may s.text
+  where
+    by : (x : Line) → IsLine x → May (begun channels) x → text_of_line x ≡ line → ⊥
+    by header i m t = m
+    by (channel key c) i m t = no_channel key c i (sym t)
+    by (counts n l) i m t = no_counts n l i (sym t)
+    by (faults n) i m t = m
+    by (fault l f) i m t = m
+
+no_order : (channels : List (List ℕ × Channel)) (key line : List ℕ) → IsDisordered channels key line
+    → Stands (begun channels) line → ⊥
+no_order channels key line d s =
+    let same : channel key d.c ≡ s.x = line_one (channel key d.c) s.x d.fits s.is_line (sym d.is ∙ sym s.text) in
+    d.never (subst (λ (x : Line). May (begun channels) x) (sym same) s.may)
+
+no_ending : (w : Written) (line : List ℕ) → IsNoEnding w line → Stands (whole w) line → ⊥
+no_ending w line e s = by s.x s.is_line s.may s.text
+  where
+    by : (x : Line) → IsLine x → May (whole w) x → text_of_line x ≡ line → ⊥
+    by header i m t = e.other (sym t)
+    by (channel key c) i m t = m
+    by (counts n l) i m t = m
+    by (faults n) i m t = e.faults m n i (sym t)
+    by (fault l f) i m t = e.fault f (subst (λ (n : ℕ). HasFaultLine n f) (sym m) i) (sym t)
+
+one_key : (channels : List (List ℕ × Channel)) (key other line : List ℕ) → IsDisordered channels key line
+    → IsDisordered channels other line → key ≡ other
+one_key channels key other line d e = (channel_one key other d.c e.c d.fits e.fits (sym d.is ∙ e.is)).0
+
+one_of : (f g : Flaw) (last : OpenPart) (line : List ℕ) → Told f last line → Told g last line → f ≡ g
+one_of f g none line (inl a) (inl b) = a.0 ∙ sym b.0
+one_of f g none line (inl a) (inr b) = absurd (no_beginning line a.1 b.1)
+one_of f g none line (inr a) (inl b) = absurd (no_beginning line b.1 a.1)
+one_of f g none line (inr a) (inr b) = a.0 ∙ sym b.0
+one_of f g (begun channels) line (inl a) (inl b) = a.0 ∙ sym b.0
+one_of f g (begun channels) line (inl a) (inr (inl b)) = absurd (a.1 b.0 b.1.1.c b.1.1.fits b.1.1.is)
+one_of f g (begun channels) line (inl a) (inr (inr b)) = absurd (no_row channels line a.1 a.2 b.1)
+one_of f g (begun channels) line (inr (inl a)) (inl b) = absurd (b.1 a.0 a.1.1.c a.1.1.fits a.1.1.is)
+one_of f g (begun channels) line (inr (inl a)) (inr (inl b)) =
+    a.1.0 ∙ ap (λ (key : List ℕ). Order key) (one_key channels a.0 b.0 line a.1.1 b.1.1) ∙ sym b.1.0
+one_of f g (begun channels) line (inr (inl a)) (inr (inr b)) = absurd (no_order channels a.0 line a.1.1 b.1)
+one_of f g (begun channels) line (inr (inr a)) (inl b) = absurd (no_row channels line b.1 b.2 a.1)
+one_of f g (begun channels) line (inr (inr a)) (inr (inl b)) = absurd (no_order channels b.0 line b.1.1 a.1)
+one_of f g (begun channels) line (inr (inr a)) (inr (inr b)) = a.0 ∙ sym b.0
+one_of f g (whole w) line (inl a) (inl b) = a.0 ∙ sym b.0
+one_of f g (whole w) line (inl a) (inr b) = absurd (no_ending w line a.1 b.1)
+one_of f g (whole w) line (inr a) (inl b) = absurd (no_ending w line b.1 a.1)
+one_of f g (whole w) line (inr a) (inr b) = a.0 ∙ sym b.0
+
+-- ---- the first line of some bytes
+-- it is whole
+record IsWhole (f : Flaw) (last : OpenPart) (bytes : List ℕ) : Type 0 where
+  body : List ℕ
+  after : List ℕ
+  no_end : HasNoEnd body
+  short : length body < 512
+  is : bytes ≡ body ++ 10 ∷ after
+  flaw : IsFlawOf f last (body ++ 10 ∷ [])
+
+-- its flaw, by how far it goes
+abbrev Lies : Flaw → OpenPart → List ℕ → Type 0
+Lies f last bytes =
+    IsWhole f last bytes
+    ⊎ (((f ≡ Long) × HasNoEnd (take 512 bytes) × (512 ≤ length bytes))
+    ⊎ (((f ≡ NoEnd) × HasNoEnd bytes × (length bytes < 512) × (bytes ≢ [])) ⊎ ((f ≡ Missing) × (bytes ≡ []))))
+
+lies : (f : Flaw) (last : OpenPart) (bytes : List ℕ) (at_end : Bool) → IsFlaw f last bytes at_end → Lies f last bytes
+lies _ _ _ _ (IsFlaw.line flaw last body after bytes at_end no_end short is wrong) = inl (record {
+  body = body;
+  after = after;
+  no_end = no_end;
+  short = short;
+  is = is ∙ append_assoc body (10 ∷ []) after;
+  flaw = wrong;
+})
+lies _ _ _ _ (IsFlaw.long last bytes at_end no_end many) = inr (inl (refl, no_end, many))
+lies _ _ _ _ (IsFlaw.unended last bytes at_end ended some no_end short) =
+    inr (inr (inl (refl, no_end, short, some)))
+lies _ _ _ _ (IsFlaw.missing channels at_end ended) = inr (inr (inr (refl, refl)))
+
+both_whole : (f g : Flaw) (last : OpenPart) (bytes : List ℕ) → IsWhole f last bytes → IsWhole g last bytes → f ≡ g
+both_whole f g last bytes a b =
+    let same : a.body ≡ b.body =
+    (same_line a.body b.body a.after b.after (plain_from a.body a.no_end) (plain_from b.body b.no_end)
+    (sym a.is ∙ b.is)).0 in
+    one_of f g last (b.body ++ 10 ∷ [])
+    (told f last (b.body ++ 10 ∷ []) (subst (λ (t : List ℕ). IsFlawOf f last (t ++ 10 ∷ [])) same a.flaw))
+    (told g last (b.body ++ 10 ∷ []) b.flaw)
+
+-- a whole line isn't too long, has its LF, and is there
+not_long : (f : Flaw) (last : OpenPart) (bytes : List ℕ) → IsWhole f last bytes → HasNoEnd (take 512 bytes)
+    → 512 ≤ length bytes → ⊥
+not_long f last bytes a no_end many =
+    let within : length (take 512 bytes) ≤ length a.body =
+    within_line (take 512 bytes) a.body (drop 512 bytes) a.after (plain_from (take 512 bytes) no_end)
+    (take-append-drop 512 bytes ∙ a.is) in
+    omega (arith, within, a.short, many, length-take 512 bytes)
+
+not_unended : (f : Flaw) (last : OpenPart) (bytes : List ℕ) → IsWhole f last bytes → HasNoEnd bytes → ⊥
+not_unended f last bytes a no_end =
+    let within : length bytes ≤ length a.body =
+    within_line bytes a.body [] a.after (plain_from bytes no_end) (append-nil bytes ∙ a.is) in
+    omega (arith, within, ap length a.is, length-append a.body (10 ∷ a.after))
+
+not_missing : (f : Flaw) (last : OpenPart) (bytes : List ℕ) → IsWhole f last bytes → bytes ≡ [] → ⊥
+not_missing f last bytes a e =
+    omega (arith, ap length e, ap length a.is, length-append a.body (10 ∷ a.after))
+
+one_lie : (f g : Flaw) (last : OpenPart) (bytes : List ℕ) → Lies f last bytes → Lies g last bytes → f ≡ g
+one_lie f g last bytes (inl a) (inl b) = both_whole f g last bytes a b
+one_lie f g last bytes (inl a) (inr (inl b)) = absurd (not_long f last bytes a b.1 b.2)
+one_lie f g last bytes (inl a) (inr (inr (inl b))) = absurd (not_unended f last bytes a b.1)
+one_lie f g last bytes (inl a) (inr (inr (inr b))) = absurd (not_missing f last bytes a b.1)
+one_lie f g last bytes (inr (inl a)) (inl b) = absurd (not_long g last bytes b a.1 a.2)
+one_lie f g last bytes (inr (inl a)) (inr (inl b)) = a.0 ∙ sym b.0
+one_lie f g last bytes (inr (inl a)) (inr (inr (inl b))) = absurd (omega (arith, a.2, b.2))
+one_lie f g last bytes (inr (inl a)) (inr (inr (inr b))) = absurd (omega (arith, a.2, ap length b.1))
+one_lie f g last bytes (inr (inr (inl a))) (inl b) = absurd (not_unended g last bytes b a.1)
+one_lie f g last bytes (inr (inr (inl a))) (inr (inl b)) = absurd (omega (arith, b.2, a.2))
+one_lie f g last bytes (inr (inr (inl a))) (inr (inr (inl b))) = a.0 ∙ sym b.0
+one_lie f g last bytes (inr (inr (inl a))) (inr (inr (inr b))) = absurd (a.3 b.1)
+one_lie f g last bytes (inr (inr (inr a))) (inl b) = absurd (not_missing g last bytes b a.1)
+one_lie f g last bytes (inr (inr (inr a))) (inr (inl b)) = absurd (omega (arith, b.2, ap length a.1))
+one_lie f g last bytes (inr (inr (inr a))) (inr (inr (inl b))) = absurd (b.3 a.1)
+one_lie f g last bytes (inr (inr (inr a))) (inr (inr (inr b))) = a.0 ∙ sym b.0
+
+pub flaw_one : (flaw other : Flaw) (last : OpenPart) (bytes : List ℕ) (at_end : Bool) → IsFlaw flaw last bytes at_end
+    → IsFlaw other last bytes at_end → flaw ≡ other
+flaw_one flaw other last bytes at_end a b =
+    one_lie flaw other last bytes (lies flaw last bytes at_end a) (lies other last bytes at_end b)
