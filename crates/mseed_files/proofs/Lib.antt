@@ -1,2 +1,4 @@
+pub mod Given
+pub mod Held
 pub mod OnePlace
 pub mod Opening

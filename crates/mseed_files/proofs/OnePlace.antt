@@ -1,8 +1,8 @@
 -- An offset has one place in files whose bytes are known.
-use Rattle.std.proofs.Common.{◌≡◌, ℕ, zero, suc, ◌+◌, ◌<◌, ◌≤◌, ◌++◌, List, [], ◌∷◌, length, Option, Some, None, refl}
+use Rattle.std.proofs.Common.{◌≡◌, ℕ, zero, suc, ◌<◌, ◌≤◌, ◌++◌, List, [], ◌∷◌, length, Option, Some, None, refl}
 use Rattle.std.proofs.Common.{ap, ◌∙◌, subst, arith}
 use Rattle.mseed_files.specs.Files.{Contents, joined}
-use Rattle.mseed_files.specs.ChainState.{IsPlace, ChainState, before}
+use Rattle.mseed_files.specs.ReaderState.{IsPlace, ReaderState, before}
 use Rattle.mseed_files.specs.declared.place.Place.{Place}
 use Rattle.mseed_files.proofs.Opening.{rest_known}
 
@@ -17,7 +17,7 @@ prefix_known (Some a ∷ files) (suc n) (suc m) all less known =
     let xs = prefix_known files n m b.0 (omega (arith, less)) b.1.0 in
     (a ++ xs.0, ap (λ (o : Option (List ℕ)). joined (Some a) o) xs.1)
 
-not_later : (s : ChainState) (offset : ℕ) (all : List ℕ) (one other : Place)
+not_later : (s : ReaderState) (offset : ℕ) (all : List ℕ) (one other : Place)
     → before s.contents (length s.begins) ≡ Some all → IsPlace s offset one → IsPlace s offset other
     → one.file < other.file → ⊥
 not_later s offset all one other known is is_other less =
@@ -33,7 +33,7 @@ same_place one other file offset =
     ap (λ (n : ℕ). let p : Place = record { file = n; offset = one.offset } in p) file
     ∙ ap (λ (n : ℕ). let p : Place = record { file = other.file; offset = n } in p) offset
 
-pub one_place : (s : ChainState) (offset : ℕ) (all : List ℕ) (one other : Place)
+pub one_place : (s : ReaderState) (offset : ℕ) (all : List ℕ) (one other : Place)
     → before s.contents (length s.begins) ≡ Some all → IsPlace s offset one → IsPlace s offset other → one ≡ other
 one_place s offset all one other known is is_other =
     let less : one.file < other.file → ⊥ = not_later s offset all one other known is is_other in

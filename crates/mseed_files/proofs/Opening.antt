@@ -1,14 +1,24 @@
 -- What opening the next of several files keeps, and where the files that were opened begin.
-use Rattle.std.proofs.Common.{◌≡◌, ℕ, zero, suc, ◌+◌, ◌-◌, ◌*◌, ◌<◌, ◌++◌, List, [], ◌∷◌, length, drop, slice_index}
+use Rattle.std.proofs.Common.{◌≡◌, ℕ, zero, suc, ◌+◌, ◌-◌, ◌*◌, ◌<◌, ◌++◌}
+use Rattle.std.proofs.Common.{List, [], ◌∷◌, length, drop, get_or, slice_index}
 use Rattle.std.proofs.Common.{Option, Some, None, IfSome, Bool, true, false, is_some, refl, sym, ap, ◌∙◌}
-use Rattle.std.proofs.Common.{Result, Ok, Err, IfOk, subst, arith, length-append, append_assoc}
+use Rattle.std.proofs.Common.{Result, Ok, Err, subst, arith, length-append, append_assoc}
 use Rattle.std.proofs.KnownBytes.{Consumes-kept, Consumes-nil, Keeps-trans}
 use Rattle.std.proofs.lemmas.List.{append-nil}
 use Rattle.std.proofs.lemmas.Option.{same_Some}
+use Rattle.std.specs.Bool.{⊤}
+use Rattle.std.specs.Borrow.{Bor}
 use Rattle.std.specs.Io.KnownBytes.{Consumes, IsAtEnd, Keeps}
-use Rattle.mseed_files.specs.Files.{Contents, IsUnread, all_of, joined, unknown}
-use Rattle.mseed_files.specs.ChainState.{HasEnded, IsAlong, IsPlace, ChainState, before, left_in, remaining_of}
+use Rattle.mseed_files.specs.Files.{Contents, all_of, joined}
+use Rattle.mseed_files.specs.Found.{Found, IsUnreadOf, bytes_of, contents_of, unknown, unreadable, readable}
+use Rattle.mseed_files.specs.ReaderState.{HasEnded, IsAlong, IsPlace, ReaderState, before, left_in, remaining_of}
 use Rattle.mseed_files.specs.declared.place.Place.{Place}
+
+-- this is what is left of a file of which nothing was read, the first of these, where its bytes are known
+abbrev pub IsUnread : Contents → Option (List ℕ) → Type 0
+IsUnread [] left = ⊤
+IsUnread (None ∷ files) left = ⊤
+IsUnread (Some bytes ∷ files) left = left ≡ Some bytes
 
 -- nothing is left of a file that isn't open
 pub none_left : {F : Type 0} (remaining : F → Option (List ℕ)) (file : Option F) → is_some file ≡ false
@@ -131,7 +141,7 @@ opened_nearer files after begins now bytes more same longer less =
     rw (same, long) (omega (arith, less))
 
 -- a place by where the files begin
-pub placed : (s : ChainState) (offset : ℕ) (place : Option Place)
+pub placed : (s : ReaderState) (offset : ℕ) (place : Option Place)
     → ((i : ℕ) (xs : List ℕ) → i < length s.begins → before s.contents i ≡ Some xs
     → slice_index s.begins i ≡ length xs)
     → IfSome place (λ p. p.file < length s.begins)
@@ -145,17 +155,26 @@ placed s offset (Some p) begun opened offset_is last = record {
   before_next = λ next xs less within known. omega (arith, last next less within, begun next xs within known);
 }
 
--- what is left of a file whose bytes aren't known may be anything
-pub any_left : {W : Type 0} (words : List W) (n : ℕ) (left : Option (List ℕ)) → IsUnread (drop n (unknown words)) left
-any_left [] zero left = tt
-any_left [] (suc n) left = tt
-any_left (word ∷ words) zero left = tt
-any_left (word ∷ words) (suc n) left = any_left words n left
+-- each word names a file
+pub contents_length : (found : List ℕ → Found) (words : List (Bor (List ℕ)))
+    → length (contents_of found words) ≡ length words
+contents_length found [] = refl
+contents_length found (word ∷ words) = ap (λ (n : ℕ). suc n) (contents_length found words)
 
-pub any_opened : {W T E : Type 0} (words : List W) (n : ℕ) (left : T → Option (List ℕ)) (file : Result T E)
-    → IfOk file (λ f. IsUnread (drop n (unknown words)) (left f))
-any_opened words n left (Ok file) = any_left words n (left file)
-any_opened words n left (Err e) = tt
+unread_of : (f : Found) (files : Contents) (left : Option (List ℕ)) → IsUnreadOf f left
+    → IsUnread (bytes_of f ∷ files) left
+unread_of unknown files left unread = tt
+unread_of (unreadable reason) files left unread = tt
+unread_of (readable bytes) files left unread = unread
+
+-- the file that a word names is that of the word's number
+pub unread_at : (found : List ℕ → Found) (words : List (Bor (List ℕ))) (n : ℕ) (default : Bor (List ℕ))
+    (left : Option (List ℕ)) → n < length words → IsUnreadOf (found (get_or words n default).now) left
+    → IsUnread (drop n (contents_of found words)) left
+unread_at found [] n default left less unread = absurd (omega (arith, less))
+unread_at found (word ∷ words) zero default left less unread = unread_of (found word.now) _ left unread
+unread_at found (word ∷ words) (suc n) default left less unread =
+    unread_at found words n default left (omega (arith, less)) unread
 
 all_past : (files : Contents) (n : ℕ) → n ≡ length files → all_of (drop n files) ≡ Some []
 all_past [] zero e = refl
@@ -164,11 +183,11 @@ all_past (file ∷ files) zero e = absurd (cc e)
 all_past (file ∷ files) (suc n) e = all_past files n (omega (arith, e))
 
 -- nothing is left where no file is
-ended_is : (s : ChainState) → HasEnded s → IsAtEnd (remaining_of s)
+ended_is : (s : ReaderState) → HasEnded s → IsAtEnd (remaining_of s)
 ended_is s ended = rw (ended.nothing, all_past s.contents (length s.begins) ended.all_opened) refl
 
 -- nothing was given where what is known to be left stayed, and it is the end where no file is left
-pub nothing_given : (old middle new : ChainState) → Keeps (remaining_of old) (remaining_of middle)
+pub nothing_given : (old middle new : ReaderState) → Keeps (remaining_of old) (remaining_of middle)
     → Keeps (remaining_of middle) (remaining_of new) → HasEnded new
     → Consumes (remaining_of old) (remaining_of new) [] × IsAtEnd (remaining_of new)
 nothing_given old middle new first second ended = (

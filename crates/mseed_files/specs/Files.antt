@@ -1,5 +1,5 @@
 -- The bytes of files, one after another.
-use Rattle.std.specs.Prelude.{⊤, ◌≡◌, ℕ, List, [], ◌∷◌, ◌++◌, Option, Some, None, map}
+use Rattle.std.specs.Prelude.{ℕ, List, [], ◌∷◌, ◌++◌, Option, Some, None}
 
 -- the bytes of each of several files, where they are known
 abbrev pub Contents : Type 0
@@ -15,13 +15,3 @@ joined (Some bytes) (Some rest) = Some (bytes ++ rest)
 abbrev pub all_of : Contents → Option (List ℕ)
 all_of [] = Some []
 all_of (bytes ∷ files) = joined bytes (all_of files)
-
--- this is what is left of a file of which nothing was read, the first of these, where its bytes are known
-abbrev pub IsUnread : Contents → Option (List ℕ) → Type 0
-IsUnread [] left = ⊤
-IsUnread (None ∷ files) left = ⊤
-IsUnread (Some bytes ∷ files) left = left ≡ Some bytes
-
--- of none of the files that so many words name the bytes are known
-abbrev pub unknown : {W : Type 0} → List W → Contents
-unknown words = map (λ word. None) words

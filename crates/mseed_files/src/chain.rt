@@ -1,225 +1,187 @@
-//! Files one after another, as one reader.
-ghost use Rattle.std.specs.Prelude.{◌≡◌, ◌<◌, ◌≤◌, ◌+◌, ℕ, [], ◌∷◌, ◌++◌, None, Some, Ok, true, false, length};
-ghost use Rattle.std.specs.Prelude.{IfOk, IfSome, OnErr, IsTrue, is_some, slice_index, take, vec_len, vec_capacity};
-ghost use Rattle.std.specs.Io.{ReadsAtMost};
-ghost use Rattle.std.specs.Io.KnownBytes.{Consumes, Keeps, ReadConsumes};
-ghost use Rattle.mseed_files.specs.ChainState.{ChainState, GoesOn, HasEnded, IsAlong, IsPlace, left_in, remaining_of};
-ghost use Rattle.mseed_files.specs.ChainState.{unread};
-ghost use Rattle.mseed_files.specs.private.Steps.{steps_left};
+//! Files one after another, as a source that lends what it holds.
+ghost use Rattle.std.specs.Prelude.{◌≡◌, ◌<◌, IfOk, IfSome, None, OnErr, Ok, [], false, length};
+ghost use Rattle.std.specs.Io.KnownBytes.{Keeps};
+ghost use Rattle.mseed_stream.specs.Device.{nothing_read, read_also};
+ghost use Rattle.mseed_files.specs.ChainState.{IsChain, beside_of, left_of, unread_chain};
+ghost use Rattle.mseed_files.specs.Found.{contents_of};
+ghost use Rattle.mseed_files.specs.ReaderState.{HasEnded, IsPlace};
 
-use crate::open::Open;
+use crate::files::Files;
 use crate::place::Place;
+use crate::reader::Reader;
+use crate::reason::Reason;
+use mseed_stream::{Failed, Source, Tally};
 use std::alloc::{AllocError, Allocator, Global};
-use std::io;
-use std::io::{ErrorKind, Read};
 use std::marker::Model;
 
-/// Files one after another, as one reader. One of them is open at a time.
+/// Files one after another, as a source of their bytes, which lends what it holds: so many bytes are read at once as
+/// its buffer has room for. One file is open at a time.
 ///
-/// The end of a file that others follow is no end, and neither is an empty file. A file that can't be opened, or a read
-/// that fails, is an error of that read; a further read tries again.
+/// The end of a file that others follow is no end, and neither is an empty file. Where a file can't be opened, or a
+/// read fails, so does each call from then on, and no file is read any more.
 ///
 /// Contracts see it as a `ChainState`.
 #[derive(Drop)]
-pub struct Chain<O: Open, A: Allocator = Global> {
-    opener: O,
-    // Where each file that was opened begins. There is room for all files.
-    begins: Vec<u64, A>,
-    // The last one of those, while it's open.
-    file: Option<O::File>,
-    // How many bytes were read.
-    bytes: u64,
-    // The file that failed last.
-    failed: Option<usize>,
+pub struct Chain<'a, F: Files, A: Allocator = Global> {
+    reader: Reader<'a, F, A>,
+    buffer: Vec<u8, A>,
+    // What stands in the buffer and wasn't handed on.
+    begin: usize,
+    end: usize,
+    is_at_end: bool,
+    reads: Tally,
 }
 
-impl<O: Open, A: Allocator> Model for Chain<O, A> {
+impl<'a, F: Files, A: Allocator> Model for Chain<'a, F, A> {
+    ghost use Rattle.std.specs.Prelude.{◌<◌, ◌≤◌, slice_range};
+    ghost use Rattle.std.specs.Vec.{vec_len};
+    ghost use Rattle.mseed_files.specs.ChainState.{ChainState, IsChain, handed_on};
+
     ghost Value = { ChainState };
 
     ghost view = { λ c. record {
-      contents = O.contents c.opener;
-      begins = c.begins.items;
-      is_open = is_some c.file;
-      left = left_in O.File.remaining c.file;
-      bytes = c.bytes;
-      failed = c.failed;
+      files = c.reader;
+      held = slice_range c.buffer.items c.begin c.end;
+      read = handed_on c.reads c.is_at_end;
     } };
 
-    ghost invariant = { λ c. (length (O.contents c.opener) ≤ vec_capacity c.begins)
-        × IsAlong (O.contents c.opener) c.begins.items (is_some c.file) (left_in O.File.remaining c.file)
-        c.bytes };
+    ghost invariant = { λ c. (0 < vec_len c.buffer) × (c.begin ≤ c.end) × (c.end ≤ vec_len c.buffer) × IsChain (record {
+      files = c.reader;
+      held = slice_range c.buffer.items c.begin c.end;
+      read = handed_on c.reads c.is_at_end;
+    }) };
 }
 
-impl<O: Open + Drop, A: Allocator> Chain<O, A> {
-    /// All files that the opener has, none of which was opened yet.
+impl<'a, F: Files, A: Allocator + Copy> Chain<'a, F, A> {
+    /// The files that these words name, none of which was opened yet, with a buffer of so many bytes.
     ///
     /// # Errors
     ///
-    /// Where there is no memory for where they begin.
-    pub fn new(alloc: A, opener: O) -> Result<Chain<O, A>, AllocError>
-        ensures { IfOk result (λ chain. chain ≡ unread (O.contents opener)) }
+    /// Where there is no memory for the buffer, or for where the files begin.
+    pub fn new(
+        alloc: A,
+        files: &'a mut F,
+        words: &'a [&'a [u8]],
+        room: usize,
+    ) -> Result<Chain<'a, F, A>, AllocError>
+        requires { 0 < room }
+        ensures { IfOk result (λ chain. chain ≡ unread_chain (contents_of (F.found files.old) words.entry.now)
+            (F.failures files.old)) }
     {
-        let begins = Vec::with_capacity(alloc, opener.count())?;
+        let reader = Reader::new(alloc, files, words)?;
+        let mut buffer = Vec::new(alloc);
+        buffer.resize(room, 0)?;
         Ok(Chain {
-            opener,
-            begins,
-            file: None,
-            bytes: 0,
-            failed: None,
+            reader,
+            buffer,
+            begin: 0,
+            end: 0,
+            is_at_end: false,
+            reads: Tally::new(),
         })
     }
 }
 
-impl<O: Open, A: Allocator> Chain<O, A> {
-    /// The file for which a read failed last, by its number, if one did.
+impl<'a, F: Files, A: Allocator> Chain<'a, F, A> {
+    /// The file that couldn't be opened or read, by its number, if one couldn't.
     pub fn failed(&self) -> Option<usize>
-        ensures { result ≡ self.now.failed }
+        ensures file { result ≡ self.now.files.failed }
+        ensures chain { IsChain self.now }
     {
-        self.failed
+        self.reader.failed()
+    }
+
+    /// Why that file couldn't be opened or read, as the system says.
+    pub fn reason(&self) -> Reason {
+        self.reader.reason()
     }
 
     /// The number of bytes that were read of all files.
     pub fn bytes_read(&self) -> u64
-        ensures { result ≡ self.now.bytes }
+        ensures { result ≡ self.now.files.bytes }
     {
-        self.bytes
+        self.reader.bytes_read()
     }
 
     /// Where the byte lies before which so many bytes were read: in the last file of those that were opened that
     /// doesn't begin after it. None where no file was opened.
-    #[tactic(auto, using(crate::proofs::Opening::placed))]
     pub fn place_of(&self, offset: u64) -> Option<Place>
-        ensures place { IfSome result (IsPlace self.now offset) }
-        ensures none { result ≡ None → self.now.begins ≡ [] }
+        ensures place { IfSome result (IsPlace self.now.files offset) }
+        ensures none { result ≡ None → self.now.files.begins ≡ [] }
     {
-        place_in(&self.begins, offset)
+        self.reader.place_of(offset)
     }
 
-    /// Whether there is a file to be read: the next one is opened where none is open.
+    /// Reads once into the buffer, of which all was handed on, and returns how many bytes it holds then: 0 where no
+    /// file is left.
     ///
     /// # Errors
     ///
-    /// Where it can't be opened.
-    #[tactic(auto, using(crate::proofs::Opening::none_left, crate::proofs::Opening::opened_keeps))]
-    fn has_file(&mut self) -> io::Result<bool>
-        ensures found { IfOk result (λ found. found ≡ self.new.is_open) }
-        ensures goes_on { GoesOn result self.old self.new }
-        ensures known { Keeps (remaining_of self.old) (remaining_of self.new) }
-        ensures ended { result ≡ Ok false → HasEnded self.new }
-        ensures nearer { result ≡ Ok true → steps_left (record self.new { is_open = false }) < steps_left self.old }
+    /// `Failed` where a file couldn't be opened or read, now or before.
+    fn fill(&mut self) -> Result<usize, Failed>
+        requires none { self.old.held ≡ [] }
+        requires goes_on { self.old.read.is_at_end ≡ false }
+        ensures held { IfOk result (λ n. n ≡ length self.new.held) }
+        ensures none { OnErr result (self.new.held ≡ []) }
+        ensures known { Keeps (left_of self.old) (left_of self.new) }
+        ensures files { self.new.files.contents ≡ self.old.files.contents }
+        ensures ended { result ≡ Ok 0 → HasEnded self.new.files }
+        ensures read { IfOk result (λ _. self.new.read ≡ self.old.read) }
+        ensures failed { OnErr result (self.new.read ≡ read_also self.old.read result []) }
     {
-        if self.file.is_some() {
-            return Ok(true);
+        if self.reader.failed().is_some() {
+            self.reads.record(&[], true);
+            return Err(Failed);
         }
-        let index = self.begins.len();
-        if index == self.opener.count() {
-            return Ok(false);
-        }
-        match self.opener.open(index) {
-            Ok(file) => {
-                put(&mut self.begins, self.bytes);
-                self.file = Some(file);
-                Ok(true)
-            }
-            Err(error) => {
-                self.failed = Some(index);
-                Err(error)
-            }
-        }
-    }
-
-    /// Reads the file that is open, and closes it at its end.
-    ///
-    /// # Errors
-    ///
-    /// Where the read fails, or 2^64 bytes might have been read by it in all.
-    fn read_file(&mut self, buf: &mut [u8]) -> io::Result<usize>
-        requires is_open { IsTrue self.old.is_open }
-        requires room { 0 < length buf.old }
-        ensures bound { ReadsAtMost result buf.new }
-        ensures known { IfOk result (λ n. Consumes (remaining_of self.old) (remaining_of self.new) (take n buf.new)) }
-        ensures kept { OnErr result (Keeps (remaining_of self.old) (remaining_of self.new)) }
-        ensures goes_on { GoesOn result self.old self.new }
-        ensures closed { result ≡ Ok 0 → self.new.is_open ≡ false }
-        ensures opened { self.new.begins ≡ self.old.begins }
-    {
-        let most = self.bytes.checked_add(buf.len() as u64);
-        let read = match (&mut self.file, most) {
-            (Some(file), Some(_)) => file.read(buf),
-            _ => Err(io::Error::from(ErrorKind::FileTooLarge)),
-        };
-        match read {
-            Ok(0) => {
-                self.file = None;
-                Ok(0)
-            }
+        self.begin = 0;
+        self.end = 0;
+        match self.reader.read(&mut self.buffer) {
             Ok(n) => {
-                self.bytes += n as u64;
+                self.end = n;
                 Ok(n)
             }
-            Err(error) => {
-                self.failed = Some(self.begins.len() - 1);
-                Err(error)
+            Err(_) => {
+                self.reads.record(&[], true);
+                Err(Failed)
             }
         }
     }
 }
 
-/// Puts a number into a list that has room for it.
-fn put<A: Allocator>(numbers: &mut Vec<u64, A>, number: u64)
-    requires { vec_len numbers.old < vec_capacity numbers.old }
-    ensures items { numbers.new.items ≡ numbers.old.items ++ number ∷ [] }
-    ensures capacity { vec_capacity numbers.old ≤ vec_capacity numbers.new }
-{
-    match numbers.push(number) {
-        Ok(()) => {}
-        Err(_) => unreachable!(),
-    }
-}
+impl<'a, F: Files, A: Allocator> Source for Chain<'a, F, A> {
+    ghost read = { λ c. c.read };
 
-/// The last of the files that don't begin after an offset, by where they begin, and the offset within it.
-fn place_in(begins: &[u64], offset: u64) -> Option<Place>
-    ensures opened { IfSome result (λ p. p.file < length begins.now) }
-    ensures offset { IfSome result (λ p. slice_index begins.now p.file + p.offset ≡ offset) }
-    ensures last { IfSome result (λ p. (next : ℕ) → p.file < next → next < length begins.now
-        → offset < slice_index begins.now next) }
-    ensures none { result ≡ None → (file : ℕ) → file < length begins.now → offset < slice_index begins.now file }
-{
-    let mut file = begins.len();
-    while file > 0 {
-        file -= 1;
-        if begins[file] <= offset {
-            return Some(Place {
-                file,
-                offset: offset - begins[file],
-            });
-        }
-    }
-    None
-}
+    ghost remaining = { left_of };
 
-impl<O: Open, A: Allocator> Read for Chain<O, A> {
-    ghost remaining = { remaining_of };
+    ghost lent = { λ c. c.held };
 
-    fn read(&mut self, buf: &mut [u8]) -> io::Result<usize>
-        ensures bound { ReadsAtMost result buf.new }
+    ghost beside = { beside_of };
 
-        // What is read is what is left of the file that is open, and then the files after it.
-        ensures bytes { ReadConsumes (remaining_of self.old) (remaining_of self.new) result buf.new }
-
-        // The end is reported once no file is left, and no file is reported for another.
-        ensures end { result ≡ Ok 0 → 0 < length buf.new → HasEnded self.new }
-        ensures goes_on { GoesOn result self.old self.new }
-    {
-        if buf.is_empty() {
+    fn pull(&mut self, buf: &mut [u8]) -> Result<usize, Failed> {
+        if self.is_at_end || buf.is_empty() {
+            self.reads.record(&[], false);
             return Ok(0);
         }
-        while self.has_file()? {
-            match self.read_file(buf)? {
-                0 => {}
-                n => return Ok(n),
-            }
+        if self.begin == self.end && self.fill()? == 0 {
+            self.is_at_end = true;
+            self.reads.record(&[], false);
+            return Ok(0);
         }
-        Ok(0)
+        let held = self.lend();
+        let n = held.len().min(buf.len());
+        buf[..n].copy_from_slice(&held[..n]);
+        self.consume(n);
+        Ok(n)
+    }
+
+    fn lend(&self) -> &[u8] {
+        &self.buffer[self.begin..self.end]
+    }
+
+    #[inline(always)]
+    fn consume(&mut self, amount: usize) {
+        self.reads
+            .record(&self.buffer[self.begin..self.begin + amount], false);
+        self.begin += amount;
     }
 }

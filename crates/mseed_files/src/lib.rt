@@ -1,22 +1,25 @@
-//! Files one after another, as the bytes of one input.
+//! The files that the words of a command line name, one after another, as the bytes of one input.
 //!
-//! A [`Chain`] is a reader of `std::io` over the files that an [`Open`] opens, one at a time and in their order. It
-//! knows in which of them each byte that it gave lies. [`Named`] opens the files that the words of a command line name,
-//! and [`find_unreadable`] looks at them before anything is read.
+//! What the system gives is behind [`Files`]: made files can stand in its place. A [`Chain`] is a source of the files'
+//! bytes, in the order of the words, one file open at a time, and knows in which of them each byte that it gave lies.
+//! [`find_unreadable`] looks at them before anything is read. [`System`] opens the files of the system.
 #![tactic(auto)]
 
 mod arguments;
 mod chain;
+mod files;
 mod law;
 mod look;
-mod named;
-mod open;
 mod place;
+mod reader;
+mod reason;
+mod system;
 
-pub use arguments::words_of;
+pub use arguments::{Arguments, Process, words_of};
 pub use chain::Chain;
+pub use files::Files;
 pub use law::one_place;
 pub use look::find_unreadable;
-pub use named::{Input, Named};
-pub use open::Open;
 pub use place::Place;
+pub use reason::Reason;
+pub use system::{Input, STANDARD_INPUT, System};

@@ -1,6 +1,6 @@
 use Rattle.std.proofs.Common.{Ok, ap}
 use Rattle.mseed_files.proofs.Opening.{nothing_given}
-use Rattle.mseed_files.proofs.chain.ChainRead.read.Goals as goal
+use Rattle.mseed_files.proofs.reader.Reader.read.Goals as goal
 
 pub returns-clause-bytes : goal.returns-clause-bytes
 returns-clause-bytes g c =

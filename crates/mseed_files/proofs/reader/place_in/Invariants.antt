@@ -1,5 +1,5 @@
 use Rattle.std.proofs.Common.{◌≤◌, ◌<◌, ℕ, length, slice_index}
-use Rattle.mseed_files.proofs.chain.place_in.Given as goal
+use Rattle.mseed_files.proofs.reader.place_in.Given as goal
 
 abbrev pub invariant-loop-file : goal.invariant-loop-file
 invariant-loop-file l = record {
