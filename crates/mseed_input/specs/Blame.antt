@@ -5,10 +5,10 @@ use Rattle.mseed_stream.specs.declared.fault.StreamFault.TheVariants.{Frame, Tru
 use Rattle.mseed_input.specs.declared.blame.Blame.{Blame}
 use Rattle.mseed_input.specs.declared.blame.Blame.TheVariants as blames
 
--- a fault lies where it is reported; a record that is cut off where it begins; a read that failed has no place
+-- a fault lies where it is reported, and a record that is cut off where it begins; a read that failed has no place
 abbrev pub blame_of : StreamFault → Blame
 blame_of (Frame n f) = blames.Fault n
-blame_of (Truncated n have) = blames.Cut n
+blame_of (Truncated n have) = blames.Fault n
 blame_of (Read n) = blames.Read
 blame_of (Turns n) = blames.Fault n
 blame_of Memory = blames.Nothing

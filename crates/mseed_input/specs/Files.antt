@@ -1,13 +1,17 @@
 -- What is reported of a file.
 use Rattle.std.specs.Prelude.{◌≡◌, ◌⊎◌, ℕ, ◌-◌, ◌==◌, List, [], map, decimal, ◌++◌, ◌&&◌, nat_le, slice_get, option_map}
 use Rattle.std.specs.Borrow.{Bor}
-use Rattle.std.specs.Prelude.{if◌then◌else◌, Option, Some, None, Result, Ok, Err, codes}
-use Rattle.mseed_files.specs.ChainState.{IsPlace, ChainState}
+use Rattle.std.specs.Prelude.{if◌then◌else◌, Option, Some, None, IfSome, codes}
+use Rattle.mseed_files.specs.ChainState.{ChainState, IsChain}
+use Rattle.mseed_files.specs.ReaderState.{IsPlace, ReaderState}
+use Rattle.mseed_files.specs.Reason.{reason_text}
 use Rattle.mseed_files.specs.declared.place.Place.{Place}
+use Rattle.mseed_files.specs.declared.reason.Reason.{Reason}
 use Rattle.mseed_stream.specs.Device.{BytesWritten}
 use Rattle.mseed_stream.specs.LineWritten.{WritesLine}
+use Rattle.mseed_input.specs.Watched.{IsRecordBefore}
 use Rattle.mseed_input.specs.declared.blame.Blame.{Blame}
-use Rattle.mseed_input.specs.declared.blame.Blame.TheVariants.{Nothing, Read, Fault, Cut}
+use Rattle.mseed_input.specs.declared.blame.Blame.TheVariants.{Nothing, Read, Fault}
 
 -- the line of memory that was refused
 abbrev pub no_memory : List ℕ
@@ -17,9 +21,12 @@ no_memory = codes "mseed: no memory\n"
 abbrev pub printed_byte : ℕ → ℕ
 printed_byte b = if nat_le 32 b && nat_le b 126 then b else 63
 
--- the line of a file that can't be read, by the word that names it
-abbrev pub cannot_read : List ℕ → List ℕ
-cannot_read word = codes "mseed: cannot read " ++ map printed_byte word ++ codes "\n"
+-- the line of a file that can't be read, by why it can't, and the word that names it
+abbrev pub reason_words : Reason → List ℕ
+reason_words reason = codes ": " ++ reason_text reason ++ codes "\n"
+
+abbrev pub cannot_read : Reason → List ℕ → List ℕ
+cannot_read reason word = codes "mseed: cannot read " ++ map printed_byte word ++ reason_words reason
 
 -- the line of a fault in a file, by the word that names it and how many bytes stand before the fault there
 abbrev pub place_words : ℕ → List ℕ
@@ -48,48 +55,57 @@ abbrev pub ReportsFile : Option ℕ → Names → (List ℕ → List ℕ) → By
 ReportsFile None names line old new = new ≡ old
 ReportsFile (Some file) names line old new = ReportsWord (word_at names file) line old new
 
--- Where a fault is reported that lies at an offset, where the record before it begins at another: there, if that is in
--- another file than the one that is reached, and else where it lies.
-pub record IsAfterRecord (s : ChainState) (offset last reached : ℕ) (place : Place) : Type 0 where
+-- Where a fault is reported that lies at an offset, where the record before it begins at another: there, if the last
+-- byte of that record is in another file than its first, and else where the fault lies.
+pub record IsAfterRecord (s : ReaderState) (offset last : ℕ) (place : Place) : Type 0 where
   pub own : Place
   pub before : Place
   pub end : Place
   pub own_is : IsPlace s offset own
   pub before_is : IsPlace s last before
-  pub end_is : IsPlace s reached end
+  pub end_is : IsPlace s (offset - 1) end
   pub place_is : place ≡ (if end.file == before.file then own else before)
 
 -- where it lies, if there is no record before it
-abbrev pub IsFaultPlace : ChainState → ℕ → Option ℕ → ℕ → Place → Type 0
-IsFaultPlace s offset None reached place = IsPlace s offset place
-IsFaultPlace s offset (Some last) reached place = IsAfterRecord s offset last reached place
+abbrev pub IsFaultPlace : ReaderState → ℕ → Option ℕ → Place → Type 0
+IsFaultPlace s offset None place = IsPlace s offset place
+IsFaultPlace s offset (Some last) place = IsAfterRecord s offset last place
 
-abbrev pub IsReportedPlace : ChainState → ℕ → Option ℕ → ℕ → Option Place → Type 0
-IsReportedPlace s offset last reached None = s.begins ≡ []
-IsReportedPlace s offset last reached (Some place) = IsFaultPlace s offset last reached place
+abbrev pub IsReportedPlace : ReaderState → ℕ → Option ℕ → Option Place → Type 0
+IsReportedPlace s offset last None = s.begins ≡ []
+IsReportedPlace s offset last (Some place) = IsFaultPlace s offset last place
 
 abbrev pub ReportsPlace : Option Place → Names → BytesWritten → BytesWritten → Type 0
 ReportsPlace None names old new = new ≡ old
 ReportsPlace (Some place) names old new = ReportsWord (word_at names place.file) (fault_in place.offset) old new
 
--- where a record begins that ends at an offset, by its length: nowhere where that is 0
-abbrev pub last_of : ℕ → ℕ → Option ℕ
-last_of offset size = if size == 0 then None else Some (offset - size)
+-- where it lies, and where the record before it begins, if one is known
+abbrev pub ReportsFault : ℕ → Names → ChainState → BytesWritten → BytesWritten → Type 0
+ReportsFault offset names s old new =
+    (last : Option ℕ) × IfSome last (λ begin. IsRecordBefore s.read.bytes begin offset)
+    × ((place : Option Place) × IsReportedPlace s.files offset last place × ReportsPlace place names old new)
 
--- by the length of the record before, if that is known: else there was no memory to know it
-abbrev pub ReportsFault : {E : Type 0} → Result ℕ E → ℕ → ℕ → Names → ChainState → BytesWritten
-    → BytesWritten → Type 0
-ReportsFault (Err lacks) offset reached names s old new = WritesLine no_memory old new
-ReportsFault (Ok size) offset reached names s old new =
-    (place : Option Place) × IsReportedPlace s offset (last_of offset size) reached place
-    × ReportsPlace place names old new
+-- What is wrong with an input is reported of its files: of the one that failed, where a read has, with the system's
+-- reason, or of the one in which the fault lies. But where a record before the fault reaches over the end of the file
+-- in which it begins, it is reported of that file and record.
+abbrev pub ReportsBlame : Blame → Names → ChainState → BytesWritten → BytesWritten → Type 0
+ReportsBlame Nothing names s old new = new ≡ old
+ReportsBlame Read names s old new =
+    IsChain s × ((reason : Reason) × ReportsFile s.files.failed names (cannot_read reason) old new)
+ReportsBlame (Fault offset) names s old new = ReportsFault offset names s old new
 
--- What is wrong with an input is reported of its files: of the one that failed, or of the one in which the fault lies.
--- But where the record before the fault begins in another file, it is reported of that file and record; and where a
--- record is cut off, where the one before reaches over the end of the file in which it begins.
-abbrev pub ReportsBlame : {E : Type 0} → Blame → Result ℕ E → Names → ChainState → BytesWritten
-    → BytesWritten → Type 0
-ReportsBlame Nothing last names s old new = new ≡ old
-ReportsBlame Read last names s old new = ReportsFile s.failed names cannot_read old new
-ReportsBlame (Fault offset) last names s old new = ReportsFault last offset offset names s old new
-ReportsBlame (Cut offset) last names s old new = ReportsFault last offset (offset - 1) names s old new
+-- the line of a read that failed, of an input that has no name
+abbrev pub failed_read : Reason → List ℕ
+failed_read reason = codes "mseed: " ++ reason_text reason ++ codes "\n"
+
+-- so it was reported, if some file failed; else nothing was
+abbrev pub ReportsFailure : Option ℕ → List ℕ → BytesWritten → BytesWritten → Type 0
+ReportsFailure None line old new = new ≡ old
+ReportsFailure (Some file) line old new = WritesLine line old new
+
+-- Of an input that has no name the system's reason is reported where a read failed, and nothing else.
+abbrev pub ReportsReason : Blame → ChainState → BytesWritten → BytesWritten → Type 0
+ReportsReason Nothing s old new = new ≡ old
+ReportsReason Read s old new =
+    IsChain s × ((reason : Reason) × ReportsFailure s.files.failed (failed_read reason) old new)
+ReportsReason (Fault offset) s old new = new ≡ old

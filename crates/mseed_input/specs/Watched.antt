@@ -1,11 +1,9 @@
--- What contracts read of a source that is watched.
-use Rattle.std.specs.Prelude.{Bool}
-use Rattle.mseed_input.specs.declared.watched.Watched.{Watched}
+-- The record before a fault.
+use Rattle.std.specs.Prelude.{◌≡◌, ◌+◌, ℕ, List}
+use Rattle.mseed_stream.specs.Device.{HasRecordAt}
 
--- the source that is watched
-abbrev pub source_of : {R A : Type 0} → Watched R A → R
-source_of w = w.source
-
--- whether records are looked for in it
-abbrev pub follows_records : {R A : Type 0} → Watched R A → Bool
-follows_records w = w.is_archive
+-- of these bytes, those from one offset up to another are a record
+pub record IsRecordBefore (bytes : List ℕ) (begin end : ℕ) : Type 0 where
+  pub size : ℕ
+  pub is_record : HasRecordAt bytes begin size
+  pub ends : begin + size ≡ end

@@ -11,10 +11,8 @@ pub enum Blame {
     Nothing,
     /// A read failed.
     Read,
-    /// There is a fault after so many bytes.
+    /// There is a fault, or a record that is cut off, after so many bytes.
     Fault(u64),
-    /// The record that begins after so many bytes is cut off.
-    Cut(u64),
 }
 
 /// What is wrong with an input that ended with this fault, if with one.
@@ -32,8 +30,9 @@ pub fn blame_of(fault: &StreamFault) -> Blame
     ensures { result ≡ blame_of fault.now }
 {
     match fault {
-        StreamFault::Frame(offset, _) | StreamFault::Turns(offset) => Blame::Fault(*offset),
-        StreamFault::Truncated(offset, _) => Blame::Cut(*offset),
+        StreamFault::Frame(offset, _)
+        | StreamFault::Truncated(offset, _)
+        | StreamFault::Turns(offset) => Blame::Fault(*offset),
         StreamFault::Read(_) => Blame::Read,
         StreamFault::Memory => Blame::Nothing,
     }

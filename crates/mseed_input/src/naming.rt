@@ -1,106 +1,108 @@
 //! What is reported of the files that words name.
-ghost use Rattle.std.specs.Prelude.{◌≡◌, ◌++◌, IfOk, map};
+ghost use Rattle.std.specs.Prelude.{◌++◌, ◌≡◌, IfOk, map};
 ghost use Rattle.mseed_input.specs.Files.{IsReportedPlace, ReportsBlame, ReportsFault, ReportsFile, ReportsName};
-ghost use Rattle.mseed_input.specs.Files.{ReportsPlace, cannot_read, fault_in, last_of, printed_byte};
+ghost use Rattle.mseed_input.specs.Files.{ReportsFailure, ReportsPlace, ReportsReason, cannot_read, failed_read};
+ghost use Rattle.mseed_input.specs.Files.{fault_in, printed_byte};
 
 use crate::blame::Blame;
 use crate::lines::report_no_memory;
-use mseed_files::{Chain, Open, Place};
+use crate::watched::Watched;
+use mseed_files::{Chain, Files, Place, Reason};
 use mseed_stream::{Sink, report};
 use mseed_text::Line;
 use std::alloc::{AllocError, Global};
 
 /// Reports what is wrong with the input that these files are, if something is: which of them can't be read, or in which
-/// one the fault lies. `last` is the length of the last whole record of the input, and 0 where there was none.
-pub fn report_blame<E: Sink, O: Open>(
+/// one the fault lies; but where a record was cut that ends where the fault lies, and reaches over the end of the file
+/// in which it begins, it is that record that is reported.
+pub fn report_blame<E: Sink, F: Files>(
     alloc: Global,
     errors: &mut E,
     names: &[&[u8]],
-    chain: &Chain<O>,
+    input: &Watched<Chain<F>>,
     blame: Blame,
-    last: Result<u64, AllocError>,
 )
-    ensures { ReportsBlame blame last names.now chain.now (E.written errors.old)
-        (E.written errors.new) }
+    ensures { ReportsBlame blame names.now input.now (E.written errors.old) (E.written errors.new) }
 {
     match blame {
         Blame::Nothing => {}
-        Blame::Read => report_failed_file(alloc, errors, names, chain.failed()),
-        Blame::Fault(offset) => report_faulty_file(
-            alloc, errors, names, chain, offset, last, offset,
-        ),
-        Blame::Cut(offset) => {
-            let reached = offset.saturating_sub(1);
-            report_faulty_file(alloc, errors, names, chain, offset, last, reached);
+        Blame::Read => {
+            let chain = input.source();
+            report_failed_file(alloc, errors, names, chain.failed(), chain.reason());
         }
+        Blame::Fault(offset) => report_faulty_file(alloc, errors, names, input, offset),
     }
 }
 
-/// Reports which file failed, if one did.
+/// Reports why a read of an input failed that has no name, if that is what is wrong with it. The line needs no memory.
+pub fn report_reason<E: Sink, F: Files>(errors: &mut E, input: &Watched<Chain<F>>, blame: Blame)
+    ensures { ReportsReason blame input.now (E.written errors.old) (E.written errors.new) }
+{
+    match blame {
+        Blame::Nothing => {}
+        Blame::Read => {
+            let chain = input.source();
+            report_failure(errors, chain.failed(), chain.reason());
+        }
+        Blame::Fault(_) => {}
+    }
+}
+
+/// Reports why a read failed, if one did.
+fn report_failure<E: Sink>(errors: &mut E, failed: Option<usize>, reason: Reason)
+    ensures { ReportsFailure failed (failed_read reason) (E.written errors.old) (E.written errors.new) }
+{
+    if failed.is_some() {
+        let mut line = Line::new();
+        line.put(b"mseed: ");
+        line.put(reason.text().as_bytes());
+        line.put(b"\n");
+        report(errors, line.as_slice());
+    }
+}
+
+/// Reports which file failed, if one did, and why.
 fn report_failed_file<E: Sink>(
     alloc: Global,
     errors: &mut E,
     names: &[&[u8]],
     failed: Option<usize>,
+    reason: Reason,
 )
-    ensures { ReportsFile failed names.now cannot_read (E.written errors.old) (E.written errors.new) }
+    ensures { ReportsFile failed names.now (cannot_read reason) (E.written errors.old) (E.written errors.new) }
 {
     if let Some(file) = failed
         && let Some(word) = names.get(file)
     {
-        report_unreadable(alloc, errors, word);
+        report_unreadable(alloc, errors, word, reason);
     }
 }
 
-/// Reports in which file a fault lies that is found at an offset, after a record of `last` bytes.
-fn report_faulty_file<E: Sink, O: Open>(
+/// Reports in which file a fault lies that is found at an offset.
+fn report_faulty_file<E: Sink, F: Files>(
     alloc: Global,
     errors: &mut E,
     names: &[&[u8]],
-    chain: &Chain<O>,
+    input: &Watched<Chain<F>>,
     offset: u64,
-    last: Result<u64, AllocError>,
-    reached: u64,
 )
-    ensures { ReportsFault last offset reached names.now chain.now (E.written errors.old)
-        (E.written errors.new) }
+    ensures { ReportsFault offset names.now input.now (E.written errors.old) (E.written errors.new) }
 {
-    match last {
-        Ok(size) => {
-            let place = place_to_report(chain, offset, last_of(offset, size), reached);
-            report_place(alloc, errors, names, place);
-        }
-        Err(AllocError) => report_no_memory(errors),
-    }
+    let place = place_to_report(input.source(), offset, input.record_before(offset));
+    report_place(alloc, errors, names, place);
 }
 
-/// Where the last record begins that ends at an offset, by its length: nowhere where that is 0.
-fn last_of(offset: u64, size: u64) -> Option<u64>
-    ensures { result ≡ last_of offset size }
-{
-    if size == 0 {
-        None
-    } else {
-        Some(offset.saturating_sub(size))
-    }
-}
-
-/// Where a fault is reported that lies at an offset: where the record before it begins, if that is in another file than
-/// the one that is reached, and else where it lies. None where no file was opened.
-fn place_to_report<O: Open>(
-    chain: &Chain<O>,
-    offset: u64,
-    last: Option<u64>,
-    reached: u64,
-) -> Option<Place>
-    ensures { IsReportedPlace chain.now offset last reached result }
+/// Where a fault is reported that lies at an offset: where the record before it begins, if that reaches over the end of
+/// its file, and else where it lies. None where no file was opened.
+fn place_to_report<F: Files>(chain: &Chain<F>, offset: u64, last: Option<u64>) -> Option<Place>
+    ensures { IsReportedPlace chain.now.files offset last result }
 {
     let own = chain.place_of(offset)?;
     let Some(last) = last else {
         return Some(own);
     };
     let before = chain.place_of(last)?;
-    let end = chain.place_of(reached)?;
+    let end = chain.place_of(offset.saturating_sub(1))?;
     Some(if end.file == before.file { own } else { before })
 }
 
@@ -115,11 +117,21 @@ fn report_place<E: Sink>(alloc: Global, errors: &mut E, names: &[&[u8]], place: 
     }
 }
 
-/// Reports that the file that a word names can't be read.
-pub fn report_unreadable<E: Sink>(alloc: Global, errors: &mut E, word: &[u8])
-    ensures { ReportsName (cannot_read word.now) (E.written errors.old) (E.written errors.new) }
+/// Reports that the file that a word names can't be read, and why.
+pub fn report_unreadable<E: Sink>(alloc: Global, errors: &mut E, word: &[u8], reason: Reason)
+    ensures { ReportsName (cannot_read reason word.now) (E.written errors.old) (E.written errors.new) }
 {
-    report_named(alloc, errors, b"mseed: cannot read ", word, b"\n");
+    let mut after = Line::new();
+    after.put(b": ");
+    after.put(reason.text().as_bytes());
+    after.put(b"\n");
+    report_named(
+        alloc,
+        errors,
+        b"mseed: cannot read ",
+        word,
+        after.as_slice(),
+    );
 }
 
 /// Reports that a fault lies in the file that a word names, after so many bytes of it.
@@ -167,7 +179,7 @@ fn named_line(
 }
 
 /// A byte as it's written.
-fn printed(byte: u8) -> u8
+pub(crate) fn printed(byte: u8) -> u8
     ensures { result ≡ printed_byte byte }
 {
     if 32 <= byte && byte <= 126 {

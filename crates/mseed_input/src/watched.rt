@@ -1,76 +1,91 @@
-//! A source that knows how long its last whole record is.
-ghost use Rattle.std.specs.Prelude.{◌≡◌, Ok, false};
-ghost use Rattle.mseed_input.specs.Watched.{follows_records, source_of};
+//! A source that knows where its last record is.
+ghost use Rattle.std.specs.Prelude.{◌≡◌, IfSome};
+ghost use Rattle.mseed_input.specs.Watched.{IsRecordBefore};
 
-use crate::trail::Trail;
 use mseed_stream::{Failed, Source};
-use std::alloc::{AllocError, Allocator, Global};
+use std::marker::Model;
 
-/// A source that knows how long the last whole record is that was read of it.
+/// A source that knows where the last record begins that a cutter cut of it, and where it ends.
+///
+/// Contracts see it as the source that is watched.
 #[derive(Drop)]
-pub struct Watched<R, A: Allocator = Global> {
+pub struct Watched<R: Source> {
     source: R,
-    trail: Trail<A>,
-    // Whether records are looked for.
-    is_archive: bool,
+    last: Option<Cut>,
 }
 
-impl<R: Source, A: Allocator> Watched<R, A> {
-    /// A source of which nothing was read yet. In one that isn't an archive, as a text of parts, no record is looked
-    /// for.
-    pub fn new(alloc: A, source: R, is_archive: bool) -> Watched<R, A>
-        ensures source { source_of result ≡ source }
-        ensures follows { follows_records result ≡ is_archive }
+/// A record that was cut: where it begins, in bytes from the input's beginning, and how many it has.
+#[derive(Clone, Copy)]
+struct Cut {
+    offset: u64,
+    size: usize,
+}
+
+impl<R: Source> Model for Watched<R> {
+    ghost use Rattle.std.specs.Prelude.{IfSome};
+    ghost use Rattle.mseed_stream.specs.Device.{HasRecordAt};
+
+    ghost Value = { R };
+
+    ghost view = { λ w. w.source };
+
+    ghost invariant = { λ w. IfSome w.last (λ cut. HasRecordAt (R.read w.source).bytes cut.offset cut.size) };
+}
+
+impl<R: Source> Watched<R> {
+    /// A source of which no record was cut yet.
+    pub fn new(source: R) -> Watched<R>
+        ensures { result ≡ source }
     {
-        Watched {
-            source,
-            trail: Trail::new(alloc),
-            is_archive,
-        }
+        Watched { source, last: None }
     }
 
-    /// The length in bytes of the last whole record that was read of the source: 0 where there was none, and where it
-    /// isn't an archive.
-    ///
-    /// # Errors
-    ///
-    /// Where there was no memory for the piece of a record that was read.
-    pub fn last_size(&self) -> Result<u64, AllocError>
-        ensures { follows_records self.now ≡ false → result ≡ Ok 0 }
+    /// Returns the source that is watched.
+    pub fn source(&self) -> &R
+        ensures { result.now ≡ self.now }
     {
-        if self.is_archive {
-            self.trail.last_size()
+        &self.source
+    }
+
+    /// Returns where the last record that was cut of the source begins, in bytes from the input's beginning, if it
+    /// ends at an offset.
+    pub fn record_before(&self, offset: u64) -> Option<u64>
+        ensures { IfSome result (λ begin. IsRecordBefore (R.read self.now).bytes begin offset) }
+    {
+        let cut = self.last?;
+        if offset >= cut.offset && offset - cut.offset == cut.size as u64 {
+            Some(cut.offset)
         } else {
-            Ok(0)
+            None
         }
     }
 }
 
-impl<R: Source, A: Allocator> Source for Watched<R, A> {
-    ghost read = { λ w. R.read (source_of w) };
+impl<R: Source> Source for Watched<R> {
+    ghost read = { R.read };
 
-    ghost remaining = { λ w. R.remaining (source_of w) };
+    ghost remaining = { R.remaining };
 
-    ghost lent = { λ w. R.lent (source_of w) };
+    ghost lent = { R.lent };
 
-    ghost beside = { λ w. R.beside (source_of w) };
+    ghost beside = { R.beside };
 
     fn pull(&mut self, buf: &mut [u8]) -> Result<usize, Failed> {
-        let count = self.source.pull(buf)?;
-        if self.is_archive {
-            self.trail.follow(&buf[..count]);
-        }
-        Ok(count)
+        self.source.pull(buf)
     }
 
     fn lend(&self) -> &[u8] {
         self.source.lend()
     }
 
-    // A cutter takes a record that is lent by two calls.
     #[inline(always)]
     fn consume(&mut self, amount: usize) {
-        self.trail.pass(amount);
         self.source.consume(amount);
+    }
+
+    #[inline(always)]
+    fn note_record(&mut self, offset: u64, size: usize) {
+        self.source.note_record(offset, size);
+        self.last = Some(Cut { offset, size });
     }
 }

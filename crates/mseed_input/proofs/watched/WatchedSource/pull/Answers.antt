@@ -1,12 +1,9 @@
-use Rattle.std.proofs.Common.{sym}
-use Rattle.std.proofs.lemmas.List.{length-take-le}
+use Rattle.std.proofs.Common.{ap}
+use Rattle.mseed_stream.specs.Device.{BytesRead, passed}
+use Rattle.mseed_input.proofs.Kept.{kept_stays}
 use Rattle.mseed_input.proofs.watched.WatchedSource.pull.Goals as goal
 
-pub slice_bounds-follow-end-then-self : goal.slice_bounds-follow-end-then-self
-slice_bounds-follow-end-then-self g c = sym (length-take-le _ _ c.in_ok-count.ensures.bound)
-
-pub returns-then-self : goal.returns-then-self
-returns-then-self g c = c.in_ok-count.ensures
-
-pub returns-else-self : goal.returns-else-self
-returns-else-self g c = c.in_ok-count.ensures
+pub invariant_of-self : goal.invariant_of-self
+invariant_of-self g c =
+    kept_stays c.self.inside.last _ _ (passed c.pull.result c.pull.new.buf)
+    (ap (λ (h : BytesRead). h.bytes) c.pull.ensures.read) c.self.invariant
