@@ -1,7 +1,6 @@
--- What the words of the command line give, one by one, and the digits of a length.
-use Rattle.std.proofs.Common.{◌≡◌, ℕ, suc, ◌+◌, ◌-◌, ◌*◌, ◌^◌, ◌<◌, ◌&&◌, ◌||◌, ◌++◌, Bool, List, [], ◌∷◌, length, map}
-use Rattle.std.proofs.Common.{take, drop, get_or, refl, sym, ap, ◌∙◌, arith, true, Option, Some, None, slice_get}
-use Rattle.std.proofs.Common.{unwrap_or, IfSome, subst}
+-- Words that are among others, and the digits of a number.
+use Rattle.std.proofs.Common.{◌≡◌, ℕ, suc, ◌+◌, ◌-◌, ◌*◌, ◌^◌, ◌<◌, ◌||◌, ◌++◌, Bool, List, [], ◌∷◌, length, map}
+use Rattle.std.proofs.Common.{take, get_or, refl, sym, ap, ◌∙◌, arith, true}
 use Rattle.std.proofs.lemmas.Grind.{common_steps}
 use Rattle.std.specs.Borrow.{Bor}
 use Rattle.std.specs.List.{list_all, list_any}
@@ -9,8 +8,7 @@ use Rattle.std.specs.Str.{bytes_eq}
 use Rattle.std.proofs.Math.Seq.{take-suc}
 use Rattle.std.proofs.Math.Nat.{pow-suc, mul_assoc}
 use Rattle.std.proofs.lemmas.List.{length-append}
-use Rattle.clap.specs.Facts.{Entry}
-use Rattle.clap.specs.Walk.{Row, Text, row_of}
+use Rattle.clap.specs.Walk.{Text}
 use Rattle.mseed_words.specs.Found.{is_among}
 use Rattle.mseed_words.specs.Numbers.{is_digit, value_of}
 
@@ -44,23 +42,5 @@ pub named : (names : List (Bor Text)) (id : Text)
 named [] id = refl
 named (n ∷ ns) id = ap (λ (b : Bool). bytes_eq n.now id || b) (named ns id)
 
--- one word and the others
-pub left_some : (p : Text → Bool) (xs : List Text) (x : Text) → slice_get xs 0 ≡ Some x
-    → list_all p xs ≡ (p x && list_all p (drop 1 xs))
-left_some p [] x e = absurd (none_some x e)
-  where
-    none_some : (x : Text) → None ≡ Some x → ⊥
-    none_some x e = cc
-left_some p (y ∷ ys) x e = ap (λ (o : Option Text). p (unwrap_or o y) && list_all p ys) e
-
--- the words that were found are those of their rows
-pub ids_are : (es : List Entry) → map (λ (r : Row). r.id) (map row_of es) ≡ map (λ (e : Entry). e.0.now) es
-ids_are [] = refl
-ids_are (e ∷ es) = ap (λ (ids : List Text). e.0.now ∷ ids) (ids_are es)
-
 pub below : (c : ℕ) → is_digit c ≡ true → c < 58
 below c is = grind (arith, common_steps, is)
-
--- where nothing is asked for
-pub unasked : {X : Type 0} (asked : Option X) (P : X → Type 0) → asked ≡ None → IfSome asked P
-unasked asked P none = subst (λ o. IfSome o P) (sym none) tt

@@ -23,6 +23,16 @@ code_is width code e =
     let two = both _ _ one.1 in
     (leb-true _ _ one.0, leb-true _ _ two.0, two.1)
 
+-- codes of which one is none name no place
+pub not_by : (sta net : List ℕ) → ¬ (IsCode 5 sta × IsCode 2 net) → place_by sta net ≡ None
+not_by sta net never = go (is_code 5 sta && is_code 2 net) refl
+  where
+    go : (b : Bool) → (is_code 5 sta && is_code 2 net) ≡ b → cond b (Some (fields_of sta net)) None ≡ None
+    go false are = refl
+    go true are =
+        let codes = both _ _ are in
+        absurd (never (code_is 5 sta codes.0, code_is 2 net codes.1))
+
 -- the first underscore of what is spelled stands after the network's code
 cut : (net sta : List ℕ) → IsCode 2 net → (before_first (λ c. c == 95) (net ++ 95 ∷ sta) ≡ net)
     × (after_first (λ c. c == 95) (net ++ 95 ∷ sta) ≡ sta)

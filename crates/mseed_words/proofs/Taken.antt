@@ -1,7 +1,7 @@
 -- What `clap` says of the words, by the command.
-use Rattle.std.proofs.Common.{◌≡◌, ◌≢◌, List, [], ◌∷◌, true, Result, Ok, Err, IfErr, IfOk, OnOk, inl, inr, refl, subst}
+use Rattle.std.proofs.Common.{◌≡◌, ◌∷◌, List, [], true, Result, Ok, Err, IfErr, IfOk, OnOk, inl, inr, refl, subst}
 use Rattle.clap.specs.Walk.{Text, rows_of}
-use Rattle.clap.specs.Simple.{App, is_simple, HasMatchesOf}
+use Rattle.clap.specs.Simple.{App, is_simple, HasMatchesOf, matches_of}
 use Rattle.clap.specs.Matches.{found_of}
 use Rattle.clap.specs.Kinds.{FailsBy, HasKind, Kinds}
 use Rattle.clap.specs.Values.{kind_of}
@@ -9,29 +9,55 @@ use Rattle.clap.specs.declared.error.kind.ErrorKind.TheVariants as kind
 use Rattle.clap.specs.Faults.{fault_of, is_simple_and_free}
 use Rattle.clap.specs.declared.error.Error.{Error}
 use Rattle.clap.specs.declared.parser.matches.ArgMatches.{ArgMatches}
-use Rattle.mseed_words.specs.Options.{the_command}
-use Rattle.mseed_words.specs.Words.{faults_in, entries_in}
+use Rattle.mseed_words.specs.Options.{the_command, the_program}
+use Rattle.mseed_words.specs.Words.{Reading, refused, unless_refused}
+use Rattle.mseed_words.specs.declared.command_name.CommandName.{CommandName}
+use Rattle.mseed_words.specs.declared.command_name.CommandName.TheVariants.{Audit, Join, Show, Select, Repack}
+use Rattle.mseed_words.specs.declared.command_name.CommandName.TheVariants.{Serve, Fetch}
 
-is_free : is_simple_and_free the_command ≡ true
-is_free = refl
+is_free : (name : CommandName) → is_simple_and_free (the_command name) ≡ true
+is_free Audit = refl
+is_free Join = refl
+is_free Show = refl
+is_free Select = refl
+is_free Repack = refl
+is_free Serve = refl
+is_free Fetch = refl
 
-simple : is_simple the_command ≡ true
-simple = refl
+simple : (name : CommandName) → is_simple (the_command name) ≡ true
+simple Audit = refl
+simple Join = refl
+simple Show = refl
+simple Select = refl
+simple Repack = refl
+simple Serve = refl
+simple Fetch = refl
 
-pub fails_by : {T : Type 0} (a : App) (words : List Text) (r : Result T Error) → a ≡ the_command
-    → (is_simple_and_free a ≡ true → FailsBy (fault_of a words) r) → FailsBy (faults_in words) r
-fails_by {T} a words r same h =
-    (subst (λ (b : App). (is_simple_and_free b ≡ true → FailsBy (fault_of b words) r)) same h) is_free
+-- it fails as a simple command does that it is
+fails_as : {T : Type 0} (a b : App) (words : List Text) (r : Result T Error) → a ≡ b → is_simple_and_free b ≡ true
+    → (is_simple_and_free a ≡ true → FailsBy (fault_of a words) r) → FailsBy (fault_of b words) r
+fails_as {T} a b words r same free h =
+    (subst (λ (c : App). (is_simple_and_free c ≡ true → FailsBy (fault_of c words) r)) same h) free
+
+pub fails_by : {T : Type 0} (name : CommandName) (a : App) (words : List Text) (r : Result T Error)
+    → a ≡ the_command name → (is_simple_and_free a ≡ true → FailsBy (fault_of a words) r)
+    → FailsBy (fault_of (the_command name) words) r
+fails_by name a words r same h = fails_as a (the_command name) words r same (is_free name) h
+
+pub program_fails : {T : Type 0} (a : App) (words : List Text) (r : Result T Error) → a ≡ the_program
+    → (is_simple_and_free a ≡ true → FailsBy (fault_of a words) r) → FailsBy (fault_of the_program words) r
+program_fails a words r same h = fails_as a the_program words r same refl h
 
 -- what is found among words that are taken
-entries_by : (a : App) (words : List Text) (m : ArgMatches) → a ≡ the_command → HasMatchesOf a words m
-    → rows_of (found_of m) ≡ entries_in words
-entries_by a words m same h = ((subst (λ (b : App). HasMatchesOf b words m) same h) simple).0
+entries_by : (name : CommandName) (a : App) (words : List Text) (m : ArgMatches) → a ≡ the_command name
+    → HasMatchesOf a words m → rows_of (found_of m) ≡ matches_of (the_command name) words
+entries_by name a words m same h = ((subst (λ (b : App). HasMatchesOf b words m) same h) (simple name)).0
 
-pub found_by : (a : App) (words : List Text) (r : Result ArgMatches Error) → a ≡ the_command
-    → IfOk r (HasMatchesOf a words) → IfOk r (λ m. rows_of (found_of m) ≡ entries_in words)
-found_by a words (Ok m) same h = entries_by a words m same h
-found_by a words (Err e) same h = tt
+pub found_by : (name : CommandName) (a : App) (words : List Text) (r : Result ArgMatches Error)
+    → a ≡ the_command name → IfOk r (HasMatchesOf a words)
+    → IfOk r (λ m. rows_of (found_of m) ≡ matches_of (the_command name) words)
+found_by name a words (Ok m) same h = entries_by name a words m same h
+found_by name a words (Err e) same h = tt
 
 -- that words are taken, and why they are not
 pub taken_by : {T : Type 0} (kinds : Kinds) (r : Result T Error) → FailsBy kinds r → OnOk r (kinds ≡ [])
@@ -43,7 +69,8 @@ refused_by kinds (Ok x) h = tt
 refused_by kinds (Err e) h = h
 
 -- an error but for want of memory is one of words that are refused
-pub not_taken : (kinds : Kinds) (e : Error) → ¬ (kind_of e ≡ kind.OutOfMemory) → HasKind kinds e → kinds ≢ []
-not_taken [] e other (inl memory) same = other memory
-not_taken [] e other (inr among) same = elim among [ ]
-not_taken (k ∷ ks) e other has same = absurd (cc same)
+pub refused_for : (kinds : Kinds) (reading : Reading) (e : Error) → ¬ (kind_of e ≡ kind.OutOfMemory)
+    → HasKind kinds e → unless_refused kinds reading ≡ refused
+refused_for [] reading e other (inl memory) = absurd (other memory)
+refused_for [] reading e other (inr among) = elim among [ ]
+refused_for (k ∷ ks) reading e other has = refl

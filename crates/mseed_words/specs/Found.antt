@@ -1,6 +1,6 @@
--- What `clap` found among the arguments.
-use Rattle.std.specs.Prelude.{Bool, false, not, ◌&&◌, ◌||◌, List, [], ◌∷◌, Option, Some, None, map, unwrap_or, codes}
-use Rattle.std.specs.List.{list_all, list_any}
+-- What `clap` found among the words behind a command.
+use Rattle.std.specs.Prelude.{Bool, false, List, [], Option, Some, None, unwrap_or, codes}
+use Rattle.std.specs.List.{list_any}
 use Rattle.std.specs.Str.{bytes_eq}
 use Rattle.clap.specs.Walk.{Row, Text, all_of, first_of}
 
@@ -24,17 +24,3 @@ is_true (Some text) = bytes_eq text (codes "true")
 -- whether a flag is set
 abbrev pub asks : Text → List Row → Bool
 asks name rows = is_true (first_of name rows)
-
--- the flags, each of which is found as one that is set or isn't
-abbrev pub flag_names : List Text
-flag_names =
-    codes "each" ∷ codes "part" ∷ codes "past-faults" ∷ codes "tell-next" ∷ codes "holes" ∷ codes "stretches"
-    ∷ codes "leave" ∷ codes "live" ∷ []
-
--- one of these names, or that of a flag that isn't set
-abbrev pub is_taken : List Text → List Row → Text → Bool
-is_taken names rows id = is_among names id || (is_among flag_names id && not (asks id rows))
-
--- nothing was given but what has one of these names
-abbrev pub has_only : List Text → List Row → Bool
-has_only names rows = list_all (is_taken names rows) (map (λ r. r.id) rows)

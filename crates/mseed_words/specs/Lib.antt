@@ -1,5 +1,7 @@
+pub mod Names
 pub mod Options
 pub mod Files
+pub mod Mistakes
 pub mod Found
 pub mod Numbers
 pub mod Places

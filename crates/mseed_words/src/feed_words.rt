@@ -1,19 +1,25 @@
-//! What the arguments of the two commands of a feed ask for.
-ghost use Rattle.std.specs.Prelude.{◌≡◌, ◌<◌, ◌^◌, ◌∷◌, IfSome, map, option_map};
+//! What the words of the two commands of a feed ask for.
+ghost use Rattle.std.specs.Prelude.{◌≡◌, ◌≤◌, ◌<◌, ◌^◌, ◌∷◌, [], IfOk, IfSome, map, option_map};
+ghost use Rattle.std.specs.Char.{is_ascii_alphanumeric};
+ghost use Rattle.std.specs.List.{list_all};
 ghost use Rattle.clap.specs.Matches.{found_of};
 ghost use Rattle.clap.specs.Walk.{rows_of};
-ghost use Rattle.mseed_words.specs.Places.{ArePlaces, places_of};
-ghost use Rattle.mseed_words.specs.FeedWords.{CanFetch, CanServe, CanServeLive, IsCount, IsEndpoint, called_in};
-ghost use Rattle.mseed_words.specs.FeedWords.{called_with, capacity_in, endpoint_of, fetching_of, live_serving_of};
-ghost use Rattle.mseed_words.specs.FeedWords.{place_in, place_named, places_in, serving_in, serving_of};
+ghost use Rattle.mseed_words.specs.Places.{ArePlaces};
+ghost use Rattle.mseed_words.specs.FeedWords.{CanFetch, CanServe, CanServeLive, IsCount, IsEndpoint, IsPort};
+ghost use Rattle.mseed_words.specs.FeedWords.{address_of, called_in, called_with, capacity_in, capacity_of};
+ghost use Rattle.mseed_words.specs.FeedWords.{code_mistake, count_of, endpoint_of, fetching_of, first_place, gathered};
+ghost use Rattle.mseed_words.specs.FeedWords.{host_of, is_code, live_serving_of, number_of};
+ghost use Rattle.mseed_words.specs.FeedWords.{place_in, place_of, places_in, port_of, serving_in, serving_of};
+ghost use Rattle.mseed_words.specs.FeedWords.{timeout_of, unnamed};
 
-use crate::found::{asks, has_only, text_of, text_or};
+use crate::found::{asks, is_given, text_of, text_or};
 use crate::host_words::{address_in, host_in, timeout_in};
+use crate::mistake::{Mistake, PlaceFault, Valued, Wanted};
 use crate::numbers::{counted_in, hexadecimal_in, number_in};
 use crate::places::Places;
 use crate::request::{Endpoint, Fetching, LiveServing, Serving};
 use clap::ArgMatches;
-use slink_wire::Place;
+use slink_wire::{Address, Host, Place, Timeout};
 
 /// The address that stands for this machine.
 const HERE: &str = "127.0.0.1";
@@ -27,85 +33,190 @@ pub(crate) enum Naming {
     Numbered,
 }
 
-// The names that both commands of a feed take, and these.
-macro_rules! feed_names {
-    ($($further:literal),*) => {
-        &[
-            "command", "place", "address", "port", "timeout", "station", "network", $($further),*
-        ]
-    };
-}
-
-/// What is requested of serving, by its options and places.
-pub(crate) fn serving_of(matches: &ArgMatches<'_>) -> Option<Serving>
+/// What is requested of serving, by its options and places. The number of clients is of serving while records come.
+///
+/// # Errors
+///
+/// What is wrong first.
+pub(crate) fn serving_of(matches: &ArgMatches<'_>) -> Result<Serving, Mistake>
     ensures value { result ≡ serving_of (rows_of (found_of matches.now)) }
-    ensures range { IfSome result CanServe }
+    ensures range { IfOk result CanServe }
 {
-    if !has_only(matches, feed_names!("capacity", "first", "connections")) {
-        return None;
+    if is_given(matches, "clients") {
+        return Err(Mistake::Value(Valued::Clients, Wanted::Live));
     }
     serving_in(matches)
 }
 
-/// What is requested of serving by its options and places, whatever else is named: where nothing is given, one
-/// connection, and rings of a thousand records, of which the first has the number 0.
-fn serving_in(matches: &ArgMatches<'_>) -> Option<Serving>
+/// What is requested of serving, whether or not records come: where nothing is given, one connection, and rings of a
+/// thousand records, of which the first has the number 0.
+///
+/// # Errors
+///
+/// What is wrong first.
+fn serving_in(matches: &ArgMatches<'_>) -> Result<Serving, Mistake>
     ensures value { result ≡ serving_in (rows_of (found_of matches.now)) }
-    ensures range { IfSome result CanServe }
+    ensures range { IfOk result CanServe }
 {
-    let address = address_in(text_or(matches, "address", HERE));
-    Some(Serving {
-        listener: endpoint_of(address, matches)?,
-        connections: counted_in(1_000_000, text_or(matches, "connections", "1"))?,
-        capacity: capacity_in(text_or(matches, "capacity", "1000"))?,
-        first: hexadecimal_in(text_or(matches, "first", "0"))?,
-        places: places_in(Naming::Plain, None, matches)?,
+    let address = address_of(matches)?;
+    let listener = endpoint_of(address, matches)?;
+    let connections = count_of(Valued::Connections, 1_000_000, "1", matches)?;
+    let capacity = capacity_of(matches)?;
+    let first = number_of(Valued::First, text_or(matches, "first", "0"))?;
+    let places = places_in(Naming::Plain, None, matches)?;
+    Ok(Serving {
+        listener,
+        connections,
+        capacity,
+        first,
+        places,
     })
 }
 
-/// What is requested of serving while records come: of 64 clients at once where no number is given.
-pub(crate) fn live_serving_of(matches: &ArgMatches<'_>) -> Option<LiveServing>
+/// What is requested of serving while records come: of 64 clients at once where no number is given. It has no number
+/// of connections.
+///
+/// # Errors
+///
+/// What is wrong first.
+pub(crate) fn live_serving_of(matches: &ArgMatches<'_>) -> Result<LiveServing, Mistake>
     ensures value { result ≡ live_serving_of (rows_of (found_of matches.now)) }
-    ensures range { IfSome result CanServeLive }
+    ensures range { IfOk result CanServeLive }
 {
-    if !has_only(matches, feed_names!("capacity", "first", "live", "clients")) {
-        return None;
+    if is_given(matches, "connections") {
+        return Err(Mistake::Value(Valued::Connections, Wanted::NotLive));
     }
-    Some(LiveServing {
-        serving: serving_in(matches)?,
-        clients: counted_in(1_024, text_or(matches, "clients", "64"))?,
-    })
+    let serving = serving_in(matches)?;
+    let clients = count_of(Valued::Clients, 1_024, "64", matches)?;
+    Ok(LiveServing { serving, clients })
 }
 
-/// A machine, with the port and the time-out that the options give, where all of them can be had: ten minutes where no
-/// time-out is given.
-fn endpoint_of<H: Copy>(host: Option<H>, matches: &ArgMatches<'_>) -> Option<Endpoint<H>>
+/// A machine, with the port and the time-out that the options give.
+///
+/// # Errors
+///
+/// What is wrong first.
+fn endpoint_of<H: Copy>(host: H, matches: &ArgMatches<'_>) -> Result<Endpoint<H>, Mistake>
     ensures value { result ≡ endpoint_of host (rows_of (found_of matches.now)) }
-    ensures range { IfSome result IsEndpoint }
+    ensures range { IfOk result IsEndpoint }
 {
-    Some(Endpoint {
-        host: host?,
-        port: counted_in(65_535, text_of(matches, "port")?)? as u16,
-        timeout: timeout_in(text_or(matches, "timeout", "600"))?,
+    let port = port_of(matches)?;
+    let timeout = timeout_of(matches)?;
+    Ok(Endpoint {
+        host,
+        port,
+        timeout,
     })
 }
 
 /// What is requested of fetching, by its options and places: of one try where no number is given.
-pub(crate) fn fetching_of(matches: &ArgMatches<'_>) -> Option<Fetching>
+///
+/// # Errors
+///
+/// What is wrong first.
+pub(crate) fn fetching_of(matches: &ArgMatches<'_>) -> Result<Fetching, Mistake>
     ensures value { result ≡ fetching_of (rows_of (found_of matches.now)) }
-    ensures range { IfSome result CanFetch }
+    ensures range { IfOk result CanFetch }
 {
-    if !has_only(matches, feed_names!("from", "tries", "tell-next", "holes")) {
-        return None;
-    }
-    let host = host_in(text_or(matches, "address", HERE));
-    Some(Fetching {
-        server: endpoint_of(host, matches)?,
-        tries: counted_in(1_000_000, text_or(matches, "tries", "1"))?,
-        places: places_in(Naming::Numbered, text_of(matches, "from"), matches)?,
+    let host = host_of(matches)?;
+    let server = endpoint_of(host, matches)?;
+    let tries = count_of(Valued::Tries, 1_000_000, "1", matches)?;
+    let places = places_in(Naming::Numbered, text_of(matches, "from"), matches)?;
+    Ok(Fetching {
+        server,
+        tries,
+        places,
         report_next: asks(matches, "tell-next"),
         holes: asks(matches, "holes"),
     })
+}
+
+/// The address to listen at.
+///
+/// # Errors
+///
+/// Where it is none.
+fn address_of(matches: &ArgMatches<'_>) -> Result<Address, Mistake>
+    ensures { result ≡ address_of (rows_of (found_of matches.now)) }
+{
+    address_in(text_or(matches, "address", HERE)).ok_or(Mistake::Value(
+        Valued::Address,
+        Wanted::Address,
+    ))
+}
+
+/// The host to ask.
+///
+/// # Errors
+///
+/// Where it is none.
+fn host_of(matches: &ArgMatches<'_>) -> Result<Host, Mistake>
+    ensures { result ≡ host_of (rows_of (found_of matches.now)) }
+{
+    host_in(text_or(matches, "address", HERE)).ok_or(Mistake::Value(Valued::Address, Wanted::Host))
+}
+
+/// The port.
+///
+/// # Errors
+///
+/// Where there is no such port.
+fn port_of(matches: &ArgMatches<'_>) -> Result<u16, Mistake>
+    ensures value { result ≡ port_of (rows_of (found_of matches.now)) }
+    ensures range { IfOk result IsPort }
+{
+    let port = count_of(Valued::Port, 65_535, "", matches)?;
+    Ok(port as u16)
+}
+
+/// How long a link may be silent: ten minutes where nothing is given.
+///
+/// # Errors
+///
+/// Where it is no such time.
+fn timeout_of(matches: &ArgMatches<'_>) -> Result<Timeout, Mistake>
+    ensures value { result ≡ timeout_of (rows_of (found_of matches.now)) }
+    ensures range { IfOk result (λ timeout. timeout.seconds ≤ 86400) }
+{
+    match timeout_in(text_or(matches, "timeout", "600")) {
+        Some(timeout) => Ok(timeout),
+        None => Err(Mistake::Value(Valued::Timeout, Wanted::Seconds)),
+    }
+}
+
+/// The number from 1 to `most` that an option gives, or that this text says where none is given.
+///
+/// # Errors
+///
+/// Where it is no such number.
+fn count_of(
+    option: Valued,
+    most: u32,
+    default: &'static str,
+    matches: &ArgMatches<'_>,
+) -> Result<u32, Mistake>
+    ensures value { result ≡ count_of option most default.now (rows_of (found_of matches.now)) }
+    ensures range { IfOk result (λ n. (1 ≤ n) × (n ≤ most)) }
+{
+    match counted_in(most, text_or(matches, option.name(), default)) {
+        Some(count) => Ok(count),
+        None => Err(Mistake::Value(option, Wanted::Count)),
+    }
+}
+
+/// How many records a ring keeps: a thousand where nothing is given.
+///
+/// # Errors
+///
+/// Where it is no such number.
+fn capacity_of(matches: &ArgMatches<'_>) -> Result<u32, Mistake>
+    ensures value { result ≡ capacity_of (rows_of (found_of matches.now)) }
+    ensures range { IfOk result IsCount }
+{
+    match capacity_in(text_or(matches, "capacity", "1000")) {
+        Some(capacity) => Ok(capacity),
+        None => Err(Mistake::Value(Valued::Capacity, Wanted::Capacity)),
+    }
 }
 
 /// How many records a ring keeps: from one to a million.
@@ -121,32 +232,135 @@ fn capacity_in(text: &str) -> Option<u32>
     }
 }
 
-/// The place of the two options, with the number that is given of it, and the further ones.
-fn places_in(naming: Naming, from: Option<&str>, matches: &ArgMatches<'_>) -> Option<Places>
-    ensures value { result
-        ≡ places_in naming (option_map (λ t. t.now) from.entry) (rows_of (found_of matches.now)) }
-    ensures range { IfSome result ArePlaces }
+/// The number of a record, as an option gives it.
+///
+/// # Errors
+///
+/// Where it is none.
+fn number_of(option: Valued, digits: &str) -> Result<u32, Mistake>
+    ensures value { result ≡ number_of option digits.now }
+    ensures range { IfOk result (λ n. n < 2 ^ 24) }
 {
-    let place = place_named(text_of(matches, "station"), text_of(matches, "network"));
-    let further = matches.get_raw("place").unwrap_or(&[]);
-    gather(naming, called_with(place, from), further)
+    match hexadecimal_in(digits) {
+        Some(number) => Ok(number),
+        None => Err(Mistake::Value(option, Wanted::Hexadecimal)),
+    }
 }
 
-/// The first place and the further ones, unless one of them is bad or doubled, or they are more than sixteen.
-fn gather(naming: Naming, first: Option<(Place, Option<u32>)>, words: &[&str]) -> Option<Places>
-    requires { IfSome first (λ p. IfSome p.1 (λ n. n < 2 ^ 24)) }
-    ensures value { result ≡ places_of (first ∷ map (called_in naming) (map (λ w. w.now) words.now)) }
-    ensures range { IfSome result ArePlaces }
+/// The place of the two options, with the number that is given of it, and the further ones.
+///
+/// # Errors
+///
+/// What is wrong first.
+fn places_in(
+    naming: Naming,
+    from: Option<&str>,
+    matches: &ArgMatches<'_>,
+) -> Result<Places, Mistake>
+    ensures value { result
+        ≡ places_in naming (option_map (λ t. t.now) from.entry) (rows_of (found_of matches.now)) }
+    ensures range { IfOk result ArePlaces }
 {
-    let mut places = Places::of(first?);
+    let first = first_place(from, matches)?;
+    gather(naming, first, matches.get_raw("place").unwrap_or(&[]))
+}
+
+/// The place of the two options, with the number that is given of it, if one is.
+///
+/// # Errors
+///
+/// What is wrong first.
+fn first_place(
+    from: Option<&str>,
+    matches: &ArgMatches<'_>,
+) -> Result<(Place, Option<u32>), Mistake>
+    ensures value { result ≡ first_place (option_map (λ t. t.now) from.entry) (rows_of (found_of matches.now)) }
+    ensures range { IfOk result (λ p. IfSome p.1 (λ n. n < 2 ^ 24)) }
+{
+    let place = place_of(matches)?;
+    match from {
+        None => Ok((place, None)),
+        Some(digits) => Ok((place, Some(number_of(Valued::From, digits)?))),
+    }
+}
+
+/// The place that the two options name.
+///
+/// # Errors
+///
+/// Which of them names none.
+fn place_of(matches: &ArgMatches<'_>) -> Result<Place, Mistake>
+    ensures { result ≡ place_of (rows_of (found_of matches.now)) }
+{
+    let station = text_or(matches, "station", "");
+    let network = text_or(matches, "network", "");
+    match Place::new(station.as_bytes(), network.as_bytes()) {
+        Ok(place) => Ok(place),
+        Err(_) => Err(code_mistake(station)),
+    }
+}
+
+/// What is wrong with the codes of a station and its network, one of which is none: the network's where the station's
+/// is one.
+fn code_mistake(station: &str) -> Mistake
+    ensures { result ≡ code_mistake station.now }
+{
+    if is_code(5, station) {
+        Mistake::Value(Valued::Network, Wanted::Network)
+    } else {
+        Mistake::Value(Valued::Station, Wanted::Station)
+    }
+}
+
+/// Whether a text is a code: 1 to so many ASCII letters or digits.
+fn is_code(width: usize, text: &str) -> bool
+    ensures { result ≡ is_code width text.now }
+{
+    1 <= text.len() && text.len() <= width && are_alphanumeric(text.as_bytes())
+}
+
+/// Whether all bytes are ASCII letters or digits.
+fn are_alphanumeric(bytes: &[u8]) -> bool
+    ensures { result ≡ list_all is_ascii_alphanumeric bytes.now }
+{
+    bytes.iter().all(|byte| byte.is_ascii_alphanumeric())
+}
+
+/// The first place and the further ones.
+///
+/// # Errors
+///
+/// What is wrong with the first word that names no place, or one that is there already, or one too many.
+fn gather(naming: Naming, first: (Place, Option<u32>), words: &[&str]) -> Result<Places, Mistake>
+    requires { IfSome first.1 (λ n. n < 2 ^ 24) }
+    ensures value { result ≡ gathered naming (first ∷ []) (map (λ w. w.now) words.now) }
+    ensures range { IfOk result ArePlaces }
+{
+    let mut places = Places::of(first);
     for word in words {
-        let place = called_in(naming, word)?;
-        if places.len() == 16 || places.has(place.0) {
-            return None;
+        let called = called_in(naming, word);
+        let Some(place) = called else {
+            return Err(Mistake::Place(places.len() - 1, unnamed(naming)));
+        };
+        if places.len() == 16 {
+            return Err(Mistake::Place(places.len() - 1, PlaceFault::Many));
+        }
+        if places.has(place.0) {
+            return Err(Mistake::Place(places.len() - 1, PlaceFault::Again));
         }
         places.push(place);
     }
-    Some(places)
+    Ok(places)
+}
+
+/// What a word lacks that names no place.
+fn unnamed(naming: Naming) -> PlaceFault
+    ensures { result ≡ unnamed naming }
+{
+    match naming {
+        Naming::Plain => PlaceFault::Plain,
+        Naming::Numbered => PlaceFault::Numbered,
+    }
 }
 
 /// The further place that a word names, with the number after its first colon, where it can have one.
@@ -173,13 +387,6 @@ fn called_with(place: Option<Place>, digits: Option<&str>) -> Option<(Place, Opt
         None => Some((place, None)),
         Some(digits) => Some((place, Some(hexadecimal_in(digits)?))),
     }
-}
-
-/// The place that the two options name.
-fn place_named(sta: Option<&str>, net: Option<&str>) -> Option<Place>
-    ensures { result ≡ place_named (option_map (λ t. t.now) sta.entry) (option_map (λ t. t.now) net.entry) }
-{
-    Place::new(sta?.as_bytes(), net?.as_bytes()).ok()
 }
 
 /// The place that a word names: the network's code, an underscore, and the station's code.

@@ -1,11 +1,12 @@
-//! The files that the arguments of a command line name.
+//! The files that the words of a command line name.
 ghost use Rattle.std.specs.Prelude.{◌≡◌, map};
-ghost use Rattle.mseed_words.specs.Files.{can_be_files, is_unfit, takes_files};
+ghost use Rattle.mseed_words.specs.Files.{file_mistake, takes_files, unfit};
 
 use crate::found::is_among;
+use crate::mistake::Mistake;
 use crate::request::Request;
 
-/// Whether further arguments of a request are files.
+/// Whether the further words of a request are files.
 pub(crate) fn takes_files(request: &Request) -> bool
     ensures { result ≡ takes_files request.now }
 {
@@ -15,25 +16,35 @@ pub(crate) fn takes_files(request: &Request) -> bool
     )
 }
 
-/// Whether arguments can name files: none is empty, and standard input is named once at most.
-pub(crate) fn can_be_files(words: &[&str]) -> bool
-    ensures { result ≡ can_be_files (map (λ w. w.now) words.now) }
+/// What is wrong with the first of the words that can't be a file, if there is one: none is empty, and standard input
+/// is named once at most.
+pub(crate) fn file_mistake(words: &[&str]) -> Option<Mistake>
+    ensures { result ≡ file_mistake (map (λ w. w.now) words.now) }
 {
     for index in 0..words.len() {
-        if is_unfit(words[index], &words[index + 1..]) {
-            return false;
+        if let Some(mistake) = unfit(words[index], &words[index + 1..]) {
+            return Some(mistake);
         }
     }
-    true
+    None
 }
 
-/// Whether a word can't name a file before others: standard input where it's named again, or an empty word.
+/// What is wrong with a word that can't name a file before others: standard input where it's named again, or an empty
+/// word.
 #[tactic(auto, using(crate::proofs::Called::named))]
-fn is_unfit(word: &str, rest: &[&str]) -> bool
-    ensures { result ≡ is_unfit word.now (map (λ w. w.now) rest.now) }
+fn unfit(word: &str, rest: &[&str]) -> Option<Mistake>
+    ensures { result ≡ unfit word.now (map (λ w. w.now) rest.now) }
 {
     if word == "-" {
-        return is_among("-", rest);
+        return if is_among("-", rest) {
+            Some(Mistake::InputAgain)
+        } else {
+            None
+        };
     }
-    word == ""
+    if word == "" {
+        Some(Mistake::EmptyFile)
+    } else {
+        None
+    }
 }

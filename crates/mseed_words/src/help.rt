@@ -1,75 +1,143 @@
-//! What `--version` and `--help` say beside the list of the options.
+//! What the help says beside the lists of the options, of the program and of each command.
+use crate::command_name::CommandName;
 
 /// The number of the release, as in the file `VERSION`.
-pub const VERSION: &str = "0.1.0";
+pub(crate) const VERSION: &str = "0.1.0";
 
 /// What the program does, and how files are named.
-pub const ABOUT: &str =
-    "Audits, joins audits, lists, selects, repacks, serves and fetches seismic waveforms in miniSEED.
-Files are named after the command: mseed audit my.mseed";
+pub(crate) const ABOUT: &str =
+    "Audits, joins audits, lists, selects, repacks, serves and fetches seismic
+waveforms in miniSEED. Files are named after the command: mseed audit my.mseed";
 
-/// Each command by what it reads and writes, its options, its statuses and an example.
-pub const COMMANDS: &str = "Commands:
+/// How the program is called.
+pub(crate) const USAGE: &str = "mseed <COMMAND> [OPTIONS] [FILES OR STATIONS]";
+
+/// The commands, and how to get at the help of each.
+pub(crate) const COMMANDS: &str = "Commands:
   audit   says which channels are continuous, and where the others break
-          reads an archive, writes a line for each channel; status 1: a channel is broken
-          options: --each, first a line for each record with a finding;
-          --part, in place of the lines what audits of further archives can be joined with;
-          without --part those of select: of the records asked for, as if no others were there;
-          a window's audit says nothing of its borders, nor of records without a time
-            mseed audit my.mseed
-  join    the audit of archives one after another, from a part of each
-          reads the parts that audit --part wrote, one after another in the archives' order,
-          writes the lines of an audit, with its statuses
-          options: --part, in place of the lines the joint part; or --each, first a line for
-          each finding between the end of a channel in one archive and its beginning in a later one;
-          --past-faults, go on after a part that ends with a fault, report it and count it: status 2;
-          --expect, how many parts there have to be: with fewer or more no audit is written, status 2
-            mseed join --expect 31 january/*.part
+  join    joins the parts that audit --part wrote to the audit of all
   show    lists the records
-          reads an archive, writes a line for each record
-          options: those of select
-            mseed show my.mseed
-  select  copies the records of some channels and of a window of time, byte for byte
-          reads an archive, writes those of its records that are asked for; status 0, also for none
-          options: --channels, patterns separated by commas, each NET_STA_LOC_CHA: * takes any
-          characters, ? one, -- is the empty location; --from and --until, times as 2024-05-14,
-          2024-135 or 2024-05-14T03:20:00.5: records that reach into the window, which --until
-          isn't part of; a record without a known start isn't in it, and how many there are is reported
-            mseed select --channels 'IU_ANMO_00_BH?' --from 2024-05-14 my.mseed > some.mseed
+  select  copies the records of some channels and of a window of time
   repack  packs each channel anew, in records of one length and one encoding
-          reads an archive, writes an archive, which is bytes, to a terminal too: name a file
-          after >; status 1: a channel isn't continuous
-          options: --length, --encoding; --stretches, pack each channel in stretches, each from
-          its own start, so that it may have gaps and its clock may drift; with it --leave, leave out
-          and report the channels that can't be packed: status 1 or 2; those of select, of whole records
-            mseed repack --length 4096 --encoding steim1 my.mseed > packed.mseed
   serve   sends the records of stations to clients, over SeedLink 3
-          reads an archive of records of 512 bytes from standard input, writes nothing
-          options: --port, --station and --network, which it needs, --address, --timeout,
-          --capacity, --first, --connections; further stations as NET_STA;
-          --live, serve many clients at once while the archive comes, --clients of them:
-          over a file that is appended to, each record has the same number after a restart
-            mseed serve --port 18000 --station ANMO --network IU < packed.mseed
-            tail -c +1 -f kept.mseed | mseed serve --live --port 18000 --station ANMO --network IU
   fetch   asks a server for the records of stations, over SeedLink 3
-          reads nothing, writes each record as soon as it is whole
-          options: --port, --station and --network, which it needs, --address, --timeout,
-          --from, --tries; further stations as NET_STA or NET_STA:HEX; --tell-next, report on
-          standard error each station's first number and, at the end, the options to go on with;
-          --holes, for servers that number all their stations together: take records whose
-          numbers are ahead and report each hole, in which records may be lost unseen
-            mseed fetch --port 18000 --station ANMO --network IU > fetched.mseed
 
-Files:
-  audit, join, show, select and repack read the files that are named, one after another, as one input;
-  - is standard input, and after -- each argument is a file. Where no file is named, and by serve,
-  what is read is standard input. What is written is standard output; messages go to standard
-  error.
+The options of a command, its statuses and an example: mseed audit --help";
 
-Statuses:
-  0  done; of audit: each channel is continuous
-  1  of audit: a channel is broken; of repack: one isn't continuous, and nothing was written, or
-     with --leave the others
-  2  a fault: of the input, the output or a connection, a file that can't be read, a request that
-     can't be met, or out of memory; a line says which
-  3  a bad command line, this help, or the version";
+/// What a command does.
+pub(crate) fn about<'a>(name: CommandName) -> &'a str {
+    match name {
+        CommandName::Audit => "Says which channels are continuous, and where the others break.",
+        CommandName::Join => "Joins the parts that audit --part wrote to the audit of all.",
+        CommandName::Show => "Lists the records, a line for each.",
+        CommandName::Select => {
+            "Copies the records of some channels and of a window of time, byte for byte."
+        }
+        CommandName::Repack => {
+            "Packs each channel anew, in records of one length and one encoding."
+        }
+        CommandName::Serve => {
+            "Sends the records on standard input to clients, over SeedLink 3. Each has 512
+bytes, and is of one of the stations."
+        }
+        CommandName::Fetch => {
+            "Asks a server for the records of stations, over SeedLink 3, and writes each
+record, of 512 bytes, as soon as it is whole."
+        }
+    }
+}
+
+/// What the words after a command's options are called.
+pub(crate) fn place_title<'a>(name: CommandName) -> &'a str {
+    match name {
+        CommandName::Serve => "NET_STA",
+        CommandName::Fetch => "NET_STA:HEX",
+        _ => "FILE",
+    }
+}
+
+/// What the words after a command's options are.
+pub(crate) fn place_help<'a>(name: CommandName) -> &'a str {
+    match name {
+        CommandName::Serve => "further stations, up to 15",
+        CommandName::Fetch => "further stations, up to 15; HEX is the number to begin with",
+        CommandName::Join => "the parts, in the order of their archives, as one input",
+        _ => "the archive: files, one after another, as one input",
+    }
+}
+
+/// What the help of a command says at its end: what is particular about it, its statuses, and an example.
+pub(crate) fn notes<'a>(name: CommandName) -> &'a str {
+    match name {
+        CommandName::Audit => AUDIT,
+        CommandName::Join => JOIN,
+        CommandName::Show => SHOW,
+        CommandName::Select => SELECT,
+        CommandName::Repack => REPACK,
+        CommandName::Serve => SERVE,
+        CommandName::Fetch => FETCH,
+    }
+}
+
+const AUDIT: &str = "A file named - is standard input, which is read where no file is named. A part
+is of all records: --channels, --from and --until don't go with --part. With
+them the audit is of the records asked for, as if no others were there: a
+window's audit says nothing of its borders, nor of records without a time.
+
+Statuses: 0 each channel is continuous, 1 a channel is broken, 2 a fault of the
+input or the output, 3 a bad command line or this help
+
+  mseed audit my.mseed";
+
+const JOIN: &str = "A file named - is standard input, which is read where no file is named. With a
+bad line, or another number of parts than expected, no audit is written.
+
+Statuses: 0 each channel is continuous, 1 a channel is broken, 2 a fault of an
+archive, the input or the output, 3 a bad command line or this help
+
+  mseed audit --part may.mseed > may.part
+  mseed join --expect 12 *.part";
+
+const SHOW: &str = "A file named - is standard input, which is read where no file is named.
+
+Statuses: 0 done, 2 a fault of the input or the output, 3 a bad command line or
+this help
+
+  mseed show --channels 'IU_ANMO_00_BH?' my.mseed";
+
+const SELECT: &str =
+    "A file named - is standard input, which is read where no file is named. Records
+that reach into the window are written whole; those without a valid start are
+in no window, and how many there are is reported.
+
+Statuses: 0 done, also for no record, 2 a fault of the input or the output, 3 a
+bad command line or this help
+
+  mseed select --from 2024-05-14 --until 2024-05-15 my.mseed > day.mseed";
+
+const REPACK: &str =
+    "A file named - is standard input, which is read where no file is named. Nothing
+is written where the input has a fault, or a channel can't be packed.
+
+Statuses: 0 done, 1 a channel is broken, 2 a fault of the input or the output,
+or a channel that can't be packed, 3 a bad command line or this help
+
+  mseed repack --length 4096 --encoding steim1 my.mseed > packed.mseed";
+
+const SERVE: &str = "With --live, over a file that is appended to, each record has the same number
+after a restart.
+
+Statuses: 0 done, 2 a fault of the input, or of a connection or the port, 3 a
+bad command line or this help
+
+  mseed serve --port 18000 --station ANMO --network IU < my.mseed
+  tail -c +1 -f my.mseed | mseed serve --live --port 18000 \\
+    --station ANMO --network IU";
+
+const FETCH: &str = "With --holes a server may number all its stations together: records in a hole
+may be lost unseen.
+
+Statuses: 0 done, 2 a fault of the server or the output, or all tries used up,
+3 a bad command line or this help
+
+  mseed fetch --port 18000 --station ANMO --network IU > my.mseed";

@@ -1,198 +1,332 @@
-//! The command line as `clap` reads it.
+//! The program and its commands as `clap` reads them.
 ghost use Rattle.std.specs.Prelude.{◌≡◌, IfOk, false, map, pos};
 ghost use Rattle.clap.specs.Simple.{app_of, with_rule};
 ghost use Rattle.clap.specs.Walk.{rule_of};
 ghost use Rattle.clap.specs.declared.builder.value_parser.ValueParser.TheVariants.{Signed};
-ghost use Rattle.mseed_words.specs.Options.{bare_command, the_command, word_rule, places_rule, with_rules};
+ghost use Rattle.mseed_words.specs.Options.{bare_command, places_rule, the_command, the_program, title_of, with_rules};
 ghost use Rattle.mseed_words.specs.private.Named.{rule_named};
 
-use crate::help::{ABOUT, COMMANDS, VERSION};
+use crate::command_name::CommandName;
+use crate::help::{ABOUT, COMMANDS, USAGE, VERSION, about, notes, place_help, place_title};
 use clap::builder::ValueParser;
 use clap::{Arg, ArgAction, Command, value_parser};
 use std::alloc::{AllocError, Global};
 
-/// What has a name on the command line, after `--`.
+/// What is to be read after an option's name, by what the help calls it: nothing, a text, or a number from 1 to this
+/// one.
+#[derive(Clone, Copy)]
+enum Kind {
+    Flag,
+    Text(&'static str),
+    Number(&'static str, u32),
+}
+
+/// An option of a command.
+#[derive(Clone, Copy)]
 struct Named {
-    /// The name.
     name: &'static str,
-    /// What stands after it.
     kind: Kind,
-    /// What the help says of it: the commands that take it, and what it is for.
+    // Whether the command can't do without it.
+    is_needed: bool,
     help: &'static str,
 }
 
-/// What stands after the name.
-enum Kind {
-    /// Nothing.
-    Flag,
-    /// A text.
-    Text,
-    /// A number from 1 to this one.
-    Number(u32),
-}
+const CHANNELS: Named = Named {
+    name: "channels",
+    kind: Kind::Text("LIST"),
+    is_needed: false,
+    help: "only channels as NET_STA_LOC_CHA, with commas between\n\
+           several; * is any characters, ? one, -- no location",
+};
 
-/// All that has a name on the command line, in the order of the help.
-const ALL: [Named; 24] = [
-    Named {
-        name: "channels",
-        kind: Kind::Text,
-        help: "select, audit, show, repack: the channels, NET_STA_LOC_CHA with * and ?, separated by commas; \
-               by default all",
-    },
-    Named {
-        name: "from",
-        kind: Kind::Text,
-        help: "select, audit, show, repack: the window's beginning, such as 2024-05-14T03:20; \
-               fetch: the first number, in hexadecimal",
-    },
-    Named {
-        name: "until",
-        kind: Kind::Text,
-        help: "select, audit, show, repack: the window's end, which isn't part of it",
-    },
-    Named {
-        name: "length",
-        kind: Kind::Text,
-        help: "repack: bytes of a record, 128, 256, .. 4096; by default 512",
-    },
-    Named {
-        name: "encoding",
-        kind: Kind::Text,
-        help: "repack: int16, int32, steim1 or steim2; by default steim2",
-    },
-    Named {
-        name: "station",
-        kind: Kind::Text,
-        help: "serve, fetch: the first station",
-    },
-    Named {
-        name: "network",
-        kind: Kind::Text,
-        help: "serve, fetch: its network",
-    },
-    Named {
-        name: "capacity",
-        kind: Kind::Text,
-        help: "serve: how many records of each station to keep; by default 1000",
-    },
-    Named {
-        name: "first",
-        kind: Kind::Text,
-        help: "serve: each first record's number, in hexadecimal; by default 0",
-    },
-    Named {
-        name: "address",
-        kind: Kind::Text,
-        help: "serve, fetch: the IPv4 address, of fetch also a name; by default 127.0.0.1",
-    },
-    Named {
-        name: "timeout",
-        kind: Kind::Text,
-        help: "serve, fetch: how many seconds to wait, 0 for ever; by default 600",
-    },
-    Named {
-        name: "port",
-        kind: Kind::Number(65_535),
-        help: "serve, fetch: the port",
-    },
-    Named {
-        name: "connections",
-        kind: Kind::Number(1_000_000),
-        help: "serve: how many connections to serve; by default 1",
-    },
-    Named {
-        name: "tries",
-        kind: Kind::Number(1_000_000),
-        help: "fetch: how many times to connect in all; by default 1",
-    },
+const FROM: Named = Named {
+    name: "from",
+    kind: Kind::Text("TIME"),
+    is_needed: false,
+    help: "only records that end at this time or after it; as\n\
+           2024-05-14, 2024-135 or 2024-05-14T03:20:00.5",
+};
+
+const UNTIL: Named = Named {
+    name: "until",
+    kind: Kind::Text("TIME"),
+    is_needed: false,
+    help: "only records that begin before this time",
+};
+
+/// What `audit` takes.
+const AUDIT: [Named; 5] = [
     Named {
         name: "each",
         kind: Kind::Flag,
-        help: "audit: before its lines, a line for each record with a finding; join: for each border with one",
+        is_needed: false,
+        help: "before the audit a line for each record with a finding",
     },
     Named {
         name: "part",
         kind: Kind::Flag,
-        help: "audit, join: write a part instead of the lines of an audit",
+        is_needed: false,
+        help: "instead of the audit a part, which join reads",
+    },
+    CHANNELS,
+    FROM,
+    UNTIL,
+];
+
+/// What `join` takes.
+const JOIN: [Named; 4] = [
+    Named {
+        name: "each",
+        kind: Kind::Flag,
+        is_needed: false,
+        help: "before the audit a line for each border with a finding",
+    },
+    Named {
+        name: "part",
+        kind: Kind::Flag,
+        is_needed: false,
+        help: "instead of the audit the joint part; not with --each",
     },
     Named {
         name: "past-faults",
         kind: Kind::Flag,
-        help: "join: go on after a part that ends with a fault, report each fault and count it",
+        is_needed: false,
+        help: "go on after a part that ends with a fault, report each\n\
+               fault and count it: status 2",
     },
     Named {
         name: "expect",
-        kind: Kind::Text,
-        help: "join: how many parts there have to be; with fewer or more no audit is written",
+        kind: Kind::Text("PARTS"),
+        is_needed: false,
+        help: "how many parts there have to be, 1 to 999999999",
+    },
+];
+
+/// What `show` and `select` take.
+const SELECTING: [Named; 3] = [CHANNELS, FROM, UNTIL];
+
+/// What `repack` takes.
+const REPACK: [Named; 7] = [
+    Named {
+        name: "length",
+        kind: Kind::Text("BYTES"),
+        is_needed: false,
+        help: "128, 256, 512, 1024, 2048 or 4096; by default 512",
     },
     Named {
-        name: "tell-next",
-        kind: Kind::Flag,
-        help: "fetch: report each first record's number, and at the end the options to go on with",
-    },
-    Named {
-        name: "holes",
-        kind: Kind::Flag,
-        help: "fetch: take records whose numbers are ahead, and report each hole",
+        name: "encoding",
+        kind: Kind::Text("NAME"),
+        is_needed: false,
+        help: "int16, int32, steim1 or steim2; by default steim2",
     },
     Named {
         name: "stretches",
         kind: Kind::Flag,
-        help: "repack: pack each channel in stretches, each from its own start, \
-               so that it may have gaps and its clock may drift",
+        is_needed: false,
+        help: "pack each channel in stretches, each from its own\n\
+               start, so that it may have gaps and its clock may drift",
     },
     Named {
         name: "leave",
         kind: Kind::Flag,
-        help: "repack --stretches: leave out, and report, the channels that can't be packed",
+        is_needed: false,
+        help: "with --stretches: leave out, and report, the channels\n\
+               that can't be packed: status 1 or 2",
+    },
+    CHANNELS,
+    FROM,
+    UNTIL,
+];
+
+const PORT: Named = Named {
+    name: "port",
+    kind: Kind::Number("PORT", 65_535),
+    is_needed: true,
+    help: "1 to 65535",
+};
+
+const STATION: Named = Named {
+    name: "station",
+    kind: Kind::Text("STATION"),
+    is_needed: true,
+    help: "the first station, 1 to 5 letters or digits",
+};
+
+const NETWORK: Named = Named {
+    name: "network",
+    kind: Kind::Text("NETWORK"),
+    is_needed: true,
+    help: "its network, 1 or 2 letters or digits",
+};
+
+const TIMEOUT: Named = Named {
+    name: "timeout",
+    kind: Kind::Text("SECONDS"),
+    is_needed: false,
+    help: "how long to wait, 0 to 86400, 0 for ever;\n\
+           by default 600",
+};
+
+/// What `serve` takes.
+const SERVE: [Named; 10] = [
+    PORT,
+    STATION,
+    NETWORK,
+    Named {
+        name: "address",
+        kind: Kind::Text("ADDRESS"),
+        is_needed: false,
+        help: "the IPv4 address to listen at; by default 127.0.0.1",
+    },
+    TIMEOUT,
+    Named {
+        name: "capacity",
+        kind: Kind::Text("RECORDS"),
+        is_needed: false,
+        help: "how many to keep of each station, 1 to 1000000; by\n\
+               default 1000",
+    },
+    Named {
+        name: "first",
+        kind: Kind::Text("HEX"),
+        is_needed: false,
+        help: "the number of each first record, 0 to FFFFFF;\n\
+               by default 0",
+    },
+    Named {
+        name: "connections",
+        kind: Kind::Number("COUNT", 1_000_000),
+        is_needed: false,
+        help: "how many to serve, 1 to 1000000; by default 1",
     },
     Named {
         name: "live",
         kind: Kind::Flag,
-        help: "serve: read the input while clients are served, many at once",
+        is_needed: false,
+        help: "read the input while many clients are served at\n\
+               once; not with --connections",
     },
     Named {
         name: "clients",
-        kind: Kind::Number(1_024),
-        help: "serve --live: how many clients to serve at once; by default 64",
+        kind: Kind::Number("COUNT", 1_024),
+        is_needed: false,
+        help: "with --live: how many at once, 1 to 1024;\n\
+               by default 64",
     },
 ];
 
-/// The command as `clap` reads it: one for all that the program does.
-pub(crate) fn command<'a>(alloc: Global) -> Result<Command<'a>, AllocError>
-    ensures { IfOk result (λ c. app_of c ≡ the_command) }
-{
-    let command = with_places(alloc, bare_command(alloc))?;
-    with_all(alloc, command, &ALL)
-}
+/// What `fetch` takes.
+const FETCH: [Named; 9] = [
+    PORT,
+    STATION,
+    NETWORK,
+    Named {
+        name: "address",
+        kind: Kind::Text("HOST"),
+        is_needed: false,
+        help: "the IPv4 address of the server, or its name;\n\
+               by default 127.0.0.1",
+    },
+    TIMEOUT,
+    Named {
+        name: "from",
+        kind: Kind::Text("HEX"),
+        is_needed: false,
+        help: "the number to begin with at the first station, 0 to\n\
+               FFFFFF; by default the oldest that the server has",
+    },
+    Named {
+        name: "tries",
+        kind: Kind::Number("COUNT", 1_000_000),
+        is_needed: false,
+        help: "how many times to connect, 1 to 1000000; by default 1",
+    },
+    Named {
+        name: "tell-next",
+        kind: Kind::Flag,
+        is_needed: false,
+        help: "report each first number and, at the end, how to\n\
+               go on",
+    },
+    Named {
+        name: "holes",
+        kind: Kind::Flag,
+        is_needed: false,
+        help: "take records whose numbers are ahead, and report each\n\
+               hole before them",
+    },
+];
 
-/// The command without places and options. The program's name isn't among the arguments.
-fn bare_command<'a>(alloc: Global) -> Command<'a>
-    ensures { app_of result ≡ bare_command }
+/// The program without a command.
+pub(crate) fn program<'a>(alloc: Global) -> Command<'a>
+    ensures { app_of result ≡ the_program }
 {
     Command::new(alloc, "mseed")
         .about(ABOUT)
+        .override_usage(USAGE)
         .after_help(COMMANDS)
         .version(VERSION)
         .no_binary_name(true)
+        .arg_required_else_help(true)
 }
 
-/// A command with two arguments that have no name: the command's word, and files or further places.
-fn with_places<'a>(alloc: Global, command: Command<'a>) -> Result<Command<'a>, AllocError>
-    ensures { IfOk result (λ c. app_of c ≡ with_rule (with_rule (app_of command.entry) word_rule) places_rule) }
+/// A command, with its places and options.
+pub(crate) fn command<'a>(alloc: Global, name: CommandName) -> Result<Command<'a>, AllocError>
+    ensures { IfOk result (λ c. app_of c ≡ the_command name) }
 {
-    let word = Arg::new(alloc, "command").help("audit, join, show, select, repack, serve or fetch");
-    let places = Arg::new(alloc, "place")
-        .value_name("file or station")
-        .action(ArgAction::Append)
-        .help(
-            "audit, join, show, select, repack: files; serve, fetch: further stations, NET_STA; \
-             of fetch also NET_STA:HEX",
-        );
-    command.arg(word)?.arg(places)
+    let command = with_places(alloc, name, bare_command(alloc, name))?;
+    match name {
+        CommandName::Audit => with_all(alloc, command, &AUDIT),
+        CommandName::Join => with_all(alloc, command, &JOIN),
+        CommandName::Show => with_all(alloc, command, &SELECTING),
+        CommandName::Select => with_all(alloc, command, &SELECTING),
+        CommandName::Repack => with_all(alloc, command, &REPACK),
+        CommandName::Serve => with_all(alloc, command, &SERVE),
+        CommandName::Fetch => with_all(alloc, command, &FETCH),
+    }
 }
 
-/// A command with these arguments, in their order.
+/// A command without places and options. Its name isn't among the words behind it.
+fn bare_command<'a>(alloc: Global, name: CommandName) -> Command<'a>
+    ensures { app_of result ≡ bare_command name }
+{
+    Command::new(alloc, title_of(name))
+        .about(about(name))
+        .after_help(notes(name))
+        .no_binary_name(true)
+}
+
+/// What the help calls a command.
+fn title_of<'a>(name: CommandName) -> &'a str
+    ensures { result.now ≡ title_of name }
+{
+    match name {
+        CommandName::Audit => "mseed audit",
+        CommandName::Join => "mseed join",
+        CommandName::Show => "mseed show",
+        CommandName::Select => "mseed select",
+        CommandName::Repack => "mseed repack",
+        CommandName::Serve => "mseed serve",
+        CommandName::Fetch => "mseed fetch",
+    }
+}
+
+/// A command with its files, or its further places, which have no names.
+fn with_places<'a>(
+    alloc: Global,
+    name: CommandName,
+    command: Command<'a>,
+) -> Result<Command<'a>, AllocError>
+    ensures { IfOk result (λ c. app_of c ≡ with_rule (app_of command.entry) places_rule) }
+{
+    let places = Arg::new(alloc, "place")
+        .value_name(place_title(name))
+        .action(ArgAction::Append)
+        .help(place_help(name));
+    command.arg(places)
+}
+
+/// A command with these options, in their order.
 fn with_all<'a>(
     alloc: Global,
     command: Command<'a>,
@@ -207,18 +341,19 @@ fn with_all<'a>(
     Ok(command)
 }
 
-/// An argument after `--`.
+/// An option.
 fn argument<'a>(alloc: Global, named: &Named) -> Arg<'a>
     ensures rule { rule_of result ≡ rule_named named.now }
     ensures global { result.global ≡ false }
 {
     let argument = Arg::new(alloc, named.name)
         .long(named.name)
-        .help(named.help);
+        .help(named.help)
+        .required(named.is_needed);
     match named.kind {
         Kind::Flag => argument.action(ArgAction::SetTrue),
-        Kind::Text => argument,
-        Kind::Number(most) => argument.value_parser(numbers(most)),
+        Kind::Text(value) => argument.value_name(value),
+        Kind::Number(value, most) => argument.value_name(value).value_parser(numbers(most)),
     }
 }
 

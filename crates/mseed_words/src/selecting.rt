@@ -1,31 +1,40 @@
-//! Which records the arguments of a command line ask for.
-ghost use Rattle.std.specs.Prelude.{◌≡◌, option_map};
+//! Which records the words of a command line ask for.
+ghost use Rattle.std.specs.Prelude.{◌≡◌, ◌==◌, ◌≤◌, option_map};
+ghost use Rattle.std.specs.List.{after_first, before_first};
 ghost use Rattle.clap.specs.Matches.{found_of};
 ghost use Rattle.clap.specs.Walk.{rows_of};
 ghost use Rattle.mseed_select.specs.Selecting.{selection_of, text_of};
-ghost use Rattle.mseed_words.specs.Selecting.{asked_of, channels_in, instant_in, is_selective, selection_by};
-ghost use Rattle.mseed_words.specs.Selecting.{selection_in, takes_selection};
+ghost use Rattle.mseed_words.specs.Mistakes.{mapped};
+ghost use Rattle.mseed_words.specs.Selecting.{asked_of, channels_of, instant_of, is_dated, is_month_and_day};
+ghost use Rattle.mseed_words.specs.Selecting.{is_number_of};
+ghost use Rattle.mseed_words.specs.Selecting.{option_given, selection_by, selection_in, takes_selection, wanted_time};
 
-use crate::found::text_of;
+use crate::found::{is_given, text_of};
+use crate::mistake::{Mistake, Valued, Wanted};
+use crate::numbers::number_within;
 use crate::request::Request;
 use clap::ArgMatches;
 use mseed_select::{Patterns, Selector, read_time};
 use mseed_time::Micros;
 
-/// Which records something is requested of, where the arguments say; `None` where what they say is none that there is.
+/// Which records something is requested of, where the words say.
+///
+/// # Errors
+///
+/// What is wrong with the first of the three options with which something is wrong.
 pub(crate) fn asked_of<'a>(
     request: &Request,
     matches: &ArgMatches<'a>,
-) -> Option<Option<Selector<'a>>>
-    ensures { option_map (λ asked. option_map selection_of asked) result
+) -> Result<Option<Selector<'a>>, Mistake>
+    ensures { mapped (λ asked. option_map selection_of asked) result
         ≡ asked_of request.now (rows_of (found_of matches.now)) }
 {
-    if !takes_selection(request) || !is_selective(matches) {
-        return Some(None);
+    if !takes_selection(request) || option_given(matches).is_none() {
+        return Ok(None);
     }
     match selector_in(matches) {
-        Some(selector) => Some(Some(selector)),
-        None => None,
+        Ok(selector) => Ok(Some(selector)),
+        Err(mistake) => Err(mistake),
     }
 }
 
@@ -44,55 +53,146 @@ fn takes_selection(request: &Request) -> bool
     )
 }
 
-/// Whether one of the options is given that say which records are asked for.
-fn is_selective(matches: &ArgMatches<'_>) -> bool
-    ensures { result ≡ is_selective (rows_of (found_of matches.now)) }
+/// The first that is given of the options that say which records are asked for.
+pub(crate) fn option_given(matches: &ArgMatches<'_>) -> Option<Valued>
+    ensures { result ≡ option_given (rows_of (found_of matches.now)) }
 {
-    text_of(matches, "channels").is_some()
-        || text_of(matches, "from").is_some()
-        || text_of(matches, "until").is_some()
+    if is_given(matches, "channels") {
+        Some(Valued::Channels)
+    } else if is_given(matches, "from") {
+        Some(Valued::From)
+    } else if is_given(matches, "until") {
+        Some(Valued::Until)
+    } else {
+        None
+    }
 }
 
 /// What the three options ask for.
-fn selector_in<'a>(matches: &ArgMatches<'a>) -> Option<Selector<'a>>
-    ensures { option_map selection_of result ≡ selection_in (rows_of (found_of matches.now)) }
+///
+/// # Errors
+///
+/// What is wrong with the first of them with which something is wrong.
+fn selector_in<'a>(matches: &ArgMatches<'a>) -> Result<Selector<'a>, Mistake>
+    ensures { mapped selection_of result ≡ selection_in (rows_of (found_of matches.now)) }
 {
-    let channels = channels_in(text_of(matches, "channels"))?;
-    let from = instant_in(text_of(matches, "from"))?;
-    let until = instant_in(text_of(matches, "until"))?;
-    selector_by(channels, from, until)
+    match channels_of(matches) {
+        Ok(channels) => {
+            let from = instant_of(Valued::From, matches)?;
+            let until = instant_of(Valued::Until, matches)?;
+            selector_by(channels, from, until)
+        }
+        Err(mistake) => Err(mistake),
+    }
 }
 
-/// What asks for some channels and a window, if its end is after its begin.
+/// What asks for some channels and a window.
+///
+/// # Errors
+///
+/// Where the window's end isn't after its begin.
 fn selector_by<'a>(
     channels: Option<Patterns<'a>>,
     from: Option<Micros>,
     until: Option<Micros>,
-) -> Option<Selector<'a>>
-    ensures { option_map selection_of result ≡ selection_by (text_of channels.entry) from until }
+) -> Result<Selector<'a>, Mistake>
+    ensures { mapped selection_of result ≡ selection_by (text_of channels.entry) from until }
 {
     match Selector::new(channels, from, until) {
-        Ok(selector) => Some(selector),
-        Err(_) => None,
+        Ok(selector) => Ok(selector),
+        Err(_) => Err(Mistake::Value(Valued::Until, Wanted::Later)),
     }
 }
 
-/// The patterns of a text, where one is given.
-fn channels_in<'a>(text: Option<&'a str>) -> Option<Option<Patterns<'a>>>
-    ensures { option_map (λ channels. text_of channels) result ≡ channels_in (option_map (λ t. t.now) text.entry) }
+/// The patterns of channels, where they are given.
+///
+/// # Errors
+///
+/// Where they are none.
+fn channels_of<'a>(matches: &ArgMatches<'a>) -> Result<Option<Patterns<'a>>, Mistake>
+    ensures { mapped (λ channels. text_of channels) result ≡ channels_of (rows_of (found_of matches.now)) }
 {
-    match text {
-        None => Some(None),
-        Some(text) => Some(Some(Patterns::read(text.as_bytes()).ok()?)),
+    match text_of(matches, "channels") {
+        None => Ok(None),
+        Some(text) => match Patterns::read(text.as_bytes()) {
+            Ok(patterns) => Ok(Some(patterns)),
+            Err(_) => Err(Mistake::Value(Valued::Channels, Wanted::Patterns)),
+        },
     }
 }
 
-/// The instant of a word, where one is given.
-fn instant_in(word: Option<&str>) -> Option<Option<Micros>>
-    ensures { result ≡ instant_in (option_map (λ w. w.now) word.entry) }
+/// The instant that an option gives, where it is given.
+///
+/// # Errors
+///
+/// Where its value is no time.
+fn instant_of(option: Valued, matches: &ArgMatches<'_>) -> Result<Option<Micros>, Mistake>
+    ensures { result ≡ instant_of option (rows_of (found_of matches.now)) }
 {
-    match word {
-        None => Some(None),
-        Some(word) => Some(Some(read_time(word.as_bytes()).ok()?)),
+    match text_of(matches, option.name()) {
+        None => Ok(None),
+        Some(word) => match read_time(word.as_bytes()) {
+            Ok(instant) => Ok(Some(instant)),
+            Err(_) => Err(Mistake::Value(option, wanted_time(word))),
+        },
+    }
+}
+
+/// What a word lacks that is no time: its form, a day that there is, or a time of day.
+fn wanted_time(word: &str) -> Wanted
+    ensures { result ≡ wanted_time word.now }
+{
+    let date = date_in(word);
+    if read_time(date.as_bytes()).is_ok() {
+        Wanted::Clock
+    } else if is_dated(date) {
+        Wanted::Day
+    } else {
+        Wanted::Time
+    }
+}
+
+/// What stands before the first `T`.
+fn date_in(word: &str) -> &str
+    ensures { result.now ≡ before_first (λ c. c == 84) word.now }
+{
+    match word.split_once('T') {
+        Some((date, _)) => date,
+        None => word,
+    }
+}
+
+/// Whether a text has the form of a date: a year, and a month and its day, or a day of the year.
+fn is_dated(date: &str) -> bool
+    ensures { result ≡ is_dated date.now }
+{
+    let (year, day) = cut(date);
+    is_number_of(4, year) && (is_number_of(3, day) || is_month_and_day(day))
+}
+
+/// Whether a text has the form of a month and its day.
+fn is_month_and_day(text: &str) -> bool
+    ensures { result ≡ is_month_and_day text.now }
+{
+    let (month, day) = cut(text);
+    is_number_of(2, month) && is_number_of(2, day)
+}
+
+/// Whether a text is a number of so many digits.
+fn is_number_of(digits: usize, text: &str) -> bool
+    requires { digits ≤ 9 }
+    ensures { result ≡ is_number_of digits text.now }
+{
+    text.len() == digits && number_within(digits, text).is_some()
+}
+
+/// What stands before the first hyphen, and what stands after it.
+fn cut(text: &str) -> (&str, &str)
+    ensures before { result.0.now ≡ before_first (λ c. c == 45) text.now }
+    ensures after { result.1.now ≡ after_first (λ c. c == 45) text.now }
+{
+    match text.split_once('-') {
+        Some((before, after)) => (before, after),
+        None => (text, ""),
     }
 }

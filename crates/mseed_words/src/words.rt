@@ -1,53 +1,113 @@
-//! What the arguments of the command line ask for.
-ghost use Rattle.std.specs.Prelude.{◌≡◌, ◌≤◌, Err, IfErr, IfOk, IfSome, List, None, OnOk, Some, [], map, option_map};
+//! What the words of a command line ask for.
+ghost use Rattle.std.specs.Prelude.{◌≡◌, ◌≤◌, [], ◌∷◌, IfErr, IfOk, IfSome, None, Ok, OnOk, map, option_map};
+ghost use Rattle.std.specs.Prelude.{slice_get, unwrap_or};
+ghost use Rattle.clap.specs.Faults.{fault_of};
+ghost use Rattle.clap.specs.Kinds.{HasKind, Kinds};
 ghost use Rattle.clap.specs.Matches.{found_of};
-ghost use Rattle.clap.specs.Walk.{Text, rows_of};
-ghost use Rattle.clap.specs.Kinds.{HasKind};
-ghost use Rattle.mseed_words.specs.Files.{files_of};
-ghost use Rattle.mseed_words.specs.Found.{has_only};
-ghost use Rattle.mseed_words.specs.Words.{AsksFor, CanBeCalled, IsRefusal, IsUnasked, auditing_by, auditing_names};
-ghost use Rattle.mseed_words.specs.Words.{auditing_of, command_of, encoding_named, entries_in, expected_in};
-ghost use Rattle.mseed_words.specs.Words.{exponent_in, faults_in, joining_by, joining_of, packing_by, packing_of};
-ghost use Rattle.mseed_words.specs.Words.{plain_of, request_named, request_of, requested, serving_by};
+ghost use Rattle.clap.specs.Simple.{matches_of};
+ghost use Rattle.clap.specs.Walk.{rows_of};
 ghost use Rattle.mseed_select.specs.Selecting.{selection_of};
+ghost use Rattle.mseed_words.specs.Files.{files_of};
+ghost use Rattle.mseed_words.specs.Options.{the_command};
+ghost use Rattle.mseed_words.specs.Words.{AsksFor, CanBeCalled, IsRefusal, Reading, asks_for, auditing_by, auditing_of};
+ghost use Rattle.mseed_words.specs.Words.{command_of, encoding_named, encoding_of, expected_in, exponent_in};
+ghost use Rattle.mseed_words.specs.Words.{exponent_of, given_of, is_option, joining_by, joining_of, packing_by};
+ghost use Rattle.mseed_words.specs.Words.{packing_of, reading_alone, reading_behind, reading_of, request_of};
+ghost use Rattle.mseed_words.specs.Words.{reading_of_first};
+ghost use Rattle.mseed_words.specs.Words.{requested, serving_by, unless_refused};
+ghost use Rattle.mseed_words.specs.private.Refused.{IsMistakenAs, IsRefusedAs};
 
+use crate::command_name::{CommandName, name_of, nearest};
 use crate::feed_words::{fetching_of, live_serving_of, serving_of};
-use crate::files::{can_be_files, takes_files};
-use crate::found::{asks, has_only, text_of, text_or};
+use crate::files::{file_mistake, takes_files};
+use crate::found::{asks, text_of, text_or};
+use crate::mistake::{Mistake, Valued, Wanted};
 use crate::numbers::{number_in, number_within};
-use crate::options::command;
+use crate::options::{command, program};
 use crate::refusal::Refusal;
 use crate::request::{Command, Joining, Packing, Request};
-use crate::selecting::asked_of;
+use crate::selecting::{asked_of, option_given};
 use clap::error::ErrorKind;
 use clap::{ArgMatches, Error};
 use mseed_steim::Encoding;
 use std::alloc::Global;
 
-// The names that a command takes that can be met with some of the records alone, and these.
-macro_rules! names_of_records {
-    ($($further:literal),*) => {
-        &["command", "place", "channels", "from", "until", $($further),*]
-    };
-}
-
 /// Reads the arguments of a command line, those after the program's name, and returns the command that they request:
-/// what is done, with which records, and of which files. Where an argument isn't text, a text has to stand in its place
-/// that no argument can be.
+/// what is done, with which records, and of which files. The first argument is the command. Where an argument isn't
+/// text, a text has to stand in its place that no argument can be.
 ///
 /// # Errors
 ///
 /// `Refusal::Text` where they aren't those of a command line, or ask for the help or the version; `Refusal::NoRequest`
 /// where they are, but request nothing that there is; `Refusal::Memory` where an allocation was refused.
-pub fn read<'a>(alloc: Global, words: &'a [&'a str]) -> Result<Command<'a>, Refusal>
+#[tactic(auto, using(crate::proofs::Further::by_none, crate::proofs::Further::first_alone))]
+pub fn read<'a>(alloc: Global, words: &'a [&'a str]) -> Result<Command<'a>, Refusal<'a>>
     ensures request { IfOk result (λ command. AsksFor (map (λ word. word.now) words.entry.now) command.request
         (option_map selection_of command.selector) (map (λ file. file.now) command.files.items)) }
     ensures range { IfOk result (λ command. CanBeCalled command.request) }
-    ensures refused { IfErr result (IsRefusal (map (λ word. word.now) words.entry.now)) }
+    ensures refused { IfErr result (IsRefusal (reading_of (map (λ word. word.now) words.entry.now))) }
 {
-    match matches_of(alloc, words) {
-        Ok(matches) => command_of(alloc, &matches),
+    if words.is_empty() {
+        return Err(answer_alone(alloc, words));
+    }
+    match name_of(words[0]) {
+        Some(name) => read_behind(alloc, name, &words[1..]),
+        None => Err(refuse_first(alloc, words[0], &words[..1])),
+    }
+}
+
+/// Reads the words behind a command.
+///
+/// # Errors
+///
+/// As of [`read`].
+fn read_behind<'a>(
+    alloc: Global,
+    name: CommandName,
+    words: &'a [&'a str],
+) -> Result<Command<'a>, Refusal<'a>>
+    ensures request { IfOk result (λ command. reading_behind name (map (λ word. word.now) words.entry.now)
+        ≡ asks_for (requested command.request (option_map selection_of command.selector)
+        (map (λ file. file.now) command.files.items))) }
+    ensures range { IfOk result (λ command. CanBeCalled command.request) }
+    ensures refused { IfErr result (IsRefusal (reading_behind name (map (λ word. word.now) words.entry.now))) }
+{
+    match matches_of(alloc, name, words) {
+        Ok(matches) => command_of(alloc, name, &matches),
         Err(error) => Err(refusal_of(alloc, &error)),
+    }
+}
+
+/// Why a first word is refused that names no command. `words` are that word.
+fn refuse_first<'a>(alloc: Global, first: &'a str, words: &'a [&'a str]) -> Refusal<'a>
+    requires { map (λ word. word.now) words.now ≡ first.now ∷ [] }
+    ensures { IsRefusal (reading_of_first None first.entry.now []) result }
+{
+    if is_option(first) {
+        return answer_alone(alloc, words);
+    }
+    match nearest(alloc, first) {
+        Ok(near) => Refusal::NoRequest(Mistake::Command(near), first),
+        Err(_) => Refusal::Memory,
+    }
+}
+
+/// Whether a word is an option: of at least two bytes, with a hyphen as the first, and not `--`.
+fn is_option(word: &str) -> bool
+    ensures { result ≡ is_option word.now }
+{
+    let bytes = word.as_bytes();
+    bytes.len() > 1 && bytes[0] == b'-' && word != "--"
+}
+
+/// What is answered where no command stands first: no word, or an option, which asks for the help or the version, or is
+/// none.
+fn answer_alone<'a>(alloc: Global, words: &'a [&'a str]) -> Refusal<'a>
+    ensures { IsRefusal (reading_alone (map (λ word. word.now) words.entry.now)) result }
+{
+    match program(alloc).try_get_matches_from(words) {
+        Ok(_) => Refusal::NoRequest(Mistake::Command(None), ""),
+        Err(error) => refusal_of(alloc, &error),
     }
 }
 
@@ -56,18 +116,25 @@ pub fn read<'a>(alloc: Global, words: &'a [&'a str]) -> Result<Command<'a>, Refu
 /// # Errors
 ///
 /// `NoRequest` where it asks for nothing that there is, and `Memory` where there is no room for the files.
-fn command_of<'a>(alloc: Global, matches: &ArgMatches<'a>) -> Result<Command<'a>, Refusal>
-    ensures command { IfOk result (λ command. command_of (rows_of (found_of matches.now))
-        ≡ Some (requested command.request (option_map selection_of command.selector)
+fn command_of<'a>(
+    alloc: Global,
+    name: CommandName,
+    matches: &ArgMatches<'a>,
+) -> Result<Command<'a>, Refusal<'a>>
+    ensures command { IfOk result (λ command. command_of name (rows_of (found_of matches.now))
+        ≡ Ok (requested command.request (option_map selection_of command.selector)
         (map (λ file. file.now) command.files.items))) }
     ensures range { IfOk result (λ command. CanBeCalled command.request) }
-    ensures refused { IfErr result (λ refusal. IsUnasked refusal (command_of (rows_of (found_of matches.now)))) }
+    ensures refused { IfErr result (IsRefusedAs (command_of name (rows_of (found_of matches.now)))
+        (rows_of (found_of matches.now))) }
 {
-    let Some(request) = request_of(matches) else {
-        return Err(Refusal::NoRequest);
+    let request = match request_of(name, matches) {
+        Ok(request) => request,
+        Err(mistake) => return Err(mistaken(mistake, matches)),
     };
-    let Some(selector) = asked_of(&request, matches) else {
-        return Err(Refusal::NoRequest);
+    let selector = match asked_of(&request, matches) {
+        Ok(selector) => selector,
+        Err(mistake) => return Err(mistaken(mistake, matches)),
     };
     let files = files_of(alloc, &request, matches)?;
     Ok(Command {
@@ -77,28 +144,28 @@ fn command_of<'a>(alloc: Global, matches: &ArgMatches<'a>) -> Result<Command<'a>
     })
 }
 
-/// The files of what is requested: the further arguments, where it takes files.
+/// The files of what is requested: the further words, where it takes files.
 ///
 /// # Errors
 ///
-/// `NoRequest` where the further arguments can't be files, and `Memory` where there is no room for them.
+/// `NoRequest` where the further words can't be files, and `Memory` where there is no room for them.
 fn files_of<'a>(
     alloc: Global,
     request: &Request,
     matches: &ArgMatches<'a>,
-) -> Result<Vec<&'a str>, Refusal>
+) -> Result<Vec<&'a str>, Refusal<'a>>
     ensures files { IfOk result (λ files. files_of request.now (rows_of (found_of matches.now))
-        ≡ Some (map (λ file. file.now) files.items)) }
-    ensures refused { IfErr result (λ refusal. IsUnasked refusal
-        (files_of request.now (rows_of (found_of matches.now)))) }
+        ≡ Ok (map (λ file. file.now) files.items)) }
+    ensures refused { IfErr result (IsRefusedAs (files_of request.now (rows_of (found_of matches.now)))
+        (rows_of (found_of matches.now))) }
 {
     let mut files = Vec::new(alloc);
     if !takes_files(request) {
         return Ok(files);
     }
     let words = matches.get_raw("place").unwrap_or(&[]);
-    if !can_be_files(words) {
-        return Err(Refusal::NoRequest);
+    if let Some(mistake) = file_mistake(words) {
+        return Err(mistaken(mistake, matches));
     }
     match files.extend_from_slice(words) {
         Ok(()) => Ok(files),
@@ -106,23 +173,58 @@ fn files_of<'a>(
     }
 }
 
-/// What `clap` finds among the arguments.
+/// The refusal of what asks for nothing that there is: what is wrong, and what was given.
+fn mistaken<'a>(mistake: Mistake, matches: &ArgMatches<'a>) -> Refusal<'a>
+    ensures { IsMistakenAs mistake (rows_of (found_of matches.now)) result }
+{
+    Refusal::NoRequest(mistake, given_of(mistake, matches))
+}
+
+/// What was given of that with which something is wrong: the value of the option, or the word; nothing of a flag.
+fn given_of<'a>(mistake: Mistake, matches: &ArgMatches<'a>) -> &'a str
+    ensures { result.now ≡ given_of mistake (rows_of (found_of matches.now)) }
+{
+    match mistake {
+        Mistake::Value(option, _) => text_or(matches, option.name(), ""),
+        Mistake::Place(index, _) => word_at(matches.get_raw("place").unwrap_or(&[]), index),
+        _ => "",
+    }
+}
+
+/// The word of this number, from 0; an empty one where there are fewer.
+#[tactic(auto, using(crate::proofs::Further::word_there, crate::proofs::Further::no_word_there))]
+fn word_at<'a>(words: &[&'a str], index: usize) -> &'a str
+    ensures { result.now ≡ unwrap_or (slice_get (map (λ word. word.now) words.now) index) [] }
+{
+    if index < words.len() {
+        words[index]
+    } else {
+        ""
+    }
+}
+
+/// What `clap` finds among the words behind a command.
 ///
 /// # Errors
 ///
 /// That of `clap`, whose text is for the user.
-fn matches_of<'a>(alloc: Global, words: &'a [&'a str]) -> Result<ArgMatches<'a>, Error>
-    ensures taken { OnOk result (faults_in (map (λ word. word.now) words.entry.now) ≡ []) }
+fn matches_of<'a>(
+    alloc: Global,
+    name: CommandName,
+    words: &'a [&'a str],
+) -> Result<ArgMatches<'a>, Error>
+    ensures taken { OnOk result (fault_of (the_command name) (map (λ word. word.now) words.entry.now) ≡ []) }
     ensures found { IfOk result (λ matches. rows_of (found_of matches)
-        ≡ entries_in (map (λ word. word.now) words.entry.now)) }
-    ensures refused { IfErr result (HasKind (faults_in (map (λ word. word.now) words.entry.now))) }
+        ≡ matches_of (the_command name) (map (λ word. word.now) words.entry.now)) }
+    ensures refused { IfErr result (HasKind (fault_of (the_command name) (map (λ word. word.now) words.entry.now))) }
 {
-    command(alloc)?.try_get_matches_from(words)
+    command(alloc, name)?.try_get_matches_from(words)
 }
 
-/// Why arguments are refused for which `clap` has an error: for want of memory, or with its text.
-fn refusal_of(alloc: Global, error: &Error) -> Refusal
-    ensures { (words : List Text) → HasKind (faults_in words) error.now → IsRefusal words result }
+/// Why words are refused for which `clap` has an error: for want of memory, or with its text.
+fn refusal_of<'a>(alloc: Global, error: &Error) -> Refusal<'a>
+    ensures { (kinds : Kinds) (reading : Reading) → HasKind kinds error.now
+        → IsRefusal (unless_refused kinds reading) result }
 {
     if error.kind() == ErrorKind::OutOfMemory {
         return Refusal::Memory;
@@ -133,63 +235,55 @@ fn refusal_of(alloc: Global, error: &Error) -> Refusal
     }
 }
 
-/// What was read asks for.
-fn request_of(matches: &ArgMatches<'_>) -> Option<Request>
-    ensures value { result ≡ request_of (rows_of (found_of matches.now)) }
-    ensures range { IfSome result CanBeCalled }
+/// What a command asks for.
+///
+/// # Errors
+///
+/// What is wrong first.
+fn request_of(name: CommandName, matches: &ArgMatches<'_>) -> Result<Request, Mistake>
+    ensures value { result ≡ request_of name (rows_of (found_of matches.now)) }
+    ensures range { IfOk result CanBeCalled }
 {
-    request_named(text_of(matches, "command")?, matches)
-}
-
-/// What a command's word asks for.
-fn request_named(word: &str, matches: &ArgMatches<'_>) -> Option<Request>
-    ensures value { result ≡ request_named word.now (rows_of (found_of matches.now)) }
-    ensures range { IfSome result CanBeCalled }
-{
-    match word {
-        "audit" => auditing_of(matches),
-        "join" => joining_of(matches),
-        "show" => plain_of(Request::Show, matches),
-        "select" => plain_of(Request::Select, matches),
-        "repack" => packing_of(matches),
-        "serve" => serving_by(asks(matches, "live"), matches),
-        "fetch" => Some(Request::Fetch(fetching_of(matches)?)),
-        _ => None,
+    match name {
+        CommandName::Audit => auditing_of(matches),
+        CommandName::Join => joining_of(matches),
+        CommandName::Show => Ok(Request::Show),
+        CommandName::Select => Ok(Request::Select),
+        CommandName::Repack => packing_of(matches),
+        CommandName::Serve => serving_by(asks(matches, "live"), matches),
+        CommandName::Fetch => Ok(Request::Fetch(fetching_of(matches)?)),
     }
 }
 
 /// What is requested of serving: all of the input first, or while it comes.
-fn serving_by(live: bool, matches: &ArgMatches<'_>) -> Option<Request>
+///
+/// # Errors
+///
+/// What is wrong first.
+fn serving_by(live: bool, matches: &ArgMatches<'_>) -> Result<Request, Mistake>
     ensures value { result ≡ serving_by live (rows_of (found_of matches.now)) }
-    ensures range { IfSome result CanBeCalled }
+    ensures range { IfOk result CanBeCalled }
 {
     if live {
-        Some(Request::Live(live_serving_of(matches)?))
+        Ok(Request::Live(live_serving_of(matches)?))
     } else {
-        Some(Request::Serve(serving_of(matches)?))
+        Ok(Request::Serve(serving_of(matches)?))
     }
 }
 
-/// What is requested of auditing, by its flags.
-fn auditing_of(matches: &ArgMatches<'_>) -> Option<Request>
+/// What is requested of auditing.
+///
+/// # Errors
+///
+/// The first option that says which records are asked for, where a part is to be written.
+fn auditing_of(matches: &ArgMatches<'_>) -> Result<Request, Mistake>
     ensures value { result ≡ auditing_of (rows_of (found_of matches.now)) }
-    ensures range { IfSome result CanBeCalled }
+    ensures range { IfOk result CanBeCalled }
 {
     let part = asks(matches, "part");
-    if !has_audit_names(matches, part) {
-        return None;
-    }
-    Some(auditing_by(asks(matches, "each"), part))
-}
-
-/// Whether nothing was given but what auditing takes: a part is that of all records.
-fn has_audit_names(matches: &ArgMatches<'_>, part: bool) -> bool
-    ensures { result ≡ has_only (auditing_names part) (rows_of (found_of matches.now)) }
-{
-    if part {
-        has_only(matches, &["command", "place", "each", "part"])
-    } else {
-        has_only(matches, names_of_records!("each", "part"))
+    match option_given(matches) {
+        Some(option) if part => Err(Mistake::Value(option, Wanted::AllOfPart)),
+        _ => Ok(auditing_by(asks(matches, "each"), part)),
     }
 }
 
@@ -207,90 +301,100 @@ fn auditing_by(each: bool, part: bool) -> Request
 }
 
 /// What is requested of joining, by its options.
-fn joining_of(matches: &ArgMatches<'_>) -> Option<Request>
+///
+/// # Errors
+///
+/// What is wrong first.
+fn joining_of(matches: &ArgMatches<'_>) -> Result<Request, Mistake>
     ensures value { result ≡ joining_of (rows_of (found_of matches.now)) }
-    ensures range { IfSome result CanBeCalled }
+    ensures range { IfOk result CanBeCalled }
 {
-    if !has_only(
-        matches,
-        &["command", "place", "each", "part", "past-faults", "expect"],
-    ) {
-        return None;
-    }
+    let expected = expected_in(text_of(matches, "expect"))?;
     let joining = Joining {
         past_faults: asks(matches, "past-faults"),
-        expected: expected_in(text_of(matches, "expect"))?,
+        expected,
     };
     joining_by(asks(matches, "each"), asks(matches, "part"), joining)
 }
 
 /// What is requested of joining: the text of an audit or a part, and a line for each border before the text alone.
-fn joining_by(each: bool, part: bool, joining: Joining) -> Option<Request>
+///
+/// # Errors
+///
+/// Where lines and a part are requested.
+fn joining_by(each: bool, part: bool, joining: Joining) -> Result<Request, Mistake>
     ensures value { result ≡ joining_by each part joining }
-    ensures range { IfSome result CanBeCalled }
+    ensures range { IfOk result CanBeCalled }
 {
     match (each, part) {
-        (false, false) => Some(Request::Join(joining)),
-        (true, false) => Some(Request::JoinEach(joining)),
-        (false, true) => Some(Request::JoinPart(joining)),
-        (true, true) => None,
+        (false, false) => Ok(Request::Join(joining)),
+        (true, false) => Ok(Request::JoinEach(joining)),
+        (false, true) => Ok(Request::JoinPart(joining)),
+        (true, true) => Err(Mistake::EachPart),
     }
 }
 
 /// How many parts there have to be, where a number is given: one to nine decimal digits, and not 0.
-fn expected_in(text: Option<&str>) -> Option<Option<u64>>
+///
+/// # Errors
+///
+/// Where it is no such number.
+fn expected_in(text: Option<&str>) -> Result<Option<u64>, Mistake>
     ensures { result ≡ expected_in (option_map (λ t. t.now) text.entry) }
 {
     let Some(text) = text else {
-        return Some(None);
+        return Ok(None);
     };
-    match number_within(9, text)? {
-        0 => None,
-        number => Some(Some(u64::from(number))),
-    }
-}
-
-/// A request that takes the command, files, and which records, and nothing else.
-fn plain_of(request: Request, matches: &ArgMatches<'_>) -> Option<Request>
-    requires { CanBeCalled request }
-    ensures value { result ≡ plain_of request (rows_of (found_of matches.now)) }
-    ensures range { IfSome result CanBeCalled }
-{
-    if has_only(matches, names_of_records!()) {
-        Some(request)
-    } else {
-        None
+    match number_within(9, text) {
+        None | Some(0) => Err(Mistake::Value(Valued::Expect, Wanted::Parts)),
+        Some(number) => Ok(Some(u64::from(number))),
     }
 }
 
 /// What is requested of the command that packs anew, by its options.
-fn packing_of(matches: &ArgMatches<'_>) -> Option<Request>
+///
+/// # Errors
+///
+/// What is wrong first.
+fn packing_of(matches: &ArgMatches<'_>) -> Result<Request, Mistake>
     ensures value { result ≡ packing_of (rows_of (found_of matches.now)) }
-    ensures range { IfSome result CanBeCalled }
+    ensures range { IfOk result CanBeCalled }
 {
-    if !has_only(
-        matches,
-        names_of_records!("length", "encoding", "stretches", "leave"),
-    ) {
-        return None;
-    }
-    let packing = Packing {
-        exponent: exponent_in(text_or(matches, "length", "512"))?,
-        encoding: encoding_named(text_or(matches, "encoding", "steim2"))?,
-    };
+    let exponent = exponent_of(matches)?;
+    let encoding = encoding_of(matches)?;
+    let packing = Packing { exponent, encoding };
     packing_by(asks(matches, "stretches"), asks(matches, "leave"), packing)
 }
 
-/// Packing anew, as it is, or by stretches; these alone can leave channels out.
-fn packing_by(stretches: bool, leave: bool, packing: Packing) -> Option<Request>
+/// Packing anew, as it is, or by stretches.
+///
+/// # Errors
+///
+/// Where channels are to be left out, but not by stretches.
+fn packing_by(stretches: bool, leave: bool, packing: Packing) -> Result<Request, Mistake>
     requires { (7 ≤ packing.exponent) × (packing.exponent ≤ 12) }
     ensures value { result ≡ packing_by stretches leave packing }
-    ensures range { IfSome result CanBeCalled }
+    ensures range { IfOk result CanBeCalled }
 {
     match (stretches, leave) {
-        (true, leave) => Some(Request::RepackStretches { packing, leave }),
-        (false, false) => Some(Request::Repack(packing)),
-        (false, true) => None,
+        (true, leave) => Ok(Request::RepackStretches { packing, leave }),
+        (false, false) => Ok(Request::Repack(packing)),
+        (false, true) => Err(Mistake::Leave),
+    }
+}
+
+/// The power of two that a record's length is: 512 bytes where none is given.
+///
+/// # Errors
+///
+/// Where it is no length.
+fn exponent_of(matches: &ArgMatches<'_>) -> Result<u8, Mistake>
+    ensures value { result ≡ exponent_of (rows_of (found_of matches.now)) }
+    ensures range { IfOk result (λ e. (7 ≤ e) × (e ≤ 12)) }
+{
+    match exponent_in(text_or(matches, "length", "512")) {
+        Some(exponent) => Ok(exponent),
+        None => Err(Mistake::Value(Valued::Length, Wanted::Length)),
     }
 }
 
@@ -307,6 +411,20 @@ fn exponent_in(length: &str) -> Option<u8>
         2048 => Some(11),
         4096 => Some(12),
         _ => None,
+    }
+}
+
+/// The encoding: Steim-2 where none is given.
+///
+/// # Errors
+///
+/// Where it is none.
+fn encoding_of(matches: &ArgMatches<'_>) -> Result<Encoding, Mistake>
+    ensures { result ≡ encoding_of (rows_of (found_of matches.now)) }
+{
+    match encoding_named(text_or(matches, "encoding", "steim2")) {
+        Some(encoding) => Ok(encoding),
+        None => Err(Mistake::Value(Valued::Encoding, Wanted::Encoding)),
     }
 }
 

@@ -10,8 +10,8 @@ use Rattle.mseed_words.specs.declared.options.Named.{Named}
 -- `--name`, `--name VALUE` or `--name NUMBER`
 abbrev pub rule_by : Kind → Text → Rule
 rule_by kind.Flag name = flag_rule name
-rule_by kind.Text name = option_rule name
-rule_by (kind.Number most) name = number_rule name (Signed (pos 1) (pos most))
+rule_by (kind.Text value) name = option_rule name
+rule_by (kind.Number value most) name = number_rule name (Signed (pos 1) (pos most))
 
 abbrev pub rule_named : Named → Rule
-rule_named n = rule_by n.kind n.name.now
+rule_named n = record (rule_by n.kind n.name.now) { required = n.is_needed }
