@@ -4,7 +4,7 @@ use Rattle.std.proofs.Common.{inl, inr, Bool, true, false, not, List, [], ◌∷
 use Rattle.std.proofs.Common.{Result}
 use Rattle.std.specs.Prelude.{IfErr, IfOk}
 use Rattle.std.proofs.lemmas.Bool.Decides.{eqb_tells}
-use Rattle.mseed_stream.specs.Device.{BytesRead, BytesWritten, read_also}
+use Rattle.mseed_stream.specs.Device.{Beside, BytesRead, BytesWritten, accepted, read_also}
 use Rattle.mseed_stream.specs.declared.device.Failed.{Failed}
 use Rattle.slink_feed.specs.declared.session.Phase.TheVariants.{Closed}
 use Rattle.slink_feed.specs.declared.turn.LinkFault.{LinkFault}
@@ -63,6 +63,10 @@ reported_is h n buf some bound = elim (eqb_tells n 0) [
 -- what a call left beside it stayed as it was
 pub stays : {A : Type 0} {a b x y : A} → a ≡ x → a ≡ b → b ≡ y → x ≡ y
 stays p same q = sym p ∙ (same ∙ q)
+
+-- as what it had accepted
+pub accepts_none : {a b : Beside} {x y : BytesWritten} → a ≡ accepted x → a ≡ b → b ≡ accepted y → x ≡ y
+accepts_none p same q = ap (λ (c : Beside). c.written) (sym p ∙ (same ∙ q))
 
 -- a step, where what was read before it is the same
 pub attends_as : (feed : List Window) (old new : Attending) (before now after : BytesRead) (r : Result Turn LinkFault)

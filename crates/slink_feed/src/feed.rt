@@ -5,13 +5,13 @@ ghost use Rattle.std.specs.Option.{ForSome};
 ghost use Rattle.std.specs.Bool.{OnFalse, OnTrue};
 ghost use Rattle.slink_wire.specs.Place.{Bears};
 ghost use Rattle.slink_feed.specs.Fault.{IsFeedFault};
-ghost use Rattle.slink_feed.specs.Intake.{IsOfFeed, places_of, pushed};
+ghost use Rattle.slink_feed.specs.Intake.{IsOfFeed, foreign_of, places_of, pushed};
 ghost use Rattle.slink_feed.specs.Rings.{AreFilled, IsOfNoPlace, HasPlace, IsPlaceOf, LacksPlace, filled_of};
 ghost use Rattle.slink_feed.specs.Rings.{station_at};
 ghost use Rattle.slink_feed.specs.Session.{Fits, State};
 ghost use Rattle.slink_feed.specs.Window.{Shows, Window, with_record};
 
-use crate::input::InputFault;
+use crate::input::{ForeignRecord, InputFault};
 use crate::ring::Ring;
 use arrayvec::ArrayVec;
 use slink_wire::Place;
@@ -53,6 +53,13 @@ fn push_slot<A: Allocator>(slot: &mut Option<Ring<A>>, bytes: &[u8; 512])
         Some(ring) => ring.push(bytes),
         None => unreachable!(),
     }
+}
+
+/// What is wrong with an input whose record of this number isn't the feed's.
+fn foreign(number: u64, bytes: &[u8]) -> InputFault
+    ensures { result ≡ InputFault.Foreign (foreign_of number (length bytes.now) bytes.now) }
+{
+    InputFault::Foreign(ForeignRecord::of(number, bytes.len(), bytes))
 }
 
 impl<A: Allocator> Feed<A> {
@@ -160,8 +167,8 @@ impl<A: Allocator> Feed<A> {
     ///
     /// # Errors
     ///
-    /// `Foreign`, with the number, where the record hasn't 512 bytes or is of none of the stations. The rings stay as
-    /// they were then.
+    /// `Foreign`, with the record's number, length and codes, where it hasn't 512 bytes or is of none of the stations.
+    /// The rings stay as they were then.
     pub fn take_record(&mut self, bytes: &[u8], number: u64) -> Result<usize, InputFault>
         requires { (k : ℕ) (w : Window) → slice_get self.old k ≡ Some w → w.next < 2 ^ 63 }
         ensures of { OnOk result (IsOfFeed (places_of self.old) bytes.now) }
@@ -170,18 +177,18 @@ impl<A: Allocator> Feed<A> {
         ensures others { IfOk result (λ k. (j : ℕ) → j ≢ k → slice_get self.new j ≡ slice_get self.old j) }
         ensures most { IfOk result (λ k. k < STATIONS) }
         ensures foreign { OnErr result (¬ (IsOfFeed (places_of self.old) bytes.now)) }
-        ensures fault { IfErr result (λ e. e ≡ InputFault.Foreign number) }
+        ensures fault { IfErr result (λ e. e ≡ InputFault.Foreign (foreign_of number (length bytes.now) bytes.now)) }
         ensures stays { OnErr result (self.new ≡ self.old) }
     {
         let Some(whole) = bytes.as_array::<512>() else {
-            return Err(InputFault::Foreign(number));
+            return Err(foreign(number, bytes));
         };
         match self.place_of(whole) {
             Some(k) => {
                 self.push(k, whole);
                 Ok(k)
             }
-            None => Err(InputFault::Foreign(number)),
+            None => Err(foreign(number, bytes)),
         }
     }
 

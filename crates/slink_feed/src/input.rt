@@ -1,13 +1,53 @@
 //! What is wrong with an input of records.
+ghost use Rattle.std.specs.Prelude.{◌≡◌};
+ghost use Rattle.slink_feed.specs.Intake.{foreign_of};
+
 use mseed_stream::StreamFault;
+
+/// The bytes of a header up to the end of the network's code, its last one here (SEED manual, chapter 8, "Fixed section
+/// of data header").
+const CODES: usize = 20;
+
+/// A record of an input that isn't the feed's.
+#[derive(Clone, Copy, Debug, PartialEq, Eq)]
+pub struct ForeignRecord {
+    /// Its number in the input, counted from 1.
+    pub number: u64,
+    /// Its length in bytes.
+    pub size: usize,
+    /// The station's code at bytes 8 to 12 of its header, as it stands there; spaces where there is no header.
+    pub station: [u8; 5],
+    /// The network's code at bytes 18 and 19 of its header, as it stands there; spaces where there is no header.
+    pub network: [u8; 2],
+}
+
+impl ForeignRecord {
+    /// Returns the record of this number, counted from 1, and length in bytes that begins with these bytes.
+    pub fn of(number: u64, size: usize, bytes: &[u8]) -> ForeignRecord
+        ensures { result ≡ foreign_of number size bytes.now }
+    {
+        let mut station = [b' '; 5];
+        let mut network = [b' '; 2];
+        if bytes.len() >= CODES {
+            station.copy_from_slice(&bytes[8..13]);
+            network.copy_from_slice(&bytes[18..20]);
+        }
+        ForeignRecord {
+            number,
+            size,
+            station,
+            network,
+        }
+    }
+}
 
 /// Why no further record of an input is taken.
 #[derive(Clone, Copy, Debug, PartialEq, Eq)]
 pub enum InputFault {
     /// The input failed, or it ended within a record, or bytes came that begin none; or an allocation was refused.
     Stream(StreamFault),
-    /// The record of this number, counted from 1, hasn't 512 bytes, or is of none of the stations.
-    Foreign(u64),
+    /// This record hasn't 512 bytes, or is of none of the stations.
+    Foreign(ForeignRecord),
 }
 
 impl From<StreamFault> for InputFault {

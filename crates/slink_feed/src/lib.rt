@@ -25,7 +25,7 @@ pub use dialogue::{Answer, Bytes, Ending, Event, Stage, Wanted};
 pub use feed::{Feed, FeedFault, STATIONS};
 pub use fetching::{Room, fetch_turn, fetch_turn_in, fetch_turn_reporting};
 pub use grant::{Grant, Mode};
-pub use input::InputFault;
+pub use input::{ForeignRecord, InputFault};
 pub use law::{
     a_slice_is_sent, a_slice_is_wanted, each_record_once, granted_after_the_last, no_record_twice,
     one_reading, whole_packets_are_reported,

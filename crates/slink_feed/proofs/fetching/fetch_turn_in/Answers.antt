@@ -8,7 +8,7 @@ use Rattle.slink_feed.specs.declared.turn.LinkFault.{LinkFault}
 use Rattle.slink_feed.specs.declared.turn.Turn.{Turn}
 use Rattle.slink_feed.specs.Fetching.{Delivers, FailsAt, Fetches, Fetching, IsFetchFault, fetching, turn_at}
 use Rattle.slink_feed.specs.Turns.{reported_once}
-use Rattle.slink_feed.proofs.Attended.{failed_is, reported_is, stays}
+use Rattle.slink_feed.proofs.Attended.{accepts_none, failed_is, reported_is, stays}
 use Rattle.slink_feed.proofs.Deliveries.{closed_turn, cut_turn, delivered_turn}
 use Rattle.slink_feed.proofs.Reporting.{noted_none}
 use Rattle.slink_feed.proofs.Sendoffs.{not_ok, passed_on}
@@ -40,7 +40,7 @@ module _ (old now new : Fetching) (before between after : BytesRead) (n lack : �
 pub returns-then-count-eq0 : goal.returns-then-count-eq0
 returns-then-count-eq0 g c =
     let same : g.S.Sink.written c.pull.new.self ≡ g.S.Sink.written c.args.link.now =
-    stays (g.met.S.Duplex.reads_apart c.pull.new.self) c.pull.ensures.beside
+    accepts_none (g.met.S.Duplex.reads_apart c.pull.new.self) c.pull.ensures.beside
     (g.met.S.Duplex.reads_apart c.args.link.now) in
     let read : g.S.Source.read c.pull.new.self ≡ reported_once (g.S.Source.read c.args.link.now) [] = search rules in
     record {
@@ -56,7 +56,7 @@ returns-then-count-eq0 g c =
 pub returns-in-Err : goal.returns-in-Err
 returns-in-Err g c =
     let same : g.S.Sink.written c.pull.new.self ≡ g.S.Sink.written c.args.link.now =
-    stays (g.met.S.Duplex.reads_apart c.pull.new.self) c.pull.ensures.beside
+    accepts_none (g.met.S.Duplex.reads_apart c.pull.new.self) c.pull.ensures.beside
     (g.met.S.Duplex.reads_apart c.args.link.now) in
     record {
       turn = record {
@@ -73,7 +73,7 @@ returns-in-Err g c =
 pub returns : goal.returns
 returns g c =
     let same : g.S.Sink.written c.pull.new.self ≡ g.S.Sink.written c.args.link.now =
-    stays (g.met.S.Duplex.reads_apart c.pull.new.self) c.pull.ensures.beside
+    accepts_none (g.met.S.Duplex.reads_apart c.pull.new.self) c.pull.ensures.beside
     (g.met.S.Duplex.reads_apart c.args.link.now) in
     record {
       turn = record {
@@ -94,7 +94,7 @@ returns g c =
 pub returns-in_err-read : goal.returns-in_err-read
 returns-in_err-read g c =
     let same : g.S.Sink.written c.pull.new.self ≡ g.S.Sink.written c.args.link.now =
-    stays (g.met.S.Duplex.reads_apart c.pull.new.self) c.pull.ensures.beside
+    accepts_none (g.met.S.Duplex.reads_apart c.pull.new.self) c.pull.ensures.beside
     (g.met.S.Duplex.reads_apart c.args.link.now) in
     let e = err_from_is_err_and c.from_residual.result c.from_residual.ensures.1 in
     record {

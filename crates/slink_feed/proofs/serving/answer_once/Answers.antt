@@ -4,7 +4,8 @@ use Rattle.std.proofs.lemmas.Result.{err_from_is_err_and}
 use Rattle.slink_feed.specs.Attending.{IsServeFault, attending}
 use Rattle.slink_feed.specs.Rounds.{Attending}
 use Rattle.slink_feed.specs.Turns.{reported_once}
-use Rattle.slink_feed.proofs.Attended.{all_answered, answering_failed, failed_is, read_to_its_end, reading_failed}
+use Rattle.slink_feed.proofs.Attended.{accepts_none, all_answered, answering_failed, failed_is, read_to_its_end}
+use Rattle.slink_feed.proofs.Attended.{reading_failed}
 use Rattle.slink_feed.proofs.Attended.{reported_is, stays}
 use Rattle.slink_feed.proofs.Sendoffs.{passed_on}
 use Rattle.slink_feed.proofs.serving.answer_once.Goals as goal
@@ -17,7 +18,7 @@ pub returns-in-Err-clause-fault : goal.returns-in-Err-clause-fault
 returns-in-Err-clause-fault g c start sent =
     reading_failed c.args.feed.now start (g.S.Source.read c.args.link.now) c.args.session.now
     (g.S.Sink.written c.args.link.now) (g.S.Sink.written c.pull.new.self) c.args.written sent c.requires.awake
-    (stays (g.met.S.Duplex.reads_apart c.pull.new.self) c.pull.ensures.beside
+    (accepts_none (g.met.S.Duplex.reads_apart c.pull.new.self) c.pull.ensures.beside
     (g.met.S.Duplex.reads_apart c.args.link.now))
     (g.S.Source.read c.pull.new.self)
     (c.in-Err.ensures.read ∙ failed_is (g.S.Source.read c.args.link.now) c.in-Err.field-0 c.pull.new.buf)
@@ -27,7 +28,7 @@ returns-then-count-eq0-clause-ok g c start sent =
     let read : g.S.Source.read c.pull.new.self ≡ reported_once (g.S.Source.read c.args.link.now) [] = search rules in
     read_to_its_end c.args.feed.now start (g.S.Source.read c.args.link.now) c.args.session.now
     (g.S.Sink.written c.args.link.now) (g.S.Sink.written c.pull.new.self) c.args.written sent c.requires.awake
-    (stays (g.met.S.Duplex.reads_apart c.pull.new.self) c.pull.ensures.beside
+    (accepts_none (g.met.S.Duplex.reads_apart c.pull.new.self) c.pull.ensures.beside
     (g.met.S.Duplex.reads_apart c.args.link.now))
     (g.S.Source.read c.pull.new.self) read
 
@@ -43,7 +44,7 @@ returns-in_err-reply_to_all-clause-fault g c start sent =
     (err_from_is_err_and c.from_residual.result c.from_residual.ensures.1)
     (answering_failed c.args.feed.now start (g.S.Source.read c.args.link.now) c.args.session.now
     (g.S.Sink.written c.args.link.now) (g.S.Sink.written c.pull.new.self) c.args.written sent c.requires.awake
-    (stays (g.met.S.Duplex.reads_apart c.pull.new.self) c.pull.ensures.beside
+    (accepts_none (g.met.S.Duplex.reads_apart c.pull.new.self) c.pull.ensures.beside
     (g.met.S.Duplex.reads_apart c.args.link.now))
     new (g.S.Source.read c.reply_to_all.new.link) (take c.in-Ok.count c.pull.new.buf) c.in_err-reply_to_all.field-0.0
     (stays (g.met.S.Duplex.writes_apart c.reply_to_all.new.link) c.reply_to_all.ensures.beside
@@ -60,7 +61,7 @@ returns-clause-ok g c start sent =
     omega (arith, long, c.in-Ok.ensures.bound, c.pull.auto.buf) in
     all_answered c.args.feed.now start (g.S.Source.read c.args.link.now) c.args.session.now
     (g.S.Sink.written c.args.link.now) (g.S.Sink.written c.pull.new.self) c.args.written sent c.requires.awake
-    (stays (g.met.S.Duplex.reads_apart c.pull.new.self) c.pull.ensures.beside
+    (accepts_none (g.met.S.Duplex.reads_apart c.pull.new.self) c.pull.ensures.beside
     (g.met.S.Duplex.reads_apart c.args.link.now))
     _ (g.S.Source.read c.reply_to_all.new.link) (take c.in-Ok.count c.pull.new.buf)
     (stays (g.met.S.Duplex.writes_apart c.reply_to_all.new.link) c.reply_to_all.ensures.beside
