@@ -115,6 +115,7 @@ module _ (old new : List Window) (l : LinkState) (long : length new ≡ length o
       | inl waiting ↦ inl (waits_on old new l.session.state long alike waiting)
       | inr shut ↦ inr shut
     ];
+    most = up_to_date.most;
     reads = up_to_date.reads;
     streams = up_to_date.streams;
   }

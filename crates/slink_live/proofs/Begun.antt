@@ -1,6 +1,6 @@
 -- A server before anything happened.
 use Rattle.std.proofs.Common.{◌≡◌, ℕ, zero, suc, ◌*◌, ◌^◌, ◌<◌, ◌≤◌, ◌∙◌, subst, refl, sym, arith, List, [], ◌∷◌}
-use Rattle.std.proofs.Common.{false, get_or, length, Option, Some, None}
+use Rattle.std.proofs.Common.{inl, false, get_or, length, Option, Some, None}
 use Rattle.std.specs.List.{AllByRecursion}
 use Rattle.slink_feed.specs.Window.{Window}
 use Rattle.slink_feed.specs.Intake.{places_of}
@@ -33,6 +33,7 @@ begun_serving feed links none = record {
   };
   counted = refl;
   goes_on = λ e. refl;
+  read = refl;
   slots = λ k. record {
     reported = None;
     served = no_event;
@@ -54,6 +55,7 @@ pub begun_sound : (feed : List Window) (links : List (Option LinkState)) → Are
     → AllByRecursion (λ (w : Window). w.next ≤ 2 ^ 62) feed → IsSound (begun feed links)
 begun_sound feed links none few = record {
   short = λ e. let lt : 0 < 512 = omega arith in lt;
+  begins = λ e. inl refl;
   fit = λ k l e. absurd (no_link links k l none e);
   below = all_below (2 ^ 62) feed few;
   few = let le : 0 ≤ 8192 * 0 = omega arith in le;

@@ -17,8 +17,8 @@ use Rattle.slink_feed.specs.Session.{Fits, State}
 use Rattle.slink_feed.specs.Window.{Window}
 use Rattle.slink_feed.specs.declared.input.InputFault.{InputFault}
 use Rattle.slink_feed.specs.declared.input.InputFault.TheVariants.{Stream, Foreign}
-use Rattle.slink_feed.specs.Intake.{IsOfFeed, places_of, pushed}
-use Rattle.slink_live.specs.Input.{IsFedTo, IsOf, fed}
+use Rattle.slink_feed.specs.Intake.{IsOfFeed, foreign_of, places_of, pushed}
+use Rattle.slink_live.specs.Input.{IsFedTo, IsOf, MayBegin, fed}
 use Rattle.slink_live.specs.Served.{IntakeState, IsBelow}
 use Rattle.slink_live.specs.private.Cutting.{Cuts, CutsOff, IsRefused, LooksOn, waits, pushes}
 use Rattle.slink_feed.proofs.Deliveries.{take_prefix}
@@ -103,15 +103,20 @@ module _ (old now : IntakeState) (bytes chunk : List ℕ) (cuts : Cuts old bytes
   }
 
   looked_on : (new : IntakeState) → LooksOn with_chunk new → Cuts old (bytes ++ chunk) new new.kept
-  looked_on new (waits short same) =
+  looked_on new (waits k decides few short same) =
       subst (λ (s : IntakeState). Cuts old (bytes ++ chunk) s s.kept) (sym same) kept_more
   looked_on new (pushes of same) =
       subst (λ (s : IntakeState). Cuts old (bytes ++ chunk) s s.kept) (sym same) (pushed_more of)
 
   looked_short : (new : IntakeState) → LooksOn with_chunk new → length new.kept < 512
-  looked_short new (waits short same) = subst (λ (s : IntakeState). length s.kept < 512) (sym same) short
+  looked_short new (waits k decides few short same) = subst (λ (s : IntakeState). length s.kept < 512) (sym same) short
   looked_short new (pushes of same) =
       subst (λ (s : IntakeState). length s.kept < 512) (sym same) (let lt : 0 < 512 = omega arith in lt)
+
+  looked_begins : (new : IntakeState) → LooksOn with_chunk new → MayBegin new.kept
+  looked_begins new (waits k decides few short same) =
+      subst (λ (s : IntakeState). MayBegin s.kept) (sym same) (inr (k, decides, few))
+  looked_begins new (pushes of same) = subst (λ (s : IntakeState). MayBegin s.kept) (sym same) (inl refl)
 
   cut_off : (new : IntakeState) (fault : InputFault) (more all : List ℕ) → new ≡ with_chunk
       → IsRefused (places_of now.feed) now.records (now.kept ++ chunk) fault → all ≡ (bytes ++ chunk) ++ more
@@ -128,6 +133,7 @@ module _ (old now : IntakeState) (bytes chunk : List ℕ) (cuts : Cuts old bytes
     };
     no_further = subst (λ ps. ¬ (IsOf ps (take 512 ((now.kept ++ chunk) ++ more)))) same_places (refused.none more);
     is_fault = rw (← (ap (λ (s : IntakeState). s.records) same)) at (rw same_places at (refused.is_fault more));
+    of_bytes = refused.of_bytes;
   }
 
 -- why no record of the feed begins
@@ -136,19 +142,21 @@ pub refused_not : (places : List Fields) (n offset : ℕ) (kept : List ℕ) (f :
 refused_not places n offset kept f decides none at = record {
   none = λ more of. none more 512 of.is_record;
   is_fault = λ more. (kept, more, refl, decides, at);
+  of_bytes = tt;
 }
 
-pub refused_long : (places : List Fields) (n number : ℕ) (kept : List ℕ) (k : ℕ) → Decides kept (scans.Need k)
-    → HasNoShorter kept k → 512 < k → number ≡ n + 1 → IsRefused places n kept (Foreign number)
-refused_long places n number kept k decides none long at = record {
+pub refused_long : (places : List Fields) (n : ℕ) (kept : List ℕ) (k : ℕ) → Decides kept (scans.Need k)
+    → HasNoShorter kept k → 512 < k → IsRefused places n kept (Foreign (foreign_of (n + 1) k kept))
+refused_long places n kept k decides none long = record {
   none = λ more of. omega (arith, none more 512 of.is_record, of.size, long);
-  is_fault = λ more. (kept, more, refl, inr (k, decides, long), at);
+  is_fault = λ more. (kept, more, refl, inr (decides, long), refl);
+  of_bytes = tt;
 }
 
-pub refused_none : (places : List Fields) (n number : ℕ) (kept : List ℕ) → length kept ≡ 512
-    → Decides kept (scans.Record 512) → ¬ (IsOfFeed places kept) → number ≡ n + 1
-    → IsRefused places n kept (Foreign number)
-refused_none places n number kept size decides none at =
+pub refused_none : (places : List Fields) (n : ℕ) (kept : List ℕ) → length kept ≡ 512
+    → Decides kept (scans.Record 512) → ¬ (IsOfFeed places kept)
+    → IsRefused places n kept (Foreign (foreign_of (n + 1) (length kept) kept))
+refused_none places n kept size decides none =
     let leading : (more : List ℕ) → take 512 (kept ++ more) ≡ kept =
     λ more. take-append-le 512 kept more (omega (arith, size)) ∙ take_all 512 kept (omega (arith, size)) in
     let not_of : ¬ (IsOf places kept) = λ of. none (of.size, of.k, of.place, of.there, of.bears) in
@@ -158,16 +166,20 @@ refused_none places n number kept size decides none at =
         kept,
         more,
         refl,
-        inl (512, decides, λ of. not_of (subst (IsOf places) (take_all 512 kept (omega (arith, size))) of)),
-        at,
+        inl (
+          subst (λ (k : ℕ). Decides kept (scans.Record k)) (sym size) decides,
+          λ of. not_of (subst (IsOf places) (take_all (length kept) kept (omega arith)) of),
+        ),
+        refl,
       );
+      of_bytes = tt;
     }
 
 -- A record of another length: no record of 512 bytes begins with the same bytes.
-pub refused_other : (places : List Fields) (n number : ℕ) (kept : List ℕ) (k : ℕ) → k ≤ length kept → (k ≡ 512 → ⊥)
-    → Decides kept (scans.Record k) → IsRecord (take k kept) → number ≡ n + 1
-    → IsRefused places n kept (Foreign number)
-refused_other places n number kept k le other decides is at = record {
+pub refused_other : (places : List Fields) (n : ℕ) (kept : List ℕ) (k : ℕ) → k ≤ length kept → (k ≡ 512 → ⊥)
+    → Decides kept (scans.Record k) → IsRecord (take k kept)
+    → IsRefused places n kept (Foreign (foreign_of (n + 1) k kept))
+refused_other places n kept k le other decides is = record {
   none = λ more of. other (one_record (kept ++ more) k 512 (omega (arith, le, length-append kept more))
       (omega (arith, of.size, length-take 512 (kept ++ more)))
       (subst IsRecord (sym (take-append-le k kept more le)) is) of.is_record);
@@ -175,9 +187,10 @@ refused_other places n number kept k le other decides is at = record {
     kept,
     more,
     refl,
-    inl (k, decides, λ of. other (let e : k ≡ 512 = omega (arith, le, of.size, length-take k kept) in e)),
-    at,
+    inl (decides, λ of. other (let e : k ≡ 512 = omega (arith, le, of.size, length-take k kept) in e)),
+    refl,
   );
+  of_bytes = tt;
 }
 
 -- further bytes
@@ -247,6 +260,10 @@ module _ (old now kept : IntakeState) (bytes : List ℕ) (start count : ℕ)
   pub look_short : (new : IntakeState) → LooksOn kept new → length new.kept < 512
   look_short new looks =
       looked_short old now (take start bytes) (chunk_of bytes start count) cuts new (looks_at new looks)
+
+  pub look_begins : (new : IntakeState) → LooksOn kept new → MayBegin new.kept
+  look_begins new looks =
+      looked_begins old now (take start bytes) (chunk_of bytes start count) cuts new (looks_at new looks)
 
   pub look_off : (new : IntakeState) (fault : InputFault) → new ≡ kept
       → IsRefused (places_of kept.feed) kept.records kept.kept fault → CutsOff old bytes new fault

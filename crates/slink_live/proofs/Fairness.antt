@@ -106,16 +106,16 @@ due_sends feed s j d waits =
     ∙ ap (λ (r : Option Window). sent_of feed s j (Some d.grant) r) d.there)) ∙ waits)
 
 -- In a round from after a station on, another one has not been passed.
-abbrev IsAhead : ℕ → ℕ → ℕ → Type 0
+abbrev pub IsAhead : ℕ → ℕ → ℕ → Type 0
 IsAhead k ring j = ((k < ring) × (ring ≤ j)) ⊎ ((j < k) × (k < ring)) ⊎ ((j < k) × (ring ≤ j))
 
-ahead_first : (k j : ℕ) → j ≢ k → IsAhead k (k + 1) j
+pub ahead_first : (k j : ℕ) → j ≢ k → IsAhead k (k + 1) j
 ahead_first k j ne = elim (leb_tells j k) [
   | inl before ↦ inr (inl (omega (arith, before.1, ne), omega arith))
   | inr beyond ↦ inl (omega arith, omega (arith, beyond.1))
 ]
 
-ahead_on : (k ring j m : ℕ) → IsAhead k ring j → ¬ (IsEarlier ring j m) → j ≢ m → IsAhead k (m + 1) j
+pub ahead_on : (k ring j m : ℕ) → IsAhead k ring j → ¬ (IsEarlier ring j m) → j ≢ m → IsAhead k (m + 1) j
 ahead_on k ring j m (inl one) none ne = elim (leb_tells ring m) [
   | inr before ↦ absurd (none (inr (inl (before.1, one.1))))
   | inl beyond ↦ elim (leb_tells m j) [
@@ -135,7 +135,7 @@ ahead_on k ring j m (inr (inr three)) none ne = elim (leb_tells m j) [
   | inl still ↦ inr (inr (three.0, omega (arith, still.1, ne)))
 ]
 
-ahead_last : (k ring j : ℕ) → IsAhead k ring j → IsEarlier ring j k
+pub ahead_last : (k ring j : ℕ) → IsAhead k ring j → IsEarlier ring j k
 ahead_last k ring j (inl one) = inr (inl one)
 ahead_last k ring j (inr (inl two)) = inr (inr (two.1, two.0))
 ahead_last k ring j (inr (inr three)) = inl (three.1, three.0)
@@ -153,7 +153,7 @@ ahead_all feed k j s ring ks t turn (next_called u now last p q m a more first e
     ahead_all feed k j now (m + 1) more last q on d (λ x. none (inr x))
     (ahead_on k p j m ahead never (λ x. none (inl x)))
 
-among : (j : ℕ) (ks : List ℕ) → IsAmong j ks ⊎ ¬ (IsAmong j ks)
+pub among : (j : ℕ) (ks : List ℕ) → IsAmong j ks ⊎ ¬ (IsAmong j ks)
 among j [] = inr (λ x. x)
 among j (k ∷ ks) = elim (eqb_tells j k) [
   | inl same ↦ inl (inl same.1)

@@ -5,11 +5,11 @@ use Rattle.slink_wire.specs.Reply.{reply_bytes}
 use Rattle.slink_feed.specs.Serving.{Serves, SessionState, none_served, piece_served}
 use Rattle.slink_feed.specs.Session.{sent_bytes}
 use Rattle.slink_feed.specs.Window.{Window}
-use Rattle.slink_live.specs.Happening.{Happening, Opened, Gone, input_of}
+use Rattle.slink_live.specs.Happening.{Happening, Opened, Gone, Handed, input_of}
 use Rattle.slink_live.specs.Input.{IsFed}
 use Rattle.slink_live.specs.Served.{IsHistory, LinkState, Matches, link_state}
 use Rattle.slink_live.specs.History.{Asks, IsNew, IsServed, History, history, none_called, one_called, opens, receives}
-use Rattle.slink_live.specs.History.{asks, takes, goes}
+use Rattle.slink_live.specs.History.{asks, takes, goes, elsewhere}
 use Rattle.slink_live.specs.private.Calling.{HasFilled, HasReceived, HasTaken}
 
 -- with something stated before
@@ -95,7 +95,8 @@ module _ (start : List Window) (k : ℕ) where
         ∙ ap (λ x. emitted ++ x) (take-append-drop h.0 l.pending)) in (
           all,
           subst (λ (b : List ℕ). IsServed start k last (Some (history l.session l.ring b all))) whole
-              (takes log last l.session l.ring (take h.0 l.pending) (emitted ++ l.pending) emitted served
+              (takes (log ++ Handed k l.pending ∷ []) last l.session l.ring (take h.0 l.pending) (emitted ++ l.pending)
+              emitted (elsewhere log (log ++ Handed k l.pending ∷ []) (Handed k l.pending) _ served refl refl)
               (drop h.0 l.pending, whole) h.2),
         ))
 

@@ -7,6 +7,7 @@ pub mod Producing
 pub mod Receiving
 pub mod Turning
 pub mod Fairness
+pub mod Growing
 pub mod Losing
 pub mod Reported
 pub mod Apart

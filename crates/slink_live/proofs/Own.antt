@@ -3,7 +3,7 @@ use Rattle.std.proofs.Common.{◌≡◌, ℕ, ◌∙◌, ap, subst, refl, sym, i
 use Rattle.std.proofs.Common.{◌++◌, append-nil, Option, None, if◌then◌else◌}
 use Rattle.slink_feed.specs.Window.{Window}
 use Rattle.slink_live.specs.Happening.{Happening, Input, Opened, Received, Emitted, Gone, Next, Missed, Wants}
-use Rattle.slink_live.specs.Happening.{WantsLinks, Left, input_of, is_at, is_input, piece_of, those_of}
+use Rattle.slink_live.specs.Happening.{WantsLinks, Left, Handed, input_of, is_at, is_input, piece_of, those_of}
 use Rattle.slink_live.specs.Input.{IsFed}
 use Rattle.slink_live.specs.History.{IsServed, History, no_event, elsewhere, opens, receives, asks, takes, goes}
 use Rattle.std.proofs.lemmas.Bool.{eq-eqb}
@@ -19,7 +19,7 @@ those_append k (x ∷ xs) ys =
     ap (λ zs. if is_input x || is_at k x then x ∷ zs else zs) (those_append k xs ys)
     ∙ if_leading (is_input x || is_at k x) x (those_of k xs) (those_of k ys)
 
-no_piece : (h : Happening) → is_input h ≡ false → piece_of h ≡ []
+pub no_piece : (h : Happening) → is_input h ≡ false → piece_of h ≡ []
 no_piece (Input bytes) e = absurd (let bad : true ≡ false = e in cc bad)
 no_piece (Opened k) e = refl
 no_piece (Received k bytes) e = refl
@@ -30,6 +30,7 @@ no_piece (Missed k) e = refl
 no_piece (Wants k interest) e = refl
 no_piece (WantsLinks wanted) e = refl
 no_piece Left e = refl
+no_piece (Handed k bytes) e = refl
 
 input_if : (p q : Bool) (h : Happening) (hs : List Happening) → is_input h ≡ p
     → input_of (if p || q then h ∷ hs else hs) ≡ piece_of h ++ input_of hs

@@ -64,6 +64,14 @@ unreported_one j log last h of_links links left e = record {
   left = left_last log last h e ∙ left (is_left log);
 }
 
+pub unreported_both : (j : ℕ) (log mid last : List Happening) → IsUnreported j log mid → IsUnreported j mid last
+    → IsUnreported j log last
+unreported_both j log mid last a b = record {
+  of_links = λ k ne. b.of_links k ne ∙ a.of_links k ne;
+  links = b.links ∙ a.links;
+  left = b.left ∙ a.left;
+}
+
 wants_other : (j k : ℕ) (w v : Interest) → k ≢ j → interest_after k v (Wants j w) ≡ v
 wants_other j k w v ne = ap (λ (t : Bool). if t then w else v) (not_self j k ne)
 

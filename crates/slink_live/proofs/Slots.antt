@@ -1,5 +1,6 @@
 -- An event concerns the input or one slot.
-use Rattle.std.proofs.Common.{◌≡◌, ◌≢◌, ℕ, ◌<◌, ◌==◌, ◌∙◌, ap, subst, refl, sym, inl, inr, false, List, [], ◌∷◌, ◌++◌}
+use Rattle.std.proofs.Common.{◌≡◌, ◌≢◌, ℕ, ◌+◌, ◌<◌, ◌==◌, ◌∙◌, ap, subst, refl, sym, arith, inl, inr, Bool, false}
+use Rattle.std.proofs.Common.{List, [], ◌∷◌, ◌++◌, if◌then◌else◌}
 use Rattle.std.proofs.Common.{length, append_assoc, append-nil, get_or, drop, take, set, get_or-set_same}
 use Rattle.std.proofs.Common.{get_or-set_other, length-set, Option, Some, None}
 use Rattle.std.proofs.lemmas.Bool.Decides.{eqb_tells}
@@ -7,16 +8,17 @@ use Rattle.std.specs.List.{AllByRecursion}
 use Rattle.slink_feed.specs.Session.{Fits}
 use Rattle.slink_feed.specs.Window.{Window}
 use Rattle.slink_feed.specs.Intake.{places_of}
-use Rattle.slink_live.specs.Happening.{Happening, Input, Opened, Received, Emitted, Gone, Next, Missed}
-use Rattle.slink_live.specs.Happening.{input_of, is_at, piece_of}
+use Rattle.slink_live.specs.Happening.{Happening, Input, Opened, Received, Emitted, Gone}
+use Rattle.slink_live.specs.Happening.{Left, Handed, input_of, is_at, is_input, piece_of, reads_of}
 use Rattle.slink_live.specs.Input.{IsFed, IsInput}
 use Rattle.slink_live.specs.Served.{IsServing, IsSound, IsHistory, LinkState, ServerState, link_state}
 use Rattle.slink_live.specs.History.{IsNew, elsewhere}
 use Rattle.slink_live.specs.private.Calling.{HasFilled, HasReceived, HasTaken}
-use Rattle.slink_live.specs.Turns.{Closes, IsReport}
+use Rattle.slink_live.specs.Turns.{Closes, IsReport, Leaves}
 use Rattle.slink_live.specs.private.Keeping.{KeepsServing}
 use Rattle.slink_live.proofs.Histories.{filled_history, gone_history, received_history, opened_history, history_stays}
 use Rattle.slink_live.proofs.Histories.{taken_history}
+use Rattle.slink_live.proofs.Own.{no_piece}
 
 -- what the input gave
 pub input_append : (xs ys : List Happening) → input_of (xs ++ ys) ≡ input_of xs ++ input_of ys
@@ -25,14 +27,26 @@ input_append (x ∷ xs) ys = ap (λ b. piece_of x ++ b) (input_append xs ys)
     ∙ sym (append_assoc (piece_of x) (input_of xs) (input_of ys))
 
 -- what isn't of the input leaves it
-pub input_quiet : (log : List Happening) (h : Happening) → piece_of h ≡ [] → input_of (log ++ h ∷ []) ≡ input_of log
+pub input_quiet : (log : List Happening) (h : Happening) → is_input h ≡ false → input_of (log ++ h ∷ []) ≡ input_of log
 input_quiet log h e = input_append log (h ∷ [])
-    ∙ (ap (λ b. input_of log ++ (b ++ [])) e ∙ append-nil (input_of log))
+    ∙ (ap (λ b. input_of log ++ (b ++ [])) (no_piece h e) ∙ append-nil (input_of log))
+
+-- how often it was read
+reads_append : (xs ys : List Happening) → reads_of (xs ++ ys) ≡ reads_of xs + reads_of ys
+reads_append [] ys = omega arith
+reads_append (x ∷ xs) ys = omega (arith, reads_append xs ys)
+
+pub reads_quiet : (log : List Happening) (h : Happening) → is_input h ≡ false → reads_of (log ++ h ∷ []) ≡ reads_of log
+reads_quiet log h e =
+    let same : reads_of log + 0 ≡ reads_of log = omega arith in
+    reads_append log (h ∷ []) ∙ (ap (λ (t : Bool). reads_of log + ((if t then 1 else 0) + 0)) e ∙ same)
+
+pub reads_more : (log last : List Happening) (bytes : List ℕ) → last ≡ log ++ Input bytes ∷ []
+    → reads_of last ≡ reads_of log + 1
+reads_more log last bytes e = ap reads_of e ∙ reads_append log (Input bytes ∷ [])
 
 gone_quiet : (h : Happening) → IsReport h → piece_of h ≡ []
 gone_quiet (Input bytes) g = absurd g
-gone_quiet (Next event) g = absurd g
-gone_quiet (Missed k) g = absurd g
 gone_quiet h g = refl
 
 all_quiet : (gone : List Happening) → AllByRecursion IsReport gone → input_of gone ≡ []
@@ -43,6 +57,10 @@ all_quiet (h ∷ hs) g = ap (λ b. b ++ input_of hs) (gone_quiet h g.0) ∙ all_
 pub closes_input : (log last : List Happening) → Closes log last → input_of last ≡ input_of log
 closes_input log last c = ap input_of c.last_is ∙ (input_append log c.gone
     ∙ (ap (λ b. input_of log ++ b) (all_quiet c.gone c.each) ∙ append-nil (input_of log)))
+
+-- an input that is left is as it was
+pub leaves_input : (log last : List Happening) → Leaves log last → input_of last ≡ input_of log
+leaves_input log last c = closes_input (log ++ Left ∷ []) last c ∙ input_quiet log Left refl
 
 all_gone : (xs ys : List Happening) → AllByRecursion IsReport xs → AllByRecursion IsReport ys
     → AllByRecursion IsReport (xs ++ ys)
@@ -76,7 +94,7 @@ history_elsewhere start k o log last h other now s = record {
 
 -- what happened in no slot, and is nothing of the input
 pub quiet_serving : (start : List Window) (s : ServerState) (log last : List Happening) (h : Happening)
-    → piece_of h ≡ [] → ((k : ℕ) → is_at k h ≡ false) → last ≡ log ++ h ∷ [] → IsServing start s log
+    → is_input h ≡ false → ((k : ℕ) → is_at k h ≡ false) → last ≡ log ++ h ∷ [] → IsServing start s log
     → IsServing start s last
 quiet_serving start s log last h none other now v = record {
   rest = v.rest;
@@ -87,26 +105,37 @@ quiet_serving start s log last h none other now v = record {
   };
   counted = v.counted;
   goes_on = v.goes_on;
+  read = v.read ∙ sym (ap reads_of now ∙ reads_quiet log h none);
   slots = λ k. history_elsewhere start k (get_or s.links k None) log last h (other k) now (v.slots k);
 }
 
 -- What happened leaves the input, and the histories of all slots but one.
 pub record IsBeside (j : ℕ) (log last : List Happening) : Type 0 where
   pub quiet : input_of last ≡ input_of log
+  pub read : reads_of last ≡ reads_of log
   pub others : (start : List Window) (k : ℕ) → k ≢ j → (o : Option LinkState) → IsHistory start k o log
       → IsHistory start k o last
 
 nothing_beside : (j : ℕ) (log last : List Happening) → last ≡ log → IsBeside j log last
 nothing_beside j log last same = record {
   quiet = ap input_of same;
+  read = ap reads_of same;
   others = λ start k ne o s. subst (IsHistory start k o) (sym same) s;
 }
 
-one_beside : (j : ℕ) (log last : List Happening) (h : Happening) → piece_of h ≡ []
+one_beside : (j : ℕ) (log last : List Happening) (h : Happening) → is_input h ≡ false
     → ((k : ℕ) → k ≢ j → is_at k h ≡ false) → last ≡ log ++ h ∷ [] → IsBeside j log last
 one_beside j log last h none other now = record {
   quiet = ap input_of now ∙ input_quiet log h none;
+  read = ap reads_of now ∙ reads_quiet log h none;
   others = λ start k ne o s. history_elsewhere start k o log last h (other k ne) now s;
+}
+
+both_beside : (j : ℕ) (log mid last : List Happening) → IsBeside j log mid → IsBeside j mid last → IsBeside j log last
+both_beside j log mid last a b = record {
+  quiet = b.quiet ∙ a.quiet;
+  read = b.read ∙ a.read;
+  others = λ start k ne o s. b.others start k ne o (a.others start k ne o s);
 }
 
 abbrev FitsIn : List Window → Option LinkState → Type 0
@@ -146,7 +175,9 @@ pub taken_turns : (feed : List Window) (j : ℕ) (o new : Option LinkState) (log
     → HasTaken j o new log last → Turns feed j o new log last
 taken_turns feed j None new log last h = turns_nothing feed j None new log last h.0 h.1
 taken_turns feed j (Some l) new log last h = record {
-  beside = one_beside j log last (Emitted j (take h.0 l.pending)) refl (not_self j) h.2;
+  beside = both_beside j log (log ++ Handed j l.pending ∷ []) last
+      (one_beside j log (log ++ Handed j l.pending ∷ []) (Handed j l.pending) refl (λ k ne. refl) refl)
+      (one_beside j (log ++ Handed j l.pending ∷ []) last (Emitted j (take h.0 l.pending)) refl (not_self j) h.2);
   fits = λ f. some_fits feed new (link_state l.session l.ring (drop h.0 l.pending)) h.1 (f l refl);
   history = λ start fed s. taken_history start j log last new l h s;
 }
@@ -196,6 +227,7 @@ pub turns_keep : (s : ServerState) (j : ℕ) (new : Option LinkState) (log last 
 turns_keep s j new log last lt sound t = record {
   sound = record {
     short = sound.short;
+    begins = sound.begins;
     fit = set_each (λ k o. FitsIn s.intake.feed o) s.links j new lt (t.fits (sound.fit j)) (λ k ne. sound.fit k);
     below = sound.below;
     few = sound.few;
@@ -210,6 +242,7 @@ turns_keep s j new log last lt sound t = record {
     };
     counted = v.counted;
     goes_on = v.goes_on;
+    read = v.read ∙ sym t.beside.read;
     slots = set_each (λ k o. IsHistory start k o last) s.links j new lt (t.history start (v.rest, v.fed) (v.slots j))
         (λ k ne. t.beside.others start k ne (get_or s.links k None) (v.slots k));
   };

@@ -3,21 +3,21 @@ use Rattle.std.proofs.Common.{◌≡◌, ◌≢◌, ℕ, zero, suc, ◌+◌, ◌
 use Rattle.std.proofs.Common.{inr, Bool, true, false, List, [], ◌∷◌, ◌++◌, get_or, length, set, Option, Some, None}
 use Rattle.std.proofs.Common.{Result, Ok, Err, IfErr, IfSome}
 use Rattle.std.specs.Option.{is_some}
-use Rattle.std.proofs.lemmas.List.{get_or_default}
+use Rattle.std.proofs.lemmas.List.{get_or_default, get_or_past}
 use Rattle.slink_feed.specs.Session.{Fits}
 use Rattle.slink_feed.specs.Window.{Window}
 use Rattle.slink_feed.proofs.Items.{same_or_not}
 use Rattle.slink_feed.specs.declared.input.InputFault.{InputFault}
 use Rattle.slink_feed.specs.Intake.{places_of}
-use Rattle.slink_live.specs.Happening.{Happening, Opened, Gone, WantsLinks, input_of, is_at, piece_of}
+use Rattle.slink_live.specs.Happening.{Happening, Opened, Gone, WantsLinks, input_of, is_at, is_input}
 use Rattle.slink_live.specs.Input.{IsInputFault}
 use Rattle.slink_live.specs.Served.{AreEmpty, IsServing, IsSound, LinkState, ServerState}
 use Rattle.slink_live.specs.History.{IsNew}
 use Rattle.slink_live.specs.private.Calling.{HasFilled, HasReceived, HasTaken}
-use Rattle.slink_live.specs.Turns.{Closes, ReadsFrom, WritesTo}
+use Rattle.slink_live.specs.Turns.{Closes, ReadsFrom, Removes, WritesTo}
 use Rattle.slink_live.specs.private.Keeping.{AnswersFault, KeepsServing}
 use Rattle.slink_live.proofs.Slots.{Turns, filled_turns, gone_turns, opened_turns, received_turns, taken_turns}
-use Rattle.slink_live.proofs.Slots.{closes_both, closes_reported, quiet_serving, turns_keep}
+use Rattle.slink_live.proofs.Slots.{closes_both, closes_none, closes_reported, quiet_serving, turns_keep}
 
 -- what holds of an error holds of what follows from it
 pub if_err_always : {X E : Type 0} → (r : Result X E) (Q : Type 0) → Q → IfErr r (λ _. Q)
@@ -95,7 +95,7 @@ pub keeps_from : {s0 s t : ServerState} {a0 a b : List Happening} → s0 ≡ s �
 keeps_from {s0} {t = t} {a = a} {b = b} same now x = rw same at (rw now at x)
 
 -- something more, which happened in no slot, and is nothing of the input
-pub keeps_quiet : {s t : ServerState} {a b c : List Happening} (h : Happening) → piece_of h ≡ []
+pub keeps_quiet : {s t : ServerState} {a b c : List Happening} (h : Happening) → is_input h ≡ false
     → ((k : ℕ) → is_at k h ≡ false) → c ≡ b ++ h ∷ [] → KeepsServing s t a b → KeepsServing s t a c
 keeps_quiet {s} {t} {a} {b} {c} h none other now x = record {
   sound = x.sound;
@@ -110,6 +110,7 @@ ended s = record s { has_ended = true }
 pub ended_sound : {s : ServerState} → IsSound s → IsSound (ended s)
 ended_sound sound = record {
   short = λ e. absurd (let bad : true ≡ false = e in cc bad);
+  begins = λ e. absurd (let bad : true ≡ false = e in cc bad);
   fit = sound.fit;
   below = sound.below;
   few = sound.few;
@@ -123,6 +124,7 @@ ended_serving start s log v = record {
   fed = v.fed;
   counted = v.counted;
   goes_on = λ e. absurd (let bad : true ≡ false = e in cc bad);
+  read = v.read;
   slots = v.slots;
 }
 
@@ -136,6 +138,7 @@ answers_end {s} {t} {log} {r = r} x fault = record {
   fault = fault;
   ended = if_err_always r (t.has_ended ≡ true) x.stays.has_ended;
   kept = λ e. x.stays.has_ended;
+  slots = x.stays.slots;
 }
 
 reads_from : (feed : List Window) (j : ℕ) (o new : Option LinkState) (log mid last : List Happening)
@@ -225,3 +228,14 @@ closed_keeps s t j log last wanted lt sound is now =
 pub closes_gone : (j : ℕ) (log last : List Happening) (wanted : Bool)
     → last ≡ (log ++ Gone j ∷ []) ++ WantsLinks wanted ∷ [] → Closes log last
 closes_gone j log last wanted now = closes_both _ _ _ (closes_reported _ _ _ tt refl) (closes_reported _ _ _ tt now)
+
+-- a link that is gone, where one stood
+pub removes_at : (o : Option LinkState) (j : ℕ) (log last : List Happening) (wanted : Bool)
+    → last ≡ (log ++ Gone j ∷ []) ++ WantsLinks wanted ∷ [] → Removes o j log last
+removes_at None j log last wanted now = closes_gone j log last wanted now
+removes_at (Some l) j log last wanted now = closes_reported _ _ _ tt now
+
+pub removes_past : (links : List (Option LinkState)) (j : ℕ) (log : List Happening) → length links ≤ j
+    → Removes (get_or links j None) j log log
+removes_past links j log le =
+    subst (λ (o : Option LinkState). Removes o j log log) (sym (get_or_past links j None le)) (closes_none log log refl)

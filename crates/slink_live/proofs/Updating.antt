@@ -16,11 +16,11 @@ use Rattle.slink_live.specs.declared.ready.Event.TheVariants as events
 use Rattle.slink_live.specs.Awake.{Goes, IsAwake, IsAwakeIn, IsClosedRightly, IsUpToDate, IsReported, has_free}
 use Rattle.slink_live.specs.Awake.{further, is_lost}
 use Rattle.slink_live.specs.Happening.{Happening, Input, Opened, Received, Emitted, Gone, Next, Missed, Wants}
-use Rattle.slink_live.specs.Happening.{WantsLinks}
-use Rattle.slink_live.specs.Happening.{Left, first_interest, is_left, last_interest, interest_after, wants_links}
+use Rattle.slink_live.specs.Happening.{WantsLinks, wants_links}
+use Rattle.slink_live.specs.Happening.{Left, Handed, first_interest, is_left, last_interest, interest_after}
 use Rattle.slink_live.specs.Served.{IntakeState, IsServing, IsSound, LinkState, ServerState}
 use Rattle.slink_live.specs.History.{IsNew}
-use Rattle.slink_live.specs.Turns.{Closes}
+use Rattle.slink_live.specs.Turns.{Closes, Leaves}
 use Rattle.slink_live.specs.private.Calling.{HasFilled, HasReceived, HasTaken, IfRested, IsOutcome}
 use Rattle.slink_live.specs.private.Granting.{LeavesOut, StaysBut}
 use Rattle.slink_live.specs.private.Keeping.{KeepsServing, Updates, KeepsAwake, AwakensAll, AwakensAnew, AwakensThose}
@@ -31,7 +31,7 @@ use Rattle.slink_live.proofs.Steps.{keeps_from, keeps_quiet, keeps_same, opened_
 use Rattle.slink_live.proofs.Reported.{IsUnreported, goes_one, goes_same, goes_then, gone_awake, gone_goes}
 use Rattle.slink_live.proofs.Reported.{gone_reported, left_last, links_last, updates_closes, updates_empty}
 use Rattle.slink_live.proofs.Reported.{updates_wants, awake_by, rest_closes, rest_empty, rest_wants, awake_rest}
-use Rattle.slink_live.proofs.Reported.{interest_last, unreported_none, unreported_one}
+use Rattle.slink_live.proofs.Reported.{interest_last, unreported_both, unreported_none, unreported_one}
 
 -- what was reported of a link that took bytes, and which it is
 module _ (j : ℕ) (new : Option LinkState) (log mid : List Happening) where
@@ -42,12 +42,16 @@ module _ (j : ℕ) (new : Option LinkState) (log mid : List Happening) where
   taken_unreported : (o : Option LinkState) → HasTaken j o new log mid → IsUnreported j log mid
   taken_unreported None h = unreported_none j log mid h.1
   taken_unreported (Some l) h =
-      unreported_one j log mid (Emitted j (take h.0 l.pending)) (λ k ne w. refl) (λ b. refl) (λ b. refl) h.2
+      let handed : List Happening = log ++ Handed j l.pending ∷ [] in
+      unreported_both j log handed mid
+      (unreported_one j log handed (Handed j l.pending) (λ k ne w. refl) (λ b. refl) (λ b. refl) refl)
+      (unreported_one j handed mid (Emitted j (take h.0 l.pending)) (λ k ne w. refl) (λ b. refl) (λ b. refl) h.2)
 
   taken_goes : (o : Option LinkState) → HasTaken j o new log mid → (start : List Window)
       → Goes (IsClosedRightly start) log mid
   taken_goes None h start = goes_same h.1
-  taken_goes (Some l) h start = goes_one (Emitted j (take h.0 l.pending)) tt h.2
+  taken_goes (Some l) h start = further (log ++ Handed j l.pending ∷ []) mid (Emitted j (take h.0 l.pending))
+      (goes_one (Handed j l.pending) tt refl) tt h.2
 
 -- A call saw the link in a slot, and the rings of the input.
 module _ {s0 s : ServerState} (same : s0 ≡ s) (j : ℕ) (lt : j < length s0.links) (sound : IsSound s)
@@ -347,13 +351,14 @@ awake_end {s} {t} {log} anew = record {
 same_ended : {s0 s : ServerState} → s0 ≡ s → ended s0 ≡ ended s
 same_ended same = ap ended same
 
+pub end_leaves : (log left mid last : List Happening) → left ≡ log ++ Left ∷ [] → mid ≡ left ++ WantsLinks false ∷ []
+    → Closes mid last → Leaves log last
+end_leaves log left mid last went now c = subst (λ (x : List Happening). Closes x last) went
+    (closes_both left mid last (closes_reported left mid (WantsLinks false) tt now) c)
+
 -- the input is read no more, and no link is wanted
 module _ {log left mid last : List Happening} (went : left ≡ log ++ Left ∷ [])
     (now : mid ≡ left ++ WantsLinks false ∷ []) where
-  pub end_closes : Closes mid last → Closes log last
-  end_closes c = closes_both log mid last (closes_both log left mid (closes_reported log left Left tt went)
-      (closes_reported left mid (WantsLinks false) tt now)) c
-
   pub end_keeps : {s0 s t : ServerState} → s0 ≡ s → IsSound (ended s) → KeepsServing (ended s0) t mid last
       → KeepsServing (ended s) t log last
   end_keeps {s0} same sound x = keeps_from (same_ended same) refl

@@ -67,6 +67,7 @@ pub record IsUpToDate (feed : List Window) (has_ended : Bool) (l : LinkState) (i
   pub stands : ¬ (IsClosable feed has_ended l)
   pub sleeps : Sleeps feed l interest
   pub filled : IsFilled feed l
+  pub most : length l.pending ≤ ROOM
   pub reads : (interest.reads ≡ true) ↔ HasRoom l
   pub streams : (interest.is_streaming ≡ true) ↔ (l.session.state.phase ≡ Streaming)
 

@@ -1,6 +1,6 @@
 -- What happens at a device.
 use Rattle.std.specs.Prelude.{ℕ, zero, suc, List, [], ◌∷◌, ◌++◌, refl, ◌≡◌, Bool, true, false, ◌==◌, ◌||◌, get_or}
-use Rattle.std.specs.Prelude.{if◌then◌else◌}
+use Rattle.std.specs.Prelude.{◌+◌, if◌then◌else◌}
 use Rattle.std.specs.Coded.{Coded, code_by, coded×, coded_ℕ, coded_list}
 use Rattle.slink_live.specs.declared.ready.Event.{Event}
 use Rattle.slink_live.specs.declared.ready.Event.TheVariants as events
@@ -8,7 +8,8 @@ use Rattle.slink_live.specs.declared.ready.Interest.{Interest}
 
 -- bytes came from the input; a link stands in a slot from now on; bytes came from it; it accepted bytes; it is gone;
 -- the device reported what can be done next; nobody dialled any more who could stand in a slot; to the device it was
--- reported what is wanted of the link in a slot, whether further links are wanted, and that the input is read no more
+-- reported what is wanted of the link in a slot, whether further links are wanted, and that the input is read no more;
+-- bytes were handed to a link, to be accepted
 pub data Happening : Type 0 where
   Input : (bytes : List ℕ) → Happening
   Opened : (slot : ℕ) → Happening
@@ -20,6 +21,7 @@ pub data Happening : Type 0 where
   Wants : (slot : ℕ) (interest : Interest) → Happening
   WantsLinks : (wanted : Bool) → Happening
   Left : Happening
+  Handed : (slot : ℕ) (bytes : List ℕ) → Happening
 
 -- an answer as a number
 abbrev pub flag_of : Bool → ℕ
@@ -62,20 +64,21 @@ happening (suc (suc (suc (suc (suc zero))))) slot bytes = Missed slot
 happening (suc (suc (suc (suc (suc (suc zero)))))) slot bytes = Wants slot (interest_by bytes)
 happening (suc (suc (suc (suc (suc (suc (suc zero))))))) slot bytes = WantsLinks (is_flag slot)
 happening (suc (suc (suc (suc (suc (suc (suc (suc zero)))))))) slot bytes = Left
-happening (suc (suc (suc (suc (suc (suc (suc (suc (suc n))))))))) slot bytes = Next (event_by n slot)
+happening (suc (suc (suc (suc (suc (suc (suc (suc (suc zero))))))))) slot bytes = Handed slot bytes
+happening (suc (suc (suc (suc (suc (suc (suc (suc (suc (suc n)))))))))) slot bytes = Next (event_by n slot)
 
 abbrev Parts : Type 0
 Parts = ℕ × (ℕ × List ℕ)
 
 abbrev event_parts : Event → Parts
-event_parts events.Input = (9, (0, []))
-event_parts events.InputEnded = (10, (0, []))
-event_parts events.InputFailed = (11, (0, []))
-event_parts events.Dialled = (12, (0, []))
-event_parts (events.Readable slot) = (13, (slot, []))
-event_parts (events.Writable slot) = (14, (slot, []))
-event_parts (events.Gone slot) = (15, (slot, []))
-event_parts events.Nothing = (16, (0, []))
+event_parts events.Input = (10, (0, []))
+event_parts events.InputEnded = (11, (0, []))
+event_parts events.InputFailed = (12, (0, []))
+event_parts events.Dialled = (13, (0, []))
+event_parts (events.Readable slot) = (14, (slot, []))
+event_parts (events.Writable slot) = (15, (slot, []))
+event_parts (events.Gone slot) = (16, (slot, []))
+event_parts events.Nothing = (17, (0, []))
 
 abbrev to_parts : Happening → Parts
 to_parts (Input bytes) = (0, (0, bytes))
@@ -87,6 +90,7 @@ to_parts (Missed slot) = (5, (slot, []))
 to_parts (Wants slot interest) = (6, (slot, flags_of interest))
 to_parts (WantsLinks wanted) = (7, (flag_of wanted, []))
 to_parts Left = (8, (0, []))
+to_parts (Handed slot bytes) = (9, (slot, bytes))
 to_parts (Next event) = event_parts event
 
 abbrev of_parts : Parts → Happening
@@ -131,6 +135,7 @@ same_parts (Missed slot) = refl
 same_parts (Wants slot interest) = same_wants slot interest.reads interest.writes interest.is_streaming
 same_parts (WantsLinks wanted) = same_links wanted
 same_parts Left = refl
+same_parts (Handed slot bytes) = refl
 same_parts (Next event) = same_event event
 
 -- how the logic stores them
@@ -159,6 +164,11 @@ is_at k _ = false
 abbrev pub is_input : Happening → Bool
 is_input (Input bytes) = true
 is_input _ = false
+
+-- how often the input was read
+abbrev pub reads_of : List Happening → ℕ
+reads_of [] = 0
+reads_of (h ∷ hs) = (if is_input h then 1 else 0) + reads_of hs
 
 -- what concerns a slot: the input, and what happened there
 abbrev pub those_of : ℕ → List Happening → List Happening

@@ -1,12 +1,12 @@
 -- The input: records of the stations that are served, one after another.
-use Rattle.std.specs.Prelude.{◌≡◌, ℕ, ◌*◌, ◌+◌, ◌<◌, ◌⊎◌, List, [], ◌∷◌, ◌++◌, length, take, slice_get, Some}
+use Rattle.std.specs.Prelude.{◌≡◌, ℕ, ◌*◌, ◌+◌, ◌<◌, ◌≤◌, ◌⊎◌, List, [], ◌∷◌, ◌++◌, length, take, slice_get, Some}
 use Rattle.std.specs.List.{AllByRecursion, concat}
 use Rattle.mseed_record.specs.declared.framer.Scan.TheVariants as scans
 use Rattle.mseed_record.specs.Record.{IsRecord}
 use Rattle.mseed_record.specs.Scan.{Decides}
 use Rattle.mseed_stream.specs.declared.fault.StreamFault.TheVariants.{Frame, Truncated, Read, Turns, Memory}
 use Rattle.slink_wire.specs.Place.{Bears, Fields}
-use Rattle.slink_feed.specs.Intake.{places_of, pushed}
+use Rattle.slink_feed.specs.Intake.{foreign_of, places_of, pushed}
 use Rattle.slink_feed.specs.Window.{Window}
 use Rattle.slink_feed.specs.declared.input.InputFault.{InputFault}
 use Rattle.slink_feed.specs.declared.input.InputFault.TheVariants.{Stream, Foreign}
@@ -40,10 +40,11 @@ pub record IsFedTo (start : List Window) (bytes : List ℕ) (feed : List Window)
 abbrev pub IsFed : List Window → List ℕ → List Window → Type 0
 IsFed start bytes feed = (rest : List ℕ) × IsFedTo start bytes feed rest
 
--- No record of these stations begins so: the record that is there isn't one, or one would be longer.
-abbrev pub IsForeign : List Fields → List ℕ → Type 0
-IsForeign places leading = ((k : ℕ) × Decides leading (scans.Record k) × ¬ (IsOf places (take k leading)))
-    ⊎ ((k : ℕ) × Decides leading (scans.Need k) × (512 < k))
+-- No record of these stations begins so: the record of this length that is there isn't one, or more bytes than 512 are
+-- needed, at least so many: those of the record, where its length is known by then.
+abbrev pub IsForeign : List Fields → List ℕ → ℕ → Type 0
+IsForeign places leading size = (Decides leading (scans.Record size) × ¬ (IsOf places (take size leading)))
+    ⊎ (Decides leading (scans.Need size) × (512 < size))
 
 -- What is wrong with the rest after so many records: bytes that begin no record, or none of these stations; a record
 -- that the input ended within; a read that failed, or 2^40 of them.
@@ -55,8 +56,18 @@ IsFaultIn places n rest (Stream (Truncated offset have)) = (0 < have) × (have �
 IsFaultIn places n rest (Stream (Read offset)) = offset ≡ 512 * n
 IsFaultIn places n rest (Stream (Turns offset)) = offset ≡ 512 * n
 IsFaultIn places n rest (Stream Memory) = ⊥
-IsFaultIn places n rest (Foreign number) = (leading more : List ℕ) × (rest ≡ leading ++ more) × IsForeign places leading
-    × (number ≡ n + 1)
+IsFaultIn places n rest (Foreign foreign) = (leading more : List ℕ) × (rest ≡ leading ++ more)
+    × IsForeign places leading foreign.size × (foreign ≡ foreign_of (n + 1) foreign.size leading)
+
+-- A record of these 512 bytes may begin so: there are none yet, or more are needed, up to 512 in all.
+abbrev pub MayBegin : List ℕ → Type 0
+MayBegin bytes = (bytes ≡ []) ⊎ ((k : ℕ) × Decides bytes (scans.Need k) × (k ≤ 512))
+
+-- It is the bytes that are wrong, and neither the end of the input nor a read of it.
+abbrev pub IsOfBytes : InputFault → Type 0
+IsOfBytes (Stream (Frame offset fault)) = Unit {0}
+IsOfBytes (Foreign foreign) = Unit {0}
+IsOfBytes fault = ⊥
 
 -- What is wrong with an input that gave these bytes.
 pub record IsInputFault (places : List Fields) (bytes : List ℕ) (fault : InputFault) : Type 0 where

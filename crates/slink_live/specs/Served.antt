@@ -4,8 +4,8 @@ use Rattle.std.specs.Prelude.{Some, None, slice_get}
 use Rattle.slink_feed.specs.Serving.{SessionState}
 use Rattle.slink_feed.specs.Session.{Fits}
 use Rattle.slink_feed.specs.Window.{Window}
-use Rattle.slink_live.specs.Happening.{Happening, input_of}
-use Rattle.slink_live.specs.Input.{IsFedTo}
+use Rattle.slink_live.specs.Happening.{Happening, input_of, reads_of}
+use Rattle.slink_live.specs.Input.{IsFedTo, MayBegin}
 use Rattle.slink_live.specs.History.{IsServed, History}
 
 -- what a server keeps of a link: its session, the station that is called next, and what was sent that the link didn't
@@ -42,6 +42,7 @@ AllFit feed links = (k : ℕ) (l : LinkState) → get_or links k None ≡ Some l
 -- what a server keeps to
 pub record IsSound (s : ServerState) : Type 0 where
   pub short : s.has_ended ≡ false → length s.intake.kept < 512
+  pub begins : s.has_ended ≡ false → MayBegin s.intake.kept
   pub fit : AllFit s.intake.feed s.links
   pub below : IsBelow (2 ^ 62 + 8192 * s.reads) s.intake.feed
   pub few : s.intake.records ≤ 8192 * s.reads
@@ -66,6 +67,7 @@ pub record IsServing (start : List Window) (s : ServerState) (log : List Happeni
   pub fed : IsFedTo start (input_of log) s.intake.feed rest
   pub counted : s.intake.records ≡ length fed.records
   pub goes_on : s.has_ended ≡ false → rest ≡ s.intake.kept
+  pub read : s.reads ≡ reads_of log
   pub slots : (k : ℕ) → IsHistory start k (get_or s.links k None) log
 
 -- No link stands in any slot.

@@ -4,7 +4,8 @@ ghost use Rattle.mseed_record.specs.declared.framer.Scan.{Scan};
 ghost use Rattle.mseed_record.specs.Record.{IsRecord};
 ghost use Rattle.mseed_record.specs.Scan.{Decides};
 ghost use Rattle.mseed_stream.specs.declared.fault.StreamFault.{StreamFault};
-ghost use Rattle.slink_feed.specs.Intake.{places_of};
+ghost use Rattle.slink_feed.specs.Intake.{foreign_of, places_of};
+ghost use Rattle.slink_live.specs.Input.{MayBegin};
 ghost use Rattle.slink_live.specs.Served.{IntakeState, IsBelow};
 ghost use Rattle.slink_live.specs.private.Cutting.{Cuts, CutsOff, IsRefused, LooksOn};
 ghost use Rattle.slink_live.specs.private.Granting.{StaysBeside, StaysBut};
@@ -13,7 +14,7 @@ use crate::places::Places;
 use arrayvec::ArrayVec;
 use mseed_record::{Scan, scan};
 use mseed_stream::StreamFault;
-use slink_feed::{Feed, InputFault};
+use slink_feed::{Feed, ForeignRecord, InputFault};
 use std::marker::Model;
 
 /// The bytes of each record of a feed.
@@ -69,12 +70,14 @@ impl Intake {
     /// What was before them is in the rings.
     pub(crate) fn take(&mut self, bytes: &[u8]) -> Result<Places, InputFault>
         requires short { length self.old.kept < RECORD }
+        requires begins { MayBegin self.old.kept }
         requires size { length bytes.now ≤ 8192 }
         requires below { IsBelow (2 ^ 62 + 2 ^ 54) self.old.feed }
         requires few { self.old.records ≤ 2 ^ 53 }
         ensures ok { OnOk result (Cuts self.old bytes.now self.new self.new.kept) }
         ensures others { IfOk result (λ places. StaysBut places self.old.feed self.new.feed) }
         ensures short { OnOk result (length self.new.kept < RECORD) }
+        ensures begins { OnOk result (MayBegin self.new.kept) }
         ensures err { IfErr result (CutsOff self.old bytes.now self.new) }
     {
         let mut places = Places::none();
@@ -121,11 +124,32 @@ impl Intake {
         ensures stays { OnErr result (self.new ≡ self.old) }
     {
         match scan(self.kept.as_slice()) {
-            Scan::Need(needed) if needed <= RECORD => Ok(places),
-            Scan::Record(size) if size == RECORD => self.push_kept(places),
+            Scan::Need(needed) => {
+                if needed <= RECORD {
+                    Ok(places)
+                } else {
+                    Err(self.foreign(needed))
+                }
+            }
+            Scan::Record(size) => {
+                if size == RECORD {
+                    self.push_kept(places)
+                } else {
+                    Err(self.foreign(size))
+                }
+            }
             Scan::Not(fault) => Err(InputFault::Stream(StreamFault::Frame(self.offset(), fault))),
-            Scan::Need(_) | Scan::Record(_) => Err(InputFault::Foreign(self.records + 1)),
         }
+    }
+
+    /// What is wrong with an input whose next record begins with the bytes that are kept, has this length, and isn't
+    /// the feed's.
+    fn foreign(&self, size: usize) -> InputFault
+        requires few { self.now.records ≤ 2 ^ 54 }
+        ensures { result ≡ InputFault.Foreign (foreign_of (self.now.records + 1) size self.now.kept) }
+    {
+        let number = self.records + 1;
+        InputFault::Foreign(ForeignRecord::of(number, size, self.kept.as_slice()))
     }
 
     /// Gives the record that is kept to its ring. Returns these stations, and with them that of the record.
@@ -138,7 +162,8 @@ impl Intake {
         ensures ok { OnOk result (LooksOn self.old self.new) }
         ensures others { IfOk result (λ all. StaysBeside places all self.old.feed self.new.feed) }
         ensures err { IfErr result (IsRefused (places_of self.old.feed) self.old.records self.old.kept) }
-        ensures foreign { IfErr result (λ e. e ≡ InputFault.Foreign (self.old.records + 1)) }
+        ensures foreign { IfErr result (λ e. e
+            ≡ InputFault.Foreign (foreign_of (self.old.records + 1) (length self.old.kept) self.old.kept)) }
         ensures stays { OnErr result (self.new ≡ self.old) }
     {
         let k = self

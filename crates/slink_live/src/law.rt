@@ -1,12 +1,13 @@
 //! Laws of what links are sent.
-ghost use Rattle.std.specs.Prelude.{◌≡◌, ◌≢◌, ◌∷◌, ◌++◌, ℕ, List, Option, Some, length, slice_get};
+ghost use Rattle.std.specs.Prelude.{◌≡◌, ◌≢◌, ◌+◌, ◌∷◌, ◌++◌, ℕ, List, Option, Some, length, slice_get};
 ghost use Rattle.slink_wire.specs.Place.{Fields};
 ghost use Rattle.slink_feed.specs.Window.{Shows, Window};
+ghost use Rattle.slink_feed.specs.declared.session.Phase.{Phase};
 ghost use Rattle.slink_feed.specs.Serving.{SessionState};
 ghost use Rattle.slink_feed.specs.Session.{State, sent};
 ghost use Rattle.slink_feed.specs.Intake.{places_of};
 ghost use Rattle.slink_live.specs.Awake.{AreSame, IsLost};
-ghost use Rattle.slink_live.specs.Fairness.{HasDue, IsAmong, TakesTurns};
+ghost use Rattle.slink_live.specs.Fairness.{HasDue, HasNext, IsAmong, TakesTurns, TakesTurnsOn};
 ghost use Rattle.slink_live.specs.Happening.{Happening, input_of, those_of};
 ghost use Rattle.slink_live.specs.Input.{IsFed, IsInput, fed};
 ghost use Rattle.slink_live.specs.History.{Asks, IsServed, IsTurn, History};
@@ -54,12 +55,22 @@ pub fn a_link_is_sent_slices()
 {}
 
 /// A link's session is called in turns. Between two calls for a station, while nothing comes, each other station that
-/// has a record due when the second is made was called: a busy station starves no other.
+/// has a record due when the second is made was called. And whatever comes to the rings between them, and whatever the
+/// link says, each other station whose next record had come at the first was called: a busy station starves no other.
 pub fn in_turns()
     ensures turns { (feed : List Window) (s last : SessionState) (ring turn : ℕ) (way all : List ℕ)
         → Asks feed s ring way last turn all → (ks : List ℕ) × TakesTurns feed s.state ring ks last.state turn }
     ensures between { (feed : List Window) (s t : State) (ring turn k j : ℕ) (mid : List ℕ)
         → TakesTurns feed s ring (k ∷ mid) t turn → IsTurn feed t turn k → j ≢ k → HasDue feed t j
+        → IsAmong j mid }
+    // Turns while nothing comes are such turns, and so are those that follow one another.
+    ensures still { (feed : List Window) (s t : State) (ring turn : ℕ) (ks : List ℕ) → TakesTurns feed s ring ks t turn
+        → TakesTurnsOn feed s ring ks feed t turn }
+    ensures joined { (old now last : List Window) (s t u : State) (ring turn next : ℕ) (ks more : List ℕ)
+        → TakesTurnsOn old s ring ks now t turn → TakesTurnsOn now t turn more last u next
+        → TakesTurnsOn old s ring (ks ++ more) last u next }
+    ensures called { (feed last : List Window) (s t : State) (k j turn : ℕ) (mid : List ℕ) → HasNext feed s j → j ≢ k
+        → TakesTurnsOn feed s (k + 1) mid last t turn → t.phase ≡ Phase.Streaming → IsTurn last t turn k
         → IsAmong j mid }
 {}
 

@@ -190,6 +190,7 @@ impl Link {
         ensures reads { (result.reads ≡ true) ↔ HasRoom self.now }
         ensures writes { (result.writes ≡ true) ↔ (self.now.pending ≢ []) }
         ensures streams { (result.is_streaming ≡ true) ↔ (self.now.session.state.phase ≡ Phase.Streaming) }
+        ensures most { length self.now.pending ≤ ROOM }
     {
         Interest {
             reads: self.readable() > 0,

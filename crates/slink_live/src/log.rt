@@ -2,7 +2,7 @@
 //! run time.
 ghost use Rattle.std.specs.Prelude.{◌≡◌, List, [], ◌∷◌, ◌++◌};
 ghost use Rattle.slink_live.specs.Happening.{Happening, Input, Opened, Received, Emitted, Gone, Next, Missed, Wants};
-ghost use Rattle.slink_live.specs.Happening.{WantsLinks, Left, flag_of, happening, happenings_code};
+ghost use Rattle.slink_live.specs.Happening.{WantsLinks, Left, Handed, flag_of, happening, happenings_code};
 ghost use base.Fml.{ftrue};
 
 use crate::ready::{Event, Interest};
@@ -58,6 +58,13 @@ impl Log {
         self.note(2, slot, bytes);
     }
 
+    /// Notes that the link in a slot was handed these bytes, to be accepted.
+    pub fn handed(&mut self, slot: usize, bytes: &[u8])
+        ensures { self.new.all ≡ self.old.all ++ Handed slot bytes.now ∷ [] }
+    {
+        self.note(9, slot, bytes);
+    }
+
     /// Notes that the link in a slot accepted these bytes.
     pub fn emitted(&mut self, slot: usize, bytes: &[u8])
         ensures { self.new.all ≡ self.old.all ++ Emitted slot bytes.now ∷ [] }
@@ -77,14 +84,14 @@ impl Log {
         ensures { self.new.all ≡ self.old.all ++ Next event ∷ [] }
     {
         match event {
-            Event::Input => self.note(9, 0, &[]),
-            Event::InputEnded => self.note(10, 0, &[]),
-            Event::InputFailed => self.note(11, 0, &[]),
-            Event::Dialled => self.note(12, 0, &[]),
-            Event::Readable(slot) => self.note(13, slot, &[]),
-            Event::Writable(slot) => self.note(14, slot, &[]),
-            Event::Gone(slot) => self.note(15, slot, &[]),
-            Event::Nothing => self.note(16, 0, &[]),
+            Event::Input => self.note(10, 0, &[]),
+            Event::InputEnded => self.note(11, 0, &[]),
+            Event::InputFailed => self.note(12, 0, &[]),
+            Event::Dialled => self.note(13, 0, &[]),
+            Event::Readable(slot) => self.note(14, slot, &[]),
+            Event::Writable(slot) => self.note(15, slot, &[]),
+            Event::Gone(slot) => self.note(16, slot, &[]),
+            Event::Nothing => self.note(17, 0, &[]),
         }
     }
 

@@ -1,7 +1,7 @@
 //! The device of a server: its input, its links, and what can be done next with them.
 ghost use Rattle.std.specs.Prelude.{◌≡◌, ◌≤◌, ◌∷◌, ◌++◌, [], List, Bool, true, length, take, if◌then◌else◌};
 ghost use Rattle.slink_live.specs.Happening.{Happening, Input, Opened, Received, Emitted, Gone, Next, Missed, Wants};
-ghost use Rattle.slink_live.specs.Happening.{WantsLinks, Left};
+ghost use Rattle.slink_live.specs.Happening.{WantsLinks, Left, Handed};
 
 /// What can be done next.
 #[derive(Clone, Copy, Debug, PartialEq, Eq)]
@@ -69,11 +69,12 @@ pub trait Ready {
         ensures bound { result ≤ length buf.new }
         ensures log { log self.new ≡ log self.old ++ Received slot (take result buf.new) ∷ [] };
 
-    /// Writes once to the link in a slot, which accepts a prefix of the bytes, and returns the number of bytes that it
+    /// Hands bytes to the link in a slot once, which accepts a prefix of them, and returns the number of bytes that it
     /// accepted; 0 where it accepts none now.
     fn write(&mut self, slot: usize, bytes: &[u8]) -> usize
         ensures bound { result ≤ length bytes.now }
-        ensures log { log self.new ≡ log self.old ++ Emitted slot (take result bytes.now) ∷ [] };
+        ensures log { log self.new
+            ≡ (log self.old ++ Handed slot bytes.now ∷ []) ++ Emitted slot (take result bytes.now) ∷ [] };
 
     /// Closes the link in a slot.
     fn close(&mut self, slot: usize)

@@ -1,8 +1,9 @@
 //! A server's state, and what each event does to it.
-ghost use Rattle.std.specs.Prelude.{◌≡◌, ◌+◌, ◌^◌, ◌<◌, ◌≤◌, [], ◌∷◌, ◌++◌, List, Err, None, IfErr, IfNone};
+ghost use Rattle.std.specs.Prelude.{◌≡◌, ◌+◌, ◌*◌, ◌^◌, ◌<◌, ◌≤◌, [], ◌∷◌, ◌++◌, List, Err, None, IfErr, IfNone};
 ghost use Rattle.std.specs.Prelude.{IfSome, IfOk, OnOk, ◌⊎◌, ◌&&◌, not, get_or, length, set, true, false};
-ghost use Rattle.std.specs.Bool.{OnTrue};
+ghost use Rattle.std.specs.Bool.{OnFalse, OnTrue};
 ghost use Rattle.std.specs.List.{AllByRecursion};
+ghost use Rattle.mseed_stream.specs.declared.fault.StreamFault.{StreamFault};
 ghost use Rattle.slink_feed.specs.Window.{Window};
 ghost use Rattle.slink_feed.specs.Intake.{places_of};
 ghost use Rattle.slink_live.specs.Awake.{Goes, IsAwake, IsClosedRightly, IsFirstFree, has_free};
@@ -10,7 +11,8 @@ ghost use Rattle.slink_live.specs.Happening.{Happening, Gone, Next, WantsLinks, 
 ghost use Rattle.slink_live.specs.Input.{IsInputFault};
 ghost use Rattle.slink_live.specs.Served.{AreEmpty, GoesOn, IsFinished, IsServing, IsSound, ServerState, StaysUnread};
 ghost use Rattle.slink_live.specs.private.Calling.{IfRested};
-ghost use Rattle.slink_live.specs.Turns.{Closes, HasSteps, IsCalled, Opens, ReadsFrom, ReadsInput, WritesTo};
+ghost use Rattle.slink_live.specs.Turns.{Closes, Ends, Fails, HasSteps, IsCalled, Leaves, Opens, ReadsFrom, ReadsInput};
+ghost use Rattle.slink_live.specs.Turns.{Removes, WritesTo};
 ghost use Rattle.slink_live.specs.private.Keeping.{AnswersFault, EndsInput, KeepsServing, Updates, KeepsAwake};
 ghost use Rattle.slink_live.specs.private.Keeping.{AwakensAll, AwakensAnew, AwakensThose};
 
@@ -73,14 +75,16 @@ impl Server {
 
     /// Whether nothing is left to do: the input is read no more, and no link stands.
     fn is_finished(&self) -> bool
-        ensures { OnTrue result (IsFinished self.now) }
+        ensures yes { OnTrue result (IsFinished self.now) }
+        ensures no { OnFalse result (¬ (IsFinished self.now)) }
     {
         self.has_ended && self.is_empty()
     }
 
     /// Whether no link stands.
     fn is_empty(&self) -> bool
-        ensures { OnTrue result (AreEmpty self.now.links) }
+        ensures yes { OnTrue result (AreEmpty self.now.links) }
+        ensures no { OnFalse result (¬ (AreEmpty self.now.links)) }
     {
         for slot in 0..self.links.len() {
             if self.links.is_taken(slot) {
@@ -110,9 +114,12 @@ impl Server {
         ensures grows { GoesOn (R.log ready.old) (R.log ready.new) }
         ensures unread { StaysUnread self.old self.new (R.log ready.old) (R.log ready.new) }
 
-        // No link sleeps: so it is each time that the device is asked what can be done next, and what it says is done.
+        // No link sleeps: so it is each time that the device is asked what can be done next. What it says is done, and
+        // what is answered is what that came to at last.
         ensures steps { (start : List Window) → IsServing start self.old (R.log ready.old)
-            → IsAwake self.old (R.log ready.old) → HasSteps start (R.log ready.old) (R.log ready.new) }
+            → IsAwake self.old (R.log ready.old)
+            → HasSteps start (length self.old.links) (R.log ready.old) (R.log ready.new) result }
+        ensures slots { length self.new.links ≡ length self.old.links }
         ensures awake { IsAwake self.old (R.log ready.old) → IsAwake self.new (R.log ready.new) }
         // A link is closed by right.
         ensures closed { (start : List Window) → IsServing start self.old (R.log ready.old)
@@ -135,7 +142,7 @@ impl Server {
     fn step<R: Ready>(&mut self, event: Event, ready: &mut R) -> Result<(), InputFault>
         requires { IsSound self.old }
         ensures answers { AnswersFault self.old self.new (R.log ready.old) (R.log ready.new) result }
-        ensures called { IsCalled event self.old (R.log ready.old) (R.log ready.new) }
+        ensures called { IsCalled event self.old (R.log ready.old) (R.log ready.new) result }
         ensures keeps_awake { (earlier : List Happening) → R.log ready.old ≡ earlier ++ Next event ∷ []
             → KeepsAwake self.old self.new (R.log ready.old) (R.log ready.new) }
     {
@@ -156,7 +163,7 @@ impl Server {
     fn on_input<R: Ready>(&mut self, ready: &mut R) -> Result<(), InputFault>
         requires { IsSound self.old }
         ensures answers { AnswersFault self.old self.new (R.log ready.old) (R.log ready.new) result }
-        ensures called { ReadsInput self.old (R.log ready.old) (R.log ready.new) }
+        ensures called { ReadsInput self.old (R.log ready.old) (R.log ready.new) result }
         ensures keeps_awake { KeepsAwake self.old self.new (R.log ready.old) (R.log ready.new) }
     {
         if self.has_ended {
@@ -184,7 +191,8 @@ impl Server {
     #[tactic(auto, using(crate::proofs::Steps::ended_sound, crate::proofs::Steps::few_records))]
     fn on_end<R: Ready>(&mut self, ready: &mut R) -> Result<(), InputFault>
         requires { IsSound self.old }
-        ensures { EndsInput self.old self.new (R.log ready.old) (R.log ready.new) result }
+        ensures ends { EndsInput self.old self.new (R.log ready.old) (R.log ready.new) result }
+        ensures called { Ends self.old (R.log ready.old) (R.log ready.new) result }
     {
         if self.has_ended {
             return Ok(());
@@ -198,7 +206,8 @@ impl Server {
     #[tactic(auto, using(crate::proofs::Steps::ended_sound, crate::proofs::Steps::few_records))]
     fn on_failure<R: Ready>(&mut self, ready: &mut R) -> Result<(), InputFault>
         requires { IsSound self.old }
-        ensures { EndsInput self.old self.new (R.log ready.old) (R.log ready.new) result }
+        ensures ends { EndsInput self.old self.new (R.log ready.old) (R.log ready.new) result }
+        ensures called { Fails self.old (R.log ready.old) (R.log ready.new) result }
     {
         if self.has_ended {
             return Ok(());
@@ -212,7 +221,9 @@ impl Server {
     #[tactic(auto, using(crate::proofs::Steps::ended_sound, crate::proofs::Steps::few_records))]
     fn give_up<R: Ready>(&mut self, ready: &mut R) -> InputFault
         requires { IsSound self.old }
-        ensures { EndsInput self.old self.new (R.log ready.old) (R.log ready.new) (Err result) }
+        ensures ends { EndsInput self.old self.new (R.log ready.old) (R.log ready.new) (Err result) }
+        ensures leaves { Leaves (R.log ready.old) (R.log ready.new) }
+        ensures fault { result ≡ InputFault.Stream (StreamFault.Turns (512 * self.old.intake.records)) }
     {
         let fault = self.intake.last_turn();
         self.end(ready);
@@ -224,7 +235,7 @@ impl Server {
         requires { IsSound (record self.old { has_ended = true }) }
         ensures keeps { KeepsServing (record self.old { has_ended = true }) self.new (R.log ready.old)
             (R.log ready.new) }
-        ensures closes { Closes (R.log ready.old) (R.log ready.new) }
+        ensures leaves { Leaves (R.log ready.old) (R.log ready.new) }
         ensures keeps_awake { AwakensAnew (record self.old { has_ended = true }) self.new (R.log ready.old)
             (R.log ready.new) }
     {
@@ -320,7 +331,7 @@ impl Server {
     fn on_gone<R: Ready>(&mut self, slot: usize, ready: &mut R)
         requires { IsSound self.old }
         ensures keeps { KeepsServing self.old self.new (R.log ready.old) (R.log ready.new) }
-        ensures closes { Closes (R.log ready.old) (R.log ready.new) }
+        ensures called { Removes (get_or self.old.links slot None) slot (R.log ready.old) (R.log ready.new) }
         ensures keeps_awake { (earlier : List Happening) → R.log ready.old ≡ earlier ++ Next (Event.Gone slot) ∷ []
             → KeepsAwake self.old self.new (R.log ready.old) (R.log ready.new) }
     {

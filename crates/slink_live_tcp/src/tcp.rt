@@ -405,6 +405,7 @@ impl<C: Clock, I: Read + AsRawFd + Drop> Ready for Tcp<'_, C, I> {
         } else {
             0
         };
+        self.log.handed(slot, bytes);
         self.log.emitted(slot, &bytes[..count]);
         count
     }

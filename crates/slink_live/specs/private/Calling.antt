@@ -10,7 +10,7 @@ use Rattle.slink_feed.specs.Window.{Window}
 use Rattle.slink_live.specs.declared.link.Update.{Update}
 use Rattle.slink_live.specs.declared.link.Update.TheVariants.{Empty, Wants, Closes}
 use Rattle.slink_live.specs.Awake.{IsClosable, IsLost, IsUpToDate}
-use Rattle.slink_live.specs.Happening.{Happening, Received, Emitted}
+use Rattle.slink_live.specs.Happening.{Happening, Received, Emitted, Handed}
 use Rattle.slink_live.specs.Served.{LinkState, link_state}
 use Rattle.slink_live.specs.History.{Asks}
 
@@ -22,11 +22,11 @@ HasReceived feed k (Some l) new log last = (bytes : List ℕ) × (now : LinkStat
     × (last ≡ log ++ Received k bytes ∷ []) × Serves feed l.session bytes l.pending now.session now.pending
     × Fits feed now.session.state × (now.ring ≡ l.ring)
 
--- The link in a slot accepted so many bytes.
+-- The link in a slot was handed all that waits for it, and accepted so many bytes.
 abbrev pub HasTaken : ℕ → Option LinkState → Option LinkState → List Happening → List Happening → Type 0
 HasTaken k None new log last = (new ≡ None) × (last ≡ log)
 HasTaken k (Some l) new log last = (n : ℕ) × (new ≡ Some (link_state l.session l.ring (drop n l.pending)))
-    × (last ≡ log ++ Emitted k (take n l.pending) ∷ [])
+    × (last ≡ (log ++ Handed k l.pending ∷ []) ++ Emitted k (take n l.pending) ∷ [])
 
 -- A session was called for a station, and what it gave goes on its way: a packet, or what closes it.
 pub record Gives (feed : List Window) (k : ℕ) (old new : LinkState) : Type 0 where

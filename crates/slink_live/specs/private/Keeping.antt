@@ -7,7 +7,6 @@ use Rattle.slink_live.specs.Awake.{Goes, IsAwake, IsAwakeIn, IsClosedRightly, Is
 use Rattle.slink_live.specs.Happening.{Happening, input_of}
 use Rattle.slink_live.specs.Input.{IsInputFault}
 use Rattle.slink_live.specs.Served.{IsServing, IsSound, ServerState}
-use Rattle.slink_live.specs.Turns.{Closes}
 use Rattle.slink_live.specs.declared.places.Places.{Places}
 use Rattle.slink_live.specs.private.Granting.{LeavesOut}
 
@@ -41,6 +40,8 @@ pub record AnswersFault (old new : ServerState) (before after : List Happening) 
   pub ended : OnErr result (new.has_ended ≡ true)
   -- An input that is read no more stays so.
   pub kept : old.has_ended ≡ true → new.has_ended ≡ true
+  -- There are as many slots.
+  pub slots : length new.links ≡ length old.links
 
 -- A step that updates the link in a slot.
 pub record Updates (j : ℕ) (old new : ServerState) (before after : List Happening) : Type 0 where
@@ -79,9 +80,8 @@ pub record AwakensThose (places : Places) (old new : ServerState) (before after 
   pub closed : (start : List Window) → IsServing start old before → IsReported old before
       → Goes (IsClosedRightly start) before after
 
--- The input is read no more: what is wrong with it is answered, where something is, and no link sleeps.
+-- The input is read no more: what is answered is wrong with it, and no link sleeps.
 pub record EndsInput (old new : ServerState) (before after : List Happening) (result : Result (Unit {0}) InputFault)
     : Type 0 where
   pub answers : AnswersFault old new before after result
-  pub closes : Closes before after
   pub keeps_awake : KeepsAwake old new before after

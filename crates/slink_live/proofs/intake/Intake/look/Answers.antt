@@ -1,4 +1,4 @@
-use Rattle.std.proofs.Common.{◌≡◌, ◌∙◌, ◌+◌, ap, subst, refl, arith, List, ℕ, length, take}
+use Rattle.std.proofs.Common.{◌≡◌, ◌∙◌, ap, subst, refl, arith, List, ℕ, length, take}
 use Rattle.mseed_record.specs.declared.framer.Scan.{Scan}
 use Rattle.mseed_record.specs.declared.framer.Scan.TheVariants as scans
 use Rattle.mseed_record.specs.Record.{IsRecord}
@@ -6,7 +6,6 @@ use Rattle.mseed_record.specs.Scan.{Decides, HasNoRecord, HasNoShorter}
 use Rattle.slink_live.specs.Served.{IntakeState}
 use Rattle.slink_live.specs.private.Cutting.{waits}
 use Rattle.slink_live.proofs.Cuts.{refused_long, refused_not, refused_other, whole_record}
-use Rattle.slink_live.proofs.intake.Intake.look.Goals.{in-Need+else-needed-le-RECORD, in-Record+else-size-eq-RECORD}
 use Rattle.slink_live.proofs.intake.Intake.look.Goals as goal
 
 pub push_kept-requires : goal.push_kept-requires
@@ -26,12 +25,14 @@ push_kept-requires c =
       few = c.requires.few;
     }
 
-pub returns-in-Need-clause-ok : goal.returns-in-Need-clause-ok
-returns-in-Need-clause-ok c =
+pub returns-then-needed-le-RECORD-clause-ok : goal.returns-then-needed-le-RECORD-clause-ok
+returns-then-needed-le-RECORD-clause-ok c =
     let leading : c.as_slice.result.now ≡ c.args.self.now.kept =
     c.as_slice.ensures.value ∙ ap (λ (s : IntakeState). s.kept) c.self.view_is in
     let more = c.scan.ensures.bound c.in-Need.needed c.in-Need.is in
-    waits (omega (arith, more.0, ap length leading, c.if-needed-le-RECORD.true)) refl
+    waits c.in-Need.needed
+    (rw leading at (subst (λ (x : Scan). Decides c.as_slice.result.now x) c.in-Need.is c.scan.ensures.decides))
+    c.if-needed-le-RECORD.true (omega (arith, more.0, ap length leading, c.if-needed-le-RECORD.true)) refl
 
 pub returns-in-Not-clause-err : goal.returns-in-Not-clause-err
 returns-in-Not-clause-err c =
@@ -41,20 +42,22 @@ returns-in-Not-clause-err c =
     (rw leading at (subst (λ (x : Scan). Decides c.as_slice.result.now x) c.in-Not.is c.scan.ensures.decides))
     (subst HasNoRecord leading (c.scan.ensures.refused c.in-Not.fault c.in-Not.is)) c.offset.ensures
 
-pub returns-in-Need-2-clause-err : goal.returns-in-Need-2-clause-err
-returns-in-Need-2-clause-err c =
+pub returns-else-needed-le-RECORD-clause-err : goal.returns-else-needed-le-RECORD-clause-err
+returns-else-needed-le-RECORD-clause-err c =
     let leading : c.as_slice.result.now ≡ c.args.self.now.kept =
     c.as_slice.ensures.value ∙ ap (λ (s : IntakeState). s.kept) c.self.view_is in
-    let next : c.self.inside.records + 1 ≡ c.args.self.now.records + 1 =
-    ap (λ (s : IntakeState). s.records + 1) c.self.view_is in
-    elim c.in-Need-2-1.branch [
-      | in-Need+else-needed-le-RECORD w ↦ refused_long _ _ _ _ _
-          (rw leading at (subst (λ (x : Scan). Decides c.as_slice.result.now x) w.in-Need.is c.scan.ensures.decides))
-          (subst (λ (p : List ℕ). HasNoShorter p w.in-Need.needed) leading
-          (c.scan.ensures.least w.in-Need.needed w.in-Need.is)) (omega (arith, w.if-needed-le-RECORD.false)) next
-      | in-Record+else-size-eq-RECORD w ↦
-          let there = (c.scan.ensures.«record» w.in-Record.size).0 w.in-Record.is in
-          refused_other _ _ _ _ w.in-Record.size (omega (arith, there.0, ap length leading)) w.if-size-eq-RECORD.false
-          (rw leading at (subst (λ (x : Scan). Decides c.as_slice.result.now x) w.in-Record.is c.scan.ensures.decides))
-          (subst (λ (p : List ℕ). IsRecord (take w.in-Record.size p)) leading there.1) next
-    ]
+    rw c.foreign.ensures (refused_long _ _ _ _
+    (rw leading at (subst (λ (x : Scan). Decides c.as_slice.result.now x) c.in-Need.is c.scan.ensures.decides))
+    (subst (λ (p : List ℕ). HasNoShorter p c.in-Need.needed) leading
+    (c.scan.ensures.least c.in-Need.needed c.in-Need.is))
+    (omega (arith, c.if-needed-le-RECORD.false)))
+
+pub returns-else-size-eq-RECORD-clause-err : goal.returns-else-size-eq-RECORD-clause-err
+returns-else-size-eq-RECORD-clause-err c =
+    let leading : c.as_slice.result.now ≡ c.args.self.now.kept =
+    c.as_slice.ensures.value ∙ ap (λ (s : IntakeState). s.kept) c.self.view_is in
+    let there = (c.scan.ensures.«record» c.in-Record.size).0 c.in-Record.is in
+    rw c.foreign-else-size-eq-RECORD.ensures (refused_other _ _ _ c.in-Record.size
+    (omega (arith, there.0, ap length leading)) c.if-size-eq-RECORD.false
+    (rw leading at (subst (λ (x : Scan). Decides c.as_slice.result.now x) c.in-Record.is c.scan.ensures.decides))
+    (subst (λ (p : List ℕ). IsRecord (take c.in-Record.size p)) leading there.1))

@@ -1,8 +1,9 @@
-use Rattle.std.proofs.Common.{◌≡◌, ◌≢◌, ◌∙◌, ◌+◌, ap, subst, sym, arith, rules, List, ℕ, Some, slice_get}
+use Rattle.std.proofs.Common.{◌≡◌, ◌≢◌, ◌∙◌, ◌+◌, ap, subst, sym, arith, rules, List, ℕ, length, Some, slice_get}
 use Rattle.std.proofs.lemmas.Result.{err_from_is_err_and}
 use Rattle.slink_wire.specs.Place.{Fields}
-use Rattle.slink_feed.specs.Intake.{IsOfFeed, places_of}
+use Rattle.slink_feed.specs.Intake.{IsOfFeed, foreign_of, places_of}
 use Rattle.slink_feed.specs.Window.{Window}
+use Rattle.slink_feed.specs.declared.input.InputFault.TheVariants.{Foreign}
 use Rattle.slink_live.specs.Served.{IntakeState}
 use Rattle.slink_live.specs.private.Cutting.{IsRefused}
 use Rattle.slink_live.specs.private.Granting.{Has}
@@ -35,9 +36,12 @@ returns-in_err-k-clause-err c =
     let none : ¬ (IsOfFeed places kept) =
     λ of. c.in_err-k.ensures.foreign (subst (λ (f : List Window). IsOfFeed (places_of f) c.as_slice.result.now)
     (sym (ap (λ (s : IntakeState). s.feed) c.self.view_is)) (subst (IsOfFeed places) (sym leading) of)) in
+    let n : c.self.inside.records + 1 ≡ c.args.self.now.records + 1 =
+    ap (λ (s : IntakeState). s.records + 1) c.self.view_is in
+    let fault : c.in_err-k.field-0.0 ≡ Foreign (foreign_of (c.args.self.now.records + 1) (length kept) kept) =
+    rw (leading, n) at c.in_err-k.ensures.fault in
     let refused : IsRefused places c.args.self.now.records kept c.in_err-k.field-0.0 =
-    subst (IsRefused places c.args.self.now.records kept) (sym c.in_err-k.ensures.fault)
-    (refused_none places c.args.self.now.records (c.self.inside.records + 1) kept c.requires.whole c.requires.decides
-    none (ap (λ (s : IntakeState). s.records + 1) c.self.view_is)) in
+    subst (IsRefused places c.args.self.now.records kept) (sym fault)
+    (refused_none places c.args.self.now.records kept c.requires.whole c.requires.decides none) in
     let p = err_from_is_err_and c.from_residual.result c.from_residual.ensures.1 in
     rw (p.1, p.2) refused

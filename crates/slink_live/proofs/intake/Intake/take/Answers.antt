@@ -2,7 +2,7 @@ use Rattle.std.proofs.Common.{◌∙◌, ap, refl, arith, List, ℕ, length-take
 use Rattle.std.proofs.lemmas.Result.{err_from_is_err_and}
 use Rattle.slink_live.specs.Served.{IntakeState}
 use Rattle.slink_live.specs.private.Cutting.{Cuts, CutsOff}
-use Rattle.slink_live.proofs.Cuts.{cut_below, cut_few, look_off, look_on, look_short, nothing_cut}
+use Rattle.slink_live.proofs.Cuts.{cut_below, cut_few, look_begins, look_off, look_on, look_short, nothing_cut}
 use Rattle.slink_live.proofs.intake.Intake.take.Goals as goal
 
 pub loop-start-init : goal.loop-start-init
@@ -10,6 +10,7 @@ loop-start-init c = record {
   within = omega arith;
   cuts = nothing_cut c.args.self.now;
   short = c.requires.short;
+  begins = c.requires.begins;
   stays = λ k none. refl;
 }
 
@@ -45,6 +46,8 @@ loop-start-preserved c = record {
   cuts = look_on c.args.self.now c.loop-start.self c.keep.new.self c.args.bytes.now c.loop-start.start
       c.wanted-count.result c.loop-start.invariant.cuts c.keep.ensures.kept c.look.new.self c.in_ok-places.ensures.ok;
   short = look_short c.args.self.now c.loop-start.self c.keep.new.self c.args.bytes.now c.loop-start.start
+      c.wanted-count.result c.loop-start.invariant.cuts c.keep.ensures.kept c.look.new.self c.in_ok-places.ensures.ok;
+  begins = look_begins c.args.self.now c.loop-start.self c.keep.new.self c.args.bytes.now c.loop-start.start
       c.wanted-count.result c.loop-start.invariant.cuts c.keep.ensures.kept c.look.new.self c.in_ok-places.ensures.ok;
   stays = λ k none.
       let beside = c.in_ok-places.ensures.others k none in

@@ -1,4 +1,5 @@
 use Rattle.std.proofs.Common.{◌-◌, ◌<◌, ◌≤◌, length, take}
+use Rattle.slink_live.specs.Input.{MayBegin}
 use Rattle.slink_live.specs.private.Cutting.{Cuts}
 use Rattle.slink_live.specs.private.Granting.{StaysBut}
 use Rattle.slink_live.proofs.intake.Intake.take.Given as goal
@@ -8,6 +9,7 @@ invariant-loop-start l = record {
   within : l.start ≤ length l.bytes;
   cuts : Cuts l.fn.self (take l.start l.bytes) l.self l.self.kept;
   short : length l.self.kept < 512;
+  begins : MayBegin l.self.kept;
   stays : StaysBut l.places l.fn.self.feed l.self.feed;
 }
 

@@ -1,17 +1,32 @@
-use Rattle.std.proofs.Common.{◌∙◌, ◌++◌, ◌∷◌, [], ap, inr}
+use Rattle.std.proofs.Common.{arith, inl, inr}
 use Rattle.std.proofs.lemmas.Result.{err_from_is_err_and}
-use Rattle.slink_live.specs.declared.ready.Event.{Event}
-use Rattle.slink_live.specs.Happening.{Next}
-use Rattle.slink_live.proofs.Goes.{handled_serving, served_first, served_given, served_nothing, served_on}
+use Rattle.slink_live.proofs.Goes.{come_on, done_steps, given_come, given_steps, handled_serving, nothing_come}
+use Rattle.slink_live.proofs.Goes.{nothing_steps, served_first, served_on, wrong_steps}
 use Rattle.slink_live.proofs.server.Server.serve.Goals as goal
 
 pub loop-turn-init : goal.loop-turn-init
 loop-turn-init g c = served_first c.args.self.now (g.R.Ready.log c.args.ready.now) c.requires.sound
 
+pub returns-then-is_finished : goal.returns-then-is_finished
+returns-then-is_finished g c =
+    let so_far = c.loop-turn.invariant in
+    record {
+      sound = so_far.sound;
+      serving = so_far.serving;
+      failed = inl c.if-is_finished.ensures.yes;
+      fault = tt;
+      ended = tt;
+      grows = so_far.grows;
+      unread = so_far.unread;
+      steps = done_steps so_far c.loop-turn-test.true c.if-is_finished.ensures.yes;
+      slots = so_far.slots;
+      awake = so_far.awake;
+      closed = so_far.closed;
+    }
+
 pub returns-in-Nothing : goal.returns-in-Nothing
 returns-in-Nothing g c =
-    let on = served_nothing c.loop-turn.invariant (c.next.ensures.log
-    ∙ ap (λ (e : Event). g.R.Ready.log c.loop-turn.ready ++ Next e ∷ []) c.in-Nothing.is) in
+    let on = nothing_come c.next.result c.loop-turn.invariant c.next.ensures.log in
     record {
       sound = on.sound;
       serving = on.serving;
@@ -20,7 +35,9 @@ returns-in-Nothing g c =
       ended = tt;
       grows = on.grows;
       unread = on.unread;
-      steps = on.turns;
+      steps = nothing_steps c.next.result c.loop-turn.invariant c.next.ensures.log c.loop-turn-test.true
+          c.if-is_finished.ensures.no c.in-Nothing.is;
+      slots = on.slots;
       awake = on.awake;
       closed = on.closed;
     }
@@ -28,7 +45,7 @@ returns-in-Nothing g c =
 pub returns-in_err-step-in_default : goal.returns-in_err-step-in_default
 returns-in_err-step-in_default g c =
     let p = err_from_is_err_and c.from_residual.result c.from_residual.ensures.1 in
-    let on = served_on c.next.result c.loop-turn.invariant c.next.ensures.log c.step.ensures.answers
+    let on = come_on c.next.result c.loop-turn.invariant c.next.ensures.log c.step.ensures.answers
     c.step.ensures.called c.step.ensures.keeps_awake in
     let answers = c.in_err-step-in_default.ensures.answers in
     record {
@@ -40,7 +57,10 @@ returns-in_err-step-in_default g c =
       ended = rw p.1 answers.ended;
       grows = on.grows;
       unread = on.unread;
-      steps = on.turns;
+      steps = rw (p.1, p.2) (wrong_steps c.next.result c.loop-turn.invariant c.next.ensures.log c.step.ensures.answers
+          c.step.ensures.called c.step.ensures.keeps_awake c.loop-turn-test.true c.if-is_finished.ensures.no
+          c.in_err-step-in_default.field-0.0 c.in_err-step-in_default.was);
+      slots = on.slots;
       awake = on.awake;
       closed = on.closed;
     }
@@ -48,21 +68,23 @@ returns-in_err-step-in_default g c =
 pub loop-turn-preserved : goal.loop-turn-preserved
 loop-turn-preserved g c =
     served_on c.next.result c.loop-turn.invariant c.next.ensures.log c.step.ensures.answers c.step.ensures.called
-    c.step.ensures.keeps_awake
+    c.step.ensures.keeps_awake c.if-is_finished.ensures.no c.in_default.not-Nothing c.in_ok-step-in_default.was
 
 pub returns : goal.returns
 returns g c =
-    let answers = c.give_up.ensures.answers in
-    let on = served_given c.loop-turn.invariant answers c.give_up.ensures.closes c.give_up.ensures.keeps_awake in
+    let ends = c.give_up.ensures.ends in
+    let on = given_come c.loop-turn.invariant ends.answers c.give_up.ensures.leaves ends.keeps_awake in
     record {
       sound = on.sound;
       serving = on.serving;
       failed = tt;
-      fault = λ start v. answers.fault start (c.loop-turn.invariant.serving start v);
-      ended = answers.ended;
+      fault = λ start v. ends.answers.fault start (c.loop-turn.invariant.serving start v);
+      ended = ends.answers.ended;
       grows = on.grows;
       unread = on.unread;
-      steps = on.turns;
+      steps = given_steps c.loop-turn.invariant ends.answers c.give_up.ensures.leaves ends.keeps_awake
+          (omega (arith, c.loop-turn-test.false, c.loop-turn.auto.turn-end)) c.give_up.result c.give_up.ensures.fault;
+      slots = on.slots;
       awake = on.awake;
       closed = on.closed;
     }

@@ -1,4 +1,4 @@
-use Rattle.std.proofs.Common.{◌∙◌, ◌++◌, ◌∷◌, [], ap, refl, subst, sym}
+use Rattle.std.proofs.Common.{◌∙◌, ◌++◌, ◌∷◌, [], Ok, ap, refl, subst, sym}
 use Rattle.slink_live.specs.Happening.{Next}
 use Rattle.slink_live.proofs.Updating.{awake_same}
 use Rattle.slink_live.specs.declared.ready.Event.{Event}
@@ -8,7 +8,7 @@ use Rattle.slink_live.proofs.server.Server.step.Goals as goal
 pub returns-in-Input-clause-called : goal.returns-in-Input-clause-called
 returns-in-Input-clause-called g c =
     subst (λ (e : Event). IsCalled e c.args.self.now (g.R.Ready.log c.args.ready.now)
-    (g.R.Ready.log c.on_input.new.ready)) (sym c.in-Input.is) c.on_input.ensures.called
+    (g.R.Ready.log c.on_input.new.ready) c.on_input.result) (sym c.in-Input.is) c.on_input.ensures.called
 
 pub returns-in-Gone-clause-keeps_awake : goal.returns-in-Gone-clause-keeps_awake
 returns-in-Gone-clause-keeps_awake g c earlier handled =
@@ -21,4 +21,4 @@ returns-in-Nothing-clause-keeps_awake g c earlier handled =
 pub returns-in-Dialled-clause-called : goal.returns-in-Dialled-clause-called
 returns-in-Dialled-clause-called g c =
     subst (λ (e : Event). IsCalled e c.args.self.now (g.R.Ready.log c.args.ready.now)
-    (g.R.Ready.log c.on_dialled.new.ready)) (sym c.in-Dialled.is) c.on_dialled.ensures.called
+    (g.R.Ready.log c.on_dialled.new.ready) (Ok tt)) (sym c.in-Dialled.is) (c.on_dialled.ensures.called, refl)
