@@ -1,7 +1,7 @@
 //! Worked rows of serving and fetching over one link after another, in memory and over TCP.
 ghost use Rattle.std.specs.Prelude.{◌≡◌, ◌+◌, IfSome, is_none, if◌then◌else◌, refl};
 ghost use Rattle.mseed_stream.specs.Counted.{read_by, written_by};
-ghost use Rattle.mseed_stream.specs.Device.{nothing_read, nothing_written};
+ghost use Rattle.mseed_stream.specs.Device.{accepted, nothing_read, nothing_written};
 ghost use Rattle.slink_links.specs.Out.{AreOut};
 
 mod buffers;
@@ -82,7 +82,7 @@ struct Link<'a> {
 impl Source for Link<'_> {
     ghost read = { λ l. read_by l.over };
 
-    ghost beside = { λ l. written_by l.over };
+    ghost beside = { λ l. accepted (written_by l.over) };
 
     fn pull(&mut self, buf: &mut [u8]) -> Result<usize, Failed> {
         self.over.pull(buf)

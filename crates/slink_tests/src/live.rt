@@ -14,12 +14,13 @@ use std::process::Abort;
 
 const SLOTS: usize = 3;
 
-/// A client: what it says, and what it accepted.
+/// A client: what it says, what it accepted, and after how many whole records of the input its link was closed.
 #[derive(Drop)]
 struct Peer {
     says: Vec<u8>,
     produced: usize,
     emitted: Vec<u8>,
+    closed: Option<usize>,
 }
 
 /// A device in memory.
@@ -65,7 +66,7 @@ impl Script {
         }
     }
 
-    /// What comes of the input.
+    /// What comes of the input, which doesn't end before each client has a link.
     fn input_event(&self) -> Event
         ensures { result ≢ Event.Nothing }
     {
@@ -73,6 +74,8 @@ impl Script {
             Event::Dialled
         } else if self.given < self.input.len() && !self.is_left {
             Event::Input
+        } else if self.dialled < self.peers.len() {
+            Event::Dialled
         } else {
             Event::InputEnded
         }
@@ -118,6 +121,20 @@ impl Script {
                 }
             }
             _ => 0,
+        }
+    }
+
+    /// Parts a slot from its client.
+    fn part(&mut self, slot: usize)
+        ensures log { self.new.log ≡ self.old.log }
+    {
+        if let Some(k) = self.peer(slot)
+            && let Some(peer) = self.peers.get_mut(k)
+        {
+            peer.closed = Some(self.given / 512);
+        }
+        if slot < SLOTS {
+            self.places[slot] = None;
         }
     }
 }
@@ -177,14 +194,13 @@ impl Ready for Script {
 
     fn write(&mut self, slot: usize, bytes: &[u8]) -> usize {
         let count = self.take(slot, bytes);
+        self.log.handed(slot, bytes);
         self.log.emitted(slot, &bytes[..count]);
         count
     }
 
     fn close(&mut self, slot: usize) {
-        if slot < SLOTS {
-            self.places[slot] = None;
-        }
+        self.part(slot);
         self.log.gone(slot);
     }
 
@@ -253,6 +269,7 @@ fn three_peers(rt: &impl Abort, alloc: Global) -> Vec<Peer> {
             says,
             produced: 0,
             emitted: Vec::new(alloc),
+            closed: None,
         };
         peers.push(peer).expect(rt, "memory");
     }
@@ -290,10 +307,10 @@ fn script_of(rt: &impl Abort, alloc: Global, input: Vec<u8>, seed: u64) -> Scrip
     }
 }
 
-/// Whether each of these clients accepted all that is owed to it, or said nothing.
+/// Whether each of these clients accepted all that is owed to it.
 fn have_what_is_owed(peers: &[Peer], owed: &[u8]) -> bool {
     let mut peers = peers.iter();
-    peers.all(|peer| peer.emitted.as_slice() == owed || peer.produced == 0)
+    peers.all(|peer| peer.emitted.as_slice() == owed)
 }
 
 /// Whether a server answers so by an order, and well if it goes on, with something of the order left.
@@ -343,16 +360,20 @@ fn deaf_script(rt: &impl Abort, alloc: Global) -> Script
     script
 }
 
-/// Whether a server ends well before an order does: no link stands any more.
-fn ends_early(server: &mut Server, script: &mut Script) -> bool
+/// Whether a server ends well before an order does, and closes each link that accepts nothing once its next record has
+/// left a ring of two: its replies and the packets of eleven records wait for it, and the fourteenth record drives out
+/// the twelfth. A read may bring the fifteenth one with it.
+fn loses_all(server: &mut Server, script: &mut Script) -> bool
     requires { IsSound server.old }
 {
-    server.serve(script).is_ok() && script.left > 0
+    let is_well = server.serve(script).is_ok() && script.left > 0;
+    let mut peers = script.peers.iter();
+    is_well && peers.all(|peer| peer.emitted.is_empty() && matches!(peer.closed, Some(14 | 15)))
 }
 
 #[test]
 fn a_link_that_takes_nothing_loses_its_place(rt: HostRuntime) {
     let mut script = deaf_script(&rt, rt.alloc());
     let mut server = server_of(&rt, rt.alloc(), 2);
-    assert!(rt; ends_early(&mut server, &mut script));
+    assert!(rt; loses_all(&mut server, &mut script));
 }
