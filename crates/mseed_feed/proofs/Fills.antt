@@ -21,7 +21,7 @@ use Rattle.mseed_stream.specs.declared.fault.StreamFault.TheVariants.{Memory}
 use Rattle.slink_wire.specs.Place.{Bears, Fields}
 use Rattle.slink_wire.proofs.Carrying.{carries_fails, one_place, passes_carries}
 use Rattle.slink_wire.proofs.Cuts.{both}
-use Rattle.slink_feed.specs.Intake.{IsOfFeed, is_of, places_of, pushed}
+use Rattle.slink_feed.specs.Intake.{IsOfFeed, foreign_of, is_of, places_of, pushed}
 use Rattle.slink_feed.specs.Rings.{HasPlace}
 use Rattle.slink_feed.specs.Window.{Shows, Window, window, with_record}
 use Rattle.slink_feed.specs.declared.input.InputFault.{InputFault}
@@ -261,7 +261,8 @@ pub pushed_next : (s : Serving) (views : List View) (view : View) (bytes : List 
     (c : CutterState) → CanServe s → bytes ≡ view.bytes → HasHandedOut h c (views ++ view ∷ []) → old.calls < h.calls
     → AreOfFeed (served s) (bytes_in views) → feed ≡ feed_of s (bytes_in views) → number ≡ length views + 1
     → OnOk taken (IsOfFeed (places_of feed) bytes) → OnOk taken (new ≡ pushed feed bytes)
-    → OnErr taken (¬ (IsOfFeed (places_of feed) bytes)) → IfErr taken (λ e. e ≡ Foreign number)
+    → OnErr taken (¬ (IsOfFeed (places_of feed) bytes))
+    → IfErr taken (λ e. e ≡ Foreign (foreign_of number (length bytes) bytes))
     → OnOk taken (result ≡ Ok Pushed) → IfErr taken (λ e. result ≡ Err e)
     → IsNextPushed s result views old h c new
 pushed_next s views view bytes m result (Ok k) feed new old h c can same handed called each is n of taken _ _ ok _ =
@@ -283,7 +284,8 @@ pushed_next s views view bytes m result (Err e) feed new old h c can same handed
       fine = handed.fine;
       each = each;
       other = λ of. none (rw (← (places_in s (bytes_in views) feed is)) at (subst (IsOfFeed (served s)) (sym same) of));
-      number_is = n;
+      foreign_is = ap (λ (k : ℕ). foreign_of k (length bytes) bytes) n
+          ∙ ap (λ (b : List ℕ). foreign_of (length views + 1) (length b) b) same;
     })
 
 -- the input ended with a fault, or memory was wanted

@@ -1,4 +1,5 @@
 pub mod Fills
 pub mod OneFilling
 pub mod Numbered
+mod Kept
 mod Served

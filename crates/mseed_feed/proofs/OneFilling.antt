@@ -1,5 +1,5 @@
 -- What was read of an input is one filling of a feed.
-use Rattle.std.proofs.Common.{◌≡◌, ℕ, suc, ◌⊎◌, inl, inr, List, [], ◌∷◌, ◌++◌, length, length-append, drop, Option}
+use Rattle.std.proofs.Common.{◌≡◌, ◌+◌, ℕ, suc, ◌⊎◌, inl, inr, List, [], ◌∷◌, ◌++◌, length, length-append, drop, Option}
 use Rattle.std.proofs.Common.{Some, None, Result, Ok, Err, refl, sym, ap, subst, ◌∙◌, arith, append_assoc, append-nil}
 use Rattle.std.proofs.lemmas.List.{length-map, map-append, take-append-drop}
 use Rattle.std.proofs.lemmas.List.Folds.{concat-append}
@@ -15,8 +15,9 @@ use Rattle.mseed_stream.specs.declared.fault.StreamFault.{StreamFault}
 use Rattle.mseed_stream.specs.declared.fault.StreamFault.TheVariants.{Memory}
 use Rattle.mseed_stream.proofs.OneInput.{archive_is, one_input}
 use Rattle.slink_wire.specs.Place.{Fields}
-use Rattle.slink_feed.specs.Intake.{IsOfFeed}
+use Rattle.slink_feed.specs.Intake.{IsOfFeed, foreign_of}
 use Rattle.slink_feed.specs.Window.{Window}
+use Rattle.slink_feed.specs.declared.input.ForeignRecord.{ForeignRecord}
 use Rattle.slink_feed.specs.declared.input.InputFault.{InputFault}
 use Rattle.slink_feed.specs.declared.input.InputFault.TheVariants.{Stream, Foreign}
 use Rattle.mseed_words.specs.declared.request.Serving.{Serving}
@@ -66,9 +67,11 @@ none_stops places bytes rest (x ∷ xs) (r ∷ rs) s a all =
     (record { joined = first.1; each = a.each.1; no_further = a.no_further }) all.1
 
 -- the first that isn't is one
-one_stop : (places : List Fields) (bytes : List ℕ) (xs ys : List (List ℕ)) → Stops places bytes xs
-    → Stops places bytes ys → length xs ≡ length ys
-one_stop places bytes [] [] s t = refl
+one_stop : (places : List Fields) (bytes : List ℕ) (xs ys : List (List ℕ)) (s : Stops places bytes xs)
+    (t : Stops places bytes ys) → (length xs ≡ length ys) × (s.last ≡ t.last)
+unfolding stops_next
+one_stop places bytes [] [] s t =
+    (refl, (one_first bytes s.last t.last s.rest t.rest s.whole t.whole s.joined t.joined).0)
 one_stop places bytes [] (y ∷ ys) s t =
     let first : (s.last ≡ y) × (s.rest ≡ concat ys ++ (t.last ++ t.rest)) =
     one_first bytes s.last y s.rest (concat ys ++ (t.last ++ t.rest)) s.whole t.each.0 s.joined (t.joined
@@ -84,8 +87,9 @@ one_stop places bytes (x ∷ xs) (y ∷ ys) s t =
     let first : (x ≡ y) × (tail ≡ concat ys ++ (t.last ++ t.rest)) =
     one_first bytes x y tail (concat ys ++ (t.last ++ t.rest)) s.each.0 t.each.0 (s.joined
     ∙ append_assoc x (concat xs) (s.last ++ s.rest)) (t.joined ∙ append_assoc y (concat ys) (t.last ++ t.rest)) in
-    ap suc (one_stop places tail xs ys (stops_next places bytes tail x xs s refl)
-    (stops_next places bytes tail y ys t first.1))
+    let more = one_stop places tail xs ys (stops_next places bytes tail x xs s refl)
+    (stops_next places bytes tail y ys t first.1) in
+    (ap suc more.0, more.1)
 
 prefix_each : (xs : List (List ℕ)) (x : List ℕ) → AllByRecursion IsRecord (xs ++ x ∷ [])
     → AllByRecursion IsRecord xs × IsRecord x
@@ -93,7 +97,8 @@ prefix_each [] x all = (tt, all.0)
 prefix_each (y ∷ ys) x all = let more : AllByRecursion IsRecord ys × IsRecord x = prefix_each ys x all.1 in
     ((all.0, more.0), more.1)
 
-stops_at : (s : Serving) (n : ℕ) (h : BytesRead) (f : IsForeign s n h) → Stops (served s) h.bytes (bytes_in f.before)
+stops_at : (s : Serving) (n : ForeignRecord) (h : BytesRead) (f : IsForeign s n h)
+    → Stops (served s) h.bytes (bytes_in f.before)
 stops_at s n h f =
     let shown : bytes_in (f.before ++ f.view ∷ []) ≡ bytes_in f.before ++ f.view.bytes ∷ [] =
     map-append (λ (v : View). v.bytes) f.before (f.view ∷ []) in
@@ -114,8 +119,8 @@ stops_at s n h f =
       other = f.other;
     }
 
-never_stops : (s : Serving) (n : ℕ) (h : BytesRead) (views : List View) (end : Option StreamFault) → IsForeign s n h
-    → AreAllViews h views end → AreOfFeed (served s) (bytes_in views) → ⊥
+never_stops : (s : Serving) (n : ForeignRecord) (h : BytesRead) (views : List View) (end : Option StreamFault)
+    → IsForeign s n h → AreAllViews h views end → AreOfFeed (served s) (bytes_in views) → ⊥
 never_stops s n h views end f all each =
     none_stops (served s) h.bytes (drop all.offset h.bytes) (bytes_in f.before) (bytes_in views) (stops_at s n h f)
     (archive_is all.offset views end h all.records all.ends) each
@@ -143,6 +148,7 @@ one_broken s h f (Err (Stream g)) p q = elim (broken s h g q) [
 -- what filling a feed comes to is determined, but for memory
 one_filling : (s : Serving) (h : BytesRead) (a b : Result (List Window) InputFault) → IsFilling s a h
     → IsFilling s b h → (a ≡ Err (Stream Memory)) ⊎ ((b ≡ Err (Stream Memory)) ⊎ (a ≡ b))
+unfolding stops_at
 one_filling s h (Err (Stream f)) b p q = elim (broken s h f p) [
   | inl memory ↦ inl (ap (λ (x : StreamFault). Err (Stream x)) memory)
   | inr off ↦ inr (one_broken s h f b off q)
@@ -161,17 +167,18 @@ one_filling s h (Ok f) (Ok g) p q =
 one_filling s h (Ok f) (Err (Foreign n)) p q = absurd (never_stops s n h p.views None q p.all p.each)
 one_filling s h (Err (Foreign n)) (Ok g) p q = absurd (never_stops s n h q.views None p q.all q.each)
 one_filling s h (Err (Foreign n)) (Err (Foreign m)) p q =
-    let before : length (bytes_in p.before) ≡ length (bytes_in q.before) =
-    one_stop (served s) h.bytes (bytes_in p.before) (bytes_in q.before) (stops_at s n h p) (stops_at s m h q) in
-    let same : n ≡ m = omega (
+    let one = one_stop (served s) h.bytes (bytes_in p.before) (bytes_in q.before) (stops_at s n h p)
+    (stops_at s m h q) in
+    let number : length p.before + 1 ≡ length q.before + 1 = omega (
       arith,
-      p.number_is,
-      q.number_is,
-      before,
+      one.0,
       length-map p.before (λ (v : View). v.bytes),
       length-map q.before (λ (v : View). v.bytes),
     ) in
-    inr (inr (ap (λ (k : ℕ). Err (Foreign k)) same))
+    let same : n ≡ m = p.foreign_is
+    ∙ (ap (λ (k : ℕ). foreign_of k (length p.view.bytes) p.view.bytes) number
+    ∙ (ap (λ (b : List ℕ). foreign_of (length q.before + 1) (length b) b) one.1 ∙ sym q.foreign_is)) in
+    inr (inr (ap (λ (f : ForeignRecord). Err (Foreign f)) same))
 
 pub only_filling : (s : Serving) (h : BytesRead) (a : Result (List Window) InputFault) → IsFilling s a h
     → IsOneFilling s a h

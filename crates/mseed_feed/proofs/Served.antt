@@ -1,13 +1,23 @@
 -- What serving comes to by its plan.
-use Rattle.std.proofs.Common.{ℕ, List, Result, Ok, Err, subst}
-use Rattle.mseed_stream.specs.Device.{BytesRead, BytesWritten}
+use Rattle.std.proofs.Common.{◌≡◌, ℕ, List, Option, Result, Ok, Err}
+use Rattle.mseed_stream.specs.Calls.{ReadsOn}
+use Rattle.mseed_stream.specs.Device.{Beside, BytesRead, BytesWritten, nothing_read}
 use Rattle.slink_feed.specs.Window.{Window}
 use Rattle.slink_feed.specs.declared.input.InputFault.{InputFault}
 use Rattle.slink_links.specs.Served.{HasServed}
 use Rattle.slink_links.specs.declared.plan.ServePlan.{ServePlan}
 use Rattle.mseed_words.specs.declared.request.Serving.{Serving}
-use Rattle.mseed_feed.specs.Commands.{HasServedInput, IsServedBy}
+use Rattle.mseed_feed.specs.Commands.{HasReadInput, HasServedInput, IsServedBy}
 use Rattle.mseed_feed.specs.Plans.{IsPlannedBy, IsServeRun}
+
+-- what was read of an input of which nothing was read before
+pub read_from_start : (old new : BytesRead) (left rest : Option (List ℕ)) (apart later : Beside) → old ≡ nothing_read
+    → ReadsOn old new left rest apart later → HasReadInput left apart new
+read_from_start old new left rest apart later none reads = record {
+  rest = rest;
+  later = later;
+  reads = rw none at reads;
+}
 
 -- a plan that was carried out
 pub served : (A : Type 0) (s : Serving) (plan : ServePlan A) (read : BytesRead) (old between new : BytesWritten)
@@ -16,8 +26,8 @@ pub served : (A : Type 0) (s : Serving) (plan : ServePlan A) (read : BytesRead) 
 served A s plan read old between new status run done =
     record { outcome = run.outcome; filling = run.filling; only = run.only; served = by run.outcome run.planned }
   where
-    by : (o : Result (List Window) InputFault) → IsPlannedBy s o (Ok plan) old between → IsServedBy o status old new
-    by (Ok feed) is = subst (λ (w : BytesWritten). HasServed status w new) is.1 done
+    by : (o : Result (List Window) InputFault) → IsPlannedBy s o (Ok plan) old between → IsServedBy s o status old new
+    by (Ok feed) is = (between, is.1, done)
     by (Err fault) is = absurd is
 
 -- no plan
@@ -27,6 +37,6 @@ refused A s read old new status run =
     record { outcome = run.outcome; filling = run.filling; only = run.only; served = by run.outcome run.planned }
   where
     by : (o : Result (List Window) InputFault) → IsPlannedBy {A = A} s o (Err status) old new
-        → IsServedBy o status old new
+        → IsServedBy s o status old new
     by (Ok feed) is = absurd is
     by (Err fault) is = is

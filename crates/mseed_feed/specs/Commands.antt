@@ -1,8 +1,9 @@
 -- What serving the records of an archive and fetching come to: the exit status, and what was written.
-use Rattle.std.specs.Prelude.{◌≡◌, ℕ, List, Result, Ok, Err}
-use Rattle.mseed_stream.specs.Device.{BytesRead, BytesWritten}
-use Rattle.mseed_stream.specs.LineWritten.{WritesLine}
+use Rattle.std.specs.Prelude.{◌≡◌, ℕ, List, Option, Result, Ok, Err}
+use Rattle.mseed_stream.specs.Calls.{ReadsOn}
+use Rattle.mseed_stream.specs.Device.{Beside, BytesRead, BytesWritten, nothing_read}
 use Rattle.slink_feed.specs.Listening.{Listening}
+use Rattle.slink_feed.specs.Reporter.{AreReported}
 use Rattle.slink_feed.specs.Window.{Window}
 use Rattle.slink_feed.specs.declared.input.InputFault.{InputFault}
 use Rattle.slink_links.specs.Fetched.{FetchesAll}
@@ -11,19 +12,28 @@ use Rattle.slink_links.specs.declared.fetching.FetchEnd.{FetchEnd}
 use Rattle.mseed_words.specs.declared.request.Fetching.{Fetching}
 use Rattle.mseed_words.specs.declared.request.Serving.{Serving}
 use Rattle.mseed_feed.specs.Filling.{IsFilling, IsOneFilling}
-use Rattle.mseed_feed.specs.Plans.{fill_text, first_client}
+use Rattle.mseed_feed.specs.Plans.{fill_lines, first_client, keeps_lines}
 
--- by what filling the feed came to: it was served; or status 2, and the line of what is wrong with the input
-abbrev pub IsServedBy : Result (List Window) InputFault → ℕ → BytesWritten → BytesWritten → Type 0
-IsServedBy (Ok feed) status old new = HasServed status old new
-IsServedBy (Err fault) status old new = (status ≡ 2) × WritesLine (fill_text fault) old new
+-- by what filling the feed came to: the lines of its rings were written, and it was served; or status 2, and the lines
+-- of what is wrong with the input
+abbrev pub IsServedBy : Serving → Result (List Window) InputFault → ℕ → BytesWritten → BytesWritten → Type 0
+IsServedBy serving (Ok feed) status old new = (reported : BytesWritten)
+    × AreReported (keeps_lines serving feed) old reported × HasServed status reported new
+IsServedBy serving (Err fault) status old new = (status ≡ 2) × AreReported (fill_lines fault) old new
+
+-- what was read of an input from its first byte on: a beginning of what it is known to have, and all of it where the
+-- input is at its end
+pub record HasReadInput (left : Option (List ℕ)) (apart : Beside) (read : BytesRead) : Type 0 where
+  pub rest : Option (List ℕ)
+  pub later : Beside
+  pub reads : ReadsOn nothing_read read left rest apart later
 
 -- A feed was filled by what was read of an input, which decides it but for memory, and served where it could be.
 pub record HasServedInput (serving : Serving) (read : BytesRead) (status : ℕ) (old new : BytesWritten) : Type 0 where
   pub outcome : Result (List Window) InputFault
   pub filling : IsFilling serving outcome read
   pub only : IsOneFilling serving outcome read
-  pub served : IsServedBy outcome status old new
+  pub served : IsServedBy serving outcome status old new
 
 -- A new client of the places that were requested fetched up to an end: its records were written, and standard error
 -- got the lines of that end, and those that were requested.

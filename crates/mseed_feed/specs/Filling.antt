@@ -7,8 +7,9 @@ use Rattle.mseed_stream.specs.Walk.{AreAllViews, AreViews, bytes_in}
 use Rattle.mseed_stream.specs.declared.fault.StreamFault.{StreamFault}
 use Rattle.mseed_stream.specs.declared.fault.StreamFault.TheVariants.{Memory}
 use Rattle.slink_wire.specs.Place.{Fields}
-use Rattle.slink_feed.specs.Intake.{IsOfFeed, is_of}
+use Rattle.slink_feed.specs.Intake.{IsOfFeed, foreign_of, is_of}
 use Rattle.slink_feed.specs.Window.{Window, window}
+use Rattle.slink_feed.specs.declared.input.ForeignRecord.{ForeignRecord}
 use Rattle.slink_feed.specs.declared.input.InputFault.{InputFault}
 use Rattle.slink_feed.specs.declared.input.InputFault.TheVariants.{Stream, Foreign}
 use Rattle.mseed_words.specs.declared.request.Serving.{Serving}
@@ -46,8 +47,8 @@ pub record IsFilled (serving : Serving) (feed : List Window) (h : BytesRead) : T
   pub each : AreOfFeed (served serving) (bytes_in views)
   pub feed_is : feed ≡ feed_of serving (bytes_in views)
 
--- The record of this number, counted from 1, is the first of the input's that isn't the feed's.
-pub record IsForeign (serving : Serving) (number : ℕ) (h : BytesRead) : Type 0 where
+-- This record is the first of the input's that isn't the feed's. Its number is counted from 1.
+pub record IsForeign (serving : Serving) (foreign : ForeignRecord) (h : BytesRead) : Type 0 where
   pub before : List View
   pub view : View
   pub offset : ℕ
@@ -55,7 +56,7 @@ pub record IsForeign (serving : Serving) (number : ℕ) (h : BytesRead) : Type 0
   pub fine : h.failures ≡ 0
   pub each : AreOfFeed (served serving) (bytes_in before)
   pub other : ¬ (IsOfFeed (served serving) view.bytes)
-  pub number_is : number ≡ length before + 1
+  pub foreign_is : foreign ≡ foreign_of (length before + 1) (length view.bytes) view.bytes
 
 -- The input ended with a fault, after records that are all the feed's.
 pub record IsBrokenOff (serving : Serving) (fault : StreamFault) (h : BytesRead) : Type 0 where
@@ -68,7 +69,7 @@ abbrev pub IsFilling : Serving → Result (List Window) InputFault → BytesRead
 IsFilling serving (Ok feed) h = IsFilled serving feed h
 IsFilling serving (Err (Stream Memory)) h = h.failures ≡ 0
 IsFilling serving (Err (Stream fault)) h = IsBrokenOff serving fault h
-IsFilling serving (Err (Foreign number)) h = IsForeign serving number h
+IsFilling serving (Err (Foreign foreign)) h = IsForeign serving foreign h
 
 -- It comes to nothing else, but where memory was refused.
 abbrev pub IsOneFilling : Serving → Result (List Window) InputFault → BytesRead → Type 0

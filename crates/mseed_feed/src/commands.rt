@@ -2,7 +2,7 @@
 ghost use Rattle.std.specs.Prelude.{◌≡◌};
 ghost use Rattle.mseed_stream.specs.Device.{BytesRead, nothing_read};
 ghost use Rattle.mseed_words.specs.FeedWords.{CanFetch, CanServe};
-ghost use Rattle.mseed_feed.specs.Commands.{HasFetchedRequested, HasServedInput};
+ghost use Rattle.mseed_feed.specs.Commands.{HasFetchedRequested, HasReadInput, HasServedInput};
 
 use crate::planning::{plan_fetch, plan_serve};
 use mseed_stream::{Sink, Source};
@@ -14,6 +14,8 @@ use std::time::Clock;
 /// Serves the records of an input over TCP, to one connection after another, once all of it is read, and returns the
 /// exit status: 0 where each of the connections was served to its end, and 2 otherwise, after a line on `errors` that
 /// says why. Nothing may have been read of the input before; it is dropped before the first connection is taken.
+// Its buffers stand in its own frame, and not in that of every command.
+#[inline(never)]
 pub fn serve<N: Net + Clock, R: Source + Drop, E: Sink>(
     host: &N,
     alloc: Global,
@@ -23,7 +25,7 @@ pub fn serve<N: Net + Clock, R: Source + Drop, E: Sink>(
 ) -> u8
     requires unread { R.read input ≡ nothing_read }
     requires called { CanServe serving.now }
-    ensures { (read : BytesRead)
+    ensures { (read : BytesRead) × HasReadInput (R.remaining input) (R.beside input) read
         × HasServedInput serving.now read result (E.written errors.old) (E.written errors.new) }
 {
     let planned = plan_serve(alloc, serving, &mut input, errors);
@@ -36,6 +38,8 @@ pub fn serve<N: Net + Clock, R: Source + Drop, E: Sink>(
 
 /// Fetches the records that are requested over TCP, writes each once it is whole, and returns the exit status: 0 where
 /// the server said that there are no more, and 2 otherwise, after a line on `errors` that says why.
+// Its buffers stand in its own frame, and not in that of every command.
+#[inline(never)]
 pub fn fetch<N: Net + Clock, W: Sink, E: Sink>(
     host: &N,
     fetching: &Fetching,

@@ -1,7 +1,8 @@
 //! Filling a feed with the records of an archive.
 ghost use Rattle.std.specs.Prelude.{◌≡◌, ◌^◌, ◌<◌, ◌+◌, ℕ, List, [], length, IfErr, IfOk, OnOk, Some, Ok, Err, Result};
-ghost use Rattle.std.specs.Prelude.{slice_get};
+ghost use Rattle.std.specs.Prelude.{None, slice_get};
 ghost use Rattle.mseed_record.specs.View.{View};
+ghost use Rattle.mseed_stream.specs.Calls.{ReadsOn};
 ghost use Rattle.mseed_stream.specs.Cutting.{IsAlong};
 ghost use Rattle.mseed_stream.specs.Device.{nothing_read};
 ghost use Rattle.mseed_stream.specs.declared.fault.StreamFault.{StreamFault};
@@ -41,7 +42,11 @@ pub(crate) fn fill<A: Allocator + Copy, R: Source>(
 ) -> Result<Feed<A>, InputFault>
     requires unread { R.read input.old ≡ nothing_read }
     requires called { CanServe serving.now }
-    ensures { IsFilling serving.now result (R.read input.new) }
+    ensures filled { IsFilling serving.now result (R.read input.new) }
+
+    // What the input is known to have left is what was read of it, up to its end where it is at its end.
+    ensures reads { ReadsOn (R.read input.old) (R.read input.new) (R.remaining input.old) (R.remaining input.new)
+        (R.beside input.old) (R.beside input.new) }
 {
     let mut feed = open(alloc, serving)?;
     let mut cutter = Cutter::new(alloc);
@@ -64,9 +69,11 @@ fn push_next<A: Allocator, R: Source>(
 ) -> Result<Step, InputFault>
     requires along { IsAlong (R.read input.old) cutter.old }
     requires room { (k : ℕ) (w : Window) → slice_get feed.old k ≡ Some w → w.next < 2 ^ 63 }
-    ensures { (serving : Serving) (views : List View) → CanServe serving
+    ensures pushed { (serving : Serving) (views : List View) → CanServe serving
         → HasFilled serving (R.read input.old) cutter.old feed.old views → number ≡ length views + 1
         → IsNextPushed serving result views (R.read input.old) (R.read input.new) cutter.new feed.new }
+    ensures reads { cutter.old.answer ≡ None → ReadsOn (R.read input.old) (R.read input.new) (R.remaining input.old)
+        (R.remaining input.new) (R.beside input.old) (R.beside input.new) }
 {
     if let Some(view) = cutter.peek(input) {
         let size = view.bytes().len();

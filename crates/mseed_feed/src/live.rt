@@ -1,67 +1,61 @@
 //! Serving the records of an input to many clients at once, while they come.
 ghost use Rattle.std.specs.Prelude.{◌≡◌, ◌⊎◌, [], List, IfOk, length, true};
-ghost use Rattle.slink_feed.specs.Intake.{places_of};
 ghost use Rattle.slink_feed.specs.Window.{Window};
+ghost use Rattle.slink_live.specs.Awake.{IsAwake};
 ghost use Rattle.slink_live.specs.Served.{IsFinished, IsServing, IsSound, ServerState};
 ghost use Rattle.mseed_words.specs.FeedWords.{CanServeLive};
 ghost use Rattle.mseed_feed.specs.Filling.{feed_of};
-ghost use Rattle.mseed_feed.specs.Live.{EndsWith, HasEnded, HasServed, HasServedTcp};
+ghost use Rattle.mseed_feed.specs.Listened.{IsListenedFor, IsPlanFor, NotYet};
+ghost use Rattle.mseed_feed.specs.Live.{EndsWith, HasServed, HasServedAt};
 
 use crate::filling::open;
+use crate::listening::{Device, Listen, Refusal};
 use crate::refusal::{link_failed, refuse_memory, report_filling};
 use mseed_stream::Sink;
 use mseed_words::LiveServing;
 use slink_links::{DONE, FAULT};
-use slink_live::{Ready, Server};
-use slink_live_tcp::{Plan, Tcp};
+use slink_live::Server;
+use slink_live_tcp::Plan;
 use std::alloc::{AllocError, Global};
-use std::io::{ErrorKind, Read};
-use std::net::{Ipv4Addr, Net, SocketAddr};
-use std::os::fd::AsRawFd;
-use std::time::Clock;
+use std::net::{IpAddr, Ipv4Addr, SocketAddr};
 
-/// An input and links of which it is known whether they failed all together.
-pub trait Device: Ready {
-    /// Whether nothing comes any more.
-    fn has_failed(&self) -> bool
-        ensures { result ≡ Self.has_failed self.now };
-}
-
-impl<C: Clock, I: Read + AsRawFd + Drop> Device for Tcp<'_, C, I> {
-    fn has_failed(&self) -> bool {
-        Tcp::has_failed(self)
-    }
-}
-
-/// Serves a feed over TCP to many clients at once, as the records of an input come, and returns the exit status, as
-/// [`serve_live`] does. A port that can't be had is as a link that failed.
-pub fn serve_live_tcp<N: Net + Clock, I: Read + AsRawFd + Drop, E: Sink>(
-    host: &N,
+/// Serves a feed to many clients at once, as the records of an input come, over the device that is had by listening at
+/// the address and the port that are requested. It is given back at last.
+///
+/// Returns the exit status, as [`serve_live`] does. A port that can't be had is as a link that failed.
+// Its buffers stand in its own frame, and not in that of every command.
+#[inline(never)]
+pub fn serve_live_at<L: Listen, E: Sink>(
     alloc: Global,
     live: &LiveServing,
-    input: I,
+    listening: &mut L,
     errors: &mut E,
 ) -> u8
-    requires { CanServeLive live.now }
-    ensures { HasServedTcp (feed_of live.now.serving []) result (E.written errors.old) (E.written errors.new) }
+    requires new { L.came listening.old ≡ NotYet }
+    requires called { CanServeLive live.now }
+    ensures served { HasServedAt (feed_of live.now.serving []) live.now.clients (L.came listening.new) result
+        (E.written errors.old) (E.written errors.new) }
+    ensures planned { IsListenedFor live.now (L.planned listening.new) }
 {
-    match Tcp::bind(host, alloc, links_of(live), input) {
+    match listening.listen(alloc, plan_of(live)) {
         Ok(mut device) => {
             let status = serve_live(alloc, live, &mut device, errors);
-            device.finish();
+            listening.hang_up(device);
             status
         }
-        Err(error) if error.kind() == ErrorKind::OutOfMemory => refuse_memory(errors),
-        Err(_) => link_failed(errors),
+        Err(Refusal::Memory) => refuse_memory(errors),
+        Err(Refusal::Port) => link_failed(errors),
     }
 }
 
 /// Where links are taken, how many stand at once, and how long a handshake may take and a link take nothing.
-fn links_of(live: &LiveServing) -> Plan {
+fn plan_of(live: &LiveServing) -> Plan
+    ensures { IsPlanFor live.now result }
+{
     let listener = &live.serving.listener;
-    let address = Ipv4Addr::from(listener.host.octets);
+    let address = Ipv4Addr::from_octets(listener.host.octets);
     Plan {
-        address: SocketAddr::from((address, listener.port)),
+        address: SocketAddr::new(IpAddr::V4(address), listener.port),
         clients: live.clients as usize,
         timeout: listener.timeout.limit(),
     }
@@ -81,7 +75,7 @@ pub fn serve_live<R: Device, E: Sink>(
 ) -> u8
     requires new { R.log ready.old ≡ [] }
     requires called { CanServeLive live.now }
-    ensures { HasServed (feed_of live.now.serving []) (R.has_failed ready.new) (R.log ready.new) result
+    ensures { HasServed (feed_of live.now.serving []) live.now.clients (R.has_failed ready.new) (R.log ready.new) result
         (E.written errors.old) (E.written errors.new) }
 {
     match server_of(alloc, live) {
@@ -99,6 +93,7 @@ fn server_of(alloc: Global, live: &LiveServing) -> Result<Server, AllocError>
     requires { CanServeLive live.now }
     ensures serving { IfOk result (λ server. IsServing (feed_of live.now.serving []) server []) }
     ensures sound { IfOk result IsSound }
+    ensures awake { IfOk result (λ server. IsAwake server []) }
     ensures clients { IfOk result (λ server. length server.links ≡ live.now.clients) }
 {
     match open(alloc, &live.serving) {
@@ -110,10 +105,9 @@ fn server_of(alloc: Global, live: &LiveServing) -> Result<Server, AllocError>
 /// Serves until nothing is left to do, or the device failed, and returns the exit status.
 fn serve_to_the_end<R: Device, E: Sink>(server: &mut Server, ready: &mut R, errors: &mut E) -> u8
     requires sound { IsSound server.old }
-    ensures serving { (start : List Window) → IsServing start server.old (R.log ready.old)
-        → IsServing start server.new (R.log ready.new) }
-    ensures ended { (start : List Window) → IsServing start server.old (R.log ready.old)
-        → HasEnded (places_of start) server.new (R.has_failed ready.new) (R.log ready.new) result
+    requires new { R.log ready.old ≡ [] }
+    ensures { (start : List Window) → IsServing start server.old [] → IsAwake server.old []
+        → HasServed start (length server.old.links) (R.has_failed ready.new) (R.log ready.new) result
         (E.written errors.old) (E.written errors.new) }
 {
     match server.serve(ready) {

@@ -1,10 +1,12 @@
 //! The plans of the two commands of a feed.
 ghost use Rattle.std.specs.Prelude.{◌≡◌};
+ghost use Rattle.mseed_stream.specs.Calls.{ReadsOn};
 ghost use Rattle.mseed_stream.specs.Device.{nothing_read};
 ghost use Rattle.mseed_words.specs.FeedWords.{CanFetch, CanServe};
 ghost use Rattle.mseed_feed.specs.Plans.{IsFetchPlan, IsServeRun, first_client};
 
 use crate::filling::fill;
+use crate::keeping::report_kept;
 use crate::law::one_filling;
 use crate::refusal::report_filling;
 use mseed_stream::{Sink, Source};
@@ -14,7 +16,8 @@ use slink_links::{FAULT, FetchPlan, ServePlan};
 use std::alloc::Allocator;
 
 /// Fills the feed that is to be served with the records of an input, of which nothing was read yet, and returns how it
-/// is served.
+/// is served. Of each station of which more records came than its ring keeps, in their order, `errors` takes a line
+/// that says how many of how many are kept.
 ///
 /// # Errors
 ///
@@ -28,17 +31,24 @@ pub fn plan_serve<A: Allocator + Copy, R: Source, E: Sink>(
 ) -> Result<ServePlan<A>, u8>
     requires unread { R.read input.old ≡ nothing_read }
     requires called { CanServe serving.now }
-    ensures { IsServeRun serving.now result (R.read input.new) (E.written errors.old) (E.written errors.new) }
+    ensures planned { IsServeRun serving.now result (R.read input.new) (E.written errors.old) (E.written errors.new) }
+
+    // What the input is known to have left is what was read of it, up to its end where it is at its end.
+    ensures reads { ReadsOn (R.read input.old) (R.read input.new) (R.remaining input.old) (R.remaining input.new)
+        (R.beside input.old) (R.beside input.new) }
 {
     one_filling();
     match fill(alloc, serving, input) {
-        Ok(feed) => Ok(ServePlan {
-            address: serving.listener.host,
-            port: serving.listener.port,
-            connections: serving.connections,
-            timeout: serving.listener.timeout,
-            feed,
-        }),
+        Ok(feed) => {
+            report_kept(&feed, serving, errors);
+            Ok(ServePlan {
+                address: serving.listener.host,
+                port: serving.listener.port,
+                connections: serving.connections,
+                timeout: serving.listener.timeout,
+                feed,
+            })
+        }
         Err(fault) => {
             report_filling(errors, &fault);
             Err(FAULT)

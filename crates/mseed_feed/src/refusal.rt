@@ -1,31 +1,109 @@
 //! The lines that say why a feed isn't filled, or that memory or a link failed. They are built without the heap: a line
 //! is reported whatever memory there is.
-ghost use Rattle.std.specs.Prelude.{◌≡◌, codes};
-ghost use Rattle.mseed_feed.specs.Plans.{fill_text};
+ghost use Rattle.std.specs.Prelude.{◌≡◌, ◌≤◌, ◌+◌, ◌++◌, codes, decimal, length};
+ghost use Rattle.mseed_record.specs.Header.{trimmed};
+ghost use Rattle.slink_feed.specs.Reporter.{AreReported};
+ghost use Rattle.mseed_feed.specs.Plans.{fill_lines, fill_text, more_lines, station_line};
 ghost use Rattle.mseed_input.specs.Files.{no_memory};
 ghost use Rattle.mseed_stream.specs.LineWritten.{WritesLine};
 
-use mseed_input::{report_fault, report_no_memory, report_number};
+use mseed_input::{report_fault, report_given, report_no_memory, report_number};
+use mseed_record::trimmed;
 use mseed_stream::{Sink, StreamFault, report};
-use slink_feed::InputFault;
+use mseed_text::Line;
+use slink_feed::{ForeignRecord, InputFault};
 use slink_links::FAULT;
 
-/// Reports why a feed isn't filled further.
+/// Reports why a feed isn't filled further, and what more is to be said of that.
 pub(crate) fn report_filling<E: Sink>(errors: &mut E, fault: &InputFault)
+    ensures { AreReported (fill_lines fault.now) (E.written errors.old) (E.written errors.new) }
+{
+    report_reason(errors, fault);
+    report_more(errors, fault);
+}
+
+/// Reports why a feed isn't filled further.
+fn report_reason<E: Sink>(errors: &mut E, fault: &InputFault)
     ensures { WritesLine (fill_text fault.now) (E.written errors.old) (E.written errors.new) }
 {
     match fault {
         InputFault::Stream(StreamFault::Memory) => report_no_memory(errors),
         InputFault::Stream(fault) => report_fault(errors, fault),
-        InputFault::Foreign(number) => {
+        InputFault::Foreign(foreign) => {
             report_number(
                 errors,
                 b"mseed: record ",
-                *number,
+                foreign.number,
                 b" is not of this feed\n",
             );
         }
     }
+}
+
+/// Reports what more is to be said of a fault of the input: of a record that isn't the feed's, whose it is.
+fn report_more<E: Sink>(errors: &mut E, fault: &InputFault)
+    ensures { AreReported (more_lines fault.now) (E.written errors.old) (E.written errors.new) }
+{
+    match fault {
+        InputFault::Stream(_) => {}
+        InputFault::Foreign(foreign) => report_station(errors, foreign),
+    }
+}
+
+/// Reports of which station a record is that isn't the feed's, and how many bytes it has.
+fn report_station<E: Sink>(errors: &mut E, foreign: &ForeignRecord)
+    ensures { WritesLine (station_line foreign.now) (E.written errors.old) (E.written errors.new) }
+{
+    report_given(
+        errors,
+        before_station(foreign.number).as_slice(),
+        station_of(&foreign.network, &foreign.station).as_slice(),
+        after_station(foreign.size).as_slice(),
+    );
+}
+
+/// What stands in that line before the station.
+fn before_station(number: u64) -> Line
+    ensures text { result ≡ codes "record " ++ decimal number ++ codes " is of " }
+    ensures most { length result ≤ 34 }
+{
+    let mut line = Line::new();
+    line.put(b"record ");
+    line.put_count(number);
+    line.put(b" is of ");
+    line
+}
+
+/// Network and station, without what fills their fields.
+fn station_of(network: &[u8; 2], station: &[u8; 5]) -> Line
+    ensures { result ≡ trimmed network.now ++ codes "_" ++ trimmed station.now }
+{
+    let mut line = Line::new();
+    put_trimmed(&mut line, network);
+    line.put(b"_");
+    put_trimmed(&mut line, station);
+    line
+}
+
+/// Puts a code at the end of a line, without what fills its field.
+fn put_trimmed(line: &mut Line, code: &[u8])
+    requires { length line.old + length code.now ≤ 256 }
+    ensures text { line.new ≡ line.old ++ trimmed code.now }
+    ensures most { length line.new ≤ length line.old + length code.now }
+{
+    line.put(trimmed(code));
+}
+
+/// What stands in that line after the station.
+fn after_station(size: usize) -> Line
+    ensures text { result ≡ codes ", and has " ++ decimal size ++ codes " bytes" }
+    ensures most { length result ≤ 36 }
+{
+    let mut line = Line::new();
+    line.put(b", and has ");
+    line.put_count(size as u64);
+    line.put(b" bytes");
+    line
 }
 
 /// Reports that memory was refused, and returns the exit status.

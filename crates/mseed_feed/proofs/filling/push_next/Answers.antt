@@ -7,11 +7,12 @@ use Rattle.mseed_stream.specs.Cutting.{IsAhead}
 use Rattle.mseed_stream.specs.Device.{BytesRead}
 use Rattle.mseed_stream.specs.Walk.{HasHandedOut}
 use Rattle.mseed_stream.specs.declared.fault.StreamFault.{StreamFault}
+use Rattle.mseed_stream.proofs.Calls.{reads_next, reads_whole}
 use Rattle.mseed_feed.proofs.Fills.{broken_off, handed_on, pushed_next}
 use Rattle.mseed_feed.proofs.filling.push_next.Goals as goal
 
-pub returns-in-Some : goal.returns-in-Some
-returns-in-Some g c = λ serving views can filled number.
+pub returns-in-Some-clause-pushed : goal.returns-in-Some-clause-pushed
+returns-in-Some-clause-pushed g c = λ serving views can filled number.
     let view : View = view_of c.in-Some.view in
     let lent : List ℕ = g.R.Source.lent c.args.input.now in
     let is = c.in-Some.ensures.record in
@@ -25,8 +26,8 @@ returns-in-Some g c = λ serving views can filled number.
     c.take_record-taken.ensures.of c.take_record-taken.ensures.pushed c.take_record-taken.ensures.foreign
     c.take_record-taken.ensures.fault c.answer.ensures.ok c.answer.ensures.err
 
-pub returns-in-Some-2 : goal.returns-in-Some-2
-returns-in-Some-2 g c = λ serving views can filled number.
+pub returns-in-Some-2-clause-pushed : goal.returns-in-Some-2-clause-pushed
+returns-in-Some-2-clause-pushed g c = λ serving views can filled number.
     let view : View = view_of c.in-Some-2.view in
     let read : BytesRead = g.R.Source.read c.next.new.source in
     let some = c.in-Some-2.is in
@@ -40,13 +41,13 @@ returns-in-Some-2 g c = λ serving views can filled number.
     number c.take_record.ensures.of c.take_record.ensures.pushed c.take_record.ensures.foreign
     c.take_record.ensures.fault c.answer-in-Some-2.ensures.ok c.answer-in-Some-2.ensures.err
 
-pub returns-in-None : goal.returns-in-None
-returns-in-None g c = λ serving views can filled number.
+pub returns-in-None-clause-pushed : goal.returns-in-None-clause-pushed
+returns-in-None-clause-pushed g c = λ serving views can filled number.
     let all = rw c.in-None.is at c.in_ok-view.ensures.all views filled.handed in
     record { views = views; all = all; each = filled.each; feed_is = filled.feed_is }
 
-pub returns-in_err-view : goal.returns-in_err-view
-returns-in_err-view g c = λ serving views can filled number.
+pub returns-in_err-view-clause-pushed : goal.returns-in_err-view-clause-pushed
+returns-in_err-view-clause-pushed g c = λ serving views can filled number.
     let read : BytesRead = g.R.Source.read c.next.new.source in
     let fault : StreamFault = c.in_err-view.field-0.0 in
     let failed = c.in_err-view.ensures.answer.failed filled.handed.goes_on in
@@ -65,3 +66,20 @@ take_record-requires g c = (search rules, c.requires.room)
 
 pub take_record-taken-requires : goal.take_record-taken-requires
 take_record-taken-requires g c = (search rules, c.requires.room)
+
+pub returns-in-Some-clause-reads : goal.returns-in-Some-clause-reads
+returns-in-Some-clause-reads g c = λ goes_on.
+    reads_whole (g.R.Source.read c.args.input.now) (g.R.Source.read c.pass.new.source) _ _ _ _ _
+    c.pass.ensures.reported c.pass.ensures.known c.pass.ensures.beside (c.requires.along.going_on goes_on)
+
+pub returns-in-Some-2-clause-reads : goal.returns-in-Some-2-clause-reads
+returns-in-Some-2-clause-reads g c = λ goes_on.
+    reads_next c.next.result c.args.cutter.now _ _ _ _ _ _ c.next.ensures.answer c.next.ensures.beside goes_on
+
+pub returns-in-None-clause-reads : goal.returns-in-None-clause-reads
+returns-in-None-clause-reads g c = λ goes_on.
+    reads_next c.next.result c.args.cutter.now _ _ _ _ _ _ c.next.ensures.answer c.next.ensures.beside goes_on
+
+pub returns-in_err-view-clause-reads : goal.returns-in_err-view-clause-reads
+returns-in_err-view-clause-reads g c = λ goes_on.
+    reads_next c.next.result c.args.cutter.now _ _ _ _ _ _ c.next.ensures.answer c.next.ensures.beside goes_on

@@ -1,11 +1,15 @@
-use Rattle.std.proofs.Common.{[]}
+use Rattle.std.proofs.Common.{ℕ, [], subst}
 use Rattle.mseed_feed.specs.Filling.{feed_of}
-use Rattle.mseed_feed.specs.Live.{served}
+use Rattle.mseed_feed.specs.Live.{HasServed, no_room}
 use Rattle.mseed_feed.proofs.live.serve_live.Goals as goal
 
 pub returns-in-Ok : goal.returns-in-Ok
 returns-in-Ok g c =
-    let feed = feed_of c.args.live.now.serving [] in
-    let from_new = rw (← c.requires.new) at c.in-Ok.ensures.serving in
-    served c.serve_to_the_end.new.server (c.serve_to_the_end.ensures.serving feed from_new)
-    (c.serve_to_the_end.ensures.ended feed from_new)
+    subst (λ (n : ℕ). HasServed (feed_of c.args.live.now.serving []) n
+    (g.R.Ready.has_failed c.serve_to_the_end.new.ready) (g.R.Ready.log c.serve_to_the_end.new.ready)
+    c.serve_to_the_end.result (g.E.Sink.written c.args.errors.now) (g.E.Sink.written c.serve_to_the_end.new.errors))
+    c.in-Ok.ensures.clients
+    (c.serve_to_the_end.ensures (feed_of c.args.live.now.serving []) c.in-Ok.ensures.serving c.in-Ok.ensures.awake)
+
+pub returns-in-Err : goal.returns-in-Err
+returns-in-Err g c = no_room c.requires.new c.refuse_memory.ensures.status c.refuse_memory.ensures.reported

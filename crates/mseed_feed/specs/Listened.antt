@@ -1,0 +1,53 @@
+-- Where a live server listens, and what comes of it.
+use Rattle.std.specs.Prelude.{◌≡◌, Bool, List, Option, Some, None, option_map}
+use Rattle.std.specs.Duration.{as_nanos}
+use Rattle.std.specs.Net.Addr.{ipv4_octets}
+use Rattle.std.specs.Net.Socket.{socket_ip, socket_port}
+use Rattle.std.specs.declared.net.ip_addr.IpAddr.TheVariants as Ip
+use Rattle.std.specs.declared.net.ipv4_addr.Ipv4Addr.{Ipv4Addr}
+use Rattle.slink_wire.specs.Hosts.{limit_in}
+use Rattle.slink_live.specs.Happening.{Happening}
+use Rattle.slink_live_tcp.specs.Happened.{happened}
+use Rattle.slink_live_tcp.specs.declared.tcp.Plan.{Plan}
+use Rattle.mseed_words.specs.declared.request.LiveServing.{LiveServing}
+use Rattle.mseed_feed.specs.declared.listening.Refusal.{Refusal}
+use Rattle.mseed_feed.specs.declared.listening.Outcome.{Outcome}
+use Rattle.mseed_feed.specs.declared.listening.Outcome.TheVariants as outcomes
+use Rattle.mseed_feed.specs.declared.listening.TcpListening.{TcpListening}
+
+-- It wasn't listened yet; or that was refused; or all of this happened at the device, and whether it failed.
+pub data Listened : Type 0 where
+  NotYet : Listened
+  Refused : (refusal : Refusal) → Listened
+  Over : (log : List Happening) (has_failed : Bool) → Listened
+
+-- what came of listening over TCP
+abbrev pub came_by : {N I : Type 0} → Outcome N I → Listened
+came_by outcomes.NotYet = NotYet
+came_by (outcomes.Refused refusal) = Refused refusal
+came_by (outcomes.Over device has_failed) = Over (happened device) has_failed
+
+abbrev pub came_of : {N I : Type 0} → TcpListening N I → Listened
+came_of l = came_by l.outcome
+
+-- Links are taken at the address and the port that were requested, as many at once, and with that time-out.
+pub record IsPlanFor (live : LiveServing) (plan : Plan) : Type 0 where
+  pub ip : Ipv4Addr
+  pub at_ip : socket_ip plan.address ≡ Ip.V4 ip
+  pub address : ipv4_octets ip ≡ live.serving.listener.host.octets
+  pub port : socket_port plan.address ≡ live.serving.listener.port
+  pub clients : plan.clients ≡ live.clients
+  pub timeout : option_map as_nanos plan.timeout ≡ limit_in live.serving.listener.timeout
+
+-- what is known of where links are taken: by what plan it was listened there, if it was, and what came of it
+pub record Heard : Type 0 where
+  pub planned : Option Plan
+  pub came : Listened
+
+abbrev pub heard : Option Plan → Listened → Heard
+heard planned came = record { planned = planned; came = came }
+
+-- The plan that was listened by is that.
+abbrev pub IsListenedFor : LiveServing → Option Plan → Type 0
+IsListenedFor live None = ⊥
+IsListenedFor live (Some plan) = IsPlanFor live plan
