@@ -1,5 +1,7 @@
 pub mod Asking
 pub mod Encodings
+mod ReadFiles
+mod FromArguments
 mod Lines
 mod Requests
 mod Done

@@ -6,7 +6,8 @@ use Rattle.mseed_stream.specs.Device.{BytesWritten}
 use Rattle.mseed_stream.specs.LineWritten.{WritesLine}
 use Rattle.mseed_words.specs.declared.request.Command.{Command}
 use Rattle.mseed_words.specs.declared.request.Request.{Request}
-use Rattle.mseed.specs.Done.{bad_value}
+use Rattle.mseed_words.specs.declared.mistake.Mistake.{Mistake}
+use Rattle.mseed.specs.Done.{ReportsMistake}
 use Rattle.mseed_input.specs.Files.{no_memory}
 
 -- it is the command that does this, with these records, of these files; no line was written
@@ -17,10 +18,10 @@ IsAsked request asked files (Ok command) old new =
     × (map (λ file. file.now) command.files.items ≡ files) × (new ≡ old)
 IsAsked request asked files (Err status) old new = ⊥
 
--- the words ask for nothing that there is
-abbrev pub HasRefusedRequest : Result Command ℕ → BytesWritten → BytesWritten → Type 0
-HasRefusedRequest (Ok command) old new = ⊥
-HasRefusedRequest (Err status) old new = (status ≡ 3) × WritesLine bad_value old new
+-- the words ask for nothing that there is, since something is wrong with what was given: a line more says what
+abbrev pub HasRefusedRequest : Mistake → List ℕ → Result Command ℕ → BytesWritten → BytesWritten → Type 0
+HasRefusedRequest mistake given (Ok command) old new = ⊥
+HasRefusedRequest mistake given (Err status) old new = (status ≡ 3) × ReportsMistake mistake given old new
 
 -- the words aren't those of a command line; the text on standard error is that of `clap`
 abbrev pub HasRefusedWords : Result Command ℕ → BytesWritten → BytesWritten → Type 0

@@ -9,7 +9,7 @@ use Rattle.mseed_input.specs.declared.blame.Blame.TheVariants as blames
 
 -- of parts that weren't joined: a bad line lies where it begins; a wrong number of parts lies nowhere
 abbrev pub join_blame : JoinsFault → Blame
-join_blame (joins.Line number offset) = blames.Fault offset
+join_blame (joins.Line number offset flaw) = blames.Fault offset
 join_blame (joins.Stream fault) = blame_of fault
 join_blame fault = blames.Nothing
 

@@ -1,11 +1,15 @@
 -- How a listing ends, or words for which nothing was done.
-use Rattle.std.specs.Prelude.{◌≡◌, ℕ, List, Option, Some, None, Result, Ok, Err, codes, string_bytes}
+use Rattle.std.specs.Prelude.{◌≡◌, ℕ, List, [], ◌∷◌, Option, Some, None, Result, Ok, Err, codes, string_bytes}
 use Rattle.mseed_stream.specs.Device.{BytesWritten}
 use Rattle.mseed_stream.specs.declared.fault.StreamFault.{StreamFault}
 use Rattle.mseed_stream.specs.LineWritten.{WritesLine}
 use Rattle.mseed_input.specs.Blame.{blame_by}
 use Rattle.mseed_input.specs.Files.{no_memory}
-use Rattle.mseed.specs.Outcome.{EndsBy, Report, with_line, without_line, write_failed}
+use Rattle.mseed_input.specs.Given.{given_line}
+use Rattle.mseed_input.specs.Texts.{StandsForItself}
+use Rattle.mseed.specs.Outcome.{EndsBy, Report, ReportsLines, with_line, without_line, write_failed}
+use Rattle.mseed_words.specs.Mistakes.{after_text, before_text}
+use Rattle.mseed_words.specs.declared.mistake.Mistake.{Mistake}
 use Rattle.mseed_input.specs.declared.blame.Blame.TheVariants.{Nothing}
 use Rattle.mseed.specs.declared.outcome.Ended.{Ended}
 use Rattle.mseed_show.specs.declared.fault.ShowFault.{ShowFault}
@@ -31,8 +35,20 @@ EndsShow outcome ended old new = EndsBy (show_report outcome) ended old new
 abbrev pub bad_value : List ℕ
 bad_value = codes "mseed: bad value\n"
 
--- why the words request nothing: the status, and the line, which is the text that the refusal has
+-- the line more, by what is wrong, and what was given: an option with its value, or a word
+abbrev pub mistake_line : Mistake → List ℕ → List ℕ
+mistake_line mistake given = given_line (before_text mistake) given (after_text mistake)
+
+-- both lines were written. What was given is reported as it was: a text that begins with a NUL stands for an argument
+-- that isn't text.
+pub record ReportsMistake (mistake : Mistake) (given : List ℕ) (old new : BytesWritten) : Type 0 where
+  pub argument : List ℕ
+  pub argument_is : StandsForItself given → argument ≡ given
+  pub reported : ReportsLines (bad_value ∷ mistake_line mistake argument ∷ []) old new
+
+-- why the words request nothing: the status, and the lines; the text of a command line that isn't one is that of the
+-- refusal
 abbrev pub EndsRefused : Refusal → ℕ → BytesWritten → BytesWritten → Type 0
 EndsRefused (Text text) status old new = (status ≡ 3) × WritesLine (string_bytes text) old new
-EndsRefused NoRequest status old new = (status ≡ 3) × WritesLine bad_value old new
+EndsRefused (NoRequest mistake given) status old new = (status ≡ 3) × ReportsMistake mistake given.now old new
 EndsRefused NoMemory status old new = (status ≡ 2) × WritesLine no_memory old new

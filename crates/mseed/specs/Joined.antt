@@ -2,6 +2,10 @@
 use Rattle.std.specs.Prelude.{ℕ, List, ◌++◌, nat_lt, if◌then◌else◌, Result, Ok, Err, codes, decimal}
 use Rattle.mseed_stream.specs.Device.{BytesWritten}
 use Rattle.mseed_text.specs.Fault.{fault_line}
+use Rattle.mseed_text.specs.Name.{name_text}
+use Rattle.mseed_join.specs.declared.flaw.Flaw.{Flaw}
+use Rattle.mseed_join.specs.declared.flaw.Flaw.TheVariants.{Beginning, Row, Order, Ending, Limit, Long, Unended}
+use Rattle.mseed_join.specs.declared.flaw.Flaw.TheVariants.{Missing}
 use Rattle.mseed_join.specs.declared.joining.Joined.{Joined}
 use Rattle.mseed_join.specs.declared.joining.JoinsFault.{JoinsFault}
 use Rattle.mseed_join.specs.declared.joining.JoinsFault.TheVariants.{Line, Count, Stream, Write, Memory}
@@ -15,9 +19,26 @@ use Rattle.mseed.specs.declared.outcome.Ended.{Ended}
 abbrev pub joined_status : Joined → ℕ
 joined_status joined = if joined.fault then 2 else if nat_lt 0 joined.broken then 1 else 0
 
--- the line of a fault
+-- what is wrong with a line of a part, and what would be right
+abbrev pub flaw_text : Flaw → List ℕ
+flaw_text Beginning = codes "no beginning of a part; that is mseed part 1"
+flaw_text Row = codes "neither a channel nor the counts; these are as records 2 bytes 256"
+flaw_text (Order key) = name_text key ++ codes " is out of order; channels ascend by their keys"
+flaw_text Ending =
+    codes "neither faults of this part nor the beginning of the next; that is mseed part 1"
+flaw_text Limit = codes "a sum passes 9223372036854775807, the most that a number can be"
+flaw_text Long = codes "no LF within 512 bytes; no line is longer"
+flaw_text Unended = codes "no LF at the end of the input; each line ends with one"
+flaw_text Missing = codes "the input ends within a part; the counts are missing, as records 2 bytes 256"
+
+-- the line of a bad line of a part, and one more, which says what is wrong with it
+abbrev pub bad_line_text : ℕ → Flaw → List ℕ
+bad_line_text number flaw =
+    codes "mseed: bad part at line " ++ decimal number ++ codes "\nmseed: " ++ flaw_text flaw ++ codes "\n"
+
+-- the line of a fault; of a bad line these two
 abbrev pub join_fault_text : JoinsFault → List ℕ
-join_fault_text (Line number offset) = codes "mseed: bad part at line " ++ decimal number ++ codes "\n"
+join_fault_text (Line number offset flaw) = bad_line_text number flaw
 join_fault_text (Count parts expected) =
     codes "mseed: " ++ decimal parts ++ codes " parts, not " ++ decimal expected ++ codes "\n"
 join_fault_text (Stream fault) = codes "mseed: " ++ fault_line fault

@@ -5,7 +5,7 @@ use Rattle.mseed_text.specs.Name.{name_text}
 use Rattle.mseed_text.specs.Fault.{fault_line}
 use Rattle.mseed_pack.specs.declared.fault.PackFault.{PackFault}
 use Rattle.mseed_pack.specs.declared.options.Options.{Options}
-use Rattle.mseed_repack.specs.ByStretches.{broken_line, misfit_number}
+use Rattle.mseed_repack.specs.ByStretches.{broken_text, misfit_number}
 use Rattle.mseed_words.specs.declared.request.Packing.{Packing}
 use Rattle.mseed_repack.specs.declared.fault.RepackFault.{RepackFault}
 use Rattle.mseed_repack.specs.declared.fault.RepackFault.TheVariants.{Stream, Broken, Misfit, Write, Memory}
@@ -20,17 +20,17 @@ abbrev pub misfit_text : List ℕ → PackFault → List ℕ
 misfit_text key fault =
     codes "mseed: " ++ name_text key ++ codes " does not fit " ++ decimal (misfit_number fault) ++ codes "\n"
 
--- the line of a fault
+-- the line of a fault; of a broken channel one more, with its first finding
 abbrev pub refusal_text : RepackFault → List ℕ
 refusal_text (Stream fault) = codes "mseed: " ++ fault_line fault
-refusal_text (Broken key) = broken_line key
+refusal_text (Broken key first) = broken_text key first
 refusal_text (Misfit key number fault) = misfit_text key fault
 refusal_text Write = write_failed
 refusal_text Memory = no_memory
 
 -- its exit status
 abbrev pub refusal_status : RepackFault → ℕ
-refusal_status (Broken key) = 1
+refusal_status (Broken key first) = 1
 refusal_status fault = 2
 
 -- with no line where all was packed

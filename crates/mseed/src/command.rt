@@ -4,13 +4,15 @@ ghost use Rattle.mseed_input.specs.Files.{no_memory};
 ghost use Rattle.mseed_join.specs.declared.joining.Form.{Form};
 ghost use Rattle.mseed_select.specs.Selecting.{selection_of};
 ghost use Rattle.mseed_choice.specs.Selection.{Selection};
+ghost use Rattle.mseed_stream.specs.Calls.{ReadsOn};
 ghost use Rattle.mseed_stream.specs.Device.{nothing_read};
 ghost use Rattle.mseed_stream.specs.LineWritten.{WritesLine};
 ghost use Rattle.mseed_words.specs.Files.{takes_files};
 ghost use Rattle.mseed_words.specs.Words.{AreRefused, AsksFor, AsksForNothing, CanBeCalled};
+ghost use Rattle.mseed_words.specs.declared.mistake.Mistake.{Mistake};
 ghost use Rattle.mseed_words.specs.declared.request.Request.{Request};
 ghost use Rattle.mseed.specs.Asked.{HasRefusedRequest, HasRefusedWords, IsAsked, UnlessMemoryLacks};
-ghost use Rattle.mseed.specs.Done.{EndsRefused};
+ghost use Rattle.mseed.specs.Done.{EndsRefused, ReportsMistake};
 ghost use Rattle.mseed.specs.Outcome.{write_failed};
 ghost use Rattle.mseed.specs.Repacked.{AreOptionsOf};
 ghost use Rattle.mseed.specs.Run.{HasCarriedOut, HasJoined};
@@ -23,29 +25,31 @@ use crate::ending::{
 };
 use crate::outcome::{BAD_COMMAND, Ended};
 use mseed_audit::{audit, audit_each, audit_each_selected, audit_selected};
-use mseed_input::report_no_memory;
+use mseed_input::{report_given, report_no_memory, word_of};
 use mseed_join::{Form, audit_part, audit_part_each, join, join_each};
 use mseed_pack::Options;
 use mseed_repack::{repack, repack_selected, repack_selected_stretches, repack_stretches};
 use mseed_select::{Selector, select};
 use mseed_show::{show, show_selected};
 use mseed_stream::{Sink, Source, report};
-use mseed_words::{Command, Joining, Packing, Refusal, Request};
+use mseed_words::{Command, Joining, Mistake, Packing, Refusal, Request};
 use slink_links::FAULT;
 use std::alloc::{Allocator, Global};
 
 /// Reads the arguments of the command line, and returns the command that they request: what it does, with which
-/// records, and of which files. Where they request nothing, a line on `errors` says why. The input and the output are
-/// lent so that a contract can say that they are left alone until the arguments are understood.
+/// records, and of which files. `words` are the texts that stand for `arguments`, which are as they were given. Where
+/// they request nothing, `errors` takes why. The input and the output are lent so that a contract can say that they are
+/// left alone until the arguments are understood.
 ///
 /// # Errors
 ///
-/// The exit status, after the line on `errors`: 3 where the arguments aren't those of a command line (the line is the
-/// text of the parser, which is also the help and the version) or request nothing that there is, and 2 where there was
-/// no memory for them.
+/// The exit status, after what `errors` takes: 3 where the arguments aren't those of a command line (the text of the
+/// parser, which is also the help and the version) or request nothing that there is (`bad value`, and a line that says
+/// what is wrong with what was given, and what would be right), and 2 where there was no memory for them.
 #[tactic(auto, using(crate::proofs::Asking::asked_is))]
 pub fn command_of<'a, R: Source, W: Sink, E: Sink>(
     alloc: Global,
+    arguments: &[Vec<u8>],
     words: &'a [&'a str],
     input: &mut R,
     output: &mut W,
@@ -54,8 +58,9 @@ pub fn command_of<'a, R: Source, W: Sink, E: Sink>(
     ensures called { (request : Request) (asked : Option Selection) (files : List (List ℕ))
         → AsksFor (map (λ word. word.now) words.entry.now) request asked files
         → UnlessMemoryLacks (IsAsked request asked files) result (E.written errors.old) (E.written errors.new) }
-    ensures bad { AsksForNothing (map (λ word. word.now) words.entry.now)
-        → UnlessMemoryLacks HasRefusedRequest result (E.written errors.old) (E.written errors.new) }
+    ensures bad { (mistake : Mistake) (given : List ℕ)
+        → AsksForNothing (map (λ word. word.now) words.entry.now) mistake given
+        → UnlessMemoryLacks (HasRefusedRequest mistake given) result (E.written errors.old) (E.written errors.new) }
     ensures refused { AreRefused (map (λ word. word.now) words.entry.now)
         → UnlessMemoryLacks HasRefusedWords result (E.written errors.old) (E.written errors.new) }
     ensures range { IfOk result (λ command. CanBeCalled command.request) }
@@ -65,7 +70,7 @@ pub fn command_of<'a, R: Source, W: Sink, E: Sink>(
 {
     match mseed_words::read(alloc, words) {
         Ok(command) => Ok(command),
-        Err(refusal) => Err(refuse(errors, &refusal)),
+        Err(refusal) => Err(refuse(errors, &refusal, arguments)),
     }
 }
 
@@ -98,6 +103,10 @@ pub fn run<A: Allocator + Copy, R: Source, W: Sink, E: Sink>(
     ensures called { HasCarriedOut command.now.request (option_map selection_of command.now.selector) result
         (streams (R.read input.old) (W.written output.old) (E.written errors.old))
         (streams (R.read input.new) (W.written output.new) (E.written errors.new)) }
+
+    // What the input is known to have left is what was read of it, up to its end where it is at its end.
+    ensures reads { ReadsOn (R.read input.old) (R.read input.new) (R.remaining input.old) (R.remaining input.new)
+        (R.beside input.old) (R.beside input.new) }
 {
     match &command.selector {
         None => run_over_all(alloc, &command.request, input, output, errors),
@@ -121,6 +130,10 @@ fn run_over_all<A: Allocator + Copy, R: Source, W: Sink, E: Sink>(
     ensures called { HasCarriedOut request.now None result
         (streams (R.read input.old) (W.written output.old) (E.written errors.old))
         (streams (R.read input.new) (W.written output.new) (E.written errors.new)) }
+
+    // What the input is known to have left is what was read of it, up to its end where it is at its end.
+    ensures reads { ReadsOn (R.read input.old) (R.read input.new) (R.remaining input.old) (R.remaining input.new)
+        (R.beside input.old) (R.beside input.new) }
 {
     match request {
         Request::Audit => audited(audit(alloc, input, output), errors),
@@ -164,6 +177,10 @@ fn run_over_some<A: Allocator + Copy, R: Source, W: Sink, E: Sink>(
     ensures called { HasCarriedOut request.now (Some (selection_of selector.now)) result
         (streams (R.read input.old) (W.written output.old) (E.written errors.old))
         (streams (R.read input.new) (W.written output.new) (E.written errors.new)) }
+
+    // What the input is known to have left is what was read of it, up to its end where it is at its end.
+    ensures reads { ReadsOn (R.read input.old) (R.read input.new) (R.remaining input.old) (R.remaining input.new)
+        (R.beside input.old) (R.beside input.new) }
 {
     match request {
         Request::Audit => {
@@ -215,9 +232,11 @@ fn joined_as<A: Allocator + Copy, R: Source, W: Sink, E: Sink>(
     errors: &mut E,
 ) -> Ended
     requires { R.read input.old ≡ nothing_read }
-    ensures { HasJoined form by result
+    ensures joined { HasJoined form by result
         (streams (R.read input.old) (W.written output.old) (E.written errors.old))
         (streams (R.read input.new) (W.written output.new) (E.written errors.new)) }
+    ensures reads { ReadsOn (R.read input.old) (R.read input.new) (R.remaining input.old) (R.remaining input.new)
+        (R.beside input.old) (R.beside input.new) }
 {
     let outcome = join(
         alloc,
@@ -252,14 +271,33 @@ pub fn write_failed<E: Sink>(errors: &mut E) -> u8
 }
 
 /// Reports why the arguments of the command line request nothing, and returns the exit status.
-fn refuse<E: Sink>(errors: &mut E, refusal: &Refusal) -> u8
+fn refuse<E: Sink>(errors: &mut E, refusal: &Refusal<'_>, arguments: &[Vec<u8>]) -> u8
     ensures { EndsRefused refusal.now result (E.written errors.old) (E.written errors.new) }
 {
     match refusal {
         Refusal::Text(text) => refuse_line(errors, text.as_bytes()),
-        Refusal::NoRequest => refuse_line(errors, b"mseed: bad value\n"),
+        Refusal::NoRequest(mistake, given) => { refuse_mistake(errors, *mistake, given, arguments) }
         Refusal::Memory => refuse_memory(errors),
     }
+}
+
+/// Reports that the arguments of the command line request nothing that there is, what is wrong with what was given, and
+/// what would be right, and returns the exit status.
+fn refuse_mistake<'a, E: Sink>(
+    errors: &mut E,
+    mistake: Mistake,
+    given: &'a str,
+    arguments: &'a [Vec<u8>],
+) -> u8
+    ensures status { result ≡ 3 }
+    ensures reported { ReportsMistake mistake given.entry.now (E.written errors.old) (E.written errors.new) }
+{
+    report(errors, b"mseed: bad value\n");
+    let argument = word_of(given, arguments);
+    let head = mistake.before();
+    let tail = mistake.after();
+    report_given(errors, head.as_bytes(), argument, tail.as_bytes());
+    BAD_COMMAND
 }
 
 /// Reports a bad command line, and returns the exit status.

@@ -1,58 +1,129 @@
 //! From the arguments of the command line to their effect.
-ghost use Rattle.std.specs.Prelude.{◌≡◌, ℕ, IfErr, IfOk, List, map, Option, option_map};
+ghost use Rattle.std.specs.Prelude.{◌≡◌, ℕ, IfErr, IfOk, IfSome, List, map, Option, option_map, string_bytes};
+ghost use Rattle.mseed_input.specs.Texts.{AreTextsOf};
 ghost use Rattle.mseed_select.specs.Selecting.{selection_of};
 ghost use Rattle.mseed_choice.specs.Selection.{Selection};
+ghost use Rattle.mseed_feed.specs.Listened.{NotYet, heard};
 ghost use Rattle.mseed_stream.specs.Device.{BytesRead, nothing_read};
 ghost use Rattle.mseed_words.specs.Words.{AreRefused, AsksFor, AsksForNothing, CanBeCalled};
+ghost use Rattle.mseed_words.specs.declared.mistake.Mistake.{Mistake};
 ghost use Rattle.mseed_words.specs.declared.request.Request.{Request};
 ghost use Rattle.mseed.specs.Asked.{HasRefusedRequest, HasRefusedWords, UnlessMemoryLacks};
-ghost use Rattle.mseed.specs.Effect.{HasDone, HasEffect, IsRefusedBy};
+ghost use Rattle.mseed.specs.Effect.{HasComeTo, HasDone, HasEffect, IsRefusedBy};
 ghost use Rattle.mseed.specs.Streams.{streams};
 
 use crate::command::command_of;
 use crate::files::{ROOM, run_over_named};
-use mseed_feed::{fetch, serve, serve_live_tcp};
-use mseed_stream::{Buffered, Counted, Sink};
+use mseed_feed::{Listen, fetch, serve, serve_live_at};
+use mseed_files::{Arguments, Chain, Files, STANDARD_INPUT, words_of};
+use mseed_input::texts_of;
+use mseed_stream::{Counted, Sink};
 use mseed_words::{Command, Request};
+use std::alloc::{AllocError, Global};
 use std::io;
-use std::io::BufReader;
+
+/// Does what the arguments of the command line request, as they are given, and returns the exit status.
+///
+/// The contract is that of [`carry_out`], for the texts that stand for the arguments.
+///
+/// # Errors
+///
+/// `OutOfMemory` where there is no room for the arguments, a buffer or names of files. Nothing was read or written
+/// then.
+pub fn carry_out_arguments<G: Arguments, F: Files, L: Listen, W: Sink, E: Sink>(
+    rt: &HostRuntime,
+    arguments: &G,
+    files: &mut F,
+    listening: &mut L,
+    output: &mut W,
+    errors: &mut E,
+) -> io::Result<u8>
+    requires { L.came listening.old ≡ NotYet }
+    ensures effect { IfOk result (λ status. IfSome (G.given arguments.now) (λ given.
+        (texts : List (List ℕ)) × AreTextsOf given texts
+        × HasComeTo (F.found files.old) given texts status files.old files.new listening.old listening.new
+        (W.written output.old) (W.written output.new) (E.written errors.old) (E.written errors.new)
+        (heard (L.planned listening.old) (L.came listening.old))
+        (heard (L.planned listening.new) (L.came listening.new)))) }
+    ensures unwritten { IfErr result (λ _. W.written output.new ≡ W.written output.old) }
+    ensures unreported { IfErr result (λ _. E.written errors.new ≡ E.written errors.old) }
+    ensures unserved { IfErr result (λ _. listening.new ≡ listening.old) }
+{
+    let words = words_of(rt.alloc(), arguments)?;
+    let texts = texts_of(rt.alloc(), &words)?;
+    let lent = lend(rt.alloc(), &texts)?;
+    carry_out(rt, files, listening, &words, &lent, output, errors)
+}
+
+/// The texts, lent.
+///
+/// # Errors
+///
+/// Where there was no room for them.
+fn lend<'a>(alloc: Global, texts: &'a [String]) -> Result<Vec<&'a str>, AllocError>
+    ensures { IfOk result (λ lent. map (λ text. text.now) lent.items
+        ≡ map (λ text. string_bytes text) texts.entry.now) }
+{
+    let mut lent = Vec::new(alloc);
+    for text in texts {
+        lent.push(text.as_str())?;
+    }
+    Ok(lent)
+}
 
 /// Does what the arguments of the command line request, and returns the exit status. `words` are the arguments as
 /// they were given, and `texts` the texts that stand for them. A buffer for an input is made once it is known that one
 /// is read.
 ///
-/// What the system gives is no part of the contract: of an input it says that what was written is what the request
-/// makes of some bytes that were read.
+/// The contract holds over any standard input and any files, as `files` gives them: what was read is a beginning of
+/// their bytes, in the order of the words and each once, and all of them where the input is at its end. Of arguments
+/// that request nothing no file is opened or read. It holds wherever `listening` takes links, at which nobody listens
+/// yet: `serve --live` listens there, by the plan that is requested, and what it comes to is by all that happened
+/// there; whatever else is requested, it is left alone.
 ///
 /// # Errors
 ///
 /// `OutOfMemory` where there is no room for a buffer or for names of files. Nothing was read or written then.
-pub fn carry_out<W: Sink, E: Sink>(
+pub fn carry_out<F: Files, L: Listen, W: Sink, E: Sink>(
     rt: &HostRuntime,
+    files: &mut F,
+    listening: &mut L,
     words: &[Vec<u8>],
     texts: &[&str],
     output: &mut W,
     errors: &mut E,
 ) -> io::Result<u8>
-    ensures called { (request : Request) (asked : Option Selection) (files : List (List ℕ))
-        → AsksFor (map (λ text. text.now) texts.now) request asked files
-        → IfOk result (λ status. (read : BytesRead) × HasEffect request asked files status
+    requires { L.came listening.old ≡ NotYet }
+    ensures called { (request : Request) (asked : Option Selection) (named : List (List ℕ))
+        → AsksFor (map (λ text. text.now) texts.now) request asked named
+        → IfOk result (λ status. (read : BytesRead) × HasEffect (F.found files.old)
+        (map (λ word. word.items) words.now) request asked named status
         (streams nothing_read (W.written output.old) (E.written errors.old))
-        (streams read (W.written output.new) (E.written errors.new))) }
-    ensures bad { AsksForNothing (map (λ text. text.now) texts.now)
-        → IfOk result (λ status. IsRefusedBy (UnlessMemoryLacks HasRefusedRequest) status
+        (streams read (W.written output.new) (E.written errors.new))
+        (heard (L.planned listening.old) (L.came listening.old))
+        (heard (L.planned listening.new) (L.came listening.new))) }
+    ensures bad { (mistake : Mistake) (given : List ℕ)
+        → AsksForNothing (map (λ text. text.now) texts.now) mistake given
+        → IfOk result (λ status. IsRefusedBy (UnlessMemoryLacks (HasRefusedRequest mistake given)) status
         (streams nothing_read (W.written output.old) (E.written errors.old))
         (streams nothing_read (W.written output.new) (E.written errors.new))) }
     ensures refused { AreRefused (map (λ text. text.now) texts.now)
         → IfOk result (λ status. IsRefusedBy (UnlessMemoryLacks HasRefusedWords) status
         (streams nothing_read (W.written output.old) (E.written errors.old))
         (streams nothing_read (W.written output.new) (E.written errors.new))) }
+    ensures unopened { ((mistake : Mistake) (given : List ℕ)
+        → AsksForNothing (map (λ text. text.now) texts.now) mistake given → files.new ≡ files.old)
+        × (AreRefused (map (λ text. text.now) texts.now) → files.new ≡ files.old) }
+    ensures unlistened { ((mistake : Mistake) (given : List ℕ)
+        → AsksForNothing (map (λ text. text.now) texts.now) mistake given → listening.new ≡ listening.old)
+        × (AreRefused (map (λ text. text.now) texts.now) → listening.new ≡ listening.old) }
     ensures unwritten { IfErr result (λ _. W.written output.new ≡ W.written output.old) }
     ensures unreported { IfErr result (λ _. E.written errors.new ≡ E.written errors.old) }
+    ensures unserved { IfErr result (λ _. listening.new ≡ listening.old) }
 {
     let mut input = Counted::new(rt.reader());
-    match command_of(rt.alloc(), texts, &mut input, output, errors) {
-        Ok(command) => execute(rt, &command, words, output, errors),
+    match command_of(rt.alloc(), words, texts, &mut input, output, errors) {
+        Ok(command) => execute(rt, files, listening, &command, words, output, errors),
         Err(status) => Ok(status),
     }
 }
@@ -62,29 +133,36 @@ pub fn carry_out<W: Sink, E: Sink>(
 /// # Errors
 ///
 /// `OutOfMemory` where there is no room for a buffer or for names of files. Nothing was read or written then.
-fn execute<W: Sink, E: Sink>(
+fn execute<F: Files, L: Listen, W: Sink, E: Sink>(
     rt: &HostRuntime,
+    files: &mut F,
+    listening: &mut L,
     command: &Command<'_>,
     words: &[Vec<u8>],
     output: &mut W,
     errors: &mut E,
 ) -> io::Result<u8>
-    requires { CanBeCalled command.now.request }
+    requires new { L.came listening.old ≡ NotYet }
+    requires called { CanBeCalled command.now.request }
     ensures done { IfOk result (λ status. (read : BytesRead)
-        × HasDone command.now.request (option_map selection_of command.now.selector)
-        (map (λ file. file.now) command.now.files.items) status
+        × HasDone (F.found files.old) (map (λ word. word.items) words.now) command.now.request
+        (option_map selection_of command.now.selector) (map (λ file. file.now) command.now.files.items) status
         (streams nothing_read (W.written output.old) (E.written errors.old))
-        (streams read (W.written output.new) (E.written errors.new))) }
+        (streams read (W.written output.new) (E.written errors.new))
+        (heard (L.planned listening.old) (L.came listening.old))
+        (heard (L.planned listening.new) (L.came listening.new))) }
     ensures unwritten { IfErr result (λ _. W.written output.new ≡ W.written output.old) }
     ensures unreported { IfErr result (λ _. E.written errors.new ≡ E.written errors.old) }
+    ensures unserved { IfErr result (λ _. listening.new ≡ listening.old) }
 {
     match &command.request {
         Request::Serve(serving) => {
-            let input = Buffered::new(BufReader::with_capacity(rt.alloc(), ROOM, rt.reader())?);
+            let names = [STANDARD_INPUT];
+            let input = Chain::new(rt.alloc(), files, &names, ROOM)?;
             Ok(serve(rt, rt.alloc(), serving, input, errors))
         }
-        Request::Live(live) => Ok(serve_live_tcp(rt, rt.alloc(), live, rt.stdin(), errors)),
+        Request::Live(live) => Ok(serve_live_at(rt.alloc(), live, listening, errors)),
         Request::Fetch(fetching) => Ok(fetch(rt, fetching, output, errors)),
-        _ => run_over_named(rt, command, words, output, errors),
+        _ => Ok(run_over_named(rt.alloc(), files, command, words, output, errors)?),
     }
 }

@@ -4,101 +4,119 @@ ghost use Rattle.mseed_select.specs.Selecting.{selection_of};
 ghost use Rattle.mseed_stream.specs.Device.{BytesRead, nothing_read};
 ghost use Rattle.mseed_words.specs.Files.{takes_files};
 ghost use Rattle.mseed_words.specs.Words.{CanBeCalled};
-ghost use Rattle.mseed.specs.Effect.{HasRun};
+ghost use Rattle.mseed.specs.Effect.{AreFilesOf, HasRun, HasRunOver};
 ghost use Rattle.mseed.specs.Streams.{streams};
 
 use crate::command::run;
-use mseed_files::{Chain, Named, find_unreadable};
-use mseed_input::{Watched, report_blame, report_unreadable, word_of};
-use mseed_stream::{Buffered, Sink};
-use mseed_words::{Command, Request};
+use mseed_files::{Chain, Files, STANDARD_INPUT, find_unreadable};
+use mseed_input::{Watched, report_blame, report_reason, report_unreadable, word_of};
+use mseed_stream::Sink;
+use mseed_words::Command;
 use slink_links::FAULT;
-use std::io;
-use std::io::BufReader;
+use std::alloc::{AllocError, Global};
 
 /// The number of bytes of the input that are read at once: whole records of up to 4,096 bytes, and less than the
 /// 128 KiB for which the C library maps pages apart.
 pub const ROOM: usize = 31 << 12;
 
 /// Carries out a command over the files that it names, of these arguments, or over standard input where it names none,
-/// and returns the exit status.
+/// and returns the exit status. The files are looked at first; where one can't be read, the first of them is reported,
+/// and nothing is done then.
 ///
 /// # Errors
 ///
-/// `OutOfMemory` where there is no room for the names or a buffer. Nothing was read or written then.
-pub fn run_over_named<W: Sink, E: Sink>(
-    rt: &HostRuntime,
+/// Where there is no room for the names or a buffer. Nothing was read or written then.
+pub fn run_over_named<F: Files, W: Sink, E: Sink>(
+    alloc: Global,
+    files: &mut F,
     command: &Command<'_>,
     words: &[Vec<u8>],
     output: &mut W,
     errors: &mut E,
-) -> io::Result<u8>
+) -> Result<u8, AllocError>
     requires called { CanBeCalled command.now.request }
     requires reads { takes_files command.now.request ≡ true }
     ensures ok { IfOk result (λ status. (read : BytesRead)
-        × HasRun command.now.request (option_map selection_of command.now.selector)
+        × HasRun (F.found files.old) (map (λ word. word.items) words.now) command.now.request
+        (option_map selection_of command.now.selector)
         (map (λ file. file.now) command.now.files.items) status
         (streams nothing_read (W.written output.old) (E.written errors.old))
         (streams read (W.written output.new) (E.written errors.new))) }
     ensures unwritten { IfErr result (λ _. W.written output.new ≡ W.written output.old) }
     ensures unreported { IfErr result (λ _. E.written errors.new ≡ E.written errors.old) }
 {
-    if !command.files.is_empty() {
-        return run_over_files(rt, command, words, output, errors);
+    let are_named = !command.files.is_empty();
+    let names = names_of(alloc, &command.files, words)?;
+    match find_unreadable(files, &names) {
+        Some((index, reason)) => {
+            report_unreadable(alloc, errors, names[index], reason);
+            Ok(FAULT)
+        }
+        None => run_over_files(alloc, files, command, &names, are_named, output, errors),
     }
-    let mut input = Buffered::new(BufReader::with_capacity(rt.alloc(), ROOM, rt.reader())?);
-    Ok(run(rt.alloc(), command, &mut input, output, errors).status)
 }
 
-/// Carries out a command over the files that it names, of these arguments, and returns the exit status. The files are
-/// looked at first; one that can't be read is reported, and nothing is done then. What is wrong with the input is
-/// reported last, of the file in which it lies.
+/// The words that texts stand for, of these arguments; the word for standard input where there are none.
 ///
 /// # Errors
 ///
-/// `OutOfMemory` where there is no room for the names or a buffer. Nothing was read or written then.
-fn run_over_files<W: Sink, E: Sink>(
-    rt: &HostRuntime,
+/// Where there is no room for them.
+fn names_of<'a>(
+    alloc: Global,
+    texts: &'a [&'a str],
+    words: &'a [Vec<u8>],
+) -> Result<Vec<&'a [u8]>, AllocError>
+    ensures { IfOk result (λ names. AreFilesOf (map (λ word. word.items) words.entry.now)
+        (map (λ text. text.now) texts.entry.now) (map (λ name. name.now) names.items)) }
+{
+    let mut names = Vec::new(alloc);
+    if texts.is_empty() {
+        names.push(STANDARD_INPUT)?;
+        return Ok(names);
+    }
+    for text in texts {
+        names.push(word_of(text, words))?;
+    }
+    Ok(names)
+}
+
+/// Carries out a command over files, which can be read as far as is known, and returns the exit status. Where they are
+/// named, what is wrong with the input is reported last, of the file in which it lies; where they aren't, why a read
+/// failed.
+///
+/// # Errors
+///
+/// Where there is no room for a buffer. Nothing was read or written then.
+fn run_over_files<'a, F: Files, W: Sink, E: Sink>(
+    alloc: Global,
+    files: &'a mut F,
     command: &Command<'_>,
-    words: &[Vec<u8>],
+    names: &'a [&'a [u8]],
+    are_named: bool,
     output: &mut W,
     errors: &mut E,
-) -> io::Result<u8>
+) -> Result<u8, AllocError>
     requires called { CanBeCalled command.now.request }
     requires reads { takes_files command.now.request ≡ true }
     ensures ok { IfOk result (λ status. (read : BytesRead)
-        × HasRun command.now.request (option_map selection_of command.now.selector)
-        (map (λ file. file.now) command.now.files.items) status
+        × HasRunOver (F.found files.old) command.now.request (option_map selection_of command.now.selector)
+        names.entry.now are_named status
         (streams nothing_read (W.written output.old) (E.written errors.old))
         (streams read (W.written output.new) (E.written errors.new))) }
     ensures unwritten { IfErr result (λ _. W.written output.new ≡ W.written output.old) }
     ensures unreported { IfErr result (λ _. E.written errors.new ≡ E.written errors.old) }
 {
-    let mut names = Vec::new(rt.alloc());
-    for file in &command.files {
-        names.push(word_of(file, words))?;
+    let chain = match Chain::new(alloc, files, names, ROOM) {
+        Ok(chain) => chain,
+        Err(error) => return Err(error),
+    };
+    let mut input = Watched::new(chain);
+    let ended = run(alloc, command, &mut input, output, errors);
+    if are_named {
+        report_blame(alloc, errors, names, &input, ended.blame);
+    } else {
+        report_reason(errors, &input, ended.blame);
     }
-    if let Some(index) = find_unreadable(rt, &names)
-        && let Some(name) = names.get(index)
-    {
-        report_unreadable(rt.alloc(), errors, name);
-        return Ok(FAULT);
-    }
-    let mut chain = Chain::new(rt.alloc(), Named { words: &names })?;
-    let reader = BufReader::with_capacity(rt.alloc(), ROOM, &mut chain)?;
-    let is_archive = reads_archive(&command.request);
-    let mut input = Watched::new(rt.alloc(), Buffered::new(reader), is_archive);
-    let ended = run(rt.alloc(), command, &mut input, output, errors);
-    let last = input.last_size();
     drop(input);
-    report_blame(rt.alloc(), errors, &names, &chain, ended.blame, last);
     Ok(ended.status)
-}
-
-/// Whether what is requested reads an archive: joining reads parts, in which no record lies.
-fn reads_archive(request: &Request) -> bool {
-    !matches!(
-        request,
-        Request::Join(_) | Request::JoinEach(_) | Request::JoinPart(_)
-    )
 }

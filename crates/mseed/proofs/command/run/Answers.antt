@@ -1,7 +1,7 @@
 use Rattle.mseed.proofs.command.run.Goals as goal
 
-pub returns-in-None : goal.returns-in-None
-returns-in-None g c = rw c.in-None.is (record { called = c.run_over_all.ensures.called })
+pub returns-in-None-clause-called : goal.returns-in-None-clause-called
+returns-in-None-clause-called g c = rw c.in-None.is c.run_over_all.ensures.called
 
-pub returns-in-Some : goal.returns-in-Some
-returns-in-Some g c = rw c.in-Some.is (record { called = c.run_over_some.ensures.called })
+pub returns-in-Some-clause-called : goal.returns-in-Some-clause-called
+returns-in-Some-clause-called g c = rw c.in-Some.is c.run_over_some.ensures.called

@@ -1,64 +1,64 @@
 use Rattle.mseed.proofs.command.run_over_all.Goals as goal
 
-pub returns-in-Audit : goal.returns-in-Audit
-returns-in-Audit g c =
-    rw c.in-Audit.is (record { called = (c.audit.result, (c.audit.ensures.outcome, c.audited.ensures)) })
+pub returns-in-Audit-clause-called : goal.returns-in-Audit-clause-called
+returns-in-Audit-clause-called g c =
+    rw c.in-Audit.is (c.audit.result, (c.audit.ensures.outcome, c.audited.ensures))
 
-pub returns-in-AuditEach : goal.returns-in-AuditEach
-returns-in-AuditEach g c =
+pub returns-in-AuditEach-clause-called : goal.returns-in-AuditEach-clause-called
+returns-in-AuditEach-clause-called g c =
     rw c.in-AuditEach.is
-    (record { called = (c.audit_each.result, (c.audit_each.ensures.outcome, c.audited_each.ensures)) })
+    (c.audit_each.result, (c.audit_each.ensures.outcome, c.audited_each.ensures))
 
-pub returns-in-AuditPart : goal.returns-in-AuditPart
-returns-in-AuditPart g c =
+pub returns-in-AuditPart-clause-called : goal.returns-in-AuditPart-clause-called
+returns-in-AuditPart-clause-called g c =
     let part = c.audit_part in
     rw c.in-AuditPart.is
-    (record { called = (part.result, (part.ensures.outcome, c.audited-in-AuditPart.ensures)) })
+    (part.result, (part.ensures.outcome, c.audited-in-AuditPart.ensures))
 
-pub returns-in-AuditPartEach : goal.returns-in-AuditPartEach
-returns-in-AuditPartEach g c =
+pub returns-in-AuditPartEach-clause-called : goal.returns-in-AuditPartEach-clause-called
+returns-in-AuditPartEach-clause-called g c =
     let part = c.audit_part_each in
     rw c.in-AuditPartEach.is
-    (record { called = (part.result, (part.ensures.outcome, c.audited_each-in-AuditPartEach.ensures)) })
+    (part.result, (part.ensures.outcome, c.audited_each-in-AuditPartEach.ensures))
 
-pub returns-in-Join : goal.returns-in-Join
-returns-in-Join g c = rw c.in-Join.is (record { called = c.joined_as.ensures })
+pub returns-in-Join-clause-called : goal.returns-in-Join-clause-called
+returns-in-Join-clause-called g c = rw c.in-Join.is c.joined_as.ensures.joined
 
-pub returns-in-JoinEach : goal.returns-in-JoinEach
-returns-in-JoinEach g c =
+pub returns-in-JoinEach-clause-called : goal.returns-in-JoinEach-clause-called
+returns-in-JoinEach-clause-called g c =
     let join = c.join_each-outcome in
-    rw c.in-JoinEach.is (record {
-      called = (join.result, (g.E.Sink.written join.new.errors, (join.ensures.outcome, c.joined.ensures)));
-    })
+    rw c.in-JoinEach.is (join.result, (g.E.Sink.written join.new.errors, (join.ensures.outcome, c.joined.ensures)))
 
-pub returns-in-JoinPart : goal.returns-in-JoinPart
-returns-in-JoinPart g c = rw c.in-JoinPart.is (record { called = c.joined_as-in-JoinPart.ensures })
+pub returns-in-JoinPart-clause-called : goal.returns-in-JoinPart-clause-called
+returns-in-JoinPart-clause-called g c = rw c.in-JoinPart.is c.joined_as-in-JoinPart.ensures.joined
 
-pub returns-in-Show : goal.returns-in-Show
-returns-in-Show g c = rw c.in-Show.is (record { called = (c.show.result, (c.show.ensures.shown, c.shown.ensures)) })
+pub returns-in-Show-clause-called : goal.returns-in-Show-clause-called
+returns-in-Show-clause-called g c = rw c.in-Show.is (c.show.result, (c.show.ensures.shown, c.shown.ensures))
 
-pub returns-in-Select : goal.returns-in-Select
-returns-in-Select g c =
+pub returns-in-Select-clause-called : goal.returns-in-Select-clause-called
+returns-in-Select-clause-called g c =
     let found = rw c.all_records.ensures at c.select.ensures.selected in
-    rw c.in-Select.is (record { called = (c.select.result, (found, c.selected.ensures)) })
+    rw c.in-Select.is (c.select.result, (found, c.selected.ensures))
 
-pub returns-in-Repack : goal.returns-in-Repack
-returns-in-Repack g c =
+pub returns-in-Repack-clause-called : goal.returns-in-Repack-clause-called
+returns-in-Repack-clause-called g c =
     let options = c.options_of-options in
-    rw c.in-Repack.is (record {
-      called = (options.result, (options.ensures, (c.repack.result, (c.repack.ensures, c.repacked.ensures))));
-    })
+    rw c.in-Repack.is (
+      options.result,
+      (
+        options.ensures,
+        (c.repack.result, (c.repack.ensures.repacked, c.repacked.ensures)),
+      ),
+    )
 
-pub returns-in-RepackStretches : goal.returns-in-RepackStretches
-returns-in-RepackStretches g c =
+pub returns-in-RepackStretches-clause-called : goal.returns-in-RepackStretches-clause-called
+returns-in-RepackStretches-clause-called g c =
     let options = c.options_of-options-in-RepackStretches in
     let packed = c.repack_stretches-outcome in
-    rw c.in-RepackStretches.is (record {
-      called = (
-        options.result,
-        (
-          options.ensures,
-          (packed.result, (g.E.Sink.written packed.new.errors, (packed.ensures, c.restretched.ensures))),
-        ),
-      );
-    })
+    rw c.in-RepackStretches.is (
+      options.result,
+      (
+        options.ensures,
+        (packed.result, (g.E.Sink.written packed.new.errors, (packed.ensures.repacked, c.restretched.ensures))),
+      ),
+    )

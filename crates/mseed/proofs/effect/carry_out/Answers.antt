@@ -1,18 +1,22 @@
-use Rattle.std.proofs.Common.{inl, inr}
+use Rattle.std.proofs.Common.{inl, inr, refl}
+use Rattle.mseed_feed.specs.Listened.{heard}
 use Rattle.mseed_stream.specs.Device.{nothing_read}
 use Rattle.mseed.proofs.Done.{effect, still}
 use Rattle.mseed.proofs.effect.carry_out.Goals as goal
 
 pub returns-in-Ok-clause-called : goal.returns-in-Ok-clause-called
 returns-in-Ok-clause-called g c request asked files asks =
-    effect _ c.in-Ok.command request asked files c.execute.result (g.W.Sink.written c.args.output.now)
-    (g.W.Sink.written c.command_of.new.output) (g.W.Sink.written c.execute.new.output)
+    effect _ (g.F.Files.found c.args.files.now) _ c.in-Ok.command request asked files c.execute.result
+    (g.W.Sink.written c.args.output.now) (g.W.Sink.written c.command_of.new.output)
+    (g.W.Sink.written c.execute.new.output)
     (g.E.Sink.written c.args.errors.now) (g.E.Sink.written c.command_of.new.errors)
-    (g.E.Sink.written c.execute.new.errors) c.command_of.ensures.unwritten
-    (c.in-Ok.ensures.called request asked files asks) c.execute.ensures.done
+    (g.E.Sink.written c.execute.new.errors)
+    (heard (g.L.Listen.planned c.args.listening.now) (g.L.Listen.came c.args.listening.now))
+    (heard (g.L.Listen.planned c.execute.new.listening) (g.L.Listen.came c.execute.new.listening))
+    c.command_of.ensures.unwritten (c.in-Ok.ensures.called request asked files asks) c.execute.ensures.done
 
 pub returns-in-Ok-clause-bad : goal.returns-in-Ok-clause-bad
-returns-in-Ok-clause-bad g c nothing = elim (c.in-Ok.ensures.bad nothing) [
+returns-in-Ok-clause-bad g c mistake given nothing = elim (c.in-Ok.ensures.bad mistake given nothing) [
   | inl command ↦ absurd command
   | inr command ↦ absurd command
 ]
@@ -34,11 +38,36 @@ returns-in-Ok-clause-unreported g c =
 pub returns-clause-called : goal.returns-clause-called
 returns-clause-called g c request asked files asks = elim (c.in-Err.ensures.called request asked files asks) [
   | inl command ↦ absurd command
-  | inr lacks ↦ (nothing_read, inr (lacks, c.command_of.ensures.unwritten))
+  | inr lacks ↦ (nothing_read, inr ((lacks, c.command_of.ensures.unwritten), refl))
 ]
 
 pub returns-clause-bad : goal.returns-clause-bad
-returns-clause-bad g c nothing = (c.in-Err.ensures.bad nothing, c.command_of.ensures.unwritten)
+returns-clause-bad g c mistake given nothing =
+    (c.in-Err.ensures.bad mistake given nothing, c.command_of.ensures.unwritten)
 
 pub returns-clause-refused : goal.returns-clause-refused
 returns-clause-refused g c refused = (c.in-Err.ensures.refused refused, c.command_of.ensures.unwritten)
+
+pub returns-in-Ok-clause-unopened : goal.returns-in-Ok-clause-unopened
+returns-in-Ok-clause-unopened g c = (
+  λ mistake given nothing. elim (c.in-Ok.ensures.bad mistake given nothing) [
+    | inl command ↦ absurd command
+    | inr command ↦ absurd command
+  ],
+  λ refused. elim (c.in-Ok.ensures.refused refused) [
+    | inl command ↦ absurd command
+    | inr command ↦ absurd command
+  ],
+)
+
+pub returns-in-Ok-clause-unlistened : goal.returns-in-Ok-clause-unlistened
+returns-in-Ok-clause-unlistened g c = (
+  λ mistake given nothing. elim (c.in-Ok.ensures.bad mistake given nothing) [
+    | inl command ↦ absurd command
+    | inr command ↦ absurd command
+  ],
+  λ refused. elim (c.in-Ok.ensures.refused refused) [
+    | inl command ↦ absurd command
+    | inr command ↦ absurd command
+  ],
+)

@@ -1,14 +1,46 @@
-use Rattle.std.proofs.Common.{◌∙◌, ap, refl}
-use Rattle.mseed_stream.specs.Buffered.{read_through}
-use Rattle.mseed_stream.specs.Device.{nothing_read}
-use Rattle.mseed.specs.Effect.{over_files, unreadable}
+use Rattle.std.proofs.Common.{◌≡◌, ◌∙◌, ap, refl, sym}
+use Rattle.mseed_files.specs.ChainState.{ChainState}
+use Rattle.mseed_files.specs.Found.{contents_of}
+use Rattle.mseed_stream.specs.Device.{BytesRead, nothing_read}
+use Rattle.mseed.proofs.ReadFiles.{named_reported, read_files, unnamed_reported}
+use Rattle.mseed.proofs.files.run_over_files.Goals.{then-are_named, else-are_named}
 use Rattle.mseed.proofs.files.run_over_files.Goals as goal
 
 pub returns-clause-ok : goal.returns-clause-ok
-returns-clause-ok g c = (nothing_read, unreadable _ refl refl c.report_unreadable.ensures)
-
-pub returns-2-clause-ok : goal.returns-2-clause-ok
-returns-2-clause-ok g c =
-    let unread = ap read_through c.new-input.ensures.source ∙ c.new-2.ensures.read in
-    let run = rw unread at c.run-ended.ensures.called in
-    (_, over_files c.run-ended.result _ c.last_size-last.result _ _ run refl c.report_blame.ensures)
+returns-clause-ok g c =
+    let found = g.F.Files.found c.args.files.now in
+    let old : ChainState = c.new-input.result in
+    let new : ChainState = c.run-ended.new.input in
+    let unread = c.new-input.ensures ∙ c.in-Ok.ensures in
+    let none : old.read ≡ nothing_read = ap (λ (s : ChainState). s.read) unread in
+    let run = rw none at c.run-ended.ensures.called in
+    let read = read_files (contents_of found c.args.names.now) (g.F.Files.failures c.args.files.now) old new unread
+    c.run-ended.ensures.reads in
+    elim c.if-are_named.branch [
+      | then-are_named w ↦ (
+        new.read,
+        record {
+          ended = c.run-ended.result;
+          reported = g.E.Sink.written c.run-ended.new.errors;
+          files = new;
+          carried_out = run;
+          status_is = refl;
+          read = read;
+          blames = named_reported c.args.are_named _ _ _ _ _ _ w.if-are_named.true
+              (ap (λ e. g.E.Sink.written e) w.errors-is) w.report_blame.ensures;
+        },
+      )
+      | else-are_named w ↦ (
+        new.read,
+        record {
+          ended = c.run-ended.result;
+          reported = g.E.Sink.written c.run-ended.new.errors;
+          files = new;
+          carried_out = run;
+          status_is = refl;
+          read = read;
+          blames = unnamed_reported c.args.are_named _ _ _ _ _ _ w.if-are_named.false
+              (ap (λ e. g.E.Sink.written e) w.errors-is) w.report_reason.ensures;
+        },
+      )
+    ]

@@ -1,25 +1,23 @@
-use Rattle.std.proofs.Common.{◌≡◌, ◌==◌, ◌∙◌, [], ap, arith, false, inl, inr, length, map, refl, sym, true, ℕ}
-use Rattle.std.specs.Prelude.{vec_len}
-use Rattle.std.proofs.lemmas.Bool.Decides.{eqb_tells}
-use Rattle.std.proofs.lemmas.List.{nil_from_length}
-use Rattle.mseed.specs.Effect.{over_input}
+use Rattle.std.proofs.Common.{arith, refl}
+use Rattle.mseed_stream.specs.Device.{nothing_read}
+use Rattle.mseed.proofs.ReadFiles.{carried_over, named_is, refused}
 use Rattle.mseed.proofs.files.run_over_named.Goals as goal
 
--- a count that is 0
-none_of : (count : ℕ) → true ≡ (count == 0) → count ≡ 0
-none_of count none = elim (eqb_tells count 0) [
-  | inl same ↦ same.1
-  | inr other ↦ absurd (let bad : true ≡ false = none ∙ other.0 in cc bad)
-]
+pub returns-in-Some-clause-ok : goal.returns-in-Some-clause-ok
+returns-in-Some-clause-ok g c =
+    let are = rw c.deref.ensures.value at c.in_ok-names.ensures in (
+      nothing_read,
+      refused (g.F.Files.found c.args.files.now) _ c.args.command.now.request _ _ c.in_ok-names.names.items
+          c.deref-2.result.now c.in-Some.index c.in-Some.reason c.index.result.now _ _ _ c.deref-2.ensures.value are
+          c.in-Some.ensures.within c.in-Some.ensures.unreadable c.in-Some.ensures.first c.index.ensures
+          c.report_unreadable.ensures,
+    )
 
 pub returns-clause-ok : goal.returns-clause-ok
 returns-clause-ok g c =
-    let size : length c.args.command.now.files.items ≡ 0 =
-    omega (
-      arith,
-      none_of (vec_len c.args.command.now.files) (sym c.if-not-is_empty.false ∙ c.is_empty.ensures),
-      c.args.command.now.files.ok,
-    ) in
-    let none : c.args.command.now.files.items ≡ [] = nil_from_length _ size in
-    let run = rw c.new-input.ensures.read at c.run.ensures.called in
-    (_, over_input c.run.result (ap (map (λ file. file.now)) none) run refl)
+    let are = rw c.deref.ensures.value at c.in_ok-names.ensures in
+    carried_over _ (g.F.Files.found c.args.files.now) _ c.args.command.now.request _ _ c.in_ok-names.names.items
+    c.deref-2.result.now c.deref-in-None.result.now _ c.run_over_files.result _ _ _ _ c.deref-2.ensures.value
+    c.deref-in-None.ensures.value are (c.in-None.ensures.none refl)
+    (named_is c.args.command.now.files.items _ c.is_empty-are_named.result c.is_empty-are_named.ensures
+    (omega (arith, c.args.command.now.files.ok))) c.run_over_files.ensures.ok

@@ -10,7 +10,7 @@ use Rattle.mseed.proofs.refusal.refuse_to_stretch.Goals as goal
 same_line : (fault : RepackFault) → ((k : List ℕ) (n : ℕ) (f : PackFault) → fault ≡ Misfit k n f → ⊥)
     → refusal_text fault ≡ stretches_text fault
 same_line (Stream f) fine = refl
-same_line (Broken k) fine = refl
+same_line (Broken k first) fine = refl
 same_line (Misfit k n f) fine = absurd (fine k n f refl)
 same_line Write fine = refl
 same_line Memory fine = refl
