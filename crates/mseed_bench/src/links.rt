@@ -195,6 +195,7 @@ impl Ready for Links<'_> {
         self.digest.number(slot as u64);
         self.digest.number(bytes.len() as u64);
         self.digest.bytes(&bytes[..count]);
+        self.log.handed(slot, bytes);
         self.log.emitted(slot, &bytes[..count]);
         count
     }

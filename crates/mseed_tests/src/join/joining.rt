@@ -2,7 +2,7 @@
 
 use super::auditing::{OF_FIRST, OF_LATE};
 use crate::audit::devices::{self, sink_with};
-use mseed_join::{Form, Joined, JoinsFault, join, join_each};
+use mseed_join::{Flaw, Form, Joined, JoinsFault, join, join_each};
 use mseed_stream::Counted;
 use std::alloc::{Allocator, Global};
 use std::process::Abort;
@@ -146,7 +146,7 @@ pub(super) const TWO_OF_1: Answer = Err(JoinsFault::Count(2, 1));
 
 pub(super) const TWO_OF_3: Answer = Err(JoinsFault::Count(2, 3));
 
-static ROWS: [Row; 5] = [
+const ROWS: [Row; 5] = [
     (NOTHING, (AN_AUDIT, false, None), EMPTY, "", WELL),
     (SOUND, (AN_AUDIT, false, None), AUDIT, "", BROKEN),
     (SOUND, (A_PART, false, None), PART, "", BROKEN),
@@ -155,7 +155,7 @@ static ROWS: [Row; 5] = [
 ];
 
 /// Parts of which a number is expected: the one that isn't counted after a fault too.
-static COUNTED: [Row; 8] = [
+const COUNTED: [Row; 8] = [
     (SOUND, (AN_AUDIT, false, Some(2)), AUDIT, "", BROKEN),
     (SOUND, (A_PART, false, Some(2)), PART, "", BROKEN),
     (FAULTY, (AN_AUDIT, false, Some(2)), CUT, "", CUT_OFF),
@@ -190,26 +190,36 @@ fn counts_parts(rt: HostRuntime) {
     }
 }
 
-/// Texts that are no parts, their first bad lines, and where these begin.
-static BAD_LINES: [(&str, u64, u64); 5] = [
-    ("mseed part 2\n", 1, 0),
-    ("mseed part 1\n", 2, 13),
-    ("mseed part 1\nrecords 1 bytes\n", 2, 13),
-    ("mseed part 1\nrecords 1 bytes 128", 2, 13),
-    ("mseed part 1\nrecords 1 bytes 128\nfaults 0\n", 3, 33),
+/// Texts that are no parts, their first bad lines, where these begin, and what is wrong with them.
+const BAD_LINES: [(&str, u64, u64, Flaw); 5] = [
+    ("mseed part 2\n", 1, 0, Flaw::Beginning),
+    ("mseed part 1\n", 2, 13, Flaw::Missing),
+    ("mseed part 1\nrecords 1 bytes\n", 2, 13, Flaw::Row),
+    ("mseed part 1\nrecords 1 bytes 128", 2, 13, Flaw::Unended),
+    (
+        "mseed part 1\nrecords 1 bytes 128\nfaults 0\n",
+        3,
+        33,
+        Flaw::Ending,
+    ),
 ];
 
-/// Whether the audit of a text is refused at this line, which begins at an offset, with nothing written.
-fn is_bad_at(alloc: Global, text: &str, number: u64, offset: u64) -> bool {
+/// Whether the audit of a text is refused so, with nothing written.
+fn is_refused(alloc: Global, text: &str, fault: JoinsFault) -> bool {
     let how = (AN_AUDIT, false, None);
     let outcome = outcome_of(alloc, alloc, text.as_bytes(), how, ALL);
-    outcome.answer == Err(JoinsFault::Line { number, offset }) && outcome.written.is_empty()
+    outcome.answer == Err(fault) && outcome.written.is_empty()
 }
 
 #[test]
 fn names_bad_lines(rt: HostRuntime) {
-    for (text, number, offset) in &BAD_LINES {
-        assert!(rt; is_bad_at(rt.alloc(), text, *number, *offset), "{text}");
+    for (text, number, offset, flaw) in &BAD_LINES {
+        let fault = JoinsFault::Line {
+            number: *number,
+            offset: *offset,
+            flaw: *flaw,
+        };
+        assert!(rt; is_refused(rt.alloc(), text, fault), "{text}");
     }
 }
 

@@ -5,7 +5,7 @@ use super::joining::{
     Answer, BOTH, BROKEN, CUT, CUT_OFF, EMPTY, FAULTY, NOTHING, REPORTED, Row, SOUND, TWO_OF_1,
     TWO_OF_3, WELL, assert_refusals, is_joined, joint, says_that_it_failed,
 };
-use mseed_join::JoinsFault;
+use mseed_join::{Flaw, JoinsFault};
 
 /// The line of the border between both records.
 const BORDER: &str = "128 XX_STA__BHZ record 2 start 2024-01-01T00:00:00.825001 gap 25001\n";
@@ -21,7 +21,7 @@ const PASSED: &str = "128 XX_STA__BHZ record 2 start 2024-01-01T00:00:00.825001 
     records 2 channels 1\n\
     faults 1\n";
 
-static ROWS: [Row; 9] = [
+const ROWS: [Row; 9] = [
     (NOTHING, (None, false, None), EMPTY, "", WELL),
     (SOUND, (None, false, None), EACH, "", BROKEN),
     (FAULTY, (None, false, None), CUT, "", CUT_OFF),
@@ -39,6 +39,7 @@ const BAD: [&str; 3] = [OF_FIRST, OF_LATE, "mseed part 2\n"];
 const BAD_LINE: Answer = Err(JoinsFault::Line {
     number: 7,
     offset: 312,
+    flaw: Flaw::Ending,
 });
 
 #[test]
