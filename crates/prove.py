@@ -7,17 +7,23 @@
 
 Each library is proved once those below it are, as `rt ci` proves it: it reads what those promise, and not how that was
 proved. Those on the longest way to the crate come first, by the minutes of minutes.txt. Then the crate itself is built,
-and run, where that is asked for. What is built already is left as it is. How far it is stands in a line that is written
-over on a terminal, and elsewhere in a line for each crate. When what was interrupted is called again, the crates that
-were proved by then stay proved.
+and run, where that is asked for. What is proved already is left as it is. How far it is stands in a line that is
+written over on a terminal, and elsewhere in a line for each crate. When what was interrupted is called again, the
+crates that were proved by then stay proved.
 
-With --keep, or where `rt check` has kept something of one of the crates, each is proved by `rt lib`, which keeps what
-the next check goes on from, and reads the proofs below. `rt` locks all crates below the one that it works on. So each
-is proved in a room of its own: with links to its sources and to what those below it were built to. What comes of it is
-moved to its folder `out`, where `rt` finds it.
+What was proved is known by checksums, and never by the times of files: of all that a crate was made of, which is its
+own and the lower crates' sources, their lines of crates.txt, HANDLES and the toolchain's version, and of what it was
+built to. So each crate is proved in a room of its own, over a copy of its sources, of which the checksums are taken
+before the proof begins. What doesn't fit them when all is done isn't called proved: the call fails, and says which
+crate has changed.
+
+With --keep, or where `rt check` has kept something of one of the crates and something has to be proved, each is proved
+by `rt lib`, which keeps what the next check goes on from, and reads the proofs below. Its room has copies of the lower
+crates too, and links to what they were built to. What comes of it is moved to its folder `out`, where `rt` finds it.
 
 With --gate it runs the toolchain's gate, `rt ci`, which proves every crate from nothing, and what that has built is
-found again as what was proved without --keep.
+found again as what was proved without --keep. An edit of crates/NAME/must-fail that shows nothing of a contract, which
+`rt ci` lets pass, is counted as failed.
 
 With --measure nothing is proved: what the last proof of each crate without --keep took is written to minutes.txt.
 """
@@ -29,6 +35,7 @@ import contextlib
 import enum
 import fcntl
 import functools
+import hashlib
 import math
 import os
 import re
@@ -38,7 +45,7 @@ import subprocess
 import sys
 import time
 from pathlib import Path
-from typing import NamedTuple, Sequence
+from typing import Iterable, Mapping, NamedTuple, Optional, Sequence
 
 CRATES = Path(__file__).resolve().parent
 ROOT = CRATES.parent
@@ -49,8 +56,10 @@ SOURCES = ["src", "specs", "proofs"]
 BUILT, KEPT, ROOM, LOG, TAKEN = "rlib", "incremental", "room", "log", "taken"
 # What `rt` says of a crate on its way: how many functions it has checked of how many.
 SO_FAR = r"^so far: (\d+) of (\d+) functions checked"
-# Where the version of the toolchain stands by which a crate was proved and built.
+# Where the checksums of a crate's last proof stand.
 PROVED = "proved"
+# What `rt` reads of a program besides its sources.
+GIVEN = ["args", "status"]
 # So many crates at the same time, and so many processes for one: more gain nothing.
 MOST, PROCESSES = 4, 8
 # The machine for which a program is made.
@@ -70,6 +79,11 @@ GROUP = Path("/sys/fs/cgroup")
 KILLED = 256 - signal.SIGKILL
 # What a proof prints of all that is well.
 IS_WELL = re.compile(r": proved$|modules loaded=")
+# What `rt` says of an edit of must-fail: by its name or, where it isn't at its place, by its path. It shows nothing of
+# a contract where it can't be applied or read, and where only its shape was refused or no reason is given.
+TRIED = re.compile(r"rt: (?:must-fail )?(\S+): (.*)")
+BAD, SHAPE = re.compile("BAD EDIT: "), re.compile(r"refused, as it must be(?: \(only because |$)")
+COUNTED = re.compile(r"(\d+) passed, (\d+) failed(.*)\n?")
 # Seconds from one look at what runs to the next.
 TURN = 0.1
 
@@ -81,14 +95,24 @@ class Cost(NamedTuple):
     memory: float
 
 
+class Proof(NamedTuple):
+    """A crate's proof, by checksums: of all that it was made of, of what the crates below it were built to then, and of
+    what it was built to itself."""
+
+    made_of: str
+    over: str
+    built: str
+
+
 class Work(NamedTuple):
-    """A crate that is being proved: since when, by which process, by which commands after that one, and whether from
-    nothing; and what seconds of processors and GB the commands before took."""
+    """A crate that is being proved: since when, by which process, by which commands after that one, where, and what is
+    known of the proof, if it isn't run alone; and what seconds of processors and GB the commands before took."""
 
     began: float
     process: subprocess.Popen
     steps: list[list[str]]
-    is_whole: bool
+    folder: Path
+    proof: Optional[Proof]
     seconds: float = 0
     peak: float = 0
 
@@ -100,11 +124,16 @@ class Standing(enum.Enum):
     ALONE, LONGEST, BESIDE, HIGH = range(4)
 
 
+def lines_of(root: Path) -> dict[str, str]:
+    """The line of each crate in a folder's crates.txt."""
+    text = (root / "crates.txt").read_text(encoding="utf-8")
+    return {line.partition(":")[0].split()[0]: line for line in text.splitlines() if ":" in line and line[0] != "#"}
+
+
 @functools.lru_cache(maxsize=None)
 def lines() -> dict[str, str]:
-    """The line of each crate in crates.txt."""
-    text = (ROOT / "crates.txt").read_text(encoding="utf-8")
-    return {line.partition(":")[0].split()[0]: line for line in text.splitlines() if ":" in line and line[0] != "#"}
+    """The lines of crates.txt, as they were when this began."""
+    return lines_of(ROOT)
 
 
 def below(crate: str) -> set[str]:
@@ -113,11 +142,9 @@ def below(crate: str) -> set[str]:
     return {at for word in used for at in [word, *below(word)]}
 
 
-@functools.lru_cache(maxsize=None)
-def sources(crate: str) -> list[os.stat_result]:
-    """The files from which a crate is made, and their folders."""
-    return [file.stat() for part in SOURCES for file in [CRATES / crate / part, *(CRATES / crate / part).rglob("*")]
-            if file.exists()]
+def files_in(*folders: Path) -> list[Path]:
+    """The files in these folders and below them, in order."""
+    return [Path(at) / name for folder in folders for at, _, names in sorted(os.walk(folder)) for name in sorted(names)]
 
 
 def cost_of(crate: str) -> Cost:
@@ -125,7 +152,8 @@ def cost_of(crate: str) -> Cost:
     for line in MINUTES.read_text(encoding="utf-8").splitlines() if MINUTES.exists() else []:
         if line.split()[:1] == [crate]:
             return Cost(*map(float, line.split()[1:]))
-    return Cost(sum(file.st_size for file in sources(crate)) / BYTES_A_MINUTE, MEMORY)
+    files = files_in(*(CRATES / crate / part for part in SOURCES))
+    return Cost(sum(file.stat().st_size for file in files) / BYTES_A_MINUTE, MEMORY)
 
 
 def ways(on: dict[str, set[str]], costs: dict[str, Cost]) -> dict[str, float]:
@@ -229,51 +257,114 @@ def has_kept(crate: str) -> bool:
     return any((CRATES / crate / "out" / KEPT).glob("*"))
 
 
-def rests_on(crate: str) -> list[os.stat_result]:
-    """The files of the repository that a crate's proof rests on."""
-    return [(ROOT / name).stat() for name in ("crates.txt", "HANDLES")] \
-        + [file for at in [crate, *below(crate)] for file in sources(at)]
-
-
 def stamp(crate: str) -> Path:
     """What `rt` leaves beside a library by which it finds it again: it has none where it built what is promised."""
     return CRATES / crate / "out" / BUILT / "stamp"
 
 
-def is_built(crate: str, keeps: bool) -> bool:
-    """Whether there is what a crate is built to, and neither its sources nor those that it stands on, nor what these
-    were built to, have changed since this toolchain proved it. Where checks keep something, `rt` has to know it."""
-    out = CRATES / crate / "out"
-    mark, made = out / PROVED, [out / crate, out / f"lib{crate}.a", *([] if keeps else [library(crate) / "format"])]
-    if not mark.exists() or not any(path.exists() for path in [*made, stamp(crate)]):
-        return False
-    files = rests_on(crate)
-    if not keeps:
-        outs = [CRATES / at / "out" / PROVED for at in below(crate)] + [library(at) / "format" for at in below(crate)]
-        files += [path.stat() for path in outs if path.exists()]
-    since = mark.stat().st_mtime
-    return version() == mark.read_text(encoding="utf-8") and all(file.st_mtime <= since for file in files)
+def sum_of(*parts: object) -> str:
+    """A checksum of these parts."""
+    return hashlib.sha256(repr(parts).encode()).hexdigest()
 
 
-def room_of(crate: str, on: set[str]) -> Path:
-    """Makes the room in which a crate is proved, and gives its folder there."""
+def file_sum(file: Path) -> str:
+    """The checksum of a file, or nothing where it isn't there."""
+    try:
+        return hashlib.sha256(file.read_bytes()).hexdigest()
+    except OSError:
+        return ""
+
+
+def size_of(file: Path) -> int:
+    """The size of a file, or -1 where it isn't there."""
+    try:
+        return file.stat().st_size
+    except OSError:
+        return -1
+
+
+def own_sum(crate: str, root: Path = ROOT) -> str:
+    """The checksum of what a crate itself is made of, in a folder of the same form as the repository's."""
+    folder = root / "crates" / crate
+    files = [(str(file.relative_to(folder)), file_sum(file)) for file in files_in(*(folder / part for part in SOURCES))]
+    return sum_of(version(), file_sum(root / "HANDLES"), lines_of(root).get(crate), files)
+
+
+def built_sum(crate: str) -> str:
+    """The checksum of what a crate was built to, or nothing where that isn't there. In a library's file `format` the
+    compiler has the sum of its other files, to which it holds them wherever it reads them."""
+    out, made = CRATES / crate / "out", library(crate)
+    there = [file for file in (out / crate, out / f"lib{crate}.a", made / "format") if file.is_file()]
+    sizes = [(str(file.relative_to(made)), size_of(file)) for file in files_in(made)]
+    return sum_of([(file.name, file_sum(file)) for file in there], sizes) if there else ""
+
+
+def over_sum(crate: str) -> str:
+    """The checksum of what the crates below one are built to."""
+    return sum_of([(at, built_sum(at)) for at in sorted(below(crate))])
+
+
+class Sums:
+    """The checksums of crates, and of all below them, as they are now."""
+
+    def __init__(self, crates: Iterable[str]):
+        every = {at for crate in crates for at in [crate, *below(crate)]}
+        self.own = {at: own_sum(at) for at in every}
+
+    def made_of(self, crate: str) -> str:
+        """The checksum of all that a crate is made of."""
+        return sum_of(crate, self.own[crate], [(at, self.own[at]) for at in sorted(below(crate))])
+
+    def is_proved(self, crate: str) -> bool:
+        """Whether a crate was proved as it is made now, and is built to what it was built to then."""
+        found = known(crate)
+        return found is not None and (found.made_of, found.built) == (self.made_of(crate), built_sum(crate))
+
+    def is_over(self, crate: str) -> bool:
+        """Whether it was so over what those below it are built to now, as is wanted by what is built over them all."""
+        return self.is_proved(crate) and known(crate).over == over_sum(crate)
+
+
+def known(crate: str) -> Optional[Proof]:
+    """What is known of a crate's last proof, if anything is."""
+    with contextlib.suppress(OSError, TypeError, ValueError):
+        return Proof(*(CRATES / crate / "out" / PROVED).read_text(encoding="utf-8").split())
+    return None
+
+
+def note(crate: str, proof: Optional[Proof]) -> None:
+    """Notes what is known of a crate's proof, or that nothing is."""
+    file = CRATES / crate / "out" / PROVED
+    if proof is None:
+        file.unlink(missing_ok=True)
+    else:
+        file.write_text("".join(f"{part}\n" for part in proof), encoding="ascii")
+
+
+def room_of(crate: str, among: Sequence[str], moved: Sequence[str]) -> Path:
+    """Makes the room in which a crate is proved, with the sources of these crates and what the others of them were
+    built to; these parts of its folder `out` are moved there."""
     out = CRATES / crate / "out"
-    out.mkdir(exist_ok=True)
     leave_room(crate)
     room = out / ROOM
-    room.mkdir()
-    os.link(ROOT / "HANDLES", room / "HANDLES")
-    (room / "crates.txt").write_text("".join(f"{lines()[at]}\n" for at in [crate, *on]), encoding="utf-8")
-    for at in [crate, *on]:
-        for part in [*SOURCES, *([] if at == crate else [f"out/{BUILT}"])]:
+    room.mkdir(parents=True)
+    shutil.copyfile(ROOT / "HANDLES", room / "HANDLES")
+    (room / "crates.txt").write_text("".join(f"{lines()[at]}\n" for at in among), encoding="utf-8")
+    for at in among:
+        for part in SOURCES:
             if (CRATES / at / part).is_dir():
-                shutil.copytree(CRATES / at / part, room / "crates" / at / part, copy_function=os.link)
+                shutil.copytree(CRATES / at / part, room / "crates" / at / part, copy_function=shutil.copyfile)
+        if at != crate and library(at).is_dir():
+            shutil.copytree(library(at).parent, room / "crates" / at / "out" / BUILT, copy_function=os.link)
     made = room / "crates" / crate
-    (made / "out").mkdir()
-    for part in (BUILT, KEPT):
+    (made / "out").mkdir(parents=True)
+    for name in GIVEN:
+        if (CRATES / crate / name).is_file():
+            shutil.copyfile(CRATES / crate / name, made / name)
+    for part in moved:
         if (out / part).exists():
             (out / part).rename(made / "out" / part)
-    return made
+    return room
 
 
 def checked(crate: str) -> tuple[int, int]:
@@ -323,28 +414,43 @@ class Build:
     def __init__(self, crate: str, command: Sequence[str], keeps: bool = False):
         self.crate, self.command = crate, command
         self.on = {at: below(at) for at in [crate, *below(crate)]}
-        self.keeps = keeps or any(map(has_kept, self.on)) or not has_statements()
+        now = Sums(self.on)
+        # Whoever asks for the crate itself needs nothing else where it is proved.
+        has_all = bool(command) and not keeps and now.is_proved(crate)
+        self.keeps = keeps or not has_all and (any(map(has_kept, self.on)) or not has_statements())
         self.costs = {at: cost_of(at) for at in self.on}
         self.highs = high(self.on, self.costs) if self.keeps else set()
         self.cores, self.free = processors(), memory()
         self.ways = ways(self.on, self.costs)
         ordered = sorted(self.on, key=self.ways.get, reverse=True)
-        lacking = {at for at in self.on if not is_built(at, self.keeps)}
-        if not self.keeps:
-            # What the compiler built fits what stands below it as that was then.
-            lacking |= {at for at in self.on if lacking & self.on[at]}
+        lacking = set() if has_all else self.lacking(now)
         self.left = [at for at in ordered if at != crate and at in lacking]
-        has_all = not self.left and crate not in lacking
+        has_all = has_all or not self.left and crate not in lacking
         # Nothing is said where nothing has changed: the last one is run, or `rt` looks at it, all the same.
         self.left += [crate] if command and (self.keeps or not has_all or command[0] == "run") else []
         self.asked = 0 if has_all else len(self.left)
+        # Proved without --keep, so that `rt` doesn't find them.
+        self.anew = [] if keeps else [at for at in self.left if self.keeps and at != crate and now.is_proved(at)]
         self.running: dict[str, Work] = {}
         self.failed: list[str] = []
+        # Those that have changed since their proof began.
+        self.changed: list[str] = []
         # Those that were killed once: each is tried once more with nothing beside it, by one process.
         self.killed: set[str] = set()
         # Minutes of processors that those took that are done, and that they were to take.
         self.used = self.expected = 0.0
         self.is_shown, self.shown, self.is_stopped = sys.stdout.isatty(), "", False
+
+    def lacking(self, now: Sums) -> set[str]:
+        """The crates that have to be proved. Where checks keep something, `rt` has to find what was built."""
+        found: set[str] = set()
+        for at in sorted(self.on, key=lambda at: len(self.on[at])):
+            is_last = at == self.crate
+            is_found = now.is_proved(at) and (is_last or stamp(at).exists()) if self.keeps else now.is_over(at)
+            # What the compiler built fits what stands below it as that was then.
+            if not is_found or not self.keeps and found & self.on[at]:
+                found.add(at)
+        return found
 
     def pace(self) -> float:
         """How many times the minutes of minutes.txt a crate takes here, by those that are done."""
@@ -420,26 +526,34 @@ class Build:
         return [[*(LATER if standing is Standing.BESIDE else []), *step] for step in steps]
 
     def start(self, crate: str, is_alone: bool) -> None:
-        """Begins a crate: in its own folder or, with --keep, a library in a room of its own."""
+        """Begins a crate, in a room of its own; one that is run alone, in its folder."""
         steps = self.steps_of(crate, self.standing(crate, is_alone))
-        out = CRATES / crate / "out"
-        is_whole = not self.keeps and bool(self.asked)
-        out.mkdir(exist_ok=True)
-        (out / LOG).write_bytes(b"")
-        if is_whole:
+        out, folder, proof = CRATES / crate / "out", CRATES / crate, None
+        self.left.remove(crate)
+        if self.keeps or self.asked:
+            among = [crate, *(self.on[crate] if self.keeps else [])]
+            room = room_of(crate, among, [BUILT, KEPT, crate, f"{crate}.stamp"] if self.keeps else [])
+            folder, now = room / "crates" / crate, Sums([crate])
+            now.own.update({at: own_sum(at, room) for at in among})
+            if not all(map(now.is_proved, self.on[crate])):
+                # Something below it has changed.
+                leave_room(crate)
+                self.left.clear()
+                return
+            proof = Proof(now.made_of(crate), over_sum(crate), "")
+            note(crate, None)
+        if proof and not self.keeps:
             # Of what `rt` built there is no mark that it would find any more.
             shutil.rmtree(out / BUILT, ignore_errors=True)
             (out / BUILT).mkdir()
-        self.left.remove(crate)
-        folder = room_of(crate, self.on[crate]) if self.keeps and crate != self.crate else CRATES / crate
-        self.running[crate] = Work(time.monotonic(), begun(steps[0], folder, out / LOG), steps[1:], is_whole)
+        (out / LOG).write_bytes(b"")
+        self.running[crate] = Work(time.monotonic(), begun(steps[0], folder, out / LOG), steps[1:], folder, proof)
 
     def end(self, crate: str, status: int) -> None:
         """What has ended is moved where it belongs, and counted."""
         work = self.running.pop(crate)
         out = CRATES / crate / "out"
-        if self.keeps and crate != self.crate:
-            leave_room(crate)
+        leave_room(crate)
         if is_killed(status) and crate not in self.killed:
             self.killed.add(crate)
             self.left.insert(0, crate)
@@ -448,9 +562,9 @@ class Build:
             self.failed.append(crate)
             self.left = [at for at in self.left if crate not in self.on[at]]
             return
-        if self.keeps or work.is_whole:
-            (out / PROVED).write_text(version(), encoding="utf-8")
-        if work.is_whole:
+        if work.proof and work.proof.over == over_sum(crate):
+            note(crate, work.proof._replace(built=built_sum(crate)))
+        if work.proof and not self.keeps:
             (out / TAKEN).write_text(f"{work.seconds / 60:.1f} {work.peak:.1f}\n", encoding="ascii")
             self.used += work.seconds / 60
             self.expected += self.costs[crate].minutes
@@ -471,7 +585,7 @@ class Build:
                     self.end(crate, status)
                 else:
                     step, *steps = work.steps
-                    process = begun(step, CRATES / crate, CRATES / crate / "out" / LOG)
+                    process = begun(step, work.folder, CRATES / crate / "out" / LOG)
                     self.running[crate] = work._replace(process=process, steps=steps)
 
     def go_on(self, crates: set[str]) -> None:
@@ -480,19 +594,33 @@ class Build:
             ready = self.ready(crates)
             is_alone = len(self.running) + len(ready) == 1
             for crate in ready:
-                self.start(crate, is_alone)
+                # Nothing more is begun where something has changed.
+                if crate in self.left:
+                    self.start(crate, is_alone)
             self.show()
             self.wait()
 
     def prove(self, crates: set[str], held: set[str]) -> None:
-        """Proves these crates, once nobody else works in those that are held."""
+        """Proves these crates, once nobody else works in those that are held, and looks whether that still is so."""
+        if not crates & set(self.left):
+            return
         with contextlib.ExitStack() as locks:
-            for crate in sorted(held if crates & set(self.left) else []):
+            for crate in sorted(held):
                 folder = os.open(CRATES / crate, os.O_RDONLY)
                 locks.callback(os.close, folder)
                 while not is_locked(folder) and not self.is_stopped:
                     time.sleep(TURN)
             self.go_on(crates)
+            now = Sums(self.on)
+            if not self.failed and not self.is_stopped and not all(map(now.is_proved, crates)):
+                self.changed = self.lowest_changed(now)
+                self.left.clear()
+
+    def lowest_changed(self, now: Sums) -> list[str]:
+        """The crates that have changed since their proof began, but for those above another one; or, if none has, since
+        what they were built to was replaced, the last one."""
+        found = {at for at in self.on if not known(at) or known(at).made_of != now.made_of(at)}
+        return sorted(at for at in found if not found & self.on[at]) or [self.crate]
 
     def run(self) -> int:
         """Proves what isn't built, and says why where that can't be. The status is 0 where all is proved."""
@@ -501,17 +629,21 @@ class Build:
         try:
             if self.asked:
                 print(f"Proving and building: about {self.minutes()} min for {self.asked} crates.", flush=True)
+            if self.anew:
+                print(f"Of these {len(self.anew)} are proved, but not for checks, which have kept something here: they "
+                      "are proved once more, so that checks go on from them.", flush=True)
             libraries = set(self.on) - {self.crate}
             self.prove(libraries, libraries)
-            # `rt` locks by itself.
-            self.prove({self.crate}, set() if self.keeps else set(self.on))
+            self.prove({self.crate}, set(self.on))
         finally:
             self.leave()
         self.close("Interrupted: the same command goes on with the crates that are left." if self.is_stopped else "")
+        for crate in self.changed:
+            print(f"{crate} has changed since its proof began: the same command proves it once more.")
         for crate in [] if self.is_stopped else self.failed:
             log = (CRATES / crate / "out" / LOG).read_text(encoding="utf-8", errors="replace")
             print(*(line for line in log.splitlines() if not IS_WELL.search(line)), sep="\n")
-        return 130 if self.is_stopped else 1 if self.failed else 0
+        return 130 if self.is_stopped else 1 if self.failed or self.changed else 0
 
     def stop(self, *_: object) -> None:
         """Ends the run soon, as Ctrl-C asks for."""
@@ -523,27 +655,64 @@ class Build:
             with contextlib.suppress(ProcessLookupError):
                 os.killpg(work.process.pid, signal.SIGTERM)
             work.process.wait()
-            if self.keeps and crate != self.crate:
-                leave_room(crate)
+            leave_room(crate)
+
+
+def idle_edit(line: str) -> Optional[tuple[str, int]]:
+    """The edit of must-fail of which `rt` says in a line that it shows nothing of a contract, and how many times it
+    counts that as passed: it was refused for its shape alone, or is bad. Nothing where the line says something else."""
+    found = TRIED.match(line)
+    if not found or not (SHAPE.match(found[2]) or BAD.match(found[2])):
+        return None
+    return found[1], 1 if SHAPE.match(found[2]) else 0
+
+
+def run_gate() -> tuple[int, int]:
+    """Runs `rt ci` and shows what it prints: its status, and how many edits show nothing. Those are named, and counted
+    as failed in the last line."""
+    idle, last = [], None
+    with subprocess.Popen(["rt", "ci"], cwd=ROOT, stdout=subprocess.PIPE, stderr=subprocess.STDOUT, text=True,
+                          errors="replace") as run:
+        for line in run.stdout:
+            print(last[0] if last else "", end="")
+            last = COUNTED.match(line)
+            print("" if last else line, end="", flush=True)
+            idle += filter(None, [idle_edit(line)])
+    if idle:
+        print(f"FAILED, since they show nothing of a contract: {', '.join(edit for edit, _ in idle)}")
+    if last:
+        passed, failed = int(last[1]) - sum(counted for _, counted in idle), int(last[2]) + len(idle)
+        print(f"{passed} passed, {failed} failed{last[3]}", flush=True)
+    return run.returncode, len(idle)
+
+
+def touches(crate: str) -> list[tuple]:
+    """What tells whether a file of a crate was touched since, also where it was changed back."""
+    files = files_in(*(CRATES / crate / part for part in SOURCES)) + [ROOT / "crates.txt", ROOT / "HANDLES"]
+    looks = [(file, file.stat()) for file in files]
+    return [(file, look.st_ino, look.st_size, look.st_mtime_ns, look.st_ctime_ns) for file, look in looks]
 
 
 def gate() -> int:
-    """Runs the toolchain's gate. Where it ends well, what it has built counts as proved, unless a source has changed
-    since it began."""
+    """Runs the toolchain's gate. Where it ends well, what it has built counts as proved, unless a source was touched
+    since it began: it proves the files themselves, and not a copy."""
     for crate in lines():
         # The gate would put back what it finds in place of its own.
         if not stamp(crate).exists():
             shutil.rmtree(CRATES / crate / "out" / BUILT, ignore_errors=True)
     # Ctrl-C ends the gate, which then puts back what it has laid aside.
     signal.signal(signal.SIGINT, lambda *_: None)
-    began = time.time()
-    status = subprocess.run(["rt", "ci"], cwd=ROOT, check=False).returncode
-    for crate in [] if status else sorted(lines(), key=lambda at: len(below(at))):
-        made = [CRATES / crate / "out" / crate, library(crate) / "format"]
-        is_ours = not stamp(crate).exists() and any(path.exists() for path in made)
-        if is_ours and all(file.st_mtime < began for file in rests_on(crate)):
-            (CRATES / crate / "out" / PROVED).write_text(version(), encoding="utf-8")
-    return status
+    before, own = {at: touches(at) for at in lines()}, {at: own_sum(at) for at in lines()}
+    status, idle = run_gate()
+    now = Sums(lines())
+    same = {at for at in lines() if (touches(at), now.own[at]) == (before[at], own[at])}
+    ours = {at for at in lines() if built_sum(at) and not stamp(at).exists()}
+    for crate in [] if status else ours:
+        if {crate, *below(crate)} <= same:
+            # It built nothing over what it has put back.
+            over = over_sum(crate) if below(crate) <= ours else "-"
+            note(crate, Proof(now.made_of(crate), over, built_sum(crate)))
+    return status or (1 if idle else 0)
 
 
 def measure() -> None:

@@ -5,8 +5,9 @@ ghost use Rattle.slink_feed.specs.Window.{Shows, Window};
 
 use mseed_stream::{Duplex, Sink};
 use slink_feed::{
-    Bytes, Client, Event, Feed, FeedFault, InputFault, LinkFault, Mode, Reporter, Ring, RingFault,
-    Room, Sent, Session, Turn, Unsent, fetch_turn, fetch_turn_in, fetch_turn_reporting, serve_turn,
+    Bytes, Client, Event, Feed, FeedFault, ForeignRecord, InputFault, LinkFault, Mode, Reporter,
+    Ring, RingFault, Room, Sent, Session, Turn, Unsent, fetch_turn, fetch_turn_in,
+    fetch_turn_reporting, serve_turn,
 };
 use slink_wire::{Packet, Place, Reply};
 use std::alloc::Global;
@@ -75,6 +76,11 @@ pub fn take_from_input(feed: &mut Feed, bytes: &[u8], number: u64) -> Result<usi
     requires { (k : ℕ) (w : Window) → slice_get feed.old k ≡ Some w → w.next < 2 ^ 40 }
 {
     feed.take_record(bytes, number)
+}
+
+/// What is wrong with an input whose record of this number, as long as these bytes, is of no ring.
+pub fn refuse_record(number: u64, bytes: &[u8]) -> InputFault {
+    InputFault::Foreign(ForeignRecord::of(number, bytes.len(), bytes))
 }
 
 /// What a new session answers to the first line.

@@ -1,11 +1,15 @@
 //! Calls of `mseed_feed`.
 ghost use Rattle.std.specs.Prelude.{◌≡◌, []};
 ghost use Rattle.mseed_stream.specs.Device.{nothing_read};
+ghost use Rattle.mseed_feed.specs.Listened.{NotYet};
 ghost use Rattle.mseed_words.specs.FeedWords.{CanFetch, CanServe, CanServeLive};
 
-use mseed_feed::{Device, fetch, plan_fetch, plan_serve, serve, serve_live, serve_live_tcp};
+use mseed_feed::{
+    Device, Listen, TcpListening, fetch, plan_fetch, plan_serve, serve, serve_live, serve_live_at,
+};
 use mseed_stream::{Buffered, Sink, Source};
 use mseed_words::{Fetching, LiveServing, Serving};
+use slink_live_tcp::Plan;
 use std::alloc::Global;
 use std::io;
 use std::io::{BufReader, Read};
@@ -43,8 +47,21 @@ pub fn serve_reader<N: Net + Clock, T: Read + Drop, E: Sink>(
     Ok(serve(host, alloc, serving, input, errors))
 }
 
-/// Serves what an input gives while it comes, and answers whether all went well.
-pub fn has_served_live<N: Net + Clock, I: Read + AsRawFd + Drop, E: Sink>(
+/// Serves where one can listen, and answers whether all went well.
+pub fn has_served_at<L: Listen, E: Sink>(
+    alloc: Global,
+    live: &LiveServing,
+    listening: &mut L,
+    errors: &mut E,
+) -> bool
+    requires new { L.came listening.old ≡ NotYet }
+    requires called { CanServeLive live.now }
+{
+    serve_live_at(alloc, live, listening, errors) == 0
+}
+
+/// Serves over TCP what an input gives, and answers whether all went well.
+pub fn has_served_at_port<N: Net + Clock, I: Read + AsRawFd + Drop, E: Sink>(
     host: &N,
     alloc: Global,
     live: &LiveServing,
@@ -53,7 +70,20 @@ pub fn has_served_live<N: Net + Clock, I: Read + AsRawFd + Drop, E: Sink>(
 ) -> bool
     requires { CanServeLive live.now }
 {
-    serve_live_tcp(host, alloc, live, input, errors) == 0
+    has_served_at(alloc, live, &mut TcpListening::new(host, input), errors)
+}
+
+/// Whether it can be listened by a plan. Nobody is served.
+pub fn can_listen<L: Listen>(alloc: Global, plan: Plan, listening: &mut L) -> bool
+    requires { L.came listening.old ≡ NotYet }
+{
+    match listening.listen(alloc, plan) {
+        Ok(device) => {
+            listening.hang_up(device);
+            true
+        }
+        Err(_) => false,
+    }
 }
 
 /// Serves over a device, and answers whether that failed meanwhile.

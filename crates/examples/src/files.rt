@@ -1,47 +1,67 @@
 //! Calls of `mseed_files`.
-use mseed_files::{Chain, Named, Open, Place, find_unreadable, words_of};
+use mseed_files::{
+    Arguments, Chain, Files, Place, Process, STANDARD_INPUT, System, find_unreadable, words_of,
+};
+use mseed_stream::Source;
 use std::alloc::{Alloc, AllocError, Global};
 use std::env::Env;
-use std::fs::Files;
-use std::io;
-use std::io::Read;
+use std::fs;
 
 /// How many arguments a program was started with, its own name aside.
-pub fn count_words<R: Env + Alloc>(rt: &R) -> Result<usize, AllocError> {
-    Ok(words_of(rt)?.len())
+pub fn count_words<R: Env>(alloc: Global, rt: &R) -> Result<usize, AllocError> {
+    Ok(words_of(alloc, &Process::new(rt))?.len())
 }
 
-/// Whether each of these arguments names a file that can be read.
-pub fn can_be_read<F: Files>(files: &F, words: &[&[u8]]) -> bool {
-    find_unreadable(files, words).is_none()
+/// How long the first argument of a command line is, where it has no more than 256 bytes.
+pub fn first_length<G: Arguments>(arguments: &G) -> Option<usize> {
+    let mut room = [0; 256];
+    arguments.word(0, &mut room).ok()
+}
+
+/// Whether each of these arguments names a file of the system that can be read.
+pub fn can_be_read<R: fs::Files + Alloc>(rt: &R, words: &[&[u8]]) -> bool {
+    find_unreadable(&System::new(rt), words).is_none()
 }
 
 /// Reads once of the files that arguments name, and says how many bytes came, and from which file.
-pub fn first_bytes(
+pub fn first_bytes<F: Files>(
     alloc: Global,
+    files: &mut F,
     words: &[&[u8]],
     buf: &mut [u8],
-) -> io::Result<(u64, Option<Place>)> {
-    let mut chain = Chain::new(alloc, Named { words })?;
-    chain.read(buf)?;
+) -> Result<(u64, Option<Place>), AllocError> {
+    let mut chain = Chain::new(alloc, files, words, 4096)?;
+    let _ = chain.pull(buf);
     let bytes = chain.bytes_read();
-    Ok((bytes, chain.place_of(bytes)))
+    Ok((bytes, chain.place_of(0)))
 }
 
 /// Which of the files that arguments name fails at the first read, if one does.
-pub fn first_failed(
+pub fn first_failed<F: Files>(
     alloc: Global,
+    files: &mut F,
     words: &[&[u8]],
     buf: &mut [u8],
 ) -> Result<Option<usize>, AllocError> {
-    let mut chain = Chain::new(alloc, Named { words })?;
-    match chain.read(buf) {
+    let mut chain = Chain::new(alloc, files, words, 4096)?;
+    match chain.pull(buf) {
         Ok(_) => Ok(None),
         Err(_) => Ok(chain.failed()),
     }
 }
 
-/// Whether the first of the files that an opener has can be opened, if it has one.
-pub fn first_opens<O: Open>(opener: &mut O) -> bool {
-    opener.count() > 0 && opener.open(0).is_ok()
+/// Why a file that arguments name couldn't be opened or read, in words.
+pub fn why_failed<F: Files>(chain: &Chain<F>) -> &'static str {
+    chain.reason().text()
+}
+
+/// Whether standard input can be opened and read, of a file that isn't empty.
+pub fn reads_input<F: Files>(files: &mut F, buf: &mut [u8]) -> bool {
+    if files.look_at(STANDARD_INPUT).is_some() {
+        return false;
+    }
+    match files.open(STANDARD_INPUT) {
+        Ok(mut input) => matches!(files.read(&mut input, buf), Ok(n) if n > 0),
+        Err(_) => false,
+    }
 }

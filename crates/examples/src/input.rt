@@ -1,8 +1,8 @@
 //! Calls of `mseed_input`.
-use mseed_files::{Chain, Named};
+use mseed_files::{Chain, Files, Reason};
 use mseed_input::{
-    Blame, Watched, blame_by, blame_of, report_blame, report_fault, report_no_memory,
-    report_number, report_unreadable, texts_of, word_of,
+    Blame, Watched, blame_by, blame_of, report_blame, report_fault, report_given, report_no_memory,
+    report_number, report_reason, report_unreadable, texts_of, word_of,
 };
 use mseed_stream::{Sink, Source, StreamFault};
 use std::alloc::{AllocError, Global};
@@ -22,15 +22,19 @@ pub fn is_standard_input(text: &str, words: &[Vec<u8>]) -> bool {
     word_of(text, words) == b"-".as_slice()
 }
 
-/// Reads once of a source, and answers how long the last whole record of what came is.
-pub fn last_size<R: Source + Drop>(
-    alloc: Global,
-    source: R,
-    buf: &mut [u8],
-) -> Result<u64, AllocError> {
-    let mut watched = Watched::new(alloc, source, true);
-    let _ = watched.pull(buf);
-    watched.last_size()
+/// A source of which it is known where its last record is.
+pub fn watched<R: Source>(source: R) -> Watched<R> {
+    Watched::new(source)
+}
+
+/// Where the record begins that ends at an offset, if it is the last one that was cut.
+pub fn begins_before<R: Source>(input: &Watched<R>, offset: u64) -> Option<u64> {
+    input.record_before(offset)
+}
+
+/// How many bytes a watched source holds that can be read without a call of its device.
+pub fn held_by<R: Source>(watched: &Watched<R>) -> usize {
+    watched.source().lend().len()
 }
 
 /// Whether something is wrong with an input that ended so.
@@ -38,16 +42,24 @@ pub fn is_wrong(end: &Option<StreamFault>) -> bool {
     !matches!(blame_by(end), Blame::Nothing)
 }
 
-/// Reports in which of the files that arguments name a fault lies that ended their bytes, after no record.
-pub fn report_fault_of<E: Sink>(
+/// Reports in which of the files that arguments name a fault lies that ended their bytes.
+pub fn report_fault_of<F: Files, E: Sink>(
     alloc: Global,
+    input: &Watched<Chain<F>>,
     words: &[&[u8]],
     fault: &StreamFault,
     errors: &mut E,
-) -> Result<(), AllocError> {
-    let chain = Chain::new(alloc, Named { words })?;
-    report_blame(alloc, errors, words, &chain, blame_of(fault), Ok(0));
-    Ok(())
+) {
+    report_blame(alloc, errors, words, input, blame_of(fault));
+}
+
+/// Reports why the input failed of a program whose arguments name no file, if a read of it did.
+pub fn report_failure_of<F: Files, E: Sink>(
+    input: &Watched<Chain<F>>,
+    fault: &StreamFault,
+    errors: &mut E,
+) {
+    report_reason(errors, input, blame_of(fault));
 }
 
 /// Reports that the file that an argument names can't be read, and, where it can't be looked at, that memory was
@@ -55,12 +67,12 @@ pub fn report_fault_of<E: Sink>(
 pub fn report_unread<E: Sink>(
     alloc: Global,
     word: &[u8],
-    looked: Result<bool, AllocError>,
+    looked: Result<Option<Reason>, AllocError>,
     errors: &mut E,
 ) {
     match looked {
-        Ok(true) => {}
-        Ok(false) => report_unreadable(alloc, errors, word),
+        Ok(None) => {}
+        Ok(Some(reason)) => report_unreadable(alloc, errors, word, reason),
         Err(AllocError) => report_no_memory(errors),
     }
 }
@@ -69,4 +81,9 @@ pub fn report_unread<E: Sink>(
 pub fn report_end<E: Sink>(fault: &StreamFault, before: u64, errors: &mut E) {
     report_fault(errors, fault);
     report_number(errors, b"mseed: ", before, b" bytes are read\n");
+}
+
+/// Reports that an argument names no channel.
+pub fn report_no_channel<E: Sink>(argument: &[u8], errors: &mut E) {
+    report_given(errors, b"", argument, b": no channel");
 }

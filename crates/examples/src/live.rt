@@ -69,6 +69,7 @@ pub fn log_of_a_link() -> Log {
     log.opened(0);
     log.received(0, b"HELLO\r");
     log.input(b"0");
+    log.handed(0, b"OK\r\n");
     log.emitted(0, b"OK\r\n");
     log.gone(0);
     log

@@ -27,7 +27,7 @@ pub fn packed_anew(
 pub fn may_be_retried(fault: &RepackFault) -> bool {
     match fault {
         RepackFault::Write | RepackFault::Memory => true,
-        RepackFault::Stream(_) | RepackFault::Broken(_) | RepackFault::Misfit(..) => false,
+        RepackFault::Stream(_) | RepackFault::Broken(..) | RepackFault::Misfit(..) => false,
     }
 }
 
@@ -94,11 +94,11 @@ pub fn line_of_three(alloc: Global) -> Vec<u8> {
     line.into_inner()
 }
 
-/// The line that says for which channel an archive is refused, where it is for one.
+/// The lines that say for which channel an archive is refused, where it is for one.
 pub fn line_of_refusal(alloc: Global, fault: &RepackFault) -> Vec<u8> {
     let mut line = Counted::new(Vec::new(alloc));
     match fault {
-        RepackFault::Broken(channel) => report_broken(channel, &mut line),
+        RepackFault::Broken(channel, first) => report_broken(channel, first, &mut line),
         RepackFault::Misfit(channel, number, fault) => {
             report_misfit(channel, *number, *fault, &mut line)
         }

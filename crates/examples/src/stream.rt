@@ -1,11 +1,11 @@
 //! Calls of `mseed_stream`.
 ghost use Rattle.std.specs.Prelude.{◌≡◌, IfOk};
 ghost use Rattle.mseed_stream.specs.Cutting.{IsAlong};
-ghost use Rattle.mseed_stream.specs.Device.{nothing_read};
+ghost use Rattle.mseed_stream.specs.Device.{HasRecordAt, nothing_read};
 
 use mseed_stream::{
     Buffered, Counted, Cutter, Exchanges, Failed, Sink, Source, StreamFault, Tally, read_all,
-    read_all_in, report, split, split_in, write_all_of, write_beyond,
+    read_all_in, read_all_into, report, split, split_in, split_read, write_all_of, write_beyond,
 };
 use std::alloc::{Allocator, Global};
 use std::io::{self, BufReader};
@@ -34,6 +34,14 @@ pub fn copy_in<A: Allocator + Drop>(alloc: A, bytes: &[u8]) -> Result<Vec<u8, A>
     read_all_in(alloc, &mut source)
 }
 
+/// As many bytes of a source as there are up to its end, or before it fails.
+pub fn copy_as_far<R: Source>(alloc: Global, source: &mut R) -> Vec<u8> {
+    let mut bytes = Vec::new(alloc);
+    match read_all_into(source, &mut bytes) {
+        Ok(()) | Err(_) => bytes,
+    }
+}
+
 /// Writes a line into memory; where it fails, the number of bytes that were taken.
 pub fn line_in_memory(alloc: Global) -> Result<Vec<u8>, usize> {
     let mut sink = Counted::new(Vec::new(alloc));
@@ -52,6 +60,21 @@ pub fn report_line(alloc: Global) -> usize {
 /// that were taken.
 pub fn write_lines<W: Sink>(sink: &mut W, lines: &mut Vec<u8>) -> Result<(), usize> {
     write_beyond(sink, lines, 1_024)
+}
+
+/// How many records a source has, where nothing is left after them.
+pub fn count_read<R: Source>(alloc: Global, source: &mut R) -> Result<usize, StreamFault>
+    requires { R.read source.old ≡ nothing_read }
+{
+    let bytes = read_all(alloc, source)?;
+    Ok(split_read(alloc, &bytes, source)?.len())
+}
+
+/// Tells a source of the record with which the bytes begin that were read of it.
+pub fn note_first<R: Source>(source: &mut R, size: usize)
+    requires { HasRecordAt (R.read source.old).bytes 0 size }
+{
+    source.note_record(0, size);
 }
 
 /// The length of the first record of a stream.

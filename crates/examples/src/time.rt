@@ -9,8 +9,8 @@ ghost use Rattle.mseed_time.specs.Ratios.{ratio_of};
 ghost use Rattle.mseed_time.specs.Text.{time_text};
 
 use mseed_time::{
-    Btime, Join, LeapStep, Micros, NoRate, Order, OutOfRange, Rate, Ratio, TimeFault, drift, join,
-    one_name, show_time, step_micros, two_digits,
+    Btime, Join, LeapStep, Micros, NoRate, Order, OutOfRange, Rate, Ratio, TimeFault, day_in_year,
+    drift, join, one_name, show_time, step_micros, two_digits,
 };
 
 /// The instant that is so many milliseconds from 1970-01-01T00:00:00.
@@ -60,6 +60,14 @@ pub fn clock_of(hour: u32, minute: u32) -> Option<[u8; 5]> {
     }
     let (hours, minutes) = (two_digits(hour), two_digits(minute));
     Some([hours[0], hours[1], b':', minutes[0], minutes[1]])
+}
+
+/// The day of the year of a date, such as 135 of 2024-05-14; `None` of no date of the years up to 9999.
+pub fn day_of_date(year: u16, month: u8, day: u8) -> Option<u16> {
+    if year > 9_999 {
+        return None;
+    }
+    day_in_year(year, month, day)
 }
 
 /// Turns a number of 16 bits into the other byte order.

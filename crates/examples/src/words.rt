@@ -2,11 +2,11 @@
 ghost use Rattle.std.specs.Prelude.{IfOk};
 ghost use Rattle.mseed_words.specs.Words.{CanBeCalled};
 
-use mseed_words::{Command, Refusal, Request, read};
+use mseed_words::{Command, Mistake, Refusal, Request, read};
 use std::alloc::Global;
 
 /// What the arguments of a command line request, those after the program's name.
-pub fn requested(alloc: Global, words: &[&str]) -> Result<Request, Refusal>
+pub fn requested<'a>(alloc: Global, words: &'a [&'a str]) -> Result<Request, Refusal<'a>>
     ensures { IfOk result CanBeCalled }
 {
     match read(alloc, words) {
@@ -30,11 +30,17 @@ pub fn places_requested(request: &Request) -> usize {
     }
 }
 
-/// What to report to whoever typed arguments that request nothing.
-pub fn answer_to(refusal: &Refusal) -> &str {
+/// What stands before what was given, in a line about a mistake: its option, and nothing of a word.
+pub fn option_of(mistake: Mistake) -> &'static str {
+    mistake.before()
+}
+
+/// What to report to whoever typed arguments that request nothing: of a mistake what is wrong with what was given, and
+/// what would be right.
+pub fn answer_to<'r>(refusal: &'r Refusal<'_>) -> &'r str {
     match refusal {
         Refusal::Text(text) => text.as_str(),
-        Refusal::NoRequest => "bad value\n",
-        Refusal::Memory => "no memory\n",
+        Refusal::NoRequest(mistake, _) => mistake.after(),
+        Refusal::Memory => "no memory",
     }
 }
