@@ -5,11 +5,14 @@
     tests/run.py --list
 
 Runs the row files in tests/rows, N side by side (as many as there are cores, where no number is given), or those that
-are named. The program is that of the build, or the one that $MSEED names; where there is none, it is built first. With
---gate the toolchain's own gate (`rt ci`, called by crates/prove.py) runs before, from nothing, and its count is added. A
-row that fails is printed with what was expected and what came, with -v also each one that passes. What isn't installed
-is counted as skipped and named. With --gate a tenth of the edits of tests/must-fail is tried too (edits.py), and what it
-all took stands before the last line, which is `N passed, M failed`.
+are named. The program is that of the build, or the one that $MSEED names; where there is none, it is built first. A row
+that fails is printed with what was expected and what came, with -v also each one that passes. What isn't installed is
+counted as skipped and named.
+
+With --gate the toolchain's own gate (`rt ci`, called by crates/prove.py) runs before, from nothing, and its count is
+added, where an edit of crates/NAME/must-fail that shows nothing counts as failed. Then `make lib` has to build the
+library, and rows run over what the gate has built, whatever $MSEED and $MSEED_LIB name. At last a tenth of the edits of
+tests/must-fail is tried (edits.py), and what it all took stands before the last line, which is `N passed, M failed`.
 """
 
 from __future__ import annotations
@@ -30,11 +33,14 @@ from driver.counting import Count, names
 from driver.program import BUILT, PROGRAM, ROOT
 from driver.side_by_side import run_all, run_and_report
 
+# What may name another program and another library than those that were built: not to the gate.
+NAMED = ("MSEED", "MSEED_LIB")
+
 
 def gate() -> Count:
     """Runs the toolchain's gate, shows what it prints, and counts what its last line counts. A gate that fails without
-    such a line, or that ran nothing, is a failure. It leaves the program that it proved and built, and what it proved of
-    the libraries, over which `make lib` builds the one for C."""
+    such a line, or that ran nothing, is a failure. It leaves the program that it proved and built, and what it proved
+    of the libraries, over which `make lib` builds the one for C."""
     BUILT.unlink(missing_ok=True)
     shutil.rmtree(library.BUILT, ignore_errors=True)
     last = ""
@@ -48,18 +54,34 @@ def gate() -> Count:
     if not count.passed + count.failed or run.returncode != 0 and not count.failed:
         print(f"FAILED rt ci: status {run.returncode}, {last.strip() or 'and no count'}")
         count.failed += 1
+    count.failures = ["rt ci"] * min(1, count.failed)
     return count
 
 
+def library_of_gate() -> Count:
+    """Has `make lib` build the library over what the gate has proved. Where it fails, it shows what was said: that is a
+    failure, and not for want of anything. Without a C compiler there is none, and rows skip it."""
+    if shutil.which("cc") is None:
+        return Count()
+    status, said = library.build()
+    if status == 0 and (library.BUILT / library.SHARED).exists():
+        return Count()
+    print(f"{said}FAILED make lib: status {status}")
+    # So that it isn't tried once more for the rows.
+    library.LATE.parent.mkdir(exist_ok=True)
+    library.LATE.touch()
+    return Count.failure("make lib")
+
+
 def edits_in_turn() -> Count:
-    """Tries the tenth of tests/must-fail whose turn it is. Where one isn't refused, the toolchain says which."""
+    """Tries the tenth of tests/must-fail whose turn it is. Where one isn't refused for what it does, it is named."""
     part, parts = edits.turn(), edits.tenths()
     print(f"edits of tests/must-fail: tenth {part + 1} of {len(parts)}, {len(parts[part])} edits", flush=True)
     status = edits.tried_by_gate(parts[part])
     if status == 0:
         return Count(passed=len(parts[part]))
     print(f"FAILED tests/edits.py --tenth: status {status}")
-    return Count(failed=1)
+    return Count.failure("tests/edits.py --tenth")
 
 
 def is_built() -> bool:
@@ -101,8 +123,12 @@ def main() -> int:
     if given.report:
         run_and_report(given.names[0], given.verbose, given.report)
         return 0
+    if given.gate and any(name in os.environ for name in NAMED):
+        rest = {name: value for name, value in os.environ.items() if name not in NAMED}
+        os.execve(sys.executable, [sys.executable, *sys.argv], rest)
     began = time.monotonic()
     count = gate() if given.gate else Count()
+    count.add(library_of_gate() if given.gate else Count())
     chosen = given.names or names()
     if is_built():
         # So that nothing is proved beside the rows.
@@ -111,7 +137,7 @@ def main() -> int:
         count.add(run_all(chosen, max(1, given.jobs), given.verbose))
     else:
         print(f"FAILED {PROGRAM}: no program")
-        count.failed += 1
+        count.add(Count.failure(str(PROGRAM)))
     if given.gate:
         count.add(edits_in_turn())
         print(taken(began))

@@ -11,6 +11,9 @@ from pathlib import Path
 
 from driver.rows import Case, Cases, Skipped
 
+# So many of those that failed are named once more at the end.
+NAMED_AGAIN = 20
+
 
 @dataclass
 class Count:
@@ -19,18 +22,27 @@ class Count:
     passed: int = 0
     failed: int = 0
     skipped: list[str] = field(default_factory=list)
+    # What failed, by name, each shown where it did.
+    failures: list[str] = field(default_factory=list, compare=False)
+
+    @classmethod
+    def failure(cls, name: str) -> Count:
+        """That one thing failed."""
+        return cls(failed=1, failures=[name])
 
     def add(self, other: Count) -> None:
         """Counts what another has counted."""
         self.passed += other.passed
         self.failed += other.failed
         self.skipped += other.skipped
+        self.failures += other.failures
 
     def lines(self) -> str:
-        """The last lines of a run: what was skipped, if anything, and the count."""
+        """The last lines of a run: what was skipped, if anything, what failed, named once more, and the count."""
         lines = [f"skipped {name}" for name in self.skipped]
         if self.skipped:
             lines.append(f"{len(self.skipped)} skipped: what they want isn't installed")
+        lines += [f"FAILED, as shown above: {name}" for name in self.failures[:NAMED_AGAIN]]
         return "\n".join([*lines, f"{self.passed} passed, {self.failed} failed"])
 
 
@@ -56,7 +68,7 @@ def judge(case: Case, count: Count, is_verbose: bool) -> None:
         if is_verbose:
             print(f"ok {case.name}")
         return
-    count.failed += 1
+    count.add(Count.failure(case.name))
     print(f"FAILED {case.name}\n  expected: {fault.expected}\n  came:     {fault.came}")
 
 
@@ -67,11 +79,12 @@ def run_file(name: str, is_verbose: bool) -> Count:
         for case in cases_of(name):
             judge(case, count, is_verbose)
     except Exception:
-        count.failed += 1
+        count.add(Count.failure("broke off"))
         print(f"FAILED {name}: broke off\n{traceback.format_exc()}")
     if not (count.passed or count.failed or count.skipped):
-        count.failed += 1
+        count.add(Count.failure("no rows"))
         print(f"FAILED {name}: no rows")
+    count.failures = [f"{name}: {failure}" for failure in count.failures]
     print(f"{name}: {count.passed} passed, {count.failed} failed in {time.monotonic() - begun:.0f} s")
     sys.stdout.flush()
     return count

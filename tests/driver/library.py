@@ -48,14 +48,16 @@ def library() -> Optional[Path]:
     return LIBRARY if (LIBRARY / SHARED).exists() else None
 
 
-def build() -> None:
-    """Builds it, unless that takes too long: whatever was started is over then."""
-    with subprocess.Popen(["make", "--silent", "lib"], cwd=ROOT, start_new_session=True,
-                          stdout=subprocess.DEVNULL, stderr=subprocess.DEVNULL) as run:
+def build() -> tuple[int, str]:
+    """Builds it, unless that takes too long: whatever was started is over then. How it ended, and what it said."""
+    with subprocess.Popen(["make", "--silent", "lib"], cwd=ROOT, start_new_session=True, stdin=subprocess.DEVNULL,
+                          stdout=subprocess.PIPE, stderr=subprocess.STDOUT, text=True, errors="replace") as run:
         try:
-            run.wait(MOST)
+            said = run.communicate(timeout=MOST)[0]
         except subprocess.TimeoutExpired:
             os.killpg(run.pid, signal.SIGKILL)
+            said = f"{run.communicate()[0]}It took longer than {MOST} s.\n"
+    return run.returncode, said
 
 
 def is_late() -> bool:

@@ -13,7 +13,7 @@ import select
 import subprocess
 from dataclasses import dataclass, field, replace
 from pathlib import Path
-from typing import IO, Iterator, Mapping, NamedTuple, Optional, Sequence, Union
+from typing import IO, Callable, Iterator, Mapping, NamedTuple, Optional, Sequence, Union
 
 from driver.program import LIMIT, PROGRAM
 from driver.texts import Expected, matches, shown
@@ -47,7 +47,8 @@ class Result(NamedTuple):
 class Row:
     """A run of the program with these arguments, and how it must end. The input is bytes, as a file or through a pipe
     byte by byte, or the path of a file or folder. Where `left` is a number, so many bytes of it stay unread. `out_to`
-    and `err_to` are written to in the place of files; the descriptors `closed` are closed from the first moment on."""
+    and `err_to` are written to in the place of files; the descriptors `closed` are closed from the first moment on.
+    `wait` waits for the end, where that isn't waited for as long as for any run."""
 
     name: str
     input: Union[bytes, Path]
@@ -61,6 +62,7 @@ class Row:
     out_to: Optional[str] = None
     err_to: Optional[str] = None
     closed: Sequence[int] = ()
+    wait: Optional[Callable[[subprocess.Popen], int]] = None
 
     def run(self) -> Result:
         """Runs the program once."""
@@ -73,7 +75,7 @@ class Row:
                               stdin=subprocess.PIPE if source is None else source)
             if source is None:
                 pour(self.input, process.stdin)
-            status, left = status_of(process), None
+            status, left = (self.wait or status_of)(process), None
             if source is not None and self.left is not None:
                 left = os.fstat(source).st_size - os.lseek(source, 0, os.SEEK_CUR)
             return Result(status, contents_of(out), contents_of(err), left)
@@ -173,14 +175,14 @@ def pour(input: bytes, pipe: IO[bytes]) -> None:
     pipe.close()
 
 
-def status_of(process: subprocess.Popen) -> int:
+def status_of(process: subprocess.Popen, seconds: float = LIMIT) -> int:
     """The status of a process once it has ended by itself, within the time that it has."""
     if process.poll() is None:
         # Waiting with a limit would look now and then, and sleep in between.
         watched = os.pidfd_open(process.pid)
         poller = select.poll()
         poller.register(watched, select.POLLIN)
-        has_ended = poller.poll(LIMIT * 1000)
+        has_ended = poller.poll(seconds * 1000)
         os.close(watched)
         if not has_ended:
             process.kill()

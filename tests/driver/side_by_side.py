@@ -19,9 +19,9 @@ from driver.counting import Count, run_file
 # The seconds that a row file may take.
 MOST = 1200
 # Those that take longest begin first.
-LONGEST = ["library", "library_python", "schedules", "relay", "damaged_archives", "join_archives", "join_texts",
-           "parts", "join_devices", "join_lines", "repack_series", "serve_archives", "devices", "recipes",
-           "instructions", "audit"]
+LONGEST = ["library", "first_build_sums", "library_python", "schedules", "tools_fetch_on_sds", "relay",
+           "damaged_archives", "join_archives", "join_texts", "parts", "join_devices", "join_lines", "repack_series",
+           "serve_archives", "devices", "recipes", "instructions", "long_inputs", "audit"]
 
 
 def run_all(names: Sequence[str], jobs: int, is_verbose: bool) -> Count:
@@ -55,7 +55,8 @@ def run_alone(name: str, is_verbose: bool) -> tuple[Count, str]:
         text = log.read_text(encoding="utf-8", errors="replace")
         if report.exists():
             return Count(**json.loads(report.read_text(encoding="ascii"))), text
-        return Count(failed=1), f"{text}FAILED {name}: status {process.returncode}, and no count\n"
+        failure = f"{name}: status {process.returncode}, and no count"
+        return Count.failure(failure), f"{text}FAILED {failure}\n"
 
 
 def run_and_report(name: str, is_verbose: bool, report: Path) -> None:

@@ -31,6 +31,15 @@ class Copy:
         for name in ("rt", "rattle", "rattle-link"):
             (self.bin / name).symlink_to(SOURCES / "local_rt.sh")
 
+    def source(self, crate: str) -> Path:
+        """The one of a crate."""
+        return self.folder / "crates" / crate / "src" / ("main.rt" if crate == "mseed" else "lib.rt")
+
+    def change(self, crate: str) -> None:
+        """Adds a line to it."""
+        with self.source(crate).open("a", encoding="utf-8") as file:
+            file.write("// One more line.\n")
+
     @staticmethod
     def sources() -> list[str]:
         """A source of each crate."""

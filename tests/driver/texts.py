@@ -5,12 +5,38 @@ from __future__ import annotations
 from dataclasses import dataclass
 from typing import Union
 
-BAD_VALUE = b"mseed: bad value\n"
 WRITE_FAILED = b"mseed: write failed\n"
 NO_MEMORY = b"mseed: no memory\n"
 LINK_FAILED = b"mseed: link failed\n"
 REFUSED = b"mseed: refused\n"
 BAD_FEED = b"mseed: bad feed\n"
+
+# Why a read failed, of an input that has no name.
+DEVICE_ERROR = b"mseed: input/output error\n"
+IS_DIRECTORY = b"mseed: is a directory\n"
+IS_CLOSED = b"mseed: bad file descriptor\n"
+
+
+def keeps(place: str, kept: int, came: int) -> bytes:
+    """The line of `serve` about a station of which more records came than its ring keeps."""
+    return f"mseed: {place} keeps the last {kept} of {came} records\n".encode()
+
+
+def foreign(number: int, place: str, size: int) -> str:
+    """Why a record isn't served, and the line more, without what begins the first one and ends the last one."""
+    return f"record {number} is not of this feed\nmseed: record {number} is of {place}, and has {size} bytes"
+
+
+def place_of(record: bytes) -> str:
+    """Network and station of a record as a line says them: each without the spaces and NULs at its end, and each byte
+    outside 32 to 126 as `?`."""
+    text = record[18:20].rstrip(b" \0") + b"_" + record[8:13].rstrip(b" \0")
+    return "".join(chr(byte) if 32 <= byte <= 126 else "?" for byte in text)
+
+
+def broken(name: str, record: int, offset: int, why: str) -> bytes:
+    """The line about a channel that is broken, and the one with its finding."""
+    return f"mseed: {name} is broken\nmseed: record {record} offset {offset} {why}\n".encode()
 
 
 @dataclass(frozen=True)
@@ -21,7 +47,23 @@ class About:
 
     def matches(self, text: bytes) -> bool:
         """Whether the parser wrote this."""
-        return self.word.encode() in text and BAD_VALUE.strip() not in text
+        return self.word.encode() in text and b"mseed: bad value" not in text
+
+
+@dataclass(frozen=True)
+class BadValue:
+    """That an argument means nothing, and a line more, which names it and says what would be right."""
+
+    about: str = ""
+
+    def matches(self, text: bytes) -> bool:
+        """Whether the two lines are these."""
+        first, _, more = text.partition(b"\n")
+        return (first == b"mseed: bad value" and more.startswith(b"mseed: ") and more.endswith(b"\n")
+                and more.count(b"\n") == 1 and self.about.encode() in more)
+
+
+BAD_VALUE = BadValue()
 
 
 @dataclass(frozen=True)
@@ -46,7 +88,7 @@ class PrefixOf:
         return self.text.startswith(text)
 
 
-Expected = Union[bytes, About, Without, PrefixOf]
+Expected = Union[bytes, About, BadValue, Without, PrefixOf]
 
 
 def matches(expected: Expected, text: bytes) -> bool:

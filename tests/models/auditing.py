@@ -277,6 +277,12 @@ def findings(channel: Channel) -> list[tuple[int, int, str]]:
     return found
 
 
+def broken_lines(key: bytes, found: tuple[int, int, str]) -> str:
+    """The line about a channel that is broken, and the one with its finding."""
+    number, offset, why = found
+    return f"mseed: {name_of(key)} is broken\nmseed: record {number} offset {offset} {why}\n"
+
+
 def lines_of_findings(channels: dict[bytes, Channel]) -> list[str]:
     """A line for each record with a finding, in the order of the archive."""
     found = sorted((number, offset, why, key) for key in channels for number, offset, why in findings(channels[key]))
@@ -349,8 +355,9 @@ def repack(archive: bytes) -> tuple[bytes, bytes, int]:
 def repacked(channels: dict[bytes, Channel]) -> tuple[bytes, bytes, int]:
     """The same of some channels."""
     for key in channels:
-        if findings(channels[key]):
-            return b"", f"mseed: {name_of(key)} is broken\n".encode(), 1
+        found = findings(channels[key])
+        if found:
+            return b"", broken_lines(key, found[0]).encode(), 1
     all_series = {key: series_of(channels[key]) for key in channels}
     for key, series in all_series.items():
         if misfit(series):

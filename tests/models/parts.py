@@ -144,19 +144,30 @@ def part(archive: bytes) -> bytes:
     return audit_part(archive)[0]
 
 
+# What is wrong with a line, and what would be right.
+NO_BEGINNING = "no beginning of a part; that is mseed part 1"
+NO_ROW = "neither a channel nor the counts; these are as records 2 bytes 256"
+NO_ORDER = "is out of order; channels ascend by their keys"
+NO_ENDING = "neither faults of this part nor the beginning of the next; that is mseed part 1"
+TOO_LARGE = "a sum passes 9223372036854775807, the most that a number can be"
+TOO_LONG = "no LF within 512 bytes; no line is longer"
+NO_LF = "no LF at the end of the input; each line ends with one"
+NO_COUNTS = "the input ends within a part; the counts are missing, as records 2 bytes 256"
+
+
 class Bad(Exception):
-    """A line that no part has at this place."""
+    """A line that no part has at this place, with what is wrong with it."""
 
 
-def need(is_so: object) -> None:
+def need(is_so: object, why: str) -> None:
     """Refuses the line where this isn't so."""
     if not is_so:
-        raise Bad
+        raise Bad(why)
 
 
 def added(*numbers: int) -> int:
     """A sum that a part can hold."""
-    need(sum(numbers) <= LARGEST)
+    need(sum(numbers) <= LARGEST, TOO_LARGE)
     return sum(numbers)
 
 
@@ -177,18 +188,18 @@ def is_rate(rate: tuple[int, int]) -> bool:
 def kept_in(line: str) -> tuple[bytes, Kept]:
     """The key and the channel of a line, which has to be one of a channel."""
     found = CHANNEL.fullmatch(line)
-    need(found)
+    need(found, NO_ROW)
     key, records, samples, *middle, findings_, number, offset, why = found.groups()
     h, t = middle[:5], middle[5:]
     head = Head(*map(int, h[:3]), (int(h[3]), int(h[4]))) if h[0] else None
     tail = Tail(int(t[0]), int(t[1]), (int(t[2]), int(t[3])), LEAPS.index(t[4])) if t[0] else None
     first = First(int(number), int(offset), why) if why else None
     kept = Kept(int(records), int(samples), head, tail, int(findings_), first)
-    need(all(number <= LARGEST for number in kept.numbers()))
-    need(all(FIRST_INSTANT <= end.start <= LAST_INSTANT and is_rate(end.rate) for end in (head, tail) if end))
-    need(not tail or 1 <= tail.samples <= 65535)
-    need((kept.findings > 0) == (first is not None) and (first or head and tail))
-    need(not first or has_bounds(first.why))
+    need(all(number <= LARGEST for number in kept.numbers()), NO_ROW)
+    need(all(FIRST_INSTANT <= end.start <= LAST_INSTANT and is_rate(end.rate) for end in (head, tail) if end), NO_ROW)
+    need(not tail or 1 <= tail.samples <= 65535, NO_ROW)
+    need((kept.findings > 0) == (first is not None) and (first or head and tail), NO_ROW)
+    need(not first or has_bounds(first.why), NO_ROW)
     return bytes.fromhex(key), kept
 
 
@@ -205,6 +216,7 @@ class Joiner:
 
     def read(self, line: str) -> None:
         """Takes the next line. Raises Bad where it isn't by the grammar or a sum is too large."""
+        need(len(line) < 512, TOO_LONG)
         if self.state == "within":
             self.read_within(line)
         elif self.state == "counts" and line.startswith("faults "):
@@ -212,7 +224,7 @@ class Joiner:
         elif self.state in ("counts", "faults") and line.startswith("fault at "):
             self.read_fault(line)
         else:
-            need(line == BEGIN)
+            need(line == BEGIN, NO_BEGINNING if self.state == "after" else NO_ENDING)
             self.parts += 1
             self.state, self.key, self.is_counted = "within", b"", self.joint.fault is None
 
@@ -221,13 +233,13 @@ class Joiner:
         counts, joint = COUNTS.fullmatch(line), self.joint
         if not counts:
             key, kept = kept_in(line)
-            need(key > self.key)
+            need(key > self.key, f"{name_of(key)} {NO_ORDER}")
             self.key = key
             if self.is_counted:
                 self.join(key, kept)
             return
         records, self.own_bytes = map(int, counts.groups())
-        need(max(records, self.own_bytes) <= LARGEST)
+        need(max(records, self.own_bytes) <= LARGEST, NO_ROW)
         if self.is_counted:
             joint.records, joint.bytes = added(joint.records, records), added(joint.bytes, self.own_bytes)
         self.state = "counts"
@@ -254,7 +266,7 @@ class Joiner:
     def read_faults(self, line: str) -> None:
         """How many faults were passed."""
         found = FAULTS.fullmatch(line)
-        need(found and 0 < int(found[1]) <= LARGEST)
+        need(found and 0 < int(found[1]) <= LARGEST, NO_ENDING)
         if self.is_counted:
             self.joint.faults = added(self.joint.faults, int(found[1]))
         self.state = "faults"
@@ -262,7 +274,7 @@ class Joiner:
     def read_fault(self, line: str) -> None:
         """The fault by which the part ends."""
         found = FAULT.fullmatch(line)
-        need(found and int(found[1]) == self.own_bytes and has_bounds(found[2]))
+        need(found and int(found[1]) == self.own_bytes and has_bounds(found[2]), NO_ENDING)
         self.state = "after"
         if self.past_faults:
             self.joint.faults = added(self.joint.faults, 1)
@@ -281,14 +293,15 @@ def join(text: bytes, part: bool = False, each: bool = False, past_faults: bool 
     for number, line in enumerate(lines, 1):
         try:
             joiner.read(line)
-        except Bad:
-            refused = f"mseed: bad part at line {number}"
+        except Bad as bad:
+            refused = f"mseed: bad part at line {number}\nmseed: {bad}"
             break
     else:
         if fails:
             refused = f"mseed: fault at {len(text)} read"
         elif rest or joiner.state == "within":
-            refused = f"mseed: bad part at line {len(lines) + 1}"
+            why = TOO_LONG if len(rest) >= 512 else NO_LF if rest else NO_COUNTS
+            refused = f"mseed: bad part at line {len(lines) + 1}\nmseed: {why}"
         elif expect is not None and joiner.parts != expect:
             refused = f"mseed: {joiner.parts} parts, not {expect}"
     borders = text_of(joiner.borders) if each else b""
@@ -296,3 +309,8 @@ def join(text: bytes, part: bool = False, each: bool = False, past_faults: bool 
         return 2, borders, text_of([*joiner.reported, refused])
     joint = joiner.joint
     return joint.status(), joint.part_text() if part else borders + joint.audit_text(), text_of(joiner.reported)
+
+
+def flaw(text: bytes, *words: str) -> str:
+    """The line more that says what is wrong with the first bad line of a text, read with these options."""
+    return join(text, past_faults="--past-faults" in words)[2].decode().splitlines()[-1] + "\n"

@@ -167,10 +167,11 @@ def line_of(offset: int, record: Record) -> str:
 
 
 def repack(archive: bytes, selection: Selection = Selection(), stretches: bool = False, leave: bool = False) -> Ended:
-    """Packing their channels anew into Steim-2, 512 bytes a record. Of an archive with a fault nothing is taken."""
+    """Packing their channels anew into Steim-2, 512 bytes a record. Of an archive with a fault nothing is taken, but how
+    many records before it lack a time is reported."""
     found = chosen(archive, selection)
     if found.fault:
-        return b"", f"mseed: fault at {found.end} {found.fault}\n".encode(), 2
+        return b"", found.errors(f"mseed: fault at {found.end} {found.fault}\n".encode()), 2
     channels = by_channel(found.records)
     output, errors, status = restretched_channels(channels, leave=leave) if stretches else repacked(channels)
     return output, found.errors(errors), status
@@ -187,8 +188,7 @@ def place_of(offset: int, sizes: Sequence[int]) -> tuple[int, int]:
 
 def fault_place(archive: bytes, sizes: Sequence[int]) -> Optional[tuple[int, int]]:
     """Which of the files with these sizes has the archive's fault, and where in it: the file in which its offset lies,
-    or, where the record before it begins in another one, that file and record. A record that is cut off has its own
-    place, unless a file ends within the record before it."""
+    or, where the record before it reaches over the end of the file in which it begins, that file and record."""
     records, end, fault = cut(archive)
     if not fault:
         return None
@@ -196,8 +196,7 @@ def fault_place(archive: bytes, sizes: Sequence[int]) -> Optional[tuple[int, int
     if not records:
         return place
     before = place_of(records[-1][0], sizes)
-    reached = place_of(end - 1, sizes) if fault.startswith("truncated") else place
-    return before if before[0] != reached[0] else place
+    return before if before[0] != place_of(end - 1, sizes)[0] else place
 
 
 def fault_line(archive: bytes, files: Sequence[tuple[bytes, int]]) -> bytes:

@@ -5,7 +5,7 @@ from __future__ import annotations
 import dataclasses
 from typing import NamedTuple, Optional
 
-from models.auditing import Channel, Record, channels_of, cut, name_of
+from models.auditing import Channel, Record, broken_lines, channels_of, cut, finding, name_of
 from models.packing import SECOND, Series, btime, fits, packed
 
 SHIFTS = {16: SECOND, 32: -SECOND}
@@ -49,6 +49,12 @@ class Misfit(NamedTuple):
 def is_sound(record: Record) -> bool:
     """Whether nothing is found of a record by itself."""
     return not isinstance(record.start(), str) and record.rate() is not None and not isinstance(record.read(), str)
+
+
+def first_own(channel: Channel) -> tuple[int, int, str]:
+    """The first finding that is a record's own."""
+    return next((number, offset, str(finding(None, record))) for number, offset, record in channel
+                if not is_sound(record))
 
 
 def stretches_of(records: list[Record]) -> list[Stretch]:
@@ -117,8 +123,9 @@ def restretched_channels(numbered: dict[bytes, Channel], exponent: int = 9, enco
                   for key, misfit in misfits.items() if misfit})
     status = 2 if any(misfits.values()) else 1 if broken else 0
     if not leave and lines:
-        first = min(broken) if broken else min(lines)
-        return b"", lines[first].encode(), 1 if broken else 2
+        if broken:
+            return b"", broken_lines(min(broken), first_own(numbered[min(broken)])).encode(), 1
+        return b"", lines[min(lines)].encode(), 2
     output = b"".join(record for key, some in stretches.items() if key not in lines
                       for record in packed_on(some, exponent, encoding))
     return output, "".join(lines[key] for key in sorted(lines)).encode(), status
