@@ -137,7 +137,7 @@ FIGURES = [
     Figure("docs/developing.md", "a tenth of the second folder, ", " or ", least_tenth),
     Figure("docs/developing.md", " or ", " edits of up to", most_of_tenth),
     *(Figure("docs/developing.md", f"| {cores} | ", " |\n", minutes_of_first(cores)) for cores in (2, 4, 8)),
-    Figure("docs/developing.md", "`mseed_files` is proved once: some ", " minutes of processors, by the",
+    Figure("docs/developing.md", "`slink_wire` is proved once: some ", " minutes of processors, by the",
            minutes_from("mseed_time")),
     Figure("docs/developing.md", "it is `mseed_audit` and the crates above it, some ", ".",
            minutes_from("mseed_audit")),

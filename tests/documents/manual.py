@@ -9,10 +9,12 @@ import subprocess
 from pathlib import Path
 from typing import Optional
 
+from documents.tool_pages import tool_pages
 from driver.examples import printed_by
 from driver.program import ROOT
 
-PAGES = sorted((ROOT / "man").iterdir())
+# Those of the program and of its commands; those of the tools are written by the tools' own words.
+PAGES = sorted(set((ROOT / "man").iterdir()) - set(tool_pages()))
 EXAMPLES = re.compile(r"(?<=^\.Bd -literal -offset indent\n)\$ .*?(?=^\.Ed\n)", re.MULTILINE | re.DOTALL)
 
 

@@ -11,7 +11,7 @@ from typing import Iterable, Iterator
 from driver.program import ROOT
 from driver.records import blockette_1000, chain_of_500, frame, next_record, record
 from driver.rows import Cases, Row, both
-from driver.texts import BAD_VALUE, WRITE_FAILED
+from driver.texts import BAD_VALUE, IS_DIRECTORY, WRITE_FAILED, About
 from models.auditing import repack
 
 START = "2024-01-01T00:00:00.000000"
@@ -49,14 +49,16 @@ def audits_file(name: str, status: int, archive: bytes, *lines: str) -> Iterator
 
 def packs_anew(name: str, status: int, archive: bytes, text: str) -> Row:
     """An archive of which an audit writes this text is packed anew. Where it can't be, the standard error names the
-    fault, else the first channel that is broken."""
+    fault, else the first channel that is broken, with its first finding."""
     name = f"{name}, packed anew"
     if status == 0:
         packed = repack(archive)
         return Row(name, archive, ["repack"], packed[2], packed[0], packed[1])
     line = "fault at" + text.rpartition("fault at")[2]
     if status == 1:
-        line = text.partition(" broken ")[0].rpartition("\n")[2] + " is broken\n"
+        before, _, behind = text.partition(" broken ")
+        found = behind.partition(" first ")[2].partition("\n")[0]
+        line = before.rpartition("\n")[2] + f" is broken\nmseed: {found}\n"
     return Row(name, archive, ["repack"], status, b"", f"mseed: {line}".encode())
 
 
@@ -266,24 +268,25 @@ def words() -> Cases:
     yield Row("an audit with a fault, and leaves 0 bytes", FIRST + LATE + FIRST[:10], ["audit"], 2,
               f"{broken}fault at 256 truncated 10\n".encode(), left=0)
     refused: list[tuple] = [
-        ("no word",),
-        ("another word", "unpack"),
-        ("an option of another command", "audit", "--port", "18000"),
-        ("an option and no command", "--length=512"),
-        ("a capital letter", "Audit"),
-        ("a space after", "audit "),
-        ("an empty word", ""),
-        ("a word that is not UTF-8", b"audit\xff"),
+        ("no word", About("Commands:")),
+        ("another word", BAD_VALUE, "unpack"),
+        ("an option of another command", About("--port"), "audit", "--port", "18000"),
+        ("an option and no command", About("--length"), "--length=512"),
+        ("a capital letter", BAD_VALUE, "Audit"),
+        ("a space after", BAD_VALUE, "audit "),
+        ("an empty word", BAD_VALUE, ""),
+        ("a word that is not UTF-8", BAD_VALUE, b"audit\xff"),
     ]
-    for name, *given in refused:
-        yield from both(Row(name, TWO, given, 3, b"", BAD_VALUE))
-        yield Row(f"{name}, and leaves 256 bytes", TWO, given, 3, b"", BAD_VALUE, left=256)
+    for name, err, *given in refused:
+        yield from both(Row(name, TWO, given, 3, b"", err))
+        yield Row(f"{name}, and leaves 256 bytes", TWO, given, 3, b"", err, left=256)
 
 
 def devices() -> Cases:
     """An output, an input and a standard error that fail."""
     yield Row("a full output", TWO, ["audit"], 2, b"", WRITE_FAILED, out_to="/dev/full")
-    yield Row("an input that cannot be read", ROOT, ["audit"], 2, b"records 0 channels 0\nfault at 0 read\n")
+    yield Row("an input that cannot be read", ROOT, ["audit"], 2, b"records 0 channels 0\nfault at 0 read\n",
+              IS_DIRECTORY)
     yield Row("full standard error", TWO, ["audit"], 2, out_to="/dev/full", err_to="/dev/full")
     yield Row("full standard error for other words", TWO, [], 3, err_to="/dev/full")
 

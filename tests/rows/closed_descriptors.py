@@ -10,7 +10,7 @@ from driver.feed import Fetching, Server, fetch_words
 from driver.links import addresses_at, listening, port_of
 from driver.program import SAMPLES
 from driver.rows import Cases, Fact, Row, holds
-from driver.texts import WRITE_FAILED
+from driver.texts import IS_CLOSED, WRITE_FAILED
 from models.peers import Speaker, fetch_link
 from models.seedlink import Client, Place, record_of, records_in
 
@@ -23,9 +23,9 @@ ENDED = (0, b"", b"")
 
 # What the three commands that open no link write where nothing can be read.
 UNREAD = {
-    "audit": (2, b"records 0 channels 0\nfault at 0 read\n", b""),
-    "show": (2, b"records 0\nfault at 0 read\n", b""),
-    "repack": (2, b"", b"mseed: fault at 0 read\n"),
+    "audit": (2, b"records 0 channels 0\nfault at 0 read\n", IS_CLOSED),
+    "show": (2, b"records 0\nfault at 0 read\n", IS_CLOSED),
+    "repack": (2, b"", b"mseed: fault at 0 read\n" + IS_CLOSED),
 }
 
 

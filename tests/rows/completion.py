@@ -9,7 +9,7 @@ from typing import Iterator, NamedTuple
 
 from documents.manual import PAGES, options_named
 from driver.program import ROOT
-from driver.rows import Cases, Fact, Row, holds
+from driver.rows import Cases, Fact, Row
 
 COMPLETION = ROOT / "completion" / "mseed.bash"
 COMMANDS = ["audit", "join", "show", "select", "repack", "serve", "fetch"]
@@ -44,14 +44,17 @@ def proposed_for(*words: str) -> Proposed:
 
 def options() -> Cases:
     """The options are those of the help, and of each command those of its page."""
-    text = COMPLETION.read_text(encoding="utf-8")
-    for option in sorted(set(re.findall(r"--[a-z][a-z-]*", Row("", b"", ["--help"], 3).run().err.decode()))):
-        yield holds(f"{option} is proposed", re.search(rf"(?<!\S){option}(?!\S)", text), text)
+    overview = Row("", b"", ["--help"], 3).run().err.decode()
+    commands = re.findall(r"^  ([a-z]+)  +[a-z]", overview.partition("Commands:")[2], re.MULTILINE)
+    yield Fact("the commands are those of the help", sorted([*commands, "--help", "--version"]), proposed_for("").words)
     for page in PAGES:
         command = page.stem.partition("-")[2]
         if command:
             wanted = sorted(f"--{option}" for option in options_named(page.read_text(encoding="utf-8")))
             yield Fact(f"the options of {command}", wanted, proposed_for(command, "-").words)
+            text = Row("", b"", [command, "--help"], 3).run().err.decode()
+            listed = set(re.findall(r"^ +(--[a-z][a-z-]*)", text, re.MULTILINE)) - {"--help"}
+            yield Fact(f"the options of {command}, by its help", sorted(listed), proposed_for(command, "--").words)
 
 
 def values() -> Iterator[tuple[list[str], list[str], bool]]:
@@ -68,6 +71,7 @@ def values() -> Iterator[tuple[list[str], list[str], bool]]:
         yield [command, "<", "-"], [], True
         yield [command, ">>", ""], [], True
     yield ["audit", "join", "--e"], ["--each"], False
+    yield ["-x", "audit", "--e"], [], False
     yield ["join", "--e"], ["--each", "--expect"], False
     yield ["join", "--expect", ""], [], False
     yield ["join", "--expect", "2", ""], [], True

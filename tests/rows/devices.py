@@ -9,7 +9,7 @@ from driver.helpers import COMPILER, library, preloaded
 from driver.program import SAMPLES
 from driver.records import payload, record
 from driver.rows import Cases, Row, Skipped
-from driver.texts import BAD_VALUE, WRITE_FAILED
+from driver.texts import DEVICE_ERROR, WRITE_FAILED
 
 TWO = (SAMPLES / "two_records.mseed").read_bytes()
 ONE = TWO[:128]
@@ -39,7 +39,7 @@ def fails_to_read(failing: str, size: int, words: Sequence[str], out: str, err: 
     for piece in (1, WHOLE):
         if piece > 1 or size in (0, 1, 47, 48, 63, 64, 127, 128, 200, 255, 256):
             yield Row(f"{' '.join(words)} over an input that fails after {size} bytes, {piece} at once", TWO, words, 2,
-                      out.encode(), err.encode(), env=preloaded(failing, READ_ROOM=size, PIECE=piece))
+                      out.encode(), err.encode() + DEVICE_ERROR, env=preloaded(failing, READ_ROOM=size, PIECE=piece))
 
 
 def outputs(failing: str) -> Cases:
@@ -66,11 +66,10 @@ def inputs(failing: str) -> Cases:
 
 
 def errors(failing: str) -> Cases:
-    """A standard error that takes each prefix of a line and no more."""
+    """A standard error that takes each prefix of a line, or of two, and no more."""
     for status, line, settings, words in (
-        (3, BAD_VALUE, {}, []),
-        (3, BAD_VALUE, {}, ["audit", ""]),
-        (3, BAD_VALUE, {}, ["unpack"]),
+        (3, b"mseed: bad value\nmseed: an empty argument: it names no file\n", {}, ["audit", ""]),
+        (3, b"mseed: bad value\nmseed: --leave: only with --stretches\n", {}, ["repack", "--leave"]),
         (2, WRITE_FAILED, {"WRITE_ROOM": 0}, ["audit"]),
         (2, WRITE_FAILED, {"WRITE_ROOM": 0}, ["show"]),
     ):

@@ -98,10 +98,10 @@ MISQUOTED = [
 ]
 # Rows of a table of crates that are wrong, and one that is right but for some lines.
 MISCOUNTED = [
-    ("| `mseed_time` | 41 | 797 | 311 | 784 | 6 |", False),
-    ("| `mseed_time` | 63 | 797 | 311 | 784 | 5 |", False),
-    ("| `mseed_time` | 41 | 1,797 | 311 | 784 | 5 |", False),
-    ("| `mseed_time` | 41 | 797 | 310 | 784 | 5 |", True),
+    ("| `mseed_time` | 43 | 828 | 336 | 1,078 | 7 |", False),
+    ("| `mseed_time` | 65 | 828 | 336 | 1,078 | 6 |", False),
+    ("| `mseed_time` | 43 | 1,828 | 336 | 1,078 | 6 |", False),
+    ("| `mseed_time` | 43 | 827 | 336 | 1,078 | 6 |", True),
 ]
 
 

@@ -1,5 +1,5 @@
-"""The edits of tests/must-fail by tenths, of which the gate tries one: each has its turn. And each edit can be applied:
-its crate has the file, and the text that it turns stands there once."""
+"""The edits of tests/must-fail by tenths, of which the gate tries one: each has its turn. Each edit can be applied: its
+crate has the file, and the text that it turns stands there once. And one that is refused for its shape alone fails."""
 
 from __future__ import annotations
 
@@ -18,6 +18,11 @@ from driver.program import CRATES, SOURCES
 from driver.rows import Cases, Fact, holds
 
 
+# A crate that stands on no other.
+LOW = "mseed_time"
+TURN = 7
+
+
 def by_turn() -> Cases:
     """The tenths, and whose turn it is."""
     tenths = edits.tenths()
@@ -26,38 +31,52 @@ def by_turn() -> Cases:
     yield Fact("together they are the whole list, each edit once", edits.edits_of(),
                [edit for of in tenths for edit in of])
     yield holds("they are of like size", max(map(len, tenths)) - min(map(len, tenths)) <= 1, list(map(len, tenths)))
-    yield holds("one of them has its turn", edits.turn() in range(10), edits.turn())
     with tempfile.TemporaryDirectory() as folder:
-        source = Path(folder) / "crates/a/src/lib.rt"
-        source.parent.mkdir(parents=True)
-        met = []
-        for number in range(100):
-            source.write_text(f"fn f() -> u32 {{ {number} }}\n", encoding="ascii")
-            met.append(edits.turn(Path(folder) / "crates"))
-        yield Fact("over a hundred changes each has its turn", set(range(10)), set(met))
-        (source.parents[1] / "out").mkdir()
-        (source.parents[1] / "out/made").write_bytes(b"")
-        yield Fact("what was made changes nothing", met[-1], edits.turn(Path(folder) / "crates"))
+        crates, tried = Path(folder) / "crates", Path(folder) / "must-fail"
+        source, edit = crates / "a/src/lib.rt", tried / "a/b.edit"
+        for file in (source, edit):
+            file.parent.mkdir(parents=True)
+        edit.write_text("", encoding="ascii")
+        for name, file in (("a source", source), ("an edit", edit)):
+            met = []
+            for number in range(100):
+                file.write_text(f"fn f() -> u32 {{ {number} }}\n", encoding="ascii")
+                met.append(edits.turn(crates, tried))
+            yield Fact(f"over a hundred changes of {name} each has its turn", set(range(10)), set(met))
+        # By sha256sum.
+        yield Fact("whose turn it is, of a source and an edit that both have 99", TURN, met[-1])
+        (crates / "a/out").mkdir()
+        (crates / "a/out/made").write_bytes(b"")
+        yield Fact("what was made changes nothing", met[-1], edits.turn(crates, tried))
         source.rename(source.with_name("other.rt"))
-        names = {edits.turn(Path(folder) / "crates")}
-        shutil.copytree(source.parents[1] / "src", source.parents[1] / "specs")
-        names.add(edits.turn(Path(folder) / "crates"))
+        names = {edits.turn(crates, tried)}
+        shutil.copytree(crates / "a/src", crates / "a/specs")
+        names.add(edits.turn(crates, tried))
         yield holds("a file's name counts, and its folder", names != {met[-1]}, names)
 
 
 def by_gate() -> Cases:
-    """A tenth by a stand-in for the toolchain: each edit has to be refused."""
-    some = edits.tenths()[0]
+    """A tenth, and the edits of one crate, by a stand-in for the toolchain: each edit has to be refused for what it
+    does."""
     with tempfile.TemporaryDirectory() as folder:
-        (Path(folder) / "rt").symlink_to(SOURCES / "local_rt.sh")
-        words = {"PATH": f"{folder}:{os.environ['PATH']}", "RT_PROGRAM": os.devnull}
-        for name, more, wanted in [("all are refused", {}, 0), ("one is not", {"RT_MISSED": some[-1].name}, 1),
-                                   ("the gate fails", {"RT_FAILS": "all"}, 1)]:
-            with mock.patch.dict(os.environ, {**words, **more}), contextlib.redirect_stdout(io.StringIO()) as said:
-                found = edits.tried_by_gate(some)
-            yield Fact(f"{name}: the status", wanted, found)
-            lacking = f"not refused: {some[-1].parent.name}/{some[-1].name}" in said.getvalue().splitlines()
-            yield Fact(f"{name}: which one is named", "RT_MISSED" in more, lacking)
+        kit = Path(folder) / "bin"
+        kit.mkdir()
+        for name in ("rt", "rattle"):
+            (kit / name).symlink_to(SOURCES / "local_rt.sh")
+        words = {"PATH": f"{kit}:{os.environ['PATH']}", "RT_PROGRAM": os.devnull}
+        for way, some in ((edits.tried_by_gate, edits.tenths()[0]), (edits.tried, edits.edits_of([LOW]))):
+            last = f"{some[-1].parent.name}/{some[-1].name}"
+            for name, more, wanted in [("all are refused", {}, (0, None)),
+                                       ("one is not", {"RT_MISSED": some[-1].name}, (1, f"not refused: {last}")),
+                                       ("one is bad", {"RT_BAD": some[-1].name}, (1, f"not refused: {last}")),
+                                       ("one is for its shape alone", {"RT_SHAPE": some[-1].name},
+                                        (1, f"refused for their shape alone: {last}")),
+                                       ("the toolchain fails", {"RT_FAILS": "all"}, (1, None))]:
+                with mock.patch.dict(os.environ, {**words, **more}), contextlib.redirect_stdout(io.StringIO()) as said:
+                    found = way(some)
+                named = [line for line in said.getvalue().splitlines() if re.match("(not )?refused", line)]
+                yield Fact(f"{way.__name__}, {name}: the status, and which one is named", wanted,
+                           (found, named[0] if named else None))
 
 
 def fault_of(edit: Path) -> Optional[str]:

@@ -7,7 +7,7 @@ from typing import Optional, Sequence
 
 from driver.feed import Cut, Proxy, fetch, fetch_words
 from driver.rows import Cases, Fact, Row, holds
-from driver.texts import BAD_FEED, BAD_VALUE
+from driver.texts import BAD_FEED, About
 from models.common_numbers import CommonServer, Numbered
 from models.peers import Speaker
 from models.seedlink import SPAN, Place, record_of
@@ -122,7 +122,7 @@ def boundaries() -> Cases:
 def words() -> Cases:
     """Where the flag goes."""
     yield Row("serve has no such flag", b"", ["serve", "--port", "1", "--station", "STA", "--network", "XX", HOLES], 3,
-              b"", BAD_VALUE)
+              b"", About(HOLES))
     speaker = Speaker([[OK * 2 + b"SL000007" + record_of(STA, 0) + b"END"]])
     requested = fetch_words([STA], speaker.port, HOLES, "--tell-next", wants=[5])
     yield Row("an output that takes nothing after a hole", b"", requested, 2, b"",

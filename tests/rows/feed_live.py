@@ -11,156 +11,41 @@ import subprocess
 import tempfile
 import threading
 import time
-from pathlib import Path
-from typing import Callable, Iterator, NamedTuple, Optional, Sequence
+from typing import Iterator, Sequence
 
-from driver.feed import Ended, Env, fetch, kept, words_of
+from driver.feed import Ended, fetch, kept
 from driver.helpers import COMPILER, library, preloaded
-from driver.links import HOST, OPEN, dialled, free_port, is_listened_at, listening, port_of, received_up_to, sockets
-from driver.program import LIMIT
-from driver.rows import Cases, Fact, Row, Skipped, contents_of, holds, started, status_of
-from driver.texts import BAD_VALUE, LINK_FAILED, About
+from driver.links import HOST, dialled, free_port, listening, port_of
+from driver.live import FINE, GRANTED, PACKET, PATIENCE, REQUEST, STA, Held, Live, granted, held_of, is_open, numbered
+from driver.live import recorded
+from driver.patience import MORE
+from driver.records import record
+from driver.rows import Cases, Fact, Row, Skipped, holds
+from driver.texts import BAD_VALUE, LINK_FAILED, About, Expected, foreign
 from models.seedlink import Place, record_of
 
-STA, STB = Place("XX_STA"), Place("XX_STB")
-REQUEST = b"STATION STA XX\r\nDATA %06X\r\nEND\r\n"
-GRANTED = b"OK\r\nOK\r\n"
-PACKET = 520
-FINE = Ended(0, b"", b"")
+STB = Place("XX_STB")
 # More bytes than the system keeps of a link that isn't read.
 MANY = 20000
 
 
-class Held(NamedTuple):
-    """A record that a client holds, under the number that the server gave it."""
-
-    number: int
-    bytes: bytes
-
-
-def recorded(count: int, places: Sequence[Place] = (STA,)) -> list[bytes]:
-    """So many records, of one place after another."""
-    return [record_of(places[index % len(places)], index) for index in range(count)]
-
-
-def numbered(records: Sequence[bytes]) -> list[Held]:
-    """The records as a client has to hold them."""
-    return [Held(number, record) for number, record in enumerate(records)]
-
-
-def held_of(stream: bytes) -> list[Held]:
-    """The records of the whole packets of a stream."""
-    packets = [stream[at : at + PACKET] for at in range(0, len(stream) - PACKET + 1, PACKET)]
-    return [Held(int(packet[2:8], 16), packet[8:]) for packet in packets]
-
-
-def until(holds_now: Callable[[], object], seconds: float = LIMIT) -> bool:
-    """Waits until something holds, and answers whether it did in time."""
-    end = time.monotonic() + seconds
-    while not holds_now():
-        if time.monotonic() > end:
-            return False
-        time.sleep(0.003)
-    return True
-
-
-class Live:
-    """`mseed serve --live` over an input that is fed while it runs, once it listens or has ended."""
-
-    def __init__(self, *options: object, places: Sequence[Place] = (STA,), port: Optional[int] = None,
-                 stdin: int = subprocess.PIPE, env: Env = None, closed: Sequence[int] = ()):
-        self.port = port or free_port()
-        self.errors = tempfile.TemporaryFile()
-        words = ["serve", "--live", "--port", str(self.port), *words_of(places, options)]
-        self.process = kept(started(words, env, closed, stdin=stdin, stdout=subprocess.DEVNULL, stderr=self.errors))
-        until(lambda: not self.is_going() or is_listened_at(self.port))
-
-    def is_going(self) -> bool:
-        """Whether it hasn't ended."""
-        return self.process.poll() is None
-
-    def feed(self, piece: bytes) -> None:
-        """Gives it bytes at once."""
-        with contextlib.suppress(BrokenPipeError):
-            self.process.stdin.write(piece)
-            self.process.stdin.flush()
-
-    def reported(self) -> bytes:
-        """What it wrote so far."""
-        return contents_of(self.errors)
-
-    def end_input(self) -> None:
-        """Ends its input."""
-        with contextlib.suppress(BrokenPipeError):
-            self.process.stdin.close()
-
-    def end(self) -> Ended:
-        """How it ended, once its input has."""
-        self.end_input()
-        return Ended(status_of(self.process), b"", self.reported())
-
-    def kill(self) -> None:
-        """Ends it at once."""
-        self.process.kill()
-        self.process.wait()
-
-    def ticks(self) -> int:
-        """The processor time that it needed so far, in hundredths of a second."""
-        fields = Path(f"/proc/{self.process.pid}/stat").read_text(encoding="ascii").split()
-        return int(fields[13]) + int(fields[14])
-
-    def links(self) -> int:
-        """How many links stand, on the server's side."""
-        return sum(near.endswith(f":{self.port:04X}") and state == OPEN for near, _, state in sockets())
-
-
-def granted(port: int, number: int, room: Optional[int] = None) -> Optional[socket.socket]:
-    """A link that is sent the records from a number on, or nothing where that is refused or nobody listens. Where a
-    room is named, the system keeps about so many bytes of it that aren't read."""
-    link = socket.socket()
-    link.settimeout(LIMIT)
-    if room is not None:
-        link.setsockopt(socket.SOL_SOCKET, socket.SO_RCVBUF, room)
-    with contextlib.suppress(OSError):
-        link.connect((HOST, port))
-        link.sendall(REQUEST % number)
-        if received_up_to(link, len(GRANTED)) == GRANTED:
-            return link
-    link.close()
-    return None
-
-
-def brought_by(link: socket.socket, most: int) -> bytes:
-    """What a link brings next, at most so many bytes, and none at its end, however it ends."""
-    try:
-        return link.recv(min(most, 1 << 18))
-    except OSError:
-        return b""
-
-
-def taken(link: socket.socket, most: int) -> bytes:
-    """What a link brings, up to so many bytes, or to its end."""
-    came = bytearray()
-    while len(came) < most and (brought := brought_by(link, most - len(came))):
-        came += brought
-    return bytes(came)
-
-
 def hold_all(port: int, count: int, seed: int, held: list[Held]) -> None:
-    """A client that is cut off at random, within packets too, and goes on until it holds so many records. While the
-    server isn't there, or hasn't read on to where the client stands, it tries again."""
-    chance, end = random.Random(seed), time.monotonic() + LIMIT
-    while len(held) < count and time.monotonic() < end:
+    """A client that is cut off at random, within packets too, and goes on until it holds so many records, or nothing
+    has come for too long. While the server isn't there, or hasn't read on to where it stands, it tries again."""
+    chance, since = random.Random(seed), time.monotonic()
+    while len(held) < count and time.monotonic() - since < PATIENCE.seconds():
         link = granted(port, len(held))
-        if link is None:
+        if not is_open(link):
             time.sleep(0.01)
             continue
         with link:
             left, first, came = PACKET * (count - len(held)), len(held), bytearray()
             most = min(left, chance.randrange(PACKET, left + PACKET))
-            while len(came) < most and (brought := brought_by(link, most - len(came))):
+            while len(came) < most and (brought := PATIENCE.brought_by(link, most - len(came))):
                 came += brought
                 held[first:] = held_of(came)
+                since = time.monotonic()
+    PATIENCE.lose(len(held) < count)
 
 
 def started_clients(clients: int, port: int, count: int) -> tuple[list[threading.Thread], list[list[Held]]]:
@@ -182,8 +67,7 @@ def many_at_once() -> Cases:
         live.feed(record[:cut])
         live.feed(record[cut:])
         time.sleep(0.001)
-    for thread in threads:
-        thread.join(LIMIT)
+    PATIENCE.joined(threads, MORE)
     yield Fact("each of 64 clients holds each record once, in order", 64,
                sum(held == numbered(records) for held in helds))
     yield Fact("the server of 64 ends with its input", FINE, live.end())
@@ -191,7 +75,7 @@ def many_at_once() -> Cases:
 
 def take_all(link: socket.socket, came: bytearray) -> None:
     """A client that takes what it is sent, to the end."""
-    while brought := brought_by(link, 1 << 18):
+    while brought := PATIENCE.brought_by(link, 1 << 18):
         came += brought
 
 
@@ -206,15 +90,15 @@ def one_never_reads() -> Cases:
         thread.start()
     kept_up = True
     for at in range(0, len(records), 100):
-        kept_up = kept_up and until(lambda: all(len(came) >= PACKET * (at - 400) for came in cames), 60)
+        kept_up = kept_up and PATIENCE.until(lambda: all(len(came) >= PACKET * (at - 400) for came in cames))
         live.feed(b"".join(records[at : at + 100]))
     yield holds("ten that read are sent on beside one that never does", kept_up)
     yield Fact("one that never reads keeps no server from its end", FINE, live.end())
-    for thread in threads:
-        thread.join(LIMIT)
+    PATIENCE.joined(threads)
     yield Fact("ten that read hold all", 10, sum(held_of(came) == numbered(records) for came in cames))
-    rest = taken(deaf, PACKET * len(records))
-    yield holds("one that never read was sent a beginning", held_of(rest) == numbered(records)[: len(rest) // PACKET])
+    rest = held_of(PATIENCE.taken(deaf, PACKET * len(records)))
+    yield holds("one that never read was sent a beginning", 0 < len(rest) < len(records), len(rest))
+    yield holds("and nothing else", rest == numbered(records)[: len(rest)])
 
 
 def silent_clients() -> Cases:
@@ -226,7 +110,7 @@ def silent_clients() -> Cases:
     time.sleep(1)
     cost = live.ticks() - before
     yield holds("200 silent clients cost no time", cost <= 3, cost)
-    yield Fact("200 silent clients are given up", [b""] * 200, [taken(link, 10) for link in links])
+    yield Fact("200 silent clients are given up", 200, PATIENCE.closed(links))
     yield Fact("the server of silent clients ends", FINE, live.end())
 
 
@@ -238,14 +122,17 @@ def times() -> Cases:
     records = recorded(1) * MANY
     live.feed(records[0])
     yield Fact("one that waited for longer than the time is served", numbered(records[:1]),
-               held_of(received_up_to(waiting, PACKET)))
+               held_of(PATIENCE.taken(waiting, PACKET)))
     waiting.close()
     deaf = granted(live.port, 0, room=4096)
+    yield holds("one that will take nothing stands alone", PATIENCE.until(lambda: live.links() == 1))
     live.feed(b"".join(records[1:]))
-    yield holds("one that takes nothing is given up, though the input goes on", until(lambda: live.links() == 0, 60))
+    yield holds("one that takes nothing is given up, though the input goes on",
+                PATIENCE.until(lambda: live.links() == 0))
     yield holds("the server goes on", live.is_going())
-    rest = held_of(taken(deaf, PACKET * MANY))
-    yield holds("one that accepted nothing was sent a beginning", rest == numbered(records)[: len(rest)])
+    rest = held_of(PATIENCE.taken(deaf, PACKET * MANY))
+    yield holds("one that accepted nothing was sent a beginning", 0 < len(rest) < MANY, len(rest))
+    yield holds("and nothing more", rest == numbered(records)[: len(rest)])
     yield Fact("the server of one that accepted nothing ends", FINE, live.end())
 
 
@@ -264,10 +151,9 @@ def killed_and_started_anew() -> Cases:
             file.write(archive[written:size])
             file.flush()
             written = size
-            until(lambda: all(len(held) >= size // 512 - 10 for held in helds), 60)
+            PATIENCE.until(lambda: all(len(held) >= size // 512 - 10 for held in helds))
             if size == len(archive):
-                for thread in threads:
-                    thread.join(LIMIT)
+                PATIENCE.joined(threads, MORE)
             live.kill()
             tail.kill()
     yield Fact("each of eight clients holds each record once, over two kills", 8,
@@ -281,22 +167,20 @@ def more_than_clients() -> Cases:
     live.feed(b"".join(records))
     first, second, third = granted(live.port, 0), granted(live.port, 0), dialled(live.port)
     yield Fact("one that waits for records has those of its place", numbered(records[::2]),
-               held_of(received_up_to(first, PACKET * 30)))
+               held_of(PATIENCE.taken(first, PACKET * 30)))
     third.sendall(REQUEST % 0)
     third.settimeout(0.5)
     with contextlib.suppress(socket.timeout):
         yield Fact("a third one, with two slots, isn't served", "a time-out", third.recv(1))
     first.close()
-    third.settimeout(LIMIT)
-    yield Fact("until one of the two has gone", GRANTED, received_up_to(third, len(GRANTED)))
+    yield Fact("until one of the two has gone", GRANTED, PATIENCE.taken(third, len(GRANTED)))
     second.close()
     third.close()
     ends: list[Ended] = []
     clients = [threading.Thread(target=lambda: ends.append(fetch([STB], live.port)), daemon=True) for _ in range(8)]
     for client in clients:
         client.start()
-    for client in clients:
-        client.join(LIMIT)
+    PATIENCE.joined(clients)
     yield Fact("eight fetches by two slots", [Ended(0, b"".join(records[1::2]), b"")] * 8, ends)
     yield Fact("the server of two slots ends", FINE, live.end())
 
@@ -308,7 +192,7 @@ def one_after_another() -> Cases:
     live.feed(b"".join(records))
     for turn in range(4):
         link = granted(live.port, 0)
-        yield Fact(f"client {turn} by one slot", numbered(records), held_of(received_up_to(link, PACKET * 3)))
+        yield Fact(f"client {turn} by one slot", numbered(records), held_of(PATIENCE.taken(link, PACKET * 3)))
         link.close()
     yield Fact("the server of one slot ends", FINE, live.end())
 
@@ -318,14 +202,13 @@ def in_turns() -> Cases:
     often, seldom = [record_of(STA, index) for index in range(2000)], [record_of(STB, index) for index in range(3)]
     live = Live("--capacity", 4000, "--timeout", 60, places=[STA, STB])
     live.feed(b"".join(seldom + often))
-    yield holds("all of a busy place are there", until(lambda: is_there(live.port, len(often) - 1)))
+    yield holds("all of a busy place are there", PATIENCE.until(lambda: is_there(live.port, len(often) - 1)))
     link = dialled(live.port)
-    link.settimeout(LIMIT)
     link.sendall(b"STATION STA XX\r\nDATA 0\r\nSTATION STB XX\r\nDATA 0\r\nEND\r\n")
-    yield Fact("both places are granted", GRANTED * 2, received_up_to(link, len(GRANTED) * 2))
+    yield Fact("both places are granted", GRANTED * 2, PATIENCE.taken(link, len(GRANTED) * 2))
     wanted = [Held(number, place[number]) for number in range(3) for place in (often, seldom)]
     yield Fact("three packets of a quiet place come beside a busy one's", wanted + [Held(3, often[3])],
-               held_of(received_up_to(link, PACKET * 7)))
+               held_of(PATIENCE.taken(link, PACKET * 7)))
     link.close()
     yield Fact("the server of a busy place ends", FINE, live.end())
 
@@ -335,7 +218,7 @@ def granted_of(links: Sequence[socket.socket], least: int) -> list[socket.socket
     def ready() -> list[socket.socket]:
         return select.select(links, [], [], 0)[0]
 
-    until(lambda: len(ready()) >= least, 60)
+    PATIENCE.until(lambda: len(ready()) >= least)
     time.sleep(0.3)
     return ready()
 
@@ -354,7 +237,8 @@ def exact_numbers() -> Cases:
         others = granted_of([link for link in links if link not in first], leaving)
         yield Fact(f"as many are served for the {leaving} of {most} that go", leaving, len(others))
         live.feed(record_of(STA, 0))
-        held = [held_of(taken(link, len(GRANTED) + PACKET)[len(GRANTED):]) for link in [*first[leaving:], *others]]
+        came = [PATIENCE.taken(link, len(GRANTED) + PACKET) for link in [*first[leaving:], *others]]
+        held = [held_of(stream[len(GRANTED):]) for stream in came]
         yield Fact(f"each of {most} has a record", [numbered(recorded(1))] * most, held)
         for link in links:
             link.close()
@@ -374,7 +258,7 @@ def lingering() -> Cases:
     for _ in range(10):
         talking.sendall(b"x" * 100)
     for name, link in [("says nothing more", halved), ("goes on to say things", talking), ("stays", staying)]:
-        came = taken(link, PACKET * (len(records) + 1))
+        came = PATIENCE.taken(link, PACKET * (len(records) + 1))
         yield holds(f"one that {name} has all, and the end", came[-3:] == b"END" and held_of(came) == numbered(records),
                     len(came))
     halved.close()
@@ -389,13 +273,13 @@ def lingering() -> Cases:
 def granted_fetch(port: int, count: int) -> socket.socket:
     """A link that is sent the records that there are, once there are so many, and then the end. It takes little at a
     time, so that much is still to be written when it says more."""
-    until(lambda: is_there(port, count - 1), 60)
+    PATIENCE.until(lambda: is_there(port, count - 1))
     link = socket.socket()
-    link.settimeout(LIMIT)
+    link.settimeout(PATIENCE.seconds())
     link.setsockopt(socket.SOL_SOCKET, socket.SO_RCVBUF, 4096)
     link.connect((HOST, port))
     link.sendall(b"STATION STA XX\r\nFETCH 000000\r\nEND\r\n")
-    received_up_to(link, len(GRANTED))
+    PATIENCE.taken(link, len(GRANTED))
     return link
 
 
@@ -403,7 +287,7 @@ def is_there(port: int, number: int) -> bool:
     """Whether the record of a number is there."""
     with dialled(port) as link:
         link.sendall(b"STATION STA XX\r\nFETCH %06X\r\nEND\r\n" % number)
-        return received_up_to(link, len(GRANTED)) == GRANTED
+        return PATIENCE.taken(link, len(GRANTED)) == GRANTED
 
 
 def closed_streams() -> Cases:
@@ -417,7 +301,7 @@ def closed_streams() -> Cases:
         link = granted(live.port, 0)
         live.feed(b"".join(records) + b"x" * 64)
         sent = b"".join(b"SL%06X" % held.number + held.bytes for held in numbered(records))
-        yield Fact(f"a client of serve --live with {closed} closed", sent, taken(link, PACKET * 9))
+        yield Fact(f"a client of serve --live with {closed} closed", sent, PATIENCE.taken(link, PACKET * 9))
         link.close()
         outcome = b"" if 2 in closed else b"mseed: fault at 1536 notdata\n"
         yield Fact(f"serve --live with {closed} closed", Ended(2, b"", outcome), live.end())
@@ -427,7 +311,13 @@ def closed_streams() -> Cases:
 WRONG = [
     ("within a record", recorded(1)[0][:100], b"mseed: fault at 1536 truncated 100\n"),
     ("with bytes that begin no record", b"x" * 64 + recorded(1)[0], b"mseed: fault at 1536 notdata\n"),
-    ("with another station's record", record_of(STB, 0) + recorded(1)[0], b"mseed: record 4 is not of this feed\n"),
+    ("with another station's record", record_of(STB, 0) + recorded(1)[0],
+     f"mseed: {foreign(4, STB.text, 512)}\n".encode()),
+    ("with a record of 128 bytes", record(exponent=7) + recorded(1)[0],
+     f"mseed: {foreign(4, 'XX_STA', 128)}\n".encode()),
+    # The rest of it isn't waited for.
+    ("with the beginning of a long record", record(codes=b"OTHR   BHZXX", exponent=12)[:600],
+     f"mseed: {foreign(4, 'XX_OTHR', 4096)}\n".encode()),
 ]
 
 
@@ -439,7 +329,8 @@ def bad_inputs() -> Cases:
         link = granted(live.port, 0)
         live.feed(b"".join(records) + tail)
         live.end_input()
-        yield Fact(f"a client of an input that ends {name}", numbered(records), held_of(taken(link, PACKET * 9)))
+        yield Fact(f"a client of an input that ends {name}", numbered(records),
+                   held_of(PATIENCE.taken(link, PACKET * 9)))
         link.close()
         yield Fact(f"an input that ends {name}", Ended(2, b"", line), live.end())
 
@@ -450,14 +341,15 @@ def told_at_once() -> Cases:
     live = Live("--timeout", 60, "--capacity", MANY)
     slow = granted(live.port, 0, room=1 << 16)
     live.feed(b"".join(records) + b"x" * 64)
-    yield holds("the line is reported at once", until(lambda: live.reported() == line, 60), live.reported())
+    yield holds("the line is reported at once", PATIENCE.until(lambda: live.reported() == line), live.reported())
     yield holds("a client that has much to take yet is served on", live.is_going() and live.links() >= 1)
     late = dialled(live.port)
     late.sendall(REQUEST % 0)
-    yield holds("it takes all that came before", held_of(taken(slow, PACKET * (MANY + 1))) == numbered(records))
+    rest = held_of(PATIENCE.taken(slow, PACKET * (MANY + 1)))
+    yield holds("it takes all that came before", rest == numbered(records), len(rest))
     slow.close()
     yield Fact("the server ends once it has", Ended(2, b"", line), live.end())
-    yield Fact("who comes after the end isn't served", b"", taken(late, 1))
+    yield Fact("who comes after the end isn't served", b"", PATIENCE.taken(late, 1))
 
 
 def failing() -> Cases:
@@ -475,27 +367,31 @@ def failing() -> Cases:
         yield Fact(f"serve --live of an input that fails after {room} bytes", Ended(2, b"", line), live.end())
 
 
+def row(name: str, words: Sequence[str], input: bytes = b"", wrong: Expected = b"") -> Row:
+    """A run that ends by itself, and soon: well, or with a line about what is wrong with its arguments."""
+    return Row(name, input, words, 3 if wrong else 0, b"", wrong, wait=PATIENCE.status_of)
+
+
 def words() -> Iterator[Row]:
     """What goes with `--live`, and what doesn't."""
-    serve: Sequence[str] = ["serve", "--station", "STA", "--network", "XX", "--port", str(free_port())]
-    yield Row("live, with no input", b"", [*serve, "--live"], 0)
-    yield Row("live, with two records", b"".join(recorded(2)), [*serve, "--live"], 0)
+    serve = ["serve", "--station", "STA", "--network", "XX", "--port", str(free_port())]
+    yield row("live, with no input", [*serve, "--live"])
+    yield row("live, with two records", [*serve, "--live"], b"".join(recorded(2)))
     for clients in ("1", "64", "1024", "+0007"):
-        yield Row(f"live, with {clients} clients", b"", [*serve, "--live", "--clients", clients], 0)
+        yield row(f"live, with {clients} clients", [*serve, "--live", "--clients", clients])
     for clients in ("0", "1025", "-1", "1.5", "x", ""):
-        yield Row(f"live, with {clients} clients", b"", [*serve, "--live", f"--clients={clients}"], 3, b"",
-                  About("clients"))
-    yield Row("live twice", b"", [*serve, "--live", "--live"], 3, b"", About("live"))
-    yield Row("clients twice", b"", [*serve, "--live", "--clients", "1", "--clients", "1"], 3, b"", About("clients"))
-    yield Row("live, with connections", b"", [*serve, "--live", "--connections", "1"], 3, b"", BAD_VALUE)
-    yield Row("clients without live", b"", [*serve, "--clients", "2"], 3, b"", BAD_VALUE)
-    yield Row("live, with a capacity of 0", b"", [*serve, "--live", "--capacity", "0"], 3, b"", BAD_VALUE)
-    yield Row("live, with a place that has a number", b"", [*serve, "--live", "XX_STB:1"], 3, b"", BAD_VALUE)
-    yield Row("live, with an option of fetch", b"", [*serve, "--live", "--from", "0"], 3, b"", BAD_VALUE)
+        yield row(f"live, with {clients} clients", [*serve, "--live", f"--clients={clients}"], wrong=About("clients"))
+    yield row("live twice", [*serve, "--live", "--live"], wrong=About("live"))
+    yield row("clients twice", [*serve, "--live", "--clients", "1", "--clients", "1"], wrong=About("clients"))
+    yield row("live, with connections", [*serve, "--live", "--connections", "1"], wrong=BAD_VALUE)
+    yield row("clients without live", [*serve, "--clients", "2"], wrong=BAD_VALUE)
+    yield row("live, with a capacity of 0", [*serve, "--live", "--capacity", "0"], wrong=BAD_VALUE)
+    yield row("live, with a place that has a number", [*serve, "--live", "XX_STB:1"], wrong=BAD_VALUE)
+    yield row("live, with an option of fetch", [*serve, "--live", "--from", "0"], wrong=About("--from"))
     for command in ("audit", "show", "repack", "join"):
-        yield Row(f"{command}, live", b"", [command, "--live"], 3, b"", BAD_VALUE)
-    yield Row("fetch, live", b"", ["fetch", *serve[1:], "--live"], 3, b"", BAD_VALUE)
-    yield Row("fetch, with clients", b"", ["fetch", *serve[1:], "--clients", "2"], 3, b"", BAD_VALUE)
+        yield row(f"{command}, live", [command, "--live"], wrong=About("--live"))
+    yield row("fetch, live", ["fetch", *serve[1:], "--live"], wrong=About("--live"))
+    yield row("fetch, with clients", ["fetch", *serve[1:], "--clients", "2"], wrong=About("--clients"))
 
 
 def rows() -> Cases:

@@ -15,7 +15,7 @@ from typing import Optional, Sequence
 from driver.feed import Cut, Fetching, Proxy, Server, fetch, fetch_words, kept
 from driver.program import LIMIT
 from driver.rows import Cases, Fact, Row, contents_of, holds, started
-from driver.texts import BAD_FEED, BAD_VALUE, LINK_FAILED, REFUSED, WRITE_FAILED, About
+from driver.texts import BAD_FEED, LINK_FAILED, REFUSED, WRITE_FAILED, About
 from models.peers import Speaker
 from models.seedlink import SPAN, Place, record_of
 
@@ -71,7 +71,7 @@ def lines() -> Cases:
     yield from at_a_speaker("three stations, refused", b"ERROR\r\n", [STA, STB, OTHER], [None, 7, 0xFFFFFF],
                             2, b"", REFUSED + NEXT + b" XX_STB:000007 n_A1b2C:FFFFFF\n", TELL)
     yield Row("serve has no such flag", b"", ["serve", "--port", "1", "--station", "STA", "--network", "XX", TELL], 3,
-              b"", BAD_VALUE)
+              b"", About(TELL))
     yield Row("doubled", b"", ["fetch", "--port", "1", "--station", "STA", "--network", "XX", TELL, TELL], 3, b"",
               About("--tell-next"))
 

@@ -8,7 +8,7 @@ from typing import Generator, Sequence
 from driver.feed import Fetching, Server, fetch
 from driver.links import free_port
 from driver.rows import Case, Cases, Fact, holds
-from driver.texts import REFUSED
+from driver.texts import REFUSED, keeps
 from models.peers import fetch_link, serving
 from models.seedlink import Client, Place, feed_of, record_of, records_in
 
@@ -33,16 +33,17 @@ def split(output: bytes) -> list[bytes]:
 
 
 def pair(name: str, records: Sequence[bytes], places: Sequence[Place], wanted: Sequence[bytes],
-         serve: Sequence[object] = (), options: Sequence[object] = ()) -> Generator[Case, None, bytes]:
+         serve: Sequence[object] = (), options: Sequence[object] = (),
+         lines: bytes = b"") -> Generator[Case, None, bytes]:
     """The program fetches from the program: its output. `wanted` are the records that come, those of each place in
-    order."""
+    order, and `lines` those of the server's standard error."""
     server = Server(b"".join(records), places, *serve)
     status, output, errors = fetch(places, server.port, *options)
     came = by_place(places, split(output))
     yield Fact(f"{name}: fetch ends", (0, b""), (status, errors))
     yield holds(f"{name}: the records", came == by_place(places, wanted) and len(output) == 512 * len(wanted),
                 [len(one) for one in came])
-    yield Fact(f"{name}: serve ends", ENDED, server.end())
+    yield Fact(f"{name}: serve ends", (0, b"", lines), server.end())
     return output
 
 
@@ -51,10 +52,11 @@ def one_place() -> Cases:
     records = records_at_random(1, [STA], 10000)
     output = yield from pair("all of 10,000", records, [STA], records, ["--capacity", 10000])
     yield holds("all of 10,000, byte for byte", output == b"".join(records))
-    output = yield from pair("the last 1,000", records, [STA], records[-1000:])
+    output = yield from pair("the last 1,000", records, [STA], records[-1000:], lines=keeps("XX_STA", 1000, 10000))
     yield holds("the last 1,000, byte for byte", output == b"".join(records[-1000:]))
     yield from pair("an empty archive", [], [STA], [])
-    yield from pair("a ring of 1", records[:9], [STA], records[8:9], ["--capacity", "0000001"])
+    yield from pair("a ring of 1", records[:9], [STA], records[8:9], ["--capacity", "0000001"],
+                    lines=keeps("XX_STA", 1, 9))
     yield from pair("the largest ring", records[:9], [STA], records[:9], ["--capacity", 1000000])
 
 
@@ -64,7 +66,8 @@ def three_places() -> Cases:
     records = records_at_random(2, places, 10000)
     yield from pair("three stations mixed", records, places, records, ["--capacity", 10000])
     last = [one for each in by_place(places, records) for one in each[-100:]]
-    yield from pair("the last 100 of three", records, places, last, ["--capacity", 100])
+    lines = [keeps(place.text, 100, len(each)) for place, each in zip(places, by_place(places, records))]
+    yield from pair("the last 100 of three", records, places, last, ["--capacity", 100], lines=b"".join(lines))
     server = Server(b"".join(records), places, "--capacity", 10000)
     status, output, errors = fetch([OTHER, STA], server.port)
     wanted = by_place([OTHER, STA], records)
@@ -100,9 +103,9 @@ def words() -> Cases:
     yield Fact("serve ends after them", ENDED, server.end())
     records = records_at_random(6, [STB], 3)
     port = free_port()
-    serve = ["--first", "abcDEF", "serve", "--network", "XX", f"--port={port}", "--station", "STB"]
+    serve = ["serve", "--first", "abcDEF", "--network", "XX", f"--port={port}", "--station", "STB"]
     server = Server(b"".join(records), words=serve, port=port)
-    run = Fetching(["--station=STB", "--port", str(port), "--from", "ABCdef", "--network=XX", "fetch"]).end()
+    run = Fetching(["fetch", "--station=STB", "--port", str(port), "--from", "ABCdef", "--network=XX"]).end()
     yield Fact("words in another order", (0, b"".join(records), b""), run)
     yield Fact("serve by words in another order", ENDED, server.end())
 

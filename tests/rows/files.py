@@ -7,6 +7,7 @@ import random
 import re
 import subprocess
 import tempfile
+import threading
 from pathlib import Path
 from typing import Iterator, Optional, Sequence
 
@@ -14,6 +15,7 @@ from driver.program import LIMIT, PROGRAM, SAMPLES
 from driver.records import next_record, record
 from driver.rows import Cases, Fact, Row, Word, holds
 from driver.texts import BAD_VALUE, WRITE_FAILED
+from models.parts import flaw
 
 TWO = SAMPLES / "two_records.mseed"
 ARCHIVE = TWO.read_bytes()
@@ -24,9 +26,10 @@ COMMANDS: list[list[Word]] = [["audit"], ["audit", "--each"], ["audit", "--part"
 NOBODY = 65534
 
 
-def cannot_read(word: bytes) -> bytes:
+def cannot_read(word: bytes, reason: bytes = b"not found") -> bytes:
     """The line of a file that can't be read: what isn't a printable character of ASCII is reported as `?`."""
-    return b"mseed: cannot read " + bytes(b if 32 <= b <= 126 else ord("?") for b in word) + b"\n"
+    shown = bytes(b if 32 <= b <= 126 else ord("?") for b in word)
+    return b"mseed: cannot read " + shown + b": " + reason + b"\n"
 
 
 def pieces(archive: bytes, cuts: Sequence[int]) -> Iterator[bytes]:
@@ -72,20 +75,28 @@ def refused(folder: Path) -> Cases:
     good, none, directory = str(TWO), str(folder / "none"), str(folder)
     for command in (["audit"], ["join"], ["show"], ["repack"]):
         for words, word in [([none], none), ([good, none], none), ([good, directory, none], directory)]:
-            yield Row(f"{command} {words}", ARCHIVE, [*command, *words], 2, b"", cannot_read(word.encode()),
+            reason = b"is a directory" if word == directory else b"not found"
+            yield Row(f"{command} {words}", ARCHIVE, [*command, *words], 2, b"", cannot_read(word.encode(), reason),
                       left=len(ARCHIVE))
     for name in (b"no\nne", b"n\xff", b"~"):
         path = os.path.join(os.fsencode(folder), name)
         yield Row(f"no file {name!r}", b"", ["audit", path], 2, b"", cannot_read(path))
     long = "x" * 5000
-    yield Row("a long word", b"", ["audit", long], 2, b"", cannot_read(long.encode()))
+    yield Row("a long word", b"", ["audit", long], 2, b"", cannot_read(long.encode(), b"file name too long"))
     for words in ([b"audit", b"audit"], [b"join", b"audit"], [b"show", b"XX_STB"], [b"join", b"no \xff"],
                   [b"audit", b"--", b"-\xff"]):
         yield Row(f"not there {words}", ARCHIVE, words, 2, b"", cannot_read(words[-1]), left=len(ARCHIVE))
     for words in (["audit", ""], ["audit", none, ""], ["audit", "-", "-"], ["show", "-", good, "-"]):
         yield Row(f"bad {words}", ARCHIVE, words, 3, b"", BAD_VALUE)
-    for words in ([b"audit", b"-\xff"], [b"serve", b"\xff"], [b"\xff"]):
+    for words in ([b"audit", b"-\xff"], [b"\xff"]):
         yield Row(f"bad {words}", ARCHIVE, words, 3, b"", BAD_VALUE)
+    loop, other = folder / "loop", folder / "other"
+    loop.symlink_to(other)
+    other.symlink_to(loop)
+    yield Row("links that lead to one another", b"", ["audit", str(loop)], 2, b"",
+              cannot_read(str(loop).encode(), b"too many levels of symbolic links"))
+    yield Row("below a file", b"", ["audit", f"{good}/below"], 2, b"",
+              cannot_read(f"{good}/below".encode(), b"not a directory"))
 
 
 def output(folder: Path) -> Cases:
@@ -95,21 +106,53 @@ def output(folder: Path) -> Cases:
     with open(path, "ab") as out:
         ran = subprocess.run([PROGRAM, "audit", str(TWO), str(path)], stdout=out, stderr=subprocess.PIPE,
                              stdin=subprocess.DEVNULL, timeout=LIMIT, check=False)
-    yield Fact("audit of its own output", (2, cannot_read(str(path).encode())), (ran.returncode, ran.stderr))
+    yield Fact("audit of its own output", (2, cannot_read(str(path).encode(), b"is the output")),
+               (ran.returncode, ran.stderr))
     yield holds("its output is untouched", path.read_bytes() == ARCHIVE, path.stat().st_size)
 
 
 def unreadable(folder: Path) -> Cases:
-    """A file that may not be read, reported before anything is read."""
+    """A file that may not be read, reported before anything is read where its name is UTF-8, and else in its turn."""
     if os.geteuid() != 0:
         return
-    path = folder / "locked"
-    path.write_bytes(ARCHIVE)
-    path.chmod(0)
-    ran = subprocess.run([PROGRAM, "audit", "/dev/null", str(path)], capture_output=True, timeout=LIMIT, check=False,
-                         user=NOBODY, stdin=subprocess.DEVNULL)
-    expected = (2, b"", cannot_read(str(path).encode()))
-    yield Fact("a file without permission", expected, (ran.returncode, ran.stdout, ran.stderr))
+    [good] = written(folder, [ARCHIVE])
+    for name in (b"locked", b"\xc3\xa9", b"l\xff"):
+        path = os.path.join(os.fsencode(folder), name)
+        Path(os.fsdecode(path)).write_bytes(ARCHIVE)
+        os.chmod(path, 0)
+        if name == b"l\xff":
+            ran = subprocess.run([PROGRAM, "show", good, path], capture_output=True, timeout=LIMIT, check=False,
+                                 user=NOBODY)
+            yield Fact(f"show of {name!r}, without permission", (2, cannot_read(path, b"permission denied")),
+                       (ran.returncode, ran.stderr))
+            continue
+        for command in (*COMMANDS, ["join"], ["select"]):
+            for before in ("/dev/null", good, "-"):
+                with open(good, "rb") as given:
+                    ran = subprocess.run([PROGRAM, *command, before, path], capture_output=True, timeout=LIMIT,
+                                         check=False, user=NOBODY, stdin=given)
+                    unread = len(ARCHIVE) - os.lseek(given.fileno(), 0, os.SEEK_CUR)
+                yield Fact(f"{command} of {os.path.basename(before)}, and of {name!r}, without permission",
+                           (2, b"", cannot_read(path, b"permission denied"), len(ARCHIVE)),
+                           (ran.returncode, ran.stdout, ran.stderr, unread))
+    yield from opened_once(folder)
+
+
+def opened_once(folder: Path) -> Cases:
+    """A pipe of any name is opened in its turn, and once: whoever writes into it is read to the end."""
+    for name in (b"pipe", b"p\xff"):
+        path = os.path.join(os.fsencode(folder), name)
+        os.mkfifo(path)
+        writer = threading.Thread(target=Path(os.fsdecode(path)).write_bytes, args=(ARCHIVE[100:],), daemon=True)
+        begin = written(folder, [ARCHIVE[:100]])[0]
+        writer.start()
+        try:
+            ran = subprocess.run([PROGRAM, "select", begin, path], capture_output=True, timeout=20, check=False,
+                                 stdin=subprocess.DEVNULL)
+            came = ran.returncode, ran.stdout, ran.stderr
+        except subprocess.TimeoutExpired:
+            came = "no end"
+        yield Fact(f"a pipe named {name!r}", (0, ARCHIVE, b""), came)
 
 
 def piped(folder: Path) -> Cases:
@@ -164,10 +207,25 @@ FAULTS: list[tuple[str, list[bytes], int, int]] = [
     ("the middle one ends within a record", [record(), record()[:127], record()], 1, 0),
     ("it reaches over two", [record() + LONG[:300], record()[:100], b"", record() * 4], 0, 128),
     ("the first ends within a header", [record() + record()[:46], record()], 0, 128),
-    # After a record that ends with its file, the fault is reported of that record.
-    ("a file of junk after a sound one", [record() * 3, JUNK], 0, 256),
-    ("a file of junk between sound ones", [record(), record() * 2, JUNK, record()], 1, 128),
-    ("a file of junk after an empty one", [record(), b"", JUNK], 0, 0),
+    # After a record that ends with its file, the fault is reported of the file that is none.
+    ("a file of junk after a sound one", [record() * 3, JUNK], 1, 0),
+    ("a file of junk between sound ones", [record(), record() * 2, JUNK, record()], 2, 0),
+    ("a file of junk after an empty one", [record(), b"", JUNK], 2, 0),
+    ("a file of junk after empty ones", [b"", record() * 2, b"", b"", b"", JUNK, b""], 5, 0),
+    ("a file of junk alone, after an empty one", [b"", JUNK], 1, 0),
+    ("a file of junk after a long one", [record() * 50, LONG, JUNK * 200, record()], 2, 0),
+    ("a file of one byte after a sound one", [record(), b"x"], 1, 0),
+    ("a piece of a record after a sound one", [record(), record()[:60]], 1, 0),
+    ("a file of junk after one in two files", [record()[:100], record()[100:], JUNK], 0, 0),
+    ("a file of junk after one in three files", [record() + LONG[:1], b"", LONG[1:300], LONG[300:], b"", JUNK], 0, 128),
+    ("a file of junk after one in two files, and a sound one", [record()[:100], record()[100:], record(), JUNK], 3, 0),
+    ("a file of junk after one in two files, and a sound one there", [record()[:100], record()[100:] + record(), JUNK],
+     2, 0),
+    ("a piece of a record after one in two files", [record()[:100], record()[100:] + record()[:99]], 0, 0),
+    ("a piece in two files after a sound one", [record(), LONG[:60], LONG[60:90]], 1, 0),
+    ("a piece that begins in a sound file", [record() + LONG[:60], LONG[60:90]], 0, 128),
+    ("a header that two files have, and is none", [record() + record()[:46], b"\0\0" + record()[48:]], 0, 128),
+    ("junk that begins in a sound file", [record() + JUNK[:7], JUNK[7:]], 0, 128),
     # A record that is cut off at the end is reported itself.
     ("the last ends within a record", [record() * 2, record() + record()[:100]], 1, 128),
     ("the last ends within its one record", [record() * 2, record()[:100]], 1, 0),
@@ -223,21 +281,21 @@ def pieces_with_faults(folder: Path) -> Cases:
             continue
         fault = lines[-1].split()
         begins = [int(line.split()[0]) for line in lines[:-2]]
-        file, offset = told_place([len(piece) for piece in contents], int(fault[2]), fault[3] == b"truncated",
-                                  begins[-1] if begins else None)
+        file, offset = told_place([len(piece) for piece in contents], int(fault[2]), begins[-1] if begins else None)
         names = written(folder, contents)
         yield Row(f"{[len(piece) for piece in contents]}, {index}", b"", ["show", *names], 2, ended.out,
                   fault_in(names[file], offset))
 
 
-def told_place(sizes: Sequence[int], fault: int, is_cut: bool, last: Optional[int]) -> tuple[int, int]:
-    """The file of which a fault is reported, and the place in it, by the sizes of the files."""
+def told_place(sizes: Sequence[int], fault: int, last: Optional[int]) -> tuple[int, int]:
+    """The file of which a fault is reported, and the place in it, by the sizes of the files: that of the record before
+    it, if that reaches over the end of its file, and else its own."""
     def place(offset: int) -> tuple[int, int]:
         bounds = [sum(sizes[:index]) for index in range(len(sizes))]
         file = max(index for index, bound in enumerate(bounds) if bound <= offset and (bound < sum(sizes) or not bound))
         return file, offset - bounds[file]
 
-    if last is not None and place(last)[0] != place(fault - 1 if is_cut else fault)[0]:
+    if last is not None and place(last)[0] != place(fault - 1)[0]:
         return place(last)
     return place(fault)
 
@@ -259,7 +317,8 @@ def bad_parts(folder: Path) -> Cases:
         ("an empty file after a part without its end", [part, lines[0], b""], len(lines) + 2, 2, 0),
     ]:
         names = written(folder, contents)
-        reported = b"mseed: bad part at line %d\n" % line + fault_in(names[file], offset)
+        reported = b"mseed: bad part at line %d\n" % line + flaw(b"".join(contents)).encode()
+        reported += fault_in(names[file], offset)
         for command in (["join"], ["join", "--part"], ["join", "--each"], ["join", "--expect", "9"]):
             ended = Row("", b"".join(contents), command, 2).run()
             yield Row(f"{command}, {name}", b"", [*command, *names], 2, ended.out, reported)
@@ -274,7 +333,7 @@ def failed_reads(folder: Path) -> Cases:
     """A file that fails in its turn is reported last; after a failed write or want of memory nothing is."""
     good = written(folder, [ARCHIVE])[0]
     failing = "/proc/self/mem"
-    reported = cannot_read(failing.encode())
+    reported = cannot_read(failing.encode(), b"input/output error")
     fault = b"mseed: fault at %d read\n" % len(ARCHIVE)
     yield Row("audit", b"", ["audit", good, failing], 2, Row("", ARCHIVE, ["audit"], 0).run().out + fault[7:], reported)
     yield Row("show", b"", ["show", good, failing], 2, Row("", ARCHIVE, ["show"], 0).run().out + fault[7:], reported)

@@ -1,6 +1,6 @@
 """crates/prove.py, over a stand-in for the toolchain, with and without --keep: each crate is begun once those below it
-are built, the longest way first; it is said how far it is; what is interrupted leaves nothing behind and goes on; what
-fails is shown; and what was built is found again, but for what has changed below it."""
+are built, the longest way first; it is said how far it is; what is interrupted leaves nothing behind and goes on; and
+what fails is shown. What was proved is found again: first_build_sums.py."""
 
 from __future__ import annotations
 
@@ -20,7 +20,6 @@ from driver.program import CRATES, LIMIT
 from driver.proving import prove
 from driver.rows import Cases, Fact, Skipped, holds
 from driver.stand_in import FIRST, NEXT, Copy
-from driver.tools import rest
 
 PROGRAM = ["mseed", "run", "--", "audit"]
 KEEPING = ["--keep", *PROGRAM]
@@ -88,14 +87,14 @@ def by_standing() -> Cases:
         yield Fact(f"the command of {crate}, with --keep", [wanted.split()], build.steps_of(crate, standing))
     yield Fact("alone", prove.Standing.ALONE, build.standing("mseed_text", True))
     for done, repack in [(0, beside), (30, beside), (60, longest)]:
-        build.running = {"mseed_join": prove.Work(time.monotonic(), None, [], True)}
+        build.running = {"mseed_join": prove.Work(time.monotonic(), None, [], CRATES, None)}
         with looked_up("mseed_join", done):
             yield Fact(f"repack beside a join of which {done} of 100 functions are checked", repack,
                        build.standing("mseed_repack", False))
             yield Fact(f"the list beside it, with {done} checked", beside, build.standing("mseed_show", False))
     build.highs = {"mseed_join"}
     for done, minutes, wanted in [(0, 0, 6.0), (0, 3, 3.0), (0, 9, 0.6), (75, 3, 1.5)]:
-        build.running = {"mseed_join": prove.Work(time.monotonic() - 60 * minutes, None, [], True)}
+        build.running = {"mseed_join": prove.Work(time.monotonic() - 60 * minutes, None, [], CRATES, None)}
         with looked_up("mseed_join", done):
             yield Fact(f"what is left of six minutes after {minutes}, with {done} checked", wanted,
                        round(build.left_of("mseed_join"), 1))
@@ -193,71 +192,6 @@ def ordered_keeping(copy: Copy) -> Cases:
     yield from ordered(copy, KEEPING)
 
 
-def begun_again(copy: Copy, *words: str, **more: str) -> set[str]:
-    """Which crates are proved now."""
-    copy.logged()
-    copy.prove(*words, **more)
-    return {crate for word, crate in copy.logged() if word == "begin"}
-
-
-def found_again(copy: Copy) -> Cases:
-    """What was built is found again, unless something changed below it; `rt` finds what it built itself."""
-    everything = {"mseed", *prove.below("mseed")}
-    above = {at for at in everything if "mseed_text" in {at, *prove.below(at)}}
-    text = copy.folder / "crates" / "mseed_text" / "out" / "rlib"
-    yield Fact("nothing has changed", set(), begun_again(copy, *PROGRAM))
-    rest()
-    os.utime(copy.folder / "crates" / "mseed_text" / "src" / "lib.rt")
-    yield Fact("a source has changed", above, begun_again(copy, *PROGRAM))
-    rest()
-    (text / "stamp").write_bytes(b"")
-    os.utime(text / "mseed_text.rlib" / "format")
-    yield Fact("rt has built a library anew", above - {"mseed_text"}, begun_again(copy, *PROGRAM))
-    rest()
-    shutil.rmtree(text)
-    yield Fact("a library is gone", above, begun_again(copy, *PROGRAM))
-    yield Fact("of what the compiler built rt has no mark", everything, begun_again(copy, *KEEPING))
-    yield Fact("with --keep once more", {"mseed"}, begun_again(copy, *KEEPING))
-    yield Fact("where checks have kept something, it goes on as with --keep", {"mseed"}, begun_again(copy, *PROGRAM))
-    for kept in copy.folder.glob("crates/*/out/incremental"):
-        shutil.rmtree(kept)
-    yield Fact("by a toolchain that knows of no statements too", {"mseed"}, begun_again(copy, *PROGRAM, RT_OLD="1"))
-
-
-def gated(copy: Copy) -> Cases:
-    """What the toolchain's gate has built is found again, unless it failed or a source changed meanwhile; and nothing
-    that was built before it."""
-    everything = {"mseed", *prove.below("mseed")}
-    above = {at for at in everything if "mseed_text" in {at, *prove.below(at)}}
-    source = copy.folder / "crates" / "mseed_text" / "src" / "lib.rt"
-    passed, failed = ["1 passed, 0 failed"], ["0 passed, 1 failed"]
-    yield Fact("prove.py --gate ends as the gate does", (0, passed), copy.prove("--gate"))
-    yield Fact("what it has built is found again", set(), begun_again(copy, *PROGRAM))
-    rest()
-    os.utime(source)
-    copy.prove(*PROGRAM)
-    copy.prove("--gate")
-    yield Fact("and that it is, not what was built before it", ("gate\n", set()),
-               ((copy.folder / "crates/mseed_text/out/rlib/mseed_text.rlib/format").read_text(encoding="ascii"),
-                begun_again(copy, *PROGRAM)))
-    yield Fact("the library for C is proved over that", {"mseed_c"}, begun_again(copy, "mseed_c", "lib"))
-    rest()
-    os.utime(source)
-    yield Fact("what has changed since is proved", above, begun_again(copy, *PROGRAM))
-    rest()
-    yield Fact("where a source changes while it runs", (0, passed), copy.prove("--gate", RT_TOUCHED=str(source)))
-    yield Fact("what stands on that is proved", above, begun_again(copy, *PROGRAM))
-    rest()
-    yield Fact("where it fails", (1, failed), copy.prove("--gate", RT_FAILS="mseed_text"))
-    yield Fact("nothing is found", everything, begun_again(copy, *PROGRAM))
-    rest()
-    copy.prove(*KEEPING)
-    yield Fact("where rt has built all", (0, passed), copy.prove("--gate"))
-    marks = {path.parents[1].name for path in copy.folder.glob("crates/*/out/proved")}
-    yield Fact("the gate gives that back, and rt finds it by its own marks", ({"mseed"}, everything),
-               (marks & everything, begun_again(copy, *KEEPING)))
-
-
 def measured(copy: Copy) -> Cases:
     """What first proofs took is written down."""
     minutes = copy.folder / "crates" / "minutes.txt"
@@ -299,6 +233,9 @@ def interrupted_by(copy: Copy, words: Sequence[str]) -> Cases:
         yield Fact(f"{name.name}: nothing is proved twice", set(), done & ended)
         done |= {line.split(":")[0] for line in [*lines[1:], *rest[:-1]]}
         yield Fact(f"{name.name}: no room is left", [], list(copy.folder.glob("crates/*/out/room")))
+        marks = {path.parents[1].name for path in copy.folder.glob("crates/*/out/proved")}
+        yield Fact(f"{name.name}: of those on their way nothing counts as proved", set(),
+                   {crate for word, crate in log if word == "begin" and crate not in ended} & marks)
         begun = {crate for word, crate in log if word == "begin"} if words == KEEPING else set()
         yield Fact(f"{name.name}: what was kept of a check stays", set(),
                    {at for at in begun if not (copy.folder / "crates" / at / "out" / "incremental").is_dir()})
@@ -380,8 +317,8 @@ def rows() -> Cases:
     """All of them."""
     yield from reckoned()
     yield from compiled() if shutil.which("rt") else [Skipped("the compiler's commands", "rt")]
-    for part in ([ordered_alone, measured, found_again], [ordered_keeping], [gated], [interrupted],
-                 [interrupted_keeping], [failing], [on_a_terminal]):
+    for part in ([ordered_alone, measured], [ordered_keeping], [interrupted], [interrupted_keeping], [failing],
+                 [on_a_terminal]):
         with tempfile.TemporaryDirectory() as folder:
             copy = Copy(Path(folder))
             for cases in part:

@@ -10,7 +10,7 @@ from typing import Callable, Optional, Sequence
 from driver.feed import Ended, Server, fetch
 from driver.links import dialled, free_port, listening, port_of, reset
 from driver.rows import Cases, Fact, holds
-from driver.texts import BAD_FEED, LINK_FAILED, REFUSED
+from driver.texts import BAD_FEED, LINK_FAILED, REFUSED, foreign, keeps
 from models.dialogues import feed_at_random, pieces_of, stream_of_client, stream_of_server, wants_at_random
 from models.peers import Speaker, exchanged, fetch_link
 from models.seedlink import REPLIES, Client, Place, Ring, Session, record_of, records_in
@@ -56,7 +56,9 @@ def clients(seed: int, count: int) -> Cases:
             wrong.append((stream, came))
     yield Fact(f"{count} clients at random of server {seed}", [], wrong[:1])
     yield holds(f"few links of server {seed} were reset", resets <= count // 10, resets)
-    yield Fact(f"server {seed} ends", FINE, server.end())
+    lines = [keeps(ring.place.text, ring.capacity, len(ring.pushed)) for ring in feed
+             if len(ring.pushed) > ring.capacity]
+    yield Fact(f"server {seed} ends", Ended(0, b"", b"".join(lines)), server.end())
 
 
 ENDS = {"End": (0, b""), "Refused": (2, REFUSED), "Gap": (2, BAD_FEED), "Garbage": (2, BAD_FEED),
@@ -205,7 +207,7 @@ def no_links() -> Cases:
     # Faults of the archive come before the port.
     with listening() as listener:
         server = Server(record_of(Place("XX_ABC"), 1), [STA], port=port_of(listener), is_awaited=False)
-        wanted = (2, b"", b"mseed: record 1 is not of this feed\n")
+        wanted = (2, b"", f"mseed: {foreign(1, 'XX_ABC', 512)}\n".encode())
         yield Fact("a foreign record, and a port that is taken", wanted, server.end())
 
 

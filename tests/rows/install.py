@@ -104,6 +104,10 @@ def staged(folder: Path) -> Cases:
              for page in (ROOT / "man").glob("*.1")]
     completion = root / "opt/mseed/share/bash-completion/completions/mseed"
     yield holds("the completion for bash is there", completion.is_file(), completion)
+    for name in [f"mseed-{tool.replace('_', '-')}" for tool in TOOLS]:
+        page, completed = root / f"opt/mseed/share/man/man1/{name}.1", completion.with_name(name)
+        yield holds(f"{name} has a page and a completion", page.is_file() and completed.is_file()
+                    and name in completed.read_text(encoding="utf-8"), (page, completed))
     yield holds("the pages have the version", pages and all(VERSION in page and "@" not in page for page in pages))
     yield from from_c(folder, {"PKG_CONFIG_LIBDIR": f"{lib}/pkgconfig", "PKG_CONFIG_SYSROOT_DIR": str(root)}, lib)
     yield Fact("Python", f"{root}{python_dir}/mseed/__init__.py {VERSION} records 0 channels 0\n",

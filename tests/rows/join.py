@@ -7,6 +7,7 @@ from typing import Iterator, List, Sequence, Tuple
 from driver.program import SAMPLES
 from driver.rows import Cases, Row, both
 from driver.texts import BAD_VALUE, About
+from models.parts import NO_COUNTS, NO_ENDING, NO_LF, TOO_LARGE, flaw
 from rows.parts import BHZ, KEY, LATER, OF_BOTH, OF_FIRST, OF_LATE, OVERLAP, START, part
 
 # The keys of two more channels, one before and one after.
@@ -303,7 +304,8 @@ def bad_after_borders() -> Cases:
         for words in (["--past-faults"], ["--part"], [], ["--each"], ["--each", "--past-faults"]):
             reported = "mseed: part 2 fault at 256 order\n" if "order" in second and "--past-faults" in words else ""
             yield Row(f"{name} is bad: join {' '.join(words)}", text, ["join", *words], 2,
-                      lines.encode() if "--each" in words else b"", (reported + error).encode())
+                      lines.encode() if "--each" in words else b"",
+                      (reported + error + flaw(text, *words)).encode())
 
 
 def reports(name: str, status: int, parts: Sequence[str], lines: str, text: str, errors: str = "",
@@ -438,17 +440,18 @@ def counted_after_others() -> Cases:
     """A bad line comes before the number of parts, and a number is read as those of lengths are."""
     for words in ([], ["--part"], ["--each"], ["--past-faults"], ["--each", "--past-faults"]):
         borders = f"128 {BHZ} {GAP}".encode() if "--each" in words else b""
-        for name, after, error in (("a bad line", "none\n", "bad part at line 7"),
-                                    ("no counts", "mseed part 1\n", "bad part at line 8"),
-                                    ("no end of a line", "mseed part 1", "bad part at line 7"),
-                                    ("a sum that passes", part(counts(2**63 - 1, 0)), "bad part at line 8"),
+        for name, after, error in (("a bad line", "none\n", f"bad part at line 7\nmseed: {NO_ENDING}"),
+                                    ("no counts", "mseed part 1\n", f"bad part at line 8\nmseed: {NO_COUNTS}"),
+                                    ("no end of a line", "mseed part 1", f"bad part at line 7\nmseed: {NO_LF}"),
+                                    ("a sum that passes", part(counts(2**63 - 1, 0)),
+                                     f"bad part at line 8\nmseed: {TOO_LARGE}"),
                                     ("a part more", NOTHING, "3 parts, not 5")):
             yield Row(f"{name}, and other parts than expected: join {' '.join(words)}",
                       f"{FIRST}{LATE}{after}".encode(), ["join", *words, "--expect", "5"], 2, borders,
                       f"mseed: {error}\n".encode())
     text = f"{FIRST}{LATE}".encode()
     for number in ("2", "02", "000000002"):
-        for given in (["join", "--expect", number], ["--expect", number, "join"], ["join", f"--expect={number}"]):
+        for given in (["join", "--expect", number], ["join", f"--expect={number}"]):
             yield Row(" ".join(given), text, given, 1, f"{FOUND}records 2 channels 1\n".encode())
     for number in ("", "0", "000000000", "1000000000", "0000000002", "9999999999", "18446744073709551618", "+2", "2.0",
                    "0x2", "2 ", " 2", "1e1", "two", "--", "\u0662", "-1"):
@@ -459,12 +462,14 @@ def counted_after_others() -> Cases:
 def words() -> Cases:
     """Which arguments go together, and which are refused. Nothing is read then."""
     text = f"{FIRST}{LATE}".encode()
-    for given in ("join --each --part", "join --part --each", "--each join --part", "join --each --part --past-faults",
-                  "join --each --part --expect 2", "audit --expect 2", "audit --part --expect 2", "show --expect 2",
+    for given in ("join --each --part", "join --part --each", "join --each --part --past-faults",
+                  "join --each --part --expect 2", "Join"):
+        yield Row(given, text, given.split(), 3, b"", BAD_VALUE, left=len(text))
+    for given in ("audit --expect 2", "audit --part --expect 2", "show --expect 2",
                   "repack --expect 2", "--expect 2", "serve --port 1 --station STA --network XX --expect 2",
                   "fetch --port 1 --station STA --network XX --expect 2",
                   "audit --past-faults", "audit --part --past-faults", "audit --each --past-faults", "show --part",
-                  "show --past-faults", "repack --part", "repack --past-faults", "--part", "--past-faults", "Join",
+                  "show --past-faults", "repack --part", "repack --past-faults", "--part", "--past-faults",
                   "join --length 512", "join --encoding int32",
                   "join --port 18000", "join --station STA", "join --network XX", "join --capacity 1", "join --first 0",
                   "join --from 0", "join --connections 1", "join --tries 1",
@@ -472,18 +477,25 @@ def words() -> Cases:
                   "fetch --port 1 --station STA --network XX --part",
                   "serve --port 1 --station STA --network XX --past-faults",
                   "fetch --port 1 --station STA --network XX --past-faults"):
-        yield Row(given, text, given.split(), 3, b"", BAD_VALUE, left=len(text))
+        last = [word for word in given.split() if word.startswith("--")][-1]
+        yield Row(given, text, given.split(), 3, b"", About(last), left=len(text))
+    yield Row("an option before the command", text, ["--each", "join", "--part"], 3, b"", About("--each"),
+              left=len(text))
     for given, about in (("join --part --part", "part"), ("join --each --each", "each"),
                          ("join --expect 2 --expect 2", "expect"), ("join --expect", "expect"),
                          ("join --past-faults --past-faults", "past-faults"), ("join --past-faults=1", "past-faults")):
         yield Row(given, text, given.split(), 3, b"", About(about), left=len(text))
     lines, joint = f"{FOUND}records 2 channels 1\n", part(OF_BOTH, counts(2, 256))
     each = f"128 {BHZ} record 2 start 2024-01-01T00:00:00.825001 gap 25001\n{lines}"
-    for given, out in (("--part join", joint), ("--past-faults join", lines), ("--past-faults --part join", joint),
-                       ("--each join", each), ("join --each", each), ("--past-faults join --each", each)):
+    for given, out in (("join --part", joint), ("join --past-faults", lines), ("join --past-faults --part", joint),
+                       ("join --each", each), ("join --past-faults --each", each)):
         yield Row(given, text, given.split(), 1, out.encode())
-    for word in ("join", "--part", "--past-faults", "--expect"):
-        yield Row(f"help: {word}", b"", ["--help"], 3, b"", About(word))
+    for given in ("--part join", "--past-faults join", "--past-faults --part join", "--each join",
+                  "--past-faults join --each"):
+        yield Row(f"{given}: an option before the command", text, given.split(), 3, b"", About(given.split()[0]))
+    yield Row("help: join", b"", ["--help"], 3, b"", About("join"))
+    for word in ("--part", "--past-faults", "--expect"):
+        yield Row(f"help of join: {word}", b"", ["join", "--help"], 3, b"", About(word))
 
 
 def rows() -> Cases:

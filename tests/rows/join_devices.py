@@ -17,8 +17,8 @@ from typing import Generator, Iterator, Sequence
 from driver.helpers import COMPILER, library, preloaded, refused_in_turn
 from driver.program import LIMIT, ROOT
 from driver.rows import Case, Cases, Fact, Result, Row, Skipped, contents_of, holds, in_memory, started, status_of
-from driver.texts import NO_MEMORY, WRITE_FAILED
-from models.parts import join
+from driver.texts import DEVICE_ERROR, IS_CLOSED, IS_DIRECTORY, NO_MEMORY, WRITE_FAILED
+from models.parts import NO_BEGINNING, NO_ENDING, NO_ROW, TOO_LONG, join
 from rows.devices import WHOLE
 from rows.join import BHN_KEY, FIRST, FOUND, LATE, NEXT, NONE, ONE, SECOND, begins, channel, counts
 from rows.memory import refuses
@@ -27,6 +27,7 @@ from rows.parts import BHZ, LATER, OF_BOTH, OF_FIRST, OF_LATE, START, part
 # Two parts with a gap between them, without faults and with one each.
 GAPPED = f"{FIRST}{LATE}"
 TEXT = f"{FOUND}records 2 channels 1\n"
+WHY = DEVICE_ERROR.decode()
 BORDER = f"128 {BHZ} record 2 start 2024-01-01T00:00:00.825001 gap 25001\n"
 JOINT = part(OF_BOTH, counts(2, 256))
 CUT = "fault at 128 truncated 10"
@@ -34,6 +35,7 @@ FAULTY = part(OF_FIRST, ONE, CUT) + part(OF_LATE, ONE, CUT)
 REPORTED = [f"mseed: part {number} {CUT}\n" for number in (1, 2)]
 # After a bad line nothing matters.
 BAD = GAPPED + part("none") + GAPPED
+FLAW = f"mseed: {NO_ROW}\n"
 
 # The most memory that any number of parts of one channel may take, in KiB.
 MOST = 8192
@@ -54,7 +56,7 @@ def inputs(failing: str) -> Cases:
     # The border is in the fifth line.
     found = len(FIRST) + LATE.index("records 1 bytes")
     for size in range(len(GAPPED) + 1):
-        fault = f"mseed: fault at {size} read\n"
+        fault = f"mseed: fault at {size} read\n{WHY}"
         yield from reads(failing, GAPPED, ["join"], size, "", fault)
         yield from reads(failing, GAPPED, ["join", "--each"], size, BORDER if size >= found else "", fault)
         yield from reads(failing, GAPPED, ["join", "--part"], size, "", fault)
@@ -62,21 +64,21 @@ def inputs(failing: str) -> Cases:
         lines = FAULTY[:size].count("\n")
         reported = "".join(REPORTED[: lines // 4])
         yield from reads(failing, FAULTY, ["join", "--past-faults"], size, "",
-                         f"{reported}mseed: fault at {size} read\n")
+                         f"{reported}mseed: fault at {size} read\n{WHY}")
     # The bad line is the eighth.
     end = len(GAPPED + "mseed part 1\nnone\n")
     for size in range(end - 30, end + 60):
-        error = f"mseed: fault at {size} read\n" if size < end else "mseed: bad part at line 8\n"
+        error = f"mseed: fault at {size} read\n{WHY}" if size < end else f"mseed: bad part at line 8\n{FLAW}"
         yield from reads(failing, BAD, ["join"], size, "", error)
         yield from reads(failing, BAD, ["join", "--each"], size, BORDER, error)
     # A failed read comes before the number of parts.
     for size in range(len(GAPPED) + 1):
-        fault = f"mseed: fault at {size} read\n"
+        fault = f"mseed: fault at {size} read\n{WHY}"
         yield from reads(failing, GAPPED, ["join", "--each", "--expect", "3"], size, BORDER if size >= found else "",
                          fault)
-    yield Row("an input that can't be read", ROOT, ["join"], 2, b"", b"mseed: fault at 0 read\n")
+    yield Row("an input that can't be read", ROOT, ["join"], 2, b"", b"mseed: fault at 0 read\n" + IS_DIRECTORY)
     yield Row("an input that can't be read, of which a part is expected", ROOT, ["join", "--expect", "1"], 2, b"",
-              b"mseed: fault at 0 read\n")
+              b"mseed: fault at 0 read\n" + IS_DIRECTORY)
 
 
 def outputs(failing: str) -> Cases:
@@ -96,12 +98,12 @@ def outputs(failing: str) -> Cases:
                           parts.encode(), words, 2 if room < len(text) else status, text[:room].encode(),
                           reported.encode() + error, env=preloaded(failing, WRITE_ROOM=room, PIECE=piece))
     yield Row("a full output", GAPPED.encode(), ["join"], 2, b"", WRITE_FAILED, out_to="/dev/full")
-    yield Row("a full output, and nothing to write", BAD.encode(), ["join"], 2, b"", b"mseed: bad part at line 8\n",
-              out_to="/dev/full")
+    yield Row("a full output, and nothing to write", BAD.encode(), ["join"], 2, b"",
+              f"mseed: bad part at line 8\n{FLAW}".encode(), out_to="/dev/full")
     # What is found before a bad line is written before it.
     yield Row("a full output, and a border before a bad line", BAD.encode(), ["join", "--each"], 2, b"", WRITE_FAILED,
               out_to="/dev/full")
-    for text, more, last in ((BAD, [], b"mseed: bad part at line 8\n"),
+    for text, more, last in ((BAD, [], f"mseed: bad part at line 8\n{FLAW}".encode()),
                              (GAPPED, ["--expect", "3"], b"mseed: 2 parts, not 3\n")):
         words = ["join", "--each", *more]
         for room in range(len(BORDER) + 1):
@@ -114,7 +116,7 @@ def outputs(failing: str) -> Cases:
 
 def errors(failing: str) -> Cases:
     """A standard error that takes each prefix of its lines and no more: the status and the output stay the same."""
-    bad, reported = "mseed: bad part at line 8\n", "".join(REPORTED)
+    bad, reported = f"mseed: bad part at line 8\n{FLAW}", "".join(REPORTED)
     past = part(OF_BOTH, counts(2, 256), "faults 2")
     for words, parts, out, lines in (([], BAD, "", bad),
                                      (["--past-faults", "--part"], FAULTY, past, reported),
@@ -131,7 +133,7 @@ def errors(failing: str) -> Cases:
 def closed() -> Cases:
     """Standard streams that are closed."""
     for name, text, streams, status, out, err in (
-        ("input", GAPPED, [0], 2, "", "mseed: fault at 0 read\n"),
+        ("input", GAPPED, [0], 2, "", f"mseed: fault at 0 read\n{IS_CLOSED.decode()}"),
         ("output", GAPPED, [1], 2, "", "mseed: write failed\n"),
         ("error", GAPPED, [2], 1, TEXT, ""),
         ("error, and a bad line", BAD, [2], 2, "", ""),
@@ -159,13 +161,16 @@ def refusals(refusing: str) -> Cases:
         yield from refuses(" ".join(words), Row("", parts, words, status), refusing, "--each" in words)
     past, none = ["join", "--past-faults", "--part"], b"none\n"
     faulty, reported = FAULTY.encode(), "".join(REPORTED).encode()
-    yield from reports(refusing, "a bad line", Row("", parts + none, ["join"], 2, b"", b"mseed: bad part at line 12\n"))
+    behind = f"mseed: {NO_ENDING}\n".encode()
+    yield from reports(refusing, "a bad line", Row("", parts + none, ["join"], 2, b"",
+                                                 b"mseed: bad part at line 12\n" + behind))
     yield from reports(refusing, "too few parts", Row("", parts, ["join", "--expect", "4"], 2, b"",
                                                     b"mseed: 3 parts, not 4\n"))
     joint = part(OF_BOTH, counts(2, 256), "faults 2").encode()
     yield from reports(refusing, "faults", Row("", faulty, past, 2, joint, reported))
     yield from reports(refusing, "faults and a bad line",
-                     Row("", faulty + none, past, 2, b"", reported + b"mseed: bad part at line 9\n"))
+                     Row("", faulty + none, past, 2, b"",
+                         reported + f"mseed: bad part at line 9\nmseed: {NO_BEGINNING}\n".encode()))
 
 
 def reports(refusing: str, name: str, row: Row) -> Cases:
@@ -204,7 +209,8 @@ def least(refusing: str) -> Generator[Case, None, None]:
                       env=preloaded(refusing, HEAP=enough))
     for end in (b"", b"\n"):
         yield Row(f"a line of 64 MB in {MOST} KiB", b"0" * 64 * 10**6 + end, ["join"], 2, b"",
-                  b"mseed: bad part at line 1\n", env=preloaded(refusing, HEAP=1024 * MOST))
+                  f"mseed: bad part at line 1\nmseed: {TOO_LONG}\n".encode(),
+                  env=preloaded(refusing, HEAP=1024 * MOST))
 
 
 def waits(process: subprocess.Popen) -> bool:

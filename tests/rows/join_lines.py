@@ -6,6 +6,7 @@ from __future__ import annotations
 from typing import Iterator, Sequence
 
 from driver.rows import Cases, Row
+from models.parts import flaw
 from rows.join import BHN_KEY, FIRST_INSTANT, LAST_INSTANT, LATE, NEXT, ONE, begins, channel, counts
 from rows.parts import KEY, OF_FIRST, OF_LATE, START, part
 
@@ -31,9 +32,9 @@ def bad(name: str, text: str, line: int) -> Iterator[Row]:
     for words in OPTIONS[:3]:
         reported = "".join(before) if "--past-faults" in words else ""
         yield Row(f"{name}: join {' '.join(words)}", text.encode(), ["join", *words], 2, b"",
-                  f"{reported}mseed: bad part at line {line}\n".encode())
+                  f"{reported}mseed: bad part at line {line}\n{flaw(text.encode(), *words)}".encode())
     yield Row(f"{name}, after other parts", (IN_FRONT + text).encode(), ["join"], 2, b"",
-              f"mseed: bad part at line {line + 6}\n".encode())
+              f"mseed: bad part at line {line + 6}\n{flaw((IN_FRONT + text).encode())}".encode())
 
 
 def bad_line(number: int, line: str) -> Iterator[Row]:
@@ -76,6 +77,40 @@ def lines_that_lack() -> Cases:
     for end in ("\r\n", "\r", "\0", " \n", "\n\n"):
         text = text_of(LINES).replace("\n", end)
         yield from bad(f"lines that end in {end!r}", text, 2 if end == "\n\n" else 1)
+
+
+def flaws() -> Cases:
+    """What is said of a bad line, of each kind."""
+    begin, bhn, bhz, records, faults, fault = LINES
+    no_row = "neither a channel nor the counts; these are as records 2 bytes 256"
+    no_ending = "neither faults of this part nor the beginning of the next; that is mseed part 1"
+    passes_most = "a sum passes 9223372036854775807, the most that a number can be"
+    for name, text, line, why in (
+        ("the first line", "mseed part 2\n", 1, "no beginning of a part; that is mseed part 1"),
+        ("the line after a fault", text_of([*LINES, records]), 7, "no beginning of a part; that is mseed part 1"),
+        ("a channel", text_of([begin, bhn[1:], records]), 2, no_row),
+        ("the counts", text_of([begin, bhn, f"{records} "]), 3, no_row),
+        ("511 bytes and an LF", text_of([begin, "0" * 511]), 2, no_row),
+        ("512 bytes and an LF", text_of([begin, "0" * 512]), 2, "no LF within 512 bytes; no line is longer"),
+        ("512 bytes", text_of([begin])[:-1].ljust(512), 1, "no LF within 512 bytes; no line is longer"),
+        ("511 bytes", text_of([begin])[:-1].ljust(511), 1, "no LF at the end of the input; each line ends with one"),
+        ("the order of channels", text_of([begin, bhz, bhn, records]), 3,
+         "XX_STA__BHN is out of order; channels ascend by their keys"),
+        ("a channel twice", text_of([begin, bhz, bhz, records]), 3,
+         "XX_STA__BHZ is out of order; channels ascend by their keys"),
+        ("the faults", text_of([*LINES[:4], "faults 0"]), 5, no_ending),
+        ("the faults twice", text_of([*LINES[:5], faults]), 6, no_ending),
+        ("the fault", text_of([*LINES[:4], fault.replace("256", "128")]), 5, no_ending),
+        ("a channel's sum", part(bhz, ONE) + part(channel(samples=LARGEST), ONE), 5, passes_most),
+        ("the sum of the counts", NEXT + part(counts(0, LARGEST)), 5, passes_most),
+        ("the sum of the faults", part(ONE, f"faults {LARGEST}") + part(ONE, "faults 1"), 6, passes_most),
+        ("the last LF", text_of(LINES)[:-1], 6, "no LF at the end of the input; each line ends with one"),
+        ("the end", text_of([begin, bhn]), 3,
+         "the input ends within a part; the counts are missing, as records 2 bytes 256"),
+    ):
+        for words in (["join"], ["join", "--each"], ["join", "--part"]):
+            yield Row(f"what is said of {name}: {' '.join(words)}", text.encode(), words, 2, b"",
+                      f"mseed: bad part at line {line}\nmseed: {why}\n".encode())
 
 
 NOT_NUMBERS = ["", "-1", "+1", "01", "00", "1.0", "1e3", "0x1", "1,000", "one", " 1", "1 ", "\u0661", "1\0",
@@ -220,7 +255,7 @@ def passes(name: str, texts: Sequence[str], line: int, words: Sequence[str] = ()
     text = "".join(texts).encode()
     for option in ([], ["--part"]):
         yield Row(f"{name} passes: join {' '.join([*option, *words])}", text, ["join", *option, *words], 2, b"",
-                  f"{reported}mseed: bad part at line {line}\n".encode())
+                  f"{reported}mseed: bad part at line {line}\n{flaw(text, *words)}".encode())
 
 
 def holds_all(name: str, texts: Sequence[str], status: int, *lines: str, words: Sequence[str] = ()) -> Iterator[Row]:
@@ -319,6 +354,6 @@ def counts_and_faults() -> Cases:
 
 def rows() -> Cases:
     """All of them."""
-    for some in (lines_that_lack, numbers, channel_lines, reasons, believed, channel_sums, findings, goes_up,
+    for some in (flaws, lines_that_lack, numbers, channel_lines, reasons, believed, channel_sums, findings, goes_up,
                  counts_and_faults):
         yield from some()

@@ -27,10 +27,13 @@ for call in (lambda: mseed.read(5), lambda: mseed.read(None), lambda: mseed.audi
              lambda: mseed.read(open(two, encoding="latin-1")), lambda: mseed.iterate(two, samples="many"),
              lambda: mseed.pack(5), lambda: mseed.pack(trace, length="512"), lambda: mseed.write(5, trace),
              lambda: mseed.write("/none/such", 5), lambda: mseed.write("/none/such", [5]), lambda: make(network=5),
-             lambda: make(start_ns=0.5), lambda: make(rate="fast"), lambda: make(samples=5)):
+             lambda: make(start_ns=0.5), lambda: make(rate="fast"), lambda: make(samples=5),
+             lambda: mseed.select(5), lambda: mseed.read([1], channels="*_*_*_*"),
+             lambda: mseed.select(two, channels=5), lambda: mseed.iterate(io.StringIO("x"), end="2100-01-01"),
+             lambda: mseed.iterate(two, channels=[b"*_*_*_*"]), lambda: mseed.read(two, start=0.5)):
     try:
         list(call())
-    except TypeError as error:
+    except (TypeError, ValueError) as error:
         print(error)
 """
 
@@ -54,6 +57,12 @@ a code is a str, not int
 start_ns is an int, not float
 a rate is an int, a float or a Fraction, not str
 samples are integers in one dimension
+{TAKES} int
+{TAKES} list
+'int' object is not iterable
+an archive is a file that is open for bytes: what is read of this one is a str
+a pattern is a str, not bytes
+start is a datetime, a str or an int, not float
 """
 
 # Whatever the bytes of an archive are in, and wherever an open file stands.
@@ -68,6 +77,17 @@ with open(path, "rb") as file, open(path, "rb", buffering=0) as raw, open(path, 
     file.seek(128)
     print(mseed.read(file)[0].start, file.closed, len(mseed.read(file)))
 print(isinstance(mseed.read(path)[0].samples, mseed.Samples), mseed.__version__)
+for archive in (path, pathlib.Path(path), content, bytearray(content), memoryview(content)[::1], io.BytesIO(content),
+                memoryview(content + content)[::2], array.array("I", content), open(path, "rb", buffering=0)):
+    try:
+        print(len(mseed.select(archive)), end=" ")
+    except mseed.RecordError as error:
+        print(error.reason, end=" ")
+for archive in (content, bytearray(content), io.BytesIO(content)):
+    trace = mseed.read(archive, channels="*_*_*_*")[0]
+    trace.samples[0] = 5
+    print(len(trace), isinstance(trace.samples, mseed.Samples), len(mseed.read(mseed.pack(trace))[0]), end=" ")
+print()
 """
 
 WRITE = """
@@ -100,7 +120,8 @@ def arguments(built: Path, numpy: bool) -> Cases:
     yield Fact(f"what is no archive is refused, {manner}", REFUSED,
                said(python(built, ["-c", WRONG, str(SAMPLES)], numpy=numpy)))
     yield Fact(f"what is one is taken, {manner}", "32 " * 10 + "2024-01-01 00:00:00.800000+00:00 False 0\n"
-               f"True {version}\n", said(python(built, ["-c", TAKEN, str(SAMPLES)], numpy=numpy)))
+               f"True {version}\n{'256 ' * 6}notdata {'256 ' * 2}{'32 True 32 ' * 3}\n",
+               said(python(built, ["-c", TAKEN, str(SAMPLES)], numpy=numpy)))
 
 
 def command(built: Path, folder: Path) -> Cases:

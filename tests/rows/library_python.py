@@ -29,7 +29,9 @@ import datetime, sys, mseed
 two = sys.argv[1] + "/two_records.mseed"
 data = open(two, "rb").read()
 first, second, day = data[:len(data) // 2], data[len(data) // 2:], "2024-01-01T00:00:00"
+trace = mseed.read(two)[0]
 print(mseed.select(two) == data, mseed.select(data, channels="XX_STA__BH?") == data)
+print(mseed.select(bytearray(data)) == data, mseed.select(memoryview(data)[:], channels=[trace.id, "*_*_*_*"]) == data)
 print(mseed.select(two, channels=["IU_*_*_*", "XX_STA_--_BHN"]), len(mseed.read(mseed.select(two, end=day + ".8"))[0]))
 print(mseed.select(two, end=day + ".8") == first, mseed.select(two, end=day + ".800001") == data)
 print(mseed.select(two, start=day + ".75") == data, mseed.select(two, start="2024-001T00:00:00.750001Z") == second)
@@ -46,13 +48,22 @@ except mseed.RecordError as error:
     print(error.number, error.offset == len(first), error.reason.split()[0])
 traces = mseed.read(two, channels="XX_*_*_*", start=day + ".8")
 print([(t.id, t.start.isoformat(), len(t), t.first_record) for t in traces], len(mseed.read(two, channels="IU_*_*_*")))
-for skip in (False, True):
-    try:
-        mseed.read(data + b"junk" * 16, channels="XX_*_*_*", skip=skip)
-    except mseed.RecordError as error:
-        print(error.number, error.offset == len(data))
+try:
+    mseed.read(data + b"junk" * 16, channels="XX_*_*_*")
+except mseed.RecordError as error:
+    print(error.number, error.offset == len(data))
+for words in ({}, {"channels": "XX_*_*_*"}, {"channels": "XX.STA..*", "end": "2025-01-01"}):
+    traces = mseed.read(first + b"junk" * 16 + second, skip=True, **words)
+    print([len(t) for t in traces], [(e.number, e.offset == len(first), e.length, e.reason) for e in traces.skipped])
+for words in ({}, {"channels": trace.id}, {"channels": trace.name}, {"end": day + ".8"}, {"start": "2025-01-01"}):
+    print([(len(p), p.index, p.goes_on, p.first_record) for p in mseed.iterate(two, samples=12, **words)])
+try:
+    mseed.iterate(two, channels="XX_STA")
+except ValueError as error:
+    print(error)
 """
 SELECTED = """True True
+True True
 b'' 16
 True True
 True True
@@ -64,7 +75,15 @@ the end isn't after the start
 2 True truncated
 [('XX.STA..BHZ', '2024-01-01T00:00:00.800000+00:00', 16, 1)] 0
 3 True
-3 True
+[32] [(2, True, 64, 'notdata')]
+[32] [(2, True, 64, 'notdata')]
+[32] [(2, True, 64, 'notdata')]
+[(12, 0, True, 1), (12, 12, True, 1), (8, 24, False, 2)]
+[(12, 0, True, 1), (12, 12, True, 1), (8, 24, False, 2)]
+[(12, 0, True, 1), (12, 12, True, 1), (8, 24, False, 2)]
+[(12, 0, True, 1), (4, 12, False, 1)]
+[]
+no patterns of channels: XX_STA
 """
 
 # What is done by hand, and what is printed: by rows of samples that tests/models and README's samples say.
@@ -78,6 +97,8 @@ print(list(trace.samples) == list(range(32)), len(trace), trace.end_ns)
 gap = mseed.read(sys.argv[1] + "/gap.mseed")
 print([(t.start_ns, len(t), t.first_record) for t in gap])
 print([(f.offset, f.name, f.number, f.start, f.reason, f.is_own) for f in mseed.findings(sys.argv[1] + "/gap.mseed")])
+for archive in (b"junk" * 20, b"", sys.argv[1] + "/network_cut.mseed", open(two, "rb").read() + b"MS\\3"):
+    print([(f.offset, f.name, f.number, f.start, f.reason, f.kind) for f in mseed.findings(archive)])
 audit = mseed.audit(open(two, "rb").read())
 print(audit.status, audit.records, audit.channels, audit.broken, bool(audit), audit.text.splitlines()[-1])
 print(mseed.part(two).splitlines()[0])
@@ -123,6 +144,10 @@ EXPECTED = """\
 True 32 1704067201550000000
 [(1704067200000000000, 16, 1), (1704067200825001000, 16, 2)]
 [(128, 'XX_STA__BHZ', 2, '2024-01-01T00:00:00.825001', 'gap 25001', False)]
+[(0, '', 1, '', 'notdata', 'notdata')]
+[]
+[(28672, '', 57, '', 'truncated 312', 'truncated')]
+[(256, '', 3, '', 'version3', 'version3')]
 0 2 1 0 True records 2 channels 1
 mseed part 1
 35 17408 lastdiffers -125 -61 record 35 of XX_KILN__BHE at offset 17408: lastdiffers -125 -61

@@ -3,7 +3,6 @@ toolchain: how they end, for files of any name and for those that aren't there, 
 
 from __future__ import annotations
 
-import os
 import shutil
 import tempfile
 from pathlib import Path
@@ -11,7 +10,6 @@ from pathlib import Path
 from driver.program import SAMPLES
 from driver.rows import Cases, Fact, Skipped, holds
 from driver.stand_in import LONG, Copy
-from driver.tools import rest
 
 BUILT = "Proved and built."
 AUDITED = ["XX_STA__BHZ continuous 2024-01-01T00:00:00.000000 rate 20/1 records 2 samples 32", "records 2 channels 1"]
@@ -26,8 +24,7 @@ def long(copy: Copy) -> Cases:
     first = [LONG, BUILT, *AUDITED, "status 0"]
     yield Fact("make audit, the first time", (0, first, ""), copy.make("audit"))
     yield Fact("make audit, the second time", (0, first[1:], ""), copy.make("audit"))
-    rest()
-    os.utime(copy.folder / "crates" / "mseed_time" / "src" / "lib.rt")
+    copy.change("mseed_time")
     yield Fact("make build, a source has changed", (0, [LONG, BUILT], ""), copy.make("build"))
     yield Fact("make build, and has been proved", (0, [BUILT], ""), copy.make("build"))
     yield Fact("make build, by another toolchain", (0, [LONG, BUILT], ""), copy.make("build", version="another kit"))
@@ -61,7 +58,8 @@ def files(copy: Copy) -> Cases:
             yield holds("the file is named", report.startswith(f"FILE={name}: no file that can be read\n"), report)
     status, lines, report = copy.make("repack", "FILE=samples/gap.mseed", "OUT=gap.packed")
     yield Fact("make repack of a broken archive", (2, [BUILT, "status 1"]), (status, lines))
-    yield holds("it says why", report.startswith("mseed: XX_STA__BHZ is broken\n"), report)
+    why = "mseed: XX_STA__BHZ is broken\nmseed: record 2 offset 128 gap 25001\n"
+    yield holds("it says why", report.startswith(why), report)
     yield Fact("and leaves nothing", [], list(copy.folder.glob("gap.packed*")))
     status, lines, report = copy.make("repack", "OUT=none/packed")
     yield Fact("make repack into no folder", (True, "status 0" in lines), (status == 2, False))

@@ -51,7 +51,7 @@ def worked() -> Cases:
     yield from cuts("the rest of it", 0, sample[128:], OF_LATE, "records 1 bytes 128")
     yield from cuts("the sample with a gap", 1, sample, OF_BOTH, "records 2 bytes 256")
     found = f"128 {BHZ} record 2 start 2024-01-01T00:00:00.825001 gap 25001\n"
-    for words in (["audit", "--part", "--each"], ["--each", "--part", "audit"]):
+    for words in (["audit", "--part", "--each"], ["audit", "--each", "--part"]):
         yield Row(f"the sample with a gap, {' '.join(words)}", sample, words, 1,
                   (found + part(OF_BOTH, "records 2 bytes 256")).encode())
     yield from cuts("nothing", 0, b"", "records 0 bytes 0")

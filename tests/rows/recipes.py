@@ -1,6 +1,7 @@
 """The recipes of the pages that join parts, read what `tail` reads, or read files by a pattern, as they stand there, and
-bench/audit_by_cores.sh: over files of any name they come to what a second program says (models/auditing.py); and where
-a job is killed, a file or a folder can't be read or a machine is down, they say so, and name no channel continuous."""
+bench/audit_by_cores.sh: over files of any name they come to what a second program says (models/auditing.py); where a
+job is killed, a file can't be read or a machine is down, they say so, and name no channel continuous; and where a
+folder can't be read, they say so, and come to what is said of all else, with status 2."""
 
 from __future__ import annotations
 
@@ -11,19 +12,20 @@ import shutil
 import subprocess
 import tempfile
 from pathlib import Path
-from typing import Iterator, NamedTuple
+from typing import Callable, Iterator, NamedTuple, Optional
 
 from driver.examples import examples
 from driver.program import BUILT, LIMIT, PROGRAM, ROOT, SAMPLES, SOURCES
 from driver.records import record
 from driver.rows import Cases, Fact, Skipped, holds
+from driver.tools import as_others
 from models.auditing import audit
 
 # Names of files, of which a shell that takes none of them for anything else keeps each.
 ODD = ["a b", "it's", 'say "so"', "line\nend", "$HOME `x`", "-dash", "star*", "back\\slash", "tab\t", "end\n", " lead",
        "caf\u00e9", "{}", "#1", "a;b&c|d"]
 LACKS = rf"^mseed: {len(ODD) - 1} parts, not {len(ODD)}$"
-BAD = r"^mseed: bad part at line \d+$"
+BAD = r"^mseed: bad part at line \d+\nmseed: [^\n]+$"
 # The blocks that are recipes of this kind.
 JOINING = re.compile(r"mseed join\b|\$.*; (cat|tail) [^;]*\|\s*\S*mseed |\$ mseed [^|;\n]*\*")
 # Where they stand.
@@ -90,8 +92,10 @@ class Place:
             words = words.replace(name, shlex.quote(str(self.large)))
         return words
 
-    def run(self, recipe: Recipe, is_killed: bool = False, half: str = "", down: str = "") -> Came:
-        """Runs it in bash, its first job killed, at once or after half of its text, or machines down."""
+    def run(self, recipe: Recipe, is_killed: bool = False, half: str = "", down: str = "",
+            first: Optional[Callable[[], None]] = None) -> Came:
+        """Runs it in bash, its first job killed, at once or after half of its text, or machines down; in its process
+        something may be called first."""
         kill = self.folder / "kill"
         if is_killed:
             kill.mkdir()
@@ -101,7 +105,8 @@ class Place:
         for old in self.folder.glob("piece.*"):
             old.unlink()
         run = subprocess.run(["bash", "-c", self.words(recipe)], cwd=ROOT, env=env, stdin=subprocess.DEVNULL,
-                             stdout=subprocess.PIPE, stderr=subprocess.PIPE, timeout=LIMIT, check=False)
+                             stdout=subprocess.PIPE, stderr=subprocess.PIPE, timeout=LIMIT, check=False,
+                             preexec_fn=first)
         if kill.exists():
             kill.rmdir()
             return Came(0, "", "no job was killed")
@@ -166,13 +171,34 @@ def unread(recipe: Recipe, place: Place) -> Cases:
 
 
 def unread_below(recipe: Recipe, place: Place) -> Cases:
-    """Among the files that it finds is a link to nothing, or a folder that can't be read, since it lies in itself."""
+    """Among the files that it finds is a link to nothing, or a folder that can't be read, since it lies in itself or
+    nobody may."""
     link = place.tree / "link"
     link.symlink_to("nothing")
     yield from ends(recipe, "a link to nothing", place.run(recipe), rf"^mseed: {len(ODD)} parts, not {len(ODD) + 1}$")
     link.unlink()
     link.symlink_to(place.tree)
-    yield from ends(recipe, "a folder that can't be read", place.run(recipe), "File system loop")
+    yield from reads_on(recipe, "a folder that lies in itself", place, "File system loop", None)
+    link.unlink()
+    hidden = place.tree / "hidden"
+    hidden.mkdir()
+    (hidden / "file").write_bytes(record())
+    hidden.chmod(0)
+    try:
+        yield from reads_on(recipe, "a folder that nobody may read", place, "hidden'?: Permission denied", as_others)
+    finally:
+        hidden.chmod(0o755)
+
+
+def reads_on(recipe: Recipe, what: str, place: Place, pattern: str, first: Optional[Callable[[], None]]) -> Cases:
+    """A folder that can't be read: that is said, all else is audited, and the status is 2. One that packs anew writes
+    nothing."""
+    came = place.run(recipe, first=first)
+    if "repack" in recipe.words:
+        yield from ends(recipe, what, came, pattern)
+        return
+    yield Fact(f"{recipe.name()}: {what}: what can be read", (2, place.audited), (came.status, came.out))
+    yield holds(f"{recipe.name()}: {what}: it says so", re.search(pattern, came.err), came)
 
 
 def failing(recipe: Recipe, place: Place) -> Cases:

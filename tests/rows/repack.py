@@ -7,7 +7,7 @@ from dataclasses import replace
 from driver.program import SAMPLES
 from driver.records import integers, next_record, payload, record
 from driver.rows import Cases, Row, both
-from driver.texts import BAD_VALUE
+from driver.texts import BAD_VALUE, About, broken
 
 FIRST, NEXT = record(), next_record(data=integers(range(16, 32)))
 TWO = FIRST + NEXT
@@ -101,14 +101,24 @@ def refuses(name: str, status: int, line: str, archive: bytes, *words: str) -> C
     yield from both(Row(name, archive, ["repack", *words], status, b"", f"mseed: {line}\n".encode()))
 
 
+def is_broken(name: str, archive: bytes, channel: str, record: int, why: str) -> Cases:
+    """A channel that is broken, and its first finding: where it is and why. Each record has 128 bytes."""
+    yield from both(Row(name, archive, ["repack"], 1, b"", broken(channel, record, 128 * (record - 1), why)))
+
+
 def unpacked() -> Cases:
     """What can't be packed, and why."""
-    broken = record(**BHN) + FIRST + LATE + next_record(codes=b"STA    BHEXX", second=9)
+    late = record(**BHN) + FIRST + LATE + next_record(codes=b"STA    BHEXX", second=9)
     gap = (SAMPLES / "gap.mseed").read_bytes()
-    yield from refuses("a gap", 1, "XX_STA__BHZ is broken", gap)
-    yield from refuses("the first broken channel", 1, "XX_STA__BHZ is broken", broken)
-    yield from refuses("the first of two by its key", 1, "XX_STA__BHN is broken",
-                       record(encoding=4) + record(encoding=4, **BHN))
+    yield from is_broken("a gap", gap, "XX_STA__BHZ", 2, "gap 25001")
+    yield from is_broken("the first broken channel", late, "XX_STA__BHZ", 3, "gap 25001")
+    yield from is_broken("the first of two by its key", record(encoding=4) + record(encoding=4, **BHN), "XX_STA__BHN",
+                         2, "encoding 4")
+    yield from is_broken("the first of two findings", FIRST + record(**BHN) + LATE + record(encoding=4), "XX_STA__BHZ",
+                         3, "gap 25001")
+    yield from is_broken("behind a record without samples", record(samples=0, encoding=4) + record(hour=24),
+                         "XX_STA__BHZ", 2, "time hour")
+    yield from is_broken("without a rate", record(factor=0), "XX_STA__BHZ", 1, "norate")
     yield from refuses("a fault before a broken channel", 2, "fault at 128 truncated 9",
                        record(encoding=4) + FIRST[:9])
     yield from refuses("a cut archive", 2, "fault at 128 truncated 72", TWO[:200])
@@ -119,8 +129,8 @@ def unpacked() -> Cases:
     yield from refuses("a difference past 32 bits", 2, "XX_STA__BHZ does not fit 5",
                        record(samples=2, data=integers([-(2**31), 2**31 - 1])), "--encoding", "steim1")
     yield from refuses("the first that does not fit", 2, "XX_STA__BHN does not fit 5", WIDE + WIDE_BHN)
-    yield from refuses("a broken channel before one that does not fit", 1, "XX_STA__BHZ is broken",
-                       WIDE_BHN + record(encoding=4))
+    yield from is_broken("a broken channel before one that does not fit", WIDE_BHN + record(encoding=4), "XX_STA__BHZ",
+                         2, "encoding 4")
     yield from refuses("a rate past 500,000", 2, "XX_STA__BHZ does not fit 2",
                        record(samples=1, factor=500001 // 20 + 1, multiplier=20))
     late = {"year": 2100, "day": 365, "hour": 23, "minute": 59, "second": 59, "fraction": 9999, "factor": 1}
@@ -134,10 +144,13 @@ def words() -> Cases:
         yield from both(replace(bad, name=f"length '{length}'", words=["repack", f"--length={length}"]))
     for encoding in ("steim3", "Steim2", "int", "", "11"):
         yield from both(replace(bad, name=f"encoding '{encoding}'", words=["repack", f"--encoding={encoding}"]))
-    yield from both(replace(bad, name="an option of another command", words=["repack", "--port", "1"]))
+    yield from both(replace(bad, name="an option of another command", words=["repack", "--port", "1"],
+                            err=About("--port")))
     yield from both(replace(bad, name="a file without a name", words=["repack", ""]))
-    yield from both(replace(bad, name="a length for the audit", words=["audit", "--length", "512"]))
-    yield from both(replace(bad, name="an encoding for the listing", words=["show", "--encoding", "steim2"]))
+    yield from both(replace(bad, name="a length for the audit", words=["audit", "--length", "512"],
+                            err=About("--length")))
+    yield from both(replace(bad, name="an encoding for the listing", words=["show", "--encoding", "steim2"],
+                            err=About("--encoding")))
 
 
 def rows() -> Cases:

@@ -8,7 +8,7 @@ from dataclasses import replace
 from driver.batches import Batch
 from driver.records import integers, payload, record
 from driver.rows import Cases, Fact, Row, both
-from driver.texts import BAD_VALUE
+from driver.texts import BAD_VALUE, About
 from models.series import CODES
 from models.stretch_archives import archive_at_random
 from models.stretches import restretched
@@ -99,31 +99,36 @@ def leap_seconds() -> Cases:
 def refused() -> Cases:
     """What can't be packed, and what is written of the rest."""
     differs = record(encoding=10, frames=1, samples=2, data=payload("01000000 00000000 00000009 00010000"))
-    line = "XX_STA__BHZ is broken"
-    yield from reports("a wrong constant", 1, [line], differs, b"", *SHORT)
-    yield from reports("a wrong constant, left out", 1, [line], differs + record(**BHN), record(**BHN), *LEAVE)
+    lines = ["XX_STA__BHZ is broken", "record 1 offset 0 lastdiffers 1 9"]
+    yield from reports("a wrong constant", 1, lines, differs, b"", *SHORT)
+    yield from reports("a wrong constant, left out", 1, lines[:1], differs + record(**BHN), record(**BHN), *LEAVE)
+    # a gap is no finding of its own
+    lines[1] = "record 3 offset 256 lastdiffers 1 9"
+    yield from reports("a wrong constant behind a gap", 1, lines, FIRST + record(second=5) + differs, b"", *SHORT)
     wide = record(samples=2, data=integers([0, 2**29]), fraction=9000)
     line = "XX_STA__BHZ does not fit 5 stretch 2"
     yield from reports("a stretch that does not fit", 2, [line], FIRST + wide, b"")
     yield from reports("a stretch that does not fit, left out", 2, [line], FIRST + wide, b"", "--leave")
     yield from reports("a sample past 16 bits", 2, ["XX_STA__BHZ does not fit 4 stretch 1"],
                      record(samples=2, data=integers([0, 2**15])), b"", "--encoding", "int16")
-    line = "XX_STA__LOG is broken"
-    yield from reports("a log channel", 1, [line], LOG + FIRST, b"", *SHORT)
-    yield from reports("a log channel, left out", 1, [line], LOG + FIRST, FIRST, *LEAVE)
-    lines = ["XX_STA__BHN is broken", "XX_STA__BHZ does not fit 5 stretch 2"]
+    lines = ["XX_STA__LOG is broken", "record 1 offset 0 norate"]
+    yield from reports("a log channel", 1, lines, LOG + FIRST, b"", *SHORT)
+    yield from reports("a log channel, left out", 1, lines[:1], LOG + FIRST, FIRST, *LEAVE)
+    lines = ["XX_STA__BHN is broken", "record 2 offset 128 encoding 4", "XX_STA__BHZ does not fit 5 stretch 2"]
     archive = FIRST + record(encoding=4, **BHN) + wide
-    yield from reports("a broken channel and one that does not fit", 1, lines[:1], archive, b"")
-    yield from reports("both left out", 2, lines, archive, b"", "--leave")
+    yield from reports("a broken channel and one that does not fit", 1, lines[:2], archive, b"")
+    yield from reports("both left out", 2, [lines[0], lines[2]], archive, b"", "--leave")
     yield from reports("a cut archive", 2, ["fault at 128 truncated 9"], FIRST + FIRST[:9], b"", "--leave")
 
 
 def words() -> Cases:
     """Options that there aren't, or not together."""
     bad = Row("", FIRST, [], 3, b"", BAD_VALUE)
-    for line in ("repack --leave", "audit --stretches", "repack --stretches --port 1", "repack --stretches --length 500",
-                 "show --leave", "repack --stretches - -"):
+    for line in ("repack --leave", "repack --stretches --length 500", "repack --stretches - -"):
         yield from both(replace(bad, name=line, words=line.split()))
+    for line, about in (("audit --stretches", "--stretches"), ("repack --stretches --port 1", "--port"),
+                        ("show --leave", "--leave")):
+        yield from both(replace(bad, name=line, words=line.split(), err=About(about)))
 
 
 def at_random() -> Cases:

@@ -12,7 +12,7 @@ from typing import Iterator, Sequence
 from driver.program import LIMIT, PROGRAM, SAMPLES
 from driver.records import changed, integers, next_record, record
 from driver.rows import Cases, Fact, Row, Word, both
-from driver.texts import BAD_VALUE, About
+from driver.texts import BAD_VALUE, IS_DIRECTORY, About, broken
 
 # The record's first instant, and its last sample's: 16 samples at 20 a second.
 FIRST, LAST = "2024-01-01", "2024-01-01T00:00:00.75"
@@ -169,7 +169,7 @@ def faults() -> Cases:
     worst = [record(encoding=11, data=b"\xff" * 64), record(encoding=99)]
     yield from selected("a payload isn't judged", worst, [], worst)
     yield Row("a full device", record() * 2000, ["select"], 2, b"", b"mseed: write failed\n", out_to="/dev/full")
-    yield Row("a folder", SAMPLES, ["select"], 2, b"", b"mseed: fault at 0 read\n")
+    yield Row("a folder", SAMPLES, ["select"], 2, b"", b"mseed: fault at 0 read\n" + IS_DIRECTORY)
 
 
 OTHERS = [["--each"], ["--part"], ["--past-faults"], ["--expect", "1"], ["--length", "512"],
@@ -184,12 +184,13 @@ FEED = ["--port", "1", "--station", "STA", "--network", "XX"]
 def refused() -> Cases:
     """No other option is taken, and no command takes the three that doesn't know them."""
     for option in OTHERS:
-        yield Row(f"select {option}", ARCHIVE, ["select", *option], 3, b"", BAD_VALUE, left=len(ARCHIVE))
+        yield Row(f"select {option}", ARCHIVE, ["select", *option], 3, b"", About(option[0]), left=len(ARCHIVE))
     for option in SELECTIONS:
         for command in NOT_TAKING:
-            yield Row(f"{command} {option}", ARCHIVE, [*command, *option], 3, b"", BAD_VALUE, left=len(ARCHIVE))
+            err = BAD_VALUE if command[0] in ("audit", "repack") else About(option[0])
+            yield Row(f"{command} {option}", ARCHIVE, [*command, *option], 3, b"", err, left=len(ARCHIVE))
     for option in (SELECTIONS[0], SELECTIONS[2]):
-        yield Row(f"fetch {option}", ARCHIVE, ["fetch", *FEED, *option], 3, b"", BAD_VALUE, left=len(ARCHIVE))
+        yield Row(f"fetch {option}", ARCHIVE, ["fetch", *FEED, *option], 3, b"", About(option[0]), left=len(ARCHIVE))
     yield Row("fetch from a time", ARCHIVE, ["fetch", *FEED, "--from", FIRST], 3, b"", BAD_VALUE, left=len(ARCHIVE))
     yield Row("select from a number", ARCHIVE, ["select", "--from", "00000A"], 3, b"", BAD_VALUE, left=len(ARCHIVE))
 
@@ -212,9 +213,9 @@ def of_files(folder: Path) -> Cases:
     yield Row("three files", b"", [*words, *names], 0, expected)
     yield Row("options after the files", b"", ["select", *names, *words[1:]], 0, expected)
     yield Row("standard input among them", ARCHIVE[100:], [*words, names[0], "-"], 0, expected)
-    for bad in (folder / "none", folder):
-        yield Row(f"{bad}", ARCHIVE, [*words, names[0], str(bad)], 2, b"", f"mseed: cannot read {bad}\n".encode(),
-                  left=len(ARCHIVE))
+    for bad, reason in ((folder / "none", "not found"), (folder, "is a directory")):
+        yield Row(f"{bad}", ARCHIVE, [*words, names[0], str(bad)], 2, b"",
+                  f"mseed: cannot read {bad}: {reason}\n".encode(), left=len(ARCHIVE))
     script = '"$0" select --channels "IU_*_*_*" <(head -c 300 "$1") <(tail -c +301 "$1")'
     whole = folder / "whole"
     whole.write_bytes(ARCHIVE)
@@ -224,7 +225,7 @@ def of_files(folder: Path) -> Cases:
     with open(whole, "ab") as out:
         ran = subprocess.run([PROGRAM, "select", whole], stdout=out, stderr=subprocess.PIPE, timeout=LIMIT, check=False,
                              stdin=subprocess.DEVNULL)
-    yield Fact("its own output", (2, f"mseed: cannot read {whole}\n".encode(), ARCHIVE),
+    yield Fact("its own output", (2, f"mseed: cannot read {whole}: is the output\n".encode(), ARCHIVE),
                (ran.returncode, ran.stderr, whole.read_bytes()))
 
 
@@ -299,19 +300,30 @@ def by_other_commands() -> Cases:
 
 
 def repacked() -> Cases:
-    """Packing anew those that are asked for is packing what is selected."""
+    """Packing anew those that are asked for is packing what is selected, but that a finding's number and offset are
+    those in the whole input."""
     bad = changed(record(), [(24, bytes([24]))])
-    broken = b"".join([*TURNS, bad])
+    archive = b"".join([*TURNS, bad])
+    alone_at, whole_at = b"mseed: record 3 offset 256 gap 3400000\n", b"mseed: record 5 offset 512 gap 3400000\n"
     for words in (["--channels", "*_STA_*_*", "--until", "2025-001"], ["--channels", "*_STB_*_*"],
                   ["--from", "2024-01-01T00:00:01"], ["--from", "2024-01-01T00:00:05"], ["--channels", "YY_*_*_*"]):
-        chosen = Row("", broken, ["select", *words], 0).run()
+        chosen = Row("", archive, ["select", *words], 0).run()
         for options in ([], ["--length", "128", "--encoding", "int32"], ["--stretches"], ["--stretches", "--leave"]):
             alone = Row("", chosen.out, ["repack", *options], 0).run()
-            yield Row(f"repack {options} {words}", broken, ["repack", *options, *words], alone.status, alone.out,
-                      chosen.err + alone.err)
-        yield Row(f"a fault anywhere {words}", broken + b"x" * 48, ["repack", *words], 2, b"",
-                  b"mseed: fault at %d notdata\n" % len(broken))
-    yield Row("repack of one that is not asked for", broken, ["repack"], 1, b"", b"mseed: XX_STA__BHZ is broken\n")
+            yield Row(f"repack {options} {words}", archive, ["repack", *options, *words], alone.status, alone.out,
+                      chosen.err + alone.err.replace(alone_at, whole_at))
+        for options in ([], ["--stretches"], ["--stretches", "--leave"]):
+            yield Row(f"a fault anywhere {options} {words}", archive + b"x" * 48, ["repack", *options, *words], 2, b"",
+                      chosen.err + b"mseed: fault at %d notdata\n" % len(archive))
+    yield Row("repack of one that is not asked for", archive, ["repack"], 1, b"",
+              broken("XX_STA__BHZ", 6, 640, "time hour"))
+    of_stb = ["repack", "--channels", "*_STB_*_*"]
+    yield Row("a gap of what is asked for", archive, of_stb, 1, b"", broken("XX_STB__BHZ", 5, 512, "gap 3400000"))
+    worse = TURNS[0] + archive + changed(TURNS[1], [(24, bytes([24]))]) + archive
+    found = broken("XX_STB__BHZ", 8, 896, "time hour")
+    for leave, lines in (([], found), (["--leave"], found[: found.index(b"\n") + 1])):
+        yield Row(f"a finding of its own of what is asked for {leave}", worse, [*of_stb, "--stretches", *leave], 1, b"",
+                  lines)
 
 
 def rows() -> Cases:

@@ -15,7 +15,7 @@ from driver.batches import Batch
 from driver.program import LIMIT, PROGRAM, SAMPLES
 from driver.records import next_record, record
 from driver.rows import Cases, Fact, Row, both, holds, started
-from driver.texts import BAD_VALUE, WRITE_FAILED, About
+from driver.texts import BAD_VALUE, IS_DIRECTORY, WRITE_FAILED, About, broken
 from models.selecting import Ended, Selection, audit, chosen, repack, select, show
 from models.windows import archive_for, selection_for
 
@@ -121,7 +121,7 @@ def faults() -> Cases:
     yield from selects("no record", [], TWO, b"mseed: fault at 256 notdata\n", TWO + junk, 2)
     yield from selects("a fault, and nothing asked for", ["--channels=___"], b"", b"mseed: fault at 0 notdata\n",
                        junk, 2)
-    yield Row("select of a folder", SAMPLES, ["select"], 2, b"", b"mseed: fault at 0 read\n")
+    yield Row("select of a folder", SAMPLES, ["select"], 2, b"", b"mseed: fault at 0 read\n" + IS_DIRECTORY)
     yield Row("select onto a full disk", TWO, ["select"], 2, b"", WRITE_FAILED, out_to="/dev/full")
     yield Row("a full disk, and nothing asked for", TWO, ["select", "--channels=___"], 0, out_to="/dev/full")
     with tempfile.TemporaryDirectory() as folder:
@@ -130,7 +130,7 @@ def faults() -> Cases:
         with path.open("ab") as out:
             ran = subprocess.run([PROGRAM, "select", str(path)], stdout=out, stderr=subprocess.PIPE, check=False,
                                  stdin=subprocess.DEVNULL, timeout=LIMIT)
-        yield Fact("select of its own output", (2, b"mseed: cannot read %b\n" % os.fsencode(path), TWO),
+        yield Fact("select of its own output", (2, b"mseed: cannot read %b: is the output\n" % os.fsencode(path), TWO),
                    (ran.returncode, ran.stderr, path.read_bytes()))
 
 
@@ -169,14 +169,18 @@ def words(taking: Sequence[str]) -> Cases:
     yield Row("select from and until", b"", ["select", "--from=2024-01-01", "--until=2024-01-01T00:00:00.000001"], 0)
     for option in ("--channels=*_*_*_*", "--from=2024-01-01", "--until=2024-01-01"):
         for command in (["join"], ["audit", "--part"], ["audit", "--part", "--each"], ["join", "--each"]):
-            yield Row(f"{command} {option}", TWO, [*command, option], 3, b"", BAD_VALUE, left=len(TWO))
+            err = BAD_VALUE if command[0] == "audit" else About(option.partition("=")[0])
+            yield Row(f"{command} {option}", TWO, [*command, option], 3, b"", err, left=len(TWO))
     feed = ["--port=1", "--network=XX", "--station=STA"]
     for command in ("serve", "fetch"):
         for option in ("--channels=*_*_*_*", "--until=2024-01-01", "--from=2024-01-01"):
-            yield Row(f"{command} {option}", TWO, [command, *feed, option], 3, b"", BAD_VALUE)
+            name = option.partition("=")[0]
+            err = BAD_VALUE if (command, name) == ("fetch", "--from") else About(name)
+            yield Row(f"{command} {option}", TWO, [command, *feed, option], 3, b"", err)
     for option in (["--each"], ["--part"], ["--length=512"], ["--encoding=steim2"], ["--stretches"], ["--leave"],
                    ["--past-faults"], ["--expect=1"], ["--station=STA"], ["--tell-next"], ["--live"]):
-        yield Row(f"select {option}", TWO, ["select", *option], 3, b"", BAD_VALUE, left=len(TWO))
+        yield Row(f"select {option}", TWO, ["select", *option], 3, b"", About(option[0].partition("=")[0]),
+                  left=len(TWO))
     yield Row("select --from as of fetch", TWO, ["select", "--from=00A3F1"], 3, b"", BAD_VALUE)
 
 
@@ -211,16 +215,17 @@ def worked_out() -> Iterator[Row]:
     archive = late + FIRST + late + SECOND + record(second=3)
     words = ["--channels", "XX_*__BHZ", "--from", f"{DAY}T00:00:00.8"]
     gap = "512 XX_STA__BHZ record 5 start 2024-01-01T00:00:03.000000 gap 1400000\n"
-    broken = "XX_STA__BHZ broken findings 1 first record 5 offset 512 gap 1400000\n"
+    line = "XX_STA__BHZ broken findings 1 first record 5 offset 512 gap 1400000\n"
     yield from both(Row("an audit of a selection, by numbers and offsets of the whole", archive, ["audit", *words], 1,
-                        f"{broken}records 2 channels 1\n".encode()))
+                        f"{line}records 2 channels 1\n".encode()))
     yield from both(Row("each finding of it", archive, ["audit", "--each", *words], 1,
-                        f"{gap}{broken}records 2 channels 1\n".encode()))
+                        f"{gap}{line}records 2 channels 1\n".encode()))
     yield from both(Row("the list of it", archive, ["show", *words], 0, (
         "384 XX_STA__BHZ D length 128 samples 16 start 2024-01-01T00:00:00.800000 rate 20/1 encoding 3 big\n"
         "512 XX_STA__BHZ D length 128 samples 16 start 2024-01-01T00:00:03.000000 rate 20/1 encoding 3 big\n"
         "records 2\n").encode()))
-    yield Row("packing it anew", archive, ["repack", *words], 1, b"", b"mseed: XX_STA__BHZ is broken\n")
+    yield Row("packing it anew", archive, ["repack", *words], 1, b"",
+              broken("XX_STA__BHZ", 5, 512, "gap 1400000"))
     yield Row("an audit of nothing", archive, ["audit", "--channels=___"], 0, b"records 0 channels 0\n")
     yield Row("an audit of nothing, and a fault", archive + b"junk", ["audit", "--channels=___"], 2,
               b"records 0 channels 0\nfault at 640 truncated 4\n")

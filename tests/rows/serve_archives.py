@@ -9,20 +9,25 @@ from typing import Iterator
 from driver.links import listening, port_of
 from driver.records import FRAMING, TELLING, changed, next_record, record
 from driver.rows import Cases, Fact, Row, holds
+from driver.texts import foreign, place_of
 from models.auditing import cut
 from models.seedlink import Place, record_of
 
 PLACES = [Place("XX_STA"), Place("n_A1b2C"), Place("XX_STB")]
 FIRST, NEXT = record(exponent=9), next_record(exponent=9)
 SERVED = "link failed"
-FOREIGN = "record 2 is not of this feed"
 
 # What 255 in the place of one byte of the second record does: the fault there, or that it is of no place. Where it
 # stands elsewhere, the record is of its place as before.
 BYTES = [
     (range(8), "fault at 512 notdata"),
-    (range(8, 13), FOREIGN),
-    (range(18, 20), FOREIGN),
+    ((8,), foreign(2, "XX_?TA", 512)),
+    ((9,), foreign(2, "XX_S?A", 512)),
+    ((10,), foreign(2, "XX_ST?", 512)),
+    ((11,), foreign(2, "XX_STA?", 512)),
+    ((12,), foreign(2, "XX_STA ?", 512)),
+    ((18,), foreign(2, "?X_STA", 512)),
+    ((19,), foreign(2, "X?_STA", 512)),
     ((20, 22), "fault at 512 order"),
     ((46,), "fault at 512 truncated 512"),
     ((47, 48, 49), "fault at 512 no1000"),
@@ -55,11 +60,11 @@ def archive_at_random(source: random.Random) -> bytes:
 
 
 def refusal_of(archive: bytes) -> str:
-    """What `serve` says of an archive whose places these are."""
+    """What `serve` writes of an archive whose places these are."""
     records, end, fault = cut(archive)
     for number, (_, one) in enumerate(records, 1):
         if len(one.bytes) != 512 or not any(place.bears(one.bytes) for place in PLACES):
-            return f"record {number} is not of this feed"
+            return foreign(number, place_of(one.bytes), len(one.bytes))
     return f"fault at {end} {fault}" if fault else SERVED
 
 
@@ -76,9 +81,10 @@ def rows_of_tables() -> Iterator[tuple[str, bytes, str]]:
     for exponent in range(7, 21):
         parts = [(54, bytes([exponent]))]
         # A shorter record is none of the feed's, nor is one of 1,024 bytes. A longer one lacks bytes.
-        line = {7: FOREIGN, 8: FOREIGN, 9: SERVED}.get(exponent, "fault at 512 truncated 512")
+        line = SERVED if exponent == 9 else foreign(2, "XX_STA", 2**exponent)
+        line = line if exponent < 10 else "fault at 512 truncated 512"
         yield f"exponent {exponent} of the second record", FIRST + changed(NEXT, parts), line
-        line = SERVED if exponent == 9 else "record 1 is not of this feed"
+        line = SERVED if exponent == 9 else foreign(1, "XX_STA", 2**exponent)
         line = line if exponent < 11 else "fault at 0 truncated 1024"
         yield f"exponent {exponent}", changed(FIRST, parts) + NEXT, line
 
@@ -96,7 +102,7 @@ def at_random(port: int) -> Cases:
     for number in range(400):
         archive = archive_at_random(source)
         line = refusal_of(archive)
-        yield refused(f"archive {number} at random: {line}", archive, line, port)
+        yield refused(f"archive {number} at random: {line!r}", archive, line, port)
         seen[line.split()[0]] = seen.get(line.split()[0], 0) + 1
     yield Fact("archives at random are of three kinds", ["fault", "link", "record"], sorted(seen))
     yield holds("archives at random: each kind comes often", min(seen.values()) > 50, seen)

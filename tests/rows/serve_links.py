@@ -15,6 +15,7 @@ from driver.feed import Server
 from driver.links import HOST, OPEN, dialled, received_up_to, send, sockets
 from driver.program import LIMIT
 from driver.rows import Cases, Fact, holds
+from driver.texts import keeps
 from models.seedlink import TRANSCRIPT, Place, record_of
 
 STA = Place("XX_STA")
@@ -39,7 +40,7 @@ def transcript(name: str, talk: Callable[[socket.socket], Cases]) -> Cases:
         packets = received_up_to(link, 65536)
     wanted = b"SL000001" + RECORDS[1] + b"SL000002" + RECORDS[2] + b"END"
     yield Fact(f"the packets of a transcript {name}", wanted, packets)
-    yield Fact(f"serve after a transcript {name}", ENDED, server.end())
+    yield Fact(f"serve after a transcript {name}", (0, b"", keeps("XX_STA", 2, 3)), server.end())
 
 
 def replies(link: socket.socket, name: object, wanted: bytes) -> Fact:

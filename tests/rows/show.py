@@ -8,7 +8,7 @@ from typing import Sequence
 from driver.program import ROOT
 from driver.records import blockette_1000, blockette_1001, chain_of_500, record
 from driver.rows import Cases, Row, both
-from driver.texts import WRITE_FAILED, About
+from driver.texts import IS_DIRECTORY, WRITE_FAILED, About
 
 START = "2024-01-01T00:00:00.000000"
 LONGER = record(samples=48, exponent=8, data=b"")
@@ -87,7 +87,7 @@ def devices() -> Cases:
     text = "".join(f"{256 * n} {LONGER_TEXT}" for n in range(3000)) + "records 3000\n"
     yield Row("many records", LONGER * 3000, ["show"], 0, text.encode())
     yield Row("a full output", LONGER * 3000, ["show"], 2, b"", WRITE_FAILED, out_to="/dev/full")
-    yield Row("an input that cannot be read", ROOT, ["show"], 2, b"records 0\nfault at 0 read\n")
+    yield Row("an input that cannot be read", ROOT, ["show"], 2, b"records 0\nfault at 0 read\n", IS_DIRECTORY)
     two = f"0 {LONGER_TEXT}256 {LONGER_TEXT}records 2\n"
     yield Row("a listing, and leaves 0 bytes", LONGER + LONGER, ["show"], 0, two.encode(), left=0)
 

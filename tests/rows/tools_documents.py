@@ -1,5 +1,6 @@
-"""Each command of the pages about the tools and of the operator's page prints what stands there. Commands of programs that aren't installed are
-skipped, with those that want what they leave behind; and each tool is named in its page."""
+"""Each command of the pages about the tools and of the operator's page prints what stands there, but for the whole loop
+of the cookbook, which goes through one shell: tools_loop.py. Commands of programs that aren't installed are skipped,
+with those that want what they leave behind; and each tool is named in its page."""
 
 from __future__ import annotations
 
@@ -15,6 +16,7 @@ from driver.program import ROOT, SOURCES
 from driver.rows import Cases, Fact, Skipped, holds
 from driver.slurm import PACKAGES, NotUp, is_installed, slurm
 from driver.tools import TOOLS
+from rows import tools_loop
 from rows.tools_cluster import DASK, with_dask
 
 DOCUMENTS = ["tools/README.md", "docs/cookbook.md", "docs/operating.md"]
@@ -55,6 +57,7 @@ def environment(command: str, folder: Path) -> Iterator[dict[str, str]]:
 def commands(document: str) -> Cases:
     """Those of a page."""
     text = (ROOT / document).read_text(encoding="utf-8")
+    text = text.replace(tools_loop.page(), "")
     with tempfile.TemporaryDirectory() as folder:
         for command, wanted in examples(text):
             try:

@@ -212,25 +212,66 @@ def holes(folder: Path) -> Cases:
     yield Fact("what was requested", [b"", b" 00000D", b" 00002A"], requested)
 
 
+def told_in_vain(folder: Path) -> Cases:
+    """A `fetch` that tells of a hole, and ends before the records up to there have come: the next one asks for these."""
+    asked, program, record = folder / "asked", folder / "fetch", record_of(STA, 0)
+    program.write_text(f"""\
+#!{sys.executable}
+import os, sys
+is_first = not os.path.exists({str(asked)!r})
+with open({str(asked)!r}, "a") as file:
+    print(*sys.argv[sys.argv.index("--station") + 2:], file=file)
+if is_first:
+    os.write(2, b"mseed: first XX_STA:000005\\n")
+    os.write(2, b"mseed: hole XX_STA 000008 000064\\n")
+    os.write(1, {record!r})
+    os.write(2, b"mseed: link failed\\n")
+sys.exit(2 if is_first else 0)
+""", encoding="utf-8")
+    program.chmod(0o755)
+    for name, given in (("file", words(folder / "vain", 1, [STA], "--holes")),
+                        ("tree", ["--sds", *words(folder / "vain_tree", 1, [STA], "--holes")])):
+        asked.unlink(missing_ok=True)
+        if name == "tree":
+            program.write_text(program.read_text(encoding="utf-8").replace("import os, sys\n", f"""\
+import os, sys
+if sys.argv[1] == "show":
+    os.execv({str(PROGRAM)!r}, [{str(PROGRAM)!r}, *sys.argv[1:]])
+"""), encoding="utf-8")
+        yield Fact(f"a {name}, and a hole told in vain", 0, tool("fetch_on", *given, program=program).status)
+        yield Fact(f"a {name}, and what was asked for", ["", "--from 000006"], asked.read_text().splitlines())
+
+
+def told_first(result: Result) -> tuple[int, list[str], str]:
+    """How it ended, and the first line of what it reported: the program may tell more behind it."""
+    status, lines, reported = outcome(result)
+    return status, lines, reported.split("\n", 1)[0] + "\n"
+
+
 def failing(folder: Path) -> Cases:
     """What it can't go on after, and how that is reported."""
     records = records_at_random(SEED, [STA], 4)
     nobody = words(folder / "nobody", free_port(), [STA], "--tries", "3")
     begun = time.monotonic()
-    yield Fact("nobody is there", (2, [], LINK_FAILED), outcome(tool("fetch_on", *nobody)))
+    yield Fact("nobody is there", (2, [], LINK_FAILED), told_first(tool("fetch_on", *nobody)))
     yield holds("it has waited between tries", time.monotonic() - begun >= 0.3)
     server = Server(b"".join(records), [STA], "--connections", 1000000)
     refused = words(folder / "refused", server.port, [STA], "--from", "9", "--tries", "3")
-    yield Fact("a number that the server hasn't", (2, [], REFUSED), outcome(tool("fetch_on", *refused)))
+    yield Fact("a number that the server hasn't", (2, [], REFUSED), told_first(tool("fetch_on", *refused)))
     server.kill()
     speaker = Speaker([[GRANTED + b"SL000005" + records[0] + b"SL000007" + records[1]]])
     gap = folder / "gap"
     yield Fact("a number that is left out", (2, [], BAD_FEED),
-               outcome(tool("fetch_on", *words(gap, speaker.port, [STA]))))
+               told_first(tool("fetch_on", *words(gap, speaker.port, [STA]))))
     yield Fact("what came before is held", (records[0], {STA.text: [[0, 5]]}), (gap.read_bytes(), numbers_of(gap)))
     speaker.close()
     yield Fact("a station that is none", (3, [], "mseed: bad value\n"),
-               outcome(tool("fetch_on", *words(folder / "none", 1, [Place("XX_TOOLONG")]))))
+               told_first(tool("fetch_on", *words(folder / "none", 1, [Place("XX_TOOLONG")]))))
+    program = folder / "telling"
+    program.write_text("#!/bin/sh\nprintf 'mseed: bad feed\\nmseed: what came\\n' >&2\nexit 2\n", encoding="utf-8")
+    program.chmod(0o755)
+    yield Fact("what is told behind a bad feed", (2, [], "mseed: bad feed\nmseed: what came\n"),
+               outcome(tool("fetch_on", *words(folder / "told", 1, [STA]), program=program)))
     for given in ([], [str(folder / "few")], [*nobody, "--tries", "0"], [*nobody, STA.text], [*nobody, "--no-such"]):
         yield Fact(f"fetch_on {' '.join(given)}", 3, tool("fetch_on", *given).status)
     yield holds("the help has an example", b"example" in tool("fetch_on", "--help").out)
@@ -264,6 +305,6 @@ def other_files(folder: Path) -> Cases:
 
 def rows() -> Cases:
     """All of them."""
-    for some in (whole, kills, one_writer, coming_back, holes, failing, other_files):
+    for some in (whole, kills, one_writer, coming_back, holes, told_in_vain, failing, other_files):
         with tempfile.TemporaryDirectory() as name:
             yield from some(Path(name))

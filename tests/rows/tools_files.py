@@ -25,7 +25,7 @@ from driver.tools import TOOLS, as_others, losing, outcome, rest, tool, write_tr
 # So long a tool may take that isn't to wait for anybody.
 SECONDS = 60
 SAMPLE = SAMPLES / "network_gap.mseed"
-GAPS = "gaps 0 0.000000 s overlaps 0 0.000000 s findings 0"
+GAPS = "gaps 0 0.000000 s absent 0.000000 s overlaps 0 0.000000 s findings 0"
 # A record of 16 samples at 20 a second, and the next one where it ends.
 LINE = "records 1 samples 16 from 2024-01-01T00:00:00.000000 to 2024-01-01T00:00:00.800000"
 
@@ -132,7 +132,7 @@ def kept_files(folder: Path) -> Cases:
     linked = folder / "linked"
     Path(f"{linked}.numbers").symlink_to("numbers")
     held = Held(str(linked))
-    held.first("XX_STA", 5)
+    held.numbers.first("XX_STA", 5)
     held.keep()
     yield Fact("fetch_on, whose numbers are a link", ("numbers", {"XX_STA": [[0, 5]]}),
                (led_to(Path(f"{linked}.numbers")), json.loads(Path(f"{linked}.numbers").read_bytes())["places"]))
@@ -191,7 +191,8 @@ def unread_folders(folder: Path) -> Cases:
         yield Fact("sds: folders that nobody may read, in JSON",
                    ([{"file": path, "at": 0, "fault": "read", "skipped": 0} for path in places], 5),
                    (reported.get("fault"), reported.get("total", {}).get("faults")))
-        err = "".join(f"{root}/{path}: fault at 0 read\n" for path in places).encode()
+        lines = [*(f"{root}/{path}: fault at 0 read\n" for path in places), f"{root}/2024/XX/note: misplaced\n"]
+        err = "".join(lines).encode()
         for name in ("gaps", "timeline"):
             came = tool(name, str(root), first=as_others)
             yield Fact(f"{name}: folders that nobody may read", (2, err), (came.status, came.err))

@@ -30,7 +30,8 @@ BY_TIME = [BREAKS[number] for number in (0, 3, 5, 6, 2, 1, 4, 7)]
 FAULTS = [(place("CCC", "BHN", DAYS[1]), "fault at 60928 truncated 412, 412 bytes skipped"),
           (place("CCC", "BHN", DAYS[2]), "fault at 30720 notdata, 512 bytes skipped"),
           (place("CCC", "BHN", DAYS[3]), "fault at 30720 notdata, 4096 bytes skipped"),
-          (place("CCC", "BHZ", DAYS[3]), "fault at 0 read")]
+          (place("CCC", "BHZ", DAYS[3]), "fault at 0 read"),
+          (place("AAA", "BHZ", DAYS[4], folder="CCC"), "misplaced")]
 
 
 def in_csv(text: bytes) -> list[list[str]]:

@@ -5,6 +5,7 @@ that change; and what it says when it was killed and goes on.
 
 from __future__ import annotations
 
+import datetime
 import fcntl
 import json
 import os
@@ -23,6 +24,7 @@ from driver.records import record
 from driver.rows import Cases, Fact, Result, holds
 from driver.tools import DAYS, TOOLS, batches, make_tree, place, rest, outcome, tool, write_tree
 from models.auditing import Record, findings, name_of, record_of, scan, start_of, time_of
+from models.covering import Time, day_of, is_told
 from models.series import records_for, series_for
 from rows.damaged_archives import harm
 
@@ -31,7 +33,7 @@ COUNT = 60
 KILLS = 20
 
 SPAN = "from 2016-12-30T00:00:00.000000 to 2017-01-04T00:00:00.000000"
-NO_GAPS, NO_OVERLAPS = "gaps 0 0.000000 s", "overlaps 0 0.000000 s"
+NO_GAPS, NO_OVERLAPS = "gaps 0 0.000000 s absent 0.000000 s", "overlaps 0 0.000000 s"
 
 EACH = [
     # The 50 records before it have 36,050 samples: it begins a record later.
@@ -52,23 +54,28 @@ FIRST = {name: f"first record {number} offset {offset} {why} in {path}"
 
 # Five days have 432,001 seconds. A record of 512 bytes has 721.
 EXPECTED = f"""\
-XX_AAA__BHE days 5 records 600 samples 432001 {SPAN} gaps 1 721.000000 s overlaps 1 721.000000 s findings 2 \
+XX_AAA__BHE days 5 records 600 samples 432001 {SPAN} gaps 1 721.000000 s absent 721.000000 s \
+overlaps 1 721.000000 s findings 2 \
 {FIRST["XX_AAA__BHE"]}
 XX_AAA__BHN days 5 records 70 samples 432001 {SPAN} {NO_GAPS} {NO_OVERLAPS} findings 0
 XX_AAA__BHZ days 5 records 600 samples 432001 {SPAN} {NO_GAPS} {NO_OVERLAPS} findings 0
-XX_BBB__BHN days 5 records 600 samples 432001 {SPAN} gaps 2 172800.000000 s overlaps 1 172800.000000 s findings 3 \
-{FIRST["XX_BBB__BHN"]}
+XX_BBB__BHN days 5 records 600 samples 432001 {SPAN} gaps 2 172800.000000 s absent 0.000000 s \
+overlaps 1 172800.000000 s \
+findings 3 {FIRST["XX_BBB__BHN"]}
+  misdated {place("BBB", "BHN", DAYS[2])} 2017-01-02
+  misdated {place("BBB", "BHN", DAYS[3])} 2017-01-01
 XX_BBB__BHZ days 5 records 720 samples 518401 {SPAN} {NO_GAPS} overlaps 1 86400.000000 s findings 1 \
 {FIRST["XX_BBB__BHZ"]}
 XX_BBB__LOG undecoded days 5 records 5 samples 100 from 2016-12-30T12:00:00.000000 to 2017-01-03T12:00:00.000000
 XX_CCC__BHE days 5 records 566 samples 432001 {SPAN} {NO_GAPS} {NO_OVERLAPS} findings 2 \
 {FIRST["XX_CCC__BHE"]}
-XX_CCC__BHN days 5 records 599 samples 431399 {SPAN} gaps 1 601.000000 s {NO_OVERLAPS} findings 1 \
+XX_CCC__BHN days 5 records 599 samples 431399 {SPAN} gaps 1 601.000000 s absent 601.000000 s {NO_OVERLAPS} findings 1 \
 {FIRST["XX_CCC__BHN"]}
   fault {place("CCC", "BHN", DAYS[1])} at 60928 truncated 412, 412 bytes skipped
   fault {place("CCC", "BHN", DAYS[2])} at 30720 notdata, 512 bytes skipped
   fault {place("CCC", "BHN", DAYS[3])} at 30720 notdata, 4096 bytes skipped
-XX_CCC__BHZ days 2 records 240 samples 172800 {SPAN} gaps 1 259200.000000 s {NO_OVERLAPS} findings 1 \
+XX_CCC__BHZ days 2 records 240 samples 172800 {SPAN} gaps 1 259200.000000 s absent 259200.000000 s \
+{NO_OVERLAPS} findings 1 \
 {FIRST["XX_CCC__BHZ"]}
   missing 2016-12-31..2017-01-02
   empty {place("CCC", "BHZ", DAYS[1])}
@@ -81,6 +88,8 @@ BYTES = 512 * (600 + 600 + 600 + 720 + 5 + 1 + 480 + 600 + 1 + 360) - 100 + 4096
 TOTAL = f"files 45 bytes {BYTES} channels 9 continuous 2 broken 6 undecoded 1 faults 4"
 
 WORDS = ("file", "offset", "name", "number", "start", "why")
+# What stands for a number that no text of the program has.
+UNTOLD = "UNTOLD"
 
 
 def line_of(path: str, offset: int, name: str, number: int, start: str, why: str) -> str:
@@ -102,8 +111,11 @@ def sample(folder: Path) -> Cases:
                    outcome(tool("sds", "--each", "-j", "3", "--state", str(state), str(root))))
     yield from in_json(tool("sds", "--each", "--json", "--state", str(state), str(root)))
     texts = sorted(path.suffix for path in state.rglob("*") if path.is_file())
-    # A text for each channel and year; the lock; nothing that was begun.
-    yield Fact("what is kept", ["", *[".json"] * 18], texts)
+    # A text for each channel and year; the lock; what was said; nothing that was begun.
+    yield Fact("what is kept", ["", *[".json"] * 18, ".txt"], texts)
+    said = (state / "verdict.txt").read_text(encoding="utf-8").splitlines()
+    yield Fact("what was said last", (True, [*EXPECTED, TOTAL]),
+               (re.fullmatch(r"\d{4}-\d\d-\d\dT\d\d:\d\d:\d\d status 2", said[0]) is not None, said[1:]))
     yield from kept(root, state)
 
 
@@ -118,12 +130,15 @@ def in_json(came: Result) -> Cases:
         "channel": "XX_CCC__BHZ", "state": "broken", "days": 2, "records": 240, "samples": 172800, "from": first,
         "to": first + 5 * 86400 * 10**6, "gaps": {"count": 1, "microseconds": 259200 * 10**6},
         "overlaps": {"count": 0, "microseconds": 0}, "findings": 1, "first": dict(zip(WORDS, EACH[-1])),
-        "missing": [["2016-12-31", "2017-01-02"]],
-        "foreign": [{"file": place("CCC", "BHZ", DAYS[2]), "channel": "XX_AAA__BHZ"}],
+        "absent": 259200 * 10**6, "missing": [["2016-12-31", "2017-01-02"]],
+        "foreign": [{"file": place("CCC", "BHZ", DAYS[2]), "channel": "XX_AAA__BHZ"}], "misdated": [],
         "fault": [{"file": place("CCC", "BHZ", DAYS[3]), "at": 0, "fault": "read", "skipped": 0}], "changed": [],
         "empty": [{"file": place("CCC", "BHZ", DAYS[1])}]}, by_name["XX_CCC__BHZ"])
-    yield Fact("a log in JSON", ("undecoded", 20 * 5, None),
-               tuple(by_name["XX_BBB__LOG"].get(word) for word in ("state", "samples", "findings")))
+    yield Fact("a log in JSON", ("undecoded", 20 * 5, None, None),
+               tuple(by_name["XX_BBB__LOG"].get(word) for word in ("state", "samples", "findings", "absent")))
+    yield Fact("files of other days in JSON", [
+        {"file": place("BBB", "BHN", DAYS[number]), "days": [[day, day]]}
+        for number, day in ((2, "2017-01-02"), (3, "2017-01-01"))], by_name["XX_BBB__BHN"]["misdated"])
     yield Fact("what is first in a sound channel, in JSON", None, by_name["XX_AAA__BHZ"]["first"])
     yield Fact("each finding in JSON", [dict(zip(WORDS, values)) for values in EACH], reported["each"])
     yield Fact("the total in JSON", TOTAL, " ".join(f"{word} {number}" for word, number in reported["total"].items()))
@@ -143,7 +158,8 @@ def kept(root: Path, state: Path) -> Cases:
         came = outcome(tool("sds", "--state", str(state), str(root), program=program.path))
         yield Fact("a run after a change reads that file", (1, True),
                    (program.audits(), any(line.startswith("XX_AAA__BHZ")
-                       and " gaps 1 601.000000 s overlaps 0 0.000000 s findings 1 " in line for line in came[1])))
+                                          and f" gaps 1 601.000000 s absent 601.000000 s {NO_OVERLAPS} findings 1 "
+                                          in line for line in came[1])))
         text = next(state.rglob("XX.AAA..BHZ.D.2016.json"))
         whole = text.read_bytes()
         for content in (b"", b"{", b"[]", b'{"form": 1}', whole[:-20], whole.replace(b"mseed", b"")):
@@ -204,11 +220,55 @@ def expected_of(files: dict[str, bytes], key: bytes) -> tuple[list[str], Optiona
         firsts.append(f" first record {number} offset {offset} {why} in {path}")
         if why.split()[0] in sums:
             sums[why.split()[0]].append(int(why.split()[1]))
-    totals = " ".join(f"{kind}s {len(some)} {sum(some) / 10**6:.6f} s" for kind, some in sums.items())
+    gaps, overlaps = (f"{kind}s {len(some)} {sum(some) / 10**6:.6f} s" for kind, some in sums.items())
     samples = sum(record.count for _, _, _, record in records)
-    days = len({path for path, _, _, _ in records})
-    return lines, (f"{name_of(key)} days {days} records {len(records)} samples {samples} .. {totals} "
-                   f"findings {len(lines)}{''.join(firsts[:1])}")
+    days = len({day_of(record, day_in(path)) for path, _, _, record in records} - {None})
+    begin, end, absent = covered_in_words([record for _, _, _, record in records])
+    return lines, (f"{name_of(key)} days {days} records {len(records)} samples {samples} from {begin} to {end} "
+                   f"{gaps} absent {absent} s {overlaps} findings {len(lines)}{''.join(firsts[:1])}")
+
+
+def day_in(path: str) -> datetime.date:
+    """The day of a file."""
+    return datetime.datetime.strptime(path[-8:], "%Y.%j").date()
+
+
+def covered_in_words(records: list[Record]) -> tuple[str, str, str]:
+    """Where records begin and end by time, and for how many seconds they are absent, if their leap seconds are told."""
+    covered = Time(records)
+    if not covered.spans:
+        return "none", "none", "0.000000"
+    begin, end = time_of(covered.spans[0][0]), time_of(int(max(end for _, end, _ in covered.spans)))
+    return (begin, end, f"{sum(covered.holes()) / 10**6:.6f}") if is_told(records) else (UNTOLD,) * 3
+
+
+def as_told(wanted: list[str], came: list[str]) -> list[str]:
+    """Lines in which stands, in the place of what isn't told, what was wanted."""
+    if len(wanted) != len(came):
+        return came
+    return [one if UNTOLD in one and re.fullmatch(re.escape(one).replace(re.escape(UNTOLD), r"\S+"), other) else other
+            for one, other in zip(wanted, came)]
+
+
+def misdated_in(files: dict[str, bytes], keys: list[bytes]) -> list[str]:
+    """The lines of files with records of other days than their own."""
+    lines = []
+    for key in keys:
+        for path, content in sorted(files.items()):
+            records = [record for _, _, record in records_in(content) if record.count and record.key == key]
+            days = {day_of(record, day_in(path)) for record in records} - {None, day_in(path)}
+            if days and key[2:7].decode().strip() in path:
+                lines.append(f"  misdated {path} {days_in_words(days)}")
+    return lines
+
+
+def days_in_words(days: set[datetime.date]) -> str:
+    """Days, as runs."""
+    words = ""
+    for day in sorted(days):
+        before, after = (day + datetime.timedelta(days=step) in days for step in (-1, 1))
+        words += "" if before and after else f"..{day}" if before else f" {day}"
+    return words[1:]
 
 
 def random_tree(source: Random) -> tuple[dict[str, bytes], list[bytes]]:
@@ -235,7 +295,7 @@ def random_tree(source: Random) -> tuple[dict[str, bytes], list[bytes]]:
 
 def trees_at_random(folder: Path, count: int) -> Cases:
     """Archives at random, against the second program, and where there is no fault against the program's audit."""
-    clean = 0
+    clean = untold = 0
     for seed in range(SEED, SEED + count):
         root = folder / str(seed)
         files, keys = random_tree(Random(seed))
@@ -247,14 +307,17 @@ def trees_at_random(folder: Path, count: int) -> Cases:
             lines += found
             wanted += [line] if line else []
         status, came, err = outcome(tool("sds", "-j", "2", "--each", str(root)))
-        channels = [re.sub(r"from \S+ to \S+", "..", line) for line in came
-                    if line.startswith("XX_STA") and " days 0 " not in line]
+        channels = [line for line in came if line.startswith("XX_STA") and " records 0 " not in line]
         yield Fact(f"the tree of seed {seed}: findings", lines, [line for line in came if line.startswith("202")])
-        yield Fact(f"the tree of seed {seed}: channels", (wanted, ""), (channels, err))
+        untold += sum(UNTOLD in line for line in wanted)
+        yield Fact(f"the tree of seed {seed}: channels", (wanted, ""), (as_told(wanted, channels), err))
+        yield Fact(f"the tree of seed {seed}: files of other days", misdated_in(files, keys),
+                   [line for line in came if line.startswith("  misdated ")])
         if not any(line.startswith("  f") for line in came):
             clean += 1
             yield from as_audited(seed, files, keys, status, came)
     yield holds("some trees are clean", clean > count // 6, clean)
+    yield holds("most leap seconds are told", untold < count, untold)
 
 
 def as_audited(seed: int, files: dict[str, bytes], keys: list[bytes], status: int, came: list[str]) -> Cases:

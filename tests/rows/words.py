@@ -25,7 +25,7 @@ def refused(name: str, about: str, *words: str) -> Row:
 
 def taken(name: str, *words: str) -> Row:
     """Arguments that are taken. What they ask for can't be done: the input is no archive, and nobody answers there."""
-    return Row(name, OTHER, words, 2, b"", Without(BAD_VALUE.strip()))
+    return Row(name, OTHER, words, 2, b"", Without(b"mseed: bad value"))
 
 
 PLACES = ["", "_", "STA", "XXSTA", "XX-STA", "XX_", "_STA", "XXX_STB", "XX_ABCDEF", "XX_STB_", "XX__STB", "XX_ST B",
@@ -36,12 +36,13 @@ PLACES = ["", "_", "STA", "XXSTA", "XX-STA", "XX_", "_STA", "XXX_STB", "XX_ABCDE
 def of_either(command: str) -> Iterator[Row]:
     """What `serve` and `fetch` have in common: each wants its port, station and network."""
     feed = [command, "--port", "1", "--station", "STA", "--network", "XX"]
-    yield bad(f"{command}: nothing but the word", command)
-    yield bad(f"{command}: no port", command, "--station", "STA", "--network", "XX")
-    yield bad(f"{command}: no station", command, "--port", "1", "--network", "XX")
-    yield bad(f"{command}: no network", command, "--port", "1", "--station", "STA")
+    yield refused(f"{command}: nothing but the word", "--port", command)
+    yield refused(f"{command}: no port", "--port", command, "--station", "STA", "--network", "XX")
+    yield refused(f"{command}: no station", "--station", command, "--port", "1", "--network", "XX")
+    yield refused(f"{command}: no network", "--network", command, "--port", "1", "--station", "STA")
     yield taken(f"{command}: all that is wanted", *feed)
-    yield taken(f"{command}: the options first", "--network", "XX", "--station", "STA", "--port", "1", command)
+    yield refused(f"{command}: the options first", "--network", "--network", "XX", "--station", "STA", "--port", "1",
+                  command)
 
     # A station has 1 to 5 letters or digits, a network 1 or 2.
     for station in ("", "ABCDEF", "S T", "STA ", "ST-A", "ST_A", "XX_STA", "STÄ"):
@@ -70,10 +71,10 @@ def of_either(command: str) -> Iterator[Row]:
     yield taken(f"{command}: a port with zeros and a plus", command, "--port", "+0000000000001", *feed[3:])
 
     # Options of packing, and of the audit.
-    yield bad(f"{command}: a length", *feed, "--length", "512")
-    yield bad(f"{command}: each finding", *feed, "--each")
-    yield bad(f"{command}: a number of parts", *feed, "--expect", "2")
-    yield bad(f"{command}: an encoding", *feed, "--encoding", "steim2")
+    yield refused(f"{command}: a length", "--length", *feed, "--length", "512")
+    yield refused(f"{command}: each finding", "--each", *feed, "--each")
+    yield refused(f"{command}: a number of parts", "--expect", *feed, "--expect", "2")
+    yield refused(f"{command}: an encoding", "--encoding", *feed, "--encoding", "steim2")
 
 
 SERVE = ["serve", "--port", "1", "--station", "STA", "--network", "XX"]
@@ -101,18 +102,18 @@ def of_the_link() -> Iterator[Row]:
         yield refused(f"{feed[0]}: two times", "timeout", *feed, "--timeout", "1", "--timeout", "1")
         yield refused(f"{feed[0]}: two addresses", "address", *feed, "--address=1.2.3.4", "--address=1.2.3.4")
     for command in ("audit", "show", "repack"):
-        yield bad(f"{command}: an address", command, "--address", "127.0.0.1")
-        yield bad(f"{command}: a time", command, "--timeout", "1")
+        yield refused(f"{command}: an address", "--address", command, "--address", "127.0.0.1")
+        yield refused(f"{command}: a time", "--timeout", command, "--timeout", "1")
 
 
 def of_the_other() -> Iterator[Row]:
     """Options of the other command, and a number for a place that is served."""
-    yield bad("serve: a number to begin from", *SERVE, "--from", "0")
-    yield bad("serve: tries", *SERVE, "--tries", "1")
+    yield refused("serve: a number to begin from", "--from", *SERVE, "--from", "0")
+    yield refused("serve: tries", "--tries", *SERVE, "--tries", "1")
     yield bad("serve: a place with a number", *SERVE, "XX_STB:1")
-    yield bad("fetch: a capacity", *FETCH, "--capacity", "1000")
-    yield bad("fetch: a first number", *FETCH, "--first", "0")
-    yield bad("fetch: connections", *FETCH, "--connections", "1")
+    yield refused("fetch: a capacity", "--capacity", *FETCH, "--capacity", "1000")
+    yield refused("fetch: a first number", "--first", *FETCH, "--first", "0")
+    yield refused("fetch: connections", "--connections", *FETCH, "--connections", "1")
 
 
 def numbers() -> Iterator[Row]:
@@ -152,24 +153,32 @@ def of_the_audit() -> Iterator[Row]:
     """The option that goes with the audit alone."""
     audited = b"records 0 channels 0\nfault at 0 truncated 9\n"
     yield Row("audit: each finding", OTHER, ["audit", "--each"], 2, audited)
-    yield Row("audit: each finding, the option first", OTHER, ["--each", "audit"], 2, audited)
-    yield bad("show: each finding", "show", "--each")
-    yield bad("repack: each finding", "repack", "--each")
-    yield bad("each finding, and no command", "--each")
+    yield refused("audit: each finding, the option first", "--each", "--each", "audit")
+    yield refused("show: each finding", "--each", "show", "--each")
+    yield refused("repack: each finding", "--each", "repack", "--each")
+    yield refused("each finding, and no command", "--each", "--each")
     for command in ("audit", "show", "repack"):
-        yield bad(f"{command}: a number of parts", command, "--expect", "2")
+        yield refused(f"{command}: a number of parts", "--expect", command, "--expect", "2")
     yield refused("audit: each finding twice", "each", "audit", "--each", "--each")
 
 
 def parsed() -> Iterator[Row]:
-    """An option that is given twice, or has no value; and the help, which names the commands and their options."""
+    """An option that is given twice, or has no value; and the help, which names the commands, and that of each, which
+    names its options."""
     yield refused("serve: two ports", "port", *SERVE, "--port", "1")
     yield refused("fetch: two numbers to begin from", "from", *FETCH, "--from", "1", "--from", "1")
     yield refused("serve: a capacity without a number", "capacity", *SERVE, "--capacity")
-    for word in ("audit", "join", "show", "repack", "serve", "fetch", "NET_STA", "--each", "--expect", "--length",
-                 "--encoding", "--station", "--network", "--capacity", "--first", "--from", "--port", "--connections",
-                 "--tries", "--address", "--timeout"):
+    for word in ("audit", "join", "show", "select", "repack", "serve", "fetch"):
         yield refused(f"help: {word}", word, "--help")
+    for command, words in (("audit", "--each --part --channels --from --until"),
+                           ("join", "--each --part --past-faults --expect"),
+                           ("repack", "--length --encoding --stretches --leave --channels --from --until"),
+                           ("serve", "NET_STA --port --station --network --address --timeout --capacity --first "
+                                     "--connections --live --clients"),
+                           ("fetch", "NET_STA:HEX --port --station --network --address --timeout --from --tries "
+                                     "--tell-next --holes")):
+        for word in words.split():
+            yield refused(f"help of {command}: {word}", word, command, "--help")
 
 
 def rows() -> Cases:
