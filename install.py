@@ -49,10 +49,12 @@ def filled(path: str, source: Path, prefix: str) -> Thing:
 
 
 def program(built: Path, prefix: str) -> Iterator[Thing]:
-    """The program, its manual pages, its completion for bash, and the tools, which are on the path as `mseed-sds` and
-    the like."""
+    """The program and the tools, which are on the path as `mseed-sds` and the like, with their manual pages and their
+    completion for bash, which is looked for by the name of what is completed."""
+    completions = f"{prefix}/share/bash-completion/completions"
     yield copied(f"{prefix}/bin/mseed", built, 0o755)
-    yield copied(f"{prefix}/share/bash-completion/completions/mseed", ROOT / "completion" / "mseed.bash")
+    yield copied(f"{completions}/mseed", ROOT / "completion" / "mseed.bash")
+    yield copied(f"{completions}/mseed-tools", ROOT / "completion" / "mseed-tools.bash")
     for page in sorted((ROOT / "man").glob("*.1")):
         yield filled(f"{prefix}/share/man/man1/{page.name}", page, prefix)
     for source in sorted((ROOT / "tools" / "mseed_tools").rglob("*.py")):
@@ -62,6 +64,7 @@ def program(built: Path, prefix: str) -> Iterator[Thing]:
             yield copied(f"{prefix}/lib/mseed/tools/{tool.name}", tool, 0o755)
             name = f"mseed-{tool.name.replace('_', '-')}"
             yield Thing(f"{prefix}/bin/{name}", link=f"../lib/mseed/tools/{tool.name}")
+            yield Thing(f"{completions}/{name}", link="mseed-tools")
 
 
 def library(built: Path, prefix: str, python_dir: str) -> Iterator[Thing]:

@@ -25,12 +25,20 @@ _mseed()
     # Bash parts --length=512 at the sign.
     [ "$word" = = ] && word=
     [ "$before" = = ] && before=${COMP_WORDS[COMP_CWORD - 2]}
-    for ((at = 1; at < COMP_CWORD; at++)); do
-        case ${COMP_WORDS[at]} in
-            --) ended=yes ;;
-            audit | join | show | select | repack | serve | fetch) command=${command:-${COMP_WORDS[at]}} ;;
-        esac
+    for ((at = 2; at < COMP_CWORD; at++)); do
+        [ "${COMP_WORDS[at]}" = -- ] && ended=yes
     done
+
+    # The command is the first argument; behind another one there is none.
+    if ((COMP_CWORD > 1)); then
+        case ${COMP_WORDS[1]} in
+            audit | join | show | select | repack | serve | fetch) command=${COMP_WORDS[1]} ;;
+            *)
+                compopt +o bashdefault +o default 2> /dev/null
+                return
+                ;;
+        esac
+    fi
     case $command in
         "" | serve | fetch) compopt +o bashdefault +o default 2> /dev/null ;;
     esac

@@ -6,7 +6,7 @@ from fractions import Fraction
 from typing import Iterator, NamedTuple
 
 from mseed_tools.sources import Source
-from mseed_tools.texts import SECOND, micros_of, seconds_of, time_of
+from mseed_tools.instants import SECOND, micros_of, seconds_of, time_of
 
 HEADS = ("source", "last sample", "next sample", "delta", "samples")
 

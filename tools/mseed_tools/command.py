@@ -6,19 +6,26 @@ import argparse
 import os
 import signal
 import sys
-from typing import Any, Callable, NoReturn, Optional, Sequence
+from typing import Any, Callable, NoReturn, Optional, Sequence, Union
 
+from mseed_tools.instants import instant_in
 from mseed_tools.program import ToolError
-from mseed_tools.texts import instant_in
 
 FAULT, BAD_ARGUMENTS = 2, 3
 
 
-def a_count(word: str, most: int = 1024) -> int:
-    """How many at once, or how often: from 1 to so many."""
-    if not word.isascii() or not word.isdigit() or not 1 <= int(word) <= most:
-        raise argparse.ArgumentTypeError(f"{word!r} is no number from 1 to {most}")
+def a_count(word: str, most: int = 1024, least: int = 1) -> int:
+    """How many at once, or how often: from the least number to the most."""
+    if not word.isascii() or not word.isdigit() or len(word) > 20 or not least <= int(word) <= most:
+        raise argparse.ArgumentTypeError(f"{word!r} is no number from {least} to {most}")
     return int(word)
+
+
+def a_folder(word: str) -> str:
+    """A folder. An empty word is none: it is what a variable of a shell gives that was never set."""
+    if not word:
+        raise argparse.ArgumentTypeError("'' is no folder")
+    return word
 
 
 def an_instant(word: str) -> int:
@@ -54,6 +61,11 @@ class Parser(argparse.ArgumentParser):
                           help="keeps here what was read of each file, outside of ROOT, and reads what is new")
 
 
+def stopped(number: int, _: object) -> NoReturn:
+    """Ends what runs, on a signal."""
+    raise ToolError(f"stopped by {signal.Signals(number).name}")
+
+
 def write(text: str) -> None:
     """Writes to standard output; names of files as the bytes that they are."""
     sys.stdout.buffer.write(text.encode("utf-8", "surrogateescape"))
@@ -75,6 +87,16 @@ def run(main: Callable[[], int]) -> int:
     except OSError as error:
         print(f"{os.path.basename(sys.argv[0])}: {in_words(error)}", file=sys.stderr)
     return FAULT
+
+
+def put(content: Union[bytes, memoryview]) -> None:
+    """Writes bytes to standard output, whole. An error names it."""
+    view = memoryview(content)
+    try:
+        while view:
+            view = view[os.write(sys.stdout.fileno(), view):]
+    except OSError as error:
+        raise OSError(error.errno, error.strerror, "standard output") from error
 
 
 def in_words(error: OSError) -> str:

@@ -8,8 +8,8 @@ import datetime
 from html import escape
 from typing import Iterator, NamedTuple, Optional, Sequence, Tuple
 
+from mseed_tools.instants import EPOCH, SECOND, time_of
 from mseed_tools.stretches import Mark, Row
-from mseed_tools.texts import EPOCH, SECOND, time_of
 
 WIDTH, ROW, BAR, HEAD, EDGE = 1120, 18, 10, 74, 18
 # After so many rows the labels of the axis come again, in a row of their own.

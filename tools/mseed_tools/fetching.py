@@ -10,7 +10,7 @@ import time
 from typing import NamedTuple, Optional, Sequence
 
 from mseed_tools.command import BAD_ARGUMENTS
-from mseed_tools.held import LENGTH, Held
+from mseed_tools.held import LENGTH, Holder
 from mseed_tools.program import Program, ToolError
 
 FIRST = re.compile(r"mseed: first (\S+):([0-9A-F]{1,6})")
@@ -30,35 +30,35 @@ class Wanted(NamedTuple):
     places: list[str]
     begin: dict[str, str]
 
-    def arguments(self, held: Held) -> list[str]:
+    def arguments(self, held: Holder) -> list[str]:
         """The arguments of a run that goes on after what is held."""
         return ["fetch", "--tell-next", *self.link, *self.next(held)]
 
-    def next(self, held: Held) -> list[str]:
+    def next(self, held: Holder) -> list[str]:
         """Those of the places, with the numbers that are wanted next."""
         first, *others = [(place, self.number(place, held)) for place in self.places]
         network, _, station = first[0].partition("_")
         return ["--network", network, "--station", station, *(["--from", first[1]] if first[1] else []),
                 *(f"{place}:{number}" if number else place for place, number in others)]
 
-    def number(self, place: str, held: Held) -> str:
+    def number(self, place: str, held: Holder) -> str:
         """The number of the record of a place that is wanted next; none for the oldest one."""
-        number = held.next(place)
+        number = held.numbers.next(place)
         return self.begin.get(place, "") if number is None else f"{number:06X}"
 
 
 class Ended(NamedTuple):
-    """How a run ended: its status, what it reported last, and whether it brought a record."""
+    """How a run ended: its status, the lines that it reported, and whether it brought a record."""
 
     status: int
-    reported: str
+    reported: list[str]
     is_new: bool
 
 
 class Run:
     """One run. What it reports on standard error it reports before the records that this is about."""
 
-    def __init__(self, program: Program, arguments: Sequence[str], held: Held):
+    def __init__(self, program: Program, arguments: Sequence[str], held: Holder):
         self.held, self.text, self.rest, self.is_new = held, "", b"", False
         self.reported: list[str] = []
         self.next: Optional[dict[str, Optional[int]]] = None
@@ -81,6 +81,7 @@ class Run:
             while content := self.brought(poller):
                 self.hear()
                 self.take(content)
+            self.held.settle()
             status = self.process.wait()
             self.hear()
         finally:
@@ -89,12 +90,16 @@ class Run:
             for pipe in self.pipes:
                 pipe.close()
         self.judge(status)
-        return Ended(status, self.reported[-1] if self.reported else "", self.is_new)
+        return Ended(status, self.reported, self.is_new)
 
     def brought(self, poller: select.poll) -> bytes:
-        """The next bytes of its output; none at its end. Meanwhile what it writes beside it is read."""
+        """The next bytes of its output; none at its end. Meanwhile what it writes beside it is read, and what has come
+        is written."""
         while True:
-            for descriptor, _ in poller.poll():
+            ready = poller.poll(self.held.patience())
+            if not ready:
+                self.held.settle()
+            for descriptor, _ in ready:
                 if descriptor == self.out:
                     return os.read(self.out, AT_ONCE)
                 if not self.hear():
@@ -114,9 +119,9 @@ class Run:
     def hear_line(self, line: str) -> None:
         """Takes a line."""
         if first := FIRST.fullmatch(line):
-            self.held.first(first[1], int(first[2], 16))
+            self.held.numbers.first(first[1], int(first[2], 16))
         elif hole := HOLE.fullmatch(line):
-            self.held.hole(hole[1], int(hole[2], 16), int(hole[3], 16))
+            self.held.numbers.hole(hole[1], int(hole[2], 16), int(hole[3], 16))
         elif found := NEXT.fullmatch(line):
             self.next = {f"{found[1]}_{found[2]}": int(found[3], 16) if found[3] else None}
             for word in found[4].split():
@@ -139,22 +144,23 @@ class Run:
         """Raises ToolError where it counts otherwise than what is held."""
         if status in (0, 2) and self.next is not None:
             for place, number in self.next.items():
-                held = self.held.next(place)
+                held = self.held.numbers.next(place)
                 if held is not None and number != held:
                     raise ToolError(f"{self.held.path}: {place} is held up to {held:06X}, not to {number}")
 
 
-def fetched(program: Program, wanted: Wanted, held: Held, tries: int) -> Ended:
+def fetched(program: Program, wanted: Wanted, held: Holder, tries: int) -> Ended:
     """Runs until the server has sent all, refuses or sends what it must not, or so many tries in a row, or refusals,
     have brought nothing. Gives how the last run ended."""
     failed = refused = 0
     while True:
+        held.numbers.begin()
         run = Run(program, wanted.arguments(held), held).ended()
         if run.is_new:
             failed = refused = 0
         failed += 1
-        refused = refused + 1 if run.reported == "mseed: refused" else 0
-        is_over = run.status in (0, BAD_ARGUMENTS) or run.reported == "mseed: bad feed"
+        refused = refused + 1 if "mseed: refused" in run.reported else 0
+        is_over = run.status in (0, BAD_ARGUMENTS) or "mseed: bad feed" in run.reported
         if is_over or failed >= tries or refused >= REFUSALS:
             return run
         time.sleep(min(LONGEST, SHORTEST * 2 ** min(failed - 1, 16)))

@@ -6,7 +6,7 @@ import contextlib
 import errno
 import fcntl
 import os
-import secrets
+import resource
 import stat
 from typing import IO, Iterator, Optional
 
@@ -27,6 +27,16 @@ def opened(path: str) -> Iterator[int]:
         yield file
     finally:
         os.close(file)
+
+
+def open_at_once(most: int) -> int:
+    """How many files this process may have open, of so many that are wanted, once it has asked for them."""
+    soft, hard = resource.getrlimit(resource.RLIMIT_NOFILE)
+    if 0 <= soft < most:
+        with contextlib.suppress(ValueError, OSError):
+            resource.setrlimit(resource.RLIMIT_NOFILE, (most if hard < 0 else min(hard, most), hard))
+    soft, _ = resource.getrlimit(resource.RLIMIT_NOFILE)
+    return most if soft < 0 else min(soft, most)
 
 
 def content_of(path: str) -> bytes:
@@ -61,7 +71,7 @@ def status_of(path: str) -> Optional[os.stat_result]:
 
 def replace(path: str, content: bytes, before: Optional[os.stat_result]) -> None:
     """Puts a file with this content, and with the owner and the rights of the one before, in its place."""
-    begun = os.path.join(os.path.dirname(path), f".{secrets.token_hex(8)}{BEGUN}")
+    begun = os.path.join(os.path.dirname(path), f".{os.urandom(8).hex()}{BEGUN}")
     try:
         with open(begun, "xb") as file:
             if before is not None:

@@ -5,9 +5,10 @@ from __future__ import annotations
 import re
 from typing import Callable, NamedTuple, Optional, Sequence
 
+from mseed_tools.instants import SECOND, micros_of, time_of
 from mseed_tools.program import Done, Program, ToolError
 from mseed_tools.reading import Reading, shown
-from mseed_tools.texts import BEGIN, SECOND, Found, Kept, Part, Shown, micros_of, name_of, part_in, time_of
+from mseed_tools.texts import BEGIN, Found, Kept, Part, Shown, name_of, part_in
 
 # How a channel's first record begins, and its last one ends, where the program keeps it.
 ENDS = re.compile(r"head (?:none|(?P<number>\d+) (?P<offset>\d+) (?P<start>-?\d+) (?P<rate>\d+/\d+)) "

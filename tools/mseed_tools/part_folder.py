@@ -12,7 +12,7 @@ from mseed_tools.joining import joined_by
 from mseed_tools.program import Done, Program, ToolError
 from mseed_tools.reading import stamp_of
 from mseed_tools.texts import PART
-from mseed_tools.tree import tree_at
+from mseed_tools.tree import filled_tree_at
 
 LIST = "files.json"
 # What can't be read, as a file of that name is.
@@ -49,7 +49,7 @@ def sources_in(paths: Sequence[str], lists: Sequence[str]) -> list[str]:
     sources = []
     for path in paths:
         if os.path.isdir(path):
-            tree = tree_at(path)
+            tree = filled_tree_at(path)
             sources += [os.path.join(path, one) for one in [*(file.path for file in tree.files), *tree.unread]]
         else:
             sources.append(path)

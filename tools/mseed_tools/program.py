@@ -2,18 +2,17 @@
 
 from __future__ import annotations
 
-import hashlib
 import os
-import shutil
-import tempfile
 import threading
-from pathlib import Path
 from typing import IO, NamedTuple, Optional, Sequence, Union
 
-HERE = Path(__file__).resolve()
-BUILT = HERE.parents[2] / "crates" / "mseed" / "out" / "mseed"
+HERE = os.path.realpath(__file__)
+ABOVE = os.path.dirname(os.path.dirname(os.path.dirname(HERE)))
+BUILT = os.path.join(ABOVE, "crates", "mseed", "out", "mseed")
 # Where these tools are installed, below the folder in whose `bin` the program is.
 INSTALLED = "/lib/mseed/tools/mseed_tools/program.py"
+# So many bytes of what a run wrote are kept as room for the next one.
+MOST_KEPT = 2**24
 
 
 class ToolError(Exception):
@@ -32,17 +31,35 @@ def scratch() -> IO[bytes]:
     """A file without a name; in memory where the system has such files."""
     if hasattr(os, "memfd_create"):
         return os.fdopen(os.memfd_create("mseed"), "w+b", buffering=0)
+    # Loading it takes as long as a run of the program.
+    import tempfile
     return tempfile.TemporaryFile(buffering=0)
 
 
 def filled(file: IO[bytes], content: bytes) -> None:
-    """Makes this the whole content of a file, which is read from its beginning next."""
+    """Makes this the whole content of a file, which is read from its beginning next. What it held is written over, so
+    that no memory is asked for anew."""
     file.seek(0)
-    file.truncate()
     view = memoryview(content)
-    while view:
-        view = view[file.write(view):]
+    try:
+        while view:
+            view = view[file.write(view):]
+    except OSError as error:
+        raise OSError(error.errno, error.strerror, "a file without a name") from error
+    file.truncate(len(content))
     file.seek(0)
+
+
+def written(file: IO[bytes]) -> bytes:
+    """What a run has written into a file, from its beginning on: it has left the file's place behind that. More than
+    some megabytes aren't kept for the next run."""
+    file.truncate(file.tell())
+    file.seek(0)
+    content = file.read()
+    file.seek(0)
+    if len(content) > MOST_KEPT:
+        file.truncate()
+    return content
 
 
 class Program:
@@ -59,8 +76,6 @@ class Program:
             self.own.files = [scratch() for _ in range(3)]
         given, out, err = self.own.files
         filled(given, source if isinstance(source, bytes) else b"")
-        filled(out, b"")
-        filled(err, b"")
         descriptors = [source if isinstance(source, int) else given.fileno(), out.fileno(), err.fileno()]
         actions = [(os.POSIX_SPAWN_DUP2, descriptor, number) for number, descriptor in enumerate(descriptors)]
         try:
@@ -68,11 +83,7 @@ class Program:
         except OSError as error:
             raise ToolError(f"{self.path}: {error.strerror}") from error
         status = os.waitstatus_to_exitcode(os.waitpid(process, 0)[1])
-        texts = []
-        for file in (out, err):
-            file.seek(0)
-            texts.append(file.read().decode("utf-8", "replace"))
-        done = Done(status, *texts)
+        done = Done(status, *(written(file).decode("utf-8", "replace") for file in (out, err)))
         if status < 0 or status > 2 or done.err in ("mseed: no memory\n", "mseed: write failed\n"):
             first, _, _ = done.err.strip().partition("\n")
             raise ToolError(f"{self.path} {' '.join(arguments)}: status {status}, {first}")
@@ -80,21 +91,28 @@ class Program:
 
     def identity(self) -> str:
         """Which program it is: its path's content, as a number that no other has."""
+        import hashlib
         with open(self.path, "rb") as file:
             return hashlib.sha256(file.read()).hexdigest()
 
 
+def found(name: str) -> Optional[str]:
+    """The program of a name, on the path, or by the path that it is."""
+    folders = [""] if os.path.dirname(name) else os.get_exec_path()
+    paths = (os.path.join(folder, name) for folder in folders)
+    return next((path for path in paths if os.path.isfile(path) and os.access(path, os.X_OK)), None)
+
+
 def installed() -> Optional[str]:
     """The program that was installed with these tools."""
-    whole = str(HERE)
-    return shutil.which(f"{whole[: -len(INSTALLED)]}/bin/mseed") if whole.endswith(INSTALLED) else None
+    return found(f"{HERE[: -len(INSTALLED)]}/bin/mseed") if HERE.endswith(INSTALLED) else None
 
 
 def find() -> Program:
     """The program that $MSEED names, else the one on the path, else the one that these tools were installed with, else
     that of the repository."""
-    path = os.environ.get("MSEED") or shutil.which("mseed") or installed() or str(BUILT)
-    whole = shutil.which(path)
+    path = os.environ.get("MSEED") or found("mseed") or installed() or BUILT
+    whole = found(path)
     if whole is None:
         raise ToolError(f"{path}: no program; $MSEED may name one")
     return Program(os.path.abspath(whole))

@@ -4,15 +4,15 @@ from __future__ import annotations
 
 import os
 import time
-from typing import NamedTuple, Optional
+from typing import Iterator, NamedTuple, Optional
 
+from mseed_tools.covering import Covered, Listing, OwnPiece, covered_by
 from mseed_tools.files import opened
 from mseed_tools.program import Program, ToolError
-from mseed_tools.texts import Found, Part, Shown, found_in, part_in, parted, shown_in
+from mseed_tools.seeking import Fault, next_candidate
+from mseed_tools.texts import Found, Part, Shown, found_in, name_of, part_in, parted, shown_in
+from mseed_tools.tree import DayFile
 
-STEP = 64
-CHUNK = 2**20
-NUMBERS, QUALITIES, RESERVED = b"0123456789 \0", b"DRQM", b" \0"
 SECONDS = 10**9
 
 
@@ -23,14 +23,6 @@ class Piece(NamedTuple):
     found: list[Found]
     part: Part
     texts: tuple[str, str]
-
-
-class Fault(NamedTuple):
-    """Where reading ended, why, and how many bytes further it went on."""
-
-    at: int
-    why: str
-    skipped: int
 
 
 class Stamp(NamedTuple):
@@ -48,13 +40,15 @@ class Stamp(NamedTuple):
 
 
 class Reading(NamedTuple):
-    """What was read of a file. `problem` says why it isn't trusted, if so: it changed meanwhile, or can't be read."""
+    """What was read of a file, and what the records of the channel that its name says cover. `problem` says why it
+    isn't trusted, if so: it changed meanwhile, or can't be read."""
 
     stamp: Stamp
     pieces: list[Piece]
     faults: list[Fault]
     problem: Optional[str] = None
     is_kept: bool = False
+    covered: Covered = Covered([], [])
 
 
 def unread(problem: str, size: int = 0) -> Reading:
@@ -70,26 +64,6 @@ def stamp_of(status: os.stat_result) -> Stamp:
 def piece_of(at: int, found: str, part: str) -> Piece:
     """A piece by its texts."""
     return Piece(at, list(found_in(found)), part_in(part), (found, part))
-
-
-def may_begin(chunk: bytes, at: int) -> bool:
-    """Whether the first eight bytes there are those of a header. The program judges what such bytes begin."""
-    return chunk[at + 6] in QUALITIES and chunk[at + 7] in RESERVED \
-        and all(byte in NUMBERS for byte in chunk[at : at + 6])
-
-
-def next_candidate(file: int, after: int, size: int) -> int:
-    """The next multiple of 64 bytes where a record may begin; the file's end where there is none."""
-    at = (after // STEP + 1) * STEP
-    while at + 8 <= size:
-        chunk = os.pread(file, CHUNK, at)
-        for place in range(0, len(chunk) - 7, STEP):
-            if chunk[place + 6] in QUALITIES and may_begin(chunk, place):
-                return at + place
-        if len(chunk) < 8:
-            break
-        at += CHUNK
-    return size
 
 
 def read_pieces(program: Program, file: int, size: int) -> tuple[list[Piece], list[Fault]]:
@@ -116,13 +90,24 @@ def read_pieces(program: Program, file: int, size: int) -> tuple[list[Piece], li
     return pieces, [*faults, Fault(*ended, size - ended[0])]
 
 
-def read_file(program: Program, path: str) -> Reading:
-    """Reads a file, and says so where it changed meanwhile."""
-    now = time.time_ns()
+def own_pieces(pieces: list[Piece], name: str) -> Iterator[OwnPiece]:
+    """What there is of a channel in pieces, where there is something."""
+    for piece in pieces:
+        kept = [one for one in piece.part.channels if name_of(one.key) == name]
+        if kept:
+            yield OwnPiece(piece.at, kept, [one for one in piece.found if one.name == name])
+
+
+def read_file(program: Program, path: str, place: Optional[DayFile] = None) -> Reading:
+    """Reads a file, which may be that of a channel and a day, and says so where it changed meanwhile."""
+    now, covered = time.time_ns(), Covered([], [])
     try:
         with opened(path) as file:
             status = os.fstat(file)
             pieces, faults = read_pieces(program, file, status.st_size)
+            if place is not None:
+                listing = Listing(program, file, place.channel)
+                covered = covered_by(listing, own_pieces(pieces, place.channel), place.day)
             # What has its name now is requested, since another file may have taken its place.
             after = os.stat(path)
     except OSError:
@@ -134,7 +119,7 @@ def read_file(program: Program, path: str) -> Reading:
     is_whole = held == status.st_size or any(fault.why in ("read", "turns") for fault in faults)
     if not is_same or not is_whole:
         return unread("changed", after.st_size)
-    return Reading(stamp_of(status), pieces, faults, None, stamp_of(status).is_old(now))
+    return Reading(stamp_of(status), pieces, faults, None, stamp_of(status).is_old(now), covered)
 
 
 def shown(program: Program, path: str, reading: Reading) -> list[Shown]:

@@ -2,6 +2,7 @@
 
 from __future__ import annotations
 
+import datetime
 import functools
 import itertools
 import json
@@ -10,31 +11,47 @@ import os
 from typing import Iterator, NamedTuple, Optional
 
 from mseed_tools.command import write
+from mseed_tools.covering import Span, absent, merged
+from mseed_tools.instants import seconds_of, time_of
 from mseed_tools.joining import Channel, Files, joined
 from mseed_tools.program import Program, find
 from mseed_tools.reading import Reading
 from mseed_tools.running import Bar, in_order
 from mseed_tools.state import State
-from mseed_tools.texts import Found, name_of, seconds_of, time_of
+from mseed_tools.texts import Found, name_of
 from mseed_tools.tree import DayFile, Tree, days_in_words, missing_between, tree_at
 
-NOTHING = "records 0 samples 0 from none to none gaps 0 0.000000 s overlaps 0 0.000000 s findings 0"
+NOTHING = ("records 0 samples 0 from none to none gaps 0 0.000000 s absent 0.000000 s overlaps 0 0.000000 s "
+           "findings 0")
 
 
 class ChannelReport(NamedTuple):
     """What there is of a channel: its files with what was read of them, what stands in it, if it has samples, and the
-    files with days of it."""
+    time that its records cover, by time."""
 
     name: str
     files: list[DayFile]
     readings: list[Reading]
     channel: Optional[Channel]
+    spans: list[Span]
+
+    def days(self) -> set[datetime.date]:
+        """The days of which there are records."""
+        return {day for reading in self.readings for day in reading.covered.days}
+
+    def begin(self) -> Optional[int]:
+        """The first sample's time."""
+        return self.spans[0].begin if self.spans else None
+
+    def end(self) -> Optional[int]:
+        """The end of the last sample."""
+        return int(max(span.end for span in self.spans)) if self.spans else None
 
     def missing(self) -> list[tuple[str, str]]:
         """The days that are missing, as runs. Logs are written when there is something to say: none of theirs does."""
         if self.channel is None or not self.channel.is_decoded:
             return []
-        return days_in_words(missing_between({self.files[file].day for file in self.channel.files}))
+        return days_in_words(missing_between(self.days()))
 
     def amiss(self) -> Iterator[tuple[str, dict[str, object]]]:
         """What is amiss in each file, by a word, with its values in the order of its line."""
@@ -43,6 +60,9 @@ class ChannelReport(NamedTuple):
             for name in sorted(names):
                 if name != self.name:
                     yield "foreign", {"file": file.path, "channel": name}
+            others = [day for day in reading.covered.days if day != file.day]
+            if others:
+                yield "misdated", {"file": file.path, "days": days_in_words(others)}
             for fault in reading.faults:
                 yield "fault", {"file": file.path, "at": fault.at, "fault": fault.why, "skipped": fault.skipped}
             if reading.problem == "read":
@@ -83,7 +103,8 @@ def reports_of(program: Program, tree: Tree, jobs: int, state: State) -> Iterato
         files, readings = [file for file, _ in pairs], [reading for _, reading in pairs]
         paths = [os.path.join(tree.root, file.path) for file in files]
         found = joined(Files(program, paths, readings), functools.partial(operator.eq, name))
-        yield ChannelReport(name, files, readings, found.get(name))
+        spans = merged(span for reading in readings for span in reading.covered.spans)
+        yield ChannelReport(name, files, readings, found.get(name), spans)
 
 
 def size_of(tree: Tree, file: DayFile) -> int:
@@ -106,13 +127,14 @@ def line_of(report: ChannelReport) -> str:
     channel = report.channel
     if channel is None:
         return f"{report.name} days 0 {NOTHING}"
-    what = (f"days {len({report.files[file].day for file in channel.files})} records {channel.records} "
-            f"samples {channel.samples} from {time_of(channel.start)} to {time_of(channel.end)}")
+    what = (f"days {len(report.days())} records {channel.records} samples {channel.samples} "
+            f"from {time_of(report.begin())} to {time_of(report.end())}")
     if not channel.is_decoded:
         return f"{channel.name} undecoded {what}"
     for kind in ("gap", "overlap"):
         lengths = channel.of_kind(kind)
         what += f" {kind}s {len(lengths)} {seconds_of(sum(lengths))} s"
+        what += f" absent {seconds_of(absent(report.spans))} s" if kind == "gap" else ""
     return f"{channel.name} {what} findings {channel.findings}{first_of(report)}"
 
 
@@ -123,21 +145,22 @@ def first_of(report: ChannelReport) -> str:
     return ""
 
 
-def run_in_words(run: tuple[str, str]) -> str:
-    """A run of days."""
-    return run[0] if run[0] == run[1] else f"{run[0]}..{run[1]}"
+def runs_in_words(runs: list[tuple[str, str]]) -> str:
+    """Runs of days."""
+    return " ".join(first if first == last else f"{first}..{last}" for first, last in runs)
 
 
 def lines_of(report: ChannelReport) -> Iterator[str]:
     """The lines of a channel."""
     yield line_of(report)
     if report.missing():
-        yield "  missing " + " ".join(run_in_words(run) for run in report.missing())
+        yield f"  missing {runs_in_words(report.missing())}"
     for word, values in report.amiss():
         if word == "fault":
             yield f"  {fault_in_words(values)}"
         else:
-            yield f"  {word} " + " ".join(str(value) for value in values.values())
+            yield f"  {word} " + " ".join(runs_in_words(value) if isinstance(value, list) else str(value)
+                                          for value in values.values())
 
 
 def fault_in_words(values: dict[str, object]) -> str:
@@ -167,30 +190,33 @@ def print_text(audit: Audit, is_each: bool) -> None:
     lines = []
     for path, found in each_of(audit) if is_each else ():
         lines.append(f"{path} {found.offset} {found.name} record {found.number} start {found.start} {found.why}")
-    for report in audit.reports:
-        lines += lines_of(report)
+    write("".join(f"{line}\n" for line in [*lines, *summary_of(audit)]))
+
+
+def summary_of(audit: Audit) -> list[str]:
+    """The lines of the channels, and those after them."""
+    lines = [line for report in audit.reports for line in lines_of(report)]
     lines += [fault_in_words(unread_at(path)) for path in audit.tree.unread]
     lines += [f"misplaced {path}" for path in audit.tree.misplaced]
-    lines.append(" ".join(f"{word} {number}" for word, number in audit.totals().items()))
-    write("".join(f"{line}\n" for line in lines))
+    return [*lines, " ".join(f"{word} {number}" for word, number in audit.totals().items())]
 
 
 def channel_in_json(report: ChannelReport) -> dict[str, object]:
     """What is reported of a channel, by the words of its line."""
     channel = report.channel
-    days = len({report.files[file].day for file in channel.files}) if channel else 0
-    outcome: dict[str, object] = {"channel": report.name, "state": channel.state if channel else "empty", "days": days,
-                                  "records": channel.records if channel else 0,
+    outcome: dict[str, object] = {"channel": report.name, "state": channel.state if channel else "empty",
+                                  "days": len(report.days()), "records": channel.records if channel else 0,
                                   "samples": channel.samples if channel else 0,
-                                  "from": channel.start if channel else None, "to": channel.end if channel else None}
+                                  "from": report.begin(), "to": report.end()}
     for kind in ("gap", "overlap") if channel is None or channel.is_decoded else ():
         lengths = channel.of_kind(kind) if channel else []
         outcome[f"{kind}s"] = {"count": len(lengths), "microseconds": sum(lengths)}
     if channel is None or channel.is_decoded:
+        outcome["absent"] = absent(report.spans)
         outcome["findings"] = channel.findings if channel else 0
         outcome["first"] = next((finding_in_json(*one) for one in findings_of(report)), None)
     outcome["missing"] = [list(run) for run in report.missing()]
-    for word in ("foreign", "fault", "changed", "empty"):
+    for word in ("foreign", "misdated", "fault", "changed", "empty"):
         outcome[word] = [values for other, values in report.amiss() if other == word]
     return outcome
 
@@ -211,4 +237,4 @@ def status_of(audit: Audit) -> int:
     words = {word for report in audit.reports for word, _ in report.amiss()}
     if totals["faults"]:
         return 2
-    return 1 if totals["broken"] or "foreign" in words or audit.tree.misplaced else 0
+    return 1 if totals["broken"] or words & {"foreign", "misdated"} or audit.tree.misplaced else 0

@@ -65,7 +65,7 @@ def in_order(program: Program, root: str, files: Iterable[DayFile], jobs: int, s
             kept: Optional[Reading] = state.kept(file.year, file.path, stamp_of(os.stat(path)))
         except OSError:
             kept = None
-        return kept or pool.submit(read_file, program, path)
+        return kept or pool.submit(read_file, program, path, file if file.channel else None)
 
     def next_one() -> tuple[DayFile, Reading]:
         file, come = waiting.popleft()

@@ -2,18 +2,34 @@
 
 from __future__ import annotations
 
+import datetime
 import json
 import os
 import time
+from fractions import Fraction
 from typing import IO, Any, Optional
 
+from mseed_tools.covering import Covered, Span
 from mseed_tools.files import content_of, drop_begun, locked, write_whole
 from mseed_tools.program import ToolError
-from mseed_tools.reading import Fault, Reading, Stamp, piece_of
+from mseed_tools.reading import Reading, Stamp, piece_of
+from mseed_tools.seeking import Fault
 
-FORM = 1
+FORM = 2
 # What is new is written at least so many seconds after it was read.
 PAUSE = 1.0
+
+
+def covered_as(covered: Covered) -> tuple[list[str], list[list[int]]]:
+    """Days and spans, as a text may have them."""
+    return [day.isoformat() for day in covered.days], [
+        [span.begin, *span.end.as_integer_ratio(), *span.half.as_integer_ratio()] for span in covered.spans]
+
+
+def covered_in(days: list[str], spans: list[list[int]]) -> Covered:
+    """Days and spans out of a text. Raises ValueError or TypeError where it is none."""
+    return Covered([datetime.date.fromisoformat(day) for day in days],
+                   [Span(begin, Fraction(end, parts), Fraction(half, of)) for begin, end, parts, half, of in spans])
 
 
 class State:
@@ -59,12 +75,12 @@ class State:
     def kept(self, name: str, path: str, stamp: Stamp) -> Optional[Reading]:
         """What is kept of a file, if it is still the same."""
         try:
-            size, mtime, ctime, pieces, faults = self.load(name)[path]
+            size, mtime, ctime, pieces, faults, days, spans = self.load(name)[path]
             if Stamp(size, mtime, ctime) != stamp:
                 return None
             return Reading(stamp, [piece_of(*piece) for piece in pieces], [Fault(*fault) for fault in faults], None,
-                           True)
-        except (KeyError, ValueError, TypeError):
+                           True, covered_in(days, spans))
+        except (KeyError, ValueError, TypeError, ZeroDivisionError):
             return None
 
     def keep(self, name: str, path: str, reading: Reading) -> None:
@@ -78,7 +94,7 @@ class State:
             self.is_new |= path in self.load(name)
             return
         pieces, faults = [[piece.at, *piece.texts] for piece in reading.pieces], [list(one) for one in reading.faults]
-        entry = [*reading.stamp, pieces, faults]
+        entry = [*reading.stamp, pieces, faults, *covered_as(reading.covered)]
         self.entries[path] = entry
         if self.load(name).get(path) != entry:
             self.is_new = True

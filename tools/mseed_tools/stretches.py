@@ -4,9 +4,9 @@ from __future__ import annotations
 
 from typing import NamedTuple, Optional, Sequence
 
+from mseed_tools.instants import micros_of, seconds_of
 from mseed_tools.joining import Channel
 from mseed_tools.sources import Source
-from mseed_tools.texts import micros_of, seconds_of
 
 
 class Mark(NamedTuple):

@@ -1,14 +1,13 @@
-"""The program's texts: parts, the lines of findings and of records, names and times."""
+"""The program's texts: parts, the lines of findings and of records, and names."""
 
 from __future__ import annotations
 
-import datetime
 import re
 from fractions import Fraction
 from typing import Iterator, NamedTuple, Optional
 
-SECOND = 10**6
-EPOCH = datetime.datetime(1970, 1, 1)
+from mseed_tools.instants import SECOND
+
 # A leap second that a record has after it, as it moves the record's end.
 STEPS = {"none": 0, "positive": -SECOND, "negative": SECOND, "both": 0}
 BEGIN = "mseed part 1\n"
@@ -22,9 +21,6 @@ PART = re.compile(rb"mseed part 1\n(?:[0-9A-F]{24} records [^\n]+\n)*records \d+
                   rb"(?:faults \d+\n)?(?:fault at \d+ [^\n]+\n)?")
 COUNTS = re.compile(r"records (\d+) bytes (\d+)")
 FOUND = re.compile(r"(\d+) (\S+) record (\d+) start (fault \w+|\S+) (.+)")
-INSTANT = re.compile(r"(?P<year>\d{4})-(?:(?P<month>\d\d)-(?P<date>\d\d)|(?P<day>\d{3}))"
-                     r"(?:T(?P<hour>\d\d)(?::(?P<minute>\d\d)(?::(?P<second>\d\d)(?:\.(?P<rest>\d{1,6}))?)?)?)?Z?",
-                     re.ASCII)
 SHOWN = re.compile(r"(\d+) (\S+) . length (\d+) samples (\d+) start (fault \w+|\S+) rate (none|(\d+)/(\d+)) "
                    r"encoding (\d+) ")
 
@@ -136,43 +132,3 @@ def name_of(key: str) -> str:
     codes = [bytes_of[:2], bytes_of[2:7], bytes_of[7:9], bytes_of[9:]]
     return "_".join("".join(chr(byte) if 33 <= byte <= 126 else "?" for byte in code.rstrip(b" \0"))
                     for code in codes)
-
-
-def time_of(micros: Optional[int]) -> str:
-    """An instant, as the program writes it."""
-    if micros is None:
-        return "none"
-    seconds, rest = divmod(micros, SECOND)
-    return f"{(EPOCH + datetime.timedelta(seconds=seconds)).isoformat()}.{rest:06}"
-
-
-def micros_of(time: str) -> Optional[int]:
-    """The instant that such a text says; none where it says that there is none."""
-    if time.startswith("fault"):
-        return None
-    seconds, _, rest = time.partition(".")
-    return (datetime.datetime.fromisoformat(seconds) - EPOCH) // datetime.timedelta(seconds=1) * SECOND + int(rest)
-
-
-def instant_in(word: str) -> int:
-    """The instant that a word of a command line names: a day by its month or by its number in the year, alone or with a
-    time, whose last parts may be left out. Raises ValueError where it names none."""
-    found = INSTANT.fullmatch(word)
-    if found is None or not 1900 <= int(found["year"]) <= 2100:
-        raise ValueError(word)
-    if found["day"]:
-        day = datetime.datetime(int(found["year"]), 1, 1) + datetime.timedelta(days=int(found["day"]) - 1)
-        if day.year != int(found["year"]):
-            raise ValueError(word)
-    else:
-        day = datetime.datetime(int(found["year"]), int(found["month"]), int(found["date"]))
-    hour, minute, second = (int(found[part] or 0) for part in ("hour", "minute", "second"))
-    if hour > 23 or minute > 59 or second > 60:
-        raise ValueError(word)
-    seconds = (day - EPOCH) // datetime.timedelta(seconds=1) + hour * 3600 + minute * 60 + second
-    return seconds * SECOND + int((found["rest"] or "").ljust(6, "0"))
-
-
-def seconds_of(micros: int) -> str:
-    """Microseconds, as seconds."""
-    return f"{'-' * (micros < 0)}{abs(micros) // SECOND}.{abs(micros) % SECOND:06}"

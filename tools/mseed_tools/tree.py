@@ -6,15 +6,18 @@ import calendar
 import datetime
 import os
 import re
-from typing import Iterator, NamedTuple, Optional
+from typing import Iterator, NamedTuple, Optional, Sequence
 
 from mseed_tools.program import ToolError
 
 # Folders of the layout that hold no waveforms: events, logs, timing, calibrations, responses and opaque data.
 OTHERS = re.compile(r".+\.[ELTCRO]")
 YEAR = re.compile(r"[0-9]{4}")
+# A code that can be part of a path.
+CODE = re.compile(r"[A-Za-z0-9-]+")
 # The folders of the layout by what they hold, from that of a file up.
 LEVELS = ["channel", "station", "network", "year"]
+PLACE = "YEAR/NET/STA/CHAN.D/NET.STA.LOC.CHAN.D.YEAR.DAY"
 # In so many folders a file's place is looked for below what is no root.
 MOST_FOLDERS = 1000
 
@@ -61,6 +64,19 @@ def place_of(name: str) -> Optional[tuple[list[str], datetime.date]]:
         return None
 
 
+def path_of(codes: Sequence[str], day: datetime.date) -> Optional[str]:
+    """Where below the root the file of a day has its place, by network, station, location and channel. Nothing for
+    codes that have none: each is of letters, digits and `-`, and only that of the location may be empty."""
+    if len(codes) != 4:
+        return None
+    network, station, location, channel = codes
+    if not all(CODE.fullmatch(code) for code in (network, station, location or "-", channel)):
+        return None
+    year = f"{day.year:04}"
+    name = f"{network}.{station}.{location}.{channel}.D.{year}.{day.timetuple().tm_yday:03}"
+    return os.path.join(year, network, station, f"{channel}.D", name)
+
+
 def is_year(name: str) -> bool:
     """Whether a folder of this name is that of a year."""
     return YEAR.fullmatch(name) is not None and name != "0000"
@@ -80,10 +96,22 @@ class Walk:
             with os.scandir(os.path.join(self.root, *names)) as some:
                 return sorted((entry for entry in some if not entry.name.startswith(".")), key=lambda one: one.name)
         except OSError as error:
-            if not names:
-                raise ToolError(f"{self.root}: {error.strerror}") from error
-            self.tree.unread.append(os.path.join(*names))
+            self.cannot_list(names, error)
             return []
+
+    def names_in(self, names: list[str]) -> list[str]:
+        """The names alone of what is in a folder, as `listed` has them: of a folder that has many."""
+        try:
+            return sorted(name for name in os.listdir(os.path.join(self.root, *names)) if not name.startswith("."))
+        except OSError as error:
+            self.cannot_list(names, error)
+            return []
+
+    def cannot_list(self, names: list[str], error: OSError) -> None:
+        """Notes that a folder can't be read. Raises ToolError where that is the root."""
+        if not names:
+            raise ToolError(f"{self.root}: {error.strerror}") from error
+        self.tree.unread.append(os.path.join(*names))
 
     def within(self, names: list[str]) -> Iterator[tuple[list[str], bool]]:
         """What is in a folder, by its names below the root, and whether it is a folder."""
@@ -132,6 +160,15 @@ def tree_at(root: str) -> Tree:
     tree = Walk(root).walked()
     if tree.misplaced and not tree.files:
         refuse_within(root)
+    return tree
+
+
+def filled_tree_at(root: str) -> Tree:
+    """The archive at a root. Raises ToolError also where no file below the root is one of an archive: what would be
+    said of nothing would be taken for what is said of the files."""
+    tree = tree_at(root)
+    if not tree.files and not tree.unread:
+        raise ToolError(f"{root}: no file of an SDS tree, as {PLACE}")
     return tree
 
 
