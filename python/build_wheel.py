@@ -13,6 +13,7 @@ from typing import Any, Dict, Optional
 HERE = Path(__file__).resolve().parent
 LIBRARY = "libmseed_c.so"
 BUILT = HERE.parent / "crates" / "mseed_c" / "out" / "lib" / LIBRARY
+MODULES = HERE.parent / "tools" / "mseed_tools"
 VERSION = runpy.run_path(str(HERE / "mseed" / "_version.py"))["__version__"]
 NAME = f"mseed-{VERSION}"
 # The library is for one kind of machine, and any Python.
@@ -41,6 +42,8 @@ def build_wheel(wheel_directory: str, config_settings: Any = None, metadata_dire
     if not library.exists():
         raise FileNotFoundError(f"{library}: 'make lib' builds it, and MSEED_LIBRARY names another one")
     files = {f"mseed/{path.name}": path.read_bytes() for path in sorted((HERE / "mseed").iterdir()) if path.is_file()}
+    # The modules of the tools, on which mseed.fdsnws stands.
+    files.update({f"mseed_tools/{path.name}": path.read_bytes() for path in sorted(MODULES.glob("*.py"))})
     files[f"mseed/{LIBRARY}"] = library.read_bytes()
     files[f"{NAME}.dist-info/METADATA"] = (METADATA + (HERE / "README.md").read_text(encoding="utf-8")).encode()
     files[f"{NAME}.dist-info/WHEEL"] = WHEEL.encode()

@@ -13,16 +13,18 @@ BORDERS = ("ratechange", "leap", "gap", "overlap")
 
 @dataclass(frozen=True)
 class Finding:
-    """What an audit finds of one record."""
+    """What an audit finds of one record; or, with an empty name, why the archive doesn't end where a record ends."""
 
     offset: int
-    """Where the record begins, in bytes from the archive's beginning."""
+    """Where the record begins, or none does, in bytes from the archive's beginning."""
     name: str
-    """The channel's name: network, station, location and channel, joined by underscores."""
+    """The channel's name: network, station, location and channel, joined by underscores; empty where no record
+    begins."""
     number: int
-    """The record's number among all of the archive, from 1."""
+    """The record's number among all of the archive, from 1; that of the next one, where none begins."""
     start: str
-    """The time of its first sample (UTC), or "fault" and the field that is out of its range."""
+    """The time of its first sample (UTC), or "fault" and the field that is out of its range; empty where no record
+    begins."""
     reason: str
     """Why it is named, in the words of the program, as "gap 72100000": microseconds."""
 
@@ -90,17 +92,27 @@ def part(archive: Archive) -> str:
 
 
 def findings(archive: Archive) -> List[Finding]:
-    """Each record of an archive with a finding, in the archive's order.
+    """Each record of an archive with a finding, in the archive's order. Where the archive doesn't end where a record
+    ends, the last one has an empty name: it says where no record begins, and why.
 
     archive: a path, bytes, or a binary file that is open.
     """
-    return findings_in(bytes_of(archive))
+    text, _, totals = audited("mseed_audit_each", bytes_of(archive))
+    found, last = _findings_of(text), text.splitlines()[-1].split(" ", 3)
+    if last[:2] == ["fault", "at"]:
+        found.append(Finding(int(last[2]), "", totals.records + 1, "", last[3]))
+    return found
 
 
-def findings_in(data: bytes, size: Optional[int] = None) -> List[Finding]:
-    """Each record with a finding, of an archive or of so many bytes of it."""
+def findings_in(data: bytes, size: int) -> List[Finding]:
+    """Each record with a finding, of so many bytes of an archive."""
+    return _findings_of(audited("mseed_audit_each", data, size)[0])
+
+
+def _findings_of(text: str) -> List[Finding]:
+    """The findings of the lines that stand before those of the channels."""
     found = []
-    for line in audited("mseed_audit_each", data, size)[0].splitlines():
+    for line in text.splitlines():
         words = line.split(" ")
         if len(words) < 7 or words[2] != "record" or words[4] != "start":
             break

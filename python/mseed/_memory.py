@@ -38,8 +38,40 @@ def opened(archive: Archive) -> Iterator[BinaryIO]:
             yield file
     elif hasattr(archive, "read"):
         yield cast(BinaryIO, archive)
+    elif isinstance(archive, bytes):
+        yield io.BytesIO(archive)
     else:
-        yield io.BytesIO(bytes_of(archive))
+        yield cast(BinaryIO, _Bytes(_view_of(archive)))
+
+
+class _Bytes(io.RawIOBase):
+    """Bytes that somebody holds, as a file, of which no more is copied than is read."""
+
+    def __init__(self, view: memoryview) -> None:
+        self._view, self._at = view, 0
+
+    def readable(self) -> bool:
+        """Whether it can be read."""
+        return True
+
+    def readinto(self, buffer: Any) -> int:
+        """Copies the next bytes, and says how many."""
+        part = self._view[self._at : self._at + len(buffer)]
+        buffer[: len(part)] = part
+        self._at += len(part)
+        return len(part)
+
+
+def _view_of(archive: Any) -> memoryview:
+    """The bytes of an archive that lies in memory.
+
+    TypeError where it doesn't.
+    """
+    try:
+        view = memoryview(archive)
+    except TypeError:
+        raise TypeError(f"an archive is a path, bytes, or a binary file that is open, not {named(archive)}") from None
+    return view.cast("B") if view.contiguous and view.nbytes else memoryview(bytes(view))
 
 
 def bytes_of(archive: Archive) -> bytes:
@@ -52,10 +84,7 @@ def bytes_of(archive: Archive) -> bytes:
     if isinstance(archive, (str, os.PathLike)) or hasattr(archive, "read"):
         with opened(archive) as file:
             return read_from(file, -1)
-    try:
-        return bytes(memoryview(archive))
-    except TypeError:
-        raise TypeError(f"an archive is a path, bytes, or a binary file that is open, not {named(archive)}") from None
+    return bytes(_view_of(archive))
 
 
 def read_from(file: BinaryIO, size: int) -> bytes:
@@ -116,6 +145,24 @@ def joined(parts: Sequence[Samples]) -> Samples:
     if numpy is not None:
         return numpy.concatenate(parts)
     return memoryview(array("i", b"".join(parts)))
+
+
+class Grown:
+    """Samples that come some at a time, at one place that grows: they aren't there twice."""
+
+    def __init__(self) -> None:
+        """None yet."""
+        self._bytes = bytearray()
+
+    def add(self, part: Samples) -> None:
+        """Puts more after them."""
+        self._bytes += memoryview(cast(Any, part)).cast("B")
+
+    def samples(self) -> Samples:
+        """All of them."""
+        if numpy is not None:
+            return numpy.frombuffer(self._bytes, numpy.int32)
+        return memoryview(self._bytes).cast("i")
 
 
 def scatter(part: Samples, sizes: Iterable[int], out: Samples, places: Iterable[int]) -> None:

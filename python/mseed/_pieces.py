@@ -2,10 +2,11 @@
 
 from bisect import bisect_right
 from dataclasses import dataclass
-from typing import Any, BinaryIO, Dict, Generator, Iterator, List, Optional, Sequence
+from typing import Any, BinaryIO, Dict, Generator, Iterator, List, Optional, Sequence, cast
 
 from mseed._memory import Archive, Samples, joined, opened, read_from, whole
 from mseed._records import Cutter, RecordError, Runs, Window, codes_of
+from mseed._selecting import Asked, Channels, Selection, Time
 from mseed._trace import Trace
 
 # How much of an archive is in memory at once, besides the rest of its last record, which is at most 1 MiB.
@@ -27,17 +28,25 @@ class Pieces(Iterator[Piece]):
     """The pieces of an archive's traces, as they come. Once all are taken, or `close` was called, a path's file is
     closed."""
 
-    def __init__(self, archive: Archive, samples: int, skip: bool) -> None:
-        """Of pieces of at most so many samples."""
+    def __init__(self, archive: Archive, samples: int, skip: bool, asked: Optional[Asked] = None,
+                 depth: int = 1) -> None:
+        """Of pieces of at most so many samples; of the records alone that are asked for, where some are. Who asked is
+        so many calls above that of the next piece."""
         self.skipped: List[RecordError] = []
         """What was left out so far: the records that can't be read, and the bytes that begin none."""
-        self._pieces = _pieces(archive, samples, skip, self.skipped)
+        self._selections: List[Selection] = []
+        self._pieces, self._depth = _pieces(archive, samples, skip, self.skipped, asked, self._selections), depth
         # So that what can't be opened is refused at once.
         next(self._pieces)
 
     def __next__(self) -> Piece:
         """The next piece."""
-        piece = next(self._pieces)
+        try:
+            piece = next(self._pieces)
+        except StopIteration:
+            while self._selections:
+                self._selections.pop().warn(self._depth + 1)
+            raise
         assert piece is not None
         return piece
 
@@ -91,7 +100,8 @@ class _Open:
         return made
 
 
-def iterate(archive: Archive, *, samples: int = 1 << 14, skip: bool = False) -> Pieces:
+def iterate(archive: Archive, *, samples: int = 1 << 14, skip: bool = False, channels: Channels = None,
+            start: Optional[Time] = None, end: Optional[Time] = None) -> Pieces:
     """The traces of an archive in pieces, each of which says whether its trace goes on after it. In memory are 2 MiB of
     the archive at once, with their samples, and of each channel its last record and the samples of its next piece.
 
@@ -99,35 +109,49 @@ def iterate(archive: Archive, *, samples: int = 1 << 14, skip: bool = False) -> 
     samples: how many each piece has; the last one of a trace has those that are left.
     skip: as of read; what is left out is listed in `skipped` of what is returned, as it is met. Without it the first
     of these is raised.
+    channels, start, end: as of read.
     """
     if whole("samples", samples) < 1:
         raise ValueError(f"a piece has 1 sample or more, not {samples}")
-    return Pieces(archive, whole("samples", samples), skip)
+    return Pieces(archive, whole("samples", samples), skip, asked_for(channels, start, end))
 
 
-def _windows(file: BinaryIO, cutter: Cutter) -> Iterator[Window]:
-    """The records of a file, as many at once as are read at once."""
+def asked_for(channels: Channels, start: Optional[Time], end: Optional[Time]) -> Optional[Asked]:
+    """What is asked for; nothing where all is."""
+    return None if channels is None and start is None and end is None else Asked(channels, start, end)
+
+
+def _windows(file: BinaryIO, cutter: Cutter, size: int) -> Iterator[Window]:
+    """The records of a file, as many at once as are read at once: so many bytes."""
     rest, chunk = b"", b"-"
     while chunk:
-        chunk = read_from(file, AT_ONCE)
+        chunk = read_from(file, size)
         data, begin = rest + chunk, cutter.offset
         window = Window(data, cutter.cut(data, not chunk))
         rest = data[cutter.offset - begin :]
         yield window
 
 
-def _pieces(archive: Archive, samples: int, skip: bool,
-            skipped: List[RecordError]) -> Generator[Optional[Piece], None, None]:
+def _pieces(archive: Archive, samples: int, skip: bool, skipped: List[RecordError], asked: Optional[Asked],
+            selections: List[Selection]) -> Generator[Optional[Piece], None, None]:
     """Nothing, once the archive is open, and then the pieces."""
     going: Dict[bytes, _Open] = {}
     tails: Dict[bytes, bytes] = {}
     with opened(archive) as file:
         yield None
-        cutter = Cutter()
-        for window in _windows(file, cutter):
+        cutter, source, size = Cutter(), file, AT_ONCE
+        if asked is not None:
+            # Of few records that are asked for less is in memory, besides what they are taken from.
+            selections.append(Selection(file, asked, skip))
+            source, size = cast(BinaryIO, selections[0]), AT_ONCE // 4
+        for window in _windows(source, cutter, size):
             window.find([tails[key] for key in window.keys() if key in tails])
             left_out = sorted([*cutter.holes, *window.errors()], key=lambda error: error.offset)
             cutter.holes.clear()
+            for selection in selections:
+                # These have their places in the archive, and not among the records that are asked for.
+                skipped += selection.holes
+                selection.holes.clear()
             if left_out and not skip:
                 raise left_out[0]
             skipped.extend(left_out)

@@ -1,11 +1,12 @@
 """The traces of an archive."""
 
 from bisect import bisect_right
-from typing import Dict, Iterable, Iterator, List, Optional, Sequence, Tuple, Union
+from typing import Dict, Iterator, List, Optional, Sequence, Tuple
 
-from mseed._memory import Archive, Samples, bytes_of, room_for, scatter, settle
+from mseed._memory import Archive, Grown, Samples, bytes_of, room_for, scatter, settle
+from mseed._pieces import Pieces, asked_for
 from mseed._records import Cutter, RecordError, Runs, Window, codes_of
-from mseed._selecting import Time, select
+from mseed._selecting import Channels, Time
 from mseed._trace import Trace
 
 
@@ -21,6 +22,8 @@ class Traces(List[Trace]):
 
 # How many samples are decoded at once where several channels alternate.
 AT_ONCE = 1 << 18
+# How many a piece has of which traces are made.
+PIECE = 1 << 16
 
 
 class _Plan:
@@ -31,8 +34,8 @@ class _Plan:
         self.key, self.first, self.size, self.place = key, first, 0, 0
 
 
-def read(archive: Archive, *, skip: bool = False, channels: Union[str, Iterable[str], None] = None,
-         start: Optional[Time] = None, end: Optional[Time] = None) -> Traces:
+def read(archive: Archive, *, skip: bool = False, channels: Channels = None, start: Optional[Time] = None,
+         end: Optional[Time] = None) -> Traces:
     """Reads the traces of an archive. A trace ends where the audit finds a gap, an overlap, a leap second that nobody
     can place, or another rate.
 
@@ -42,13 +45,14 @@ def read(archive: Archive, *, skip: bool = False, channels: Union[str, Iterable[
     begin none, reading goes on at the next multiple of 64 bytes at which a record is framed, and so does a trace whose
     next record meets its last one.
     channels, start, end: the records that `mseed.select` writes alone, as if no others were there: whole records, of
-    which no sample is cut off, and whose numbers and offsets are counted among them. An archive that doesn't end where
-    a record ends is a RecordError then, also with `skip`.
+    which no sample is cut off, and whose numbers and offsets are counted among them; bytes that begin no record have
+    their number and offset in the archive. Besides the samples, and an eighth of them into which they grow, 2 MiB of
+    the archive are in memory then, and each trace has samples of its own.
     """
-    if channels is None and start is None and end is None:
-        data = bytes_of(archive)
-    else:
-        data = select(archive, channels=channels, start=start, end=end)
+    asked = asked_for(channels, start, end)
+    if asked is not None:
+        return _collected(Pieces(archive, PIECE, skip, asked, 3))
+    data = bytes_of(archive)
     cutter = Cutter()
     window = Window(data, cutter.cut(data, True))
     window.find()
@@ -56,6 +60,25 @@ def read(archive: Archive, *, skip: bool = False, channels: Union[str, Iterable[
     if skipped and not skip:
         raise skipped[0]
     return Traces(_fill(window, window.runs()), skipped)
+
+
+def _collected(pieces: Pieces) -> Traces:
+    """The traces of which these are the pieces, in the order in which they begin."""
+    begun: List[Tuple[Trace, Grown]] = []
+    going: Dict[bytes, Grown] = {}
+    for piece in pieces:
+        if piece.index == 0:
+            going[piece.key] = Grown()
+            begun.append((_of(piece, room_for(0)), going[piece.key]))
+        going[piece.key].add(piece.samples)
+    begun.sort(key=lambda pair: pair[0].first_record)
+    return Traces([_of(first, grown.samples()) for first, grown in begun], pieces.skipped)
+
+
+def _of(trace: Trace, samples: Samples) -> Trace:
+    """A trace that begins where another one does, with these samples."""
+    return Trace(trace.network, trace.station, trace.location, trace.channel, trace.start_ns, trace.factor,
+                 trace.multiplier, samples, trace.first_record, trace.key)
 
 
 def _plans_of(window: Window, runs: Runs) -> Tuple[List[_Plan], List[int]]:

@@ -36,8 +36,14 @@ class Trace:
     """The codes as they stand in the header: 2, 5, 2 and 3 bytes."""
 
     @property
+    def name(self) -> str:
+        """The channel's name, as findings, errors and the program have it: network, station, location and channel,
+        joined by underscores."""
+        return f"{self.network}_{self.station}_{self.location}_{self.channel}"
+
+    @property
     def id(self) -> str:
-        """Network, station, location and channel, with dots between them."""
+        """The same with dots, as other programs have it. Where channels are asked for, either is taken."""
         return f"{self.network}.{self.station}.{self.location}.{self.channel}"
 
     @property
