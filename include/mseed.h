@@ -65,7 +65,8 @@ enum mseed_code
   /* it is miniSEED 3. */
   MSEED_VERSION_3 = 22,
 
-  /* The samples of a record can't be read: a blockette 100 gives another rate; */
+  /* The samples of a record can't be read: it has a blockette 100, whose rate, a float, isn't read, so that its header
+   * alone doesn't say its rate; */
   MSEED_BLOCKETTE_100 = 32,
   /* an encoding that isn't read: its number is the encoding; */
   MSEED_ENCODING = 33,
