@@ -3,9 +3,23 @@
 
 import os
 import re
+import resource
 import sys
 
 PAGE = os.path.join(os.path.dirname(os.path.dirname(os.path.abspath(__file__))), "docs", "performance.md")
+
+
+def environment(program):
+    """What a tool runs in, over this program: as where it is installed, Python keeps what it has compiled."""
+    env = {**os.environ, "MSEED": os.path.abspath(program)}
+    env.pop("PYTHONDONTWRITEBYTECODE", None)
+    return env
+
+
+def processor_seconds():
+    """What the processes that this one has waited for have taken of processors."""
+    used = resource.getrusage(resource.RUSAGE_CHILDREN)
+    return used.ru_utime + used.ru_stime
 
 
 def table(heads, rows):
