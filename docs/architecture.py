@@ -41,7 +41,7 @@ CRATES = {
     "slink_live_tcp": (5, "an input and links over TCP"),
     "slink_model": (3, "schedules over cut links"),
     "mseed_c": (0, "the calls for C"),
-    "mseed_files": (2.75, "files, one after another"),
+    "mseed_files": (5, "files, one after another"),
     "mseed_input": (3, "files of an input, by name"),
     "mseed_words": (2, "what a command line requests"),
     "mseed_feed": (4, "serving and fetching as commands"),
