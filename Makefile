@@ -16,7 +16,7 @@
 # make interop          what libmseed packs, packed anew and read by libmseed (wants libmseed-dev)
 # make bench            the program and the library side by side with libmseed (wants libmseed-dev, valgrind, python3-numpy)
 # make feed-bench       serve and fetch side by side with a pair of C programs, and what many clients cost
-# make tools-bench      tools/sds over a tree of 1 GB, beside reading its bytes alone
+# make tools-bench      tools/sds, extract and fdsnws over trees, beside reading their bytes alone; tools/archive beside dd
 
 MSEED := crates/mseed/out/mseed
 FILE ?= samples/two_records.mseed
@@ -70,7 +70,7 @@ readable:
 
 # Proves every crate that the program stands on, side by side, then proves and builds the program, and runs it once: what
 # isn't proved isn't built. How far it is and how long it may take is said where something has to be proved: nothing was
-# built by this word, or by another toolchain, or a source is newer.
+# proved yet, or something isn't what was proved, by checksums of the sources, the toolchain's version and the program.
 build:
 	@python3 crates/prove.py $(KEEP) mseed run -- audit
 	@echo 'Proved and built.'
@@ -143,3 +143,5 @@ feed-bench: build
 
 tools-bench: build
 	@python3 bench/tools.py $(MSEED) --write
+	@python3 bench/archive.py $(MSEED) --write
+	@python3 bench/extracting.py $(MSEED) --write
