@@ -77,9 +77,10 @@ SERVERS: list[tuple[str, list[Deed], Ended, float, float]] = [
     ("is silent before the end", [GRANTED + b"".join(PACKETS)], FAILED._replace(out=ARCHIVE), 1, 3),
     ("is silent within the end", [GRANTED + b"".join(PACKETS) + b"EN"], FAILED._replace(out=ARCHIVE), 1, 3),
     ("says a byte of the handshake now and then", drops(b"ERRORS", 0.4), FAILED, 1, 2.3),
-    ("says the packets piece by piece", [GRANTED, *(deed for packet in PACKETS for deed in (packet, 0.6)), b"END"],
-     ALL, 1.8, 4),
 ]
+# A server that is never silent for as long as `--timeout 3` allows, by so much that a busy machine makes no difference,
+# and altogether for longer.
+PIECES: list[Deed] = [GRANTED, *(deed for packet in PACKETS for deed in (packet, 1.2)), b"END"]
 
 
 def silent_servers() -> Cases:
@@ -95,6 +96,14 @@ def silent_servers() -> Cases:
     for (name, _, wanted, least, most), (ended, seconds) in zip(SERVERS, ends):
         yield Fact(f"fetch from a server that {name}", wanted, ended)
         yield holds(f"the time of a server that {name}", least <= seconds < most + 2, seconds)
+
+
+def pieces() -> Cases:
+    """A server that says its packets piece by piece is waited for."""
+    began = time.monotonic()
+    yield Fact("fetch from a server that says the packets piece by piece", ALL,
+               fetch([STA], mute(PIECES), "--timeout", 3))
+    yield holds("it takes longer than the time altogether", time.monotonic() - began >= 3.6)
 
 
 def without_end() -> Cases:
@@ -198,5 +207,5 @@ def addresses() -> Cases:
 
 def rows() -> Iterator:
     """All of them."""
-    for part in (silent_servers, without_end, silent_clients, full_link, streaming, restarted, addresses):
+    for part in (silent_servers, pieces, without_end, silent_clients, full_link, streaming, restarted, addresses):
         yield from part()
