@@ -43,18 +43,19 @@ def gate() -> Count:
     of the libraries, over which `make lib` builds the one for C."""
     BUILT.unlink(missing_ok=True)
     shutil.rmtree(library.BUILT, ignore_errors=True)
-    last = ""
+    last, named = "", "rt ci"
     with subprocess.Popen([sys.executable, "crates/prove.py", "--gate"], cwd=ROOT, stdout=subprocess.PIPE,
                           stderr=subprocess.STDOUT, text=True, errors="replace") as run:
         for line in run.stdout:
             print(line, end="", flush=True)
             last = line if re.match(r"\d+ passed, \d+ failed", line) else last
+            named = line.strip() if line.startswith("rt: FAILED: ") else named
     found = re.match(r"(\d+) passed, (\d+) failed(?:, (\d+) skipped)?", last)
     count = Count(int(found[1]), int(found[2]), ["of the gate"] * int(found[3] or 0)) if found else Count()
     if not count.passed + count.failed or run.returncode != 0 and not count.failed:
         print(f"FAILED rt ci: status {run.returncode}, {last.strip() or 'and no count'}")
         count.failed += 1
-    count.failures = ["rt ci"] * min(1, count.failed)
+    count.failures = [named] * min(1, count.failed)
     return count
 
 
