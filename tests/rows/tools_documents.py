@@ -1,6 +1,7 @@
-"""Each command of the pages about the tools and of the operator's page prints what stands there, but for the whole loop
-of the cookbook, which goes through one shell: tools_loop.py. Commands of programs that aren't installed are skipped,
-with those that want what they leave behind; and each tool is named in its page."""
+"""Each command of the pages about the tools, of the operator's page and of that for whoever comes from other programs
+prints what stands there, but for the whole loop of the cookbook, which goes through one shell: tools_loop.py. Commands
+of programs that aren't installed are skipped, with those that want what they leave behind; and each tool is named in
+its page."""
 
 from __future__ import annotations
 
@@ -19,7 +20,7 @@ from driver.tools import TOOLS
 from rows import tools_loop
 from rows.tools_cluster import DASK, with_dask
 
-DOCUMENTS = ["tools/README.md", "docs/cookbook.md", "docs/operating.md"]
+DOCUMENTS = ["tools/README.md", "docs/cookbook.md", "docs/operating.md", "docs/coming-from.md"]
 MOST_LINES = 400
 
 
