@@ -1,5 +1,5 @@
-"""The library for C: the header by itself, the examples of the README, and the calls between pages that can't be
-touched, under valgrind, by eight threads at once, and with memory refused."""
+"""The library for C: the header by itself, the examples of the README and the cookbook, and the calls between pages
+that can't be touched, under valgrind, by eight threads at once, and with memory refused."""
 
 from __future__ import annotations
 
@@ -18,6 +18,9 @@ from models.auditing import channels_of, cut, findings, name_of, time_of
 # How far apart the beginnings and the changed bytes of an archive are.
 STEPS = {"two_records": 1, "gap": 1, "steim2": 1, "steim2_one_bit": 1, "network_gap": 17, "network_bad_constant": 23,
          "network_junk": 29, "network_overlap": 31, "network_drift": 37, "network_cut": 41}
+
+# The examples, as blocks of pages: the language, and the place among the page's blocks in it.
+EXAMPLES = [("docs/cookbook.md", "c", 0), ("README.md", "python", 0), ("README.md", "python", 1)]
 
 STANDARDS = [("cc", "c89"), ("cc", "c99"), ("cc", "c11"), ("c++", "c++98"), ("c++", "c++11"), ("c++", "c++17")]
 
@@ -105,14 +108,14 @@ def threads(built: Path, folder: Path) -> Cases:
 
 
 def readme(built: Path, folder: Path) -> Cases:
-    """The examples of the README in C, Python and NumPy say of the samples what the second program says."""
-    text = (ROOT / "README.md").read_text(encoding="utf-8")
-    in_c, plain, with_numpy = (re.findall(rf"^```{language}\n(.*?)^```", text, re.MULTILINE | re.DOTALL)[index]
-                               for language, index in (("c", 0), ("python", 0), ("python", 1)))
+    """The examples of the pages in C, Python and NumPy say of the samples what the second program says."""
+    texts = {page: (ROOT / page).read_text(encoding="utf-8") for page, _, _ in EXAMPLES}
+    in_c, plain, with_numpy = (re.findall(rf"^```{language}\n(.*?)^```", texts[page], re.MULTILINE | re.DOTALL)[index]
+                               for page, language, index in EXAMPLES)
     gap, network = ((SAMPLES / f"{name}.mseed").read_bytes() for name in ("network_gap", "network"))
     code, program = folder / "readme.c", folder / "readme"
     code.write_text(in_c, encoding="ascii")
-    yield Fact("README's example in C compiles", "", compiled(built, code, program).stdout)
+    yield Fact("the cookbook's example in C compiles", "", compiled(built, code, program).stdout)
     yield from example_in_c(program, folder / "archive", gap)
     if not os.path.exists(PYTHON):
         yield Skipped("README's examples in Python", PYTHON)
@@ -130,7 +133,7 @@ def readme(built: Path, folder: Path) -> Cases:
 
 
 def example_in_c(program: Path, path: Path, gap: bytes) -> Cases:
-    """The README's program in C reads all of an archive: of one that ends with a piece, of longer ones, in which a
+    """The cookbook's program in C reads all of an archive: of one that ends with a piece, of longer ones, in which a
     record begins in one piece and ends in the next, and of one that ends too early."""
     records = [record for _, record in cut(gap)[0]]
     one = [record for _, record in cut((SAMPLES / "two_records.mseed").read_bytes())[0]][:1]
@@ -145,7 +148,7 @@ def example_in_c(program: Path, path: Path, gap: bytes) -> Cases:
         read = read[:-1] if short else read
         with path.open("rb") as source:
             ended = subprocess.run([str(program)], stdin=source, stdout=subprocess.PIPE, text=True, check=False)
-        yield Fact(f"README's example in C: {name}",
+        yield Fact(f"the cookbook's example in C: {name}",
                    (int(bool(short)), f"{code}: {len(read)} records, {sum(record.count for record in read)} samples\n"),
                    (ended.returncode, ended.stdout))
 
