@@ -1,6 +1,6 @@
 //! Small devices that tell, take and fail by turns, and heaps that are too small.
 ghost use Rattle.std.specs.Prelude.{◌≡◌, IfOk, IfSome};
-ghost use Rattle.mseed_stream.specs.Device.{nothing_read, nothing_written};
+ghost use Rattle.mseed_stream.specs.Device.{accepted, nothing_read, nothing_written};
 
 use linked_list_allocator::LocalHeap;
 use mseed_stream::{
@@ -144,7 +144,7 @@ fn read_new<T: Read + Drop>(alloc: Global, reader: T) -> Result<Vec<u8>, StreamF
 
 fn expect_nothing_read<R: Source>(source: &mut R)
     requires read { R.read source.old ≡ nothing_read }
-    requires beside { R.beside source.old ≡ nothing_written }
+    requires beside { R.beside source.old ≡ accepted nothing_written }
     ensures read { R.read source.new ≡ R.read source.old }
     ensures remaining { R.remaining source.new ≡ R.remaining source.old }
 {
