@@ -3,8 +3,8 @@
  * The calls read an archive that lies in memory: miniSEED records (SEED Reference Manual 2.4) one after another. Each
  * call returns a code, writes its results where its caller says, and keeps nothing between calls: so threads may
  * call at once, on the same archive too, as long as each writes to memory of its own. Any bytes may be read: a call
- * returns, and never reads or writes outside of what it was given. What each call does is proved: see "The library" of
- * docs/promises.md in the sources.
+ * returns, and never reads or writes outside of what it was given. What each call does is proved: see "The library for
+ * C" in docs/promises/command.md of the sources.
  *
  * What the caller has to keep, at every call:
  *

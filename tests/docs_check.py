@@ -23,7 +23,8 @@ from documents.figures import FIGURES, recounted
 from documents.sources import Sources, files_below, text_of
 from driver.counting import Count, judge
 from driver.program import ROOT
-from rows.documents import QUOTING, documents_of, drawing, fields, figures, names, quotations, self_tests
+from rows.documents import (QUOTING, documents_of, drawing, fields, figures, names, promises, quotations,
+                            self_tests)
 
 
 def relinked(sources: Sources, name: str, text: str) -> str:
@@ -68,8 +69,8 @@ def main() -> int:
             (ROOT / name).write_text(requoted(name, text_of(name)), encoding="utf-8")
     for name in sorted({figure.page for figure in FIGURES}) if "--recount" in sys.argv else []:
         (ROOT / name).write_text(recounted(sources, name, text_of(name)), encoding="utf-8")
-    for part in (self_tests(sources), names(sources, documents), quotations(), figures(sources), fields(sources),
-                 drawing()):
+    for part in (self_tests(sources), names(sources, documents), quotations(), figures(sources), promises(),
+                 fields(sources), drawing()):
         for case in part:
             judge(case, count, False)
     print(count.lines())

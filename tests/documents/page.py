@@ -35,6 +35,8 @@ FOR_NAMES = ["contract", "carried by", "call", "definition"]
 
 QUOTED = re.compile(r"`([^`]+)`")
 LINK = re.compile(r"\[([^\]]*)\]\(([^)#]+)(#[^)]*)?\)")
+# A link to a heading of the page itself.
+INNER = re.compile(r"\]\(#([^)]*)\)")
 CLAUSES = re.compile(r"\b[Cc]lauses? ((?:`\w+`(?:, and |, | and )?)+)")
 # After the path of a call: its clauses.
 LISTED = re.compile(r" \(`[^`]+`\) \(((?:`\w+`(?:, )?)+)\)")
@@ -55,6 +57,12 @@ class Judged(NamedTuple):
 Group = list[tuple[str, list[Named], bool]]
 
 
+def parts_of(text: str) -> list[str]:
+    """The headings, as a link names them: in small letters, with a hyphen for each space, and no other signs."""
+    heads = re.findall(r"^#+ (.*)", text, re.MULTILINE)
+    return [re.sub(r"[^\w -]", "", head.lower()).replace(" ", "-") for head in heads]
+
+
 class Page:
     """What a document names: `judged`."""
 
@@ -62,6 +70,7 @@ class Page:
         self.sources, self.folder = sources, os.path.dirname(name)
         self.judged: list[Judged] = []
         self.section: Group = []
+        self.parts = parts_of(text)
         self.texts = " ".join(quoted for path in TEXTS
                               for quoted in re.findall(r"```.*?```|`[^`]+`", text_of(path), re.DOTALL))
         self.heads: list[str] = []
@@ -84,6 +93,8 @@ class Page:
             if "://" not in target:
                 self.judge(target, self.has_file(target), "no such file")
                 self.judge(target + part, not part or self.has_part(target, part[1:]), "no such heading")
+        for part in INNER.findall(line):
+            self.judge("#" + part, part in self.parts, "no such heading")
         line = LINK.sub(lambda link: f"{link[1]} (`{link[2]}`)" if "`" in link[1] else link[1], line)
         cells = re.split(r"(?<!\\)\|", line) if line.startswith("|") else [line]
         row = re.match(r"\| *`(\w+)`", line)
@@ -199,10 +210,9 @@ class Page:
         return any(os.path.exists(at.replace("NAME", crate)) for at in paths for crate in crates)
 
     def has_part(self, path: str, part: str) -> bool:
-        """A heading, as a link names it: in small letters, with a hyphen for each space, and no other signs."""
+        """Whether a file has such a heading."""
         at = os.path.normpath(os.path.join(self.folder, path))
-        heads = re.findall(r"^#+ (.*)", text_of(at), re.MULTILINE) if self.has_file(path) else []
-        return part in [re.sub(r"[^\w -]", "", head.lower()).replace(" ", "-") for head in heads]
+        return self.has_file(path) and part in parts_of(text_of(at))
 
     def has_text(self, text: str) -> bool:
         """A file, a command, or words of the programs' texts, in which `<..>` and numbers stand for others."""

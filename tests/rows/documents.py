@@ -3,7 +3,8 @@ and words of the programs' output (documents/page.py). The pages for callers sho
 documentation (documents/callers.py); and no line of a crate is too long. Before that, lines and pages that are wrong
 have to be found wrong. The drawing of docs/architecture.md is the one that docs/architecture.py draws from crates.txt.
 What a page quotes of the code stands there, sign by sign (documents/quoted.py), and what it counts is counted
-(documents/figures.py); the codes of the library for C are those of its header (documents/codes.py).
+(documents/figures.py); the codes of the library for C are those of its header (documents/codes.py). The parts of the
+promises are tied to their entrance (documents/promises.py).
 """
 
 from __future__ import annotations
@@ -16,13 +17,14 @@ from documents.callers import judged_fields, judged_page, libraries, page_of
 from documents.codes import CODES, judged_codes
 from documents.figures import FIGURES, TABLE, judged_figures, judged_rows, recounted
 from documents.page import Page
+from documents.promises import ENTRANCE, PROMISES, judged_parts
 from documents.quoted import judged_quotations, requoted
 from documents.sources import Sources, text_of
 from driver.program import ROOT
 from driver.rows import Cases, Fact
 
-DOCUMENTS = ["README.md", "docs/promises.md", "docs/developing.md", "docs/architecture.md", "docs/protocol.md",
-             "docs/texts.md", "docs/headline.md", "docs/glossary.md"]
+DOCUMENTS = ["README.md", *PROMISES, "docs/developing.md", "docs/architecture.md", "docs/protocol.md", "docs/texts.md",
+             "docs/headline.md", "docs/glossary.md"]
 QUOTING = "docs/headline.md"
 
 COLUMNS = 120
@@ -31,6 +33,7 @@ COLUMNS = 120
 WRONG = [
     "[a page](docs/no_page.md)",
     "[a part](docs/format.md#no-part-of-it)",
+    "[a part](#no-part-of-it)",
     "`docs/no_page.md`",
     "`crates/NAME/nothing`",
     "`no_edit_of_this_name.edit`",
@@ -70,6 +73,7 @@ WRONG = [
 RIGHT = [
     "`Cutter::offset`, `Cutter::next`, clause `called`",
     "[a part](docs/format.md#blockettes-and-framing-chapter-8)",
+    "# A part, and more of it\n\n[a part](#a-part-and-more-of-it)",
     "`Cutter::next` (`cutter.rt`), clauses `called` and `record`; `offset`",
     "[`Cutter::next`](crates/mseed_stream/src/cutter.rt), and clause `first` of `Source::pull`",
     "| promise | call | definition | fails |\n|---|---|---|---|\n"
@@ -95,6 +99,19 @@ MISQUOTED = [
     ("(miss_of start n rate step next) ≤ rate.den", "(miss_of start n rate step next) < rate.den"),
     ("  pub only : (others : List ℤ) → IsReading v others → others ≡ samples\n", ""),
     ("(../crates/mseed_time/specs/Join.antt)", "(../crates/mseed_time/specs/Rate.antt)"),
+]
+# Each of these changes of a page of promises is found wrong in as many places as stand behind it, and in no others.
+MISPARTED = [
+    (ENTRANCE, "](promises/feed.md) |", "](promises/no_part.md) |",
+     ["the row of docs/promises/feed.md", "the part of slink_wire", "the part of slink_model"]),
+    (ENTRANCE, "| `slink_wire`, `slink_feed`,", "| `slink_feed`,",
+     ["the crates of docs/promises/feed.md", "the part of slink_wire"]),
+    ("docs/promises/feed.md", "(../promises.md)", "(../headline.md)", ["the link back"]),
+    ("docs/promises/feed.md", "\n## Grants", "\n| a | [`Rate::of`](../../crates/mseed_time/src/rate.rt) | b | law |\n"
+     "\n## Grants", ["the crates of docs/promises/feed.md"]),
+    ("docs/promises/feed.md", "| promise | call | definition | fails |\n|---|---|---|---|\n",
+     "| promise | call | definition | fails |\n|---|---|---|---|\n| a | b | c | law |\n| a | b | c | law |\n",
+     ["| a | b | c | law |"]),
 ]
 # Rows of a table of crates that are wrong, and one that is right but for some lines.
 MISCOUNTED = [
@@ -123,6 +140,11 @@ def self_tests(sources: Sources) -> Cases:
                    (old in page, is_right))
         if ".antt" not in old:
             yield Fact(f"and `{old.strip()}` is quoted anew", page, requoted(QUOTING, page.replace(old, new)))
+    pages = {name: text_of(name) for name in PROMISES}
+    for name, old, new, faults in MISPARTED:
+        judged = judged_parts({**pages, name: pages[name].replace(old, new, 1)})
+        yield Fact(f"what is found wrong with `{new.strip()}` in place of `{old.strip()}` in {name}", (True, faults),
+                   (old in pages[name], [one.name.split(": ", 1)[1] for one in judged if not one.is_there]))
     for figure in FIGURES:
         wrong = figure.pattern().sub("7", text_of(figure.page))
         yield Fact(f"a wrong figure in {figure.page} after `{figure.before}` is found, and counted anew",
@@ -171,6 +193,12 @@ def figures(sources: Sources) -> Cases:
             yield Fact(name, "so many", "so many" if is_so else why)
 
 
+def promises() -> Cases:
+    """What ties the parts of the promises to their entrance."""
+    for name, is_so, why in judged_parts({name: text_of(name) for name in PROMISES}):
+        yield Fact(name, "so", "so" if is_so else why)
+
+
 def fields(sources: Sources) -> Cases:
     """Fields and variants are documented."""
     for name, is_so, why in judged_fields(sources):
@@ -205,6 +233,7 @@ def rows() -> Cases:
     yield from names(sources)
     yield from quotations()
     yield from figures(sources)
+    yield from promises()
     yield from fields(sources)
     yield from lengths(sources)
     yield from drawing()
