@@ -2,3 +2,4 @@ pub mod Out
 pub mod Served
 pub mod Pauses
 pub mod Fetched
+pub mod ListenFault

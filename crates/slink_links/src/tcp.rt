@@ -1,5 +1,5 @@
 //! Links over TCP.
-ghost use Rattle.std.specs.Prelude.{◌≡◌, IfOk};
+ghost use Rattle.std.specs.Prelude.{◌≡◌, IfOk, OnErr};
 ghost use Rattle.mseed_stream.specs.Counted.{read_by, written_by};
 ghost use Rattle.mseed_stream.specs.Device.{nothing_read, nothing_written};
 ghost use Rattle.slink_links.specs.Fetched.{FetchesAll, IsQuiet};
@@ -13,12 +13,12 @@ use crate::dial::Dial;
 use crate::fetching::FetchEnd;
 use crate::gathering::Gathering;
 use crate::handshake::EndsHandshake;
+use crate::listen_fault::ListenFault;
 use crate::patient::{Limits, Patient};
 use crate::pause::Sleeper;
 use crate::plan::{FetchPlan, ServePlan};
 use crate::planned::{fetch_planned, serve_planned};
-use crate::status::FAULT;
-use mseed_stream::{Counted, Exchanges, Sink, Tally, report};
+use mseed_stream::{Counted, Exchanges, Sink, Tally};
 use slink_wire::{Address, Host, Name, Timeout};
 use std::alloc::Allocator;
 use std::io;
@@ -309,21 +309,23 @@ impl<'a, N: Net + Clock> Dial for Dialler<'a, N> {
     }
 }
 
-/// Serves a feed at an address and port of this host, and returns the exit status. A port that can't be had is as a
-/// link that failed.
+/// Serves a feed at an address and port of this host, and returns the exit status.
+///
+/// # Errors
+///
+/// Why the port can't be had, as one that is taken, or at an address that isn't of this host. Nobody was served then,
+/// and nothing was reported.
 pub fn serve<N: Net + Clock, A: Allocator, E: Sink>(
     host: &N,
     plan: &ServePlan<A>,
     errors: &mut E,
-) -> u8
-    ensures { HasServed result (E.written errors.old) (E.written errors.new) }
+) -> Result<u8, ListenFault>
+    ensures served { IfOk result (λ status. HasServed status (E.written errors.old) (E.written errors.new)) }
+    ensures unserved { OnErr result (E.written errors.new ≡ E.written errors.old) }
 {
     match Listening::bind(host, plan.address, plan.port, plan.timeout) {
-        Ok(mut listening) => serve_planned(plan, &mut listening, errors),
-        Err(_) => {
-            report(errors, b"mseed: link failed\n");
-            FAULT
-        }
+        Ok(mut listening) => Ok(serve_planned(plan, &mut listening, errors)),
+        Err(error) => Err(ListenFault::of(&error)),
     }
 }
 

@@ -6,6 +6,7 @@ ghost use Rattle.slink_links.specs.Out.{AreOut};
 
 mod buffers;
 mod fetching;
+mod listening;
 mod serving;
 mod tcp;
 

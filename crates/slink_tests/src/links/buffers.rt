@@ -149,7 +149,7 @@ fn is_served(wire: &Wire, feed: Feed, status: u8) -> bool {
     let plan = serve_plan_of(feed, 1, 0);
     let mut errors = output(wire.alloc, ALL);
     let ended = serve(&End { wire }, &plan, &mut errors);
-    ended == status && taken_by(errors).as_slice() == line_of(status)
+    ended == Ok(status) && taken_by(errors).as_slice() == line_of(status)
 }
 
 /// Whether the wire accepted these bytes, and this came of its calls.

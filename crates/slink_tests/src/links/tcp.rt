@@ -112,7 +112,7 @@ fn serves_one<N: Net + Clock>(rt: &impl Abort, host: &N, alloc: Global) -> bool 
     let plan = serve_plan_of(three_pushed(rt, alloc, 0), 1, 0);
     let mut errors = output(alloc, ALL);
     let status = serve(host, &plan, &mut errors);
-    status == 0 && taken_by(errors).is_empty()
+    status == Ok(0) && taken_by(errors).is_empty()
 }
 
 /// All that a client is sent that says all lines to a port, once it is served.
