@@ -22,6 +22,11 @@ def keeps(place: str, kept: int, came: int) -> bytes:
     return f"mseed: {place} keeps the last {kept} of {came} records\n".encode()
 
 
+def unlistened(port: int, reason: str = "address in use", address: str = "127.0.0.1") -> bytes:
+    """The two lines of a `serve` that can't listen at a port of an address."""
+    return LINK_FAILED + f"mseed: cannot listen at {address}:{port}: {reason}\n".encode()
+
+
 def foreign(number: int, place: str, size: int) -> str:
     """Why a record isn't served, and the line more, without what begins the first one and ends the last one."""
     return f"record {number} is not of this feed\nmseed: record {number} is of {place}, and has {size} bytes"

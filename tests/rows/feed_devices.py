@@ -12,7 +12,7 @@ from typing import Generator, Optional
 from driver.feed import Server, fetch, fetch_words, kept
 from driver.helpers import COMPILER, library, preloaded
 from driver.rows import Case, Cases, Fact, Skipped, contents_of, holds, started, status_of
-from driver.texts import LINK_FAILED, NO_MEMORY, WRITE_FAILED
+from driver.texts import LINK_FAILED, NO_MEMORY, WRITE_FAILED, unlistened
 from models.peers import fetch_link, serving
 from models.seedlink import Client, Place, feed_of, record_of, records_in
 
@@ -99,14 +99,16 @@ def fetched_while_going(server: Server) -> list[bytes]:
 
 
 def calls_of_serve(failing: str) -> Cases:
-    """Each call on a link of the server fails in turn: the connection is lost, and the next one takes the rest."""
+    """Each call on a link of the server fails in turn: the connection is lost, and the next one takes the rest. Of the
+    first three calls, with which it would listen, a line more says that they failed."""
     for call in range(1, 200):
         server = Server(ARCHIVE, PLACES, "--connections", 2, env=preloaded(failing, LINK_FAILS=call))
         records = fetched_while_going(server)
         ended = server.end()
         if ended == ENDED:
             break
-        yield Fact(f"serve whose call {call} fails", (2, b"", LINK_FAILED), ended)
+        lines = unlistened(server.port, "error of the system") if call <= 3 else LINK_FAILED
+        yield Fact(f"serve whose call {call} fails", (2, b"", lines), ended)
         yield holds(f"all is served where call {call} fails", records == (BY_PLACE if call > 3 else []), len(records))
     yield holds(f"serve whose calls don't fail, {call}", records == BY_PLACE and call > 20, call)
 

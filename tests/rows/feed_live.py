@@ -21,7 +21,7 @@ from driver.live import recorded
 from driver.patience import MORE
 from driver.records import record
 from driver.rows import Cases, Fact, Row, Skipped, holds
-from driver.texts import BAD_VALUE, LINK_FAILED, About, Expected, foreign
+from driver.texts import BAD_VALUE, About, Expected, foreign, unlistened
 from models.seedlink import Place, record_of
 
 STB = Place("XX_STB")
@@ -355,7 +355,8 @@ def told_at_once() -> Cases:
 def failing() -> Cases:
     """A port that is taken, and an input that fails."""
     taken_port = listening()
-    yield Fact("serve --live at a port that is taken", Ended(2, b"", LINK_FAILED), Live(port=port_of(taken_port)).end())
+    port = port_of(taken_port)
+    yield Fact("serve --live at a port that is taken", Ended(2, b"", unlistened(port)), Live(port=port).end())
     fails = library("failing_devices")
     if fails is None:
         yield Skipped("serve --live of an input that fails", COMPILER)

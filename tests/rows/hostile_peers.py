@@ -10,7 +10,7 @@ from typing import Callable, Optional, Sequence
 from driver.feed import Ended, Server, fetch
 from driver.links import dialled, free_port, listening, port_of, reset
 from driver.rows import Cases, Fact, holds
-from driver.texts import BAD_FEED, LINK_FAILED, REFUSED, foreign, keeps
+from driver.texts import BAD_FEED, LINK_FAILED, REFUSED, foreign, keeps, unlistened
 from models.dialogues import feed_at_random, pieces_of, stream_of_client, stream_of_server, wants_at_random
 from models.peers import Speaker, exchanged, fetch_link
 from models.seedlink import REPLIES, Client, Place, Ring, Session, record_of, records_in
@@ -203,7 +203,7 @@ def no_links() -> Cases:
         yield Fact(f"fetch that nobody answers, {tries} times", FAILED, fetch([STA], free_port(), "--tries", tries))
     with listening() as listener:
         server = Server(record_of(STA, 1), [STA], port=port_of(listener), is_awaited=False)
-        yield Fact("serve whose port is taken", FAILED, server.end())
+        yield Fact("serve whose port is taken", Ended(2, b"", unlistened(port_of(listener))), server.end())
     # Faults of the archive come before the port.
     with listening() as listener:
         server = Server(record_of(Place("XX_ABC"), 1), [STA], port=port_of(listener), is_awaited=False)

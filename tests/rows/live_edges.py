@@ -14,7 +14,7 @@ from driver.feed import Ended, Fetching, Server, fetch_words
 from driver.links import addresses_at, dialled, free_port, is_listened_at
 from driver.live import FINE, GRANTED, PACKET, PATIENCE, REQUEST, STA, Live, held_of, numbered, recorded
 from driver.rows import Cases, Fact, contents_of, holds
-from driver.texts import LINK_FAILED
+from driver.texts import unlistened
 
 RECORDS = recorded(3)
 ARCHIVE = b"".join(RECORDS)
@@ -77,7 +77,12 @@ def addresses() -> Cases:
     """Of each command that has an address."""
     yield from listened_at("serve --live", live_of_all)
     yield from listened_at("serve", server_of_all)
-    yield Fact(f"serve --live at {NOWHERE}", Ended(2, b"", LINK_FAILED), Live("--address", NOWHERE).end())
+    live = Live("--address", NOWHERE)
+    wanted = Ended(2, b"", unlistened(live.port, "address not available", NOWHERE))
+    yield Fact(f"serve --live at {NOWHERE}", wanted, live.end())
+    live = Live(descriptors=4)
+    wanted = Ended(2, b"", unlistened(live.port, "too many open files"))
+    yield Fact("serve --live with one descriptor beside those of its streams", wanted, live.end())
     for address, _ in ADDRESSES:
         yield from dialled_at(address)
 

@@ -12,7 +12,7 @@ from driver.helpers import COMPILER, library, preloaded, refused_in_turn
 from driver.links import listening, port_of
 from driver.records import record
 from driver.rows import Cases, Fact, Row, Skipped, both, holds
-from driver.texts import LINK_FAILED, NO_MEMORY, foreign, keeps
+from driver.texts import NO_MEMORY, foreign, keeps, unlistened
 
 
 def of(station: str, network: str, exponent: int = 9, **changes) -> bytes:
@@ -87,21 +87,20 @@ def inputs_that_fail(words: Sequence[str]) -> Cases:
                   f"mseed: fault at {size // 512 * 512} read\n".encode(), env=preloaded(failing, READ_ROOM=size))
 
 
-def refused_memory(words: Sequence[str]) -> Cases:
+def refused_memory(words: Sequence[str], port: int) -> Cases:
     """Each allocation is refused in turn, until there is none to refuse."""
     refusing = library("refuse_memory")
     if refusing is None:
         yield Skipped("serve with allocations refused", COMPILER)
         return
-    for name, line, archive, further in (
-        ("a record", "link failed", STA, []),
-        ("records of two places", "link failed", BOTH, ["XX_STB"]),
-        ("more records than the ring keeps", "XX_STA keeps the last 1 of 2 records\nmseed: link failed", STA + STA,
-         ["--capacity", "1"]),
-        ("a record of another place", foreign(1, "XY_STA", 512), NETWORK, []),
-        ("an end within a record", "fault at 512 truncated 300", CUT, []),
+    for name, lines, archive, further in (
+        ("a record", unlistened(port), STA, []),
+        ("records of two places", unlistened(port), BOTH, ["XX_STB"]),
+        ("more records than the ring keeps", keeps("XX_STA", 1, 2) + unlistened(port), STA + STA, ["--capacity", "1"]),
+        ("a record of another place", f"mseed: {foreign(1, 'XY_STA', 512)}\n".encode(), NETWORK, []),
+        ("an end within a record", b"mseed: fault at 512 truncated 300\n", CUT, []),
     ):
-        row = Row(name, archive, [*words, *further], 2, b"", f"mseed: {line}\n".encode())
+        row = Row(name, archive, [*words, *further], 2, b"", lines)
         for number, came in refused_in_turn(row, refusing):
             if came.err != NO_MEMORY:
                 break
@@ -113,10 +112,11 @@ def refused_memory(words: Sequence[str]) -> Cases:
 def rows() -> Cases:
     """All of them."""
     with listening() as taken:
-        words = ["serve", "--port", str(port_of(taken)), "--station", "STA", "--network", "XX"]
+        port = port_of(taken)
+        words = ["serve", "--port", str(port), "--station", "STA", "--network", "XX"]
         for name, archive, further, lines in SERVED:
-            yield from both(Row(name, archive, [*words, *further], 2, b"", lines + LINK_FAILED))
+            yield from both(Row(name, archive, [*words, *further], 2, b"", lines + unlistened(port)))
         for name, line, archive, further in REFUSED:
             yield from both(Row(name, archive, [*words, *further], 2, b"", f"mseed: {line}\n".encode()))
         yield from inputs_that_fail(words)
-        yield from refused_memory(words)
+        yield from refused_memory(words, port)

@@ -9,7 +9,7 @@ from typing import Iterator
 from driver.links import listening, port_of
 from driver.records import FRAMING, TELLING, changed, next_record, record
 from driver.rows import Cases, Fact, Row, holds
-from driver.texts import foreign, place_of
+from driver.texts import foreign, place_of, unlistened
 from models.auditing import cut
 from models.seedlink import Place, record_of
 
@@ -90,9 +90,9 @@ def rows_of_tables() -> Iterator[tuple[str, bytes, str]]:
 
 
 def refused(name: str, archive: bytes, line: str, port: int) -> Row:
-    """A `serve` at a port that is taken, and the line that it writes of an archive."""
+    """A `serve` at a port that is taken, and what it writes of an archive: where nothing is wrong, of the port."""
     words = ["serve", "--port", str(port), "--station", "STA", "--network", "XX", "n_A1b2C", "XX_STB"]
-    return Row(name, archive, words, 2, b"", f"mseed: {line}\n".encode())
+    return Row(name, archive, words, 2, b"", unlistened(port) if line == SERVED else f"mseed: {line}\n".encode())
 
 
 def at_random(port: int) -> Cases:

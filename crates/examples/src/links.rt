@@ -6,15 +6,20 @@ ghost use Rattle.slink_links.specs.Served.{IsServed};
 use mseed_stream::Sink;
 use slink_feed::{Client, Feed, LinkFault};
 use slink_links::{
-    Accept, Dial, EndsHandshake, FetchEnd, FetchPlan, Pause, ServePlan, fetch, fetch_all,
-    fetch_link, fetch_planned, serve, serve_all, serve_link, serve_planned,
+    Accept, Dial, EndsHandshake, FetchEnd, FetchPlan, ListenFault, Pause, ServePlan, fetch,
+    fetch_all, fetch_link, fetch_planned, serve, serve_all, serve_link, serve_planned,
 };
 use slink_wire::{Address, Host, Timeout};
+use std::io::Error;
 use std::net::Net;
 use std::time::Clock;
 
-/// Serves a feed to one connection at port 18000 of this machine. The exit status.
-pub fn serve_one<N: Net + Clock, E: Sink>(host: &N, feed: Feed, errors: &mut E) -> u8 {
+/// Serves a feed to one connection at port 18000 of this machine. The exit status, or why the port can't be had.
+pub fn serve_one<N: Net + Clock, E: Sink>(
+    host: &N,
+    feed: Feed,
+    errors: &mut E,
+) -> Result<u8, ListenFault> {
     let plan = ServePlan {
         address: Address::local(),
         port: 18_000,
@@ -23,6 +28,11 @@ pub fn serve_one<N: Net + Clock, E: Sink>(host: &N, feed: Feed, errors: &mut E) 
         feed,
     };
     serve(host, &plan, errors)
+}
+
+/// Why a port can't be had, by the error of a call that was to listen there.
+pub fn words_of_refusal(error: &Error) -> &'static str {
+    ListenFault::of(error).text()
 }
 
 /// Fetches from port 18000 of this machine, over at most three connections. The exit status.

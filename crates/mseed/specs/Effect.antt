@@ -15,7 +15,6 @@ use Rattle.mseed_choice.specs.Selection.{Selection}
 use Rattle.mseed_stream.specs.Cutting.{GivesMore}
 use Rattle.mseed_stream.specs.Device.{BytesRead, BytesWritten, nothing_read}
 use Rattle.mseed_feed.specs.Commands.{HasFetchedRequested, HasServedInput}
-use Rattle.mseed_feed.specs.Filling.{feed_of}
 use Rattle.mseed_feed.specs.Listened.{Heard, IsListenedFor}
 use Rattle.mseed_feed.specs.Live.{HasServedAt}
 use Rattle.mseed_words.specs.declared.request.Command.{Command}
@@ -124,7 +123,7 @@ HasDone found words (Serve serving) asked files status old new before after =
     × (new.output ≡ old.output) × (after ≡ before)
 HasDone found words (Live live) asked files status old new before after =
     IsListenedFor live after.planned
-    × HasServedAt (feed_of live.serving []) live.clients after.came status old.errors new.errors
+    × HasServedAt live after.came status old.errors new.errors
     × (new.output ≡ old.output)
 HasDone found words (Fetch fetching) asked files status old new before after =
     HasFetchedRequested fetching status old.output new.output old.errors new.errors × (after ≡ before)

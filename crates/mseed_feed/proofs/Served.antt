@@ -4,11 +4,11 @@ use Rattle.mseed_stream.specs.Calls.{ReadsOn}
 use Rattle.mseed_stream.specs.Device.{Beside, BytesRead, BytesWritten, nothing_read}
 use Rattle.slink_feed.specs.Window.{Window}
 use Rattle.slink_feed.specs.declared.input.InputFault.{InputFault}
-use Rattle.slink_links.specs.Served.{HasServed}
 use Rattle.slink_links.specs.declared.plan.ServePlan.{ServePlan}
 use Rattle.mseed_words.specs.declared.request.Serving.{Serving}
 use Rattle.mseed_feed.specs.Commands.{HasReadInput, HasServedInput, IsServedBy}
 use Rattle.mseed_feed.specs.Plans.{IsPlannedBy, IsServeRun}
+use Rattle.mseed_feed.specs.Unlistened.{HasServedUnlessRefused}
 
 -- what was read of an input of which nothing was read before
 pub read_from_start : (old new : BytesRead) (left rest : Option (List ℕ)) (apart later : Beside) → old ≡ nothing_read
@@ -21,8 +21,8 @@ read_from_start old new left rest apart later none reads = record {
 
 -- a plan that was carried out
 pub served : (A : Type 0) (s : Serving) (plan : ServePlan A) (read : BytesRead) (old between new : BytesWritten)
-    (status : ℕ) → IsServeRun s (Ok plan) read old between → HasServed status between new
-    → HasServedInput s read status old new
+    (status : ℕ) → IsServeRun s (Ok plan) read old between
+    → HasServedUnlessRefused s.listener status between new → HasServedInput s read status old new
 served A s plan read old between new status run done =
     record { outcome = run.outcome; filling = run.filling; only = run.only; served = by run.outcome run.planned }
   where

@@ -7,18 +7,18 @@ use Rattle.slink_feed.specs.Reporter.{AreReported}
 use Rattle.slink_feed.specs.Window.{Window}
 use Rattle.slink_feed.specs.declared.input.InputFault.{InputFault}
 use Rattle.slink_links.specs.Fetched.{FetchesAll}
-use Rattle.slink_links.specs.Served.{HasServed}
 use Rattle.slink_links.specs.declared.fetching.FetchEnd.{FetchEnd}
 use Rattle.mseed_words.specs.declared.request.Fetching.{Fetching}
 use Rattle.mseed_words.specs.declared.request.Serving.{Serving}
 use Rattle.mseed_feed.specs.Filling.{IsFilling, IsOneFilling}
 use Rattle.mseed_feed.specs.Plans.{fill_lines, first_client, keeps_lines}
+use Rattle.mseed_feed.specs.Unlistened.{HasServedUnlessRefused}
 
--- by what filling the feed came to: the lines of its rings were written, and it was served; or status 2, and the lines
--- of what is wrong with the input
+-- by what filling the feed came to: the lines of its rings were written, and it was served at the address and port that
+-- were requested, if the port could be had; or status 2, and the lines of what is wrong with the input
 abbrev pub IsServedBy : Serving → Result (List Window) InputFault → ℕ → BytesWritten → BytesWritten → Type 0
 IsServedBy serving (Ok feed) status old new = (reported : BytesWritten)
-    × AreReported (keeps_lines serving feed) old reported × HasServed status reported new
+    × AreReported (keeps_lines serving feed) old reported × HasServedUnlessRefused serving.listener status reported new
 IsServedBy serving (Err fault) status old new = (status ≡ 2) × AreReported (fill_lines fault) old new
 
 -- what was read of an input from its first byte on: a beginning of what it is known to have, and all of it where the

@@ -13,8 +13,11 @@ use Rattle.slink_live.specs.Input.{IsInputFault}
 use Rattle.slink_live.specs.Served.{IsFinished, ServerState}
 use Rattle.slink_live.specs.Turns.{HasSteps, Stands}
 use Rattle.mseed_input.specs.Files.{no_memory}
+use Rattle.mseed_words.specs.declared.request.LiveServing.{LiveServing}
+use Rattle.mseed_feed.specs.Filling.{feed_of}
 use Rattle.mseed_feed.specs.Listened.{Listened, NotYet, Over, Refused}
 use Rattle.mseed_feed.specs.Plans.{fill_lines}
+use Rattle.mseed_feed.specs.Unlistened.{IsUnlistened}
 use Rattle.mseed_feed.specs.declared.listening.Refusal.TheVariants.{Memory, Port}
 
 -- Records can be numbered on for as long as the input is read.
@@ -55,11 +58,11 @@ pub data HasServed (feed : List Window) (clients : ℕ) (has_failed : Bool) (log
       → HasEnded feed clients s has_failed log status old new → HasServed feed clients has_failed log status old new
   no_room : log ≡ [] → status ≡ 2 → WritesLine no_memory old new → HasServed feed clients has_failed log status old new
 
--- By what came of listening: so it was, with all that happened at the device that was had; or the port couldn't be had,
--- or there was no memory for the device.
-abbrev pub HasServedAt : List Window → ℕ → Listened → ℕ → BytesWritten → BytesWritten → Type 0
-HasServedAt feed clients NotYet status old new = ⊥
-HasServedAt feed clients (Refused Port) status old new =
-    (status ≡ 2) × WritesLine (codes "mseed: link failed\n") old new
-HasServedAt feed clients (Refused Memory) status old new = (status ≡ 2) × WritesLine no_memory old new
-HasServedAt feed clients (Over log has_failed) status old new = HasServed feed clients has_failed log status old new
+-- By what came of listening: so it was, by the rings and the slots that were requested, with all that happened at the
+-- device that was had; or the port couldn't be had that was requested, or there was no memory for the device.
+abbrev pub HasServedAt : LiveServing → Listened → ℕ → BytesWritten → BytesWritten → Type 0
+HasServedAt live NotYet status old new = ⊥
+HasServedAt live (Refused (Port fault)) status old new = IsUnlistened live.serving.listener fault status old new
+HasServedAt live (Refused Memory) status old new = (status ≡ 2) × WritesLine no_memory old new
+HasServedAt live (Over log has_failed) status old new =
+    HasServed (feed_of live.serving []) live.clients has_failed log status old new

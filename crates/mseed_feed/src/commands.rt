@@ -3,17 +3,22 @@ ghost use Rattle.std.specs.Prelude.{◌≡◌};
 ghost use Rattle.mseed_stream.specs.Device.{BytesRead, nothing_read};
 ghost use Rattle.mseed_words.specs.FeedWords.{CanFetch, CanServe};
 ghost use Rattle.mseed_feed.specs.Commands.{HasFetchedRequested, HasReadInput, HasServedInput};
+ghost use Rattle.mseed_feed.specs.Unlistened.{HasServedUnlessRefused};
 
 use crate::planning::{plan_fetch, plan_serve};
+use crate::refusal::report_unlistened;
 use mseed_stream::{Sink, Source};
-use mseed_words::{Fetching, Serving};
-use std::alloc::Global;
+use mseed_words::{Endpoint, Fetching, Serving};
+use slink_links::ServePlan;
+use slink_wire::Address;
+use std::alloc::{Allocator, Global};
 use std::net::Net;
 use std::time::Clock;
 
 /// Serves the records of an input over TCP, to one connection after another, once all of it is read, and returns the
 /// exit status: 0 where each of the connections was served to its end, and 2 otherwise, after a line on `errors` that
-/// says why. Nothing may have been read of the input before; it is dropped before the first connection is taken.
+/// says why; where the port can't be had, a line more says at which address and port, and why. Nothing may have been
+/// read of the input before; it is dropped before the first connection is taken.
 // Its buffers stand in its own frame, and not in that of every command.
 #[inline(never)]
 pub fn serve<N: Net + Clock, R: Source + Drop, E: Sink>(
@@ -31,8 +36,23 @@ pub fn serve<N: Net + Clock, R: Source + Drop, E: Sink>(
     let planned = plan_serve(alloc, serving, &mut input, errors);
     drop(input);
     match planned {
-        Ok(plan) => slink_links::serve(host, &plan, errors),
+        Ok(plan) => serve_planned(host, &plan, &serving.listener, errors),
         Err(status) => status,
+    }
+}
+
+/// Serves the feed of a plan, made for this address and port, and returns the exit status.
+fn serve_planned<N: Net + Clock, A: Allocator, E: Sink>(
+    host: &N,
+    plan: &ServePlan<A>,
+    listener: &Endpoint<Address>,
+    errors: &mut E,
+) -> u8
+    ensures { HasServedUnlessRefused listener.now result (E.written errors.old) (E.written errors.new) }
+{
+    match slink_links::serve(host, plan, errors) {
+        Ok(status) => status,
+        Err(fault) => report_unlistened(errors, listener, fault),
     }
 }
 

@@ -1,12 +1,14 @@
 //! Where a live server listens.
-ghost use Rattle.std.specs.Prelude.{◌≡◌, [], IfErr, IfOk, Option, Some};
+ghost use Rattle.std.specs.Prelude.{◌≡◌, ◌≢◌, [], IfErr, IfOk, Option, Some};
+ghost use Rattle.std.specs.IoError.{error_kind};
 ghost use Rattle.slink_live_tcp.specs.declared.tcp.Plan.{Plan};
 ghost use Rattle.mseed_feed.specs.Listened.{Listened, NotYet, Refused, Over, came_of};
 
+use slink_links::ListenFault;
 use slink_live::Ready;
 use slink_live_tcp::{Plan, Tcp};
 use std::alloc::Global;
-use std::io::{ErrorKind, Read};
+use std::io::{Error, ErrorKind, Read};
 use std::net::Net;
 use std::os::fd::AsRawFd;
 use std::time::Clock;
@@ -29,8 +31,23 @@ impl<C: Clock, I: Read + AsRawFd + Drop> Device for Tcp<'_, C, I> {
 pub enum Refusal {
     /// There is no memory for the device.
     Memory,
-    /// The system refuses the port, or what is waited by.
-    Port,
+    /// The system refuses the port, or what is waited by, and why.
+    Port(ListenFault),
+}
+
+impl Refusal {
+    /// Why the system refuses, by its error.
+    fn of(error: &Error) -> Refusal
+        ensures memory { error_kind error.now ≡ ErrorKind.OutOfMemory → result ≡ Refusal.Memory }
+        ensures port { error_kind error.now ≢ ErrorKind.OutOfMemory
+            → (fault : ListenFault) × (result ≡ Refusal.Port fault) }
+    {
+        if error.kind() == ErrorKind::OutOfMemory {
+            Refusal::Memory
+        } else {
+            Refusal::Port(ListenFault::of(error))
+        }
+    }
 }
 
 /// Where a live server listens: it is given the device of its input and links there, once, and gives it back.
@@ -115,14 +132,11 @@ impl<'a, N: Net + Clock, I: Read + AsRawFd + Drop> Listen for TcpListening<'a, N
     fn listen(&mut self, alloc: Global, plan: Plan) -> Result<Tcp<'a, N, I>, Refusal> {
         self.plan = Some(plan);
         let Some(input) = self.input.take() else {
-            return Err(self.refuse(Refusal::Port));
+            return Err(self.refuse(Refusal::Port(ListenFault::Other)));
         };
         match Tcp::bind(self.host, alloc, plan, input) {
             Ok(device) => Ok(device),
-            Err(error) if error.kind() == ErrorKind::OutOfMemory => {
-                Err(self.refuse(Refusal::Memory))
-            }
-            Err(_) => Err(self.refuse(Refusal::Port)),
+            Err(error) => Err(self.refuse(Refusal::of(&error))),
         }
     }
 

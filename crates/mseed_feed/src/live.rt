@@ -10,7 +10,7 @@ ghost use Rattle.mseed_feed.specs.Live.{EndsWith, HasServed, HasServedAt};
 
 use crate::filling::open;
 use crate::listening::{Device, Listen, Refusal};
-use crate::refusal::{link_failed, refuse_memory, report_filling};
+use crate::refusal::{link_failed, refuse_memory, report_filling, report_unlistened};
 use mseed_stream::Sink;
 use mseed_words::LiveServing;
 use slink_links::{DONE, FAULT};
@@ -22,7 +22,8 @@ use std::net::{IpAddr, Ipv4Addr, SocketAddr};
 /// Serves a feed to many clients at once, as the records of an input come, over the device that is had by listening at
 /// the address and the port that are requested. It is given back at last.
 ///
-/// Returns the exit status, as [`serve_live`] does. A port that can't be had is as a link that failed.
+/// Returns the exit status, as [`serve_live`] does. A port that can't be had is as a link that failed, and a line more
+/// says at which address and port, and why.
 // Its buffers stand in its own frame, and not in that of every command.
 #[inline(never)]
 pub fn serve_live_at<L: Listen, E: Sink>(
@@ -33,8 +34,8 @@ pub fn serve_live_at<L: Listen, E: Sink>(
 ) -> u8
     requires new { L.came listening.old ≡ NotYet }
     requires called { CanServeLive live.now }
-    ensures served { HasServedAt (feed_of live.now.serving []) live.now.clients (L.came listening.new) result
-        (E.written errors.old) (E.written errors.new) }
+    ensures served { HasServedAt live.now (L.came listening.new) result (E.written errors.old)
+        (E.written errors.new) }
     ensures planned { IsListenedFor live.now (L.planned listening.new) }
 {
     match listening.listen(alloc, plan_of(live)) {
@@ -44,7 +45,7 @@ pub fn serve_live_at<L: Listen, E: Sink>(
             status
         }
         Err(Refusal::Memory) => refuse_memory(errors),
-        Err(Refusal::Port) => link_failed(errors),
+        Err(Refusal::Port(fault)) => report_unlistened(errors, &live.serving.listener, fault),
     }
 }
 

@@ -1,9 +1,11 @@
-//! The lines that say why a feed isn't filled, or that memory or a link failed. They are built without the heap: a line
-//! is reported whatever memory there is.
+//! The lines that say why a feed isn't filled, that memory or a link failed, or why a port can't be had. They are built
+//! without the heap: a line is reported whatever memory there is.
 ghost use Rattle.std.specs.Prelude.{◌≡◌, ◌≤◌, ◌+◌, ◌++◌, codes, decimal, length};
+ghost use Rattle.std.specs.Net.Text.{ipv4_text};
 ghost use Rattle.mseed_record.specs.Header.{trimmed};
 ghost use Rattle.slink_feed.specs.Reporter.{AreReported};
 ghost use Rattle.mseed_feed.specs.Plans.{fill_lines, fill_text, more_lines, station_line};
+ghost use Rattle.mseed_feed.specs.Unlistened.{IsUnlistened, cannot_listen};
 ghost use Rattle.mseed_input.specs.Files.{no_memory};
 ghost use Rattle.mseed_stream.specs.LineWritten.{WritesLine};
 
@@ -11,8 +13,10 @@ use mseed_input::{report_fault, report_given, report_no_memory, report_number};
 use mseed_record::trimmed;
 use mseed_stream::{Sink, StreamFault, report};
 use mseed_text::Line;
+use mseed_words::Endpoint;
 use slink_feed::{ForeignRecord, InputFault};
-use slink_links::FAULT;
+use slink_links::{FAULT, ListenFault};
+use slink_wire::Address;
 
 /// Reports why a feed isn't filled further, and what more is to be said of that.
 pub(crate) fn report_filling<E: Sink>(errors: &mut E, fault: &InputFault)
@@ -122,4 +126,48 @@ pub(crate) fn link_failed<E: Sink>(errors: &mut E) -> u8
 {
     report(errors, b"mseed: link failed\n");
     FAULT
+}
+
+/// Reports that the port can't be had that was requested, and why, and returns the exit status.
+pub(crate) fn report_unlistened<E: Sink>(
+    errors: &mut E,
+    listener: &Endpoint<Address>,
+    fault: ListenFault,
+) -> u8
+    ensures { IsUnlistened listener.now fault result (E.written errors.old) (E.written errors.new) }
+{
+    let status = link_failed(errors);
+    report(errors, cannot_listen(listener, fault).as_slice());
+    status
+}
+
+/// The line that says at which address and port it can't be listened, and why.
+fn cannot_listen(listener: &Endpoint<Address>, fault: ListenFault) -> Line
+    ensures { result ≡ cannot_listen listener.now fault }
+{
+    let mut line = Line::new();
+    line.put(b"mseed: cannot listen at ");
+    put_address(&mut line, listener.host);
+    line.put(b":");
+    line.put_count(u64::from(listener.port));
+    line.put(b": ");
+    line.put(fault.text().as_bytes());
+    line.put(b"\n");
+    line
+}
+
+/// Puts an address at the end of a line: its octets in decimal digits, with `.` between them.
+fn put_address(line: &mut Line, address: Address)
+    requires { length line.old ≤ 64 }
+    ensures text { line.new ≡ line.old ++ ipv4_text address.octets }
+    ensures most { length line.new ≤ length line.old + 83 }
+{
+    let [a, b, c, d] = address.octets;
+    line.put_count(u64::from(a));
+    line.put(b".");
+    line.put_count(u64::from(b));
+    line.put(b".");
+    line.put_count(u64::from(c));
+    line.put(b".");
+    line.put_count(u64::from(d));
 }

@@ -5,7 +5,7 @@ pub returns-in-Ok : goal.returns-in-Ok
 returns-in-Ok g c = (
   g.R.Source.read c.plan_serve-planned.new.input,
   read_from_start _ _ _ _ _ _ c.requires.unread c.plan_serve-planned.ensures.reads,
-  served _ _ _ _ _ _ _ _ c.in-Ok.ensures.planned c.serve.ensures,
+  served _ _ _ _ _ _ _ _ c.in-Ok.ensures.planned c.serve_planned.ensures,
 )
 
 pub returns-in-Err : goal.returns-in-Err
