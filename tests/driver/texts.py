@@ -44,6 +44,22 @@ def broken(name: str, record: int, offset: int, why: str) -> bytes:
     return f"mseed: {name} is broken\nmseed: record {record} offset {offset} {why}\n".encode()
 
 
+# Why a series can't be packed, as the line behind `does not fit` says it, and its number.
+RATE_TOO_HIGH = (2, "its rate is over 500000 samples a second, the most that is packed")
+TIME_OUTSIDE = (3, "a sample's time, rounded to 0.0001 seconds, lies in no year from 1900 to 2100")
+
+
+def large_sample(sample: int) -> tuple[int, str]:
+    """The same of a sample that 16 bits don't hold, by its number from 1."""
+    return 4, f"sample {sample} is outside -32768 to 32767, which int16 holds"
+
+
+def large_difference(sample: int, encoding: str = "steim2") -> tuple[int, str]:
+    """And of one that is too far from the sample before."""
+    held = {"steim1": "-2147483648 to 2147483647", "steim2": "-536870912 to 536870911"}[encoding]
+    return 5, f"the difference before sample {sample} is outside {held}, which {encoding} holds"
+
+
 @dataclass(frozen=True)
 class About:
     """What the parser of the command line writes about a word, in its own text."""

@@ -7,7 +7,8 @@ import functools
 import struct
 from typing import NamedTuple, Optional, Union
 
-from models.packing import EPOCH, SECOND, Series, btime, fits, packed
+from models.misfits import misfit
+from models.packing import EPOCH, SECOND, Series, packed
 
 # By scheme, code and the word's top two bits (None where they are part of the differences): how many of how many bits.
 GROUPS = {(10, 1, None): (4, 8), (10, 2, None): (2, 16), (10, 3, None): (1, 32),
@@ -331,19 +332,6 @@ def series_of(channel: Channel) -> Series:
     return Series(first.bytes[8:20], first.start(), first.factor, first.multiplier, samples, steps)
 
 
-def misfit(series: Series) -> Optional[int]:
-    """The number by which is named why a series can't be packed into Steim-2; nothing where it can."""
-    num, den = series.rate()
-    if num > 500_000 * den:
-        return 2
-    places = [place for place, _ in series.steps]
-    ends = [0] + [at for place in places for at in (place - 1, place)] + [len(series.samples) - 1]
-    years = [btime(series.instant(at))["year"] for at in ends if at < len(series.samples)]
-    if not all(1900 <= year <= 2100 for year in years):
-        return 3
-    return None if all(fits(b - a, 30) for a, b in zip(series.samples, series.samples[1:])) else 5
-
-
 def repack(archive: bytes) -> tuple[bytes, bytes, int]:
     """Packing an archive anew into Steim-2, 512 bytes a record: the output, the standard error, and the status."""
     records, end, fault = cut(archive)
@@ -360,6 +348,7 @@ def repacked(channels: dict[bytes, Channel]) -> tuple[bytes, bytes, int]:
             return b"", broken_lines(key, found[0]).encode(), 1
     all_series = {key: series_of(channels[key]) for key in channels}
     for key, series in all_series.items():
-        if misfit(series):
-            return b"", f"mseed: {name_of(key)} does not fit {misfit(series)}\n".encode(), 2
+        why = misfit(series, 11)
+        if why:
+            return b"", f"mseed: {name_of(key)} does not fit {why.reason}\nmseed: {why.words}\n".encode(), 2
     return b"".join(record for series in all_series.values() for record in packed(series)), b"", 0

@@ -3,14 +3,13 @@
 from __future__ import annotations
 
 import dataclasses
-from typing import NamedTuple, Optional
+from typing import Optional
 
 from models.auditing import Channel, Record, broken_lines, channels_of, cut, finding, name_of
-from models.packing import SECOND, Series, btime, fits, packed
+from models.misfits import Misfit, misfit
+from models.packing import SECOND, Series, packed
 
 SHIFTS = {16: SECOND, 32: -SECOND}
-WIDTH_OF_SAMPLES = {1: 16, 3: 32, 10: 32, 11: 32}
-WIDTH_OF_DIFFERENCES = {10: 32, 11: 30}
 
 
 @dataclasses.dataclass
@@ -39,13 +38,6 @@ class Stretch:
         return Series(first.bytes[8:20], first.start(), first.factor, first.multiplier, samples, steps)
 
 
-class Misfit(NamedTuple):
-    """The first stretch of a channel that can't be packed, counted from 1, and the number of the reason."""
-
-    reason: int
-    stretch: int
-
-
 def is_sound(record: Record) -> bool:
     """Whether nothing is found of a record by itself."""
     return not isinstance(record.start(), str) and record.rate() is not None and not isinstance(record.read(), str)
@@ -68,32 +60,18 @@ def stretches_of(records: list[Record]) -> list[Stretch]:
     return found
 
 
-def reason_against(series: Series, encoding: int) -> Optional[int]:
-    """The number by which is named why a series can't be packed; nothing where it can."""
-    num, den = series.rate()
-    if num > 500_000 * den:
-        return 2
-    places = [place for place, _ in series.steps]
-    ends = [0] + [at for place in places for at in (place - 1, place)] + [len(series.samples) - 1]
-    try:
-        years = [btime(series.instant(at))["year"] for at in ends if at < len(series.samples)]
-    except (OverflowError, ValueError):
-        return 3
-    if not all(1900 <= year <= 2100 for year in years):
-        return 3
-    if not all(fits(sample, WIDTH_OF_SAMPLES[encoding]) for sample in series.samples):
-        return 4
-    width = WIDTH_OF_DIFFERENCES.get(encoding, 40)
-    return None if all(fits(b - a, width) for a, b in zip(series.samples, series.samples[1:])) else 5
-
-
-def misfit_of(stretches: list[Stretch], encoding: int) -> Optional[Misfit]:
-    """The first stretch that can't be packed."""
+def misfit_of(stretches: list[Stretch], encoding: int) -> Optional[tuple[int, Misfit]]:
+    """The first stretch that can't be packed, counted from 1, and why."""
     for number, stretch in enumerate(stretches, 1):
-        reason = reason_against(stretch.series(), encoding)
-        if reason:
-            return Misfit(reason, number)
+        why = misfit(stretch.series(), encoding)
+        if why:
+            return number, why
     return None
+
+
+def misfit_lines(key: bytes, stretch: int, why: Misfit) -> str:
+    """The line about a channel of which a stretch can't be packed, and the one that says why."""
+    return f"mseed: {name_of(key)} does not fit {why.reason} stretch {stretch}\nmseed: {why.words}\n"
 
 
 def packed_on(stretches: list[Stretch], exponent: int, encoding: int) -> list[bytes]:
@@ -119,8 +97,7 @@ def restretched_channels(numbered: dict[bytes, Channel], exponent: int = 9, enco
     stretches = {key: stretches_of(channel) for key, channel in channels.items() if key not in broken}
     misfits = {key: misfit_of(some, encoding) for key, some in stretches.items()}
     lines = {key: f"mseed: {name_of(key)} is broken\n" for key in sorted(broken)}
-    lines.update({key: f"mseed: {name_of(key)} does not fit {misfit.reason} stretch {misfit.stretch}\n"
-                  for key, misfit in misfits.items() if misfit})
+    lines.update({key: misfit_lines(key, *found) for key, found in misfits.items() if found})
     status = 2 if any(misfits.values()) else 1 if broken else 0
     if not leave and lines:
         if broken:

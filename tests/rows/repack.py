@@ -7,7 +7,7 @@ from dataclasses import replace
 from driver.program import SAMPLES
 from driver.records import integers, next_record, payload, record
 from driver.rows import Cases, Row, both
-from driver.texts import BAD_VALUE, About, broken
+from driver.texts import BAD_VALUE, RATE_TOO_HIGH, TIME_OUTSIDE, About, broken, large_difference, large_sample
 
 FIRST, NEXT = record(), next_record(data=integers(range(16, 32)))
 TWO = FIRST + NEXT
@@ -106,6 +106,12 @@ def is_broken(name: str, archive: bytes, channel: str, record: int, why: str) ->
     yield from both(Row(name, archive, ["repack"], 1, b"", broken(channel, record, 128 * (record - 1), why)))
 
 
+def misfits(name: str, archive: bytes, channel: str, why: tuple[int, str], *words: str) -> Cases:
+    """A channel that can't be packed: the number of the reason, and the reason."""
+    number, more = why
+    yield from refuses(name, 2, f"{channel} does not fit {number}\nmseed: {more}", archive, *words)
+
+
 def unpacked() -> Cases:
     """What can't be packed, and why."""
     late = record(**BHN) + FIRST + LATE + next_record(codes=b"STA    BHEXX", second=9)
@@ -123,18 +129,34 @@ def unpacked() -> Cases:
                        record(encoding=4) + FIRST[:9])
     yield from refuses("a cut archive", 2, "fault at 128 truncated 72", TWO[:200])
     yield from refuses("bytes that are no record", 2, "fault at 128 notdata", FIRST + b"\0" * 128)
-    yield from refuses("a sample past 16 bits", 2, "XX_STA__BHZ does not fit 4",
-                       record(samples=2, data=integers([0, 2**15])), "--encoding", "int16")
-    yield from refuses("a difference past 30 bits", 2, "XX_STA__BHZ does not fit 5", WIDE)
-    yield from refuses("a difference past 32 bits", 2, "XX_STA__BHZ does not fit 5",
-                       record(samples=2, data=integers([-(2**31), 2**31 - 1])), "--encoding", "steim1")
-    yield from refuses("the first that does not fit", 2, "XX_STA__BHN does not fit 5", WIDE + WIDE_BHN)
     yield from is_broken("a broken channel before one that does not fit", WIDE_BHN + record(encoding=4), "XX_STA__BHZ",
                          2, "encoding 4")
-    yield from refuses("a rate past 500,000", 2, "XX_STA__BHZ does not fit 2",
-                       record(samples=1, factor=500001 // 20 + 1, multiplier=20))
+
+
+def unfit() -> Cases:
+    """Channels that can't be packed: which sample, and what the encoding holds."""
+    yield from misfits("a sample past 16 bits", record(samples=2, data=integers([0, 2**15])), "XX_STA__BHZ",
+                       large_sample(2), "--encoding", "int16")
+    yield from misfits("a sample below 16 bits", record(samples=2, data=integers([-2**15 - 1, -2**15])), "XX_STA__BHZ",
+                       large_sample(1), "--encoding", "int16")
+    yield from misfits("the first of two samples past 16 bits, in a later record",
+                       FIRST + next_record(data=integers([*range(15), 2**15])) + next_record(
+                           second=1, fraction=6000, data=integers([2**15] * 16)), "XX_STA__BHZ", large_sample(32),
+                       "--encoding", "int16")
+    yield packs("samples of 16 bits", record(samples=2, data=integers([-2**15, 2**15 - 1])),
+                record(samples=2, encoding=1, data=bytes.fromhex("80007FFF")), "--encoding", "int16", "--length", "128")
+    yield from misfits("a difference past 30 bits", WIDE, "XX_STA__BHZ", large_difference(2))
+    yield from misfits("a difference below 30 bits", record(samples=3, data=integers([7, 7, 6 - 2**29])), "XX_STA__BHZ",
+                       large_difference(3))
+    yield from misfits("a difference past 30 bits between two records",
+                       FIRST + next_record(data=integers([2**29 + 15] * 16)), "XX_STA__BHZ", large_difference(17))
+    yield from misfits("a difference past 32 bits", record(samples=2, data=integers([-(2**31), 2**31 - 1])),
+                       "XX_STA__BHZ", large_difference(2, "steim1"), "--encoding", "steim1")
+    yield from misfits("the first that does not fit", WIDE + WIDE_BHN, "XX_STA__BHN", large_difference(2))
+    yield from misfits("a rate past 500,000", record(samples=1, factor=500001 // 20 + 1, multiplier=20), "XX_STA__BHZ",
+                       RATE_TOO_HIGH)
     late = {"year": 2100, "day": 365, "hour": 23, "minute": 59, "second": 59, "fraction": 9999, "factor": 1}
-    yield from refuses("a time past 2100", 2, "XX_STA__BHZ does not fit 3", record(samples=2, **late))
+    yield from misfits("a time past 2100", record(samples=2, **late), "XX_STA__BHZ", TIME_OUTSIDE)
 
 
 def words() -> Cases:
@@ -155,5 +177,5 @@ def words() -> Cases:
 
 def rows() -> Cases:
     """All of them."""
-    for part in (two_records, steim_words, times, channels, unpacked, words):
+    for part in (two_records, steim_words, times, channels, unpacked, unfit, words):
         yield from part()

@@ -8,7 +8,7 @@ from dataclasses import replace
 from driver.batches import Batch
 from driver.records import integers, payload, record
 from driver.rows import Cases, Fact, Row, both
-from driver.texts import BAD_VALUE, About
+from driver.texts import BAD_VALUE, RATE_TOO_HIGH, TIME_OUTSIDE, About, large_difference, large_sample
 from models.series import CODES
 from models.stretch_archives import archive_at_random
 from models.stretches import restretched
@@ -19,7 +19,8 @@ LEAVE = ["--leave", *SHORT]
 ARCHIVES = 2000
 
 FIRST = record()
-BHN = {"codes": b"STA    BHNXX"}
+BHE, BHN = {"codes": b"STA    BHEXX"}, {"codes": b"STA    BHNXX"}
+WIDE = record(samples=2, data=integers([0, 2**29]), fraction=9000)
 LOG = record(codes=b"STA    LOGXX", encoding=0, factor=0, data=b"started" + b" " * 9)
 
 
@@ -96,6 +97,41 @@ def leap_seconds() -> Cases:
                      + record(samples=6, second=59, sequence=2, data=integers(range(10, 16)), **before), *SHORT)
 
 
+def unfit(channel: str, stretch: int, why: tuple[int, str]) -> list[str]:
+    """The lines about a channel of which a stretch can't be packed: the number of the reason, and the reason."""
+    number, more = why
+    return [f"XX_STA__{channel} does not fit {number} stretch {stretch}", more]
+
+
+def misfits() -> Cases:
+    """Stretches that can't be packed, whether or not their channels are left out: which sample of the stretch, and what
+    the encoding holds."""
+    fast = record(samples=1, factor=500001 // 20 + 1, multiplier=20)
+    late = record(samples=2, year=2100, day=365, hour=23, minute=59, second=59, fraction=9999, factor=1)
+    loud = sixteen(1, fraction=8000) + record(samples=3, data=integers([32, 2**15 - 1, 2**15]), second=1, fraction=6000)
+    for name, archive, stretch, why, words in (
+        ("a difference past 30 bits", FIRST + WIDE, 2, large_difference(2), []),
+        ("a difference past 30 bits between two records",
+         FIRST + record(samples=1, data=integers([15 - 2**29 - 1]), fraction=8000), 1, large_difference(17), []),
+        ("a difference past 32 bits", record(samples=2, data=integers([2**31 - 1, -2])), 1,
+         large_difference(2, "steim1"), ["--encoding", "steim1"]),
+        ("a sample past 16 bits", FIRST + loud, 1, large_sample(35), ["--encoding", "int16"]),
+        ("a sample past 16 bits behind a gap", record(second=5) + record(second=7) + loud, 3, large_sample(19),
+         ["--encoding", "int16"]),
+        ("a rate past 500,000", FIRST + fast, 2, RATE_TOO_HIGH, []),
+        ("a time past 2100", FIRST + late, 2, TIME_OUTSIDE, []),
+    ):
+        lines = unfit("BHZ", stretch, why)
+        yield from reports(name, 2, lines, archive, b"", *words)
+        yield from reports(f"{name}, left out", 2, lines, archive, b"", "--leave", *words)
+    # two that are left out, and one that is written
+    archive = record(samples=2, data=integers([0, -2**15 - 1]), **BHN) + FIRST + record(**BHE) + late
+    lines = unfit("BHN", 1, large_sample(2)) + unfit("BHZ", 2, TIME_OUTSIDE)
+    packed = record(encoding=1, data=b"".join(number.to_bytes(2, "big") for number in range(16)), **BHE)
+    yield from reports("two left out", 2, lines, archive, packed, "--leave", "--encoding", "int16", "--length", "128")
+    yield from reports("the first of two", 2, lines[:2], archive, b"", "--encoding", "int16")
+
+
 def refused() -> Cases:
     """What can't be packed, and what is written of the rest."""
     differs = record(encoding=10, frames=1, samples=2, data=payload("01000000 00000000 00000009 00010000"))
@@ -105,19 +141,13 @@ def refused() -> Cases:
     # a gap is no finding of its own
     lines[1] = "record 3 offset 256 lastdiffers 1 9"
     yield from reports("a wrong constant behind a gap", 1, lines, FIRST + record(second=5) + differs, b"", *SHORT)
-    wide = record(samples=2, data=integers([0, 2**29]), fraction=9000)
-    line = "XX_STA__BHZ does not fit 5 stretch 2"
-    yield from reports("a stretch that does not fit", 2, [line], FIRST + wide, b"")
-    yield from reports("a stretch that does not fit, left out", 2, [line], FIRST + wide, b"", "--leave")
-    yield from reports("a sample past 16 bits", 2, ["XX_STA__BHZ does not fit 4 stretch 1"],
-                     record(samples=2, data=integers([0, 2**15])), b"", "--encoding", "int16")
     lines = ["XX_STA__LOG is broken", "record 1 offset 0 norate"]
     yield from reports("a log channel", 1, lines, LOG + FIRST, b"", *SHORT)
     yield from reports("a log channel, left out", 1, lines[:1], LOG + FIRST, FIRST, *LEAVE)
-    lines = ["XX_STA__BHN is broken", "record 2 offset 128 encoding 4", "XX_STA__BHZ does not fit 5 stretch 2"]
-    archive = FIRST + record(encoding=4, **BHN) + wide
-    yield from reports("a broken channel and one that does not fit", 1, lines[:2], archive, b"")
-    yield from reports("both left out", 2, [lines[0], lines[2]], archive, b"", "--leave")
+    lines = ["XX_STA__BHN is broken", "record 2 offset 128 encoding 4"]
+    archive = FIRST + record(encoding=4, **BHN) + WIDE
+    yield from reports("a broken channel and one that does not fit", 1, lines, archive, b"")
+    yield from reports("both left out", 2, [lines[0], *unfit("BHZ", 2, large_difference(2))], archive, b"", "--leave")
     yield from reports("a cut archive", 2, ["fault at 128 truncated 9"], FIRST + FIRST[:9], b"", "--leave")
 
 
@@ -150,5 +180,5 @@ def at_random() -> Cases:
 
 def rows() -> Cases:
     """All of them."""
-    for part in (gaps, clocks, leap_seconds, refused, words, at_random):
+    for part in (gaps, clocks, leap_seconds, misfits, refused, words, at_random):
         yield from part()

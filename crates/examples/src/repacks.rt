@@ -4,11 +4,13 @@ ghost use Rattle.std.specs.Prelude.{◌≤◌, ◌^◌, length};
 use mseed_pack::Options;
 use mseed_record::RecordView;
 use mseed_repack::{
-    ChannelFault, RepackFault, misfit_number, repack, repack_channel, repack_selected,
-    repack_selected_stretches, repack_stretches, report_broken, report_misfit, report_without_time,
+    ChannelFault, RepackFault, misfit_number, put_misfit_more, repack, repack_channel,
+    repack_selected, repack_selected_stretches, repack_stretches, report_broken, report_misfit,
+    report_without_time,
 };
 use mseed_select::Selector;
 use mseed_stream::Counted;
+use mseed_text::Line;
 use std::alloc::Global;
 
 /// An archive packed anew.
@@ -95,12 +97,12 @@ pub fn line_of_three(alloc: Global) -> Vec<u8> {
 }
 
 /// The lines that say for which channel an archive is refused, where it is for one.
-pub fn line_of_refusal(alloc: Global, fault: &RepackFault) -> Vec<u8> {
+pub fn line_of_refusal(alloc: Global, options: &Options, fault: &RepackFault) -> Vec<u8> {
     let mut line = Counted::new(Vec::new(alloc));
     match fault {
         RepackFault::Broken(channel, first) => report_broken(channel, first, &mut line),
         RepackFault::Misfit(channel, number, fault) => {
-            report_misfit(channel, *number, *fault, &mut line)
+            report_misfit(channel, *number, options.encoding, *fault, &mut line)
         }
         RepackFault::Stream(_) | RepackFault::Write | RepackFault::Memory => {}
     }
@@ -114,6 +116,15 @@ pub fn number_of_misfit(fault: &RepackFault) -> Option<u64> {
         RepackFault::Misfit(_channel, _stretch, fault) => Some(misfit_number(*fault)),
         _ => None,
     }
+}
+
+/// The line that says in words why an archive can't be packed; none where it is refused for another reason.
+pub fn words_of_misfit(options: &Options, fault: &RepackFault) -> Line {
+    let mut line = Line::new();
+    if let RepackFault::Misfit(_channel, _stretch, fault) = fault {
+        put_misfit_more(&mut line, options.encoding, *fault);
+    }
+    line
 }
 
 /// The records of a channel packed anew by its stretches.

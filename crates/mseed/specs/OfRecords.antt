@@ -70,16 +70,17 @@ HasSelected asked ended old new = IsDone (λ (outcome : Result Selected SelectFa
 -- they were packed anew
 abbrev pub HasRepacked : Options → Option Selection → Ended → Streams → Streams → Type 0
 HasRepacked options None ended old new = IsDone (λ (outcome : Result ⊤ RepackFault).
-    IsRepacking options outcome new.input old.output new.output) EndsRepack ended old.errors new.errors
-HasRepacked options (Some s) ended old new = IsReported (λ (outcome : Result ⊤ RepackFault) reported.
-    IsSelectedRepacking s options outcome new.input old.output new.output old.errors reported) EndsRepack ended
+    IsRepacking options outcome new.input old.output new.output) (EndsRepack options.encoding) ended old.errors
     new.errors
+HasRepacked options (Some s) ended old new = IsReported (λ (outcome : Result ⊤ RepackFault) reported.
+    IsSelectedRepacking s options outcome new.input old.output new.output old.errors reported)
+    (EndsRepack options.encoding) ended new.errors
 
 -- by stretches
 abbrev pub HasRestretched : Options → Bool → Option Selection → Ended → Streams → Streams → Type 0
 HasRestretched options leave None ended old new = IsReported (λ (outcome : Result Left RepackFault) reported.
-    IsRestretching options leave outcome new.input old.output new.output old.errors reported) EndsStretches ended
-    new.errors
+    IsRestretching options leave outcome new.input old.output new.output old.errors reported)
+    (EndsStretches options.encoding) ended new.errors
 HasRestretched options leave (Some s) ended old new = IsReported (λ (outcome : Result Left RepackFault) reported.
-    IsSelectedRestretching s options leave outcome new.input old.output new.output old.errors reported) EndsStretches
-    ended new.errors
+    IsSelectedRestretching s options leave outcome new.input old.output new.output old.errors reported)
+    (EndsStretches options.encoding) ended new.errors

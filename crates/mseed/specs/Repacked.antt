@@ -3,9 +3,11 @@ use Rattle.std.specs.Prelude.{◌≡◌, ℕ, List, ◌++◌, Result, Ok, Err, c
 use Rattle.mseed_stream.specs.Device.{BytesWritten}
 use Rattle.mseed_text.specs.Name.{name_text}
 use Rattle.mseed_text.specs.Fault.{fault_line}
+use Rattle.mseed_steim.specs.declared.encoding.Encoding.{Encoding}
 use Rattle.mseed_pack.specs.declared.fault.PackFault.{PackFault}
 use Rattle.mseed_pack.specs.declared.options.Options.{Options}
-use Rattle.mseed_repack.specs.ByStretches.{broken_text, misfit_number}
+use Rattle.mseed_repack.specs.ByStretches.{broken_text}
+use Rattle.mseed_repack.specs.Misfits.{misfit_more, misfit_number}
 use Rattle.mseed_words.specs.declared.request.Packing.{Packing}
 use Rattle.mseed_repack.specs.declared.fault.RepackFault.{RepackFault}
 use Rattle.mseed_repack.specs.declared.fault.RepackFault.TheVariants.{Stream, Broken, Misfit, Write, Memory}
@@ -16,17 +18,22 @@ use Rattle.mseed_input.specs.declared.blame.Blame.TheVariants.{Nothing}
 use Rattle.mseed.specs.declared.outcome.Ended.{Ended}
 
 -- the line about a channel that can't be packed
-abbrev pub misfit_text : List ℕ → PackFault → List ℕ
-misfit_text key fault =
+abbrev pub misfit_line : List ℕ → PackFault → List ℕ
+misfit_line key fault =
     codes "mseed: " ++ name_text key ++ codes " does not fit " ++ decimal (misfit_number fault) ++ codes "\n"
 
--- the line of a fault; of a broken channel one more, with its first finding
-abbrev pub refusal_text : RepackFault → List ℕ
-refusal_text (Stream fault) = codes "mseed: " ++ fault_line fault
-refusal_text (Broken key first) = broken_text key first
-refusal_text (Misfit key number fault) = misfit_text key fault
-refusal_text Write = write_failed
-refusal_text Memory = no_memory
+-- and one more, which says why in words
+abbrev pub misfit_text : Encoding → List ℕ → PackFault → List ℕ
+misfit_text e key fault = misfit_line key fault ++ misfit_more e fault
+
+-- the line of a fault, where such an encoding is requested; of a broken channel one more, with its first finding, and
+-- of one that can't be packed the one that says why
+abbrev pub refusal_text : Encoding → RepackFault → List ℕ
+refusal_text e (Stream fault) = codes "mseed: " ++ fault_line fault
+refusal_text e (Broken key first) = broken_text key first
+refusal_text e (Misfit key number fault) = misfit_text e key fault
+refusal_text e Write = write_failed
+refusal_text e Memory = no_memory
 
 -- its exit status
 abbrev pub refusal_status : RepackFault → ℕ
@@ -34,12 +41,12 @@ refusal_status (Broken key first) = 1
 refusal_status fault = 2
 
 -- with no line where all was packed
-abbrev pub repack_report : {U : Type 0} → Result U RepackFault → Report
-repack_report (Ok unit) = without_line 0 Nothing
-repack_report (Err fault) = with_line (refusal_status fault) (refusal_text fault) (packing_blame fault)
+abbrev pub repack_report : {U : Type 0} → Encoding → Result U RepackFault → Report
+repack_report e (Ok unit) = without_line 0 Nothing
+repack_report e (Err fault) = with_line (refusal_status fault) (refusal_text e fault) (packing_blame fault)
 
-abbrev pub EndsRepack : {U : Type 0} → Result U RepackFault → Ended → BytesWritten → BytesWritten → Type 0
-EndsRepack outcome ended old new = EndsBy (repack_report outcome) ended old new
+abbrev pub EndsRepack : {U : Type 0} → Encoding → Result U RepackFault → Ended → BytesWritten → BytesWritten → Type 0
+EndsRepack e outcome ended old new = EndsBy (repack_report e outcome) ended old new
 
 -- the options of packing anew, with sequence numbers from 000001 on
 pub record AreOptionsOf (packing : Packing) (options : Options) : Type 0 where

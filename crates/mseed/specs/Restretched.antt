@@ -1,7 +1,8 @@
 -- What packing anew by stretches says, and its exit status.
 use Rattle.std.specs.Prelude.{ℕ, List, Result, Ok, Err}
 use Rattle.mseed_stream.specs.Device.{BytesWritten}
-use Rattle.mseed_repack.specs.ByStretches.{misfit_line}
+use Rattle.mseed_steim.specs.declared.encoding.Encoding.{Encoding}
+use Rattle.mseed_repack.specs.Misfits.{stretch_misfit_text}
 use Rattle.mseed_repack.specs.declared.refusing.Left.{Left}
 use Rattle.mseed_repack.specs.declared.refusing.Left.TheVariants.{Nothing, Broken as LeftBroken, Misfit as LeftMisfit}
 use Rattle.mseed_repack.specs.declared.fault.RepackFault.{RepackFault}
@@ -13,9 +14,9 @@ use Rattle.mseed_input.specs.declared.blame.Blame.TheVariants as blames
 use Rattle.mseed.specs.declared.outcome.Ended.{Ended}
 
 -- the line of a fault, which names the stretch
-abbrev pub stretches_text : RepackFault → List ℕ
-stretches_text (Misfit key number fault) = misfit_line key number fault
-stretches_text fault = refusal_text fault
+abbrev pub stretches_text : Encoding → RepackFault → List ℕ
+stretches_text e (Misfit key number fault) = stretch_misfit_text e key number fault
+stretches_text e fault = refusal_text e fault
 
 -- the exit status where all was written but what was left out
 abbrev pub left_status : Left → ℕ
@@ -24,9 +25,9 @@ left_status LeftBroken = 1
 left_status LeftMisfit = 2
 
 -- after the lines that were reported
-abbrev pub stretches_report : Result Left RepackFault → Report
-stretches_report (Ok left) = without_line (left_status left) blames.Nothing
-stretches_report (Err fault) = with_line (refusal_status fault) (stretches_text fault) (packing_blame fault)
+abbrev pub stretches_report : Encoding → Result Left RepackFault → Report
+stretches_report e (Ok left) = without_line (left_status left) blames.Nothing
+stretches_report e (Err fault) = with_line (refusal_status fault) (stretches_text e fault) (packing_blame fault)
 
-abbrev pub EndsStretches : Result Left RepackFault → Ended → BytesWritten → BytesWritten → Type 0
-EndsStretches outcome ended old new = EndsBy (stretches_report outcome) ended old new
+abbrev pub EndsStretches : Encoding → Result Left RepackFault → Ended → BytesWritten → BytesWritten → Type 0
+EndsStretches e outcome ended old new = EndsBy (stretches_report e outcome) ended old new

@@ -150,12 +150,13 @@ fn run_over_all<A: Allocator + Copy, R: Source, W: Sink, E: Sink>(
         Request::Select => selected(select(alloc, &all_records(), input, output), errors),
         Request::Repack(packing) => {
             let options = options_of(*packing);
-            repacked(repack(alloc, &options, input, output), errors)
+            let outcome = repack(alloc, &options, input, output);
+            repacked(options.encoding, outcome, errors)
         }
         Request::RepackStretches { packing, leave } => {
             let options = options_of(*packing);
             let outcome = repack_stretches(alloc, &options, *leave, input, output, errors);
-            restretched(outcome, errors)
+            restretched(options.encoding, outcome, errors)
         }
         Request::Serve(_) | Request::Live(_) | Request::Fetch(_) => unreachable!(),
     }
@@ -199,14 +200,14 @@ fn run_over_some<A: Allocator + Copy, R: Source, W: Sink, E: Sink>(
         Request::Repack(packing) => {
             let options = options_of(*packing);
             let outcome = repack_selected(alloc, selector, &options, input, output, errors);
-            repacked(outcome, errors)
+            repacked(options.encoding, outcome, errors)
         }
         Request::RepackStretches { packing, leave } => {
             let options = options_of(*packing);
             let outcome = repack_selected_stretches(
                 alloc, selector, &options, *leave, input, output, errors,
             );
-            restretched(outcome, errors)
+            restretched(options.encoding, outcome, errors)
         }
         _ => run_over_all(alloc, request, input, output, errors),
     }

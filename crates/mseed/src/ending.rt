@@ -19,6 +19,7 @@ use mseed_join::{Joined, JoinsFault};
 use mseed_repack::{Left, RepackFault};
 use mseed_select::{SelectFault, Selected};
 use mseed_show::{ShowFault, Shown};
+use mseed_steim::Encoding;
 use mseed_stream::{Sink, StreamFault};
 use slink_links::{DONE, FAULT};
 
@@ -155,29 +156,38 @@ fn ended_at(end: &Option<StreamFault>) -> Ended
     }
 }
 
-/// Reports why an archive wasn't packed anew, and returns how packing ended.
-pub fn repacked<E: Sink>(outcome: Result<(), RepackFault>, errors: &mut E) -> Ended
-    ensures { EndsRepack outcome result (E.written errors.old) (E.written errors.new) }
+/// Reports why an archive wasn't packed anew in an encoding, and returns how packing ended.
+pub fn repacked<E: Sink>(
+    encoding: Encoding,
+    outcome: Result<(), RepackFault>,
+    errors: &mut E,
+) -> Ended
+    ensures { EndsRepack encoding outcome result (E.written errors.old) (E.written errors.new) }
 {
     match outcome {
         Ok(()) => Ended::with(DONE),
         Err(fault) => Ended {
-            status: refuse_to_repack(errors, &fault),
+            status: refuse_to_repack(errors, encoding, &fault),
             blame: packing_blame(&fault),
         },
     }
 }
 
-/// Reports why an archive wasn't packed anew by stretches, and returns how packing ended: what was left out counts.
-pub fn restretched<E: Sink>(outcome: Result<Left, RepackFault>, errors: &mut E) -> Ended
-    ensures { EndsStretches outcome result (E.written errors.old) (E.written errors.new) }
+/// Reports why an archive wasn't packed anew in an encoding by stretches, and returns how packing ended: what was left
+/// out counts.
+pub fn restretched<E: Sink>(
+    encoding: Encoding,
+    outcome: Result<Left, RepackFault>,
+    errors: &mut E,
+) -> Ended
+    ensures { EndsStretches encoding outcome result (E.written errors.old) (E.written errors.new) }
 {
     match outcome {
         Ok(Left::Nothing) => Ended::with(DONE),
         Ok(Left::Broken) => Ended::with(BROKEN),
         Ok(Left::Misfit) => Ended::with(FAULT),
         Err(fault) => Ended {
-            status: refuse_to_stretch(errors, &fault),
+            status: refuse_to_stretch(errors, encoding, &fault),
             blame: packing_blame(&fault),
         },
     }

@@ -15,21 +15,22 @@ use mseed_input::report_fault;
 use mseed_join::{Flaw, JoinsFault};
 use mseed_pack::PackFault;
 use mseed_record::Codes;
-use mseed_repack::{RepackFault, misfit_number, report_broken, report_misfit};
+use mseed_repack::{RepackFault, misfit_number, put_misfit_more, report_broken, report_misfit};
+use mseed_steim::Encoding;
 use mseed_stream::{Sink, StreamFault, report};
 use mseed_text::Line;
 use slink_links::FAULT;
 
-/// Reports why an archive wasn't packed anew, and returns the exit status: a broken channel is no fault. Of that the
-/// first finding is reported too.
-pub fn refuse_to_repack<E: Sink>(errors: &mut E, fault: &RepackFault) -> u8
+/// Reports why an archive wasn't packed anew in an encoding, and returns the exit status: a broken channel is no fault.
+/// Of that the first finding is reported too.
+pub fn refuse_to_repack<E: Sink>(errors: &mut E, encoding: Encoding, fault: &RepackFault) -> u8
     ensures status { result ≡ refusal_status fault.now }
-    ensures reported { WritesLine (refusal_text fault.now) (E.written errors.old) (E.written errors.new) }
+    ensures reported { WritesLine (refusal_text encoding fault.now) (E.written errors.old) (E.written errors.new) }
 {
     match fault {
         RepackFault::Stream(fault) => refuse_input(errors, fault),
         RepackFault::Broken(channel, first) => refuse_broken(errors, channel, first),
-        RepackFault::Misfit(channel, _, fault) => refuse_unfit(errors, channel, *fault),
+        RepackFault::Misfit(channel, _, fault) => refuse_unfit(errors, encoding, channel, *fault),
         RepackFault::Write => write_failed(errors),
         RepackFault::Memory => refuse_memory(errors),
     }
@@ -37,16 +38,16 @@ pub fn refuse_to_repack<E: Sink>(errors: &mut E, fault: &RepackFault) -> u8
 
 /// Reports why an archive wasn't packed anew by stretches, and returns the exit status, as [`refuse_to_repack`] does;
 /// but of a channel that can't be packed it says which stretch.
-pub fn refuse_to_stretch<E: Sink>(errors: &mut E, fault: &RepackFault) -> u8
+pub fn refuse_to_stretch<E: Sink>(errors: &mut E, encoding: Encoding, fault: &RepackFault) -> u8
     ensures status { result ≡ refusal_status fault.now }
-    ensures reported { WritesLine (stretches_text fault.now) (E.written errors.old) (E.written errors.new) }
+    ensures reported { WritesLine (stretches_text encoding fault.now) (E.written errors.old) (E.written errors.new) }
 {
     match fault {
         RepackFault::Misfit(channel, number, fault) => {
-            report_misfit(channel, *number, *fault, errors);
+            report_misfit(channel, *number, encoding, *fault, errors);
             FAULT
         }
-        _ => refuse_to_repack(errors, fault),
+        _ => refuse_to_repack(errors, encoding, fault),
     }
 }
 
@@ -145,10 +146,17 @@ fn refuse_broken<E: Sink>(errors: &mut E, channel: &Codes, first: &Finding) -> u
     BROKEN
 }
 
-/// Reports why a channel can't be packed, by the number of the reason, and returns the exit status.
-fn refuse_unfit<E: Sink>(errors: &mut E, channel: &Codes, fault: PackFault) -> u8
+/// Reports why a channel can't be packed in an encoding, by the number of the reason and in words, and returns the exit
+/// status.
+fn refuse_unfit<E: Sink>(
+    errors: &mut E,
+    encoding: Encoding,
+    channel: &Codes,
+    fault: PackFault,
+) -> u8
     ensures status { result ≡ 2 }
-    ensures reported { WritesLine (misfit_text channel.now fault) (E.written errors.old) (E.written errors.new) }
+    ensures reported { WritesLine (misfit_text encoding channel.now fault) (E.written errors.old)
+        (E.written errors.new) }
 {
     let mut line = Line::new();
     line.put(b"mseed: ");
@@ -156,6 +164,7 @@ fn refuse_unfit<E: Sink>(errors: &mut E, channel: &Codes, fault: PackFault) -> u
     line.put(b" does not fit ");
     line.put_count(misfit_number(fault));
     line.put(b"\n");
+    put_misfit_more(&mut line, encoding, fault);
     report(errors, line.as_slice());
     FAULT
 }

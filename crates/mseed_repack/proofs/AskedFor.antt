@@ -18,6 +18,7 @@ use Rattle.mseed_select.specs.Select.{selected_bytes}
 use Rattle.mseed_choice.specs.Selection.{Selection, asks_for, lacks_time}
 use Rattle.mseed_audit.specs.Channels.{Placed, views_in}
 use Rattle.mseed_audit.specs.Scope.{asked_of}
+use Rattle.mseed_steim.specs.declared.encoding.Encoding.{Encoding}
 use Rattle.mseed_pack.specs.declared.options.Options.{Options}
 use Rattle.mseed_repack.specs.ByStretches.{AreReported, AreReportsOf, IsPartStretched, IsRestretchingAmong, ReportsEach}
 use Rattle.mseed_repack.specs.ByStretches.{WroteKept, also, left_of, silent, worse_of}
@@ -104,14 +105,14 @@ some_left Nothing e = cc
 some_left LeftBroken e = cc
 some_left LeftMisfit e = cc
 
-lines_none : (cs : List Channel) (ss : List Standing) (lines : List (List ℕ))
-    → left_of ss ≡ Nothing → AreReportsOf cs ss lines → lines ≡ []
-lines_none [] ss lines e are = are
-lines_none (c ∷ cs) [] lines e are = are
-lines_none (c ∷ cs) (Fit ∷ ss) lines e (own, (rest, (joined, none, others))) =
-    joined ∙ ap (λ (ls : List (List ℕ)). ls ++ rest) none ∙ lines_none cs ss rest e others
-lines_none (c ∷ cs) (BrokenChannel ∷ ss) lines e are = absurd (some_left (left_of ss) e)
-lines_none (c ∷ cs) (MisfitChannel number fault ∷ ss) lines e are = cc
+lines_none : (encoding : Encoding) (cs : List Channel) (ss : List Standing) (lines : List (List ℕ))
+    → left_of ss ≡ Nothing → AreReportsOf encoding cs ss lines → lines ≡ []
+lines_none encoding [] ss lines e are = are
+lines_none encoding (c ∷ cs) [] lines e are = are
+lines_none encoding (c ∷ cs) (Fit ∷ ss) lines e (own, (rest, (joined, none, others))) =
+    joined ∙ ap (λ (ls : List (List ℕ)). ls ++ rest) none ∙ lines_none encoding cs ss rest e others
+lines_none encoding (c ∷ cs) (BrokenChannel ∷ ss) lines e are = absurd (some_left (left_of ss) e)
+lines_none encoding (c ∷ cs) (MisfitChannel number fault ∷ ss) lines e are = cc
 
 module _ (s : Selection) (o : Options) (h : BytesRead) (views : List View) (whole : IsWhole h views)
     (old new : BytesWritten) where
@@ -144,10 +145,11 @@ module _ (s : Selection) (o : Options) (h : BytesRead) (views : List View) (whol
 
   -- the lines of channels that are left out, where none is
   all_kept : (left between last : BytesWritten) (cs : List Channel) (ss : List Standing)
-      → left_of ss ≡ Nothing → AreReported cs ss left between
-      → ReportsWithoutTime count between last → ReportsWithoutTime count left last × AreReported cs ss last last
+      → left_of ss ≡ Nothing → AreReported o.encoding cs ss left between
+      → ReportsWithoutTime count between last
+      → ReportsWithoutTime count left last × AreReported o.encoding cs ss last last
   all_kept left between last cs ss none nothing told =
-      let no_lines = lines_none cs ss nothing.lines none nothing.are in (
+      let no_lines = lines_none o.encoding cs ss nothing.lines none nothing.are in (
         subst (λ (w : BytesWritten). ReportsWithoutTime count w last)
             (silent_only nothing.lines left between nothing.each no_lines) told,
         record {

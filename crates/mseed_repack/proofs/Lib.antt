@@ -29,3 +29,4 @@ pub mod Outcomes
 pub mod InPlaces
 pub mod Passed
 pub mod OwnFindings
+pub mod Held

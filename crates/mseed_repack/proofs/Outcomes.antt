@@ -72,7 +72,7 @@ module _ (place : List View → List Placed) (o : Options) (room places : ℕ) (
   pub restretched : (leave : Bool) (count : ℕ) (h : BytesRead) (old new first between last : BytesWritten)
       → IsArchiveOf h views cs → AreReady Stretches o room places views cs ss ls
       → (leave ≡ false → AllByRecursion IsFit ss) → ReportsIfLeft (left_of ss) count first between
-      → AreReported cs ss between last → Wrote (TextsAs Stretches o views (kept_of cs ss)) 0 old new
+      → AreReported o.encoding cs ss between last → Wrote (TextsAs Stretches o views (kept_of cs ss)) 0 old new
       → IsRestretchingIfLeft place o leave count (Ok (left_of ss)) h old new first last
   restretched leave count h old new first between last archive ready fit untimed told wrote =
       let kept = wrote_kept (standings_of cs ss ls ready) fit told (wrote_as (λ text is. is) wrote) in
@@ -81,7 +81,7 @@ module _ (place : List View → List Placed) (o : Options) (room places : ℕ) (
   pub restretched_in_part : (leave : Bool) (count : ℕ) (h : BytesRead) (old new first between last : BytesWritten)
       → IsArchiveOf h views cs → AreReady Stretches o room places views cs ss ls
       → (leave ≡ false → AllByRecursion IsFit ss) → ReportsIfLeft (left_of ss) count first between
-      → AreReported cs ss between last → Wrote (PartsAs Stretches o views (kept_of cs ss)) 1 old new
+      → AreReported o.encoding cs ss between last → Wrote (PartsAs Stretches o views (kept_of cs ss)) 1 old new
       → IsRestretchingIfLeft place o leave count (Err Write) h old new first last
   restretched_in_part leave count h old new first between last archive ready fit untimed told wrote =
       let kept = wrote_kept (standings_of cs ss ls ready) fit told (wrote_as (λ text is. is) wrote) in

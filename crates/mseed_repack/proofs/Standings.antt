@@ -12,6 +12,7 @@ use Rattle.mseed_audit.specs.Follows.{IsSound}
 use Rattle.mseed_audit.specs.Verdict.{AreVerdicts, says_continuous}
 use Rattle.mseed_audit.specs.declared.finding.Finding.{Finding}
 use Rattle.mseed_audit.proofs.Following.{views_are}
+use Rattle.mseed_steim.specs.declared.encoding.Encoding.{Encoding}
 use Rattle.mseed_pack.specs.declared.options.Options.{Options}
 use Rattle.mseed_pack.specs.declared.fault.PackFault.{PackFault}
 use Rattle.mseed_repack.specs.Repack.{Channel, IsArchiveOf, IsFirst, Wrote, records_in}
@@ -99,7 +100,7 @@ steps_gathered key vs views room e le =
 pub wrote_kept : {P : List Channel → List ℕ → Type 0} {failures : ℕ} {o : Options} {leave : Bool}
     {views : List View} {cs : List Channel} {ss : List Standing} {old new reported_old reported_new : BytesWritten}
     → AreStandings o views cs ss → (leave ≡ false → AllByRecursion IsFit ss)
-    → AreReported cs ss reported_old reported_new → Wrote (P (kept_of cs ss)) failures old new
+    → AreReported o.encoding cs ss reported_old reported_new → Wrote (P (kept_of cs ss)) failures old new
     → WroteKept P failures o leave views cs ss old new reported_old reported_new
 wrote_kept are whole reported wrote = record { are = are; whole = whole; reported = reported; wrote = wrote }
 
@@ -197,27 +198,27 @@ all_fit ss un fine =
     (each_fits ss (length ss) un (subst (All IsNoMisfit) (sym (take_all (length ss) ss (omega arith))) fine))
 
 -- what is reported of the channels so far, and of one more
-reports_next : (cs : List Channel) (ss : List Standing) (k : ℕ) (c : Channel) (s : Standing)
+reports_next : (e : Encoding) (cs : List Channel) (ss : List Standing) (k : ℕ) (c : Channel) (s : Standing)
     (lines own : List (List ℕ)) → k < length cs → length ss ≡ length cs → c ≡ get_or cs k c
-    → AreReportsOf (take k cs) (take k ss) lines → IsReportOf c.0 (get_or ss k s) own
-    → AreReportsOf (take (k + 1) cs) (take (k + 1) ss) (lines ++ own)
-reports_next [] ss k c s lines own lt size at before one = absurd (omega (arith, lt))
-reports_next (d ∷ ds) [] k c s lines own lt size at before one = absurd (omega (arith, size))
-reports_next (d ∷ ds) (t ∷ ts) zero c s lines own lt size at before one = (
+    → AreReportsOf e (take k cs) (take k ss) lines → IsReportOf e c.0 (get_or ss k s) own
+    → AreReportsOf e (take (k + 1) cs) (take (k + 1) ss) (lines ++ own)
+reports_next e [] ss k c s lines own lt size at before one = absurd (omega (arith, lt))
+reports_next e (d ∷ ds) [] k c s lines own lt size at before one = absurd (omega (arith, size))
+reports_next e (d ∷ ds) (t ∷ ts) zero c s lines own lt size at before one = (
   own,
   (
     [],
     (
       ap (λ (ls : List (List ℕ)). ls ++ own) before ∙ sym (append-nil own),
-      subst (λ (e : Channel). IsReportOf e.0 t own) at one,
+      subst (λ (f : Channel). IsReportOf e f.0 t own) at one,
       refl,
     ),
   ),
 )
-reports_next (d ∷ ds) (t ∷ ts) (suc k) c s lines own lt size at (mine, (rest, (joined, here, others))) one =
-    let later = reports_next ds ts k c s rest own (omega (arith, lt)) (omega (arith, size)) at others one in
+reports_next e (d ∷ ds) (t ∷ ts) (suc k) c s lines own lt size at (mine, (rest, (joined, here, others))) one =
+    let later = reports_next e ds ts k c s rest own (omega (arith, lt)) (omega (arith, size)) at others one in
     let same : suc (k + 1) ≡ suc k + 1 = omega arith in
-    subst (λ (n : ℕ). AreReportsOf (take n (d ∷ ds)) (take n (t ∷ ts)) (lines ++ own)) same (
+    subst (λ (n : ℕ). AreReportsOf e (take n (d ∷ ds)) (take n (t ∷ ts)) (lines ++ own)) same (
       mine,
       (
         rest ++ own,
@@ -237,19 +238,19 @@ tells_append leading _ old between _ a (also lines line _ middle new b reported)
 pub tells_one : (line : List ℕ) (old new : BytesWritten) → WritesLine line old new → ReportsEach (line ∷ []) old new
 tells_one line old new reported = also [] line old old new (silent old) reported
 
-pub tells_next : (cs : List Channel) (ss : List Standing) (k : ℕ) (c : Channel) (s : Standing)
+pub tells_next : (e : Encoding) (cs : List Channel) (ss : List Standing) (k : ℕ) (c : Channel) (s : Standing)
     (first old new : BytesWritten) → k < length cs → length ss ≡ length cs → c ≡ get_or cs k c
-    → AreReported (take k cs) (take k ss) first old
-    → (lines : List (List ℕ)) × (IsReportOf c.0 (get_or ss k s) lines × ReportsEach lines old new)
-    → AreReported (take (k + 1) cs) (take (k + 1) ss) first new
-tells_next cs ss k c s first old new lt size at before one = record {
+    → AreReported e (take k cs) (take k ss) first old
+    → (lines : List (List ℕ)) × (IsReportOf e c.0 (get_or ss k s) lines × ReportsEach lines old new)
+    → AreReported e (take (k + 1) cs) (take (k + 1) ss) first new
+tells_next e cs ss k c s first old new lt size at before one = record {
   lines = before.lines ++ one.0;
-  are = reports_next cs ss k c s before.lines one.0 lt size at before.are one.1.0;
+  are = reports_next e cs ss k c s before.lines one.0 lt size at before.are one.1.0;
   each = tells_append before.lines one.0 first old new before.each one.1.1;
 }
 
-pub tells_none : (first : BytesWritten) → AreReported [] [] first first
-tells_none first = record { lines = []; are = refl; each = silent first }
+pub tells_none : (e : Encoding) (first : BytesWritten) → AreReported e [] [] first first
+tells_none e first = record { lines = []; are = refl; each = silent first }
 
 -- where all were looked at, what holds of those holds of all
 pub all_to_end : {X : Type 0} (P : X → Type 0) (xs : List X) (n : ℕ) → length xs ≤ n → All P (take n xs) → All P xs

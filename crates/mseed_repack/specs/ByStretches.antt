@@ -13,10 +13,9 @@ use Rattle.mseed_audit.specs.Scope.{placed_of}
 use Rattle.mseed_audit.specs.Text.{why_text}
 use Rattle.mseed_audit.specs.declared.finding.Finding.{Finding}
 use Rattle.mseed_text.specs.Name.{name_text}
-use Rattle.mseed_pack.specs.declared.fault.PackFault.{PackFault}
-use Rattle.mseed_pack.specs.declared.fault.PackFault.TheVariants.{Empty, RateTooHigh, TimeOutOfRange, SampleTooLarge}
-use Rattle.mseed_pack.specs.declared.fault.PackFault.TheVariants.{DifferenceTooLarge, Write as WriteFailed}
+use Rattle.mseed_steim.specs.declared.encoding.Encoding.{Encoding}
 use Rattle.mseed_pack.specs.declared.options.Options.{Options}
+use Rattle.mseed_repack.specs.Misfits.{stretch_misfit_text}
 use Rattle.mseed_repack.specs.Repack.{AreTexts, Channel, Exists, IsArchiveOf, IsFirst, IsTextUpTo, IsUnread, Wrote}
 use Rattle.mseed_repack.specs.Repack.{records_in}
 use Rattle.mseed_repack.specs.Restretch.{ChannelFits, ChannelMisfits, IsChannelPart, IsChannelText}
@@ -84,15 +83,6 @@ abbrev pub left_of : List Standing → Left
 left_of [] = Nothing
 left_of (s ∷ ss) = worse_of s (left_of ss)
 
--- why a series can't be packed, by its place among the reasons
-abbrev pub misfit_number : PackFault → ℕ
-misfit_number Empty = 1
-misfit_number RateTooHigh = 2
-misfit_number TimeOutOfRange = 3
-misfit_number (SampleTooLarge index) = 4
-misfit_number (DifferenceTooLarge index) = 5
-misfit_number (WriteFailed taken) = 6
-
 -- of these records of a channel the first that has a finding of its own has this one
 pub record IsFirstOwn (ps : List Placed) (f : Finding) : Type 0 where
   pub leading : List Placed
@@ -118,25 +108,19 @@ finding_line f =
 abbrev pub broken_text : List ℕ → Finding → List ℕ
 broken_text key f = broken_line key ++ finding_line f
 
--- the line about a channel of which a stretch can't be packed
-abbrev pub misfit_line : List ℕ → ℕ → PackFault → List ℕ
-misfit_line key number fault =
-    codes "mseed: " ++ name_text key ++ codes " does not fit " ++ decimal (misfit_number fault) ++ codes " stretch "
-    ++ decimal number ++ codes "\n"
-
--- what is reported of a channel that is left out
-abbrev pub IsReportOf : List ℕ → Standing → List (List ℕ) → Type 0
-IsReportOf key Fit lines = lines ≡ []
-IsReportOf key Broken lines = lines ≡ broken_line key ∷ []
-IsReportOf key (Misfit number fault) lines = lines ≡ misfit_line key number fault ∷ []
+-- what is reported of a channel that is left out, where such an encoding is requested
+abbrev pub IsReportOf : Encoding → List ℕ → Standing → List (List ℕ) → Type 0
+IsReportOf e key Fit lines = lines ≡ []
+IsReportOf e key Broken lines = lines ≡ broken_line key ∷ []
+IsReportOf e key (Misfit number fault) lines = lines ≡ stretch_misfit_text e key number fault ∷ []
 
 -- and of each that is, in the order of the channels
-abbrev pub AreReportsOf : List Channel → List Standing → List (List ℕ) → Type 0
-AreReportsOf [] ss lines = lines ≡ []
-AreReportsOf (c ∷ cs) [] lines = lines ≡ []
-AreReportsOf (c ∷ cs) (s ∷ ss) lines =
-    (own : List (List ℕ)) × ((rest : List (List ℕ)) × ((lines ≡ own ++ rest) × IsReportOf c.0 s own
-    × AreReportsOf cs ss rest))
+abbrev pub AreReportsOf : Encoding → List Channel → List Standing → List (List ℕ) → Type 0
+AreReportsOf e [] ss lines = lines ≡ []
+AreReportsOf e (c ∷ cs) [] lines = lines ≡ []
+AreReportsOf e (c ∷ cs) (s ∷ ss) lines =
+    (own : List (List ℕ)) × ((rest : List (List ℕ)) × ((lines ≡ own ++ rest) × IsReportOf e c.0 s own
+    × AreReportsOf e cs ss rest))
 
 -- lines are reported one after another, each as far as the device takes it
 pub data ReportsEach : List (List ℕ) → BytesWritten → BytesWritten → Type 0 where
@@ -145,9 +129,10 @@ pub data ReportsEach : List (List ℕ) → BytesWritten → BytesWritten → Typ
       → WritesLine line between new → ReportsEach (lines ++ line ∷ []) old new
 
 -- the channels that are left out are reported
-pub record AreReported (channels : List Channel) (standings : List Standing) (old new : BytesWritten) : Type 0 where
+pub record AreReported (e : Encoding) (channels : List Channel) (standings : List Standing)
+    (old new : BytesWritten) : Type 0 where
   pub lines : List (List ℕ)
-  pub are : AreReportsOf channels standings lines
+  pub are : AreReportsOf e channels standings lines
   pub each : ReportsEach lines old new
 
 -- Of the channels that fit a text was written of which this is so; and the others were reported, unless there was to be
@@ -157,7 +142,7 @@ pub record WroteKept (P : List Channel → List ℕ → Type 0) (failures : ℕ)
     (old new reported_old reported_new : BytesWritten) : Type 0 where
   pub are : AreStandings o views channels standings
   pub whole : leave ≡ false → AllByRecursion IsFit standings
-  pub reported : AreReported channels standings reported_old reported_new
+  pub reported : AreReported o.encoding channels standings reported_old reported_new
   pub wrote : Wrote (P (kept_of channels standings)) failures old new
 
 -- What was written by stretches: of each channel that fits its stretches' records.

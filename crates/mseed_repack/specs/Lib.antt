@@ -2,6 +2,7 @@ pub mod Repack
 pub mod OneRepacking
 pub mod ReadBack
 pub mod Restretch
+pub mod Misfits
 pub mod ByStretches
 pub mod StretchesReadBack
 pub mod Borders

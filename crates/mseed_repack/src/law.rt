@@ -1,10 +1,13 @@
 //! Laws of packing an archive anew.
-ghost use Rattle.std.specs.Prelude.{⊤, ◌≡◌, ◌≢◌, ◌∷◌, ◌++◌, ℕ, List, [], Result, Ok};
+ghost use Rattle.std.specs.Prelude.{⊤, ◌≡◌, ◌≢◌, ◌↔◌, ◌∷◌, ◌++◌, ℕ, ℤ, List, [], Result, Ok, None, Some};
 ghost use Rattle.std.specs.List.{AllByRecursion};
 ghost use Rattle.mseed_record.specs.View.{View, IsView, start_of};
 ghost use Rattle.mseed_audit.specs.Follows.{AllNeighbours, IsContinuous};
 ghost use Rattle.mseed_audit.specs.declared.finding.Why.TheVariants.{Gap, Overlap};
 ghost use Rattle.mseed_stretches.specs.Stretches.{samples_of};
+ghost use Rattle.mseed_steim.specs.Spelling.{IsWithin};
+ghost use Rattle.mseed_steim.specs.declared.encoding.Encoding.{Encoding};
+ghost use Rattle.mseed_pack.specs.Fitting.{IsDifferenceOf, IsSampleOf};
 ghost use Rattle.mseed_pack.specs.declared.options.Options.{Options};
 ghost use Rattle.mseed_stream.specs.Device.{BytesRead, BytesWritten};
 ghost use Rattle.mseed_repack.specs.OneRepacking.{ComeToOne};
@@ -12,6 +15,7 @@ ghost use Rattle.mseed_repack.specs.ReadBack.{IsReadBack};
 ghost use Rattle.mseed_repack.specs.Borders.{AreReadAs, IsClose, IsFoundAfter, IsStretchedArchive, LeavesGap};
 ghost use Rattle.mseed_repack.specs.Borders.{Overlaps};
 ghost use Rattle.mseed_repack.specs.ByStretches.{AreStretched, EachRestretching};
+ghost use Rattle.mseed_repack.specs.Misfits.{difference_bits, sample_bits};
 ghost use Rattle.mseed_repack.specs.Repack.{Channel, IsRepacking};
 ghost use Rattle.mseed_repack.specs.Restretch.{ChannelFits, IsChannelPacked};
 ghost use Rattle.mseed_repack.specs.StretchesReadBack.{IsChannelReadBack, IsStretchedBack};
@@ -113,3 +117,12 @@ pub fn borders_are_kept()
     one_series();
     one_list_of_stretches();
 }
+
+/// What is said of a sample or a difference that an encoding doesn't hold names the numbers that it does hold: those of
+/// so many bits and no others. Where no bits are named, it holds any difference.
+pub fn named_numbers_are_held()
+    ensures samples { (e : Encoding) (z : ℤ) → IsSampleOf e z ↔ IsWithin (sample_bits e) z }
+    ensures differences { (e : Encoding) (bits : ℕ) (z : ℤ) → difference_bits e ≡ Some bits
+        → (IsDifferenceOf e z ↔ IsWithin bits z) }
+    ensures any { (e : Encoding) (z : ℤ) → difference_bits e ≡ None → IsDifferenceOf e z }
+{}

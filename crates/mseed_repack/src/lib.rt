@@ -8,6 +8,7 @@ mod channel_fault;
 mod fault;
 mod judging;
 mod law;
+mod misfit;
 mod outline;
 mod own;
 mod packing;
@@ -31,9 +32,11 @@ pub use channel::repack_channel;
 pub use channel_fault::ChannelFault;
 pub use fault::RepackFault;
 pub use law::{
-    borders_are_kept, one_channel_packing, one_repacking, repacked_reads_back, stretches_read_back,
+    borders_are_kept, named_numbers_are_held, one_channel_packing, one_repacking,
+    repacked_reads_back, stretches_read_back,
 };
-pub use refusing::{Left, misfit_number, report_broken, report_misfit};
+pub use misfit::{misfit_number, put_misfit_more};
+pub use refusing::{Left, report_broken, report_misfit};
 pub use repacking::{repack, repack_selected};
 pub use restretching::{repack_selected_stretches, repack_stretches};
 pub use standing::Standing;

@@ -8,8 +8,8 @@ ghost use Rattle.mseed_stream.specs.LineWritten.{WritesLine};
 ghost use Rattle.mseed_audit.specs.Channels.{Placed};
 ghost use Rattle.mseed_pack.specs.declared.options.Options.{Options};
 ghost use Rattle.mseed_repack.specs.ByStretches.{AreReported, AreStandings, IsFit, IsReportOf, ReportsEach};
-ghost use Rattle.mseed_repack.specs.ByStretches.{broken_line, broken_text, finding_line, left_of, misfit_line};
-ghost use Rattle.mseed_repack.specs.ByStretches.{misfit_number, worse_of};
+ghost use Rattle.mseed_repack.specs.ByStretches.{broken_line, broken_text, finding_line, left_of, worse_of};
+ghost use Rattle.mseed_repack.specs.Misfits.{misfit_line, stretch_misfit_text};
 ghost use Rattle.mseed_repack.specs.private.Archives.{IsAudited};
 ghost use Rattle.mseed_repack.specs.private.Places.{ArePlaces};
 ghost use Rattle.mseed_repack.specs.private.Restretching.{AreUnsound, IsFirstRefused, IsNoMisfit, IsUnbroken};
@@ -17,12 +17,14 @@ ghost use Rattle.mseed_repack.specs.declared.standing.Standing.{Standing};
 
 use crate::archive::Archive;
 use crate::fault::RepackFault;
+use crate::misfit::{misfit_number, put_misfit_more};
 use crate::own::first_own;
 use crate::places::Places;
 use crate::standing::Standing;
 use mseed_audit::{Finding, Verdict, put_why};
 use mseed_pack::PackFault;
 use mseed_record::Codes;
+use mseed_steim::Encoding;
 use mseed_stream::{Sink, report};
 use mseed_text::{LONGEST_LINE, Line};
 
@@ -104,29 +106,38 @@ pub(crate) fn first_misfit(standings: &[Standing]) -> Option<(usize, u64, PackFa
     None
 }
 
-/// Writes a line to `errors` for each channel that is left out, which says why, in the order of their keys.
+/// Writes a line to `errors` for each channel that is left out, which says why, in the order of their keys; where a
+/// stretch of it can't be packed in the encoding, one more.
 pub(crate) fn report_left<E: Sink>(
     channels: &[(Codes, Verdict)],
     standings: &[Standing],
+    encoding: Encoding,
     errors: &mut E,
 )
     requires { length standings.now ≡ length channels.now }
-    ensures { AreReported channels.now standings.now (E.written errors.old) (E.written errors.new) }
+    ensures { AreReported encoding channels.now standings.now (E.written errors.old) (E.written errors.new) }
 {
     for (number, channel) in channels.iter().enumerate() {
-        report_standing(&channel.0, &standings[number], errors);
+        report_standing(&channel.0, &standings[number], encoding, errors);
     }
 }
 
-/// Writes a line to `errors` that says why a channel is left out, where it is.
-fn report_standing<E: Sink>(channel: &Codes, standing: &Standing, errors: &mut E)
-    ensures { (lines : List (List ℕ)) × (IsReportOf channel.now standing.now lines
+/// Writes to `errors` why a channel is left out, where it is.
+fn report_standing<E: Sink>(
+    channel: &Codes,
+    standing: &Standing,
+    encoding: Encoding,
+    errors: &mut E,
+)
+    ensures { (lines : List (List ℕ)) × (IsReportOf encoding channel.now standing.now lines
         × ReportsEach lines (E.written errors.old) (E.written errors.new)) }
 {
     match *standing {
         Standing::Fit => {}
         Standing::Broken => report_left_broken(channel, errors),
-        Standing::Misfit(stretch, fault) => report_misfit(channel, stretch, fault, errors),
+        Standing::Misfit(stretch, fault) => {
+            report_misfit(channel, stretch, encoding, fault, errors)
+        }
     }
 }
 
@@ -175,12 +186,31 @@ fn put_finding(line: &mut Line, finding: &Finding)
     line.put(b"\n");
 }
 
-/// Writes a line to `errors` that says which stretch of a channel can't be packed, by its number, from 1, and why, by
-/// [`misfit_number`]. A failure of `errors` is ignored.
-pub fn report_misfit<E: Sink>(channel: &Codes, stretch: u64, fault: PackFault, errors: &mut E)
-    ensures { WritesLine (misfit_line channel.now stretch fault) (E.written errors.old) (E.written errors.new) }
+/// Writes a line to `errors` that says which stretch of a channel can't be packed in an encoding, by its number, from
+/// 1, and why, by [`misfit_number`]; and one that says it in words, as [`put_misfit_more`] does. A failure of `errors`
+/// is ignored.
+pub fn report_misfit<E: Sink>(
+    channel: &Codes,
+    stretch: u64,
+    encoding: Encoding,
+    fault: PackFault,
+    errors: &mut E,
+)
+    ensures { WritesLine (stretch_misfit_text encoding channel.now stretch fault) (E.written errors.old)
+        (E.written errors.new) }
 {
     let mut line = Line::new();
+    put_misfit(&mut line, channel, stretch, fault);
+    put_misfit_more(&mut line, encoding, fault);
+    report(errors, line.as_slice());
+}
+
+/// Puts the line that says which stretch of a channel can't be packed into a line without text.
+fn put_misfit(line: &mut Line, channel: &Codes, stretch: u64, fault: PackFault)
+    requires { line.old ≡ [] }
+    ensures text { line.new ≡ misfit_line channel.now stretch fault }
+    ensures most { length line.new ≤ 86 }
+{
     line.put(b"mseed: ");
     line.put_name(channel);
     line.put(b" does not fit ");
@@ -188,24 +218,6 @@ pub fn report_misfit<E: Sink>(channel: &Codes, stretch: u64, fault: PackFault, e
     line.put(b" stretch ");
     line.put_count(stretch);
     line.put(b"\n");
-    report(errors, line.as_slice());
-}
-
-/// Returns the number by which a line says why a series can't be packed: 1, it has no samples; 2, its rate is too high;
-/// 3, a sample's time lies in no year from 1900 to 2100; 4, a sample is too large for the encoding; 5, a difference is;
-/// 6, the output failed.
-pub fn misfit_number(fault: PackFault) -> u64
-    ensures value { result ≡ misfit_number fault }
-    ensures bound { result ≤ 6 }
-{
-    match fault {
-        PackFault::Empty => 1,
-        PackFault::RateTooHigh => 2,
-        PackFault::TimeOutOfRange => 3,
-        PackFault::SampleTooLarge(_) => 4,
-        PackFault::DifferenceTooLarge(_) => 5,
-        PackFault::Write(_) => 6,
-    }
 }
 
 /// Returns the worst of what is left out, by what is found of each channel.

@@ -151,7 +151,7 @@ fn restretch_records<A: Allocator + Copy, W: Sink, E: Sink>(
     }
     let left = left_of(&planned.standings);
     report_if_left(left, without_time, errors);
-    report_left(channels, &planned.standings, errors);
+    report_left(channels, &planned.standings, options.encoding, errors);
     match pack_channels(
         &archive,
         &planned.standings,

@@ -43,11 +43,12 @@ returns-in-Select-clause-called g c =
 pub returns-in-Repack-clause-called : goal.returns-in-Repack-clause-called
 returns-in-Repack-clause-called g c =
     let options = c.options_of-options in
+    let packed = c.repack-outcome in
     rw c.in-Repack.is (
       options.result,
       (
         options.ensures,
-        (c.repack.result, (c.repack.ensures.repacked, c.repacked.ensures)),
+        (packed.result, (packed.ensures.repacked, c.repacked.ensures)),
       ),
     )
 

@@ -9,6 +9,7 @@ returns-clause-reported g c =
     let a3 = rw a2 at c.put-2.ensures.text in
     let a4 = rw (a3, c.misfit_number.ensures.value) at c.put_count.ensures.text in
     let a5 = rw a4 at c.put-3.ensures.text in
+    let a6 = rw a5 at c.put_misfit_more.ensures in
     subst (λ (line : List ℕ). WritesLine line (g.E.Sink.written c.args.errors.now)
     (g.E.Sink.written c.report.new.errors))
-    (c.as_slice.ensures ∙ a5) c.report.ensures
+    (c.as_slice.ensures ∙ a6) c.report.ensures

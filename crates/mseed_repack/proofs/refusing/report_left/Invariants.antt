@@ -4,5 +4,5 @@ use Rattle.mseed_repack.proofs.refusing.report_left.Given as goal
 
 abbrev pub invariant-loop-number : goal.invariant-loop-number
 invariant-loop-number g l =
-    AreReported (take l.number l.channels) (take l.number l.standings) (g.E.Sink.written l.fn.errors)
+    AreReported l.encoding (take l.number l.channels) (take l.number l.standings) (g.E.Sink.written l.fn.errors)
     (g.E.Sink.written l.errors)

@@ -4,12 +4,6 @@ use Rattle.mseed_repack.proofs.refusing.report_misfit.Goals as goal
 
 pub returns : goal.returns
 returns g c =
-    let a1 = rw c.new-line.ensures at c.put.ensures.text in
-    let a2 = rw a1 at c.put_name.ensures.text in
-    let a3 = rw a2 at c.put-2.ensures.text in
-    let a4 = rw (a3, c.misfit_number.ensures.value) at c.put_count.ensures.text in
-    let a5 = rw a4 at c.put-3.ensures.text in
-    let a6 = rw a5 at c.put_count-2.ensures.text in
-    let a7 = rw a6 at c.put-4.ensures.text in
+    let both = rw c.put_misfit.ensures.text at c.put_misfit_more.ensures in
     subst (λ line. WritesLine line (g.E.Sink.written c.args.errors.now) (g.E.Sink.written c.report.new.errors))
-    (c.as_slice.ensures ∙ a7) c.report.ensures
+    (c.as_slice.ensures ∙ both) c.report.ensures

@@ -1,0 +1,135 @@
+//! Why a series can't be packed, as it is said: by a number, and in words.
+ghost use Rattle.std.specs.Prelude.{◌≡◌, ◌≤◌, ◌+◌, ◌++◌, IfSome, length};
+ghost use Rattle.mseed_repack.specs.Misfits.{difference_bits, encoding_name, misfit_more, misfit_number};
+ghost use Rattle.mseed_repack.specs.Misfits.{outside_text, range_text, sample_bits};
+
+use mseed_pack::PackFault;
+use mseed_steim::Encoding;
+use mseed_text::{LONGEST_LINE, Line};
+
+/// Returns the number by which a line says why a series can't be packed: 1, it has no samples; 2, its rate is too high;
+/// 3, a sample's time lies in no year from 1900 to 2100; 4, a sample is too large for the encoding; 5, a difference is;
+/// 6, the output failed.
+pub fn misfit_number(fault: PackFault) -> u64
+    ensures value { result ≡ misfit_number fault }
+    ensures bound { result ≤ 6 }
+{
+    match fault {
+        PackFault::Empty => 1,
+        PackFault::RateTooHigh => 2,
+        PackFault::TimeOutOfRange => 3,
+        PackFault::SampleTooLarge(_) => 4,
+        PackFault::DifferenceTooLarge(_) => 5,
+        PackFault::Write(_) => 6,
+    }
+}
+
+/// Puts the line that says in words why a series can't be packed in an encoding at the end of a line, with its LF: of a
+/// sample that the encoding doesn't hold which one it is, counted from 1, and what the encoding holds; of a difference
+/// the same of the sample after it. Puts nothing where the output failed, nor for a difference where the encoding holds
+/// any. At most 153 bytes.
+pub fn put_misfit_more(line: &mut Line, encoding: Encoding, fault: PackFault)
+    requires { length line.old + 153 ≤ LONGEST_LINE }
+    ensures { line.new ≡ line.old ++ misfit_more encoding fault }
+{
+    match fault {
+        PackFault::Empty => line.put(b"mseed: it has no samples\n"),
+        PackFault::RateTooHigh => line.put(
+            b"mseed: its rate is over 500000 samples a second, the most that is packed\n",
+        ),
+        PackFault::TimeOutOfRange => line.put(
+            b"mseed: a sample's time, rounded to 0.0001 seconds, lies in no year from 1900 to 2100\n",
+        ),
+        PackFault::SampleTooLarge(index) => put_large_sample(line, encoding, index),
+        PackFault::DifferenceTooLarge(index) => put_large_difference(line, encoding, index),
+        PackFault::Write(_) => {}
+    }
+}
+
+/// Puts the line of a sample that an encoding doesn't hold at the end of a line.
+fn put_large_sample(line: &mut Line, encoding: Encoding, index: usize)
+    requires { length line.old + 153 ≤ LONGEST_LINE }
+    ensures { line.new ≡ line.old ++ misfit_more encoding (PackFault.SampleTooLarge index) }
+{
+    line.put(b"mseed: sample ");
+    put_outside(line, encoding, sample_bits(encoding), index);
+}
+
+/// Puts the line of a difference that an encoding doesn't hold at the end of a line.
+fn put_large_difference(line: &mut Line, encoding: Encoding, index: usize)
+    requires { length line.old + 153 ≤ LONGEST_LINE }
+    ensures { line.new ≡ line.old ++ misfit_more encoding (PackFault.DifferenceTooLarge index) }
+{
+    if let Some(bits) = difference_bits(encoding) {
+        line.put(b"mseed: the difference before sample ");
+        put_outside(line, encoding, bits, index);
+    }
+}
+
+/// Puts which sample it is, counted from 1, and outside which numbers of so many bits it or its difference lies at the
+/// end of a line.
+fn put_outside(line: &mut Line, encoding: Encoding, bits: u32, index: usize)
+    requires some { 1 ≤ bits }
+    requires most { bits ≤ 32 }
+    requires room { length line.old + 117 ≤ LONGEST_LINE }
+    ensures { line.new ≡ line.old ++ outside_text encoding bits index }
+{
+    line.put_wide(index as u128 + 1);
+    line.put(b" is outside ");
+    put_range(line, bits);
+    line.put(b", which ");
+    line.put(encoding_name(encoding));
+    line.put(b" holds\n");
+}
+
+/// Puts the least and the greatest of the signed numbers of so many bits at the end of a line.
+fn put_range(line: &mut Line, bits: u32)
+    requires some { 1 ≤ bits }
+    requires most { bits ≤ 32 }
+    requires room { length line.old + 45 ≤ LONGEST_LINE }
+    ensures text { line.new ≡ line.old ++ range_text bits }
+    ensures most { length line.new ≤ length line.old + 45 }
+{
+    let half = 1_u64 << (bits - 1);
+    line.put(b"-");
+    line.put_count(half);
+    line.put(b" to ");
+    line.put_count(half - 1);
+}
+
+/// Returns the name that requests an encoding.
+fn encoding_name(encoding: Encoding) -> &'static [u8]
+    ensures text { result.now ≡ encoding_name encoding }
+    ensures most { length result.now ≤ 6 }
+{
+    match encoding {
+        Encoding::Int16 => b"int16",
+        Encoding::Int32 => b"int32",
+        Encoding::Steim1 => b"steim1",
+        Encoding::Steim2 => b"steim2",
+    }
+}
+
+/// Returns how many bits of a sample an encoding holds.
+fn sample_bits(encoding: Encoding) -> u32
+    ensures value { result ≡ sample_bits encoding }
+    ensures some { 1 ≤ result }
+    ensures most { result ≤ 32 }
+{
+    match encoding {
+        Encoding::Int16 => 16,
+        Encoding::Int32 | Encoding::Steim1 | Encoding::Steim2 => 32,
+    }
+}
+
+/// Returns how many bits of a difference an encoding holds; none where it writes no differences.
+fn difference_bits(encoding: Encoding) -> Option<u32>
+    ensures value { result ≡ difference_bits encoding }
+    ensures range { IfSome result (λ bits. 1 ≤ bits × bits ≤ 32) }
+{
+    match encoding {
+        Encoding::Int16 | Encoding::Int32 => None,
+        Encoding::Steim1 => Some(32),
+        Encoding::Steim2 => Some(30),
+    }
+}
