@@ -10,6 +10,7 @@ use std::process::Abort;
 use std::time::{Clock, Duration};
 
 /// A host at which no port can be had, by the number of the error.
+#[derive(Drop)]
 struct Refusing<'a, N: Net> {
     host: &'a N,
     number: i32,
