@@ -22,6 +22,7 @@ import os
 import re
 import resource
 import shutil
+import signal
 import subprocess
 import sys
 import time
@@ -117,6 +118,8 @@ def arguments() -> argparse.Namespace:
 
 def main() -> int:
     """Runs what the arguments ask for. The status is 1 where anything failed."""
+    # Where a shell has put this behind it, SIGINT is ignored, and it would be by all that is started here.
+    signal.signal(signal.SIGINT, signal.default_int_handler)
     given = arguments()
     if given.list:
         print("\n".join(names()))
