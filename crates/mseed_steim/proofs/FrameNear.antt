@@ -1,7 +1,7 @@
 -- How far a frame's differences go.
 use Rattle.std.proofs.Common.{refl, ◌≡◌, ℕ, zero, suc, ◌+◌, ◌-◌, ◌*◌, ◌/◌, ◌%◌, ◌^◌, ◌<◌}
 use Rattle.std.proofs.Common.{◌≤◌, List, [], ◌∷◌, length, map}
-use Rattle.std.proofs.Common.{get_or, subst, arith, ⊎_elim, pos, negsuc, nat_abs}
+use Rattle.std.proofs.Common.{get_or, sym, subst, arith, ⊎_elim, pos, negsuc, nat_abs}
 use Rattle.std.proofs.Common.{if◌then◌else◌, nat_lt}
 use Rattle.std.proofs.lemmas.Bool.{cases_lt, lt-ltb, le-ltb}
 use Rattle.std.proofs.Math.Nat.{mul-suc}
@@ -17,6 +17,7 @@ use Rattle.mseed_steim.specs.private.Lanes.{all_counts_two, all_widths_two, all_
 use Rattle.mseed_steim.specs.private.Lanes.{all_counts, all_widths}
 use Rattle.mseed_steim.specs.private.Unpacked.{differences_at}
 use Rattle.mseed_steim.proofs.Below.{sixteen}
+use Rattle.mseed_steim.proofs.LaneDigits.{place_at}
 use Rattle.mseed_steim.proofs.LaneSums.{long_words}
 use Rattle.mseed_steim.proofs.Words.{twice_half}
 use Rattle.mseed_steim.proofs.FrameSums.{row_small}
@@ -76,13 +77,13 @@ near_one word =
     (λ few. absurd (omega (arith, few))) (λ few. absurd (omega (arith, few))) (λ few. absurd (omega (arith, few)))
     (λ few. absurd (omega (arith, few)))
 
-all_near : (count far : ℕ → ℕ) → ((w : ℕ) → count w < 128 → far w ≤ 65536) → (ws : List ℕ) → sum_l (map count ws) < 128
+all_near : (far : ℕ → ℕ) (ws : List ℕ) → ((i : ℕ) → i < length ws → far (get_or ws i 0) ≤ 65536)
     → sum_l (map far ws) ≤ 65536 * length ws
-all_near count far h [] lt = omega arith
-all_near count far h (w ∷ ws) lt =
-    let a = h w (omega (arith, lt)) in
-    let b = all_near count far h ws (omega (arith, lt)) in
-    omega (arith, a, b)
+all_near far [] each = omega arith
+all_near far (w ∷ ws) each =
+    let one = each 0 (omega arith) in
+    let later = all_near far ws (λ i less. each (suc i) (omega (arith, less))) in
+    omega (arith, one, later)
 
 near_row : (s : Scheme) (word row : ℕ) → row < 16 → Near (widths_of s) (counts_of s) word row
 near_row One = near_one
@@ -112,9 +113,11 @@ near_at s f from h w few =
     rw (same.0, same.1) (near_row s (word_at f w) (row_at f from w) (row_small f from h w) few)
 
 pub unpacked_near : (s : Scheme) (f : List ℕ) (from : ℕ) → ((k : ℕ) → get_or f k 0 < 256)
-    → sum_l (map (λ w. get_or (counts_of s) (row_at f from w) 0) words) < 128
+    → ((w : ℕ) → w < 16 → get_or (counts_of s) (row_at f from w) 0 < 128)
     → sum_l (map (λ w. span (differences_at s f from w)) words) ≤ 1048576
 unpacked_near s f from h few =
     subst (λ n. sum_l (map (λ w. span (differences_at s f from w)) words) ≤ 65536 * n) long_words
-    (all_near (λ w. get_or (counts_of s) (row_at f from w) 0) (λ w. span (differences_at s f from w))
-    (near_at s f from h) words few)
+    (all_near (λ w. span (differences_at s f from w)) words (λ i less.
+    let inside : i < 16 = subst (λ n. i < n) long_words less in
+    subst (λ w. span (differences_at s f from w) ≤ 65536) (sym (place_at i inside))
+    (near_at s f from h i (few i inside))))

@@ -117,7 +117,7 @@ unfolding words
 near_sum s f from most = let all = span_unpacked s f from 15 1 in omega (arith, all, most)
 
 all_near : (s : Scheme) (f : List ℕ) (from : ℕ) → ((i : ℕ) → get_or f i 0 < 256)
-    → sum_l (map (λ w. get_or (counts_of s) (row_at f from w) 0) words) < 128 → span (unpacked s f from 1 15) ≤ 2 ^ 20
+    → ((w : ℕ) → w < 16 → get_or (counts_of s) (row_at f from w) 0 < 128) → span (unpacked s f from 1 15) ≤ 2 ^ 20
 all_near s f from octets few = near_sum s f from (unpacked_near s f from octets few)
 
 pub lanes_few : (s : Scheme) → lanes_of s ≤ 8
@@ -168,33 +168,31 @@ no_more_than_4 s f from octets some other good = inr (λ word less.
     omega (arith, octets (4 * word + 0), octets (4 * word + 1), octets (4 * word + 2), octets (4 * word + 3)) in
     few_by_row s (row_at f from word) (row_small f from octets word) (omega (arith, code, top)) (good word less))
 
--- where the words have few differences in all, none is bad
-all_good : (s : Scheme) (f : List ℕ) (from : ℕ)
-    → sum_l (map (λ w. get_or (all_counts s) (row_at f from w) 0) words) < 128 → AreGood s f from
-all_good s f from few word less =
-    let one = one_of_sum (map (λ w. get_or (all_counts s) (row_at f from w) 0) words) word in
-    let at = at_word (λ w. get_or (all_counts s) (row_at f from w) 0) word less in
+-- where the words have few differences in all, each has
+each_few : (count : ℕ → ℕ) → sum_l (map count words) < 128 → (word : ℕ) → word < 16 → count word < 128
+each_few count few word less =
+    let one = one_of_sum (map count words) word in
+    let at = at_word count word less in
     omega (arith, one, at, few)
 
--- nor where none has one of 30 or 32 bits
+-- where none is bad or has a difference of 30 or 32 bits, none is bad
 narrow_good : (s : Scheme) (f : List ℕ) (from : ℕ) → ((i : ℕ) → get_or f i 0 < 256)
-    → sum_l (map (λ w. get_or (counts_of s) (row_at f from w) 0) words) < 128 → AreGood s f from
+    → ((w : ℕ) → w < 16 → get_or (counts_of s) (row_at f from w) 0 < 128) → AreGood s f from
 narrow_good s f from octets few word less =
-    let one = one_of_sum (map (λ w. get_or (counts_of s) (row_at f from w) 0) words) word in
-    let at = at_word (λ w. get_or (counts_of s) (row_at f from w) 0) word less in
-    let same = alike s (row_at f from word) (row_small f from octets word) (omega (arith, one, at, few)) in
-    omega (arith, one, at, few, same.0)
+    let one = few word less in
+    let same = alike s (row_at f from word) (row_small f from octets word) one in
+    omega (arith, one, same.0)
 
 good_up_to : (w : Widest) (s : Scheme) (f : List ℕ) (from : ℕ) → ((i : ℕ) → get_or f i 0 < 256)
-    → sum_l (map (λ w'. get_or (counts_up_to w s) (row_at f from w') 0) words) < 128 → AreGood s f from
+    → ((x : ℕ) → x < 16 → get_or (counts_up_to w s) (row_at f from x) 0 < 128) → AreGood s f from
 good_up_to Bits16 s f from octets few = narrow_good s f from octets few
-good_up_to Bits32 s f from octets few = all_good s f from few
+good_up_to Bits32 s f from octets few = few
 
 -- what the words of a frame are unpacked to
 pub up_to : (w : Widest) (s : Scheme) (begin f : List ℕ) (ds : List ℤ) (count : ℕ) → ((i : ℕ) → get_or f i 0 < 256)
     → (from : ℕ) × Begins begin from → count ≤ 120
     → ((from : ℕ) → Begins begin from
-    → sum_l (map (λ x. get_or (counts_up_to w s) (row_at f from x) 0) words) < 128)
+    → (x : ℕ) → x < 16 → get_or (counts_up_to w s) (row_at f from x) 0 < 128)
     → ((from : ℕ) → Begins begin from → AreGood s f from → take count ds ≡ unpacked s f from 1 15)
     → AreUpTo w s begin f ds count
 up_to w s begin f ds count octets some inside few same = record {
@@ -206,7 +204,8 @@ up_to w s begin f ds count octets some inside few same = record {
   };
   near = λ e.
       let good = good_up_to w s f some.0 octets (few some.0 some.1) in
-      rw (same some.0 some.1 good) (all_near s f some.0 octets (rw e at (few some.0 some.1)));
+      let each = λ (x : ℕ) (less : x < 16). rw e at (few some.0 some.1 x less) in
+      rw (same some.0 some.1 good) (all_near s f some.0 octets each);
 }
 
 -- the words in two parts
@@ -274,6 +273,7 @@ pub told_by : (s : Scheme) (p f begin : List ℕ) (k from : ℕ) (lanes : MovedL
     → Tells s (words_from p (16 * k + from) (16 - from)) lanes
 told_by s p f begin k from lanes begins e h a = λ few.
     let narrow = subst (λ (n : ℕ). n < 128) a.count few in
+    let each = each_few (λ w. get_or (counts_of s) (row_at f from w) 0) narrow in
     let none = (reads_all s p f k from e h).empty 0 (begins_low begin from begins).0 in
     let empty = none_at s f from 0 none in
     let same = λ (w : ℕ). alike s (row_at f from w) (row_small f from h w) in
@@ -293,9 +293,9 @@ told_by s p f begin k from lanes begins e h a = λ few.
                   ∙ past_codes (λ w. get_or (all_counts s) (row_at f from w) 0) none);
               by_is = total_unpacked s f from 15 1
                   ∙ sym (past_codes_z (λ w. total (differences_at s f from w)) (ap total empty)) ∙ ap sum_z totals;
-              near = all_near s f from h narrow;
+              near = all_near s f from h each;
             },
-            all_spelled s p f begin k from begins e h (narrow_good s f from h narrow),
+            all_spelled s p f begin k from begins e h (narrow_good s f from h each),
           ),
         ),
       ),

@@ -40,6 +40,11 @@ unfolding words
 at_word f = sixteen (λ w. get_or (map f words) w 0 ≡ f w) refl refl refl refl refl refl refl refl refl refl refl refl
     refl refl refl refl
 
+pub place_at : (w : ℕ) → w < 16 → get_or words w 0 ≡ w
+unfolding words
+place_at = sixteen (λ w. get_or words w 0 ≡ w) refl refl refl refl refl refl refl refl refl refl refl refl refl refl
+    refl refl
+
 -- no number of a list is more than their sum
 pub one_of_sum : (xs : List ℕ) (i : ℕ) → get_or xs i 0 ≤ sum_l xs
 one_of_sum [] i = omega arith

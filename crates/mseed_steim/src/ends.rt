@@ -166,7 +166,7 @@ pub(crate) fn has_no_code_3(codes: u32) -> bool
     codes & (codes >> 1) & LOWER_BITS == 0
 }
 
-/// The same of a frame's words, each of which is looked at.
+/// Whether each word of a frame is narrow, looked at one by one.
 #[cold]
 fn are_words_narrow(payload: &[u8], frame: usize, codes: u32) -> bool
     requires inside { 64 * (frame + 1) ≤ length payload.now }

@@ -220,7 +220,7 @@ macro_rules! rows_one {
     };
 }
 
-/// The same; 128 where it has one of 32 bits.
+/// How many differences a word of a row of Steim-1 has; 128 where it has one of 32 bits.
 pub(crate) const COUNT_ONE: Rows = [0, 0, 0, 0, 4, 4, 4, 4, 2, 2, 2, 2, 128, 128, 128, 128];
 
 /// What counts for 1.
@@ -321,7 +321,7 @@ fn run_of(scheme: Scheme, frames: &[[u8; 64]], begin: Rows, most: usize) -> Run
     }
 }
 
-/// The same, by a body for each scheme.
+/// What [`run_of`] says of frames, by a body for each scheme.
 pub(crate) fn moves_of(scheme: Scheme, frames: &[[u8; 64]], begin: Rows, most: usize) -> Run
     requires { length frames.now ≤ RUN }
     ensures { IsRun scheme frames.now begin most result }

@@ -124,7 +124,7 @@ fn fill_payload(scheme: Scheme, payload: &[u8], out: &mut [i32]) -> Option<Ends>
     Some(constants)
 }
 
-/// The same of a record, whose ends these are.
+/// Fills in the steps of a record's samples, where no bad word comes before, and answers the record's ends.
 #[inline(always)]
 fn fill_known(view: &RecordView<'_>, out: &mut [i32]) -> Option<Ends>
     requires some { 0 < count_of (view_of view.now) }

@@ -5,6 +5,7 @@
 //! (a mask), and for how much they count (a weight, at most 64).
 
 ghost use Rattle.std.specs.Prelude.{◌≡◌, ◌<◌, ◌≤◌, ◌+◌, ◌*◌, ◌%◌, ◌^◌, ℕ, length, map, slice_index, bit_and};
+ghost use Rattle.std.specs.Bool.{OnTrue};
 ghost use Rattle.std.specs.Simd.Lanes.{Each1, all_below, sum_l};
 ghost use lib.Dec.{T};
 ghost use Rattle.mseed_steim.specs.private.Lanes.{words, byte_at, row_at, Begins, kept, kept_by, turned};
@@ -71,7 +72,7 @@ pub(crate) fn part(plane: u8x16, rows: u8x16, mask: Rows, weight: Rows) -> u32x4
     kept.dot4(look_up(weight, rows))
 }
 
-/// The same, where all rows have one weight.
+/// The weighted sum of a part of a plane of bytes, where all rows have one weight.
 #[inline(always)]
 pub(crate) fn part_by(plane: u8x16, rows: u8x16, mask: Rows, weight: u8) -> u32x4
     requires rows { Each1 (λ r. r < 16) rows }
@@ -140,6 +141,18 @@ pub(crate) fn planes(frame: &[u8; 64]) -> (u8x16, u8x16, u8x16, u8x16)
             [8, 9, 10, 11, 12, 13, 14, 15, 24, 25, 26, 27, 28, 29, 30, 31],
         ),
     )
+}
+
+/// Whether a table of at most 128 for a row has less for each of the rows.
+#[inline(always)]
+pub(crate) fn are_low(rows: u8x16, table: Rows) -> bool
+    requires rows { Each1 (λ r. r < 16) rows }
+    requires few { T (all_below 129 table) }
+    ensures { OnTrue result ((row : ℕ → ℕ) → rows ≡ map row words
+        → (word : ℕ) → word < 16 → slice_index table (row word) < 128) }
+{
+    let high = look_up(table, rows).simd_ge(u8x16::splat(128)).to_bitmask();
+    high == 0
 }
 
 /// The sum of two vectors.

@@ -16,7 +16,7 @@ ghost use lib.Dec.{T};
 
 use crate::ends::has_no_code_3;
 use crate::frame::{COUNT_ONE, COUNT_TWO};
-use crate::lanes::{Rows, counted, planes, rows_of};
+use crate::lanes::{Rows, are_low, planes, rows_of};
 use crate::scheme::Scheme;
 use std::simd::prelude::*;
 
@@ -314,13 +314,14 @@ fn unpack_by(
 {
     let (tops, _, _, _) = planes(frame);
     let rows = rows_of(frame, tops, begin);
-    if counted(rows, counts_of(scheme, widest)) >= 128 {
-        return None;
+    if are_low(rows, counts_of(scheme, widest)) {
+        return Some(unpack_words(scheme, frame, rows, differences));
     }
-    Some(unpack_words(scheme, frame, rows, differences))
+    None
 }
 
-/// The same, by a body for each scheme, with its own table and lanes.
+/// The differences of a frame's words from word 1, 3 or 4 on, in their order: how many there are. None where a word is
+/// bad, or a difference is wider. There is a body for each scheme, with its own table and lanes.
 #[inline(always)]
 pub(crate) fn unpack_frame(
     scheme: Scheme,

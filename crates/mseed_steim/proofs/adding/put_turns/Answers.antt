@@ -1,4 +1,4 @@
-use Rattle.std.proofs.Common.{◌≡◌, ◌+◌, ◌-◌, ◌*◌, ◌^◌, ◌<◌, ℕ, ◌∙◌, nat_abs, w32, to_z, map, get_or, pos}
+use Rattle.std.proofs.Common.{◌≡◌, ◌+◌, ◌*◌, ◌^◌, ◌<◌, ℕ, ◌∙◌, nat_abs, w32, to_z, map, get_or, pos}
 use Rattle.std.proofs.Common.{arith, rules, refl, drop, []}
 use Rattle.std.proofs.lemmas.Int.{ints, to_z-of_z}
 use Rattle.std.proofs.Math.ListN.{drop_of_length-le}
