@@ -172,7 +172,7 @@ fn most_two(sizes: u16x16) -> u8x16
     narrow.simd_min(wide) - (sizes >> u16x16::splat(14)).cast::<u8>()
 }
 
-/// The same of Steim-1.
+/// The most differences of a word of Steim-1 that holds two or more, by the near size of one of them.
 #[inline(always)]
 fn most_one(sizes: u16x16) -> u8x16
     requires { Each1 (λ x. x < 32768) sizes }
@@ -199,7 +199,7 @@ fn put_most_one<D: Steps>(diffs: &D, most: &mut Most)
     }
 }
 
-/// The same of differences of Steim-2 that are cut off at 16 bits.
+/// The most differences of words that hold two or more, by one of them that is cut off at 16 bits, in Steim-2.
 #[inline(always)]
 fn put_most_two(cut: &Cut, most: &mut Most)
     requires { (i : ℕ) → i < AHEAD → size_of (slice_index_or cut.now i (pos 0)) < 32768 }
@@ -211,8 +211,8 @@ fn put_most_two(cut: &Cut, most: &mut Most)
     }
 }
 
-/// The same of a scheme. In Steim-2 the differences are cut off before anything else, in a loop of their own, so that
-/// sizes are found eight at once.
+/// The most differences of words that hold two or more, by one of them, in a scheme. In Steim-2 the differences are cut
+/// off before anything else, in a loop of their own, so that sizes are found eight at once.
 #[inline(always)]
 fn put_most<D: Steps>(scheme: Scheme, diffs: &D, most: &mut Most, cut: &mut Cut)
     requires { AHEAD ≤ length (D.differences diffs.now) }
@@ -256,7 +256,7 @@ fn most_from(held: &[u8]) -> u8x16
     at_most(most, held, 6)
 }
 
-/// The same from each place on, in the place of the items.
+/// Puts in the place of each item how many of the first items from there on are such that each is no less.
 #[inline(always)]
 fn bound(held: &mut Most)
     ensures { (i : ℕ) → i < AHEAD → IsMost held.old i (slice_index held.new i) }
@@ -293,7 +293,8 @@ fn padded(diffs: &[i32]) -> [i32; AHEAD]
     padded
 }
 
-/// The same of fewer differences than are looked at. Nothing is reported of the last seven.
+/// The most of fewer differences than are looked at that are held from each place on; nothing is reported of the last
+/// seven.
 #[cold]
 fn look_at_few(scheme: Scheme, diffs: &[i32], most: &mut Most, cut: &mut Cut)
     requires some { 7 ≤ length diffs.now }
@@ -323,7 +324,8 @@ pub(crate) fn look_at(scheme: Scheme, diffs: &[i32], most: &mut Most, cut: &mut 
     }
 }
 
-/// The same of the differences of samples, as many as are looked at.
+/// The most differences of samples that are held from each of the first 121 places on, as [`look_at`] says of a list of
+/// differences. As many samples are looked at as it looks at differences.
 #[inline(never)]
 pub(crate) fn look_at_samples(
     scheme: Scheme,
@@ -341,7 +343,8 @@ pub(crate) fn look_at_samples(
     look_at(scheme, &diffs[..count], most, cut);
 }
 
-/// The same of the differences between neighbours of a list, as many as are looked at.
+/// The most differences between neighbours of a list that are held from each of the first 121 places on, as [`look_at`]
+/// says of a list of differences.
 #[inline(never)]
 pub(crate) fn look_at_neighbours(scheme: Scheme, samples: &[i32], most: &mut Most, cut: &mut Cut)
     requires { AHEAD < length samples.now }

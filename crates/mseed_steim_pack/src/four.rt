@@ -127,7 +127,7 @@ fn four_two(known: &Lookahead, place: usize) -> Option<FourWords>
     Some(joined(a, b, c, d))
 }
 
-/// The same of three words.
+/// The next three words of Steim-2 from a place on, where so many are known ahead.
 #[inline(always)]
 fn three_two(known: &Lookahead, place: usize) -> Option<ThreeWords>
     requires { (ds : List ℤ) × IsLookahead Two (known_from known.now place) ds }

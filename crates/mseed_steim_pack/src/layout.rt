@@ -93,7 +93,7 @@ macro_rules! layout_two {
 /// Where no word holds so many.
 const NO_LAYOUT_ONE: LayoutOne = layout_one!(0, 0 of 0, 0, [0, 0, 0, 0, 0, 0, 0, 0]);
 
-/// The same; and where a word holds one, which may have more than 15 bits.
+/// Where no word holds so many, and where a word holds one, which may have more than 15 bits.
 const NO_LAYOUT_TWO: LayoutTwo =
     layout_two!(0, 0, 0 of 0, 0, 0, [0, 0, 0, 0, 0, 0, 0, 0], [0, 0, 0, 0]);
 
@@ -110,7 +110,8 @@ static LAYOUTS_TWO: [LayoutTwo; LANES] = [
     layout_two!(3, 2, 7 of 4, 0xF, 0x8000_0000, [0x10, 1, 0x10, 1, 0x10, 1, 1, 0], [0x10_0000, 0x1000, 0x10, 1]),
 ];
 
-/// The same of Steim-1, which has words of 1, 2 and 4: of three it takes two.
+/// The layouts of Steim-1, by how many differences of the next are held by the words that hold each. It has words of 1,
+/// 2 and 4: of three it takes two.
 static LAYOUTS_ONE: [LayoutOne; LANES] = [
     NO_LAYOUT_ONE,
     layout_one!(3, 1 of 32, 0xFFFF_FFFF, [1, 0, 0, 0, 0, 0, 0, 0]),
@@ -131,7 +132,7 @@ fn layout_one(most: usize) -> &'static LayoutOne
     &LAYOUTS_ONE[most]
 }
 
-/// The same of Steim-2, where two or more are held.
+/// The layout of a word of Steim-2 by the most differences that are held, two or more.
 #[inline(always)]
 fn layout_two(most: usize) -> &'static LayoutTwo
     requires some { 2 ≤ most }
@@ -158,7 +159,7 @@ pub(crate) fn join_one(layout: &LayoutOne, diffs: &[i32]) -> u32
     word
 }
 
-/// The same of the differences of samples.
+/// The first differences of eight or more samples, as many as a row of Steim-1 has, as [`join_one`] joins them.
 #[inline(always)]
 pub(crate) fn join_samples(layout: &LayoutOne, before: i32, samples: &[i32]) -> u32
     requires eight { 8 ≤ length samples.now }
@@ -242,7 +243,8 @@ fn taken_one(most: usize) -> usize
     if most == 3 { 2 } else { most }
 }
 
-/// The same of Steim-2, by the differences cut off at 16 bits.
+/// The fullest word of Steim-2, where it is known ahead, by the differences cut off at 16 bits: its code, its bits and
+/// how many differences it takes.
 #[inline(always)]
 fn word_two(most: usize, cut: &[i16]) -> (u32, u32, usize)
     requires some { 2 ≤ most }

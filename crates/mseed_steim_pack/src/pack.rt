@@ -72,7 +72,7 @@ pub fn pack_word(scheme: Scheme, diffs: &[i32]) -> Result<(u8, u32, usize), TooL
     }
 }
 
-/// The same word of so many of the differences of samples, seven at the most.
+/// The fullest word of so many of the differences of samples, seven at the most.
 #[inline(always)]
 fn pack_first(
     scheme: Scheme,
@@ -93,7 +93,7 @@ fn pack_first(
     pack_word(scheme, &diffs[..count])
 }
 
-/// The same of all differences of samples: no more of them are written down than a word may take.
+/// The fullest word of the differences of samples: no more of these are written down than a word may take.
 #[inline(always)]
 pub(crate) fn pack_sampled(
     scheme: Scheme,
@@ -115,7 +115,7 @@ pub(crate) fn pack_sampled(
     }
 }
 
-/// The same word, by the most of them that are held, where two or more are known to be.
+/// The fullest word of pending differences, by the most of them that are held, where two or more are known to be.
 #[inline(always)]
 fn next_word<P: Pending>(
     scheme: Scheme,
@@ -186,7 +186,7 @@ fn push_word(frames: &mut [u8], index: usize, codes: u32, code: u32, word: u32) 
     with_code(codes, code)
 }
 
-/// The same of three words.
+/// Writes three data words, and puts their codes after those of the frame: all of these.
 #[inline(always)]
 fn push_three(frames: &mut [u8], index: usize, codes: u32, three: &ThreeWords) -> u32
     requires room { 4 * (index + 3) ≤ length frames.old }
@@ -199,7 +199,7 @@ fn push_three(frames: &mut [u8], index: usize, codes: u32, three: &ThreeWords) -
     push_word(frames, index + 2, codes, three.third.0, three.third.1)
 }
 
-/// The same of four words.
+/// Writes four data words, and puts their codes after those of the frame: all of these.
 #[inline(always)]
 fn push_four(frames: &mut [u8], index: usize, codes: u32, four: &FourWords) -> u32
     requires room { 4 * (index + 4) ≤ length frames.old }

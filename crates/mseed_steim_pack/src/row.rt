@@ -104,7 +104,7 @@ pub(crate) fn is_wide(scheme: Scheme, difference: i32) -> bool
     size_of(difference) >= size_limit(scheme, 2)
 }
 
-/// The same of seven or more.
+/// The largest number of seven or more differences that a word holds.
 #[inline(always)]
 fn most_of_seven(scheme: Scheme, diffs: &[i32]) -> usize
     requires { 7 ≤ length diffs.now }

@@ -36,7 +36,7 @@ pub struct Stretch {
     pub ghost samples_bound: { samples ≤ records * 65_535 },
     /// At most one leap second happens during a record.
     pub ghost added_low: { neg_ℤ (pos (records * 1_000_000)) ≤ℤ added },
-    /// The same of seconds that were inserted.
+    /// At most one leap second is inserted during a record.
     pub ghost added_high: { added ≤ℤ pos (records * 1_000_000) },
 }
 
