@@ -70,7 +70,7 @@ impl Line {
     /// Puts a code at its end, as it is printed, without its trailing spaces and NULs. Those are written too, after the
     /// line's end, so that the number of writes is that of the code's bytes.
     #[inline(always)]
-    pub(crate) fn put_code(&mut self, code: &[u8])
+    pub fn put_code(&mut self, code: &[u8])
         requires { length self.old + length code.now ≤ LONGEST_LINE }
         ensures text { self.new ≡ self.old ++ code_text code.now }
         ensures most { length self.new ≤ length self.old + length code.now }
