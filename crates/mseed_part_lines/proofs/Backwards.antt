@@ -126,7 +126,7 @@ some_head_back h rest fits e =
       ratio_back h.rate rest fits.rate e,
     ) refl
 
-head_back : (h : Option Head) (rest : List ℕ) → IfSome h HasHead → Ends rest
+pub head_back : (h : Option Head) (rest : List ℕ) → IfSome h HasHead → Ends rest
     → head_at (text_or_none head_text h ++ rest) ≡ Some (h, rest)
 unfolding head_at
 head_back None rest fits e = refl
@@ -152,7 +152,7 @@ some_tail_back t rest fits =
       lt-ltb 0 t.samples fits.some,
     ) refl
 
-tail_back : (t : Option Tail) (rest : List ℕ) → IfSome t HasTail
+pub tail_back : (t : Option Tail) (rest : List ℕ) → IfSome t HasTail
     → tail_at (text_or_none tail_text t ++ rest) ≡ Some (t, rest)
 unfolding tail_at
 tail_back None rest fits = refl

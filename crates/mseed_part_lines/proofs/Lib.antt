@@ -3,6 +3,7 @@ pub mod Digits
 pub mod DigitLanes
 pub mod HexLanes
 pub mod HexPairs
+pub mod FirstBad
 pub mod FirstReason
 pub mod Prefixes
 pub mod Keys

@@ -57,12 +57,12 @@ use Rattle.mseed_part_lines.proofs.Prefixes.{last_differs_leading}
 use Rattle.mseed_part_lines.proofs.Keys.{IsKey, key_spelled}
 
 -- a step that answered, and the steps after it
-bind_then : {A B : Type 0} (P : Type 0) (o : Option A) (f : A → Option B) (y : B) → (o >>= f) ≡ Some y
+pub bind_then : {A B : Type 0} (P : Type 0) (o : Option A) (f : A → Option B) (y : B) → (o >>= f) ≡ Some y
     → ((x : A) → o ≡ Some x → f x ≡ Some y → P) → P
 bind_then P None f y e k = absurd (none-some y e)
 bind_then P (Some x) f y e k = k x refl e
 
-leading : (w a b c : List ℕ) → a ≡ w ++ b → b ≡ c → a ≡ w ++ c
+pub leading : (w a b c : List ℕ) → a ≡ w ++ b → b ≡ c → a ≡ w ++ c
 leading w a b c e h = e ∙ ap (λ (t : List ℕ). w ++ t) h
 
 counts : (n : ℕ) → nat_lt 0 n ≡ true → 0 < n
@@ -72,7 +72,7 @@ same : (m n : ℕ) → nat_eq m n ≡ true → m ≡ n
 same m n e = grind (arith, nat_tests)
 
 -- what was read is the text of it, before what is left
-abbrev IsRead : {X : Type 0} → (X → List ℕ) → (X → Type 0) → List ℕ → X × List ℕ → Type 0
+abbrev pub IsRead : {X : Type 0} → (X → List ℕ) → (X → Type 0) → List ℕ → X × List ℕ → Type 0
 IsRead text Fits bytes y = (bytes ≡ text y.0 ++ y.1) × Fits y.0
 
 abbrev Any : {X : Type 0} → X → Type 0
@@ -99,9 +99,9 @@ named_spelled text (x ∷ xs) bytes y e =
     (named_spelled text xs bytes y)
 
 -- a number after a word
-record IsAfter (word : List ℕ) (largest : ℕ) (bytes : List ℕ) (x : ℕ × List ℕ) : Type 0 where
-  is : bytes ≡ word ++ (decimal x.0 ++ x.1)
-  bounded : x.0 ≤ largest
+pub record IsAfter (word : List ℕ) (largest : ℕ) (bytes : List ℕ) (x : ℕ × List ℕ) : Type 0 where
+  pub is : bytes ≡ word ++ (decimal x.0 ++ x.1)
+  pub bounded : x.0 ≤ largest
 
 after_spelled : (word : List ℕ) (largest : ℕ) (bytes : List ℕ) (x : ℕ × List ℕ) → largest < 10 ^ 64
     → number_after word largest bytes ≡ Some x → IsAfter word largest bytes x
@@ -113,7 +113,7 @@ after_spelled word largest bytes x few e =
     })
 
 -- a count after a word, and the steps after it
-count_then : {B : Type 0} (P : Type 0) (word bytes : List ℕ) (f : ℕ × List ℕ → Option B) (y : B)
+pub count_then : {B : Type 0} (P : Type 0) (word bytes : List ℕ) (f : ℕ × List ℕ → Option B) (y : B)
     → (number_after word (2 ^ 63 - 1) bytes >>= f) ≡ Some y
     → ((x : ℕ × List ℕ) → IsAfter word (2 ^ 63 - 1) bytes x → f x ≡ Some y → P) → P
 count_then P word bytes f y e k = bind_then P (number_after word (2 ^ 63 - 1) bytes) f y e (λ x is more.
@@ -250,12 +250,12 @@ or_none_spelled {X} text Fits read spelled bytes y e =
     subst (λ (z : Option X × List ℕ). IsRead (λ o. text_or_none text o) (λ o. IfSome o Fits) bytes z)
     (same_Some (Some x.0, x.1) y more) (r.0, r.1)))
 
-head_spelled : (bytes : List ℕ) (y : Option Head × List ℕ) → head_at bytes ≡ Some y
+pub head_spelled : (bytes : List ℕ) (y : Option Head × List ℕ) → head_at bytes ≡ Some y
     → IsRead (λ o. text_or_none head_text o) (λ o. IfSome o HasHead) bytes y
 unfolding head_at
 head_spelled bytes y e = or_none_spelled head_text HasHead some_head_at some_head_spelled bytes y e
 
-tail_spelled : (bytes : List ℕ) (y : Option Tail × List ℕ) → tail_at bytes ≡ Some y
+pub tail_spelled : (bytes : List ℕ) (y : Option Tail × List ℕ) → tail_at bytes ≡ Some y
     → IsRead (λ o. text_or_none tail_text o) (λ o. IfSome o HasTail) bytes y
 unfolding tail_at
 tail_spelled bytes y e = or_none_spelled tail_text HasTail some_tail_at some_tail_spelled bytes y e
