@@ -6,11 +6,14 @@ use Rattle.mseed_audit.specs.declared.channel.Channel.{Channel}
 use Rattle.mseed_parts.specs.Parts.{IsAscending}
 use Rattle.mseed_part_lines.specs.Lines.{Line, header, channel, counts, faults, fault, text_of_line, IsLine}
 use Rattle.mseed_part_lines.specs.Lines.{header_line, channel_line, HasChannelLine, HasFaultLine}
+use Rattle.mseed_part_lines.specs.Fields.{IsFirstBad}
+use Rattle.mseed_part_lines.specs.declared.bad_field.Field.{Field}
+use Rattle.mseed_part_lines.proofs.FirstBad.{bad_field_one}
 use Rattle.mseed_part_lines.proofs.OneLine.{channel_one, line_one}
 use Rattle.mseed_join.specs.declared.flaw.Flaw.{Flaw}
 use Rattle.mseed_join.specs.declared.flaw.Flaw.TheVariants.{Beginning, Row, Order, Ending, Limit, Long}
 use Rattle.mseed_join.specs.declared.flaw.Flaw.TheVariants.{Unended as NoEnd, Missing}
-use Rattle.mseed_join.specs.Flaws.{May, IsNoChannel, IsNoCounts, IsNoFault, IsNoFaults, IsFlawOf, IsFlaw}
+use Rattle.mseed_join.specs.Flaws.{May, IsNoChannel, IsNoCounts, IsNoFault, IsNoFaults, IsFlawOf, IsFlaw, begun_as}
 use Rattle.mseed_join.specs.Joined.{HasNoEnd}
 use Rattle.mseed_join.specs.Reached.{OpenPart, none, begun, whole}
 use Rattle.mseed_join.specs.Written.{Written}
@@ -36,14 +39,20 @@ record IsNoEnding (w : Written) (line : List ℕ) : Type 0 where
   fault : IsNoFault w.part.bytes line
   faults : w.faults ≡ 0 → IsNoFaults line
 
+-- it is no line of a channel, and none of counts, and its first bad field is this one
+record IsNoRow (field : Field) (line : List ℕ) : Type 0 where
+  channel : IsNoChannel line
+  counts : IsNoCounts line
+  first : IsFirstBad field line
+
 -- a flaw, by what stands before the line
 abbrev Told : Flaw → OpenPart → List ℕ → Type 0
 Told f none line = ((f ≡ Beginning) × (line ≢ header_line)) ⊎ ((f ≡ Limit) × Stands none line)
 Told f (begun channels) line =
-    ((f ≡ Row) × IsNoChannel line × IsNoCounts line)
+    ((field : Field) × ((f ≡ Row field) × IsNoRow field line))
     ⊎ (((key : List ℕ) × ((f ≡ Order key) × IsDisordered channels key line))
     ⊎ ((f ≡ Limit) × Stands (begun channels) line))
-Told f (whole w) line = ((f ≡ Ending) × IsNoEnding w line) ⊎ ((f ≡ Limit) × Stands (whole w) line)
+Told f (whole w) line = ((f ≡ Ending (begun_as line)) × IsNoEnding w line) ⊎ ((f ≡ Limit) × Stands (whole w) line)
 
 stands_told : (last : OpenPart) (line : List ℕ) → Stands last line → Told Limit last line
 stands_told none line s = inr (refl, s)
@@ -52,7 +61,8 @@ stands_told (whole w) line s = inr (refl, s)
 
 told : (f : Flaw) (last : OpenPart) (line : List ℕ) → IsFlawOf f last line → Told f last line
 told _ _ _ (IsFlawOf.beginning line other) = inl (refl, other)
-told _ _ _ (IsFlawOf.row channels line no_channel no_counts) = inl (refl, no_channel, no_counts)
+told _ _ _ (IsFlawOf.row channels line field no_channel no_counts first) =
+    inl (field, (refl, record { channel = no_channel; counts = no_counts; first = first }))
 told _ _ _ (IsFlawOf.order channels key c line fits is never) =
     inr (inl (key, (refl, record { c = c; fits = fits; is = is; never = never })))
 told _ _ _ (IsFlawOf.ending w line other no_fault no_faults) =
@@ -71,14 +81,14 @@ no_beginning line other s = by s.x s.may s.text
     by (faults n) m t = m
     by (fault l f) m t = m
 
-no_row : (channels : List (List ℕ × Channel)) (line : List ℕ) → IsNoChannel line → IsNoCounts line
+no_row : (channels : List (List ℕ × Channel)) (field : Field) (line : List ℕ) → IsNoRow field line
     → Stands (begun channels) line → ⊥
-no_row channels line no_channel no_counts s = by s.x s.is_line s.may s.text
+no_row channels field line e s = by s.x s.is_line s.may s.text
   where
     by : (x : Line) → IsLine x → May (begun channels) x → text_of_line x ≡ line → ⊥
     by header i m t = m
-    by (channel key c) i m t = no_channel key c i (sym t)
-    by (counts n l) i m t = no_counts n l i (sym t)
+    by (channel key c) i m t = e.channel key c i (sym t)
+    by (counts n l) i m t = e.counts n l i (sym t)
     by (faults n) i m t = m
     by (fault l f) i m t = m
 
@@ -107,14 +117,15 @@ one_of f g none line (inl a) (inl b) = a.0 ∙ sym b.0
 one_of f g none line (inl a) (inr b) = absurd (no_beginning line a.1 b.1)
 one_of f g none line (inr a) (inl b) = absurd (no_beginning line b.1 a.1)
 one_of f g none line (inr a) (inr b) = a.0 ∙ sym b.0
-one_of f g (begun channels) line (inl a) (inl b) = a.0 ∙ sym b.0
-one_of f g (begun channels) line (inl a) (inr (inl b)) = absurd (a.1 b.0 b.1.1.c b.1.1.fits b.1.1.is)
-one_of f g (begun channels) line (inl a) (inr (inr b)) = absurd (no_row channels line a.1 a.2 b.1)
-one_of f g (begun channels) line (inr (inl a)) (inl b) = absurd (b.1 a.0 a.1.1.c a.1.1.fits a.1.1.is)
+one_of f g (begun channels) line (inl a) (inl b) =
+    a.1.0 ∙ ap (λ (field : Field). Row field) (bad_field_one a.0 b.0 line a.1.1.first b.1.1.first) ∙ sym b.1.0
+one_of f g (begun channels) line (inl a) (inr (inl b)) = absurd (a.1.1.channel b.0 b.1.1.c b.1.1.fits b.1.1.is)
+one_of f g (begun channels) line (inl a) (inr (inr b)) = absurd (no_row channels a.0 line a.1.1 b.1)
+one_of f g (begun channels) line (inr (inl a)) (inl b) = absurd (b.1.1.channel a.0 a.1.1.c a.1.1.fits a.1.1.is)
 one_of f g (begun channels) line (inr (inl a)) (inr (inl b)) =
     a.1.0 ∙ ap (λ (key : List ℕ). Order key) (one_key channels a.0 b.0 line a.1.1 b.1.1) ∙ sym b.1.0
 one_of f g (begun channels) line (inr (inl a)) (inr (inr b)) = absurd (no_order channels a.0 line a.1.1 b.1)
-one_of f g (begun channels) line (inr (inr a)) (inl b) = absurd (no_row channels line b.1 b.2 a.1)
+one_of f g (begun channels) line (inr (inr a)) (inl b) = absurd (no_row channels b.0 line b.1.1 a.1)
 one_of f g (begun channels) line (inr (inr a)) (inr (inl b)) = absurd (no_order channels b.0 line b.1.1 a.1)
 one_of f g (begun channels) line (inr (inr a)) (inr (inr b)) = a.0 ∙ sym b.0
 one_of f g (whole w) line (inl a) (inl b) = a.0 ∙ sym b.0

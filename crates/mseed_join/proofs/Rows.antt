@@ -1,6 +1,6 @@
 -- A line, by where it stands: what it is taken as, and what no parts go on with.
 use Rattle.std.proofs.Common.{◌≡◌, ◌≢◌, ℕ, List, [], ◌∷◌, ◌++◌, Bool, true, false, Option, Some}
-use Rattle.std.proofs.Common.{None, refl, sym, ◌∙◌, subst, arith, inl, Result, Ok, Err}
+use Rattle.std.proofs.Common.{None, refl, sym, ap, ◌∙◌, subst, arith, inl, Result, Ok, Err}
 use Rattle.std.specs.Prelude.{codes, IfErr, OnOk}
 use Rattle.std.specs.List.Sorted.{IsStrictlySortedBy}
 use Rattle.std.specs.Ordering.{nat_cmp}
@@ -16,6 +16,8 @@ use Rattle.mseed_part_lines.specs.Lines.{Line, header, channel, counts, faults, 
 use Rattle.mseed_part_lines.specs.Lines.{header_line}
 use Rattle.mseed_part_lines.specs.Lines.{channel_line, counts_line, faults_line, HasChannelLine, HasCountsLine}
 use Rattle.mseed_part_lines.specs.Lines.{HasFaultsLine, HasFaultLine}
+use Rattle.mseed_part_lines.specs.Fields.{IsFirstBad}
+use Rattle.mseed_part_lines.specs.declared.bad_field.Field.{Field}
 use Rattle.mseed_join.specs.Written.{Written}
 use Rattle.mseed_join.specs.Joined.{AreJoined, Begins, HasNoEnd, none as no_more, nothing}
 use Rattle.mseed_join.specs.Reached.{OpenPart, none, begun, whole, Stage, begun_part, open_part, start}
@@ -26,9 +28,10 @@ use Rattle.mseed_join.specs.declared.joint.Place.{Place}
 use Rattle.mseed_join.specs.declared.joint.Place.TheVariants.{Start, Channels, Whole}
 use Rattle.mseed_join.specs.declared.joint.Reported.{Reported}
 use Rattle.mseed_join.specs.private.Steps.{May, to}
+use Rattle.mseed_join.specs.declared.flaw.Closing.{Closing}
 use Rattle.mseed_join.specs.declared.flaw.Flaw.{Flaw}
 use Rattle.mseed_join.specs.declared.flaw.Flaw.TheVariants.{Beginning, Ending, Order, Row}
-use Rattle.mseed_join.specs.Flaws.{IsFlawOf, IsNoChannel, IsNoCounts, IsNoFault}
+use Rattle.mseed_join.specs.Flaws.{IsFlawOf, IsNoChannel, IsNoCounts, IsNoFault, begun_as}
 use Rattle.mseed_join.specs.private.Taking.{IsAfterKey, IsFlawed, IsLastKey, IsLimit, IsLineStep, IsPlace, IsReadTo}
 use Rattle.mseed_join.specs.private.Taking.{IsStep, IsTaken}
 use Rattle.mseed_join.proofs.Ahead.{IsNextLine, next_line}
@@ -279,16 +282,17 @@ pub order_flaw : {A : Type 0} → (old : Joint A) (last : Option (List ℕ)) (li
 order_flaw old last line key c at is fits never lines s q =
     order_at last line s.last key c (row_place old last s.last at q.place) is fits never
 
-row_at : (last : Option (List ℕ)) (line : List ℕ) (b : OpenPart) → IsPlace (Channels last) b → IsNoChannel line
-    → IsNoCounts line → IsFlawOf Row b line
-row_at last line none p f g = absurd p
-row_at last line (begun cs) p f g = IsFlawOf.row cs line f g
-row_at last line (whole w) p f g = absurd p
+row_at : (last : Option (List ℕ)) (line : List ℕ) (field : Field) (b : OpenPart) → IsPlace (Channels last) b
+    → IsNoChannel line → IsNoCounts line → IsFirstBad field line → IsFlawOf (Row field) b line
+row_at last line field none p f g first = absurd p
+row_at last line field (begun cs) p f g first = IsFlawOf.row cs line field f g first
+row_at last line field (whole w) p f g first = absurd p
 
-pub row_flaw : {A : Type 0} → (old : Joint A) (last : Option (List ℕ)) (line : List ℕ) → old.place ≡ Channels last
-    → IsNoChannel line → IsNoCounts line → (lines : List ℕ) (s : Stage) → IsReadTo lines s old
-    → IsFlawOf Row s.last line
-row_flaw old last line at f g lines s q = row_at last line s.last (row_place old last s.last at q.place) f g
+pub row_flaw : {A : Type 0} → (old : Joint A) (last : Option (List ℕ)) (line : List ℕ) (field : Field)
+    → old.place ≡ Channels last → IsNoChannel line → IsNoCounts line → IsFirstBad field line → (lines : List ℕ)
+    (s : Stage) → IsReadTo lines s old → IsFlawOf (Row field) s.last line
+row_flaw old last line field at f g first lines s q =
+    row_at last line field s.last (row_place old last s.last at q.place) f g first
 
 pub channel_flaw : {A : Type 0} → (old : Joint A) (last : Option (List ℕ)) (line : List ℕ) (key : List ℕ) (c : Channel)
     (r : Result Reported LineFault) → old.place ≡ Channels last → line ≡ channel_line key c → HasChannelLine key c
@@ -337,7 +341,7 @@ beginning_flaw old line (Err e) at bad lines s q =
     (beginning_at line s.last (subst (λ (p : Place). IsPlace p s.last) at q.place) bad.1)
 
 ending_at : (l : ℕ) (has : Bool) (line : List ℕ) (b : OpenPart) → IsPlace (Whole l has) b → line ≢ header_line
-    → IsNoOther (Whole l has) line → IsFlawOf Ending b line
+    → IsNoOther (Whole l has) line → IsFlawOf (Ending (begun_as line)) b line
 ending_at l has line none p named other = absurd p
 ending_at l has line (begun cs) p named other = absurd p
 ending_at l false line (whole w) p named other =
@@ -346,13 +350,14 @@ ending_at l true line (whole w) p named other =
     IsFlawOf.ending w line named (subst (λ (n : ℕ). IsNoFault n line) p.0 other)
     (λ z. absurd (omega (arith, p.1, z)))
 
-pub ending_flaw : {A : Type 0} → (old : Joint A) (l : ℕ) (has : Bool) (line : List ℕ) (r : Result Reported LineFault)
-    → old.place ≡ Whole l has → IfErr r (λ e. (e ≡ Bad Ending) × (line ≢ header_line))
+pub ending_flaw : {A : Type 0} → (old : Joint A) (l : ℕ) (has : Bool) (line : List ℕ) (closing : Closing)
+    (r : Result Reported LineFault) → old.place ≡ Whole l has → closing ≡ begun_as line
+    → IfErr r (λ e. (e ≡ Bad (Ending closing)) × (line ≢ header_line))
     → IsNoOther (Whole l has) line → (lines : List ℕ) (s : Stage) → IsReadTo lines s old
     → IfErr r (λ e. IsFlawed e s.last line)
-ending_flaw old l has line (Ok reported) at bad other lines s q = tt
-ending_flaw old l has line (Err e) at bad other lines s q =
-    subst (λ (f : LineFault). IsFlawed f s.last line) (sym bad.0)
+ending_flaw old l has line closing (Ok reported) at is bad other lines s q = tt
+ending_flaw old l has line closing (Err e) at is bad other lines s q =
+    subst (λ (f : LineFault). IsFlawed f s.last line) (sym (bad.0 ∙ ap (λ (x : Closing). Bad (Ending x)) is))
     (ending_at l has line s.last (whole_place old l has s.last at q.place) bad.1 other)
 
 pub start_no : (last : Option (List ℕ)) → Start ≡ Channels last → ⊥

@@ -1,5 +1,7 @@
 -- What is wrong with the first bad line of parts, by where it stands.
-use Rattle.std.specs.Prelude.{⊤, ◌≡◌, ◌≢◌, ◌<◌, ◌≤◌, ℕ, List, [], ◌∷◌, ◌++◌, length, take, Bool, true}
+use Rattle.std.specs.Prelude.{⊤, ◌≡◌, ◌≢◌, ◌<◌, ◌≤◌, ℕ, List, [], ◌∷◌, ◌++◌, length, take, codes, nat_eq, Bool, true}
+use Rattle.std.specs.Prelude.{if◌then◌else◌}
+use Rattle.std.specs.List.{starts_with}
 use Rattle.mseed_stream.specs.declared.fault.StreamFault.{StreamFault}
 use Rattle.mseed_text.specs.Fault.{fault_line}
 use Rattle.mseed_audit.specs.declared.channel.Channel.{Channel}
@@ -7,6 +9,10 @@ use Rattle.mseed_parts.specs.Parts.{IsAscending}
 use Rattle.mseed_part_lines.specs.Lines.{Line, header, channel, counts, faults, fault, text_of_line, IsLine}
 use Rattle.mseed_part_lines.specs.Lines.{header_line, channel_line, counts_line, faults_line}
 use Rattle.mseed_part_lines.specs.Lines.{HasChannelLine, HasCountsLine, HasFaultsLine, HasFaultLine}
+use Rattle.mseed_part_lines.specs.Fields.{IsFirstBad}
+use Rattle.mseed_part_lines.specs.declared.bad_field.Field.{Field}
+use Rattle.mseed_join.specs.declared.flaw.Closing.{Closing}
+use Rattle.mseed_join.specs.declared.flaw.Closing.TheVariants.{Faults, Fault, Neither}
 use Rattle.mseed_join.specs.declared.flaw.Flaw.{Flaw}
 use Rattle.mseed_join.specs.declared.flaw.Flaw.TheVariants.{Beginning, Row, Order, Ending, Limit, Long, Unended}
 use Rattle.mseed_join.specs.declared.flaw.Flaw.TheVariants.{Missing}
@@ -46,17 +52,23 @@ IsNoFault bytes line = (f : StreamFault) → HasFaultLine bytes f → line ≢ f
 abbrev pub IsNoFaults : List ℕ → Type 0
 IsNoFaults line = (n : ℕ) → HasFaultsLine n → line ≢ faults_line n
 
+-- what a line after the counts begins as
+abbrev pub begun_as : List ℕ → Closing
+begun_as line =
+    if starts_with nat_eq line (codes "faults ") then Faults
+    else if starts_with nat_eq line (codes "fault at ") then Fault else Neither
+
 -- What is wrong with a whole line, by what stands before it. Of a line that no parts go on with it is one of these.
 pub data IsFlawOf : Flaw → OpenPart → List ℕ → Type 0 where
   beginning : (line : List ℕ) → line ≢ header_line → IsFlawOf Beginning none line
-  row : (channels : List (List ℕ × Channel)) (line : List ℕ) → IsNoChannel line → IsNoCounts line
-      → IsFlawOf Row (begun channels) line
+  row : (channels : List (List ℕ × Channel)) (line : List ℕ) (field : Field) → IsNoChannel line → IsNoCounts line
+      → IsFirstBad field line → IsFlawOf (Row field) (begun channels) line
   order : (channels : List (List ℕ × Channel)) (key : List ℕ) (c : Channel) (line : List ℕ) → HasChannelLine key c
       → line ≡ channel_line key c → ¬ (IsAscending (channels ++ (key, c) ∷ []))
       → IsFlawOf (Order key) (begun channels) line
   -- the number of faults comes once
   ending : (w : Written) (line : List ℕ) → line ≢ header_line → IsNoFault w.part.bytes line
-      → (w.faults ≡ 0 → IsNoFaults line) → IsFlawOf Ending (whole w) line
+      → (w.faults ≡ 0 → IsNoFaults line) → IsFlawOf (Ending (begun_as line)) (whole w) line
   -- no parts go on with it though it can stand here, since a sum passes
   limit : (last : OpenPart) (x : Line) (line : List ℕ) → IsLine x → May last x → text_of_line x ≡ line
       → IsFlawOf Limit last line

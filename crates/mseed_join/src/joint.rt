@@ -10,10 +10,10 @@ ghost use Rattle.mseed_join.specs.private.Steps.{May};
 ghost use Rattle.mseed_join.specs.private.Taking.{IsAfterKey, IsLineStep, IsReadTo, IsStep, border_by, fault_after};
 ghost use Rattle.mseed_join.specs.private.Taking.{IsFlawed, IsLimit, passed_by};
 
-use crate::flaw::Flaw;
+use crate::flaw::{Flaw, begun_as};
 use mseed_audit::{Channel, Finding};
 use mseed_part_lines::{
-    HEADER, read_channel_line, read_counts_line, read_fault_line, read_faults_line,
+    HEADER, first_bad_field, read_channel_line, read_counts_line, read_fault_line, read_faults_line,
 };
 use mseed_parts::{JoinFault, Part, joined_in_turn, joining_laws, one_part, sum};
 use mseed_record::Codes;
@@ -180,7 +180,7 @@ impl<A: Allocator + Copy> Joint<A> {
             return self.take_channel(codes, &channel);
         }
         let Some((records, bytes)) = read_counts_line(line) else {
-            return Err(LineFault::Bad(Flaw::Row));
+            return Err(LineFault::Bad(Flaw::Row(first_bad_field(line))));
         };
         self.take_counts(records, bytes)
     }
@@ -203,13 +203,14 @@ impl<A: Allocator + Copy> Joint<A> {
         if let Some(fault) = read_fault_line(line, bytes) {
             return self.take_fault(fault, bytes);
         }
+        let flaw = Flaw::Ending(begun_as(line));
         if has_faults {
-            return self.take_header(Flaw::Ending, line);
+            return self.take_header(flaw, line);
         }
         if let Some(faults) = read_faults_line(line) {
             return self.take_faults(faults, bytes);
         }
-        self.take_header(Flaw::Ending, line)
+        self.take_header(flaw, line)
     }
 
     /// Takes a channel that is in order.

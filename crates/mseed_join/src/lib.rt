@@ -20,7 +20,7 @@ pub use composed::{
     cut_part, joined_audit, joined_each, joined_texts, no_bad_line, one_text, part_reads_back,
     parts_can_be_joined,
 };
-pub use flaw::Flaw;
+pub use flaw::{Closing, Flaw};
 pub use joining::{Form, Joined, JoinsFault, join};
 pub use joining_each::join_each;
 pub use joint::JointPart;

@@ -16,12 +16,15 @@ returns-in-Some g c = record {
 
 pub returns-then-has_faults : goal.returns-then-has_faults
 returns-then-has_faults g c = record {
-  step = header_or_none Ending c.args.self.now c.take_header.new.self _ c.args.line.now c.take_header.result
+  step = header_or_none (Ending c.begun_as.result) c.args.self.now c.take_header.new.self _ c.args.line.now
+      c.take_header.result
       (c.requires.place ∙ ap (λ (b : Bool). Whole c.args.bytes b) c.if-has_faults.true) (whole_no c.args.bytes _)
       c.requires.ended c.take_header.ensures.step c.take_header.ensures.line c.take_header.ensures.bad
       c.in_default.ensures.none;
-  flaw = ending_flaw c.args.self.now c.args.bytes _ c.args.line.now c.take_header.result
-      (c.requires.place ∙ ap (λ (b : Bool). Whole c.args.bytes b) c.if-has_faults.true) c.take_header.ensures.bad
+  flaw = ending_flaw c.args.self.now c.args.bytes _ c.args.line.now c.begun_as.result
+      c.take_header.result
+      (c.requires.place ∙ ap (λ (b : Bool). Whole c.args.bytes b) c.if-has_faults.true) c.begun_as.ensures
+      c.take_header.ensures.bad
       c.in_default.ensures.none;
 }
 
@@ -38,11 +41,13 @@ returns-in-Some-read_faults_line g c = record {
 
 pub returns : goal.returns
 returns g c = record {
-  step = header_or_none Ending c.args.self.now c.take_header-2.new.self _ c.args.line.now c.take_header-2.result
+  step = header_or_none (Ending c.begun_as.result) c.args.self.now c.take_header-2.new.self _ c.args.line.now
+      c.take_header-2.result
       (c.requires.place ∙ ap (λ (b : Bool). Whole c.args.bytes b) c.if-has_faults.false) (whole_no c.args.bytes _)
       c.requires.ended c.take_header-2.ensures.step c.take_header-2.ensures.line c.take_header-2.ensures.bad
       (c.in_default.ensures.none, c.in_default-read_faults_line.ensures.none);
-  flaw = ending_flaw c.args.self.now c.args.bytes _ c.args.line.now c.take_header-2.result
-      (c.requires.place ∙ ap (λ (b : Bool). Whole c.args.bytes b) c.if-has_faults.false) c.take_header-2.ensures.bad
-      (c.in_default.ensures.none, c.in_default-read_faults_line.ensures.none);
+  flaw = ending_flaw c.args.self.now c.args.bytes _ c.args.line.now c.begun_as.result
+      c.take_header-2.result
+      (c.requires.place ∙ ap (λ (b : Bool). Whole c.args.bytes b) c.if-has_faults.false) c.begun_as.ensures
+      c.take_header-2.ensures.bad (c.in_default.ensures.none, c.in_default-read_faults_line.ensures.none);
 }

@@ -26,8 +26,8 @@ pub returns-in_default-read_counts_line : goal.returns-in_default-read_counts_li
 returns-in_default-read_counts_line g c = record {
   step = row_unknown c.args.self.now c.args.last c.args.line.now c.requires.place c.requires.ended
       c.in_default.ensures.none c.in_default-read_counts_line.ensures.none;
-  flaw = row_flaw c.args.self.now c.args.last c.args.line.now c.requires.place c.in_default.ensures.none
-      c.in_default-read_counts_line.ensures.none;
+  flaw = row_flaw c.args.self.now c.args.last c.args.line.now c.first_bad_field.result c.requires.place
+      c.in_default.ensures.none c.in_default-read_counts_line.ensures.none c.first_bad_field.ensures;
 }
 
 pub returns : goal.returns
