@@ -11,7 +11,7 @@ use Rattle.std.proofs.lemmas.List.Elements.{All-from_get_or, All-get_or}
 use native.Mathlib.Numerals.{unary_clauses}
 use Rattle.mseed_steim.specs.Spelling.{IsWithin}
 use Rattle.mseed_pack.specs.private.Filling.{AreFourUnder, IsUnder}
-use Rattle.mseed_pack.specs.Fitting.{IsDifferenceOf}
+use Rattle.mseed_pack.specs.Fitting.{IsDifferenceOf, IsFirstNot}
 use Rattle.mseed_pack.specs.Stretches.{differences}
 use Rattle.mseed_steim.specs.declared.encoding.Encoding.{Encoding}
 use Rattle.mseed_steim.specs.declared.encoding.Encoding.TheVariants.{Int16, Int32, Steim1, Steim2}
@@ -206,3 +206,9 @@ each_under limit zs part last fit within all = record {
   );
   behind = λ k from high. All-get_or (IsUnder limit) zs k (pos 0) (omega (arith, high, within)) all;
 }
+
+-- a first difference that an encoding doesn't hold is none of the first sample
+pub difference_late : (e : Encoding) (xs : List ℤ) (i : ℕ) → IsFirstNot (IsDifferenceOf e) (differences xs) i → 0 < i
+difference_late e xs zero h =
+    absurd (h.not_it (subst (λ (z : ℤ). IsDifferenceOf e z) (sym (first_difference xs)) (zero_fits e)))
+difference_late e xs (suc i) h = omega arith

@@ -1,10 +1,10 @@
 -- The leap seconds before a sample, and the next one.
 use Rattle.std.proofs.Common.{◌≡◌, ◌≢◌, ℕ, ◌+◌, ◌*◌, ◌^◌, ◌<◌, ◌≤◌, true, false, List, [], ◌∷◌, ◌++◌, length, drop}
-use Rattle.std.proofs.Common.{get_or, refl, sym, ap, ◌∙◌, arith, ℤ, pos, ◌+ℤ◌, Option, Some, None, eqb, leb, ltb}
-use Rattle.std.proofs.Common.{append_assoc, nat_abs, length-append}
+use Rattle.std.proofs.Common.{get_or, refl, sym, ap, ◌∙◌, arith, ℤ, pos, ◌+ℤ◌, ◌-ℤ◌, Option, Some, None, eqb, leb, ltb}
+use Rattle.std.proofs.Common.{append_assoc, nat_abs, length-append, ⊎_elim}
 use Rattle.std.specs.Prelude.{unwrap_or, option_map, find}
 use Rattle.std.specs.List.{AllByRecursion}
-use Rattle.std.proofs.lemmas.Bool.{eq-eqb, le-leb, le-ltb, lt-leb, lt-ltb, ne_eqb}
+use Rattle.std.proofs.lemmas.Bool.{cases_lt, eq-eqb, le-leb, le-ltb, lt-leb, lt-ltb, ne_eqb}
 use Rattle.std.proofs.lemmas.Int.{ints}
 use Rattle.std.proofs.Math.Seq.{get_or-append_seam, drop-append-add}
 use Rattle.mseed_time.specs.declared.outcome.LeapStep.{LeapStep}
@@ -150,6 +150,31 @@ step_bound : (o : Option LeapStep) → nat_abs (step_of o) ≤ 10 ^ 6
 step_bound None = omega arith
 step_bound (Some Plus) = omega arith
 step_bound (Some Minus) = omega arith
+
+-- between a sample and the next one there is one leap second at most
+pub added_near : (xs : List (ℕ × LeapStep)) (low size n : ℕ) → AreStepsFrom low size xs
+    → nat_abs (added_before xs (n + 1) -ℤ added_before xs n) ≤ 10 ^ 6
+added_near [] low size n h = omega (arith, ints)
+added_near (x ∷ xs) low size n h = ⊎_elim
+    (λ (later : n < x.0).
+    let here : leb x.0 n ≡ false = lt-leb x.0 n later in
+    let none : added_before xs n ≡ pos 0 = added_none xs x.0 size n h.2 (omega (arith, later)) in
+    let none_next : added_before xs (n + 1) ≡ pos 0 = added_none xs x.0 size (n + 1) h.2 (omega (arith, later)) in
+    ⊎_elim
+    (λ (behind : n + 1 < x.0).
+    let there : leb x.0 (n + 1) ≡ false = lt-leb x.0 (n + 1) behind in
+    rw (here, there) (omega (arith, ints, none, none_next)))
+    (λ (at : x.0 ≤ n + 1).
+    let there : leb x.0 (n + 1) ≡ true = le-leb x.0 (n + 1) at in
+    let small = step_bound (Some x.1) in
+    rw (here, there) (omega (arith, ints, none, none_next, small)))
+    (cases_lt (n + 1) x.0))
+    (λ (passed : x.0 ≤ n).
+    let here : leb x.0 n ≡ true = le-leb x.0 n passed in
+    let there : leb x.0 (n + 1) ≡ true = le-leb x.0 (n + 1) (omega (arith, passed)) in
+    let rest = added_near xs x.0 size n h.2 in
+    rw (here, there) (omega (arith, ints, rest)))
+    (cases_lt n x.0)
 
 -- the next span, by the leap second at this one's end
 next_from : (steps passed left : List (ℕ × LeapStep)) (size : ℕ) (span next : Span) (d : ℕ × LeapStep)

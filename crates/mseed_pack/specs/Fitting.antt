@@ -22,6 +22,12 @@ IsTooFast s = 500_000 * (ratio_of s.rate).den < (ratio_of s.rate).num
 abbrev pub HasTimeOutside : Trace → Type 0
 HasTimeOutside s = (i : ℕ) × ((i < length s.samples) × IsOutside (instant_at s i))
 
+-- of so many samples, whose instants these are, the one at this index is the first whose instant can't be written
+pub record IsFirstOutside (instant : ℕ → ℤ) (size index : ℕ) : Type 0 where
+  pub inside : index < size
+  pub outside : IsOutside (instant index)
+  pub before : (k : ℕ) → k < index → ¬ (IsOutside (instant k))
+
 -- the encoding holds the number as a sample: the first and the last one of Steim frames have 32 bits too
 abbrev pub IsSampleOf : Encoding → ℤ → Type 0
 IsSampleOf Int16 z = IsWithin 16 z
@@ -50,14 +56,17 @@ pub record Fits (s : Trace) (o : Options) : Type 0 where
   pub samples : All (IsSampleOf o.encoding) s.samples
   pub differences_fit : All (IsDifferenceOf o.encoding) (differences s.samples)
 
--- why it can't: the first reason that applies, in this order
+-- why it can't: the first reason that applies, in this order, with the rate, the instant, the sample or the difference
 pub data IsMisfit (s : Trace) (o : Options) : PackFault → Type 0 where
   no_sample : s.samples ≡ [] → IsMisfit s o Empty
-  too_fast : s.samples ≢ [] → IsTooFast s → IsMisfit s o RateTooHigh
-  time_outside : s.samples ≢ [] → ¬ (IsTooFast s) → HasTimeOutside s → IsMisfit s o TimeOutOfRange
+  too_fast : s.samples ≢ [] → IsTooFast s → IsMisfit s o (RateTooHigh s.rate)
+  time_outside : s.samples ≢ [] → ¬ (IsTooFast s) → (i : ℕ)
+      → IsFirstOutside (λ (k : ℕ). instant_at s k) (length s.samples) i
+      → IsMisfit s o (TimeOutOfRange i (instant_at s i))
   large_sample : s.samples ≢ [] → ¬ (IsTooFast s) → ¬ (HasTimeOutside s) → (i : ℕ)
       → IsFirstNot (IsSampleOf o.encoding) s.samples i
-      → IsMisfit s o (SampleTooLarge i)
+      → IsMisfit s o (SampleTooLarge i (slice_index_or s.samples i (pos 0)))
   large_difference : s.samples ≢ [] → ¬ (IsTooFast s) → ¬ (HasTimeOutside s) → All (IsSampleOf o.encoding) s.samples
       → (i : ℕ)
-      → IsFirstNot (IsDifferenceOf o.encoding) (differences s.samples) i → IsMisfit s o (DifferenceTooLarge i)
+      → IsFirstNot (IsDifferenceOf o.encoding) (differences s.samples) i
+      → IsMisfit s o (DifferenceTooLarge i (slice_index_or (differences s.samples) i (pos 0)))

@@ -80,7 +80,8 @@ abbrev pub IsOutcome : Result ℕ PackFault → Trace → Options → BytesWritt
 IsOutcome (Ok count) s o old new = Fits s o × EmittedAll s o count old new
 IsOutcome (Err (Write taken)) s o old new = Fits s o × EmittedPrefix s o taken old new
 IsOutcome (Err Empty) s o old new = IsRefused s o Empty old new
-IsOutcome (Err RateTooHigh) s o old new = IsRefused s o RateTooHigh old new
-IsOutcome (Err TimeOutOfRange) s o old new = IsRefused s o TimeOutOfRange old new
-IsOutcome (Err (SampleTooLarge i)) s o old new = IsRefused s o (SampleTooLarge i) old new
-IsOutcome (Err (DifferenceTooLarge i)) s o old new = IsRefused s o (DifferenceTooLarge i) old new
+IsOutcome (Err (RateTooHigh rate)) s o old new = IsRefused s o (RateTooHigh rate) old new
+IsOutcome (Err (TimeOutOfRange i instant)) s o old new = IsRefused s o (TimeOutOfRange i instant) old new
+IsOutcome (Err (SampleTooLarge i sample)) s o old new = IsRefused s o (SampleTooLarge i sample) old new
+IsOutcome (Err (DifferenceTooLarge i difference)) s o old new =
+    IsRefused s o (DifferenceTooLarge i difference) old new

@@ -1,5 +1,6 @@
 //! What the clock reads at a sample.
 ghost use Rattle.std.specs.Prelude.{◌≡◌, ◌↔◌, ◌*◌, ◌^◌, ◌≤◌, nat_abs, pos, ◌+ℤ◌, ◌-ℤ◌, IfSome, None};
+ghost use Rattle.mseed_time.specs.Btime.{IsInstant};
 ghost use Rattle.mseed_time.specs.Naming.{IsOutside, Names};
 ghost use Rattle.mseed_time.specs.Parts.{parts_of};
 ghost use Rattle.mseed_time.specs.Ratios.{ratio_of};
@@ -20,6 +21,19 @@ pub(crate) fn time_at(start: Micros, rate: Rate, span: Span, index: usize) -> Op
 {
     let instant = instant_at(start, rate, span, index);
     time_of(instant)
+}
+
+/// The instant of that sample, where it is known to lie in the years 1800 to 2199.
+pub(crate) fn moment_at(start: Micros, rate: Rate, span: Span, index: usize) -> Micros
+    requires bound { nat_abs span.added ≤ 10 ^ 6 * 2 ^ 64 }
+    requires known { IsInstant (start +ℤ pos (periods (ratio_of rate) index) -ℤ span.added) }
+    ensures { result ≡ start +ℤ pos (periods (ratio_of rate) index) -ℤ span.added }
+{
+    let instant = instant_at(start, rate, span, index);
+    match Micros::new(instant as i64) {
+        Some(moment) => moment,
+        None => unreachable!(),
+    }
 }
 
 /// The instant of that sample.

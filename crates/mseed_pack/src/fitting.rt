@@ -1,21 +1,23 @@
 //! Whether a series can be packed.
 ghost use Rattle.std.specs.Prelude.{◌≡◌, ◌↔◌, ◌<◌, ◌≤◌, ◌+◌, ◌*◌, ℕ, ℤ, IsTrue, OnOk, IfErr, IfSome, IfNone, None, All};
-ghost use Rattle.std.specs.Prelude.{List, length, pos, slice_index_or, ◌^◌, nat_abs, ◌+ℤ◌, ◌-ℤ◌, ◌≢◌, FitsSigned};
+ghost use Rattle.std.specs.Prelude.{List, length, pos, slice_index_or, ◌^◌, nat_abs, ◌-◌, ◌+ℤ◌, ◌-ℤ◌, ◌≢◌, ◌⊎◌};
+ghost use Rattle.std.specs.Prelude.{[], FitsSigned};
 ghost use Rattle.std.specs.Int.{w16};
 ghost use Rattle.mseed_time.specs.Btime.{IsInstant};
 ghost use Rattle.mseed_time.specs.Naming.{IsOutside};
+ghost use Rattle.mseed_time.specs.Rate.{IsRatio};
 ghost use Rattle.mseed_time.specs.Ratios.{ratio_of};
 ghost use Rattle.mseed_audit.specs.Series.{AreSteps};
 ghost use Rattle.mseed_pack.specs.Clock.{periods, reading_at};
 ghost use Rattle.mseed_pack.specs.Stretches.{differences};
 ghost use Rattle.mseed_pack.specs.private.Filling.{AreFourUnder, IsUnder};
-ghost use Rattle.mseed_pack.specs.Fitting.{Fits, IsDifferenceOf, IsFirstNot, IsMisfit, IsSampleOf};
+ghost use Rattle.mseed_pack.specs.Fitting.{Fits, IsDifferenceOf, IsFirstNot, IsMisfit, IsSampleOf, IsTooFast};
 ghost use Rattle.mseed_pack.specs.Outcome.{IsTrace};
 ghost use Rattle.mseed_pack.specs.declared.options.Options.{Options};
 ghost use Rattle.mseed_pack.specs.Traces.{headed, trace_of};
-ghost use Rattle.mseed_pack.specs.private.Heads.{IsHeadFit};
+ghost use Rattle.mseed_pack.specs.private.Heads.{IsHeadFit, IsSpanOutside};
 
-use crate::clock::time_at;
+use crate::clock::{moment_at, time_at};
 use crate::fault::PackFault;
 use crate::options::{Encoding, Options};
 use crate::series_head::SeriesHead;
@@ -40,7 +42,7 @@ const NEAR: u32 = 0x1000_0000;
 ///
 /// The first reason why it can't: it's empty; it has more than 500,000 samples a second; a sample's instant, once it is
 /// rounded to a ten-thousandth of a second, lies in no year from 1900 to 2100; a sample or a difference is too large
-/// for the encoding, the first of those.
+/// for the encoding, the first of those, with its value.
 pub fn fit<A: Allocator + Copy>(series: &Series<A>, options: &Options) -> Result<(), PackFault>
     ensures fits { OnOk result (Fits series.now options.now) }
     ensures fault { IfErr result (λ fault. IsMisfit series.now options.now fault) }
@@ -101,6 +103,13 @@ fn know_rate(rate: Rate)
     ensures multiplier_counts { rate.multiplier ≢ pos 0 }
 {}
 
+/// A rate is so many samples in so many seconds, each in 1..=2^30.
+fn know_ratio(rate: Rate)
+    ensures { IsRatio (ratio_of rate) }
+{
+    let _ratio = rate.ratio();
+}
+
 /// Whether a series that begins so can be packed, but for its samples: with any that the encoding holds, it can.
 ///
 /// # Errors
@@ -133,10 +142,10 @@ fn head_misfit(head: &SeriesHead) -> Option<PackFault>
         return Some(PackFault::Empty);
     }
     if is_too_fast(head.rate) {
-        return Some(PackFault::RateTooHigh);
+        return Some(PackFault::RateTooHigh(head.rate));
     }
-    if has_time_outside(head.start, head.rate, head.steps, head.count) {
-        return Some(PackFault::TimeOutOfRange);
+    if let Some(span) = span_outside(head.start, head.rate, head.steps, head.count) {
+        return Some(fault_in(head, span));
     }
     None
 }
@@ -151,10 +160,16 @@ fn misfit(series: &SeriesView, options: &Options) -> Option<PackFault>
         return Some(fault);
     }
     if let Some(index) = first_large_sample(series.samples, options.encoding) {
-        return Some(PackFault::SampleTooLarge(index));
+        return Some(PackFault::SampleTooLarge {
+            index,
+            sample: series.samples[index],
+        });
     }
     if let Some(index) = first_large_difference(series.samples, options.encoding) {
-        return Some(PackFault::DifferenceTooLarge(index));
+        return Some(PackFault::DifferenceTooLarge {
+            index,
+            difference: difference_at(series.samples, index),
+        });
     }
     None
 }
@@ -166,29 +181,74 @@ fn is_too_fast(rate: Rate) -> bool
     FASTEST * u64::from(rate.den()) < u64::from(rate.num())
 }
 
-/// Whether the instant of one of so many samples can't be written. Between leap seconds the instants rise, so that
-/// the first and the last one tell.
-fn has_time_outside(start: Micros, rate: Rate, steps: &[(u64, LeapStep)], size: usize) -> bool
+/// The first of the spans of so many samples in which the instant of one can't be written. Between leap seconds the
+/// instants rise, so that the first and the last one tell.
+fn span_outside(start: Micros, rate: Rate, steps: &[(u64, LeapStep)], size: usize) -> Option<Span>
     requires { AreSteps size steps.now }
-    ensures { IsTrue result
-        ↔ ((i : ℕ) × ((i < size) × IsOutside (reading_at start (ratio_of rate) steps.now i))) }
+    ensures none { IfNone result ((i : ℕ) → i < size → ¬ (IsOutside (reading_at start (ratio_of rate) steps.now i))) }
+    ensures some { IfSome result (λ span. IsSpanOutside start (ratio_of rate) steps.now size span) }
 {
     let mut span = first_span(steps, size);
     while span.begin < size {
         let early = is_outside_at(start, rate, span, span.begin);
         if early {
-            return true;
+            return Some(span);
         }
         let late = is_outside_at(start, rate, span, span.end - 1);
         if late {
-            return true;
+            return Some(span);
         }
         if span.end == size {
-            return false;
+            return None;
         }
         span = next_span(steps, size, span);
     }
-    false
+    None
+}
+
+/// The fault of the first sample whose instant can't be written, by the first span in which there is one.
+#[cold]
+fn fault_in(head: &SeriesHead, span: Span) -> PackFault
+    requires steps { AreSteps head.now.count head.now.steps.now }
+    requires outside { IsSpanOutside head.now.start (ratio_of head.now.rate) head.now.steps.now head.now.count span }
+    ensures { (samples : List ℤ) (options : Options) → length samples ≡ head.now.count → samples ≢ []
+        → ¬ (IsTooFast (headed head.now samples)) → IsMisfit (headed head.now samples) options result }
+{
+    know_start(head.start);
+    know_ratio(head.rate);
+    let index = first_outside(head.start, head.rate, span);
+    let instant = moment_at(head.start, head.rate, span, index);
+    PackFault::TimeOutOfRange { index, instant }
+}
+
+/// The index of the first sample of a span whose instant can't be written, where that of the span's first or of its
+/// last one can't be.
+fn first_outside(start: Micros, rate: Rate, span: Span) -> usize
+    requires bound { nat_abs span.added ≤ 10 ^ 6 * 2 ^ 64 }
+    requires some { span.begin < span.end }
+    requires ends { IsOutside (start +ℤ pos (periods (ratio_of rate) span.begin) -ℤ span.added)
+        ⊎ IsOutside (start +ℤ pos (periods (ratio_of rate) (span.end - 1)) -ℤ span.added) }
+    ensures begin { span.begin ≤ result }
+    ensures end { result < span.end }
+    ensures outside { IsOutside (start +ℤ pos (periods (ratio_of rate) result) -ℤ span.added) }
+    ensures before { (k : ℕ) → span.begin ≤ k → k < result
+        → ¬ (IsOutside (start +ℤ pos (periods (ratio_of rate) k) -ℤ span.added)) }
+{
+    if is_outside_at(start, rate, span, span.begin) {
+        return span.begin;
+    }
+    // The instants rise: from the one that can be written to the one that can't the distance is halved.
+    let mut inside = span.begin;
+    let mut outside = span.end - 1;
+    while inside + 1 < outside {
+        let middle = inside + (outside - inside) / 2;
+        if is_outside_at(start, rate, span, middle) {
+            outside = middle;
+        } else {
+            inside = middle;
+        }
+    }
+    outside
 }
 
 /// Whether the instant of the sample at an index of a span can't be written.
@@ -215,7 +275,7 @@ fn first_large_sample(samples: &[i32], encoding: Encoding) -> Option<usize>
     }
 }
 
-/// The same, sample by sample.
+/// The first sample that the encoding doesn't hold, looked for sample by sample.
 fn find_large_sample(samples: &[i32], encoding: Encoding) -> Option<usize>
     ensures none { IfNone result (All (IsSampleOf encoding) samples.now) }
     ensures some { IfSome result (λ index. IsFirstNot (IsSampleOf encoding) samples.now index) }
@@ -250,7 +310,8 @@ fn first_large_difference(samples: &[i32], encoding: Encoding) -> Option<usize>
     }
 }
 
-/// The same where samples that aren't too far apart are looked for first.
+/// The first sample whose difference the encoding doesn't hold. Samples that aren't too far apart are looked for
+/// first.
 fn first_wide_difference(samples: &[i32], encoding: Encoding) -> Option<usize>
     ensures none { IfNone result (All (IsDifferenceOf encoding) (differences samples.now)) }
     ensures some { IfSome result (λ index. IsFirstNot (IsDifferenceOf encoding) (differences samples.now) index) }
@@ -306,7 +367,7 @@ fn raised(sample: i32, limit: u32) -> u32
     sample.cast_unsigned().wrapping_add(limit)
 }
 
-/// The same, sample by sample.
+/// The first sample whose difference the encoding doesn't hold, looked for sample by sample.
 fn find_large_difference(samples: &[i32], encoding: Encoding) -> Option<usize>
     ensures none { IfNone result (All (IsDifferenceOf encoding) (differences samples.now)) }
     ensures some { IfSome result (λ index. IsFirstNot (IsDifferenceOf encoding) (differences samples.now) index) }

@@ -128,7 +128,8 @@ fn fill_frames<S: Supply>(
     pack_held(scheme, left, frames, payload)
 }
 
-/// The same of what the window holds: of all samples that are left the differences, or of as many as there is room for.
+/// Packs what the window holds into a payload: of all samples that are left the differences, or of as many as there is
+/// room for.
 fn pack_held(scheme: Scheme, left: Left, frames: &mut Frames, payload: &mut [u8]) -> Filled
     requires frames { AreFrames payload.old }
     requires held { (samples : List ℤ) × Holds frames.old scheme samples left (length payload.old) }

@@ -76,8 +76,8 @@ fn fill_listed(
     }
 }
 
-/// The same but for the first and the last sample, which it doesn't write. Before the first of all stands that one
-/// itself, so that its difference is 0.
+/// Packs the samples from one on, as many as there is room for, into Steim frames, but for the first and the last
+/// sample, which it doesn't write. Before the first of all stands that one itself, so that its difference is 0.
 fn pack_left(
     scheme: Scheme,
     samples: &[i32],

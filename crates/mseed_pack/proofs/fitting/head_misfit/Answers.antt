@@ -1,6 +1,6 @@
 use Rattle.std.proofs.Common.{◌≡◌, ◌≢◌, ℕ, ℤ, List, [], length, refl, ap, sym, ◌∙◌, arith}
 use Rattle.std.proofs.lemmas.List.{nil_from_length}
-use Rattle.mseed_pack.specs.Fitting.{HasTimeOutside, no_sample, too_fast, time_outside}
+use Rattle.mseed_pack.specs.Fitting.{HasTimeOutside, no_sample, too_fast}
 use Rattle.mseed_pack.specs.Traces.{headed}
 use Rattle.mseed_pack.proofs.Misfits.{not_so}
 use Rattle.mseed_pack.proofs.fitting.head_misfit.Goals as goal
@@ -15,16 +15,15 @@ pub returns-then-is_too_fast-clause-some : goal.returns-then-is_too_fast-clause-
 returns-then-is_too_fast-clause-some c = λ xs o size.
     too_fast (some xs c.args.head.now.count size c.if-head-eq0.false) (c.if-is_too_fast.ensures.0 refl)
 
-pub returns-then-has_time_outside-clause-some : goal.returns-then-has_time_outside-clause-some
-returns-then-has_time_outside-clause-some c = λ xs o size.
-    let out = c.if-has_time_outside.ensures.0 refl in
-    time_outside (some xs c.args.head.now.count size c.if-head-eq0.false) (not_so c.if-is_too_fast.ensures.1)
-    (out.0, (omega (arith, out.1.0, size), out.1.1))
+pub returns-in-Some-clause-some : goal.returns-in-Some-clause-some
+returns-in-Some-clause-some c = λ xs o size.
+    c.fault_in.ensures xs o size (some xs c.args.head.now.count size c.if-head-eq0.false)
+    (not_so c.if-is_too_fast.ensures.1)
 
 pub returns-clause-none : goal.returns-clause-none
 returns-clause-none c = λ xs size. record {
   some = some xs c.args.head.now.count size c.if-head-eq0.false;
   slow = not_so c.if-is_too_fast.ensures.1;
   timed = λ (out : HasTimeOutside (headed c.args.head.now xs)).
-      not_so c.if-has_time_outside.ensures.1 (out.0, (omega (arith, out.1.0, size), out.1.1));
+      c.in_default.ensures.none out.0 (omega (arith, out.1.0, size)) out.1.1;
 }

@@ -1,7 +1,12 @@
-use Rattle.std.proofs.Common.{sym, subst}
+use Rattle.std.proofs.Common.{◌≡◌, ◌∙◌, ℤ, arith, get_or, of_z, pos, rules, subst, sym, to_z, w32, w64}
+use Rattle.std.proofs.lemmas.Int.{to_z-of_z}
 use Rattle.mseed_audit.specs.Series.{Trace}
 use Rattle.mseed_pack.specs.Fitting.{IsMisfit, large_sample, large_difference}
+use Rattle.mseed_pack.specs.Traces.{trace_of}
 use Rattle.mseed_pack.specs.private.Heads.{IsHeadFit}
+use Rattle.mseed_pack.specs.declared.fault.PackFault.TheVariants.{SampleTooLarge, DifferenceTooLarge}
+use Rattle.mseed_pack.proofs.Differences.{length-differences}
+use Rattle.mseed_pack.proofs.Misfits.{difference_late}
 use Rattle.mseed_pack.proofs.fitting.misfit.Goals as goal
 
 pub returns-in-Some-clause-some : goal.returns-in-Some-clause-some
@@ -14,15 +19,31 @@ pub returns-in-Some-first_large_sample-clause-some : goal.returns-in-Some-first_
 returns-in-Some-first_large_sample-clause-some c =
     let fit = subst IsHeadFit c.head.ensures.trace
     (c.in_default.ensures.none c.args.series.now.samples.now (sym c.head.ensures.count)) in
-    large_sample fit.some fit.slow fit.timed c.in-Some-first_large_sample.index
-    c.in-Some-first_large_sample.ensures.some
+    let i = c.in-Some-first_large_sample.index in
+    let sample = get_or c.args.series.now.samples.now i (pos 0) in
+    let same : to_z w32 (of_z w32 sample) ≡ sample = to_z-of_z w32 sample (search rules) in
+    subst (λ (z : ℤ). IsMisfit (trace_of c.args.series.now) c.args.options.now (SampleTooLarge i z)) (sym same)
+    (large_sample fit.some fit.slow fit.timed i c.in-Some-first_large_sample.ensures.some)
+
+pub difference_at-requires-clause-some : goal.difference_at-requires-clause-some
+difference_at-requires-clause-some c =
+    difference_late c.args.options.now.encoding c.args.series.now.samples.now c.in-Some-first_large_difference.index
+    c.in-Some-first_large_difference.ensures.some
+
+pub difference_at-requires-clause-inside : goal.difference_at-requires-clause-inside
+difference_at-requires-clause-inside c =
+    let inside = c.in-Some-first_large_difference.ensures.some.inside in
+    omega (arith, inside, length-differences c.args.series.now.samples.now)
 
 pub returns-in-Some-first_large_difference-clause-some : goal.returns-in-Some-first_large_difference-clause-some
 returns-in-Some-first_large_difference-clause-some c =
     let fit = subst IsHeadFit c.head.ensures.trace
     (c.in_default.ensures.none c.args.series.now.samples.now (sym c.head.ensures.count)) in
-    large_difference fit.some fit.slow fit.timed c.in_default-first_large_sample.ensures.none
-    c.in-Some-first_large_difference.index c.in-Some-first_large_difference.ensures.some
+    let i = c.in-Some-first_large_difference.index in
+    subst (λ (z : ℤ). IsMisfit (trace_of c.args.series.now) c.args.options.now (DifferenceTooLarge i z))
+    (sym (to_z-of_z w64 c.difference_at.result (search rules) ∙ c.difference_at.ensures))
+    (large_difference fit.some fit.slow fit.timed c.in_default-first_large_sample.ensures.none i
+    c.in-Some-first_large_difference.ensures.some)
 
 pub returns-clause-none : goal.returns-clause-none
 returns-clause-none c =

@@ -3,7 +3,7 @@ use Rattle.mseed_time.specs.Naming.{IsOutside}
 use Rattle.mseed_time.specs.Ratios.{ratio_of}
 use Rattle.mseed_pack.specs.Clock.{reading_at}
 use Rattle.mseed_pack.specs.private.Spans.{IsSpan}
-use Rattle.mseed_pack.proofs.fitting.has_time_outside.Given as goal
+use Rattle.mseed_pack.proofs.fitting.span_outside.Given as goal
 
 abbrev pub invariant-loop-span : goal.invariant-loop-span
 invariant-loop-span l = record {

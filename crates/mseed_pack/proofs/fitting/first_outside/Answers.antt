@@ -1,0 +1,38 @@
+use Rattle.std.proofs.Common.{◌<◌, ◌≤◌, ◌-◌, ℕ, arith, pos, ◌+ℤ◌, ◌-ℤ◌, refl, subst, ⊎_elim}
+use Rattle.std.proofs.lemmas.Bool.{cases_lt}
+use Rattle.mseed_time.specs.Naming.{IsOutside}
+use Rattle.mseed_time.specs.Ratios.{ratio_of}
+use Rattle.mseed_pack.specs.Clock.{periods}
+use Rattle.mseed_pack.proofs.Misfits.{not_so}
+use Rattle.mseed_pack.proofs.Times.{between_timed}
+use Rattle.mseed_pack.proofs.fitting.first_outside.Goals as goal
+
+pub returns-then-is_outside_at-clause-outside : goal.returns-then-is_outside_at-clause-outside
+returns-then-is_outside_at-clause-outside c = c.if-is_outside_at.ensures.0 refl
+
+pub returns-then-is_outside_at-clause-before : goal.returns-then-is_outside_at-clause-before
+returns-then-is_outside_at-clause-before c = λ k low high. absurd (omega (arith, low, high))
+
+pub loop-inside-init : goal.loop-inside-init
+loop-inside-init c =
+    let span = c.args.span in
+    let first = not_so c.if-is_outside_at.ensures.1 in
+    let last = ⊎_elim (λ early. absurd (first early)) (λ late. late) c.requires.ends in
+    let apart : span.begin < span.end - 1 = ⊎_elim
+    (λ (less : span.begin < span.end - 1). less)
+    (λ (same : span.end - 1 ≤ span.begin). absurd (first (subst
+    (λ (n : ℕ). IsOutside (c.args.start +ℤ pos (periods (ratio_of c.args.rate) n) -ℤ span.added))
+    {x = span.end - 1} {y = span.begin} (omega (arith, same, c.requires.some)) last)))
+    (cases_lt span.begin (span.end - 1)) in
+    record {
+      begin = omega arith;
+      apart = apart;
+      end = omega (arith, c.requires.some);
+      early = first;
+      late = last;
+    }
+
+pub returns-clause-before : goal.returns-clause-before
+returns-clause-before c = λ k low high.
+    between_timed c.args.start (ratio_of c.args.rate) c.args.span.added c.args.span.begin c.loop-inside.inside k low
+    (omega (arith, high, c.loop-inside-test.false)) (not_so c.if-is_outside_at.ensures.1) c.loop-inside.invariant.early
