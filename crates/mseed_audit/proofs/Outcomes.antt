@@ -105,3 +105,8 @@ asked_all = λ i. record {
       (ap (λ (ps : List Placed). length ps) (asked_each (placed_of views)) ∙ numbered_length 1 (added_from 0 views)
       ∙ added_length 0 views) i;
 }
+
+-- and none lacks a time
+pub none_lacks : (views : List View) → count_by (lacks_time everything) views ≡ 0
+none_lacks [] = refl
+none_lacks (v ∷ views) = none_lacks views

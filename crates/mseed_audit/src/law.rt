@@ -1,6 +1,6 @@
 //! Laws: what the definitions determine, they determine once.
 ghost use Rattle.std.specs.Prelude.{◌≡◌, ◌↔◌, ◌++◌, List, ℕ, ℤ, length, map, Option, None, IsTrue};
-ghost use Rattle.std.specs.List.{filter, join_with_byte};
+ghost use Rattle.std.specs.List.{count_by, filter, join_with_byte};
 ghost use Rattle.std.specs.Map.{lookup};
 ghost use Rattle.mseed_record.specs.Header.{key_at};
 ghost use Rattle.mseed_record.specs.View.{View};
@@ -12,12 +12,12 @@ ghost use Rattle.mseed_audit.specs.declared.verdict.Verdict.{Verdict};
 ghost use Rattle.mseed_audit.specs.Audit.{AreChannels, verdict_of};
 ghost use Rattle.mseed_audit.specs.Channels.{Added, Placed, records_of, same_key, views_in};
 ghost use Rattle.mseed_audit.specs.Each.{AuditedEach, AuditedEachIn, each_text};
-ghost use Rattle.mseed_audit.specs.Scope.{HasNoWindow, Scope, asked};
+ghost use Rattle.mseed_audit.specs.Scope.{HasNoWindow, Scope, asked, whole};
 ghost use Rattle.mseed_audit.specs.Selected.{IsEachSelectedOutcome, IsSelectedOutcome};
 ghost use Rattle.mseed_audit.specs.Printed.{MatchesPrinted, printed_codes};
 ghost use Rattle.mseed_text.specs.Name.{name_text};
 ghost use Rattle.mseed_choice.specs.Pattern.{Matches, is_of_channels, is_pattern};
-ghost use Rattle.mseed_choice.specs.Selection.{Selection};
+ghost use Rattle.mseed_choice.specs.Selection.{Selection, everything, lacks_time};
 ghost use Rattle.mseed_audit.specs.Text.{reported_lines};
 ghost use Rattle.mseed_audit.specs.Reported.{Reported, AreReportedOf, finding_count, findings_in, reported_with};
 ghost use Rattle.mseed_audit.specs.Follows.{IsContinuous};
@@ -97,6 +97,13 @@ pub fn one_selected_audit()
     one_fault();
     one_input();
 }
+
+/// Where all records are asked for, all are judged, and none lacks a time: so the audit of the records that are asked
+/// for is the audit of all.
+pub fn all_are_asked_for()
+    ensures judged { asked everything ≡ whole }
+    ensures timed { (views : List View) → count_by (lacks_time everything) views ≡ 0 }
+{}
 
 /// A pattern matches a channel exactly where its four fields fit the channel's codes as an audit prints them, `--` as
 /// location the empty one too; and a name is printed as these codes, with `_` between them.

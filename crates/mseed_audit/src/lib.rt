@@ -25,9 +25,9 @@ pub use channel_series::{BadStep, Series};
 pub use each::{EachFault, audit_each, audit_each_selected, gather_each};
 pub use finding::{Finding, Why};
 pub use law::{
-    channels_have_verdicts, continuous_exactly, findings_reported, matches_as_printed, one_audit,
-    one_bad_step, one_finding, one_list_of_verdicts, one_report, one_selected_audit, one_series,
-    one_verdict, selected_channels,
+    all_are_asked_for, channels_have_verdicts, continuous_exactly, findings_reported,
+    matches_as_printed, one_audit, one_bad_step, one_finding, one_list_of_verdicts, one_report,
+    one_selected_audit, one_series, one_verdict, selected_channels,
 };
 pub use summary::{AuditFault, SelectedSummary, Summary, audit, audit_selected, gather};
 pub use tail::Tail;
