@@ -8,7 +8,6 @@ ghost use Rattle.mseed_stream.specs.Device.{BytesWritten, nothing_read};
 ghost use Rattle.mseed_stream.specs.Walk.{HasHandedOut};
 ghost use Rattle.mseed_select.specs.Formatted.{IsFormatted};
 ghost use Rattle.mseed_select.specs.Select.{IsSelected};
-ghost use Rattle.mseed_select.specs.Selecting.{selection_of};
 ghost use Rattle.mseed_choice.specs.Selection.{answer_of};
 ghost use Rattle.mseed_select.specs.private.Copying.{IsCopying, IsHeld, IsNext, text_by};
 
@@ -16,7 +15,6 @@ use crate::counts::Counts;
 use crate::fault::SelectFault;
 use crate::format::{Format, Verbatim};
 use crate::selected::Selected;
-use crate::selector::Selector;
 use mseed_choice::{Answer, Choice};
 use mseed_record::RecordView;
 use mseed_stream::{Cutter, GATHERED, Sink, Source, StreamFault, write_all_of, write_beyond};
@@ -39,21 +37,21 @@ pub(crate) enum Step {
 /// # Errors
 ///
 /// `Write` where the output failed, `Memory` where memory was refused. A prefix of the records' bytes was written then.
-pub fn select<A: Allocator + Copy, R: Source, W: Sink>(
+pub fn select<A: Allocator + Copy, C: Choice, R: Source, W: Sink>(
     alloc: A,
-    selector: &Selector<'_>,
+    choice: &C,
     input: &mut R,
     output: &mut W,
 ) -> Result<Selected, SelectFault>
     requires unread { R.read input.old ≡ nothing_read }
-    ensures selected { IsSelected (selection_of selector.now) result (R.read input.new) (W.written output.old)
+    ensures selected { IsSelected (C.selection choice.now) result (R.read input.new) (W.written output.old)
         (W.written output.new) }
 
     // What the input is known to have left is what was read of it, up to its end where it is at its end.
     ensures reads { ReadsOn (R.read input.old) (R.read input.new) (R.remaining input.old) (R.remaining input.new)
         (R.beside input.old) (R.beside input.new) }
 {
-    write_selected(alloc, selector, &Verbatim, input, output)
+    write_selected(alloc, choice, &Verbatim, input, output)
 }
 
 /// Writes the records of the input that are asked for, each in a format, and then the format's end, and returns how
