@@ -1,9 +1,8 @@
 //! The listing of an archive: a line for each record.
 #![tactic(auto)]
 
-mod fault;
 mod lines;
 mod listing;
 
-pub use fault::ShowFault;
-pub use listing::{Shown, show, show_selected};
+pub use listing::{show, show_selected};
+pub use mseed_select::SelectFault as ShowFault;

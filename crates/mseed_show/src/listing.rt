@@ -4,23 +4,12 @@ ghost use Rattle.mseed_stream.specs.Calls.{ReadsOn};
 ghost use Rattle.mseed_stream.specs.Device.{nothing_read};
 ghost use Rattle.mseed_show.specs.Show.{IsSelectedShown, IsShown, listing_texts};
 
-use crate::fault::ShowFault;
 use crate::lines::{push_count_line, push_record_line};
 use mseed_record::RecordView;
 use mseed_select::{All, Choice, Format, SelectFault, Selected, write_selected};
 use mseed_stream::{Sink, Source, StreamFault};
 use mseed_text::push_fault_line;
 use std::alloc::{AllocError, Allocator};
-
-/// What the listing of the records that are asked for comes to.
-#[derive(Clone, Copy, Debug, PartialEq, Eq)]
-pub struct Shown {
-    /// The fault with which the input ended; `None` where it ended after a record.
-    pub end: Option<StreamFault>,
-    /// How many records aren't listed since their start isn't known, though their channel is asked for and a window is
-    /// given.
-    pub without_time: u64,
-}
 
 /// Lists the records of the input, and returns the fault with which it ended, if with one. The text is a line for each
 /// record: its offset in bytes, its channel, quality, length in bytes, number of samples, start (UTC, to the
@@ -35,7 +24,7 @@ pub fn show<A: Allocator + Copy, R: Source, W: Sink>(
     alloc: A,
     input: &mut R,
     output: &mut W,
-) -> Result<Option<StreamFault>, ShowFault>
+) -> Result<Option<StreamFault>, SelectFault>
     requires unread { R.read input.old ≡ nothing_read }
     ensures shown { IsShown result (R.read input.new) (W.written output.old) (W.written output.new) }
 
@@ -44,13 +33,14 @@ pub fn show<A: Allocator + Copy, R: Source, W: Sink>(
         (R.beside input.old) (R.beside input.new) }
 {
     match show_selected(alloc, &All, input, output) {
-        Ok(shown) => Ok(shown.end),
+        Ok(found) => Ok(found.end),
         Err(fault) => Err(fault),
     }
 }
 
-/// Lists those of the records of the input that are asked for, as [`show`] lists all: their number is that of the
-/// lines, and each offset, the fault's too, is that in the whole input. Nothing may have been read of the input before.
+/// Lists those of the records of the input that are asked for, as [`show`] lists all, and returns how many records
+/// there were, and the fault with which the input ended, if with one: the number that is listed is that of the lines,
+/// and each offset, the fault's too, is that in the whole input. Nothing may have been read of the input before.
 ///
 /// # Errors
 ///
@@ -60,7 +50,7 @@ pub fn show_selected<A: Allocator + Copy, C: Choice, R: Source, W: Sink>(
     choice: &C,
     input: &mut R,
     output: &mut W,
-) -> Result<Shown, ShowFault>
+) -> Result<Selected, SelectFault>
     requires unread { R.read input.old ≡ nothing_read }
     ensures shown { IsSelectedShown (C.selection choice.now) result (R.read input.new) (W.written output.old)
         (W.written output.new) }
@@ -69,14 +59,7 @@ pub fn show_selected<A: Allocator + Copy, C: Choice, R: Source, W: Sink>(
     ensures reads { ReadsOn (R.read input.old) (R.read input.new) (R.remaining input.old) (R.remaining input.new)
         (R.beside input.old) (R.beside input.new) }
 {
-    match write_selected(alloc, choice, &Listing, input, output) {
-        Ok(found) => Ok(Shown {
-            end: found.end,
-            without_time: found.without_time,
-        }),
-        Err(SelectFault::Write) => Err(ShowFault::Write),
-        Err(SelectFault::Memory) => Err(ShowFault::Memory),
-    }
+    write_selected(alloc, choice, &Listing, input, output)
 }
 
 /// The format of a listing: a line for each record, and at the end their number, and the fault, if there is one.
