@@ -258,6 +258,15 @@ all_to_end {X} P xs n past all = subst (λ (ys : List X). All P ys) (take_all n 
 
 -- a standing that isn't of a kind
 
+-- a channel that fits, and one that doesn't, by what is read in place of it past the end
+pub fit_at : (ss : List Standing) (k : ℕ) (s : Standing) → k < length ss → get_or ss k s ≡ Fit
+    → get_or ss k Fit ≡ Fit
+fit_at ss k s inside fit = get_or_default ss k Fit s inside ∙ fit
+
+pub unfit_at : (ss : List Standing) (k : ℕ) (s : Standing) → k < length ss → (get_or ss k s ≡ Fit → ⊥)
+    → get_or ss k Fit ≡ Fit → ⊥
+unfit_at ss k s inside other fit = other (get_or_default ss k s Fit inside ∙ fit)
+
 pub unbroken : (s : Standing) → (s ≡ Broken → ⊥) → IsUnbroken s
 unbroken Fit fine = tt
 unbroken Broken fine = fine refl

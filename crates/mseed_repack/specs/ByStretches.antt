@@ -15,7 +15,7 @@ use Rattle.mseed_audit.specs.declared.finding.Finding.{Finding}
 use Rattle.mseed_text.specs.Name.{name_text}
 use Rattle.mseed_steim.specs.declared.encoding.Encoding.{Encoding}
 use Rattle.mseed_pack.specs.declared.options.Options.{Options}
-use Rattle.mseed_repack.specs.Misfits.{stretch_misfit_text}
+use Rattle.mseed_repack.specs.Misfits.{misfit_text}
 use Rattle.mseed_repack.specs.Repack.{AreTexts, Channel, Exists, IsArchiveOf, IsFirst, IsTextUpTo, IsUnread, Wrote}
 use Rattle.mseed_repack.specs.Repack.{records_in}
 use Rattle.mseed_repack.specs.Restretch.{ChannelFits, ChannelMisfits, IsChannelPart, IsChannelText}
@@ -112,7 +112,7 @@ broken_text key f = broken_line key ++ finding_line f
 abbrev pub IsReportOf : Encoding → List ℕ → Standing → List (List ℕ) → Type 0
 IsReportOf e key Fit lines = lines ≡ []
 IsReportOf e key Broken lines = lines ≡ broken_line key ∷ []
-IsReportOf e key (Misfit number fault) lines = lines ≡ stretch_misfit_text e key number fault ∷ []
+IsReportOf e key (Misfit number fault) lines = lines ≡ misfit_text e key (Some number) fault ∷ []
 
 -- and of each that is, in the order of the channels
 abbrev pub AreReportsOf : Encoding → List Channel → List Standing → List (List ℕ) → Type 0

@@ -1,6 +1,11 @@
 -- What is said of a series that can't be packed in an encoding: why, by a number and in words, and what it holds.
-use Rattle.std.specs.Prelude.{ℕ, ◌+◌, ◌-◌, ◌^◌, List, [], ◌++◌, Option, None, Some, codes, decimal}
+use Rattle.std.specs.Prelude.{ℕ, ℤ, ◌+◌, ◌-◌, ◌^◌, List, [], ◌++◌, Option, None, Some, codes, decimal}
+use Rattle.std.specs.Fmt.{signed_decimal}
+use Rattle.mseed_time.specs.Ratios.{ratio_of}
+use Rattle.mseed_time.specs.Text.{time_text}
 use Rattle.mseed_text.specs.Name.{name_text}
+use Rattle.mseed_text.specs.Time.{ratio_text}
+use Rattle.mseed_time.specs.declared.rate.Rate.{Rate}
 use Rattle.mseed_steim.specs.declared.encoding.Encoding.{Encoding}
 use Rattle.mseed_steim.specs.declared.encoding.Encoding.TheVariants.{Int16, Int32, Steim1, Steim2}
 use Rattle.mseed_pack.specs.declared.fault.PackFault.{PackFault}
@@ -10,10 +15,10 @@ use Rattle.mseed_pack.specs.declared.fault.PackFault.TheVariants.{DifferenceTooL
 -- why a series can't be packed, by its place among the reasons
 abbrev pub misfit_number : PackFault → ℕ
 misfit_number Empty = 1
-misfit_number RateTooHigh = 2
-misfit_number TimeOutOfRange = 3
-misfit_number (SampleTooLarge index) = 4
-misfit_number (DifferenceTooLarge index) = 5
+misfit_number (RateTooHigh rate) = 2
+misfit_number (TimeOutOfRange index instant) = 3
+misfit_number (SampleTooLarge index sample) = 4
+misfit_number (DifferenceTooLarge index difference) = 5
 misfit_number (Write taken) = 6
 
 -- an encoding by the name that requests it
@@ -41,33 +46,50 @@ difference_bits Steim2 = Some 30
 abbrev pub range_text : ℕ → List ℕ
 range_text bits = codes "-" ++ decimal (2 ^ (bits - 1)) ++ codes " to " ++ decimal (2 ^ (bits - 1) - 1)
 
--- which sample it is, counted from 1, and outside which numbers it or its difference lies
-abbrev pub outside_text : Encoding → ℕ → ℕ → List ℕ
-outside_text e bits index =
-    decimal (index + 1) ++ codes " is outside " ++ range_text bits ++ codes ", which " ++ encoding_name e
-    ++ codes " holds\n"
+-- which sample it is, counted from 1, what it or its difference is, and outside which numbers that lies
+abbrev pub outside_text : Encoding → ℕ → ℕ → ℤ → List ℕ
+outside_text e bits index value =
+    decimal (index + 1) ++ codes " is " ++ signed_decimal value ++ codes ", outside " ++ range_text bits
+    ++ codes ", which " ++ encoding_name e ++ codes " holds\n"
 
 -- the line of a difference from the sample before that the encoding doesn't hold: none where it holds any
-abbrev pub difference_line : Encoding → Option ℕ → ℕ → List ℕ
-difference_line e None index = []
-difference_line e (Some bits) index = codes "mseed: the difference before sample " ++ outside_text e bits index
+abbrev pub difference_line : Encoding → Option ℕ → ℕ → ℤ → List ℕ
+difference_line e None index difference = []
+difference_line e (Some bits) index difference =
+    codes "mseed: the difference before sample " ++ outside_text e bits index difference
+
+-- the line of a rate that is too high
+abbrev pub rate_line : Rate → List ℕ
+rate_line rate =
+    codes "mseed: its rate is " ++ ratio_text (ratio_of rate)
+    ++ codes " samples a second, over 500000, the most that is packed\n"
+
+-- the line of a sample's time that lies in no year from 1900 to 2100: which sample it is, counted from 1, and when
+abbrev pub time_line : ℕ → ℤ → List ℕ
+time_line index instant =
+    codes "mseed: the time of sample " ++ decimal (index + 1) ++ codes " is " ++ time_text instant
+    ++ codes ", which rounded to 0.0001 seconds lies in no year from 1900 to 2100\n"
 
 -- the line more that says why in words; of an output that failed, which is no misfit, there is none
 abbrev pub misfit_more : Encoding → PackFault → List ℕ
 misfit_more e Empty = codes "mseed: it has no samples\n"
-misfit_more e RateTooHigh = codes "mseed: its rate is over 500000 samples a second, the most that is packed\n"
-misfit_more e TimeOutOfRange =
-    codes "mseed: a sample's time, rounded to 0.0001 seconds, lies in no year from 1900 to 2100\n"
-misfit_more e (SampleTooLarge index) = codes "mseed: sample " ++ outside_text e (sample_bits e) index
-misfit_more e (DifferenceTooLarge index) = difference_line e (difference_bits e) index
+misfit_more e (RateTooHigh rate) = rate_line rate
+misfit_more e (TimeOutOfRange index instant) = time_line index instant
+misfit_more e (SampleTooLarge index sample) = codes "mseed: sample " ++ outside_text e (sample_bits e) index sample
+misfit_more e (DifferenceTooLarge index difference) = difference_line e (difference_bits e) index difference
 misfit_more e (Write taken) = []
 
--- the line about a channel of which a stretch can't be packed
-abbrev pub misfit_line : List ℕ → ℕ → PackFault → List ℕ
-misfit_line key number fault =
-    codes "mseed: " ++ name_text key ++ codes " does not fit " ++ decimal (misfit_number fault) ++ codes " stretch "
-    ++ decimal number ++ codes "\n"
+-- which stretch of a channel it is, by its number, where the channel is packed by stretches
+abbrev pub stretch_words : Option ℕ → List ℕ
+stretch_words None = []
+stretch_words (Some number) = codes " stretch " ++ decimal number
 
--- both of a channel of which such a stretch can't be packed in such an encoding
-abbrev pub stretch_misfit_text : Encoding → List ℕ → ℕ → PackFault → List ℕ
-stretch_misfit_text e key number fault = misfit_line key number fault ++ misfit_more e fault
+-- the line about a channel that can't be packed, or of which a stretch can't
+abbrev pub misfit_line : List ℕ → Option ℕ → PackFault → List ℕ
+misfit_line key stretch fault =
+    codes "mseed: " ++ name_text key ++ codes " does not fit " ++ decimal (misfit_number fault)
+    ++ stretch_words stretch ++ codes "\n"
+
+-- that line and the line more, where such an encoding is requested
+abbrev pub misfit_text : Encoding → List ℕ → Option ℕ → PackFault → List ℕ
+misfit_text e key stretch fault = misfit_line key stretch fault ++ misfit_more e fault

@@ -1,6 +1,6 @@
 //! Channels that aren't packed: an archive is refused for them, or they are left out.
 ghost use Rattle.std.specs.Prelude.{◌≡◌, ◌<◌, ◌≤◌, ◌+◌, ◌++◌, ℕ, List, [], length, map, take, false, All};
-ghost use Rattle.std.specs.Prelude.{IfNone, IfSome};
+ghost use Rattle.std.specs.Prelude.{IfNone, IfSome, decimal};
 ghost use Rattle.std.specs.Prelude.{slice_index_or};
 ghost use Rattle.std.specs.List.{AllByRecursion};
 ghost use Rattle.mseed_record.specs.Viewing.{view_of};
@@ -9,7 +9,7 @@ ghost use Rattle.mseed_audit.specs.Channels.{Placed};
 ghost use Rattle.mseed_pack.specs.declared.options.Options.{Options};
 ghost use Rattle.mseed_repack.specs.ByStretches.{AreReported, AreStandings, IsFit, IsReportOf, ReportsEach};
 ghost use Rattle.mseed_repack.specs.ByStretches.{broken_line, broken_text, finding_line, left_of, worse_of};
-ghost use Rattle.mseed_repack.specs.Misfits.{misfit_line, stretch_misfit_text};
+ghost use Rattle.mseed_repack.specs.Misfits.{misfit_line, misfit_number, misfit_text, stretch_words};
 ghost use Rattle.mseed_repack.specs.private.Archives.{IsAudited};
 ghost use Rattle.mseed_repack.specs.private.Places.{ArePlaces};
 ghost use Rattle.mseed_repack.specs.private.Restretching.{AreUnsound, IsFirstRefused, IsNoMisfit, IsUnbroken};
@@ -136,7 +136,7 @@ fn report_standing<E: Sink>(
         Standing::Fit => {}
         Standing::Broken => report_left_broken(channel, errors),
         Standing::Misfit(stretch, fault) => {
-            report_misfit(channel, stretch, encoding, fault, errors)
+            report_misfit(channel, Some(stretch), encoding, &fault, errors)
         }
     }
 }
@@ -186,17 +186,17 @@ fn put_finding(line: &mut Line, finding: &Finding)
     line.put(b"\n");
 }
 
-/// Writes a line to `errors` that says which stretch of a channel can't be packed in an encoding, by its number, from
-/// 1, and why, by [`misfit_number`]; and one that says it in words, as [`put_misfit_more`] does. A failure of `errors`
-/// is ignored.
+/// Writes a line to `errors` that says that a channel can't be packed in an encoding, or which stretch of it can't, by
+/// its number, from 1, and why, by [`misfit_number`]; and one that says it in words, as [`put_misfit_more`] does. A
+/// failure of `errors` is ignored.
 pub fn report_misfit<E: Sink>(
     channel: &Codes,
-    stretch: u64,
+    stretch: Option<u64>,
     encoding: Encoding,
-    fault: PackFault,
+    fault: &PackFault,
     errors: &mut E,
 )
-    ensures { WritesLine (stretch_misfit_text encoding channel.now stretch fault) (E.written errors.old)
+    ensures { WritesLine (misfit_text encoding channel.now stretch fault.now) (E.written errors.old)
         (E.written errors.new) }
 {
     let mut line = Line::new();
@@ -205,19 +205,39 @@ pub fn report_misfit<E: Sink>(
     report(errors, line.as_slice());
 }
 
-/// Puts the line that says which stretch of a channel can't be packed into a line without text.
-fn put_misfit(line: &mut Line, channel: &Codes, stretch: u64, fault: PackFault)
+/// Puts the line that says that a channel can't be packed, or which stretch of it can't, into a line without text.
+fn put_misfit(line: &mut Line, channel: &Codes, stretch: Option<u64>, fault: &PackFault)
     requires { line.old ≡ [] }
-    ensures text { line.new ≡ misfit_line channel.now stretch fault }
-    ensures most { length line.new ≤ 86 }
+    ensures text { line.new ≡ misfit_line channel.now stretch fault.now }
+    ensures most { length line.new ≤ 67 }
 {
     line.put(b"mseed: ");
     line.put_name(channel);
     line.put(b" does not fit ");
-    line.put_count(misfit_number(fault));
-    line.put(b" stretch ");
-    line.put_count(stretch);
+    put_number(line, fault);
+    put_stretch(line, stretch);
     line.put(b"\n");
+}
+
+/// Puts the number of why a channel can't be packed, which is a digit, at the end of a line.
+fn put_number(line: &mut Line, fault: &PackFault)
+    requires { length line.old + 20 ≤ LONGEST_LINE }
+    ensures text { line.new ≡ line.old ++ decimal (misfit_number fault.now) }
+    ensures most { length line.new ≤ length line.old + 1 }
+{
+    line.put_count(misfit_number(fault));
+}
+
+/// Puts which stretch of a channel it is at the end of a line, where the channel is packed by stretches.
+fn put_stretch(line: &mut Line, stretch: Option<u64>)
+    requires { length line.old + 29 ≤ LONGEST_LINE }
+    ensures text { line.new ≡ line.old ++ stretch_words stretch }
+    ensures most { length line.new ≤ length line.old + 29 }
+{
+    if let Some(number) = stretch {
+        line.put(b" stretch ");
+        line.put_count(number);
+    }
 }
 
 /// Returns the worst of what is left out, by what is found of each channel.

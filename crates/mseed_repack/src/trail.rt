@@ -73,7 +73,8 @@ pub(crate) fn lay_trails<A: Allocator + Copy>(
     Ok(Trails { firsts, nexts })
 }
 
-/// The same in lists that have room for them, where there is no first record yet.
+/// Notes each channel's first record, and each record's next one, in lists that have room for them and know of no first
+/// record yet.
 fn lay(
     views: &[RecordView],
     channels: &[(Codes, Verdict)],

@@ -131,7 +131,7 @@ fn touch_next<'a, R: Walk<'a>>(records: R) -> u8
     }
 }
 
-/// The same of the first lines of some bytes.
+/// Reads from each of the first lines of some bytes. What it returns says nothing.
 fn touch(bytes: &[u8]) -> u8 {
     let mut touched = 0;
     for line in 0..(bytes.len() / LINE).min(TOUCHED) {

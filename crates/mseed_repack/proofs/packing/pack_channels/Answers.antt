@@ -4,11 +4,18 @@ use Rattle.mseed_repack.specs.private.Archives.{records_on}
 use Rattle.mseed_repack.specs.declared.plan.Plan.{Plan}
 use Rattle.mseed_repack.proofs.Archives.{ready_on, texts_all, texts_next, texts_part, texts_still}
 use Rattle.mseed_repack.proofs.Planning.{plan_each, standing_each, written_on}
+use Rattle.mseed_repack.proofs.Standings.{fit_at, unfit_at}
 use Rattle.mseed_repack.proofs.packing.pack_channels.Goals as goal
 use Rattle.mseed_repack.proofs.packing.pack_channels.Goals.{in-Fit+in-Ok, in_default}
 
 pub bounds : goal.bounds
 bounds g c =
+    let size = standing_each c.args.archive.now.channels.now c.args.standings.now
+    (map (λ own. own.items) c.args.plans.now) c.requires.1.1.1 in
+    omega (arith, size, c.loop-number-test.true)
+
+pub bounds-standings-number : goal.bounds-standings-number
+bounds-standings-number g c =
     let size = standing_each c.args.archive.now.channels.now c.args.standings.now
     (map (λ own. own.items) c.args.plans.now) c.requires.1.1.1 in
     omega (arith, size, c.loop-number-test.true)
@@ -26,13 +33,16 @@ pack_stretches-requires g c κs =
     let t = c.trail-trail.result in
     let ps : List Plan = c.plans_at.result.now in
     let ready = ready_on c.args.archive.now c.args.standings.now (map (λ own. own.items) c.args.plans.now) l.number t ps
-    c.loop-number-test.true c.trail-trail.ensures.trail c.plans_at.ensures c.requires.1.1.1 in (
+    c.loop-number-test.true c.trail-trail.ensures.trail c.plans_at.ensures c.requires.1.1.1 in
+    let size = standing_each c.args.archive.now.channels.now c.args.standings.now
+    (map (λ own. own.items) c.args.plans.now) c.requires.1.1.1 in
+    let fit = fit_at c.args.standings.now l.number _ (omega (arith, size, c.loop-number-test.true)) c.in-Fit.is in (
       (refl, tt),
       (
         c.trail-trail.ensures.trail.led,
         written_on c.args.options.now (length c.args.samples.now) (length l.samples) (length c.args.steps.now)
             (length l.steps) ps (records_on t) (omega (arith, l.auto.samples)) (omega (arith, l.auto.steps))
-            (ready.can c.in-Fit.is),
+            (ready.can fit),
       ),
     )
 
@@ -45,9 +55,10 @@ returns-in-Err-clause-err g c =
     let ls = map (λ own. own.items) c.args.plans.now in
     let ready = ready_on a c.args.standings.now ls k t ps c.loop-number-test.true c.trail-trail.ensures.trail
     c.plans_at.ensures c.requires.1.1.1 in
-    texts_part g.cutting a c.args.standings.now k t ps c.loop-number-test.true
-    (standing_each a.channels.now c.args.standings.now ls c.requires.1.1.1) c.in-Fit.is c.trail-trail.ensures.trail
-    (ready.cut c.in-Fit.is) c.loop-number.invariant c.in-Err.ensures.err
+    let size = standing_each a.channels.now c.args.standings.now ls c.requires.1.1.1 in
+    let fit = fit_at c.args.standings.now k _ (omega (arith, size, c.loop-number-test.true)) c.in-Fit.is in
+    texts_part g.cutting a c.args.standings.now k t ps c.loop-number-test.true size fit c.trail-trail.ensures.trail
+    (ready.cut fit) c.loop-number.invariant c.in-Err.ensures.err
 
 pub loop-number-preserved : goal.loop-number-preserved
 loop-number-preserved g c =
@@ -62,12 +73,14 @@ loop-number-preserved g c =
           let ps : List Plan = w.plans_at.result.now in
           let ready = ready_on a ss ls k t ps c.loop-number-test.true c.trail-trail.ensures.trail w.plans_at.ensures
           c.requires.1.1.1 in
+          let fit = fit_at ss k _ (omega (arith, size, c.loop-number-test.true)) w.in-Fit.is in
           rw w.output-is
-          (texts_next g.cutting a ss k t ps c.loop-number-test.true size w.in-Fit.is c.trail-trail.ensures.trail
-          (ready.cut w.in-Fit.is) c.loop-number.invariant w.in-Ok.ensures.ok)
+          (texts_next g.cutting a ss k t ps c.loop-number-test.true size fit c.trail-trail.ensures.trail
+          (ready.cut fit) c.loop-number.invariant w.in-Ok.ensures.ok)
       | in_default w ↦
+          let other = unfit_at ss k _ (omega (arith, size, c.loop-number-test.true)) w.in_default.not-Fit in
           rw w.output-is
-          (texts_still g.cutting c.args.options.now a ss k t c.loop-number-test.true size w.in_default.not-Fit
+          (texts_still g.cutting c.args.options.now a ss k t c.loop-number-test.true size other
           c.trail-trail.ensures.trail c.loop-number.invariant)
     ]
 

@@ -5,7 +5,6 @@ returns-clause-text c =
     let a1 = rw c.requires at c.put.ensures.text in
     let a2 = rw a1 at c.put_name.ensures.text in
     let a3 = rw a2 at c.put-2.ensures.text in
-    let a4 = rw (a3, c.misfit_number.ensures.value) at c.put_count.ensures.text in
-    let a5 = rw a4 at c.put-3.ensures.text in
-    let a6 = rw a5 at c.put_count-2.ensures.text in
-    rw a6 at c.put-4.ensures.text
+    let a4 = rw a3 at c.put_number.ensures.text in
+    let a5 = rw a4 at c.put_stretch.ensures.text in
+    rw a5 at c.put-3.ensures.text

@@ -1,4 +1,6 @@
-use Rattle.mseed_repack.specs.declared.standing.Standing.TheVariants.{Fit}
+use Rattle.std.proofs.Common.{List, ℕ, subst}
+use Rattle.mseed_repack.specs.ByStretches.{IsReportOf, ReportsEach}
+use Rattle.mseed_repack.specs.declared.standing.Standing.{Standing}
 use Rattle.mseed_repack.proofs.Standings.{tells_next, tells_none}
 use Rattle.mseed_repack.proofs.refusing.report_left.Goals as goal
 
@@ -7,8 +9,12 @@ loop-number-init g c = tells_none c.args.encoding (g.E.Sink.written c.args.error
 
 pub loop-number-preserved : goal.loop-number-preserved
 loop-number-preserved g c =
-    tells_next c.args.encoding c.args.channels.now c.args.standings.now c.loop-number.number
-    c.index-channels-number.result Fit
-    (g.E.Sink.written c.args.errors.now) (g.E.Sink.written c.loop-number.errors)
-    (g.E.Sink.written c.report_standing.new.errors) c.loop-number-test.true c.requires c.index-channels-number.is
-    c.loop-number.invariant c.report_standing.ensures
+    let channel = c.index-channels-number.result in
+    let standing = c.index-standings-number.result in
+    let old = g.E.Sink.written c.loop-number.errors in
+    let new = g.E.Sink.written c.report_standing.new.errors in
+    let reported = subst (λ (s : Standing). (lines : List (List ℕ)) × (IsReportOf c.args.encoding channel.0 s lines
+    × ReportsEach lines old new)) c.index-standings-number.is c.report_standing.ensures in
+    tells_next c.args.encoding c.args.channels.now c.args.standings.now c.loop-number.number channel standing
+    (g.E.Sink.written c.args.errors.now) old new c.loop-number-test.true c.requires c.index-channels-number.is
+    c.loop-number.invariant reported

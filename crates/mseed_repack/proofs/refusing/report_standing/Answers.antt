@@ -1,6 +1,6 @@
-use Rattle.std.proofs.Common.{refl, [], ◌∷◌}
+use Rattle.std.proofs.Common.{refl, [], ◌∷◌, Some}
 use Rattle.mseed_repack.specs.ByStretches.{broken_line, silent}
-use Rattle.mseed_repack.specs.Misfits.{stretch_misfit_text}
+use Rattle.mseed_repack.specs.Misfits.{misfit_text}
 use Rattle.mseed_repack.proofs.Standings.{tells_one}
 use Rattle.mseed_repack.proofs.refusing.report_standing.Goals as goal
 
@@ -16,7 +16,7 @@ returns-in-Broken g c =
 
 pub returns-in-Misfit : goal.returns-in-Misfit
 returns-in-Misfit g c =
-    let line = stretch_misfit_text c.args.encoding c.args.channel.now c.in-Misfit.stretch c.in-Misfit.fault in
+    let line = misfit_text c.args.encoding c.args.channel.now (Some c.in-Misfit.stretch) c.in-Misfit.fault in
     let reported = tells_one line (g.E.Sink.written c.args.errors.now) (g.E.Sink.written c.report_misfit.new.errors)
     c.report_misfit.ensures in
     rw c.in-Misfit.is (line ∷ [], (refl, reported))
