@@ -11,7 +11,7 @@ use Rattle.slink_feed.specs.declared.dialogue.Stage.TheVariants.{Unlinked, Stati
 use Rattle.slink_feed.specs.declared.dialogue.Wanted.{Wanted}
 use Rattle.slink_feed.specs.Dialogue.{Talk, Whole, Reply, Packet, End, Garbage, answer_of, at_packet, place_of, ended}
 use Rattle.slink_feed.specs.Dialogue.{read_at, if_wanted, is_taken, next_at, requests_number, requests_place, to_answer}
-use Rattle.slink_feed.specs.Dialogue.{to_place, reported, want_at}
+use Rattle.slink_feed.specs.Dialogue.{foreign_by, to_place, reported, want_at}
 use Rattle.slink_feed.specs.Fetching.{line_written, record_reported}
 use Rattle.slink_feed.specs.Listening.{Brings, IsLinked, Listening, begun, whole}
 
@@ -24,8 +24,9 @@ at_end : (t : Talk) (ending : Ending) → GoesOn (ended ending t)
 at_end t endings.End = stays_quiet refl refl
 at_end t (endings.Refused k) = stays_quiet refl refl
 at_end t (endings.Gap k want got) = stays_quiet refl refl
+at_end t (endings.Unanswered k) = stays_quiet refl refl
 at_end t endings.Garbage = stays_quiet refl refl
-at_end t endings.Foreign = stays_quiet refl refl
+at_end t (endings.Foreign station network) = stays_quiet refl refl
 
 at_place : (t : Talk) (k : ℕ) (o : Option Wanted) → GoesOn (to_place o k t)
 at_place t k None = goes_on tt
@@ -35,7 +36,7 @@ at_answer : (t : Talk) (k : ℕ) (next : Talk × Event) (answer : Answer) → Go
     → GoesOn (to_answer answer k next t)
 at_answer t k next Granted on = on
 at_answer t k next Refusal on = at_end t (endings.Refused k)
-at_answer t k next Neither on = at_end t endings.Garbage
+at_answer t k next Neither on = at_end t (endings.Unanswered k)
 
 at_number : (t : Talk) (k n want : ℕ) (r : List ℕ) (same : Bool) → IsLinked t.stage
     → GoesOn (if same then reported k n r t else ended (endings.Gap k want n) t)
@@ -47,17 +48,17 @@ at_wanted t k n r None linked = goes_on linked
 at_wanted t k n r (Some want) linked = at_number t k n want r (is_taken t.holes want n) linked
 
 at_place_of : (t : Talk) (n : ℕ) (r : List ℕ) (o : Option ℕ) → IsLinked t.stage → GoesOn (at_packet o n r t)
-at_place_of t n r None linked = at_end t endings.Foreign
+at_place_of t n r None linked = at_end t (foreign_by r)
 at_place_of t n r (Some k) linked = at_wanted t k n r (next_at t.wants k) linked
 
 at_whole : (t : Talk) (stage : Stage) (w : Whole) → t.stage ≡ stage → GoesOn (read_at stage t w)
 at_whole t (Station k) (Reply line) is = at_answer t k (requests_number k t) (answer_of line) (goes_on tt)
-at_whole t (Station k) Garbage is = at_end t endings.Garbage
+at_whole t (Station k) Garbage is = at_end t (endings.Unanswered k)
 at_whole t (Station k) (Packet n r) is = stays_quiet refl refl
 at_whole t (Station k) End is = stays_quiet refl refl
 at_whole t (Number k) (Reply line) is =
     at_answer t k (requests_place (k + 1) t) (answer_of line) (at_place t (k + 1) (want_at t.wants (k + 1)))
-at_whole t (Number k) Garbage is = at_end t endings.Garbage
+at_whole t (Number k) Garbage is = at_end t (endings.Unanswered k)
 at_whole t (Number k) (Packet n r) is = stays_quiet refl refl
 at_whole t (Number k) End is = stays_quiet refl refl
 at_whole t Packets (Packet n r) is = at_place_of t n r (place_of t.wants r) (subst IsLinked (sym is) tt)

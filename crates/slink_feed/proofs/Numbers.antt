@@ -19,7 +19,7 @@ use Rattle.slink_feed.specs.declared.dialogue.Wanted.{Wanted}
 use Rattle.slink_feed.specs.Dialogue.{Talk, Wants, Whole, Reply, Packet, End, Garbage, answer_of, at_packet, place_of}
 use Rattle.slink_feed.specs.Dialogue.{ahead_of, is_ahead, is_taken, ended, read_at, if_wanted, is_of_wanted, next_at}
 use Rattle.slink_feed.specs.Dialogue.{next_set, sends_line, requests_number, requests_place, to_answer, to_place}
-use Rattle.slink_feed.specs.Dialogue.{reported, want_at, with_next}
+use Rattle.slink_feed.specs.Dialogue.{foreign_by, reported, want_at, with_next}
 use Rattle.slink_feed.specs.Holding.{AreRising, GoBy, IsNext, Rise, Turn, connects, brings, numbers_in, numbers_of}
 use Rattle.slink_feed.specs.Holding.{talk_after, turned}
 
@@ -33,8 +33,9 @@ moved_end : (k : ℕ) (t : Talk) (ending : Ending) → Moved k t (ended ending t
 moved_end k t endings.End = stays refl refl
 moved_end k t (endings.Refused j) = stays refl refl
 moved_end k t (endings.Gap j want got) = stays refl refl
+moved_end k t (endings.Unanswered j) = stays refl refl
 moved_end k t endings.Garbage = stays refl refl
-moved_end k t endings.Foreign = stays refl refl
+moved_end k t (endings.Foreign station network) = stays refl refl
 
 moved_line : (k : ℕ) (t : Talk) (stage : Stage) (request : Request) → Moved k t (sends_line t stage request)
 moved_line k t stage request = stays refl refl
@@ -47,7 +48,7 @@ moved_answer : (k j : ℕ) (t : Talk) (next : Talk × Event) (answer : Answer) �
     → Moved k t (to_answer answer j next t)
 moved_answer k j t next Granted moved = moved
 moved_answer k j t next Refusal moved = moved_end k t (endings.Refused j)
-moved_answer k j t next Neither moved = moved_end k t endings.Garbage
+moved_answer k j t next Neither moved = moved_end k t (endings.Unanswered j)
 
 -- what a station wants once another number was written
 set_here : (wants : Wants) (k : ℕ) (o : Option Wanted) (w : Wanted) → want_at wants k ≡ Some w
@@ -155,18 +156,18 @@ place_some wants bytes j h =
 
 moved_packet : (k n : ℕ) (bytes : List ℕ) (t : Talk) (o : Option ℕ) → place_of t.wants bytes ≡ o
     → Moved k t (at_packet o n bytes t)
-moved_packet k n bytes t None is = moved_end k t endings.Foreign
+moved_packet k n bytes t None is = moved_end k t (foreign_by bytes)
 moved_packet k n bytes t (Some j) is = let some : (w : Wanted) × (want_at t.wants j ≡ Some w) =
     place_some t.wants bytes j is in moved_wanted k j n bytes t some.0 (next_at t.wants j) some.1 refl
 
 moved_read : (k : ℕ) (t : Talk) (stage : Stage) (w : Whole) → Moved k t (read_at stage t w)
 moved_read k t (Station j) (Reply line) = moved_answer k j t (requests_number j t) (answer_of line) (stays refl refl)
-moved_read k t (Station j) Garbage = moved_end k t endings.Garbage
+moved_read k t (Station j) Garbage = moved_end k t (endings.Unanswered j)
 moved_read k t (Station j) (Packet n r) = stays refl refl
 moved_read k t (Station j) End = stays refl refl
 moved_read k t (Number j) (Reply line) =
     moved_answer k j t (requests_place (j + 1) t) (answer_of line) (moved_place k (j + 1) t (want_at t.wants (j + 1)))
-moved_read k t (Number j) Garbage = moved_end k t endings.Garbage
+moved_read k t (Number j) Garbage = moved_end k t (endings.Unanswered j)
 moved_read k t (Number j) (Packet n r) = stays refl refl
 moved_read k t (Number j) End = stays refl refl
 moved_read k t Packets (Packet n bytes) = moved_packet k n bytes t (place_of t.wants bytes) refl

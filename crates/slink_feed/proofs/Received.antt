@@ -48,11 +48,6 @@ reply_whole (Station k) bytes w awaits is = is
 reply_whole (Number k) bytes w awaits is = is
 reply_whole stage bytes w awaits is = absurd awaits
 
-garbage_read : (stage : Stage) (t : Talk) → AwaitsReply stage → read_at stage t Garbage ≡ ended endings.Garbage t
-garbage_read (Station k) t awaits = refl
-garbage_read (Number k) t awaits = refl
-garbage_read stage t awaits = absurd awaits
-
 pub reply_brings : (t d talk : Talk) (bytes slice line kept : List ℕ) (x e : Event) → AwaitsReply t.stage
     → slice ≡ bytes → IsReply slice line → read t (Reply line) ≡ (talk, e) → d ≡ talk → x ≡ e → kept ≡ []
     → Brings t bytes (record { talk = d; kept = kept }) x
@@ -61,11 +56,11 @@ reply_brings t d talk bytes slice line kept x e awaits same is h same_talk same_
     (paired d talk x e (read t (Reply line)) h same_talk same_event) none
 
 pub no_reply_brings : (t d talk : Talk) (bytes kept : List ℕ) (part : Part) (x e : Event) → AwaitsReply t.stage
-    → IsReplyPart bytes part → part ≡ parts.Garbage → ended endings.Garbage t ≡ (talk, e) → d ≡ talk → x ≡ e → kept ≡ []
+    → IsReplyPart bytes part → part ≡ parts.Garbage → read t Garbage ≡ (talk, e) → d ≡ talk → x ≡ e → kept ≡ []
     → Brings t bytes (record { talk = d; kept = kept }) x
 no_reply_brings t d talk bytes kept part x e awaits is at h same_talk same_event none =
     whole Garbage (reply_whole t.stage bytes Garbage awaits (subst (IsReplyPart bytes) at is))
-    (paired d talk x e (read t Garbage) (garbage_read t.stage t awaits ∙ h) same_talk same_event) none
+    (paired d talk x e (read t Garbage) h same_talk same_event) none
 
 packet_whole : (t : Talk) (bytes : List ℕ) (w : Whole) → t.stage ≡ Packets → IsWholePacket bytes w
     → IsWhole t.stage bytes w

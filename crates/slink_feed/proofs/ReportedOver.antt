@@ -19,7 +19,8 @@ use Rattle.slink_feed.specs.Cutting.{IsWhole}
 use Rattle.slink_feed.specs.Delivered.{Numbered}
 use Rattle.slink_feed.specs.Dialogue.{Talk, Wants, Whole, Reply, Packet, End, Garbage, answer_of, at_packet, place_of}
 use Rattle.slink_feed.specs.Dialogue.{is_taken, ended, read, read_at, if_wanted, is_of_wanted, next_at, next_set}
-use Rattle.slink_feed.specs.Dialogue.{requests_number, requests_place, to_answer, to_place, reported, want_at}
+use Rattle.slink_feed.specs.Dialogue.{foreign_by, requests_number, requests_place, to_answer, to_place, reported}
+use Rattle.slink_feed.specs.Dialogue.{want_at}
 use Rattle.slink_feed.specs.Holding.{GoBy, GoOn, IsNext}
 use Rattle.slink_feed.specs.Listening.{AreBrought, Brought, Listening, Reads, events_of, talk_after, event_if_any}
 use Rattle.slink_feed.specs.Reported.{AreOf, HasReported, bytes_in, numbers_at, places_of, record_in, records_reported}
@@ -38,8 +39,9 @@ comes_end : (t : Talk) (ending : Ending) → Comes t (ended ending t)
 comes_end t endings.End = nothing refl refl
 comes_end t (endings.Refused j) = nothing refl refl
 comes_end t (endings.Gap j want got) = nothing refl refl
+comes_end t (endings.Unanswered j) = nothing refl refl
 comes_end t endings.Garbage = nothing refl refl
-comes_end t endings.Foreign = nothing refl refl
+comes_end t (endings.Foreign station network) = nothing refl refl
 
 comes_place : (k : ℕ) (t : Talk) (o : Option Wanted) → Comes t (to_place o k t)
 comes_place k t None = nothing refl refl
@@ -49,7 +51,7 @@ comes_answer : (k : ℕ) (t : Talk) (next : Talk × Event) (answer : Answer) →
     → Comes t (to_answer answer k next t)
 comes_answer k t next Granted comes = comes
 comes_answer k t next Refusal comes = comes_end t (endings.Refused k)
-comes_answer k t next Neither comes = comes_end t endings.Garbage
+comes_answer k t next Neither comes = comes_end t (endings.Unanswered k)
 
 comes_if : (k n : ℕ) (bytes : List ℕ) (t : Talk) (b : Bool) (want : ℕ) → length bytes ≡ 512
     → place_of t.wants bytes ≡ Some k → next_at t.wants k ≡ Some want → (b ≡ true → IsNext t.holes want n)
@@ -66,7 +68,7 @@ comes_wanted k n bytes t (Some want) long bears is =
 
 comes_packet : (n : ℕ) (bytes : List ℕ) (t : Talk) (o : Option ℕ) → length bytes ≡ 512 → place_of t.wants bytes ≡ o
     → Comes t (at_packet o n bytes t)
-comes_packet n bytes t None long bears = comes_end t endings.Foreign
+comes_packet n bytes t None long bears = comes_end t (foreign_by bytes)
 comes_packet n bytes t (Some k) long bears = comes_wanted k n bytes t (next_at t.wants k) long bears refl
 
 -- a packet's record has 512 bytes
@@ -77,12 +79,12 @@ pub comes_read : (t : Talk) (stage : Stage) (bytes : List ℕ) (w : Whole) → I
     → Comes t (read_at stage t w)
 comes_read t (Station j) bytes (Reply line) is =
     comes_answer j t (requests_number j t) (answer_of line) (nothing refl refl)
-comes_read t (Station j) bytes Garbage is = comes_end t endings.Garbage
+comes_read t (Station j) bytes Garbage is = comes_end t (endings.Unanswered j)
 comes_read t (Station j) bytes (Packet n r) is = absurd is
 comes_read t (Station j) bytes End is = absurd is
 comes_read t (Number j) bytes (Reply line) is =
     comes_answer j t (requests_place (j + 1) t) (answer_of line) (comes_place (j + 1) t (want_at t.wants (j + 1)))
-comes_read t (Number j) bytes Garbage is = comes_end t endings.Garbage
+comes_read t (Number j) bytes Garbage is = comes_end t (endings.Unanswered j)
 comes_read t (Number j) bytes (Packet n r) is = absurd is
 comes_read t (Number j) bytes End is = absurd is
 comes_read t Packets bytes (Packet n r) is =

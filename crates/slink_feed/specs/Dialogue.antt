@@ -66,8 +66,9 @@ abbrev pub event_of : Ending → Event
 event_of endings.End = events.End
 event_of (endings.Refused k) = events.Refused k
 event_of (endings.Gap k want got) = events.Gap k want got
+event_of (endings.Unanswered k) = events.Garbage
 event_of endings.Garbage = events.Garbage
-event_of endings.Foreign = events.Foreign
+event_of (endings.Foreign station network) = events.Foreign
 
 abbrev pub ended : Ending → Talk → Talk × Event
 ended ending t = (record t { stage = Ended ending }, event_of ending)
@@ -100,7 +101,7 @@ answer_of line = if bytes_eq line (codes "OK") then Granted else if starts_with 
 abbrev pub to_answer : Answer → ℕ → Talk × Event → Talk → Talk × Event
 to_answer Granted k next t = next
 to_answer Refusal k next t = ended (endings.Refused k) t
-to_answer Neither k next t = ended endings.Garbage t
+to_answer Neither k next t = ended (endings.Unanswered k) t
 
 -- whether a record's header has the codes of a station
 abbrev pub is_of_wanted : List ℕ → Option Wanted → Bool
@@ -145,17 +146,21 @@ if_wanted None k number bytes t = reported k number bytes t
 if_wanted (Some want) k number bytes t =
     if is_taken t.holes want number then reported k number bytes t else ended (endings.Gap k want number) t
 
+-- the end by a record of none of the stations, with the codes of its header
+abbrev pub foreign_by : List ℕ → Ending
+foreign_by bytes = endings.Foreign (slice_range bytes 8 13) (slice_range bytes 18 20)
+
 -- a packet: its station is sought first
 abbrev pub at_packet : Option ℕ → ℕ → List ℕ → Talk → Talk × Event
-at_packet None number bytes t = ended endings.Foreign t
+at_packet None number bytes t = ended (foreign_by bytes) t
 at_packet (Some k) number bytes t = if_wanted (next_at t.wants k) k number bytes t
 
 -- The client's table: what it does with what has come, by what it waits for.
 abbrev pub read_at : Stage → Talk → Whole → Talk × Event
 read_at (Station k) t (Reply line) = to_answer (answer_of line) k (requests_number k t) t
-read_at (Station k) t Garbage = ended endings.Garbage t
+read_at (Station k) t Garbage = ended (endings.Unanswered k) t
 read_at (Number k) t (Reply line) = to_answer (answer_of line) k (requests_place (k + 1) t) t
-read_at (Number k) t Garbage = ended endings.Garbage t
+read_at (Number k) t Garbage = ended (endings.Unanswered k) t
 read_at Packets t (Packet number bytes) = at_packet (place_of t.wants bytes) number bytes t
 read_at Packets t End = ended endings.End t
 read_at Packets t Garbage = ended endings.Garbage t

@@ -6,6 +6,7 @@ pub mod Grant
 pub mod Session
 pub mod Serving
 pub mod Dialogue
+pub mod Endings
 pub mod Cutting
 pub mod Listening
 pub mod Delivered

@@ -8,13 +8,14 @@ ghost use Rattle.slink_feed.specs.Cutting.{IsBegun, IsReply};
 ghost use Rattle.slink_feed.specs.private.Parts.{IsPacketPart, IsReplyPart};
 ghost use Rattle.slink_feed.specs.declared.dialogue.Ending.{Ending};
 ghost use Rattle.slink_feed.specs.declared.dialogue.Event.{Event};
-ghost use Rattle.slink_feed.specs.Dialogue.{Talk, at_packet, place_of, event_of, next_at, requests_place};
+ghost use Rattle.slink_feed.specs.Dialogue.{Talk, at_packet, place_of, event_of, next_at, requests_place, want_at};
+ghost use Rattle.slink_feed.specs.Endings.{ending_at};
 ghost use Rattle.slink_feed.specs.Fetching.{turn_at};
 ghost use Rattle.slink_feed.specs.Listening.{AwaitsReply, Brings, IsLinked, Listening, Reads, new_client};
 ghost use Rattle.slink_feed.specs.Listening.{event_if_any};
 
 use crate::cutting::{Part, take_packet, take_reply};
-use crate::dialogue::{Bytes, Dialogue, Ending, Event, Stage, Wanted};
+use crate::dialogue::{Bytes, Dialogue, Ending, Event, Stage, Wanted, want_at};
 use crate::feed::STATIONS;
 use crate::grant::Mode;
 use crate::turn::Turn;
@@ -80,6 +81,23 @@ impl Client {
         ensures short { IfSome result (λ n. n < 2 ^ 24) }
     {
         self.dialogue.next(k)
+    }
+
+    /// Returns the station at an index, with the number that it wants next, or `None` where there are fewer stations.
+    pub fn wanted(&self, k: usize) -> Option<Wanted>
+        ensures { result ≡ want_at self.now.talk.wants k }
+    {
+        want_at(self.dialogue.wants(), k)
+    }
+
+    /// Returns why nothing more of the last link is taken, or `None` while more of it is taken, or there was none.
+    pub fn ending(&self) -> Option<Ending>
+        ensures { result ≡ ending_at self.now.talk.stage }
+    {
+        match self.dialogue.stage() {
+            Stage::Ended(ending) => Some(ending),
+            Stage::Unlinked | Stage::Station(_) | Stage::Number(_) | Stage::Packets => None,
+        }
     }
 
     /// The stations that are requested, each with the number that it wants next.
@@ -217,7 +235,7 @@ fn read_reply(dialogue: &mut Dialogue, kept: &mut ArrayVec<u8, PACKET>, part: Pa
         Part::Begun => return Event::None,
         Part::Whole => dialogue.read_reply(line_of(kept.as_slice())),
         Part::End => unreachable!(),
-        Part::Garbage => dialogue.end(Ending::Garbage),
+        Part::Garbage => dialogue.read_no_reply(),
     };
     kept.clear();
     event

@@ -2,7 +2,8 @@
 ghost use Rattle.std.specs.Prelude.{◌≡◌, ◌≢◌, ◌+◌, ◌%◌, ◌<◌, ◌≤◌, IfNone, IfSome, length};
 ghost use Rattle.slink_wire.specs.Request.{IsSpelled};
 ghost use Rattle.slink_wire.specs.Place.{AreNumbers};
-ghost use Rattle.slink_feed.specs.Dialogue.{AreShort, IsStage, Reply, Talk, answer_of, at_packet, ended, event_of};
+ghost use Rattle.slink_feed.specs.Dialogue.{AreShort, Garbage, IsStage, Reply, Talk, answer_of, at_packet, ended};
+ghost use Rattle.slink_feed.specs.Dialogue.{event_of, foreign_by};
 ghost use Rattle.slink_feed.specs.Dialogue.{if_wanted, is_ahead, is_of_wanted, is_taken, next_at, place_of, read};
 ghost use Rattle.slink_feed.specs.Dialogue.{requests_number, requests_place, sends_line, to_answer, want_at, wants_of};
 ghost use Rattle.slink_feed.specs.Dialogue.{with_next};
@@ -58,10 +59,17 @@ pub enum Ending {
         /// The number that came.
         got: u32,
     },
-    /// No reply, packet or end.
+    /// What came about this station is no reply, or one that neither is `OK` nor begins with `ERROR`.
+    Unanswered(usize),
+    /// Neither a packet nor the end.
     Garbage,
-    /// The packet of a record of none of the stations.
-    Foreign,
+    /// The packet of a record of none of the stations, by the codes of its header.
+    Foreign {
+        /// The station's code at bytes 8 to 12, as it stands there.
+        station: [u8; 5],
+        /// The network's code at bytes 18 and 19, as it stands there.
+        network: [u8; 2],
+    },
 }
 
 /// What a client makes of the bytes that it accepted.
@@ -101,10 +109,21 @@ impl Ending {
             Ending::End => Event::End,
             Ending::Refused(k) => Event::Refused(k),
             Ending::Gap { place, want, got } => Event::Gap { place, want, got },
-            Ending::Garbage => Event::Garbage,
-            Ending::Foreign => Event::Foreign,
+            Ending::Unanswered(_) | Ending::Garbage => Event::Garbage,
+            Ending::Foreign { .. } => Event::Foreign,
         }
     }
+}
+
+/// Why nothing more is taken of a link that brought a record of none of the stations.
+fn foreign_by(bytes: &[u8; 512]) -> Ending
+    ensures { result ≡ foreign_by bytes.now }
+{
+    let mut station = [0; 5];
+    let mut network = [0; 2];
+    station.copy_from_slice(&bytes[8..13]);
+    network.copy_from_slice(&bytes[18..20]);
+    Ending::Foreign { station, network }
 }
 
 /// What the server replies to STATION, DATA or FETCH (SeedLink 3, handshaking).
@@ -295,6 +314,19 @@ impl Dialogue {
         }
     }
 
+    /// Takes bytes that are no reply where one is awaited, and returns the event that they make.
+    pub(crate) fn read_no_reply(&mut self) -> Event
+        requires { AwaitsReply self.old.stage }
+        ensures read { read self.old Garbage ≡ (self.new, result) }
+        ensures reported { result ≢ Event.None }
+    {
+        match self.stage {
+            Stage::Station(k) => self.end(Ending::Unanswered(k)),
+            Stage::Number(k) => self.end(Ending::Unanswered(k)),
+            Stage::Unlinked | Stage::Packets | Stage::Ended(_) => unreachable!(),
+        }
+    }
+
     /// Takes the reply to the STATION line of a station.
     fn read_station(&mut self, k: usize, answer: Answer) -> Event
         requires { k < STATIONS }
@@ -304,7 +336,7 @@ impl Dialogue {
         match answer {
             Answer::Granted => Event::Say(self.request_number(k)),
             Answer::Refusal => self.end(Ending::Refused(k)),
-            Answer::Neither => self.end(Ending::Garbage),
+            Answer::Neither => self.end(Ending::Unanswered(k)),
         }
     }
 
@@ -317,7 +349,7 @@ impl Dialogue {
         match answer {
             Answer::Granted => Event::Say(self.request_place(k + 1)),
             Answer::Refusal => self.end(Ending::Refused(k)),
-            Answer::Neither => self.end(Ending::Garbage),
+            Answer::Neither => self.end(Ending::Unanswered(k)),
         }
     }
 
@@ -329,7 +361,7 @@ impl Dialogue {
     {
         match self.place_of(bytes) {
             Some(k) => self.read_record(k, number, bytes),
-            None => self.end(Ending::Foreign),
+            None => self.end(foreign_by(bytes)),
         }
     }
 

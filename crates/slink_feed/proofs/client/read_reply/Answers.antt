@@ -8,5 +8,5 @@ returns-clause-brings c = elim c.match-part.branch [
       w.as_slice.ensures.value w.line_of.ensures w.read_reply-event.ensures.read w.dialogue-is w.event-is
       c.clear.ensures
   | in-Garbage w ↦ no_reply_brings c.args.dialogue.now _ _ _ c.clear.new.self.items _ _ _ c.requires.stage
-      c.requires.part w.in-Garbage.is w.end-event.ensures.read w.dialogue-is w.event-is c.clear.ensures
+      c.requires.part w.in-Garbage.is w.read_no_reply-event.ensures.read w.dialogue-is w.event-is c.clear.ensures
 ]
