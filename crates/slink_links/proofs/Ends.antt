@@ -11,8 +11,11 @@ use Rattle.slink_feed.specs.Reporter.{reporting_of, wants_left}
 use Rattle.slink_feed.specs.Reported.{HasReported}
 use Rattle.slink_feed.proofs.Quiet.{nothing_reported}
 use Rattle.slink_links.specs.declared.fetching.FetchEnd.{FetchEnd}
-use Rattle.slink_links.specs.Fetched.{FetchesAll, FetchesReporting, IsQuiet, ReportsOfAll, ReportsOfFetch, fetch_status}
-use Rattle.slink_links.specs.Fetched.{is_unwritten, next_lines}
+use Rattle.slink_links.specs.declared.plan.Server.{Server}
+use Rattle.slink_links.specs.declared.trouble.Trouble.{Trouble}
+use Rattle.slink_links.specs.EndLines.{Outcome, ReportsOfFetch, outcome}
+use Rattle.slink_links.specs.Fetched.{FetchesAll, FetchesReporting, IsQuiet, ReportsOfAll, fetch_status, is_unwritten}
+use Rattle.slink_links.specs.Fetched.{next_lines}
 
 -- the arguments of a fetch that goes on, where they are requested
 pub next_reported : (called failed unwritten : Bool) (last : Option (ℕ × ℕ)) (wants : Wants) (a b : BytesWritten)
@@ -27,39 +30,46 @@ pub next_unreported : (called : Bool) (wants : Wants) (a : BytesWritten) → cal
     → AreReported (next_lines called wants) a a
 next_unreported called wants a unset = subst (λ (t : Bool). AreReported (next_lines t wants) a a) (sym unset) (none a)
 
--- nothing but the line of the end is reported
+-- nothing but the lines of the end is reported
 none_reported : (lines : List (List ℕ)) (a b : BytesWritten) → lines ≡ [] → AreReported lines a b → b ≡ a
 none_reported _ _ _ is (none now) = refl
 none_reported _ _ _ is (one line lines old now new tells rest) = absurd (let bad : line ∷ lines ≡ [] = is in cc bad)
 
-end_reported : (end : FetchEnd) (old new : Wants) (records : List Numbered) (a d : BytesWritten)
-    → HasReported false old new records → ReportsOfAll false end records old new a d → ReportsOfFetch end a d
-end_reported end old new records a d reported all =
+end_reported : (end : FetchEnd) (known : Outcome) (old new : Wants) (records : List Numbered) (a d : BytesWritten)
+    → HasReported false old new records → ReportsOfAll false end known records old new a d
+    → ReportsOfFetch known end a d
+end_reported end known old new records a d reported all =
     let first = none_reported (lines_of (reporting_of old false) records) a all.reported
     (nothing_reported old new records reported) all.lines in
     let last : d ≡ all.ended = none_reported [] all.ended d refl all.next in
-    rw (← last) at (subst (λ (x : BytesWritten). ReportsOfFetch end x all.ended) first all.end_line)
+    rw (← last) at (subst (λ (x : BytesWritten). ReportsOfFetch known end x all.ended) first all.end_lines)
 
-pub end_alone : (end : FetchEnd) (firsts : Bool) (status : ℕ) (old new : Listening) (o p a d : BytesWritten)
-    → FetchesAll end firsts status old new o p a d → IsQuiet firsts old.talk.holes status a d
-end_alone end firsts status old new o p a d f uncalled plain =
+pub end_alone : (end : FetchEnd) (server : Server) (trouble : Option Trouble) (firsts : Bool) (status : ℕ)
+    (old new : Listening) (o p a d : BytesWritten)
+    → FetchesAll end server trouble firsts status old new o p a d
+    → IsQuiet server firsts old.talk.holes new.talk status a d
+end_alone end server trouble firsts status old new o p a d f uncalled plain =
     let records : List Numbered = f.fetched.records in
     let before : Wants = old.talk.wants in
     let after : Wants = new.talk.wants in (
       end,
+      trouble,
       f.status_is,
-      end_reported end before after records a d
+      end_reported end (outcome server trouble new.talk) before after records a d
           (subst (λ (h : Bool). HasReported h before after records) plain f.fetched.reported)
-          (subst (λ (t : Bool). ReportsOfAll t end records before after a d) uncalled f.reports),
+          (subst (λ (t : Bool). ReportsOfAll t end (outcome server trouble new.talk) records before after a d) uncalled
+          f.reports),
     )
 
 -- all that is reported
-pub all_fetched : (firsts : Bool) (end : FetchEnd) (status : ℕ) (old new : Listening) (t u : Reporting)
+pub all_fetched : (firsts : Bool) (end : FetchEnd) (server : Server) (trouble : Option Trouble) (status : ℕ)
+    (old new : Listening) (t u : Reporting)
     (o p a b c d : BytesWritten) → FetchesReporting end old new (outputs o a t) (outputs p b u)
-    → t ≡ reporting_of old.talk.wants firsts → status ≡ fetch_status end → ReportsOfFetch end b c
+    → t ≡ reporting_of old.talk.wants firsts → status ≡ fetch_status end
+    → ReportsOfFetch (outcome server trouble new.talk) end b c
     → AreReported (next_lines firsts (wants_left (is_unwritten end) u.last new.talk.wants)) c d
-    → FetchesAll end firsts status old new o p a d
-all_fetched firsts end status old new t u o p a b c d f begun is ended next =
+    → FetchesAll end server trouble firsts status old new o p a d
+all_fetched firsts end server trouble status old new t u o p a b c d f begun is ended next =
     let records : List Numbered = f.fetched.records in
     let first : Reporting = reporting_of old.talk.wants firsts in
     let beyond : u ≡ reporting_after first records =
@@ -70,7 +80,7 @@ all_fetched firsts end status old new t u o p a b c d f begun is ended next =
         reported = b;
         ended = c;
         lines = subst (λ (x : Reporting). AreReported (lines_of x records) a b) begun f.handed_over.lines;
-        end_line = ended;
+        end_lines = ended;
         next = rw beyond at next;
       };
     }

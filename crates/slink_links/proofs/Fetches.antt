@@ -114,8 +114,9 @@ reached_stopped : (ending : Ending) (old new : Listening) → new.talk.stage ≡
 reached_stopped endings.End old new at = at
 reached_stopped (endings.Refused k) old new at = (k, at)
 reached_stopped (endings.Gap k want got) old new at = (endings.Gap k want got, at, tt)
+reached_stopped (endings.Unanswered k) old new at = (endings.Unanswered k, at, tt)
 reached_stopped endings.Garbage old new at = (endings.Garbage, at, tt)
-reached_stopped endings.Foreign old new at = (endings.Foreign, at, tt)
+reached_stopped (endings.Foreign station network) old new at = (endings.Foreign station network, at, tt)
 
 reached_turn : (bytes : List ℕ) (stage : Stage) (old new : Listening) → new.talk.stage ≡ stage → ¬ (stage ≡ Unlinked)
     → (bytes ≡ [] → IsUnended new.talk.stage) → ReachesBy (end_by (Ok (turn_after bytes stage))) old new

@@ -1,6 +1,6 @@
 -- How fetching over one link after another ends, and what the output accepted by then.
 use Rattle.std.specs.Prelude.{◌≡◌, ◌⊎◌, ℕ, ◌+◌, ◌%◌, ◌^◌, ◌<◌, ◌≤◌, Bool, true, false, List, ◌∷◌, ◌++◌, [], length}
-use Rattle.std.specs.Prelude.{Option, Some, None, Result, Ok, Err, codes}
+use Rattle.std.specs.Prelude.{Option, Some, None, Result, Ok, Err}
 use Rattle.mseed_stream.specs.Device.{BytesRead, IsPrefixOf, BytesWritten, nothing_read, nothing_written}
 use Rattle.mseed_stream.specs.Exchanges.{Exchange}
 use Rattle.slink_feed.specs.declared.dialogue.Ending.{Ending}
@@ -23,7 +23,10 @@ use Rattle.slink_feed.specs.Reported.{HasReported, numbers_at, records_reported}
 use Rattle.slink_feed.specs.Turns.{Emitted, EmittedPrefix}
 use Rattle.slink_links.specs.declared.fetching.FetchEnd.{FetchEnd}
 use Rattle.slink_links.specs.declared.fetching.FetchEnd.TheVariants.{Done, Refused, BadFeed, WriteFailed, LinkFailed}
-use Rattle.mseed_stream.specs.LineWritten.{WritesLine}
+use Rattle.slink_links.specs.declared.plan.FetchPlan.{FetchPlan}
+use Rattle.slink_links.specs.declared.plan.Server.{Server}
+use Rattle.slink_links.specs.declared.trouble.Trouble.{Trouble}
+use Rattle.slink_links.specs.EndLines.{Outcome, ReportsOfFetch, outcome}
 use Rattle.slink_links.specs.Pauses.{pauses_from}
 
 -- Where the client doesn't go past holes, the number that a station wanted moved by how many records of it there are.
@@ -65,14 +68,6 @@ abbrev pub fetch_status : FetchEnd → ℕ
 fetch_status Done = 0
 fetch_status end = 2
 
--- the line on standard error, or none
-abbrev pub ReportsOfFetch : FetchEnd → BytesWritten → BytesWritten → Type 0
-ReportsOfFetch Done old new = new ≡ old
-ReportsOfFetch Refused old new = WritesLine (codes "mseed: refused\n") old new
-ReportsOfFetch BadFeed old new = WritesLine (codes "mseed: bad feed\n") old new
-ReportsOfFetch WriteFailed old new = WritesLine (codes "mseed: write failed\n") old new
-ReportsOfFetch LinkFailed old new = WritesLine (codes "mseed: link failed\n") old new
-
 -- Links were fetched over, up to an end: a client reported these records, and the output accepted them.
 pub record HasFetched (end : FetchEnd) (old new : Listening) (written_old written_new : BytesWritten) : Type 0 where
   pub records : List Numbered
@@ -103,28 +98,36 @@ abbrev pub wants_at_end : Bool → FetchEnd → List Numbered → Wants → Want
 wants_at_end firsts end records old new =
     wants_left (is_unwritten end) (reporting_after (reporting_of old firsts) records).last new
 
--- Standard error accepted the lines of these records, each before the output accepted a byte of it; then the line that
--- says how the fetch ended; and at last, where the first records are reported, the arguments of a fetch that goes on.
-pub record ReportsOfAll (firsts : Bool) (end : FetchEnd) (records : List Numbered) (old new : Wants)
+-- Standard error accepted the lines of these records, each before the output accepted a byte of it; then the lines that
+-- say how the fetch ended, and why; and at last, where the first records are reported, the arguments of a fetch that
+-- goes on.
+pub record ReportsOfAll (firsts : Bool) (end : FetchEnd) (known : Outcome) (records : List Numbered) (old new : Wants)
     (before after : BytesWritten) : Type 0 where
   pub reported : BytesWritten
   pub ended : BytesWritten
   pub lines : AreReported (lines_of (reporting_of old firsts) records) before reported
-  pub end_line : ReportsOfFetch end reported ended
+  pub end_lines : ReportsOfFetch known end reported ended
   pub next : AreReported (next_lines firsts (wants_at_end firsts end records old new)) ended after
 
 -- Links were fetched over, up to an end: what the client reported went to the output, and the status and the lines on
--- standard error are by the end.
-pub record FetchesAll (end : FetchEnd) (firsts : Bool) (status : ℕ) (old new : Listening)
+-- standard error are by the end, what went wrong in the last try, and what the client has come to.
+pub record FetchesAll (end : FetchEnd) (server : Server) (trouble : Option Trouble) (firsts : Bool) (status : ℕ)
+    (old new : Listening)
     (written_old written_new reported_old reported_new : BytesWritten) : Type 0 where
   pub fetched : HasFetched end old new written_old written_new
   pub status_is : status ≡ fetch_status end
-  pub reports : ReportsOfAll firsts end fetched.records old.talk.wants new.talk.wants reported_old reported_new
+  pub reports : ReportsOfAll firsts end (outcome server trouble new.talk) fetched.records old.talk.wants new.talk.wants
+      reported_old reported_new
 
--- Where nothing more is requested, standard error takes the line of the end alone.
-abbrev pub IsQuiet : Bool → Bool → ℕ → BytesWritten → BytesWritten → Type 0
-IsQuiet firsts holes status old new = firsts ≡ false → holes ≡ false
-    → (end : FetchEnd) × (status ≡ fetch_status end) × ReportsOfFetch end old new
+-- Where nothing more is requested, standard error takes the lines of the end alone.
+abbrev pub IsQuiet : Server → Bool → Bool → Talk → ℕ → BytesWritten → BytesWritten → Type 0
+IsQuiet server firsts holes talk status old new = firsts ≡ false → holes ≡ false
+    → (end : FetchEnd) × (trouble : Option Trouble) × (status ≡ fetch_status end)
+    × ReportsOfFetch (outcome server trouble talk) end old new
+
+-- the server from which a plan fetches
+abbrev pub server_of : FetchPlan → Server
+server_of plan = record { host = plan.host; port = plan.port }
 
 -- how a fetch ends by the event at which a client stopped
 abbrev pub stopped_by : Event → FetchEnd

@@ -6,8 +6,9 @@ use std::io;
 use std::io::{Read, Write};
 use std::marker::Model;
 
-/// So many bytes are read at once, where they are there.
-const ROOM: usize = 1 << 15;
+/// How many bytes are read at once, where they are there: few enough that a link, which holds them, fits several times
+/// into the stack that a program has from its beginning.
+const ROOM: usize = 1 << 13;
 
 /// A stream of which all that is there is read at once, and handed on piece by piece. It isn't called while something
 /// is left to hand on, so that a client that takes a packet at a time costs the system one read for many.

@@ -1,5 +1,5 @@
 //! Fetching records over one link after another.
-ghost use Rattle.std.specs.Prelude.{◌≡◌, ◌+◌, ◌≤◌};
+ghost use Rattle.std.specs.Prelude.{◌≡◌, ◌+◌, ◌≤◌, Option, Some};
 ghost use Rattle.slink_feed.specs.declared.dialogue.Ending.{Ending};
 ghost use Rattle.slink_feed.specs.declared.dialogue.Stage.{Stage};
 ghost use Rattle.slink_feed.specs.Fetching.{Notes, fetching};
@@ -8,16 +8,20 @@ ghost use Rattle.slink_feed.specs.Reports.{ReportsRecords, outputs};
 ghost use Rattle.slink_feed.specs.Reporter.{AreReported, wants_left};
 ghost use Rattle.slink_links.specs.Fetched.{HasDialled, HasFetched, HasReadEach, HasReadLink, HasTakenAll, HasTurned};
 ghost use Rattle.slink_links.specs.Out.{AreOut};
-ghost use Rattle.slink_links.specs.Fetched.{HasPaused, IsFetchedOver, IsReading, IsTurnBy, ReportsOfFetch, calls_of};
+ghost use Rattle.slink_links.specs.Fetched.{HasPaused, IsFetchedOver, IsReading, IsTurnBy, calls_of};
 ghost use Rattle.slink_links.specs.Fetched.{FetchesAll, FetchesReporting, HasCalled, HasTried, IsQuiet};
 ghost use Rattle.slink_links.specs.Fetched.{end_by, fetch_status, is_unwritten, next_lines, stopped_by};
+ghost use Rattle.slink_links.specs.Trouble.{IsOfLastTry};
 
 use crate::dial::Dial;
+use crate::ending::report_end;
 use crate::handshake::EndsHandshake;
 use crate::pause::{Pause, wait_after};
+use crate::plan::FetchTerms;
 use crate::serving::TURNS;
 use crate::status::{DONE, FAULT};
-use mseed_stream::{Counted, Sink, report, write_all_of};
+use crate::trouble::Trouble;
+use mseed_stream::{Counted, Sink, write_all_of};
 use slink_feed::{Client, Event, LinkFault, Reporter, Room, Turn, fetch_turn_in};
 use slink_wire::PACKET;
 use std::io::sink;
@@ -37,43 +41,53 @@ pub enum FetchEnd {
     LinkFailed,
 }
 
-/// Fetches over one link after another, at most so many, until the server says that it has sent all that was requested,
-/// and gives each back. A `dial` that fails uses up a try. Each record goes to the output as soon as it is reported.
-/// After each try but the last it waits by `waits`: a tenth of a second, and then twice as long each time, up to five
-/// seconds; a received record begins anew.
+/// Fetches over one link after another, at most as many as the terms say, until the server says that it has sent all
+/// that was requested, and gives each back. A `dial` that fails uses up a try. Each record goes to the output as soon
+/// as it is reported. After each try but the last it waits by `waits`: a tenth of a second, and then twice as long each
+/// time, up to five seconds; a received record begins anew.
 ///
-/// Returns the exit status: 0, or 2 with a line on `errors` that says why not all came. Before each record that
-/// comes after a hole a line is written there; with `report_next` also before the first record of each station, and, at
-/// the end, the arguments of a fetch that goes on.
+/// Returns the exit status: 0, or 2 with a line on `errors` that says why not all came, and one more: what went wrong
+/// in the last try, with the host and the port, or which station was refused, or what came of it. Before each record
+/// that comes after a hole a line is written there; with `report_next` also before the first record of each station,
+/// and, at the end, the arguments of a fetch that goes on.
 pub fn fetch_all<D: Dial, P: Pause, W: Sink, E: Sink>(
     client: &mut Client,
-    tries: u64,
+    terms: &FetchTerms,
     dialler: &mut D,
     waits: &mut P,
     output: &mut W,
     errors: &mut E,
-    report_next: bool,
 ) -> u8
     requires { AreOut 0 (D.calls dialler.old) (D.failures dialler.old) (D.given_back dialler.old) }
-    ensures dials { D.calls dialler.new ≤ D.calls dialler.old + tries }
+    ensures dials { D.calls dialler.new ≤ D.calls dialler.old + terms.now.tries }
     ensures done { result ≡ 0 → client.new.talk.stage ≡ Stage.Ended Ending.End }
     // What the client reported went to the output, and the status and the line are by how it ended. Each link was
     // fetched over before it was given back, one after another, and all but the last one failed. Between the tries it
-    // paused, by which of them brought a record.
-    ensures end { (end : FetchEnd)
-        × FetchesAll end report_next result client.old client.new (W.written output.old) (W.written output.new)
-        (E.written errors.old) (E.written errors.new)
-        × HasCalled end tries client.old client.new (W.written output.old) (W.written output.new)
+    // paused, by which of them brought a record. What went wrong is that of the last try.
+    ensures end { (end : FetchEnd) × (trouble : Option Trouble)
+        × FetchesAll end terms.now.server trouble terms.now.report_next result client.old client.new
+        (W.written output.old) (W.written output.new) (E.written errors.old) (E.written errors.new)
+        × HasCalled end terms.now.tries client.old client.new (W.written output.old) (W.written output.new)
         (calls_of (D.calls dialler.old) (D.given_back dialler.old) (P.called waits.old))
-        (calls_of (D.calls dialler.new) (D.given_back dialler.new) (P.called waits.new)) }
-    ensures quiet { IsQuiet report_next client.old.talk.holes result (E.written errors.old) (E.written errors.new) }
+        (calls_of (D.calls dialler.new) (D.given_back dialler.new) (P.called waits.new))
+        × IsOfLastTry terms.now.tries trouble (D.trouble dialler.new) }
+    ensures quiet { IsQuiet terms.now.server terms.now.report_next client.old.talk.holes client.new.talk result
+        (E.written errors.old) (E.written errors.new) }
     // Each link was given back before the next one was dialled.
     ensures out { AreOut 0 (D.calls dialler.new) (D.failures dialler.new) (D.given_back dialler.new) }
 {
-    let mut reporter = Reporter::new(client, report_next);
-    let end = fetch_links(client, tries, dialler, waits, output, errors, &mut reporter);
-    report_end(end, errors);
-    report_next_of(report_next, &reporter, client, end, errors);
+    let mut reporter = Reporter::new(client, terms.report_next);
+    let (end, trouble) = fetch_links(
+        client,
+        terms.tries,
+        dialler,
+        waits,
+        output,
+        errors,
+        &mut reporter,
+    );
+    report_end(end, &terms.server, trouble, client, errors);
+    report_next_of(terms.report_next, &reporter, client, end, errors);
     fetch_status(end)
 }
 
@@ -94,19 +108,6 @@ fn report_next_of<E: Sink>(
     }
 }
 
-/// Writes why not all came.
-fn report_end<E: Sink>(end: FetchEnd, errors: &mut E)
-    ensures { ReportsOfFetch end (E.written errors.old) (E.written errors.new) }
-{
-    match end {
-        FetchEnd::Done => {}
-        FetchEnd::Refused => report(errors, b"mseed: refused\n"),
-        FetchEnd::BadFeed => report(errors, b"mseed: bad feed\n"),
-        FetchEnd::WriteFailed => report(errors, b"mseed: write failed\n"),
-        FetchEnd::LinkFailed => report(errors, b"mseed: link failed\n"),
-    }
-}
-
 /// The exit status.
 fn fetch_status(end: FetchEnd) -> u8
     ensures { result ≡ fetch_status end }
@@ -124,7 +125,8 @@ fn is_unwritten(end: FetchEnd) -> bool
     matches!(end, FetchEnd::WriteFailed)
 }
 
-/// Fetches over one link after another, waits between them, and answers how it ended.
+/// Fetches over one link after another, waits between them, and answers how it ended, and what went wrong in the last
+/// try, if one was made.
 fn fetch_links<D: Dial, P: Pause, W: Sink, E: Sink>(
     client: &mut Client,
     tries: u64,
@@ -133,59 +135,61 @@ fn fetch_links<D: Dial, P: Pause, W: Sink, E: Sink>(
     output: &mut W,
     errors: &mut E,
     reporter: &mut Reporter,
-) -> FetchEnd
+) -> (FetchEnd, Option<Trouble>)
     requires { AreOut 0 (D.calls dialler.old) (D.failures dialler.old) (D.given_back dialler.old) }
-    ensures fetched { FetchesReporting result client.old client.new
+    ensures fetched { FetchesReporting result.0 client.old client.new
         (outputs (W.written output.old) (E.written errors.old) reporter.old.reporting)
         (outputs (W.written output.new) (E.written errors.new) reporter.new.reporting) }
-    ensures dialled { HasDialled result tries (D.calls dialler.old) (D.calls dialler.new) }
+    ensures dialled { HasDialled result.0 tries (D.calls dialler.old) (D.calls dialler.new) }
     ensures out { AreOut 0 (D.calls dialler.new) (D.failures dialler.new) (D.given_back dialler.new) }
-    ensures read { HasReadEach result client.old client.new (D.given_back dialler.old) (D.given_back dialler.new)
+    ensures read { HasReadEach result.0 client.old client.new (D.given_back dialler.old) (D.given_back dialler.new)
         (W.written output.old) (W.written output.new) }
-    ensures paused { HasPaused result client.old client.new (W.written output.old) (W.written output.new)
+    ensures trouble { IsOfLastTry tries result.1 (D.trouble dialler.new) }
+    ensures paused { HasPaused result.0 client.old client.new (W.written output.old) (W.written output.new)
         (calls_of (D.calls dialler.old) (D.given_back dialler.old) (P.called waits.old))
         (calls_of (D.calls dialler.new) (D.given_back dialler.new) (P.called waits.new)) }
 {
     if tries == 0 {
-        return FetchEnd::LinkFailed;
+        return (FetchEnd::LinkFailed, None);
     }
     let mut left = tries;
     let mut count = 0;
     'links: loop {
-        let (end, received) = try_link(client, dialler, output, errors, reporter);
+        let (end, received, trouble) = try_link(client, dialler, output, errors, reporter);
         left -= 1;
         if end != FetchEnd::LinkFailed || left == 0 {
-            return end;
+            return (end, Some(trouble));
         }
         count = wait_after(received, count, waits);
     }
 }
 
-/// Dials once and fetches over that link, and answers how it ended, and whether it brought a record.
+/// Dials once and fetches over that link, and answers how it ended, whether it brought a record, and what went wrong.
 fn try_link<D: Dial, W: Sink, E: Sink>(
     client: &mut Client,
     dialler: &mut D,
     output: &mut W,
     errors: &mut E,
     reporter: &mut Reporter,
-) -> (FetchEnd, bool)
+) -> (FetchEnd, bool, Trouble)
     requires { AreOut 0 (D.calls dialler.old) (D.failures dialler.old) (D.given_back dialler.old) }
     ensures fetched { FetchesReporting result.0 client.old client.new
         (outputs (W.written output.old) (E.written errors.old) reporter.old.reporting)
         (outputs (W.written output.new) (E.written errors.new) reporter.new.reporting) }
     ensures dialled { D.calls dialler.new ≡ D.calls dialler.old + 1 }
+    ensures trouble { D.trouble dialler.new ≡ Some result.2 }
     ensures out { AreOut 0 (D.calls dialler.new) (D.failures dialler.new) (D.given_back dialler.new) }
     ensures tried { HasTried result.0 result.1 client.old client.new (D.given_back dialler.old)
         (D.given_back dialler.new) (W.written output.old) (W.written output.new) }
 {
     match dialler.dial() {
-        Some(mut link) => {
+        Ok(mut link) => {
             reporter.begin();
             let end = fetch_link_reporting(client, &mut link, output, errors, reporter);
-            dialler.hang_up(link);
-            (end, reporter.has_received())
+            let loss = dialler.hang_up(link);
+            (end, reporter.has_received(), Trouble::Lost(loss))
         }
-        None => (FetchEnd::LinkFailed, false),
+        Err(fault) => (FetchEnd::LinkFailed, false, Trouble::Undialled(fault)),
     }
 }
 

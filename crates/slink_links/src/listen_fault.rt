@@ -46,7 +46,7 @@ impl ListenFault {
     }
 
     /// The reason of an error of the system, by its number.
-    fn of_number(number: i32) -> ListenFault
+    pub(crate) fn of_number(number: i32) -> ListenFault
         ensures { result ≡ fault_of number }
     {
         if number < 0 {

@@ -1,5 +1,7 @@
 //! A stream whose calls wait no longer than a time, and whose handshake is over by then.
 
+use crate::network_fault::NetworkFault;
+use crate::trouble::Loss;
 use std::cell::Cell;
 use std::io;
 use std::io::{ErrorKind, Read, Write};
@@ -24,6 +26,7 @@ pub(crate) struct Patient<'a, C: Clock, S: OpenStream> {
     limits: Limits,
     start: Instant,
     is_streaming: Cell<bool>,
+    loss: Option<Loss>,
 }
 
 impl<'a, C: Clock, S: OpenStream + Drop> Patient<'a, C, S> {
@@ -39,12 +42,28 @@ impl<'a, C: Clock, S: OpenStream + Drop> Patient<'a, C, S> {
             limits,
             start: Instant::now(clock)?,
             is_streaming: Cell::new(false),
+            loss: None,
         })
     }
 
     /// The stream.
     pub(crate) fn into_stream(self) -> S {
         self.stream
+    }
+
+    /// Why nothing more comes over it: why the last call failed; or, where it didn't, that the other side closed it.
+    pub(crate) fn loss(&self) -> Loss {
+        self.loss.unwrap_or(Loss::Closed)
+    }
+
+    /// Notes why a call failed.
+    fn note(&mut self, error: &io::Error) {
+        let fault = NetworkFault::of(error);
+        self.loss = Some(if fault == NetworkFault::TimedOut && !self.is_streaming.get() {
+            Loss::LongHandshake
+        } else {
+            Loss::Failed(fault)
+        });
     }
 
     /// The handshake is over: from here on each call has a time of its own.
@@ -78,15 +97,39 @@ impl<'a, C: Clock, S: OpenStream + Drop> Patient<'a, C, S> {
 
 impl<C: Clock, S: Read + OpenStream + Drop> Read for Patient<'_, C, S> {
     fn read(&mut self, buf: &mut [u8]) -> io::Result<usize> {
-        self.grant()?;
-        self.stream.read(buf)
+        if let Err(error) = self.grant() {
+            self.note(&error);
+            return Err(error);
+        }
+        match self.stream.read(buf) {
+            Ok(count) => {
+                self.loss = None;
+                Ok(count)
+            }
+            Err(error) => {
+                self.note(&error);
+                Err(error)
+            }
+        }
     }
 }
 
 impl<C: Clock, S: Write + OpenStream + Drop> Write for Patient<'_, C, S> {
     fn write(&mut self, bytes: &[u8]) -> io::Result<usize> {
-        self.grant()?;
-        self.stream.write(bytes)
+        if let Err(error) = self.grant() {
+            self.note(&error);
+            return Err(error);
+        }
+        match self.stream.write(bytes) {
+            Ok(count) => {
+                self.loss = None;
+                Ok(count)
+            }
+            Err(error) => {
+                self.note(&error);
+                Err(error)
+            }
+        }
     }
 
     fn flush(&mut self) -> io::Result<()> {

@@ -19,6 +19,26 @@ pub struct ServePlan<A: Allocator = Global> {
     pub feed: Feed<A>,
 }
 
+/// Where a server listens from which is fetched.
+#[derive(Clone, Copy)]
+pub struct Server {
+    /// The host.
+    pub host: Host,
+    /// The port there.
+    pub port: u16,
+}
+
+/// From which server is fetched, over how many tries, and what is reported.
+#[derive(Clone, Copy)]
+pub struct FetchTerms {
+    /// The server, which is named where its links fail.
+    pub server: Server,
+    /// The most connections that are tried.
+    pub tries: u64,
+    /// Whether standard error is informed of the first record of each station and, at the end, of what is wanted next.
+    pub report_next: bool,
+}
+
 /// How records are to be fetched.
 #[derive(Drop)]
 pub struct FetchPlan {

@@ -1,8 +1,8 @@
 //! Links over TCP.
-ghost use Rattle.std.specs.Prelude.{◌≡◌, IfOk, OnErr};
+ghost use Rattle.std.specs.Prelude.{◌≡◌, IfOk, OnErr, Option, is_some, nat_lt};
 ghost use Rattle.mseed_stream.specs.Counted.{read_by, written_by};
 ghost use Rattle.mseed_stream.specs.Device.{nothing_read, nothing_written};
-ghost use Rattle.slink_links.specs.Fetched.{FetchesAll, IsQuiet};
+ghost use Rattle.slink_links.specs.Fetched.{FetchesAll, IsQuiet, server_of};
 ghost use Rattle.slink_links.specs.Out.{AreOut};
 ghost use Rattle.slink_links.specs.Served.{HasServed};
 
@@ -14,10 +14,12 @@ use crate::fetching::FetchEnd;
 use crate::gathering::Gathering;
 use crate::handshake::EndsHandshake;
 use crate::listen_fault::ListenFault;
+use crate::network_fault::NetworkFault;
 use crate::patient::{Limits, Patient};
 use crate::pause::Sleeper;
 use crate::plan::{FetchPlan, ServePlan};
 use crate::planned::{fetch_planned, serve_planned};
+use crate::trouble::{DialFault, Loss, Trouble};
 use mseed_stream::{Counted, Exchanges, Sink, Tally};
 use slink_wire::{Address, Host, Name, Timeout};
 use std::alloc::Allocator;
@@ -124,6 +126,11 @@ fn stream_to<N: Net>(
 /// So many addresses of a name are tried at most.
 const ADDRESSES: usize = 32;
 
+/// Why no connection could be made, by the error of a call.
+fn unconnected(error: &io::Error) -> DialFault {
+    DialFault::Unconnected(NetworkFault::of(error))
+}
+
 /// A connection to a port of the first IPv4 address of a name that answers, within a time for all of them.
 ///
 /// # Errors
@@ -134,13 +141,18 @@ fn stream_to_name<N: Net + Clock>(
     name: &Name,
     port: u16,
     limit: Option<Duration>,
-) -> io::Result<N::Stream> {
+) -> Result<N::Stream, DialFault> {
     let mut found = [SocketAddr::from((Ipv4Addr::UNSPECIFIED, port)); ADDRESSES];
-    let count = host.lookup_host(name.text(), port, &mut found)?;
-    stream_to_first(host, &found[..count], limit)
+    let Ok(count) = host.lookup_host(name.text(), port, &mut found) else {
+        return Err(DialFault::Unresolved);
+    };
+    match Instant::now(host) {
+        Ok(start) => stream_to_first(host, &found[..count], start, limit),
+        Err(error) => Err(unconnected(&error)),
+    }
 }
 
-/// A connection to the first IPv4 address that answers, within a time for all of them.
+/// A connection to the first IPv4 address that answers, within a time for all of them, which began at an instant.
 ///
 /// # Errors
 ///
@@ -148,21 +160,40 @@ fn stream_to_name<N: Net + Clock>(
 fn stream_to_first<N: Net + Clock>(
     host: &N,
     addresses: &[SocketAddr],
+    start: Instant,
     limit: Option<Duration>,
-) -> io::Result<N::Stream> {
-    let start = Instant::now(host)?;
-    let mut last = ErrorKind::NotFound.into();
+) -> Result<N::Stream, DialFault> {
+    let mut last = DialFault::Unresolved;
     for address in addresses {
         if address.is_ipv4() {
-            let elapsed = start.elapsed(host)?;
-            let left = limit.map(|limit| limit.saturating_sub(elapsed));
-            match stream_to(host, *address, left) {
+            match stream_in_time(host, *address, start, limit) {
                 Ok(stream) => return Ok(stream),
-                Err(error) => last = error,
+                Err(error) => last = unconnected(&error),
             }
         }
     }
     Err(last)
+}
+
+/// A connection to a port, within what is left of a time, which began at an instant.
+///
+/// # Errors
+///
+/// Where there is none, or nothing is left of the time.
+fn stream_in_time<N: Net + Clock>(
+    host: &N,
+    socket: SocketAddr,
+    start: Instant,
+    limit: Option<Duration>,
+) -> io::Result<N::Stream> {
+    let Some(limit) = limit else {
+        return stream_to(host, socket, None);
+    };
+    let left = limit.saturating_sub(start.elapsed(host)?);
+    if left.is_zero() {
+        return Err(ErrorKind::TimedOut.into());
+    }
+    stream_to(host, socket, Some(left))
 }
 
 /// A port that takes connections, with its calls counted.
@@ -242,7 +273,7 @@ impl<'a, N: Net + Clock> Accept for Listening<'a, N> {
     }
 }
 
-/// A port that is dialled, with the calls counted.
+/// A port that is dialled, with the calls counted, and what went wrong in the last try.
 #[derive(Drop)]
 pub(crate) struct Dialler<'a, N: Net + Clock> {
     net: &'a N,
@@ -251,6 +282,7 @@ pub(crate) struct Dialler<'a, N: Net + Clock> {
     timeout: Timeout,
     tally: Tally,
     given_back: Exchanges,
+    trouble: Option<Trouble>,
 }
 
 impl<'a, N: Net + Clock> Dialler<'a, N> {
@@ -265,6 +297,40 @@ impl<'a, N: Net + Clock> Dialler<'a, N> {
             timeout,
             tally: Tally::new(),
             given_back: Exchanges::new(),
+            trouble: None,
+        }
+    }
+
+    /// A new connection.
+    ///
+    /// # Errors
+    ///
+    /// Why there is none.
+    fn next_stream(&self, limit: Option<Duration>) -> Result<N::Stream, DialFault> {
+        match &self.host {
+            Host::Address(address) => {
+                match stream_to(self.net, socket_of(*address, self.port), limit) {
+                    Ok(stream) => Ok(stream),
+                    Err(error) => Err(unconnected(&error)),
+                }
+            }
+            Host::Name(name) => stream_to_name(self.net, name, self.port, limit),
+        }
+    }
+
+    /// A connection that waits for no longer than these limits.
+    ///
+    /// # Errors
+    ///
+    /// Why there is none.
+    fn patient(
+        &self,
+        stream: N::Stream,
+        limits: Limits,
+    ) -> Result<Patient<'a, N, N::Stream>, DialFault> {
+        match link_over(self.net, stream, limits) {
+            Ok(link) => Ok(link),
+            Err(error) => Err(unconnected(&error)),
         }
     }
 
@@ -272,8 +338,8 @@ impl<'a, N: Net + Clock> Dialler<'a, N> {
     ///
     /// # Errors
     ///
-    /// Where there is none.
-    fn next_link(&self) -> io::Result<Counted<Ahead<Patient<'a, N, N::Stream>>>>
+    /// Why there is none.
+    fn next_link(&self) -> Result<Counted<Ahead<Patient<'a, N, N::Stream>>>, DialFault>
         ensures { IfOk result (λ link. (read_by link ≡ nothing_read) × (written_by link ≡ nothing_written)) }
     {
         let limit = self.timeout.limit();
@@ -281,11 +347,8 @@ impl<'a, N: Net + Clock> Dialler<'a, N> {
             all: limit,
             reads: limit,
         };
-        let stream = match &self.host {
-            Host::Address(address) => stream_to(self.net, socket_of(*address, self.port), limit)?,
-            Host::Name(name) => stream_to_name(self.net, name, self.port, limit)?,
-        };
-        Ok(Counted::new(Ahead::new(link_over(self.net, stream, limits)?)))
+        let stream = self.next_stream(limit)?;
+        Ok(Counted::new(Ahead::new(self.patient(stream, limits)?)))
     }
 }
 
@@ -298,14 +361,23 @@ impl<'a, N: Net + Clock> Dial for Dialler<'a, N> {
 
     ghost given_back = { λ d. d.given_back.all };
 
-    fn dial(&mut self) -> Option<Counted<Ahead<Patient<'a, N, N::Stream>>>> {
-        let link = self.next_link().ok();
-        self.tally.record(&[], link.is_none());
-        link
+    ghost trouble = { λ d. d.trouble };
+
+    fn dial(&mut self) -> Result<Counted<Ahead<Patient<'a, N, N::Stream>>>, DialFault> {
+        // The result is handed on as it is, since a link holds what is read ahead.
+        let dialled = self.next_link();
+        self.tally.record(&[], dialled.is_err());
+        if let Err(fault) = &dialled {
+            self.trouble = Some(Trouble::Undialled(*fault));
+        }
+        dialled
     }
 
-    fn hang_up(&mut self, link: Counted<Ahead<Patient<'a, N, N::Stream>>>) {
+    fn hang_up(&mut self, link: Counted<Ahead<Patient<'a, N, N::Stream>>>) -> Loss {
         self.given_back.record(&link);
+        let loss = link.get_ref().stream().loss();
+        self.trouble = Some(Trouble::Lost(loss));
+        loss
     }
 }
 
@@ -336,11 +408,12 @@ pub fn fetch<N: Net + Clock, W: Sink, E: Sink>(
     output: &mut W,
     errors: &mut E,
 ) -> u8
-    ensures end { (end : FetchEnd)
-        × FetchesAll end plan.old.report_next result plan.old.client plan.new.client (W.written output.old)
-        (W.written output.new) (E.written errors.old) (E.written errors.new) }
-    ensures quiet { IsQuiet plan.old.report_next plan.old.client.talk.holes result (E.written errors.old)
-        (E.written errors.new) }
+    ensures end { (end : FetchEnd) × (trouble : Option Trouble)
+        × FetchesAll end (server_of plan.old) trouble plan.old.report_next result plan.old.client plan.new.client
+        (W.written output.old) (W.written output.new) (E.written errors.old) (E.written errors.new)
+        × (is_some trouble ≡ nat_lt 0 plan.old.tries) }
+    ensures quiet { IsQuiet (server_of plan.old) plan.old.report_next plan.old.client.talk.holes plan.new.client.talk
+        result (E.written errors.old) (E.written errors.new) }
 {
     let mut dialler = Dialler::new(net, plan.host, plan.port, plan.timeout);
     let mut sleeper = Sleeper::new(net);

@@ -5,8 +5,9 @@ use Rattle.slink_links.proofs.fetching.fetch_all.Goals as goal
 
 pub returns-clause-end : goal.returns-clause-end
 returns-clause-end g c = (
-  c.fetch_links-end.result,
-  all_fetched _ _ _ _ _ _ _ _ _ _ _ _ _ c.fetch_links-end.ensures.fetched
+  c.fetch_links-end.result.0,
+  c.fetch_links-end.result.1,
+  all_fetched _ _ _ _ _ _ _ _ _ _ _ _ _ _ _ c.fetch_links-end.ensures.fetched
       (ap (λ (a : ReporterState). a.reporting) c.new-reporter.ensures) c.fetch_status.ensures c.report_end.ensures
       c.report_next_of.ensures,
   record {
@@ -14,7 +15,8 @@ returns-clause-end g c = (
     read = c.fetch_links-end.ensures.read;
     paused = c.fetch_links-end.ensures.paused;
   },
+  c.fetch_links-end.ensures.trouble,
 )
 
 pub returns-clause-quiet : goal.returns-clause-quiet
-returns-clause-quiet g c = end_alone _ _ _ _ _ _ _ _ _ (returns-clause-end g c).1
+returns-clause-quiet g c = end_alone _ _ _ _ _ _ _ _ _ _ _ (returns-clause-end g c).2

@@ -1,0 +1,233 @@
+//! What is reported at the end of a fetch. The lines are built without the heap.
+ghost use Rattle.std.specs.Prelude.{◌≡◌, ◌≤◌, ◌+◌, ◌++◌, List, ℕ, length};
+ghost use Rattle.std.specs.Net.Text.{ipv4_text};
+ghost use Rattle.slink_feed.specs.Reporter.{AreReported, named_number};
+ghost use Rattle.slink_links.specs.EndLines.{IsShownHost, ReportsLinkFailed, ReportsOfFetch, ReportsTrouble};
+ghost use Rattle.slink_links.specs.EndLines.{ending_line, foreign_line, gap_line, garbage_line, outcome, refused_line};
+ghost use Rattle.slink_links.specs.EndLines.{server_line, shown_name, trouble_line, unanswered_line, with_more};
+
+use crate::fetching::FetchEnd;
+use crate::plan::Server;
+use crate::trouble::Trouble;
+use mseed_stream::{Sink, report};
+use mseed_text::Line;
+use slink_feed::{Client, Ending, Wanted};
+use slink_wire::{Address, Host, six_digits};
+
+/// Reports how a fetch ended from a server, and why: by what went wrong in the last try, if one was made, and by what
+/// the client has come to.
+pub(crate) fn report_end<E: Sink>(
+    end: FetchEnd,
+    server: &Server,
+    trouble: Option<Trouble>,
+    client: &Client,
+    errors: &mut E,
+)
+    ensures { ReportsOfFetch (outcome server.now trouble client.now.talk) end (E.written errors.old)
+        (E.written errors.new) }
+{
+    match end {
+        FetchEnd::Done => {}
+        FetchEnd::Refused => report_both(b"mseed: refused\n", &ending_line(client), errors),
+        FetchEnd::BadFeed => report_both(b"mseed: bad feed\n", &ending_line(client), errors),
+        FetchEnd::WriteFailed => report(errors, b"mseed: write failed\n"),
+        FetchEnd::LinkFailed => report_link_failed(server, trouble, errors),
+    }
+}
+
+/// Reports a line, and one more if there is one.
+fn report_both<E: Sink>(line: &[u8], more: &Option<Line>, errors: &mut E)
+    ensures { AreReported (with_more line.now more.now) (E.written errors.old) (E.written errors.new) }
+{
+    report(errors, line);
+    if let Some(more) = more {
+        report(errors, more.as_slice());
+    }
+}
+
+/// The line that says why the client takes nothing more of its link, if it doesn't.
+fn ending_line(client: &Client) -> Option<Line>
+    ensures { result ≡ ending_line client.now.talk }
+{
+    match client.ending()? {
+        Ending::End => None,
+        Ending::Refused(k) => Some(refused_line(&client.wanted(k)?)),
+        Ending::Gap { place, want, got } => Some(gap_line(want, got, &client.wanted(place)?)),
+        Ending::Unanswered(k) => Some(unanswered_line(&client.wanted(k)?)),
+        Ending::Garbage => Some(garbage_line()),
+        Ending::Foreign { station, network } => Some(foreign_line(&station, &network)),
+    }
+}
+
+/// The line of a station that the server refused.
+fn refused_line(wanted: &Wanted) -> Line
+    ensures { result ≡ refused_line wanted.now }
+{
+    let mut line = Line::new();
+    line.put(b"mseed: ");
+    line.put(wanted.place.label().as_slice());
+    put_number(&mut line, b" from ", wanted.next);
+    line.put(b": the server refuses it\n");
+    line
+}
+
+/// Puts a number at the end of a line, after its name, where it is known.
+fn put_number(line: &mut Line, name: &[u8], number: Option<u32>)
+    requires { length line.old + length name.now ≤ 100 }
+    ensures text { line.new ≡ line.old ++ named_number name.now number }
+    ensures most { length line.new ≤ length line.old + length name.now + 6 }
+{
+    if let Some(number) = number {
+        line.put(name);
+        line.put(&six_digits(number));
+    }
+}
+
+/// The line of a station of which another record came than the one that was wanted.
+fn gap_line(want: u32, got: u32, wanted: &Wanted) -> Line
+    ensures { result ≡ gap_line want got wanted.now }
+{
+    let mut line = Line::new();
+    line.put(b"mseed: ");
+    line.put(wanted.place.label().as_slice());
+    line.put(b": record ");
+    line.put(&six_digits(want));
+    line.put(b" was wanted, and ");
+    line.put(&six_digits(got));
+    line.put(b" came\n");
+    line
+}
+
+/// The line of a station about which no reply came that says whether it is granted.
+fn unanswered_line(wanted: &Wanted) -> Line
+    ensures { result ≡ unanswered_line wanted.now }
+{
+    let mut line = Line::new();
+    line.put(b"mseed: ");
+    line.put(wanted.place.label().as_slice());
+    put_number(&mut line, b" from ", wanted.next);
+    line.put(b": the reply is neither OK nor ERROR\n");
+    line
+}
+
+/// The line of bytes that begin no packet, and aren't the end.
+fn garbage_line() -> Line
+    ensures { result ≡ garbage_line }
+{
+    let mut line = Line::new();
+    line.put(b"mseed: bytes came that are neither a packet nor the end\n");
+    line
+}
+
+/// The line of a record of another station, by the codes of its header.
+fn foreign_line(station: &[u8; 5], network: &[u8; 2]) -> Line
+    ensures { result ≡ foreign_line station.now network.now }
+{
+    let mut line = Line::new();
+    line.put(b"mseed: a record of ");
+    line.put_code(network);
+    line.put(b"_");
+    line.put_code(station);
+    line.put(b" came, which is none of the stations\n");
+    line
+}
+
+/// Reports that the links failed, and why the last one did.
+fn report_link_failed<E: Sink>(server: &Server, trouble: Option<Trouble>, errors: &mut E)
+    ensures { ReportsLinkFailed server.now trouble (E.written errors.old) (E.written errors.new) }
+{
+    report(errors, b"mseed: link failed\n");
+    report_trouble(server, trouble, errors);
+}
+
+/// Reports what went wrong in the last try, if one was made.
+fn report_trouble<E: Sink>(server: &Server, trouble: Option<Trouble>, errors: &mut E)
+    ensures { ReportsTrouble server.now trouble (E.written errors.old) (E.written errors.new) }
+{
+    if let Some(trouble) = trouble {
+        report(errors, trouble_line(server, trouble).as_slice());
+    }
+}
+
+/// The line of what went wrong in a try.
+fn trouble_line(server: &Server, trouble: Trouble) -> Line
+    ensures { (host : List ℕ) → IsShownHost server.now.host host
+        → result ≡ trouble_line host server.now.port trouble }
+{
+    match trouble {
+        Trouble::Undialled(fault) => {
+            line_of_server(
+                b"mseed: cannot connect to ",
+                server,
+                fault.text().as_bytes(),
+            )
+        }
+        Trouble::Lost(loss) => {
+            line_of_server(
+                b"mseed: lost the connection to ",
+                server,
+                loss.text().as_bytes(),
+            )
+        }
+    }
+}
+
+/// A line about a server: what stands before its host, and the words after its port.
+fn line_of_server(before: &[u8], server: &Server, words: &[u8]) -> Line
+    requires before { length before.now ≤ 40 }
+    requires words { length words.now ≤ 40 }
+    ensures { (host : List ℕ) → IsShownHost server.now.host host
+        → result ≡ server_line before.now host server.now.port words.now }
+{
+    let mut line = Line::new();
+    line.put(before);
+    put_host(&mut line, &server.host);
+    line.put(b":");
+    line.put_count(u64::from(server.port));
+    line.put(b": ");
+    line.put(words);
+    line.put(b"\n");
+    line
+}
+
+/// Puts a host at the end of a line, as it is shown.
+fn put_host(line: &mut Line, host: &Host)
+    requires { length line.old ≤ 64 }
+    ensures text { (text : List ℕ) → IsShownHost host.now text → line.new ≡ line.old ++ text }
+    ensures most { length line.new ≤ length line.old + 83 }
+{
+    match host {
+        Host::Address(address) => put_address(line, *address),
+        Host::Name(name) => put_name(line, name.text().as_bytes()),
+    }
+}
+
+/// Puts a name at the end of a line, as it is shown.
+fn put_name(line: &mut Line, name: &[u8])
+    requires { length line.old ≤ 64 }
+    ensures text { line.new ≡ line.old ++ shown_name name.now }
+    ensures most { length line.new ≤ length line.old + 60 }
+{
+    if name.len() <= 60 {
+        line.put(name);
+    } else {
+        line.put(&name[..57]);
+        line.put(b"...");
+    }
+}
+
+/// Puts an address at the end of a line: its octets in decimal digits, with `.` between them.
+fn put_address(line: &mut Line, address: Address)
+    requires { length line.old ≤ 64 }
+    ensures text { line.new ≡ line.old ++ ipv4_text address.octets }
+    ensures most { length line.new ≤ length line.old + 83 }
+{
+    let [a, b, c, d] = address.octets;
+    line.put_count(u64::from(a));
+    line.put(b".");
+    line.put_count(u64::from(b));
+    line.put(b".");
+    line.put_count(u64::from(c));
+    line.put(b".");
+    line.put_count(u64::from(d));
+}
