@@ -21,7 +21,7 @@ use Rattle.slink_feed.specs.declared.dialogue.Wanted.{Wanted}
 use Rattle.slink_feed.specs.Cutting.{IsWhole}
 use Rattle.slink_feed.specs.Dialogue.{Talk, Whole, Reply, Packet, End, Garbage, answer_of, at_packet, place_of, ended}
 use Rattle.slink_feed.specs.Dialogue.{event_of, is_ahead, is_taken, read, read_at, if_wanted, next_at, requests_number}
-use Rattle.slink_feed.specs.Dialogue.{requests_place, to_answer, to_place, reported, want_at, with_next}
+use Rattle.slink_feed.specs.Dialogue.{foreign_by, requests_place, to_answer, to_place, reported, want_at, with_next}
 use Rattle.slink_feed.specs.Listening.{Brings, Listening, begun, whole}
 use Rattle.slink_model.specs.Ties.{AreWhole, Item, Accepted, Refused, Greeted, Carried, Finished, Outcome, ends, says}
 use Rattle.slink_model.specs.Ties.{takes, reported_of, waits, way_bytes}
@@ -31,8 +31,9 @@ quiet_ending : (ending : Ending) → reported_of (event_of ending) ≡ None
 quiet_ending endings.End = refl
 quiet_ending (endings.Refused k) = refl
 quiet_ending (endings.Gap k want got) = refl
+quiet_ending (endings.Unanswered k) = refl
 quiet_ending endings.Garbage = refl
-quiet_ending endings.Foreign = refl
+quiet_ending (endings.Foreign station network) = refl
 
 -- two lists that are joined alike, cut at one station
 pub same_cut : (xs ys us vs : List ℕ) → length xs ≡ length us → xs ++ ys ≡ us ++ vs → (xs ≡ us) × (ys ≡ vs)
@@ -144,7 +145,7 @@ module _ (t : Talk) (bytes way : List ℕ) (new : Listening) (e : Event) (plain 
       says top.0 top.1 top.2 (ap (λ (p : Talk × Event). p.0.wants) (sym read) ∙ quiet.0) none
       (ap (λ (p : Talk × Event). reported_of p.1) (sym read) ∙ quiet.1)
   has_reply items line k next Refusal a is h quiet read none = has_ended items (endings.Refused k) read none
-  has_reply items line k next Neither a is h quiet read none = has_ended items endings.Garbage read none
+  has_reply items line k next Neither a is h quiet read none = has_ended items (endings.Unanswered k) read none
 
   has_reported : (items : List Item) (n j : ℕ) (r : List ℕ) (k m : ℕ) (rest : List Item) → items ≡ Carried k m r ∷ rest
       → way ≡ way_bytes rest → n ≡ m % 2 ^ 24 → place_of t.wants r ≡ Some j
@@ -187,7 +188,7 @@ module _ (t : Talk) (bytes way : List ℕ) (new : Listening) (e : Event) (plain 
   has_packet : (items : List Item) (n : ℕ) (r : List ℕ) (o : Option ℕ) → AreWhole items → IsPacket bytes n r
       → length bytes ≡ 520 → bytes ++ way ≡ way_bytes items → place_of t.wants r ≡ o
       → at_packet o n r t ≡ (new.talk, e) → new.kept ≡ [] → Outcome t items bytes way new e
-  has_packet items n r None are is long h at read none = has_ended items endings.Foreign read none
+  has_packet items n r None are is long h at read none = has_ended items (foreign_by r) read none
   has_packet items n r (Some j) are is long h at read none =
       let top : (k m : ℕ) × (rest : List Item) × (items ≡ Carried k m r ∷ rest) × (way ≡ way_bytes rest)
       × (n ≡ m % 2 ^ 24) = carried_first items n r are is long h in
@@ -200,13 +201,13 @@ module _ (t : Talk) (bytes way : List ℕ) (new : Listening) (e : Event) (plain 
       has_reply items line k (requests_number k t) (answer_of line) refl is.0 h (refl, refl) read none
   has_whole (Station k) items (Packet n r) are h is read none = absurd is
   has_whole (Station k) items End are h is read none = absurd is
-  has_whole (Station k) items Garbage are h is read none = has_ended items endings.Garbage read none
+  has_whole (Station k) items Garbage are h is read none = has_ended items (endings.Unanswered k) read none
   has_whole (Number k) items (Reply line) are h is read none =
       has_reply items line k (requests_place (k + 1) t) (answer_of line) refl is.0 h
       (place_written (want_at t.wants (k + 1)) (k + 1) t) read none
   has_whole (Number k) items (Packet n r) are h is read none = absurd is
   has_whole (Number k) items End are h is read none = absurd is
-  has_whole (Number k) items Garbage are h is read none = has_ended items endings.Garbage read none
+  has_whole (Number k) items Garbage are h is read none = has_ended items (endings.Unanswered k) read none
   has_whole Packets items (Reply line) are h is read none = absurd is
   has_whole Packets items (Packet n r) are h is read none =
       has_packet items n r (place_of t.wants r) are is.0 is.1 h refl read none

@@ -51,8 +51,9 @@ nothing_noted : (first_sent : Numbers) (ending : Ending) (t : Taking) → noted 
 nothing_noted first_sent endings.End t = refl
 nothing_noted first_sent (endings.Refused k) t = refl
 nothing_noted first_sent (endings.Gap k want got) t = refl
+nothing_noted first_sent (endings.Unanswered k) t = refl
 nothing_noted first_sent endings.Garbage t = refl
-nothing_noted first_sent endings.Foreign t = refl
+nothing_noted first_sent (endings.Foreign station network) t = refl
 
 module _ (first_sent : Numbers) (held : Lists) (start : Numbers) (to_server : List ℕ) where
   abbrev of : Listening → Taking

@@ -202,8 +202,9 @@ module _ (places : Places) (differ : Differ places) (codes_are : (k : ℕ) (p : 
     ended_way t new endings.End = refl
     ended_way t new (endings.Refused k) = refl
     ended_way t new (endings.Gap k want got) = refl
+    ended_way t new (endings.Unanswered k) = refl
     ended_way t new endings.Garbage = refl
-    ended_way t new endings.Foreign = refl
+    ended_way t new (endings.Foreign station network) = refl
 
     ended_quiet : (t : Taking) (new : Listening) (ending : Ending) (e : Event)
         → ended ending t.client.talk ≡ (new.talk, e) → IsQuiet session t.to_server → IsQuiet session (Way t new e)

@@ -17,7 +17,7 @@ use crate::world::{Setup, Step};
 use mseed_audit::{NotContinuous, Series, series};
 use mseed_pack::{Options, PackFault, a_stretch_reads_back, one_length, pack};
 use mseed_record::{Codes, RecordView};
-use std::alloc::Global;
+use std::alloc::{AllocError, Global};
 
 /// Why nothing is relayed.
 #[derive(Clone, Copy, Debug, PartialEq, Eq)]
@@ -121,32 +121,37 @@ fn fed(alloc: Global, steps: &[Step], records: &[[u8; 512]]) -> Result<Vec<Step>
     let mut all = Vec::new(alloc);
     let mut rest = records;
     for step in steps {
-        rest = add_step(&mut all, step, rest)?;
+        rest = match add_step(&mut all, step, rest) {
+            Ok(left) => left,
+            Err(_) => return Err(RelayFault::Memory),
+        };
     }
     Ok(all)
 }
 
 /// Adds a step, with the next record where it pushes one, and answers the records that are left.
+///
+/// # Errors
+///
+/// `AllocError` where an allocation was refused.
 fn add_step<'a>(
     all: &mut Vec<Step>,
     step: &Step,
     records: &'a [[u8; 512]],
-) -> Result<&'a [[u8; 512]], RelayFault>
-    ensures ok { IfOk result (λ rest. (steps : List Step)
+) -> Result<&'a [[u8; 512]], AllocError>
+    ensures { IfOk result (λ rest. (steps : List Step)
         → all.new.items ++ fed steps rest.now ≡ all.old.items ++ fed (step.now ∷ steps) records.now) }
-    ensures err { IfErr result (λ fault. fault ≡ RelayFault.Memory) }
 {
     match step {
         Step::Append(k, _) => match records.split_first() {
             Some((record, rest)) => {
-                all.push(Step::Append(*k, *record))
-                    .map_err(|_| RelayFault::Memory)?;
+                all.push(Step::Append(*k, *record))?;
                 Ok(rest)
             }
             None => Ok(records),
         },
         Step::Connect | Step::ToServer(_) | Step::ToClient(_) | Step::Send(_) | Step::Cut => {
-            all.push(*step).map_err(|_| RelayFault::Memory)?;
+            all.push(*step)?;
             Ok(records)
         }
     }

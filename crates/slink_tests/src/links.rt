@@ -14,7 +14,10 @@ use crate::live::push;
 use crate::model::{place, record};
 use mseed_stream::{Counted, Duplex, Exchanges, Failed, Sink, Source, Tally};
 use slink_feed::{Client, Feed, Mode};
-use slink_links::{Accept, Dial, EndsHandshake, FetchPlan, Pause, ServePlan};
+use slink_links::{
+    Accept, Dial, DialFault, EndsHandshake, FetchPlan, Loss, NetworkFault, Pause, ServePlan,
+    Trouble,
+};
 use slink_wire::{Address, Host, Packet, Timeout};
 use std::alloc::Global;
 use std::io;
@@ -159,6 +162,7 @@ struct Links<'a> {
     tally: Tally,
     lost: Tally,
     given_back: Exchanges,
+    trouble: Option<Trouble>,
 }
 
 impl<'a> Links<'a> {
@@ -177,6 +181,7 @@ impl<'a> Links<'a> {
             tally: Tally::new(),
             lost: Tally::new(),
             given_back: Exchanges::new(),
+            trouble: None,
         }
     }
 
@@ -236,13 +241,24 @@ impl<'a> Dial for Links<'a> {
 
     ghost given_back = { λ l. l.given_back.all };
 
-    fn dial(&mut self) -> Option<Link<'a>> {
-        self.next()
+    ghost trouble = { λ l. l.trouble };
+
+    fn dial(&mut self) -> Result<Link<'a>, DialFault> {
+        match self.next() {
+            Some(link) => Ok(link),
+            None => {
+                let fault = DialFault::Unconnected(NetworkFault::Refused);
+                self.trouble = Some(Trouble::Undialled(fault));
+                Err(fault)
+            }
+        }
     }
 
-    fn hang_up(&mut self, link: Link<'a>) {
+    fn hang_up(&mut self, link: Link<'a>) -> Loss {
         self.given_back.record(&link.over);
         let _ = self.taken.push(link.over.into_inner().taken);
+        self.trouble = Some(Trouble::Lost(Loss::Closed));
+        Loss::Closed
     }
 }
 
@@ -309,7 +325,7 @@ fn packets(rt: &impl Abort, alloc: Global, marks: Range<u8>) -> Vec<u8> {
     bytes
 }
 
-/// The same of records 1 and 2.
+/// Two replies, the packets of records 1 and 2, and the end.
 fn two_packets(rt: &impl Abort, alloc: Global) -> Vec<u8> {
     packets(rt, alloc, 1..3)
 }

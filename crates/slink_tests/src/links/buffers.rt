@@ -238,14 +238,24 @@ fn tells_what_fails(rt: HostRuntime) {
     assert!(rt; goes_over(&wire, feed, 2, up_to(all.as_slice(), 708), &FAILED));
 }
 
-/// Whether a fetch by a client over the wire ends with this status, the line of it, and these records.
+/// The lines of a fetch from a server that closes the link, where the status says so.
+fn lines_of_fetch(status: u8) -> &'static [u8] {
+    if status == 0 {
+        b""
+    } else {
+        b"mseed: link failed\n\
+          mseed: lost the connection to 127.0.0.1:0: closed by the server before the end\n"
+    }
+}
+
+/// Whether a fetch by a client over the wire ends with this status, the lines of it, and these records.
 fn is_fetched(wire: &Wire, client: Client, status: u8, records: &[u8]) -> bool {
     let mut plan = plan_of(client, 1, 0);
     let mut written = output(wire.alloc, ALL);
     let mut errors = output(wire.alloc, ALL);
     let ended = fetch(&End { wire }, &mut plan, &mut written, &mut errors);
     ended == status
-        && taken_by(errors).as_slice() == line_of(status)
+        && taken_by(errors).as_slice() == lines_of_fetch(status)
         && taken_by(written).as_slice() == records
 }
 
@@ -254,25 +264,31 @@ fn client(rt: &impl Abort) -> Client {
     Client::new(&[(place(rt, b"STA"), Some(0))], Mode::Fetch)
 }
 
-/// So much is read at once.
-const AHEAD: usize = 1 << 15;
+/// How much is read ahead at once.
+const AHEAD: usize = 1 << 13;
 
 /// All that is there is read at once, and the rest where that is given.
-static READ_AHEAD: [Call; 5] = [
+static READ_AHEAD: [Call; 8] = [
     Call::Wrote(16),
     Call::Read(AHEAD),
     Call::Wrote(14),
     Call::Wrote(5),
-    Call::Read(8 + 70 * 520 + 3 - AHEAD),
+    Call::Read(AHEAD),
+    Call::Read(AHEAD),
+    Call::Read(AHEAD),
+    Call::Read(8 + 70 * 520 + 3 - 4 * AHEAD),
 ];
 
 /// What comes of the calls where the server leaves in place of the end.
-static LEFT: [Call; 6] = [
+static LEFT: [Call; 9] = [
     Call::Wrote(16),
     Call::Read(AHEAD),
     Call::Wrote(14),
     Call::Wrote(5),
-    Call::Read(8 + 70 * 520 - AHEAD),
+    Call::Read(AHEAD),
+    Call::Read(AHEAD),
+    Call::Read(AHEAD),
+    Call::Read(8 + 70 * 520 - 4 * AHEAD),
     Call::Read(0),
 ];
 

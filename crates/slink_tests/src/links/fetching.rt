@@ -2,15 +2,23 @@
 ghost use Rattle.slink_links.specs.Out.{AreOut};
 
 use super::{
-    ALL, Clockless, FROM_1, Links, client, line_of, output, packets, plan_of, taken_by,
-    two_packets, two_records,
+    ALL, Clockless, FROM_1, Links, client, output, packets, plan_of, taken_by, two_packets,
+    two_records,
 };
-use slink_links::{FetchPlan, fetch_all, fetch_planned};
+use slink_links::{FetchPlan, FetchTerms, Server, fetch_all, fetch_planned};
+use slink_wire::{Address, Host};
 use std::alloc::Global;
 use std::process::Abort;
 
 /// What the client says from record 2 on.
 const FROM_2: &[u8] = b"STATION STA XX\r\nFETCH 000002\r\nEND\r\n";
+
+/// The lines of a fetch whose last try failed: there was no link, or it was closed.
+const UNDIALLED: &[u8] =
+    b"mseed: link failed\nmseed: cannot connect to 127.0.0.1:18000: connection refused\n";
+
+const CUT_OFF: &[u8] = b"mseed: link failed\n\
+mseed: lost the connection to 127.0.0.1:18000: closed by the server before the end\n";
 
 /// What comes of a fetch.
 #[derive(Drop)]
@@ -36,14 +44,21 @@ fn fetch_from(
     let mut waits = Clockless::new(alloc);
     let mut records = output(alloc, room);
     let mut errors = output(alloc, ALL);
+    let terms = FetchTerms {
+        server: Server {
+            host: Host::Address(Address::local()),
+            port: 18_000,
+        },
+        tries,
+        report_next: tell_next,
+    };
     let status = fetch_all(
         &mut client(rt),
-        tries,
+        &terms,
         &mut links,
         &mut waits,
         &mut records,
         &mut errors,
-        tell_next,
     );
     Fetched {
         status,
@@ -76,32 +91,42 @@ fn are_from_1(written: &[Vec<u8>], links: usize) -> bool {
     written.len() == links && written.iter().all(|lines| lines.as_slice() == FROM_1)
 }
 
-/// Whether a fetch ended so, with these records.
-fn ended(fetched: &Fetched, status: u8, records: Option<&[u8]>) -> bool {
+/// Whether a fetch ended so, with these lines and records.
+fn ended(fetched: &Fetched, status: u8, lines: &[u8], records: Option<&[u8]>) -> bool {
     fetched.status == status
-        && fetched.line.as_slice() == line_of(status)
+        && fetched.line.as_slice() == lines
         && Some(fetched.records.as_slice()) == records
 }
 
-/// At most so many tries; of the links that come, how many bytes each gives; the status; how many bytes of records 1
-/// and 2 are written; and how many links accepted the lines of the client.
-type Fetch = (u64, &'static [Option<usize>], u8, usize, usize);
+/// At most so many tries; of the links that come, how many bytes each gives; the status and the lines; how many bytes
+/// of records 1 and 2 are written; and how many links accepted the lines of the client.
+type Fetch = (
+    u64,
+    &'static [Option<usize>],
+    u8,
+    &'static [u8],
+    usize,
+    usize,
+);
 
-static FETCHES: [Fetch; 6] = [
-    (1, &[Some(1051)], 0, 1024, 1),
+static FETCHES: [Fetch; 8] = [
+    (1, &[Some(1051)], 0, b"", 1024, 1),
     // Cut off in the packet of record 1, and then after it.
-    (2, &[Some(8 + 519), Some(1051)], 0, 1024, 2),
-    (2, &[Some(8 + 519), Some(8 + 520)], 2, 512, 2),
-    (1, &[None, Some(1051)], 2, 0, 0),
-    (2, &[None, Some(1051)], 0, 1024, 1),
-    (3, &[None, Some(8 + 520), None], 2, 512, 1),
+    (2, &[Some(8 + 519), Some(1051)], 0, b"", 1024, 2),
+    (2, &[Some(8 + 519), Some(8 + 520)], 2, CUT_OFF, 512, 2),
+    (1, &[None, Some(1051)], 2, UNDIALLED, 0, 0),
+    (2, &[None, Some(1051)], 0, b"", 1024, 1),
+    // What went wrong is that of the last try.
+    (3, &[None, Some(8 + 520), None], 2, UNDIALLED, 512, 1),
+    (3, &[Some(8), None, Some(8 + 520)], 2, CUT_OFF, 512, 2),
+    (0, &[Some(1051)], 2, b"mseed: link failed\n", 0, 0),
 ];
 
 /// Whether a fetch of these bytes goes as a row says, and brings a part of these records.
 fn is_fetched(rt: &impl Abort, alloc: Global, all: &[u8], records: &[u8], row: &Fetch) -> bool {
-    let (tries, counts, status, length, links) = *row;
+    let (tries, counts, status, lines, length, links) = *row;
     let fetched = fetch_over(rt, alloc, tries, all, counts);
-    ended(&fetched, status, records.get(..length)) && are_from_1(&fetched.written, links)
+    ended(&fetched, status, lines, records.get(..length)) && are_from_1(&fetched.written, links)
 }
 
 #[test]
@@ -157,11 +182,22 @@ fn goes_on_after_the_last_record(rt: HostRuntime) {
     assert!(rt; goes_on(&rt, rt.alloc(), first, &second));
 }
 
-/// What the first of two links gives, or both packets; the room of the output, and the line.
-static ENDS: [(Option<&[u8]>, usize, &[u8]); 4] = [
-    (Some(b"ERROR\r\n"), ALL, b"mseed: refused\n"),
-    (Some(b"OK\r\nERROR\r\n"), ALL, b"mseed: refused\n"),
-    (Some(b"OKAY\r\n"), ALL, b"mseed: bad feed\n"),
+/// The lines of a fetch whose station is refused, and of one that is answered otherwise.
+const REFUSED: &[u8] = b"mseed: refused\nmseed: XX_STA from 000001: the server refuses it\n";
+
+const UNANSWERED: &[u8] =
+    b"mseed: bad feed\nmseed: XX_STA from 000001: the reply is neither OK nor ERROR\n";
+
+const GARBAGE: &[u8] =
+    b"mseed: bad feed\nmseed: bytes came that are neither a packet nor the end\n";
+
+/// What the first of two links gives, or both packets; the room of the output, and the lines.
+static ENDS: [(Option<&[u8]>, usize, &[u8]); 6] = [
+    (Some(b"ERROR\r\n"), ALL, REFUSED),
+    (Some(b"OK\r\nERROR\r\n"), ALL, REFUSED),
+    (Some(b"OKAY\r\n"), ALL, UNANSWERED),
+    (Some(b"OK\r\n\r\n"), ALL, UNANSWERED),
+    (Some(b"OK\r\nOK\r\nENX"), ALL, GARBAGE),
     (None, 511, b"mseed: write failed\n"),
 ];
 
@@ -194,6 +230,21 @@ fn ends_at_once_where_no_try_helps(rt: HostRuntime) {
         let fetched = fetched_from_two(&rt, rt.alloc(), 2, *first, *room, false);
         assert!(rt; ended_at_once(&fetched, line), "{line:?}");
     }
+}
+
+/// Whether a fetch that lacks record 1 ends so where record 2 comes.
+fn ends_at_a_gap(rt: &impl Abort, alloc: Global, lines: &[u8]) -> bool {
+    let first = packets(rt, alloc, 2..3);
+    ended_at_once(
+        &fetched_from_two(rt, alloc, 2, Some(&first), ALL, false),
+        lines,
+    )
+}
+
+#[test]
+fn tells_which_record_was_wanted(rt: HostRuntime) {
+    let lines = b"mseed: bad feed\nmseed: XX_STA: record 000001 was wanted, and 000002 came\n";
+    assert!(rt; ends_at_a_gap(&rt, rt.alloc(), lines));
 }
 
 /// How many bytes each link gives, and the pauses in tenths of a second. After 528 bytes a record is whole.
@@ -244,7 +295,8 @@ static TOLD: [(Option<&[u8]>, usize, &[u8]); 3] = [
     (
         Some(b"ERROR\r\n"),
         ALL,
-        b"mseed: refused\nmseed: next --network XX --station STA --from 000001\n",
+        b"mseed: refused\nmseed: XX_STA from 000001: the server refuses it\n\
+          mseed: next --network XX --station STA --from 000001\n",
     ),
 ];
 
