@@ -24,6 +24,26 @@ pub(crate) const COMMANDS: &str = "Commands:
 
 The options of a command, its statuses and an example: mseed audit --help";
 
+/// How a command is called. What `serve` and `fetch` can't do without is on a line of its own, so that no line is wider
+/// than a screen of 80 columns.
+pub(crate) fn usage<'a>(name: CommandName) -> &'a str {
+    match name {
+        CommandName::Audit => "mseed audit [OPTIONS] [FILE]...",
+        CommandName::Join => "mseed join [OPTIONS] [FILE]...",
+        CommandName::Show => "mseed show [OPTIONS] [FILE]...",
+        CommandName::Select => "mseed select [OPTIONS] [FILE]...",
+        CommandName::Repack => "mseed repack [OPTIONS] [FILE]...",
+        CommandName::Serve => {
+            "mseed serve --port <PORT> --station <STATION> --network <NETWORK>
+                   [OPTIONS] [NET_STA]..."
+        }
+        CommandName::Fetch => {
+            "mseed fetch --port <PORT> --station <STATION> --network <NETWORK>
+                   [OPTIONS] [NET_STA:HEX]..."
+        }
+    }
+}
+
 /// What a command does.
 pub(crate) fn about<'a>(name: CommandName) -> &'a str {
     match name {

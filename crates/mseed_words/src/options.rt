@@ -3,11 +3,12 @@ ghost use Rattle.std.specs.Prelude.{◌≡◌, IfOk, false, map, pos};
 ghost use Rattle.clap.specs.Simple.{app_of, with_rule};
 ghost use Rattle.clap.specs.Walk.{rule_of};
 ghost use Rattle.clap.specs.declared.builder.value_parser.ValueParser.TheVariants.{Signed};
-ghost use Rattle.mseed_words.specs.Options.{bare_command, places_rule, the_command, the_program, title_of, with_rules};
+ghost use Rattle.mseed_words.specs.Options.{bare_command, option_rules, places_rule, the_command, the_program};
+ghost use Rattle.mseed_words.specs.Options.{title_of, with_rules};
 ghost use Rattle.mseed_words.specs.private.Named.{rule_named};
 
 use crate::command_name::CommandName;
-use crate::help::{ABOUT, COMMANDS, USAGE, VERSION, about, notes, place_help, place_title};
+use crate::help::{ABOUT, COMMANDS, USAGE, VERSION, about, notes, place_help, place_title, usage};
 use clap::builder::ValueParser;
 use clap::{Arg, ArgAction, Command, value_parser};
 use std::alloc::{AllocError, Global};
@@ -55,7 +56,7 @@ const UNTIL: Named = Named {
 };
 
 /// What `audit` takes.
-const AUDIT: [Named; 5] = [
+static AUDIT: [Named; 5] = [
     Named {
         name: "each",
         kind: Kind::Flag,
@@ -74,7 +75,7 @@ const AUDIT: [Named; 5] = [
 ];
 
 /// What `join` takes.
-const JOIN: [Named; 4] = [
+static JOIN: [Named; 4] = [
     Named {
         name: "each",
         kind: Kind::Flag,
@@ -103,10 +104,10 @@ const JOIN: [Named; 4] = [
 ];
 
 /// What `show` and `select` take.
-const SELECTING: [Named; 3] = [CHANNELS, FROM, UNTIL];
+static SELECTING: [Named; 3] = [CHANNELS, FROM, UNTIL];
 
 /// What `repack` takes.
-const REPACK: [Named; 7] = [
+static REPACK: [Named; 7] = [
     Named {
         name: "length",
         kind: Kind::Text("BYTES"),
@@ -168,7 +169,7 @@ const TIMEOUT: Named = Named {
 };
 
 /// What `serve` takes.
-const SERVE: [Named; 10] = [
+static SERVE: [Named; 10] = [
     PORT,
     STATION,
     NETWORK,
@@ -216,7 +217,7 @@ const SERVE: [Named; 10] = [
 ];
 
 /// What `fetch` takes.
-const FETCH: [Named; 9] = [
+static FETCH: [Named; 9] = [
     PORT,
     STATION,
     NETWORK,
@@ -275,14 +276,21 @@ pub(crate) fn command<'a>(alloc: Global, name: CommandName) -> Result<Command<'a
     ensures { IfOk result (λ c. app_of c ≡ the_command name) }
 {
     let command = with_places(alloc, name, bare_command(alloc, name))?;
+    with_all(alloc, command, options_of(name))
+}
+
+/// The options of a command, in their order.
+fn options_of(name: CommandName) -> &'static [Named]
+    ensures { map rule_named result.now ≡ option_rules name }
+{
     match name {
-        CommandName::Audit => with_all(alloc, command, &AUDIT),
-        CommandName::Join => with_all(alloc, command, &JOIN),
-        CommandName::Show => with_all(alloc, command, &SELECTING),
-        CommandName::Select => with_all(alloc, command, &SELECTING),
-        CommandName::Repack => with_all(alloc, command, &REPACK),
-        CommandName::Serve => with_all(alloc, command, &SERVE),
-        CommandName::Fetch => with_all(alloc, command, &FETCH),
+        CommandName::Audit => &AUDIT,
+        CommandName::Join => &JOIN,
+        CommandName::Show => &SELECTING,
+        CommandName::Select => &SELECTING,
+        CommandName::Repack => &REPACK,
+        CommandName::Serve => &SERVE,
+        CommandName::Fetch => &FETCH,
     }
 }
 
@@ -292,6 +300,7 @@ fn bare_command<'a>(alloc: Global, name: CommandName) -> Command<'a>
 {
     Command::new(alloc, title_of(name))
         .about(about(name))
+        .override_usage(usage(name))
         .after_help(notes(name))
         .no_binary_name(true)
 }
