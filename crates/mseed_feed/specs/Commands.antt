@@ -1,5 +1,5 @@
 -- What serving the records of an archive and fetching come to: the exit status, and what was written.
-use Rattle.std.specs.Prelude.{◌≡◌, ℕ, List, Option, Result, Ok, Err}
+use Rattle.std.specs.Prelude.{◌≡◌, ℕ, List, Option, Result, Ok, Err, is_some, nat_lt}
 use Rattle.mseed_stream.specs.Calls.{ReadsOn}
 use Rattle.mseed_stream.specs.Device.{Beside, BytesRead, BytesWritten, nothing_read}
 use Rattle.slink_feed.specs.Listening.{Listening}
@@ -8,6 +8,8 @@ use Rattle.slink_feed.specs.Window.{Window}
 use Rattle.slink_feed.specs.declared.input.InputFault.{InputFault}
 use Rattle.slink_links.specs.Fetched.{FetchesAll}
 use Rattle.slink_links.specs.declared.fetching.FetchEnd.{FetchEnd}
+use Rattle.slink_links.specs.declared.plan.Server.{Server}
+use Rattle.slink_links.specs.declared.trouble.Trouble.{Trouble}
 use Rattle.mseed_words.specs.declared.request.Fetching.{Fetching}
 use Rattle.mseed_words.specs.declared.request.Serving.{Serving}
 use Rattle.mseed_feed.specs.Filling.{IsFilling, IsOneFilling}
@@ -35,11 +37,18 @@ pub record HasServedInput (serving : Serving) (read : BytesRead) (status : ℕ) 
   pub only : IsOneFilling serving outcome read
   pub served : IsServedBy serving outcome status old new
 
+-- the server from which was requested
+abbrev pub server_of : Fetching → Server
+server_of fetching = record { host = fetching.server.host; port = fetching.server.port }
+
 -- A new client of the places that were requested fetched up to an end: its records were written, and standard error
--- got the lines of that end, and those that were requested.
+-- got the lines of that end, by the server that was requested and what went wrong in the last try, and those that were
+-- requested. What the last try came to is known exactly where one was requested.
 pub record HasFetchedRequested (fetching : Fetching) (status : ℕ)
     (written_old written_new reported_old reported_new : BytesWritten) : Type 0 where
   pub end : FetchEnd
+  pub trouble : Option Trouble
   pub last : Listening
-  pub fetched : FetchesAll end fetching.report_next status (first_client fetching) last written_old written_new
-      reported_old reported_new
+  pub fetched : FetchesAll end (server_of fetching) trouble fetching.report_next status (first_client fetching) last
+      written_old written_new reported_old reported_new
+  pub tried : is_some trouble ≡ nat_lt 0 fetching.tries

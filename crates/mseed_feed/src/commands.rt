@@ -57,7 +57,8 @@ fn serve_planned<N: Net + Clock, A: Allocator, E: Sink>(
 }
 
 /// Fetches the records that are requested over TCP, writes each once it is whole, and returns the exit status: 0 where
-/// the server said that there are no more, and 2 otherwise, after a line on `errors` that says why.
+/// the server said that there are no more, and 2 otherwise, after a line on `errors` that says why, and one more: what
+/// went wrong in the last try, or what the server refused or sent.
 // Its buffers stand in its own frame, and not in that of every command.
 #[inline(never)]
 pub fn fetch<N: Net + Clock, W: Sink, E: Sink>(
