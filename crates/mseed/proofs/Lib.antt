@@ -3,5 +3,4 @@ pub mod Encodings
 mod ReadFiles
 mod FromArguments
 mod Lines
-mod Requests
 mod Done

@@ -1,35 +1,15 @@
--- How a listing ends, or words for which nothing was done.
-use Rattle.std.specs.Prelude.{◌≡◌, ℕ, List, [], ◌∷◌, Option, Some, None, Result, Ok, Err, codes, string_bytes}
+-- How words end for which nothing was done.
+use Rattle.std.specs.Prelude.{◌≡◌, ℕ, List, [], ◌∷◌, codes, string_bytes}
 use Rattle.mseed_stream.specs.Device.{BytesWritten}
-use Rattle.mseed_stream.specs.declared.fault.StreamFault.{StreamFault}
 use Rattle.mseed_stream.specs.LineWritten.{WritesLine}
-use Rattle.mseed_input.specs.Blame.{blame_by}
 use Rattle.mseed_input.specs.Files.{no_memory}
 use Rattle.mseed_input.specs.Given.{given_line}
 use Rattle.mseed_input.specs.Texts.{StandsForItself}
-use Rattle.mseed.specs.Outcome.{EndsBy, Report, ReportsLines, with_line, without_line, write_failed}
+use Rattle.mseed.specs.Outcome.{ReportsLines}
 use Rattle.mseed_words.specs.Mistakes.{after_text, before_text}
 use Rattle.mseed_words.specs.declared.mistake.Mistake.{Mistake}
-use Rattle.mseed_input.specs.declared.blame.Blame.TheVariants.{Nothing}
-use Rattle.mseed.specs.declared.outcome.Ended.{Ended}
-use Rattle.mseed_show.specs.declared.fault.ShowFault.{ShowFault}
-use Rattle.mseed_show.specs.declared.fault.ShowFault.TheVariants.{Write, Memory}
 use Rattle.mseed_words.specs.declared.refusal.Refusal.{Refusal}
 use Rattle.mseed_words.specs.declared.refusal.Refusal.TheVariants.{Text, NoRequest, Memory as NoMemory}
-
--- the exit status of a listing: a fault of the input counts
-abbrev pub end_status : Option StreamFault → ℕ
-end_status None = 0
-end_status (Some fault) = 2
-
--- a listing: the input's fault is in it, and has no line
-abbrev pub show_report : Result (Option StreamFault) ShowFault → Report
-show_report (Ok end) = without_line (end_status end) (blame_by end)
-show_report (Err Write) = with_line 2 write_failed Nothing
-show_report (Err Memory) = with_line 2 no_memory Nothing
-
-abbrev pub EndsShow : Result (Option StreamFault) ShowFault → Ended → BytesWritten → BytesWritten → Type 0
-EndsShow outcome ended old new = EndsBy (show_report outcome) ended old new
 
 -- the line for words that ask for nothing that there is
 abbrev pub bad_value : List ℕ

@@ -3,6 +3,11 @@ use Rattle.std.specs.Prelude.{ℕ, List, ◌++◌, nat_lt, if◌then◌else◌, 
 use Rattle.mseed_stream.specs.Device.{BytesWritten}
 use Rattle.mseed_text.specs.Fault.{fault_line}
 use Rattle.mseed_text.specs.Name.{name_text}
+use Rattle.mseed_part_lines.specs.declared.bad_field.Field.{Field}
+use Rattle.mseed_part_lines.specs.declared.bad_field.Field.TheVariants.{Key, Records, Samples, Head, Tail, Findings}
+use Rattle.mseed_part_lines.specs.declared.bad_field.Field.TheVariants.{First, AllRecords, AllBytes}
+use Rattle.mseed_join.specs.declared.flaw.Closing.{Closing}
+use Rattle.mseed_join.specs.declared.flaw.Closing.TheVariants.{Faults, Fault, Neither}
 use Rattle.mseed_join.specs.declared.flaw.Flaw.{Flaw}
 use Rattle.mseed_join.specs.declared.flaw.Flaw.TheVariants.{Beginning, Row, Order, Ending, Limit, Long, Unended}
 use Rattle.mseed_join.specs.declared.flaw.Flaw.TheVariants.{Missing}
@@ -19,13 +24,40 @@ use Rattle.mseed.specs.declared.outcome.Ended.{Ended}
 abbrev pub joined_status : Joined → ℕ
 joined_status joined = if joined.fault then 2 else if nat_lt 0 joined.broken then 1 else 0
 
+-- the first bad field of a channel's line or of that of the counts, and what would be right; a line that has no key and
+-- doesn't begin as the counts is neither
+abbrev pub field_text : Field → List ℕ
+field_text Key =
+    codes "bad key in the line of a channel; it is 24 digits 0-9A-F, or the counts are as records 2 bytes 256"
+field_text Records =
+    codes "bad records in the line of a channel; they are as records 2, from 0 to 9223372036854775807"
+field_text Samples =
+    codes "bad samples in the line of a channel; they are as samples 32, from 0 to 9223372036854775807"
+field_text Head = codes "bad head in the line of a channel; it is as head 1 0 1704067200000000 20/1, or head none"
+field_text Tail =
+    codes "bad tail in the line of a channel; it is as tail 1704067200000000 16 20/1 none, or tail none"
+field_text Findings =
+    codes "bad findings in the line of a channel; they are as findings 1, and 0 only with a head and a tail"
+field_text First =
+    codes "bad first in the line of a channel; where findings are not 0 it ends the line, as first 2 128 gap 25001"
+field_text AllRecords =
+    codes "bad records in the line of the counts; they are as records 2, from 0 to 9223372036854775807"
+field_text AllBytes =
+    codes "bad bytes in the line of the counts; they end it, as bytes 256, from 0 to 9223372036854775807"
+
+-- what a line after the counts is not, and what would be right
+abbrev pub closing_text : Closing → List ℕ
+closing_text Faults = codes "bad faults after the counts; they come once, as faults 2, from 1 to 9223372036854775807"
+closing_text Fault =
+    codes "bad fault at after the counts; it is as fault at 256 notdata, and has the bytes of the counts"
+closing_text Neither = codes "neither faults of this part nor the beginning of the next; that is mseed part 1"
+
 -- what is wrong with a line of a part, and what would be right
 abbrev pub flaw_text : Flaw → List ℕ
 flaw_text Beginning = codes "no beginning of a part; that is mseed part 1"
-flaw_text Row = codes "neither a channel nor the counts; these are as records 2 bytes 256"
+flaw_text (Row field) = field_text field
 flaw_text (Order key) = name_text key ++ codes " is out of order; channels ascend by their keys"
-flaw_text Ending =
-    codes "neither faults of this part nor the beginning of the next; that is mseed part 1"
+flaw_text (Ending closing) = closing_text closing
 flaw_text Limit = codes "a sum passes 9223372036854775807, the most that a number can be"
 flaw_text Long = codes "no LF within 512 bytes; no line is longer"
 flaw_text Unended = codes "no LF at the end of the input; each line ends with one"

@@ -7,6 +7,5 @@ pub mod Repacked
 pub mod Restretched
 pub mod Selected
 pub mod Streams
-pub mod OfRecords
 pub mod Run
 pub mod Effect

@@ -1,13 +1,11 @@
 -- What packing anew says, and its exit status.
-use Rattle.std.specs.Prelude.{◌≡◌, ℕ, List, ◌++◌, Result, Ok, Err, codes, decimal}
+use Rattle.std.specs.Prelude.{◌≡◌, ℕ, List, ◌++◌, None, Result, Ok, Err, codes}
 use Rattle.mseed_stream.specs.Device.{BytesWritten}
-use Rattle.mseed_text.specs.Name.{name_text}
 use Rattle.mseed_text.specs.Fault.{fault_line}
 use Rattle.mseed_steim.specs.declared.encoding.Encoding.{Encoding}
-use Rattle.mseed_pack.specs.declared.fault.PackFault.{PackFault}
 use Rattle.mseed_pack.specs.declared.options.Options.{Options}
 use Rattle.mseed_repack.specs.ByStretches.{broken_text}
-use Rattle.mseed_repack.specs.Misfits.{misfit_more, misfit_number}
+use Rattle.mseed_repack.specs.Misfits.{misfit_text}
 use Rattle.mseed_words.specs.declared.request.Packing.{Packing}
 use Rattle.mseed_repack.specs.declared.fault.RepackFault.{RepackFault}
 use Rattle.mseed_repack.specs.declared.fault.RepackFault.TheVariants.{Stream, Broken, Misfit, Write, Memory}
@@ -17,21 +15,12 @@ use Rattle.mseed.specs.Outcome.{EndsBy, Report, with_line, without_line, write_f
 use Rattle.mseed_input.specs.declared.blame.Blame.TheVariants.{Nothing}
 use Rattle.mseed.specs.declared.outcome.Ended.{Ended}
 
--- the line about a channel that can't be packed
-abbrev pub misfit_line : List ℕ → PackFault → List ℕ
-misfit_line key fault =
-    codes "mseed: " ++ name_text key ++ codes " does not fit " ++ decimal (misfit_number fault) ++ codes "\n"
-
--- and one more, which says why in words
-abbrev pub misfit_text : Encoding → List ℕ → PackFault → List ℕ
-misfit_text e key fault = misfit_line key fault ++ misfit_more e fault
-
 -- the line of a fault, where such an encoding is requested; of a broken channel one more, with its first finding, and
 -- of one that can't be packed the one that says why
 abbrev pub refusal_text : Encoding → RepackFault → List ℕ
 refusal_text e (Stream fault) = codes "mseed: " ++ fault_line fault
 refusal_text e (Broken key first) = broken_text key first
-refusal_text e (Misfit key number fault) = misfit_text e key fault
+refusal_text e (Misfit key number fault) = misfit_text e key None fault
 refusal_text e Write = write_failed
 refusal_text e Memory = no_memory
 

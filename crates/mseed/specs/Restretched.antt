@@ -1,8 +1,8 @@
 -- What packing anew by stretches says, and its exit status.
-use Rattle.std.specs.Prelude.{ℕ, List, Result, Ok, Err}
+use Rattle.std.specs.Prelude.{ℕ, List, Some, Result, Ok, Err}
 use Rattle.mseed_stream.specs.Device.{BytesWritten}
 use Rattle.mseed_steim.specs.declared.encoding.Encoding.{Encoding}
-use Rattle.mseed_repack.specs.Misfits.{stretch_misfit_text}
+use Rattle.mseed_repack.specs.Misfits.{misfit_text}
 use Rattle.mseed_repack.specs.declared.refusing.Left.{Left}
 use Rattle.mseed_repack.specs.declared.refusing.Left.TheVariants.{Nothing, Broken as LeftBroken, Misfit as LeftMisfit}
 use Rattle.mseed_repack.specs.declared.fault.RepackFault.{RepackFault}
@@ -15,7 +15,7 @@ use Rattle.mseed.specs.declared.outcome.Ended.{Ended}
 
 -- the line of a fault, which names the stretch
 abbrev pub stretches_text : Encoding → RepackFault → List ℕ
-stretches_text e (Misfit key number fault) = stretch_misfit_text e key number fault
+stretches_text e (Misfit key number fault) = misfit_text e key (Some number) fault
 stretches_text e fault = refusal_text e fault
 
 -- the exit status where all was written but what was left out

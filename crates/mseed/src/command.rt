@@ -1,6 +1,5 @@
 //! The command line: what its arguments request, and what is done with an input.
-ghost use Rattle.std.specs.Prelude.{◌≡◌, ℕ, IfOk, List, map, None, OnOk, Option, option_map, Some, true};
-ghost use Rattle.mseed_input.specs.Files.{no_memory};
+ghost use Rattle.std.specs.Prelude.{◌≡◌, ℕ, IfOk, List, map, OnOk, Option, option_map, true};
 ghost use Rattle.mseed_join.specs.declared.joining.Form.{Form};
 ghost use Rattle.mseed_select.specs.Selecting.{selection_of};
 ghost use Rattle.mseed_choice.specs.Selection.{Selection};
@@ -13,27 +12,27 @@ ghost use Rattle.mseed_words.specs.declared.mistake.Mistake.{Mistake};
 ghost use Rattle.mseed_words.specs.declared.request.Request.{Request};
 ghost use Rattle.mseed.specs.Asked.{HasRefusedRequest, HasRefusedWords, IsAsked, UnlessMemoryLacks};
 ghost use Rattle.mseed.specs.Done.{EndsRefused, ReportsMistake};
-ghost use Rattle.mseed.specs.Outcome.{write_failed};
 ghost use Rattle.mseed.specs.Repacked.{AreOptionsOf};
 ghost use Rattle.mseed.specs.Run.{HasCarriedOut, HasJoined};
-ghost use Rattle.mseed.specs.Selected.{everything};
+ghost use Rattle.mseed.specs.Selected.{asked_or_all};
 ghost use Rattle.mseed.specs.Streams.{streams};
 
 use crate::ending::{
-    audited, audited_each, audited_each_some, audited_some, joined, repacked, restretched,
-    selected, shown, shown_some,
+    audited, audited_each, joined, of_all, repacked, restretched, selected, shown,
 };
-use crate::outcome::{BAD_COMMAND, Ended};
-use mseed_audit::{audit, audit_each, audit_each_selected, audit_selected};
-use mseed_input::{report_given, report_no_memory, word_of};
+use crate::outcome::Ended;
+use crate::refusal::refuse_memory;
+use mseed_audit::{audit_each_selected, audit_selected};
+use mseed_choice::{All, Choice};
+use mseed_input::{report_given, word_of};
 use mseed_join::{Form, audit_part, audit_part_each, join, join_each};
 use mseed_pack::Options;
 use mseed_repack::{repack, repack_selected, repack_selected_stretches, repack_stretches};
-use mseed_select::{Selector, select};
-use mseed_show::{show, show_selected};
+use mseed_select::select;
+use mseed_show::show_selected;
 use mseed_stream::{Sink, Source, report};
 use mseed_words::{Command, Joining, Mistake, Packing, Refusal, Request};
-use slink_links::FAULT;
+use slink_links::BAD_COMMAND;
 use std::alloc::{Allocator, Global};
 
 /// Reads the arguments of the command line, and returns the command that they request: what it does, with which
@@ -109,25 +108,26 @@ pub fn run<A: Allocator + Copy, R: Source, W: Sink, E: Sink>(
         (R.beside input.old) (R.beside input.new) }
 {
     match &command.selector {
-        None => run_over_all(alloc, &command.request, input, output, errors),
-        Some(selector) => {
-            run_over_some(alloc, &command.request, selector, input, output, errors)
-        }
+        None => run_over(alloc, command, &All, input, output, errors),
+        Some(selector) => run_over(alloc, command, selector, input, output, errors),
     }
 }
 
-/// Carries out a request with all records of an input, and returns how that ended.
-fn run_over_all<A: Allocator + Copy, R: Source, W: Sink, E: Sink>(
+/// Carries out a command with the records of this choice, which are those that it asks for, and returns how that ended.
+/// Parts are made and joined of all records.
+fn run_over<A: Allocator + Copy, C: Choice, R: Source, W: Sink, E: Sink>(
     alloc: A,
-    request: &Request,
+    command: &Command<'_>,
+    choice: &C,
     input: &mut R,
     output: &mut W,
     errors: &mut E,
 ) -> Ended
+    requires asked { C.selection choice.now ≡ asked_or_all (option_map selection_of command.now.selector) }
     requires unread { R.read input.old ≡ nothing_read }
-    requires called { CanBeCalled request.now }
-    requires reads { takes_files request.now ≡ true }
-    ensures called { HasCarriedOut request.now None result
+    requires called { CanBeCalled command.now.request }
+    requires reads { takes_files command.now.request ≡ true }
+    ensures called { HasCarriedOut command.now.request (option_map selection_of command.now.selector) result
         (streams (R.read input.old) (W.written output.old) (E.written errors.old))
         (streams (R.read input.new) (W.written output.new) (E.written errors.new)) }
 
@@ -135,91 +135,44 @@ fn run_over_all<A: Allocator + Copy, R: Source, W: Sink, E: Sink>(
     ensures reads { ReadsOn (R.read input.old) (R.read input.new) (R.remaining input.old) (R.remaining input.new)
         (R.beside input.old) (R.beside input.new) }
 {
-    match request {
-        Request::Audit => audited(audit(alloc, input, output), errors),
-        Request::AuditEach => audited_each(audit_each(alloc, input, output), errors),
-        Request::AuditPart => audited(audit_part(alloc, input, output), errors),
-        Request::AuditPartEach => audited_each(audit_part_each(alloc, input, output), errors),
+    match &command.request {
+        Request::Audit => audited(audit_selected(alloc, choice, input, output), errors),
+        Request::AuditEach => {
+            let outcome = audit_each_selected(alloc, choice, input, output);
+            audited_each(outcome, errors)
+        }
+        Request::AuditPart => audited(of_all(audit_part(alloc, input, output)), errors),
+        Request::AuditPartEach => {
+            let outcome = audit_part_each(alloc, input, output);
+            audited_each(of_all(outcome), errors)
+        }
         Request::Join(by) => joined_as(alloc, Form::Audit, *by, input, output, errors),
         Request::JoinEach(by) => {
             let outcome = join_each(alloc, by.past_faults, by.expected, input, output, errors);
             joined(outcome, errors)
         }
         Request::JoinPart(by) => joined_as(alloc, Form::Part, *by, input, output, errors),
-        Request::Show => shown(show(alloc, input, output), errors),
-        Request::Select => selected(select(alloc, &all_records(), input, output), errors),
+        Request::Show => shown(show_selected(alloc, choice, input, output), errors),
+        Request::Select => selected(select(alloc, choice, input, output), errors),
         Request::Repack(packing) => {
             let options = options_of(*packing);
-            let outcome = repack(alloc, &options, input, output);
+            let outcome = match &command.selector {
+                None => repack(alloc, &options, input, output),
+                Some(asked) => repack_selected(alloc, asked, &options, input, output, errors),
+            };
             repacked(options.encoding, outcome, errors)
         }
         Request::RepackStretches { packing, leave } => {
             let options = options_of(*packing);
-            let outcome = repack_stretches(alloc, &options, *leave, input, output, errors);
+            let outcome = match &command.selector {
+                None => repack_stretches(alloc, &options, *leave, input, output, errors),
+                Some(asked) => repack_selected_stretches(
+                    alloc, asked, &options, *leave, input, output, errors,
+                ),
+            };
             restretched(options.encoding, outcome, errors)
         }
         Request::Serve(_) | Request::Live(_) | Request::Fetch(_) => unreachable!(),
-    }
-}
-
-/// Carries out a request with the records of an input that are asked for, and returns how that ended. Parts are made
-/// and joined of all records.
-fn run_over_some<A: Allocator + Copy, R: Source, W: Sink, E: Sink>(
-    alloc: A,
-    request: &Request,
-    selector: &Selector<'_>,
-    input: &mut R,
-    output: &mut W,
-    errors: &mut E,
-) -> Ended
-    requires unread { R.read input.old ≡ nothing_read }
-    requires called { CanBeCalled request.now }
-    requires reads { takes_files request.now ≡ true }
-    ensures called { HasCarriedOut request.now (Some (selection_of selector.now)) result
-        (streams (R.read input.old) (W.written output.old) (E.written errors.old))
-        (streams (R.read input.new) (W.written output.new) (E.written errors.new)) }
-
-    // What the input is known to have left is what was read of it, up to its end where it is at its end.
-    ensures reads { ReadsOn (R.read input.old) (R.read input.new) (R.remaining input.old) (R.remaining input.new)
-        (R.beside input.old) (R.beside input.new) }
-{
-    match request {
-        Request::Audit => {
-            let outcome = audit_selected(alloc, selector, input, output);
-            audited_some(outcome, errors)
-        }
-        Request::AuditEach => {
-            let outcome = audit_each_selected(alloc, selector, input, output);
-            audited_each_some(outcome, errors)
-        }
-        Request::Show => {
-            let outcome = show_selected(alloc, selector, input, output);
-            shown_some(outcome, errors)
-        }
-        Request::Select => selected(select(alloc, selector, input, output), errors),
-        Request::Repack(packing) => {
-            let options = options_of(*packing);
-            let outcome = repack_selected(alloc, selector, &options, input, output, errors);
-            repacked(options.encoding, outcome, errors)
-        }
-        Request::RepackStretches { packing, leave } => {
-            let options = options_of(*packing);
-            let outcome = repack_selected_stretches(
-                alloc, selector, &options, *leave, input, output, errors,
-            );
-            restretched(options.encoding, outcome, errors)
-        }
-        _ => run_over_all(alloc, request, input, output, errors),
-    }
-}
-
-/// What asks for all records.
-fn all_records<'a>() -> Selector<'a>
-    ensures { selection_of result ≡ everything }
-{
-    match Selector::new(None, None, None) {
-        Ok(all) => all,
-        Err(_) => unreachable!(),
     }
 }
 
@@ -262,15 +215,6 @@ fn options_of(packing: Packing) -> Options
     }
 }
 
-/// Reports that the output failed, and returns the exit status.
-pub fn write_failed<E: Sink>(errors: &mut E) -> u8
-    ensures status { result ≡ 2 }
-    ensures reported { WritesLine write_failed (E.written errors.old) (E.written errors.new) }
-{
-    report(errors, b"mseed: write failed\n");
-    FAULT
-}
-
 /// Reports why the arguments of the command line request nothing, and returns the exit status.
 fn refuse<E: Sink>(errors: &mut E, refusal: &Refusal<'_>, arguments: &[Vec<u8>]) -> u8
     ensures { EndsRefused refusal.now result (E.written errors.old) (E.written errors.new) }
@@ -308,13 +252,4 @@ fn refuse_line<E: Sink>(errors: &mut E, line: &[u8]) -> u8
 {
     report(errors, line);
     BAD_COMMAND
-}
-
-/// Reports that memory was refused, to a command or for the arguments of the command line, and returns the exit status.
-pub fn refuse_memory<E: Sink>(errors: &mut E) -> u8
-    ensures status { result ≡ 2 }
-    ensures reported { WritesLine no_memory (E.written errors.old) (E.written errors.new) }
-{
-    report_no_memory(errors);
-    FAULT
 }

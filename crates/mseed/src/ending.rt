@@ -1,48 +1,72 @@
 //! How commands end: what is said at their end, and the exit status.
 ghost use Rattle.std.specs.Prelude.{◌≡◌, nat_lt, if◌then◌else◌, Ok};
 ghost use Rattle.mseed_input.specs.Blame.{blame_by};
-ghost use Rattle.mseed.specs.Done.{EndsShow, end_status};
 ghost use Rattle.mseed.specs.Joined.{EndsJoin};
-ghost use Rattle.mseed.specs.Outcome.{EndsAudit, EndsEach, ReportsLines, summary_status};
+ghost use Rattle.mseed.specs.Outcome.{EndsAudit, EndsBy, EndsEach, ReportsLines, of_all, summary_report};
 ghost use Rattle.mseed.specs.Repacked.{EndsRepack};
 ghost use Rattle.mseed.specs.Restretched.{EndsStretches};
-ghost use Rattle.mseed.specs.Selected.{EndsSelect, EndsSelectedAudit, EndsSelectedEach, EndsSelectedShow, end_lines};
-ghost use Rattle.mseed.specs.Selected.{untimed_lines};
+ghost use Rattle.mseed.specs.Selected.{EndsSelect, EndsShow, end_lines, end_status, unwritten_report};
 
 use crate::blame::{join_blame, packing_blame};
-use crate::command::{refuse_memory, write_failed};
-use crate::outcome::{BROKEN, Ended};
-use crate::refusal::{refuse_input, refuse_to_join, refuse_to_repack, refuse_to_stretch};
+use crate::outcome::Ended;
+use crate::refusal::{
+    refuse_input, refuse_memory, refuse_to_join, refuse_to_repack, refuse_to_stretch, write_failed,
+};
 use mseed_audit::{AuditFault, EachFault, SelectedSummary, Summary};
-use mseed_input::{blame_by, blame_of, report_number};
+use mseed_input::{blame_by, blame_of};
 use mseed_join::{Joined, JoinsFault};
-use mseed_repack::{Left, RepackFault};
+use mseed_repack::{Left, RepackFault, report_without_time};
 use mseed_select::{SelectFault, Selected};
-use mseed_show::{ShowFault, Shown};
 use mseed_steim::Encoding;
 use mseed_stream::{Sink, StreamFault};
-use slink_links::{DONE, FAULT};
+use slink_links::{BROKEN, DONE, FAULT};
 
-/// Reports why not all of an audit was written, and returns how it ended. A fault of the input is in the text.
-pub fn audited<E: Sink>(outcome: Result<Summary, AuditFault>, errors: &mut E) -> Ended
+/// Reports how many records lack a time, or why not all of an audit was written, and returns how it ended. A fault of
+/// the input is in the text.
+pub fn audited<E: Sink>(outcome: Result<SelectedSummary, AuditFault>, errors: &mut E) -> Ended
     ensures { EndsAudit outcome result (E.written errors.old) (E.written errors.new) }
 {
     match outcome {
-        Ok(summary) => ended_by(&summary),
+        Ok(found) => summed_up(&found, errors),
         Err(AuditFault::Write(_)) => Ended::with(write_failed(errors)),
         Err(AuditFault::Memory) => Ended::with(refuse_memory(errors)),
     }
 }
 
-/// Reports why not all of an audit with a line for each finding was written, and returns how it ended. A fault of the
-/// input is in the text.
-pub fn audited_each<E: Sink>(outcome: Result<Summary, EachFault>, errors: &mut E) -> Ended
+/// Reports the same of an audit with a line for each finding, and returns how it ended.
+pub fn audited_each<E: Sink>(outcome: Result<SelectedSummary, EachFault>, errors: &mut E) -> Ended
     ensures { EndsEach outcome result (E.written errors.old) (E.written errors.new) }
 {
     match outcome {
-        Ok(summary) => ended_by(&summary),
+        Ok(found) => summed_up(&found, errors),
         Err(EachFault::Write) => Ended::with(write_failed(errors)),
         Err(EachFault::Memory) => Ended::with(refuse_memory(errors)),
+    }
+}
+
+/// The outcome of an audit of all records: none of them lacks a time.
+pub fn of_all<F>(outcome: Result<Summary, F>) -> Result<SelectedSummary, F>
+    ensures { result ≡ of_all outcome }
+{
+    match outcome {
+        Ok(summary) => Ok(SelectedSummary {
+            summary,
+            without_time: 0,
+        }),
+        Err(fault) => Err(fault),
+    }
+}
+
+/// Reports how many records lack a time, and returns how an audit ended that was written.
+#[tactic(auto, using(crate::proofs::Lines::each_reported))]
+fn summed_up<E: Sink>(found: &SelectedSummary, errors: &mut E) -> Ended
+    ensures { EndsBy (summary_report found.now) result (E.written errors.old) (E.written errors.new) }
+{
+    report_without_time(found.without_time, errors);
+    let end = &found.summary.end;
+    Ended {
+        status: verdict_status(end.is_some(), found.summary.broken),
+        blame: blame_by(end),
     }
 }
 
@@ -59,50 +83,6 @@ pub fn joined<E: Sink>(outcome: Result<Joined, JoinsFault>, errors: &mut E) -> E
     }
 }
 
-/// How an audit that was written ended.
-fn ended_by(summary: &Summary) -> Ended
-    ensures status { result.status ≡ summary_status summary.now }
-    ensures blame { result.blame ≡ blame_by summary.now.end }
-{
-    Ended {
-        status: verdict_status(summary.end.is_some(), summary.broken),
-        blame: blame_by(&summary.end),
-    }
-}
-
-/// Reports how many records lack a time, and why not all of an audit of the records that are asked for was written,
-/// and returns how it ended. A fault of the input is in the text.
-pub fn audited_some<E: Sink>(outcome: Result<SelectedSummary, AuditFault>, errors: &mut E) -> Ended
-    ensures { EndsSelectedAudit outcome result (E.written errors.old) (E.written errors.new) }
-{
-    match outcome {
-        Ok(found) => {
-            report_untimed(found.without_time, errors);
-            ended_by(&found.summary)
-        }
-        Err(AuditFault::Write(_)) => Ended::with(write_failed(errors)),
-        Err(AuditFault::Memory) => Ended::with(refuse_memory(errors)),
-    }
-}
-
-/// Reports how many records lack a time, and why not all of an audit with a line for each finding of the records that
-/// are asked for was written, and returns how it ended. A fault of the input is in the text.
-pub fn audited_each_some<E: Sink>(
-    outcome: Result<SelectedSummary, EachFault>,
-    errors: &mut E,
-) -> Ended
-    ensures { EndsSelectedEach outcome result (E.written errors.old) (E.written errors.new) }
-{
-    match outcome {
-        Ok(found) => {
-            report_untimed(found.without_time, errors);
-            ended_by(&found.summary)
-        }
-        Err(EachFault::Write) => Ended::with(write_failed(errors)),
-        Err(EachFault::Memory) => Ended::with(refuse_memory(errors)),
-    }
-}
-
 /// The exit status of an audit that was written: a fault of the input comes before a broken channel.
 fn verdict_status(fault: bool, broken: u64) -> u8
     ensures { result ≡ (if fault then 2 else if nat_lt 0 broken then 1 else 0) }
@@ -116,29 +96,18 @@ fn verdict_status(fault: bool, broken: u64) -> u8
     }
 }
 
-/// Reports why not all of a listing was written, and returns how it ended. A fault of the input is in the listing.
-pub fn shown<E: Sink>(outcome: Result<Option<StreamFault>, ShowFault>, errors: &mut E) -> Ended
+/// Reports how many records lack a time, or why not all of a listing was written, and returns how it ended. A fault of
+/// the input is in the listing.
+#[tactic(auto, using(crate::proofs::Lines::each_reported))]
+pub fn shown<E: Sink>(outcome: Result<Selected, SelectFault>, errors: &mut E) -> Ended
     ensures { EndsShow outcome result (E.written errors.old) (E.written errors.new) }
 {
     match outcome {
-        Ok(end) => ended_at(&end),
-        Err(ShowFault::Write) => Ended::with(write_failed(errors)),
-        Err(ShowFault::Memory) => Ended::with(refuse_memory(errors)),
-    }
-}
-
-/// Reports how many records lack a time, and why not all of a listing of the records that are asked for was written,
-/// and returns how it ended. A fault of the input is in the listing.
-pub fn shown_some<E: Sink>(outcome: Result<Shown, ShowFault>, errors: &mut E) -> Ended
-    ensures { EndsSelectedShow outcome result (E.written errors.old) (E.written errors.new) }
-{
-    match outcome {
         Ok(found) => {
-            report_untimed(found.without_time, errors);
+            report_without_time(found.without_time, errors);
             ended_at(&found.end)
         }
-        Err(ShowFault::Write) => Ended::with(write_failed(errors)),
-        Err(ShowFault::Memory) => Ended::with(refuse_memory(errors)),
+        Err(fault) => unwritten(fault, errors),
     }
 }
 
@@ -153,6 +122,50 @@ fn ended_at(end: &Option<StreamFault>) -> Ended
             status: FAULT,
             blame: blame_of(fault),
         },
+    }
+}
+
+/// Reports what of a selection isn't in its records, or why not all of them were written, and returns how it ended.
+pub fn selected<E: Sink>(outcome: Result<Selected, SelectFault>, errors: &mut E) -> Ended
+    ensures { EndsSelect outcome result (E.written errors.old) (E.written errors.new) }
+{
+    match outcome {
+        Ok(selected) => selected_to(selected, errors),
+        Err(fault) => unwritten(fault, errors),
+    }
+}
+
+/// Reports how many of the records lack a time, and with what fault the input ended, if with one.
+#[tactic(auto, using(crate::proofs::Lines::reported_behind))]
+fn selected_to<E: Sink>(selected: Selected, errors: &mut E) -> Ended
+    ensures { EndsSelect (Ok selected) result (E.written errors.old) (E.written errors.new) }
+{
+    report_without_time(selected.without_time, errors);
+    let status = report_end(&selected.end, errors);
+    Ended {
+        status,
+        blame: blame_by(&selected.end),
+    }
+}
+
+/// Reports with what fault an input ended, if with one, and returns the exit status.
+fn report_end<E: Sink>(end: &Option<StreamFault>, errors: &mut E) -> u8
+    ensures status { result ≡ end_status end.now }
+    ensures lines { ReportsLines (end_lines end.now) (E.written errors.old) (E.written errors.new) }
+{
+    match end {
+        None => DONE,
+        Some(fault) => refuse_input(errors, fault),
+    }
+}
+
+/// Reports why not all records that are asked for, or their lines, were written, and returns how the command ended.
+fn unwritten<E: Sink>(fault: SelectFault, errors: &mut E) -> Ended
+    ensures { EndsBy (unwritten_report fault) result (E.written errors.old) (E.written errors.new) }
+{
+    match fault {
+        SelectFault::Write => Ended::with(write_failed(errors)),
+        SelectFault::Memory => Ended::with(refuse_memory(errors)),
     }
 }
 
@@ -190,49 +203,5 @@ pub fn restretched<E: Sink>(
             status: refuse_to_stretch(errors, encoding, &fault),
             blame: packing_blame(&fault),
         },
-    }
-}
-
-/// Reports what of a selection isn't in its records, and returns how it ended.
-pub fn selected<E: Sink>(outcome: Result<Selected, SelectFault>, errors: &mut E) -> Ended
-    ensures { EndsSelect outcome result (E.written errors.old) (E.written errors.new) }
-{
-    match outcome {
-        Ok(selected) => selected_to(selected, errors),
-        Err(SelectFault::Write) => Ended::with(write_failed(errors)),
-        Err(SelectFault::Memory) => Ended::with(refuse_memory(errors)),
-    }
-}
-
-/// Reports how many of the records lack a time, and with what fault the input ended, if with one.
-#[tactic(auto, using(crate::proofs::Lines::both_reported))]
-fn selected_to<E: Sink>(selected: Selected, errors: &mut E) -> Ended
-    ensures { EndsSelect (Ok selected) result (E.written errors.old) (E.written errors.new) }
-{
-    report_untimed(selected.without_time, errors);
-    let status = report_end(&selected.end, errors);
-    Ended {
-        status,
-        blame: blame_by(&selected.end),
-    }
-}
-
-/// Reports how many records lack a time, where some do.
-fn report_untimed<E: Sink>(count: u64, errors: &mut E)
-    ensures { ReportsLines (untimed_lines count) (E.written errors.old) (E.written errors.new) }
-{
-    if count > 0 {
-        report_number(errors, b"mseed: ", count, b" records without a time\n");
-    }
-}
-
-/// Reports with what fault an input ended, if with one, and returns the exit status.
-fn report_end<E: Sink>(end: &Option<StreamFault>, errors: &mut E) -> u8
-    ensures status { result ≡ end_status end.now }
-    ensures lines { ReportsLines (end_lines end.now) (E.written errors.old) (E.written errors.new) }
-{
-    match end {
-        None => DONE,
-        Some(fault) => refuse_input(errors, fault),
     }
 }

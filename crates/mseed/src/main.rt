@@ -10,11 +10,11 @@ mod files;
 mod outcome;
 mod refusal;
 
-use command::refuse_memory;
 use effect::carry_out_arguments;
 use mseed_feed::TcpListening;
 use mseed_files::{Process, System};
 use mseed_stream::Counted;
+use refusal::refuse_memory;
 use std::io;
 use std::process::ExitCode;
 

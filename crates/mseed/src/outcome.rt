@@ -4,16 +4,10 @@ ghost use Rattle.mseed_input.specs.declared.blame.Blame.{Blame};
 
 use mseed_input::Blame;
 
-/// The exit status of a command that did all that was requested, and found that a channel is broken.
-pub const BROKEN: u8 = 1;
-
-/// The exit status of a bad command line.
-pub const BAD_COMMAND: u8 = 3;
-
-/// How a command ended. Beside the statuses here there are those of `slink_links`: all was done, or there was a fault.
+/// How a command ended.
 #[derive(Clone, Copy)]
 pub struct Ended {
-    /// The exit status.
+    /// The exit status, one of those of `slink_links`.
     pub status: u8,
     /// What is wrong with the input, where more is to be said of it.
     pub blame: Blame,

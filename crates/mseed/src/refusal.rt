@@ -1,25 +1,45 @@
-//! The lines that say why parts weren't joined, or an archive not packed anew. They are built without the heap: a line
-//! is reported whatever memory there is.
+//! The lines that say why a command didn't do all that was requested. They are built without the heap: a line is
+//! reported whatever memory there is.
 ghost use Rattle.std.specs.Prelude.{◌≡◌, ◌≤◌, ◌+◌, ◌++◌, codes, length};
+ghost use Rattle.mseed_input.specs.Files.{no_memory};
 ghost use Rattle.mseed_repack.specs.ByStretches.{broken_text};
+ghost use Rattle.mseed_repack.specs.Misfits.{misfit_text};
 ghost use Rattle.mseed_stream.specs.LineWritten.{WritesLine};
 ghost use Rattle.mseed_text.specs.Fault.{fault_line};
-ghost use Rattle.mseed.specs.Joined.{bad_line_text, flaw_text, join_fault_text};
-ghost use Rattle.mseed.specs.Repacked.{misfit_text, refusal_status, refusal_text};
+ghost use Rattle.mseed.specs.Joined.{bad_line_text, closing_text, field_text, flaw_text, join_fault_text};
+ghost use Rattle.mseed.specs.Outcome.{write_failed};
+ghost use Rattle.mseed.specs.Repacked.{refusal_status, refusal_text};
 ghost use Rattle.mseed.specs.Restretched.{stretches_text};
 
-use crate::command::{refuse_memory, write_failed};
-use crate::outcome::BROKEN;
 use mseed_audit::Finding;
-use mseed_input::report_fault;
-use mseed_join::{Flaw, JoinsFault};
+use mseed_input::{report_fault, report_no_memory};
+use mseed_join::{Closing, Flaw, JoinsFault};
 use mseed_pack::PackFault;
+use mseed_part_lines::Field;
 use mseed_record::Codes;
-use mseed_repack::{RepackFault, misfit_number, put_misfit_more, report_broken, report_misfit};
+use mseed_repack::{RepackFault, report_broken, report_misfit};
 use mseed_steim::Encoding;
 use mseed_stream::{Sink, StreamFault, report};
 use mseed_text::Line;
-use slink_links::FAULT;
+use slink_links::{BROKEN, FAULT};
+
+/// Reports that the output failed, and returns the exit status.
+pub fn write_failed<E: Sink>(errors: &mut E) -> u8
+    ensures status { result ≡ 2 }
+    ensures reported { WritesLine write_failed (E.written errors.old) (E.written errors.new) }
+{
+    report(errors, b"mseed: write failed\n");
+    FAULT
+}
+
+/// Reports that memory was refused, to a command or for the arguments of the command line, and returns the exit status.
+pub fn refuse_memory<E: Sink>(errors: &mut E) -> u8
+    ensures status { result ≡ 2 }
+    ensures reported { WritesLine no_memory (E.written errors.old) (E.written errors.new) }
+{
+    report_no_memory(errors);
+    FAULT
+}
 
 /// Reports why an archive wasn't packed anew in an encoding, and returns the exit status: a broken channel is no fault.
 /// Of that the first finding is reported too.
@@ -30,7 +50,9 @@ pub fn refuse_to_repack<E: Sink>(errors: &mut E, encoding: Encoding, fault: &Rep
     match fault {
         RepackFault::Stream(fault) => refuse_input(errors, fault),
         RepackFault::Broken(channel, first) => refuse_broken(errors, channel, first),
-        RepackFault::Misfit(channel, _, fault) => refuse_unfit(errors, encoding, channel, *fault),
+        RepackFault::Misfit(channel, _, fault) => {
+            refuse_unfit(errors, encoding, channel, None, fault)
+        }
         RepackFault::Write => write_failed(errors),
         RepackFault::Memory => refuse_memory(errors),
     }
@@ -44,8 +66,7 @@ pub fn refuse_to_stretch<E: Sink>(errors: &mut E, encoding: Encoding, fault: &Re
 {
     match fault {
         RepackFault::Misfit(channel, number, fault) => {
-            report_misfit(channel, *number, encoding, *fault, errors);
-            FAULT
+            refuse_unfit(errors, encoding, channel, Some(*number), fault)
         }
         _ => refuse_to_repack(errors, encoding, fault),
     }
@@ -88,18 +109,12 @@ fn put_flaw(line: &mut Line, flaw: &Flaw)
 {
     match flaw {
         Flaw::Beginning => line.put(b"no beginning of a part; that is mseed part 1"),
-        Flaw::Row => line.put(
-            b"neither a channel nor the counts; these are as records 2 bytes 256",
-        ),
+        Flaw::Row(field) => put_field(line, *field),
         Flaw::Order(codes) => {
             line.put_name(codes);
             line.put(b" is out of order; channels ascend by their keys");
         }
-        Flaw::Ending => {
-            line.put(
-                b"neither faults of this part nor the beginning of the next; that is mseed part 1",
-            )
-        }
+        Flaw::Ending(closing) => put_closing(line, *closing),
         Flaw::Limit => line.put(b"a sum passes 9223372036854775807, the most that a number can be"),
         Flaw::Long => line.put(b"no LF within 512 bytes; no line is longer"),
         Flaw::Unended => line.put(b"no LF at the end of the input; each line ends with one"),
@@ -108,6 +123,62 @@ fn put_flaw(line: &mut Line, flaw: &Flaw)
                 b"the input ends within a part; the counts are missing, as records 2 bytes 256",
             )
         }
+    }
+}
+
+/// Puts the first bad field of a line of parts at a line's end.
+fn put_field(line: &mut Line, field: Field)
+    requires { length line.old ≤ 64 }
+    ensures text { line.new ≡ line.old ++ field_text field }
+    ensures most { length line.new ≤ length line.old + 128 }
+{
+    match field {
+        Field::Key => line.put(
+            b"bad key in the line of a channel; it is 24 digits 0-9A-F, or the counts are as records 2 bytes 256",
+        ),
+        Field::Records => line.put(
+            b"bad records in the line of a channel; they are as records 2, from 0 to 9223372036854775807",
+        ),
+        Field::Samples => line.put(
+            b"bad samples in the line of a channel; they are as samples 32, from 0 to 9223372036854775807",
+        ),
+        Field::Head => line.put(
+            b"bad head in the line of a channel; it is as head 1 0 1704067200000000 20/1, or head none",
+        ),
+        Field::Tail => line.put(
+            b"bad tail in the line of a channel; it is as tail 1704067200000000 16 20/1 none, or tail none",
+        ),
+        Field::Findings => line.put(
+            b"bad findings in the line of a channel; they are as findings 1, and 0 only with a head and a tail",
+        ),
+        Field::First => line.put(
+            b"bad first in the line of a channel; where findings are not 0 it ends the line, as first 2 128 gap 25001",
+        ),
+        Field::AllRecords => line.put(
+            b"bad records in the line of the counts; they are as records 2, from 0 to 9223372036854775807",
+        ),
+        Field::AllBytes => line.put(
+            b"bad bytes in the line of the counts; they end it, as bytes 256, from 0 to 9223372036854775807",
+        ),
+    }
+}
+
+/// Puts what a line after the counts of a part is not at a line's end.
+fn put_closing(line: &mut Line, closing: Closing)
+    requires { length line.old ≤ 64 }
+    ensures text { line.new ≡ line.old ++ closing_text closing }
+    ensures most { length line.new ≤ length line.old + 128 }
+{
+    match closing {
+        Closing::Faults => line.put(
+            b"bad faults after the counts; they come once, as faults 2, from 1 to 9223372036854775807",
+        ),
+        Closing::Fault => line.put(
+            b"bad fault at after the counts; it is as fault at 256 notdata, and has the bytes of the counts",
+        ),
+        Closing::Neither => line.put(
+            b"neither faults of this part nor the beginning of the next; that is mseed part 1",
+        ),
     }
 }
 
@@ -146,25 +217,19 @@ fn refuse_broken<E: Sink>(errors: &mut E, channel: &Codes, first: &Finding) -> u
     BROKEN
 }
 
-/// Reports why a channel can't be packed in an encoding, by the number of the reason and in words, and returns the exit
+/// Reports why a channel can't be packed in an encoding, or a stretch of it by its number, from 1, and returns the exit
 /// status.
 fn refuse_unfit<E: Sink>(
     errors: &mut E,
     encoding: Encoding,
     channel: &Codes,
-    fault: PackFault,
+    stretch: Option<u64>,
+    fault: &PackFault,
 ) -> u8
     ensures status { result ≡ 2 }
-    ensures reported { WritesLine (misfit_text encoding channel.now fault) (E.written errors.old)
+    ensures reported { WritesLine (misfit_text encoding channel.now stretch fault.now) (E.written errors.old)
         (E.written errors.new) }
 {
-    let mut line = Line::new();
-    line.put(b"mseed: ");
-    line.put_name(channel);
-    line.put(b" does not fit ");
-    line.put_count(misfit_number(fault));
-    line.put(b"\n");
-    put_misfit_more(&mut line, encoding, fault);
-    report(errors, line.as_slice());
+    report_misfit(channel, stretch, encoding, fault, errors);
     FAULT
 }

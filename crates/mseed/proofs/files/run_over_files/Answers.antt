@@ -1,7 +1,7 @@
-use Rattle.std.proofs.Common.{◌≡◌, ◌∙◌, ap, refl, sym}
+use Rattle.std.proofs.Common.{◌≡◌, ◌∙◌, ap, refl}
 use Rattle.mseed_files.specs.ChainState.{ChainState}
 use Rattle.mseed_files.specs.Found.{contents_of}
-use Rattle.mseed_stream.specs.Device.{BytesRead, nothing_read}
+use Rattle.mseed_stream.specs.Device.{nothing_read}
 use Rattle.mseed.proofs.ReadFiles.{named_reported, read_files, unnamed_reported}
 use Rattle.mseed.proofs.files.run_over_files.Goals.{then-are_named, else-are_named}
 use Rattle.mseed.proofs.files.run_over_files.Goals as goal

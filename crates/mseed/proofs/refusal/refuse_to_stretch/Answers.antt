@@ -17,7 +17,7 @@ same_line e Write fine = refl
 same_line e Memory fine = refl
 
 pub returns-in-Misfit-clause-reported : goal.returns-in-Misfit-clause-reported
-returns-in-Misfit-clause-reported g c = rw c.in-Misfit.is c.report_misfit.ensures
+returns-in-Misfit-clause-reported g c = rw c.in-Misfit.is c.refuse_unfit.ensures.reported
 
 pub returns-in_default-clause-reported : goal.returns-in_default-clause-reported
 returns-in_default-clause-reported g c =
