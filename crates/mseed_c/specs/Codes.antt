@@ -68,10 +68,10 @@ code_of_refusal Leap = 69
 abbrev pub code_of_misfit : PackFault → ℕ
 code_of_misfit (Write taken) = 3
 code_of_misfit Empty = 48
-code_of_misfit RateTooHigh = 49
-code_of_misfit TimeOutOfRange = 50
-code_of_misfit (SampleTooLarge index) = 51
-code_of_misfit (DifferenceTooLarge index) = 52
+code_of_misfit (RateTooHigh rate) = 49
+code_of_misfit (TimeOutOfRange index instant) = 50
+code_of_misfit (SampleTooLarge index sample) = 51
+code_of_misfit (DifferenceTooLarge index difference) = 52
 
 -- ---- numbers
 -- one number
@@ -106,6 +106,6 @@ detail_of (Err (Stopped stop)) = number (needed_by stop)
 
 -- which sample a misfit names; 0 where it names none
 abbrev pub index_of : PackFault → ℕ
-index_of (SampleTooLarge index) = index
-index_of (DifferenceTooLarge index) = index
+index_of (SampleTooLarge index sample) = index
+index_of (DifferenceTooLarge index difference) = index
 index_of fault = 0

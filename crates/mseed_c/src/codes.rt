@@ -187,25 +187,27 @@ pub(crate) fn code_of_refusal(refusal: Refusal) -> u32
 }
 
 /// Returns the code of why a series can't be packed, 48 to 52. `Write` doesn't come, since there is no sink.
-pub(crate) fn code_of_misfit(fault: PackFault) -> u32
-    ensures { result ≡ code_of_misfit fault }
+pub(crate) fn code_of_misfit(fault: &PackFault) -> u32
+    ensures { result ≡ code_of_misfit fault.now }
 {
     match fault {
         PackFault::Write(_) => MEMORY,
         PackFault::Empty => 48,
-        PackFault::RateTooHigh => 49,
-        PackFault::TimeOutOfRange => 50,
-        PackFault::SampleTooLarge(_) => 51,
-        PackFault::DifferenceTooLarge(_) => 52,
+        PackFault::RateTooHigh(_) => 49,
+        PackFault::TimeOutOfRange { .. } => 50,
+        PackFault::SampleTooLarge { .. } => 51,
+        PackFault::DifferenceTooLarge { .. } => 52,
     }
 }
 
 /// Returns the index of the first sample that the encoding doesn't hold, where that is the reason; else 0.
-pub(crate) fn index_of(fault: PackFault) -> usize
-    ensures { result ≡ index_of fault }
+pub(crate) fn index_of(fault: &PackFault) -> usize
+    ensures { result ≡ index_of fault.now }
 {
     match fault {
-        PackFault::SampleTooLarge(index) | PackFault::DifferenceTooLarge(index) => index,
+        PackFault::SampleTooLarge { index, .. } | PackFault::DifferenceTooLarge { index, .. } => {
+            *index
+        }
         _ => 0,
     }
 }

@@ -76,9 +76,9 @@ fn pack_series(
     if let Err(fault) = fit_view(series, options) {
         *reported = Packed {
             records: 0,
-            index: index_of(fault),
+            index: index_of(&fault),
         };
-        return code_of_misfit(fault);
+        return code_of_misfit(&fault);
     }
     let records = pack_into(series, options, room);
     *reported = Packed { records, index: 0 };
