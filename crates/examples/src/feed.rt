@@ -5,8 +5,8 @@ ghost use Rattle.slink_feed.specs.Window.{Shows, Window};
 
 use mseed_stream::{Duplex, Sink};
 use slink_feed::{
-    Bytes, Client, Event, Feed, FeedFault, ForeignRecord, InputFault, LinkFault, Mode, Reporter,
-    Ring, RingFault, Room, Sent, Session, Turn, Unsent, fetch_turn, fetch_turn_in,
+    Bytes, Client, Ending, Event, Feed, FeedFault, ForeignRecord, InputFault, LinkFault, Mode,
+    Reporter, Ring, RingFault, Room, Sent, Session, Turn, Unsent, fetch_turn, fetch_turn_in,
     fetch_turn_reporting, serve_turn,
 };
 use slink_wire::{Packet, Place, Reply};
@@ -167,6 +167,14 @@ pub fn count_event(client: &mut Client, bytes: &[u8], records: &mut u64) -> usiz
 /// The number that a client's first place wants next.
 pub fn wanted_next(client: &Client) -> Option<u32> {
     client.next(0)
+}
+
+/// The station that a server refused to a client, if it refused one.
+pub fn refused_place(client: &Client) -> Option<Place> {
+    match client.ending() {
+        Some(Ending::Refused(k)) => Some(client.wanted(k)?.place),
+        _ => None,
+    }
 }
 
 /// Serves a new link for a turn; whether a further turn is to be taken.

@@ -43,7 +43,7 @@ pub fn audit_of_parts<E: Sink>(
     Ok(sink.into_inner())
 }
 
-/// The same, with a line before it for each border with a finding.
+/// The audit of archives of which these are the parts, after a line for each border with a finding.
 pub fn audit_with_borders<E: Sink>(
     alloc: Global,
     parts: &[u8],

@@ -6,8 +6,9 @@ ghost use Rattle.slink_links.specs.Served.{IsServed};
 use mseed_stream::Sink;
 use slink_feed::{Client, Feed, LinkFault};
 use slink_links::{
-    Accept, Dial, EndsHandshake, FetchEnd, FetchPlan, ListenFault, Pause, ServePlan, fetch,
-    fetch_all, fetch_link, fetch_planned, serve, serve_all, serve_link, serve_planned,
+    Accept, Dial, DialFault, EndsHandshake, FetchEnd, FetchPlan, FetchTerms, ListenFault, Loss,
+    NetworkFault, Pause, ServePlan, Server, fetch, fetch_all, fetch_link, fetch_planned, serve,
+    serve_all, serve_link, serve_planned,
 };
 use slink_wire::{Address, Host, Timeout};
 use std::io::Error;
@@ -67,7 +68,8 @@ pub fn serve_plan<A: Accept, E: Sink>(plan: &ServePlan, acceptor: &mut A, errors
     serve_planned(plan, acceptor, errors)
 }
 
-/// Fetches over at most ten links of the caller's, reports how to go on, and says whether all came.
+/// Fetches over at most ten links of the caller's, reports how to go on, and says whether all came. Where the last link
+/// fails, a line names port 18000 of this machine.
 pub fn fetch_ten<D: Dial, P: Pause, W: Sink, E: Sink>(
     client: &mut Client,
     dialler: &mut D,
@@ -77,7 +79,15 @@ pub fn fetch_ten<D: Dial, P: Pause, W: Sink, E: Sink>(
 ) -> bool
     requires { AreOut 0 (D.calls dialler.old) (D.failures dialler.old) (D.given_back dialler.old) }
 {
-    fetch_all(client, 10, dialler, waits, output, errors, true) == 0
+    let terms = FetchTerms {
+        server: Server {
+            host: Host::Address(Address::local()),
+            port: 18_000,
+        },
+        tries: 10,
+        report_next: true,
+    };
+    fetch_all(client, &terms, dialler, waits, output, errors) == 0
 }
 
 /// Carries out a plan over links of the caller's.
@@ -127,12 +137,27 @@ pub fn is_there<D: Dial>(dialler: &mut D) -> bool
     requires { AreOut 0 (D.calls dialler.old) (D.failures dialler.old) (D.given_back dialler.old) }
 {
     match dialler.dial() {
-        Some(link) => {
+        Ok(link) => {
             dialler.hang_up(link);
             true
         }
-        None => false,
+        Err(_) => false,
     }
+}
+
+/// Why there is no link to a server, by the error of a call that was to connect.
+pub fn words_of_dial(error: &Error) -> &'static str {
+    DialFault::Unconnected(NetworkFault::of(error)).text()
+}
+
+/// Why a link came to no end, where no call of it failed.
+pub fn words_of_loss() -> &'static str {
+    Loss::Closed.text()
+}
+
+/// Why a call of a link failed.
+pub fn words_of_fault(error: &Error) -> &'static str {
+    NetworkFault::of(error).text()
 }
 
 /// Tells a link that its handshake is over.

@@ -23,7 +23,7 @@ pub fn usual_options() -> Result<Options, BadOption>
     Options::new(9, 11, 1)
 }
 
-/// The same, in an encoding that is chosen.
+/// Records of 512 bytes in an encoding that is chosen, numbered from 1.
 pub fn options_in(encoding: Encoding) -> Result<Options, BadOption> {
     Options::new(9, encoding.code(), 1)
 }

@@ -1,8 +1,8 @@
 //! Calls of `mseed_part_lines`.
 use mseed_audit::Channel;
 use mseed_part_lines::{
-    HEADER, push_channel_line, push_counts_line, push_faults_line, read_channel_line,
-    read_counts_line, read_fault_line, read_faults_line,
+    Field, HEADER, first_bad_field, push_channel_line, push_counts_line, push_faults_line,
+    read_channel_line, read_counts_line, read_fault_line, read_faults_line,
 };
 use mseed_record::Codes;
 use mseed_stream::StreamFault;
@@ -46,4 +46,15 @@ pub fn reports_faults(line: &[u8]) -> bool {
 /// The fault that a line reports, after so many bytes.
 pub fn fault_of_line(line: &[u8], bytes: u64) -> Option<StreamFault> {
     read_fault_line(line, bytes)
+}
+
+/// The first bad field of a line that is neither of a channel nor of the counts.
+pub fn bad_field_of_line(line: &[u8]) -> Option<Field> {
+    if let Some(_) = read_channel_line(line) {
+        return None;
+    }
+    match read_counts_line(line) {
+        Some(_) => None,
+        None => Some(first_bad_field(line)),
+    }
 }

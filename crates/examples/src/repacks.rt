@@ -67,7 +67,8 @@ pub fn packed_of_selected(
     Ok((output.into_inner(), lines.into_inner()))
 }
 
-/// The same by stretches, without the channels that can't be packed.
+/// The records that are asked for, packed anew by stretches without the channels that can't be packed, and the lines
+/// about these.
 pub fn packed_of_selected_as_far(
     alloc: Global,
     selector: &Selector,
@@ -102,7 +103,7 @@ pub fn line_of_refusal(alloc: Global, options: &Options, fault: &RepackFault) ->
     match fault {
         RepackFault::Broken(channel, first) => report_broken(channel, first, &mut line),
         RepackFault::Misfit(channel, number, fault) => {
-            report_misfit(channel, *number, options.encoding, *fault, &mut line)
+            report_misfit(channel, Some(*number), options.encoding, fault, &mut line)
         }
         RepackFault::Stream(_) | RepackFault::Write | RepackFault::Memory => {}
     }
@@ -113,7 +114,7 @@ pub fn line_of_refusal(alloc: Global, options: &Options, fault: &RepackFault) ->
 /// reason.
 pub fn number_of_misfit(fault: &RepackFault) -> Option<u64> {
     match fault {
-        RepackFault::Misfit(_channel, _stretch, fault) => Some(misfit_number(*fault)),
+        RepackFault::Misfit(_channel, _stretch, fault) => Some(misfit_number(fault)),
         _ => None,
     }
 }
@@ -122,7 +123,7 @@ pub fn number_of_misfit(fault: &RepackFault) -> Option<u64> {
 pub fn words_of_misfit(options: &Options, fault: &RepackFault) -> Line {
     let mut line = Line::new();
     if let RepackFault::Misfit(_channel, _stretch, fault) = fault {
-        put_misfit_more(&mut line, options.encoding, *fault);
+        put_misfit_more(&mut line, options.encoding, fault);
     }
     line
 }

@@ -15,7 +15,7 @@ pub fn count_records(alloc: Global, bytes: &[u8]) -> Result<usize, StreamFault> 
     Ok(split(alloc, bytes)?.len())
 }
 
-/// The same with memory of any allocator.
+/// How many records a slice holds, where nothing is left after them, with memory of any allocator.
 pub fn count_records_in<A: Allocator + Drop>(alloc: A, bytes: &[u8]) -> Result<usize, StreamFault> {
     Ok(split_in(alloc, bytes)?.len())
 }
@@ -28,7 +28,7 @@ pub fn copy_of(alloc: Global, bytes: &[u8]) -> Result<Vec<u8>, StreamFault>
     read_all(alloc, &mut source)
 }
 
-/// The same with memory of any allocator.
+/// All bytes of a slice, read as a source, with memory of any allocator.
 pub fn copy_in<A: Allocator + Drop>(alloc: A, bytes: &[u8]) -> Result<Vec<u8, A>, StreamFault> {
     let mut source = Counted::new(bytes);
     read_all_in(alloc, &mut source)

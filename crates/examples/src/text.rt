@@ -46,6 +46,14 @@ pub fn push_sample(text: &mut Vec<u8>, sample: i32, distance: u128) -> Result<()
     push_line(text, line.as_slice())
 }
 
+/// The line of a station's code.
+pub fn push_code(text: &mut Vec<u8>, station: &[u8; 5]) -> Result<(), AllocError> {
+    let mut line = Line::new();
+    line.put_code(station);
+    line.put(b"\n");
+    push_line(text, line.as_slice())
+}
+
 /// The line of a record's start and of its channel's sample rate.
 pub fn push_start(text: &mut Vec<u8>, record: &RecordView, rate: Ratio) -> Result<(), AllocError> {
     let mut line = Line::new();

@@ -9,8 +9,8 @@ use crate::records::{START, alone, both};
 use linked_list_allocator::LocalHeap;
 use mseed_audit::Channel;
 use mseed_part_lines::{
-    HEADER, push_channel_line, push_counts_line, push_faults_line, read_channel_line,
-    read_counts_line, read_fault_line, read_faults_line,
+    Field, HEADER, first_bad_field, push_channel_line, push_counts_line, push_faults_line,
+    read_channel_line, read_counts_line, read_fault_line, read_faults_line,
 };
 use mseed_record::Codes;
 use mseed_text::push_fault_line;
@@ -103,6 +103,54 @@ static NO_FAULTS: [&str; 6] = [
     "faults 128\n",
 ];
 
+/// Lines that are neither of a channel nor of the counts, and the first bad field of each.
+const BAD_FIELDS: [(&str, Field); 17] = [
+    ("\n", Field::Key),
+    ("faults 3\n", Field::Key),
+    ("58585354412020202042485a records 1\n", Field::Key),
+    ("58585354412020202042485A0 records 1\n", Field::Key),
+    ("58585354412020202042485A\n", Field::Records),
+    (
+        "58585354412020202042485A records 01 samples x\n",
+        Field::Records,
+    ),
+    (
+        "58585354412020202042485A records 1 sample 16\n",
+        Field::Samples,
+    ),
+    (
+        "58585354412020202042485A records 1 samples 16 head 1 0 0 20 tail x\n",
+        Field::Head,
+    ),
+    (
+        "58585354412020202042485A records 1 samples 16 head nonex tail x\n",
+        Field::Head,
+    ),
+    (
+        "58585354412020202042485A records 1 samples 16 head none tail 0 0 20/1 none findings x\n",
+        Field::Tail,
+    ),
+    (
+        "58585354412020202042485A records 1 samples 16 head none tail 0 1 20/1 none findings 0\n",
+        Field::Findings,
+    ),
+    (
+        "58585354412020202042485A records 1 samples 16 head none tail none findings -1\n",
+        Field::Findings,
+    ),
+    (
+        "58585354412020202042485A records 1 samples 16 head none tail none findings 1\n",
+        Field::First,
+    ),
+    (
+        "58585354412020202042485A records 1 samples 16 head 1 0 0 20/1 tail 0 1 20/1 none findings 0 \n",
+        Field::First,
+    ),
+    ("records\n", Field::Key),
+    ("records 9223372036854775808 bytes x\n", Field::AllRecords),
+    ("records 2 bytes 256 \n", Field::AllBytes),
+];
+
 /// The line of a channel with these fields.
 fn line_with(rt: &impl Abort, alloc: Global, fields: &str) -> String {
     let line = format!(in alloc; "000A1F20FF30390941465F7E records 12 samples 345 {fields}\n");
@@ -124,6 +172,24 @@ fn reads_rows(rt: HostRuntime) {
     assert!(rt; read_counts_line(b"records 2 bytes 256\n") == Some((2, 256)));
     assert!(rt; read_faults_line(b"faults 3\n") == Some(3));
     assert!(rt; HEADER == b"mseed part 1\n".as_slice());
+}
+
+/// The first bad field of a line, where it is neither of a channel nor of the counts.
+fn bad_field(line: &[u8]) -> Option<Field> {
+    if let Some(_) = read_channel_line(line) {
+        return None;
+    }
+    match read_counts_line(line) {
+        Some(_) => None,
+        None => Some(first_bad_field(line)),
+    }
+}
+
+#[test]
+fn names_bad_fields(rt: HostRuntime) {
+    for (line, field) in &BAD_FIELDS {
+        assert!(rt; bad_field(line.as_bytes()) == Some(*field), "{line}");
+    }
 }
 
 /// Whether what is read of a channel's line is written as it was.

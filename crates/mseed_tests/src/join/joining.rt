@@ -2,7 +2,8 @@
 
 use super::auditing::{OF_FIRST, OF_LATE};
 use crate::audit::devices::{self, sink_with};
-use mseed_join::{Flaw, Form, Joined, JoinsFault, join, join_each};
+use mseed_join::{Closing, Flaw, Form, Joined, JoinsFault, join, join_each};
+use mseed_part_lines::Field;
 use mseed_stream::Counted;
 use std::alloc::{Allocator, Global};
 use std::process::Abort;
@@ -121,19 +122,19 @@ pub(super) const WELL: Answer = Ok(Joined {
     fault: false,
 });
 
-/// The same with a broken channel.
+/// What is answered where a channel is broken.
 pub(super) const BROKEN: Answer = Ok(Joined {
     broken: 1,
     fault: false,
 });
 
-/// The same with a fault.
+/// What is answered where an archive ends with a fault.
 pub(super) const CUT_OFF: Answer = Ok(Joined {
     broken: 0,
     fault: true,
 });
 
-/// The same with both.
+/// What is answered where a channel is broken, and an archive ends with a fault.
 pub(super) const BOTH: Answer = Ok(Joined {
     broken: 1,
     fault: true,
@@ -191,16 +192,22 @@ fn counts_parts(rt: HostRuntime) {
 }
 
 /// Texts that are no parts, their first bad lines, where these begin, and what is wrong with them.
-const BAD_LINES: [(&str, u64, u64, Flaw); 5] = [
+const BAD_LINES: [(&str, u64, u64, Flaw); 6] = [
     ("mseed part 2\n", 1, 0, Flaw::Beginning),
     ("mseed part 1\n", 2, 13, Flaw::Missing),
-    ("mseed part 1\nrecords 1 bytes\n", 2, 13, Flaw::Row),
+    (
+        "mseed part 1\nrecords 1 bytes\n",
+        2,
+        13,
+        Flaw::Row(Field::AllBytes),
+    ),
+    ("mseed part 1\nfaults 1\n", 2, 13, Flaw::Row(Field::Key)),
     ("mseed part 1\nrecords 1 bytes 128", 2, 13, Flaw::Unended),
     (
         "mseed part 1\nrecords 1 bytes 128\nfaults 0\n",
         3,
         33,
-        Flaw::Ending,
+        Flaw::Ending(Closing::Faults),
     ),
 ];
 

@@ -5,7 +5,7 @@ use super::joining::{
     Answer, BOTH, BROKEN, CUT, CUT_OFF, EMPTY, FAULTY, NOTHING, REPORTED, Row, SOUND, TWO_OF_1,
     TWO_OF_3, WELL, assert_refusals, is_joined, joint, says_that_it_failed,
 };
-use mseed_join::{Flaw, JoinsFault};
+use mseed_join::{Closing, Flaw, JoinsFault};
 
 /// The line of the border between both records.
 const BORDER: &str = "128 XX_STA__BHZ record 2 start 2024-01-01T00:00:00.825001 gap 25001\n";
@@ -15,7 +15,7 @@ const EACH: &str = "128 XX_STA__BHZ record 2 start 2024-01-01T00:00:00.825001 ga
     XX_STA__BHZ broken findings 1 first record 2 offset 128 gap 25001\n\
     records 2 channels 1\n";
 
-/// The same, where the first ends with a fault that is passed.
+/// That line, and the audit of both, where the first ends with a fault that is passed.
 const PASSED: &str = "128 XX_STA__BHZ record 2 start 2024-01-01T00:00:00.825001 gap 25001\n\
     XX_STA__BHZ broken findings 1 first record 2 offset 128 gap 25001\n\
     records 2 channels 1\n\
@@ -39,7 +39,7 @@ const BAD: [&str; 3] = [OF_FIRST, OF_LATE, "mseed part 2\n"];
 const BAD_LINE: Answer = Err(JoinsFault::Line {
     number: 7,
     offset: 312,
-    flaw: Flaw::Ending,
+    flaw: Flaw::Ending(Closing::Neither),
 });
 
 #[test]

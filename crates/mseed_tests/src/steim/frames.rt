@@ -8,10 +8,10 @@ use mseed_record::RecordView;
 use mseed_steim::{Differences, ReadFault, Scheme};
 use std::process::Abort;
 
-/// So many payloads of three frames are made of each scheme, with at most so many samples.
+/// How many payloads of three frames are made of each scheme, and the most samples of one.
 const SHORT: (u32, u16) = (20_000, 300);
 
-/// The same of those of 31 frames.
+/// How many payloads of 31 frames are made of each scheme, and the most samples of one.
 const LONG: (u32, u16) = (2_000, 2_400);
 
 /// Numbers from which payloads are made.

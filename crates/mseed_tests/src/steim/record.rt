@@ -154,7 +154,7 @@ pub fn is_read_in(
         && is_stepped(view, places, wanted)
 }
 
-/// The same of a record of 320 samples or fewer.
+/// Whether a record of 320 samples or fewer is checked, and filled in, with these samples, or this fault is answered.
 pub fn is_read(view: &RecordView<'_>, wanted: Result<&[i32], ReadFault>) -> bool {
     is_read_in(view, &mut [0; 320], wanted)
 }
