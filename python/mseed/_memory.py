@@ -2,6 +2,7 @@
 
 import ctypes
 import io
+import mmap
 import operator
 import os
 from array import array
@@ -25,6 +26,9 @@ else:
     Samples = memoryview if numpy is None else numpy.ndarray
 
 LIMIT = 1 << 31
+
+# Memory that no file is behind, and that no other process shares.
+_OWN = mmap.MAP_PRIVATE | mmap.MAP_ANONYMOUS
 
 
 @contextmanager
@@ -126,13 +130,6 @@ def room_for(count: int) -> Samples:
     return memoryview(array("i", bytes(4 * max(count, 1))))
 
 
-def settle(samples: Samples) -> None:
-    """Brings places into memory. Else they come there as they are first written, and while Python itself writes, no
-    other thread goes on."""
-    if numpy is not None:
-        samples.fill(0)
-
-
 def address_in(samples: Samples, index: int) -> int:
     """Where the sample at an index lies."""
     if numpy is not None:
@@ -152,26 +149,21 @@ class Grown:
 
     def __init__(self) -> None:
         """None yet."""
-        self._bytes = bytearray()
+        self._room, self._size = mmap.mmap(-1, mmap.PAGESIZE, _OWN), 0
 
-    def add(self, part: Samples) -> None:
-        """Puts more after them."""
-        self._bytes += memoryview(cast(Any, part)).cast("B")
+    def add(self, part: Any) -> None:
+        """Puts those that lie in some memory after them."""
+        end = self._size + part.nbytes
+        if end > len(self._room):
+            # The system moves pages to where there are more of them, and copies none.
+            self._room.resize(-(-(end + end // 8) // mmap.PAGESIZE) * mmap.PAGESIZE)
+        self._room[self._size : end] = part
+        self._size = end
 
     def samples(self) -> Samples:
         """All of them."""
-        if numpy is not None:
-            return numpy.frombuffer(self._bytes, numpy.int32)
-        return memoryview(self._bytes).cast("i")
-
-
-def scatter(part: Samples, sizes: Iterable[int], out: Samples, places: Iterable[int]) -> None:
-    """Puts samples, so many at a time, to a place each."""
-    source, target, begin = memoryview(cast(Any, part)), memoryview(cast(Any, out)), 0
-    for size, place in zip(sizes, places):
-        end = begin + size
-        target[place : place + size] = source[begin:end]
-        begin = end
+        view = memoryview(self._room)[: self._size]
+        return view.cast("i") if numpy is None else numpy.frombuffer(view, numpy.int32)
 
 
 def samples_from(given: Any) -> Samples:

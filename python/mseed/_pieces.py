@@ -2,15 +2,13 @@
 
 from bisect import bisect_right
 from dataclasses import dataclass
-from typing import Any, BinaryIO, Dict, Generator, Iterator, List, Optional, Sequence, cast
+from typing import Any, Dict, Generator, Iterator, List, Optional, Sequence
 
-from mseed._memory import Archive, Samples, joined, opened, read_from, whole
-from mseed._records import Cutter, RecordError, Runs, Window, codes_of
-from mseed._selecting import Asked, Channels, Selection, Time
+from mseed._memory import Archive, Samples, joined, whole
+from mseed._records import RecordError, Runs, Window, codes_of
+from mseed._selecting import Asked, Channels, Time
 from mseed._trace import Trace
-
-# How much of an archive is in memory at once, besides the rest of its last record, which is at most 1 MiB.
-AT_ONCE = 1 << 21
+from mseed._windows import Windows, asked_for
 
 
 @dataclass(frozen=True, eq=False)
@@ -28,31 +26,25 @@ class Pieces(Iterator[Piece]):
     """The pieces of an archive's traces, as they come. Once all are taken, or `close` was called, a path's file is
     closed."""
 
-    def __init__(self, archive: Archive, samples: int, skip: bool, asked: Optional[Asked] = None,
-                 depth: int = 1) -> None:
-        """Of pieces of at most so many samples; of the records alone that are asked for, where some are. Who asked is
-        so many calls above that of the next piece."""
-        self.skipped: List[RecordError] = []
+    def __init__(self, archive: Archive, samples: int, skip: bool, asked: Optional[Asked]) -> None:
+        """Of pieces of at most so many samples; of the records alone that are asked for, where some are."""
+        self._windows = Windows(archive, skip, asked)
+        self.skipped: List[RecordError] = self._windows.skipped
         """What was left out so far: the records that can't be read, and the bytes that begin none."""
-        self._selections: List[Selection] = []
-        self._pieces, self._depth = _pieces(archive, samples, skip, self.skipped, asked, self._selections), depth
-        # So that what can't be opened is refused at once.
-        next(self._pieces)
+        self._pieces = _pieces(self._windows, samples)
 
     def __next__(self) -> Piece:
         """The next piece."""
         try:
-            piece = next(self._pieces)
+            return next(self._pieces)
         except StopIteration:
-            while self._selections:
-                self._selections.pop().warn(self._depth + 1)
+            self._windows.warn(2)
             raise
-        assert piece is not None
-        return piece
 
     def close(self) -> None:
         """Reads no further."""
         self._pieces.close()
+        self._windows.close()
 
 
 class _Firsts(Sequence[int]):
@@ -116,51 +108,13 @@ def iterate(archive: Archive, *, samples: int = 1 << 14, skip: bool = False, cha
     return Pieces(archive, whole("samples", samples), skip, asked_for(channels, start, end))
 
 
-def asked_for(channels: Channels, start: Optional[Time], end: Optional[Time]) -> Optional[Asked]:
-    """What is asked for; nothing where all is."""
-    return None if channels is None and start is None and end is None else Asked(channels, start, end)
-
-
-def _windows(file: BinaryIO, cutter: Cutter, size: int) -> Iterator[Window]:
-    """The records of a file, as many at once as are read at once: so many bytes."""
-    rest, chunk = b"", b"-"
-    while chunk:
-        chunk = read_from(file, size)
-        data, begin = rest + chunk, cutter.offset
-        window = Window(data, cutter.cut(data, not chunk))
-        rest = data[cutter.offset - begin :]
-        yield window
-
-
-def _pieces(archive: Archive, samples: int, skip: bool, skipped: List[RecordError], asked: Optional[Asked],
-            selections: List[Selection]) -> Generator[Optional[Piece], None, None]:
-    """Nothing, once the archive is open, and then the pieces."""
+def _pieces(windows: Windows, samples: int) -> Generator[Piece, None, None]:
+    """The pieces."""
     going: Dict[bytes, _Open] = {}
-    tails: Dict[bytes, bytes] = {}
-    with opened(archive) as file:
-        yield None
-        cutter, source, size = Cutter(), file, AT_ONCE
-        if asked is not None:
-            # Of few records that are asked for less is in memory, besides what they are taken from.
-            selections.append(Selection(file, asked, skip))
-            source, size = cast(BinaryIO, selections[0]), AT_ONCE // 4
-        for window in _windows(source, cutter, size):
-            window.find([tails[key] for key in window.keys() if key in tails])
-            left_out = sorted([*cutter.holes, *window.errors()], key=lambda error: error.offset)
-            cutter.holes.clear()
-            for selection in selections:
-                # These have their places in the archive, and not among the records that are asked for.
-                skipped += selection.holes
-                selection.holes.clear()
-            if left_out and not skip:
-                raise left_out[0]
-            skipped.extend(left_out)
-            read = window.read()
-            runs = window.runs()
-            yield from _whole_pieces(window, runs, read, samples, going)
-            for trace in going.values():
-                trace.keep()
-            tails.update(window.tails(runs))
+    for window, runs, read in windows:
+        yield from _whole_pieces(window, runs, read, samples, going)
+        for trace in going.values():
+            trace.keep()
     for trace in going.values():
         yield trace.piece(False)
 
