@@ -2,13 +2,14 @@
 that are constants of the code.
 
 A figure stands between words by which it is known; where its page has these twice, it has the figure twice. The table
-of crates in docs/developing.md has a row for each crate but those of tests and benchmarks; its functions and lines may
-be off by MOST_OFF in the hundred, so that not each line that is added changes the page. Its minutes are those of
-minutes.txt.
+of crates in docs/developing.md has a row for each crate but those of tests and benchmarks, and one for all; its
+functions and lines may be off by MOST_OFF in the hundred, so that not each line that is added changes the page. Imports
+are counted by themselves. Its minutes are those of minutes.txt.
 """
 
 from __future__ import annotations
 
+import functools
 import operator
 import re
 from typing import Callable, Iterator, NamedTuple
@@ -19,12 +20,57 @@ from documents.sources import Sources, files_below, text_of
 from driver.proving import prove
 
 TABLE = "docs/developing.md"
+# The files whose lines are counted: code, definitions and proofs.
+PARTS = [("src", ".rt"), ("specs", ".antt"), ("proofs", ".antt")]
 WITHOUT_ROW = ["mseed_tests", "slink_tests", "mseed_bench"]
 MOST_OFF = 5
-MINUTES = re.compile(r"^(\| `(\w+)` \|(?: [\d,]* ?\|){5}) ([\d.]+) \|$", re.MULTILINE)
-ROW = re.compile(r"^(\| `(\w+)`) \| ([\d,]+) \| ([\d,]*) ?\| ([\d,]*) ?\| ([\d,]*) ?\| (\d*) ?(?=\| [\d.]+ \|$)",
-                 re.MULTILINE)
+# Of fewer lines than this it may be off by as many as of this many.
+FEW = 60
+# A row of the table of crates, or that of all: what it is of, what is counted of it, and its minutes.
+ROW = re.compile(r"^\| (`\w+`|in all) ((?:\| [\d,]* ?)+)\| ([\d.]+) \|$", re.MULTILINE)
+ALL = "in all"
 FUNCTION = re.compile(r"^ *(?:pub(?:\(crate\))? )?(?:const )?(?:extern \"C\" )?fn \w+", re.MULTILINE)
+# A line of code that imports, with those that belong to it, and one of a definition or a proof.
+IMPORT = {".rt": re.compile(r"^ *(?:pub(?:\(\w+\))? )?(?:ghost )?use [^;]*;.*\n", re.MULTILINE),
+          ".antt": re.compile(r"^ *(?:pub )?(?:use|open|import) .*\n", re.MULTILINE)}
+
+
+def texts_of(crate: str, folder: str, suffix: str) -> tuple[str, str]:
+    """The text of a crate's files without tests and imports, and that of the imports."""
+    texts = [text_of(path) for path in files_below("crates", crate, folder)
+             if path.endswith(suffix) and "/tests" not in path]
+    imports = "".join(line for text in texts for line in IMPORT[suffix].findall(text))
+    return "".join(IMPORT[suffix].sub("", text) for text in texts), imports
+
+
+def lines_of(crate: str, folder: str, suffix: str) -> list[int]:
+    """The lines of a crate's files, without tests: of all but imports, and of imports."""
+    return [len(text.splitlines()) for text in texts_of(crate, folder, suffix)]
+
+
+def functions_of(crate: str) -> int:
+    """The functions of a crate's files, without tests."""
+    return sum(len(FUNCTION.findall(text_of(path))) for path in files_below("crates", crate, "src")
+               if path.endswith(".rt") and "/tests" not in path)
+
+
+@functools.lru_cache(maxsize=None)
+def row_of(crate: str) -> list[int]:
+    """Functions, lines of code, of definitions and of proofs, each with those of their imports, and edits."""
+    parts = [line for part in PARTS for line in lines_of(crate, *part)]
+    return [functions_of(crate), *parts, len(edits_of(crate))]
+
+
+def with_row(sources: Sources) -> list[str]:
+    """The crates that have a row."""
+    return [crate for crate in sources.crates if crate not in WITHOUT_ROW]
+
+
+def width(sources: Sources) -> int:
+    """How many characters a line of the crates' files has on average, imports and empty lines apart."""
+    texts = [texts_of(crate, *part)[0] for crate in with_row(sources) for part in PARTS]
+    lines = [line for text in texts for line in text.splitlines() if line.strip()]
+    return round(sum(map(len, lines)) / len(lines))
 
 
 class Figure(NamedTuple):
@@ -141,6 +187,7 @@ FIGURES = [
            minutes_from("mseed_time")),
     Figure("docs/developing.md", "it is `mseed_audit` and the crates above it, some ", ".",
            minutes_from("mseed_audit")),
+    Figure("docs/developing.md", "a line has ", " characters on average", width),
     Figure("docs/DECISIONS.md", "the most of each crate**, ", " of ", in_gate),
     Figure("docs/DECISIONS.md", " of ", "; the others are in `tests/must-fail`", edits),
     size("docs/DECISIONS.md", "is found ahead** by `pack_words`, for ", " places", "mseed_steim_pack/src/ahead.rt",
@@ -157,33 +204,22 @@ FIGURES = [
 ]
 
 
-def lines_of(crate: str, folder: str, suffix: str) -> int:
-    """The lines of a crate's files, without tests."""
-    return sum(len(text_of(path).splitlines()) for path in files_below("crates", crate, folder)
-               if path.endswith(suffix) and "/tests" not in path)
-
-
-def functions_of(crate: str) -> int:
-    """The functions of a crate's files, without tests."""
-    return sum(len(FUNCTION.findall(text_of(path))) for path in files_below("crates", crate, "src")
-               if path.endswith(".rt") and "/tests" not in path)
-
-
-def row_of(crate: str) -> list[int]:
-    """Functions, lines of code, of definitions and of proofs, and edits."""
-    return [functions_of(crate), lines_of(crate, "src", ".rt"), lines_of(crate, "specs", ".antt"),
-            lines_of(crate, "proofs", ".antt"), len(edits_of(crate))]
-
-
 def minutes_of() -> dict[str, str]:
     """The minutes of processors of each crate's first proof, as they were measured."""
     lines = [line.split() for line in text_of("crates", "minutes.txt").splitlines() if line[0] != "#"]
     return {crate: minutes for crate, minutes, _ in lines}
 
 
+def wanted_of(sources: Sources, name: str) -> tuple[list[int], str]:
+    """What is counted of a crate or of all, as the table names it, and the minutes."""
+    crates, measured = with_row(sources) if name == ALL else [name.strip("`")], minutes_of()
+    minutes = sum(float(measured.get(crate, 0)) for crate in crates)
+    return [sum(cells) for cells in zip(*map(row_of, crates))], f"{minutes:.1f}"
+
+
 def is_near(found: int, counted: int) -> bool:
     """Whether lines are off by no more than they may."""
-    return abs(found - counted) * 100 <= MOST_OFF * counted
+    return abs(found - counted) * 100 <= MOST_OFF * max(counted, FEW)
 
 
 def judged_figures(sources: Sources) -> Iterator[Judged]:
@@ -196,17 +232,16 @@ def judged_figures(sources: Sources) -> Iterator[Judged]:
 
 def judged_rows(sources: Sources, text: str) -> Iterator[Judged]:
     """The rows of the table of crates."""
-    rows = {row[2]: [int(cell.replace(",", "") or 0) for cell in row.groups()[2:]] for row in ROW.finditer(text)}
-    wanted = sorted(set(sources.crates) - set(WITHOUT_ROW))
+    rows = {name: ([int(cell.replace(",", "").strip() or 0) for cell in cells.split("|")[1:]], minutes)
+            for name, cells, minutes in ROW.findall(text)}
+    wanted = sorted([ALL, *(f"`{crate}`" for crate in with_row(sources))])
     yield Judged(f"{TABLE}: the table of crates", sorted(rows) == wanted, f"has {sorted(rows)}, and not {wanted}")
-    for crate, found in rows.items():
-        counted = row_of(crate)
-        is_right = found[-1] == counted[-1] and all(map(is_near, found[:-1], counted[:-1]))
-        yield Judged(f"{TABLE}: the row of {crate}", is_right, f"has {found}, and {counted} are counted")
-    measured = minutes_of()
-    for _, crate, minutes in MINUTES.findall(text):
-        yield Judged(f"{TABLE}: the minutes of {crate}", minutes == measured.get(crate),
-                     f"has {minutes}, and crates/minutes.txt {measured.get(crate)}")
+    for name, (found, minutes) in rows.items():
+        counted, measured = wanted_of(sources, name)
+        is_right = len(found) == len(counted) and found[-1] == counted[-1] and all(map(is_near, found, counted))
+        yield Judged(f"{TABLE}: the row of {name}", is_right, f"has {found}, and {counted} are counted")
+        yield Judged(f"{TABLE}: the minutes of {name}", minutes == measured,
+                     f"has {minutes}, and crates/minutes.txt {measured}")
 
 
 def recounted(sources: Sources, name: str, text: str) -> str:
@@ -215,9 +250,8 @@ def recounted(sources: Sources, name: str, text: str) -> str:
         if figure.page == name:
             text = figure.pattern().sub(f"{figure.counted(sources):,}", text)
 
-    def cells(row: re.Match[str]) -> str:
-        return row[1] + "".join(f" | {number:,}" if number else " |" for number in row_of(row[2])) + " "
+    def counted(row: re.Match[str]) -> str:
+        cells, minutes = wanted_of(sources, row[1])
+        return f"| {row[1]}" + "".join(f" | {number:,}" if number else " |" for number in cells) + f" | {minutes} |"
 
-    measured = minutes_of()
-    text = ROW.sub(cells, text) if name == TABLE else text
-    return MINUTES.sub(lambda row: f"{row[1]} {measured.get(row[2], row[3])} |", text) if name == TABLE else text
+    return ROW.sub(counted, text) if name == TABLE else text

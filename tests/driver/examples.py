@@ -52,4 +52,8 @@ def shown_in(document: str) -> Cases:
     text = (ROOT / document).read_text(encoding="utf-8")
     with tempfile.TemporaryDirectory() as folder:
         for command, printed in examples(text):
-            yield Fact(f"{document}: {command}", printed, printed_by(command, folder))
+            came = printed_by(command, folder)
+            # Where a reader leaves, each end of the pipe has a line of its own, and either may come first.
+            if "| head " in command and sorted(came.splitlines()) == sorted(printed.splitlines()):
+                came = printed
+            yield Fact(f"{document}: {command}", printed, came)

@@ -3,7 +3,7 @@
 from __future__ import annotations
 
 from dataclasses import dataclass
-from typing import Union
+from typing import Optional, Union
 
 WRITE_FAILED = b"mseed: write failed\n"
 NO_MEMORY = b"mseed: no memory\n"
@@ -27,6 +27,49 @@ def unlistened(port: int, reason: str = "address in use", address: str = "127.0.
     return LINK_FAILED + f"mseed: cannot listen at {address}:{port}: {reason}\n".encode()
 
 
+# Why a link of `fetch` comes to no end.
+CLOSED = "closed by the server before the end"
+LONG_HANDSHAKE = "the handshake took too long"
+TIMED_OUT = "timed out"
+
+
+def undialled(port: int, reason: str = "connection refused", host: str = "127.0.0.1") -> bytes:
+    """The two lines of a `fetch` whose last try had no link."""
+    return LINK_FAILED + f"mseed: cannot connect to {host}:{port}: {reason}\n".encode()
+
+
+def lost(port: int, reason: str = CLOSED, host: str = "127.0.0.1") -> bytes:
+    """The two lines of a `fetch` whose last link came to no end."""
+    return LINK_FAILED + f"mseed: lost the connection to {host}:{port}: {reason}\n".encode()
+
+
+def refused(place: str, want: Optional[int] = None) -> bytes:
+    """The two lines of a `fetch` of which the server refuses a station, with the number that was wanted of it."""
+    wanted = "" if want is None else f" from {want:06X}"
+    return REFUSED + f"mseed: {place}{wanted}: the server refuses it\n".encode()
+
+
+def gap(place: str, want: int, got: int) -> bytes:
+    """The two lines of a `fetch` to which another record came than the one that was wanted."""
+    return BAD_FEED + f"mseed: {place}: record {want:06X} was wanted, and {got:06X} came\n".encode()
+
+
+def unanswered(place: str, want: Optional[int] = None) -> bytes:
+    """The two lines of a `fetch` to which no reply came that says whether a station is granted."""
+    wanted = "" if want is None else f" from {want:06X}"
+    return BAD_FEED + f"mseed: {place}{wanted}: the reply is neither OK nor ERROR\n".encode()
+
+
+def strange(*codes: bytes) -> bytes:
+    """The two lines of a `fetch` to which a record of another station came, by the network and the station in its header:
+    each without the spaces and NULs at its end, and each byte outside 33 to 126 as `?`."""
+    shown = (bytes(byte if 33 <= byte <= 126 else 63 for byte in code.rstrip(b" \0")) for code in codes)
+    return BAD_FEED + b"mseed: a record of " + b"_".join(shown) + b" came, which is none of the stations\n"
+
+
+GARBAGE = BAD_FEED + b"mseed: bytes came that are neither a packet nor the end\n"
+
+
 def foreign(number: int, place: str, size: int) -> str:
     """Why a record isn't served, and the line more, without what begins the first one and ends the last one."""
     return f"record {number} is not of this feed\nmseed: record {number} is of {place}, and has {size} bytes"
@@ -45,19 +88,26 @@ def broken(name: str, record: int, offset: int, why: str) -> bytes:
 
 
 # Why a series can't be packed, as the line behind `does not fit` says it, and its number.
-RATE_TOO_HIGH = (2, "its rate is over 500000 samples a second, the most that is packed")
-TIME_OUTSIDE = (3, "a sample's time, rounded to 0.0001 seconds, lies in no year from 1900 to 2100")
+def high_rate(rate: str) -> tuple[int, str]:
+    """Of a rate that is too high."""
+    return 2, f"its rate is {rate} samples a second, over 500000, the most that is packed"
 
 
-def large_sample(sample: int) -> tuple[int, str]:
-    """The same of a sample that 16 bits don't hold, by its number from 1."""
-    return 4, f"sample {sample} is outside -32768 to 32767, which int16 holds"
+def time_outside(number: int, instant: str) -> tuple[int, str]:
+    """Of a sample, by its number from 1, whose time lies in no year from 1900 to 2100: its instant."""
+    outside = "rounded to 0.0001 seconds lies in no year from 1900 to 2100"
+    return 3, f"the time of sample {number} is {instant}, which {outside}"
 
 
-def large_difference(sample: int, encoding: str = "steim2") -> tuple[int, str]:
+def large_sample(number: int, sample: int) -> tuple[int, str]:
+    """Of a sample that 16 bits don't hold, by its number from 1."""
+    return 4, f"sample {number} is {sample}, outside -32768 to 32767, which int16 holds"
+
+
+def large_difference(number: int, difference: int, encoding: str = "steim2") -> tuple[int, str]:
     """And of one that is too far from the sample before."""
     held = {"steim1": "-2147483648 to 2147483647", "steim2": "-536870912 to 536870911"}[encoding]
-    return 5, f"the difference before sample {sample} is outside {held}, which {encoding} holds"
+    return 5, f"the difference before sample {number} is {difference}, outside {held}, which {encoding} holds"
 
 
 @dataclass(frozen=True)

@@ -146,13 +146,61 @@ def part(archive: bytes) -> bytes:
 
 # What is wrong with a line, and what would be right.
 NO_BEGINNING = "no beginning of a part; that is mseed part 1"
-NO_ROW = "neither a channel nor the counts; these are as records 2 bytes 256"
 NO_ORDER = "is out of order; channels ascend by their keys"
 NO_ENDING = "neither faults of this part nor the beginning of the next; that is mseed part 1"
+BAD_FAULTS = "bad faults after the counts; they come once, as faults 2, from 1 to 9223372036854775807"
+BAD_FAULT = "bad fault at after the counts; it is as fault at 256 notdata, and has the bytes of the counts"
 TOO_LARGE = "a sum passes 9223372036854775807, the most that a number can be"
 TOO_LONG = "no LF within 512 bytes; no line is longer"
 NO_LF = "no LF at the end of the input; each line ends with one"
 NO_COUNTS = "the input ends within a part; the counts are missing, as records 2 bytes 256"
+
+
+# The fields of a channel's line and of the counts, and what is said of the first that isn't by the grammar.
+CHANNEL_FIELDS = [
+    (r"[0-9A-F]{24}", "key", "it is 24 digits 0-9A-F, or the counts are as records 2 bytes 256"),
+    (rf" records {N}", "records", "they are as records 2, from 0 to 9223372036854775807"),
+    (rf" samples {N}", "samples", "they are as samples 32, from 0 to 9223372036854775807"),
+    (rf" head (?:none|{N} {N} {SIGNED} {N}/{N})", "head", "it is as head 1 0 1704067200000000 20/1, or head none"),
+    (rf" tail (?:none|{SIGNED} {N} {N}/{N} (?:{'|'.join(LEAPS)}))", "tail",
+     "it is as tail 1704067200000000 16 20/1 none, or tail none"),
+    (rf" findings {N}", "findings", "they are as findings 1, and 0 only with a head and a tail"),
+    ("", "first", "where findings are not 0 it ends the line, as first 2 128 gap 25001"),
+]
+COUNTS_FIELDS = [
+    (rf"records {N}", "records", "they are as records 2, from 0 to 9223372036854775807"),
+    ("", "bytes", "they end it, as bytes 256, from 0 to 9223372036854775807"),
+]
+
+
+def is_within(name: str, field: str, fields: dict[str, str]) -> bool:
+    """Whether the numbers of a field are within their bounds; of no findings, whether they may stand here."""
+    *_, last = words = re.split("[ /]", field.strip())
+    if name in ("records", "samples"):
+        return int(last) <= LARGEST
+    if name == "findings":
+        has_both = " head none" != fields["head"] and " tail none" != fields["tail"]
+        return int(last) <= LARGEST and (last != "0" or has_both)
+    if name == "head" and last != "none":
+        number, offset, start, *rate = map(int, words[1:])
+        return max(number, offset) <= LARGEST and FIRST_INSTANT <= start <= LAST_INSTANT and is_rate((rate[0], rate[1]))
+    if name == "tail" and field != " tail none":
+        start, samples, *rate = map(int, words[1:-1])
+        return FIRST_INSTANT <= start <= LAST_INSTANT and 1 <= samples <= 65535 and is_rate((rate[0], rate[1]))
+    return True
+
+
+def bad_field(line: str) -> str:
+    """What is said of a line that is neither of a channel nor of the counts: its first bad field, which is the last one
+    where no other is bad."""
+    is_counts = line.startswith("records ")
+    place, fields = 0, {}
+    for form, name, right in COUNTS_FIELDS if is_counts else CHANNEL_FIELDS:
+        found = re.compile(rf"{form}(?= |\Z)").match(line, place)
+        if not form or not found or not is_within(name, found[0], fields):
+            return f"bad {name} in the line of {'the counts' if is_counts else 'a channel'}; {right}"
+        place, fields[name] = found.end(), found[0]
+    raise AssertionError("the last field has no form")
 
 
 class Bad(Exception):
@@ -163,6 +211,12 @@ def need(is_so: object, why: str) -> None:
     """Refuses the line where this isn't so."""
     if not is_so:
         raise Bad(why)
+
+
+def need_row(is_so: object, line: str) -> None:
+    """Refuses a line of a channel or of the counts where this isn't so."""
+    if not is_so:
+        raise Bad(bad_field(line))
 
 
 def added(*numbers: int) -> int:
@@ -188,18 +242,18 @@ def is_rate(rate: tuple[int, int]) -> bool:
 def kept_in(line: str) -> tuple[bytes, Kept]:
     """The key and the channel of a line, which has to be one of a channel."""
     found = CHANNEL.fullmatch(line)
-    need(found, NO_ROW)
+    need_row(found, line)
     key, records, samples, *middle, findings_, number, offset, why = found.groups()
     h, t = middle[:5], middle[5:]
     head = Head(*map(int, h[:3]), (int(h[3]), int(h[4]))) if h[0] else None
     tail = Tail(int(t[0]), int(t[1]), (int(t[2]), int(t[3])), LEAPS.index(t[4])) if t[0] else None
     first = First(int(number), int(offset), why) if why else None
     kept = Kept(int(records), int(samples), head, tail, int(findings_), first)
-    need(all(number <= LARGEST for number in kept.numbers()), NO_ROW)
-    need(all(FIRST_INSTANT <= end.start <= LAST_INSTANT and is_rate(end.rate) for end in (head, tail) if end), NO_ROW)
-    need(not tail or 1 <= tail.samples <= 65535, NO_ROW)
-    need((kept.findings > 0) == (first is not None) and (first or head and tail), NO_ROW)
-    need(not first or has_bounds(first.why), NO_ROW)
+    need_row(all(number <= LARGEST for number in kept.numbers()), line)
+    need_row(all(FIRST_INSTANT <= end.start <= LAST_INSTANT and is_rate(end.rate) for end in (head, tail) if end), line)
+    need_row(not tail or 1 <= tail.samples <= 65535, line)
+    need_row((kept.findings > 0) == (first is not None) and (first or head and tail), line)
+    need_row(not first or has_bounds(first.why), line)
     return bytes.fromhex(key), kept
 
 
@@ -224,7 +278,8 @@ class Joiner:
         elif self.state in ("counts", "faults") and line.startswith("fault at "):
             self.read_fault(line)
         else:
-            need(line == BEGIN, NO_BEGINNING if self.state == "after" else NO_ENDING)
+            need(line == BEGIN, NO_BEGINNING if self.state == "after" else
+                 BAD_FAULTS if line.startswith("faults ") else NO_ENDING)
             self.parts += 1
             self.state, self.key, self.is_counted = "within", b"", self.joint.fault is None
 
@@ -239,7 +294,7 @@ class Joiner:
                 self.join(key, kept)
             return
         records, self.own_bytes = map(int, counts.groups())
-        need(max(records, self.own_bytes) <= LARGEST, NO_ROW)
+        need_row(max(records, self.own_bytes) <= LARGEST, line)
         if self.is_counted:
             joint.records, joint.bytes = added(joint.records, records), added(joint.bytes, self.own_bytes)
         self.state = "counts"
@@ -266,7 +321,7 @@ class Joiner:
     def read_faults(self, line: str) -> None:
         """How many faults were passed."""
         found = FAULTS.fullmatch(line)
-        need(found and 0 < int(found[1]) <= LARGEST, NO_ENDING)
+        need(found and 0 < int(found[1]) <= LARGEST, BAD_FAULTS)
         if self.is_counted:
             self.joint.faults = added(self.joint.faults, int(found[1]))
         self.state = "faults"
@@ -274,7 +329,7 @@ class Joiner:
     def read_fault(self, line: str) -> None:
         """The fault by which the part ends."""
         found = FAULT.fullmatch(line)
-        need(found and int(found[1]) == self.own_bytes and has_bounds(found[2]), NO_ENDING)
+        need(found and int(found[1]) == self.own_bytes and has_bounds(found[2]), BAD_FAULT)
         self.state = "after"
         if self.past_faults:
             self.joint.faults = added(self.joint.faults, 1)

@@ -230,12 +230,12 @@ class Client:
         """The event of the reply that has come, if it is whole."""
         end = self.kept[:256].find(b"\r\n")
         if end < 0:
-            return ("Garbage",) if len(self.kept) >= 256 else None
+            return ("Unanswered", self.awaited[0][1]) if len(self.kept) >= 256 else None
         line, self.kept = self.kept[:end], self.kept[end + 2 :]
         if line == b"OK":
             self.awaited.pop(0)
             return ("Say", self.line())
-        return ("Refused", self.awaited[0][1]) if line.startswith(b"ERROR") else ("Garbage",)
+        return ("Refused" if line.startswith(b"ERROR") else "Unanswered", self.awaited[0][1])
 
     def whole(self) -> Optional[tuple]:
         """The event of the packet or end that has come, if it is whole."""
@@ -259,7 +259,7 @@ class Client:
         """The event of a packet."""
         bearers = [k for k, place in enumerate(self.places) if place.bears(bytes)]
         if not bearers:
-            return ("Foreign",)
+            return ("Foreign", bytes[18:20], bytes[8:13])
         [k] = bearers
         if self.wants[k] not in (None, number):
             return ("Gap", k, self.wants[k], number)

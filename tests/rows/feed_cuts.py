@@ -10,6 +10,7 @@ from typing import Sequence
 from driver.feed import Cut, Ended, Fetching, Proxy, Server, fetch, fetch_words
 from driver.links import free_port
 from driver.rows import Cases, Fact, holds
+from driver.texts import lost
 from models.seedlink import Place, record_of
 
 STA, STB, OTHER = Place("XX_STA"), Place("XX_STB"), Place("n_A1b2C")
@@ -139,7 +140,9 @@ def from_a_number() -> Cases:
         runs += 1
         output += came
         if status == 2:
-            yield Fact("a client that is cut off writes so", b"mseed: link failed\n", errors)
+            # The proxy closes the link with bytes of the client unread, or without: so the system may reset it.
+            lines = [lost(proxy.port), lost(proxy.port, "connection reset"), lost(proxy.port, "broken pipe")]
+            yield holds("a client that is cut off writes so", errors in lines, errors)
             yield Fact("a client that is cut off has whole records", 0, len(came) % 512)
     yield holds("started anew after what it has: each record once", output == b"".join(records), len(output))
     yield Fact(f"it was started {runs} times", 0, status)

@@ -123,7 +123,12 @@ def calls_of_fetch(failing: str) -> Cases:
         yield holds(f"all is fetched where call {call} fails", whole(twice.out) == BY_PLACE, len(twice.out))
         if alone.status == 0:
             break
-        yield Fact(f"fetch whose call {call} fails", (2, LINK_FAILED), (alone.status, alone.err))
+        lines = alone.err.splitlines(keepends=True)
+        wanted = [LINK_FAILED, b"connection reset\n"]
+        yield Fact(f"fetch whose call {call} fails", (2, wanted), (alone.status, [lines[0], lines[-1].split(b": ")[-1]]))
+        about = [b"mseed: %s 127.0.0.1:%d" % (what, port) for what in (b"cannot connect to", b"lost the connection to")]
+        yield holds(f"fetch whose call {call} fails, where", len(lines) == 2 and lines[1].rpartition(b": ")[0] in about,
+                    alone.err)
     yield holds(f"fetch whose calls don't fail, {call}", call > 10, call)
 
 

@@ -7,7 +7,7 @@ from typing import Optional, Sequence
 
 from driver.feed import Cut, Proxy, fetch, fetch_words
 from driver.rows import Cases, Fact, Row, holds
-from driver.texts import BAD_FEED, About
+from driver.texts import About, gap
 from models.common_numbers import CommonServer, Numbered
 from models.peers import Speaker
 from models.seedlink import SPAN, Place, record_of
@@ -51,7 +51,8 @@ def common_numbers() -> Cases:
         ours = of_place(place, records)
         status, output, errors = fetch([place], server.port)
         came = cut_up(output)
-        yield Fact(f"{place.text} without holes", (2, BAD_FEED), (status, errors))
+        [want, got] = [(first + records.index(ours[at])) % SPAN for at in (len(came) - 1, len(came))]
+        yield Fact(f"{place.text} without holes", (2, gap(place.text, (want + 1) % SPAN, got)), (status, errors))
         yield holds(f"{place.text} without holes: the records before the first hole",
                     came == ours[: len(came)] and len(came) < len(ours), len(came))
         status, output, errors = fetch([place], server.port, HOLES)
@@ -115,8 +116,9 @@ def boundaries() -> Cases:
             yield Row(name, b"", requested, 0, record, line)
             yield Row(f"{name}, all reported", b"", reported, 0, record, line + first + after)
         else:
-            yield Row(name, b"", requested, 2, b"", BAD_FEED)
-            yield Row(f"{name}, all reported", b"", reported, 2, b"", BAD_FEED + after)
+            lines = gap("XX_STA", want, got)
+            yield Row(name, b"", requested, 2, b"", lines)
+            yield Row(f"{name}, all reported", b"", reported, 2, b"", lines + after)
 
 
 def words() -> Cases:

@@ -15,7 +15,7 @@ from typing import Optional, Sequence
 from driver.feed import Cut, Fetching, Proxy, Server, fetch, fetch_words, kept
 from driver.program import LIMIT
 from driver.rows import Cases, Fact, Row, contents_of, holds, started
-from driver.texts import BAD_FEED, LINK_FAILED, REFUSED, WRITE_FAILED, About
+from driver.texts import WRITE_FAILED, About, gap, lost, refused
 from models.peers import Speaker
 from models.seedlink import SPAN, Place, record_of
 
@@ -30,11 +30,13 @@ def packet(number: int, place: Place, index: int = 0) -> bytes:
 
 
 def at_a_speaker(name: str, stream: bytes, places: Sequence[Place], wants: Sequence[Optional[int]], status: int,
-                 out: bytes, err: bytes, *options: object, **streams: str) -> Cases:
-    """A `fetch` from a server that sends just this."""
+                 out: bytes, err: bytes, *options: object, before: Optional[bytes] = None, **streams: str) -> Cases:
+    """A `fetch` from a server that sends just this. With `before`, the lines are this, those of a link that was closed,
+    and `err`."""
     speaker = Speaker([[stream]])
     words = fetch_words(places, speaker.port, *options, wants=wants)
-    yield Row(name, b"", words, status, out, err, **streams)
+    lines = err if before is None else before + lost(speaker.port) + err
+    yield Row(name, b"", words, status, out, lines, **streams)
 
 
 NEXT = b"mseed: next --network XX --station STA"
@@ -50,12 +52,13 @@ def lines() -> Cases:
     yield from at_a_speaker("two records, nothing requested", OK * 2 + two + b"END", [STA], [], 0, both, b"")
     yield from at_a_speaker("no record and no number", OK * 2 + b"END", [STA], [], 0, b"", NEXT + b"\n", TELL)
     yield from at_a_speaker("no record", OK * 2 + b"END", [STA], [0xABC], 0, b"", NEXT + b" --from 000ABC\n", TELL)
-    yield from at_a_speaker("closed at once", b"", [STA], [], 2, b"", LINK_FAILED + NEXT + b"\n", TELL)
+    yield from at_a_speaker("closed at once", b"", [STA], [], 2, b"", NEXT + b"\n", TELL, before=b"")
     yield from at_a_speaker("cut within the second packet", OK * 2 + two[:-1], [STA], [5], 2, record_of(STA, 0),
-                            first + LINK_FAILED + NEXT + b" --from 000006\n", TELL)
-    yield from at_a_speaker("refused", b"ERROR\r\n", [STA], [5], 2, b"", REFUSED + NEXT + b" --from 000005\n", TELL)
+                            NEXT + b" --from 000006\n", TELL, before=first)
+    yield from at_a_speaker("refused", b"ERROR\r\n", [STA], [5], 2, b"",
+                            refused("XX_STA", 5) + NEXT + b" --from 000005\n", TELL)
     yield from at_a_speaker("a gap", OK * 2 + packet(5, STA) + packet(7, STA), [STA], [], 2, record_of(STA, 0),
-                            first + BAD_FEED + NEXT + b" --from 000006\n", TELL)
+                            first + gap("XX_STA", 6, 7) + NEXT + b" --from 000006\n", TELL)
     yield from at_a_speaker("the last number", OK * 2 + packet(SPAN - 1, STA) + b"END", [STA], [], 0,
                             record_of(STA, 0), b"mseed: first XX_STA:FFFFFF\n" + NEXT + b" --from 000000\n", TELL)
     yield from at_a_speaker("an output that takes nothing", OK * 2 + two + b"END", [STA], [], 2, b"",
@@ -69,7 +72,10 @@ def lines() -> Cases:
         b"mseed: first XX_STB:000010\nmseed: first XX_STA:000003\n"
         + NEXT + b" --from 000005 XX_STB:000012 n_A1b2C\n", TELL)
     yield from at_a_speaker("three stations, refused", b"ERROR\r\n", [STA, STB, OTHER], [None, 7, 0xFFFFFF],
-                            2, b"", REFUSED + NEXT + b" XX_STB:000007 n_A1b2C:FFFFFF\n", TELL)
+                            2, b"", refused("XX_STA") + NEXT + b" XX_STB:000007 n_A1b2C:FFFFFF\n", TELL)
+    yield from at_a_speaker("three stations, the second one's number refused", OK * 3 + b"ERROR\r\n",
+                            [STA, STB, OTHER], [None, 7, 0xFFFFFF], 2, b"",
+                            refused("XX_STB", 7) + NEXT + b" XX_STB:000007 n_A1b2C:FFFFFF\n", TELL)
     yield Row("serve has no such flag", b"", ["serve", "--port", "1", "--station", "STA", "--network", "XX", TELL], 3,
               b"", About(TELL))
     yield Row("doubled", b"", ["fetch", "--port", "1", "--station", "STA", "--network", "XX", TELL, TELL], 3, b"",

@@ -8,7 +8,7 @@ from typing import Generator, Sequence
 from driver.feed import Fetching, Server, fetch
 from driver.links import free_port
 from driver.rows import Case, Cases, Fact, holds
-from driver.texts import REFUSED, keeps
+from driver.texts import keeps, refused
 from models.peers import fetch_link, serving
 from models.seedlink import Client, Place, feed_of, record_of, records_in
 
@@ -85,7 +85,7 @@ def numbers() -> Cases:
     for number in ("27", "FFFFFD"):
         server = Server(b"".join(records), [STA], *first)
         run = fetch([STA], server.port, "--from", number, "--tries", 5)
-        yield Fact(f"from {number}, which isn't there", (2, b"", REFUSED), run)
+        yield Fact(f"from {number}, which isn't there", (2, b"", refused("XX_STA", int(number, 16))), run)
         yield Fact(f"serve goes on after {number}", ENDED, server.end())
 
 

@@ -14,7 +14,7 @@ from driver.feed import Ended, Fetching, Server, fetch, fetch_words
 from driver.links import addresses_at, dialled, free_port, listening, port_of, received_up_to
 from driver.program import LIMIT
 from driver.rows import Cases, Fact, holds
-from driver.texts import LINK_FAILED, unlistened
+from driver.texts import LINK_FAILED, LONG_HANDSHAKE, TIMED_OUT, lost, undialled, unlistened
 from models.seedlink import Place, record_of
 
 STA = Place("XX_STA")
@@ -66,17 +66,17 @@ def drops(byte_for_byte: bytes, pause: float) -> list[Deed]:
     return [deed for at in range(len(byte_for_byte)) for deed in (pause, byte_for_byte[at : at + 1])]
 
 
-# What a server does, how `fetch --timeout 1` ends, and after how many seconds at least and at most.
-SERVERS: list[tuple[str, list[Deed], Ended, float, float]] = [
-    ("says nothing", [], FAILED, 1, 3),
-    ("is silent within a reply", [b"O"], FAILED, 1, 3),
-    ("is silent between the replies", [b"OK\r\n"], FAILED, 1, 3),
-    ("is silent before the packets", [GRANTED], FAILED, 1, 3),
-    ("is silent within a packet", [GRANTED + PACKETS[0][:100]], FAILED, 1, 3),
-    ("is silent between packets", [GRANTED + PACKETS[0]], FAILED._replace(out=RECORDS[0]), 1, 3),
-    ("is silent before the end", [GRANTED + b"".join(PACKETS)], FAILED._replace(out=ARCHIVE), 1, 3),
-    ("is silent within the end", [GRANTED + b"".join(PACKETS) + b"EN"], FAILED._replace(out=ARCHIVE), 1, 3),
-    ("says a byte of the handshake now and then", drops(b"ERRORS", 0.4), FAILED, 1, 2.3),
+# What a server does, what `fetch --timeout 1` writes and why it fails, and after how many seconds at least and at most.
+SERVERS: list[tuple[str, list[Deed], bytes, str, float, float]] = [
+    ("says nothing", [], b"", LONG_HANDSHAKE, 1, 3),
+    ("is silent within a reply", [b"O"], b"", LONG_HANDSHAKE, 1, 3),
+    ("is silent between the replies", [b"OK\r\n"], b"", LONG_HANDSHAKE, 1, 3),
+    ("is silent before the packets", [GRANTED], b"", TIMED_OUT, 1, 3),
+    ("is silent within a packet", [GRANTED + PACKETS[0][:100]], b"", TIMED_OUT, 1, 3),
+    ("is silent between packets", [GRANTED + PACKETS[0]], RECORDS[0], TIMED_OUT, 1, 3),
+    ("is silent before the end", [GRANTED + b"".join(PACKETS)], ARCHIVE, TIMED_OUT, 1, 3),
+    ("is silent within the end", [GRANTED + b"".join(PACKETS) + b"EN"], ARCHIVE, TIMED_OUT, 1, 3),
+    ("says a byte of the handshake now and then", drops(b"ERRORS", 0.4), b"", LONG_HANDSHAKE, 1, 2.3),
 ]
 # A server that is never silent for as long as `--timeout 3` allows, by so much that a busy machine makes no difference,
 # and altogether for longer.
@@ -86,15 +86,15 @@ PIECES: list[Deed] = [GRANTED, *(deed for packet in PACKETS for deed in (packet,
 def silent_servers() -> Cases:
     """Each is given up in time, and no sooner. All side by side."""
 
-    def run(deeds: list[Deed]) -> tuple[Ended, float]:
-        began = time.monotonic()
-        ended = fetch([STA], mute(deeds), "--timeout", 1)
-        return ended, time.monotonic() - began
+    def run(deeds: list[Deed]) -> tuple[int, Ended, float]:
+        began, port = time.monotonic(), mute(deeds)
+        ended = fetch([STA], port, "--timeout", 1)
+        return port, ended, time.monotonic() - began
 
     with ThreadPoolExecutor(len(SERVERS)) as pool:
         ends = list(pool.map(run, [deeds for _, deeds, *_ in SERVERS]))
-    for (name, _, wanted, least, most), (ended, seconds) in zip(SERVERS, ends):
-        yield Fact(f"fetch from a server that {name}", wanted, ended)
+    for (name, _, out, why, least, most), (port, ended, seconds) in zip(SERVERS, ends):
+        yield Fact(f"fetch from a server that {name}", Ended(2, out, lost(port, why)), ended)
         yield holds(f"the time of a server that {name}", least <= seconds < most + 2, seconds)
 
 
@@ -183,24 +183,31 @@ def restarted() -> Cases:
     yield Fact("a server that is started anew", ALL, fetching.end())
     yield Fact("the server that was started anew", FINE, server.end())
     began = time.monotonic()
-    yield Fact("four tries in vain", FAILED, fetch([STA], free_port(), "--tries", 4))
+    port = free_port()
+    yield Fact("four tries in vain", Ended(2, b"", undialled(port)), fetch([STA], port, "--tries", 4))
     seconds = time.monotonic() - began
     yield holds("the pauses between four tries", 0.7 <= seconds < 5, seconds)
-    two = fetch([STA], mute([GRANTED + PACKETS[0]]), "--tries", 2, "--timeout", 1)
-    yield Fact("two silent links", FAILED._replace(out=RECORDS[0]), two)
+    port = mute([GRANTED + PACKETS[0]])
+    two = fetch([STA], port, "--tries", 2, "--timeout", 1)
+    # Nobody takes the second one, which the system has made all the same.
+    yield Fact("two silent links", Ended(2, RECORDS[0], lost(port, LONG_HANDSHAKE)), two)
 
 
 def addresses() -> Cases:
     """A second address of the loopback net, names, and an address that isn't this machine's."""
     server = Server(ARCHIVE, [STA], "--address", "127.0.0.2")
     yield Fact("the address that is listened at", ["0200007F"], addresses_at(server.port))
-    yield Fact("fetch from the default address", FAILED, fetch([STA], server.port))
+    yield Fact("fetch from the default address", Ended(2, b"", undialled(server.port)), fetch([STA], server.port))
     yield Fact("fetch from 127.0.0.2", ALL, fetch([STA], server.port, "--address", "127.0.0.2"))
     yield Fact("serve at 127.0.0.2", FINE, server.end())
     server = Server(ARCHIVE, [STA])
     yield Fact("fetch from localhost", ALL, fetch([STA], server.port, "--address", "localhost"))
     yield Fact("serve after a client by name", FINE, server.end())
-    yield Fact("fetch from nowhere", FAILED, fetch([STA], free_port(), "--address", "nowhere.invalid", "--tries", 2))
+    port, reason = free_port(), "no IPv4 address of this name"
+    for name, shown in (("nowhere.invalid", "nowhere.invalid"), (f"{'n' * 52}.invalid", f"{'n' * 52}.invalid"),
+                        (f"{'n' * 53}.invalid", f"{'n' * 53}.inv...")):
+        yield Fact(f"fetch from {name}", Ended(2, b"", undialled(port, reason, shown)),
+                   fetch([STA], port, "--address", name, "--tries", 2))
     server = Server(ARCHIVE, [STA], "--address", "203.0.113.1", is_awaited=False)
     wanted = Ended(2, b"", unlistened(server.port, "address not available", "203.0.113.1"))
     yield Fact("serve at another machine's address", wanted, server.end())

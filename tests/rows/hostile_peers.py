@@ -7,10 +7,11 @@ import random
 import socket
 from typing import Callable, Optional, Sequence
 
-from driver.feed import Ended, Server, fetch
+from driver.feed import Ended, Fetching, Server, fetch, fetch_words
 from driver.links import dialled, free_port, listening, port_of, reset
 from driver.rows import Cases, Fact, holds
-from driver.texts import BAD_FEED, LINK_FAILED, REFUSED, foreign, keeps, unlistened
+from driver.texts import GARBAGE, LINK_FAILED, foreign, gap, keeps, lost, refused, strange, unanswered, undialled
+from driver.texts import unlistened
 from models.dialogues import feed_at_random, pieces_of, stream_of_client, stream_of_server, wants_at_random
 from models.peers import Speaker, exchanged, fetch_link
 from models.seedlink import REPLIES, Client, Place, Ring, Session, record_of, records_in
@@ -61,13 +62,27 @@ def clients(seed: int, count: int) -> Cases:
     yield Fact(f"server {seed} ends", Ended(0, b"", b"".join(lines)), server.end())
 
 
-ENDS = {"End": (0, b""), "Refused": (2, REFUSED), "Gap": (2, BAD_FEED), "Garbage": (2, BAD_FEED),
-        "Foreign": (2, BAD_FEED)}
+def lines_of(client: Client) -> bytes:
+    """What `fetch` reports of the end that a client has come to."""
+    kind, *about = client.ending
+    if kind == "Refused":
+        [k] = about
+        return refused(client.places[k].text, client.wants[k])
+    if kind == "Gap":
+        k, want, got = about
+        return gap(client.places[k].text, want, got)
+    if kind == "Unanswered":
+        [k] = about
+        return unanswered(client.places[k].text, client.wants[k])
+    if kind == "Foreign":
+        return strange(*about)
+    return {"End": b"", "Garbage": GARBAGE}[kind]
 
 
 def outcome(places: Sequence[tuple[Place, Optional[int]]],
-            streams: Sequence[bytes]) -> tuple[list[bytes], Ended]:
-    """What a client sends over each link that brings one of these streams, the records that it writes, and its end."""
+            streams: Sequence[bytes], port: int) -> tuple[list[bytes], Ended]:
+    """What a client sends over each link to a port that brings one of these streams, the records that it writes, and its
+    end."""
     client, sent, records = Client(places, "FETCH"), [], []
     for stream in streams:
         line = client.connect()
@@ -75,9 +90,8 @@ def outcome(places: Sequence[tuple[Place, Optional[int]]],
         sent.append(line + b"".join(event[1] for event in events if event[0] == "Say"))
         records += records_in(events)
         if client.ending:
-            status, errors = ENDS[client.ending[0]]
-            return sent, Ended(status, b"".join(records), errors)
-    return sent, Ended(2, b"".join(records), LINK_FAILED)
+            return sent, Ended(2 * (client.ending != ("End",)), b"".join(records), lines_of(client))
+    return sent, Ended(2, b"".join(records), lost(port))
 
 
 def servers(seed: int, count: int) -> Cases:
@@ -93,8 +107,8 @@ def servers(seed: int, count: int) -> Cases:
             pieces.append(pieces_of(source, stream))
             trial.connect()
             trial.take(stream)
-        sent, wanted = outcome(places, [b"".join(each) for each in pieces])
         speaker = Speaker(pieces)
+        sent, wanted = outcome(places, [b"".join(each) for each in pieces], speaker.port)
         run = fetch([place for place, _ in places], speaker.port, "--tries", len(pieces),
                     wants=[number for _, number in places])
         speaker.close()
@@ -171,36 +185,46 @@ def full_link() -> Cases:
 
 def rude_servers() -> Cases:
     """How `fetch` ends by what a server sends, and how often it dials."""
-    own, foreign = record_of(STA, 1), record_of(Place("XX_ABC"), 1)
+    own, other = record_of(STA, 1), record_of(Place("XX_ABC"), 1)
     good = GRANTED + b"SL000001" + own + b"END"
-    refused, bad, fine, failed = (2, REFUSED), (2, BAD_FEED), (0, b""), (2, LINK_FAILED)
-    for name, streams, (status, errors), output, links in [
-        ("refuses the station", [b"ERROR\r\n"], refused, b"", 1),
-        ("refuses the number", [b"OK\r\nERROR busy\r\n"], refused, b"", 1),
-        ("sends a gap", [GRANTED + b"SL000002" + own], bad, b"", 1),
-        ("sends a gap later", [GRANTED + b"SL000001" + own + b"SL000003" + own], bad, own, 1),
-        ("sends a record twice", [GRANTED + b"SL000001" + own + b"SL000001" + own], bad, own, 1),
-        ("sends garbage", [b"OKAY\r\n"], bad, b"", 1),
-        ("sends garbage for a packet", [GRANTED + b"SL00000g"], bad, b"", 1),
-        ("sends another end", [GRANTED + b"ENX"], bad, b"", 1),
-        ("sends a foreign record", [GRANTED + b"SL000001" + foreign], bad, b"", 1),
-        ("sends the end alone", [GRANTED + b"END"], fine, b"", 1),
-        ("sends nothing", [b"", b"", b""], failed, b"", 3),
-        ("sends nothing at first", [b"", b"OK\r\n", good], fine, own, 3),
-        ("breaks off in a packet", [good[:500], good], fine, own, 2),
-        ("sends more after the end", [good + b"SL000002" + own], fine, own, 1),
+    denied = refused("XX_STA", 1)
+    for name, streams, errors, output, links in [
+        ("refuses the station", [b"ERROR\r\n"], denied, b"", 1),
+        ("refuses the number", [b"OK\r\nERROR busy\r\n"], denied, b"", 1),
+        ("sends a gap", [GRANTED + b"SL000002" + own], gap("XX_STA", 1, 2), b"", 1),
+        ("sends a gap later", [GRANTED + b"SL000001" + own + b"SL000003" + own], gap("XX_STA", 2, 3), own, 1),
+        ("sends a record twice", [GRANTED + b"SL000001" + own + b"SL000001" + own], gap("XX_STA", 2, 1), own, 1),
+        ("sends another reply", [b"OKAY\r\n"], unanswered("XX_STA", 1), b"", 1),
+        ("sends another reply to the number", [b"OK\r\nOKAY\r\n"], unanswered("XX_STA", 1), b"", 1),
+        ("sends garbage for a packet", [GRANTED + b"SL00000g"], GARBAGE, b"", 1),
+        ("sends another end", [GRANTED + b"ENX"], GARBAGE, b"", 1),
+        ("sends a foreign record", [GRANTED + b"SL000001" + other], strange(b"XX", b"ABC  "), b"", 1),
+        ("sends the end alone", [GRANTED + b"END"], b"", b"", 1),
+        ("sends nothing", [b"", b"", b""], None, b"", 3),
+        ("sends nothing at first", [b"", b"OK\r\n", good], b"", own, 3),
+        ("breaks off in a packet", [good[:500], good], b"", own, 2),
+        ("sends more after the end", [good + b"SL000002" + own], b"", own, 1),
     ]:
         speaker = Speaker([[stream] for stream in streams])
         run = fetch([STA], speaker.port, "--tries", 3, wants=[1])
         speaker.close()
-        yield Fact(f"a server that {name}", (status, output, errors), run)
+        lines = lost(speaker.port) if errors is None else errors
+        yield Fact(f"a server that {name}", (2 if lines else 0, output, lines), run)
         yield Fact(f"a server that {name} is dialled so often", links, len(speaker.received))
 
 
 def no_links() -> Cases:
     """Nobody answers, or the port is taken."""
     for tries in (1, 3):
-        yield Fact(f"fetch that nobody answers, {tries} times", FAILED, fetch([STA], free_port(), "--tries", tries))
+        port = free_port()
+        yield Fact(f"fetch that nobody answers, {tries} times", (2, b"", undialled(port)),
+                   fetch([STA], port, "--tries", tries))
+    # What is reported is of the last try.
+    speaker = Speaker([[b"OK\r\n"]])
+    fetching = Fetching(fetch_words([STA], speaker.port, "--tries", 3))
+    speaker.thread.join()
+    speaker.close()
+    yield Fact("fetch that nobody answers any more", (2, b"", undialled(speaker.port)), fetching.end())
     with listening() as listener:
         server = Server(record_of(STA, 1), [STA], port=port_of(listener), is_awaited=False)
         yield Fact("serve whose port is taken", Ended(2, b"", unlistened(port_of(listener))), server.end())

@@ -18,7 +18,7 @@ from driver.helpers import COMPILER, library, preloaded, refused_in_turn
 from driver.program import LIMIT, ROOT
 from driver.rows import Case, Cases, Fact, Result, Row, Skipped, contents_of, holds, in_memory, started, status_of
 from driver.texts import DEVICE_ERROR, IS_CLOSED, IS_DIRECTORY, NO_MEMORY, WRITE_FAILED
-from models.parts import NO_BEGINNING, NO_ENDING, NO_ROW, TOO_LONG, join
+from models.parts import NO_BEGINNING, NO_ENDING, TOO_LONG, bad_field, join
 from rows.devices import WHOLE
 from rows.join import BHN_KEY, FIRST, FOUND, LATE, NEXT, NONE, ONE, SECOND, begins, channel, counts
 from rows.memory import refuses
@@ -35,7 +35,7 @@ FAULTY = part(OF_FIRST, ONE, CUT) + part(OF_LATE, ONE, CUT)
 REPORTED = [f"mseed: part {number} {CUT}\n" for number in (1, 2)]
 # After a bad line nothing matters.
 BAD = GAPPED + part("none") + GAPPED
-FLAW = f"mseed: {NO_ROW}\n"
+FLAW = f"mseed: {bad_field('none')}\n"
 
 # The most memory that any number of parts of one channel may take, in KiB.
 MOST = 8192

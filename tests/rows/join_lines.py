@@ -82,15 +82,51 @@ def lines_that_lack() -> Cases:
 def flaws() -> Cases:
     """What is said of a bad line, of each kind."""
     begin, bhn, bhz, records, faults, fault = LINES
-    no_row = "neither a channel nor the counts; these are as records 2 bytes 256"
+    no_key = ("bad key in the line of a channel; it is 24 digits 0-9A-F, or the counts are as records 2 bytes 256")
+    no_head = "bad head in the line of a channel; it is as head 1 0 1704067200000000 20/1, or head none"
+    no_tail = "bad tail in the line of a channel; it is as tail 1704067200000000 16 20/1 none, or tail none"
+    no_findings = ("bad findings in the line of a channel; they are as findings 1, and 0 only with a head and a tail")
+    no_first = "bad first in the line of a channel; where findings are not 0 it ends the line, as first 2 128 gap 25001"
+    no_bytes = "bad bytes in the line of the counts; they end it, as bytes 256, from 0 to 9223372036854775807"
+    no_faults = "bad faults after the counts; they come once, as faults 2, from 1 to 9223372036854775807"
+    no_fault = "bad fault at after the counts; it is as fault at 256 notdata, and has the bytes of the counts"
+    to_most = "from 0 to 9223372036854775807"
     no_ending = "neither faults of this part nor the beginning of the next; that is mseed part 1"
     passes_most = "a sum passes 9223372036854775807, the most that a number can be"
     for name, text, line, why in (
         ("the first line", "mseed part 2\n", 1, "no beginning of a part; that is mseed part 1"),
         ("the line after a fault", text_of([*LINES, records]), 7, "no beginning of a part; that is mseed part 1"),
-        ("a channel", text_of([begin, bhn[1:], records]), 2, no_row),
-        ("the counts", text_of([begin, bhn, f"{records} "]), 3, no_row),
-        ("511 bytes and an LF", text_of([begin, "0" * 511]), 2, no_row),
+        ("a key of 23 digits", text_of([begin, bhn[1:], records]), 2, no_key),
+        ("a key of 25 digits", text_of([begin, f"0{bhn}", records]), 2, no_key),
+        ("a key in small letters", text_of([begin, bhn.replace(BHN_KEY, BHN_KEY.lower())]), 2, no_key),
+        ("neither a channel nor the counts", text_of([begin, bhn, faults]), 3, no_key),
+        ("an empty line within", text_of([begin, ""]), 2, no_key),
+        ("a channel's key alone", text_of([begin, BHN_KEY]), 2,
+         f"bad records in the line of a channel; they are as records 2, {to_most}"),
+        ("a channel's records", text_of([begin, bhn.replace("1 samples 16", "01 samples x"), records]), 2,
+         f"bad records in the line of a channel; they are as records 2, {to_most}"),
+        ("a channel's samples", text_of([begin, channel(samples=LARGEST + 1, head="x"), records]), 2,
+         f"bad samples in the line of a channel; they are as samples 32, {to_most}"),
+        ("a channel's samples misspelt", text_of([begin, bhn.replace("samples", "sample")]), 2,
+         f"bad samples in the line of a channel; they are as samples 32, {to_most}"),
+        ("a head without a rate", text_of([begin, channel(head=f"1 0 {START}", tail="x")]), 2, no_head),
+        ("a head with more behind it", text_of([begin, channel(head=f"1 0 {START} 20/1 x", tail="x")]), 2, no_tail),
+        ("a head with more at it", text_of([begin, channel(head="nonex", findings="1 first 1 0 leap")]), 2, no_head),
+        ("a tail of no samples", text_of([begin, channel(tail=f"{START} 0 20/1 none", findings="x")]), 2, no_tail),
+        ("a tail and its leap second", text_of([begin, channel(tail=f"{START} 16 20/1 leap", findings="x")]), 2,
+         no_tail),
+        ("a number of findings", text_of([begin, channel(findings="-1 first")]), 2, no_findings),
+        ("no findings, and no head", text_of([begin, channel(head="none")]), 2, no_findings),
+        ("no findings, and no tail", text_of([begin, channel(tail="none", findings="0 first")]), 2, no_findings),
+        ("a finding, and no first", text_of([begin, channel(findings="1")]), 2, no_first),
+        ("no findings, and a first", text_of([begin, channel(findings="0 first 1 0 leap")]), 2, no_first),
+        ("a first finding's reason", text_of([begin, channel(findings="1 first 1 0 slip")]), 2, no_first),
+        ("a first finding, and more", text_of([begin, channel(findings="1 first 1 0 leap 2")]), 2, no_first),
+        ("the records of the counts", text_of([begin, "records -1 bytes -1"]), 2,
+         f"bad records in the line of the counts; they are as records 2, {to_most}"),
+        ("the bytes of the counts", text_of([begin, "records 2 bytes -1"]), 2, no_bytes),
+        ("the counts, and more", text_of([begin, bhn, f"{records} "]), 3, no_bytes),
+        ("511 bytes and an LF", text_of([begin, "0" * 511]), 2, no_key),
         ("512 bytes and an LF", text_of([begin, "0" * 512]), 2, "no LF within 512 bytes; no line is longer"),
         ("512 bytes", text_of([begin])[:-1].ljust(512), 1, "no LF within 512 bytes; no line is longer"),
         ("511 bytes", text_of([begin])[:-1].ljust(511), 1, "no LF at the end of the input; each line ends with one"),
@@ -98,9 +134,12 @@ def flaws() -> Cases:
          "XX_STA__BHN is out of order; channels ascend by their keys"),
         ("a channel twice", text_of([begin, bhz, bhz, records]), 3,
          "XX_STA__BHZ is out of order; channels ascend by their keys"),
-        ("the faults", text_of([*LINES[:4], "faults 0"]), 5, no_ending),
-        ("the faults twice", text_of([*LINES[:5], faults]), 6, no_ending),
-        ("the fault", text_of([*LINES[:4], fault.replace("256", "128")]), 5, no_ending),
+        ("no faults", text_of([*LINES[:4], "faults 0"]), 5, no_faults),
+        ("the faults twice", text_of([*LINES[:5], faults]), 6, no_faults),
+        ("the fault's place", text_of([*LINES[:4], fault.replace("256", "128")]), 5, no_fault),
+        ("the fault", text_of([*LINES[:5], "fault at 256 slip"]), 6, no_fault),
+        ("the counts after the counts", text_of([*LINES[:4], records]), 5, no_ending),
+        ("fault without a place", text_of([*LINES[:4], "fault 256 read"]), 5, no_ending),
         ("a channel's sum", part(bhz, ONE) + part(channel(samples=LARGEST), ONE), 5, passes_most),
         ("the sum of the counts", NEXT + part(counts(0, LARGEST)), 5, passes_most),
         ("the sum of the faults", part(ONE, f"faults {LARGEST}") + part(ONE, "faults 1"), 6, passes_most),

@@ -261,6 +261,6 @@ def rows() -> Cases:
         yield Fact("what is asked for", SELECTED, run(built, SELECTING, folder))
         ended = python(built, [str(SOURCES / "library_selections.py"), "7", "200"])
         yield Fact("selections at random", "1600 selections\n", (ended.stdout + ended.stderr).decode())
-        yield Fact("views and threads", "{'int32'} 1 9\n[0, 1, 2, 3, 4] True\n[]\n", run(built, WITH_NUMPY, folder))
+        yield Fact("views and threads", "{'int32'} 9 9\n[0, 1, 2, 3, 4] True\n[]\n", run(built, WITH_NUMPY, folder))
         yield Fact("an ObsPy trace", "obspy XX STA '' BHZ 1704067200000000000 20.0 True\n", run(built, OBSPY, STAND_IN))
         yield from at_random(built, True)

@@ -1,5 +1,5 @@
-"""What the package takes of memory where some records are asked for: what is returned, of samples an eighth more while
-they grow, and a window."""
+"""What the package takes of memory, over a whole archive and where some records are asked for: what is returned, and a
+window."""
 
 from __future__ import annotations
 
@@ -42,6 +42,8 @@ def size_of(archive):
         return len(mseed.select(archive, **asked))
     if call == "read":
         return 4 * sum(map(len, mseed.read(archive, **asked)))
+    if call == "whole":
+        return 4 * sum(map(len, mseed.read(archive)))
     return 0 * sum(map(len, mseed.iterate(archive, **asked)))
 size_of(few)
 gc.collect()
@@ -58,6 +60,8 @@ def cases() -> Iterator[tuple[str, list[str], bool]]:
         yield call, ["YY_*_*_*"], False
         yield call, ["XX.STA..BH4"], call != "iterate"
         yield call, ["*_*_*_*"], call != "iterate"
+    # Read whole, and nothing asked for.
+    yield "whole", [], True
 
 
 def measured(built: Path, path: Path, numpy: bool) -> Cases:
@@ -65,12 +69,10 @@ def measured(built: Path, path: Path, numpy: bool) -> Cases:
     for call, asked, is_some in cases():
         ended = python(built, ["-c", MEASURE, str(path), call, *asked], numpy=numpy)
         words = ended.stdout.decode().split()
-        name = f"{call} {' '.join(asked) or 'a window of no record'}, {'with' if numpy else 'without'} NumPy"
+        what = "" if call == "whole" else f" {' '.join(asked) or 'a window of no record'}"
+        name = f"{call}{what}, {'with' if numpy else 'without'} NumPy"
         size, more = (int(words[0]), int(words[1])) if len(words) == 2 else (0, 10**6)
-        # Samples grow at one place, which Python makes an eighth larger than they are.
-        growth = size // 8 if call == "read" else 0
-        yield holds(f"{name}: what is returned, an eighth of samples, and {WINDOW} MB at most",
-                    more <= WINDOW + growth, (words, ended.stderr))
+        yield holds(f"{name}: what is returned, and {WINDOW} MB at most", more <= WINDOW, (words, ended.stderr))
         yield Fact(f"{name}: whether something is returned", is_some, size > 0)
 
 

@@ -7,7 +7,7 @@ from dataclasses import replace
 from driver.program import SAMPLES
 from driver.records import integers, next_record, payload, record
 from driver.rows import Cases, Row, both
-from driver.texts import BAD_VALUE, RATE_TOO_HIGH, TIME_OUTSIDE, About, broken, large_difference, large_sample
+from driver.texts import BAD_VALUE, About, broken, high_rate, large_difference, large_sample, time_outside
 
 FIRST, NEXT = record(), next_record(data=integers(range(16, 32)))
 TWO = FIRST + NEXT
@@ -136,27 +136,50 @@ def unpacked() -> Cases:
 def unfit() -> Cases:
     """Channels that can't be packed: which sample, and what the encoding holds."""
     yield from misfits("a sample past 16 bits", record(samples=2, data=integers([0, 2**15])), "XX_STA__BHZ",
-                       large_sample(2), "--encoding", "int16")
+                       large_sample(2, 2**15), "--encoding", "int16")
     yield from misfits("a sample below 16 bits", record(samples=2, data=integers([-2**15 - 1, -2**15])), "XX_STA__BHZ",
-                       large_sample(1), "--encoding", "int16")
+                       large_sample(1, -2**15 - 1), "--encoding", "int16")
     yield from misfits("the first of two samples past 16 bits, in a later record",
                        FIRST + next_record(data=integers([*range(15), 2**15])) + next_record(
-                           second=1, fraction=6000, data=integers([2**15] * 16)), "XX_STA__BHZ", large_sample(32),
-                       "--encoding", "int16")
+                           second=1, fraction=6000, data=integers([2**15 + 1] * 16)), "XX_STA__BHZ",
+                       large_sample(32, 2**15), "--encoding", "int16")
     yield packs("samples of 16 bits", record(samples=2, data=integers([-2**15, 2**15 - 1])),
                 record(samples=2, encoding=1, data=bytes.fromhex("80007FFF")), "--encoding", "int16", "--length", "128")
-    yield from misfits("a difference past 30 bits", WIDE, "XX_STA__BHZ", large_difference(2))
+    yield from misfits("a difference past 30 bits", WIDE, "XX_STA__BHZ", large_difference(2, 2**29))
     yield from misfits("a difference below 30 bits", record(samples=3, data=integers([7, 7, 6 - 2**29])), "XX_STA__BHZ",
-                       large_difference(3))
+                       large_difference(3, -2**29 - 1))
     yield from misfits("a difference past 30 bits between two records",
-                       FIRST + next_record(data=integers([2**29 + 15] * 16)), "XX_STA__BHZ", large_difference(17))
+                       FIRST + next_record(data=integers([2**29 + 15] * 16)), "XX_STA__BHZ",
+                       large_difference(17, 2**29))
     yield from misfits("a difference past 32 bits", record(samples=2, data=integers([-(2**31), 2**31 - 1])),
-                       "XX_STA__BHZ", large_difference(2, "steim1"), "--encoding", "steim1")
-    yield from misfits("the first that does not fit", WIDE + WIDE_BHN, "XX_STA__BHN", large_difference(2))
+                       "XX_STA__BHZ", large_difference(2, 2**32 - 1, "steim1"), "--encoding", "steim1")
+    yield from misfits("a difference below 32 bits", record(samples=2, data=integers([2**31 - 1, -(2**31)])),
+                       "XX_STA__BHZ", large_difference(2, 1 - 2**32, "steim1"), "--encoding", "steim1")
+    yield from misfits("the first that does not fit", WIDE + WIDE_BHN, "XX_STA__BHN", large_difference(2, 2**29))
     yield from misfits("a rate past 500,000", record(samples=1, factor=500001 // 20 + 1, multiplier=20), "XX_STA__BHZ",
-                       RATE_TOO_HIGH)
-    late = {"year": 2100, "day": 365, "hour": 23, "minute": 59, "second": 59, "fraction": 9999, "factor": 1}
-    yield from misfits("a time past 2100", record(samples=2, **late), "XX_STA__BHZ", TIME_OUTSIDE)
+                       high_rate("500020/1"))
+
+
+def late() -> Cases:
+    """Channels of which a sample lies in no year from 1900 to 2100: the first such sample, and its instant."""
+    last = {"year": 2100, "day": 365, "hour": 23, "minute": 59, "second": 59, "fraction": 9999}
+    for name, archive, number, instant in (
+        ("a time past 2100", record(samples=2, factor=1, **last), 2, "2101-01-01T00:00:00.999900"),
+        # half of a ten-thousandth is rounded up
+        ("a time that is rounded past 2100", record(samples=3, factor=25000, **last), 3, "2100-12-31T23:59:59.999980"),
+        ("a time at the end of 2100", record(samples=3, factor=20000, **last), 2, "2100-12-31T23:59:59.999950"),
+        # from the first of December on, a day a sample
+        ("the 32nd of 40 samples", record(samples=40, exponent=8, factor=-21600, multiplier=-4, year=2100, day=335,
+                                          data=integers(range(40))), 32, "2101-01-01T00:00:00.000000"),
+        ("a time in the second record", record(factor=-21600, multiplier=-4, year=2100, day=335)
+         + record(factor=-21600, multiplier=-4, year=2100, day=351, data=integers(range(16, 32))), 32,
+         "2101-01-01T00:00:00.000000"),
+        # three periods of 2^30 seconds
+        ("a sample in 34 years", record(samples=16, factor=-32768, multiplier=-32768), 4, "2126-01-28T16:51:12.000000"),
+        # a time correction that hasn't been applied
+        ("a time before 1900", record(samples=2, year=1900, correction=-2), 1, "1899-12-31T23:59:59.999800"),
+    ):
+        yield from misfits(name, archive, "XX_STA__BHZ", time_outside(number, instant))
 
 
 def words() -> Cases:
@@ -177,5 +200,5 @@ def words() -> Cases:
 
 def rows() -> Cases:
     """All of them."""
-    for part in (two_records, steim_words, times, channels, unpacked, unfit, words):
+    for part in (two_records, steim_words, times, channels, unpacked, unfit, late, words):
         yield from part()

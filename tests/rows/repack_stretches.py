@@ -8,7 +8,7 @@ from dataclasses import replace
 from driver.batches import Batch
 from driver.records import integers, payload, record
 from driver.rows import Cases, Fact, Row, both
-from driver.texts import BAD_VALUE, RATE_TOO_HIGH, TIME_OUTSIDE, About, large_difference, large_sample
+from driver.texts import BAD_VALUE, About, high_rate, large_difference, large_sample, time_outside
 from models.series import CODES
 from models.stretch_archives import archive_at_random
 from models.stretches import restretched
@@ -110,23 +110,25 @@ def misfits() -> Cases:
     late = record(samples=2, year=2100, day=365, hour=23, minute=59, second=59, fraction=9999, factor=1)
     loud = sixteen(1, fraction=8000) + record(samples=3, data=integers([32, 2**15 - 1, 2**15]), second=1, fraction=6000)
     for name, archive, stretch, why, words in (
-        ("a difference past 30 bits", FIRST + WIDE, 2, large_difference(2), []),
+        ("a difference past 30 bits", FIRST + WIDE, 2, large_difference(2, 2**29), []),
         ("a difference past 30 bits between two records",
-         FIRST + record(samples=1, data=integers([15 - 2**29 - 1]), fraction=8000), 1, large_difference(17), []),
+         FIRST + record(samples=1, data=integers([15 - 2**29 - 1]), fraction=8000), 1,
+         large_difference(17, -2**29 - 1), []),
         ("a difference past 32 bits", record(samples=2, data=integers([2**31 - 1, -2])), 1,
-         large_difference(2, "steim1"), ["--encoding", "steim1"]),
-        ("a sample past 16 bits", FIRST + loud, 1, large_sample(35), ["--encoding", "int16"]),
-        ("a sample past 16 bits behind a gap", record(second=5) + record(second=7) + loud, 3, large_sample(19),
+         large_difference(2, -2**31 - 1, "steim1"), ["--encoding", "steim1"]),
+        ("a sample past 16 bits", FIRST + loud, 1, large_sample(35, 2**15), ["--encoding", "int16"]),
+        ("a sample past 16 bits behind a gap", record(second=5) + record(second=7) + loud, 3, large_sample(19, 2**15),
          ["--encoding", "int16"]),
-        ("a rate past 500,000", FIRST + fast, 2, RATE_TOO_HIGH, []),
-        ("a time past 2100", FIRST + late, 2, TIME_OUTSIDE, []),
+        ("a rate past 500,000", FIRST + fast, 2, high_rate("500020/1"), []),
+        ("a time past 2100", FIRST + late, 2, time_outside(2, "2101-01-01T00:00:00.999900"), []),
     ):
         lines = unfit("BHZ", stretch, why)
         yield from reports(name, 2, lines, archive, b"", *words)
         yield from reports(f"{name}, left out", 2, lines, archive, b"", "--leave", *words)
     # two that are left out, and one that is written
     archive = record(samples=2, data=integers([0, -2**15 - 1]), **BHN) + FIRST + record(**BHE) + late
-    lines = unfit("BHN", 1, large_sample(2)) + unfit("BHZ", 2, TIME_OUTSIDE)
+    lines = unfit("BHN", 1, large_sample(2, -2**15 - 1))
+    lines += unfit("BHZ", 2, time_outside(2, "2101-01-01T00:00:00.999900"))
     packed = record(encoding=1, data=b"".join(number.to_bytes(2, "big") for number in range(16)), **BHE)
     yield from reports("two left out", 2, lines, archive, packed, "--leave", "--encoding", "int16", "--length", "128")
     yield from reports("the first of two", 2, lines[:2], archive, b"", "--encoding", "int16")
@@ -147,7 +149,8 @@ def refused() -> Cases:
     lines = ["XX_STA__BHN is broken", "record 2 offset 128 encoding 4"]
     archive = FIRST + record(encoding=4, **BHN) + WIDE
     yield from reports("a broken channel and one that does not fit", 1, lines, archive, b"")
-    yield from reports("both left out", 2, [lines[0], *unfit("BHZ", 2, large_difference(2))], archive, b"", "--leave")
+    lines[1:] = unfit("BHZ", 2, large_difference(2, 2**29))
+    yield from reports("both left out", 2, lines, archive, b"", "--leave")
     yield from reports("a cut archive", 2, ["fault at 128 truncated 9"], FIRST + FIRST[:9], b"", "--leave")
 
 

@@ -299,9 +299,12 @@ def helps() -> Cases:
         yield holds(f"the help of the program names {command}", f"\n  {command} " in texts[""], texts[""])
         for part in (f"Usage: mseed {command}", "Options:", "Statuses: 0", f"\n  mseed {command} "):
             yield holds(f"the help of {command}: {part.strip()}", part in texts[command], texts[command])
+        usage = texts[command].partition("Usage: ")[2].partition("\n\n")[0]
+        needed = ["--port <PORT>", "--station <STATION>", "--network <NETWORK>"] if command in ("serve", "fetch") else []
+        for part in (*needed, "[OPTIONS]"):
+            yield holds(f"the usage of {command} has {part}", part in usage, usage)
     for command, text in texts.items():
-        # The line of usage is the parser's: it names what the command can't do without.
-        widest = max((line for line in text.splitlines() if not line.startswith("Usage: ")), key=len)
+        widest = max(text.splitlines(), key=len)
         yield holds(f"the help of '{command}' has at most 80 columns", len(widest) <= 80, widest)
 
 
