@@ -1,6 +1,5 @@
 //! Calls of `mseed_choice`.
-use mseed_choice::{All, Answer, Choice};
-use mseed_record::RecordView;
+use mseed_record::{All, Answer, Choice, RecordView};
 
 /// Whether a record is asked for, by any choice.
 pub fn is_chosen<C: Choice>(choice: &C, view: &RecordView) -> bool {

@@ -9,7 +9,7 @@ use mseed_feed::{
 };
 use mseed_stream::{Buffered, Sink, Source};
 use mseed_words::{Fetching, LiveServing, Serving};
-use slink_live_tcp::Plan;
+use slink_links::LivePlan;
 use std::alloc::Global;
 use std::io;
 use std::io::{BufReader, Read};
@@ -74,7 +74,7 @@ pub fn has_served_at_port<N: Net + Clock, I: Read + AsRawFd + Drop, E: Sink>(
 }
 
 /// Whether it can be listened by a plan. Nobody is served.
-pub fn can_listen<L: Listen>(alloc: Global, plan: Plan, listening: &mut L) -> bool
+pub fn can_listen<L: Listen>(alloc: Global, plan: LivePlan, listening: &mut L) -> bool
     requires { L.came listening.old ≡ NotYet }
 {
     match listening.listen(alloc, plan) {

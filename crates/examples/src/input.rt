@@ -1,8 +1,8 @@
 //! Calls of `mseed_input`.
-use mseed_files::{Chain, Files, Reason};
-use mseed_input::{
-    Blame, Watched, blame_by, blame_of, report_blame, report_fault, report_given, report_no_memory,
-    report_number, report_reason, report_unreadable, texts_of, word_of,
+use mseed_files::{
+    Blame, Chain, Files, Reason, Watched, blame_by, blame_of, report_blame, report_fault,
+    report_given, report_no_memory, report_number, report_reason, report_unreadable, texts_of,
+    word_of,
 };
 use mseed_stream::{Sink, Source, StreamFault};
 use std::alloc::{AllocError, Global};

@@ -2,8 +2,7 @@
 ghost use Rattle.std.specs.Prelude.{◌≡◌};
 ghost use Rattle.mseed_stream.specs.Device.{nothing_read};
 
-use mseed_select::Selector;
-use mseed_show::{ShowFault, show, show_selected};
+use mseed_select::{Selector, ShowFault, show, show_selected};
 use mseed_stream::{Counted, Sink, Source};
 use std::alloc::Global;
 

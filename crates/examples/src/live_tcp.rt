@@ -1,8 +1,8 @@
 //! Calls of `slink_live_tcp`.
 ghost use Rattle.slink_live.specs.Served.{IsSound};
 
+use slink_links::{LivePlan, LiveTcp};
 use slink_live::{InputFault, Server};
-use slink_live_tcp::{Plan, Tcp};
 use std::alloc::Global;
 use std::io;
 use std::io::Read;
@@ -20,18 +20,18 @@ pub fn serve_over_tcp<N: Net + Clock, I: Read + AsRawFd + Drop>(
 ) -> io::Result<Result<(), InputFault>>
     requires { IsSound server.old }
 {
-    let plan = Plan {
+    let plan = LivePlan {
         address: SocketAddr::from((Ipv4Addr::LOCALHOST, 18_000)),
         clients: 64,
         timeout: Some(Duration::from_secs(600)),
     };
-    let mut tcp = Tcp::bind(host, alloc, plan, input)?;
+    let mut tcp = LiveTcp::bind(host, alloc, plan, input)?;
     serve_all(server, &mut tcp)
 }
 
 /// Where clients dial.
 pub fn address_of<C: Net + Clock, I: Read + AsRawFd + Drop>(
-    tcp: &Tcp<'_, C, I>,
+    tcp: &LiveTcp<'_, C, I>,
 ) -> io::Result<SocketAddr> {
     tcp.address()
 }
@@ -39,7 +39,7 @@ pub fn address_of<C: Net + Clock, I: Read + AsRawFd + Drop>(
 /// Serves the input, and on where something is wrong with it, until all links are done.
 pub fn serve_all<C: Net + Clock, I: Read + AsRawFd + Drop>(
     server: &mut Server,
-    tcp: &mut Tcp<'_, C, I>,
+    tcp: &mut LiveTcp<'_, C, I>,
 ) -> io::Result<Result<(), InputFault>>
     requires { IsSound server.old }
 {

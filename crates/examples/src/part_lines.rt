@@ -1,6 +1,6 @@
 //! Calls of `mseed_part_lines`.
 use mseed_audit::Channel;
-use mseed_part_lines::{
+use mseed_join::{
     Field, HEADER, first_bad_field, push_channel_line, push_counts_line, push_faults_line,
     read_channel_line, read_counts_line, read_fault_line, read_faults_line,
 };

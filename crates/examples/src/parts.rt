@@ -1,6 +1,6 @@
 //! Calls of `mseed_parts`.
 use mseed_audit::{Channel, Finding, Memory};
-use mseed_parts::{JoinFault, Part, TooLarge, sum};
+use mseed_join::{JoinFault, Part, TooLarge, sum};
 use mseed_record::Codes;
 use std::alloc::Global;
 

@@ -6,7 +6,7 @@ ghost use Rattle.mseed_audit.specs.Follows.{IsSound};
 ghost use Rattle.mseed_audit.specs.Judging.{known_rate};
 
 use mseed_record::RecordView;
-use mseed_stretches::{Stretch, first_stretch, is_sound};
+use mseed_repack::{Stretch, first_stretch, is_sound};
 
 /// Whether a record can stand in a stretch: it has samples, and nothing is found of it alone.
 pub fn can_be_kept(view: &RecordView) -> bool {

@@ -1,7 +1,7 @@
 -- Words ask for one command, of the same files.
 use Rattle.std.proofs.Common.{◌≡◌, ℕ, inl, inr, List, map, Option, Ok, Err, option_map, refl, ap, subst, sym, ◌∙◌}
 use Rattle.mseed_select.specs.Selecting.{selection_of}
-use Rattle.mseed_choice.specs.Selection.{Selection}
+use Rattle.mseed_record.specs.Selection.{Selection}
 use Rattle.mseed_stream.specs.Device.{BytesWritten}
 use Rattle.mseed_words.specs.Words.{AsksFor, IsRefusal, Reading, Requested, asks_for, mistaken, refused, requested}
 use Rattle.mseed_words.specs.declared.mistake.Mistake.{Mistake}

@@ -1,9 +1,9 @@
 -- What came of a command line, by its arguments as they are given.
 use Rattle.std.proofs.Common.{◌≡◌, ℕ, List, Option, Some, None, Result, Ok, Err, IfOk, IfSome, subst}
-use Rattle.mseed_choice.specs.Selection.{Selection}
+use Rattle.mseed_record.specs.Selection.{Selection}
 use Rattle.mseed_feed.specs.Listened.{Heard}
 use Rattle.mseed_files.specs.Found.{Found}
-use Rattle.mseed_input.specs.Texts.{AreTextsOf}
+use Rattle.mseed_files.specs.Texts.{AreTextsOf}
 use Rattle.mseed_stream.specs.Device.{BytesRead, BytesWritten, nothing_read}
 use Rattle.mseed_words.specs.Words.{AreRefused, AsksFor, AsksForNothing}
 use Rattle.mseed_words.specs.declared.mistake.Mistake.{Mistake}

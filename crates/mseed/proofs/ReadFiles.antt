@@ -12,13 +12,13 @@ use Rattle.mseed_files.specs.ReaderState.{remaining_of, unread}
 use Rattle.mseed_stream.specs.Calls.{ReadsOn}
 use Rattle.mseed_stream.specs.Cutting.{GivesMore}
 use Rattle.mseed_stream.specs.Device.{Beside, BytesRead, BytesWritten, nothing_read}
-use Rattle.mseed_input.specs.Texts.{IsWordOf}
-use Rattle.mseed_input.specs.Files.{Names, ReportsBlame, ReportsName, ReportsReason, cannot_read}
-use Rattle.mseed_input.specs.declared.blame.Blame.{Blame}
+use Rattle.mseed_files.specs.Texts.{IsWordOf}
+use Rattle.mseed_files.specs.InputFiles.{Names, ReportsBlame, ReportsName, ReportsReason, cannot_read}
+use Rattle.mseed_files.specs.declared.blame.Blame.{Blame}
 use Rattle.mseed_files.specs.Found.{Found}
 use Rattle.mseed_files.specs.Looked.{MayBeRead, MayBeUnreadable, found_at}
 use Rattle.mseed_files.specs.declared.reason.Reason.{Reason}
-use Rattle.mseed_choice.specs.Selection.{Selection}
+use Rattle.mseed_record.specs.Selection.{Selection}
 use Rattle.mseed_words.specs.declared.request.Request.{Request}
 use Rattle.mseed.specs.Streams.{streams}
 use Rattle.mseed_feed.specs.Commands.{HasReadInput}

@@ -1,14 +1,14 @@
 -- What reading the words of a command line comes to: a command, or the exit status of words that request nothing.
 use Rattle.std.specs.Prelude.{◌≡◌, ◌⊎◌, List, ℕ, map, Option, option_map, Result, Ok, Err}
 use Rattle.mseed_select.specs.Selecting.{selection_of}
-use Rattle.mseed_choice.specs.Selection.{Selection}
+use Rattle.mseed_record.specs.Selection.{Selection}
 use Rattle.mseed_stream.specs.Device.{BytesWritten}
 use Rattle.mseed_stream.specs.LineWritten.{WritesLine}
 use Rattle.mseed_words.specs.declared.request.Command.{Command}
 use Rattle.mseed_words.specs.declared.request.Request.{Request}
 use Rattle.mseed_words.specs.declared.mistake.Mistake.{Mistake}
 use Rattle.mseed.specs.Done.{ReportsMistake}
-use Rattle.mseed_input.specs.Files.{no_memory}
+use Rattle.mseed_files.specs.InputFiles.{no_memory}
 
 -- it is the command that does this, with these records, of these files; no line was written
 abbrev pub IsAsked : Request → Option Selection → List (List ℕ) → Result Command ℕ → BytesWritten → BytesWritten

@@ -3,9 +3,9 @@ use Rattle.mseed_join.specs.declared.joining.JoinsFault.{JoinsFault}
 use Rattle.mseed_join.specs.declared.joining.JoinsFault.TheVariants as joins
 use Rattle.mseed_repack.specs.declared.fault.RepackFault.{RepackFault}
 use Rattle.mseed_repack.specs.declared.fault.RepackFault.TheVariants as packing
-use Rattle.mseed_input.specs.Blame.{blame_of}
-use Rattle.mseed_input.specs.declared.blame.Blame.{Blame}
-use Rattle.mseed_input.specs.declared.blame.Blame.TheVariants as blames
+use Rattle.mseed_files.specs.Blame.{blame_of}
+use Rattle.mseed_files.specs.declared.blame.Blame.{Blame}
+use Rattle.mseed_files.specs.declared.blame.Blame.TheVariants as blames
 
 -- of parts that weren't joined: a bad line lies where it begins; a wrong number of parts lies nowhere
 abbrev pub join_blame : JoinsFault → Blame

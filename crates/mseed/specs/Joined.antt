@@ -3,9 +3,9 @@ use Rattle.std.specs.Prelude.{ℕ, List, ◌++◌, nat_lt, if◌then◌else◌, 
 use Rattle.mseed_stream.specs.Device.{BytesWritten}
 use Rattle.mseed_text.specs.Fault.{fault_line}
 use Rattle.mseed_text.specs.Name.{name_text}
-use Rattle.mseed_part_lines.specs.declared.bad_field.Field.{Field}
-use Rattle.mseed_part_lines.specs.declared.bad_field.Field.TheVariants.{Key, Records, Samples, Head, Tail, Findings}
-use Rattle.mseed_part_lines.specs.declared.bad_field.Field.TheVariants.{First, AllRecords, AllBytes}
+use Rattle.mseed_join.specs.declared.bad_field.Field.{Field}
+use Rattle.mseed_join.specs.declared.bad_field.Field.TheVariants.{Key, Records, Samples, Head, Tail, Findings}
+use Rattle.mseed_join.specs.declared.bad_field.Field.TheVariants.{First, AllRecords, AllBytes}
 use Rattle.mseed_join.specs.declared.flaw.Closing.{Closing}
 use Rattle.mseed_join.specs.declared.flaw.Closing.TheVariants.{Faults, Fault, Neither}
 use Rattle.mseed_join.specs.declared.flaw.Flaw.{Flaw}
@@ -15,9 +15,9 @@ use Rattle.mseed_join.specs.declared.joining.Joined.{Joined}
 use Rattle.mseed_join.specs.declared.joining.JoinsFault.{JoinsFault}
 use Rattle.mseed_join.specs.declared.joining.JoinsFault.TheVariants.{Line, Count, Stream, Write, Memory}
 use Rattle.mseed.specs.Blame.{join_blame}
-use Rattle.mseed_input.specs.Files.{no_memory}
+use Rattle.mseed_files.specs.InputFiles.{no_memory}
 use Rattle.mseed.specs.Outcome.{EndsBy, Report, with_line, without_line, write_failed}
-use Rattle.mseed_input.specs.declared.blame.Blame.TheVariants.{Nothing}
+use Rattle.mseed_files.specs.declared.blame.Blame.TheVariants.{Nothing}
 use Rattle.mseed.specs.declared.outcome.Ended.{Ended}
 
 -- the exit status: that of the audit, where its text or its part was written

@@ -9,10 +9,10 @@ use Rattle.mseed_audit.specs.declared.summary.AuditFault.{AuditFault}
 use Rattle.mseed_audit.specs.declared.summary.AuditFault.TheVariants.{Write, Memory}
 use Rattle.mseed_audit.specs.declared.each.EachFault.{EachFault}
 use Rattle.mseed_audit.specs.declared.each.EachFault.TheVariants as each
-use Rattle.mseed_input.specs.Blame.{blame_by}
-use Rattle.mseed_input.specs.Files.{no_memory}
-use Rattle.mseed_input.specs.declared.blame.Blame.{Blame}
-use Rattle.mseed_input.specs.declared.blame.Blame.TheVariants.{Nothing}
+use Rattle.mseed_files.specs.Blame.{blame_by}
+use Rattle.mseed_files.specs.InputFiles.{no_memory}
+use Rattle.mseed_files.specs.declared.blame.Blame.{Blame}
+use Rattle.mseed_files.specs.declared.blame.Blame.TheVariants.{Nothing}
 use Rattle.mseed_repack.specs.Selected.{without_time_lines}
 use Rattle.mseed.specs.declared.outcome.Ended.{Ended}
 

@@ -10,9 +10,9 @@ use Rattle.mseed_words.specs.declared.request.Packing.{Packing}
 use Rattle.mseed_repack.specs.declared.fault.RepackFault.{RepackFault}
 use Rattle.mseed_repack.specs.declared.fault.RepackFault.TheVariants.{Stream, Broken, Misfit, Write, Memory}
 use Rattle.mseed.specs.Blame.{packing_blame}
-use Rattle.mseed_input.specs.Files.{no_memory}
+use Rattle.mseed_files.specs.InputFiles.{no_memory}
 use Rattle.mseed.specs.Outcome.{EndsBy, Report, with_line, without_line, write_failed}
-use Rattle.mseed_input.specs.declared.blame.Blame.TheVariants.{Nothing}
+use Rattle.mseed_files.specs.declared.blame.Blame.TheVariants.{Nothing}
 use Rattle.mseed.specs.declared.outcome.Ended.{Ended}
 
 -- the line of a fault, where such an encoding is requested; of a broken channel one more, with its first finding, and

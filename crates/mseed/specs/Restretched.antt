@@ -10,7 +10,7 @@ use Rattle.mseed_repack.specs.declared.fault.RepackFault.TheVariants.{Misfit}
 use Rattle.mseed.specs.Blame.{packing_blame}
 use Rattle.mseed.specs.Outcome.{EndsBy, Report, with_line, without_line}
 use Rattle.mseed.specs.Repacked.{refusal_status, refusal_text}
-use Rattle.mseed_input.specs.declared.blame.Blame.TheVariants as blames
+use Rattle.mseed_files.specs.declared.blame.Blame.TheVariants as blames
 use Rattle.mseed.specs.declared.outcome.Ended.{Ended}
 
 -- the line of a fault, which names the stretch

@@ -1,7 +1,7 @@
 -- What `run` comes to, by what is requested, and of which records.
 use Rattle.std.specs.Prelude.{⊤, Bool, Option, Some, None, Result}
 use Rattle.mseed_audit.specs.Selected.{IsEachSelectedOutcome, IsSelectedOutcome}
-use Rattle.mseed_choice.specs.Selection.{Selection}
+use Rattle.mseed_record.specs.Selection.{Selection}
 use Rattle.mseed_join.specs.AuditPart.{IsPartOutcome, IsPartEachOutcome}
 use Rattle.mseed_join.specs.Joins.{IsJoinOutcome}
 use Rattle.mseed_join.specs.JoinsEach.{IsJoinEachOutcome}
@@ -13,7 +13,7 @@ use Rattle.mseed_repack.specs.Repack.{IsRepacking}
 use Rattle.mseed_repack.specs.Selected.{IsSelectedRepacking, IsSelectedRestretching}
 use Rattle.mseed_repack.specs.declared.fault.RepackFault.{RepackFault}
 use Rattle.mseed_select.specs.Select.{IsSelected}
-use Rattle.mseed_show.specs.Show.{IsSelectedShown}
+use Rattle.mseed_select.specs.Show.{IsSelectedShown}
 use Rattle.mseed_stream.specs.Device.{BytesRead, BytesWritten}
 use Rattle.mseed_words.specs.declared.request.Joining.{Joining}
 use Rattle.mseed_words.specs.declared.request.Request.{Request}

@@ -1,6 +1,6 @@
 -- What commands say of the records that are asked for, and their exit statuses.
 use Rattle.std.specs.Prelude.{ℕ, List, [], ◌∷◌, ◌++◌, Option, Some, None, Result, Ok, Err, codes}
-use Rattle.mseed_choice.specs.Selection.{Selection, everything}
+use Rattle.mseed_record.specs.Selection.{Selection, everything}
 use Rattle.mseed_select.specs.declared.fault.SelectFault.{SelectFault}
 use Rattle.mseed_select.specs.declared.fault.SelectFault.TheVariants.{Write, Memory}
 use Rattle.mseed_select.specs.declared.selected.Selected.{Selected}
@@ -8,10 +8,10 @@ use Rattle.mseed_repack.specs.Selected.{without_time_lines}
 use Rattle.mseed_stream.specs.Device.{BytesWritten}
 use Rattle.mseed_stream.specs.declared.fault.StreamFault.{StreamFault}
 use Rattle.mseed_text.specs.Fault.{fault_line}
-use Rattle.mseed_input.specs.Blame.{blame_by}
-use Rattle.mseed_input.specs.Files.{no_memory}
+use Rattle.mseed_files.specs.Blame.{blame_by}
+use Rattle.mseed_files.specs.InputFiles.{no_memory}
 use Rattle.mseed.specs.Outcome.{EndsBy, Report, untimed_report, with_line, write_failed}
-use Rattle.mseed_input.specs.declared.blame.Blame.TheVariants.{Nothing}
+use Rattle.mseed_files.specs.declared.blame.Blame.TheVariants.{Nothing}
 use Rattle.mseed.specs.declared.outcome.Ended.{Ended}
 
 -- what is asked for: all records where no option says

@@ -2,7 +2,7 @@
 ghost use Rattle.std.specs.Prelude.{◌≡◌};
 ghost use Rattle.mseed.specs.Blame.{join_blame, packing_blame};
 
-use mseed_input::{Blame, blame_of};
+use mseed_files::{Blame, blame_of};
 use mseed_join::JoinsFault;
 use mseed_repack::RepackFault;
 

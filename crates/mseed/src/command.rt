@@ -2,7 +2,7 @@
 ghost use Rattle.std.specs.Prelude.{◌≡◌, ℕ, IfOk, List, map, OnOk, Option, option_map, true};
 ghost use Rattle.mseed_join.specs.declared.joining.Form.{Form};
 ghost use Rattle.mseed_select.specs.Selecting.{selection_of};
-ghost use Rattle.mseed_choice.specs.Selection.{Selection};
+ghost use Rattle.mseed_record.specs.Selection.{Selection};
 ghost use Rattle.mseed_stream.specs.Calls.{ReadsOn};
 ghost use Rattle.mseed_stream.specs.Device.{nothing_read};
 ghost use Rattle.mseed_stream.specs.LineWritten.{WritesLine};
@@ -23,13 +23,12 @@ use crate::ending::{
 use crate::outcome::Ended;
 use crate::refusal::refuse_memory;
 use mseed_audit::{audit_each_selected, audit_selected};
-use mseed_choice::{All, Choice};
-use mseed_input::{report_given, word_of};
+use mseed_files::{report_given, word_of};
 use mseed_join::{Form, audit_part, audit_part_each, join, join_each};
 use mseed_pack::Options;
+use mseed_record::{All, Choice};
 use mseed_repack::{repack, repack_selected, repack_selected_stretches, repack_stretches};
-use mseed_select::select;
-use mseed_show::show_selected;
+use mseed_select::{select, show_selected};
 use mseed_stream::{Sink, Source, report};
 use mseed_words::{Command, Joining, Mistake, Packing, Refusal, Request};
 use slink_links::BAD_COMMAND;

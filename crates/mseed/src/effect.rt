@@ -1,8 +1,8 @@
 //! From the arguments of the command line to their effect.
 ghost use Rattle.std.specs.Prelude.{◌≡◌, ℕ, IfErr, IfOk, IfSome, List, map, Option, option_map, string_bytes};
-ghost use Rattle.mseed_input.specs.Texts.{AreTextsOf};
+ghost use Rattle.mseed_files.specs.Texts.{AreTextsOf};
 ghost use Rattle.mseed_select.specs.Selecting.{selection_of};
-ghost use Rattle.mseed_choice.specs.Selection.{Selection};
+ghost use Rattle.mseed_record.specs.Selection.{Selection};
 ghost use Rattle.mseed_feed.specs.Listened.{NotYet, heard};
 ghost use Rattle.mseed_stream.specs.Device.{BytesRead, nothing_read};
 ghost use Rattle.mseed_words.specs.Words.{AreRefused, AsksFor, AsksForNothing, CanBeCalled};
@@ -15,8 +15,7 @@ ghost use Rattle.mseed.specs.Streams.{streams};
 use crate::command::command_of;
 use crate::files::{ROOM, run_over_named};
 use mseed_feed::{Listen, fetch, serve, serve_live_at};
-use mseed_files::{Arguments, Chain, Files, STANDARD_INPUT, words_of};
-use mseed_input::texts_of;
+use mseed_files::{Arguments, Chain, Files, STANDARD_INPUT, texts_of, words_of};
 use mseed_stream::{Counted, Sink};
 use mseed_words::{Command, Request};
 use std::alloc::{AllocError, Global};

@@ -1,6 +1,6 @@
 //! How commands end: what is said at their end, and the exit status.
 ghost use Rattle.std.specs.Prelude.{◌≡◌, nat_lt, if◌then◌else◌, Ok};
-ghost use Rattle.mseed_input.specs.Blame.{blame_by};
+ghost use Rattle.mseed_files.specs.Blame.{blame_by};
 ghost use Rattle.mseed.specs.Joined.{EndsJoin};
 ghost use Rattle.mseed.specs.Outcome.{EndsAudit, EndsBy, EndsEach, ReportsLines, of_all, summary_report};
 ghost use Rattle.mseed.specs.Repacked.{EndsRepack};
@@ -13,7 +13,7 @@ use crate::refusal::{
     refuse_input, refuse_memory, refuse_to_join, refuse_to_repack, refuse_to_stretch, write_failed,
 };
 use mseed_audit::{AuditFault, EachFault, SelectedSummary, Summary};
-use mseed_input::{blame_by, blame_of};
+use mseed_files::{blame_by, blame_of};
 use mseed_join::{Joined, JoinsFault};
 use mseed_repack::{Left, RepackFault, report_without_time};
 use mseed_select::{SelectFault, Selected};

@@ -8,8 +8,10 @@ ghost use Rattle.mseed.specs.Effect.{AreFilesOf, HasRun, HasRunOver};
 ghost use Rattle.mseed.specs.Streams.{streams};
 
 use crate::command::run;
-use mseed_files::{Chain, Files, STANDARD_INPUT, find_unreadable};
-use mseed_input::{Watched, report_blame, report_reason, report_unreadable, word_of};
+use mseed_files::{
+    Chain, Files, STANDARD_INPUT, Watched, find_unreadable, report_blame, report_reason,
+    report_unreadable, word_of,
+};
 use mseed_stream::Sink;
 use mseed_words::Command;
 use slink_links::FAULT;

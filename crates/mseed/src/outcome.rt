@@ -1,8 +1,8 @@
 //! How a command ends: by its exit status, and by what is wrong with its input.
 ghost use Rattle.std.specs.Prelude.{◌≡◌};
-ghost use Rattle.mseed_input.specs.declared.blame.Blame.{Blame};
+ghost use Rattle.mseed_files.specs.declared.blame.Blame.{Blame};
 
-use mseed_input::Blame;
+use mseed_files::Blame;
 
 /// How a command ended.
 #[derive(Clone, Copy)]

@@ -1,7 +1,7 @@
 //! The lines that say why a command didn't do all that was requested. They are built without the heap: a line is
 //! reported whatever memory there is.
 ghost use Rattle.std.specs.Prelude.{◌≡◌, ◌≤◌, ◌+◌, ◌++◌, codes, length};
-ghost use Rattle.mseed_input.specs.Files.{no_memory};
+ghost use Rattle.mseed_files.specs.InputFiles.{no_memory};
 ghost use Rattle.mseed_repack.specs.ByStretches.{broken_text};
 ghost use Rattle.mseed_repack.specs.Misfits.{misfit_text};
 ghost use Rattle.mseed_stream.specs.LineWritten.{WritesLine};
@@ -12,10 +12,9 @@ ghost use Rattle.mseed.specs.Repacked.{refusal_status, refusal_text};
 ghost use Rattle.mseed.specs.Restretched.{stretches_text};
 
 use mseed_audit::Finding;
-use mseed_input::{report_fault, report_no_memory};
-use mseed_join::{Closing, Flaw, JoinsFault};
+use mseed_files::{report_fault, report_no_memory};
+use mseed_join::{Closing, Field, Flaw, JoinsFault};
 use mseed_pack::PackFault;
-use mseed_part_lines::Field;
 use mseed_record::Codes;
 use mseed_repack::{RepackFault, report_broken, report_misfit};
 use mseed_steim::Encoding;

@@ -11,9 +11,9 @@ use Rattle.std.specs.Map.{keys_of, lookup}
 use Rattle.std.specs.Ordering.{nat_cmp}
 use Rattle.mseed_record.specs.Header.{key_at}
 use Rattle.mseed_record.specs.View.{View}
-use Rattle.mseed_choice.specs.Pattern.{is_of_channels}
-use Rattle.mseed_choice.specs.Selection.{Selection, answer_in, asks_for, is_asked}
-use Rattle.mseed_choice.specs.declared.answer.Answer.TheVariants.{AskedFor, Left}
+use Rattle.mseed_record.specs.Pattern.{is_of_channels}
+use Rattle.mseed_record.specs.Selection.{Selection, answer_in, asks_for, is_asked}
+use Rattle.mseed_record.specs.declared.answer.Answer.TheVariants.{AskedFor, Left}
 use Rattle.mseed_stream.specs.Device.{BytesRead}
 use Rattle.mseed_audit.specs.declared.finding.Why.{Why}
 use Rattle.mseed_audit.specs.declared.verdict.Verdict.{Verdict}

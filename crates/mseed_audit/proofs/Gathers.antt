@@ -8,7 +8,7 @@ use Rattle.mseed_stream.specs.Walk.{AreViews}
 use Rattle.mseed_stream.proofs.Calls.{writes_none, writes_on}
 use Rattle.mseed_stream.proofs.Gathered.{all_behind, cut_part, gathered_all, gathered_first, gathered_more, gathered_on}
 use Rattle.mseed_stream.proofs.Gathered.{part_of}
-use Rattle.mseed_choice.specs.Selection.{Selection}
+use Rattle.mseed_record.specs.Selection.{Selection}
 use Rattle.mseed_audit.specs.declared.summary.SelectedSummary.{SelectedSummary}
 use Rattle.mseed_audit.specs.declared.each.EachFault.{EachFault}
 use Rattle.mseed_audit.specs.declared.each.EachFault.TheVariants.{Write, Memory}

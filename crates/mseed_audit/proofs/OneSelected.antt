@@ -5,7 +5,7 @@ use Rattle.std.specs.Map.{lookup}
 use Rattle.mseed_record.specs.View.{View}
 use Rattle.mseed_stream.specs.Device.{BytesRead, BytesWritten}
 use Rattle.mseed_stream.specs.declared.fault.StreamFault.{StreamFault}
-use Rattle.mseed_choice.specs.Selection.{Selection, lacks_time}
+use Rattle.mseed_record.specs.Selection.{Selection, lacks_time}
 use Rattle.mseed_audit.specs.declared.verdict.Verdict.{Verdict}
 use Rattle.mseed_audit.specs.declared.summary.SelectedSummary.{SelectedSummary}
 use Rattle.mseed_audit.specs.declared.summary.Summary.{Summary}

@@ -6,7 +6,7 @@ use Rattle.mseed_record.specs.View.{View}
 use Rattle.mseed_stream.specs.Device.{BytesRead, BytesWritten}
 use Rattle.mseed_stream.specs.Gathered.{IsCutOff}
 use Rattle.mseed_stream.specs.declared.fault.StreamFault.{StreamFault}
-use Rattle.mseed_choice.specs.Selection.{Selection, asks_for, everything, lacks_time}
+use Rattle.mseed_record.specs.Selection.{Selection, asks_for, everything, lacks_time}
 use Rattle.mseed_audit.specs.declared.verdict.Verdict.{Verdict}
 use Rattle.mseed_audit.specs.declared.passed.Passed.{Passed}
 use Rattle.mseed_audit.specs.declared.summary.AuditFault.TheVariants.{Write}

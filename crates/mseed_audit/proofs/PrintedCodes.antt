@@ -9,9 +9,9 @@ use Rattle.std.proofs.lemmas.Bool.Decides.{nat_tests}
 use Rattle.std.proofs.lemmas.List.{length-map, map-append}
 use Rattle.std.proofs.lemmas.List.Folds.{list_all-append}
 use Rattle.std.proofs.lemmas.List.Splits.{join_with_byte-slice_split}
-use Rattle.mseed_choice.specs.Pattern.{Fits, FitsLocation, Matches, Takes, channel_of, fields_in, is_character}
-use Rattle.mseed_choice.specs.Pattern.{is_pattern}
-use Rattle.mseed_choice.specs.Pattern.{location_of, network_of, station_of}
+use Rattle.mseed_record.specs.Pattern.{Fits, FitsLocation, Matches, Takes, channel_of, fields_in, is_character}
+use Rattle.mseed_record.specs.Pattern.{is_pattern}
+use Rattle.mseed_record.specs.Pattern.{location_of, network_of, station_of}
 use Rattle.mseed_text.specs.Name.{code_text, name_text, printed}
 use Rattle.mseed_audit.specs.Printed.{MatchesPrinted, printed_codes}
 

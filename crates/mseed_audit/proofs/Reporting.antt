@@ -8,9 +8,9 @@ use Rattle.mseed_record.specs.View.{View}
 use Rattle.mseed_stream.specs.Device.{BytesRead}
 use Rattle.mseed_stream.specs.CutterState.{CutterState}
 use Rattle.mseed_stream.specs.Walk.{AreViews}
-use Rattle.mseed_choice.specs.Selection.{Selection, answer_of, is_asked, is_without_time, lacks_time}
-use Rattle.mseed_choice.specs.declared.answer.Answer.{Answer}
-use Rattle.mseed_choice.specs.declared.answer.Answer.TheVariants.{AskedFor, Left, NoTime}
+use Rattle.mseed_record.specs.Selection.{Selection, answer_of, is_asked, is_without_time, lacks_time}
+use Rattle.mseed_record.specs.declared.answer.Answer.{Answer}
+use Rattle.mseed_record.specs.declared.answer.Answer.TheVariants.{AskedFor, Left, NoTime}
 use Rattle.mseed_audit.specs.declared.audits.Memory.{Memory as NoRoom}
 use Rattle.mseed_audit.specs.declared.finding.Why.{Why}
 use Rattle.mseed_audit.specs.declared.passed.Passed.{Passed}

@@ -6,8 +6,8 @@ use Rattle.std.proofs.lemmas.List.Elements.{filter-append}
 use Rattle.std.specs.List.{concat, filter}
 use Rattle.mseed_record.specs.View.{View}
 use Rattle.mseed_stream.specs.Walk.{AreViews}
-use Rattle.mseed_choice.proofs.Counted.{count_more}
-use Rattle.mseed_choice.specs.Selection.{Selection, asks_for, lacks_time}
+use Rattle.mseed_record.proofs.Counted.{count_more}
+use Rattle.mseed_record.specs.Selection.{Selection, asks_for, lacks_time}
 use Rattle.mseed_audit.specs.declared.passed.Passed.{Passed}
 use Rattle.mseed_audit.specs.Audit.{Held, IsAuditAmong}
 use Rattle.mseed_audit.specs.Channels.{Added, Placed, added_from, numbered}

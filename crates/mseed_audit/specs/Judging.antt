@@ -9,7 +9,7 @@ use Rattle.mseed_record.specs.declared.leap.Leap.{Leap}
 use Rattle.mseed_record.specs.declared.leap.Leap.TheVariants.{None as NoLeap, Positive, Negative, Both}
 use Rattle.mseed_record.specs.View.{View, start_of, leap_of}
 pub use Rattle.mseed_record.specs.View.{step_in}
-pub use Rattle.mseed_choice.specs.Selection.{rate_in, start_fault as time_fault_of}
+pub use Rattle.mseed_record.specs.Selection.{rate_in, start_fault as time_fault_of}
 use Rattle.mseed_steim.specs.declared.fault.ReadFault.{ReadFault}
 use Rattle.mseed_steim.specs.Reading.{count_of, IsFault, IsWhole}
 use Rattle.mseed_audit.specs.declared.finding.Why.{Why}

@@ -1,6 +1,6 @@
 -- A pattern, held against a channel's name as it is printed.
 use Rattle.std.specs.Prelude.{◌≡◌, ℕ, List, [], ◌∷◌, slice_range}
-use Rattle.mseed_choice.specs.Pattern.{Fits, FitsLocation, fields_in}
+use Rattle.mseed_record.specs.Pattern.{Fits, FitsLocation, fields_in}
 use Rattle.mseed_text.specs.Name.{code_text}
 
 -- the four codes of a channel as they are printed

@@ -2,7 +2,7 @@
 use Rattle.std.specs.Prelude.{◌≡◌, ℕ, List, length, None}
 use Rattle.std.specs.List.{filter}
 use Rattle.mseed_record.specs.View.{View}
-use Rattle.mseed_choice.specs.Selection.{Selection, asks_for}
+use Rattle.mseed_record.specs.Selection.{Selection, asks_for}
 use Rattle.mseed_audit.specs.Channels.{Placed, added_from, numbered}
 
 -- the records of an archive, each with its number and offset

@@ -7,7 +7,7 @@ ghost use Rattle.mseed_audit.specs.Selected.{IsEachSelectedOutcome};
 
 use crate::audits::{Audit, Memory};
 use crate::summary::{SelectedSummary, Summary, gather_with, push_finished};
-use mseed_choice::{All, Choice};
+use mseed_record::{All, Choice};
 use mseed_stream::{Sink, Source, StreamFault, write_all_of};
 use std::alloc::Allocator;
 use thiserror::Error;

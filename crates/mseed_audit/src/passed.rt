@@ -1,8 +1,8 @@
 //! The records that an audit isn't asked for.
 ghost use Rattle.std.specs.Prelude.{◌≡◌, ◌+◌, ◌<◌, ◌^◌, if◌then◌else◌, false};
-ghost use Rattle.mseed_choice.specs.Selection.{is_asked, is_without_time};
+ghost use Rattle.mseed_record.specs.Selection.{is_asked, is_without_time};
 
-use mseed_choice::Answer;
+use mseed_record::Answer;
 
 /// How many records an audit passed.
 #[derive(Clone, Copy)]

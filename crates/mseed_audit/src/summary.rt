@@ -5,7 +5,7 @@ ghost use Rattle.mseed_record.specs.Viewing.{view_of};
 ghost use Rattle.mseed_stream.specs.Calls.{ReadsOn, WritesOn};
 ghost use Rattle.mseed_stream.specs.Cutting.{IsAlong};
 ghost use Rattle.mseed_stream.specs.Device.{BytesRead, nothing_read};
-ghost use Rattle.mseed_choice.specs.Selection.{Selection};
+ghost use Rattle.mseed_record.specs.Selection.{Selection};
 
 use crate::audits::{Audit, Memory};
 use crate::each::EachFault;
@@ -14,8 +14,7 @@ use crate::passed::Passed;
 use crate::report::{Report, Unreported};
 use crate::text::push_audit;
 use crate::verdict::Verdict;
-use mseed_choice::{All, Answer, Choice};
-use mseed_record::{Codes, RecordView};
+use mseed_record::{All, Answer, Choice, Codes, RecordView};
 use mseed_stream::{Cutter, Failed, Sink, Source, StreamFault, write_all_of};
 use std::alloc::Allocator;
 use thiserror::Error;

@@ -5,7 +5,7 @@ use crate::bench::{Bench, Rounds, Task, source_over};
 use crate::failure::Failure;
 use crate::shape::{dealt, shuffled, spoil};
 use mseed_audit::audit_each;
-use mseed_show::show;
+use mseed_select::show;
 use mseed_stream::Counted;
 
 /// Integers of 32 bits in records of 128 bytes.

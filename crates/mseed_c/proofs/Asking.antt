@@ -5,7 +5,7 @@ use Rattle.std.specs.Prelude.{IsTrue}
 use Rattle.std.proofs.lemmas.Bool.{cases_eq, eq-eqb, eqb-true, false≢true, ne_eqb}
 use Rattle.std.proofs.lemmas.List.{length-drop, length-take, nil_from_length}
 use Rattle.mseed_time.specs.Btime.{IsInstant}
-use Rattle.mseed_choice.specs.Pattern.{are_patterns}
+use Rattle.mseed_record.specs.Pattern.{are_patterns}
 use Rattle.mseed_c.specs.Asked.{HasNoInstant, bound_of, channels_of}
 use Rattle.mseed_c.specs.Room.{overwritten}
 use Rattle.mseed_c.specs.declared.selecting.Window.{Window}

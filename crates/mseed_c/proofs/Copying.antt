@@ -11,11 +11,11 @@ use Rattle.mseed_stream.proofs.Handed.{records_next}
 use Rattle.mseed_stream.proofs.Records.{view_record}
 use Rattle.mseed_stream.proofs.Walks.{views_more}
 use Rattle.mseed_select.specs.Select.{selected_bytes}
-use Rattle.mseed_choice.specs.Selection.{Selection, answer_of, asks_for, is_asked, is_without_time, lacks_time}
+use Rattle.mseed_record.specs.Selection.{Selection, answer_of, asks_for, is_asked, is_without_time, lacks_time}
 use Rattle.mseed_select.specs.Counting.{one_if}
-use Rattle.mseed_choice.specs.declared.answer.Answer.{Answer}
-use Rattle.mseed_choice.specs.declared.answer.Answer.TheVariants.{AskedFor, Left, NoTime}
-use Rattle.mseed_choice.proofs.Counted.{count_more}
+use Rattle.mseed_record.specs.declared.answer.Answer.{Answer}
+use Rattle.mseed_record.specs.declared.answer.Answer.TheVariants.{AskedFor, Left, NoTime}
+use Rattle.mseed_record.proofs.Counted.{count_more}
 use Rattle.mseed_c.specs.Decoded.{IsFirst}
 use Rattle.mseed_c.specs.Room.{overwritten}
 use Rattle.mseed_c.specs.private.Copied.{IsSmall, IsSoFar, added, counted, size_by}

@@ -5,9 +5,9 @@ use Rattle.std.specs.List.{count_by}
 use Rattle.mseed_time.specs.Btime.{IsInstant}
 use Rattle.mseed_record.specs.View.{View}
 use Rattle.mseed_stream.specs.Walk.{AreViews}
-use Rattle.mseed_choice.specs.Pattern.{are_patterns}
+use Rattle.mseed_record.specs.Pattern.{are_patterns}
 use Rattle.mseed_select.specs.Select.{selected_bytes}
-use Rattle.mseed_choice.specs.Selection.{Selection, asks_for, lacks_time}
+use Rattle.mseed_record.specs.Selection.{Selection, asks_for, lacks_time}
 use Rattle.mseed_c.specs.Codes.{code_of_stop, needed_by}
 use Rattle.mseed_c.specs.Decoded.{IsStopAt}
 use Rattle.mseed_c.specs.Room.{overwritten}

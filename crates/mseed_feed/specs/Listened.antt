@@ -7,8 +7,8 @@ use Rattle.std.specs.declared.net.ip_addr.IpAddr.TheVariants as Ip
 use Rattle.std.specs.declared.net.ipv4_addr.Ipv4Addr.{Ipv4Addr}
 use Rattle.slink_wire.specs.Hosts.{limit_in}
 use Rattle.slink_live.specs.Happening.{Happening}
-use Rattle.slink_live_tcp.specs.Happened.{happened}
-use Rattle.slink_live_tcp.specs.declared.tcp.Plan.{Plan}
+use Rattle.slink_links.specs.Happened.{happened}
+use Rattle.slink_links.specs.declared.live_tcp.LivePlan.{LivePlan}
 use Rattle.mseed_words.specs.declared.request.LiveServing.{LiveServing}
 use Rattle.mseed_feed.specs.declared.listening.Refusal.{Refusal}
 use Rattle.mseed_feed.specs.declared.listening.Outcome.{Outcome}
@@ -31,7 +31,7 @@ abbrev pub came_of : {N I : Type 0} → TcpListening N I → Listened
 came_of l = came_by l.outcome
 
 -- Links are taken at the address and the port that were requested, as many at once, and with that time-out.
-pub record IsPlanFor (live : LiveServing) (plan : Plan) : Type 0 where
+pub record IsPlanFor (live : LiveServing) (plan : LivePlan) : Type 0 where
   pub ip : Ipv4Addr
   pub at_ip : socket_ip plan.address ≡ Ip.V4 ip
   pub address : ipv4_octets ip ≡ live.serving.listener.host.octets
@@ -41,13 +41,13 @@ pub record IsPlanFor (live : LiveServing) (plan : Plan) : Type 0 where
 
 -- what is known of where links are taken: by what plan it was listened there, if it was, and what came of it
 pub record Heard : Type 0 where
-  pub planned : Option Plan
+  pub planned : Option LivePlan
   pub came : Listened
 
-abbrev pub heard : Option Plan → Listened → Heard
+abbrev pub heard : Option LivePlan → Listened → Heard
 heard planned came = record { planned = planned; came = came }
 
 -- The plan that was listened by is that.
-abbrev pub IsListenedFor : LiveServing → Option Plan → Type 0
+abbrev pub IsListenedFor : LiveServing → Option LivePlan → Type 0
 IsListenedFor live None = ⊥
 IsListenedFor live (Some plan) = IsPlanFor live plan

@@ -12,7 +12,7 @@ use Rattle.slink_live.specs.Happening.{Happening, input_of}
 use Rattle.slink_live.specs.Input.{IsInputFault}
 use Rattle.slink_live.specs.Served.{IsFinished, ServerState}
 use Rattle.slink_live.specs.Turns.{HasSteps, Stands}
-use Rattle.mseed_input.specs.Files.{no_memory}
+use Rattle.mseed_files.specs.InputFiles.{no_memory}
 use Rattle.mseed_words.specs.declared.request.LiveServing.{LiveServing}
 use Rattle.mseed_feed.specs.Filling.{feed_of}
 use Rattle.mseed_feed.specs.Listened.{Listened, NotYet, Over, Refused}

@@ -1,8 +1,8 @@
 -- The plans of the two commands of a feed, and what is given where there is none.
 use Rattle.std.specs.Prelude.{◌≡◌, ℕ, ◌-◌, List, [], ◌∷◌, ◌++◌, Result, Ok, Err, codes, decimal, length, nat_lt}
 use Rattle.std.specs.Prelude.{if◌then◌else◌}
-use Rattle.mseed_input.specs.Files.{no_memory}
-use Rattle.mseed_input.specs.Given.{given_line}
+use Rattle.mseed_files.specs.InputFiles.{no_memory}
+use Rattle.mseed_files.specs.Given.{given_line}
 use Rattle.mseed_record.specs.Header.{trimmed}
 use Rattle.mseed_stream.specs.Device.{BytesRead, BytesWritten}
 use Rattle.mseed_stream.specs.declared.fault.StreamFault.TheVariants.{Memory}

@@ -1,12 +1,11 @@
 //! Where a live server listens.
 ghost use Rattle.std.specs.Prelude.{◌≡◌, ◌≢◌, [], IfErr, IfOk, Option, Some};
 ghost use Rattle.std.specs.IoError.{error_kind};
-ghost use Rattle.slink_live_tcp.specs.declared.tcp.Plan.{Plan};
+ghost use Rattle.slink_links.specs.declared.live_tcp.LivePlan.{LivePlan};
 ghost use Rattle.mseed_feed.specs.Listened.{Listened, NotYet, Refused, Over, came_of};
 
-use slink_links::ListenFault;
+use slink_links::{ListenFault, LivePlan, LiveTcp};
 use slink_live::Ready;
-use slink_live_tcp::{Plan, Tcp};
 use std::alloc::Global;
 use std::io::{Error, ErrorKind, Read};
 use std::net::Net;
@@ -20,9 +19,9 @@ pub trait Device: Ready {
         ensures { result ≡ Self.has_failed self.now };
 }
 
-impl<C: Clock, I: Read + AsRawFd + Drop> Device for Tcp<'_, C, I> {
+impl<C: Clock, I: Read + AsRawFd + Drop> Device for LiveTcp<'_, C, I> {
     fn has_failed(&self) -> bool {
-        Tcp::has_failed(self)
+        LiveTcp::has_failed(self)
     }
 }
 
@@ -55,7 +54,7 @@ pub trait Listen {
     type Device: Device + Drop;
 
     // Where links were to be taken from, and how.
-    ghost planned: { Self → Option Plan };
+    ghost planned: { Self → Option LivePlan };
 
     // What came of it: at last, all that happened at the device.
     ghost came: { Self → Listened };
@@ -65,7 +64,7 @@ pub trait Listen {
     /// # Errors
     ///
     /// Where the system refuses it, or there is too little memory.
-    fn listen(&mut self, alloc: Global, plan: Plan) -> Result<Self::Device, Refusal>
+    fn listen(&mut self, alloc: Global, plan: LivePlan) -> Result<Self::Device, Refusal>
         requires { came self.old ≡ NotYet }
         ensures planned { planned self.new ≡ Some plan }
         ensures fresh { IfOk result (λ device. Self.Device.Ready.log device ≡ []) }
@@ -86,7 +85,7 @@ enum Outcome<'a, N: Clock, I: Drop> {
     /// It was refused.
     Refused(Refusal),
     /// The device was given back, and this is whether it had failed by then.
-    Over(Tcp<'a, N, I>, bool),
+    Over(LiveTcp<'a, N, I>, bool),
 }
 
 /// A host at which a live server listens over TCP, and its input. The device that was given back stays there, so that
@@ -95,7 +94,7 @@ enum Outcome<'a, N: Clock, I: Drop> {
 pub struct TcpListening<'a, N: Clock, I: Drop> {
     host: &'a N,
     input: Option<I>,
-    plan: Option<Plan>,
+    plan: Option<LivePlan>,
     outcome: Outcome<'a, N, I>,
 }
 
@@ -123,24 +122,24 @@ impl<'a, N: Clock, I: Drop> TcpListening<'a, N, I> {
 }
 
 impl<'a, N: Net + Clock, I: Read + AsRawFd + Drop> Listen for TcpListening<'a, N, I> {
-    type Device = Tcp<'a, N, I>;
+    type Device = LiveTcp<'a, N, I>;
 
     ghost planned = { λ l. l.plan };
 
     ghost came = { came_of };
 
-    fn listen(&mut self, alloc: Global, plan: Plan) -> Result<Tcp<'a, N, I>, Refusal> {
+    fn listen(&mut self, alloc: Global, plan: LivePlan) -> Result<LiveTcp<'a, N, I>, Refusal> {
         self.plan = Some(plan);
         let Some(input) = self.input.take() else {
             return Err(self.refuse(Refusal::Port(ListenFault::Other)));
         };
-        match Tcp::bind(self.host, alloc, plan, input) {
+        match LiveTcp::bind(self.host, alloc, plan, input) {
             Ok(device) => Ok(device),
             Err(error) => Err(self.refuse(Refusal::of(&error))),
         }
     }
 
-    fn hang_up(&mut self, mut device: Tcp<'a, N, I>) {
+    fn hang_up(&mut self, mut device: LiveTcp<'a, N, I>) {
         let has_failed = device.has_failed();
         device.finish();
         self.outcome = Outcome::Over(device, has_failed);

@@ -13,9 +13,8 @@ use crate::listening::{Device, Listen, Refusal};
 use crate::refusal::{link_failed, refuse_memory, report_filling, report_unlistened};
 use mseed_stream::Sink;
 use mseed_words::LiveServing;
-use slink_links::{DONE, FAULT};
+use slink_links::{DONE, FAULT, LivePlan};
 use slink_live::Server;
-use slink_live_tcp::Plan;
 use std::alloc::{AllocError, Global};
 use std::net::{IpAddr, Ipv4Addr, SocketAddr};
 
@@ -50,12 +49,12 @@ pub fn serve_live_at<L: Listen, E: Sink>(
 }
 
 /// Where links are taken, how many stand at once, and how long a handshake may take and a link take nothing.
-fn plan_of(live: &LiveServing) -> Plan
+fn plan_of(live: &LiveServing) -> LivePlan
     ensures { IsPlanFor live.now result }
 {
     let listener = &live.serving.listener;
     let address = Ipv4Addr::from_octets(listener.host.octets);
-    Plan {
+    LivePlan {
         address: SocketAddr::new(IpAddr::V4(address), listener.port),
         clients: live.clients as usize,
         timeout: listener.timeout.limit(),

@@ -6,10 +6,10 @@ ghost use Rattle.mseed_record.specs.Header.{trimmed};
 ghost use Rattle.slink_feed.specs.Reporter.{AreReported};
 ghost use Rattle.mseed_feed.specs.Plans.{fill_lines, fill_text, more_lines, station_line};
 ghost use Rattle.mseed_feed.specs.Unlistened.{IsUnlistened, cannot_listen};
-ghost use Rattle.mseed_input.specs.Files.{no_memory};
+ghost use Rattle.mseed_files.specs.InputFiles.{no_memory};
 ghost use Rattle.mseed_stream.specs.LineWritten.{WritesLine};
 
-use mseed_input::{report_fault, report_given, report_no_memory, report_number};
+use mseed_files::{report_fault, report_given, report_no_memory, report_number};
 use mseed_record::trimmed;
 use mseed_stream::{Sink, StreamFault, report};
 use mseed_text::Line;

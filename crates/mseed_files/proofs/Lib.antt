@@ -1,4 +1,6 @@
-pub mod Given
+pub mod GivenWords
 pub mod Held
 pub mod OnePlace
 pub mod Opening
+pub mod Kept
+pub mod WordTexts

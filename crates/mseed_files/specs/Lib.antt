@@ -5,4 +5,9 @@ pub mod Found
 pub mod Looked
 pub mod ReaderState
 pub mod ChainState
+pub mod Blame
+pub mod InputFiles
+pub mod Given
+pub mod Texts
+pub mod Watched
 pub mod private

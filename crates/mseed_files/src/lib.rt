@@ -6,20 +6,32 @@
 #![tactic(auto)]
 
 mod arguments;
+mod blame;
 mod chain;
 mod files;
+mod given;
 mod law;
+mod lines;
 mod look;
+mod naming;
 mod place;
 mod reader;
 mod reason;
 mod system;
+mod texts;
+mod watched;
 
 pub use arguments::{Arguments, Process, words_of};
+pub use blame::{Blame, blame_by, blame_of};
 pub use chain::Chain;
 pub use files::Files;
+pub use given::report_given;
 pub use law::one_place;
+pub use lines::{report_fault, report_no_memory, report_number};
 pub use look::find_unreadable;
+pub use naming::{report_blame, report_reason, report_unreadable};
 pub use place::Place;
 pub use reason::Reason;
 pub use system::{Input, STANDARD_INPUT, System};
+pub use texts::{texts_of, word_of};
+pub use watched::Watched;

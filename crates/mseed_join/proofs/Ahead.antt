@@ -6,9 +6,9 @@ use Rattle.std.proofs.ByRecursion.{All-append}
 use Rattle.std.proofs.lemmas.List.{length-append}
 use Rattle.mseed_stream.specs.declared.fault.StreamFault.{StreamFault}
 use Rattle.mseed_audit.specs.declared.channel.Channel.{Channel}
-use Rattle.mseed_parts.specs.Parts.{IsAscending, Fits, FitsAt, kept_of, counts_alone}
+use Rattle.mseed_join.specs.Parts.{IsAscending, Fits, FitsAt, kept_of, counts_alone}
 use Rattle.mseed_audit.proofs.Rosters.{kept_after}
-use Rattle.mseed_part_lines.specs.Lines.{Line, text_of_line, IsLine}
+use Rattle.mseed_join.specs.Lines.{Line, text_of_line, IsLine}
 use Rattle.mseed_join.specs.Written.{Written, texts}
 use Rattle.mseed_join.specs.Joined.{AreJoined, Begins, HasNoEnd, IsJointOf, counted, counted_by, nothing}
 use Rattle.mseed_join.specs.Reached.{Stage, begun_part, open_part, parts_at, IsStage, start}

@@ -4,7 +4,7 @@ use Rattle.std.proofs.Common.{false, Option, refl, sym, ap, ◌∙◌, subst, ar
 use Rattle.std.proofs.Common.{length-append, take-append-drop, length-take}
 use Rattle.std.proofs.lemmas.List.{append_cancel_left, append_cancel_right, nil_from_length}
 use Rattle.mseed_stream.specs.Device.{BytesRead, BytesWritten}
-use Rattle.mseed_part_lines.specs.Lines.{Line, counts_line, header_line}
+use Rattle.mseed_join.specs.Lines.{Line, counts_line, header_line}
 use Rattle.mseed_join.specs.declared.line_reader.Ahead.{Ahead}
 use Rattle.mseed_join.specs.declared.line_reader.Ahead.TheVariants.{Line as WholeLine, TooLong, Unended, Nothing}
 use Rattle.mseed_join.specs.declared.joint.Joint.{Joint}

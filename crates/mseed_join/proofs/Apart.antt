@@ -15,11 +15,11 @@ use Rattle.mseed_audit.specs.Channels.{Added, added_from}
 use Rattle.mseed_audit.specs.Each.{AuditedEach}
 use Rattle.mseed_audit.specs.Text.{reported_line, reported_lines}
 use Rattle.mseed_audit.specs.Reported.{Reported, AreReportedOf, none as nothing_reported}
-use Rattle.mseed_parts.specs.Borders.{borders_with}
-use Rattle.mseed_parts.specs.Notices.{AreMerged, HaveBytes, Notice, border_notice, border_notices, moved_notice}
-use Rattle.mseed_parts.specs.Notices.{moved_notices, notices_of}
-use Rattle.mseed_parts.specs.Parts.{Held, IsPartOf}
-use Rattle.mseed_parts.proofs.Rising.{reported_first, reported_rise}
+use Rattle.mseed_join.specs.PartBorders.{borders_with}
+use Rattle.mseed_join.specs.Notices.{AreMerged, HaveBytes, Notice, border_notice, border_notices, moved_notice}
+use Rattle.mseed_join.specs.Notices.{moved_notices, notices_of}
+use Rattle.mseed_join.specs.Parts.{Held, IsPartOf}
+use Rattle.mseed_join.proofs.Rising.{reported_first, reported_rise}
 use Rattle.mseed_join.specs.AuditPart.{ReportedPart}
 use Rattle.mseed_join.specs.Borders.{AreBorders, AreBordersOf, Border, border_line, border_lines, notice_lines}
 use Rattle.mseed_join.specs.Headline.{AreParted, EndsByBytes, IsReadOf, SaysAudit}

@@ -6,8 +6,8 @@ use Rattle.std.specs.Option.{option_map}
 use Rattle.mseed_stream.specs.declared.fault.StreamFault.{StreamFault}
 use Rattle.mseed_audit.specs.declared.channel.Channel.{Channel}
 use Rattle.mseed_audit.specs.Audit.{head_in}
-use Rattle.mseed_parts.specs.Joining.{border_between, moved_channel}
-use Rattle.mseed_part_lines.specs.Lines.{Line, header, channel, counts, faults, fault}
+use Rattle.mseed_join.specs.Joining.{border_between, moved_channel}
+use Rattle.mseed_join.specs.Lines.{Line, header, channel, counts, faults, fault}
 use Rattle.mseed_join.specs.Borders.{AreBorders, AreBordersOf, Border, border_at, border_line, border_lines}
 use Rattle.mseed_join.specs.Borders.{border_with, borders_with}
 use Rattle.mseed_join.specs.Joined.{AreJoined, IsJointOf, IsNext, counted, counted_by, moved_fault, nothing}

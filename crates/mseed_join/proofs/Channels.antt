@@ -8,7 +8,7 @@ use Rattle.mseed_audit.specs.Summary.{broken_count}
 use Rattle.mseed_text.specs.Fault.{end_line}
 use Rattle.mseed_stream.specs.declared.fault.StreamFault.{StreamFault}
 use Rattle.mseed_audit.proofs.OneMore.{prefix_more, text_more}
-use Rattle.mseed_part_lines.specs.Lines.{channel_line, counts_line, faults_line, header_line}
+use Rattle.mseed_join.specs.Lines.{channel_line, counts_line, faults_line, header_line}
 use Rattle.mseed_join.specs.Joined.{verdict_at}
 use Rattle.mseed_join.specs.Written.{channel_lines, part_text}
 

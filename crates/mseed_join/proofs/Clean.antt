@@ -2,7 +2,7 @@
 use Rattle.std.proofs.Common.{◌≡◌, ◌≢◌, ◌⊎◌, ℕ, ◌++◌, List, [], ◌∷◌, Bool, true, inl, inr, refl, sym, ap, ◌∙◌, subst}
 use Rattle.std.proofs.Common.{append_assoc, append-nil, ⊎_elim}
 use Rattle.mseed_stream.specs.Device.{BytesRead}
-use Rattle.mseed_part_lines.specs.Lines.{Line, IsLine, text_of_line}
+use Rattle.mseed_join.specs.Lines.{Line, IsLine, text_of_line}
 use Rattle.mseed_join.specs.Headline.{IsReadOf}
 use Rattle.mseed_join.specs.Joined.{Begins, HasNoEnd, IsBadLine, IsJointOf, lacks, unended, wrong}
 use Rattle.mseed_join.specs.Written.{Spells, Written}

@@ -9,8 +9,8 @@ use Rattle.mseed_stream.specs.Cutting.{read_from}
 use Rattle.mseed_stream.specs.Device.{BytesRead}
 use Rattle.mseed_stream.specs.Walk.{bytes_in}
 use Rattle.mseed_text.specs.Fault.{end_line}
-use Rattle.mseed_parts.specs.Parts.{Held, IsPartOf}
-use Rattle.mseed_part_lines.specs.Lines.{header_line, counts_line, faults_line}
+use Rattle.mseed_join.specs.Parts.{Held, IsPartOf}
+use Rattle.mseed_join.specs.Lines.{header_line, counts_line, faults_line}
 use Rattle.mseed_join.specs.AuditPart.{AuditedPart}
 use Rattle.mseed_join.specs.Headline.{EndsByBytes, IsReadOf, without_end}
 use Rattle.mseed_join.specs.Written.{Written, channel_lines, part_text}

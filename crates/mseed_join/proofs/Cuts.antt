@@ -18,8 +18,8 @@ use Rattle.mseed_stream.proofs.Ends.{one_end}
 use Rattle.mseed_stream.proofs.Handed.{no_further}
 use Rattle.mseed_stream.proofs.OneInput.{ended, refused_of, same_views}
 use Rattle.mseed_stream.proofs.Records.{one_archive, view_record}
-use Rattle.mseed_parts.specs.Parts.{bytes_in as size_of}
-use Rattle.mseed_parts.proofs.Placing.{bytes_append}
+use Rattle.mseed_join.specs.Parts.{bytes_in as size_of}
+use Rattle.mseed_join.proofs.Placing.{bytes_append}
 use Rattle.mseed_join.specs.Headline.{EndsByBytes, IsReadOf}
 use Rattle.mseed_join.specs.Joined.{moved_fault}
 use Rattle.mseed_join.proofs.Longer.{refused_more}

@@ -34,14 +34,14 @@ use Rattle.mseed_audit.specs.declared.channel.Findings.{Findings}
 use Rattle.mseed_audit.specs.declared.channel.Findings.TheVariants.{Nothing, Counted}
 use Rattle.mseed_audit.specs.declared.channel.Head.{Head}
 use Rattle.mseed_audit.specs.declared.tail.Tail.{Tail}
-use Rattle.mseed_part_lines.specs.Lines.{hex_digit, key_text, ratio_text, leap_text, head_text, tail_text, text_or_none}
-use Rattle.mseed_part_lines.specs.Lines.{first_text, findings_text, IsWord, HasHead, HasTail, HasReadFault, HasWhy}
-use Rattle.mseed_part_lines.specs.Lines.{HasFinding, HasFindings, HasFrameFault, IsFaultAfter, Line, header, channel}
-use Rattle.mseed_part_lines.specs.Lines.{counts}
-use Rattle.mseed_part_lines.specs.Lines.{faults, fault, text_of_line, IsLine}
-use Rattle.mseed_part_lines.proofs.Backwards.{instant_within, word_within}
-use Rattle.mseed_part_lines.proofs.Digits.{IsWithin}
-use Rattle.mseed_part_lines.proofs.Prefixes.{fault_words, fault_of}
+use Rattle.mseed_join.specs.Lines.{hex_digit, key_text, ratio_text, leap_text, head_text, tail_text, text_or_none}
+use Rattle.mseed_join.specs.Lines.{first_text, findings_text, IsWord, HasHead, HasTail, HasReadFault, HasWhy}
+use Rattle.mseed_join.specs.Lines.{HasFinding, HasFindings, HasFrameFault, IsFaultAfter, Line, header, channel}
+use Rattle.mseed_join.specs.Lines.{counts}
+use Rattle.mseed_join.specs.Lines.{faults, fault, text_of_line, IsLine}
+use Rattle.mseed_join.proofs.Backwards.{instant_within, word_within}
+use Rattle.mseed_join.proofs.Digits.{IsWithin}
+use Rattle.mseed_join.proofs.Prefixes.{fault_words, fault_of}
 use Rattle.mseed_join.specs.Joined.{HasNoEnd}
 
 -- no LF is among them

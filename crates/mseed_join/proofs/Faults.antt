@@ -29,7 +29,7 @@ use Rattle.mseed_audit.specs.declared.finding.Why.{Why}
 use Rattle.mseed_audit.specs.declared.finding.Why.TheVariants.{RateChange}
 use Rattle.mseed_audit.specs.Judging.{IsFound, time, rate, read, after, known_rate, step_in, why_after, why_by}
 use Rattle.mseed_audit.specs.Judging.{why_from, why_of}
-use Rattle.mseed_part_lines.specs.Lines.{HasReadFault, HasWhy, IsWord}
+use Rattle.mseed_join.specs.Lines.{HasReadFault, HasWhy, IsWord}
 use Rattle.mseed_join.proofs.Ranges.{AreOctets, JoinFits, count_small, join_fits, octets_of, rate_within, start_within}
 
 -- what holds of all of a list holds of one within it

@@ -16,12 +16,12 @@ use Rattle.mseed_audit.specs.declared.channel.Head.{Head}
 use Rattle.mseed_audit.specs.Audit.{Stands, StandsAt, head_in}
 use Rattle.mseed_audit.specs.Channels.{Placed, added_from, records_of}
 use Rattle.mseed_audit.specs.Summary.{Audited}
-use Rattle.mseed_parts.specs.Joining.{channel_then, channel_joined, moved_channel, moved_findings, moved_head}
-use Rattle.mseed_parts.specs.Parts.{CountFits, CountsFit, FirstFits, Fits, FitsAt, HeadFits, Held, IsJoint, IsPartOf}
-use Rattle.mseed_parts.specs.Parts.{bytes_in as size_of, kept_of}
-use Rattle.mseed_parts.proofs.Moving.{stands_at_moved}
-use Rattle.mseed_parts.proofs.Placing.{bytes_append, moved}
-use Rattle.mseed_part_lines.specs.Lines.{HasChannelLine, HasFindings, HasHead}
+use Rattle.mseed_join.specs.Joining.{channel_then, channel_joined, moved_channel, moved_findings, moved_head}
+use Rattle.mseed_join.specs.Parts.{CountFits, CountsFit, FirstFits, Fits, FitsAt, HeadFits, Held, IsJoint, IsPartOf}
+use Rattle.mseed_join.specs.Parts.{bytes_in as size_of, kept_of}
+use Rattle.mseed_join.proofs.Moving.{stands_at_moved}
+use Rattle.mseed_join.proofs.Placing.{bytes_append, moved}
+use Rattle.mseed_join.specs.Lines.{HasChannelLine, HasFindings, HasHead}
 use Rattle.mseed_join.specs.AuditPart.{AuditedPart}
 use Rattle.mseed_join.specs.Headline.{AreParted, EndsByBytes, IsReadOf, last, more, none as no_pieces}
 use Rattle.mseed_join.specs.Joined.{AreJoined, IsJointOf, IsNext, counted, counted_by, moved_fault, none, nothing, one}

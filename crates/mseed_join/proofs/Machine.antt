@@ -7,10 +7,10 @@ use Rattle.std.proofs.lemmas.List.{length-append}
 use Rattle.mseed_stream.specs.declared.fault.StreamFault.{StreamFault}
 use Rattle.mseed_audit.specs.declared.channel.Channel.{Channel}
 use Rattle.mseed_text.specs.Fault.{end_line, fault_line}
-use Rattle.mseed_part_lines.specs.Lines.{Line, header, channel, counts, faults, fault, text_of_line, IsLine}
-use Rattle.mseed_part_lines.specs.Lines.{header_line}
-use Rattle.mseed_part_lines.specs.Lines.{counts_line, faults_line, HasChannelLine, HasFaultLine}
-use Rattle.mseed_part_lines.proofs.OneLine.{line_one}
+use Rattle.mseed_join.specs.Lines.{Line, header, channel, counts, faults, fault, text_of_line, IsLine}
+use Rattle.mseed_join.specs.Lines.{header_line}
+use Rattle.mseed_join.specs.Lines.{counts_line, faults_line, HasChannelLine, HasFaultLine}
+use Rattle.mseed_join.proofs.OneLine.{line_one}
 use Rattle.mseed_join.specs.Written.{Written, HasText, channel_lines, part_text, texts}
 use Rattle.mseed_join.specs.Reached.{OpenPart, none, begun, whole, Stage, open_part, open_text}
 use Rattle.mseed_join.specs.private.Steps.{May, to}

@@ -11,10 +11,10 @@ use Rattle.mseed_audit.specs.declared.channel.Channel.{Channel}
 use Rattle.mseed_audit.specs.Channels.{same_key}
 use Rattle.mseed_audit.proofs.ByKey.{insert_ascends, kept_insert}
 use Rattle.mseed_audit.proofs.Maps.{same_back, same_itself}
-use Rattle.mseed_parts.specs.Joining.{channel_then, moved_channel}
-use Rattle.mseed_parts.specs.Parts.{Held, IsAscending, IsJoint, channels_alone, counts_alone, kept_of, one_channel}
-use Rattle.mseed_parts.proofs.Adding.{Entries, HasAt, held, joined_none, new_joined, there_joined}
-use Rattle.mseed_parts.proofs.Turns.{past_head}
+use Rattle.mseed_join.specs.Joining.{channel_then, moved_channel}
+use Rattle.mseed_join.specs.Parts.{Held, IsAscending, IsJoint, channels_alone, counts_alone, kept_of, one_channel}
+use Rattle.mseed_join.proofs.Adding.{Entries, HasAt, held, joined_none, new_joined, there_joined}
+use Rattle.mseed_join.proofs.Turns.{past_head}
 
 -- with an entry in its place
 has_put : (key : List ℕ) (x : Channel) (es : Entries) → HasAt es key x (insert_entry (slice_cmp nat_cmp) es key x)

@@ -3,13 +3,13 @@ use Rattle.std.proofs.Common.{◌≡◌, ◌≢◌, ◌⊎◌, ◌+◌, ◌<◌,
 use Rattle.std.proofs.Common.{ap, ◌∙◌, subst, arith, inl, inr, append_assoc, append-nil, length-append, length-take}
 use Rattle.std.proofs.Common.{take-append-drop}
 use Rattle.mseed_audit.specs.declared.channel.Channel.{Channel}
-use Rattle.mseed_parts.specs.Parts.{IsAscending}
-use Rattle.mseed_part_lines.specs.Lines.{Line, header, channel, counts, faults, fault, text_of_line, IsLine}
-use Rattle.mseed_part_lines.specs.Lines.{header_line, channel_line, HasChannelLine, HasFaultLine}
-use Rattle.mseed_part_lines.specs.Fields.{IsFirstBad}
-use Rattle.mseed_part_lines.specs.declared.bad_field.Field.{Field}
-use Rattle.mseed_part_lines.proofs.FirstBad.{bad_field_one}
-use Rattle.mseed_part_lines.proofs.OneLine.{channel_one, line_one}
+use Rattle.mseed_join.specs.Parts.{IsAscending}
+use Rattle.mseed_join.specs.Lines.{Line, header, channel, counts, faults, fault, text_of_line, IsLine}
+use Rattle.mseed_join.specs.Lines.{header_line, channel_line, HasChannelLine, HasFaultLine}
+use Rattle.mseed_join.specs.Fields.{IsFirstBad}
+use Rattle.mseed_join.specs.declared.bad_field.Field.{Field}
+use Rattle.mseed_join.proofs.FirstBad.{bad_field_one}
+use Rattle.mseed_join.proofs.OneLine.{channel_one, line_one}
 use Rattle.mseed_join.specs.declared.flaw.Flaw.{Flaw}
 use Rattle.mseed_join.specs.declared.flaw.Flaw.TheVariants.{Beginning, Row, Order, Ending, Limit, Long}
 use Rattle.mseed_join.specs.declared.flaw.Flaw.TheVariants.{Unended as NoEnd, Missing}

@@ -2,7 +2,7 @@
 use Rattle.std.proofs.Common.{◌≡◌, ℕ, zero, suc, List, [], ◌∷◌, ◌++◌, Option, Some, None, refl, sym, ap}
 use Rattle.std.proofs.Common.{◌∙◌, append_assoc}
 use Rattle.mseed_stream.specs.declared.fault.StreamFault.{StreamFault}
-use Rattle.mseed_part_lines.specs.Lines.{Line, header, channel, counts, faults, fault}
+use Rattle.mseed_join.specs.Lines.{Line, header, channel, counts, faults, fault}
 use Rattle.mseed_join.specs.Written.{Spells, Written}
 use Rattle.mseed_join.proofs.Machine.{AreAll, Entries, all_rows, end_row, faults_row, lines_text, rows, texts_all}
 use Rattle.mseed_join.proofs.Machine.{first_same, nothing_first, texts_are}

@@ -19,7 +19,7 @@ use Rattle.mseed_audit.specs.Verdict.{AreVerdicts}
 use Rattle.mseed_stream.proofs.Gathered.{all_behind, cut_part}
 use Rattle.mseed_audit.proofs.Outcomes.{added_length}
 use Rattle.mseed_audit.proofs.OneAudit.{HasOneInput}
-use Rattle.mseed_parts.specs.Parts.{Held as Part, IsPartOf, bytes_in}
+use Rattle.mseed_join.specs.Parts.{Held as Part, IsPartOf, bytes_in}
 use Rattle.mseed_join.specs.AuditPart.{AuditedPart, IsPartEachOutcome, ReportedPart, reported_text}
 use Rattle.mseed_join.specs.Joined.{verdict_at}
 use Rattle.mseed_join.specs.Written.{Written, part_text}

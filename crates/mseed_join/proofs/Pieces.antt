@@ -17,8 +17,8 @@ use Rattle.mseed_audit.specs.Summary.{Audited, broken_count}
 use Rattle.mseed_text.specs.Fault.{end_line}
 use Rattle.mseed_audit.specs.Text.{total_line, verdict_lines}
 use Rattle.mseed_audit.specs.Verdict.{AreVerdicts}
-use Rattle.mseed_parts.specs.Parts.{Held, IsJoint, IsPartOf, bytes_in as size_of}
-use Rattle.mseed_part_lines.specs.Lines.{faults_line}
+use Rattle.mseed_join.specs.Parts.{Held, IsJoint, IsPartOf, bytes_in as size_of}
+use Rattle.mseed_join.specs.Lines.{faults_line}
 use Rattle.mseed_join.specs.AuditPart.{AuditedPart}
 use Rattle.mseed_join.specs.Headline.{AreParted, EndsByBytes, IsReadOf, SaysAudit, last, more, none as no_pieces}
 use Rattle.mseed_join.specs.Joined.{AreJoined, IsJointOf, IsNext, counted, counted_by, moved_fault, nothing, one}

@@ -48,10 +48,10 @@ use Rattle.mseed_audit.specs.Verdict.{AreFindings, finding_at, none, one}
 use Rattle.mseed_audit.proofs.Maps.{same_is, same_itself}
 use Rattle.mseed_audit.proofs.Outcomes.{numbered_length}
 use Rattle.mseed_audit.proofs.Views.{added_length}
-use Rattle.mseed_parts.specs.Parts.{IsAscending, bytes_in as size_of, kept_of}
-use Rattle.mseed_parts.proofs.Turns.{past_head}
-use Rattle.mseed_part_lines.specs.Lines.{HasChannelLine, HasFaultLine, HasFinding, HasFindings, HasFrameFault, HasHead}
-use Rattle.mseed_part_lines.specs.Lines.{HasTail, HasWhy}
+use Rattle.mseed_join.specs.Parts.{IsAscending, bytes_in as size_of, kept_of}
+use Rattle.mseed_join.proofs.Turns.{past_head}
+use Rattle.mseed_join.specs.Lines.{HasChannelLine, HasFaultLine, HasFinding, HasFindings, HasFrameFault, HasHead}
+use Rattle.mseed_join.specs.Lines.{HasTail, HasWhy}
 use Rattle.mseed_join.specs.AuditPart.{AuditedPart}
 use Rattle.mseed_join.specs.Headline.{IsWithinLimits}
 use Rattle.mseed_join.specs.Written.{HasText}

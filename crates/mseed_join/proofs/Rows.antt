@@ -10,14 +10,14 @@ use Rattle.std.proofs.lemmas.Cmp.{nat_list_cmp_total}
 use Rattle.mseed_stream.specs.declared.fault.StreamFault.{StreamFault}
 use Rattle.mseed_text.specs.Fault.{fault_line}
 use Rattle.mseed_audit.specs.declared.channel.Channel.{Channel}
-use Rattle.mseed_parts.specs.Parts.{Held, IsAscending, IsPartOf}
+use Rattle.mseed_join.specs.Parts.{Held, IsAscending, IsPartOf}
 use Rattle.mseed_record.specs.View.{View}
-use Rattle.mseed_part_lines.specs.Lines.{Line, header, channel, counts, faults, fault, text_of_line, IsLine}
-use Rattle.mseed_part_lines.specs.Lines.{header_line}
-use Rattle.mseed_part_lines.specs.Lines.{channel_line, counts_line, faults_line, HasChannelLine, HasCountsLine}
-use Rattle.mseed_part_lines.specs.Lines.{HasFaultsLine, HasFaultLine}
-use Rattle.mseed_part_lines.specs.Fields.{IsFirstBad}
-use Rattle.mseed_part_lines.specs.declared.bad_field.Field.{Field}
+use Rattle.mseed_join.specs.Lines.{Line, header, channel, counts, faults, fault, text_of_line, IsLine}
+use Rattle.mseed_join.specs.Lines.{header_line}
+use Rattle.mseed_join.specs.Lines.{channel_line, counts_line, faults_line, HasChannelLine, HasCountsLine}
+use Rattle.mseed_join.specs.Lines.{HasFaultsLine, HasFaultLine}
+use Rattle.mseed_join.specs.Fields.{IsFirstBad}
+use Rattle.mseed_join.specs.declared.bad_field.Field.{Field}
 use Rattle.mseed_join.specs.Written.{Written}
 use Rattle.mseed_join.specs.Joined.{AreJoined, Begins, HasNoEnd, none as no_more, nothing}
 use Rattle.mseed_join.specs.Reached.{OpenPart, none, begun, whole, Stage, begun_part, open_part, start}

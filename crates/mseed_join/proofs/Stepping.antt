@@ -12,11 +12,11 @@ use Rattle.mseed_audit.specs.Channels.{same_key}
 use Rattle.mseed_audit.proofs.Maps.{same_back, same_is, same_itself}
 use Rattle.mseed_audit.proofs.Rosters.{kept_after, kept_before}
 use Rattle.mseed_audit.specs.declared.channel.Channel.{Channel}
-use Rattle.mseed_parts.specs.Joining.{moved_channel, channel_joined}
-use Rattle.mseed_parts.specs.Parts.{Held, IsAscending, IsJoint, Fits, FitsAt, kept_of, channels_alone, one_channel}
-use Rattle.mseed_parts.specs.Parts.{counts_alone}
-use Rattle.mseed_parts.proofs.Adding.{joined_none}
-use Rattle.mseed_part_lines.specs.Lines.{Line, text_of_line, IsLine, IsFaultAfter}
+use Rattle.mseed_join.specs.Joining.{moved_channel, channel_joined}
+use Rattle.mseed_join.specs.Parts.{Held, IsAscending, IsJoint, Fits, FitsAt, kept_of, channels_alone, one_channel}
+use Rattle.mseed_join.specs.Parts.{counts_alone}
+use Rattle.mseed_join.proofs.Adding.{joined_none}
+use Rattle.mseed_join.specs.Lines.{Line, text_of_line, IsLine, IsFaultAfter}
 use Rattle.mseed_join.specs.Written.{Written}
 use Rattle.mseed_join.specs.Joined.{none as no_more, one, IsNext, IsJointOf, counted, moved_fault, nothing}
 use Rattle.mseed_join.specs.Reached.{Stage, begun_part, parts_at, passed_lines}

@@ -4,10 +4,10 @@ use Rattle.std.proofs.Common.{refl, sym, ap, ◌∙◌, subst, arith, append-nil
 use Rattle.std.proofs.lemmas.List.{length-append}
 use Rattle.mseed_stream.specs.declared.fault.StreamFault.{StreamFault}
 use Rattle.mseed_audit.specs.declared.channel.Channel.{Channel}
-use Rattle.mseed_parts.specs.Parts.{IsJoint, Fits, FitsAt, kept_of, one_channel, counts_alone}
-use Rattle.mseed_part_lines.specs.Lines.{Line, header, channel, counts, faults, fault, IsLine, header_line}
-use Rattle.mseed_part_lines.specs.Lines.{IsFaultAfter}
-use Rattle.mseed_part_lines.specs.Lines.{text_of_line}
+use Rattle.mseed_join.specs.Parts.{IsJoint, Fits, FitsAt, kept_of, one_channel, counts_alone}
+use Rattle.mseed_join.specs.Lines.{Line, header, channel, counts, faults, fault, IsLine, header_line}
+use Rattle.mseed_join.specs.Lines.{IsFaultAfter}
+use Rattle.mseed_join.specs.Lines.{text_of_line}
 use Rattle.mseed_join.specs.Written.{Written}
 use Rattle.mseed_join.specs.Joined.{IsJointOf, AreJoined, Begins, counted, counted_by, moved_fault, nothing}
 use Rattle.mseed_join.specs.Reached.{OpenPart, none, begun, whole, Stage, begun_part, open_part, parts_at, IsStage}
@@ -24,7 +24,7 @@ use Rattle.mseed_join.specs.private.Taking.{IsReadTo, IsTaken, IsPlace, border_b
 use Rattle.mseed_join.specs.Borders.{border_with}
 use Rattle.mseed_join.proofs.Bordering.{channel_borders, ends_borders, header_borders, skips_borders}
 use Rattle.std.specs.Option.{option_map}
-use Rattle.mseed_part_lines.proofs.OneLine.{line_one}
+use Rattle.mseed_join.proofs.OneLine.{line_one}
 use Rattle.mseed_join.proofs.Ahead.{IsNextLine, channel_fits, counts_fit, faults_fit, next_line, passed_fit}
 use Rattle.mseed_join.proofs.Ended.{IsEnded, ended, no_end_from}
 use Rattle.mseed_join.proofs.Running.{Extends}

@@ -4,7 +4,7 @@ use Rattle.std.proofs.Common.{refl, sym, ap, ◌∙◌, subst, arith, inl, inr, 
 use Rattle.std.specs.List.Sorted.{IsStrictlySortedBy}
 use Rattle.std.specs.Option.{option_map}
 use Rattle.mseed_stream.specs.declared.fault.StreamFault.{StreamFault}
-use Rattle.mseed_parts.specs.Parts.{Held, IsAscending, IsJoint}
+use Rattle.mseed_join.specs.Parts.{Held, IsAscending, IsJoint}
 use Rattle.mseed_join.specs.Written.{Written}
 use Rattle.mseed_join.specs.Joined.{AreJoined, none, one, IsNext, IsJointOf, counted, counted_by, moved_fault, nothing}
 

@@ -8,7 +8,7 @@ use Rattle.mseed_audit.specs.declared.verdict.Verdict.{Verdict}
 use Rattle.mseed_audit.specs.Audit.{verdict_of}
 use Rattle.mseed_text.specs.Fault.{end_line}
 use Rattle.mseed_audit.specs.Text.{total_line, verdict_line, verdict_lines}
-use Rattle.mseed_part_lines.specs.Lines.{faults_line}
+use Rattle.mseed_join.specs.Lines.{faults_line}
 use Rattle.mseed_join.specs.Joined.{join_text, verdict_at}
 
 lines_snoc : (cs : List (List ℕ × Channel)) (c : List ℕ × Channel)

@@ -13,7 +13,7 @@ use Rattle.mseed_audit.specs.Scope.{whole}
 use Rattle.mseed_audit.specs.Summary.{Audited, IsSummary, IsWritten}
 use Rattle.mseed_audit.specs.Text.{reported_lines}
 use Rattle.mseed_audit.specs.Reported.{Reported, AreReportedOf}
-use Rattle.mseed_parts.specs.Parts.{IsPartOf}
+use Rattle.mseed_join.specs.Parts.{IsPartOf}
 use Rattle.mseed_join.specs.Written.{Written, part_text}
 
 -- what was read is audited so, and this is the part of its records, with the fault at their end, if there is one

@@ -4,8 +4,8 @@ use Rattle.mseed_time.specs.Text.{time_text}
 use Rattle.mseed_text.specs.Name.{name_text}
 use Rattle.mseed_text.specs.Time.{start_by}
 use Rattle.mseed_audit.specs.Text.{why_text}
-pub use Rattle.mseed_parts.specs.Borders.{Border, border_at, border_with, borders_with}
-use Rattle.mseed_parts.specs.Notices.{Notice}
+pub use Rattle.mseed_join.specs.PartBorders.{Border, border_at, border_with, borders_with}
+use Rattle.mseed_join.specs.Notices.{Notice}
 use Rattle.mseed_join.specs.Joined.{AreJoined, counted, nothing}
 use Rattle.mseed_join.specs.Written.{Written}
 

@@ -5,12 +5,12 @@ use Rattle.std.specs.List.{starts_with}
 use Rattle.mseed_stream.specs.declared.fault.StreamFault.{StreamFault}
 use Rattle.mseed_text.specs.Fault.{fault_line}
 use Rattle.mseed_audit.specs.declared.channel.Channel.{Channel}
-use Rattle.mseed_parts.specs.Parts.{IsAscending}
-use Rattle.mseed_part_lines.specs.Lines.{Line, header, channel, counts, faults, fault, text_of_line, IsLine}
-use Rattle.mseed_part_lines.specs.Lines.{header_line, channel_line, counts_line, faults_line}
-use Rattle.mseed_part_lines.specs.Lines.{HasChannelLine, HasCountsLine, HasFaultsLine, HasFaultLine}
-use Rattle.mseed_part_lines.specs.Fields.{IsFirstBad}
-use Rattle.mseed_part_lines.specs.declared.bad_field.Field.{Field}
+use Rattle.mseed_join.specs.Parts.{IsAscending}
+use Rattle.mseed_join.specs.Lines.{Line, header, channel, counts, faults, fault, text_of_line, IsLine}
+use Rattle.mseed_join.specs.Lines.{header_line, channel_line, counts_line, faults_line}
+use Rattle.mseed_join.specs.Lines.{HasChannelLine, HasCountsLine, HasFaultsLine, HasFaultLine}
+use Rattle.mseed_join.specs.Fields.{IsFirstBad}
+use Rattle.mseed_join.specs.declared.bad_field.Field.{Field}
 use Rattle.mseed_join.specs.declared.flaw.Closing.{Closing}
 use Rattle.mseed_join.specs.declared.flaw.Closing.TheVariants.{Faults, Fault, Neither}
 use Rattle.mseed_join.specs.declared.flaw.Flaw.{Flaw}

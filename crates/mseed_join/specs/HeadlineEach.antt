@@ -2,7 +2,7 @@
 use Rattle.std.specs.Prelude.{◌≡◌, ℕ, List, [], ◌∷◌, ◌++◌, None}
 use Rattle.mseed_stream.specs.Device.{BytesRead}
 use Rattle.mseed_audit.specs.Each.{AuditedEach, each_text}
-use Rattle.mseed_parts.specs.Notices.{AreMerged, Notice, border_notices, moved_notices, notices_of}
+use Rattle.mseed_join.specs.Notices.{AreMerged, Notice, border_notices, moved_notices, notices_of}
 use Rattle.mseed_join.specs.AuditPart.{ReportedPart}
 use Rattle.mseed_join.specs.Borders.{Border, notice_lines}
 use Rattle.mseed_join.specs.Headline.{EndsByBytes, IsReadOf}

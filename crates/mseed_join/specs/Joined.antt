@@ -9,8 +9,8 @@ use Rattle.mseed_audit.specs.declared.verdict.Verdict.{Verdict}
 use Rattle.mseed_audit.specs.Audit.{verdict_of}
 use Rattle.mseed_text.specs.Fault.{end_line}
 use Rattle.mseed_audit.specs.Text.{total_line, verdict_lines}
-use Rattle.mseed_parts.specs.Parts.{Fits, IsJoint}
-use Rattle.mseed_part_lines.specs.Lines.{faults_line}
+use Rattle.mseed_join.specs.Parts.{Fits, IsJoint}
+use Rattle.mseed_join.specs.Lines.{faults_line}
 use Rattle.mseed_join.specs.Written.{Written, Spells}
 
 -- ---- which parts count

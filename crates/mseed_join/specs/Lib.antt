@@ -9,4 +9,10 @@ pub mod Joins
 pub mod JoinsEach
 pub mod Headline
 pub mod HeadlineEach
+pub mod PartBorders
+pub mod Joining
+pub mod Notices
+pub mod Parts
+pub mod Lines
+pub mod Fields
 pub mod private

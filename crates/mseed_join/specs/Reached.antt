@@ -7,8 +7,8 @@ use Rattle.mseed_stream.specs.LineWritten.{WritesLine}
 use Rattle.mseed_stream.specs.declared.fault.StreamFault.{StreamFault}
 use Rattle.mseed_audit.specs.declared.channel.Channel.{Channel}
 use Rattle.mseed_text.specs.Fault.{fault_line}
-use Rattle.mseed_parts.specs.Parts.{channels_alone}
-use Rattle.mseed_part_lines.specs.Lines.{header_line}
+use Rattle.mseed_join.specs.Parts.{channels_alone}
+use Rattle.mseed_join.specs.Lines.{header_line}
 use Rattle.mseed_join.specs.Joined.{AreLines}
 use Rattle.mseed_join.specs.Written.{HasText, Written, channel_lines, part_text, texts}
 

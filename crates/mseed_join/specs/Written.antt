@@ -4,9 +4,9 @@ use Rattle.std.specs.List.{AllByRecursion}
 use Rattle.mseed_stream.specs.declared.fault.StreamFault.{StreamFault}
 use Rattle.mseed_audit.specs.declared.channel.Channel.{Channel}
 use Rattle.mseed_text.specs.Fault.{end_line}
-use Rattle.mseed_parts.specs.Parts.{Held, IsAscending}
-use Rattle.mseed_part_lines.specs.Lines.{header_line, channel_line, counts_line, faults_line}
-use Rattle.mseed_part_lines.specs.Lines.{HasChannelLine, HasCountsLine, HasFaultLine}
+use Rattle.mseed_join.specs.Parts.{Held, IsAscending}
+use Rattle.mseed_join.specs.Lines.{header_line, channel_line, counts_line, faults_line}
+use Rattle.mseed_join.specs.Lines.{HasChannelLine, HasCountsLine, HasFaultLine}
 
 -- what a part's text says: the part, how many faults were passed, and the fault with which it ends, if with one
 pub record Written : Type 0 where

@@ -5,3 +5,6 @@ pub mod LineReading
 pub mod Parted
 pub mod Steps
 pub mod Taking
+pub mod Reading
+pub mod Found
+pub mod Passing

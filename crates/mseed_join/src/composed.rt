@@ -8,7 +8,7 @@ ghost use Rattle.mseed_audit.specs.Summary.{Audited};
 ghost use Rattle.mseed_text.specs.Fault.{end_line};
 ghost use Rattle.mseed_audit.specs.Text.{reported_lines};
 ghost use Rattle.mseed_audit.specs.Reported.{Reported};
-ghost use Rattle.mseed_parts.specs.Notices.{Notice, border_notices, notices_of};
+ghost use Rattle.mseed_join.specs.Notices.{Notice, border_notices, notices_of};
 ghost use Rattle.mseed_join.specs.AuditPart.{AuditedPart};
 ghost use Rattle.mseed_join.specs.Borders.{AreBordersOf, Border, border_lines, notice_lines};
 ghost use Rattle.mseed_join.specs.Headline.{AreParted, EndsByBytes, IsReadOf, IsWithinLimits, SaysAudit, without_end};
@@ -16,8 +16,8 @@ ghost use Rattle.mseed_join.specs.HeadlineEach.{AreReportedApart, SaysEach};
 ghost use Rattle.mseed_join.specs.Joined.{IsBadLine, IsJointOf};
 ghost use Rattle.mseed_join.specs.Written.{HasText, Spells, Written, part_text, texts};
 
+use crate::part_law::{findings_add_up, joined_in_turn, joining_laws, one_part, parts_add_up};
 use mseed_audit::{channels_have_verdicts, one_list_of_verdicts, one_report};
-use mseed_parts::{findings_add_up, joined_in_turn, joining_laws, one_part, parts_add_up};
 
 /// The joint part of archives, of which each but the last ends without a fault, says what the audit of the archives
 /// one after another says.

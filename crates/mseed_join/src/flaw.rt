@@ -2,7 +2,7 @@
 ghost use Rattle.std.specs.Prelude.{◌≡◌};
 ghost use Rattle.mseed_join.specs.Flaws.{begun_as};
 
-use mseed_part_lines::Field;
+use crate::bad_field::Field;
 use mseed_record::Codes;
 
 /// What is wrong with the first bad line of parts.

@@ -7,11 +7,11 @@ ghost use Rattle.mseed_join.specs.Joins.{IsAnswer, IsJoinOutcome, refusal, text_
 use crate::auditing::count_broken;
 use crate::flaw::Flaw;
 use crate::joint::JointPart;
+use crate::part::Part;
 use crate::parts::read_parts;
 use crate::reader::PartsFault;
 use crate::text::{push_join, push_part};
 use mseed_audit::Memory;
-use mseed_parts::Part;
 use mseed_stream::{Sink, Source, StreamFault, write_all_of};
 use std::alloc::Allocator;
 use thiserror::Error;

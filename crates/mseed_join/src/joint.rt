@@ -1,7 +1,7 @@
 //! The joint part of parts that are read line by line.
 ghost use Rattle.std.specs.Prelude.{◌≡◌, ◌≢◌, ◌↔◌, ◌<◌, ◌+◌, ◌^◌, ◌++◌, List, ℕ, [], codes, false, IfErr, OnOk, IsTrue};
 ghost use Rattle.mseed_audit.specs.Audit.{head_in};
-ghost use Rattle.mseed_part_lines.specs.Lines.{IsLine, Line, header_line};
+ghost use Rattle.mseed_join.specs.Lines.{IsLine, Line, header_line};
 ghost use Rattle.mseed_join.specs.Borders.{border_at};
 ghost use Rattle.mseed_join.specs.Joined.{HasNoEnd};
 ghost use Rattle.mseed_join.specs.Reached.{Stage, start};
@@ -10,12 +10,14 @@ ghost use Rattle.mseed_join.specs.private.Steps.{May};
 ghost use Rattle.mseed_join.specs.private.Taking.{IsAfterKey, IsLineStep, IsReadTo, IsStep, border_by, fault_after};
 ghost use Rattle.mseed_join.specs.private.Taking.{IsFlawed, IsLimit, passed_by};
 
+use crate::bad_field::first_bad_field;
 use crate::flaw::{Flaw, begun_as};
+use crate::lines::{read_channel_line, read_counts_line, read_fault_line, read_faults_line};
+use crate::part::{JoinFault, Part};
+use crate::part_law::{joined_in_turn, joining_laws, one_part};
+use crate::part_sums::sum;
+use crate::writing::HEADER;
 use mseed_audit::{Channel, Finding};
-use mseed_part_lines::{
-    HEADER, first_bad_field, read_channel_line, read_counts_line, read_fault_line, read_faults_line,
-};
-use mseed_parts::{JoinFault, Part, joined_in_turn, joining_laws, one_part, sum};
 use mseed_record::Codes;
 use mseed_stream::StreamFault;
 use mseed_time::Micros;

@@ -1,7 +1,7 @@
 //! Laws: a line is short, and has one flaw at most; what was read has one part, and parts have one list of borders.
 ghost use Rattle.std.specs.Prelude.{◌≡◌, ◌≤◌, Bool, List, ℕ, length};
 ghost use Rattle.mseed_stream.specs.Device.{BytesRead};
-ghost use Rattle.mseed_part_lines.specs.Lines.{IsLine, Line, text_of_line};
+ghost use Rattle.mseed_join.specs.Lines.{IsLine, Line, text_of_line};
 ghost use Rattle.mseed_join.specs.AuditPart.{AuditedPart};
 ghost use Rattle.mseed_join.specs.Borders.{AreBordersOf, Border};
 ghost use Rattle.mseed_join.specs.declared.flaw.Flaw.{Flaw};
@@ -10,7 +10,7 @@ ghost use Rattle.mseed_join.specs.Joined.{IsJointOf};
 ghost use Rattle.mseed_join.specs.Reached.{OpenPart};
 ghost use Rattle.mseed_join.specs.Written.{Written};
 
-use mseed_parts::{joining_laws, one_part};
+use crate::part_law::{joining_laws, one_part};
 use mseed_stream::one_input;
 
 /// A line has 512 bytes at most, its LF included.

@@ -2,12 +2,12 @@
 ghost use Rattle.std.specs.Prelude.{◌≡◌, ◌++◌, ℕ, OnOk, map};
 ghost use Rattle.mseed_text.specs.Fault.{end_line};
 ghost use Rattle.mseed_audit.specs.Text.{verdict_lines};
-ghost use Rattle.mseed_part_lines.specs.Lines.{faults_line};
+ghost use Rattle.mseed_join.specs.Lines.{faults_line};
 ghost use Rattle.mseed_join.specs.Joined.{join_text, verdict_at};
 ghost use Rattle.mseed_join.specs.Written.{channel_lines, part_text};
 
+use crate::writing::{HEADER, push_channel_line, push_counts_line, push_faults_line};
 use mseed_audit::{Channel, push_total_line, push_verdict_line};
-use mseed_part_lines::{HEADER, push_channel_line, push_counts_line, push_faults_line};
 use mseed_record::Codes;
 use mseed_stream::StreamFault;
 use mseed_text::push_fault_line;

@@ -8,4 +8,7 @@ pub mod View
 pub mod Viewing
 pub mod Written
 pub mod Fields
+pub mod Pattern
+pub mod Selection
+pub mod Letters
 pub mod private

@@ -2,7 +2,9 @@
 //! chapter 8).
 #![tactic(auto)]
 
+mod answer;
 mod chain;
+mod choice;
 mod codes;
 mod fault;
 mod fields;
@@ -15,6 +17,8 @@ mod naming;
 mod view;
 mod write;
 
+pub use answer::Answer;
+pub use choice::{All, Choice};
 pub use codes::Codes;
 pub use fault::{DataOffset, FrameFault, ViewFault};
 pub use fields::Fields;

@@ -15,7 +15,7 @@ use Rattle.mseed_stream.specs.Walk.{bytes_in}
 use Rattle.mseed_stream.specs.declared.fault.StreamFault.{StreamFault}
 use Rattle.mseed_stream.specs.declared.fault.StreamFault.TheVariants.{Memory as NoMemory}
 use Rattle.mseed_select.specs.Select.{selected_bytes}
-use Rattle.mseed_choice.specs.Selection.{Selection, asks_for, lacks_time}
+use Rattle.mseed_record.specs.Selection.{Selection, asks_for, lacks_time}
 use Rattle.mseed_audit.specs.Channels.{Placed, views_in}
 use Rattle.mseed_audit.specs.Scope.{asked_of}
 use Rattle.mseed_steim.specs.declared.encoding.Encoding.{Encoding}

@@ -27,10 +27,10 @@ use Rattle.mseed_audit.specs.Follows.{AllNeighbours, Follows, IsContinuous, IsSo
 use Rattle.mseed_audit.specs.Judging.{IsFound, after, step_in, why_after, why_by, why_from, why_of}
 use Rattle.mseed_audit.specs.Series.{Trace, IsSeriesOf}
 use Rattle.mseed_audit.proofs.Maps.{same_itself}
-use Rattle.mseed_stretches.specs.Stretches.{AreStretches, AreStretchesUpTo, samples_of}
-use Rattle.mseed_stretches.proofs.Drifts.{close_alike, early_alike, late_alike, same_rates}
-use Rattle.mseed_stretches.proofs.Joining.{both_some, continuous}
-use Rattle.mseed_stretches.proofs.Runs.{samples_append}
+use Rattle.mseed_repack.specs.Stretches.{AreStretches, AreStretchesUpTo, samples_of}
+use Rattle.mseed_repack.proofs.Drifts.{close_alike, early_alike, late_alike, same_rates}
+use Rattle.mseed_repack.proofs.Joining.{both_some, continuous}
+use Rattle.mseed_repack.proofs.Runs.{samples_append}
 use Rattle.mseed_pack.proofs.ReadBack.{stand}
 use Rattle.mseed_pack.specs.declared.options.Options.{Options}
 use Rattle.mseed_pack.specs.Fitting.{Fits}

@@ -16,10 +16,10 @@ use Rattle.mseed_audit.specs.Follows.{IsSound}
 use Rattle.mseed_audit.specs.Judging.{known_rate, step_in}
 use Rattle.mseed_audit.specs.Series.{Trace, AreJoined, IsSeriesOf, none, one, step_at, steps_from}
 use Rattle.mseed_audit.proofs.Joined.{count_is}
-use Rattle.mseed_stretches.specs.Stretches.{IsStretch, added_by, drift_of, samples_of}
-use Rattle.mseed_stretches.proofs.Drifts.{miss_is}
-use Rattle.mseed_stretches.proofs.Joining.{Stands, added_one, both_some, samples_one, stands_first}
-use Rattle.mseed_stretches.proofs.Times.{stands_at}
+use Rattle.mseed_repack.specs.Stretches.{IsStretch, added_by, drift_of, samples_of}
+use Rattle.mseed_repack.proofs.Drifts.{miss_is}
+use Rattle.mseed_repack.proofs.Joining.{Stands, added_one, both_some, samples_one, stands_first}
+use Rattle.mseed_repack.proofs.Times.{stands_at}
 use Rattle.mseed_pack.specs.Clock.{added_before, instant_at}
 use Rattle.mseed_pack.specs.Fitting.{IsTooFast}
 use Rattle.mseed_pack.specs.Outcome.{IsTrace}

@@ -11,7 +11,7 @@ use Rattle.mseed_audit.specs.Follows.{IsContinuous, IsSound}
 use Rattle.mseed_audit.specs.Judging.{known_rate}
 use Rattle.mseed_audit.specs.Series.{Trace, AreJoined, IsSeriesOf, none, one}
 use Rattle.mseed_audit.proofs.Following.{views_are}
-use Rattle.mseed_stretches.specs.Stretches.{AllStayNear, AreStretches, AreStretchesUpTo, IsStretch}
+use Rattle.mseed_repack.specs.Stretches.{AllStayNear, AreStretches, AreStretchesUpTo, IsStretch}
 use Rattle.mseed_pack.specs.Fitting.{Fits}
 use Rattle.mseed_pack.specs.Outcome.{IsTrace}
 use Rattle.mseed_pack.specs.Packing.{IsPacking}

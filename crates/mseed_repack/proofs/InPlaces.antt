@@ -8,7 +8,7 @@ use Rattle.std.proofs.lemmas.List.{length-map, map-append}
 use Rattle.std.proofs.lemmas.List.Elements.{filter-append}
 use Rattle.std.proofs.lemmas.List.Sums.{length-filter}
 use Rattle.mseed_record.specs.View.{View}
-use Rattle.mseed_choice.specs.Selection.{Selection, asks_for}
+use Rattle.mseed_record.specs.Selection.{Selection, asks_for}
 use Rattle.mseed_audit.specs.Channels.{Added, Placed, added_from, channel_in as placed_in, is_of, numbered, views_in}
 use Rattle.mseed_audit.specs.Follows.{IsSound}
 use Rattle.mseed_audit.specs.Judging.{IsFound}

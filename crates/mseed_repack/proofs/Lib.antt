@@ -15,11 +15,11 @@ pub mod Written
 pub mod ReadBack
 pub mod Stretched
 pub mod Planning
-pub mod Cutting
+pub mod CutStretches
 pub mod Walks
 pub mod Archives
 pub mod Standings
-pub mod Sound
+pub mod SoundRecords
 pub mod ChannelReadBack
 pub mod Misses
 pub mod Borders
@@ -30,3 +30,10 @@ pub mod InPlaces
 pub mod Passed
 pub mod OwnFindings
 pub mod Held
+pub mod Cuts
+pub mod Drifts
+pub mod Joining
+pub mod Passing
+pub mod Runs
+pub mod Steps
+pub mod Times

@@ -4,7 +4,7 @@ use Rattle.std.proofs.Common.{pos, negsuc, neg_ℤ}
 use Rattle.std.proofs.Common.{◌+ℤ◌, ◌-ℤ◌, ◌*ℤ◌, unsigned_abs}
 use Rattle.std.proofs.lemmas.Int.{ints}
 use Rattle.std.proofs.Math.Nat.{div-add-mod}
-use Rattle.mseed_stretches.proofs.Drifts.{times_sub}
+use Rattle.mseed_repack.proofs.Drifts.{times_sub}
 
 -- A start that was rounded down is early by less than a microsecond, and so the next one misses its end by more.
 start_less : (t s a step : ℤ) (q : ℕ) → t -ℤ (s +ℤ pos q -ℤ a) +ℤ step ≡ (t -ℤ s +ℤ (a +ℤ step)) -ℤ pos q

@@ -13,8 +13,8 @@ use Rattle.mseed_stream.specs.Walk.{bytes_in}
 use Rattle.mseed_stream.proofs.Handed.{records_next}
 use Rattle.mseed_stream.proofs.OneInput.{same_views}
 use Rattle.mseed_stream.proofs.Records.{one_archive, prefix_within, view_record}
-use Rattle.mseed_choice.specs.Selection.{Selection, asks_for}
-use Rattle.mseed_choice.proofs.Counted.{count_more}
+use Rattle.mseed_record.specs.Selection.{Selection, asks_for}
+use Rattle.mseed_record.proofs.Counted.{count_more}
 use Rattle.mseed_audit.specs.Scope.{asked_of}
 use Rattle.mseed_audit.specs.declared.finding.Finding.{Finding}
 use Rattle.mseed_audit.proofs.Following.{end_of}

@@ -4,7 +4,7 @@ use Rattle.std.proofs.Common.{sym, subst, ap, ◌∙◌, refl, arith, All}
 use Rattle.mseed_time.specs.declared.outcome.LeapStep.{LeapStep}
 use Rattle.mseed_record.specs.View.{View}
 use Rattle.mseed_audit.specs.Series.{AreSteps, Trace, IsSeriesOf}
-use Rattle.mseed_stretches.specs.declared.stretch.Stretch.{Stretch}
+use Rattle.mseed_repack.specs.declared.stretch.Stretch.{Stretch}
 use Rattle.mseed_pack.specs.Stretches.{differences}
 use Rattle.mseed_pack.specs.Fitting.{Fits, IsDifferenceOf, IsMisfit, IsSampleOf}
 use Rattle.mseed_steim.specs.declared.encoding.Encoding.{Encoding}

@@ -10,8 +10,8 @@ use Rattle.mseed_stream.specs.Archive.{HasNoFurther, HasRecords}
 use Rattle.mseed_stream.specs.Walk.{bytes_in}
 use Rattle.mseed_stream.proofs.Handed.{records_next}
 use Rattle.mseed_stream.proofs.Records.{prefix_within, view_record}
-use Rattle.mseed_choice.specs.Selection.{Selection, lacks_time}
-use Rattle.mseed_choice.proofs.Counted.{count_more}
+use Rattle.mseed_record.specs.Selection.{Selection, lacks_time}
+use Rattle.mseed_record.proofs.Counted.{count_more}
 use Rattle.mseed_repack.specs.Selected.{AreRecordsOf}
 
 -- of the records up to an offset so many lack a time

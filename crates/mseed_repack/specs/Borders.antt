@@ -12,7 +12,7 @@ use Rattle.mseed_audit.specs.Follows.{AllNeighbours, IsContinuous}
 use Rattle.mseed_audit.specs.Judging.{IsFound, known_rate, step_in}
 use Rattle.mseed_audit.specs.declared.finding.Why.{Why}
 use Rattle.mseed_audit.specs.declared.finding.Why.TheVariants.{Gap, Overlap}
-use Rattle.mseed_stretches.specs.Stretches.{samples_of}
+use Rattle.mseed_repack.specs.Stretches.{samples_of}
 use Rattle.mseed_pack.specs.ReadBack.{AreViewsOf}
 use Rattle.mseed_pack.specs.declared.options.Options.{Options}
 use Rattle.mseed_repack.specs.ByStretches.{WroteFitting}

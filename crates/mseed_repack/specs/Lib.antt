@@ -7,4 +7,6 @@ pub mod ByStretches
 pub mod StretchesReadBack
 pub mod Borders
 pub mod Selected
+pub mod Stretches
+pub mod Clocks
 pub mod private

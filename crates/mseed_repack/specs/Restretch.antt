@@ -4,7 +4,7 @@ use Rattle.std.specs.List.{concat, AllByRecursion}
 use Rattle.mseed_record.specs.View.{View}
 use Rattle.mseed_stream.specs.Device.{BytesWritten}
 use Rattle.mseed_audit.specs.Follows.{IsSound}
-use Rattle.mseed_stretches.specs.Stretches.{AreStretches, AreStretchesUpTo, IsFirstStretch}
+use Rattle.mseed_repack.specs.Stretches.{AreStretches, AreStretchesUpTo, IsFirstStretch}
 use Rattle.mseed_pack.specs.declared.fault.PackFault.{PackFault}
 use Rattle.mseed_pack.specs.declared.options.Options.{Options}
 use Rattle.mseed_repack.specs.Repack.{IsPackedInPart, IsStretchPacked, StretchFits, StretchMisfits, Wrote}

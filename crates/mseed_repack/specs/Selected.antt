@@ -9,7 +9,7 @@ use Rattle.mseed_stream.specs.Walk.{bytes_in}
 use Rattle.mseed_stream.specs.declared.fault.StreamFault.{StreamFault}
 use Rattle.mseed_stream.specs.declared.fault.StreamFault.TheVariants.{Memory as NoMemory}
 use Rattle.mseed_select.specs.Select.{selected_bytes}
-use Rattle.mseed_choice.specs.Selection.{Selection, lacks_time}
+use Rattle.mseed_record.specs.Selection.{Selection, lacks_time}
 use Rattle.mseed_audit.specs.Channels.{Placed}
 use Rattle.mseed_audit.specs.Scope.{asked_of}
 use Rattle.mseed_pack.specs.declared.options.Options.{Options}

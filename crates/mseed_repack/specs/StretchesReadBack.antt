@@ -5,7 +5,7 @@ use Rattle.mseed_time.specs.Rate.{Ratio}
 use Rattle.mseed_record.specs.View.{View}
 use Rattle.mseed_audit.specs.Judging.{known_rate}
 use Rattle.mseed_audit.specs.Series.{Trace, AreJoined, IsSeriesOf}
-use Rattle.mseed_stretches.specs.Stretches.{AllStayNear, AreStretches}
+use Rattle.mseed_repack.specs.Stretches.{AllStayNear, AreStretches}
 use Rattle.mseed_stream.specs.Device.{BytesRead, BytesWritten}
 use Rattle.mseed_pack.specs.ReadBack.{ReadsAs}
 use Rattle.mseed_pack.specs.declared.options.Options.{Options}

@@ -7,3 +7,4 @@ pub mod Reading
 pub mod Restretching
 pub mod Supplying
 pub mod Trails
+pub mod Nexts

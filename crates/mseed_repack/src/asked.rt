@@ -4,7 +4,7 @@ ghost use Rattle.std.specs.List.{count_by, filter};
 ghost use Rattle.mseed_record.specs.View.{View};
 ghost use Rattle.mseed_record.specs.Viewing.{view_of};
 ghost use Rattle.mseed_select.specs.Selecting.{selection_of};
-ghost use Rattle.mseed_choice.specs.Selection.{asks_for, lacks_time};
+ghost use Rattle.mseed_record.specs.Selection.{asks_for, lacks_time};
 ghost use Rattle.mseed_repack.specs.ByStretches.{ReportsEach};
 ghost use Rattle.mseed_repack.specs.Repack.{stream_fault};
 ghost use Rattle.mseed_repack.specs.Selected.{AreRecordsOf, ReportsIfLeft, without_time_lines};

@@ -3,7 +3,7 @@ ghost use Rattle.std.specs.Prelude.{◌↔◌, ◌≤◌, ◌^◌, IsTrue, lengt
 ghost use Rattle.std.specs.List.{AllByRecursion};
 ghost use Rattle.mseed_record.specs.Viewing.{view_of};
 ghost use Rattle.mseed_audit.specs.Follows.{IsSound};
-ghost use Rattle.mseed_stretches.specs.Stretches.{AreStretches};
+ghost use Rattle.mseed_repack.specs.Stretches.{AreStretches};
 ghost use Rattle.mseed_repack.specs.private.Planning.{CanBeWritten, stretches_by};
 ghost use Rattle.mseed_repack.specs.Restretch.{IsChannelRepacking};
 
@@ -12,12 +12,12 @@ use crate::packing::pack_stretches;
 use crate::plan::Plan;
 use crate::reading::count_steps;
 use crate::room::blank_steps;
+use crate::sound::is_sound;
 use crate::standing::{Standing, fit_stretches};
 use crate::walk::{Row, Walk};
 use mseed_pack::{Options, Packer};
 use mseed_record::RecordView;
 use mseed_stream::Sink;
-use mseed_stretches::is_sound;
 use mseed_time::LeapStep;
 use std::alloc::Allocator;
 

@@ -4,7 +4,7 @@ ghost use Rattle.std.specs.List.{AllByRecursion};
 ghost use Rattle.mseed_record.specs.View.{View, IsView, start_of};
 ghost use Rattle.mseed_audit.specs.Follows.{AllNeighbours, IsContinuous};
 ghost use Rattle.mseed_audit.specs.declared.finding.Why.TheVariants.{Gap, Overlap};
-ghost use Rattle.mseed_stretches.specs.Stretches.{samples_of};
+ghost use Rattle.mseed_repack.specs.Stretches.{samples_of};
 ghost use Rattle.mseed_steim.specs.Spelling.{IsWithin};
 ghost use Rattle.mseed_steim.specs.declared.encoding.Encoding.{Encoding};
 ghost use Rattle.mseed_pack.specs.Fitting.{IsDifferenceOf, IsSampleOf};
@@ -21,13 +21,13 @@ ghost use Rattle.mseed_repack.specs.Restretch.{ChannelFits, IsChannelPacked};
 ghost use Rattle.mseed_repack.specs.StretchesReadBack.{IsChannelReadBack, IsStretchedBack};
 ghost use Rattle.mseed_repack.specs.declared.fault.RepackFault.{RepackFault};
 
+use crate::stretch_law::{instants_stay_near, one_list_of_stretches, stretches_are_continuous};
 use mseed_audit::{continuous_exactly, one_finding, one_list_of_verdicts, one_series};
 use mseed_pack::{archive_reads_back, one_misfit, one_packing, reads_back};
 use mseed_record::header_reads_back;
 use mseed_steim::one_reading;
 use mseed_steim_pack::packed_spells;
 use mseed_stream::one_input;
-use mseed_stretches::{instants_stay_near, one_list_of_stretches, stretches_are_continuous};
 
 /// What was read of an input, packed anew by some options, comes to one text or to one fault, but where memory was
 /// refused; an output that fails takes a prefix of that text; and of what two outputs accepted that failed, one is a

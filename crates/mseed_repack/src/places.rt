@@ -3,7 +3,7 @@ ghost use Rattle.std.specs.Prelude.{◌≡◌, ◌<◌, ◌+◌, ℕ, List, leng
 ghost use Rattle.mseed_record.specs.View.{View};
 ghost use Rattle.mseed_record.specs.Viewing.{view_of};
 ghost use Rattle.mseed_select.specs.Selecting.{selection_of};
-ghost use Rattle.mseed_choice.specs.Selection.{asks_for};
+ghost use Rattle.mseed_record.specs.Selection.{asks_for};
 ghost use Rattle.mseed_audit.specs.Channels.{Placed};
 ghost use Rattle.mseed_audit.specs.Scope.{asked_of, placed_of};
 ghost use Rattle.mseed_repack.specs.private.Places.{AreAllOf, ArePlaces, StandsAt};

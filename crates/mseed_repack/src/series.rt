@@ -20,6 +20,7 @@ use crate::outline::{Nearness, Outline, nearness_before, outline_counted, outlin
 use crate::plan::Way;
 use crate::reading::read_records;
 use crate::room::make_room;
+use crate::stretch::Stretch;
 use crate::unpacking::{ROOM, Unpacking, first_sample};
 use crate::walk::Walk;
 use mseed_audit::one_series;
@@ -27,7 +28,6 @@ use mseed_pack::{
     Encoding, Options, PackFault, Packer, SeriesHead, SeriesView, fit_head, fit_view,
 };
 use mseed_stream::Sink;
-use mseed_stretches::Stretch;
 use mseed_time::LeapStep;
 use std::alloc::{AllocError, Allocator};
 

@@ -2,8 +2,8 @@
 ghost use Rattle.std.specs.Prelude.{◌≡◌, [], IfNone, IfSome};
 ghost use Rattle.mseed_repack.specs.private.Reading.{CanBeCut, IsCutOff};
 
+use crate::stretch::Stretch;
 use crate::walk::Walk;
-use mseed_stretches::Stretch;
 
 /// How the records of a channel are cut.
 #[derive(Clone, Copy)]

@@ -11,13 +11,13 @@ use Rattle.mseed_time.specs.Rate.{Ratio}
 use Rattle.mseed_time.specs.declared.fault.TimeFault.{TimeFault}
 use Rattle.mseed_record.specs.Header.{key_at, samples_at}
 use Rattle.mseed_record.specs.View.{View, start_of}
-use Rattle.mseed_choice.specs.Pattern.{is_of_channels}
-use Rattle.mseed_choice.specs.Selection.{BeginsBefore, IsAskedFor, IsInWindow, LacksTime, LastsTo, Reaches, Selection}
-use Rattle.mseed_choice.specs.Selection.{answer_by, answer_in, answer_of, asks_for, begins_before, is_asked}
-use Rattle.mseed_choice.specs.Selection.{is_without_time, lacks_time}
-use Rattle.mseed_choice.specs.Selection.{lasts_to, rate_in, reaches, start_fault}
-use Rattle.mseed_choice.specs.declared.answer.Answer.{Answer}
-use Rattle.mseed_choice.specs.declared.answer.Answer.TheVariants.{AskedFor, Left, NoTime}
+use Rattle.mseed_record.specs.Pattern.{is_of_channels}
+use Rattle.mseed_record.specs.Selection.{BeginsBefore, IsAskedFor, IsInWindow, LacksTime, LastsTo, Reaches, Selection}
+use Rattle.mseed_record.specs.Selection.{answer_by, answer_in, answer_of, asks_for, begins_before, is_asked}
+use Rattle.mseed_record.specs.Selection.{is_without_time, lacks_time}
+use Rattle.mseed_record.specs.Selection.{lasts_to, rate_in, reaches, start_fault}
+use Rattle.mseed_record.specs.declared.answer.Answer.{Answer}
+use Rattle.mseed_record.specs.declared.answer.Answer.TheVariants.{AskedFor, Left, NoTime}
 use Rattle.mseed_select.proofs.Matched.{channels_back, channels_yes}
 
 -- ---- the window

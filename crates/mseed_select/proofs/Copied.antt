@@ -16,9 +16,9 @@ use Rattle.mseed_stream.specs.Walk.{AreViews, HasHandedOut, bytes_in}
 use Rattle.mseed_select.specs.Counting.{counts_of, one_if}
 use Rattle.mseed_select.specs.Formatted.{IsFormatted, Texts, asked_text, texts_of, whole_text}
 use Rattle.mseed_select.specs.Halves.{Placed, placed_from}
-use Rattle.mseed_choice.proofs.Counted.{count_more}
-use Rattle.mseed_choice.specs.Selection.{Selection, answer_of, asks_for, is_asked, is_without_time, lacks_time}
-use Rattle.mseed_choice.specs.declared.answer.Answer.{Answer}
+use Rattle.mseed_record.proofs.Counted.{count_more}
+use Rattle.mseed_record.specs.Selection.{Selection, answer_of, asks_for, is_asked, is_without_time, lacks_time}
+use Rattle.mseed_record.specs.declared.answer.Answer.{Answer}
 use Rattle.mseed_select.specs.declared.copying.Step.{Step}
 use Rattle.mseed_select.specs.declared.counts.Counts.{Counts}
 use Rattle.mseed_select.specs.declared.fault.SelectFault.{SelectFault}

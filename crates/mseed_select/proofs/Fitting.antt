@@ -4,7 +4,7 @@ use Rattle.std.proofs.Common.{List, [], ◌∷◌, ◌++◌, length, get_or, dro
 use Rattle.std.proofs.lemmas.Bool.{and_parts, cond-false, cond-true}
 use Rattle.std.proofs.lemmas.Bool.Decides.{eqb_tells}
 use Rattle.std.specs.Bool.{Decides}
-use Rattle.mseed_choice.specs.Pattern.{Fits, Takes, any_rest, after_one, fits}
+use Rattle.mseed_record.specs.Pattern.{Fits, Takes, any_rest, after_one, fits}
 
 pub or_true : (b : Bool) → (b || true) ≡ true
 or_true true = refl

@@ -6,7 +6,7 @@ use Rattle.std.specs.List.{AllByRecursion, filter}
 use Rattle.mseed_record.specs.Record.{exponent_at}
 use Rattle.mseed_record.specs.View.{View, IsView}
 use Rattle.mseed_select.specs.Halves.{AreMerged, IsBefore, Placed, asked_of, others_of, placed_from}
-use Rattle.mseed_choice.specs.Selection.{Selection, asks_for}
+use Rattle.mseed_record.specs.Selection.{Selection, asks_for}
 
 -- what is before all of a list is before what is filtered out of it
 filtered : (p : Placed) (test : Placed → Bool) (ps : List Placed) → IsBefore p ps → IsBefore p (filter test ps)

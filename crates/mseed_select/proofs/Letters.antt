@@ -9,8 +9,8 @@ use Rattle.std.proofs.lemmas.List.Elements.{All-append, All-cons, All-contains, 
 use Rattle.std.proofs.lemmas.List.Folds.{list_all-append}
 use Rattle.std.proofs.lemmas.List.Splits.{length-slice_split, slice_split-cons_no, slice_split-cons_yes}
 use Rattle.std.proofs.lemmas.Map.Views.{Contains-from_any}
-use Rattle.mseed_choice.specs.Letters.{AreFourFields, AreLetters, IsFourFields, letters}
-use Rattle.mseed_choice.specs.Pattern.{are_patterns, fields_in, is_character, is_pattern, patterns_in}
+use Rattle.mseed_record.specs.Letters.{AreFourFields, AreLetters, IsFourFields, letters}
+use Rattle.mseed_record.specs.Pattern.{are_patterns, fields_in, is_character, is_pattern, patterns_in}
 use Rattle.mseed_select.proofs.Padded.{Lacks}
 use Rattle.mseed_select.proofs.TimeParts.{joined, next_part, one_part, three_parts}
 

@@ -6,9 +6,9 @@ use Rattle.std.specs.List.{Any}
 use Rattle.std.proofs.lemmas.Bool.{and_parts, eqb-true}
 use Rattle.std.proofs.lemmas.Bool.Decides.{Decides-and, Decides-or}
 use Rattle.std.proofs.lemmas.List.Folds.{Any-from_list_any, list_any-from_Any}
-use Rattle.mseed_choice.specs.Pattern.{FitsLocation, IsOfChannels, Matches, channel_of, fields_in, fits, fits_fields}
-use Rattle.mseed_choice.specs.Pattern.{fits_location, is_dashes, is_of_channels, location_of, matches, network_of}
-use Rattle.mseed_choice.specs.Pattern.{patterns_in, station_of}
+use Rattle.mseed_record.specs.Pattern.{FitsLocation, IsOfChannels, Matches, channel_of, fields_in, fits, fits_fields}
+use Rattle.mseed_record.specs.Pattern.{fits_location, is_dashes, is_of_channels, location_of, matches, network_of}
+use Rattle.mseed_record.specs.Pattern.{patterns_in, station_of}
 use Rattle.mseed_select.proofs.Fitting.{fits_decides}
 
 dashes_yes : (field : List ℕ) → is_dashes field ≡ true → field ≡ codes "--"

@@ -2,7 +2,7 @@
 use Rattle.std.proofs.Common.{◌≡◌, ◌≢◌, ℕ, refl, sym, ap, ◌∙◌, arith, Bool, true, false, cond, ◌&&◌, ◌||◌}
 use Rattle.std.proofs.Common.{List, [], ◌∷◌, length, get_or, drop, eqb, inl, inr, ◌≤◌}
 use Rattle.std.proofs.lemmas.Bool.{and_parts, or_cases}
-use Rattle.mseed_choice.specs.Pattern.{any_rest, after_one, fits}
+use Rattle.mseed_record.specs.Pattern.{any_rest, after_one, fits}
 use Rattle.mseed_select.specs.declared.matching.Piece.{Piece}
 use Rattle.mseed_select.specs.declared.matching.Piece.TheVariants.{Whole, Fails, Star}
 use Rattle.mseed_select.specs.private.Pieces.{IsLeft, IsPiece}

@@ -9,9 +9,9 @@ use Rattle.std.proofs.lemmas.Nat.{mul-le}
 use Rattle.mseed_time.specs.Rate.{Ratio}
 use Rattle.mseed_record.specs.Header.{key_at, samples_at}
 use Rattle.mseed_record.specs.View.{View, start_of}
-use Rattle.mseed_choice.specs.Pattern.{IsOfChannels}
-use Rattle.mseed_choice.specs.Selection.{BeginsBefore, HasSampleIn, IsAskedFor, IsInWindow, IsSampleBefore, LastsTo}
-use Rattle.mseed_choice.specs.Selection.{Selection, lasts_to}
+use Rattle.mseed_record.specs.Pattern.{IsOfChannels}
+use Rattle.mseed_record.specs.Selection.{BeginsBefore, HasSampleIn, IsAskedFor, IsInWindow, IsSampleBefore, LastsTo}
+use Rattle.mseed_record.specs.Selection.{Selection, lasts_to}
 
 -- the last sample is no earlier than another one
 last_on : (x : ℤ) (i n den : ℕ) → x ≤ℤ pos (i * den * 10 ^ 6) → i < n → x ≤ℤ pos ((n - 1) * den * 10 ^ 6)

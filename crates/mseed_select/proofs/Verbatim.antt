@@ -9,7 +9,7 @@ use Rattle.mseed_stream.specs.Walk.{bytes_in}
 use Rattle.mseed_select.specs.Formatted.{EndsInPart, IsFormatted, IsFound, asked_text, texts_of, whole_text}
 use Rattle.mseed_select.specs.Halves.{Placed, asked_of, placed_from}
 use Rattle.mseed_select.specs.Select.{EndsShort, IsSelected, selected_bytes}
-use Rattle.mseed_choice.specs.Selection.{Selection, asks_for}
+use Rattle.mseed_record.specs.Selection.{Selection, asks_for}
 use Rattle.mseed_select.specs.declared.fault.SelectFault.{SelectFault}
 use Rattle.mseed_select.specs.declared.fault.SelectFault.TheVariants.{Write, Memory}
 use Rattle.mseed_select.specs.declared.selected.Selected.{Selected}

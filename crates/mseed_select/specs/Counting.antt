@@ -3,7 +3,7 @@ use Rattle.std.specs.Prelude.{ℕ, Bool, if◌then◌else◌, List, length}
 use Rattle.std.specs.List.{count_by}
 use Rattle.mseed_record.specs.View.{View}
 use Rattle.mseed_select.specs.declared.counts.Counts.{Counts}
-use Rattle.mseed_choice.specs.Selection.{Selection, asks_for, lacks_time}
+use Rattle.mseed_record.specs.Selection.{Selection, asks_for, lacks_time}
 
 -- 1 where a test holds
 abbrev pub one_if : Bool → ℕ

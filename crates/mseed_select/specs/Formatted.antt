@@ -9,7 +9,7 @@ use Rattle.mseed_select.specs.declared.fault.SelectFault.TheVariants.{Write, Mem
 use Rattle.mseed_select.specs.declared.selected.Selected.{Selected}
 use Rattle.mseed_select.specs.Halves.{Placed, asked_of, placed_from}
 use Rattle.mseed_select.specs.Select.{AreCounted}
-use Rattle.mseed_choice.specs.Selection.{Selection}
+use Rattle.mseed_record.specs.Selection.{Selection}
 
 -- What a format writes: of a record, by where it begins, and at the end, by what was found.
 pub record Texts : Type 0 where

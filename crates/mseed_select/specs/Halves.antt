@@ -2,7 +2,7 @@
 use Rattle.std.specs.Prelude.{◌≡◌, ◌⊎◌, ℕ, ◌+◌, ◌<◌, not, List, [], ◌∷◌, length}
 use Rattle.std.specs.List.{AllByRecursion, filter}
 use Rattle.mseed_record.specs.View.{View}
-use Rattle.mseed_choice.specs.Selection.{Selection, asks_for}
+use Rattle.mseed_record.specs.Selection.{Selection, asks_for}
 
 -- a record, and where it begins
 pub record Placed : Type 0 where

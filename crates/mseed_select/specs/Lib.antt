@@ -5,4 +5,6 @@ pub mod Selecting
 pub mod Select
 pub mod Halves
 pub mod Formatted
+pub mod Listing
+pub mod Show
 pub mod private

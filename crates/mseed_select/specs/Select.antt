@@ -8,7 +8,7 @@ use Rattle.mseed_stream.specs.Walk.{AreViews, AreAllViews, bytes_in}
 use Rattle.mseed_select.specs.declared.fault.SelectFault.{SelectFault}
 use Rattle.mseed_select.specs.declared.fault.SelectFault.TheVariants.{Write, Memory}
 use Rattle.mseed_select.specs.declared.selected.Selected.{Selected}
-use Rattle.mseed_choice.specs.Selection.{Selection, asks_for, lacks_time}
+use Rattle.mseed_record.specs.Selection.{Selection, asks_for, lacks_time}
 
 -- the bytes of the records that are asked for, in their order
 abbrev pub selected_bytes : Selection → List View → List ℕ

@@ -2,7 +2,7 @@
 use Rattle.std.specs.Prelude.{List, ℕ, Option, Some, None}
 use Rattle.mseed_select.specs.declared.patterns.Patterns.{Patterns}
 use Rattle.mseed_select.specs.declared.selector.Selector.{Selector}
-use Rattle.mseed_choice.specs.Selection.{Selection}
+use Rattle.mseed_record.specs.Selection.{Selection}
 
 -- the text of some patterns
 abbrev pub text_of : Option Patterns → Option (List ℕ)

@@ -8,15 +8,14 @@ ghost use Rattle.mseed_stream.specs.Device.{BytesWritten, nothing_read};
 ghost use Rattle.mseed_stream.specs.Walk.{HasHandedOut};
 ghost use Rattle.mseed_select.specs.Formatted.{IsFormatted};
 ghost use Rattle.mseed_select.specs.Select.{IsSelected};
-ghost use Rattle.mseed_choice.specs.Selection.{answer_of};
+ghost use Rattle.mseed_record.specs.Selection.{answer_of};
 ghost use Rattle.mseed_select.specs.private.Copying.{IsCopying, IsHeld, IsNext, text_by};
 
 use crate::counts::Counts;
 use crate::fault::SelectFault;
 use crate::format::{Format, Verbatim};
 use crate::selected::Selected;
-use mseed_choice::{Answer, Choice};
-use mseed_record::RecordView;
+use mseed_record::{Answer, Choice, RecordView};
 use mseed_stream::{Cutter, GATHERED, Sink, Source, StreamFault, write_all_of, write_beyond};
 use std::alloc::{AllocError, Allocator};
 

@@ -1,10 +1,10 @@
 //! The counts of a selection.
 ghost use Rattle.std.specs.Prelude.{◌≡◌, ◌+◌, ◌<◌, ◌^◌, ◌≤◌};
 ghost use Rattle.mseed_select.specs.Counting.{one_if};
-ghost use Rattle.mseed_choice.specs.Selection.{is_asked, is_without_time};
+ghost use Rattle.mseed_record.specs.Selection.{is_asked, is_without_time};
 
 use crate::selected::Selected;
-use mseed_choice::Answer;
+use mseed_record::Answer;
 use mseed_stream::StreamFault;
 
 /// How many records there were, how many of them are asked for, and how many lack a time.

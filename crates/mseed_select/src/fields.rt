@@ -1,7 +1,7 @@
 //! The fields of a pattern.
 ghost use Rattle.std.specs.Prelude.{◌≡◌, ◌≢◌, ◌∷◌, [], MatchOption, length};
 ghost use Rattle.std.specs.List.{list_all};
-ghost use Rattle.mseed_choice.specs.Pattern.{fields_in, is_character, is_pattern};
+ghost use Rattle.mseed_record.specs.Pattern.{fields_in, is_character, is_pattern};
 
 use crate::parts::first_part;
 

@@ -9,9 +9,9 @@ ghost use Rattle.mseed_time.specs.Text.{time_text};
 ghost use Rattle.mseed_select.specs.TimeTexts.{IsWordFor};
 ghost use Rattle.mseed_select.specs.Word.{time_of};
 ghost use Rattle.mseed_select.specs.Halves.{AreMerged, asked_of, others_of, placed_from};
-ghost use Rattle.mseed_choice.specs.Letters.{AreFourFields, IsFourFields};
-ghost use Rattle.mseed_choice.specs.Pattern.{Fits, IsOfChannels, are_patterns, fits, is_pattern};
-ghost use Rattle.mseed_choice.specs.Selection.{HasSampleIn, IsAskedFor, LacksTime, Selection, asks_for, lacks_time};
+ghost use Rattle.mseed_record.specs.Letters.{AreFourFields, IsFourFields};
+ghost use Rattle.mseed_record.specs.Pattern.{Fits, IsOfChannels, are_patterns, fits, is_pattern};
+ghost use Rattle.mseed_record.specs.Selection.{HasSampleIn, IsAskedFor, LacksTime, Selection, asks_for, lacks_time};
 
 /// A text is a pattern exactly where it is four fields of letters and digits, `-`, `*` and `?`, with `_` between them,
 /// and patterns exactly where it is one or more of them, with `,` between them.

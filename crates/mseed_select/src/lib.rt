@@ -10,6 +10,8 @@ mod fault;
 mod fields;
 mod format;
 mod law;
+mod lines;
+mod listing;
 mod matching;
 mod numbers;
 mod parts;
@@ -20,13 +22,14 @@ mod word;
 
 pub use copying::{select, write_selected};
 pub use counts::Counts;
-pub use fault::{BadPatterns, BadTime, BadWindow, SelectFault};
+pub use fault::{BadPatterns, BadTime, BadWindow, SelectFault, SelectFault as ShowFault};
 pub use format::Format;
 pub use law::{
     asked_for_exactly, fits_exactly, lacks_time_exactly, patterns_exactly, samples_in_window,
     times_exactly, two_halves,
 };
-pub use mseed_choice::{All, Answer, Choice};
+pub use listing::{show, show_selected};
+pub use mseed_record::{All, Answer, Choice};
 pub use patterns::Patterns;
 pub use selected::Selected;
 pub use selector::Selector;

@@ -1,6 +1,6 @@
 //! Whether a pattern matches a channel.
 ghost use Rattle.std.specs.Prelude.{◌≡◌, ◌==◌, ◌||◌, ◌∷◌};
-ghost use Rattle.mseed_choice.specs.Pattern.{fits, fits_location, matches};
+ghost use Rattle.mseed_record.specs.Pattern.{fits, fits_location, matches};
 ghost use Rattle.mseed_select.specs.private.Pieces.{IsPiece};
 
 use crate::fields::fields_of;

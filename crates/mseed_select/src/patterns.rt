@@ -1,6 +1,6 @@
 //! Patterns of channels.
 ghost use Rattle.std.specs.Prelude.{◌≡◌, ◌↔◌, IsOk, IfOk, IsTrue, Some};
-ghost use Rattle.mseed_choice.specs.Pattern.{IsOfChannels, are_patterns, is_of_channels};
+ghost use Rattle.mseed_record.specs.Pattern.{IsOfChannels, are_patterns, is_of_channels};
 
 use crate::fault::BadPatterns;
 use crate::fields::is_pattern;

@@ -3,14 +3,13 @@ ghost use Rattle.std.specs.Prelude.{◌≡◌, ◌&&◌, ◌↔◌, ℤ, ◌≤�
 ghost use Rattle.mseed_record.specs.View.{View, start_of};
 ghost use Rattle.mseed_record.specs.Header.{key_at, samples_at};
 ghost use Rattle.mseed_record.specs.Viewing.{view_of};
-ghost use Rattle.mseed_choice.specs.Pattern.{is_of_channels};
-ghost use Rattle.mseed_choice.specs.Selection.{IsAskedFor, LacksTime, answer_by, answer_in, answer_of, begins_before};
-ghost use Rattle.mseed_choice.specs.Selection.{lasts_to, rate_in, reaches};
+ghost use Rattle.mseed_record.specs.Pattern.{is_of_channels};
+ghost use Rattle.mseed_record.specs.Selection.{IsAskedFor, LacksTime, answer_by, answer_in, answer_of, begins_before};
+ghost use Rattle.mseed_record.specs.Selection.{lasts_to, rate_in, reaches};
 
 use crate::fault::BadWindow;
 use crate::patterns::Patterns;
-use mseed_choice::Answer;
-use mseed_record::RecordView;
+use mseed_record::{Answer, RecordView};
 use mseed_time::{Micros, Ratio, drift};
 
 /// A request for channels and a window of time, as of FDSN's dataselect.

@@ -2,7 +2,7 @@
 
 use crate::records::{LATE_START, START, alone, both};
 use mseed_audit::Channel;
-use mseed_parts::{JoinFault, Part};
+use mseed_join::{JoinFault, Part};
 use mseed_record::Codes;
 use std::alloc::Global;
 use std::process::Abort;

@@ -3,8 +3,8 @@ use Rattle.std.specs.Prelude.{ℕ, Bool, true, false, ◌||◌, ◌&&◌, ◌==�
 use Rattle.std.specs.Prelude.{Option, Some, None, is_some, Result, Ok, Err}
 use Rattle.std.specs.List.{after_first, before_first}
 use Rattle.clap.specs.Walk.{Row, Text, first_of}
-use Rattle.mseed_choice.specs.Pattern.{are_patterns}
-use Rattle.mseed_choice.specs.Selection.{Selection}
+use Rattle.mseed_record.specs.Pattern.{are_patterns}
+use Rattle.mseed_record.specs.Selection.{Selection}
 use Rattle.mseed_select.specs.Word.{time_of}
 use Rattle.mseed_words.specs.Mistakes.{and_then, mapped, name_text}
 use Rattle.mseed_words.specs.Numbers.{number_within}

@@ -6,3 +6,4 @@ pub mod ListenFault
 pub mod NetworkFault
 pub mod Trouble
 pub mod EndLines
+pub mod Happened

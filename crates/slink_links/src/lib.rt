@@ -9,20 +9,27 @@
 #![tactic(auto)]
 
 mod accept;
+mod acceptor;
 mod ahead;
 mod closing;
 mod dial;
+mod draining;
 mod ending;
 mod fetching;
 mod gathering;
+mod guards;
 mod handshake;
+mod input;
 mod listen_fault;
+mod live_tcp;
 mod network_fault;
 mod patient;
 mod pause;
 mod plan;
 mod planned;
+mod round;
 mod serving;
+mod slot;
 mod status;
 mod tcp;
 mod trouble;
@@ -32,6 +39,7 @@ pub use dial::Dial;
 pub use fetching::{FetchEnd, fetch_all, fetch_link};
 pub use handshake::EndsHandshake;
 pub use listen_fault::ListenFault;
+pub use live_tcp::{LivePlan, LiveTcp};
 pub use network_fault::NetworkFault;
 pub use pause::Pause;
 pub use plan::{FetchPlan, FetchTerms, ServePlan, Server};

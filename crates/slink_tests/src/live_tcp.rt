@@ -2,7 +2,7 @@
 
 use crate::links::rest_of;
 use crate::live::{push, record, server_of};
-use slink_live_tcp::{Plan, Tcp};
+use slink_links::{LivePlan, LiveTcp};
 use std::alloc::Global;
 use std::io;
 use std::io::{Read, Write};
@@ -38,8 +38,8 @@ impl Read for Input {
 }
 
 /// A listener for three links, with a record as its input.
-fn bound<N: Net + Clock>(host: &N, alloc: Global) -> io::Result<Tcp<'_, N, Input>> {
-    let plan = Plan {
+fn bound<N: Net + Clock>(host: &N, alloc: Global) -> io::Result<LiveTcp<'_, N, Input>> {
+    let plan = LivePlan {
         address: SocketAddr::from((Ipv4Addr::LOCALHOST, 0)),
         clients: 3,
         timeout: Some(Duration::from_secs(1)),
@@ -48,7 +48,7 @@ fn bound<N: Net + Clock>(host: &N, alloc: Global) -> io::Result<Tcp<'_, N, Input
         bytes: record(b"STA", 0),
         given: 0,
     };
-    Tcp::bind(host, alloc, plan, input)
+    LiveTcp::bind(host, alloc, plan, input)
 }
 
 /// What each client says: the last one is silent.
@@ -104,7 +104,11 @@ fn have_the_record<S: Read>(rt: &impl Abort, alloc: Global, streams: &mut [S]) -
 }
 
 /// Whether a server of one ring serves its links until none is left, and nothing fails.
-fn is_served<N: Net + Clock>(rt: &impl Abort, alloc: Global, tcp: &mut Tcp<'_, N, Input>) -> bool {
+fn is_served<N: Net + Clock>(
+    rt: &impl Abort,
+    alloc: Global,
+    tcp: &mut LiveTcp<'_, N, Input>,
+) -> bool {
     let mut server = server_of(rt, alloc, 10);
     server.serve(tcp).is_ok() && !tcp.has_failed()
 }

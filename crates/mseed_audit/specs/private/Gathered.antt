@@ -11,7 +11,7 @@ use Rattle.mseed_stream.specs.Gathered.{AreGathered, EmittedPart}
 use Rattle.mseed_stream.specs.CutterState.{CutterState}
 use Rattle.mseed_stream.specs.Walk.{AreViews, HasHandedOut}
 use Rattle.mseed_stream.specs.declared.fault.StreamFault.{StreamFault}
-use Rattle.mseed_choice.specs.Selection.{Selection, lacks_time}
+use Rattle.mseed_record.specs.Selection.{Selection, lacks_time}
 use Rattle.mseed_audit.specs.declared.audits.Memory.{Memory as NoRoom}
 use Rattle.mseed_audit.specs.declared.each.EachFault.{EachFault}
 use Rattle.mseed_audit.specs.declared.each.EachFault.TheVariants.{Write, Memory}

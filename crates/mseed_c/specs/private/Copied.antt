@@ -1,9 +1,9 @@
 -- Records that were gone through, of which those that are asked for were written.
 use Rattle.std.specs.Prelude.{◌≡◌, ◌+◌, ◌≤◌, ℕ, List, [], length}
 use Rattle.mseed_record.specs.View.{View}
-use Rattle.mseed_choice.specs.Selection.{Selection, is_asked, is_without_time}
-use Rattle.mseed_choice.specs.declared.answer.Answer.{Answer}
-use Rattle.mseed_choice.specs.declared.answer.Answer.TheVariants.{AskedFor, Left, NoTime}
+use Rattle.mseed_record.specs.Selection.{Selection, is_asked, is_without_time}
+use Rattle.mseed_record.specs.declared.answer.Answer.{Answer}
+use Rattle.mseed_record.specs.declared.answer.Answer.TheVariants.{AskedFor, Left, NoTime}
 use Rattle.mseed_select.specs.Counting.{one_if}
 use Rattle.mseed_c.specs.Asked.{AreSelected}
 use Rattle.mseed_c.specs.declared.selecting.Selected.{Selected}

@@ -2,7 +2,7 @@
 use Rattle.std.specs.Prelude.{ℕ, List, [], ◌∷◌, ◌++◌, Some, None}
 use Rattle.mseed_stream.specs.declared.fault.StreamFault.{StreamFault}
 use Rattle.mseed_audit.specs.declared.channel.Channel.{Channel}
-use Rattle.mseed_part_lines.specs.Lines.{Line, header, channel, counts, faults, fault}
+use Rattle.mseed_join.specs.Lines.{Line, header, channel, counts, faults, fault}
 pub use Rattle.mseed_join.specs.Flaws.{May}
 use Rattle.mseed_join.specs.Reached.{OpenPart, none, begun, whole, Stage}
 use Rattle.mseed_join.specs.Written.{Written}

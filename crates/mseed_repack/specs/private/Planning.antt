@@ -6,9 +6,9 @@ use Rattle.mseed_time.specs.declared.outcome.LeapStep.{LeapStep}
 use Rattle.mseed_record.specs.View.{View}
 use Rattle.mseed_stream.specs.Device.{BytesWritten}
 use Rattle.mseed_audit.specs.Follows.{IsSound}
-use Rattle.mseed_stretches.specs.Clocks.{IsStretchAt}
-use Rattle.mseed_stretches.specs.Stretches.{AreStretches}
-use Rattle.mseed_stretches.specs.declared.stretch.Stretch.{Stretch}
+use Rattle.mseed_repack.specs.Clocks.{IsStretchAt}
+use Rattle.mseed_repack.specs.Stretches.{AreStretches}
+use Rattle.mseed_repack.specs.declared.stretch.Stretch.{Stretch}
 use Rattle.mseed_pack.specs.Options.{IsSteim}
 use Rattle.mseed_steim.specs.declared.encoding.Encoding.{Encoding}
 use Rattle.mseed_pack.specs.declared.options.Options.{Options}

@@ -8,8 +8,8 @@ use Rattle.mseed_audit.specs.Channels.{is_of}
 use Rattle.mseed_audit.specs.Follows.{IsSound}
 use Rattle.mseed_audit.specs.Judging.{step_in}
 use Rattle.mseed_audit.specs.Series.{HoldsAll, step_at}
-use Rattle.mseed_stretches.specs.Stretches.{IsFirstStretch}
-pub use Rattle.mseed_stretches.specs.Stretches.{samples_of}
+use Rattle.mseed_repack.specs.Stretches.{IsFirstStretch}
+pub use Rattle.mseed_repack.specs.Stretches.{samples_of}
 
 -- how many leap seconds a record bears: one, or none
 abbrev pub step_count : View → ℕ

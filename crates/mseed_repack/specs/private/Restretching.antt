@@ -9,7 +9,7 @@ use Rattle.mseed_repack.specs.Repack.{Channel, Exists, IsArchiveOf, IsFirst, rec
 use Rattle.mseed_repack.specs.Restretch.{ChannelFits, ChannelMisfits}
 use Rattle.mseed_repack.specs.ByStretches.{AreFound, AreSound, IsFirstOwn, IsRestretchingAmong}
 use Rattle.mseed_repack.specs.Selected.{ReportsIfLeft, ReportsOfBytes, ReportsWithoutTime, WereReportedInPart}
-use Rattle.mseed_choice.specs.Selection.{Selection}
+use Rattle.mseed_record.specs.Selection.{Selection}
 use Rattle.mseed_stream.specs.Device.{BytesRead, BytesWritten}
 use Rattle.mseed_stream.specs.declared.fault.StreamFault.{StreamFault}
 use Rattle.mseed_stream.specs.declared.fault.StreamFault.TheVariants.{Memory as NoMemory}

@@ -5,13 +5,13 @@ use Rattle.mseed_stream.specs.Device.{BytesRead, BytesWritten}
 use Rattle.mseed_stream.specs.Gathered.{AreGathered}
 use Rattle.mseed_stream.specs.CutterState.{CutterState}
 use Rattle.mseed_stream.specs.Walk.{AreAllViews, HasHandedOut}
-use Rattle.mseed_choice.specs.declared.answer.Answer.{Answer}
+use Rattle.mseed_record.specs.declared.answer.Answer.{Answer}
 use Rattle.mseed_select.specs.declared.copying.Step.{Step}
 use Rattle.mseed_select.specs.declared.copying.Step.TheVariants.{Judged, Ended}
 use Rattle.mseed_select.specs.declared.fault.SelectFault.{SelectFault}
 use Rattle.mseed_select.specs.declared.selected.Selected.{Selected}
 use Rattle.mseed_select.specs.Formatted.{IsFormatted, IsFound, Texts, asked_text}
-use Rattle.mseed_choice.specs.Selection.{Selection, answer_of, asks_for}
+use Rattle.mseed_record.specs.Selection.{Selection, answer_of, asks_for}
 
 -- the bytes of each record, and nothing at the end
 abbrev pub bytes_alone : Texts

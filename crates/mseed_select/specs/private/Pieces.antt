@@ -1,6 +1,6 @@
 -- What is left of a field and of a code at the field's first `*`.
 use Rattle.std.specs.Prelude.{◌≡◌, ◌≤◌, ◌<◌, ℕ, true, false, List, ◌∷◌, length}
-use Rattle.mseed_choice.specs.Pattern.{fits}
+use Rattle.mseed_record.specs.Pattern.{fits}
 use Rattle.mseed_select.specs.declared.matching.Piece.{Piece}
 use Rattle.mseed_select.specs.declared.matching.Piece.TheVariants.{Whole, Fails, Star}
 

@@ -2,8 +2,7 @@
 
 use super::auditing::{OF_FIRST, OF_LATE};
 use crate::audit::devices::{self, sink_with};
-use mseed_join::{Closing, Flaw, Form, Joined, JoinsFault, join, join_each};
-use mseed_part_lines::Field;
+use mseed_join::{Closing, Field, Flaw, Form, Joined, JoinsFault, join, join_each};
 use mseed_stream::Counted;
 use std::alloc::{Allocator, Global};
 use std::process::Abort;

@@ -7,8 +7,8 @@ use super::host::{Input, Still};
 use super::pattern::Pattern;
 use super::peer::{Peer, Stage};
 use crate::noise::Noise;
+use slink_links::{LivePlan, LiveTcp};
 use slink_live::{Event, Interest, Ready};
-use slink_live_tcp::{Plan, Tcp};
 use std::alloc::{AllocError, Global};
 use std::io;
 use std::net::{Ipv4Addr, Net, SocketAddr};
@@ -75,7 +75,7 @@ impl Seen {
 pub(crate) struct World<'a, N: Net> {
     host: &'a Still<'a, N>,
     pattern: &'a Pattern,
-    tcp: Tcp<'a, Still<'a, N>, Input>,
+    tcp: LiveTcp<'a, Still<'a, N>, Input>,
     setting: Setting,
     address: SocketAddr,
     noise: Noise,
@@ -134,13 +134,13 @@ impl<'a, N: Net> World<'a, N> {
         pattern: &'a Pattern,
         setting: Setting,
     ) -> io::Result<World<'a, N>> {
-        let plan = Plan {
+        let plan = LivePlan {
             address: SocketAddr::from((Ipv4Addr::new(127, 0, 0, 2), 0)),
             clients: setting.slots,
             timeout: setting.limit.map(Duration::from_millis),
         };
         let (feed, input) = feed_of(host, setting)?;
-        let tcp = Tcp::bind(host, alloc, plan, input)?;
+        let tcp = LiveTcp::bind(host, alloc, plan, input)?;
         let address = tcp.address()?;
         Ok(World {
             host,

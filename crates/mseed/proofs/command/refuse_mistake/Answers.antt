@@ -1,5 +1,5 @@
 use Rattle.std.proofs.Common.{◌∙◌, List, ℕ, subst}
-use Rattle.mseed_input.specs.Given.{given_line}
+use Rattle.mseed_files.specs.Given.{given_line}
 use Rattle.mseed_stream.specs.Device.{BytesWritten}
 use Rattle.mseed_stream.specs.LineWritten.{WritesLine}
 use Rattle.mseed_words.specs.Mistakes.{before_text}

@@ -1,7 +1,7 @@
 use Rattle.std.proofs.Common.{arith}
 use Rattle.mseed_stream.specs.Device.{BytesRead, BytesWritten}
 use Rattle.mseed_stream.proofs.Calls.{writes_on}
-use Rattle.mseed_choice.specs.Selection.{Selection}
+use Rattle.mseed_record.specs.Selection.{Selection}
 use Rattle.mseed_audit.specs.Scope.{asked}
 use Rattle.mseed_audit.specs.declared.each.EachFault.TheVariants.{Memory}
 use Rattle.mseed_audit.proofs.Gathers.{each_short, each_written, lined_first, lines_fault, lines_outcome, memory_short}

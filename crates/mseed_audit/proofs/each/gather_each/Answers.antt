@@ -1,6 +1,6 @@
 use Rattle.std.proofs.Common.{subst}
 use Rattle.mseed_stream.specs.Device.{BytesRead, BytesWritten}
-use Rattle.mseed_choice.specs.Selection.{everything}
+use Rattle.mseed_record.specs.Selection.{everything}
 use Rattle.mseed_audit.specs.Scope.{Scope}
 use Rattle.mseed_audit.specs.Each.{HasLinesIn, IsLinesFaultIn}
 use Rattle.mseed_audit.proofs.Gathers.{lined_first, lines_fault}

@@ -4,9 +4,9 @@ use Rattle.std.specs.Prelude.{IsTrue}
 use Rattle.std.proofs.lemmas.Bool.{false≢true}
 use Rattle.std.proofs.lemmas.Int.{to_z-of_z}
 use Rattle.mseed_time.specs.Btime.{IsInstant}
-use Rattle.mseed_choice.specs.Pattern.{are_patterns}
+use Rattle.mseed_record.specs.Pattern.{are_patterns}
 use Rattle.mseed_select.specs.Selecting.{text_of, selection_of}
-use Rattle.mseed_choice.specs.Selection.{Selection}
+use Rattle.mseed_record.specs.Selection.{Selection}
 use Rattle.mseed_c.specs.Asked.{IsEmptyWindow, IsSelectedTo, asked_by, bound_of, channels_of}
 use Rattle.mseed_c.specs.Asked.{bad_time, bad_patterns, bad_window, taken}
 use Rattle.mseed_c.specs.declared.selecting.Window.{Window}

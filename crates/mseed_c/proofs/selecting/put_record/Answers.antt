@@ -1,6 +1,6 @@
 use Rattle.std.proofs.Common.{◌≡◌, ◌-◌, ◌++◌, ◌∙◌, ℕ, List, length, min, sym, ap, subst, arith}
 use borrow.Rule.Slice.PartMut.{put_mid}
-use Rattle.mseed_choice.specs.declared.answer.Answer.{Answer}
+use Rattle.mseed_record.specs.declared.answer.Answer.{Answer}
 use Rattle.mseed_pack.proofs.Overwritten.{over_more}
 use Rattle.mseed_c.specs.Room.{overwritten}
 use Rattle.mseed_c.specs.private.Copied.{added}

@@ -1,5 +1,5 @@
 use Rattle.std.proofs.Common.{map}
-use Rattle.mseed_files.proofs.Given.{AreBefore}
+use Rattle.mseed_files.proofs.GivenWords.{AreBefore}
 use Rattle.mseed_files.proofs.arguments.words_of.Given as goal
 
 abbrev pub invariant-loop-index : goal.invariant-loop-index

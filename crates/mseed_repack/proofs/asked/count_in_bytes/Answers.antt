@@ -4,7 +4,7 @@ use Rattle.std.proofs.lemmas.List.{take_rest}
 use Rattle.mseed_record.specs.Viewing.{view_of}
 use Rattle.mseed_record.specs.declared.view.RecordView.{RecordView}
 use Rattle.mseed_select.specs.Selecting.{selection_of}
-use Rattle.mseed_choice.specs.Selection.{lacks_time}
+use Rattle.mseed_record.specs.Selection.{lacks_time}
 use Rattle.mseed_repack.proofs.Untimed.{IsCountedTo, all_counted, at_most_one, counted_next, ended}
 use Rattle.mseed_repack.proofs.asked.count_in_bytes.Goals as goal
 

@@ -4,9 +4,9 @@ use Rattle.std.proofs.lemmas.List.Sums.{count_by-le-length, count_by_more_no, co
 use Rattle.mseed_record.specs.Viewing.{view_of}
 use Rattle.mseed_record.specs.declared.view.RecordView.{RecordView}
 use Rattle.mseed_select.specs.Selecting.{selection_of}
-use Rattle.mseed_choice.specs.Selection.{is_without_time, lacks_time}
-use Rattle.mseed_choice.specs.declared.answer.Answer.{Answer}
-use Rattle.mseed_choice.specs.declared.answer.Answer.TheVariants.{AskedFor, Left, NoTime}
+use Rattle.mseed_record.specs.Selection.{is_without_time, lacks_time}
+use Rattle.mseed_record.specs.declared.answer.Answer.{Answer}
+use Rattle.mseed_record.specs.declared.answer.Answer.TheVariants.{AskedFor, Left, NoTime}
 use Rattle.mseed_repack.proofs.AskedFor.{counted_views}
 use Rattle.mseed_repack.proofs.asked.count_without_time.Goals as goal
 use Rattle.mseed_repack.proofs.asked.count_without_time.Goals.{in-NoTime, in_default}

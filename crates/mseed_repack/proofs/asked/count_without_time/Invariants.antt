@@ -3,7 +3,7 @@ use Rattle.std.specs.List.{count_by}
 use Rattle.mseed_record.specs.Viewing.{view_of}
 use Rattle.mseed_record.specs.declared.view.RecordView.{RecordView}
 use Rattle.mseed_select.specs.Selecting.{selection_of}
-use Rattle.mseed_choice.specs.Selection.{lacks_time}
+use Rattle.mseed_record.specs.Selection.{lacks_time}
 use Rattle.mseed_repack.proofs.asked.count_without_time.Given as goal
 
 abbrev pub invariant-loop-view : goal.invariant-loop-view

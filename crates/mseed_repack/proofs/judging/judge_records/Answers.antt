@@ -8,7 +8,7 @@ use Rattle.mseed_audit.proofs.Following.{few_bytes, end_next}
 use Rattle.mseed_repack.specs.private.Supplying.{IsPlain}
 use Rattle.mseed_repack.proofs.ReadChannels.{steps_next}
 use Rattle.mseed_repack.proofs.Repacks.{audit_next}
-use Rattle.mseed_repack.proofs.Sound.{alone_next, sound_by_finding}
+use Rattle.mseed_repack.proofs.SoundRecords.{alone_next, sound_by_finding}
 use Rattle.mseed_repack.proofs.judging.judge_records.Goals as goal
 use Rattle.mseed_repack.proofs.judging.judge_records.Goals.{then-has_own, else-has_own, then-plain, else-plain}
 

@@ -8,7 +8,7 @@ use Rattle.mseed_audit.specs.declared.finding.Finding.{Finding}
 use Rattle.mseed_audit.proofs.Following.{end_of, offset_next}
 use Rattle.mseed_repack.specs.private.Reading.{channel_in}
 use Rattle.mseed_repack.proofs.OwnFindings.{own_at, sound_next, stands_in}
-use Rattle.mseed_repack.proofs.Sound.{sound_found}
+use Rattle.mseed_repack.proofs.SoundRecords.{sound_found}
 use Rattle.mseed_repack.proofs.own.find_own.Goals as goal
 use Rattle.mseed_repack.proofs.own.find_own.Goals.{then-is_of+in_default, else-is_of}
 

@@ -4,7 +4,7 @@ use Rattle.std.proofs.lemmas.List.{take_rest}
 use Rattle.mseed_record.specs.Viewing.{view_of}
 use Rattle.mseed_record.specs.declared.view.RecordView.{RecordView}
 use Rattle.mseed_select.specs.Selecting.{selection_of}
-use Rattle.mseed_choice.specs.Selection.{asks_for}
+use Rattle.mseed_record.specs.Selection.{asks_for}
 use Rattle.mseed_audit.specs.declared.finding.Finding.{Finding}
 use Rattle.mseed_repack.proofs.Passed.{IsPassed, passed_next, passed_none, passed_to}
 use Rattle.mseed_repack.proofs.Untimed.{ended}

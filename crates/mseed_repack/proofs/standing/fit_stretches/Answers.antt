@@ -1,6 +1,6 @@
 use Rattle.std.proofs.Common.{◌≡◌, ◌∙◌, ◌+◌, ◌++◌, ◌∷◌, ap, ℕ, List, [], length, drop, take, arith, refl, sym, subst}
 use Rattle.mseed_record.specs.View.{View}
-use Rattle.mseed_stretches.specs.Stretches.{IsFirstStretch}
+use Rattle.mseed_repack.specs.Stretches.{IsFirstStretch}
 use Rattle.mseed_repack.specs.private.Planning.{IsFitting, IsReady}
 use Rattle.mseed_repack.specs.declared.plan.Plan.{Plan}
 use Rattle.mseed_repack.specs.declared.series.Fitting.{Fitting}

@@ -17,7 +17,7 @@ use Rattle.mseed_repack.specs.declared.standing.Standing.{Standing}
 use Rattle.mseed_repack.proofs.Archives.{few_trail, of_channel, some_on}
 use Rattle.mseed_repack.proofs.Planning.{ready_more}
 use Rattle.mseed_repack.proofs.Repacks.{count_said}
-use Rattle.mseed_repack.proofs.Sound.{alone_in}
+use Rattle.mseed_repack.proofs.SoundRecords.{alone_in}
 use Rattle.mseed_repack.proofs.Standings.{sound_by, steps_gathered}
 use Rattle.mseed_repack.proofs.standing.stand_all.Goals as goal
 

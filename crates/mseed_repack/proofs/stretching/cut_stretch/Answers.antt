@@ -1,8 +1,8 @@
 use Rattle.std.proofs.Common.{List, arith, refl, subst, sym, ◌∙◌}
 use Rattle.std.proofs.lemmas.Bool.{false≢true}
 use Rattle.mseed_record.specs.View.{View}
-use Rattle.mseed_stretches.specs.Stretches.{EndsBefore}
-use Rattle.mseed_repack.proofs.Cutting.{cut_first, cut_off, cut_on, few_more, left_are}
+use Rattle.mseed_repack.specs.Stretches.{EndsBefore}
+use Rattle.mseed_repack.proofs.CutStretches.{cut_first, cut_off, cut_on, few_more, left_are}
 use Rattle.mseed_repack.proofs.stretching.cut_stretch.Goals as goal
 
 pub loop-view-init : goal.loop-view-init

@@ -1,5 +1,5 @@
 use Rattle.std.proofs.Common.{◌≡◌, length}
-use Rattle.mseed_repack.proofs.Cutting.{IsCutSo}
+use Rattle.mseed_repack.proofs.CutStretches.{IsCutSo}
 use Rattle.mseed_repack.proofs.stretching.cut_stretch.Given as goal
 
 abbrev pub invariant-loop-view : goal.invariant-loop-view

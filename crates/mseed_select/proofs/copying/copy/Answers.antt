@@ -6,7 +6,7 @@ use Rattle.mseed_stream.specs.Device.{BytesRead, BytesWritten}
 use Rattle.mseed_stream.specs.Gathered.{AreGathered}
 use Rattle.mseed_stream.specs.Walk.{HasHandedOut}
 use Rattle.mseed_stream.proofs.Calls.{reads_on}
-use Rattle.mseed_choice.specs.Selection.{Selection, asks_for, lacks_time}
+use Rattle.mseed_record.specs.Selection.{Selection, asks_for, lacks_time}
 use Rattle.mseed_select.specs.declared.counts.Counts.{Counts}
 use Rattle.mseed_select.specs.declared.selected.Selected.{Selected}
 use Rattle.mseed_select.specs.private.Copying.{IsCopying}

@@ -1,5 +1,5 @@
 use Rattle.std.proofs.Common.{◌≡◌, ◌+◌, ◌∷◌, length}
-use Rattle.mseed_choice.specs.Pattern.{fits}
+use Rattle.mseed_record.specs.Pattern.{fits}
 use Rattle.mseed_select.proofs.matching.fits_after.Given as goal
 
 abbrev pub invariant-pieces : goal.invariant-pieces

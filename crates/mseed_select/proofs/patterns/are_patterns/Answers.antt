@@ -1,7 +1,7 @@
 use Rattle.std.proofs.Common.{ℕ, List, eqb, rules, tests}
 use Rattle.std.proofs.lemmas.Iterator.Search.{all_from_yields_List}
 use Rattle.std.proofs.lemmas.Iterator.Splits.{YieldsList-from_slice_split}
-use Rattle.mseed_choice.specs.Pattern.{is_pattern}
+use Rattle.mseed_record.specs.Pattern.{is_pattern}
 use Rattle.mseed_select.proofs.patterns.are_patterns.Goals as goal
 
 pub returns : goal.returns

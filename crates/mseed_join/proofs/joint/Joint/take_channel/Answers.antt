@@ -2,7 +2,7 @@ use Rattle.std.proofs.Common.{ap, refl, Err, Option, ◌∙◌}
 use Rattle.mseed_audit.specs.Audit.{head_in}
 use Rattle.mseed_audit.specs.declared.finding.Finding.{Finding}
 use Rattle.mseed_join.specs.Borders.{border_at}
-use Rattle.mseed_parts.specs.declared.part.JoinFault.{JoinFault}
+use Rattle.mseed_join.specs.declared.part.JoinFault.{JoinFault}
 use Rattle.mseed_join.proofs.Steps.{channel_added, channel_refused, channel_skipped}
 use Rattle.mseed_join.proofs.joint.Joint.take_channel.Goals as goal
 

@@ -1,7 +1,7 @@
 use Rattle.std.proofs.Common.{◌∙◌, ℕ, List, Some, eqb, sym, rules, tests}
 use Rattle.std.proofs.lemmas.Iterator.Search.{any_from_yields_List}
 use Rattle.std.proofs.lemmas.Iterator.Splits.{YieldsList-from_slice_split}
-use Rattle.mseed_choice.specs.Pattern.{matches}
+use Rattle.mseed_record.specs.Pattern.{matches}
 use Rattle.mseed_select.proofs.Matched.{channels_back, channels_yes}
 use Rattle.mseed_select.proofs.patterns.Patterns.are_of.Goals as goal
 

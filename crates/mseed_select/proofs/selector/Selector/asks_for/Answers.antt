@@ -2,7 +2,7 @@ use Rattle.std.proofs.Common.{◌∙◌, sym}
 use Rattle.mseed_record.specs.View.{View}
 use Rattle.mseed_record.specs.Viewing.{view_of}
 use Rattle.mseed_select.specs.Selecting.{selection_of}
-use Rattle.mseed_choice.specs.Selection.{Selection}
+use Rattle.mseed_record.specs.Selection.{Selection}
 use Rattle.mseed_select.proofs.Asking.{asked_back, asked_yes, lacks_back, lacks_yes}
 use Rattle.mseed_select.proofs.selector.Selector.asks_for.Goals as goal
 

@@ -1,0 +1,51 @@
+//! What was given on a command line, as a line reports it. The line is built without the heap.
+ghost use Rattle.std.specs.Prelude.{◌≡◌, ◌≤◌, ◌+◌, ◌++◌, length, map};
+ghost use Rattle.mseed_files.specs.InputFiles.{printed_byte};
+ghost use Rattle.mseed_files.specs.Given.{given_line, shown};
+ghost use Rattle.mseed_stream.specs.LineWritten.{WritesLine};
+
+use crate::naming::printed;
+use mseed_stream::{Sink, report};
+use mseed_text::Line;
+
+/// Reports something of an argument of the command line, or of an option's value, by the text before it, of at most 40
+/// bytes, and the text after it, of at most 120. Bytes outside 32 to 126 are reported as `?`, and of more than 60 bytes
+/// the first 57 and `...`.
+pub fn report_given<E: Sink>(errors: &mut E, before: &[u8], given: &[u8], after: &[u8])
+    requires before { length before.now ≤ 40 }
+    requires after { length after.now ≤ 120 }
+    ensures { WritesLine (given_line before.now given.now after.now) (E.written errors.old) (E.written errors.new) }
+{
+    let mut line = Line::new();
+    line.put(b"mseed: ");
+    line.put(before);
+    put_shown(&mut line, given);
+    line.put(after);
+    line.put(b"\n");
+    report(errors, line.as_slice());
+}
+
+/// Puts what was given at the end of a line, as it is reported.
+fn put_shown(line: &mut Line, given: &[u8])
+    requires { length line.old ≤ 64 }
+    ensures text { line.new ≡ line.old ++ shown given.now }
+    ensures most { length line.new ≤ length line.old + 60 }
+{
+    if given.len() <= 60 {
+        put_printed(line, given);
+    } else {
+        put_printed(line, &given[..57]);
+        line.put(b"...");
+    }
+}
+
+/// Puts bytes at the end of a line, each as it's written.
+fn put_printed(line: &mut Line, bytes: &[u8])
+    requires { length line.old + length bytes.now ≤ 128 }
+    ensures text { line.new ≡ line.old ++ map printed_byte bytes.now }
+    ensures len { length line.new ≡ length line.old + length bytes.now }
+{
+    for byte in bytes {
+        line.put(&[printed(*byte)]);
+    }
+}

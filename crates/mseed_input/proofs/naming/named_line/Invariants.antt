@@ -1,6 +1,0 @@
-use Rattle.std.proofs.Common.{◌≡◌, ◌++◌, map, take}
-use Rattle.mseed_input.specs.Files.{printed_byte}
-use Rattle.mseed_input.proofs.naming.named_line.Given as goal
-
-abbrev pub invariant-loop-byte : goal.invariant-loop-byte
-invariant-loop-byte l = l.line.items ≡ l.before ++ map printed_byte (take l.byte-index l.word)

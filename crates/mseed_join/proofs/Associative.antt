@@ -1,0 +1,176 @@
+-- Whichever two of three are joined first, the joint part is the same.
+use Rattle.std.proofs.Common.{◌≡◌, ℕ, ◌+◌, Option, Some, None, refl, sym, ap, ◌∙◌, arith}
+use Rattle.std.specs.Option.{option_map}
+use Rattle.mseed_audit.specs.declared.finding.Finding.{Finding}
+use Rattle.mseed_audit.specs.declared.finding.Why.{Why}
+use Rattle.mseed_audit.specs.declared.channel.Channel.{Channel}
+use Rattle.mseed_audit.specs.declared.channel.Findings.{Findings}
+use Rattle.mseed_audit.specs.declared.channel.Findings.TheVariants.{Nothing, Counted}
+use Rattle.mseed_audit.specs.declared.channel.Head.{Head}
+use Rattle.mseed_audit.specs.declared.tail.Tail.{Tail}
+use Rattle.mseed_join.specs.Joining.{moved_head, moved_finding, moved_findings, moved_channel, found_at}
+use Rattle.mseed_join.specs.Joining.{border_of, findings_with, findings_after, channel_then, channel_joined}
+use Rattle.mseed_audit.specs.Audit.{break_by, head_in, tail_in}
+use Rattle.mseed_join.specs.Parts.{Held, kept_of, IsJoint}
+use Rattle.mseed_join.proofs.Following.{head_with, tail_with}
+use Rattle.mseed_join.proofs.JoinedParts.{same_held}
+use Rattle.mseed_join.proofs.Moving.{head_moves, tail_moves}
+
+-- ---- after more records and then after yet more
+module _ (d e f g : ℕ) where
+  head_twice : (h : Head) → moved_head (d + f) (e + g) h ≡ moved_head d e (moved_head f g h)
+  head_twice h =
+      let n : d + f + h.number ≡ d + (f + h.number) = omega arith in
+      let o : e + g + h.offset ≡ e + (g + h.offset) = omega arith in
+      λ i. record { number = n i; offset = o i; start = h.start; rate = h.rate }
+
+  finding_twice : (h : Finding) → moved_finding (d + f) (e + g) h ≡ moved_finding d e (moved_finding f g h)
+  finding_twice h =
+      let n : d + f + h.number ≡ d + (f + h.number) = omega arith in
+      let o : e + g + h.offset ≡ e + (g + h.offset) = omega arith in
+      λ i. record { number = n i; offset = o i; why = h.why }
+
+  heads_twice : (h : Option Head)
+      → option_map (moved_head (d + f) (e + g)) h ≡ option_map (moved_head d e) (option_map (moved_head f g) h)
+  heads_twice None = refl
+  heads_twice (Some h) = ap (λ (k : Head). Some k) (head_twice h)
+
+  findings_twice : (h : Findings) → moved_findings (d + f) (e + g) h ≡ moved_findings d e (moved_findings f g h)
+  findings_twice (Nothing head tail) = ap (λ (h : Head). Nothing h tail) (head_twice head)
+  findings_twice (Counted count first head tail) =
+      λ i. Counted count (finding_twice first i) (heads_twice head i) tail
+
+  channel_twice : (c : Channel) → moved_channel (d + f) (e + g) c ≡ moved_channel d e (moved_channel f g c)
+  channel_twice c =
+      ap (λ (h : Findings). record { records = c.records; samples = c.samples; findings = h })
+      (findings_twice c.findings)
+
+-- ---- a channel and its further records, both after more
+border_moved : (d e : ℕ) (t : Option Tail) (h : Option Head)
+    → border_of t (option_map (moved_head d e) h) ≡ option_map (moved_finding d e) (border_of t h)
+border_moved d e None h = refl
+border_moved d e (Some t) None = refl
+border_moved d e (Some t) (Some h) = by (break_by t h.start h.rate)
+  where
+    by : (w : Option Why) → found_at (moved_head d e h) w ≡ option_map (moved_finding d e) (found_at h w)
+    by None = refl
+    by (Some w) = refl
+
+with_moved : (d e : ℕ) (a b : Findings) (border : Option Finding) → moved_findings d e (findings_with a b border)
+    ≡ findings_with (moved_findings d e a) (moved_findings d e b) (option_map (moved_finding d e) border)
+with_moved d e (Nothing head t) (Nothing h tail) None = refl
+with_moved d e (Nothing head t) (Nothing h tail) (Some f) = refl
+with_moved d e (Nothing head t) (Counted n next h tail) None = refl
+with_moved d e (Nothing head t) (Counted n next h tail) (Some f) = refl
+with_moved d e (Counted m first head t) (Nothing h tail) None = refl
+with_moved d e (Counted m first head t) (Nothing h tail) (Some f) = refl
+with_moved d e (Counted m first head t) (Counted n next h tail) None = refl
+with_moved d e (Counted m first head t) (Counted n next h tail) (Some f) = refl
+
+findings_moved : (d e : ℕ) (a b : Findings)
+    → moved_findings d e (findings_after a b) ≡ findings_after (moved_findings d e a) (moved_findings d e b)
+findings_moved d e a b =
+    let border : option_map (moved_finding d e) (border_of (tail_in a) (head_in b))
+    ≡ border_of (tail_in (moved_findings d e a)) (head_in (moved_findings d e b)) =
+    sym (border_moved d e (tail_in a) (head_in b))
+    ∙ (λ i. border_of (sym (tail_moves d e a) i) (sym (head_moves d e b) i)) in
+    with_moved d e a b (border_of (tail_in a) (head_in b))
+    ∙ ap (λ (f : Option Finding). findings_with (moved_findings d e a) (moved_findings d e b) f) border
+
+after_moved : (d e : ℕ) (c o : Channel)
+    → moved_channel d e (channel_then c o) ≡ channel_then (moved_channel d e c) (moved_channel d e o)
+after_moved d e c o =
+    ap (λ (f : Findings). record { records = c.records + o.records; samples = c.samples + o.samples; findings = f })
+    (findings_moved d e c.findings o.findings)
+
+-- ---- three of a channel
+more : (m n : ℕ) (first : Finding) (h : Option Head) (t : Option Tail) → m ≡ n
+    → Counted m first h t ≡ Counted n first h t
+more m n first h t e = ap (λ (k : ℕ). Counted k first h t) e
+
+with_assoc : (a b c : Findings) (x y : Option Finding)
+    → findings_with (findings_with a b x) c y ≡ findings_with a (findings_with b c y) x
+with_assoc (Nothing p q) (Nothing r s) (Nothing t u) None None = refl
+with_assoc (Nothing p q) (Nothing r s) (Nothing t u) None (Some g) = refl
+with_assoc (Nothing p q) (Nothing r s) (Nothing t u) (Some f) None = refl
+with_assoc (Nothing p q) (Nothing r s) (Nothing t u) (Some f) (Some g) = refl
+with_assoc (Nothing p q) (Nothing r s) (Counted n z t u) None None = refl
+with_assoc (Nothing p q) (Nothing r s) (Counted n z t u) None (Some g) = refl
+with_assoc (Nothing p q) (Nothing r s) (Counted n z t u) (Some f) None = more _ _ f _ _ (omega arith)
+with_assoc (Nothing p q) (Nothing r s) (Counted n z t u) (Some f) (Some g) = more _ _ f _ _ (omega arith)
+with_assoc (Nothing p q) (Counted m y r s) (Nothing t u) None None = refl
+with_assoc (Nothing p q) (Counted m y r s) (Nothing t u) None (Some g) = refl
+with_assoc (Nothing p q) (Counted m y r s) (Nothing t u) (Some f) None = refl
+with_assoc (Nothing p q) (Counted m y r s) (Nothing t u) (Some f) (Some g) = more _ _ f _ _ (omega arith)
+with_assoc (Nothing p q) (Counted m y r s) (Counted n z t u) None None = refl
+with_assoc (Nothing p q) (Counted m y r s) (Counted n z t u) None (Some g) = refl
+with_assoc (Nothing p q) (Counted m y r s) (Counted n z t u) (Some f) None = more _ _ f _ _ (omega arith)
+with_assoc (Nothing p q) (Counted m y r s) (Counted n z t u) (Some f) (Some g) = more _ _ f _ _ (omega arith)
+with_assoc (Counted k x p q) (Nothing r s) (Nothing t u) None None = refl
+with_assoc (Counted k x p q) (Nothing r s) (Nothing t u) None (Some g) = more _ _ x _ _ (omega arith)
+with_assoc (Counted k x p q) (Nothing r s) (Nothing t u) (Some f) None = more _ _ x _ _ (omega arith)
+with_assoc (Counted k x p q) (Nothing r s) (Nothing t u) (Some f) (Some g) = more _ _ x _ _ (omega arith)
+with_assoc (Counted k x p q) (Nothing r s) (Counted n z t u) None None = refl
+with_assoc (Counted k x p q) (Nothing r s) (Counted n z t u) None (Some g) = more _ _ x _ _ (omega arith)
+with_assoc (Counted k x p q) (Nothing r s) (Counted n z t u) (Some f) None = more _ _ x _ _ (omega arith)
+with_assoc (Counted k x p q) (Nothing r s) (Counted n z t u) (Some f) (Some g) = more _ _ x _ _ (omega arith)
+with_assoc (Counted k x p q) (Counted m y r s) (Nothing t u) None None = refl
+with_assoc (Counted k x p q) (Counted m y r s) (Nothing t u) None (Some g) = more _ _ x _ _ (omega arith)
+with_assoc (Counted k x p q) (Counted m y r s) (Nothing t u) (Some f) None = more _ _ x _ _ (omega arith)
+with_assoc (Counted k x p q) (Counted m y r s) (Nothing t u) (Some f) (Some g) = more _ _ x _ _ (omega arith)
+with_assoc (Counted k x p q) (Counted m y r s) (Counted n z t u) None None = more _ _ x _ _ (omega arith)
+with_assoc (Counted k x p q) (Counted m y r s) (Counted n z t u) None (Some g) = more _ _ x _ _ (omega arith)
+with_assoc (Counted k x p q) (Counted m y r s) (Counted n z t u) (Some f) None = more _ _ x _ _ (omega arith)
+with_assoc (Counted k x p q) (Counted m y r s) (Counted n z t u) (Some f) (Some g) = more _ _ x _ _ (omega arith)
+
+findings_assoc : (a b c : Findings) → findings_after (findings_after a b) c ≡ findings_after a (findings_after b c)
+findings_assoc a b c =
+    let one : Option Finding = border_of (tail_in a) (head_in b) in
+    let two : Option Finding = border_of (tail_in b) (head_in c) in
+    ap (λ (t : Option Tail). findings_with (findings_with a b one) c (border_of t (head_in c))) (tail_with a b one)
+    ∙ with_assoc a b c one two
+    ∙ ap (λ (h : Option Head). findings_with a (findings_with b c two) (border_of (tail_in a) h))
+    (sym (head_with b c two))
+
+after_assoc : (a b c : Channel) → channel_then (channel_then a b) c ≡ channel_then a (channel_then b c)
+after_assoc a b c =
+    let records : a.records + b.records + c.records ≡ a.records + (b.records + c.records) = omega arith in
+    let samples : a.samples + b.samples + c.samples ≡ a.samples + (b.samples + c.samples) = omega arith in
+    λ i. record {
+      records = records i;
+      samples = samples i;
+      findings = findings_assoc a.findings b.findings c.findings i;
+    }
+
+kept_assoc : (d e f g : ℕ) (a b c : Option Channel)
+    → channel_joined (channel_joined a (option_map (moved_channel d e) b))
+    (option_map (moved_channel (d + f) (e + g)) c)
+    ≡ channel_joined a (option_map (moved_channel d e) (channel_joined b (option_map (moved_channel f g) c)))
+kept_assoc d e f g None None None = refl
+kept_assoc d e f g None None (Some c) = ap (λ (k : Channel). Some k) (channel_twice d e f g c)
+kept_assoc d e f g None (Some b) None = refl
+kept_assoc d e f g None (Some b) (Some c) =
+    ap (λ (k : Channel). Some (channel_then (moved_channel d e b) k)) (channel_twice d e f g c)
+    ∙ ap (λ (k : Channel). Some k) (sym (after_moved d e b (moved_channel f g c)))
+kept_assoc d e f g (Some a) None None = refl
+kept_assoc d e f g (Some a) None (Some c) = ap (λ (k : Channel). Some (channel_then a k)) (channel_twice d e f g c)
+kept_assoc d e f g (Some a) (Some b) None = refl
+kept_assoc d e f g (Some a) (Some b) (Some c) =
+    ap (λ (k : Channel). Some (channel_then (channel_then a (moved_channel d e b)) k)) (channel_twice d e f g c)
+    ∙ ap (λ (k : Channel). Some k) (after_assoc a (moved_channel d e b) (moved_channel d e (moved_channel f g c)))
+    ∙ ap (λ (k : Channel). Some (channel_then a k)) (sym (after_moved d e b (moved_channel f g c)))
+
+pub joint_assoc : (a b c ab bc left right : Held) → IsJoint a b ab → IsJoint ab c left → IsJoint b c bc
+    → IsJoint a bc right → left ≡ right
+joint_assoc a b c ab bc l r h j k m =
+    same_held l r (omega (arith, h.records, j.records, k.records, m.records))
+    (omega (arith, h.bytes, j.bytes, k.bytes, m.bytes)) j.ascending m.ascending
+    (λ key.
+    j.each key
+    ∙ (λ i. channel_joined (h.each key i)
+    (option_map (moved_channel (h.records i) (h.bytes i)) (kept_of key c.channels)))
+    ∙ kept_assoc a.records a.bytes b.records b.bytes (kept_of key a.channels) (kept_of key b.channels)
+    (kept_of key c.channels)
+    ∙ ap (λ (o : Option Channel). channel_joined (kept_of key a.channels)
+    (option_map (moved_channel a.records a.bytes) o)) (sym (k.each key))
+    ∙ sym (m.each key))

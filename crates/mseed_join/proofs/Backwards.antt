@@ -1,0 +1,329 @@
+-- What is written reads back.
+use Rattle.std.proofs.Common.{◌≡◌, ℕ, zero, suc, ◌-◌, ◌^◌, ◌<◌, ◌≤◌, ◌&&◌, nat_lt, List, ◌∷◌, ◌++◌, Bool, true, false}
+use Rattle.std.proofs.Common.{cond, Option, Some, None, ℤ, pos, negsuc, refl, ap, ◌∙◌, arith, IfSome}
+use Rattle.std.specs.Prelude.{decimal, codes, nat_eq, length, take, drop}
+use Rattle.std.specs.Cmp.Lexicographic.{pointwise}
+use Rattle.std.specs.Fmt.{signed_decimal}
+use Rattle.std.proofs.lemmas.Bool.{lt-ltb}
+use Rattle.std.proofs.lemmas.Int.{ints}
+use Rattle.std.proofs.lemmas.Bool.Decides.{nat_tests}
+use Rattle.mseed_time.specs.Btime.{IsInstant}
+use Rattle.mseed_time.specs.Rate.{Ratio, IsRatio}
+use Rattle.mseed_time.specs.Text.{fault_word}
+use Rattle.mseed_time.specs.declared.fault.TimeFault.{TimeFault}
+use Rattle.mseed_time.specs.declared.fault.TimeFault.TheVariants.{Year, Day, Hour, Minute, Second, Fraction}
+use Rattle.mseed_record.specs.declared.fault.FrameFault.{FrameFault}
+use Rattle.mseed_record.specs.declared.fault.FrameFault.TheVariants.{NotData, Order as NoOrder, Chain, No1000, Length}
+use Rattle.mseed_record.specs.declared.fault.FrameFault.TheVariants.{Outside, Version3}
+use Rattle.mseed_record.specs.declared.leap.Leap.{Leap}
+use Rattle.mseed_record.specs.declared.leap.Leap.TheVariants.{None as NoLeap, Positive, Negative, Both}
+use Rattle.mseed_steim.specs.declared.fault.ReadFault.{ReadFault}
+use Rattle.mseed_steim.specs.declared.fault.ReadFault.TheVariants.{Blockette100, Encoding, LittleSteim, DataOffset}
+use Rattle.mseed_steim.specs.declared.fault.ReadFault.TheVariants.{Short, BadWord, Overflow, LastDiffers}
+use Rattle.mseed_steim.specs.declared.fault.ReadFault.TheVariants.{Memory as NoMemory}
+use Rattle.mseed_stream.specs.declared.fault.StreamFault.{StreamFault}
+use Rattle.mseed_stream.specs.declared.fault.StreamFault.TheVariants.{Frame, Truncated, Read, Turns, Memory}
+use Rattle.mseed_audit.specs.declared.finding.Finding.{Finding}
+use Rattle.mseed_audit.specs.declared.finding.Why.{Why}
+use Rattle.mseed_audit.specs.declared.finding.Why.TheVariants.{Time, Rate, Read as ReadFailed, RateChange}
+use Rattle.mseed_audit.specs.declared.finding.Why.TheVariants.{Leap as UnknownLeap, Gap, Overlap}
+use Rattle.mseed_text.specs.Fault.{frame_words, fault_line}
+use Rattle.mseed_audit.specs.Text.{why_text, read_text}
+use Rattle.mseed_audit.specs.declared.channel.Channel.{Channel}
+use Rattle.mseed_audit.specs.declared.channel.Findings.{Findings}
+use Rattle.mseed_audit.specs.declared.channel.Findings.TheVariants.{Nothing, Counted}
+use Rattle.mseed_audit.specs.declared.channel.Head.{Head}
+use Rattle.mseed_audit.specs.declared.tail.Tail.{Tail}
+use Rattle.mseed_join.specs.Lines.{leap_text, head_text, tail_text, text_or_none, findings_text, channel_line}
+use Rattle.mseed_join.specs.Lines.{counts_line, faults_line, IsWord, HasHead, HasTail, HasReadFault, HasWhy}
+use Rattle.mseed_join.specs.Lines.{HasFinding}
+use Rattle.mseed_join.specs.Lines.{HasFindings, HasChannelLine, HasCountsLine, HasFaultsLine, HasFrameFault}
+use Rattle.mseed_join.specs.Lines.{HasFaultLine, IsFaultAfter}
+use Rattle.mseed_join.specs.private.Reading.{after, number_at, ratio_at, start_at, sample_at, leap_at}
+use Rattle.mseed_join.specs.private.Reading.{some_head_at}
+use Rattle.mseed_join.specs.private.Reading.{some_tail_at, head_at, tail_at, time_at, read_fault_at, why_at}
+use Rattle.mseed_join.specs.private.Reading.{first_at}
+use Rattle.mseed_join.specs.private.Reading.{counted_findings_at, findings_at, channel_at, counts_at, faults_at}
+use Rattle.mseed_join.specs.private.Reading.{frame_fault_at, stream_fault_at, fault_at}
+use Rattle.mseed_join.proofs.Digits.{Ends, Begins, begins, number_back, integer_back, IsWithin}
+use Rattle.mseed_join.proofs.Prefixes.{ratio_then, head_then, head_leading, tail_then, tail_leading, first_then}
+use Rattle.mseed_join.proofs.Prefixes.{findings_then, nothing_leading, counted_leading, channel_leading}
+use Rattle.mseed_join.proofs.Prefixes.{counts_leading}
+use Rattle.mseed_join.proofs.Prefixes.{faults_leading, fault_words, fault_of, findings_ends, bad_word_leading}
+use Rattle.mseed_join.proofs.Prefixes.{last_differs_leading}
+use Rattle.mseed_join.proofs.Keys.{key_back}
+
+-- a number of a part
+pub count_back : (n : ℕ) (rest : List ℕ) → n < 2 ^ 63 → Ends rest
+    → number_at (2 ^ 63 - 1) (decimal n ++ rest) ≡ Some (n, rest)
+count_back n rest l e = number_back (2 ^ 63 - 1) n rest (omega (arith, l)) (omega (arith, l)) e
+
+-- ---- rates, starts, leap seconds
+ratio_back : (r : Ratio) (rest : List ℕ) → IsRatio r → Ends rest → ratio_at (ratio_then r rest) ≡ Some (r, rest)
+unfolding ratio_at
+ratio_back r rest fits e =
+    let num : nat_lt 0 r.num ≡ true = lt-ltb 0 r.num fits.num_counts in
+    let den : nat_lt 0 r.den ≡ true = lt-ltb 0 r.den fits.den_counts in
+    rw (
+      number_back (2 ^ 30) r.num (codes "/" ++ (decimal r.den ++ rest)) fits.num_bound
+          (omega (arith, fits.num_bound)) refl,
+      number_back (2 ^ 30) r.den rest fits.den_bound (omega (arith, fits.den_bound)) e,
+      num,
+      den,
+    ) refl
+
+pub instant_within : (z : ℤ) → IsInstant z → IsWithin 5_364_662_400_000_000 7_258_118_399_999_999 z
+instant_within (pos n) i = omega (arith, ints, i.1)
+instant_within (negsuc n) i = omega (arith, ints, i.0)
+
+start_back : (z : ℤ) (rest : List ℕ) → IsInstant z → Ends rest → start_at (signed_decimal z ++ rest) ≡ Some (z, rest)
+start_back z rest i e =
+    integer_back 5_364_662_400_000_000 7_258_118_399_999_999 z rest (omega arith) (omega arith) (instant_within z i) e
+
+pub word_within : (z : ℤ) → IsWord z → IsWithin (2 ^ 31) (2 ^ 31 - 1) z
+word_within (pos n) l = omega (arith, l)
+word_within (negsuc n) l = l
+
+sample_back : (z : ℤ) (rest : List ℕ) → IsWord z → Ends rest → sample_at (signed_decimal z ++ rest) ≡ Some (z, rest)
+sample_back z rest w e = integer_back (2 ^ 31) (2 ^ 31 - 1) z rest (omega arith) (omega arith) (word_within z w) e
+
+leap_back : (l : Leap) (rest : List ℕ) → leap_at (leap_text l ++ rest) ≡ Some (l, rest)
+unfolding leap_at
+leap_back NoLeap rest = refl
+leap_back Positive rest = refl
+leap_back Negative rest = refl
+leap_back Both rest = refl
+
+-- ---- heads and tails
+-- a first byte that isn't the word's
+after_other : (w b : ℕ) (ws bs : List ℕ) → nat_eq b w ≡ false → after (w ∷ ws) (b ∷ bs) ≡ None
+after_other w b ws bs e =
+    ap (λ (t : Bool). cond (t && pointwise nat_eq (take (length ws) bs) ws) (Some (drop (length ws) bs)) None) e
+
+other_digit : (b : ℕ) → b ≤ 57 → nat_eq b 110 ≡ false
+other_digit b l = grind (arith, nat_tests)
+
+digits_no_word : (n : ℕ) (rest : List ℕ) → n < 10 ^ 64 → after (codes "none") (decimal n ++ rest) ≡ None
+digits_no_word n rest few =
+    let b : Begins n = begins n few in
+    ap (λ (ds : List ℕ). after (codes "none") (ds ++ rest)) b.is
+    ∙ after_other 110 b.first (codes "one") (b.others ++ rest) (other_digit b.first b.high)
+
+integer_no_word : (z : ℤ) (rest : List ℕ) → IsInstant z → after (codes "none") (signed_decimal z ++ rest) ≡ None
+integer_no_word (pos n) rest i = digits_no_word n rest (omega (arith, instant_within (pos n) i))
+integer_no_word (negsuc n) rest i = refl
+
+some_head_back : (h : Head) (rest : List ℕ) → HasHead h → Ends rest → some_head_at (head_then h rest) ≡ Some (h, rest)
+unfolding some_head_at
+some_head_back h rest fits e =
+    let last : List ℕ = ratio_then h.rate rest in
+    let third : List ℕ = signed_decimal h.start ++ (codes " " ++ last) in
+    let second : List ℕ = decimal h.offset ++ (codes " " ++ third) in
+    rw (
+      count_back h.number (codes " " ++ second) fits.number refl,
+      count_back h.offset (codes " " ++ third) fits.offset refl,
+      start_back h.start (codes " " ++ last) fits.start refl,
+      ratio_back h.rate rest fits.rate e,
+    ) refl
+
+pub head_back : (h : Option Head) (rest : List ℕ) → IfSome h HasHead → Ends rest
+    → head_at (text_or_none head_text h ++ rest) ≡ Some (h, rest)
+unfolding head_at
+head_back None rest fits e = refl
+head_back (Some h) rest fits e =
+    let later : List ℕ =
+    codes " " ++ (decimal h.offset ++
+    (codes " " ++ (signed_decimal h.start ++ (codes " " ++ ratio_then h.rate rest)))) in
+    ap head_at (head_leading h rest)
+    ∙ rw (digits_no_word h.number later (omega (arith, fits.number)), some_head_back h rest fits e) refl
+
+some_tail_back : (t : Tail) (rest : List ℕ) → HasTail t → some_tail_at (tail_then t rest) ≡ Some (t, rest)
+unfolding some_tail_at
+some_tail_back t rest fits =
+    let last : List ℕ = codes " " ++ (leap_text t.leap ++ rest) in
+    let third : List ℕ = ratio_then t.rate last in
+    let second : List ℕ = decimal t.samples ++ (codes " " ++ third) in
+    rw (
+      start_back t.start (codes " " ++ second) fits.start refl,
+      number_back (2 ^ 16 - 1) t.samples (codes " " ++ third) (omega (arith, fits.samples))
+          (omega (arith, fits.samples)) refl,
+      ratio_back t.rate last fits.rate refl,
+      leap_back t.leap rest,
+      lt-ltb 0 t.samples fits.some,
+    ) refl
+
+pub tail_back : (t : Option Tail) (rest : List ℕ) → IfSome t HasTail
+    → tail_at (text_or_none tail_text t ++ rest) ≡ Some (t, rest)
+unfolding tail_at
+tail_back None rest fits = refl
+tail_back (Some t) rest fits =
+    let last : List ℕ = codes " " ++ (leap_text t.leap ++ rest) in
+    let later : List ℕ = codes " " ++ (decimal t.samples ++ (codes " " ++ ratio_then t.rate last)) in
+    ap tail_at (tail_leading t rest)
+    ∙ rw (integer_no_word t.start later fits.start, some_tail_back t rest fits) refl
+
+-- ---- findings
+time_back : (f : TimeFault) (rest : List ℕ) → time_at (fault_word f ++ rest) ≡ Some (f, rest)
+unfolding time_at
+time_back Year rest = refl
+time_back Day rest = refl
+time_back Hour rest = refl
+time_back Minute rest = refl
+time_back Second rest = refl
+time_back Fraction rest = refl
+
+read_fault_back : (f : ReadFault) (rest : List ℕ) → HasReadFault f → Ends rest
+    → read_fault_at (read_text f ++ rest) ≡ Some (f, rest)
+unfolding read_fault_at
+read_fault_back Blockette100 rest l e = refl
+read_fault_back (Encoding code) rest l e =
+    rw (number_back (2 ^ 8 - 1) code rest (omega (arith, l)) (omega (arith, l)) e) refl
+read_fault_back LittleSteim rest l e = refl
+read_fault_back DataOffset rest l e = refl
+read_fault_back (Short found) rest l e = rw (count_back found rest l e) refl
+read_fault_back (BadWord frame word) rest l e =
+    ap read_fault_at (bad_word_leading frame word rest) ∙ rw (
+      count_back frame (codes " " ++ (decimal word ++ rest)) l.0 refl,
+      count_back word rest l.1 e,
+    ) refl
+read_fault_back (Overflow index) rest l e = rw (count_back index rest l e) refl
+read_fault_back (LastDiffers found constant) rest l e =
+    ap read_fault_at (last_differs_leading found constant rest) ∙ rw (
+      sample_back found (codes " " ++ (signed_decimal constant ++ rest)) l.0 refl,
+      sample_back constant rest l.1 e,
+    ) refl
+read_fault_back NoMemory rest l e = absurd l
+
+why_back : (w : Why) (rest : List ℕ) → HasWhy w → Ends rest → why_at (why_text w ++ rest) ≡ Some (w, rest)
+unfolding why_at
+why_back (Time f) rest l e = rw (time_back f rest) refl
+why_back Rate rest l e = refl
+why_back (ReadFailed Blockette100) rest l e = rw (read_fault_back Blockette100 rest l e) refl
+why_back (ReadFailed (Encoding code)) rest l e = rw (read_fault_back (Encoding code) rest l e) refl
+why_back (ReadFailed LittleSteim) rest l e = rw (read_fault_back LittleSteim rest l e) refl
+why_back (ReadFailed DataOffset) rest l e = rw (read_fault_back DataOffset rest l e) refl
+why_back (ReadFailed (Short found)) rest l e = rw (read_fault_back (Short found) rest l e) refl
+why_back (ReadFailed (BadWord frame word)) rest l e = rw (read_fault_back (BadWord frame word) rest l e) refl
+why_back (ReadFailed (Overflow index)) rest l e = rw (read_fault_back (Overflow index) rest l e) refl
+why_back (ReadFailed (LastDiffers found constant)) rest l e =
+    rw (read_fault_back (LastDiffers found constant) rest l e) refl
+why_back (ReadFailed NoMemory) rest l e = absurd l
+why_back RateChange rest l e = refl
+why_back UnknownLeap rest l e = refl
+why_back (Gap us) rest l e = rw (number_back (2 ^ 128 - 1) us rest (omega (arith, l)) (omega (arith, l)) e) refl
+why_back (Overlap us) rest l e = rw (number_back (2 ^ 128 - 1) us rest (omega (arith, l)) (omega (arith, l)) e) refl
+
+first_back : (f : Finding) (rest : List ℕ) → HasFinding f → Ends rest → first_at (first_then f rest) ≡ Some (f, rest)
+unfolding first_at
+first_back f rest fits e =
+    let last : List ℕ = why_text f.why ++ rest in
+    let second : List ℕ = decimal f.offset ++ (codes " " ++ last) in
+    rw (
+      count_back f.number (codes " " ++ second) fits.number refl,
+      count_back f.offset (codes " " ++ last) fits.offset refl,
+      why_back f.why rest fits.why e,
+    ) refl
+
+findings_then_back : (head : Option Head) (tail : Option Tail) (count : ℕ) (rest : List ℕ) → IfSome head HasHead
+    → IfSome tail HasTail
+    → count < 2 ^ 63 → Ends rest
+    → findings_at (findings_then head tail count rest) ≡ counted_findings_at count head tail rest
+unfolding findings_at
+findings_then_back head tail count rest h t l e =
+    let last : List ℕ = codes " findings " ++ (decimal count ++ rest) in
+    let second : List ℕ = codes " tail " ++ (text_or_none tail_text tail ++ last) in
+    rw (
+      head_back head second h refl,
+      tail_back tail last t,
+      count_back count rest l e,
+    ) refl
+
+findings_back : (f : Findings) (rest : List ℕ) → HasFindings f → Ends rest
+    → findings_at (findings_text f ++ rest) ≡ Some (f, rest)
+unfolding counted_findings_at
+findings_back (Nothing head tail) rest fits e =
+    ap findings_at (nothing_leading head tail rest)
+    ∙ findings_then_back (Some head) (Some tail) 0 rest fits.0 fits.1 (omega arith) e
+findings_back (Counted zero first head tail) rest fits e = absurd (omega (arith, fits.0))
+findings_back (Counted (suc n) first head tail) rest fits e =
+    ap findings_at (counted_leading (suc n) first head tail rest)
+    ∙ findings_then_back head tail (suc n) (first_then first rest) fits.3 fits.4 fits.1 refl
+    ∙ rw (first_back first rest fits.2 e) refl
+
+-- ---- whole lines
+pub channel_back : (key : List ℕ) (c : Channel) → HasChannelLine key c → channel_at (channel_line key c) ≡ Some (key, c)
+unfolding channel_at
+channel_back key c l =
+    let a1 : List ℕ = findings_text c.findings ++ codes "\n" in
+    let a2 : List ℕ = codes " samples " ++ (decimal c.samples ++ a1) in
+    let a3 : List ℕ = codes " records " ++ (decimal c.records ++ a2) in
+    ap channel_at (channel_leading key c)
+    ∙ rw (
+      key_back key a3 l.key_length l.key_bytes,
+      count_back c.records a2 l.records refl,
+      count_back c.samples a1 l.samples (findings_ends c.findings (codes "\n")),
+      findings_back c.findings (codes "\n") l.findings refl,
+    ) refl
+
+pub counts_back : (records bytes : ℕ) → HasCountsLine records bytes
+    → counts_at (counts_line records bytes) ≡ Some (records, bytes)
+unfolding counts_at
+counts_back records bytes l =
+    ap counts_at (counts_leading records bytes)
+    ∙ rw (
+      count_back records (codes " bytes " ++ (decimal bytes ++ codes "\n")) l.records_fit refl,
+      count_back bytes (codes "\n") l.bytes_fit refl,
+    ) refl
+
+pub faults_back : (n : ℕ) → HasFaultsLine n → faults_at (faults_line n) ≡ Some n
+unfolding faults_at
+faults_back zero l = absurd (omega (arith, l.some))
+faults_back (suc n) l =
+    ap faults_at (faults_leading n)
+    ∙ rw (
+      count_back (suc n) (codes "\n") l.fit refl,
+      lt-ltb 0 (suc n) (omega arith),
+    ) refl
+
+frame_fault_back : (f : FrameFault) (rest : List ℕ) → HasFrameFault f → Ends rest
+    → frame_fault_at (frame_words f ++ rest) ≡ Some (f, rest)
+unfolding frame_fault_at
+frame_fault_back NotData rest l e = refl
+frame_fault_back NoOrder rest l e = refl
+frame_fault_back Chain rest l e = refl
+frame_fault_back No1000 rest l e = refl
+frame_fault_back (Length exponent) rest l e =
+    rw (number_back (2 ^ 8 - 1) exponent rest (omega (arith, l)) (omega (arith, l)) e) refl
+frame_fault_back Outside rest l e = refl
+frame_fault_back Version3 rest l e = refl
+
+-- what fails is read by its words, whatever the offset
+stream_fault_back : (f : StreamFault) (bytes : ℕ) (rest : List ℕ) → IsFaultAfter bytes f → Ends rest
+    → stream_fault_at bytes (fault_words f ++ rest) ≡ Some (f, rest)
+unfolding stream_fault_at
+stream_fault_back (Frame offset NotData) bytes rest l e = rw (frame_fault_back NotData rest l.1 e, l.0) refl
+stream_fault_back (Frame offset NoOrder) bytes rest l e = rw (frame_fault_back NoOrder rest l.1 e, l.0) refl
+stream_fault_back (Frame offset Chain) bytes rest l e = rw (frame_fault_back Chain rest l.1 e, l.0) refl
+stream_fault_back (Frame offset No1000) bytes rest l e = rw (frame_fault_back No1000 rest l.1 e, l.0) refl
+stream_fault_back (Frame offset (Length exponent)) bytes rest l e =
+    rw (frame_fault_back (Length exponent) rest l.1 e, l.0) refl
+stream_fault_back (Frame offset Outside) bytes rest l e = rw (frame_fault_back Outside rest l.1 e, l.0) refl
+stream_fault_back (Frame offset Version3) bytes rest l e = rw (frame_fault_back Version3 rest l.1 e, l.0) refl
+stream_fault_back (Truncated offset have) bytes rest l e =
+    rw (count_back have rest l.1 e, l.0) refl
+stream_fault_back (Read offset) bytes rest l e = rw l refl
+stream_fault_back (Turns offset) bytes rest l e = rw l refl
+stream_fault_back Memory bytes rest l e = absurd l
+
+same_number : (n : ℕ) → nat_eq n n ≡ true
+same_number n = grind (arith, nat_tests)
+
+pub fault_back : (f : StreamFault) (bytes : ℕ) → HasFaultLine bytes f → fault_at (fault_line f) bytes ≡ Some f
+unfolding fault_at
+fault_back f bytes l =
+    ap (λ (xs : List ℕ). fault_at xs bytes) (fault_of f bytes l.is)
+    ∙ rw (
+      count_back bytes (codes " " ++ (fault_words f ++ codes "\n")) l.bytes_fit refl,
+      stream_fault_back f bytes (codes "\n") l.is refl,
+      same_number bytes,
+    ) refl

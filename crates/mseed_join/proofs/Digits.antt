@@ -1,0 +1,335 @@
+-- Numbers that are written read back, and what is read is what is written.
+use Rattle.std.proofs.Common.{◌≡◌, ℕ, zero, suc, ◌+◌, ◌-◌, ◌*◌, ◌/◌, ◌%◌, ◌^◌, ◌<◌, ◌≤◌, nat_le, List, [], ◌∷◌, ◌++◌}
+use Rattle.std.proofs.Common.{Bool, true, false, cond, Option, Some, None, length, take, drop, get_or, ℤ, pos, negsuc}
+use Rattle.std.proofs.Common.{refl, sym, ap, ◌∙◌, subst, arith, append_assoc}
+use Rattle.std.specs.Prelude.{decimal, nat_eq}
+use Rattle.std.specs.Fmt.{signed_decimal}
+use Rattle.std.specs.Cmp.Lexicographic.{pointwise, same_text}
+use Rattle.std.proofs.lemmas.Bool.Decides.{nat_tests}
+use Rattle.std.proofs.lemmas.Fmt.{decimal_digit, decimal_step_wide, decimal_by_steps_wide}
+use Rattle.std.proofs.lemmas.List.{take-append-drop}
+use Rattle.std.proofs.lemmas.Option.{none-some, same_Some}
+use Rattle.std.proofs.Math.Nat.{pow-le-pow_right, pow-succ'}
+use Rattle.mseed_join.specs.private.Reading.{◌>>=◌, after, is_digit, more_at, within, number_at, negated}
+use Rattle.mseed_join.specs.private.Reading.{integer_at}
+
+-- no digit follows
+abbrev pub Ends : List ℕ → Type 0
+Ends [] = Unit {0}
+Ends (b ∷ bs) = is_digit b ≡ false
+
+pub bind_some : {A B : Type 0} (o : Option A) (f : A → Option B) (y : B) → (o >>= f) ≡ Some y
+    → (x : A) × ((o ≡ Some x) × (f x ≡ Some y))
+bind_some None f y e = absurd (none-some y e)
+bind_some (Some x) f y e = (x, (refl, e))
+
+-- ---- words
+pub word_after : (word bytes rest : List ℕ) → after word bytes ≡ Some rest → bytes ≡ word ++ rest
+word_after word bytes rest e = by (pointwise nat_eq (take (length word) bytes) word) refl e
+  where
+    by : (b : Bool) → pointwise nat_eq (take (length word) bytes) word ≡ b
+        → cond b (Some (drop (length word) bytes)) None ≡ Some rest → bytes ≡ word ++ rest
+    by true k h = sym (take-append-drop (length word) bytes)
+        ∙ (λ i. same_text (take (length word) bytes) word (sym k) i ++ same_Some (drop (length word) bytes) rest h i)
+    by false k h = absurd (cc h)
+
+-- ---- numbers
+digit_is : (b : ℕ) → 48 ≤ b → b ≤ 57 → is_digit b ≡ true
+digit_is b l h = grind (arith, nat_tests)
+
+is_low : (b : ℕ) → is_digit b ≡ true → 48 ≤ b
+is_low b e = grind (arith, nat_tests)
+
+pub is_high : (b : ℕ) → is_digit b ≡ true → b ≤ 57
+is_high b e = grind (arith, nat_tests)
+
+-- the first digit isn't 0, and from it on the digits are those of the number
+record Chosen (n : ℕ) (ds : List ℕ) : Type 0 where
+  first : ℕ
+  others : List ℕ
+  is : ds ≡ first ∷ others
+  low : 49 ≤ first
+  high : first ≤ 57
+  goes : (rest : List ℕ) → more_at (first - 48) (others ++ rest) ≡ more_at n rest
+
+chosen_one : (n : ℕ) → n < 10 → 0 < n → Chosen n ((48 + n) ∷ [])
+chosen_one n h l = record {
+  first = 48 + n;
+  others = [];
+  is = refl;
+  low = omega (arith, l);
+  high = omega (arith, h);
+  goes = λ rest. let same : 48 + n - 48 ≡ n = omega arith in ap (λ (m : ℕ). more_at m rest) same;
+}
+
+one_more : (m b : ℕ) (rest : List ℕ) → is_digit b ≡ true → more_at m (b ∷ rest) ≡ more_at (10 * m + (b - 48)) rest
+one_more m b rest e = ap (λ (t : Bool). cond t (more_at (10 * m + (b - 48)) rest) (m, b ∷ rest)) e
+
+chosen_more : (n : ℕ) (ds : List ℕ) → 10 ≤ n → (0 < n / 10 → Chosen (n / 10) ds) → 0 < n
+    → Chosen n (ds ++ (48 + n % 10) ∷ [])
+chosen_more n ds l before some =
+    let c : Chosen (n / 10) ds = before (omega (arith, l)) in
+    let d : ℕ = 48 + n % 10 in
+    let next : 10 * (n / 10) + (d - 48) ≡ n = omega arith in record {
+      first = c.first;
+      others = c.others ++ d ∷ [];
+      is = ap (λ (xs : List ℕ). xs ++ d ∷ []) c.is;
+      low = c.low;
+      high = c.high;
+      goes = λ rest.
+          ap (λ (xs : List ℕ). more_at (c.first - 48) xs) (append_assoc c.others (d ∷ []) rest)
+          ∙ c.goes (d ∷ rest) ∙ one_more (n / 10) d rest (digit_is d (omega arith) (omega arith))
+          ∙ ap (λ (m : ℕ). more_at m rest) next;
+    }
+
+chosen : (n : ℕ) → 0 < n → n < 10 ^ 64 → Chosen n (decimal n)
+chosen n some few = decimal_by_steps_wide (λ m ds. 0 < m → Chosen m ds) chosen_one chosen_more n few some
+
+more_ends : (n : ℕ) (rest : List ℕ) → Ends rest → more_at n rest ≡ (n, rest)
+more_ends n [] e = refl
+more_ends n (b ∷ bs) e = ap (λ (t : Bool). cond t (more_at (10 * n + (b - 48)) bs) (n, b ∷ bs)) e
+
+le_true : (a b : ℕ) → a ≤ b → nat_le a b ≡ true
+le_true a b l = grind (arith, nat_tests)
+
+within_is : (largest n : ℕ) (rest : List ℕ) → n ≤ largest → within largest (n, rest) ≡ Some (n, rest)
+within_is largest n rest l = ap (λ (t : Bool). cond t (Some (n, rest)) None) (le_true n largest l)
+
+number_from : (largest b : ℕ) (bs : List ℕ) → 49 ≤ b → b ≤ 57
+    → number_at largest (b ∷ bs) ≡ within largest (more_at (b - 48) bs)
+unfolding number_at
+number_from largest b bs l h =
+    let other : nat_eq b 48 ≡ false = grind (arith, nat_tests) in
+    ap (λ (t : Bool). cond t (Some (0, bs)) (cond (is_digit b) (within largest (more_at (b - 48) bs)) None)) other
+    ∙ ap (λ (t : Bool). cond t (within largest (more_at (b - 48) bs)) None) (digit_is b (omega (arith, l)) h)
+
+number_zero : (largest : ℕ) (rest : List ℕ) → number_at largest (48 ∷ rest) ≡ Some (0, rest)
+unfolding number_at
+number_zero largest rest = refl
+
+-- a number that is written reads back
+pub number_back : (largest n : ℕ) (rest : List ℕ) → n ≤ largest → n < 10 ^ 64 → Ends rest
+    → number_at largest (decimal n ++ rest) ≡ Some (n, rest)
+number_back largest zero rest l few e =
+    ap (λ (ds : List ℕ). number_at largest (ds ++ rest)) (decimal_digit 0 (omega arith)) ∙ number_zero largest rest
+number_back largest (suc m) rest l few e =
+    let n : ℕ = suc m in
+    let c : Chosen n (decimal n) = chosen n (omega arith) few in
+    ap (λ (ds : List ℕ). number_at largest (ds ++ rest)) c.is
+    ∙ number_from largest c.first (c.others ++ rest) c.low c.high
+    ∙ ap (λ (x : ℕ × List ℕ). within largest x) (c.goes rest ∙ more_ends n rest e) ∙ within_is largest n rest l
+
+-- reading on makes it no smaller
+grows : (n : ℕ) (bs : List ℕ) → n ≤ (more_at n bs).0
+grows n [] = omega arith
+grows n (b ∷ bs) = by (is_digit b) (grows (10 * n + (b - 48)) bs)
+  where
+    by : (t : Bool) → 10 * n + (b - 48) ≤ (more_at (10 * n + (b - 48)) bs).0
+        → n ≤ (cond t (more_at (10 * n + (b - 48)) bs) (n, b ∷ bs)).0
+    by true h = omega (arith, h)
+    by false h = omega arith
+
+digit_after : (n b : ℕ) → 0 < n → 48 ≤ b → b ≤ 57 → 10 * n + (b - 48) < 10 ^ 64
+    → decimal (10 * n + (b - 48)) ≡ decimal n ++ b ∷ []
+digit_after n b some l h few =
+    let m : ℕ = 10 * n + (b - 48) in
+    let leading : m / 10 ≡ n = omega (arith, l, h) in
+    let last : 48 + m % 10 ≡ b = omega (arith, l, h) in
+    decimal_step_wide m (omega (arith, some)) few ∙ (λ i. decimal (leading i) ++ last i ∷ [])
+
+more_after : (n : ℕ) (bs : List ℕ) → 0 < n → (more_at n bs).0 < 10 ^ 64
+    → decimal n ++ bs ≡ decimal (more_at n bs).0 ++ (more_at n bs).1
+more_after n [] some few = refl
+more_after n (b ∷ bs) some few = by (is_digit b) refl (more_after (10 * n + (b - 48)) bs (omega (arith, some))) few
+  where
+    by : (t : Bool) → is_digit b ≡ t → ((more_at (10 * n + (b - 48)) bs).0 < 10 ^ 64
+        → decimal (10 * n + (b - 48)) ++ bs
+        ≡ decimal (more_at (10 * n + (b - 48)) bs).0 ++ (more_at (10 * n + (b - 48)) bs).1)
+        → (cond t (more_at (10 * n + (b - 48)) bs) (n, b ∷ bs)).0 < 10 ^ 64
+        → decimal n ++ b ∷ bs
+        ≡ decimal (cond t (more_at (10 * n + (b - 48)) bs) (n, b ∷ bs)).0 ++
+        (cond t (more_at (10 * n + (b - 48)) bs) (n, b ∷ bs)).1
+    by true e later small =
+        let more : decimal (10 * n + (b - 48)) ≡ decimal n ++ b ∷ [] =
+        digit_after n b some (is_low b e) (is_high b e) (omega (arith, grows (10 * n + (b - 48)) bs, small)) in
+        sym (append_assoc (decimal n) (b ∷ []) bs) ∙ ap (λ (ds : List ℕ). ds ++ bs) (sym more) ∙ later small
+    by false e later small = refl
+
+within_some : (largest : ℕ) (x y : ℕ × List ℕ) → within largest x ≡ Some y → (x ≡ y) × (x.0 ≤ largest)
+within_some largest x y e = by (nat_le x.0 largest) refl e
+  where
+    by : (t : Bool) → nat_le x.0 largest ≡ t → cond t (Some x) None ≡ Some y → (x ≡ y) × (x.0 ≤ largest)
+    by true k h = (
+      ap (λ (o : Option (ℕ × List ℕ)). elim o as (λ _. ℕ × List ℕ) [ Some z ↦ z | None ↦ x ]) h,
+      grind
+          (arith, nat_tests),
+    )
+    by false k h = absurd (cc h)
+
+-- what is read is what is written
+pub record IsNumber (largest : ℕ) (bytes : List ℕ) (x : ℕ × List ℕ) : Type 0 where
+  pub is : bytes ≡ decimal x.0 ++ x.1
+  pub bounded : x.0 ≤ largest
+
+pub number_spelled : (largest : ℕ) (bytes : List ℕ) (x : ℕ × List ℕ) → largest < 10 ^ 64
+    → number_at largest bytes ≡ Some x → IsNumber largest bytes x
+unfolding number_at
+number_spelled largest [] x few e = absurd (cc e)
+number_spelled largest (b ∷ bs) x few e = by (nat_eq b 48) refl (is_digit b) refl e
+  where
+    by : (t : Bool) → nat_eq b 48 ≡ t → (u : Bool) → is_digit b ≡ u
+        → cond t (Some (0, bs)) (cond u (within largest (more_at (b - 48) bs)) None) ≡ Some x
+        → IsNumber largest (b ∷ bs) x
+    by true k u d h =
+        let value : (0, bs) ≡ x =
+        ap (λ (o : Option (ℕ × List ℕ)). elim o as (λ _. ℕ × List ℕ) [ Some z ↦ z | None ↦ x ]) h in
+        let first : b ≡ 48 = grind (arith, nat_tests) in
+        subst (λ (y : ℕ × List ℕ). IsNumber largest (b ∷ bs) y) value
+        (record {
+          is = ap (λ (c : ℕ). c ∷ bs) first
+              ∙ ap (λ (ds : List ℕ). ds ++ bs) (sym (decimal_digit 0 (omega arith)));
+          bounded = omega arith;
+        })
+    by false k true d h =
+        let read = within_some largest (more_at (b - 48) bs) x h in
+        let counts : 0 < b - 48 = grind (arith, nat_tests) in
+        let one : decimal (b - 48) ≡ b ∷ [] =
+        decimal_digit (b - 48) (omega (arith, is_high b d)) ∙ ap (λ (c : ℕ). c ∷ []) (omega (arith, is_low b d)) in
+        subst (λ (y : ℕ × List ℕ). IsNumber largest (b ∷ bs) y) read.0
+        (record {
+          is = ap (λ (ds : List ℕ). ds ++ bs) (sym one)
+              ∙ more_after (b - 48) bs counts (omega (arith, read.1, few));
+          bounded = read.1;
+        })
+    by false k false d h = absurd (cc h)
+
+-- a digit more that doesn't fit
+pub passes : (n d most : ℕ) (rest all : List ℕ) → 0 < length rest → is_digit (get_or rest 0 0) ≡ true
+    → d ≡ get_or rest 0 0 - 48 → most ≤ 10 * n + d → all ≡ rest → most ≤ (more_at n all).0
+passes n d most [] all l e is big same = absurd (omega (arith, l))
+passes n d most (b ∷ bs) all l e is big same =
+    let read : more_at n all ≡ more_at (10 * n + (b - 48)) bs =
+    ap (λ (xs : List ℕ). more_at n xs) same ∙ one_more n b bs e in
+    let first : (more_at n all).0 ≡ (more_at (10 * n + (b - 48)) bs).0 = ap (λ (x : ℕ × List ℕ). x.0) read in
+    omega (arith, first, grows (10 * n + (b - 48)) bs, big, is)
+
+-- ---- digits that fit for sure
+pub stays_small : (n count digit : ℕ) → n < 10 ^ (count + 1) → digit < 10
+    → 10 * n + digit < 10 ^ (count + 1 + 1)
+stays_small n count digit small l =
+    let next : count + 1 + 1 ≡ suc (count + 1) = omega arith in
+    let power : 10 ^ (count + 1 + 1) ≡ 10 * 10 ^ (count + 1) =
+    ap (λ (k : ℕ). 10 ^ k) next ∙ pow-succ' 10 (count + 1) in
+    omega (arith, small, l, power)
+
+-- so many digits, and room for one more
+pub has_one : (n count : ℕ) → n < 10 ^ (count + 1) → count + 1 ≤ 16 → n < 10 ^ 16
+has_one n count small l =
+    let some : 0 < 10 = omega arith in
+    let most : 10 ^ (count + 1) ≤ 10 ^ 16 = pow-le-pow_right some l in
+    omega (arith, small, most)
+
+pub has_two : (n count digit : ℕ) → n < 10 ^ (count + 1) → digit < 10 → count + 2 ≤ 16 → 10 * n + digit < 10 ^ 16
+has_two n count digit small d l =
+    has_one (10 * n + digit) (count + 1) (stays_small n count digit small d) (omega (arith, l))
+
+-- a number whose first digit isn't 0, with further digits
+pub number_on : (largest n count first : ℕ) (bytes tail : List ℕ) → 1 ≤ length bytes → (get_or bytes 0 0 ≡ 48 → ⊥)
+    → is_digit (get_or bytes 0 0) ≡ true → tail ≡ drop 1 bytes → first ≡ get_or bytes 0 0 - 48
+    → more_at n (drop count tail) ≡ more_at first tail
+    → number_at largest bytes ≡ within largest (more_at n (drop (count + 1) bytes))
+number_on largest n count first [] tail some other digit rest_is is more = absurd (omega (arith, some))
+number_on largest n count first (b ∷ bs) tail some other digit rest_is is more =
+    let next : suc count ≡ count + 1 = omega arith in
+    number_from largest b bs (omega (arith, is_low b digit, other)) (is_high b digit)
+    ∙ ap (λ (x : ℕ × List ℕ). within largest x)
+    ((λ i. more_at (sym is i) (sym rest_is i)) ∙ sym more ∙ ap (λ (xs : List ℕ). more_at n (drop count xs)) rest_is
+    ∙ ap (λ (k : ℕ). more_at n (drop k (b ∷ bs))) next)
+
+-- the first digit of a number
+pub record Begins (n : ℕ) : Type 0 where
+  pub first : ℕ
+  pub others : List ℕ
+  pub is : decimal n ≡ first ∷ others
+  pub low : 48 ≤ first
+  pub high : first ≤ 57
+
+pub begins : (n : ℕ) → n < 10 ^ 64 → Begins n
+begins zero few = record {
+  first = 48;
+  others = [];
+  is = decimal_digit 0 (omega arith);
+  low = omega arith;
+  high =
+      omega arith;
+}
+begins (suc m) few = let c : Chosen (suc m) (decimal (suc m)) =
+    chosen (suc m) (omega arith) few in record {
+      first = c.first;
+      others = c.others;
+      is = c.is;
+      low =
+          omega (arith, c.low);
+      high = c.high;
+    }
+
+-- within these sizes, below 0 and above
+abbrev pub IsWithin : ℕ → ℕ → ℤ → Type 0
+IsWithin below above (pos n) = n ≤ above
+IsWithin below above (negsuc n) = n < below
+
+integer_from : (below above b : ℕ) (bs : List ℕ) (x : ℕ × List ℕ) → 48 ≤ b → number_at above (b ∷ bs) ≡ Some x
+    → integer_at below above (b ∷ bs) ≡ Some (pos x.0, x.1)
+unfolding integer_at
+integer_from below above b bs x l e =
+    let other : nat_eq b 45 ≡ false = grind (arith, nat_tests) in
+    ap (λ (t : Bool). cond t (number_at below bs >>= negated) (number_at above (b ∷ bs) >>= λ n. Some (pos n.0, n.1)))
+    other
+    ∙ ap (λ (o : Option (ℕ × List ℕ)). o >>= λ n. Some (pos n.0, n.1)) e
+
+integer_minus : (below above : ℕ) (bs : List ℕ) → integer_at below above (45 ∷ bs) ≡ (number_at below bs >>= negated)
+unfolding integer_at
+integer_minus below above bs = refl
+
+pub integer_back : (below above : ℕ) (z : ℤ) (rest : List ℕ) → below < 10 ^ 64 → above < 10 ^ 64
+    → IsWithin below above z
+    → Ends rest → integer_at below above (signed_decimal z ++ rest) ≡ Some (z, rest)
+integer_back below above (pos n) rest low high l e =
+    let b : Begins n = begins n (omega (arith, l, high)) in
+    let read : number_at above (b.first ∷ (b.others ++ rest)) ≡ Some (n, rest) =
+    ap (λ (ds : List ℕ). number_at above (ds ++ rest)) (sym b.is)
+    ∙ number_back above n rest l (omega (arith, l, high)) e in
+    ap (λ (ds : List ℕ). integer_at below above (ds ++ rest)) b.is
+    ∙ integer_from below above b.first (b.others ++ rest) (n, rest) b.low read
+integer_back below above (negsuc n) rest low high l e =
+    integer_minus below above (decimal (suc n) ++ rest)
+    ∙ ap (λ (o : Option (ℕ × List ℕ)). o >>= negated)
+    (number_back below (suc n) rest (omega (arith, l)) (omega (arith, l, low)) e)
+
+-- an integer that was read stands before it
+abbrev pub IsInteger : ℕ → ℕ → List ℕ → ℤ × List ℕ → Type 0
+IsInteger below above bytes x = (bytes ≡ signed_decimal x.0 ++ x.1) × IsWithin below above x.0
+
+pub integer_after : (below above : ℕ) (bytes : List ℕ) (x : ℤ × List ℕ) → below < 10 ^ 64 → above < 10 ^ 64
+    → integer_at below above bytes ≡ Some x → IsInteger below above bytes x
+unfolding integer_at
+integer_after below above [] x low high e = absurd (cc e)
+integer_after below above (b ∷ bs) x low high e = by (nat_eq b 45) refl e
+  where
+    less : (y : ℕ × List ℕ) → IsNumber below bs y → b ≡ 45 → negated y ≡ Some x → IsInteger below above (b ∷ bs) x
+    less (zero, rest) is k h = absurd (cc h)
+    less (suc n, rest) is k h =
+        subst (λ (z : ℤ × List ℕ). IsInteger below above (b ∷ bs) z) (same_Some (negsuc n, rest) x h)
+        ((λ i. k i ∷ is.is i), omega (arith, is.bounded))
+
+    by : (t : Bool) → nat_eq b 45 ≡ t
+        → cond t (number_at below bs >>= negated) (number_at above (b ∷ bs) >>= λ n. Some (pos n.0, n.1)) ≡ Some x
+        → IsInteger below above (b ∷ bs) x
+    by true k h =
+        let read = bind_some (number_at below bs) negated x h in
+        less read.0 (number_spelled below bs read.0 low read.1.0) (grind (arith, nat_tests)) read.1.1
+    by false k h =
+        let read = bind_some (number_at above (b ∷ bs)) (λ n. Some (pos n.0, n.1)) x h in
+        let is : IsNumber above (b ∷ bs) read.0 = number_spelled above (b ∷ bs) read.0 high read.1.0 in
+        subst (λ (z : ℤ × List ℕ). IsInteger below above (b ∷ bs) z) (same_Some (pos read.0.0, read.0.1) x read.1.1)
+        (is.is, is.bounded)

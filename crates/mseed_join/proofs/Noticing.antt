@@ -1,0 +1,239 @@
+-- What is reported of a channel in two archives one after another: of each alone, and between them.
+use Rattle.std.proofs.Common.{◌≡◌, ℕ, List, [], ◌∷◌, ◌++◌, map, Bool, true, false, cond, Option, Some, None, refl, sym}
+use Rattle.std.proofs.Common.{ap, ◌∙◌, subst, append-nil}
+use Rattle.std.specs.List.{filter}
+use Rattle.std.specs.Option.{option_map}
+use Rattle.std.proofs.lemmas.List.{map-append}
+use Rattle.mseed_record.specs.Header.{key_at}
+use Rattle.mseed_record.specs.View.{View}
+use Rattle.mseed_time.specs.Rate.{Ratio}
+use Rattle.mseed_time.specs.declared.fault.TimeFault.{TimeFault}
+use Rattle.mseed_audit.specs.declared.channel.Channel.{Channel}
+use Rattle.mseed_audit.specs.declared.channel.Head.{Head}
+use Rattle.mseed_audit.specs.declared.finding.Finding.{Finding}
+use Rattle.mseed_audit.specs.declared.finding.Why.{Why}
+use Rattle.mseed_audit.specs.declared.tail.Tail.{Tail}
+use Rattle.mseed_audit.specs.Audit.{IsHeadOf, Stands, StandsAt, break_by, head_in, tail_in}
+use Rattle.mseed_audit.specs.Channels.{Placed, added_from, is_of, numbered, records_of, same_key}
+use Rattle.mseed_audit.specs.Judging.{rate_in, rate_unless, time_fault_of}
+use Rattle.mseed_audit.specs.Reported.{Reported, AreReportedOf, last_of, reported_with}
+use Rattle.mseed_audit.proofs.Maps.{same_is}
+use Rattle.mseed_audit.proofs.OneReport.{AreReportedIn, channel_reported, key_of, nothing_in as none}
+use Rattle.mseed_join.specs.PartBorders.{Border, border_at, border_with}
+use Rattle.mseed_join.specs.Joining.{border_between, border_of, found_at, moved_channel, moved_head}
+use Rattle.mseed_join.specs.Notices.{Notice, border_notices, moved_notice, moved_notices, notice_of, notices_of}
+use Rattle.mseed_join.specs.Parts.{Held, IsPartOf, kept_of}
+use Rattle.mseed_join.proofs.Following.{HaveOneFinding, last_is}
+use Rattle.mseed_join.proofs.Moving.{head_moves, stands_at_moved}
+use Rattle.mseed_join.proofs.Placing.{filter_map_same, moved, records_append}
+use Rattle.mseed_join.proofs.Reporting.{border_reported, moved_reported, reported_append, reported_border}
+use Rattle.mseed_join.proofs.Reporting.{reported_moved, reported_one}
+
+-- ---- those with a key
+abbrev pub with_key : List ℕ → List Notice → List Notice
+with_key key ns = filter (λ n. same_key key n.key) ns
+
+pub with_reported : (key : List ℕ) (reported : List Reported)
+    → with_key key (notices_of reported) ≡ notices_of (reported_with key reported)
+with_reported key reported =
+    filter_map_same notice_of (λ t. same_key key (key_at t.view.bytes)) (λ n. same_key key n.key) (λ t. refl) reported
+
+pub with_moved : (key : List ℕ) (d e : ℕ) (ns : List Notice)
+    → with_key key (moved_notices d e ns) ≡ moved_notices d e (with_key key ns)
+with_moved key d e ns =
+    filter_map_same (moved_notice d e) (λ n. same_key key n.key) (λ n. same_key key n.key) (λ n. refl) ns
+
+pub notices_moved : (d e : ℕ) (reported : List Reported)
+    → notices_of (map (moved_reported d e) reported) ≡ moved_notices d e (notices_of reported)
+notices_moved d e [] = refl
+notices_moved d e (t ∷ reported) = ap (λ (ns : List Notice). notice_of (moved_reported d e t) ∷ ns)
+    (notices_moved d e reported)
+
+-- ---- a border
+-- a record whose rate is known begins in its range
+in_range : (fault : Option TimeFault) (rate : Option Ratio) (known : Ratio) → rate_unless fault rate ≡ Some known
+    → fault ≡ None
+in_range None rate known e = refl
+in_range (Some fault) rate known e = cc (e)
+
+-- what is reported of it
+same_notice : (key : List ℕ) (t : Option Tail) (h : Option Head) (q : Placed) → key ≡ key_at q.view.bytes
+    → IsHeadOf h q → notices_of (border_reported q (border_of t h)) ≡ border_notices (border_at key h (border_of t h))
+same_notice key None None q e is = refl
+same_notice key None (Some h) q e is = refl
+same_notice key (Some t) None q e is = refl
+same_notice key (Some t) (Some h) q e is = by (break_by t h.start h.rate)
+  where
+    by : (why : Option Why) → notices_of (border_reported q (found_at h why))
+        ≡ border_notices (border_at key (Some h) (found_at h why))
+    by None = refl
+    by (Some why) =
+        let fault : time_fault_of q.view ≡ None = in_range (time_fault_of q.view) (rate_in q.view) h.rate is.rate in
+        λ i. record {
+          key = sym e i;
+          fault = fault i;
+          start = sym is.start i;
+          finding = record { number = h.number; offset = h.offset; why = why };
+        } ∷ []
+
+-- between a channel and its further records
+abbrev pub border_in : List ℕ → Option Channel → Option Channel → List Notice
+border_in key c None = []
+border_in key c (Some o) = border_notices (border_at key (head_in o.findings) (border_between c o))
+
+same_start : (key : List ℕ) (d e : ℕ) (h : Option Head) (found : Option Finding)
+    → border_at key (option_map (moved_head d e) h) found ≡ border_at key h found
+same_start key d e None found = refl
+same_start key d e (Some h) None = refl
+same_start key d e (Some h) (Some f) = refl
+
+pub border_is_in : (key : List ℕ) (a : Held) (o : Option Channel) (c : Channel) → o ≡ Some c
+    → border_in key (kept_of key a.channels) (option_map (moved_channel a.records a.bytes) o)
+    ≡ border_notices (border_with a (key, c))
+border_is_in key a o c e =
+    let further : Channel = moved_channel a.records a.bytes c in
+    let between : Option Finding = border_between (kept_of key a.channels) further in
+    ap (λ (x : Option Channel). border_in key (kept_of key a.channels) (option_map (moved_channel a.records a.bytes) x))
+    e
+    ∙ ap (λ (h : Option Head). border_notices (border_at key h between)) (head_moves a.records a.bytes c.findings)
+    ∙ ap (λ (bs : List Border). border_notices bs) (same_start key a.records a.bytes (head_in c.findings) between)
+
+-- ---- records with further ones after
+pub record IsReportedWith (key : List ℕ) (c o : Option Channel) (ps qs : List Placed)
+    (reported further : List Reported) : Type 0
+  where
+    pub between : List Reported
+    pub all : AreReportedIn None (ps ++ qs) (reported ++ (between ++ further))
+    pub notices : notices_of between ≡ border_in key c o
+
+none_reported : (ps : List Placed) (reported : List Reported) → ps ≡ [] → AreReportedIn None ps reported → reported ≡ []
+none_reported [] reported e (none _) = refl
+none_reported (p ∷ ps) reported e are = cc (e)
+
+-- after none, and before none
+reported_after : (ps qs : List Placed) (reported further : List Reported) → ps ≡ [] → AreReportedIn None ps reported
+    → AreReportedIn None qs further → AreReportedIn None (ps ++ qs) (reported ++ further)
+reported_after ps qs reported further e are more =
+    subst (λ (rs : List Placed). AreReportedIn None (rs ++ qs) (reported ++ further)) (sym e)
+    (subst (λ (ts : List Reported). AreReportedIn None qs (ts ++ further)) (sym (none_reported ps reported e are)) more)
+
+reported_before : (ps qs : List Placed) (reported further : List Reported) → qs ≡ [] → AreReportedIn None ps reported
+    → AreReportedIn None qs further → AreReportedIn None (ps ++ qs) (reported ++ further)
+reported_before ps qs reported further e are more =
+    subst (λ (rs : List Placed). AreReportedIn None (ps ++ rs) (reported ++ further)) (sym e)
+    (subst (λ (ts : List Reported). AreReportedIn None (ps ++ []) (reported ++ ts))
+    (sym (none_reported qs further e more))
+    (subst (λ (rs : List Placed). AreReportedIn None rs (reported ++ [])) (sym (append-nil ps))
+    (subst (λ (ts : List Reported). AreReportedIn None ps ts) (sym (append-nil reported)) are)))
+
+no_border : (key : List ℕ) (h : Option Head) → border_at key h None ≡ []
+no_border key None = refl
+no_border key (Some h) = refl
+
+reported_both : HaveOneFinding → (key : List ℕ) (c o : Channel) (ps qs : List Placed) (reported further : List Reported)
+    → Stands c ps → Stands o qs → ((q : Placed) (rest : List Placed) → qs ≡ q ∷ rest → key ≡ key_at q.view.bytes)
+    → AreReportedIn None ps reported → AreReportedIn None qs further
+    → IsReportedWith key (Some c) (Some o) ps qs reported further
+reported_both only key c o ps qs reported further s t keys are more =
+    let border : Option Finding = border_of (tail_in c.findings) (head_in o.findings) in
+    let between : List Reported = border_reported t.first border in
+    let alone : AreReportedIn None (t.first ∷ t.rest) further =
+    subst (λ (rs : List Placed). AreReportedIn None rs further) t.begins more in
+    let after_last : AreReportedIn (Some s.last.view) (t.first ∷ t.rest) (between ++ further) =
+    reported_border only (tail_in c.findings) s.last.view (head_in o.findings) t.first t.rest further s.tail t.head
+    alone in
+    let all : AreReportedIn (last_of None ps) qs (between ++ further) =
+    subst (λ (v : Option View). AreReportedIn v qs (between ++ further)) (sym (last_is ps s.prefix s.last s.ends))
+    (subst (λ (rs : List Placed). AreReportedIn (Some s.last.view) rs (between ++ further)) (sym t.begins)
+    after_last) in
+    record {
+      between = between;
+      all = reported_append None ps qs reported (between ++ further) are all;
+      notices = same_notice key (tail_in c.findings) (head_in o.findings) t.first (keys t.first t.rest t.begins)
+          t.head;
+    }
+
+reported_joined : HaveOneFinding → (key : List ℕ) (c o : Option Channel) (ps qs : List Placed)
+    (reported further : List Reported)
+    → StandsAt c ps → StandsAt o qs
+    → ((q : Placed) (rest : List Placed) → qs ≡ q ∷ rest → key ≡ key_at q.view.bytes)
+    → AreReportedIn None ps reported → AreReportedIn None qs further → IsReportedWith key c o ps qs reported further
+reported_joined only key None None ps qs reported further s t keys are more = record {
+  between = [];
+  all = reported_after ps qs reported further s are more;
+  notices = refl;
+}
+reported_joined only key None (Some o) ps qs reported further s t keys are more = record {
+  between = [];
+  all = reported_after ps qs reported further s are more;
+  notices = ap border_notices (sym (no_border key (head_in o.findings)));
+}
+reported_joined only key (Some c) None ps qs reported further s t keys are more = record {
+  between = [];
+  all = reported_before ps qs reported further t are more;
+  notices = refl;
+}
+reported_joined only key (Some c) (Some o) ps qs reported further s t keys are more =
+    reported_both only key c o ps qs reported further s t keys are more
+
+-- the first record of a channel has its key
+first_with : (key : List ℕ) (ps : List Placed) (q : Placed) (rest : List Placed)
+    → filter (λ p. is_of key p.view) ps ≡ q ∷ rest → is_of key q.view ≡ true
+first_with key [] q rest e = cc (e)
+first_with key (p ∷ ps) q rest e = by (is_of key p.view) refl e (λ k. first_with key ps q rest k)
+  where
+    by : (b : Bool) → is_of key p.view ≡ b
+        → cond b (p ∷ filter (λ r. is_of key r.view) ps) (filter (λ r. is_of key r.view) ps) ≡ q ∷ rest
+        → (filter (λ r. is_of key r.view) ps ≡ q ∷ rest → is_of key q.view ≡ true) → is_of key q.view ≡ true
+    by true h k later = let same : p ≡ q = cc (k) in ap (λ (r : Placed). is_of key r.view) (sym same) ∙ h
+    by false h k later = later k
+
+moved_first : (key : List ℕ) (d e : ℕ) (ps : List Placed)
+    → ((q : Placed) (rest : List Placed) → ps ≡ q ∷ rest → key ≡ key_at q.view.bytes)
+    → (q : Placed) (rest : List Placed) → map (moved d e) ps ≡ q ∷ rest → key ≡ key_at q.view.bytes
+moved_first key d e [] keys q rest is = cc (is)
+moved_first key d e (p ∷ ps) keys q rest is =
+    let same : moved d e p ≡ q = cc (is) in
+    keys p ps refl ∙ ap (λ (r : Placed). key_at r.view.bytes) same
+
+-- ---- of two archives one after another
+pub reported_at_key : HaveOneFinding → (key : List ℕ) (a b : Held) (xs ys : List View)
+    (first second whole : List Reported)
+    → IsPartOf a xs → IsPartOf b ys → AreReportedOf (added_from 0 xs) first → AreReportedOf (added_from 0 ys) second
+    → AreReportedOf (added_from 0 (xs ++ ys)) whole
+    → with_key key (notices_of whole) ≡ with_key key (notices_of first)
+    ++ (border_in key (kept_of key a.channels) (option_map (moved_channel a.records a.bytes) (kept_of key b.channels))
+    ++ with_key key (moved_notices a.records a.bytes (notices_of second)))
+reported_at_key only key a b xs ys first second whole p q alone other all =
+    let d : ℕ = a.records in
+    let e : ℕ = a.bytes in
+    let c : Option Channel = kept_of key a.channels in
+    let o : Option Channel = option_map (moved_channel d e) (kept_of key b.channels) in
+    let ours : List Placed = records_of key (added_from 0 xs) in
+    let theirs : List Placed = records_of key (added_from 0 ys) in
+    let ones : List Reported = reported_with key first in
+    let twos : List Reported = reported_with key second in
+    let keys : (r : Placed) (rest : List Placed) → map (moved d e) theirs ≡ r ∷ rest → key ≡ key_at r.view.bytes =
+    moved_first key d e theirs (λ r rest is.
+    same_is key (key_at r.view.bytes) (key_of key r.view (first_with key (numbered 1 (added_from 0 ys)) r rest is))) in
+    let j : IsReportedWith key c o ours (map (moved d e) theirs) ones (map (moved_reported d e) twos) =
+    reported_joined only key c o ours (map (moved d e) theirs) ones (map (moved_reported d e) twos) (p.each key)
+    (stands_at_moved d e (kept_of key b.channels) theirs (q.each key)) keys
+    (channel_reported (added_from 0 xs) first key alone)
+    (reported_moved d e None theirs twos (channel_reported (added_from 0 ys) second key other)) in
+    let records : ours ++ map (moved d e) theirs ≡ records_of key (added_from 0 (xs ++ ys)) =
+    (λ i. ours ++ map (moved (p.records i) (p.bytes i)) theirs) ∙ sym (records_append key xs ys) in
+    let same : reported_with key whole ≡ ones ++ (j.between ++ map (moved_reported d e) twos) =
+    reported_one only None (records_of key (added_from 0 (xs ++ ys))) (reported_with key whole)
+    (ones ++ (j.between ++ map (moved_reported d e) twos))
+    (channel_reported (added_from 0 (xs ++ ys)) whole key all)
+    (subst (λ (ps : List Placed). AreReportedIn None ps (ones ++ (j.between ++ map (moved_reported d e) twos))) records
+    j.all) in
+    let last : notices_of (map (moved_reported d e) twos) ≡ with_key key (moved_notices d e (notices_of second)) =
+    notices_moved d e twos ∙ ap (λ (ns : List Notice). moved_notices d e ns) (sym (with_reported key second))
+    ∙ sym (with_moved key d e (notices_of second)) in
+    with_reported key whole ∙ ap notices_of same
+    ∙ map-append notice_of ones (j.between ++ map (moved_reported d e) twos)
+    ∙ ap (λ (ns : List Notice). notices_of ones ++ ns)
+    (map-append notice_of j.between (map (moved_reported d e) twos))
+    ∙ (λ i. sym (with_reported key first) i ++ (j.notices i ++ last i))

@@ -1,4 +1,0 @@
--- Words of private functions and of proofs alone, which change as the code does: no public contract is stated by them.
-pub mod Reading
-pub mod Found
-pub mod Passing

@@ -1,6 +1,0 @@
-use Rattle.mseed_parts.proofs.Merging.{findings_merge}
-use Rattle.mseed_parts.proofs.Rising.{merged_one}
-use Rattle.mseed_parts.proofs.law.findings_add_up.Goals as goal
-
-pub returns : goal.returns
-returns c = record { merged = findings_merge c.one_finding.ensures.of_one; one = merged_one }

@@ -1,5 +1,0 @@
-use Rattle.mseed_parts.proofs.Extended.{none_joined, one_more, with_counts}
-use Rattle.mseed_parts.proofs.law.joined_in_turn.Goals as goal
-
-pub returns : goal.returns
-returns c = record { none = none_joined; channel = one_more; counts = with_counts }

@@ -1,7 +1,0 @@
-use Rattle.mseed_parts.proofs.Associative.{joint_assoc}
-use Rattle.mseed_parts.proofs.Joined.{joint_one, unit_before, unit_after}
-use Rattle.mseed_parts.proofs.law.joining_laws.Goals as goal
-
-pub returns : goal.returns
-returns c =
-    record { one = joint_one; unit_before = unit_before; unit_after = unit_after; associative = joint_assoc }

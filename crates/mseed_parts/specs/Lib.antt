@@ -1,4 +1,0 @@
-pub mod Borders
-pub mod Joining
-pub mod Notices
-pub mod Parts

@@ -1,5 +1,0 @@
-use Rattle.std.proofs.Common.{◌≡◌}
-use Rattle.slink_live_tcp.proofs.tcp.Tcp.finish.Given as goal
-
-abbrev pub invariant-loop-round : goal.invariant-loop-round
-invariant-loop-round g l = l.self.log ≡ l.fn.self.log
