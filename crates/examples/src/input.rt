@@ -1,4 +1,4 @@
-//! Calls of `mseed_input`.
+//! Calls of `mseed_files`: the input that arguments name.
 use mseed_files::{
     Blame, Chain, Files, Reason, Watched, blame_by, blame_of, report_blame, report_fault,
     report_given, report_no_memory, report_number, report_reason, report_unreadable, texts_of,

@@ -2,7 +2,6 @@
 #![tactic(auto)]
 
 pub mod audits;
-pub mod choosing;
 pub mod feed;
 pub mod feed_commands;
 pub mod files;

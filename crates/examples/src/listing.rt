@@ -1,4 +1,4 @@
-//! Calls of `mseed_show`.
+//! Calls of `mseed_select`: lists.
 ghost use Rattle.std.specs.Prelude.{◌≡◌};
 ghost use Rattle.mseed_stream.specs.Device.{nothing_read};
 

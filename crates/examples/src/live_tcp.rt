@@ -1,4 +1,4 @@
-//! Calls of `slink_live_tcp`.
+//! Calls of `slink_links`: many links over TCP.
 ghost use Rattle.slink_live.specs.Served.{IsSound};
 
 use slink_links::{LivePlan, LiveTcp};
@@ -26,7 +26,7 @@ pub fn serve_over_tcp<N: Net + Clock, I: Read + AsRawFd + Drop>(
         timeout: Some(Duration::from_secs(600)),
     };
     let mut tcp = LiveTcp::bind(host, alloc, plan, input)?;
-    serve_all(server, &mut tcp)
+    serve_until_done(server, &mut tcp)
 }
 
 /// Where clients dial.
@@ -37,7 +37,7 @@ pub fn address_of<C: Net + Clock, I: Read + AsRawFd + Drop>(
 }
 
 /// Serves the input, and on where something is wrong with it, until all links are done.
-pub fn serve_all<C: Net + Clock, I: Read + AsRawFd + Drop>(
+pub fn serve_until_done<C: Net + Clock, I: Read + AsRawFd + Drop>(
     server: &mut Server,
     tcp: &mut LiveTcp<'_, C, I>,
 ) -> io::Result<Result<(), InputFault>>

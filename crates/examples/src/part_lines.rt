@@ -1,4 +1,4 @@
-//! Calls of `mseed_part_lines`.
+//! Calls of `mseed_join`: lines.
 use mseed_audit::Channel;
 use mseed_join::{
     Field, HEADER, first_bad_field, push_channel_line, push_counts_line, push_faults_line,

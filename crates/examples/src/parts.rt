@@ -1,4 +1,4 @@
-//! Calls of `mseed_parts`.
+//! Calls of `mseed_join`: parts without a text.
 use mseed_audit::{Channel, Finding, Memory};
 use mseed_join::{JoinFault, Part, TooLarge, sum};
 use mseed_record::Codes;

@@ -3,8 +3,8 @@ ghost use Rattle.std.specs.Prelude.{◌≡◌, ◌≤◌, length, take, IfSome};
 ghost use Rattle.mseed_record.specs.Record.{IsRecord};
 
 use mseed_record::{
-    BadCode, Codes, DataOffset, Fields, FrameFault, Framer, Leap, RecordView, Scan, TooShort,
-    ViewFault, is_blank, scan, trimmed, write_header,
+    All, Answer, BadCode, Choice, Codes, DataOffset, Fields, FrameFault, Framer, Leap, RecordView,
+    Scan, TooShort, ViewFault, is_blank, scan, trimmed, write_header,
 };
 use mseed_time::{Btime, LeapStep, Micros, NoRate, Order, Rate, TimeFault};
 
@@ -117,6 +117,16 @@ pub fn comes_first(one: &Codes, other: &Codes) -> bool {
 /// The codes of a channel, of which only the station is free.
 pub fn vertical_of(station: &[u8]) -> Result<Codes, BadCode> {
     Codes::new(b"XX", station, b"00", b"BHZ")
+}
+
+/// Whether a record is asked for, by any choice.
+pub fn is_chosen<C: Choice>(choice: &C, view: &RecordView) -> bool {
+    choice.answer(view) == Answer::AskedFor
+}
+
+/// What is answered of a record where all are asked for.
+pub fn answer_of_all(view: &RecordView) -> Answer {
+    All.answer(view)
 }
 
 /// Writes the header of a record of 512 bytes with 100 samples in Steim-2.

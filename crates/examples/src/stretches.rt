@@ -1,4 +1,4 @@
-//! Calls of `mseed_stretches`.
+//! Calls of `mseed_repack`: stretches.
 ghost use Rattle.std.specs.Prelude.{◌<◌, ◌≤◌, ◌^◌, IsSome, length, map};
 ghost use Rattle.std.specs.List.{AllByRecursion};
 ghost use Rattle.mseed_record.specs.Viewing.{view_of};
