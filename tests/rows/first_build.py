@@ -91,7 +91,7 @@ def by_standing() -> Cases:
         with looked_up("mseed_join", done):
             yield Fact(f"repack beside a join of which {done} of 100 functions are checked", repack,
                        build.standing("mseed_repack", False))
-            yield Fact(f"the list beside it, with {done} checked", beside, build.standing("mseed_show", False))
+            yield Fact(f"the feed beside it, with {done} checked", beside, build.standing("mseed_feed", False))
     build.highs = {"mseed_join"}
     for done, minutes, wanted in [(0, 0, 6.0), (0, 3, 3.0), (0, 9, 0.6), (75, 3, 1.5)]:
         build.running = {"mseed_join": prove.Work(time.monotonic() - 60 * minutes, None, [], CRATES, None)}
