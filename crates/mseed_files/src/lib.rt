@@ -1,8 +1,14 @@
-//! The files that the words of a command line name, one after another, as the bytes of one input.
+//! The files that the words of a command line name, one after another, as the bytes of one input; and what is reported
+//! of the file in which a fault lies.
 //!
 //! What the system gives is behind [`Files`]: made files can stand in its place. A [`Chain`] is a source of the files'
 //! bytes, in the order of the words, one file open at a time, and knows in which of them each byte that it gave lies.
 //! [`find_unreadable`] looks at them before anything is read. [`System`] opens the files of the system.
+//!
+//! The texts that [`texts_of`] makes of the words can be given to a parser, and [`word_of`] finds the word that one
+//! stands for. A [`Watched`] source knows where the last record is that was cut of it. [`report_blame`] reports what is
+//! wrong with an input, its [`Blame`], of the file in which it lies, and [`report_reason`] why a read of one failed
+//! that has no name.
 #![tactic(auto)]
 
 mod arguments;

@@ -1,4 +1,5 @@
-//! Parts of audits as texts: made of an archive, read and joined.
+//! Parts of audits: what an audit keeps of an archive, so that parts add up; their lines, written and read back; and
+//! their texts, made of an archive, read and joined.
 #![tactic(auto)]
 
 mod auditing;

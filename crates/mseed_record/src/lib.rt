@@ -1,5 +1,5 @@
 //! miniSEED data records: their header, their blockettes and their payload (SEED Reference Manual 2.4,
-//! chapter 8).
+//! chapter 8); and which of them are asked for, as a [`Choice`] that a loop over records takes.
 #![tactic(auto)]
 
 mod answer;

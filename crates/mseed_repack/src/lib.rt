@@ -1,4 +1,6 @@
-//! An archive packed anew: the series of its channels, in records of one length and encoding.
+//! An archive packed anew: the series of its channels, in records of one length and encoding. And the stretches of a
+//! channel, by which one with gaps is packed: runs of records, in each of which one clock goes on, with a sample's
+//! instant never further than a quarter of its period from where its record has it.
 #![tactic(auto)]
 
 mod archive;

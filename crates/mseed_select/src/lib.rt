@@ -1,4 +1,5 @@
-//! The records of an archive that are asked for, by channel and by a window of time: as they are, or in another format.
+//! The records of an archive that are asked for, by channel and by a window of time: as they are, a line for each, or
+//! in another format.
 #![tactic(auto)]
 
 mod choice;

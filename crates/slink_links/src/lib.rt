@@ -1,11 +1,13 @@
 //! The feed of SeedLink 3 over one link after another: serving it to as many connections as are requested, fetching
-//! over as many tries, and TCP.
+//! over as many tries, and TCP; and the device of `slink_live` over TCP.
 //!
 //! [`serve_all`] takes its links from an [`Accept`], and [`fetch_all`] from a [`Dial`]; each gives every link back, and
 //! what went over it stands in a list for proofs, so that a contract can say of each link what was done with it.
 //! Between its tries [`fetch_all`] waits by a [`Pause`]. A link that is silent for too long fails as by any other
 //! cause.
 //! [`serve_planned`] and [`fetch_planned`] carry out a plan over such devices, and [`serve`] and [`fetch`] over TCP.
+//!
+//! A [`LiveTcp`] is standard input and many links over TCP at once, by one wait for all of them.
 #![tactic(auto)]
 
 mod accept;
