@@ -1,9 +1,9 @@
 -- Words of code 01: their differences are their bytes.
 use Rattle.std.proofs.Common.{◌≡◌, ◌≢◌, ℕ, zero, suc, ◌+◌, ◌-◌, ◌*◌, ◌/◌, ◌%◌, ◌^◌, ◌<◌, ◌≤◌, List, [], ◌∷◌, ◌++◌}
+use Rattle.std.proofs.lemmas.Bool.Decides.{nat_tests}
 use Rattle.std.proofs.Common.{length, map, take, drop, get_or, length-drop, ℤ, refl, sym, ap, ◌∙◌, append_assoc, arith}
 use Rattle.std.proofs.Common.{eqb, cond, true, false, Bool, Some, Ok, Result, ⊎_elim}
-use Rattle.std.proofs.lemmas.Int.{ints}
-use Rattle.std.proofs.lemmas.Bool.{ne_eqb, eq-eqb, cases_lt, lt-ltb, le-ltb}
+use Rattle.std.proofs.lemmas.Bool.{ne_eqb, eq-eqb, cases_lt}
 use Rattle.std.proofs.lemmas.List.{map-append, drop-drop, get_or-drop, length-take-le}
 use Rattle.std.proofs.Math.Seq.{take-add}
 use Rattle.byteorder.specs.Endian.{twos_complement, big_number}
@@ -23,10 +23,7 @@ abbrev pub widened : List ℕ → List ℤ
 widened bytes = map (λ byte. twos_complement 1 byte) bytes
 
 byte_signed : (x : ℕ) → x < 256 → signed 8 x ≡ twos_complement 1 x
-byte_signed x h = ⊎_elim
-    (λ (low : x < 128). rw (lt-ltb x 128 low) refl)
-    (λ (high : 128 ≤ x). rw (le-ltb x 128 high) (omega (arith, ints)))
-    (cases_lt x 128)
+byte_signed x h = search (arith)
 
 -- the digits of four bytes
 byte_digits : (xs : List ℕ) → 4 ≤ length xs → ((i : ℕ) → get_or xs i 0 < 256)
@@ -69,9 +66,7 @@ next_bytes p frame k m h i less =
 
 first_bytes : (p : List ℕ) (frame k m : ℕ) → AreBytes p frame k (suc m)
     → ((k / 16 ≡ frame) × (k % 16 ≢ 0) × (code_at p k ≡ 1))
-first_bytes p frame k m h =
-    let same : k + 0 ≡ k = omega arith in
-    rw same at (h 0 (omega arith))
+first_bytes p frame k m h = search (arith)
 
 -- the run of these words, and whatever is after them
 pub run_words : (p : List ℕ) (frame m k n : ℕ) → AreBytes p frame k m → run_in frame (words_from p (k + m) n) ≡ []
@@ -163,7 +158,7 @@ run_items s p octets frame (suc m) k n h inside =
     let later : items_of s (words_from p (k + 1) (m + n)) ≡ map Ok others ++ behind =
     rw next at (run_items s p octets frame m (k + 1) n (next_bytes p frame k m h) (omega (arith, inside))) in
     let joined : map Ok (widened (take (4 * suc m) (drop (4 * k) p))) ≡ map Ok first ++ map Ok others =
-    ap (λ (zs : List ℤ). map {B = Result ℤ BadWordAt} Ok zs) (widened_cut p k m) ∙ map-append Ok first others in
+    search (arith, nat_tests, map-append, widened_cut) in
     rw more (step ∙ ap (λ (zs : List (Result ℤ BadWordAt)). map Ok first ++ zs) later
     ∙ sym (append_assoc (map Ok first) (map Ok others) behind)
     ∙ ap (λ (zs : List (Result ℤ BadWordAt)). zs ++ behind) (sym joined))
@@ -196,12 +191,7 @@ is_code codes k = codes / 2 ^ (30 - 2 * (k % 16)) % 4
 
 bytes_to : (p : List ℕ) (codes from to end : ℕ) → to ≤ (from / 16 + 1) * 16 → to ≤ end → IsAt p codes from end
     → ((k : ℕ) → from ≤ k → k < to → is_code codes k ≡ 1) → AreBytes p (from / 16) from (to - from)
-bytes_to p codes from to end h inside known run i less =
-    let at = known (omega arith) in
-    let data_place = at.0 in
-    let frame : (from + i) / 16 ≡ from / 16 = omega arith in
-    let place : (from + i) % 16 ≢ 0 = λ e. data_place (omega arith) in
-    (frame, place, rw (frame, ← at.1) (run (from + i) (omega arith) (omega arith)))
+bytes_to p codes from to end h inside known run i less = search (arith)
 
 run_from : (p : List ℕ) (from n : ℕ) → (0 < n → from % 16 ≢ 0)
     → byte_run (words_from p from n) ≡ run_in (from / 16) (words_from p from n)
@@ -239,7 +229,6 @@ pub taken : (p : List ℕ) (codes from to end : ℕ) → ((i : ℕ) → get_or p
     → ((k : ℕ) → from ≤ k → k < to → is_code codes k ≡ 1)
     → (to < (from / 16 + 1) * 16 → to < end → is_code codes to ≢ 1) → Taken p from to end
 taken p codes from to end octets room low high inside known run stop =
-    let m : ℕ = to - from in
     let bytes = bytes_to p codes from to end high inside known run in
     let stopped = stops_at p codes from to end low high inside known stop in
     let whole : end - from ≡ (to - from) + (end - to) = omega (arith, low, inside) in
@@ -247,13 +236,10 @@ taken p codes from to end octets room low high inside known run stop =
     let size : 4 * to - 4 * from ≡ 4 * (to - from) = omega arith in
     let fits : 4 * (from + (to - from)) ≤ length p = omega (arith, low, inside, room) in
     let is : byte_run (words_from p from (end - from)) ≡ words_from p from (to - from) =
-    run_from p from (end - from) (λ some. (known (omega (arith, some))).0)
-    ∙ ap (λ (n : ℕ). run_in (from / 16) (words_from p from n)) whole
-    ∙ run_words p (from / 16) (to - from) from (end - to) bytes (rw behind stopped) in
+    search (arith, nat_tests, run_from, run_words) in
     let long : 4 * (to - from) ≤ length (drop (4 * from) p) = rw length-drop (omega (arith, fits, low)) in
     record {
-      cut = rw is (ap (λ (n : ℕ). words_from p from n) whole ∙ words_cut p from (to - from) (end - to)
-          ∙ ap (λ (k : ℕ). words_from p from (to - from) ++ words_from p k (end - to)) behind);
+      cut = search (arith, nat_tests, words_cut);
       spelled = λ s. rw (is, size) (run_spelled s p octets (from / 16) (to - from) from bytes fits);
       items = λ s. rw (size) (ap (λ (n : ℕ). items_of s (words_from p from n)) whole
           ∙ run_items s p octets (from / 16) (to - from) from (end - to) bytes fits

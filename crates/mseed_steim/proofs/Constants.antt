@@ -1,5 +1,6 @@
 -- The ends of a record's reading, none of which is read.
-use Rattle.std.proofs.Common.{◌≡◌, ℕ, ◌-◌, ◌<◌, List, [], ◌∷◌, length, ap, sym, subst, ◌∙◌, arith, ℤ, slice_get, Some}
+use Rattle.std.proofs.Common.{◌≡◌, ℕ, ◌-◌, ◌<◌, List, length, ap, sym, subst, ◌∙◌, arith, ℤ, slice_get, Some}
+use Rattle.std.proofs.lemmas.Bool.Decides.{nat_tests}
 use Rattle.std.proofs.Common.{IfSome, None, Option}
 use Rattle.mseed_record.specs.View.{View, payload_of}
 use Rattle.mseed_steim.specs.declared.scheme.Scheme.{Scheme}
@@ -19,9 +20,7 @@ pub one_ends : (v : View) (ends : Ends) → (s : List ℤ) × (IsWhole v s × Ar
 one_ends v ends h s whole = subst (λ (xs : List ℤ). AreEnds ends xs) (reading_one v h.0 s h.1.0.0 whole.0) h.1.1
 
 first_is : (first : ℤ) (ds s : List ℤ) → 0 < length s → StartsAndAdds first ds s → slice_get s 0 ≡ Some first
-first_is first ds [] some h = absurd (omega (arith, some))
-first_is first [] (x ∷ xs) some h = absurd h
-first_is first (d ∷ ds) (x ∷ xs) some h = ap (λ (z : ℤ). Some z) h.0
+first_is first ds s some h = search (arith)
 
 -- those of Steim frames are their constants
 pub constants_end : (v : View) (scheme : Scheme) (p : List ℕ) (ends : Ends) → HoldsIn v (Frames scheme) p
@@ -30,9 +29,7 @@ constants_end v scheme p ends held first last s whole =
     let read = same_payload v (Frames scheme) s held.1 whole.0 in
     let end : slice_get s (length s - 1) ≡ Some (last_constant (payload_of v)) = whole.1 (Frames scheme) held.1 in
     let same : p ≡ payload_of v = held.4 in
-    let begin : slice_get s 0 ≡ Some (first_constant (payload_of v)) =
-    first_is (first_constant (payload_of v)) read.1.differences s (omega (arith, read.1.count, whole.0.some))
-    read.1.sums in (
+    let begin : slice_get s 0 ≡ Some (first_constant (payload_of v)) = search (arith, nat_tests, first_is) in (
       begin ∙ ap (λ (q : List ℕ). Some (first_constant q)) (sym same) ∙ ap (λ (z : ℤ). Some z) (sym first),
       end
           ∙ ap (λ (q : List ℕ). Some (last_constant q)) (sym same) ∙ ap (λ (z : ℤ). Some z) (sym last),

@@ -1,10 +1,11 @@
 -- A walk that goes on, step by step.
-use Rattle.std.proofs.Common.{◌≡◌, ◌⊎◌, ⊎_elim, ℕ, suc, ◌+◌, ◌-◌, ◌<◌, ◌≤◌, ◌^◌, List, [], ◌∷◌, ◌++◌, map}
+use Rattle.std.proofs.Common.{◌≡◌, ◌⊎◌, ℕ, suc, ◌+◌, ◌-◌, ◌<◌, ◌≤◌, ◌^◌, List, [], ◌∷◌, ◌++◌, map}
+use Rattle.std.proofs.lemmas.Bool.Decides.{nat_tests}
 use Rattle.std.proofs.Common.{take, drop, length}
 use Rattle.std.proofs.Common.{ℤ, pos, ◌+ℤ◌, nat_abs, Option, Some, None, Result, Ok, Err, arith, refl, ap, sym, subst}
-use Rattle.std.proofs.Common.{◌∙◌, inl, inr, append_assoc}
+use Rattle.std.proofs.Common.{◌∙◌, append_assoc}
 use Rattle.std.specs.Prelude.{IfOk, IfSome, OnOk, min}
-use Rattle.std.proofs.lemmas.Bool.{cases_eq, cases_lt, eq-eqb, ne_eqb}
+use Rattle.std.proofs.lemmas.Bool.{eq-eqb}
 use Rattle.std.proofs.lemmas.List.{map-append, take-append-drop, take-take}
 use Rattle.mseed_steim.specs.declared.differences.BadWordAt.{BadWordAt}
 use Rattle.mseed_steim.specs.declared.fault.ReadFault.{ReadFault}
@@ -46,9 +47,7 @@ walks_over keep n s before after items others behind r e w =
 -- no more is needed, whatever stands after
 kept_done : (keep : Option (ℤ → ℤ → ℤ)) (n : ℕ) (s : Sum) (out : List ℤ) (items later : List (Result ℤ BadWordAt))
     → s.met ≡ n → kept_in keep n s out items ≡ kept_in keep n s out later
-kept_done None n s out items later e = refl
-kept_done (Some keep) n s out items later e =
-    ap (λ (xs : List ℤ). take s.met out ++ xs) (met_enough keep n s items e ∙ sym (met_enough keep n s later e))
+kept_done keep n s out items later e = search (arith, met_enough)
 
 pub continues_done : {keep : Option (ℤ → ℤ → ℤ)} {n : ℕ} {s next : Sum} {before after : List ℤ}
     {items behind : List (Result ℤ BadWordAt)} (later : List (Result ℤ BadWordAt))
@@ -73,10 +72,7 @@ on_any (Err fault) X x = tt
 
 pub all_ends : (keep : Option (ℤ → ℤ → ℤ)) (n : ℕ) (s : Sum) (out : List ℤ) (r : Result Sum ReadFault)
     → length out ≡ places_for keep n → r ≡ fold n s [] → OnOk r (in_places keep out ≡ kept_in keep n s out [])
-all_ends keep n s out r places e = ⊎_elim
-    (λ (all : s.met ≡ n). on_any r _ (ends_kept keep n s out [] places all))
-    (λ (some : s.met ≡ n → ⊥). rw (e ∙ fold_short n s some) tt)
-    (cases_eq s.met n)
+all_ends keep n s out r places e = search (arith, ends_kept, fold_short, on_any)
 
 -- what is put in its places is kept
 pub puts_kept : (keep : Option (ℤ → ℤ → ℤ)) (n : ℕ) (s next : Sum) (before after : List ℤ)
@@ -84,12 +80,7 @@ pub puts_kept : (keep : Option (ℤ → ℤ → ℤ)) (n : ℕ) (s next : Sum) (
     → ((k : ℤ → ℤ → ℤ) → next.met ≡ s.met + length (put k)) → Puts keep s.met put before after
     → ((k : ℤ → ℤ → ℤ) → met_in k n s items ≡ put k ++ met_in k n next behind)
     → kept_in keep n next after behind ≡ kept_in keep n s before items
-puts_kept None n s next before after put items behind count puts met = refl
-puts_kept (Some k) n s next before after put items behind count puts met =
-    ap (λ (m : ℕ). take m after ++ met_in k n next behind) (count k)
-    ∙ ap (λ (xs : List ℤ). xs ++ met_in k n next behind) puts
-    ∙ append_assoc (take s.met before) (put k) (met_in k n next behind)
-    ∙ ap (λ (xs : List ℤ). take s.met before ++ xs) (sym (met k))
+puts_kept keep n s next before after put items behind count puts met = search (arith, append_assoc)
 
 length-kept_along : (keep : ℤ → ℤ → ℤ) (m : ℕ) (l : ℤ) (ds : List ℤ) → length (kept_along keep m l ds) ≡ length ds
 length-kept_along keep m l [] = refl
@@ -103,9 +94,7 @@ pub continues_near : {keep : Option (ℤ → ℤ → ℤ)} {n : ℕ} {before aft
     → Continues keep n s before (map Ok ds ++ more) more after next
 continues_near {keep} {n} {before} {after} ds s next more counted room near met last puts places = record {
   folded = let far = goes_far n ds s more counted room near in rw (← met, ← last) at far;
-  kept = puts_kept keep n s next before after (λ k. kept_along k s.met s.last ds) (map Ok ds ++ more) more
-      (λ k. met ∙ ap (λ (i : ℕ). s.met + i) (sym (length-kept_along k s.met s.last ds))) puts
-      (λ k. let far = keeps_far k n ds s more counted room near in rw (← met, ← last) at far);
+  kept = search (arith, nat_tests, keeps_far, length-kept_along, puts_kept);
   met = omega (arith, met, room);
   places = places;
 }
@@ -116,11 +105,7 @@ first_counted m [] = tt
 first_counted m (d ∷ ds) = λ e. rw (eq-eqb m 0 e) refl
 
 pub first_span : (m : ℕ) (ds : List ℤ) → span (with_first m (pos 0) ds) ≤ span ds
-first_span m [] = omega arith
-first_span m (d ∷ ds) = ⊎_elim
-    (λ (e : m ≡ 0). rw (eq-eqb m 0 e) (omega arith))
-    (λ (e : m ≡ 0 → ⊥). rw (ne_eqb m 0 e) (omega arith))
-    (cases_eq m 0)
+first_span m xs = search (arith)
 
 pub length-with_first : (m : ℕ) (z : ℤ) (ds : List ℤ) → length (with_first m z ds) ≡ length ds
 length-with_first m z [] = refl
@@ -128,30 +113,16 @@ length-with_first m z (d ∷ ds) = refl
 
 fold_unused : (n : ℕ) (s : Sum) (z : ℤ) (ds : List ℤ) (more : List (Result ℤ BadWordAt)) → 0 < n
     → fold n s (map Ok ds ++ more) ≡ fold n s (map Ok (with_first s.met z ds) ++ more)
-fold_unused n s z [] more some = refl
-fold_unused n s z (d ∷ ds) more some = ⊎_elim
-    (λ (e : s.met ≡ 0). let less : s.met < n = omega (arith, e, some) in
-    rw (eq-eqb s.met 0 e) (fold_first n s d (map Ok ds ++ more) less e
-    ∙ sym (fold_first n s z (map Ok ds ++ more) less e)))
-    (λ (e : s.met ≡ 0 → ⊥). rw (ne_eqb s.met 0 e) refl)
-    (cases_eq s.met 0)
+fold_unused n s z ds more some = search (arith, fold_first)
 
 met_unused : (keep : ℤ → ℤ → ℤ) (n : ℕ) (s : Sum) (z : ℤ) (ds : List ℤ) (more : List (Result ℤ BadWordAt)) → 0 < n
     → met_in keep n s (map Ok ds ++ more) ≡ met_in keep n s (map Ok (with_first s.met z ds) ++ more)
-met_unused keep n s z [] more some = refl
-met_unused keep n s z (d ∷ ds) more some = ⊎_elim
-    (λ (e : s.met ≡ 0). let less : s.met < n = omega (arith, e, some) in
-    rw (eq-eqb s.met 0 e) (met_first keep n s d (map Ok ds ++ more) less e
-    ∙ sym (met_first keep n s z (map Ok ds ++ more) less e)))
-    (λ (e : s.met ≡ 0 → ⊥). rw (ne_eqb s.met 0 e) refl)
-    (cases_eq s.met 0)
+met_unused keep n s z ds more some = search (arith, met_first)
 
 kept_unused : (keep : Option (ℤ → ℤ → ℤ)) (n : ℕ) (s : Sum) (z : ℤ) (out ds : List ℤ)
     (more : List (Result ℤ BadWordAt)) → 0 < n
     → kept_in keep n s out (map Ok ds ++ more) ≡ kept_in keep n s out (map Ok (with_first s.met z ds) ++ more)
-kept_unused None n s z out ds more some = refl
-kept_unused (Some keep) n s z out ds more some =
-    ap (λ (xs : List ℤ). take s.met out ++ xs) (met_unused keep n s z ds more some)
+kept_unused keep n s z out ds more some = search (arith, met_unused)
 
 pub continues_unused : {keep : Option (ℤ → ℤ → ℤ)} {n : ℕ} {s next : Sum} {before after : List ℤ} (z : ℤ)
     (ds : List ℤ) (more : List (Result ℤ BadWordAt)) → 0 < n
@@ -168,9 +139,7 @@ continues_unused {keep} {n} {s} {before = before} z ds more some c = record {
 pub nothing_kept : (keep : Option (ℤ → ℤ → ℤ)) (task : Task) (p : List ℕ) (i : ℕ) (s : Sum) (out : List ℤ)
     (o : Option Taken) → keep ≡ None → length out ≡ places_for keep task.samples
     → IfSome o (Takes None task p i s [] []) → IfSome o (Takes keep task p i s out out)
-nothing_kept None task p i s [] o e places takes = takes
-nothing_kept None task p i s (x ∷ out) o e places takes = absurd (omega (arith, places))
-nothing_kept (Some keep) task p i s out o e places takes = cc
+nothing_kept keep task p i s out o e places takes = search (arith)
 
 -- Differences of which the first alone are needed: those after them aren't looked at.
 parts : (k count : ℕ) (ds : List ℤ) → k ≤ count → take count ds ≡ take k ds ++ drop k (take count ds)
@@ -187,10 +156,7 @@ cut k count ds rest less =
 
 -- all are taken, or as many as are needed
 all_or_enough : (count left k : ℕ) → k ≡ min count left → (k ≡ count) ⊎ ((k ≡ left) × (k ≤ count))
-all_or_enough count left k e = ⊎_elim
-    (λ (more : left < count). inr (omega (arith, e, more), omega (arith, e, more)))
-    (λ (few : count ≤ left). inl (omega (arith, e, few)))
-    (cases_lt left count)
+all_or_enough count left k e = search (arith)
 
 enough : (keep : Option (ℤ → ℤ → ℤ)) (n : ℕ) (s : Sum) (ds : List ℤ) (count k : ℕ) (before after : List ℤ)
     (rest : List (Result ℤ BadWordAt)) (r : Result Sum ReadFault) → k ≤ count → s.met + k ≡ n
@@ -210,12 +176,7 @@ pub walks_needed : (keep : Option (ℤ → ℤ → ℤ)) (n : ℕ) (s : Sum) (ds
     (rest : List (Result ℤ BadWordAt)) (r : Result Sum ReadFault) → s.met ≤ n → k ≡ min count (n - s.met)
     → ((more : List (Result ℤ BadWordAt)) → Walks keep n s before (map Ok (take k ds) ++ more) more after r)
     → IfOk r (λ next. next.met ≡ s.met + k) → Walks keep n s before (map Ok (take count ds) ++ rest) rest after r
-walks_needed keep n s ds count k before after rest r inside e walks met = ⊎_elim
-    (λ (all : k ≡ count). subst (λ (m : ℕ). Walks keep n s before (map Ok (take m ds) ++ rest) rest after r) all
-    (walks rest))
-    (λ (some : (k ≡ n - s.met) × (k ≤ count)).
-    enough keep n s ds count k before after rest r some.1 (omega (arith, inside, some.0)) walks met)
-    (all_or_enough count (n - s.met) k e)
+walks_needed keep n s ds count k before after rest r inside e walks met = search (arith, all_or_enough, enough)
 
 -- the first of them go no further than all do
 pub span_needed : (ds : List ℤ) (k count : ℕ) → k ≤ count → span (take k ds) ≤ span (take count ds)

@@ -1,5 +1,6 @@
 -- The ends of samples.
 use Rattle.std.proofs.Common.{◌≡◌, ◌≢◌, ℕ, ◌-◌, ◌<◌, List, [], ◌∷◌, ◌++◌, length, get_or, ℤ, arith, refl, ap, sym, ◌∙◌}
+use Rattle.std.proofs.lemmas.Bool.Decides.{nat_tests}
 use Rattle.std.proofs.Common.{subst, slice_get, Option, Some, None, Result, Ok, Err, All, IfOk, IfErr, OnOk, IsOkAnd}
 use Rattle.mseed_time.specs.declared.order.Order.TheVariants.{Big}
 use Rattle.mseed_steim.specs.declared.scheme.Scheme.{Scheme}
@@ -108,9 +109,8 @@ pub walk_kept : (keep : Option (ℤ → ℤ → ℤ)) (s : Scheme) (p : List ℕ
     → IsKept keep (Frames s) Big p n out r
 walk_kept keep s p n constants (Ok sum) out before (Ok ends) h octets e kept first last same met fault =
     let m = walked s p n sum h octets e in
-    let all = met_in the_sample n (record { met = 0; last = first_constant p }) (items_of s (data_words p)) in
     let found : slice_get (first_constant p ∷ m.others) (length (first_constant p ∷ m.others) - 1)
-    ≡ Some (last_constant p) = get_end (first_constant p) m.others ∙ ap (λ (z : ℤ). Some z) (sym m.ends ∙ met) in
+    ≡ Some (last_constant p) = search (arith, nat_tests, get_end) in
     let starts = ap (λ (x : Ends). x.first) same ∙ first in
     let ends_on = ap (λ (x : Ends). x.last) same ∙ last in (
       first_constant p ∷ m.others,

@@ -1,9 +1,8 @@
 -- Differences that are added up at once, while the limits of 32 bits are out of reach.
 use Rattle.std.proofs.Common.{◌≡◌, ℕ, ◌+◌, ◌<◌, ◌≤◌, ◌^◌, List, [], ◌∷◌, ◌++◌, map, drop, get_or, length, ℤ, pos}
 use Rattle.std.proofs.Common.{negsuc, ◌+ℤ◌, nat_abs, w32, FitsSigned, arith, refl, ap, ◌∙◌, true, Ok, Result}
-use Rattle.std.proofs.Common.{⊎_elim}
 use Rattle.std.proofs.lemmas.Int.{ints}
-use Rattle.std.proofs.lemmas.Bool.{cases_eq, eq-eqb, lt-ltb, ne_eqb}
+use Rattle.std.proofs.lemmas.Bool.{lt-ltb, ne_eqb}
 use Rattle.mseed_steim.specs.declared.differences.BadWordAt.{BadWordAt}
 use Rattle.mseed_steim.specs.declared.sum.Sum.{Sum}
 use Rattle.mseed_steim.specs.private.Lanes.{total, span}
@@ -13,10 +12,7 @@ use Rattle.mseed_steim.proofs.Folds.{fold_add, fold_first}
 use Rattle.mseed_steim.proofs.Folded.{met_add, met_first, next_cut}
 
 pub abs_sum : (a b : ℤ) → nat_abs (a +ℤ b) ≤ nat_abs a + nat_abs b
-abs_sum (pos a) (pos b) = omega arith
-abs_sum (pos a) (negsuc b) = omega (arith, ints)
-abs_sum (negsuc a) (pos b) = omega (arith, ints)
-abs_sum (negsuc a) (negsuc b) = omega arith
+abs_sum a b = search (arith)
 
 pub near_fits : (z : ℤ) → nat_abs z < 2 ^ 31 → fits z ≡ true
 near_fits (pos n) h = lt-ltb n (2 ^ 31) (omega (arith, h))
@@ -36,21 +32,13 @@ same_last m l d counts e = let none : d ≡ pos 0 = counts e in omega (arith, in
 
 fold_near : (n : ℕ) (s : Sum) (d : ℤ) (more : List (Result ℤ BadWordAt)) → s.met < n → (s.met ≡ 0 → d ≡ pos 0)
     → fits (s.last +ℤ d) ≡ true → fold n s (Ok d ∷ more) ≡ fold n (one_more s (s.last +ℤ d)) more
-fold_near n s d more less counts fit = ⊎_elim
-    (λ (e : s.met ≡ 0). fold_first n s d more less e
-    ∙ ap (λ (z : ℤ). fold n (one_more s z) more) (same_last s.met s.last d counts e))
-    (λ (e : s.met ≡ 0 → ⊥). fold_add n s d more less (omega (arith, e)) fit)
-    (cases_eq s.met 0)
+fold_near n s d more less counts fit = search (arith, fold_add, fold_first, same_last)
 
 met_near : (keep : ℤ → ℤ → ℤ) (n : ℕ) (s : Sum) (d : ℤ) (more : List (Result ℤ BadWordAt)) → s.met < n
     → (s.met ≡ 0 → d ≡ pos 0) → fits (s.last +ℤ d) ≡ true
     → met_in keep n s (Ok d ∷ more)
     ≡ kept_at keep s.met d (s.last +ℤ d) ∷ met_in keep n (one_more s (s.last +ℤ d)) more
-met_near keep n s d more less counts fit = ⊎_elim
-    (λ (e : s.met ≡ 0). rw (eq-eqb s.met 0 e) (met_first keep n s d more less e
-    ∙ ap (λ (z : ℤ). z ∷ met_in keep n (one_more s z) more) (same_last s.met s.last d counts e)))
-    (λ (e : s.met ≡ 0 → ⊥). rw (ne_eqb s.met 0 e) (met_add keep n s d more less (omega (arith, e)) fit))
-    (cases_eq s.met 0)
+met_near keep n s d more less counts fit = search (arith, met_add, met_first, same_last)
 
 -- while the limits of 32 bits are out of reach, a walk goes on from the sum of the differences
 pub goes_far : (n : ℕ) (ds : List ℤ) (s : Sum) (more : List (Result ℤ BadWordAt)) → IsCounted s.met ds
@@ -90,10 +78,7 @@ keeps_far keep n (d ∷ ds) s more counted room far =
 
 -- what is kept of some differences, where that is each sample, and where it is each difference
 sample_kept : (m : ℕ) (d s : ℤ) → kept_at the_sample m d s ≡ s
-sample_kept m d s = ⊎_elim
-    (λ (e : m ≡ 0). rw (eq-eqb m 0 e) refl)
-    (λ (e : m ≡ 0 → ⊥). rw (ne_eqb m 0 e) refl)
-    (cases_eq m 0)
+sample_kept m d s = search (arith)
 
 pub sums_kept : (m : ℕ) (l : ℤ) (ds : List ℤ) → kept_along the_sample m l ds ≡ sums l ds
 sums_kept m l [] = refl
@@ -108,13 +93,7 @@ steps_later m l (d ∷ ds) some =
     (ap (λ (zs : List ℤ). d ∷ zs) (steps_later (m + 1) (l +ℤ d) ds (omega arith)))
 
 pub steps_kept : (m : ℕ) (l : ℤ) (ds : List ℤ) → IsCounted m ds → kept_along the_difference m l ds ≡ with_first m l ds
-steps_kept m l [] counted = refl
-steps_kept m l (d ∷ ds) counted = ⊎_elim
-    (λ (e : m ≡ 0). rw (eq-eqb m 0 e, ← same_last m l d counted e)
-    (ap (λ (zs : List ℤ). l ∷ zs) (steps_later (m + 1) l ds (omega arith))))
-    (λ (e : m ≡ 0 → ⊥). rw (ne_eqb m 0 e)
-    (ap (λ (zs : List ℤ). d ∷ zs) (steps_later (m + 1) (l +ℤ d) ds (omega arith))))
-    (cases_eq m 0)
+steps_kept m l ds counted = search (arith, same_last, steps_later)
 
 pub near_signed : (z : ℤ) → nat_abs z < 2 ^ 31 → FitsSigned w32 z
 near_signed (pos n) h = record { sfits = omega (arith, h) }

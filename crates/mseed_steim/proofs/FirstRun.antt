@@ -1,5 +1,6 @@
 -- Frames at once: what their words have, but for the first sample's difference.
 use Rattle.std.proofs.Common.{◌≡◌, ℕ, ◌+◌, ◌-◌, ◌*◌, ◌<◌, ◌≤◌, List, [], ◌∷◌, ◌++◌, map, length, ℤ, ◌-ℤ◌, pos}
+use Rattle.std.proofs.lemmas.Bool.Decides.{nat_tests}
 use Rattle.std.proofs.Common.{take, drop, eqb, refl, sym, ap, ◌∙◌, subst, arith, Ok, Result, Option, Some, None}
 use Rattle.std.proofs.Common.{IfSome, ⊎_elim}
 use Rattle.std.proofs.Common.{◌+ℤ◌, ◌/◌, ◌^◌, nat_abs, w32, FitsSigned}
@@ -7,7 +8,6 @@ use Rattle.std.specs.Bool.{OnTrue}
 use Rattle.std.specs.Prelude.{min}
 use Rattle.std.specs.Simd.{first_chunks}
 use Rattle.std.proofs.lemmas.Bool.{cases_eq, eq-eqb, ne_eqb}
-use Rattle.std.proofs.lemmas.Int.{ints}
 use Rattle.std.proofs.lemmas.List.{get_or-drop, get_or-take}
 use Rattle.mseed_steim.specs.declared.scheme.Scheme.{Scheme}
 use Rattle.mseed_steim.specs.declared.differences.BadWordAt.{BadWordAt}
@@ -42,14 +42,10 @@ found : (s : Scheme) (p : List ℕ) (n count reach : ℕ) (by d : ℤ) (w : Data
 found s p n count reach by d w cut first some moves =
     let all : 13 + (16 * n - 16) ≡ 16 * n - 3 = omega (arith, some) in
     let behind : List DataWord = words_from p 4 12 ++ words_from p 16 (16 * n - 16) in
-    let words : words_from p 3 (16 * n - 3) ≡ w ∷ behind =
-    (rw all at (words_cut p 3 13 (16 * n - 16)))
-    ∙ ap (λ (ws : List DataWord). ws ++ words_from p 16 (16 * n - 16)) cut in
+    let words : words_from p 3 (16 * n - 3) ≡ w ∷ behind = search (arith, nat_tests, words_cut) in
     let one = first (behind ++ []) in
     let none = no_items s [] refl in
-    let begins : map Ok moves.0 ++ [] ≡ Ok d ∷ one.0 =
-    sym (moves.1.1 [] ∙ ap (λ (xs : List (Result ℤ BadWordAt)). map Ok moves.0 ++ xs) none)
-    ∙ ap (λ (ws : List DataWord). items_of s (ws ++ [])) words ∙ one.1 in
+    let begins : map Ok moves.0 ++ [] ≡ Ok d ∷ one.0 = search (arith, nat_tests) in
     let es = begins_with moves.0 d one.0 begins in (
       es.0,
       (
@@ -60,11 +56,7 @@ found s p n count reach by d w cut first some moves =
 
 -- the first of these differences counts for nothing
 others : (c reach : ℕ) (b d : ℤ) (es : List ℤ) → Moves c b reach (d ∷ es) → Moves c (b -ℤ d) reach (pos 0 ∷ es)
-others c reach b d es m = record {
-  count_is = m.count_is;
-  by_is = omega (arith, ints, m.by_is);
-  near = omega (arith, m.near);
-}
+others c reach b d es m = search (arith)
 
 found_one : (s : Scheme) (p : List ℕ) (n i : ℕ) (sum : Sum) (d : ℤ) (w : DataWord) → i ≡ 0 → sum.met ≡ 0 → 0 < n
     → words_from p 3 13 ≡ w ∷ words_from p 4 12
@@ -99,16 +91,7 @@ found_run s p n i sum w (Some d) e none some cut first = found_one s p n i sum d
 
 -- after the first sample each difference counts
 pub moved_run : (s : Scheme) (p : List ℕ) (n i : ℕ) (sum : Sum) → 0 < sum.met → AddsRun s p n i sum (pos 0)
-moved_run s p n i sum some k count reach by more inside moves =
-    let same : by -ℤ pos 0 ≡ by = omega (arith, ints) in (
-      moves.0,
-      (
-        rw same moves.1.0,
-        counted_later sum.met moves.0 some,
-        λ later. ap (λ (ws : List DataWord). fold n sum (items_of s ws)) (frames_cut p sum.met later i k more inside)
-            ∙ ap (λ (items : List (Result ℤ BadWordAt)). fold n sum items) (moves.1.1 (left_from p later (i + k))),
-      ),
-    )
+moved_run s p n i sum some k count reach by more inside moves = search (arith, counted_later, frames_cut)
 
 -- what a run adds up, while the limits of 32 bits are out of its reach
 pub record RunAdds (s : Scheme) (p : List ℕ) (n i k count : ℕ) (by : ℤ) (sum : Sum) : Type 0 where
@@ -130,18 +113,12 @@ run_adds s p n i k count reach by unused sum adds some inside moves room near =
     record {
       fits = near_signed (by -ℤ unused) (omega (arith, less, near));
       near = omega (arith, less, near);
-      folded = λ later. found.1.2 later
-          ∙ (rw (m.count_is, m.by_is) at (goes_far n ds sum (items_of s (left_from p later (i + k))) found.1.1
-          (omega (arith, m.count_is, room)) (omega (arith, m.near, near))));
+      folded = search (arith, nat_tests, found, goes_far);
     }
 
 -- frames from one on are frames of the payload
 frames_from : (n k m : ℕ) (p : List ℕ) → k + m ≤ n → AreFrames (take m (drop k (first_chunks 64 n p))) p k
-frames_from n k m p inside i less =
-    let most = take_most m (drop k (first_chunks 64 n p)) in
-    let few : i < m = omega (arith, less, most) in
-    get_or-take m (drop k (first_chunks 64 n p)) i [] few ∙ get_or-drop k (first_chunks 64 n p) i []
-    ∙ frame_at n p (k + i) (omega (arith, few, inside))
+frames_from n k m p inside i less = search (arith, frame_at, get_or-drop, get_or-take, take_most)
 
 -- what a run adds up of the frames from one on, as many of them as are taken at once
 pub taken_run : {s : Scheme} {begin : List ℕ} {frames : List (List ℕ)} {m most : ℕ} {run : Run}
@@ -171,8 +148,7 @@ one_item s w width bits count e one ws =
     let all : count - 0 ≡ count = omega arith in
     let last : count - 1 - 0 ≡ 0 = omega (arith, one) in
     let none = digits_over width bits count (0 + 1) (omega (arith, one)) in
-    let step : digits width bits count ≡ digit_at width bits 0 ∷ [] =
-    rw (all, last, none) at (digits_step width bits count 0 some) in
+    let step : digits width bits count ≡ digit_at width bits 0 ∷ [] = search (arith, nat_tests, digits_step) in
     items_group s (w ∷ ws) ws w (digits width bits count) refl e
     ∙ ap (λ (ds : List ℤ). map Ok ds ++ items_of s ws) step
 

@@ -4,7 +4,7 @@ use Rattle.std.proofs.Math.ListN.{set}
 use Rattle.std.proofs.Common.{take, drop, get_or, append_assoc, append-nil, ◌≡◌, ℕ, ◌+◌, ◌<◌, ◌≤◌, ◌^◌, List, [], ◌∷◌}
 use Rattle.std.proofs.Common.{◌++◌, map, length, ℤ, pos, negsuc, ◌+ℤ◌, ◌-ℤ◌, arith, refl, ap, sym, ◌∙◌, subst, false}
 use Rattle.std.proofs.Common.{true}
-use Rattle.std.proofs.Common.{Option, Some, None, Result, Ok, Err, All, ⊎_elim, suc}
+use Rattle.std.proofs.Common.{Option, Some, None, Result, Ok, Err, All, ⊎_elim}
 use Rattle.std.proofs.lemmas.Int.{ints}
 use Rattle.std.proofs.lemmas.Bool.{eq-eqb, cases_lt}
 use Rattle.std.proofs.lemmas.Bool.Decides.{nat_tests}
@@ -266,9 +266,7 @@ lack_none n m (d ∷ ds) more h e = ⊎_elim
 
 -- the next of some differences, and those after it
 pub next_cut : (ds : List ℤ) (i : ℕ) (z : ℤ) → i < length ds → drop i ds ≡ get_or ds i z ∷ drop (i + 1) ds
-next_cut ds i z h =
-    let next : suc i ≡ i + 1 = omega arith in
-    drop-cons ds i z h ∙ ap (λ (k : ℕ). get_or ds i z ∷ drop k ds) next
+next_cut ds i z h = search (arith, drop-cons)
 
 pub drop_step : (ds : List ℤ) (i : ℕ) (z : ℤ) (more : List (Result ℤ BadWordAt)) → i < length ds
     → map Ok (drop i ds) ++ more ≡ Ok (get_or ds i z) ∷ (map Ok (drop (i + 1) ds) ++ more)
@@ -277,14 +275,9 @@ drop_step ds i z more h = ap (λ (xs : List ℤ). map Ok xs ++ more) (next_cut d
 -- a sample put in its place
 pub take_put : (out : List ℤ) (i k : ℕ) (z : ℤ) (xs : List ℤ) → i < length out → k ≡ i + 1
     → take k (set out i z) ++ xs ≡ take i out ++ z ∷ xs
-take_put out i k z xs h e =
-    let next : k ≡ suc i = omega arith in
-    ap (λ (m : ℕ). take m (set out i z) ++ xs) next ∙ ap (λ (ys : List ℤ). ys ++ xs) (take-suc-set out i z h)
-    ∙ append_assoc (take i out) (z ∷ []) xs
+take_put out i k z xs h e = search (arith, append_assoc, set, take-suc-set)
 
 -- all places are filled
 pub all_kept : (keep : ℤ → ℤ → ℤ) (n : ℕ) (s : Sum) (out : List ℤ) (items : List (Result ℤ BadWordAt))
     → length out ≡ n → s.met ≡ n → out ≡ take s.met out ++ met_in keep n s items
-all_kept keep n s out items room e =
-    let whole : take s.met out ≡ out = ap (λ (k : ℕ). take k out) (e ∙ sym room) ∙ take-length out in
-    sym (ap (λ (xs : List ℤ). take s.met out ++ xs) (met_enough keep n s items e) ∙ append-nil (take s.met out) ∙ whole)
+all_kept keep n s out items room e = search (arith, append-nil, met_enough, take-length)

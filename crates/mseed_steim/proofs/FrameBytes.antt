@@ -1,30 +1,15 @@
 -- What a byte's parts count for.
-use Rattle.std.proofs.Common.{◌≡◌, ℕ, zero, suc, ◌+◌, ◌-◌, ◌*◌, ◌/◌, ◌%◌, ◌^◌, ◌<◌, ◌≤◌, Bool, true, ◌&&◌, eqb, T}
-use Rattle.std.proofs.Common.{ap, subst, ◌∙◌, inl, inr, arith, eqb→eq, ⊎_elim, pos, ◌+ℤ◌}
+use Rattle.std.proofs.Common.{◌≡◌, ℕ, zero, suc, ◌+◌, ◌-◌, ◌*◌, ◌/◌, ◌%◌, ◌^◌, ◌<◌, ◌≤◌, Bool, ◌&&◌, eqb, T}
+use Rattle.std.proofs.lemmas.Bool.Decides.{nat_tests}
+use Rattle.std.proofs.Common.{refl, List, get_or, ap, ◌∙◌, arith, eqb→eq, ⊎_elim, pos, ◌+ℤ◌}
 use Rattle.std.proofs.lemmas.Int.{ints}
 use Rattle.std.proofs.lemmas.Bool.{cases_lt, lt-ltb, le-ltb}
 use Rattle.std.proofs.lemmas.Nat.{pow_pos}
 use Rattle.std.proofs.Math.Nat.{add-mod_right, mod-eq_of_lt, mod-lt}
 use Rattle.mseed_steim.specs.private.Digits.{signed, digits}
 use Rattle.mseed_steim.specs.private.Lanes.{total, word_of}
+use Rattle.mseed_steim.proofs.Below.{all_below, every_below}
 use Rattle.mseed_steim.proofs.Words.{twice_half}
-use mir.ValLaws.{and_both}
-
-abbrev pub all_below : (ℕ → Bool) → ℕ → Bool
-all_below p zero = true
-all_below p (suc n) = p n && all_below p n
-
-every_below : (p : ℕ → Bool) (n : ℕ) → T (all_below p n) → (i : ℕ) → i < n → T (p i)
-every_below p zero h i l = absurd (omega arith)
-every_below p (suc n) h i l =
-    elim (cases_lt i n) [
-      | inl less ↦ every_below p n (and_both (p n) (all_below p n) h).1 i less
-      | inr more ↦ let e : n ≡ i = omega arith in subst (λ x. T (p x)) e (and_both (p n) (all_below p n) h).0
-    ]
-
--- two numbers of a byte are one, if they are for each
-pub same : (f g : ℕ → ℕ) → T (all_below (λ x. eqb (f x) (g x)) 256) → (x : ℕ) → x < 256 → f x ≡ g x
-same f g h x lt = eqb→eq (f x) (g x) (every_below (λ x. eqb (f x) (g x)) 256 h x lt)
 
 -- a number of four bytes that is a sum of numbers of one byte each
 abbrev pub Separate : (ℕ → ℕ → ℕ → ℕ → ℕ) → Type 0
@@ -36,11 +21,7 @@ agree_at f g x = eqb (f x 0 0 0) (g x 0 0 0)
     && (eqb (f 0 x 0 0) (g 0 x 0 0) && (eqb (f 0 0 x 0) (g 0 0 x 0) && eqb (f 0 0 0 x) (g 0 0 0 x)))
 
 all_four : (p q r s : Bool) → T (p && (q && (r && s))) → T p × T q × T r × T s
-all_four p q r s h =
-    let one = and_both p (q && (r && s)) h in
-    let two = and_both q (r && s) one.1 in
-    let three = and_both r s two.1 in
-    (one.0, two.0, three.0, three.1)
+all_four p q r s h = search (arith)
 
 -- so they are one
 pub by_bytes : (f g : ℕ → ℕ → ℕ → ℕ → ℕ) → Separate f → Separate g → T (all_below (agree_at f g) 256)
@@ -72,8 +53,7 @@ raised w x some less = ⊎_elim
     (λ (high : 2 ^ (w - 1) ≤ x).
     let down : x - 2 ^ (w - 1) < 2 ^ w = omega (arith, less) in
     let sum : x + 2 ^ (w - 1) ≡ x - 2 ^ (w - 1) + 2 ^ w = omega (arith, high, half) in
-    let value : (x + 2 ^ (w - 1)) % 2 ^ w ≡ x - 2 ^ (w - 1) = ap (λ (n : ℕ). n % 2 ^ w) sum
-    ∙ add-mod_right (x - 2 ^ (w - 1)) (2 ^ w) ∙ mod-eq_of_lt down in
+    let value : (x + 2 ^ (w - 1)) % 2 ^ w ≡ x - 2 ^ (w - 1) = search (arith, nat_tests, add-mod_right, mod-eq_of_lt) in
     rw (le-ltb x (2 ^ (w - 1)) high, value) (omega (arith, ints, less, half, high)))
     (cases_lt x (2 ^ (w - 1)))
   where
@@ -99,44 +79,25 @@ raised_total w word some (suc n) =
 -- 4 differences of 8 bits
 pub four_is : (a b c d : ℕ) → a < 256 → b < 256 → c < 256 → d < 256
     → raised_sum 8 (word_of a b c d) 4 ≡ (a + 128) % 256 + (b + 128) % 256 + (c + 128) % 256 + (d + 128) % 256
-four_is a b c d A B C D =
-    let digit_3 : (word_of a b c d / 16777216 % 256 + 128) % 256 ≡ (a + 128) % 256 = omega arith in
-    let digit_2 : (word_of a b c d / 65536 % 256 + 128) % 256 ≡ (b + 128) % 256 = omega arith in
-    let digit_1 : (word_of a b c d / 256 % 256 + 128) % 256 ≡ (c + 128) % 256 = omega arith in
-    let digit_0 : (word_of a b c d / 1 % 256 + 128) % 256 ≡ (d + 128) % 256 = omega arith in
-    omega (arith, digit_3, digit_2, digit_1, digit_0)
+four_is a b c d is has same fits = search (arith)
 
 -- 2 differences of 15 bits
 pub two_is : (a b c d : ℕ) → a < 256 → b < 256 → c < 256 → d < 256
     → raised_sum 15 (word_of a b c d) 2 ≡ 512 * ((a + 32) % 64) + 2 * b + c / 128 + 256 * ((c + 64) % 128) + d
-two_is a b c d A B C D =
-    let digit_1 : (word_of a b c d / 32768 % 32768 + 16384) % 32768 ≡ 512 * ((a + 32) % 64) + 2 * b + c / 128 =
-    omega arith in
-    let digit_0 : (word_of a b c d / 1 % 32768 + 16384) % 32768 ≡ 256 * ((c + 64) % 128) + d = omega arith in
-    omega (arith, digit_1, digit_0)
+two_is a b c d is has same fits = search (arith)
 
 -- 3 differences of 10 bits
 pub three_is : (a b c d : ℕ) → a < 256 → b < 256 → c < 256 → d < 256
     → raised_sum 10 (word_of a b c d) 3 ≡ 16 * ((a + 32) % 64) + b / 16 + 64 * ((b + 8) % 16) + c / 4 + 256 * ((c + 2) %
     4)
     + d
-three_is a b c d A B C D =
-    let digit_2 : (word_of a b c d / 1048576 % 1024 + 512) % 1024 ≡ 16 * ((a + 32) % 64) + b / 16 = omega arith in
-    let digit_1 : (word_of a b c d / 1024 % 1024 + 512) % 1024 ≡ 64 * ((b + 8) % 16) + c / 4 = omega arith in
-    let digit_0 : (word_of a b c d / 1 % 1024 + 512) % 1024 ≡ 256 * ((c + 2) % 4) + d = omega arith in
-    omega (arith, digit_2, digit_1, digit_0)
+three_is a b c d is has same fits = search (arith)
 
 -- 5 differences of 6 bits
 pub five_is : (a b c d : ℕ) → a < 256 → b < 256 → c < 256 → d < 256
     → raised_sum 6 (word_of a b c d) 5 ≡ (a + 32) % 64 + (b / 4 + 32) % 64 + 16 * ((b + 2) % 4) + c / 16
     + 4 * ((c + 8) % 16) + d / 64 + (d + 32) % 64
-five_is a b c d A B C D =
-    let digit_4 : (word_of a b c d / 16777216 % 64 + 32) % 64 ≡ (a + 32) % 64 = omega arith in
-    let digit_3 : (word_of a b c d / 262144 % 64 + 32) % 64 ≡ (b / 4 + 32) % 64 = omega arith in
-    let digit_2 : (word_of a b c d / 4096 % 64 + 32) % 64 ≡ 16 * ((b + 2) % 4) + c / 16 = omega arith in
-    let digit_1 : (word_of a b c d / 64 % 64 + 32) % 64 ≡ 4 * ((c + 8) % 16) + d / 64 = omega arith in
-    let digit_0 : (word_of a b c d / 1 % 64 + 32) % 64 ≡ (d + 32) % 64 = omega arith in
-    omega (arith, digit_4, digit_3, digit_2, digit_1, digit_0)
+five_is a b c d is has same fits = search (arith)
 
 -- 6 differences of 5 bits
 pub six_is : (a b c d : ℕ) → a < 256 → b < 256 → c < 256 → d < 256
@@ -156,20 +117,43 @@ pub seven_is : (a b c d : ℕ) → a < 256 → b < 256 → c < 256 → d < 256
     → raised_sum 4 (word_of a b c d) 7 ≡ (a + 8) % 16 + (b / 16 + 8) % 16 + (b + 8) % 16 + (c / 16 + 8) % 16 + (c + 8) %
     16
     + (d / 16 + 8) % 16 + (d + 8) % 16
-seven_is a b c d A B C D =
-    let digit_6 : (word_of a b c d / 16777216 % 16 + 8) % 16 ≡ (a + 8) % 16 = omega arith in
-    let digit_5 : (word_of a b c d / 1048576 % 16 + 8) % 16 ≡ (b / 16 + 8) % 16 = omega arith in
-    let digit_4 : (word_of a b c d / 65536 % 16 + 8) % 16 ≡ (b + 8) % 16 = omega arith in
-    let digit_3 : (word_of a b c d / 4096 % 16 + 8) % 16 ≡ (c / 16 + 8) % 16 = omega arith in
-    let digit_2 : (word_of a b c d / 256 % 16 + 8) % 16 ≡ (c + 8) % 16 = omega arith in
-    let digit_1 : (word_of a b c d / 16 % 16 + 8) % 16 ≡ (d / 16 + 8) % 16 = omega arith in
-    let digit_0 : (word_of a b c d / 1 % 16 + 8) % 16 ≡ (d + 8) % 16 = omega arith in
-    omega (arith, digit_6, digit_5, digit_4, digit_3, digit_2, digit_1, digit_0)
+seven_is a b c d is has same fits = search (arith)
 
 -- 2 differences of 16 bits
 pub wide_is : (a b c d : ℕ) → a < 256 → b < 256 → c < 256 → d < 256
     → raised_sum 16 (word_of a b c d) 2 ≡ 256 * ((a + 128) % 256) + b + 256 * ((c + 128) % 256) + d
-wide_is a b c d A B C D =
-    let digit_1 : (word_of a b c d / 65536 % 65536 + 32768) % 65536 ≡ 256 * ((a + 128) % 256) + b = omega arith in
-    let digit_0 : (word_of a b c d / 1 % 65536 + 32768) % 65536 ≡ 256 * ((c + 128) % 256) + d = omega arith in
-    omega (arith, digit_1, digit_0)
+wide_is a b c d is has same fits = search (arith)
+
+-- By a row, what the parts of a word count for tells what its differences come to: it is 128-fold, and more by `least`.
+abbrev pub Tells : List ℕ → List ℕ → (ℕ → ℕ → ℕ → ℕ → ℕ → ℕ) → (ℕ → ℕ) → ℕ → Type 0
+Tells counts widths whole least row =
+    (a b c d : ℕ) → a < 256 → b < 256 → c < 256 → d < 256 → get_or counts row 0 < 128
+    → (whole row a b c d % 128 ≡ 0)
+    × (pos (whole row a b c d / 128)
+    ≡ total (digits (get_or widths row 0) (word_of a b c d) (get_or counts row 0)) +ℤ pos (least row))
+
+-- told by the digits of a word, each more by half its range: their sum comes byte by byte, as that of the parts does
+pub told : (counts widths : List ℕ) (whole : ℕ → ℕ → ℕ → ℕ → ℕ → ℕ) (least : ℕ → ℕ) (row : ℕ)
+    (sum : ℕ → ℕ → ℕ → ℕ → ℕ)
+    → ((a b c d : ℕ) → a < 256 → b < 256 → c < 256 → d < 256
+    → raised_sum (get_or widths row 0) (word_of a b c d) (get_or counts row 0) ≡ sum a b c d)
+    → least row ≡ get_or counts row 0 * 2 ^ (get_or widths row 0 - 1) → 0 < get_or widths row 0
+    → Separate (whole row) → Separate sum
+    → T (all_below (agree_at (whole row) (λ a b c d. 128 * sum a b c d)) 256) → Tells counts widths whole least row
+told counts widths whole least row sum is low some F G agree a b c d A B C D few =
+    let e : whole row a b c d ≡ 128 * sum a b c d =
+    by_bytes (whole row) (λ a b c d. 128 * sum a b c d) F (λ a b c d. omega (arith, G a b c d)) agree a b c d A B C D in
+    let f : whole row a b c d / 128 ≡ sum a b c d = ap (λ n. n / 128) e ∙ omega arith in (
+      ap (λ n. n % 128) e ∙ omega arith,
+      rw (f, ← is a b c d A B C D, low)
+          (raised_total (get_or widths row 0) (word_of a b c d) some (get_or counts row 0)),
+    )
+
+-- a row of no differences
+pub none_told : (counts widths : List ℕ) (whole : ℕ → ℕ → ℕ → ℕ → ℕ → ℕ) (least : ℕ → ℕ) (row : ℕ)
+    → Separate (whole row) → T (all_below (agree_at (whole row) (λ a b c d. 0)) 256)
+    → get_or counts row 0 ≡ 0 → least row ≡ 0 → Tells counts widths whole least row
+unfolding digits
+none_told counts widths whole least row F agree none low a b c d A B C D few =
+    let e = no_bytes (whole row) F agree a b c d A B C D in
+    (ap (λ n. n % 128) e, rw (e, none, low) refl)

@@ -1,9 +1,8 @@
 -- A frame's words in lanes are the payload's data words, and a row of lanes is the group of the word.
 use Rattle.std.proofs.Common.{◌≡◌, ℕ, ◌+◌, ◌-◌, ◌*◌, ◌/◌, ◌%◌, ◌^◌, ◌<◌, ◌≤◌, List, [], ◌∷◌, ◌++◌}
-use Rattle.std.proofs.Common.{take, drop, get_or, ℤ, ◌+ℤ◌, refl, sym, ◌∙◌}
-use Rattle.std.proofs.Common.{arith, inl, inr, Some}
+use Rattle.std.proofs.Common.{take, drop, get_or, ℤ, ◌+ℤ◌, refl}
+use Rattle.std.proofs.Common.{arith, Some}
 use Rattle.std.proofs.lemmas.Int.{ints}
-use Rattle.std.proofs.lemmas.Bool.{le-ltb, lt-ltb}
 use Rattle.std.proofs.lemmas.List.{get_or-take, get_or-drop}
 use Rattle.mseed_steim.specs.declared.scheme.Scheme.{Scheme}
 use Rattle.mseed_steim.specs.declared.scheme.Scheme.TheVariants.{One, Two}
@@ -46,18 +45,12 @@ byte_is p f k i n e h at = rw (e, at, get_or-take 64 (drop (64 * k) p) i 0 h) (g
 -- a word of it
 pub word_is : (p f : List ℕ) (k j : ℕ) → f ≡ take 64 (drop (64 * k) p) → j < 16
     → word_at p (16 * k + j) ≡ lanes_word_at f j
-word_is p f k j e h =
-    let at = λ (i : ℕ) (less : i < 4). get_or-drop (4 * (16 * k + j)) p i 0
-    ∙ sym (byte_is p f k (4 * j + i) (4 * (16 * k + j) + i) e (omega arith) (omega arith)) in
-    rw (at 0 (omega arith), at 1 (omega arith), at 2 (omega arith), at 3 (omega arith)) (omega arith)
+word_is p f k j e h = search (arith, byte_is, get_or-drop)
 
 -- its code
 code_is : (p f : List ℕ) (k j : ℕ) → f ≡ take 64 (drop (64 * k) p) → j < 16
     → code_at p (16 * k + j) ≡ lanes_word_at f 0 / 2 ^ (30 - 2 * j) % 4
-code_is p f k j e h =
-    let head : 16 * ((16 * k + j) / 16) ≡ 16 * k + 0 = omega arith in
-    let place : (16 * k + j) % 16 ≡ j = omega arith in
-    rw (head, place, word_is p f k 0 e (omega arith)) refl
+code_is p f k j e h = search (arith, word_is)
 
 -- ---- sums of lists
 pub total-append : (xs ys : List ℤ) → total (xs ++ ys) ≡ total xs +ℤ total ys
@@ -70,9 +63,7 @@ span-append (x ∷ xs) ys = let later = span-append xs ys in omega (arith, later
 
 -- ---- the words of a frame
 pub begins_low : (begin : List ℕ) (from : ℕ) → Begins begin from → (0 < from) × (from ≤ 16)
-begins_low begin from (inl h) = rw h.0 (omega arith, omega arith)
-begins_low begin from (inr (inl h)) = rw h.0 (omega arith, omega arith)
-begins_low begin from (inr (inr h)) = rw h.0 (omega arith, omega arith)
+begins_low begin from begins = search (arith)
 
 -- each word is read by its row
 pub record Reads (s : Scheme) (p f : List ℕ) (k from : ℕ) : Type 0 where
@@ -96,16 +87,4 @@ zeros Two = four (λ r. get_or all_counts_two r 0 ≡ 0) refl refl refl refl
 
 pub reads_all : (s : Scheme) (p f : List ℕ) (k from : ℕ) → f ≡ take 64 (drop (64 * k) p)
     → ((i : ℕ) → get_or f i 0 < 256) → Reads s p f k from
-reads_all s p f k from e h = record {
-  word = λ j less behind few.
-      let row : row_at f from j ≡ 4 * (lanes_word_at f 0 / 2 ^ (30 - 2 * j) % 4) + lanes_word_at f j / 2 ^ 30 =
-      rw (le-ltb j from behind) refl in
-      let small = word_small f j h in
-      rw (code_is p f k j e less, word_is p f k j e less, row)
-      (rows s (lanes_word_at f 0 / 2 ^ (30 - 2 * j) % 4) (lanes_word_at f j) (omega arith)
-      (lanes_word_at f j / 2 ^ 30) (omega (arith, small)) refl (rw row at few));
-  empty = λ j less.
-      let small = word_small f j h in
-      let row : row_at f from j ≡ lanes_word_at f j / 2 ^ 30 = rw (lt-ltb j from less) (omega arith) in
-      rw row (zeros s (lanes_word_at f j / 2 ^ 30) (omega (arith, small)));
-}
+reads_all s p f k from e h = search (arith, code_is, rows, word_is, word_small, zeros)

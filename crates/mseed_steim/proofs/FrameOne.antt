@@ -1,17 +1,15 @@
 -- Steim-1: what a word's parts add up to, by its row, and a frame's words.
-use Rattle.std.proofs.Common.{◌≡◌, ℕ, ◌+◌, ◌-◌, ◌*◌, ◌%◌, ◌<◌, List, [], ◌∷◌}
-use Rattle.std.proofs.Common.{T, ◌/◌, ◌^◌, map, get_or, refl, sym, arith, pos, ◌+ℤ◌}
+use Rattle.std.proofs.Common.{◌≡◌, ℕ, ◌+◌, ◌*◌, ◌%◌, ◌<◌, List, [], ◌∷◌}
+use Rattle.std.proofs.Common.{map, get_or, refl, sym, arith}
 use lib.Lanes.{sum_l}
 use Rattle.mseed_steim.specs.declared.scheme.Scheme.TheVariants.{One}
 use Rattle.std.specs.Prelude.{slice_index}
-use Rattle.mseed_steim.specs.private.Digits.{digits}
-use Rattle.mseed_steim.specs.private.Lanes.{total, word_of}
 use Rattle.mseed_steim.specs.private.Lanes.{words, sum_z, byte_at, row_at, low_one, high_one, counts_one, widths_one}
 use Rattle.mseed_steim.specs.private.Lanes.{moved, table_one, turned}
 use Rattle.mseed_steim.proofs.Below.{sixteen}
 use Rattle.mseed_steim.specs.private.Moves.{Raises}
 use Rattle.mseed_steim.proofs.FrameSums.{Reported, part_at, raises_by, row_small}
-use Rattle.mseed_steim.proofs.FrameBytes.{Separate, agree_at, all_below, by_bytes, no_bytes, raised_sum, raised_total}
+use Rattle.mseed_steim.proofs.FrameBytes.{Tells, none_told, told}
 use Rattle.mseed_steim.proofs.FrameBytes.{four_is, wide_is}
 
 -- a word's bytes by its row, with the bits of signs turned over, and what its parts then count for too much
@@ -30,48 +28,21 @@ whole_one row a b c d =
     low_one row (flipped row a) (flipped_low row b) (flipped row c) (flipped_low row d) + 256 * high_one row
     (flipped row a) (flipped_low row b) (flipped row c) (flipped_low row d)
 
-abbrev pub Tells_one : ℕ → ℕ → ℕ → ℕ → ℕ → Type 0
-Tells_one row a b c d =
-    get_or counts_one row 0 < 128
-    → (pos (whole_one row a b c d)
-    ≡ total (digits (get_or widths_one row 0) (word_of a b c d) (get_or counts_one row 0)) +ℤ pos (512 * least_one row))
+abbrev AllTell : ℕ → Type 0
+AllTell = Tells counts_one widths_one (λ row a b c d. 128 * whole_one row a b c d) (λ row. 512 * least_one row)
 
-abbrev AllTell_one : ℕ → Type 0
-AllTell_one row = (a b c d : ℕ) → a < 256 → b < 256 → c < 256 → d < 256 → Tells_one row a b c d
-
--- told by the digits of a word, each more by half its range
-told_one : (row : ℕ) (sum : ℕ → ℕ → ℕ → ℕ → ℕ)
-    → ((a b c d : ℕ) → a < 256 → b < 256 → c < 256 → d < 256
-    → raised_sum (get_or widths_one row 0) (word_of a b c d) (get_or counts_one row 0) ≡ sum a b c d)
-    → 512 * least_one row ≡ get_or counts_one row 0 * 2 ^ (get_or widths_one row 0 - 1) → 0 < get_or widths_one row 0
-    → Separate (whole_one row) → Separate sum
-    → T (all_below (agree_at (whole_one row) sum) 256) → AllTell_one row
-told_one row sum is low some F G agree a b c d A B C D few =
-    let e : whole_one row a b c d ≡ sum a b c d = by_bytes (whole_one row) sum F G agree a b c d A B C D in
-    rw (e, ← is a b c d A B C D, low)
-    (raised_total (get_or widths_one row 0) (word_of a b c d) some (get_or counts_one row 0))
-
-none_told : (row : ℕ) → Separate (whole_one row) → T (all_below (agree_at (whole_one row) (λ a b c d. 0)) 256)
-    → get_or counts_one row 0 ≡ 0 → least_one row ≡ 0 → AllTell_one row
-unfolding digits
-none_told row F agree none low a b c d A B C D few =
-    let e = no_bytes (whole_one row) F agree a b c d A B C D in
-    rw (e, none, low) refl
-
-all_tell : (row : ℕ) → row < 16 → AllTell_one row
+all_tell : (row : ℕ) → row < 16 → AllTell row
 unfolding low_one high_one flipped flipped_low least_one counts_one widths_one
 all_tell =
-    let none : AllTell_one 0 = none_told 0 (λ a b c d. omega arith) tt refl refl in
-    let bytes : AllTell_one 4 =
-    told_one 4 _ four_is refl (omega arith) (λ a b c d. omega arith) (λ a b c d. omega arith) tt in
-    let pairs : AllTell_one 8 =
-    told_one 8 _ wide_is refl (omega arith) (λ a b c d. omega arith) (λ a b c d. omega arith) tt in
-    sixteen AllTell_one none none none none bytes bytes bytes bytes pairs pairs pairs pairs
+    let by = told counts_one widths_one (λ row a b c d. 128 * whole_one row a b c d) (λ row. 512 * least_one row) in
+    let none : AllTell 0 =
+    none_told counts_one widths_one (λ row a b c d. 128 * whole_one row a b c d) (λ row. 512 * least_one row) 0
+    (λ a b c d. omega arith) tt refl refl in
+    let bytes = by 4 _ four_is refl (omega arith) (λ a b c d. omega arith) (λ a b c d. omega arith) tt in
+    let pairs = by 8 _ wide_is refl (omega arith) (λ a b c d. omega arith) (λ a b c d. omega arith) tt in
+    sixteen AllTell none none none none bytes bytes bytes bytes pairs pairs pairs pairs
     (λ a b c d A B C D few. absurd (omega (arith, few))) (λ a b c d A B C D few. absurd (omega (arith, few)))
     (λ a b c d A B C D few. absurd (omega (arith, few))) (λ a b c d A B C D few. absurd (omega (arith, few)))
-
-pub tells_one : (a b c d : ℕ) → a < 256 → b < 256 → c < 256 → d < 256 → (row : ℕ) → row < 16 → Tells_one row a b c d
-tells_one a b c d A B C D row less = all_tell row less a b c d A B C D
 
 -- what the lanes come to, modulo 2^32
 pub lanes_come_one : (low high least LO HI t8 p1 t9 m s : ℕ)
@@ -98,10 +69,8 @@ reported_one : (f : List ℕ) (from : ℕ) → ((k : ℕ) → get_or f k 0 < 256
     → Reported (λ w. get_or counts_one (row_at f from w) 0) (λ w. 128 * whole_at_one f from w)
     (λ w. 512 * least_one (row_at f from w)) (moved One f from) w
 reported_one f from h w few =
-    let told = tells_one (byte_at f 0 w) (byte_at f 1 w) (byte_at f 2 w) (byte_at f 3 w) (h (4 * w + 0)) (h (4 * w + 1))
-    (h (4 * w + 2)) (h (4 * w + 3)) (row_at f from w) (row_small f from h w) few in
-    let back : 128 * whole_at_one f from w / 128 ≡ whole_at_one f from w = omega arith in
-    (omega arith, rw back told)
+    all_tell (row_at f from w) (row_small f from h w) (byte_at f 0 w) (byte_at f 1 w) (byte_at f 2 w) (byte_at f 3 w)
+    (h _) (h _) (h _) (h _) few
 
 pub frame_raised_one : (f : List ℕ) (from : ℕ) → ((k : ℕ) → get_or f k 0 < 256) → (x le LO HI : ℕ)
     → (x + 128 * (512 * le)) % 4294967296 ≡ 128 * (LO + 256 * HI) % 4294967296

@@ -1,7 +1,7 @@
 -- The rows of a frame's words.
 use Rattle.std.proofs.Common.{◌≡◌, ℕ, ◌+◌, ◌*◌, ◌/◌, ◌%◌, ◌<◌, List, [], ◌∷◌, map, get_or, bit_and, bit_or, refl, sym}
 use Rattle.std.proofs.Common.{ap, ◌∙◌, arith}
-use Rattle.mseed_steim.proofs.FrameBytes.{same}
+use Rattle.mseed_steim.proofs.Below.{same_below}
 use Rattle.mseed_steim.specs.private.Lanes.{byte_at, words, word_at, row_at}
 
 abbrev pub codes : List ℕ
@@ -14,22 +14,22 @@ abbrev pub lane : ℕ → ℕ → ℕ → ℕ
 lane mask x a = bit_and (bit_or (code_lane mask x) (a / 64)) 15
 
 code_0 : (x : ℕ) → x < 256 → code_lane 192 x ≡ 4 * (x / 64 % 4)
-code_0 = same (λ x. code_lane 192 x) (λ x. 4 * (x / 64 % 4)) tt
+code_0 = same_below (λ x. code_lane 192 x) (λ x. 4 * (x / 64 % 4)) 256 tt
 
 code_1 : (x : ℕ) → x < 256 → code_lane 48 x ≡ 4 * (x / 16 % 4)
-code_1 = same (λ x. code_lane 48 x) (λ x. 4 * (x / 16 % 4)) tt
+code_1 = same_below (λ x. code_lane 48 x) (λ x. 4 * (x / 16 % 4)) 256 tt
 
 code_2 : (x : ℕ) → x < 256 → code_lane 12 x ≡ 4 * (x / 4 % 4)
-code_2 = same (λ x. code_lane 12 x) (λ x. 4 * (x / 4 % 4)) tt
+code_2 = same_below (λ x. code_lane 12 x) (λ x. 4 * (x / 4 % 4)) 256 tt
 
 code_3 : (x : ℕ) → x < 256 → code_lane 3 x ≡ 4 * (x % 4)
-code_3 = same (λ x. code_lane 3 x) (λ x. 4 * (x % 4)) tt
+code_3 = same_below (λ x. code_lane 3 x) (λ x. 4 * (x % 4)) 256 tt
 
 code_none : (x : ℕ) → x < 256 → code_lane 0 x ≡ 4 * 0
-code_none = same (λ x. code_lane 0 x) (λ x. 4 * 0) tt
+code_none = same_below (λ x. code_lane 0 x) (λ x. 4 * 0) 256 tt
 
 joined : (n : ℕ) → n < 256 → bit_and (bit_or (n / 4 % 4 * 4) (n % 4)) 15 ≡ n % 16
-joined = same (λ n. bit_and (bit_or (n / 4 % 4 * 4) (n % 4)) 15) (λ n. n % 16) tt
+joined = same_below (λ n. bit_and (bit_or (n / 4 % 4 * 4) (n % 4)) 15) (λ n. n % 16) 256 tt
 
 join : (c t : ℕ) → c < 4 → t < 4 → bit_and (bit_or (4 * c) t) 15 ≡ 4 * c + t
 join c t C T =
@@ -89,10 +89,6 @@ behind : (f : List ℕ) → ((k : ℕ) → get_or f k 0 < 256)
     ≡ map (row_at f 1) (4 ∷ 5 ∷ 6 ∷ 7 ∷ 8 ∷ 9 ∷ 10 ∷ 11 ∷ 12 ∷ 13 ∷ 14 ∷ 15 ∷ [])
 behind f h =
     let w = word_at f 0 in
-    let first = h 0 in
-    let second = h 1 in
-    let third = h 2 in
-    let fourth = h 3 in
     four_is f h 1 _ _ (w / 4194304 % 4) (w / 1048576 % 4) (w / 262144 % 4) (w / 65536 % 4) (omega arith) (omega arith)
     (omega arith) (omega arith)
     (four_is f h 2 _ _ (w / 16384 % 4) (w / 4096 % 4) (w / 1024 % 4) (w / 256 % 4) (omega arith) (omega arith)

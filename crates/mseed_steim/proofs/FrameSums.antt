@@ -1,12 +1,11 @@
 -- What a frame's words add up to.
-use Rattle.std.proofs.Common.{◌≡◌, ◌-◌, ◌^◌, Bool, true, false, if◌then◌else◌, nat_lt, ℕ, ◌+◌}
+use Rattle.std.proofs.Common.{◌≡◌, Bool, true, false, if◌then◌else◌, ℕ, ◌+◌}
 use Rattle.std.proofs.Common.{◌*◌, ◌/◌, ◌%◌, ◌<◌, List, [], ◌∷◌, map, get_or, refl, sym, ap, ◌∙◌}
 use Rattle.std.proofs.Common.{arith, ℤ, pos, ◌+ℤ◌}
-use Rattle.std.proofs.lemmas.Int.{ints}
 use lib.Lanes.{sum_l}
 use Rattle.mseed_steim.specs.declared.scheme.Scheme.TheVariants.{Two}
 use Rattle.mseed_steim.specs.private.Lanes.{word_of}
-use Rattle.mseed_steim.specs.private.Lanes.{words, sum_z, byte_at, word_at, row_at, moved, counts_two, ones_two}
+use Rattle.mseed_steim.specs.private.Lanes.{words, sum_z, byte_at, row_at, moved, counts_two, ones_two}
 use Rattle.mseed_steim.specs.private.Lanes.{fine_two, coarse_two}
 use Rattle.mseed_steim.specs.private.Moves.{Raises}
 use Rattle.mseed_steim.proofs.FrameWords.{least, least_coarse_two, least_two, tells, turned_a, turned_b, turned_c}
@@ -18,9 +17,7 @@ Reported count whole least moved w = count w < 128 → (whole w % 128 ≡ 0)
 
 step : (x X l L : ℕ) (m M : ℤ) → x % 128 ≡ 0 → pos (x / 128) ≡ m +ℤ pos l → X % 128 ≡ 0 → pos (X / 128) ≡ M +ℤ pos L
     → pos ((x + X) / 128) ≡ (m +ℤ M) +ℤ pos (l + L)
-step x X l L m M e f g h =
-    let k : (x + X) / 128 ≡ x / 128 + X / 128 = omega (arith, e, g) in
-    ap pos k ∙ omega (arith, ints, f, h)
+step x X l L m M e f g h = search (arith)
 
 reported_all : (count whole least : ℕ → ℕ) (moved : ℕ → ℤ) → ((w : ℕ) → Reported count whole least moved w)
     → (ws : List ℕ) → sum_l (map count ws) < 128 → (sum_l (map whole ws) % 128 ≡ 0)
@@ -73,11 +70,7 @@ top_small : (a b c d : ℕ) → a < 256 → b < 256 → c < 256 → d < 256 → 
 top_small a b c d A B C D = omega arith
 
 pub row_small : (f : List ℕ) (from : ℕ) → ((k : ℕ) → get_or f k 0 < 256) → (w : ℕ) → row_at f from w < 16
-row_small f from h w =
-    let c = code_small (nat_lt w from) (word_at f 0 / 2 ^ (30 - 2 * w)) in
-    let t = top_small (byte_at f 0 w) (byte_at f 1 w) (byte_at f 2 w) (byte_at f 3 w) (h (4 * w + 0)) (h (4 * w + 1))
-    (h (4 * w + 2)) (h (4 * w + 3)) in
-    omega (arith, c, t)
+row_small f from h w = search (arith, code_small, top_small)
 
 abbrev pub whole_at : List ℕ → ℕ → ℕ → ℕ
 whole_at f from w = whole (row_at f from w) (byte_at f 0 w) (byte_at f 1 w) (byte_at f 2 w) (byte_at f 3 w)
@@ -92,9 +85,7 @@ part_at part a b c d f from w =
 reported : (f : List ℕ) (from : ℕ) → ((k : ℕ) → get_or f k 0 < 256) → (w : ℕ)
     → Reported (λ w. get_or counts_two (row_at f from w) 0) (whole_at f from) (λ w. least (row_at f from w))
     (moved Two f from) w
-reported f from h w =
-    tells (byte_at f 0 w) (byte_at f 1 w) (byte_at f 2 w) (byte_at f 3 w) (h (4 * w + 0)) (h (4 * w + 1))
-    (h (4 * w + 2)) (h (4 * w + 3)) (row_at f from w) (row_small f from h w)
+reported f from h w = search (arith, row_small, tells)
 
 pub frame_raised : (f : List ℕ) (from : ℕ) → ((k : ℕ) → get_or f k 0 < 256) → (x le far ON FI CO : ℕ)
     → (x + 128 * (8 * le + 256 * far)) % 4294967296 ≡ (128 * ON + FI + 32768 * CO) % 4294967296

@@ -1,10 +1,9 @@
 -- A frame's words, unpacked one after another, spell what they say.
 use Rattle.std.proofs.Common.{◌≡◌, ◌≢◌, ℕ, zero, suc, ◌+◌, ◌-◌, ◌*◌, ◌%◌, ◌^◌, ◌<◌, ◌≤◌, List, ◌∷◌, ◌++◌, map}
 use Rattle.std.proofs.Common.{take, drop, get_or, ℤ, refl, sym, ap, subst, ◌∙◌, append_assoc, append-nil, arith, inl}
-use Rattle.std.proofs.Common.{inr, Some, Ok, Result, ◌/◌, ⊎_elim, [], ◌+ℤ◌, length, length-append, pos}
+use Rattle.std.proofs.Common.{inr, Some, Ok, Result, ◌/◌, [], ◌+ℤ◌, length, length-append, pos}
 use Rattle.std.proofs.lemmas.Int.{ints}
 use Rattle.std.specs.List.{range_with_len}
-use Rattle.std.proofs.lemmas.Bool.{cases_lt, lt-ltb, le-ltb}
 use Rattle.std.proofs.lemmas.List.{map-append}
 use lib.Lanes.{sum_l}
 use Rattle.mseed_steim.specs.declared.scheme.Scheme.{Scheme}
@@ -24,7 +23,9 @@ use Rattle.mseed_steim.specs.private.Lanes.{word_at as lanes_word_at}
 use Rattle.mseed_steim.specs.private.Lanes.{counts_of, all_counts, all_widths}
 use Rattle.mseed_steim.specs.private.Unpacked.{AreGood, AreUpTo, FitIn, Unpacks, counts_up_to}
 use Rattle.mseed_steim.specs.private.Unpacked.{differences_at, lanes_of, unpacked}
-use Rattle.mseed_steim.proofs.Below.{sixteen}
+use Rattle.std.proofs.Common.{Bool, T, ◌||◌, not, ltb}
+use Rattle.std.proofs.lemmas.Bool.Decides.{nat_tests}
+use Rattle.mseed_steim.proofs.Below.{all_below, every_below}
 use Rattle.mseed_steim.proofs.Walking.{words_none, words_step, items_group}
 use Rattle.mseed_steim.proofs.FrameItems.{Reads, begins_low, none_at, reads_all, span-append, total-append}
 use Rattle.mseed_steim.proofs.Spelled.{length-digits}
@@ -135,38 +136,24 @@ lanes_enough s f from lanes word by inside few same (inl all) = omega (arith, fe
 lanes_enough s f from lanes word by inside few same (inr fit) = let h = fit word inside in omega (arith, same, h)
 
 -- words without the code 3 have four differences at the most
-few_by_row : (s : Scheme) (row : ℕ) → row < 16 → row < 12 → get_or (all_counts s) row 0 < 128
-    → get_or (all_counts s) row 0 ≤ 4
+abbrev has_few : Scheme → ℕ → Bool
+has_few s row = not (ltb (get_or (all_counts s) row 0) 128) || ltb (get_or (all_counts s) row 0) 5
+
+few_test : (s : Scheme) → T (all_below (has_few s) 12)
 unfolding all_counts_one all_counts_two
-few_by_row One = sixteen (λ row. row < 12 → get_or all_counts_one row 0 < 128 → get_or all_counts_one row 0 ≤ 4)
-    (λ _ _. omega arith) (λ _ _. omega arith) (λ _ _. omega arith) (λ _ _. omega arith) (λ _ _. omega arith)
-    (λ _ _. omega arith) (λ _ _. omega arith) (λ _ _. omega arith) (λ _ _. omega arith) (λ _ _. omega arith)
-    (λ _ _. omega arith) (λ _ _. omega arith) (λ h _. absurd (omega (arith, h))) (λ h _. absurd (omega (arith, h)))
-    (λ h _. absurd (omega (arith, h))) (λ h _. absurd (omega (arith, h)))
-few_by_row Two = sixteen (λ row. row < 12 → get_or all_counts_two row 0 < 128 → get_or all_counts_two row 0 ≤ 4)
-    (λ _ _. omega arith) (λ _ _. omega arith) (λ _ _. omega arith) (λ _ _. omega arith) (λ _ _. omega arith)
-    (λ _ _. omega arith) (λ _ _. omega arith) (λ _ _. omega arith) (λ _ h. absurd (omega (arith, h)))
-    (λ _ _. omega arith) (λ _ _. omega arith) (λ _ _. omega arith) (λ h _. absurd (omega (arith, h)))
-    (λ h _. absurd (omega (arith, h))) (λ h _. absurd (omega (arith, h))) (λ h _. absurd (omega (arith, h)))
+few_test One = tt
+few_test Two = tt
+
+few_by_row : (s : Scheme) (row : ℕ) → row < 12 → get_or (all_counts s) row 0 < 128 → get_or (all_counts s) row 0 ≤ 4
+few_by_row s row less few = let test = every_below (has_few s) 12 (few_test s) row less in grind (arith, nat_tests)
 
 no_3 : (f : List ℕ) (from word : ℕ) → 0 < from
     → ((j : ℕ) → 0 < j → j < 16 → lanes_word_at f 0 / 2 ^ (30 - 2 * j) % 4 ≢ 3) → word < 16 → code_from f from word < 3
-no_3 f from word some other less = ⊎_elim
-    (λ (before : word < from). rw (lt-ltb word from before) (omega arith))
-    (λ (behind : from ≤ word). let code = other word (omega (arith, some, behind)) less in
-    rw (le-ltb word from behind) (below_3 (lanes_word_at f 0 / 2 ^ (30 - 2 * word)) code))
-    (cases_lt word from)
-  where
-    below_3 : (n : ℕ) → n % 4 ≢ 3 → n % 4 < 3
-    below_3 n h = omega (arith, h)
+no_3 f from word some other less = search (arith)
 
 pub no_more_than_4 : (s : Scheme) (f : List ℕ) (from : ℕ) → ((i : ℕ) → get_or f i 0 < 256) → 0 < from
     → ((j : ℕ) → 0 < j → j < 16 → lanes_word_at f 0 / 2 ^ (30 - 2 * j) % 4 ≢ 3) → AreGood s f from → FitIn s f from 4
-no_more_than_4 s f from octets some other good = inr (λ word less.
-    let code = no_3 f from word some other less in
-    let top : lanes_word_at f word / 2 ^ 30 < 4 =
-    omega (arith, octets (4 * word + 0), octets (4 * word + 1), octets (4 * word + 2), octets (4 * word + 3)) in
-    few_by_row s (row_at f from word) (row_small f from octets word) (omega (arith, code, top)) (good word less))
+no_more_than_4 s f from octets some other good = search (arith, few_by_row, no_3, row_small)
 
 -- where the words have few differences in all, each has
 each_few : (count : ℕ → ℕ) → sum_l (map count words) < 128 → (word : ℕ) → word < 16 → count word < 128
@@ -178,10 +165,7 @@ each_few count few word less =
 -- where none is bad or has a difference of 30 or 32 bits, none is bad
 narrow_good : (s : Scheme) (f : List ℕ) (from : ℕ) → ((i : ℕ) → get_or f i 0 < 256)
     → ((w : ℕ) → w < 16 → get_or (counts_of s) (row_at f from w) 0 < 128) → AreGood s f from
-narrow_good s f from octets few word less =
-    let one = few word less in
-    let same = alike s (row_at f from word) (row_small f from octets word) one in
-    omega (arith, one, same.0)
+narrow_good s f from octets few word less = search (arith, alike, row_small)
 
 good_up_to : (w : Widest) (s : Scheme) (f : List ℕ) (from : ℕ) → ((i : ℕ) → get_or f i 0 < 256)
     → ((x : ℕ) → x < 16 → get_or (counts_up_to w s) (row_at f from x) 0 < 128) → AreGood s f from
@@ -289,10 +273,8 @@ told_by s p f begin k from lanes begins e h a = λ few.
           unpacked s f from 1 15,
           (
             record {
-              count_is = length_unpacked s f from 15 1 ∙ sym (a.count ∙ ap sum_l (sym counts)
-                  ∙ past_codes (λ w. get_or (all_counts s) (row_at f from w) 0) none);
-              by_is = total_unpacked s f from 15 1
-                  ∙ sym (past_codes_z (λ w. total (differences_at s f from w)) (ap total empty)) ∙ ap sum_z totals;
+              count_is = search (arith, nat_tests, length_unpacked, past_codes);
+              by_is = search (arith, nat_tests, past_codes_z, total_unpacked);
               near = all_near s f from h each;
             },
             all_spelled s p f begin k from begins e h (narrow_good s f from h each),

@@ -1,9 +1,8 @@
 -- What a walk over a payload's frames answers is what its words say.
-use Rattle.std.proofs.Common.{◌≡◌, ℕ, suc, ◌+◌, ◌-◌, ◌<◌, ◌≤◌, ◌^◌, List, [], ◌∷◌, ◌++◌, map, length, get_or, ℤ, pos}
+use Rattle.std.proofs.Common.{◌≡◌, ℕ, suc, ◌+◌, ◌-◌, ◌<◌, ◌^◌, List, [], ◌∷◌, ◌++◌, map, length, get_or, ℤ, pos}
+use Rattle.std.proofs.lemmas.Bool.Decides.{nat_tests}
 use Rattle.std.proofs.Common.{negsuc, ◌+ℤ◌, arith, refl, ap, sym, ◌∙◌, subst, length-append, Some, None, Result, Ok}
-use Rattle.std.proofs.Common.{Err, All, ⊎_elim}
-use Rattle.std.proofs.lemmas.Int.{ints}
-use Rattle.std.proofs.lemmas.Bool.{cases_lt, lt-ltb, le-ltb}
+use Rattle.std.proofs.Common.{Err, All}
 use Rattle.std.proofs.lemmas.List.Elements.{All-cons}
 use Rattle.byteorder.specs.Endian.{twos_complement}
 use Rattle.mseed_steim.specs.declared.scheme.Scheme.{Scheme}
@@ -13,7 +12,7 @@ use Rattle.mseed_steim.specs.declared.fault.ReadFault.TheVariants.{Short, BadWor
 use Rattle.mseed_steim.specs.declared.sum.Sum.{Sum}
 use Rattle.mseed_steim.specs.Frames.{word_at, data_words, first_constant}
 use Rattle.mseed_steim.specs.Runs.{Gives}
-use Rattle.mseed_steim.specs.Samples.{IsSample, Adds, StartsAndAdds, AreSums, IsFrameFault, short, bad_word, overflow}
+use Rattle.mseed_steim.specs.Samples.{IsSample, Adds, AreSums, IsFrameFault, short, bad_word, overflow}
 use Rattle.mseed_steim.specs.private.Sums.{fold, met_in, sums, the_sample}
 use Rattle.mseed_steim.proofs.Given.{word_small}
 use Rattle.mseed_steim.proofs.Folds.{fold_first, fold_bad, fold_short}
@@ -24,18 +23,10 @@ use Rattle.mseed_steim.proofs.Prefixes.{Prefixed, prefixed, spelled_all, broken_
 
 -- the payload's first constant is a sample
 pub minus : (x m : ℕ) → x < suc m → pos x +ℤ negsuc m ≡ negsuc (m - x)
-minus x m h =
-    let same : suc m - suc x ≡ m - x = omega arith in
-    rw (lt-ltb x (suc m) h, same) refl
+minus x m h = search (arith)
 
 number_fits : (x : ℕ) → x < 2 ^ 32 → IsSample (twos_complement 4 x)
-number_fits x small = ⊎_elim
-    (λ (low : x < 2 ^ 31). rw (lt-ltb x (2 ^ 31) low) (omega (arith, ints), omega (arith, ints)))
-    (λ (high : 2 ^ 31 ≤ x). rw (le-ltb x (2 ^ 31) high, minus x (2 ^ 32 - 1) small) (
-      omega (arith, ints),
-      omega (arith, ints),
-    ))
-    (cases_lt x (2 ^ 31))
+number_fits x small = search (arith, minus)
 
 pub constant_fits : (p : List ℕ) → ((i : ℕ) → get_or p i 0 < 256) → (k : ℕ) → IsSample (twos_complement 4 (word_at p k))
 constant_fits p octets k = number_fits (word_at p k) (word_small p k octets)
@@ -78,22 +69,7 @@ adds_longer x (d ∷ ds) (s ∷ ss) t h = (h.0, adds_longer s ds ss t h.1)
 -- the sums over a prefix of the words
 sums_of : (s : Scheme) (p : List ℕ) (n : ℕ) (d : ℤ) (ds ss : List ℤ) → Prefixed s (data_words p) (d ∷ ds)
     → length ds + 1 ≡ n → length ss ≡ length ds → Adds (first_constant p) ds ss → AreSums s p n (first_constant p ∷ ss)
-sums_of s p n d ds ss f count same adds =
-    let long : length f.differences ≡ length (d ∷ ds) + length f.tail = ap (λ (xs : List ℤ). length xs) f.longer
-    ∙ length-append (d ∷ ds) f.tail in
-    record {
-      count = omega arith;
-      prefix = f.prefix;
-      rest = f.rest;
-      cut = f.cut;
-      differences = f.differences;
-      spelled = f.spelled;
-      enough = omega (arith, long);
-      sums = subst (λ (xs : List ℤ). StartsAndAdds (first_constant p) xs (first_constant p ∷ ss)) (sym f.longer) (
-        refl,
-        adds_longer (first_constant p) ds ss f.tail adds,
-      );
-    }
+sums_of s p n d ds ss f count same adds = search (arith, adds_longer, length-append)
 
 pub all_met : (s : Scheme) (p : List ℕ) (n : ℕ) (mets : List ℤ) (items : List (Result ℤ BadWordAt)) (next : Sum)
     → Gives s (data_words p) items → IsSample (first_constant p) → Begins n (first_constant p) mets items (Ok next)
@@ -164,13 +140,11 @@ is_over s p n k c d ds ss es more later g fit e count place less same adds all n
     let found = agreed (c ∷ ds) es d more later (omega arith) e in
     let sum : ℤ = last_of (first_constant p) ss +ℤ d in
     let rest : List ℤ = sums sum found.0 in
-    let whole : length es ≡ length (c ∷ ds) + suc (length found.0) = ap (λ (xs : List ℤ). length xs) found.1
-    ∙ length-append (c ∷ ds) (d ∷ found.0) in
+    let whole : length es ≡ length (c ∷ ds) + suc (length found.0) = search (arith, nat_tests, length-append) in
     let prefix = prefixed s (data_words p) (Ok c ∷ map Ok ds ++ Ok d ∷ more) es later g e in
-    let prefix' : Prefixed s (data_words p) (c ∷ (ds ++ d ∷ found.0)) =
-    subst (λ (xs : List ℤ). Prefixed s (data_words p) xs) found.1 prefix in
+    let prefix' : Prefixed s (data_words p) (c ∷ (ds ++ d ∷ found.0)) = search (arith, nat_tests) in
     let added : Adds (first_constant p) (ds ++ d ∷ found.0) (ss ++ sum ∷ rest) =
-    adds_past (first_constant p) ds ss (d ∷ found.0) (sum ∷ rest) same adds (refl, sums_add sum found.0) in
+    search (arith, nat_tests, adds_past, sums_add) in
     let all_sums = sums_of s p n c (ds ++ d ∷ found.0) (ss ++ sum ∷ rest) prefix'
     (omega (arith, whole, length-append ds (d ∷ found.0)))
     (omega (arith, length-append ds (d ∷ found.0), length-append ss (sum ∷ rest), length-sums sum found.0))

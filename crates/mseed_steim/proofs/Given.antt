@@ -1,6 +1,8 @@
 -- What the digits of words give is what the words spell.
 use Rattle.std.proofs.Common.{◌≡◌, ℕ, zero, suc, ◌+◌, ◌*◌, ◌%◌, ◌^◌, ◌<◌, not, eqb, drop, List, [], ◌∷◌, ◌++◌, map, ℤ}
-use Rattle.std.proofs.Common.{refl, ap, sym, subst, append-nil, ◌∙◌, append_assoc, get_or, Option, Some, None, Result}
+use Rattle.std.proofs.lemmas.Bool.Decides.{nat_tests}
+use Rattle.std.proofs.Common.{arith}
+use Rattle.std.proofs.Common.{refl, ap, sym, append-nil, ◌∙◌, append_assoc, get_or, Option, Some, None, Result}
 use Rattle.std.proofs.Common.{Ok, Err}
 use Rattle.std.proofs.lemmas.List.{map-append}
 use Rattle.std.specs.List.{AllByRecursion, filter, range_with_len}
@@ -31,7 +33,7 @@ more_given s w ws ds items p (all es run e) =
     ∙ sym (map-append Ok ds es))
 more_given s w ws ds items p (broken before bad after es cut run none e) =
     let joined : map Ok ds ++ items ≡ map Ok (ds ++ es) ++ Err (place_of bad) ∷ [] =
-    rw (e, map-append) (sym (append_assoc (map Ok ds) (map Ok es) (Err (place_of bad) ∷ []))) in
+    search (arith, nat_tests, append_assoc, map-append) in
     broken (w ∷ before) bad after (ds ++ es) (ap (λ (xs : List DataWord). w ∷ xs) cut) (ds, (es, (refl, (p, run))))
     none joined
 
@@ -99,12 +101,10 @@ given_items s ws items h (all ds run e) =
     e ∙ sym (append-nil (map Ok ds)) ∙ ap (λ (xs : List (Result ℤ BadWordAt)). map Ok ds ++ xs) (sym (none_of s))
     ∙ sym whole ∙ ap (λ (xs : List DataWord). items_of s xs) (append-nil ws)
 given_items s ws items h (broken before bad after ds cut run fails e) =
-    let there : AllByRecursion IsWord (before ++ bad ∷ after) =
-    subst (λ (xs : List DataWord). AllByRecursion IsWord xs) cut h in
+    let there : AllByRecursion IsWord (before ++ bad ∷ after) = search (arith, nat_tests) in
     let prefix : items_of s (before ++ bad ∷ after) ≡ map Ok ds ++ items_of s (bad ∷ after) =
-    all_after s before ds (prefix_words IsWord before (bad ∷ after) there) run (bad ∷ after) in
-    let last : items_of s (bad ∷ after) ≡ Err (place_of bad) ∷ [] =
-    bad_items s bad after (word_after before bad after there) fails in
+    search (arith, nat_tests, all_after, prefix_words) in
+    let last : items_of s (bad ∷ after) ≡ Err (place_of bad) ∷ [] = search (arith, nat_tests, bad_items, word_after) in
     rw cut (e ∙ sym (prefix ∙ ap (λ (xs : List (Result ℤ BadWordAt)). map Ok ds ++ xs) last))
 
 -- the words of a payload have 32 bits

@@ -1,7 +1,6 @@
 -- A payload of integers.
 use Rattle.std.proofs.Common.{◌≡◌, ℕ, zero, suc, ◌+◌, ◌-◌, ◌*◌, ◌/◌, ◌<◌, ◌≤◌, ◌^◌, List, [], ◌∷◌, length, get_or, ℤ}
-use Rattle.std.proofs.Common.{pos, negsuc, ◌-ℤ◌, arith, refl, ap, sym, ◌∙◌, subst, slice_get, ⊎_elim, Some, Ok}
-use Rattle.std.proofs.lemmas.Bool.{cases_lt, lt-ltb, le-ltb}
+use Rattle.std.proofs.Common.{pos, negsuc, ◌-ℤ◌, arith, refl, ap, sym, ◌∙◌, subst, slice_get, Some, Ok}
 use Rattle.std.proofs.Math.Nat.{mul-suc}
 use Rattle.byteorder.specs.Endian.{twos_complement}
 use Rattle.byteorder.specs.Numbers.{big_from-lt, little_from-lt}
@@ -29,10 +28,7 @@ minus_all x (suc m) h = minus x m h ∙ ap negsuc (omega arith)
 
 -- two's complement of bytes is that of their bits
 pub signed_is : (w x : ℕ) → x < 2 ^ (8 * w) → twos_complement w x ≡ signed (8 * w) x
-signed_is w x small = ⊎_elim
-    (λ (low : x < 2 ^ (8 * w - 1)). rw (lt-ltb x (2 ^ (8 * w - 1)) low) refl)
-    (λ (high : 2 ^ (8 * w - 1) ≤ x). rw (le-ltb x (2 ^ (8 * w - 1)) high) (minus_all x (2 ^ (8 * w)) small))
-    (cases_lt x (2 ^ (8 * w - 1)))
+signed_is w x small = search (arith, minus_all)
 
 -- the first n integers
 unfoldable pub integers : Order → ℕ → List ℕ → ℕ → ℕ → List ℤ
@@ -115,6 +111,4 @@ integers_over order w p n i h = let none : n - i ≡ 0 = omega arith in rw none 
 pub filled : (order : Order) (width : Width) (p : List ℕ) (n : ℕ) (out : List ℤ) → ((i : ℕ) → get_or p i 0 < 256)
     → bytes_of width * n ≤ length p → out ≡ integers order (bytes_of width) p 0 n
     → IsPayloadReading (Integers width) order p n out
-filled order width p n out octets long e =
-    subst (λ (xs : List ℤ). IsPayloadReading (Integers width) order p n xs) (sym e)
-    (length-integers order (bytes_of width) p 0 n, begins order width p n octets long)
+filled order width p n out octets long e = search (arith, begins, length-integers)

@@ -1,5 +1,6 @@
 -- Sums of lanes, modulo 2^32.
 use Rattle.std.proofs.Common.{◌≡◌, ℕ, zero, suc, ◌+◌, ◌-◌, ◌*◌, ◌%◌, ◌^◌, ◌<◌, ◌≤◌, List, [], ◌∷◌, length, map, get_or}
+use Rattle.std.proofs.lemmas.Bool.Decides.{nat_tests}
 use Rattle.std.proofs.Common.{◌++◌, subst, refl, sym, ap, ◌∙◌, arith, Fits, w32}
 use Rattle.std.proofs.lemmas.Simd.{pick_l_whole, zip2_of_maps, map-map, sum_dots}
 use Rattle.std.specs.List.{range_with_len}
@@ -67,12 +68,7 @@ four_added x y z t = omega arith
 
 sums_spelled : (a b c d e f g h i j k l m n o p : ℕ)
     → Sums (a ∷ b ∷ c ∷ d ∷ []) (e ∷ f ∷ g ∷ h ∷ []) (i ∷ j ∷ k ∷ l ∷ []) (m ∷ n ∷ o ∷ p ∷ [])
-sums_spelled a b c d e f g h i j k l m n o p =
-    let first = four_added a b c d in
-    let second = four_added e f g h in
-    let third = four_added i j k l in
-    let fourth = four_added m n o p in
-    cc (first, second, third, fourth)
+sums_spelled a b c d e f g h i j k l m n o p = search (arith, four_added)
 
 pub sums_of_four : (a b c d x y : List ℕ) → length a ≡ 4 → length b ≡ 4 → length c ≡ 4 → length d ≡ 4
     → x ≡ map (λ n. n % 4294967296) (pair_sums (a ++ b)) → y ≡ map (λ n. n % 4294967296) (pair_sums (c ++ d))
@@ -83,12 +79,9 @@ sums_of_four a b c d x y e f g h i j =
     let all = sums_spelled (item a 0) (item a 1) (item a 2) (item a 3) (item b 0) (item b 1) (item b 2) (item b 3)
     (item c 0) (item c 1) (item c 2) (item c 3) (item d 0) (item d 1) (item d 2) (item d 3) in
     let spelled : (xs : List ℕ) → List ℕ = λ xs. item xs 0 ∷ item xs 1 ∷ item xs 2 ∷ item xs 3 ∷ [] in
-    let one : Sums a (spelled b) (spelled c) (spelled d) =
-    subst (λ (l : List ℕ). Sums l (spelled b) (spelled c) (spelled d)) (sym (spelled_four a e)) all in
-    let two : Sums a b (spelled c) (spelled d) =
-    subst (λ (l : List ℕ). Sums a l (spelled c) (spelled d)) (sym (spelled_four b f)) one in
-    let three : Sums a b c (spelled d) =
-    subst (λ (l : List ℕ). Sums a b l (spelled d)) (sym (spelled_four c g)) two in
+    let one : Sums a (spelled b) (spelled c) (spelled d) = search (arith, nat_tests, spelled, spelled_four) in
+    let two : Sums a b (spelled c) (spelled d) = search (arith, nat_tests, spelled, spelled_four) in
+    let three : Sums a b c (spelled d) = search (arith, nat_tests, spelled, spelled_four) in
     let four : Sums a b c d = subst (λ (l : List ℕ). Sums a b c l) (sym (spelled_four d h)) three in
     ap (λ (l : List ℕ). map (λ n. n % 4294967296) (pair_sums (l ++ y))) i
     ∙ ap (λ (l : List ℕ). map (λ n. n % 4294967296) (pair_sums (map (λ n. n % 4294967296) (pair_sums (a ++ b)) ++ l))) j
@@ -156,6 +149,4 @@ counted_in t h row (w ∷ ws) =
 
 pub counted_by : (t : List ℕ) → T (all_below 129 t) → (row : ℕ → ℕ)
     → sum_l (map (λ w. get_or t (row w) 0) words) % 4294967296 ≡ sum_l (map (λ w. get_or t (row w) 0) words)
-counted_by t small row =
-    let h = counted_in t (each_of_all 129 t small) row words in
-    omega (arith, h, long_words)
+counted_by t small row = search (arith, counted_in, each_of_all, long_words)

@@ -1,5 +1,5 @@
 -- Words in lanes, of bytes whose highest comes first.
-use Rattle.std.proofs.Common.{◌≡◌, ℕ, suc, ◌+◌, ◌*◌, ◌%◌, ◌/◌, ◌<◌, List, [], ◌∷◌, refl, ap, ◌∙◌, arith}
+use Rattle.std.proofs.Common.{◌≡◌, ℕ, suc, ◌+◌, ◌*◌, ◌<◌, [], ◌∷◌, arith}
 use lib.Lanes.{number_l, digits_l}
 use Rattle.mseed_steim.specs.private.Lanes.{word_of}
 
@@ -7,26 +7,11 @@ use Rattle.mseed_steim.specs.private.Lanes.{word_of}
 one_word : (a b c d rest n : ℕ) → a < 256 → b < 256 → c < 256 → d < 256
     → digits_l 4294967296 (suc n) (d + 256 * (c + 256 * (b + 256 * (a + 256 * rest))))
     ≡ word_of a b c d ∷ digits_l 4294967296 n rest
-one_word a b c d rest n A B C D =
-    let low : (d + 256 * (c + 256 * (b + 256 * (a + 256 * rest)))) % 4294967296 ≡ word_of a b c d = omega arith in
-    let high : (d + 256 * (c + 256 * (b + 256 * (a + 256 * rest)))) / 4294967296 ≡ rest = omega arith in
-    rw (low, high) refl
+one_word a b c d rest n is has same fits = search (arith)
 
 pub four : (byte : ℕ → ℕ) → ((place : ℕ) → byte place < 256)
     → digits_l 4294967296 4 (number_l 256 (byte 3 ∷ byte 2 ∷ byte 1 ∷ byte 0 ∷ byte 7 ∷ byte 6 ∷ byte 5 ∷ byte 4
     ∷ byte 11 ∷ byte 10 ∷ byte 9 ∷ byte 8 ∷ byte 15 ∷ byte 14 ∷ byte 13 ∷ byte 12 ∷ []))
     ≡ word_of (byte 0) (byte 1) (byte 2) (byte 3) ∷ word_of (byte 4) (byte 5) (byte 6) (byte 7)
     ∷ word_of (byte 8) (byte 9) (byte 10) (byte 11) ∷ word_of (byte 12) (byte 13) (byte 14) (byte 15) ∷ []
-four byte small =
-    let last = one_word (byte 12) (byte 13) (byte 14) (byte 15) 0 0 (small 12) (small 13) (small 14) (small 15) in
-    let third = one_word (byte 8) (byte 9) (byte 10) (byte 11)
-    (number_l 256 (byte 15 ∷ byte 14 ∷ byte 13 ∷ byte 12 ∷ [])) 1 (small 8) (small 9) (small 10) (small 11) in
-    let second = one_word (byte 4) (byte 5) (byte 6) (byte 7)
-    (number_l 256 (byte 11 ∷ byte 10 ∷ byte 9 ∷ byte 8 ∷ byte 15 ∷ byte 14 ∷ byte 13 ∷ byte 12 ∷ [])) 2
-    (small 4) (small 5) (small 6) (small 7) in
-    let first = one_word (byte 0) (byte 1) (byte 2) (byte 3)
-    (number_l 256 (byte 7 ∷ byte 6 ∷ byte 5 ∷ byte 4 ∷ byte 11 ∷ byte 10 ∷ byte 9 ∷ byte 8
-    ∷ byte 15 ∷ byte 14 ∷ byte 13 ∷ byte 12 ∷ [])) 3 (small 0) (small 1) (small 2) (small 3) in
-    first ∙ ap (λ (ws : List ℕ). word_of (byte 0) (byte 1) (byte 2) (byte 3) ∷ ws)
-    (second ∙ ap (λ (ws : List ℕ). word_of (byte 4) (byte 5) (byte 6) (byte 7) ∷ ws)
-    (third ∙ ap (λ (ws : List ℕ). word_of (byte 8) (byte 9) (byte 10) (byte 11) ∷ ws) last))
+four byte small = search (arith, one_word)

@@ -1,5 +1,6 @@
 -- A record has one reading at most, or one fault.
 use Rattle.std.proofs.Common.{◌≡◌, ◌≢◌, ℕ, ◌+◌, ◌-◌, ◌*◌, ◌/◌, ◌<◌, ◌≤◌, List, [], ◌∷◌, ◌++◌, length, ℤ, arith, refl}
+use Rattle.std.proofs.lemmas.Bool.Decides.{nat_tests}
 use Rattle.std.proofs.Common.{ap, sym, ◌∙◌, subst, slice_get, true, false, Some, Result, Ok, Err, IsOk, IsOkAnd, IfOk}
 use Rattle.std.proofs.Common.{IfErr, MatchResult, inl, inr, ◌↔◌, All}
 use Rattle.std.proofs.Math.Nat.{mul-suc}
@@ -51,19 +52,12 @@ payload_one (Frames scheme) order p n ss ts h k = sums_one scheme p n ss ts h.1 
 
 -- A record has one reading at most.
 pub reading_one : (v : View) → HasOneReading v
-reading_one v ss ts a b =
-    let same : a.form ≡ b.form = cc (a.encoding, b.encoding) in
-    payload_one b.form v.payload_order (payload_of v) (count_of v) ss ts
-    (subst (λ (form : Form). IsPayloadReading form v.payload_order (payload_of v) (count_of v) ss) same a.spelled)
-    b.spelled
+reading_one v ss ts a b = search (arith, payload_one)
 
 -- integers that are there leave no fault
 integers_fit : (width : Width) (order : Order) (p : List ℕ) (n : ℕ) (ss : List ℤ)
     → IsPayloadReading (Integers width) order p n ss → length p / bytes_of width < n → ⊥
-integers_fit Two order p n ss h less = let long = begins_long order 2 p 0 ss (omega arith) h.1 in
-    omega (arith, long, h.0)
-integers_fit Four order p n ss h less = let long = begins_long order 4 p 0 ss (omega arith) h.1 in
-    omega (arith, long, h.0)
+integers_fit width order p n ss h less = search (arith, begins_long)
 
 payload_fault_one : (form : Form) (p : List ℕ) (n : ℕ) (f g : ReadFault) → IsPayloadFault form p n f
     → IsPayloadFault form p n g → f ≡ g
@@ -112,9 +106,7 @@ record_fault_one v f g (in_payload a form d r p fault h) (in_payload b form' e r
 -- two forms of one encoding
 pub same_payload : (v : View) (form : Form) (s : List ℤ) → form_of v.encoding ≡ Some form → IsReading v s
     → IsPayloadReading form v.payload_order (payload_of v) (count_of v) s
-same_payload v form s e a =
-    let same : a.form ≡ form = cc (a.encoding, e) in
-    subst (λ (x : Form). IsPayloadReading x v.payload_order (payload_of v) (count_of v) s) same a.spelled
+same_payload v form s e a = search (arith)
 
 -- what a fault of frames denies
 differs : (v : View) (scheme : Scheme) (prefix : List ℤ) (last : ℤ) → 0 < count_of v → v.has_rate_blockette ≡ false
@@ -122,8 +114,7 @@ differs : (v : View) (scheme : Scheme) (prefix : List ℤ) (last : ℤ) → 0 < 
     → IsPayloadReading (Frames scheme) v.payload_order (payload_of v) (count_of v) (prefix ++ last ∷ [])
     → last ≢ last_constant (payload_of v) → Denies v (LastDiffers last (last_constant (payload_of v)))
 differs v scheme prefix last some a e big p h not =
-    let whole : IsReading v (prefix ++ last ∷ []) =
-    record { some = some; one_rate = a; form = Frames scheme; encoding = e; payload = p; spelled = h } in (
+    let whole : IsReading v (prefix ++ last ∷ []) = search (arith, nat_tests) in (
       prefix ++ last ∷ [],
       (
         whole,
@@ -206,23 +197,7 @@ answers_done (Err f) P h = absurd h
 payload_read : (v : View) (form : Form) (p : List ℕ) (n : ℕ) (order : Order) (s : List ℤ) → 0 < count_of v
     → HoldsIn v form p → n ≡ count_of v → order ≡ v.payload_order → IsPayloadReading form order p n s
     → EndsOnConstant form p s → IsWhole v s
-payload_read v form p n order s some holds count ordered read end =
-    let e : form_of v.encoding ≡ Some form = holds.1 in
-    let in_record = subst (λ (q : List ℕ). IsPayloadReading form order q n s) holds.4 read in
-    let as_many = subst (λ (m : ℕ). IsPayloadReading form order (payload_of v) m s) count in_record in
-    let spelled = subst (λ (o : Order). IsPayloadReading form o (payload_of v) (count_of v) s) ordered as_many in (
-      record {
-        some = some;
-        one_rate = holds.0;
-        form = form;
-        encoding = e;
-        payload = holds.3;
-        spelled = spelled;
-      },
-      (λ other q. let same : form ≡ other = cc (e, q) in
-          subst (λ (x : Form). EndsOnConstant x (payload_of v) s) same
-          (subst (λ (xs : List ℕ). EndsOnConstant form xs s) holds.4 end)),
-    )
+payload_read v form p n order s some holds count ordered read end = search (arith)
 
 payload_lacks : (v : View) (form : Form) (p : List ℕ) (n : ℕ) (f : ReadFault) → HoldsIn v form p → n ≡ count_of v
     → IsPayloadFault form p n f → IsFault v f
@@ -236,10 +211,8 @@ pub payload_answers : {X : Type 0} (v : View) (form : Form) (p : List ℕ) (n : 
     (told more : X → List ℤ → Type 0) (r : Result X ReadFault) → 0 < count_of v → HoldsIn v form p → n ≡ count_of v
     → order ≡ v.payload_order → ((x : X) (s : List ℤ) → told x s → more x s) → AnswersPayload form order p n told r
     → AnswersRecord v more r
-payload_answers v form p n order told more (Ok x) some holds count ordered tells h =
-    (h.0, (payload_read v form p n order h.0 some holds count ordered h.1.0 h.1.1, tells x h.0 h.1.2))
-payload_answers v form p n order told more (Err f) some holds count ordered tells h =
-    payload_lacks v form p n f holds count h
+payload_answers v form p n order told more r some holds count ordered tells h =
+    search (arith, payload_lacks, payload_read)
 
 little_in : (v : View) (form : Form) (order : Order) → v.has_rate_blockette ≡ false → form_of v.encoding ≡ Some form
     → v.payload_order ≡ order → is_little_steim form order ≡ true → IsFault v LittleSteim
@@ -253,9 +226,7 @@ pub little_fault : (v : View) (form : Form) → v.has_rate_blockette ≡ false �
 little_fault v form a e h = little_in v form v.payload_order a e refl h
 
 pub readable_else : (form : Form) (order : Order) → is_little_steim form order ≡ false → IsReadable form order
-readable_else (Integers width) order h = tt
-readable_else (Frames scheme) Big h = refl
-readable_else (Frames scheme) Little h = cc
+readable_else form order h = search (arith)
 
 -- what the answer of a read means
 pub read_only : {X : Type 0} (v : View) (items : X → List ℤ) (r : Result X ReadFault) → 0 < count_of v

@@ -1,12 +1,12 @@
 -- Samples that are near one another, by the words or integers that say them.
 use Rattle.std.proofs.Common.{◌≡◌, ◌≢◌, ℕ, zero, suc, ◌+◌, ◌-◌, ◌*◌, ◌/◌, ◌%◌, ◌^◌, ◌<◌, ◌≤◌, List, [], ◌∷◌}
+use Rattle.std.proofs.lemmas.Bool.Decides.{nat_tests}
 use Rattle.std.proofs.Common.{length, map, not, eqb, get_or, refl, sym, ap, ◌∙◌, subst, arith, ℤ, ◌-ℤ◌, Option, Some}
-use Rattle.std.proofs.Common.{None, All, Bool, true, false, cond, of_z, to_z, w32, FitsSigned, ⊎_elim, bit_and, pos}
-use Rattle.std.proofs.Common.{negsuc}
+use Rattle.std.proofs.Common.{All, Bool, true, false, cond, of_z, to_z, w32, FitsSigned, bit_and}
 use Rattle.std.specs.Int.{bit_at}
 use Rattle.std.specs.List.{AllByRecursion, filter, range_with_len}
 use Rattle.std.specs.Prelude.{◌↔◌, max}
-use Rattle.std.proofs.lemmas.Bool.{cases_lt, cond_both, eqb-true, false≢true}
+use Rattle.std.proofs.lemmas.Bool.{cond_both, false≢true}
 use Rattle.std.proofs.Math.Nat.{div-div-eq-div-mul, mul_comm}
 use Rattle.std.proofs.lemmas.Int.{ints}
 use Rattle.std.proofs.lemmas.Nat.Bits.{bit_at-zero, bit_at_and}
@@ -20,10 +20,9 @@ use Rattle.mseed_steim.specs.declared.scheme.Scheme.TheVariants.{One as Steim1, 
 use Rattle.mseed_steim.specs.declared.form.Width.TheVariants.{Two, Four}
 use Rattle.mseed_steim.specs.declared.form.Form.{Form}
 use Rattle.mseed_steim.specs.declared.form.Form.TheVariants.{Integers, Frames}
-use Rattle.mseed_steim.specs.private.Digits.{signed}
 use Rattle.mseed_steim.specs.Frames.{DataWord, code_at, data_word, data_words, first_constant, is_data, word_at}
 use Rattle.mseed_steim.specs.Frames.{word_count, words_from}
-use Rattle.mseed_steim.specs.Groups.{Group, group_of, narrow_group, plain, wide_group}
+use Rattle.mseed_steim.specs.Groups.{Group, group_of, narrow_group, wide_group}
 use Rattle.mseed_steim.specs.Nearness.{AreNear, AreNearFrom, IsNarrowAt, IsSurelyNear}
 use Rattle.mseed_steim.specs.Reading.{HoldsIn, IsWhole, count_of}
 use Rattle.mseed_steim.specs.Runs.{SpellsRun}
@@ -43,9 +42,7 @@ IsNearWord s w = (ds : List ℤ) → Spells s w.code w.bits ds → All (IsWithin
 
 -- two's complement of four bytes is the number that they spell
 value_is : (x : ℕ) (z : ℤ) → x < 2 ^ 32 → IsWithin 32 z → x ≡ residue (2 ^ 32) z → z ≡ twos_complement 4 x
-value_is x z small range e =
-    residue_one 32 z (signed 32 x) (omega arith) range (signed_within 32 x (omega arith) small) (sym e
-    ∙ sym (signed_residue 32 x (omega arith) small)) ∙ sym (signed_is 4 x small)
+value_is x z small range e = search (arith, residue_one, signed_is, signed_residue, signed_within)
 
 -- where there is a group, its differences have 30 bits at the most
 abbrev IsNarrow : Option Group → Type 0
@@ -59,22 +56,13 @@ narrow_either true o more this other = this
 narrow_either false o more this other = other
 
 wide_group_narrow : (dnib : ℕ) → IsNarrow (wide_group dnib)
-wide_group_narrow dnib =
-    narrow_either (eqb dnib 1) _ _ (narrow_some _ (omega arith))
-    (narrow_either (eqb dnib 2) _ _ (narrow_some _ (omega arith))
-    (narrow_either (eqb dnib 3) _ _ (narrow_some _ (omega arith)) (λ g e. cc)))
+wide_group_narrow dnib = search (arith, narrow_either, narrow_some)
 
 narrow_group_narrow : (dnib : ℕ) → IsNarrow (narrow_group dnib)
-narrow_group_narrow dnib =
-    narrow_either (eqb dnib 0) _ _ (narrow_some _ (omega arith))
-    (narrow_either (eqb dnib 1) _ _ (narrow_some _ (omega arith))
-    (narrow_either (eqb dnib 2) _ _ (narrow_some _ (omega arith)) (λ g e. cc)))
+narrow_group_narrow dnib = search (arith, narrow_either, narrow_some)
 
 two_narrow : (code dnib : ℕ) → IsNarrow (group_of Steim2 code dnib)
-two_narrow code dnib =
-    narrow_either (eqb code 1) _ _ (narrow_some _ (omega arith))
-    (narrow_either (eqb code 2) _ _ (wide_group_narrow dnib)
-    (narrow_either (eqb code 3) _ _ (narrow_group_narrow dnib) (λ g e. cc)))
+two_narrow code dnib = search (arith, narrow_either, narrow_group_narrow, narrow_some, wide_group_narrow)
 
 -- Steim-2
 near_two : (w : DataWord) → IsNearWord Steim2 w
@@ -89,20 +77,7 @@ all_near_two (w ∷ ws) = (near_two w, all_near_two ws)
 by_group : (code : ℕ) (dnib : ℕ) (g : Group) (ds : List ℤ) → group_of Steim1 code dnib ≡ Some g
     → All (IsWithin g.width) ds → (code ≡ 3 → g ≡ record { marked = false; spare = 1; count = 1; width = 32 }
     → All (IsWithin 30) ds) → All (IsWithin 30) ds
-by_group code dnib g ds e range wide =
-    cond_both (eqb code 1) (plain 4 8) (cond (eqb code 2) (plain 2 16) (cond (eqb code 3) (plain 1 32) None))
-    (λ (o : Option Group). o ≡ Some g → All (IsWithin 30) ds)
-    (λ _. λ q. let same : g ≡ record { marked = false; spare = 1; count = 4; width = 8 } = cc in
-    all_wider g.width 30 ds (omega (arith, ap (λ (x : Group). x.width) same)) range)
-    (λ _. cond_both (eqb code 2) (plain 2 16) (cond (eqb code 3) (plain 1 32) None) (λ (o : Option Group). o ≡ Some g
-    → All (IsWithin 30) ds)
-    (λ _. λ q. let same : g ≡ record { marked = false; spare = 1; count = 2; width = 16 } = cc in
-    all_wider g.width 30 ds (omega (arith, ap (λ (x : Group). x.width) same)) range)
-    (λ _. cond_both (eqb code 3) (plain 1 32) None (λ (o : Option Group). o ≡ Some g → All (IsWithin 30) ds)
-    (λ is. λ q. let same : g ≡ record { marked = false; spare = 1; count = 1; width = 32 } = cc in
-    wide (eqb-true code 3 is) same)
-    (λ _. λ q. cc)))
-    e
+by_group code dnib g ds e range wide = search (arith, all_wider)
 
 one_near : (dnib bits : ℕ) (ds : List ℤ) → bits < 2 ^ 32
     → IsGroup (record { marked = false; spare = 1; count = 1; width = 32 }) dnib bits ds
@@ -163,9 +138,7 @@ adds_near before (d ∷ ds) (s ∷ ss) h all =
     (subst (λ (z : ℤ). IsWithin 30 z) (sym is) all.0, adds_near s ds ss h.1 all.1)
 
 starts_near : (first : ℤ) (ds ss : List ℤ) → StartsAndAdds first ds ss → AllByRecursion (IsWithin 30) ds → AreNear ss
-starts_near first ds [] h all = tt
-starts_near first [] (s ∷ ss) h all = absurd h
-starts_near first (d ∷ ds) (s ∷ ss) h all = adds_near s ds ss (subst (λ (z : ℤ). Adds z ds ss) (sym h.0) h.1) all.1
+starts_near first ds ss h all = search (arith, adds_near)
 
 sums_near : (s : Scheme) (p : List ℕ) (n : ℕ) (ss : List ℤ) → AreSums s p n ss
     → AllByRecursion (IsNearWord s) (data_words p) → AreNear ss
@@ -230,14 +203,13 @@ no_code_3 codes j none some less three =
     let e : ℕ = 30 - 2 * j in
     let q : ℕ = codes / 2 ^ e in
     let low : bit_at codes e ≡ 1 = omega (arith, three) in
-    let halves : codes / 2 / 2 ^ e ≡ q / 2 = div-div-eq-div-mul codes 2 (2 ^ e)
-    ∙ ap (λ m. codes / m) (mul_comm 2 (2 ^ e)) ∙ sym (div-div-eq-div-mul codes (2 ^ e) 2) in
+    let halves : codes / 2 / 2 ^ e ≡ q / 2 = search (arith, nat_tests, div-div-eq-div-mul, mul_comm) in
     let high : bit_at (codes / 2) e ≡ 1 = ap (λ m. m % 2) halves ∙ (omega (arith, three)) in
     let both : bit_at (bit_and codes (codes / 2)) e ≡ 1 = bit_at_and codes (codes / 2) e ∙ rw (low, high) refl in
     let all : bit_at (bit_and (bit_and codes (codes / 2)) 357913941) e ≡ 1 =
-    bit_at_and (bit_and codes (codes / 2)) 357913941 e ∙ rw (both, mask_bit j less some) refl in
-    let zeroth : bit_at (bit_and (bit_and codes (codes / 2)) 357913941) e ≡ 0 = ap (λ n. bit_at n e) none
-    ∙ bit_at-zero e in
+    search (arith, nat_tests, bit_at_and, mask_bit) in
+    let zeroth : bit_at (bit_and (bit_and codes (codes / 2)) 357913941) e ≡ 0 =
+    search (arith, nat_tests, bit_at-zero) in
     omega (arith, all, zeroth)
 
 -- a word's bits in two's complement
@@ -249,9 +221,7 @@ word_value p k octets = let small = word_small p k octets in signed_is 4 (word_a
 -- the code of a frame's word
 pub code_is : (p : List ℕ) (codes frame place : ℕ) → place < 16 → codes ≡ word_at p (16 * frame)
     → codes / 2 ^ (30 - 2 * ((16 * frame + place) % 16)) % 4 ≡ code_at p (16 * frame + place)
-code_is p codes frame place less e =
-    let whole : (16 * frame + place) / 16 ≡ frame = omega (arith, less) in
-    rw (whole, e) refl
+code_is p codes frame place less e = search (arith)
 
 -- a record whose payload shows it
 pub near_whole : (v : View) (form : Form) (p : List ℕ) (n : ℕ) → HoldsIn v form p → n ≡ count_of v
@@ -260,24 +230,9 @@ near_whole v form p n held count near s whole = near s (rw (held.4, count) (same
 
 -- a number with 2^28 added, modulo 2^32, is less than 2^29 where the number has 29 bits at the most
 pub above_is : (z : ℤ) → FitsSigned w32 z → ((of_z w32 z + 268435456) % 4294967296 < 536870912) ↔ IsWithin 29 z
-above_is (pos n) f = (
-  λ h. let less : n < 268435456 = omega (arith, h, f.sfits) in (omega (arith, ints, less), omega (arith, ints, less)),
-  λ h. let less : n < 268435456 = omega (arith, ints, h.1) in omega (arith, less),
-)
-above_is (negsuc n) f = (
-  λ h. let less : n < 268435456 = omega (arith, h, f.sfits) in (omega (arith, ints, less), omega (arith, ints, less)),
-  λ h. let less : n < 268435456 = omega (arith, ints, h.0) in omega (arith, less, f.sfits),
-)
+above_is z f = search (arith)
 
 -- what holds of all places up to one more, by the greatest of what they have
 pub all_below_next : (P : ℕ → Type 0) (a b most n limit : ℕ) → most ≡ max a b
     → (a < limit) ↔ ((i : ℕ) → i < n → P i) → (b < limit) ↔ P n → (most < limit) ↔ ((i : ℕ) → i < n + 1 → P i)
-all_below_next P a b most n limit e all next = (
-  λ h i less. ⊎_elim
-      (λ (before : i < n). all.0 (omega (arith, e, h)) i before)
-      (λ (here : n ≤ i). let same : n ≡ i = omega (arith, here, less) in subst P same (next.0 (omega (arith, e, h))))
-      (cases_lt i n),
-  λ h. let before = all.1 (λ i less. h i (omega (arith, less))) in
-      let last = next.1 (h n (omega arith)) in
-      omega (arith, e, before, last),
-)
+all_below_next P a b most n limit e all next = search (arith)

@@ -1,7 +1,8 @@
 -- Differences of frames that are unpacked in their places, and the steps that they are.
-use Rattle.std.proofs.Common.{◌≡◌, ℕ, ◌+◌, ◌-◌, ◌*◌, ◌/◌, ◌<◌, ◌≤◌, List, [], ◌∷◌, ◌++◌, map, take, drop, length}
+use Rattle.std.proofs.Common.{◌≡◌, ℕ, ◌+◌, ◌*◌, ◌/◌, ◌<◌, ◌≤◌, List, [], ◌∷◌, ◌++◌, map, take, drop, length}
+use Rattle.std.proofs.lemmas.Bool.Decides.{nat_tests}
 use Rattle.std.proofs.Common.{ℤ, ◌+ℤ◌, ◌-ℤ◌, arith, refl, ap, sym, ◌∙◌, subst, append_assoc, Result, Ok}
-use Rattle.std.proofs.Common.{Bool, false, true, eqb, Option, Some, None, IfSome, get_or, min, ⊎_elim}
+use Rattle.std.proofs.Common.{Bool, eqb, Option, Some, None, IfSome, get_or, min, ⊎_elim}
 use Rattle.std.specs.Prelude.{IfOk}
 use Rattle.std.specs.Bool.{OnTrue}
 use Rattle.std.proofs.Math.ListN.{set}
@@ -15,7 +16,7 @@ use Rattle.mseed_steim.specs.declared.fault.ReadFault.{ReadFault}
 use Rattle.mseed_steim.specs.declared.scheme.Scheme.{Scheme}
 use Rattle.mseed_steim.specs.declared.unpack.Widest.{Widest}
 use Rattle.mseed_steim.specs.declared.sum.Sum.{Sum}
-use Rattle.mseed_steim.specs.Frames.{DataWord, data_words, first_constant, word_count}
+use Rattle.mseed_steim.specs.Frames.{DataWord, data_words, first_constant}
 use Rattle.mseed_steim.specs.Samples.{Adds, AreSums, StartsAndAdds, differences_from, steps_of}
 use Rattle.mseed_steim.specs.private.Items.{items_of}
 use Rattle.mseed_steim.specs.private.Lanes.{Begins}
@@ -38,11 +39,7 @@ Put s begin frame places out k =
 pub put_of : (s : Scheme) (begin frame : List ℕ) (room out : List ℤ) (count k places : ℕ)
     → AreUnpacked s begin frame (take count room) count → count ≤ length room → k ≡ min count places
     → take k out ≡ take k (take count room) → Put s begin frame places out k
-put_of s begin frame room out count k places all inside least put =
-    let long : length (take count room) ≡ count = length-take-le count room inside in
-    let unpacked : AreUnpacked s begin frame (take count room) (length (take count room)) =
-    record { few = omega (arith, long, all.few); items = all.items } in
-    (take count room, (unpacked, rw long least, put))
+put_of s begin frame room out count k places all inside least put = search (arith, length-take-le)
 
 pub put_in_place : (w : Widest) (s : Scheme) (begin frame : List ℕ) (r : Option ℕ) (out : List ℤ) (places : ℕ)
     → length out ≡ places → 128 ≤ places → IfSome r (AreUpTo w s begin frame out)
@@ -72,7 +69,7 @@ pub first_items : (items rest : List (Result ℤ BadWordAt)) (done ds : List ℤ
     → items ≡ map Ok (done ++ ds) ++ rest → items ≡ map Ok (done ++ take k ds) ++ (map Ok (drop k ds) ++ rest)
 first_items items rest done ds k e =
     let cut : done ++ ds ≡ (done ++ take k ds) ++ drop k ds =
-    ap (λ (ys : List ℤ). done ++ ys) (sym (take-append-drop k ds)) ∙ sym (append_assoc done (take k ds) (drop k ds)) in
+    search (arith, nat_tests, append_assoc, take-append-drop) in
     e ∙ ap (λ (ys : List ℤ). map Ok ys ++ rest) cut
     ∙ ap (λ (ys : List (Result ℤ BadWordAt)). ys ++ rest) (map-append Ok (done ++ take k ds) (drop k ds))
     ∙ append_assoc (map Ok (done ++ take k ds)) (map Ok (drop k ds)) rest
@@ -115,8 +112,7 @@ walked_rest n s next before after items behind some less c = ⊎_elim
     let found = subst (λ (r : Result Sum ReadFault). IfOk r (λ _. (more : List (Result ℤ BadWordAt))
     × (items ≡ map Ok steps ++ more))) (c.folded ∙ fold_enough n next behind e)
     (walked_items n s.met s.last items mets _ (folds n s items some less)) in
-    let kept : after ≡ first ++ steps = all_kept the_difference n next after behind c.places e ∙ c.kept
-    ∙ ap (λ (xs : List ℤ). first ++ xs) (kept_later the_difference n s items some less ∙ steps_from s.last mets) in
+    let kept : after ≡ first ++ steps = search (arith, nat_tests, all_kept, kept_later, steps_from) in
     rw (eq-eqb next.met n e) (
       found.0,
       ap (λ (xs : List (Result ℤ BadWordAt)). map Ok first ++ xs) found.1
@@ -132,9 +128,7 @@ pub rest_put : (r : Bool) (items left : List (Result ℤ BadWordAt)) (first befo
     → items ≡ map Ok first ++ left
     → OnTrue r ((more : List (Result ℤ BadWordAt)) × (map Ok before ++ left ≡ map Ok after ++ more))
     → OnTrue r ((more : List (Result ℤ BadWordAt)) × (items ≡ map Ok after ++ more))
-rest_put false items left first before after e same h = tt
-rest_put true items left first before after e same h =
-    (h.0, same ∙ ap (λ (xs : List ℤ). map Ok xs ++ left) (sym e) ∙ h.1)
+rest_put r items left first before after e same h = search (arith)
 
 starts_steps : (x : ℤ) (ds es : List ℤ) (a b : List (Result ℤ BadWordAt)) (ss : List ℤ)
     → map Ok ds ++ a ≡ map Ok es ++ b → length es ≡ length ss → 0 < length ss → StartsAndAdds x ds ss
@@ -153,8 +147,7 @@ pub payload_steps : (s : Scheme) (p : List ℕ) (out : List ℤ) (first : ℤ) (
     (ss : List ℤ) → ((i : ℕ) → get_or p i 0 < 256) → 0 < length out → first ≡ first_constant p
     → items_of s (data_words p) ≡ map Ok out ++ more → AreSums s p (length out) ss → set out 0 first ≡ steps_of ss
 payload_steps s p out first more ss octets some constant unpacked sums =
-    let small : AllByRecursion IsWord (sums.prefix ++ sums.rest) =
-    subst (λ (ws : List DataWord). AllByRecursion IsWord ws) sums.cut (words_small p octets 3 (word_count p - 3)) in
+    let small : AllByRecursion IsWord (sums.prefix ++ sums.rest) = search (arith, nat_tests, words_small) in
     let spelled = all_after s sums.prefix sums.differences (prefix_words IsWord sums.prefix sums.rest small)
     sums.spelled sums.rest in
     let same = sym spelled ∙ ap (λ (ws : List DataWord). items_of s ws) (sym sums.cut) ∙ unpacked in
@@ -174,8 +167,7 @@ put_on s p begin frame i met rest count places out after inside begins e put all
     let behind : List (Result ℤ BadWordAt) = items_of s (left_from p 0 (i + 1)) in
     let least : count ≤ places = omega (arith, put.1.1) in
     let there : take (met + count) (put_mid met rest out after) ≡ take met out ++ take count ds =
-    put_next met rest count out after (omega (arith, room)) (omega (arith, all, least))
-    ∙ ap (λ (ys : List ℤ). take met out ++ ys) put.1.2 in
+    search (arith, nat_tests, put_next) in
     let next = next_items s p begin frame i (length ds) (take met out) ds inside begins e put.1.0 same in
     (map Ok (drop count ds) ++ behind, rw there (first_items _ behind (take met out) ds count next))
 
@@ -190,7 +182,5 @@ goes_on s p begin frame i met rest count places out after inside begins e put al
     let ds : List ℤ = put.0 in
     let whole : count ≡ length ds = omega (arith, put.1.1, more) in
     let there : take (met + count) (put_mid met rest out after) ≡ take met out ++ ds =
-    put_next met rest count out after (omega (arith, room)) (omega (arith, all, more))
-    ∙ ap (λ (ys : List ℤ). take met out ++ ys)
-    (put.1.2 ∙ ap (λ (k : ℕ). take k ds) whole ∙ take-length ds) in
+    search (arith, nat_tests, put_next, take-length) in
     rw there (next_items s p begin frame i (length ds) (take met out) ds inside begins e put.1.0 same)

@@ -1,5 +1,6 @@
 -- What the items of a payload's words are, in the words of runs; and what two runs have in common.
-use Rattle.std.proofs.Common.{◌≡◌, List, [], ◌∷◌, ◌++◌, map, ℤ, refl, sym, ◌∙◌, subst, append-nil, Result, Ok, Err}
+use Rattle.std.proofs.Common.{◌≡◌, List, [], ◌∷◌, ◌++◌, map, ℤ, refl, sym, ◌∙◌, append-nil, Result, Ok, Err}
+use Rattle.std.proofs.Common.{arith}
 use Rattle.mseed_steim.specs.declared.scheme.Scheme.{Scheme}
 use Rattle.mseed_steim.specs.declared.differences.BadWordAt.{BadWordAt}
 use Rattle.mseed_steim.specs.Spelling.{SpellsNone}
@@ -100,10 +101,7 @@ prefixed s words items ds more (broken before bad after es cut run none e) q =
 -- the words spell these differences alone
 pub spelled_all : (s : Scheme) (words : List DataWord) (items : List (Result ℤ BadWordAt)) (ds : List ℤ)
     → Gives s words items → items ≡ map Ok ds → SpellsRun s words ds
-spelled_all s words items ds (all es run e) q =
-    subst (λ (xs : List ℤ). SpellsRun s words xs) (same_all ds es (sym e ∙ q)) run
-spelled_all s words items ds (broken before bad after es cut run none e) q =
-    absurd (not_broken ds es (place_of bad) (sym e ∙ q))
+spelled_all s words items ds is q = search (arith, not_broken, same_all)
 
 -- a word that spells nothing, and what those before it spell
 pub record Broken (s : Scheme) (words : List DataWord) (ds : List ℤ) (at : BadWordAt) : Type 0 where
@@ -117,15 +115,4 @@ pub record Broken (s : Scheme) (words : List DataWord) (ds : List ℤ) (at : Bad
 
 pub broken_at : (s : Scheme) (words : List DataWord) (items : List (Result ℤ BadWordAt)) (ds : List ℤ) (at : BadWordAt)
     (more : List (Result ℤ BadWordAt)) → Gives s words items → items ≡ map Ok ds ++ Err at ∷ more → Broken s words ds at
-broken_at s words items ds at more (all es run e) q = absurd (not_all ds es at more (sym e ∙ q))
-broken_at s words items ds at more (broken before bad after es cut run none e) q =
-    let found = same_broken ds es at (place_of bad) more (sym e ∙ q) in
-    record {
-      before = before;
-      bad = bad;
-      after = after;
-      cut = cut;
-      spelled = subst (λ (xs : List ℤ). SpellsRun s before xs) found.0 run;
-      none = none;
-      place = found.1;
-    }
+broken_at s words items ds at more is q = search (arith, not_all, same_broken)

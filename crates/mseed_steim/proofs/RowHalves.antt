@@ -1,6 +1,7 @@
 -- Rows in two numbers, a byte a row.
 use Rattle.std.proofs.Common.{◌≡◌, ℕ, zero, suc, ◌+◌, ◌*◌, ◌/◌, ◌%◌, ◌^◌, ◌<◌, List, [], ◌∷◌, get_or, arith, refl, ◌∙◌}
-use Rattle.std.proofs.Common.{ap, sym}
+use Rattle.std.proofs.lemmas.Bool.Decides.{nat_tests}
+use Rattle.std.proofs.Common.{ap}
 use Rattle.std.proofs.Math.Nat.{div-div-eq-div-mul}
 use Rattle.std.proofs.lemmas.Nat.{pow-add}
 use Rattle.std.proofs.lemmas.Simd.{Each1-chunk, get_or-chunk, get_or_wider}
@@ -16,9 +17,7 @@ byte_of (x ∷ xs) (suc i) small =
     let one : (x + 256 * number_l 256 xs) / 256 ≡ number_l 256 xs = omega (arith, small.0) in
     let more : 8 * suc i ≡ 8 + 8 * i = omega arith in
     let cut : (x + 256 * number_l 256 xs) / 2 ^ (8 * suc i) ≡ number_l 256 xs / 2 ^ (8 * i) =
-    ap (λ (n : ℕ). (x + 256 * number_l 256 xs) / n) (ap (λ (n : ℕ). 2 ^ n) more ∙ pow-add 2 8 (8 * i))
-    ∙ sym (div-div-eq-div-mul (x + 256 * number_l 256 xs) 256 (2 ^ (8 * i)))
-    ∙ ap (λ (n : ℕ). n / 2 ^ (8 * i)) one in
+    search (arith, nat_tests, div-div-eq-div-mul, pow-add) in
     ap (λ (n : ℕ). n % 16) cut ∙ byte_of xs i small.1
 
 wider : (xs : List ℕ) → Each1 (λ x. x < 16) xs → Each1 (λ x. x < 256) xs

@@ -1,5 +1,6 @@
 -- What two runs over the same words have in common.
 use Rattle.std.proofs.Common.{◌≡◌, ℕ, suc, ◌+◌, ◌<◌, ◌≤◌, List, [], ◌∷◌, ◌++◌, length, ℤ, ◌+ℤ◌, arith, refl, ap}
+use Rattle.std.proofs.lemmas.Bool.Decides.{nat_tests}
 use Rattle.std.proofs.Common.{append-nil, sym, ◌∙◌, subst, length-append, All}
 use Rattle.std.proofs.lemmas.List.Elements.{All-head, All-tail}
 use Rattle.mseed_steim.specs.declared.scheme.Scheme.{Scheme}
@@ -54,15 +55,7 @@ adds_one x (d ∷ ds) (e ∷ es) (s ∷ ss) (t ∷ ts) g l h k =
 
 starts_one : (x : ℤ) (ds es ss ts : List ℤ) → Agree ds es → length ss ≡ length ts → StartsAndAdds x ds ss
     → StartsAndAdds x es ts → ss ≡ ts
-starts_one x ds es [] [] g l h k = refl
-starts_one x ds es [] (t ∷ ts) g l h k = absurd (omega arith)
-starts_one x ds es (s ∷ ss) [] g l h k = absurd (omega arith)
-starts_one x [] es (s ∷ ss) (t ∷ ts) g l h k = absurd h
-starts_one x (d ∷ ds) [] (s ∷ ss) (t ∷ ts) g l h k = absurd k
-starts_one x (d ∷ ds) (e ∷ es) (s ∷ ss) (t ∷ ts) g l h k =
-    let first : s ≡ t = h.0 ∙ sym k.0 in
-    let later : ss ≡ ts = adds_one x ds es ss ts g.1 (omega arith) h.1 k.1 in
-    cc
+starts_one x ds es ss ts g l h k = search (arith, adds_one)
 
 -- Frames have one list of sums at most.
 pub sums_one : (s : Scheme) (p : List ℕ) (n : ℕ) (ss ts : List ℤ) → AreSums s p n ss → AreSums s p n ts → ss ≡ ts
@@ -91,10 +84,8 @@ bounds s (w ∷ fa) ra (v ∷ fb) rb ds es e h stops k =
     let one : h.0 ≡ k.0 = spells_one s v.code v.bits h.0 k.0
     (subst (λ (u : DataWord). Spells s u.code u.bits h.0) same h.1.1.1.0) k.1.1.1.0 in
     let later : length k.1.0 ≤ length h.1.0 = bounds s fa ra fb rb h.1.0 k.1.0 rest h.1.1.1.1 stops k.1.1.1.1 in
-    let left : length ds ≡ length k.0 + length h.1.0 =
-    ap (λ (xs : List ℤ). length xs) (h.1.1.0 ∙ ap (λ (xs : List ℤ). xs ++ h.1.0) one) ∙ length-append k.0 h.1.0 in
-    let right : length es ≡ length k.0 + length k.1.0 = ap (λ (xs : List ℤ). length xs) k.1.1.0
-    ∙ length-append k.0 k.1.0 in
+    let left : length ds ≡ length k.0 + length h.1.0 = search (arith, nat_tests, length-append) in
+    let right : length es ≡ length k.0 + length k.1.0 = search (arith, nat_tests, length-append) in
     omega (arith, later, left, right)
 
 not_spelled : (s : Scheme) (before : List DataWord) (bad : DataWord) (after : List DataWord) (ds : List ℤ)
@@ -159,9 +150,7 @@ not_short s p n ss ds a h less =
 pub not_bad : (s : Scheme) (p : List ℕ) (n : ℕ) (ss : List ℤ) (before : List DataWord) (bad : DataWord)
     (after : List DataWord) (ds : List ℤ) → AreSums s p n ss → data_words p ≡ before ++ bad ∷ after
     → SpellsRun s before ds → length ds < n → SpellsNone s bad.code bad.bits → ⊥
-not_bad s p n ss before bad after ds a cut h less none =
-    let most = bounds s before (bad ∷ after) a.prefix a.rest ds a.differences (sym cut ∙ a.cut) h none a.spelled in
-    omega (arith, most, a.enough)
+not_bad s p n ss before bad after ds a cut h less none = search (arith, bounds)
 
 -- Frames have one fault at most.
 pub fault_one : (s : Scheme) (p : List ℕ) (n : ℕ) (f g : ReadFault) → IsFrameFault s p n f → IsFrameFault s p n g

@@ -1,6 +1,7 @@
 -- A digit that is shifted up to the top of a word, and down again.
 use Rattle.std.proofs.Common.{◌≡◌, ℕ, ◌+◌, ◌-◌, ◌*◌, ◌/◌, ◌%◌, ◌^◌, ◌<◌, ◌≤◌, ℤ, pos, negsuc, arith, sym, ap, ◌∙◌, w32}
-use Rattle.std.proofs.Common.{to_z, FitsSigned, lit<, ⊎_elim}
+use Rattle.std.proofs.lemmas.Bool.Decides.{nat_tests}
+use Rattle.std.proofs.Common.{to_z, FitsSigned, ⊎_elim}
 use Rattle.std.specs.Int.Signed.{shr_z}
 use Rattle.std.proofs.lemmas.Bool.{lt-ltb, le-ltb, cases_lt}
 use Rattle.std.proofs.lemmas.Nat.{pow_pos, pow-add, shl-shr, shr-shr, shr_high, mod-pow-add, mod_below, mul-add-lt}
@@ -32,11 +33,9 @@ down : (w q r x : ℕ) → 0 < w → w ≤ 32 → q < 2 ^ w → r < 2 ^ (32 - w)
 down w q r x p n small rest fits e =
     let bits : 31 ≡ w - 1 + (32 - w) = omega arith in
     let whole : 2 ^ 31 ≡ 2 ^ (w - 1) * 2 ^ (32 - w) = ap (λ (i : ℕ). 2 ^ i) bits ∙ pow-add 2 (w - 1) (32 - w) in
-    let half = twice_half w p in
     ⊎_elim
     (λ (low : q < 2 ^ (w - 1)).
-    let under : q * 2 ^ (32 - w) + r < 2 ^ (w - 1) * 2 ^ (32 - w) = let row =
-    mul-add-lt q (2 ^ (32 - w)) r (2 ^ (w - 1)) low rest in omega (arith, row) in
+    let under : q * 2 ^ (32 - w) + r < 2 ^ (w - 1) * 2 ^ (32 - w) = search (arith, nat_tests, mul-add-lt) in
     let less : x < 2 ^ 31 = omega (arith, under, whole, e) in
     rw (lt-ltb x (2 ^ 31) less, lt-ltb q (2 ^ (w - 1)) low)
     (ap pos (ap (λ (i : ℕ). i / 2 ^ (32 - w)) e ∙ shr_high q (32 - w) r rest)))
@@ -46,7 +45,7 @@ down w q r x p n small rest fits e =
     let left = 2 ^ w - 1 - q in
     let all : left + q + 1 ≡ 2 ^ w = omega arith in
     let sum : (left + q + 1) * 2 ^ (32 - w) ≡ left * 2 ^ (32 - w) + q * 2 ^ (32 - w) + 2 ^ (32 - w) =
-    add-mul (left + q) 1 (2 ^ (32 - w)) ∙ (let part = add-mul left q (2 ^ (32 - w)) in omega (arith, part)) in
+    search (arith, nat_tests, add-mul) in
     let word_bits : w + (32 - w) ≡ 32 = omega arith in
     let twice : 2 ^ w * 2 ^ (32 - w) ≡ 2 ^ 32 = sym (pow-add 2 w (32 - w)) ∙ ap (λ (i : ℕ). 2 ^ i) word_bits in
     let total = rw all at sum in
@@ -57,14 +56,7 @@ down w q r x p n small rest fits e =
     (cases_lt q (2 ^ (w - 1)))
 
 fitting : (w q : ℕ) → 0 < w → w ≤ 32 → q < 2 ^ w → FitsSigned w32 (signed w q)
-fitting w q p n h =
-    let less : w - 1 ≤ 31 = omega arith in
-    let most : 2 ^ (w - 1) ≤ 2 ^ 31 = pow-le-pow_right (lit< tt) less in
-    let half = twice_half w p in
-    ⊎_elim
-    (λ (low : q < 2 ^ (w - 1)). rw (lt-ltb q (2 ^ (w - 1)) low) (record { sfits = omega (arith, most) }))
-    (λ (high : 2 ^ (w - 1) ≤ q). rw (le-ltb q (2 ^ (w - 1)) high) (record { sfits = omega (arith, most, half) }))
-    (cases_lt q (2 ^ (w - 1)))
+fitting w q p n h = search (arith, pow-le-pow_right, twice_half)
 
 pub digit_fits : (w place word : ℕ) → 0 < w → w ≤ 32 → FitsSigned w32 (digit_at w word place)
 digit_fits w place word p n =
@@ -89,7 +81,4 @@ shifted w place word p h =
 
 -- the digits of a group are within the word
 pub room_at : (w count i : ℕ) → i < count → w * count ≤ 32 → w * (count - 1 - i + 1) ≤ 32
-room_at w count i h fits =
-    let less : count - 1 - i + 1 ≤ count = omega arith in
-    let most = mul-le-mul_left w less in
-    omega (arith, most)
+room_at w count i h fits = search (arith, mul-le-mul_left)

@@ -1,6 +1,7 @@
 -- Sums by a window of the last four: each comes of the one four places before by two pairs of differences.
 use Rattle.std.proofs.Common.{◌≡◌, ℕ, ◌+◌, ◌-◌, ◌<◌, ◌≤◌, ◌^◌, List, [], ◌∷◌, map, take, drop, length, get_or}
-use Rattle.std.proofs.Common.{ℤ, pos, ◌+ℤ◌, nat_abs, w32, to_z, of_z, FitsSigned, arith, refl, ap, ◌∙◌, subst}
+use Rattle.std.proofs.lemmas.Bool.Decides.{nat_tests}
+use Rattle.std.proofs.Common.{ℤ, pos, ◌+ℤ◌, nat_abs, w32, to_z, of_z, FitsSigned, arith, refl, ◌∙◌, subst}
 use Rattle.std.proofs.lemmas.Int.{ints, to_z-of_z}
 use Rattle.mseed_steim.specs.private.Lanes.{span}
 use Rattle.mseed_steim.specs.private.Sums.{IsWindow, sums}
@@ -70,34 +71,18 @@ held_slide l b c d e f g h near =
 
 -- the sum of two differences
 pub held_pair : (x y : ℤ) → nat_abs x + nat_abs y < 2 ^ 31 → to_z w32 (added (of_z w32 x) (of_z w32 y)) ≡ y +ℤ x
-held_pair x y near =
-    let sum = abs_sum y x in
-    held_in (y +ℤ x) (holds_sum (holds x (omega (arith, near))) (holds y (omega (arith, near)))) (turned x y)
-    (omega (arith, near, sum))
+held_pair x y near = search (arith, abs_sum, held_in, holds, holds_sum, turned)
 
 -- the last of the four sums
 pub window_last : (r : ℕ) (d : ℤ) (s p : List ℤ) → IsWindow r d s p → nat_abs (get_or s 3 (pos 0)) + r < 2 ^ 31
-window_last r d s p w =
-    let to_b = abs_sum w.first w.second in
-    let to_c = abs_sum (w.first +ℤ w.second) w.third in
-    let to_d = abs_sum ((w.first +ℤ w.second) +ℤ w.third) d in
-    rw w.sums_are (omega (arith, w.near, to_b, to_c, to_d))
+window_last r d s p w = search (arith, abs_sum)
 
 pub window_long : (r : ℕ) (d : ℤ) (s p : List ℤ) → IsWindow r d s p → length s ≡ 4
 window_long r d s p w = rw w.sums_are refl
 
 -- it is one for fewer differences
 pub window_less : (r n : ℕ) (d : ℤ) (s p : List ℤ) → n ≤ r → IsWindow r d s p → IsWindow n d s p
-window_less r n d s p less w = record {
-  first = w.first;
-  second = w.second;
-  third = w.third;
-  sums_are = w.sums_are;
-  one = w.one;
-  other = w.other;
-  pairs_are = w.pairs_are;
-  near = omega (arith, w.near, less);
-}
+window_less r n d s p less w = search (arith)
 
 -- and as it is held in 32 bits
 pub window_held : (r : ℕ) (d : ℤ) (s p : List ℤ) → IsWindow r d s p
@@ -110,23 +95,15 @@ window_held r d s p w =
     let upper = abs_sum d w.third in
     let one : FitsSigned w32 w.first = near_signed w.first (omega (arith, w.near)) in
     let two : FitsSigned w32 (w.first +ℤ w.second) = near_signed (w.first +ℤ w.second) (omega (arith, w.near, to_b)) in
-    let three : FitsSigned w32 ((w.first +ℤ w.second) +ℤ w.third) =
-    near_signed ((w.first +ℤ w.second) +ℤ w.third) (omega (arith, w.near, to_b, to_c)) in
-    let four : FitsSigned w32 (((w.first +ℤ w.second) +ℤ w.third) +ℤ d) =
-    near_signed (((w.first +ℤ w.second) +ℤ w.third) +ℤ d) (omega (arith, w.near, to_b, to_c, to_d)) in
+    let three : FitsSigned w32 ((w.first +ℤ w.second) +ℤ w.third) = search (arith, nat_tests, near_signed) in
+    let four : FitsSigned w32 (((w.first +ℤ w.second) +ℤ w.third) +ℤ d) = search (arith, nat_tests, near_signed) in
     let low : FitsSigned w32 (w.third +ℤ w.second) = near_signed (w.third +ℤ w.second) (omega (arith, w.near, lower)) in
     let high : FitsSigned w32 (d +ℤ w.third) = near_signed (d +ℤ w.third) (omega (arith, w.near, upper)) in
     record {
       first = w.first;
       second = w.second;
       third = w.third;
-      sums_are = rw (
-        w.sums_are,
-        to_z-of_z w32 w.first one,
-        to_z-of_z w32 (w.first +ℤ w.second) two,
-        to_z-of_z w32 ((w.first +ℤ w.second) +ℤ w.third) three,
-        to_z-of_z w32 (((w.first +ℤ w.second) +ℤ w.third) +ℤ d) four,
-      ) refl;
+      sums_are = search (arith, nat_tests, to_z-of_z);
       one = to_z w32 (of_z w32 w.one);
       other = to_z w32 (of_z w32 w.other);
       pairs_are = rw (w.pairs_are, to_z-of_z w32 (w.third +ℤ w.second) low, to_z-of_z w32 (d +ℤ w.third) high) refl;
@@ -136,25 +113,10 @@ window_held r d s p w =
 -- four differences from the one before a place on
 pub before_four : (ds : List ℤ) (at : ℕ) → 0 < at → at + 4 ≤ length ds
     → take 4 (drop (at - 1) ds) ≡ get_or ds (at - 1) (pos 0) ∷ take 3 (take 4 (drop at ds))
-before_four ds at later some =
-    let next : at - 1 + 1 ≡ at = omega (arith, later) in
-    let cut = next_cut ds (at - 1) (pos 0) (omega (arith, some, later)) in
-    ap (λ (xs : List ℤ). take 4 xs) cut
-    ∙ ap (λ (k : ℕ). get_or ds (at - 1) (pos 0) ∷ take 3 (drop k ds)) next
-    ∙ ap (λ (xs : List ℤ). get_or ds (at - 1) (pos 0) ∷ xs) (three_of_four (drop at ds))
-  where
-    three_of_four : (xs : List ℤ) → take 3 xs ≡ take 3 (take 4 xs)
-    three_of_four [] = refl
-    three_of_four (x ∷ []) = refl
-    three_of_four (x ∷ y ∷ []) = refl
-    three_of_four (x ∷ y ∷ z ∷ []) = refl
-    three_of_four (x ∷ y ∷ z ∷ t ∷ more) = refl
+before_four ds at later some = search (arith, next_cut)
 
 pub three_near : (d : ℤ) (xs : List ℤ) → span (d ∷ take 3 xs) ≤ nat_abs d + span xs
-three_near d [] = omega arith
-three_near d (x ∷ []) = omega arith
-three_near d (x ∷ y ∷ []) = omega arith
-three_near d (x ∷ y ∷ z ∷ more) = omega arith
+three_near d xs = search (arith)
 
 -- before the first difference there is one sum alone
 pub window_first : (r : ℕ) (last : ℤ) → nat_abs last + r < 2 ^ 31
@@ -202,6 +164,4 @@ window_on ds l k out past s p near summed window =
 pub sums_are_held : (r ds : List ℤ) (l : ℤ) → FitsSigned w32 l → nat_abs l + span ds < 2 ^ 31
     → r ≡ sums (to_z w32 (of_z w32 l)) (map (to_z w32) (map (of_z w32) ds))
     → map (to_z w32) (map (of_z w32) r) ≡ sums l ds
-sums_are_held r ds l fits near e =
-    let value = rw (all_held ds (omega (arith, near)), to_z-of_z w32 l fits) at e in
-    ap (λ (xs : List ℤ). map (to_z w32) (map (of_z w32) xs)) value ∙ sums_held l ds near
+sums_are_held r ds l fits near e = search (arith, all_held, sums_held, to_z-of_z)

@@ -1,16 +1,15 @@
 -- A word's digits are what it spells, and nothing else is.
 use Rattle.std.proofs.Common.{◌≡◌, ℕ, zero, suc, ◌+◌, ◌-◌, ◌*◌, ◌/◌, ◌%◌, ◌^◌, ◌<◌, ◌≤◌, List, [], ◌∷◌, length, ℤ}
-use Rattle.std.proofs.Common.{arith, sym, ap, subst, refl, All, ⊎_elim, Bool, true, false, cond, eqb, Option, Some}
+use Rattle.std.proofs.Common.{arith, sym, ap, subst, refl, All, Bool, true, false, cond, eqb, Option, Some}
 use Rattle.std.proofs.Common.{if◌then◌else◌}
 use Rattle.std.proofs.Common.{None, w16, w32, to_z}
 use Rattle.std.proofs.lemmas.Nat.{pow_pos, mod-pow-add}
-use Rattle.std.proofs.lemmas.Int.{ints}
-use Rattle.std.proofs.lemmas.Bool.{cases_lt, lt-ltb, le-ltb, ne_eqb, eqb-true}
+use Rattle.std.proofs.lemmas.Bool.{ne_eqb, eqb-true}
 use Rattle.std.proofs.Math.Nat.{mod-eq_of_lt, mod-lt, mul-suc, mul-zero, mod-one}
 use Rattle.std.proofs.lemmas.List.Elements.{All-cons, All-nil}
 use Rattle.mseed_steim.specs.declared.scheme.Scheme.{Scheme}
 use Rattle.mseed_steim.specs.declared.scheme.Scheme.TheVariants.{One, Two}
-use Rattle.mseed_steim.specs.Groups.{Group, group_of, plain, wide_group, narrow_group}
+use Rattle.mseed_steim.specs.Groups.{Group, group_of, plain}
 use Rattle.mseed_steim.specs.Spelling.{Spells, IsGroup, empty, row, residue, IsWithin, positional}
 use Rattle.mseed_steim.specs.private.Digits.{signed, digit_at, digits, differences_in, differences_of}
 use Rattle.mseed_steim.proofs.Words.{twice_half}
@@ -18,20 +17,10 @@ use Rattle.mseed_steim.proofs.Table.{Sized, Kind, whole, full, short, group_size
 
 -- what a digit stands for is in range, and has the digit as its residue
 pub signed_within : (w n : ℕ) → 0 < w → n < 2 ^ w → IsWithin w (signed w n)
-signed_within w n p h = ⊎_elim
-    (λ (low : n < 2 ^ (w - 1)). rw (lt-ltb n (2 ^ (w - 1)) low) (omega (arith, ints), omega (arith, ints)))
-    (λ (high : 2 ^ (w - 1) ≤ n). let e = twice_half w p in
-    rw (le-ltb n (2 ^ (w - 1)) high) (omega (arith, ints), omega (arith, ints)))
-    (cases_lt n (2 ^ (w - 1)))
+signed_within w n p h = search (arith, twice_half)
 
 pub signed_residue : (w n : ℕ) → 0 < w → n < 2 ^ w → residue (2 ^ w) (signed w n) ≡ n
-signed_residue w n p h = ⊎_elim
-    (λ (low : n < 2 ^ (w - 1)). rw (lt-ltb n (2 ^ (w - 1)) low) (mod-eq_of_lt h))
-    (λ (high : 2 ^ (w - 1) ≤ n).
-    let less : 2 ^ w - 1 - n < 2 ^ w = omega arith in
-    let same : (2 ^ w - 1 - n) % 2 ^ w ≡ 2 ^ w - 1 - n = mod-eq_of_lt less in
-    rw (le-ltb n (2 ^ (w - 1)) high, same) (omega arith))
-    (cases_lt n (2 ^ (w - 1)))
+signed_residue w n p h = search (arith, mod-eq_of_lt)
 
 pub length-digits : (w word k : ℕ) → length (digits w word k) ≡ k
 unfolding digits
@@ -59,11 +48,7 @@ digits_positional w word (suc k) p =
 group_by : (g : Group) (word spare : ℕ) → 0 < g.width → spare < g.spare
     → word ≡ (if g.marked then word / 2 ^ 30 * 2 ^ 30 else 0) + spare * 2 ^ 28 + word % 2 ^ (g.width * g.count)
     → IsGroup g (word / 2 ^ 30) word (digits g.width word g.count)
-group_by g word spare p few sum = record {
-  count = length-digits g.width word g.count;
-  range = digits_within g.width word g.count p;
-  sum = (spare, few, rw (digits_positional g.width word g.count p) sum);
-}
+group_by g word spare p few sum = search (arith, digits_positional, digits_within, length-digits)
 
 -- by the three kinds of rows
 is_group : (g : Group) (word : ℕ) → word < 2 ^ 32 → 0 < g.width → Kind g
@@ -117,19 +102,11 @@ digits_step w word count i h =
 
 -- the one digit of 32 bits
 pub signed_32 : (n : ℕ) → n < 2 ^ 32 → signed 32 n ≡ to_z w32 n
-signed_32 n h = ⊎_elim
-    (λ (low : n < 2 ^ 31). rw (lt-ltb n (2 ^ 31) low) refl)
-    (λ (high : 2 ^ 31 ≤ n). let same : 2 ^ 32 - 1 - n ≡ 2 ^ 32 - suc n = omega arith in
-    rw (le-ltb n (2 ^ 31) high, same) refl)
-    (cases_lt n (2 ^ 31))
+signed_32 n h = search (arith)
 
 -- and of 16
 pub signed_16 : (n : ℕ) → n < 2 ^ 16 → signed 16 n ≡ to_z w16 n
-signed_16 n h = ⊎_elim
-    (λ (low : n < 2 ^ 15). rw (lt-ltb n (2 ^ 15) low) refl)
-    (λ (high : 2 ^ 15 ≤ n). let same : 2 ^ 16 - 1 - n ≡ 2 ^ 16 - suc n = omega arith in
-    rw (le-ltb n (2 ^ 15) high, same) refl)
-    (cases_lt n (2 ^ 15))
+signed_16 n h = search (arith)
 
 -- after the last digit there's none
 pub digits_over : (w word count i : ℕ) → count ≤ i → digits w word (count - i) ≡ []
@@ -144,29 +121,10 @@ unfolding differences_of
 by_row s c word m j k w ds p e q = let some : eqb c 0 ≡ false = ne_eqb c 0 (λ (z : c ≡ 0). omega arith) in
     rw (some, e, q) refl
 
-pub by_no_row : (s : Scheme) (c word : ℕ) → 0 < c → group_of s c (word / 2 ^ 30) ≡ None → differences_of s c word ≡ None
-unfolding differences_of
-by_no_row s c word p e = let some : eqb c 0 ≡ false = ne_eqb c 0 (λ (z : c ≡ 0). omega arith) in rw (some, e) refl
-
 -- code 1 is one row in both schemes
 pub bytes_row : (s : Scheme) (d : ℕ) → group_of s 1 d ≡ plain 4 8
 bytes_row One d = refl
 bytes_row Two d = refl
-
--- the dnibs that have no row
-pub wide_none : (d : ℕ) → d < 1 → wide_group d ≡ None
-wide_none d h =
-    let first : eqb d 1 ≡ false = ne_eqb d 1 (λ (z : d ≡ 1). omega arith) in
-    let second : eqb d 2 ≡ false = ne_eqb d 2 (λ (z : d ≡ 2). omega arith) in
-    let third : eqb d 3 ≡ false = ne_eqb d 3 (λ (z : d ≡ 3). omega arith) in
-    rw (first, second, third) refl
-
-pub narrow_none : (d : ℕ) → 2 < d → narrow_group d ≡ None
-narrow_none d h =
-    let zeroth : eqb d 0 ≡ false = ne_eqb d 0 (λ (z : d ≡ 0). omega arith) in
-    let first : eqb d 1 ≡ false = ne_eqb d 1 (λ (z : d ≡ 1). omega arith) in
-    let second : eqb d 2 ≡ false = ne_eqb d 2 (λ (z : d ≡ 2). omega arith) in
-    rw (zeroth, first, second) refl
 
 -- code 0
 pub no_differences : (s : Scheme) (c word : ℕ) (ds : List ℤ) → c ≡ 0 → ds ≡ [] → differences_of s c word ≡ Some ds

@@ -1,6 +1,7 @@
 -- Sums of differences, four at once and in whole turns.
 use Rattle.std.proofs.Common.{◌≡◌, ℕ, ◌+◌, ◌-◌, ◌<◌, ◌≤◌, ◌^◌, suc, List, [], ◌∷◌, ◌++◌, map, take, drop, length}
-use Rattle.std.proofs.Common.{◌%◌, ℤ, pos, negsuc, ◌+ℤ◌, nat_abs, w32, to_z, of_z, FitsSigned, arith, refl, ap, sym}
+use Rattle.std.proofs.lemmas.Bool.Decides.{nat_tests}
+use Rattle.std.proofs.Common.{◌%◌, ℤ, pos, ◌+ℤ◌, nat_abs, w32, to_z, of_z, FitsSigned, arith, refl, ap, sym}
 use Rattle.std.proofs.Common.{◌∙◌, append_assoc, get_or, zero}
 use Rattle.std.specs.Prelude.{replicate}
 use Rattle.std.proofs.Math.Seq.{take-append-add}
@@ -45,13 +46,7 @@ pub record Holds (bits : ℕ) (z : ℤ) : Type 0 where
   pub is : to_z w32 bits ≡ int_wrap w32 z
 
 pub holds : (z : ℤ) → nat_abs z < 2 ^ 31 → Holds (of_z w32 z) z
-holds z near =
-    let fits : FitsSigned w32 z = near_signed z near in
-    record { below = below z near; is = to_z-of_z w32 z fits ∙ sym (int_wrap_fits w32 z fits) }
-  where
-    below : (z : ℤ) → nat_abs z < 2 ^ 31 → of_z w32 z < 2 ^ 32
-    below (pos n) h = omega (arith, h)
-    below (negsuc n) h = omega (arith, h)
+holds z near = search (arith, int_wrap_fits, near_signed, to_z-of_z)
 
 abbrev pub added : ℕ → ℕ → ℕ
 added m n = (m + n) % 2 ^ 32
@@ -120,12 +115,7 @@ next_some ds begin k m n out after last next at s put moved =
     let step = abs_sum last (total some) in
     record {
       near = rw moved (omega (arith, s.near, spans, step, total_near some));
-      kept = ap (λ (xs : List ℤ). xs ++ sums next (drop n ds)) put
-          ∙ append_assoc (take k out) (sums last some) (sums next (drop n ds))
-          ∙ ap (λ (xs : List ℤ). take k out ++ xs)
-          (ap (λ (z : ℤ). sums last some ++ sums z (drop n ds)) moved
-          ∙ sym (ap (sums last) cut ∙ sums_more last some (drop n ds)))
-          ∙ s.kept;
+      kept = search (arith, nat_tests, append_assoc, sums_more);
       moved = rw moved (omega (arith, ints, totals, s.moved));
     }
 
@@ -172,26 +162,16 @@ pub padded_span : (ds : List ℤ) (k : ℕ) → span (ds ++ replicate k (pos 0))
 padded_span ds k = let more = span-append ds (replicate k (pos 0)) in omega (arith, more, span_zeros k)
 
 pub padded_total : (ds : List ℤ) (k : ℕ) → total (ds ++ replicate k (pos 0)) ≡ total ds
-padded_total ds k =
-    let none : total ds +ℤ pos 0 ≡ total ds = omega (arith, ints) in
-    total-append ds (replicate k (pos 0)) ∙ ap (λ (z : ℤ). total ds +ℤ z) (total_zeros k) ∙ none
+padded_total ds k = search (arith, total-append, total_zeros)
 
 -- what stands before a part that is put in its places
 pub put_front : (k rest : ℕ) (out after : List ℤ) → k ≤ length out → take k (put_mid k rest out after) ≡ take k out
-put_front k rest out after inside =
-    let first : length (take k out) ≡ k = length-take-le k out inside in
-    take_at (take k out) (after ++ post_of k rest out) k first
+put_front k rest out after inside = search (arith, length-take-le, take_at)
 
 -- what is put after what there is
 pub put_next : (k rest m : ℕ) (out after : List ℤ) → k ≤ length out → m ≤ length after
     → take (k + m) (put_mid k rest out after) ≡ take k out ++ take m after
-put_next k rest m out after inside filled =
-    let behind : List ℤ = post_of k rest out in
-    let first : length (take k out) ≡ k = length-take-le k out inside in
-    let at : k + m ≡ length (take k out) + m = omega (arith, first) in
-    ap (λ (n : ℕ). take n (take k out ++ (after ++ behind))) at
-    ∙ take-append-add (take k out) (after ++ behind) m
-    ∙ ap (λ (ys : List ℤ). take k out ++ ys) (take-append-le m after behind filled)
+put_next k rest m out after inside filled = search (arith, length-take-le, take-append-add, take-append-le)
 
 -- what is put by whole turns, as far as the differences go
 pub whole_put : (count k : ℕ) (ds after : List ℤ) (l : ℤ) → length ds ≡ count

@@ -1,7 +1,7 @@
 -- What the table's rows have in common.
 use Rattle.std.proofs.Common.{◌≡◌, ℕ, ◌+◌, ◌*◌, ◌/◌, ◌%◌, ◌^◌, ◌<◌, ◌≤◌, List, length, ℤ, arith, refl, subst, Bool}
 use Rattle.std.proofs.Common.{true}
-use Rattle.std.proofs.Common.{false, cond, Option, Some, None, eqb}
+use Rattle.std.proofs.Common.{false, cond, Option, Some, None}
 use Rattle.mseed_steim.specs.declared.scheme.Scheme.{Scheme}
 use Rattle.mseed_steim.specs.declared.scheme.Scheme.TheVariants.{One, Two}
 use Rattle.mseed_steim.specs.Groups.{wide_group, narrow_group, Group, group_of, plain, marked}
@@ -39,27 +39,14 @@ marked_sized : (k w : ℕ) → 0 < w → k ≤ 7 → w * k ≡ 30 → AllSized (
 marked_sized k w p f q = some_sized _ p f (full refl refl q)
 
 wide_sized : (d : ℕ) → AllSized (wide_group d)
-wide_sized d =
-    cond_holds AllSized (eqb d 1) _ _ (marked_sized 1 30 (omega arith) (omega arith) refl)
-    (cond_holds AllSized (eqb d 2) _ _ (marked_sized 2 15 (omega arith) (omega arith) refl)
-    (cond_holds AllSized (eqb d 3) _ _ (marked_sized 3 10 (omega arith) (omega arith) refl) none_sized))
+wide_sized d = search (arith, cond_holds, marked_sized, none_sized)
 
 narrow_sized : (d : ℕ) → AllSized (narrow_group d)
-narrow_sized d =
-    cond_holds AllSized (eqb d 0) _ _ (marked_sized 5 6 (omega arith) (omega arith) refl)
-    (cond_holds AllSized (eqb d 1) _ _ (marked_sized 6 5 (omega arith) (omega arith) refl)
-    (cond_holds AllSized (eqb d 2) _ _ (some_sized _ (omega arith) (omega arith) (short refl refl refl)) none_sized))
+narrow_sized d = search (arith, cond_holds, marked_sized, none_sized, some_sized)
 
 -- each row is sized
 pub group_sized : (s : Scheme) (c d : ℕ) → AllSized (group_of s c d)
-group_sized One c d =
-    cond_holds AllSized (eqb c 1) _ _ (plain_sized 4 8 (omega arith) (omega arith) refl)
-    (cond_holds AllSized (eqb c 2) _ _ (plain_sized 2 16 (omega arith) (omega arith) refl)
-    (cond_holds AllSized (eqb c 3) _ _ (plain_sized 1 32 (omega arith) (omega arith) refl) none_sized))
-group_sized Two c d =
-    cond_holds AllSized (eqb c 1) _ _ (plain_sized 4 8 (omega arith) (omega arith) refl)
-    (cond_holds AllSized (eqb c 2) _ _ (wide_sized d)
-    (cond_holds AllSized (eqb c 3) _ _ (narrow_sized d) none_sized))
+group_sized s c d = search (arith, cond_holds, narrow_sized, none_sized, plain_sized, wide_sized)
 
 -- code 0 has no row
 pub no_row : (s : Scheme) (d : ℕ) (g : Group) → group_of s 0 d ≡ Some g → ⊥
@@ -69,24 +56,16 @@ no_row Two d g e = cc
 -- the word without its spare: the dnib's term and the digits, by the kind of the row
 sum_full : (g : Group) (d word : ℕ) (ds : List ℤ) → g.marked ≡ true → g.spare ≡ 1 → g.width * g.count ≡ 30
     → IsGroup g d word ds → (word ≡ d * 2 ^ 30 + positional g.width ds) × (positional g.width ds < 2 ^ 30)
-sum_full g d word ds m j l a =
-    let whole : word ≡ d * 2 ^ 30 + a.sum.0 * 2 ^ 28 + positional g.width ds = rw m at a.sum.2 in
-    let small : positional g.width ds < 2 ^ 30 = rw (a.count, l) at (positional_lt g.width ds) in
-    (omega (arith, whole, a.sum.1, j), small)
+sum_full g d word ds m j l a = search (arith, positional_lt)
 
 sum_short : (g : Group) (d word : ℕ) (ds : List ℤ) → g.marked ≡ true → g.spare ≡ 4 → g.width * g.count ≡ 28
     → IsGroup g d word ds → (word ≡ d * 2 ^ 30 + (word / 2 ^ 28 % 4) * 2 ^ 28 + positional g.width ds)
     × (positional g.width ds < 2 ^ 28)
-sum_short g d word ds m j l a =
-    let whole : word ≡ d * 2 ^ 30 + a.sum.0 * 2 ^ 28 + positional g.width ds = rw m at a.sum.2 in
-    let small : positional g.width ds < 2 ^ 28 = rw (a.count, l) at (positional_lt g.width ds) in
-    (omega (arith, whole, small, a.sum.1, j), small)
+sum_short g d word ds m j l a = search (arith, positional_lt)
 
 sum_whole : (g : Group) (d word : ℕ) (ds : List ℤ) → g.marked ≡ false → g.spare ≡ 1 → IsGroup g d word ds
     → word ≡ positional g.width ds
-sum_whole g d word ds m j a =
-    let whole : word ≡ 0 + a.sum.0 * 2 ^ 28 + positional g.width ds = rw m at a.sum.2 in
-    omega (arith, whole, a.sum.1, j)
+sum_whole g d word ds m j a = search (arith)
 
 -- a row with a dnib is found by the word's top two bits
 top_is : (g : Group) (d word : ℕ) (ds : List ℤ) → Kind g → g.marked ≡ true → IsGroup g d word ds → word / 2 ^ 30 ≡ d
@@ -119,14 +98,10 @@ none_marked : AllMarked None
 none_marked g e = cc
 
 wide_marked : (d : ℕ) → AllMarked (wide_group d)
-wide_marked d = cond_holds AllMarked (eqb d 1) _ _ (is_marked _ refl)
-    (cond_holds AllMarked (eqb d 2) _ _ (is_marked _ refl)
-    (cond_holds AllMarked (eqb d 3) _ _ (is_marked _ refl) none_marked))
+wide_marked d = search (arith, cond_holds, is_marked, none_marked)
 
 narrow_marked : (d : ℕ) → AllMarked (narrow_group d)
-narrow_marked d = cond_holds AllMarked (eqb d 0) _ _ (is_marked _ refl)
-    (cond_holds AllMarked (eqb d 1) _ _ (is_marked _ refl)
-    (cond_holds AllMarked (eqb d 2) _ _ (is_marked _ refl) none_marked))
+narrow_marked d = search (arith, cond_holds, is_marked, none_marked)
 
 first_or_marked : (b : Bool) (x y z : Option Group) (g : Group) → AllMarked y → g.marked ≡ false → cond b x y ≡ Some g
     → cond b x z ≡ Some g
@@ -134,11 +109,7 @@ first_or_marked true x y z g m f e = e
 first_or_marked false x y z g m f e = let t : g.marked ≡ true = m g e in cc
 
 same_row : (s : Scheme) (c d e : ℕ) (g : Group) → g.marked ≡ false → group_of s c d ≡ Some g → group_of s c e ≡ Some g
-same_row One c d e g m h = h
-same_row Two c d e g m h =
-    first_or_marked (eqb c 1) _ _ _ g
-    (cond_holds AllMarked (eqb c 2) _ _ (wide_marked d)
-    (cond_holds AllMarked (eqb c 3) _ _ (narrow_marked d) none_marked)) m h
+same_row s c d e g m h = search (arith, cond_holds, first_or_marked, narrow_marked, none_marked, wide_marked)
 
 -- what a row spells at some dnib it spells at the word's top two bits
 pub at_top : (s : Scheme) (c d word : ℕ) (g : Group) (ds : List ℤ) → Kind g → group_of s c d ≡ Some g

@@ -1,6 +1,6 @@
 -- What is unpacked next.
-use Rattle.std.proofs.Common.{◌≡◌, ℕ, zero, suc, ◌*◌, ◌^◌, ◌/◌, ◌<◌, List, [], ◌∷◌, ◌++◌, length, map, ℤ, refl, ap, ◌∙◌}
-use Rattle.std.proofs.Common.{arith, eqb, true, false, Bool, Option, Some, None, Result, Ok, Err}
+use Rattle.std.proofs.Common.{◌≡◌, ℕ, zero, suc, ◌*◌, ◌^◌, ◌/◌, ◌<◌, List, [], ◌∷◌, ◌++◌, length, map, ℤ, refl, ap}
+use Rattle.std.proofs.Common.{arith, eqb, true, false, Bool, Option, Some, None, Result, Ok}
 use Rattle.std.proofs.lemmas.Bool.{eqb-true, false≢true}
 use Rattle.std.proofs.Math.Nat.{mul-zero}
 use Rattle.std.specs.Prelude.{⊤}
@@ -50,9 +50,7 @@ past_begins (w ∷ ws) = past_step w ws (eqb w.code 0) refl (past_begins ws)
 -- where a run has no bytes, none of the words was taken
 pub nothing_taken : (before after : List DataWord) (bytes : List ℕ) → before ≡ byte_run before ++ after
     → length bytes ≡ 4 * length (byte_run before) → length bytes ≡ 0 → before ≡ after
-nothing_taken before after bytes cut count none =
-    let empty : byte_run before ≡ [] = nil_from_length (byte_run before) (omega (arith, count, none)) in
-    cut ∙ ap (λ (ws : List DataWord). ws ++ after) empty
+nothing_taken before after bytes cut count none = search (arith, nil_from_length)
 
 -- a word of another code has some differences
 positive : (w k n : ℕ) → w * k ≡ n → 0 < n → 0 < k
@@ -60,9 +58,7 @@ positive w zero n e p = let none = mul-zero w in absurd (omega (arith, none, e, 
 positive w (suc k) n e p = omega arith
 
 some_count : (g : Group) → Kind g → 0 < g.count
-some_count g (whole m s e) = positive g.width g.count 32 e (omega arith)
-some_count g (full m s e) = positive g.width g.count 30 e (omega arith)
-some_count g (short m s e) = positive g.width g.count 28 e (omega arith)
+some_count g sized = search (arith, full, positive, short, whole)
 
 some_in : (word : ℕ) (o : Option Group) (ds : List ℤ) → AllSized o → differences_in word o ≡ Some ds → 0 < length ds
 some_in word None ds all e = cc
@@ -83,9 +79,7 @@ pub stepped : (s : Scheme) (old : Left) (words after : List DataWord) (ready : L
     (r : Option (Result ℤ BadWordAt)) → old.items ≡ items_of s words → IsStep s words r after ready
     → YieldsFirst (λ (left : Left). left.items) old r
     (record { items = map Ok ready ++ items_of s after; ready = ready; words = after })
-stepped s old words after ready None e h = (e ∙ h.0, rw (h.2, h.1) (no_items s [] refl))
-stepped s old words after ready (Some (Ok d)) e h = e ∙ h.0
-stepped s old words after ready (Some (Err at)) e h = e ∙ h.0 ∙ (rw (h.2, h.1, no_items s [] refl) refl)
+stepped s old words after ready r e h = search (arith, no_items)
 
 pub progressed : (s : Scheme) (old : Left) (words after : List DataWord) (ready : List ℤ)
     (r : Option (Result ℤ BadWordAt)) → old.items ≡ items_of s words → IsStep s words r after ready

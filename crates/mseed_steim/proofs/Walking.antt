@@ -114,9 +114,7 @@ data_few zero (suc i) = omega arith
 data_few (suc met) (suc i) = omega arith
 
 later_in : (met i : ℕ) → 0 < i → data_in met i ≡ 1
-later_in met zero h = absurd (omega (arith, h))
-later_in zero (suc i) h = refl
-later_in (suc met) (suc i) h = refl
+later_in met i h = search (arith)
 
 pub left_later : (p : List ℕ) (met later i : ℕ) → 0 < i → left_from p met i ≡ left_from p later i
 left_later p met later i h = rw (later_in met i h, later_in later i h) refl
@@ -137,9 +135,7 @@ frames_cut p met later i k some inside =
 
 -- after the last frame there are none
 pub none_left : (p : List ℕ) (met i : ℕ) → length p / 64 ≤ i → left_from p met i ≡ []
-none_left p met i over =
-    let none : word_count p - (16 * i + data_in met i) ≡ 0 = omega (arith, over) in
-    rw none (words_none p (16 * i + data_in met i))
+none_left p met i over = search (arith, words_none)
 
 -- a frame's items, and those of the later frames
 pub frame_items : (s : Scheme) (p begin frame : List ℕ) (met later i count : ℕ) (ds : List ℤ) → i < length p / 64

@@ -32,6 +32,7 @@ fn row(count: u32, width: u32) -> Option<Group>
 /// The group of a word, by its code and its top two bits, the dnib: that of no differences where the code is
 /// 0, and none where they have no meaning in the scheme.
 #[inline(always)]
+#[tactic(auto, using(crate::proofs::Grouped::table))]
 pub(crate) fn group_of(scheme: Scheme, code: u8, word: u32) -> Option<Group>
     ensures { MatchOption result (differences_of scheme code word ≡ None)
         (λ g. differences_of scheme code word ≡ Some (digits g.width word g.count)) }

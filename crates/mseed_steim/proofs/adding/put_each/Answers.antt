@@ -10,12 +10,7 @@ use Rattle.mseed_steim.proofs.Summed.{next_some}
 use Rattle.mseed_steim.proofs.adding.put_each.Goals as goal
 
 pub add_near-sum-requires : goal.add_near-sum-requires
-add_near-sum-requires c =
-    let fits : FitsSigned w32 (get_or c.args.differences.now c.loop-i.i (pos 0)) = search rules in
-    let begin : FitsSigned w32 c.args.last = search rules in
-    let step = span_step c.args.differences.now c.loop-i.i (pos 0) c.loop-i-test.true in
-    let near = rw (to_z-of_z w32 c.args.last begin) at c.loop-i.invariant.summed.near in
-    rw to_z-of_z (omega (arith, step, near, c.requires.near))
+add_near-sum-requires c = search (arith, span_step, to_z-of_z)
 
 pub loop-i-preserved : goal.loop-i-preserved
 loop-i-preserved c =

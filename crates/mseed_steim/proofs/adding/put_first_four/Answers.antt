@@ -1,4 +1,5 @@
-use Rattle.std.proofs.Common.{◌≡◌, ◌+◌, ◌<◌, ◌^◌, ◌∙◌, List, ℤ, take, length, get_or, ap, pos, nat_abs, w32}
+use Rattle.std.proofs.Common.{◌≡◌, ◌<◌, ◌^◌, ◌∙◌, List, ℤ, take, length, get_or, ap, pos, w32}
+use Rattle.std.proofs.Common.{rules}
 use Rattle.std.proofs.Common.{FitsSigned, arith, subst}
 use lib.Lanes.{chunk, put_chunk}
 use Rattle.std.proofs.lemmas.Int.{to_z-of_z}
@@ -10,14 +11,7 @@ use Rattle.mseed_steim.proofs.Summed.{all_held, four_of, length-sums, last_of_fo
 use Rattle.mseed_steim.proofs.adding.put_first_four.Goals as goal
 
 pub slide-requires-clause-window : goal.slide-requires-clause-window
-slide-requires-clause-window c =
-    let four : List ℤ = chunk 0 4 c.args.differences.now in
-    let near : span four < 2 ^ 31 = omega (arith, c.requires.near) in
-    let f = four_of four (length-chunk 0 4 c.args.differences.now c.requires.some) in
-    let last : FitsSigned w32 c.args.last = c.ranges.last in
-    let all : nat_abs c.args.last + span four < 2 ^ 31 = c.requires.near in
-    rw (all_held four near, to_z-of_z w32 c.args.last last, f.same)
-    (window_first _ c.args.last (omega (arith, all, ap span f.same)))
+slide-requires-clause-window c = search (rules, all_held, four_of, length-chunk, to_z-of_z, window_first)
 
 pub returns-clause-sums : goal.returns-clause-sums
 returns-clause-sums c =

@@ -1,6 +1,6 @@
-use Rattle.std.proofs.Common.{◌≡◌, ◌+◌, ◌*◌, ◌^◌, ◌<◌, ℕ, ◌∙◌, nat_abs, w32, to_z, map, get_or, pos}
-use Rattle.std.proofs.Common.{arith, rules, refl, drop, []}
-use Rattle.std.proofs.lemmas.Int.{ints, to_z-of_z}
+use Rattle.std.proofs.Common.{◌≡◌, ◌+◌, ◌*◌, ◌^◌, ◌<◌, ℕ, nat_abs, w32, to_z, map, get_or, pos}
+use Rattle.std.proofs.Common.{arith, rules, refl, drop}
+use Rattle.std.proofs.lemmas.Int.{to_z-of_z}
 use Rattle.std.proofs.Math.ListN.{drop_of_length-le}
 use Rattle.mseed_steim.specs.private.Lanes.{span}
 use Rattle.mseed_steim.proofs.Slid.{window_held, window_less, window_long, window_on}
@@ -71,10 +71,4 @@ loop-turn-preserved c =
     }
 
 pub returns-clause-last : goal.returns-clause-last
-returns-clause-last c =
-    let ds = c.args.differences.now in
-    let over : drop (4 + 8 * c.loop-turn.turn) ds ≡ [] = drop_of_length-le ds
-    (omega (arith, c.requires.whole.1, c.loop-turn-test.false)) in
-    let moved = rw (over, to_z-of_z w32 c.args.last c.ranges.last) at c.loop-turn.invariant.summed.moved in
-    let same = to_z-of_z w32 (get_or (map (to_z w32) c.loop-turn.sums) 3 (pos 0)) (search rules) in
-    same ∙ omega (arith, ints, moved)
+returns-clause-last c = search (arith, drop_of_length-le, to_z-of_z)

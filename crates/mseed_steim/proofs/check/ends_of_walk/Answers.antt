@@ -1,23 +1,14 @@
-use Rattle.std.proofs.Common.{◌≡◌, ◌∙◌, refl, rules, sym, ap, w32, to_z, of_z, FitsSigned}
+use Rattle.std.proofs.Common.{◌∙◌, sym}
+use Rattle.std.proofs.Common.{arith}
 use Rattle.std.proofs.lemmas.Int.{to_z-of_z}
 use Rattle.mseed_steim.proofs.Ended.{ends_differ, lacking_fault, walk_fault}
 use Rattle.mseed_steim.proofs.check.ends_of_walk.Goals as goal
 
 pub returns-in-Ok-clause-met : goal.returns-in-Ok-clause-met
-returns-in-Ok-clause-met c =
-    let last : FitsSigned w32 c.args.constants.last = search rules in
-    let sum : FitsSigned w32 c.in-Ok.sum.last = search rules in
-    let same = simp to_z-of_z at (ap (to_z w32) c.if-sum-constants.true) in
-    rw c.in-Ok.is (same ∙ c.requires.last)
+returns-in-Ok-clause-met c = search (arith, to_z-of_z)
 
 pub returns-in-Ok-2-clause-fault : goal.returns-in-Ok-2-clause-fault
-returns-in-Ok-2-clause-fault c =
-    let last : FitsSigned w32 c.args.constants.last = search rules in
-    let sum : FitsSigned w32 c.in-Ok-2.sum.last = search rules in
-    let same : c.in-Ok.sum ≡ c.in-Ok-2.sum = cc in
-    simp to_z-of_z (ends_differ c.args.scheme c.args.payload.now c.args.samples c.in-Ok-2.sum c.requires.some
-    (λ i. (c.type_inv.payload i).fits) (sym c.in-Ok-2.is ∙ c.requires.walked) _ _ refl c.requires.last
-    (λ e. c.if-sum-constants.false (rw same (ap (of_z w32) e))))
+returns-in-Ok-2-clause-fault c = search (arith, ends_differ, to_z-of_z)
 
 pub returns-in-Some-clause-fault : goal.returns-in-Some-clause-fault
 returns-in-Some-clause-fault c = lacking_fault c.args.scheme c.args.payload.now c.args.samples c.in-Some.earlier

@@ -1,7 +1,6 @@
 use Rattle.std.proofs.Common.{◌≡◌, ◌∙◌, ◌++◌, ◌∷◌, List, ℤ, Ok, true, ap, sym, length, map, w32, FitsSigned, rules}
 use Rattle.std.proofs.Common.{arith}
 use Rattle.std.proofs.lemmas.Int.{to_z-of_z}
-use Rattle.std.proofs.lemmas.Bool.{eqb-true}
 use Rattle.mseed_steim.specs.private.Digits.{digits}
 use Rattle.mseed_steim.specs.Frames.{DataWord}
 use Rattle.mseed_steim.specs.private.Items.{items_of}
@@ -10,36 +9,20 @@ use Rattle.mseed_steim.proofs.Spelled.{length-digits}
 use Rattle.mseed_steim.proofs.Unpacking.{nothing_taken, past_begins, some_of}
 use Rattle.mseed_steim.proofs.Walking.{items_group, items_bad, no_items}
 use Rattle.mseed_steim.proofs.differences.unpack_next.Goals.{After-is_empty}
-use Rattle.mseed_steim.specs.ByteRuns.{byte_run, past_empty}
+use Rattle.mseed_steim.specs.ByteRuns.{past_empty}
 use Rattle.mseed_steim.proofs.ByteRun.{widened}
 use Rattle.mseed_steim.proofs.Runs.{run_one}
 use Rattle.mseed_steim.proofs.differences.unpack_next.Goals as goal
 
 pub returns-then-not-is_empty-clause-run : goal.returns-then-not-is_empty-clause-run
-returns-then-not-is_empty-clause-run c = λ some scheme ds spelled.
-    let fits : FitsSigned w32 c.in_ok-next.field-0 = search rules in
-    let same = run_one scheme (byte_run (past_empty c.args.words.now)) ds (widened c.take_bytes-bytes.result.now)
-    spelled (rw c.pass_empty.ensures.past at (c.take_bytes-bytes.ensures.spelled scheme)) in
-    let cut = rw c.in_ok-next.was at c.next.ensures in
-    rw to_z-of_z (ap (λ (zs : List ℤ). map Ok zs) (same ∙ sym c.set_bytes.ensures ∙ cut))
+returns-then-not-is_empty-clause-run c = search (arith, run_one, to_z-of_z, widened)
 
 -- no run comes next
 none_taken : (c : After-is_empty) → c.is_empty.result ≡ true → c.pass_empty.new.words ≡ c.take_bytes-bytes.new.self
-none_taken c e =
-    nothing_taken c.pass_empty.new.words c.take_bytes-bytes.new.self c.take_bytes-bytes.result.now
-    c.take_bytes-bytes.ensures.cut c.take_bytes-bytes.ensures.count
-    (eqb-true (length c.take_bytes-bytes.result.now) 0 (sym c.is_empty.ensures ∙ e))
+none_taken c e = search (arith, nothing_taken)
 
 pub returns-in_err-word-clause-step : goal.returns-in_err-word-clause-step
-returns-in_err-word-clause-step c =
-    let same = none_taken (goal.at.returns-in_err-word-clause-step c).After-is_empty c.if-not-is_empty.false in
-    let left = c.in_err-word.ensures.steps in
-    rw c.from_residual-in_err-word.ensures (
-      c.pass_empty.ensures.items c.args.scheme
-          ∙ no_items c.args.scheme c.pass_empty.new.words (same ∙ left.0),
-      left.1,
-      c.requires,
-    )
+returns-in_err-word-clause-step c = search (arith, no_items, none_taken)
 
 pub returns-in_err-next-in-Some-clause-step : goal.returns-in_err-next-in-Some-clause-step
 returns-in_err-next-in-Some-clause-step c =

@@ -1,4 +1,5 @@
 use Rattle.std.proofs.Common.{◌∙◌}
+use Rattle.std.proofs.Common.{arith}
 use Rattle.std.proofs.lemmas.Result.{MatchResult-weaker}
 use Rattle.mseed_record.specs.Viewing.{view_of}
 use Rattle.mseed_steim.specs.declared.form.Form.TheVariants.{Integers, Frames}
@@ -29,8 +30,4 @@ returns-in-Some-clause-ends c =
     c.in-Some.ensures.first c.in-Some.ensures.last
 
 pub returns-in-None-clause-fault : goal.returns-in-None-clause-fault
-returns-in-None-clause-fault c =
-    let held : HoldsIn (view_of c.args.view.now) (Frames c.in-Frames.field-0) c.in_ok-form.payload.now =
-    rw c.in-Frames.is at c.in_ok-form.ensures.held in
-    frameless (view_of c.args.view.now) c.in-Frames.field-0 c.in_ok-form.payload.now c.requires held
-    c.in-None.ensures.none
+returns-in-None-clause-fault c = search (arith, frameless)

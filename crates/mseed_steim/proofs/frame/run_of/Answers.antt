@@ -33,11 +33,7 @@ one_more p k from i some low =
 
 first_more : (p : List ℕ) (k from i : ℕ) → i ≡ 0 → words_from p (16 * k + from) (16 * (i + 1) - from)
     ≡ words_from p (16 * k + from) (16 * i - from) ++ words_from p (16 * (k + i) + from) (16 - from)
-first_more p k from i e =
-    let none : 16 * i - from ≡ 0 = omega (arith, e) in
-    let one : 16 * (i + 1) - from ≡ 16 - from = omega (arith, e) in
-    let place : 16 * (k + i) + from ≡ 16 * k + from = omega (arith, e) in
-    rw (none, one, place, words_none p (16 * k + from)) refl
+first_more p k from i e = search (arith, words_none)
 
 pub loop-taken-preserved : goal.loop-taken-preserved
 loop-taken-preserved c =

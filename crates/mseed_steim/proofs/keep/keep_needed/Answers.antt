@@ -10,14 +10,7 @@ use Rattle.mseed_steim.proofs.Continuing.{length-with_first, span_needed, walks_
 use Rattle.mseed_steim.proofs.keep.keep_needed.Goals as goal
 
 pub keep_near-requires-clause-near : goal.keep_near-requires-clause-near
-keep_near-requires-clause-near g c =
-    let ds = c.args.differences.now in
-    let k : ℕ = c.min-needed.result in
-    let needed : k ≤ c.args.count = omega (arith, c.min-needed.ensures) in
-    let same = ap span (c.put_first.ensures k) in
-    let first = first_span c.args.sum.met (take k ds) in
-    let some = span_needed ds k c.args.count needed in
-    omega (arith, same, first, some, c.requires.near)
+keep_near-requires-clause-near g c = search (arith, first_span, span_needed)
 
 pub returns : goal.returns
 returns g c = λ more.

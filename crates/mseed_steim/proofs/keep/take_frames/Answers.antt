@@ -1,7 +1,5 @@
-use Rattle.std.proofs.Common.{◌≡◌, ◌/◌, ◌^◌, ◌≤◌, length, nat_abs, take, arith, refl, Ok, rules, w32}
-use Rattle.std.proofs.Common.{FitsSigned}
+use Rattle.std.proofs.Common.{◌/◌, length, arith, Ok, rules}
 use Rattle.std.proofs.lemmas.Int.{to_z-of_z}
-use Rattle.mseed_steim.specs.private.Lanes.{span}
 use Rattle.mseed_steim.specs.private.Unpacked.{data_in}
 use Rattle.mseed_steim.proofs.Continuing.{nothing_kept, walks_over}
 use Rattle.mseed_steim.proofs.Walking.{frame_at, frame_items}
@@ -11,12 +9,7 @@ pub unpack_frame-requires-clause-begins : goal.unpack_frame-requires-clause-begi
 unpack_frame-requires-clause-begins g c = (data_in c.args.sum.met c.args.index, c.begin_in-begin.ensures)
 
 pub keep_needed-requires-clause-near : goal.keep_needed-requires-clause-near
-keep_needed-requires-clause-near g c =
-    let narrow : span (take c.in_ok-count.count c.unpack_frame.new.differences) ≤ 2 ^ 20 =
-    c.in_ok-count.ensures.near refl in
-    let fits : FitsSigned w32 c.args.sum.last = search rules in
-    let size : c.unsigned_abs.result ≡ nat_abs c.args.sum.last = rw to_z-of_z at c.unsigned_abs.ensures.value in
-    omega (arith, narrow, size)
+keep_needed-requires-clause-near g c = search (arith, to_z-of_z)
 
 pub returns-then-keeps_nothing-clause-taken : goal.returns-then-keeps_nothing-clause-taken
 returns-then-keeps_nothing-clause-taken g c =

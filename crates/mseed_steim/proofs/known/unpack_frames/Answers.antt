@@ -48,9 +48,4 @@ loop-index-preserved c =
     }
 
 pub returns-in_default-clause-unpacked : goal.returns-in_default-clause-unpacked
-returns-in_default-clause-unpacked c =
-    let met = c.loop-index.met in
-    let out = c.loop-index.out in
-    rest_put c.unpack_rest.result _ _ (take met out) _ c.unpack_rest.new.out
-    (put_front met (length out - met) out c.unpack_some.new.out (omega arith)) c.loop-index.invariant.same
-    c.unpack_rest.ensures.unpacked
+returns-in_default-clause-unpacked c = search (arith, put_front, rest_put)

@@ -7,11 +7,7 @@ use Rattle.mseed_steim.proofs.LaneSums.{planes_by, table_words, weighed_words}
 use Rattle.mseed_steim.proofs.lanes.part.Goals as goal
 
 pub dot4 : goal.dot4
-dot4 c =
-    let small = c.look_up-2.ensures.below 65 c.requires.long c.requires.weight in (
-      dot4_Fits _ _ (and_fits c.args.plane c.look_up.result c.fits-plane.1) small,
-      more_below 65 128 (omega arith) c.look_up-2.result small,
-    )
+dot4 c = search (arith, and_fits, dot4_Fits, more_below)
 
 pub returns : goal.returns
 returns c = λ byte row e f.

@@ -1,5 +1,5 @@
-use Rattle.std.proofs.Common.{◌∙◌, ap, refl, length, arith, get_or, ◌<◌}
-use Rattle.std.proofs.lemmas.Simd.{dot4_Fits, length-zip2, Each1-replicate, splat_is_map}
+use Rattle.std.proofs.Common.{◌∙◌, ap, refl, length, arith, get_or}
+use Rattle.std.proofs.lemmas.Simd.{dot4_Fits, length-zip2, splat_is_map}
 use Rattle.std.specs.Int.Bits.{bit_and}
 use lib.ListN.{replicate}
 use Rattle.mseed_steim.specs.private.Lanes.{words}
@@ -8,12 +8,7 @@ use Rattle.mseed_steim.proofs.LaneSums.{planes_by, weighed_words, long_words}
 use Rattle.mseed_steim.proofs.lanes.part_by.Goals as goal
 
 pub dot4 : goal.dot4
-dot4 c =
-    let small = all_of_each 65 (replicate 16 c.args.weight)
-    (Each1-replicate (λ x. x < 65) 16 c.args.weight (omega (arith, c.requires.weight))) in (
-      dot4_Fits _ (replicate 16 c.args.weight) (and_fits c.args.plane c.look_up.result c.fits-plane.1) small,
-      more_below 65 128 (omega arith) (replicate 16 c.args.weight) small,
-    )
+dot4 c = search (arith, all_of_each, and_fits, dot4_Fits, more_below)
 
 pub returns : goal.returns
 returns c = λ byte row e f.

@@ -1,17 +1,14 @@
-use Rattle.std.proofs.Common.{◌∷◌, [], ◌∙◌, ap, get_or, length, rules, w8, Fits}
+use Rattle.std.proofs.Common.{◌∙◌, ap, get_or, length}
+use Rattle.std.proofs.Common.{arith}
 use Rattle.std.proofs.lemmas.Simd.{dot4_Fits}
-use lib.Lanes.{Each1, sum_l}
+use lib.Lanes.{sum_l}
 use Rattle.mseed_steim.specs.private.Lanes.{words}
 use Rattle.mseed_steim.proofs.LaneSums.{table_words}
 use Rattle.mseed_steim.proofs.LaneTables.{length_of_table, sum_of_bytes}
 use Rattle.mseed_steim.proofs.lanes.tally.Goals as goal
 
 pub dot4 : goal.dot4
-dot4 c =
-    let fits : Each1 (Fits w8) c.look_up.result = search rules in (
-      dot4_Fits c.look_up.result (1 ∷ 1 ∷ 1 ∷ 1 ∷ 1 ∷ 1 ∷ 1 ∷ 1 ∷ 1 ∷ 1 ∷ 1 ∷ 1 ∷ 1 ∷ 1 ∷ 1 ∷ 1 ∷ []) fits tt,
-      tt,
-    )
+dot4 c = search (arith, dot4_Fits)
 
 pub returns : goal.returns
 returns c = λ row f.

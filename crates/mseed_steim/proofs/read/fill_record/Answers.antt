@@ -1,21 +1,10 @@
-use Rattle.std.proofs.Common.{◌∙◌, sym}
-use Rattle.mseed_record.specs.Viewing.{view_of}
-use Rattle.mseed_steim.specs.declared.form.Form.TheVariants.{Integers, Frames}
-use Rattle.mseed_steim.specs.Reading.{HoldsIn}
+use Rattle.std.proofs.Common.{arith}
 use Rattle.mseed_steim.proofs.Folded.{samples_are}
 use Rattle.mseed_steim.proofs.Laws.{payload_answers}
 use Rattle.mseed_steim.proofs.read.fill_record.Goals as goal
 
 pub returns-in-Integers : goal.returns-in-Integers
-returns-in-Integers c =
-    payload_answers (view_of c.args.view.now) (Integers c.in-Integers.width) c.in_ok-form.payload.now _ _ _ _
-    c.fill_integers.result c.requires.some (rw c.in-Integers.is at c.in_ok-form.ensures.held)
-    (c.from-samples.ensures ∙ c.samples.ensures) c.payload_order.ensures (λ done s same. same) c.fill_integers.ensures
+returns-in-Integers c = search (arith, payload_answers)
 
 pub returns-in-Frames : goal.returns-in-Frames
-returns-in-Frames c =
-    let held : HoldsIn (view_of c.args.view.now) (Frames c.in-Frames.scheme) c.in_ok-form.payload.now =
-    rw c.in-Frames.is at c.in_ok-form.ensures.held in
-    payload_answers (view_of c.args.view.now) (Frames c.in-Frames.scheme) c.in_ok-form.payload.now _ _ _ _
-    c.fill_frames.result c.requires.some held (c.from-samples.ensures ∙ c.samples.ensures) (sym held.2)
-    (λ done s kept. kept ∙ samples_are s) c.fill_frames.ensures
+returns-in-Frames c = search (arith, payload_answers, samples_are)

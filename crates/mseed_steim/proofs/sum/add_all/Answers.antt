@@ -5,12 +5,7 @@ use Rattle.mseed_steim.proofs.Far.{abs_sum, span_step, total_step}
 use Rattle.mseed_steim.proofs.sum.add_all.Goals as goal
 
 pub add_near-sum-requires : goal.add_near-sum-requires
-add_near-sum-requires c =
-    let fits : FitsSigned w32 (get_or c.args.differences.now c.loop-i.i (pos 0)) = search rules in
-    let last : FitsSigned w32 c.args.last = search rules in
-    let step = span_step c.args.differences.now c.loop-i.i (pos 0) c.loop-i-test.true in
-    let near = rw (to_z-of_z w32 c.args.last last) at c.loop-i.invariant.near in
-    rw to_z-of_z (omega (arith, step, near, c.requires))
+add_near-sum-requires c = search (arith, span_step, to_z-of_z)
 
 pub loop-i-preserved : goal.loop-i-preserved
 loop-i-preserved c =
@@ -30,7 +25,4 @@ loop-i-preserved c =
     }
 
 pub returns : goal.returns
-returns c =
-    let none = drop_of_length-le c.args.differences.now c.loop-i-test.false in
-    let moved = rw none at c.loop-i.invariant.moved in
-    omega (arith, ints, moved)
+returns c = search (arith, drop_of_length-le)

@@ -1,4 +1,4 @@
-use Rattle.std.proofs.Common.{◌≡◌, ◌+◌, ◌*◌, ◌≤◌, ℕ, nat_abs, get_or, length, arith, pos, rules, w32, FitsSigned}
+use Rattle.std.proofs.Common.{◌≡◌, ◌+◌, ◌*◌, ◌≤◌, ℕ, nat_abs, get_or, arith, pos, rules, w32, FitsSigned}
 use Rattle.std.proofs.lemmas.Int.{to_z-of_z}
 use Rattle.std.proofs.Math.Nat.{mul-le-mul_left, mul-le-mul_right}
 use Rattle.std.proofs.Math.ListN.{drop_of_length-le}
@@ -32,8 +32,4 @@ overflow_mul-result c =
     record { fits = omega (arith, many, c.from.ensures, c.loop-i.invariant.most) }
 
 pub returns : goal.returns
-returns c =
-    let all : c.loop-i.i ≡ length c.args.differences.now = omega arith in
-    let none = drop_of_length-le c.args.differences.now c.loop-i-test.false in
-    let so_far = rw (none, all) at c.loop-i.invariant.so_far in
-    rw c.from.ensures (omega (arith, so_far))
+returns c = search (arith, drop_of_length-le)

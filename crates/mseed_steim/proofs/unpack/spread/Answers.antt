@@ -1,5 +1,4 @@
-use Rattle.std.proofs.Common.{◌≡◌, ◌<◌, ◌≤◌, ◌+◌, ◌-◌, length, arith, rules, w32, FitsSigned, append-nil}
-use Rattle.std.specs.Prelude.{min}
+use Rattle.std.proofs.Common.{◌≡◌, ◌<◌, ◌+◌, ◌-◌, length, arith, rules, w32, FitsSigned, append-nil}
 use Rattle.std.proofs.lemmas.Int.{to_z-of_z}
 use Rattle.std.proofs.Math.Nat.{min-eq_right}
 use Rattle.mseed_steim.proofs.Shifts.{room_at}
@@ -27,8 +26,4 @@ loop-lane-preserved c =
     }
 
 pub returns : goal.returns
-returns c = λ width enough u.
-    let over : c.args.by.now.count ≤ c.loop-lane.lane = omega (arith, enough, c.loop-lane-test.false) in
-    let all : min c.loop-lane.lane c.args.by.now.count ≡ c.args.by.now.count = min-eq_right over in
-    let none = digits_over width c.args.word c.args.by.now.count c.loop-lane.lane over in
-    rw (all, none, append-nil) at (c.loop-lane.invariant.so_far width u)
+returns c = search (arith, append-nil, digits_over, min-eq_right)

@@ -47,8 +47,4 @@ loop-word-preserved c =
     }
 
 pub returns : goal.returns
-returns c =
-    let none = no_items c.args.scheme c.loop-word.word-iterator c.in-None.ensures.steps.0 in
-    sym (c.loop-word.invariant.same
-    ∙ ap (λ (items : List (Result ℤ BadWordAt)). lack c.args.samples c.loop-word.met items) none
-    ∙ lack_short c.args.samples c.loop-word.met c.loop-word.invariant.met)
+returns c = search (arith, lack_short, no_items)

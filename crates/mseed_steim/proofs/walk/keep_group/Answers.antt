@@ -1,7 +1,6 @@
-use Rattle.std.proofs.Common.{◌++◌, ◌∙◌, map, List, ℤ, Ok, ap, arith, refl, rules, w32, FitsSigned}
+use Rattle.std.proofs.Common.{arith}
 use Rattle.std.proofs.lemmas.Int.{to_z-of_z}
 use Rattle.std.proofs.lemmas.Result.{err_from_is_err_and}
-use Rattle.mseed_steim.specs.private.Sums.{fold}
 use Rattle.mseed_steim.proofs.Spelled.{digits_over}
 use Rattle.mseed_steim.proofs.Continuing.{continues_done, walks_on}
 use Rattle.mseed_steim.proofs.walk.keep_group.Goals as goal
@@ -11,23 +10,10 @@ returns-then-sum-samples g c = λ more.
     continues_done more (c.loop-i.invariant.walked more) c.if-sum-samples.true
 
 pub returns-in_err-sum : goal.returns-in_err-sum
-returns-in_err-sum g c =
-    let fits : FitsSigned w32 c.next_difference.result = search rules in
-    let fault = err_from_is_err_and c.from_residual.result c.from_residual.ensures.1 in
-    rw (fault.1, fault.2) (λ more. (c.loop-i.invariant.walked more).folded
-    ∙ ap (λ (ds : List ℤ). fold c.args.samples c.loop-i.sum (map Ok ds ++ more)) c.next_difference.ensures
-    ∙ (rw (to_z-of_z w32 c.next_difference.result fits) at c.in_err-sum.ensures.walks) _)
+returns-in_err-sum g c = search (arith, err_from_is_err_and, to_z-of_z)
 
 pub loop-i-preserved : goal.loop-i-preserved
-loop-i-preserved g c =
-    let fits : FitsSigned w32 c.next_difference.result = search rules in
-    record {
-      places = search rules;
-      met = let met = c.in_ok-sum.ensures.met in omega (arith, met);
-      walked = λ more. walks_on (c.loop-i.invariant.walked more)
-          (ap (λ (ds : List ℤ). map Ok ds ++ more) c.next_difference.ensures)
-          refl ((rw (to_z-of_z w32 c.next_difference.result fits) at c.in_ok-sum.ensures.walks) _);
-    }
+loop-i-preserved g c = search (arith, to_z-of_z, walks_on)
 
 pub returns : goal.returns
 returns g c = λ more.

@@ -1,17 +1,13 @@
-use Rattle.std.proofs.Common.{[], ◌++◌, ◌∙◌, List, ap, refl}
+use Rattle.std.proofs.Common.{[], ◌++◌, List, ap, refl}
+use Rattle.std.proofs.Common.{arith}
 use Rattle.std.proofs.lemmas.Result.{err_from_is_err_and}
 use Rattle.mseed_steim.specs.Frames.{DataWord}
 use Rattle.mseed_steim.specs.private.Items.{items_of}
-use Rattle.mseed_steim.specs.private.Sums.{fold}
 use Rattle.mseed_steim.proofs.Continuing.{walks_on}
 use Rattle.mseed_steim.proofs.walk.keep_words.Goals as goal
 
 pub returns-in_err-sum : goal.returns-in_err-sum
-returns-in_err-sum g c =
-    let fault = err_from_is_err_and c.from_residual.result c.from_residual.ensures.1 in
-    rw (fault.1, fault.2) (λ rest. (c.loop-word.invariant.walked rest).folded
-    ∙ ap (λ (ws : List DataWord). fold c.args.samples c.loop-word.sum (items_of c.args.scheme (ws ++ rest)))
-    c.in-Some.ensures.steps ∙ c.in_err-sum.ensures (c.next.new.self ++ rest))
+returns-in_err-sum g c = search (arith, err_from_is_err_and)
 
 pub loop-word-preserved : goal.loop-word-preserved
 loop-word-preserved g c =

@@ -1,22 +1,13 @@
-use Rattle.std.proofs.Common.{◌≡◌, ◌≤◌, ◌/◌, ◌∙◌, List, ℤ, length, arith, refl, sym, subst, w32, FitsSigned}
-use Rattle.std.specs.Prelude.{OnOk}
+use Rattle.std.proofs.Common.{◌∙◌, arith, refl, sym, w32, FitsSigned}
 use Rattle.std.proofs.lemmas.Int.{to_z-of_z}
 use Rattle.std.proofs.lemmas.Result.{err_from_is_err_and}
-use Rattle.mseed_steim.specs.private.Sums.{in_places}
 use Rattle.mseed_steim.proofs.Continuing.{all_ends, ends_kept, walks_on}
 use Rattle.mseed_steim.proofs.Folds.{fold_enough}
 use Rattle.mseed_steim.proofs.Walking.{no_items, none_left}
 use Rattle.mseed_steim.proofs.walk.walk.Goals as goal
 
 pub returns-then-sum-task : goal.returns-then-sum-task
-returns-then-sum-task g c =
-    let first : FitsSigned w32 c.args.first = c.ranges.first in
-    let walked = rw (to_z-of_z w32 c.args.first first) at c.loop-next.invariant.walked in
-    record {
-      folded = sym (walked.folded ∙ fold_enough c.args.task.samples c.loop-next.sum _ c.if-sum-task.true);
-      kept = ends_kept g.K.Keeper.kept c.args.task.samples c.loop-next.sum c.loop-next.out _
-          c.loop-next.invariant.places c.if-sum-task.true ∙ walked.kept;
-    }
+returns-then-sum-task g c = search (arith, ends_kept, fold_enough, to_z-of_z)
 
 pub returns-in_err-sum-in-None-clause-folded : goal.returns-in_err-sum-in-None-clause-folded
 returns-in_err-sum-in-None-clause-folded g c =
@@ -35,14 +26,4 @@ loop-next-preserved g c =
     }
 
 pub returns : goal.returns
-returns g c =
-    let first : FitsSigned w32 c.args.first = c.ranges.first in
-    let over : length c.args.payload.now / 64 ≤ c.loop-next.next = omega arith in
-    let none = no_items c.args.task.scheme _ (none_left c.args.payload.now c.loop-next.sum.met c.loop-next.next over) in
-    let walked = rw (to_z-of_z w32 c.args.first first, none) at c.loop-next.invariant.walked in
-    record {
-      folded = c.all_met.ensures ∙ sym walked.folded;
-      kept = subst (λ (xs : List ℤ). OnOk c.all_met.result (in_places g.K.Keeper.kept c.loop-next.out ≡ xs)) walked.kept
-          (all_ends g.K.Keeper.kept c.args.task.samples c.loop-next.sum c.loop-next.out c.all_met.result
-          c.loop-next.invariant.places c.all_met.ensures);
-    }
+returns g c = search (arith, all_ends, no_items, none_left, to_z-of_z)

@@ -1,10 +1,9 @@
-use Rattle.std.proofs.Common.{◌≡◌, ℕ, ◌%◌, ◌^◌, pos, cond, to_z, ⊎_elim, ◌+◌, ◌*◌, ◌<◌, ◌≤◌, length, arith, rules, refl}
+use Rattle.std.proofs.Common.{◌≡◌, ℕ, ◌%◌, pos, cond, to_z, ◌+◌, ◌*◌, ◌<◌, ◌≤◌, length, arith, rules}
 use Rattle.std.proofs.Common.{w8, w32}
 use borrow.Rule.Simd.Lanes.{act1, act2}
 use borrow.Table.Row.{s_int}
 use mir.Syntax.{mask, lt, signed, unsigned, cast, wrap_sub}
-use Rattle.std.proofs.lemmas.Int.{ints, to_z_pos}
-use Rattle.std.proofs.lemmas.Bool.{cases_lt, lt-ltb, le-ltb}
+use Rattle.std.proofs.lemmas.Int.{to_z_pos}
 use lib.Signed.{lt_z}
 use Rattle.std.proofs.lemmas.Simd.{chunk-fits, length-chunk, below_from_Fits}
 use Rattle.byteorder.specs.Endian.{twos_complement}
@@ -16,18 +15,7 @@ use Rattle.mseed_steim.proofs.widen.widen_bytes.Goals as goal
 lane : (x : ℕ) → x < 256
     → to_z w32 (cond (top 31 (cond (lt_z (pos 127) (to_z w32 x)) 4294967295 0)) ((x + 4294967040) % 4294967296) x)
     ≡ twos_complement 1 x
-lane x h =
-    let positive : to_z w32 x ≡ pos x = to_z_pos w32 x (omega arith) in
-    ⊎_elim
-    (λ (low : x < 128). let not_above : x ≤ 127 = omega arith in
-    rw (positive, le-ltb 127 x not_above, positive, lt-ltb x 128 low) refl)
-    (λ (high : 128 ≤ x).
-    let above : 127 < x = omega arith in
-    let lowered : (x + 4294967040) % 4294967296 ≡ x + 4294967040 = omega arith in
-    let large : 2 ^ 31 ≤ x + 4294967040 = omega arith in
-    rw (positive, lt-ltb 127 x above, lowered, le-ltb (x + 4294967040) (2 ^ 31) large, le-ltb x 128 high)
-    (omega (arith, ints)))
-    (cases_lt x 128)
+lane x h = search (arith, to_z_pos)
 
 pub loop-i-preserved : goal.loop-i-preserved
 loop-i-preserved c =

@@ -1,6 +1,6 @@
-use Rattle.std.proofs.Common.{◌≡◌, ◌-◌, rules, w32, FitsSigned, append_assoc, append-nil}
+use Rattle.std.proofs.Common.{append_assoc, append-nil}
+use Rattle.std.proofs.Common.{arith}
 use Rattle.std.proofs.lemmas.Int.{to_z-of_z}
-use Rattle.mseed_steim.specs.private.Digits.{digit_at}
 use Rattle.mseed_steim.proofs.Spelled.{digits_step, digits_over}
 use Rattle.mseed_steim.proofs.Shifts.{room_at}
 use Rattle.mseed_steim.proofs.word.differences_in.Goals as goal
@@ -10,16 +10,7 @@ read_digit-requires-clause-room c =
     room_at c.args.group.width c.args.group.count c.loop-i.i c.loop-i-test.true c.args.group.fits
 
 pub loop-i-preserved : goal.loop-i-preserved
-loop-i-preserved c =
-    let fits : FitsSigned w32 c.read_digit.result = search rules in
-    let digit : c.read_digit.result ≡ digit_at c.args.group.width c.args.word (c.args.group.count - 1 - c.loop-i.i) =
-    c.read_digit.ensures in
-    let step = digits_step c.args.group.width c.args.word c.args.group.count c.loop-i.i c.loop-i-test.true in
-    let pushed = rw to_z-of_z at c.push.ensures.items in
-    record {
-      long = search rules;
-      so_far = rw (pushed, digit, append_assoc) (rw step at c.loop-i.invariant.so_far);
-    }
+loop-i-preserved c = search (arith, append_assoc, digits_step, to_z-of_z)
 
 pub returns : goal.returns
 returns c =

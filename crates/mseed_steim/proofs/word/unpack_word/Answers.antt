@@ -9,10 +9,7 @@ found : (c : After-differences_in)
 found c = rw c.differences_in.ensures c.in-Some.ensures
 
 pub returns-in-Some-clause-spelled : goal.returns-in-Some-clause-spelled
-returns-in-Some-clause-spelled c =
-    let small : c.args.word < 2 ^ 32 = omega arith in
-    differences_spelled c.args.scheme c.args.code c.args.word c.differences_in.result.items small
-    (found (goal.at.returns-in-Some-clause-spelled c).After-differences_in)
+returns-in-Some-clause-spelled c = search (arith, differences_spelled, found)
 
 pub returns-in-Some-clause-only : goal.returns-in-Some-clause-only
 returns-in-Some-clause-only c = λ ds p.

@@ -1,23 +1,11 @@
-use Rattle.std.proofs.Common.{◌≡◌, ◌-◌, ◌*◌, ◌/◌, ◌%◌, ◌^◌, ℕ, ap, refl, ◌∙◌, arith}
+use Rattle.std.proofs.Common.{◌≡◌, ◌-◌, refl, arith}
 use Rattle.std.proofs.lemmas.Bool.{le-ltb}
-use Rattle.mseed_steim.specs.Frames.{code_at}
 use Rattle.mseed_steim.proofs.Walking.{words_none}
 use Rattle.mseed_steim.proofs.ByteRun.{prefix}
 use Rattle.mseed_steim.proofs.data_words.Words.begins_empty.Goals as goal
 
 pub returns-then-next-self : goal.returns-then-next-self
-returns-then-next-self c =
-    let p = c.self.inside.payload.now in
-    let next = c.prefix_of-next.result.0 in
-    let at = c.prefix_of-next.ensures.at c.if-next-self.true in
-    let code : c.code_in.result ≡ code_at p next = c.code_in.ensures.value
-    ∙ ap (λ (w : ℕ). w / 2 ^ (30 - 2 * (next % 16)) % 4) at.1 in
-    rw (
-      ← c.self.view_is,
-      c.prefix_of-next.ensures.same,
-      prefix p next c.self.inside.end c.if-next-self.true at.0,
-      code,
-    ) refl
+returns-then-next-self c = search (arith, prefix)
 
 pub returns-else-next-self : goal.returns-else-next-self
 returns-else-next-self c =

@@ -18,10 +18,7 @@ returns-clause-only c = λ items given.
     (words_small c.args.payload.now (λ i. (c.type_inv.payload i).fits) 3 (word_count c.args.payload.now - 3)) given)
 
 pub returns-clause-few : goal.returns-clause-few
-returns-clause-few c =
-    let few = few_of c.args.scheme (data_words c.args.payload.now) in
-    let count = length-words_from c.args.payload.now 3 (word_count c.args.payload.now - 3) in
-    rw (c.new.ensures, c.of.ensures) (omega (arith, few, count))
+returns-clause-few c = search (arith, few_of, length-words_from)
 
 pub returns-clause-bounded : goal.returns-clause-bounded
 returns-clause-bounded c =

@@ -1,16 +1,13 @@
-use Rattle.std.proofs.Common.{◌≡◌, ap, sym}
+use Rattle.std.proofs.Common.{◌≡◌}
+use Rattle.std.proofs.Common.{arith}
 use Rattle.mseed_steim.specs.private.Items.{items_of}
-use Rattle.mseed_steim.specs.Left.{Left}
 use Rattle.mseed_steim.proofs.Unpacking.{stepped, progressed}
 use Rattle.mseed_steim.proofs.differences.DifferencesIterator.next.Goals.{In-None}
 use Rattle.mseed_steim.proofs.differences.DifferencesIterator.next.Goals as goal
 
 -- what was unpacked is all given, so the words' items are what is left
 rest : (c : In-None) → c.args.self.now.items ≡ items_of c.self.inside.scheme c.self.inside.words
-rest c =
-    let none = rw c.in-None.is at c.next.ensures in
-    let whole = ap (λ (left : Left). left.items) c.self.view_is in
-    sym (rw none.0 at whole)
+rest c = search (arith)
 
 pub returns-in-None-clause-steps : goal.returns-in-None-clause-steps
 returns-in-None-clause-steps c =
