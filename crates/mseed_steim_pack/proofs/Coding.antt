@@ -1,5 +1,6 @@
 -- Frames that are filled word by word, where the codes of the frame that is being filled aren't written yet.
 use Rattle.std.proofs.Common.{◌≡◌, ◌≢◌, ℕ, ◌+◌, ◌-◌, ◌*◌, ◌/◌, ◌%◌, ◌^◌, ◌<◌, ◌≤◌, List, length, drop, ℤ, arith, refl}
+use Rattle.std.proofs.lemmas.Bool.Decides.{nat_tests}
 use Rattle.std.proofs.Common.{ap, sym, ◌∙◌, subst, ⊎_elim, cond, eqb, ltb, bit_or, replicate, lit<}
 use Rattle.std.proofs.Math.Nat.{add-mul, mod-eq_of_lt, mul-lt-mul_of_pos_right, mul_assoc, pow-le-pow_right, zero-mul}
 use Rattle.std.proofs.lemmas.Nat.{or_shifted, pow-add, pow_pos, shl_whole}
@@ -9,7 +10,6 @@ use Rattle.byteorder.specs.Endian.{big_bytes}
 use Rattle.mseed_steim.specs.declared.scheme.Scheme.{Scheme}
 use Rattle.mseed_steim.specs.Frames.{DataWord, words_from, word_at, code_at}
 use Rattle.mseed_steim_pack.specs.Packing.{IsFullest, PacksRun}
-use Rattle.byteorder.specs.Numbers.{length-bytes_high_first}
 use Rattle.mseed_steim_pack.proofs.Written.{with_bytes, length_with, word_with, word_zero, codes_written}
 use Rattle.mseed_steim_pack.specs.private.Pushing.{Filling, Coding, Pushing}
 use Rattle.mseed_steim_pack.proofs.Filling.{filling_none, filling_past, filling_more, words_same}
@@ -18,10 +18,9 @@ use Rattle.mseed_steim_pack.proofs.Filling.{filling_none, filling_past, filling_
 filling_same : (s : Scheme) (ds : List ℤ) (p q : List ℕ) (index used words : ℕ) → ((k : ℕ) → word_at q k ≡ word_at p k)
     → Filling s ds p index used words → Filling s ds q index used words
 filling_same s ds p q index used words same f =
-    let code : (k : ℕ) → code_at q k ≡ code_at p k =
-    λ k. ap (λ (w : ℕ). w / 2 ^ (30 - 2 * (k % 16)) % 4) (same (16 * (k / 16))) in
+    let code : (k : ℕ) → code_at q k ≡ code_at p k = search (arith, nat_tests) in
     let all : words_from q 3 (index - 3) ≡ words_from p 3 (index - 3) =
-    words_same q p 3 (index - 3) (λ i low high d. let c = code i in let w = same i in cc (c, w)) in record {
+    search (arith, nat_tests, words_same) in record {
       from = f.from;
       inside = f.inside;
       count = ap (λ (ws : List DataWord). length ws) all ∙ f.count;
@@ -64,17 +63,10 @@ coding_past s ds p q head codes index used words first long says f =
     let at = f.at in
     let before : head < index = omega (arith, at, from, first) in
     let later : (k : ℕ) → index ≤ k → 0 ≡ cond (eqb k index) 0 (cond (ltb k (index + 1)) (word_at q k) 0) =
-    λ k m. ⊎_elim (λ (e : k ≡ index). rw (eq-eqb k index e) refl)
-    (λ (e : k ≡ index → ⊥). rw (ne_eqb k index e, le-ltb k (index + 1) (omega (arith, m, e))) refl)
-    (cases_eq k index) in
+    search (arith, nat_tests) in
     record {
       whole = f.whole;
-      same = λ k. f.same k ∙ ⊎_elim
-          (λ (l : k < index).
-          rw (lt-ltb k index l, ne_eqb k index (λ e. omega (arith, e, l)), lt-ltb k (index + 1) (omega (arith, l)))
-          (sym (says k)))
-          (λ (m : index ≤ k). rw (le-ltb k index m, ne_eqb k head (λ e. omega (arith, e, m, before))) (later k m))
-          (cases_lt k index);
+      same = search (arith, nat_tests);
       filling = filling_past s ds f.whole index used words first f.filling;
       at = omega (arith, first, from);
       long = f.long ∙ sym long;
@@ -94,13 +86,11 @@ coding_more s ds p q head codes index used words code word n new plain room long
     let before : head < index = omega (arith, place, plain) in
     let mid = with_bytes (4 * index) f.whole (big_bytes 4 word) in
     let whole = with_bytes (4 * head) mid (big_bytes 4 new) in
-    let mid_long : length mid ≡ length f.whole =
-    length_with (4 * index) f.whole (big_bytes 4 word) (length-bytes_high_first 4 word)
-    (omega (arith, room, long, f.long)) in
+    let mid_long : length mid ≡ length f.whole = search (arith, nat_tests, length_with) in
     let mid_at : (k : ℕ) → word_at mid k ≡ cond (eqb k index) word (word_at f.whole k) =
-    λ k. word_with (4 * index) word f.whole k index refl (omega (arith, room, long, f.long)) wide in
+    search (arith, nat_tests, word_with) in
     let whole_at : (k : ℕ) → word_at whole k ≡ cond (eqb k head) new (word_at mid k) =
-    λ k. word_with (4 * head) new mid k head refl (omega (arith, room, long, f.long, mid_long, before)) fits in
+    search (arith, nat_tests, word_with) in
     let at_head : word_at f.whole head ≡ codes = f.same head ∙ (rw (eq-eqb head head refl) refl) in
     let written : (k : ℕ) → k ≢ head → word_at whole k ≡ cond (eqb k index) word (word_at f.whole k) =
     λ k h. whole_at k ∙ (rw (ne_eqb k head h) (mid_at k)) in
@@ -109,12 +99,7 @@ coding_more s ds p q head codes index used words code word n new plain room long
     let all : (k : ℕ) → word_at whole k ≡ cond (eqb k index) word
     (cond (eqb k (index / 16 * 16))
     (bit_or (word_at f.whole (index / 16 * 16)) ((code * 2 ^ (30 - 2 * (index % 16))) % 2 ^ 32))
-    (word_at f.whole k)) =
-    λ k. rw (← place, at_head) (⊎_elim
-    (λ (h : k ≡ head). let other : k ≢ index = λ i. omega (arith, i, h, before) in
-    whole_at k ∙ (rw (ne_eqb k index other, eq-eqb k head h) e))
-    (λ (h : k ≡ head → ⊥). rw (ne_eqb k head h) (written k h))
-    (cases_eq k head)) in
+    (word_at f.whole k)) = search (arith, nat_tests) in
     let kept : (k : ℕ) → k ≢ head
     → cond (eqb k index) word (word_at f.whole k) ≡ cond (ltb k (index + 1)) (word_at q k) 0 =
     λ k h. ⊎_elim
@@ -129,15 +114,11 @@ coding_more s ds p q head codes index used words code word n new plain room long
     (cases_eq k index) in
     record {
       whole = whole;
-      same = λ k. ⊎_elim
-          (λ (h : k ≡ head). whole_at k ∙ (rw (eq-eqb k head h) refl))
-          (λ (h : k ≡ head → ⊥). written k h ∙ (rw (ne_eqb k head h) (kept k h)))
-          (cases_eq k head);
+      same = search (arith, nat_tests);
       filling = filling_more s ds f.whole whole index used words code word n plain f.filling full bits
           (codes_written f.whole whole index code word small plain (f.filling.no_codes index (omega arith)) all);
       at = omega (arith, place, plain);
-      long = length_with (4 * head) mid (big_bytes 4 new) (length-bytes_high_first 4 new)
-          (omega (arith, room, long, f.long, mid_long, before)) ∙ mid_long ∙ f.long ∙ sym long;
+      long = search (arith, nat_tests, length_with);
     }
 
 -- once the codes are written and all words after the last are cleared, the frames are filled
@@ -149,8 +130,7 @@ coded s ds p q r head codes index used words f says clear =
     let at = f.at in
     let low : (k : ℕ) → k < index → word_at f.whole k ≡ cond (eqb k head) codes (word_at p k) =
     λ k l. f.same k ∙ (rw (lt-ltb k index l) refl) in
-    let high : (k : ℕ) → index ≤ k → word_at f.whole k ≡ 0 =
-    λ k m. f.same k ∙ (rw (ne_eqb k head (λ e. omega (arith, e, m, at, from)), le-ltb k index m) refl) in
+    let high : (k : ℕ) → index ≤ k → word_at f.whole k ≡ 0 = search (arith, nat_tests) in
     filling_same s ds f.whole r index used words (λ k. clear k ∙ ⊎_elim
     (λ (l : k < index). rw (lt-ltb k index l) (says k ∙ sym (low k l)))
     (λ (m : index ≤ k). rw (le-ltb k index m) (sym (high k m)))
@@ -175,18 +155,13 @@ pushing_past s ds p q head codes index used first long says f =
     (subst (λ (c : ℕ). Coding s ds p head c index used (index - 3 - (index - 1) / 16)) whole f.coding) in
     let place : 2 * ((index + 1 - 1) % 16) + 2 ≡ 2 = omega (arith, first) in
     record {
-      coding = subst (λ (w : ℕ). Coding s ds q index (0 * 2 ^ (30 - 2 * ((index + 1 - 1) % 16))) (index + 1) used w)
-          words
-          (subst (λ (c : ℕ). Coding s ds q index c (index + 1) used (index - 3 - (index - 1) / 16)) none next);
+      coding = search (arith, nat_tests);
       small = rw place (omega arith);
     }
 
 -- one more code after the others, and where it stands
 pushed_small : (codes code m : ℕ) → codes < 2 ^ (2 * m + 2) → code < 4 → codes * 4 + code < 2 ^ (2 * (m + 1) + 2)
-pushed_small codes code m h l =
-    let more : 2 * (m + 1) + 2 ≡ 2 * m + 2 + 2 = omega arith in
-    let power : 2 ^ (2 * (m + 1) + 2) ≡ 2 ^ (2 * m + 2) * 4 = ap (λ (n : ℕ). 2 ^ n) more ∙ pow-add 2 (2 * m + 2) 2 in
-    omega (arith, power, h, l)
+pushed_small codes code m h l = search (arith, pow-add)
 
 pushed_at : (codes code m : ℕ) → codes < 2 ^ (2 * m + 2) → code < 4 → m < 15
     → (codes * 4 + code) * 2 ^ (30 - 2 * (m + 1))
@@ -198,8 +173,7 @@ pushed_at codes code m h l few =
     let here : (code * 2 ^ r) % 2 ^ 32 ≡ code * 2 ^ r = shl_whole code 2 r 32 l (omega (arith, few)) in
     let low : code * 2 ^ r < 2 ^ (30 - 2 * m) = rw power (mul-lt-mul_of_pos_right l (pow_pos r)) in
     let whole : (codes * 4 + code) * 2 ^ r ≡ codes * 4 * 2 ^ r + code * 2 ^ r = add-mul (codes * 4) code (2 ^ r) in
-    let same : codes * 4 * 2 ^ r ≡ codes * 2 ^ (30 - 2 * m) = mul_assoc codes 4 (2 ^ r) ∙ ap (λ (n : ℕ). codes * n)
-    (sym power) in
+    let same : codes * 4 * 2 ^ r ≡ codes * 2 ^ (30 - 2 * m) = search (arith, nat_tests, mul_assoc) in
     rw (here, or_shifted codes (30 - 2 * m) (code * 2 ^ r) low, whole, same) refl
 
 -- with the last of them where it stands, the codes are those that belong into the frame's first word
@@ -227,22 +201,18 @@ pushing_more s ds p q head codes index used code word n new plain room long wide
     let next : (index + 1 - 1) % 16 ≡ m + 1 = omega (arith, place) in
     let most : 2 ^ (2 * m + 2) ≤ 2 ^ 30 = pow-le-pow_right (lit< tt) (thirty m few) in
     let short : codes * 4 % 2 ^ 32 ≡ codes * 4 = mod-eq_of_lt (omega (arith, most, f.small)) in
-    let sum : new ≡ codes * 4 + code = e ∙ ap (λ (c : ℕ). (c + code) % 2 ^ 32) short
-    ∙ mod-eq_of_lt (omega (arith, most, f.small, low)) in
+    let sum : new ≡ codes * 4 + code = search (arith, nat_tests, mod-eq_of_lt) in
     let small : new < 2 ^ (2 * (m + 1) + 2) = rw sum (pushed_small codes code m f.small low) in
     let placed : new * 2 ^ (30 - 2 * (m + 1))
     ≡ bit_or (codes * 2 ^ (30 - 2 * m)) ((code * 2 ^ (30 - 2 * (index % 16))) % 2 ^ 32) =
-    rw (place, sum) (pushed_at codes code m f.small low few) in
+    search (arith, nat_tests, pushed_at) in
     let words : index - 3 - (index - 1) / 16 + 1 ≡ index + 1 - 3 - (index + 1 - 1) / 16 =
     omega (arith, plain, from) in
     let coding = coding_more s ds p q head (codes * 2 ^ (30 - 2 * m)) index used (index - 3 - (index - 1) / 16) code
     word n (new * 2 ^ (30 - 2 * (m + 1))) plain room long (pushed_low new (m + 1) small (omega (arith, few))) wide low
     f.coding full says placed in
     record {
-      coding = subst (λ (w : ℕ).
-          Coding s ds q head (new * 2 ^ (30 - 2 * ((index + 1 - 1) % 16))) (index + 1) (used + n) w)
-          words (subst (λ (i : ℕ). Coding s ds q head (new * 2 ^ (30 - 2 * i)) (index + 1) (used + n)
-          (index - 3 - (index - 1) / 16 + 1)) (sym next) coding);
+      coding = search (arith, nat_tests);
       small = subst (λ (i : ℕ). new < 2 ^ (2 * i + 2)) (sym next) small;
     }
 
@@ -253,7 +223,6 @@ pub pushed : (s : Scheme) (ds : List ℤ) (p q r : List ℕ) (head codes index u
     → ((k : ℕ) → word_at r k ≡ cond (ltb k index) (word_at q k) 0)
     → Filling s ds r index used (index - 3 - (index - 1) / 16)
 pushed s ds p q r head codes index used all f e says clear =
-    let short : all ≡ codes * 2 ^ (30 - 2 * ((index - 1) % 16)) = e
-    ∙ mod-eq_of_lt (pushed_low codes ((index - 1) % 16) f.small (omega arith)) in
+    let short : all ≡ codes * 2 ^ (30 - 2 * ((index - 1) % 16)) = search (arith, nat_tests, mod-eq_of_lt, pushed_low) in
     coded s ds p q r head (codes * 2 ^ (30 - 2 * ((index - 1) % 16))) index used (index - 3 - (index - 1) / 16)
     f.coding (subst (λ (c : ℕ). (k : ℕ) → word_at q k ≡ cond (eqb k head) c (word_at p k)) short says) clear

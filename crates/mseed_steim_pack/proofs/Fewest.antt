@@ -1,5 +1,6 @@
 -- In Steim-2, words that take the largest number in turn are never after any other words.
 use Rattle.std.proofs.Common.{◌≡◌, ℕ, suc, ◌+◌, ◌-◌, ◌<◌, ◌≤◌, List, [], ◌∷◌, ◌++◌, length, take, drop, ℤ, arith, refl}
+use Rattle.std.proofs.lemmas.Bool.Decides.{nat_tests}
 use Rattle.std.proofs.Common.{ap, sym, ◌∙◌, subst, ⊎_elim, ◌⊎◌, inl, inr, length-append}
 use Rattle.std.proofs.lemmas.Bool.{cases_lt}
 use Rattle.std.proofs.lemmas.List.{nil_from_length, length-take-le, length-drop, take-append-drop, take-append-le}
@@ -79,8 +80,7 @@ no_more ds prefix behind more hs bs code word used wcode wbits full e less cut s
       wcode,
       (wbits, subst (λ (l : List ℤ). Spells Two wcode wbits l) (sym (take-append-drop (used + 1) hs)) spells),
     ) in
-    let all : length ds ≡ length prefix + length behind = ap (λ (l : List ℤ). length l) e
-    ∙ length-append prefix behind in
+    let all : length ds ≡ length prefix + length behind = search (arith, nat_tests, length-append) in
     absurd (full.largest (used + 1) (omega arith) (omega (arith, all, less))
     (subst (λ (l : List ℤ). CanSpell Two l) same can)))
     (λ (under : length hs ≤ used). under)
@@ -93,29 +93,22 @@ pub run_ahead : (ws vs : List DataWord) (ds rest prefix behind more : List ℤ) 
     → length rest + length ws ≤ length behind + length vs
 run_ahead ws [] ds rest prefix behind more run few e spelled =
     let none : length (prefix ++ more) ≡ 0 = ap (λ (l : List ℤ). length l) spelled in
-    let all : length ds ≡ length prefix + length behind = ap (λ (l : List ℤ). length l) e
-    ∙ length-append prefix behind in
+    let all : length ds ≡ length prefix + length behind = search (arith, nat_tests, length-append) in
     omega (arith, none, length-append prefix more, all, rest_shorter Two ws ds rest run)
 run_ahead [] (v ∷ vs) ds rest prefix behind more run few e spelled = absurd (omega (arith, few))
 run_ahead (w ∷ ws) (v ∷ vs) ds rest prefix behind more run few e spelled =
-    let all : length ds ≡ length prefix + length behind = ap (λ (l : List ℤ). length l) e
-    ∙ length-append prefix behind in
+    let all : length ds ≡ length prefix + length behind = search (arith, nat_tests, length-append) in
     let left : length (drop run.0 ds) ≡ length ds - run.0 = length-drop run.0 ds in
     let inside = run.1.0.inside in
     ⊎_elim
     (λ (less : run.0 < length prefix).
-    let short : length spelled.0 ≤ run.0 =
-    no_more ds prefix behind more spelled.0 spelled.1.0 w.code w.bits run.0 v.code v.bits run.1.0 e less
-    spelled.1.1.0 spelled.1.1.1.0 in
+    let short : length spelled.0 ≤ run.0 = search (arith, nat_tests, no_more) in
     let f1 = take run.0 prefix in
     let f2 = drop run.0 prefix in
     let both : f1 ++ f2 ≡ prefix = take-append-drop run.0 prefix in
     let count : length f1 ≡ run.0 = length-take-le run.0 prefix (omega (arith, less)) in
-    let ds_left : drop run.0 ds ≡ f2 ++ behind =
-    ap (λ (l : List ℤ). drop run.0 l) (e ∙ ap (λ (l : List ℤ). l ++ behind) (sym both) ∙ append_assoc f1 f2 behind)
-    ∙ drop_at f1 (f2 ++ behind) run.0 count in
-    let cut : f1 ++ (f2 ++ more) ≡ spelled.0 ++ spelled.1.0 = sym (append_assoc f1 f2 more)
-    ∙ ap (λ (l : List ℤ). l ++ more) both ∙ spelled.1.1.0 in
+    let ds_left : drop run.0 ds ≡ f2 ++ behind = search (arith, nat_tests, append_assoc, drop_at) in
+    let cut : f1 ++ (f2 ++ more) ≡ spelled.0 ++ spelled.1.0 = search (arith, nat_tests, append_assoc) in
     let fewer : SpelledBy (length vs) (f2 ++ more) =
     cut_off f1 (f2 ++ more) spelled.0 spelled.1.0 vs cut (omega (arith, short, count)) spelled.1.1.1.1 in
     let later = run_ahead ws fewer.0 (drop run.0 ds) rest f2 behind more run.1.1 (omega (arith, few, fewer.1.0))
@@ -159,17 +152,7 @@ is_fewest ws ds run =
 
 -- a number of words is the only fewest
 pub one_fewest : (ds : List ℤ) (m n : ℕ) → IsFewest ds m → IsFewest ds n → m ≡ n
-one_fewest ds m n a b = ⊎_elim
-    (λ (less : m < n). absurd
-    (b.least a.words [] (omega (arith, less, a.count))
-    (subst (λ (l : List ℤ). SpellsRun Two a.words l) (sym (append-nil ds)) a.spelled)))
-    (λ (more : n ≤ m). ⊎_elim
-    (λ (less : n < m). absurd
-    (a.least b.words [] (omega (arith, less, b.count))
-    (subst (λ (l : List ℤ). SpellsRun Two b.words l) (sym (append-nil ds)) b.spelled)))
-    (λ (same : m ≤ n). omega (arith, more, same))
-    (cases_lt n m))
-    (cases_lt m n)
+one_fewest ds m n a b = search (arith, append-nil)
 
 -- where all words are in use, none was left before a difference that is too large
 pub no_room : (ws vs : List DataWord) (ds : List ℤ) (used i : ℕ) → PacksRun Two ws ds (drop used ds) → used ≤ length ds
@@ -178,8 +161,7 @@ no_room ws vs ds used i run h large few prefix =
     let inside = large.0 in
     let found = run_spelled Two vs (take i ds) [] prefix in
     let all : found.0 ++ [] ≡ take i ds ++ [] = sym found.1.0 ∙ sym (append-nil (take i ds)) in
-    let spelled : SpellsRun Two vs (take i ds ++ []) =
-    subst (λ (l : List ℤ). SpellsRun Two vs l) (sym (append-nil found.0) ∙ all) found.1.1 in
+    let spelled : SpellsRun Two vs (take i ds ++ []) = search (arith, nat_tests, append-nil) in
     let ahead = run_ahead ws vs ds (drop used ds) (take i ds) (drop i ds) [] run (omega (arith, few))
     (sym (take-append-drop i ds)) spelled in
     taken_not_large Two ws ds (drop used ds) i run (omega (

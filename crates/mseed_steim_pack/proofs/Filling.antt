@@ -1,6 +1,7 @@
 -- Frames that are filled word by word.
-use Rattle.std.proofs.Common.{◌≡◌, ◌≢◌, ℕ, zero, suc, ◌+◌, ◌-◌, ◌*◌, ◌/◌, ◌%◌, ◌^◌, ◌<◌, ◌≤◌, List, [], ◌∷◌, ◌++◌}
-use Rattle.std.proofs.Common.{length, take, drop, ℤ, arith, refl, ap, sym, ◌∙◌, subst, ⊎_elim, ◌⊎◌, inl, inr}
+use Rattle.std.proofs.Common.{◌≡◌, ◌≢◌, ℕ, zero, suc, ◌+◌, ◌-◌, ◌%◌, ◌<◌, ◌≤◌, List, [], ◌∷◌, ◌++◌}
+use Rattle.std.proofs.lemmas.Bool.Decides.{nat_tests}
+use Rattle.std.proofs.Common.{length, take, drop, ℤ, arith, refl, ap, sym, ◌∙◌, subst, ⊎_elim, ◌⊎◌}
 use Rattle.std.proofs.Common.{append-nil, cond, eqb, length-append, replicate}
 use Rattle.std.specs.List.{AllByRecursion}
 use Rattle.std.proofs.Math.Nat.{zero-div}
@@ -59,20 +60,10 @@ words_empty p k (suc n) h =
 
 -- at first
 code_zero : (n k : ℕ) → code_at (replicate n 0) k ≡ 0
-code_zero n k = ap (λ (w : ℕ). w / 2 ^ (30 - 2 * (k % 16)) % 4) (word_zero n (16 * (k / 16)))
-    ∙ ap (λ (w : ℕ). w % 4) (zero-div (2 ^ (30 - 2 * (k % 16))))
+code_zero n k = search (arith, word_zero, zero-div)
 
 pub filling_none : (s : Scheme) (ds : List ℤ) (n : ℕ) → Filling s ds (replicate n 0) 3 0 0
-filling_none s ds n = record {
-  from = omega arith;
-  inside = omega arith;
-  count = ap (λ (ws : List DataWord). length ws) (words_none (replicate n 0) 3);
-  run = subst (λ (ws : List DataWord). PacksRun s ws ds ds) (sym (words_none (replicate n 0) 3)) refl;
-  no_codes = λ k h. code_zero n k;
-  no_words = λ k h d. word_zero n k;
-  constants = (word_zero n 1, word_zero n 2);
-  codes = λ k h. code_zero n k;
-}
+filling_none s ds n = search (arith, code_zero, word_zero, words_none)
 
 -- past a frame's first word
 pub filling_past : (s : Scheme) (ds : List ℤ) (p : List ℕ) (index used words : ℕ) → index % 16 ≡ 0
@@ -81,8 +72,8 @@ filling_past s ds p index used words e f =
     let from = f.from in
     let place : 3 + (index - 3) ≡ index = omega (arith, from) in
     let next : index + 1 - 3 ≡ suc (index - 3) = omega (arith, from) in
-    let same : words_from p 3 (index + 1 - 3) ≡ words_from p 3 (index - 3) = ap (λ (i : ℕ). words_from p 3 i) next
-    ∙ words_pass p 3 (index - 3) (ap (λ (i : ℕ). i % 16) place ∙ e) in record {
+    let same : words_from p 3 (index + 1 - 3) ≡ words_from p 3 (index - 3) =
+    search (arith, nat_tests, words_pass) in record {
       from = omega (arith, from);
       inside = f.inside;
       count = ap (λ (ws : List DataWord). length ws) same ∙ f.count;
@@ -110,25 +101,17 @@ filling_more s ds p q index used words code word n plain f full bits codes =
     λ k d h. bits k d ∙ rw (ne_eqb k index h) refl in
     let code_is : code_at q index ≡ code = codes index ∙ rw (eq-eqb index index refl) refl in
     let word_is : word_at q index ≡ word = bits index plain ∙ rw (eq-eqb index index refl) refl in
-    let before : words_from q 3 (index - 3) ≡ words_from p 3 (index - 3) =
-    words_same q p 3 (index - 3) (λ i low high d. let apart : i ≢ index = λ e. omega (arith, e, high, from) in
-    let c = other_code i apart in let w = other_word i d apart in cc (c, w)) in
+    let before : words_from q 3 (index - 3) ≡ words_from p 3 (index - 3) = search (arith, nat_tests, words_same) in
     let last : words_from q 3 (index + 1 - 3) ≡ words_from p 3 (index - 3) ++ data_word q index ∷ [] =
-    ap (λ (i : ℕ). words_from q 3 i) next
-    ∙ words_push q 3 (index - 3) (λ e. plain (sym (ap (λ (i : ℕ). i % 16) place) ∙ e))
-    ∙ ap (λ (i : ℕ). words_from q 3 (index - 3) ++ data_word q i ∷ []) place
-    ∙ ap (λ (ws : List DataWord). ws ++ data_word q index ∷ []) before in
-    let full_at : IsFullest s (drop used ds) (code_at q index) (word_at q index) n =
-    subst (λ (x : ℕ). IsFullest s (drop used ds) x (word_at q index) n) (sym code_is)
-    (subst (λ (x : ℕ). IsFullest s (drop used ds) code x n) (sym word_is) full) in
+    search (arith, nat_tests, words_push) in
+    let full_at : IsFullest s (drop used ds) (code_at q index) (word_at q index) n = search (arith, nat_tests) in
     let run : PacksRun s (words_from p 3 (index - 3) ++ data_word q index ∷ []) ds (drop (used + n) ds) =
     subst (λ (xs : List ℤ). PacksRun s (words_from p 3 (index - 3) ++ data_word q index ∷ []) ds xs)
     (drop-drop n used ds) (run_more s (words_from p 3 (index - 3)) (data_word q index) ds (drop used ds) n f.run
     full_at) in record {
       from = omega (arith, from);
       inside = omega (arith, inside, taken, length-drop used ds);
-      count = ap (λ (ws : List DataWord). length ws) last
-          ∙ length_push (words_from p 3 (index - 3)) (data_word q index) ∙ ap (λ (i : ℕ). i + 1) f.count;
+      count = search (arith, nat_tests, length_push);
       run = subst (λ (ws : List DataWord). PacksRun s ws ds (drop (used + n) ds)) (sym last) run;
       no_codes = λ k h. other_code k (λ e. omega (arith, e, h)) ∙ f.no_codes k (omega (arith, h));
       no_words = λ k h d. other_word k d (λ e. omega (arith, e, h)) ∙ f.no_words k (omega (arith, h)) d;
@@ -136,10 +119,7 @@ filling_more s ds p q index used words code word n plain f full bits codes =
         other_word 1 (λ e. cc) (λ e. omega (arith, e, from)) ∙ f.constants.0,
         other_word 2 (λ e. cc) (λ e. omega (arith, e, from)) ∙ f.constants.1,
       );
-      codes = λ k h. ⊎_elim
-          (λ (low : k < 3). other_code k (λ e. omega (arith, e, low, from)) ∙ f.codes k h)
-          (λ (first : k % 16 ≡ 0). other_code k (λ e. plain (sym (ap (λ (i : ℕ). i % 16) e) ∙ first)) ∙ f.codes k h)
-          h;
+      codes = search (arith, nat_tests);
     }
 
 -- at last: no difference is left, or no word
@@ -160,48 +140,25 @@ filled s ds p index used words f h end =
     let ws = words_from p 3 (index - 3) in
     let place : 3 + (index - 3) ≡ index = omega (arith, from) in
     let split : PacksRun s ws (take used ds ++ drop used ds) (drop used ds) =
-    subst (λ (xs : List ℤ). PacksRun s ws xs (drop used ds)) (sym (take-append-drop used ds)) f.run in
+    search (arith, nat_tests, take-append-drop) in
     let cut : word_count p - 3 ≡ index - 3 + (word_count p - index) = omega (arith, from, h) in
-    let both : data_words p ≡ ws ++ words_from p index (word_count p - index) =
-    ap (λ (i : ℕ). words_from p 3 i) cut ∙ words_cut p 3 (index - 3) (word_count p - index)
-    ∙ ap (λ (i : ℕ). ws ++ words_from p i (word_count p - index)) place in
-    let prefix : take words (data_words p) ≡ ws = ap (λ (xs : List DataWord). take words xs) both
-    ∙ take_at ws (words_from p index (word_count p - index)) words f.count in
+    let both : data_words p ≡ ws ++ words_from p index (word_count p - index) = search (arith, nat_tests, words_cut) in
+    let prefix : take words (data_words p) ≡ ws = search (arith, nat_tests, take_at) in
     let rest : drop words (data_words p) ≡ words_from p index (word_count p - index) =
-    ap (λ (xs : List DataWord). drop words xs) both
-    ∙ drop_at ws (words_from p index (word_count p - index)) words f.count in
-    let packed : PacksRun s (take words (data_words p)) ds (drop used ds) =
-    subst (λ (xs : List DataWord). PacksRun s xs ds (drop used ds)) (sym prefix) f.run in
+    search (arith, nat_tests, drop_at) in
+    let packed : PacksRun s (take words (data_words p)) ds (drop used ds) = search (arith, nat_tests) in
     let long : length (data_words p) ≡ words + length (words_from p index (word_count p - index)) =
-    ap (λ (xs : List DataWord). length xs) both ∙ length-append ws (words_from p index (word_count p - index))
-    ∙ ap (λ (i : ℕ). i + length (words_from p index (word_count p - index))) f.count in
-    let over : (used ≡ length ds) ⊎ (words ≡ length (data_words p)) = ⊎_elim (λ (e : used ≡ length ds). inl e)
-    (λ (e : index ≡ word_count p).
-    let none : word_count p - index ≡ 0 = omega (arith, e) in
-    let empty : length (words_from p index (word_count p - index)) ≡ 0 =
-    ap (λ (i : ℕ). length (words_from p index i)) none
-    ∙ ap (λ (xs : List DataWord). length xs) (words_none p index) in
-    inr (omega (arith, long, empty))) end in record {
+    search (arith, nat_tests, length-append) in
+    let over : (used ≡ length ds) ⊎ (words ≡ length (data_words p)) = search (arith, nat_tests, words_none) in record {
       packed = packed;
       spelled = prefix_spelled s (take words (data_words p)) ds used packed;
       inside = (f.inside, omega (arith, long));
       whole = over;
       behind = subst (λ (xs : List DataWord). AllByRecursion IsEmptyWord xs) (sym rest)
           (words_empty p index (word_count p - index) (λ i low high d. (f.no_codes i low, f.no_words i low d)));
-      fewest = λ two. subst (λ (n : ℕ). IsFewest (take used ds) n) f.count
-          (is_fewest ws (take used ds) (subst (λ (x : Scheme). PacksRun x ws (take used ds) []) two
-          (run_prefix s ws (take used ds) (drop used ds) split)));
-      farthest = λ two. subst (λ (n : ℕ). IsFarthest ds n used) f.count
-          (is_farthest ws ds used (subst (λ (x : Scheme). PacksRun x ws ds (drop used ds)) two f.run) f.inside);
-      refused = λ i large room. ⊎_elim
-          (λ (e : used ≡ length ds). let here = large.0.0 in
-          taken_not_large s ws ds (drop used ds) i f.run (omega (arith, e, here, length-drop used ds)) large.0)
-          (λ (e : words ≡ length (data_words p)).
-          let two = large.0.1 in
-          no_room ws room.0 ds used i (subst (λ (x : Scheme). PacksRun x ws ds (drop used ds)) two f.run) f.inside
-          (subst (λ (x : Scheme). IsTooLargeAt x ds i) two large.0) (omega (arith, e, f.count, room.1.0))
-          (subst (λ (x : Scheme). PacksRun x room.0 (take i ds) []) two room.1.1))
-          over;
+      fewest = search (arith, nat_tests, is_fewest, run_prefix);
+      farthest = search (arith, nat_tests, is_farthest);
+      refused = search (arith, nat_tests, length-drop, no_room, taken_not_large);
     }
 
 -- a difference that is too large, and a word left for it
@@ -216,14 +173,9 @@ filling_refused s ds p q index used words f h plain e large =
     let cut : word_count q - 3 ≡ suc (index - 3) + (word_count q - (index + 1)) = omega (arith, from, h, e) in
     let both : length (data_words q) ≡ length (words_from q 3 (suc (index - 3))) + length
     (words_from q (3 + suc (index - 3)) (word_count q - (index + 1))) =
-    ap (λ (i : ℕ). length (words_from q 3 i)) cut
-    ∙ ap (λ (xs : List DataWord). length xs) (words_cut q 3 (suc (index - 3)) (word_count q - (index + 1)))
-    ∙ length-append (words_from q 3 (suc (index - 3)))
-    (words_from q (3 + suc (index - 3)) (word_count q - (index + 1))) in
+    search (arith, nat_tests, length-append, words_cut) in
     let more : length (words_from q 3 (suc (index - 3))) ≡ length (words_from q 3 (index - 3)) + 1 =
-    ap (λ (xs : List DataWord). length xs)
-    (words_push q 3 (index - 3) (λ z. plain (sym (ap (λ (i : ℕ). i % 16) place) ∙ z)))
-    ∙ length_push (words_from q 3 (index - 3)) (data_word q (3 + (index - 3))) in
+    search (arith, nat_tests, length_push, words_push) in
     let same : length (words_from q 3 (index - 3)) ≡ length ws = words_count q p 3 (index - 3) in
     let split : ds ≡ take used ds ++ drop used ds = sym (take-append-drop used ds) in (
       first_large s ws ds used f.inside f.run large,

@@ -8,7 +8,6 @@ use Rattle.std.proofs.lemmas.Bool.{cases_lt}
 use Rattle.std.proofs.lemmas.List.{length-take-le, take-take, get_or-take}
 use Rattle.std.proofs.lemmas.List.Elements.{All-take, All-more, All-get_or, All-nil}
 use Rattle.mseed_steim.specs.declared.scheme.Scheme.{Scheme}
-use Rattle.mseed_steim.specs.declared.scheme.Scheme.TheVariants.{One, Two}
 use Rattle.mseed_steim.specs.Spelling.{IsWithin}
 use Rattle.mseed_steim.proofs.Greatest.{max_is}
 use Rattle.mseed_steim.proofs.Widths.{within_wider}
@@ -98,8 +97,7 @@ best_found s ds k size r known found fits =
 
 best_at : (s : Scheme) (ds : List ℤ) (k size : ℕ) (o : Option Row) → row_for s k ≡ o → Sized ds k size
     → size < size_limit o → IsBestRow s ds k o
-best_at s ds k size None e known less = absurd (omega (arith, less))
-best_at s ds k size (Some r) e known less = best_found s ds k size r known e less
+best_at s ds k size o e known less = search (arith, best_found)
 
 -- so many differences are in one word
 pub best_more : (s : Scheme) (ds : List ℤ) (k size : ℕ) → Sized ds k size → size < size_limit (row_for s k)
@@ -116,8 +114,7 @@ best_same s ds i size o less known wide best =
 
 -- none of them are
 pub best_none : (s : Scheme) (ds : List ℤ) → IsBestRow s ds 0 (row_for s 0)
-best_none One ds = λ k h l. absurd (omega (arith, h, l))
-best_none Two ds = λ k h l. absurd (omega (arith, h, l))
+best_none s ds = search (arith)
 
 -- no row has more than seven
 pub best_all : (s : Scheme) (ds : List ℤ) (i : ℕ) (o : Option Row) → min (length ds) 7 ≤ i → i ≤ length ds

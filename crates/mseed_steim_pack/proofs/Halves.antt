@@ -1,6 +1,6 @@
 -- Numbers of 16 bits in lanes of 32.
 use Rattle.std.proofs.Common.{◌≡◌, ℕ, ℤ, zero, suc, ◌+◌, ◌*◌, ◌%◌, ◌/◌, ◌<◌, List, [], ◌∷◌, length, map, refl, ap, ◌∙◌}
-use Rattle.std.proofs.Common.{◌++◌, ◌^◌, ◌-◌, ◌≤◌, bit_and, get_or, lit<, sym, arith, subst, pos, negsuc, of_z, to_z}
+use Rattle.std.proofs.Common.{◌++◌, ◌^◌, ◌-◌, ◌≤◌, bit_and, get_or, lit<, sym, arith, subst, pos, of_z, to_z}
 use Rattle.std.proofs.Common.{w16, w32, FitsSigned}
 use Rattle.std.proofs.lemmas.Int.{to_z-of_z}
 use Rattle.std.proofs.lemmas.List.{length-map}
@@ -17,9 +17,7 @@ use Rattle.mseed_steim_pack.proofs.Joins.{bits_are, half_digit_of}
 split : (m y rest : ℕ) → y < 4294967296
     → number_l 256 (digits_l 256 (suc (suc (suc (suc m)))) (y + 4294967296 * rest))
     ≡ y + 4294967296 * number_l 256 (digits_l 256 m rest)
-split m y rest small =
-    let back : (y + 4294967296 * rest) / 256 / 256 / 256 / 256 ≡ rest = omega (arith, small) in
-    rw back (omega (arith, small))
+split m y rest small = search (arith)
 
 pub read_back : (n : ℕ) (ys : List ℕ) → length ys ≡ n → Each1 (λ y. y < 4294967296) ys
     → digits_l 4294967296 n (number_l 256 (digits_l 256 (4 * n) (number_l 4294967296 ys))) ≡ ys
@@ -36,8 +34,7 @@ read_back (suc n) (y ∷ ys) e h =
 
 -- the bits of numbers of 16
 pub fits : (z : ℤ) → size_of z < 32768 → FitsSigned w16 z
-fits (pos n) h = record { sfits = h }
-fits (negsuc n) h = record { sfits = h }
+fits z h = search (arith)
 
 pub widened : (zs : List ℤ) → Each1 (λ z. size_of z < 32768) zs
     → map (λ x. of_z w32 (to_z w16 x)) (map (of_z w16) zs) ≡ map bits_of zs
@@ -49,8 +46,7 @@ widened (z ∷ zs) h =
     rw here (ap (λ (ns : List ℕ). bits_of z ∷ ns) later)
 
 bits_small : (z : ℤ) → size_of z < 32768 → bits_of z < 4294967296
-bits_small (pos n) h = omega (arith, h)
-bits_small (negsuc n) h = omega arith
+bits_small z h = search (arith)
 
 each_small : (zs : List ℤ) → Each1 (λ z. size_of z < 32768) zs → Each1 (λ y. y < 4294967296) (map bits_of zs)
 each_small [] h = tt
@@ -59,8 +55,7 @@ each_small (z ∷ zs) h = (bits_small z h.0, each_small zs h.1)
 pub bits_again : (n : ℕ) (zs : List ℤ) → length zs ≡ n → Each1 (λ z. size_of z < 32768) zs
     → digits_l 4294967296 n (number_l 256 (digits_l 256 (4 * n) (number_l 4294967296
     (map (λ x. of_z w32 (to_z w16 x)) (map (of_z w16) zs))))) ≡ map bits_of zs
-bits_again n zs e h =
-    rw (widened zs h) (read_back n (map bits_of zs) (length-map zs bits_of ∙ e) (each_small zs h))
+bits_again n zs e h = search (arith, each_small, length-map, read_back, widened)
 
 -- the low bits of numbers of 16
 low_digit : (w : ℕ) (d m : ℤ) → w ≤ 15 → size_of d < 32768 → m ≡ pos (2 ^ w - 1)
@@ -98,8 +93,7 @@ pub eight_of : (xs : List ℤ) → 8 ≤ length xs → chunk 0 8 xs ≡ get_or x
 eight_of xs h = sym (pick_l-range_with_len (pos 0) xs 0 8 h)
 
 pub small_of : (z : ℤ) → FitsSigned w16 z → size_of z < 32768
-small_of (pos n) h = h.sfits
-small_of (negsuc n) h = h.sfits
+small_of z h = search (arith)
 
 pub same_again : (zs : List ℤ) → Each1 (λ z. size_of z < 32768) zs → map (to_z w16) (map (of_z w16) zs) ≡ zs
 same_again [] h = refl

@@ -1,8 +1,9 @@
 -- How many differences of a size a word holds, and so how many of the next differences.
 use Rattle.std.proofs.Common.{◌≡◌, ◌↔◌, ℕ, ◌+◌, ◌-◌, ◌*◌, ◌/◌, ◌^◌, ◌<◌, ◌≤◌, List, [], ◌∷◌, length, take}
+use Rattle.std.proofs.lemmas.Bool.Decides.{nat_tests}
 use Rattle.std.proofs.Common.{drop, get_or, ℤ, pos, arith, refl, ap, sym, ◌∙◌, subst, ⊎_elim, All, Some}
 use Rattle.std.proofs.Common.{lit<}
-use Rattle.std.proofs.lemmas.Bool.{cases_lt, lt-ltb, le-ltb}
+use Rattle.std.proofs.lemmas.Bool.{cases_lt}
 use Rattle.std.proofs.Math.Nat.{pow-le-pow_right}
 use Rattle.std.proofs.lemmas.List.{get_or-take, get_or-drop, length-take-le, length-drop, ext_get_or}
 use Rattle.std.proofs.lemmas.List.Elements.{All-get_or, All-from_get_or}
@@ -35,57 +36,25 @@ record Counts (limit : ℕ → ℕ) (f : ℕ → ℕ) (n lowest : ℕ) : Type 0 
   pub each : (x k : ℕ) → 2 ≤ k → k ≤ n → (x < limit k) ↔ (k ≤ f x)
 
 no_limit : (limit : ℕ → ℕ) (lowest : ℕ) → Counts limit (λ _. 1) 1 lowest
-no_limit limit lowest = record {
-  most = λ x. omega arith;
-  all = λ x h. omega arith;
-  each = λ x k some few. absurd (omega (arith, some, few));
-}
+no_limit limit lowest = search (arith)
 
 -- one limit more, which is no higher than the others
 one_more : (limit : ℕ → ℕ) (f : ℕ → ℕ) (n lowest next : ℕ) → Counts limit f n lowest → next ≤ lowest
     → limit (n + 1) ≡ next → Counts limit (raised f next) (n + 1) next
-one_more limit f n lowest next c low found = record {
-  most = λ x. let most = c.most x in ⊎_elim
-      (λ (a : x < next). rw (lt-ltb x next a) (omega (arith, most)))
-      (λ (b : next ≤ x). rw (le-ltb x next b) (omega (arith, most)))
-      (cases_lt x next);
-  all = λ x a. let all = c.all x (omega (arith, a, low)) in rw (lt-ltb x next a) (omega (arith, all));
-  each = λ x k some few. ⊎_elim
-      (λ (less : k < n + 1). let each = c.each x k some (omega (arith, less)) in ⊎_elim
-      (λ (a : x < next). let all = c.all x (omega (arith, a, low)) in
-      rw (lt-ltb x next a) (λ y. omega (arith, each.0 y), λ y. each.1 (omega (arith, all, less))))
-      (λ (b : next ≤ x). rw (le-ltb x next b) (λ y. omega (arith, each.0 y), λ y. each.1 (omega (arith, y))))
-      (cases_lt x next))
-      (λ (more : n + 1 ≤ k). let last : k ≡ n + 1 = omega (arith, few, more) in ⊎_elim
-      (λ (a : x < next). let all = c.all x (omega (arith, a, low)) in
-      rw (last, found, lt-ltb x next a) (λ _. omega (arith, all), λ _. a))
-      (λ (b : next ≤ x). let most = c.most x in
-      rw (last, found, le-ltb x next b) (λ y. absurd (omega (arith, y, b)), λ y. absurd (omega (arith, y, most))))
-      (cases_lt x next))
-      (cases_lt k (n + 1));
-}
+one_more limit f n lowest next c low found = search (arith)
 
 counts_two : Counts limits_two most_two 7 8
-counts_two =
-    one_more _ _ 6 16 8 (one_more _ _ 5 32 16 (one_more _ _ 4 128 32 (one_more _ _ 3 512 128
-    (one_more _ _ 2 16384 512 (one_more _ _ 1 16384 16384 (no_limit _ 16384) (omega arith) refl) (omega arith) refl)
-    (omega arith) refl) (omega arith) refl) (omega arith) refl) (omega arith) refl
+counts_two = grind (arith, nat_tests, no_limit, one_more)
 
 counts_one : Counts limits_one most_one 4 64
-counts_one =
-    one_more _ _ 3 64 64 (one_more _ _ 2 16384 64 (one_more _ _ 1 16384 16384 (no_limit _ 16384) (omega arith) refl)
-    (omega arith) refl) (omega arith) refl
+counts_one = search (arith, no_limit, one_more)
 
 -- a limit tells the same of a size that was cut off beyond it
 near_below : (n limit : ℕ) → limit ≤ 32767 → (n < limit) ↔ (near n < limit)
-near_below n limit h = ⊎_elim
-    (λ (a : n < 32767). rw (lt-ltb n 32767 a) (λ x. x, λ x. x))
-    (λ (b : 32767 ≤ n). rw (le-ltb n 32767 b) (λ x. omega (arith, x, b, h), λ x. absurd (omega (arith, x, h))))
-    (cases_lt n 32767)
+near_below n limit h = search (arith)
 
 cut_off : (n : ℕ) → near n < 32768
-cut_off n = ⊎_elim (λ (a : n < 32767). rw (lt-ltb n 32767 a) (omega (arith, a)))
-    (λ (b : 32767 ≤ n). rw (le-ltb n 32767 b) (omega arith)) (cases_lt n 32767)
+cut_off n = search (arith)
 
 both : (A B C : Type 0) → A ↔ B → B ↔ C → A ↔ C
 both A B C f g = (λ a. g.0 (f.0 a), λ c. f.1 (g.1 c))
@@ -94,8 +63,7 @@ back : (A B : Type 0) → A ↔ B → B ↔ A
 back A B f = (f.1, f.0)
 
 pub near_small : (s : Scheme) (z : ℤ) → near_size s z < 32768
-near_small One z = cut_off (size_of z / 2)
-near_small Two z = cut_off (size_of z)
+near_small s z = search (arith, cut_off)
 
 -- A difference fits the row of so many differences, two or more, where the word that holds it has room for as many.
 abbrev pub Fits_row : Scheme → ℤ → ℕ → Type 0
@@ -103,9 +71,7 @@ Fits_row s z k = (r : Row) → row_for s k ≡ Some r → IsWithin r.width z ↔
 
 by_row : (s : Scheme) (z : ℤ) (k : ℕ) (row : Row) → row_for s k ≡ Some row → IsWithin row.width z
     ↔ (k ≤ most_with s (near_size s z)) → Fits_row s z k
-by_row s z k row found h r e =
-    let one : row ≡ r = cc in
-    subst (λ (x : Row). IsWithin x.width z ↔ (k ≤ most_with s (near_size s z))) one h
+by_row s z k row found h r e = search (arith)
 
 two_fits : (z : ℤ) (k : ℕ) (row : Row) → 2 ≤ k → k ≤ 7 → row_for Two k ≡ Some row → 2 ^ (row.width - 1) ≡ limits_two k
     → limits_two k ≤ 32767 → Fits_row Two z k
@@ -119,10 +85,7 @@ halved n limit = (λ h. omega (arith, h), λ h. omega (arith, h))
 one_fits : (z : ℤ) (k : ℕ) (row : Row) → 2 ≤ k → k ≤ 4 → row_for One k ≡ Some row
     → 2 ^ (row.width - 1) ≡ 2 * limits_one k → limits_one k ≤ 32767 → Fits_row One z k
 one_fits z k row some few found same far =
-    by_row One z k row found (both _ _ _ (back _ _ (within_by z (size_of z) refl row.width))
-    (rw same (both _ _ _ (halved (size_of z) (limits_one k))
-    (both _ _ _ (near_below (size_of z / 2) (limits_one k) far)
-    (counts_one.each (near (size_of z / 2)) k some few)))))
+    grind (arith, nat_tests, back, both, by_row, counts_one, halved, near_below, within_by)
 
 fits_row : (s : Scheme) (z : ℤ) (k : ℕ) → 2 ≤ k → Fits_row s z k
 fits_row One z k some r e =
@@ -170,7 +133,7 @@ takes One most some few =
   where
     three : (k : ℕ) (r : Row) → k ≤ 3 → row_for One k ≡ Some r → k ≤ 2
     three k r h e = ⊎_elim (λ (l : k < 3). omega (arith, l)) (λ (m : 3 ≤ k). let same : k ≡ 3 = omega (arith, h, m) in
-        let none : row_for One 3 ≡ Some r = subst (λ (n : ℕ). row_for One n ≡ Some r) same e in cc) (cases_lt k 3)
+        cc) (cases_lt k 3)
 takes Two most some few =
     eight (λ m. 2 ≤ m → Takes Two m) (λ h. absurd (omega (arith, h))) (λ h. absurd (omega (arith, h)))
     (plain Two 2 _ refl refl) (plain Two 3 _ refl refl) (plain Two 4 _ refl refl) (plain Two 5 _ refl refl)
@@ -183,9 +146,8 @@ pub is_ahead : (s : Scheme) (ds : List ℤ) (held : List ℕ) (i most : ℕ) →
 is_ahead s ds held i most long early says is some =
     let xs = drop i ds in
     let room : length xs ≡ length ds - i = length-drop i ds in
-    let at : (j : ℕ) → j < 6 + 1 → get_or held (i + j) 0 ≡ most_with s (near_size s (get_or xs j (pos 0))) = λ j h.
-    says (i + j) (omega (arith, early, h))
-    ∙ ap (λ (z : ℤ). most_with s (near_size s z)) (sym (get_or-drop i ds j (pos 0))) in
+    let at : (j : ℕ) → j < 6 + 1 → get_or held (i + j) 0 ≡ most_with s (near_size s (get_or xs j (pos 0))) =
+    search (arith, nat_tests, get_or-drop) in
     let first : most ≤ get_or held (i + 0) 0 = (is most).0 (omega arith) 0 (omega (arith, some)) (omega arith) in
     let few : most ≤ most_with s 0 = held_few s _ most (subst (λ (x : ℕ). most ≤ x) (at 0 (omega arith)) first) in
     let seven : most ≤ 7 = seven_most s most few in
@@ -209,7 +171,6 @@ is_ahead s ds held i most long early says is some =
     let none : (k : ℕ) → t.row.count < k → k ≤ length xs → ¬ (CanSpell s (take k xs)) = λ k over in' can.
     let fits = prefix_fits s xs k (omega (arith, over)) in' can in
     let row_k = row_is s k fits.0 fits.1.0 in
-    let few_k : k ≤ 7 = omega (arith, row_k.0.most, row_k.1) in
     let long_k : length (take k xs) ≡ k = length-take-le k xs in' in
     let held_all : (j : ℕ) → j < k → j < 7 → k ≤ get_or held (i + j) 0 = λ j l m.
     let within : IsWithin fits.0.width (get_or xs j (pos 0)) =
@@ -220,8 +181,7 @@ is_ahead s ds held i most long early says is some =
     let is_held : k ≤ most = (is k).1 held_all in
     let taken_k : k ≤ taken s most = t.all k fits.0 is_held fits.1.0 in
     omega (arith, taken_k, over, count) in
-    let spelled : CanSpell s (take t.row.count xs) = fits_spelled s (take t.row.count xs)
-    (record { row = t.row; found = rw prefix found; range = range }) in
+    let spelled : CanSpell s (take t.row.count xs) = search (arith, nat_tests, fits_spelled) in
     let same : t.row.count ≡ taken s most = count in (
       seven,
       omega (arith, room, long, early),
@@ -241,22 +201,11 @@ is_ahead s ds held i most long early says is some =
 pub cut_from : (s : Scheme) (ds : List ℤ) (most : List ℕ) (cut : List ℤ) → length cut ≡ 128
     → ((i : ℕ) → 121 ≤ i → i < 144 → get_or most i 0 ≡ 0) → (s ≡ Two → AreSame 128 ds cut)
     → (i : ℕ) → i < 144 → IsCut s (get_or most i 0) (drop i ds) (drop i cut)
-cut_from s ds most cut long none same i h two some =
-    let early : i < 121 = ⊎_elim (λ (a : i < 121). a) (λ (b : 121 ≤ i). absurd (omega (arith, some, none i b h)))
-    (cases_lt i 121) in (
-      omega (arith, early, long, length-drop i cut),
-      λ j l within. get_or-drop i cut j (pos 0) ∙ same two (i + j) (omega (arith, early, l))
-          (rw (get_or-drop i ds j (pos 0)) at within) ∙ sym (get_or-drop i ds j (pos 0)),
-    )
+cut_from s ds most cut long none same i h two some = search (arith, get_or-drop, length-drop)
 
 -- some are taken where two or more are held, and no more than these
 pub taken_some : (s : Scheme) (most : ℕ) → 2 ≤ most → most ≤ 7 → (2 ≤ taken s most) × (taken s most ≤ most)
-taken_some One most some few =
-    eight (λ m. 2 ≤ m → (2 ≤ taken One m) × (taken One m ≤ m)) (λ h. absurd (omega (arith, h)))
-    (λ h. absurd (omega (arith, h))) (λ _. (omega arith, omega arith)) (λ _. (omega arith, omega arith))
-    (λ _. (omega arith, omega arith)) (λ _. (omega arith, omega arith)) (λ _. (omega arith, omega arith))
-    (λ _. (omega arith, omega arith)) most (omega (arith, few)) some
-taken_some Two most some few = (some, omega arith)
+taken_some s most some few = search (arith, eight)
 
 -- the row of the word that is known ahead
 pub row_ahead : (s : Scheme) (ds : List ℤ) (most : ℕ) → 2 ≤ most → IsAhead s ds most
@@ -302,8 +251,7 @@ same_prefix w c ds cut short few inside range same =
     ext_get_or (pos 0) (take c cut) (take c ds) (other ∙ sym long) (λ i h.
     let less : i < c = omega (arith, h, other) in
     let here : get_or (take c ds) i (pos 0) ≡ get_or ds i (pos 0) = get_or-take c ds i (pos 0) less in
-    let within : IsWithin w (get_or ds i (pos 0)) = subst (λ (z : ℤ). IsWithin w z) here
-    (All-get_or (IsWithin w) (take c ds) i (pos 0) (omega (arith, less, long)) range) in
+    let within : IsWithin w (get_or ds i (pos 0)) = search (arith, nat_tests) in
     get_or-take c cut i (pos 0) less
     ∙ same.1 i (omega (arith, less, few)) (shorter w (get_or ds i (pos 0)) short within) ∙ sym here)
 

@@ -1,6 +1,6 @@
 -- Differences side by side in a word.
 use Rattle.std.proofs.Common.{◌≡◌, ℕ, zero, suc, ◌+◌, ◌-◌, ◌*◌, ◌/◌, ◌%◌, ◌^◌, ◌<◌, ◌≤◌, List, [], ◌∷◌, ◌++◌, length}
-use Rattle.std.proofs.Common.{map, take, get_or, ℤ, pos, negsuc, arith, refl, ap, sym, subst, ⊎_elim, if◌then◌else◌}
+use Rattle.std.proofs.Common.{map, take, get_or, ℤ, pos, negsuc, arith, refl, ap, sym, subst, if◌then◌else◌}
 use Rattle.std.proofs.Common.{◌∙◌, length-append, bit_and, bit_or, Fits, w16, w32, of_z, to_z, FitsSigned, lit<}
 use Rattle.std.proofs.Common.{nat_lt, zero-add}
 use lib.Lanes.{sum_l}
@@ -8,7 +8,6 @@ use Rattle.std.proofs.Math.Nat.{pow-le-pow_right, mod-eq_of_lt, mul-le-mul_left,
 use Rattle.std.proofs.Math.Nat.{mul-zero}
 use Rattle.std.proofs.lemmas.Nat.{one_shl, and_mask, or_shifted, pow_pos, pow-add, shl_whole, shr_below, mod_below}
 use Rattle.std.proofs.lemmas.Nat.{mod_low, div-add-mod', mul-mod_first, mul-mod_second}
-use Rattle.std.proofs.lemmas.Bool.{cases_lt, lt-ltb, le-ltb}
 use Rattle.std.proofs.lemmas.List.{take_more, take_all, length-take, length-take-le, get_or-take}
 use Rattle.mseed_steim.specs.Spelling.{residue, positional}
 use Rattle.mseed_steim.proofs.Words.{positional_lt, residue_lt}
@@ -32,11 +31,7 @@ positional_push w (x ∷ xs) d =
 
 -- the first of the differences are short
 prefix_lt : (w i b : ℕ) (ds : List ℤ) → w * length ds ≤ b → positional w (take i ds) < 2 ^ b
-prefix_lt w i b ds h =
-    let few : length (take i ds) ≤ length ds = rw length-take (omega arith) in
-    let less : w * length (take i ds) ≤ w * length ds = mul-le-mul_left w few in
-    let most : 2 ^ (w * length (take i ds)) ≤ 2 ^ b = pow-le-pow_right (lit< tt) (omega (arith, less, h)) in
-    omega (arith, positional_lt w (take i ds), most)
+prefix_lt w i b ds h = search (arith, length-take, mul-le-mul_left, positional_lt, pow-le-pow_right)
 
 pub joined_fits : (w : ℕ) (ds : List ℤ) (i word : ℕ) → w * length ds ≤ 32 → word ≡ positional w (take i ds)
     → Fits w32 word
@@ -69,18 +64,10 @@ half_digit w (negsuc n) h f = low_bits 16 w n h (omega (arith, f.sfits))
 -- a digit of numbers of 16 bits
 pub half_digit_of : (w : ℕ) (d m : ℤ) → w ≤ 15 → FitsSigned w16 d → m ≡ pos (2 ^ w - 1)
     → to_z w16 (bit_and (of_z w16 d) (of_z w16 m)) ≡ pos (residue (2 ^ w) d)
-half_digit_of w d m h f e =
-    let r = residue (2 ^ w) d in
-    let most : 2 ^ w ≤ 2 ^ 15 = pow-le-pow_right (lit< tt) h in
-    let small : r < 32768 = omega (arith, residue_lt (2 ^ w) d (pow_pos w), most) in
-    let digit : bit_and (of_z w16 d) (of_z w16 m) ≡ r = ap (λ (x : ℤ). bit_and (of_z w16 d) (of_z w16 x)) e
-    ∙ and_mask (of_z w16 d) w ∙ half_digit w d (omega (arith, h)) f in
-    let short : to_z w16 r ≡ pos r = rw (lt-ltb r 32768 small) refl in
-    ap (λ (x : ℕ). to_z w16 x) digit ∙ short
+half_digit_of w d m h f e = search (arith, and_mask, half_digit, pow-le-pow_right, pow_pos, residue_lt)
 
 pub bits_are : (z : ℤ) → of_z w32 z ≡ bits_of z
-bits_are (pos n) = refl
-bits_are (negsuc n) = omega arith
+bits_are z = search (arith)
 
 pub joined_more : (w : ℕ) (ds : List ℤ) (i word digit : ℕ) → 0 < w → w ≤ 32 → w * length ds ≤ 32 → i < length ds
     → word ≡ positional w (take i ds) → FitsSigned w32 (get_or ds i (pos 0)) → digit ≡ of_z w32 (get_or ds i (pos 0))
@@ -152,35 +139,18 @@ placed_more w c i ds word digit p n room inside less e digit_is =
 placed_over : (w c i : ℕ) (ds : List ℤ) (word : ℕ) → w * c ≤ 32 → c ≤ length ds → c ≤ i → Placed w c ds i word
     → Placed w c ds (i + 1) ((word + 0 % 2 ^ 32) % 2 ^ 32)
 placed_over w c i ds word room inside over e =
-    let prefix = take c ds in
-    let long : length prefix ≡ c = length-take-le c ds inside in
-    let here : take i prefix ≡ prefix = take_all i prefix (omega (arith, long, over)) in
-    let next : take (i + 1) prefix ≡ prefix = take_all (i + 1) prefix (omega (arith, long, over)) in
-    let none : c - i ≡ 0 = omega (arith, over) in
-    let none_left : c - (i + 1) ≡ 0 = omega (arith, over) in
-    let one : 2 ^ (w * 0) ≡ 1 = ap (λ n. 2 ^ n) (mul-zero w) in
-    let word_is : word ≡ positional w prefix = e ∙ rw (here, none, one) (omega arith) in
-    let bits : w * length prefix ≤ 32 = rw long room in
-    let most : 2 ^ (w * length prefix) ≤ 2 ^ 32 = pow-le-pow_right (lit< tt) bits in
-    let short : positional w prefix < 2 ^ 32 = omega (arith, positional_lt w prefix, most) in
-    rw (next, none_left, one, word_is) (omega (arith, short))
+    search (arith, length-take-le, mul-zero, positional_lt, pow-le-pow_right, take_all)
 
 placed_step : (w c i : ℕ) (ds : List ℤ) (word digit place : ℕ) → 0 < w → w ≤ 32 → w * c ≤ 32 → c ≤ length ds
     → Placed w c ds i word → digit ≡ residue (2 ^ w) (get_or ds i (pos 0)) → place ≡ place_of w c i
     → Placed w c ds (i + 1) ((word + digit * place % 2 ^ 32) % 2 ^ 32)
-placed_step w c i ds word digit place p n room inside e q h = ⊎_elim
-    (λ (less : i < c). rw (h, lt-ltb i c less) (placed_more w c i ds word digit p n room inside less e q))
-    (λ (over : c ≤ i). rw (h, le-ltb i c over, mul-zero digit) (placed_over w c i ds word room inside over e))
-    (cases_lt i c)
+placed_step w c i ds word digit place p n room inside e q h = search (arith, mul-zero, placed_more, placed_over)
 
 pub placed_next : (w c i : ℕ) (ds : List ℤ) (word digit mask place : ℕ) → 0 < w → w ≤ 32 → w * c ≤ 32 → c ≤ length ds
     → Placed w c ds i word → FitsSigned w32 (get_or ds i (pos 0)) → digit ≡ of_z w32 (get_or ds i (pos 0))
     → mask ≡ 2 ^ w - 1 → place ≡ (if nat_lt i c then 2 ^ (w * (c - 1 - i)) else 0)
     → Placed w c ds (i + 1) ((word + bit_and digit mask * place % 2 ^ 32) % 2 ^ 32)
-placed_next w c i ds word digit mask place p n room inside e f q m h =
-    placed_step w c i ds word (bit_and digit mask) place p n room inside e
-    (ap (λ (x : ℕ). bit_and digit x) m ∙ and_mask digit w ∙ ap (λ (x : ℕ). x % 2 ^ w) q
-    ∙ digit_of w (get_or ds i (pos 0)) n f) h
+placed_next w c i ds word digit mask place p n room inside e f q m h = search (arith, and_mask, digit_of, placed_step)
 
 -- two products of a pair, by what the pair counts for
 pair_is : (a b u v n p q : ℕ) → u * n % 4294967296 ≡ p → v * n % 4294967296 ≡ q
@@ -228,12 +198,7 @@ placed_pair w c i ds word u v n p l room inside e a b =
 
 -- all of them have been joined
 pub placed_all : (w c : ℕ) (ds : List ℤ) (i word : ℕ) → c ≤ i → Placed w c ds i word → word ≡ positional w (take c ds)
-placed_all w c ds i word over e =
-    let few : length (take c ds) ≤ c = rw length-take (omega arith) in
-    let here : take i (take c ds) ≡ take c ds = take_all i (take c ds) (omega (arith, few, over)) in
-    let none : c - i ≡ 0 = omega (arith, over) in
-    let one : 2 ^ (w * 0) ≡ 1 = ap (λ n. 2 ^ n) (mul-zero w) in
-    e ∙ rw (here, none, one) (omega arith)
+placed_all w c ds i word over e = search (arith, length-take, mul-zero, take_all)
 
 or_zero : (n : ℕ) → bit_or (0 * 1073741824 % 4294967296) n ≡ 0 * 1073741824 + n
 or_zero n = sym (zero-add n)
@@ -276,13 +241,13 @@ parts_joined layout cut is p l room few inside =
     let n = layout.row.count in
     let weight : ℕ → ℕ = λ i. bits_of (get_or layout.weights i (pos 0)) in
     let one = placed_pair w n 0 cut 0 (weight 0) (weight 1) (get_or layout.counts 0 0) p l room inside
-    (placed_none w n cut) (is.places 0 (omega arith)) (is.places 1 (omega arith)) in
+    (placed_none w n cut) (ap (λ (l : List ℕ). get_or l 0 0) is.places) (ap (λ (l : List ℕ). get_or l 1 0) is.places) in
     let two = placed_pair w n 2 cut _ (weight 2) (weight 3) (get_or layout.counts 1 0) p l room inside
-    one (is.places 2 (omega arith)) (is.places 3 (omega arith)) in
+    one (ap (λ (l : List ℕ). get_or l 2 0) is.places) (ap (λ (l : List ℕ). get_or l 3 0) is.places) in
     let three = placed_pair w n 4 cut _ (weight 4) (weight 5) (get_or layout.counts 2 0) p l room inside
-    two (is.places 4 (omega arith)) (is.places 5 (omega arith)) in
+    two (ap (λ (l : List ℕ). get_or l 4 0) is.places) (ap (λ (l : List ℕ). get_or l 5 0) is.places) in
     let four = placed_pair w n 6 cut _ (weight 6) (weight 7) (get_or layout.counts 3 0) p l room inside
-    three (is.places 6 (omega arith)) (is.places 7 (omega arith)) in
+    three (ap (λ (l : List ℕ). get_or l 6 0) is.places) (ap (λ (l : List ℕ). get_or l 7 0) is.places) in
     let word = placed_all w n cut 8 _ few four in
     rw is.heads (sums_are (layout.row.dnib * 1073741824) (paired layout cut 0) (paired layout cut 1)
     (paired layout cut 2) (paired layout cut 3) (positional w (take n cut)) (sym word))

@@ -57,13 +57,7 @@ known_all s ds most cut long ahead none same =
 -- nothing is known of the last places
 pub known_past : (s : Scheme) (known : Lookahead) (ds others : List ℤ) → IsLookahead s known others
     → IsLookahead s (known_at known.most known.cut 121) ds
-known_past s known ds others is = record {
-  place = omega arith;
-  ahead = λ i l. let none = is.none (i + 121) (omega arith) l in nothing s (drop i ds) _ (omega (arith, none));
-  none = is.none;
-  cut = λ i l. let none = is.none (i + 121) (omega arith) l in
-      uncut s (drop i ds) (drop (i + 121) known.cut) _ (omega (arith, none));
-}
+known_past s known ds others is = search (arith, nothing, uncut)
 
 -- it's known as well from a later place on
 pub known_next : (s : Scheme) (most : List ℕ) (cut : List ℤ) (place count : ℕ) (ds : List ℤ)
@@ -96,9 +90,7 @@ known_here s known ds is =
 -- where two or more are held, the place is one of which something is known
 pub known_early : (s : Scheme) (known : Lookahead) (ds : List ℤ) (held : ℕ) → IsLookahead s known ds
     → held ≡ get_or known.most known.place 0 → 2 ≤ held → known.place < 121
-known_early s known ds held is e some = ⊎_elim (λ (h : known.place < 121). h)
-    (λ (h : 121 ≤ known.place). absurd (omega (arith, some, e, is.none known.place h (omega (arith, is.place)))))
-    (cases_lt known.place 121)
+known_early s known ds held is e some = search (arith)
 
 -- No word takes more where more differences follow: it has seven at the most.
 ahead_more : (s : Scheme) (ds more : List ℤ) (most : ℕ) → IsAhead s ds most → IsAhead s (ds ++ more) most
@@ -160,12 +152,7 @@ ahead_first s xs more most few is some =
     )
 
 cut_first : (xs more cut : List ℤ) → 8 ≤ length xs → AreCut (xs ++ more) cut → AreCut xs cut
-cut_first xs more cut few is = (
-  is.0,
-  λ j less within.
-      let same = get_or_append_left xs more (pos 0) j (omega (arith, less, few)) in
-      is.1 j less (subst (λ (z : ℤ). IsWithin 16 z) (sym same) within) ∙ same,
-)
+cut_first xs more cut few is = search (arith, get_or_append_left)
 
 -- so is it from a place on
 pub few_ahead : (s : Scheme) (ds more : List ℤ) (i most : ℕ) → i + 8 ≤ length ds → IsAhead s (drop i (ds ++ more)) most

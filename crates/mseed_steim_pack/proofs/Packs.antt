@@ -6,7 +6,7 @@ use Rattle.std.proofs.lemmas.Bool.{cases_lt}
 use Rattle.std.proofs.lemmas.List.{length_push, drop-drop, length-take-le, length-drop, take_more, get_or-take}
 use Rattle.std.proofs.lemmas.List.{get_or-drop, append_cancel_right, drop-append-le, take-append-le, take-append-drop}
 use Rattle.std.proofs.lemmas.List.{append_assoc}
-use Rattle.std.proofs.lemmas.List.Elements.{All-weaker, All-get_or, All-cons, All-nil}
+use Rattle.std.proofs.lemmas.List.Elements.{All-get_or, All-cons, All-nil}
 use Rattle.mseed_steim.specs.declared.scheme.Scheme.{Scheme}
 use Rattle.mseed_steim.specs.declared.scheme.Scheme.TheVariants.{One, Two}
 use Rattle.mseed_steim.specs.Spelling.{Spells, IsWithin, positional}
@@ -23,10 +23,7 @@ use Rattle.mseed_steim_pack.proofs.Rows.{FitsRow, row_is, row_spells, fits_spell
 -- the word of the best row
 seven_plain : (r : Row) (ds : List ℤ) → row_for Two 7 ≡ Some r → length ds ≡ 7
     → (r.dnib * 2 ^ 30 + positional r.width ds) / 2 ^ 28 % 4 ≡ 0
-seven_plain r ds e long =
-    let same : row_with 3 2 7 4 ≡ r = cc in
-    let bound : positional 4 ds < 2 ^ 28 = subst (λ (n : ℕ). positional 4 ds < 2 ^ (4 * n)) long (positional_lt 4 ds) in
-    subst (λ (x : Row). (x.dnib * 2 ^ 30 + positional x.width ds) / 2 ^ 28 % 4 ≡ 0) same (omega (arith, bound))
+seven_plain r ds e long = search (arith, positional_lt)
 
 pub is_fullest : (s : Scheme) (ds : List ℤ) (r : Row) (word : ℕ) → row_for s r.count ≡ Some r → r.count ≤ length ds
     → All (IsWithin r.width) (take r.count ds) → NoneSpelled s ds r.count (length ds)
@@ -36,7 +33,7 @@ is_fullest s ds r word found in' range none e =
     let long : length (take r.count ds) ≡ r.count = length-take-le r.count ds in' in record {
       some = is.0.some;
       inside = in';
-      spelled = rw e (row_spells s r (take r.count ds) is.0 long range);
+      spelled = rw e (row_spells s r.count r (take r.count ds) found long range);
       plain = λ two seven. rw e
           (seven_plain r (take r.count ds)
           (subst (λ (n : ℕ). row_for Two n ≡ Some r) seven
@@ -46,14 +43,7 @@ is_fullest s ds r word found in' range none e =
 
 -- a word of Steim-2 has 30 bits at the most for a difference
 fits_thirty : (ds : List ℤ) → FitsRow Two ds → 0 < length ds → All (IsWithin 30) ds
-fits_thirty ds f h =
-    let wide = narrower_by (length ds) 1 f.row (omega arith) (omega (arith, h)) f.found in
-    let same : row_with 2 1 1 30 ≡ wide.0 = cc in
-    let thirty : f.row.width ≤ 30 = (subst (λ (x : Row). f.row.width ≤ x.width) (sym same) wide.1.1) in
-    all_thirty f.row.width ds thirty f.range
-  where
-    all_thirty : (v : ℕ) (xs : List ℤ) → v ≤ 30 → All (IsWithin v) xs → All (IsWithin 30) xs
-    all_thirty v xs l h = All-weaker (IsWithin v) (IsWithin 30) (λ d p. within_wider v 30 d l p) xs h
+fits_thirty ds f h = search (arith, narrower_by, within_wider)
 
 pub taken_thirty : (ds : List ℤ) (code word used k : ℕ) → IsFullest Two ds code word used → k < used
     → IsWithin 30 (get_or ds k (pos 0))
@@ -157,14 +147,7 @@ run_prefix s (w ∷ ws) prefix rest run =
 -- none of the differences that words accepted is too large
 large_later : (s : Scheme) (ds : List ℤ) (used k : ℕ) → used ≤ k → IsTooLargeAt s ds k
     → IsTooLargeAt s (drop used ds) (k - used)
-large_later s ds used k h large =
-    let place : used + (k - used) ≡ k = omega (arith, h) in
-    let inside = large.0 in (
-      omega (arith, inside, h, length-drop used ds),
-      large.1,
-      subst (λ (z : ℤ). ¬ (IsWithin 30 z))
-          (sym (get_or-drop used ds (k - used) (pos 0) ∙ ap (λ (n : ℕ). get_or ds n (pos 0)) place)) large.2,
-    )
+large_later s ds used k h large = search (arith, get_or-drop, length-drop)
 
 pub taken_not_large : (s : Scheme) (ws : List DataWord) (ds rest : List ℤ) (k : ℕ) → PacksRun s ws ds rest
     → k + length rest < length ds → ¬ (IsTooLargeAt s ds k)
@@ -179,25 +162,10 @@ taken_not_large s (w ∷ ws) ds rest k run h large = ⊎_elim
 
 pub first_large : (s : Scheme) (ws : List DataWord) (ds : List ℤ) (used : ℕ) → used ≤ length ds
     → PacksRun s ws ds (drop used ds) → IsTooLargeAt s (drop used ds) 0 → IsFirstTooLarge s ds used
-first_large s ws ds used h run large =
-    let inside = large.0 in
-    let place : used + 0 ≡ used = omega arith in
-    let here : used < length ds = omega (arith, inside, length-drop used ds) in (
-      (
-        here,
-        large.1,
-        subst (λ (z : ℤ). ¬ (IsWithin 30 z)) (get_or-drop used ds 0 (pos 0)
-            ∙ ap (λ (n : ℕ). get_or ds n (pos 0)) place) large.2,
-      ),
-      λ k less. taken_not_large s ws ds (drop used ds) k run (omega (arith, less, here, length-drop used ds)),
-    )
+first_large s ws ds used h run large = search (arith, get_or-drop, length-drop, taken_not_large)
 
 pub one_first_large : (s : Scheme) (ds : List ℤ) (i j : ℕ) → IsFirstTooLarge s ds i → IsFirstTooLarge s ds j → i ≡ j
-one_first_large s ds i j a b = ⊎_elim
-    (λ (less : i < j). absurd (b.1 i less a.0))
-    (λ (more : j ≤ i). ⊎_elim (λ (less : j < i). absurd (a.1 j less b.0)) (λ (same : i ≤ j). omega (arith, more, same))
-    (cases_lt j i))
-    (cases_lt i j)
+one_first_large s ds i j a b = search (arith)
 
 -- one more word of Steim-2, by the best row
 pub least_more : (ds : List ℤ) (used words : ℕ) (r : Row)
@@ -224,22 +192,15 @@ least_more ds used words r run best =
 -- a fault names one place
 pub same_index : (T : Type 0) (a b : ℕ)
     → ◌≡◌ {A = Result T TooLargeAt} (Err (record { index = a })) (Err (record { index = b })) → a ≡ b
-same_index T a b e = let one : ◌≡◌ {A = TooLargeAt} (record { index = a }) (record { index = b }) = cc in
-    ap (λ (x : TooLargeAt). x.index) one
+same_index T a b e = search (arith)
 
 pub refused_least : (T : Type 0) (ds : List ℤ) (used : ℕ) → IsFirstTooLarge Two ds used → (i : ℕ)
     → (◌≡◌ {A = Result T TooLargeAt} (Err (record { index = used })) (Err (record { index = i })))
     ↔ IsFirstTooLarge Two ds i
-refused_least T ds used large i = (
-  λ e. subst (λ (n : ℕ). IsFirstTooLarge Two ds n) (same_index T used i e) large,
-  λ h. ap (λ (n : ℕ). Err (record { index = n })) (one_first_large Two ds used i large h),
-)
+refused_least T ds used large i = search (arith, one_first_large, same_index)
 
 pub refused_packed : (T : Type 0) (s : Scheme) (ds : List ℤ) (used room : ℕ)
     → IsFirstTooLarge s ds used × LeavesRoom s (take used ds) room
     → (i : ℕ) → (◌≡◌ {A = Result T TooLargeAt} (Err (record { index = used })) (Err (record { index = i })))
     ↔ (IsFirstTooLarge s ds i × LeavesRoom s (take i ds) room)
-refused_packed T s ds used room large i = (
-  λ e. subst (λ (n : ℕ). IsFirstTooLarge s ds n × LeavesRoom s (take n ds) room) (same_index T used i e) large,
-  λ h. ap (λ (n : ℕ). Err (record { index = n })) (one_first_large s ds used i large.0 h.0),
-)
+refused_packed T s ds used room large i = search (arith, one_first_large, same_index)

@@ -1,6 +1,6 @@
 -- Differences of samples as far as 32 bits hold them: how many, one by one, of a part, and where they are held whole.
 use Rattle.std.proofs.Common.{◌≡◌, ◌∙◌, ◌<◌, ◌≤◌, ℕ, zero, suc, ℤ, pos, ◌-ℤ◌, List, [], ◌∷◌, length, take, drop}
-use Rattle.std.proofs.Common.{◌+◌, ◌-◌, add-one, get_or, refl, ap, arith, subst, sym, All, w32}
+use Rattle.std.proofs.Common.{◌+◌, ◌-◌, add-one, get_or, refl, ap, arith, sym, All, w32}
 use Rattle.std.specs.Int.{int_wrap}
 use Rattle.std.proofs.lemmas.Int.{int_wrap_fits}
 use Rattle.std.proofs.lemmas.List.{drop_more, length-take-le}
@@ -29,9 +29,7 @@ wrapped_take (suc n) before (x ∷ xs) = ap (λ (ds : List ℤ). int_wrap w32 (x
 -- so many that were written first are the first of all
 pub first_written : (n : ℕ) (before : ℤ) (xs ds : List ℤ) → n ≤ length xs
     → take (length (take n xs)) ds ≡ wrapped_from before (take n xs) → take n ds ≡ take n (wrapped_from before xs)
-first_written n before xs ds inside put =
-    subst (λ (m : ℕ). take m ds ≡ wrapped_from before (take n xs)) (length-take-le n xs inside) put
-    ∙ wrapped_take n before xs
+first_written n before xs ds inside put = search (arith, length-take-le, wrapped_take)
 
 pub wrapped_drop : (n : ℕ) (before : ℤ) (xs : List ℤ) → n ≤ length xs
     → wrapped_from (get_or (before ∷ xs) n (pos 0)) (drop n xs) ≡ drop n (wrapped_from before xs)
@@ -50,13 +48,11 @@ wrapped_whole before (x ∷ xs) all =
 
 -- ---- between the neighbours of a list
 pub between_length : (xs : List ℤ) → length (between xs) ≡ length xs - 1
-between_length [] = refl
-between_length (x ∷ xs) = let all = wrapped_length x xs in omega (arith, all)
+between_length xs = search (arith, wrapped_length)
 
 pub between_at : (xs : List ℤ) (i : ℕ) → i < length (between xs)
     → get_or (between xs) i (pos 0) ≡ int_wrap w32 (get_or xs (i + 1) (pos 0) -ℤ get_or xs i (pos 0))
-between_at [] i h = absurd (omega (arith, h))
-between_at (x ∷ xs) i h = rw add-one (wrapped_at x xs i (omega (arith, h, wrapped_length x xs)))
+between_at xs i h = search (arith, add-one, wrapped_at, wrapped_length)
 
 -- those from a place on, after the first, stand between the neighbours from the place before it
 pub between_from : (before : ℤ) (xs : List ℤ) (from : ℕ) → 0 < from → from ≤ length xs

@@ -1,10 +1,11 @@
 -- Words that are written into frames.
 use Rattle.std.proofs.Common.{◌≡◌, ◌≢◌, ℕ, ◌+◌, ◌-◌, ◌*◌, ◌/◌, ◌%◌, ◌^◌, ◌<◌, ◌≤◌, List, [], ◌++◌, length, take, drop}
+use Rattle.std.proofs.lemmas.Bool.Decides.{nat_tests}
 use Rattle.std.proofs.Common.{get_or, arith, refl, ap, sym, ◌∙◌, ⊎_elim, cond, eqb, bit_or, length-append, lit<, ◌⊎◌}
-use Rattle.std.proofs.Common.{inl, inr, add-zero, ltb, replicate, zero, suc}
+use Rattle.std.proofs.Common.{add-zero, ltb, replicate, zero, suc}
 use borrow.Rule.Slice.PartMut.{put_mid, post_of}
 use Rattle.std.proofs.Math.Nat.{pow-le-pow_right, mul_assoc}
-use Rattle.std.proofs.lemmas.Bool.{cases_lt, cases_eq, ne_eqb, eq-eqb, lt-ltb, le-ltb}
+use Rattle.std.proofs.lemmas.Bool.{cases_lt, cases_eq, ne_eqb, eq-eqb}
 use Rattle.std.proofs.lemmas.Nat.{or_comm, or_shr, or_mod, shl_whole, shl-shr, shl_below, shr_below, mod_low, pow-add}
 use Rattle.std.proofs.lemmas.List.{length-take-le, length-drop, drop-drop, drop_at, drop_all, get_or-drop, get_or-take}
 use Rattle.std.proofs.lemmas.List.{get_or_append_left, get_or-append_right, append_assoc, append-nil, take_rest}
@@ -21,12 +22,7 @@ with_bytes a p bytes = take a p ++ (bytes ++ drop (a + 4) p)
 
 pub length_with : (a : ℕ) (p bytes : List ℕ) → length bytes ≡ 4 → a + 4 ≤ length p
     → length (with_bytes a p bytes) ≡ length p
-length_with a p bytes four h =
-    let prefix : length (take a p) ≡ a = length-take-le a p (omega (arith, h)) in
-    let back : length (drop (a + 4) p) ≡ length p - (a + 4) = length-drop (a + 4) p in
-    let rest : length (bytes ++ drop (a + 4) p) ≡ length bytes + length (drop (a + 4) p) =
-    length-append bytes (drop (a + 4) p) in
-    omega (arith, length-append (take a p) (bytes ++ drop (a + 4) p), prefix, rest, four, back, h)
+length_with a p bytes four h = search (arith, length-append, length-drop, length-take-le)
 
 pub word_with : (a n : ℕ) (p : List ℕ) (k j : ℕ) → a ≡ 4 * j → 4 * (j + 1) ≤ length p → n < 2 ^ 32
     → word_at (with_bytes a p (big_bytes 4 n)) k ≡ cond (eqb k j) n (word_at p k)
@@ -52,11 +48,10 @@ word_with a n p k j e h small =
     (λ (more : j ≤ k).
     let place : a + 4 + (4 * k - (a + 4)) ≡ 4 * k = omega (arith, e, more, other) in
     let whole : with_bytes a p (big_bytes 4 n) ≡ (take a p ++ big_bytes 4 n) ++ drop (a + 4) p =
-    sym (append_assoc (take a p) (big_bytes 4 n) (drop (a + 4) p)) in
+    search (arith, nat_tests, append_assoc) in
     let count : length (take a p ++ big_bytes 4 n) ≡ a + 4 =
     omega (arith, length-append (take a p) (big_bytes 4 n), long, four) in
-    let at : drop (a + 4) (with_bytes a p (big_bytes 4 n)) ≡ drop (a + 4) p = ap (λ (l : List ℕ). drop (a + 4) l) whole
-    ∙ drop_at (take a p ++ big_bytes 4 n) (drop (a + 4) p) (a + 4) count in
+    let at : drop (a + 4) (with_bytes a p (big_bytes 4 n)) ≡ drop (a + 4) p = search (arith, nat_tests, drop_at) in
     let behind : drop (4 * k) (with_bytes a p (big_bytes 4 n)) ≡ drop (4 * k) p =
     ap (λ (i : ℕ). drop i (with_bytes a p (big_bytes 4 n))) (sym place)
     ∙ sym (drop-drop (4 * k - (a + 4)) (a + 4) (with_bytes a p (big_bytes 4 n)))
@@ -71,8 +66,7 @@ pub word_written : (p buf : List ℕ) (n j k : ℕ) → 4 * (j + 1) ≤ length p
     → word_at (put_mid (4 * j) (length p - 4 * j) p buf) k ≡ cond (eqb k j) n (word_at p k)
 word_written p buf n j k h small e =
     let left : length (drop (4 * j) p) ≡ length p - 4 * j = length-drop (4 * j) p in
-    let none : post_of (4 * j) (length p - 4 * j) p ≡ [] =
-    drop_all (length p - 4 * j) (drop (4 * j) p) (omega (arith, left)) in
+    let none : post_of (4 * j) (length p - 4 * j) p ≡ [] = search (arith, nat_tests, drop_all) in
     let buf_is : buf ++ post_of (4 * j) (length p - 4 * j) p ≡ big_bytes 4 n ++ drop (4 * j + 4) p =
     ap (λ (l : List ℕ). buf ++ l) none ∙ append-nil buf ∙ e
     ∙ ap (λ (l : List ℕ). big_bytes 4 n ++ drop 4 l) (take_rest p (4 * j))
@@ -88,33 +82,14 @@ get_zero (suc n) zero = refl
 get_zero (suc n) (suc i) = get_zero n i
 
 pub word_zero : (n k : ℕ) → word_at (replicate n 0) k ≡ 0
-word_zero n k =
-    let byte : (i : ℕ) → get_or (drop (4 * k) (replicate n 0)) i 0 ≡ 0 = λ i. get_or-drop (4 * k) (replicate n 0) i 0
-    ∙ get_zero n (4 * k + i) in
-    rw (byte 0, byte 1, byte 2, byte 3) refl
+word_zero n k = search (arith, get_or-drop, get_zero)
+
+ruleset read_at = (append-nil, drop_all, get_or-append_right, get_or-drop, get_or-take, get_or_append_left)
 
 pub word_cleared : (p buf : List ℕ) (n j k : ℕ) → 4 * j ≤ length p → buf ≡ replicate n 0
     → word_at (put_mid (4 * j) (length p - 4 * j) p buf) k ≡ cond (ltb k j) (word_at p k) 0
 word_cleared p buf n j k h e =
-    let all = take (4 * j) p ++ replicate n 0 in
-    let long : length (take (4 * j) p) ≡ 4 * j = length-take-le (4 * j) p h in
-    let none : post_of (4 * j) (length p - 4 * j) p ≡ [] =
-    drop_all (length p - 4 * j) (drop (4 * j) p) (omega (arith, length-drop (4 * j) p)) in
-    let whole : put_mid (4 * j) (length p - 4 * j) p buf ≡ all =
-    ap (λ (l : List ℕ). take (4 * j) p ++ (buf ++ l)) none
-    ∙ ap (λ (l : List ℕ). take (4 * j) p ++ l) (append-nil buf ∙ e) in
-    ap (λ (l : List ℕ). word_at l k) whole ∙ ⊎_elim
-    (λ (less : k < j). rw (lt-ltb k j less) (same_number (drop (4 * k) all) (drop (4 * k) p) (λ i q.
-    let before : 4 * k + i < 4 * j = omega (arith, less, q) in
-    get_or-drop (4 * k) all i 0
-    ∙ get_or_append_left (take (4 * j) p) (replicate n 0) 0 (4 * k + i) (omega (arith, before, long))
-    ∙ get_or-take (4 * j) p (4 * k + i) 0 before ∙ sym (get_or-drop (4 * k) p i 0))))
-    (λ (more : j ≤ k).
-    let byte : (i : ℕ) → get_or (drop (4 * k) all) i 0 ≡ 0 = λ i. get_or-drop (4 * k) all i 0
-    ∙ get_or-append_right (take (4 * j) p) (replicate n 0) (4 * j) (4 * k + i) 0 long (omega (arith, more))
-    ∙ get_zero n (4 * k + i - 4 * j) in
-    rw (le-ltb k j more) (rw (byte 0, byte 1, byte 2, byte 3) refl))
-    (cases_lt k j)
+    grind (arith, nat_tests, read_at, get_zero, length-drop, length-take-le, same_number)
 
 -- a code among those of a frame
 or_none : (n : ℕ) → bit_or n 0 ≡ n
@@ -130,10 +105,7 @@ code_parts c code s t h l = ap (λ (n : ℕ). bit_or c n / 2 ^ t % 4) (shifted c
 
 pub code_same : (c code s : ℕ) → code < 4 → s ≤ 30 → c / 2 ^ s % 4 ≡ 0
     → bit_or c ((code * 2 ^ s) % 2 ^ 32) / 2 ^ s % 4 ≡ code
-code_same c code s h l e =
-    let down : code * 2 ^ s / 2 ^ s % 4 ≡ code = ap (λ (n : ℕ). n % 4) (shl-shr code s)
-    ∙ (let small : code % 4 ≡ code = omega (arith, h) in small) in
-    code_parts c code s s h l ∙ ap (λ (n : ℕ). bit_or n (code * 2 ^ s / 2 ^ s % 4)) e ∙ ap (λ (n : ℕ). bit_or 0 n) down
+code_same c code s h l e = search (arith, code_parts, shl-shr)
 
 none_above : (code s t : ℕ) → code < 4 → s + 2 ≤ t → code * 2 ^ s / 2 ^ t % 4 ≡ 0
 none_above code s t h l =
@@ -147,19 +119,15 @@ none_below : (code s t : ℕ) → t + 2 ≤ s → code * 2 ^ s / 2 ^ t % 4 ≡ 0
 none_below code s t l =
     let d = s - (t + 2) in
     let bits : s ≡ d + 2 + t = omega (arith, l) in
-    let cut : code * 2 ^ s ≡ code * 2 ^ (d + 2) * 2 ^ t = ap (λ (i : ℕ). code * 2 ^ i) bits
-    ∙ ap (λ (n : ℕ). code * n) (pow-add 2 (d + 2) t) ∙ sym (mul_assoc code (2 ^ (d + 2)) (2 ^ t)) in
-    let again : code * 2 ^ (d + 2) ≡ code * 2 ^ d * 2 ^ 2 + 0 = ap (λ (n : ℕ). code * n) (pow-add 2 d 2)
-    ∙ sym (mul_assoc code (2 ^ d) (2 ^ 2)) ∙ sym (add-zero (code * 2 ^ d * 2 ^ 2)) in
+    let cut : code * 2 ^ s ≡ code * 2 ^ (d + 2) * 2 ^ t = search (arith, nat_tests, mul_assoc, pow-add) in
+    let again : code * 2 ^ (d + 2) ≡ code * 2 ^ d * 2 ^ 2 + 0 =
+    search (arith, nat_tests, add-zero, mul_assoc, pow-add) in
     ap (λ (n : ℕ). n / 2 ^ t % 4) cut ∙ ap (λ (n : ℕ). n % 4) (shl-shr (code * 2 ^ (d + 2)) t ∙ again)
     ∙ mod_low (code * 2 ^ d) 2 0 (omega arith)
 
 pub code_other : (c code s t : ℕ) → code < 4 → s ≤ 30 → (s + 2 ≤ t) ⊎ (t + 2 ≤ s)
     → bit_or c ((code * 2 ^ s) % 2 ^ 32) / 2 ^ t % 4 ≡ c / 2 ^ t % 4
-code_other c code s t h l apart =
-    let none : code * 2 ^ s / 2 ^ t % 4 ≡ 0 =
-    ⊎_elim (λ (q : s + 2 ≤ t). none_above code s t h q) (λ (q : t + 2 ≤ s). none_below code s t q) apart in
-    code_parts c code s t h l ∙ ap (λ (n : ℕ). bit_or (c / 2 ^ t % 4) n) none ∙ or_none (c / 2 ^ t % 4)
+code_other c code s t h l apart = search (arith, code_parts, none_above, none_below, or_none)
 
 -- the codes after a data word and its own were written, by the words
 pub codes_written : (p q : List ℕ) (index code word : ℕ) → code < 4 → index % 16 ≢ 0 → code_at p index ≡ 0
@@ -167,41 +135,4 @@ pub codes_written : (p q : List ℕ) (index code word : ℕ) → code < 4 → in
     (cond (eqb k (index / 16 * 16))
     (bit_or (word_at p (index / 16 * 16)) ((code * 2 ^ (30 - 2 * (index % 16))) % 2 ^ 32)) (word_at p k)))
     → (k : ℕ) → code_at q k ≡ cond (eqb k index) code (code_at p k)
-codes_written p q index code word small not_first empty says k =
-    let first : 16 * (index / 16) ≡ index / 16 * 16 = omega arith in
-    let not_data : 16 * (k / 16) ≢ index = λ e. not_first (omega (arith, e)) in
-    let head : word_at q (16 * (k / 16)) ≡ cond (eqb (16 * (k / 16)) (index / 16 * 16))
-    (bit_or (word_at p (index / 16 * 16)) ((code * 2 ^ (30 - 2 * (index % 16))) % 2 ^ 32))
-    (word_at p (16 * (k / 16))) =
-    says (16 * (k / 16)) ∙ (rw (ne_eqb (16 * (k / 16)) index not_data) refl) in
-    ⊎_elim
-    (λ (same : k / 16 ≡ index / 16).
-    let place : 16 * (k / 16) ≡ index / 16 * 16 = omega (arith, same) in
-    let now : word_at q (16 * (k / 16)) ≡ bit_or (word_at p (index / 16 * 16))
-    ((code * 2 ^ (30 - 2 * (index % 16))) % 2 ^ 32) =
-    head ∙ (rw (eq-eqb (16 * (k / 16)) (index / 16 * 16) place) refl) in
-    ap (λ (n : ℕ). n / 2 ^ (30 - 2 * (k % 16)) % 4) now
-    ∙ ⊎_elim
-    (λ (here : k ≡ index).
-    rw (eq-eqb k index here)
-    (ap (λ (i : ℕ). bit_or (word_at p (index / 16 * 16)) ((code * 2 ^ (30 - 2 * (index % 16))) % 2 ^ 32) / 2 ^
-    (30 - 2 * (i % 16)) % 4) here
-    ∙ code_same (word_at p (index / 16 * 16)) code (30 - 2 * (index % 16)) small (omega arith)
-    (ap (λ (i : ℕ). word_at p i / 2 ^ (30 - 2 * (index % 16)) % 4) (sym first) ∙ empty)))
-    (λ (there : k ≡ index → ⊥).
-    let differ : k % 16 ≢ index % 16 = λ e. there (omega (arith, e, same)) in
-    rw (ne_eqb k index there) (code_other (word_at p (index / 16 * 16)) code (30 - 2 * (index % 16))
-    (30 - 2 * (k % 16)) small (omega arith) (apart (index % 16) (k % 16) (omega arith) (omega arith) differ)
-    ∙ ap (λ (i : ℕ). word_at p i / 2 ^ (30 - 2 * (k % 16)) % 4) (sym place)))
-    (cases_eq k index))
-    (λ (other : k / 16 ≡ index / 16 → ⊥).
-    let place : 16 * (k / 16) ≢ index / 16 * 16 = λ e. other (omega (arith, e)) in
-    let elsewhere : k ≢ index = λ e. other (ap (λ (i : ℕ). i / 16) e) in
-    rw (ne_eqb k index elsewhere)
-    (ap (λ (n : ℕ). n / 2 ^ (30 - 2 * (k % 16)) % 4) (head
-    ∙ (rw (ne_eqb (16 * (k / 16)) (index / 16 * 16) place) refl))))
-    (cases_eq (k / 16) (index / 16))
-  where
-    apart : (i j : ℕ) → i < 16 → j < 16 → j ≢ i → (30 - 2 * i + 2 ≤ 30 - 2 * j) ⊎ (30 - 2 * j + 2 ≤ 30 - 2 * i)
-    apart i j a b ne = ⊎_elim (λ (less : j < i). inl (omega (arith, less, a)))
-        (λ (more : i ≤ j). inr (omega (arith, more, ne, b))) (cases_lt j i)
+codes_written p q index code word small not_first is says k = search (arith, code_other, code_same)

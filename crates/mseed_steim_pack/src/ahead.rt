@@ -7,7 +7,7 @@ ghost use Rattle.mseed_steim.specs.declared.scheme.Scheme.TheVariants.{One, Two}
 ghost use Rattle.mseed_steim.specs.declared.scheme.Scheme.{Scheme};
 ghost use Rattle.mseed_steim.specs.Spelling.{IsWithin};
 ghost use Rattle.mseed_steim_pack.specs.private.Ahead.{near_size, raised, most_one, most_two, most_with, size_of};
-ghost use Rattle.mseed_steim_pack.specs.private.Ahead.{IsMost};
+ghost use Rattle.mseed_steim_pack.specs.private.Ahead.{IsMost, IsMostOf};
 ghost use Rattle.mseed_steim_pack.specs.private.Wrapped.{between, wrapped_from};
 ghost use Rattle.mseed_steim_pack.specs.Lookahead.{AreSame, IsAhead, IsLookahead};
 
@@ -230,12 +230,13 @@ fn put_most<D: Steps>(scheme: Scheme, diffs: &D, most: &mut Most, cut: &mut Cut)
     }
 }
 
-/// What is no more than a vector's lanes, nor than the greater of a place and what is held that far after.
+/// How many of the first items of which each is no less, from each of sixteen places on: of one item more than those of
+/// which `most` says it, which are as many as `place`.
 #[inline(always)]
 fn at_most(most: u8x16, held: &[u8], place: u8) -> u8x16
     requires long { 16 + place ≤ length held.now }
-    ensures { (i : ℕ) → i < 16 → (k : ℕ) → (k ≤ slice_index result i)
-        ↔ ((k ≤ slice_index most i) × ((k ≤ slice_index held.now (i + place)) ⊎ (k ≤ place))) }
+    ensures { (i : ℕ) → i < 16 → IsMostOf place held.now i (slice_index most i)
+        → IsMostOf (place + 1) held.now i (slice_index result i) }
 {
     let here = u8x16::from_slice(&held[usize::from(place)..]);
     most.simd_min(here.simd_max(u8x16::splat(place)))

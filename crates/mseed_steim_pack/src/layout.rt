@@ -1,6 +1,6 @@
 //! How the rows of the table lay their differences out in a word, and words of them that are joined at once.
 
-ghost use Rattle.std.specs.Prelude.{◌≡◌, ◌*◌, ◌+◌, ◌%◌, ◌^◌, ◌<◌, ◌≤◌, List, ℤ, Some, length, slice_index_or};
+ghost use Rattle.std.specs.Prelude.{◌≡◌, ◌*◌, ◌+◌, ◌%◌, ◌^◌, ◌<◌, ◌≤◌, List, ℕ, ℤ, Some, length, pos, slice_index_or};
 ghost use Rattle.std.specs.Prelude.{[], ◌∷◌, map, take, drop};
 ghost use Rattle.mseed_steim.specs.Spelling.{positional};
 ghost use Rattle.mseed_steim_pack.specs.Lookahead.{AreCut, IsAhead, IsCut, taken};
@@ -185,7 +185,7 @@ fn bits_of(numbers: i16x8) -> u32x8
 fn first_eight(numbers: &[i16]) -> [i16; LANES]
     requires { 8 ≤ length numbers.now }
     ensures value { result ≡ take 8 numbers.now }
-    ensures small { Each1 (λ z. size_of z < 32768) result }
+    ensures small { (i : ℕ) → i < 8 → size_of (slice_index_or numbers.now i (pos 0)) < 32768 }
 {
     [
         numbers[0], numbers[1], numbers[2], numbers[3], numbers[4], numbers[5], numbers[6],

@@ -1,12 +1,13 @@
 -- How many differences words hold, by the sizes of single differences, and how they are joined.
 use Rattle.std.specs.Prelude.{◌≡◌, ◌↔◌, ℕ, ◌+◌, ◌-◌, ◌*◌, ◌/◌, ◌%◌, ◌^◌, ◌<◌, ◌≤◌, nat_lt, if◌then◌else◌}
-use Rattle.std.specs.Prelude.{List, [], ◌∷◌, ℤ, pos, negsuc, slice_index_or, Some}
+use Rattle.std.specs.Prelude.{List, [], ◌∷◌, ℤ, pos, negsuc, slice_index_or, Some, map, true}
+use Rattle.std.specs.List.{list_all, range_with_len}
 use Rattle.mseed_steim.specs.declared.scheme.Scheme.{Scheme}
 use Rattle.mseed_steim.specs.Spelling.{residue}
 use Rattle.mseed_steim.specs.declared.scheme.Scheme.TheVariants.{One, Two}
 use Rattle.mseed_steim_pack.specs.declared.layout.LayoutOne.{LayoutOne}
 use Rattle.mseed_steim_pack.specs.declared.layout.LayoutTwo.{LayoutTwo}
-use Rattle.mseed_steim_pack.specs.private.Rows.{row_for, place_of, AreMasks, ArePlaces}
+use Rattle.mseed_steim_pack.specs.private.Rows.{row_for, masks_of, places_of}
 
 -- the number, or the one below its opposite: the bits that it takes but for its sign
 abbrev pub size_of : ℤ → ℕ
@@ -37,15 +38,19 @@ abbrev pub most_with : Scheme → ℕ → ℕ
 most_with One = most_one
 most_with Two = most_two
 
--- The largest number of the items from a place on, seven at the most, of which each is no less than it.
+-- The largest number of the items from a place on, so many at the most, of which each is no less than it.
+abbrev pub IsMostOf : ℕ → List ℕ → ℕ → ℕ → Type 0
+IsMostOf count items from most =
+    (k : ℕ) → (k ≤ most) ↔ ((j : ℕ) → j < k → j < count → k ≤ slice_index_or items (from + j) 0)
+
 abbrev pub IsMost : List ℕ → ℕ → ℕ → Type 0
-IsMost items from most = (k : ℕ) → (k ≤ most) ↔ ((j : ℕ) → j < k → j < 7 → k ≤ slice_index_or items (from + j) 0)
+IsMost = IsMostOf 7
 
 -- a row's bits of one difference, and what its differences count for
 abbrev pub IsLayoutOne : LayoutOne → Type 0
 IsLayoutOne layout =
-    (row_for One layout.row.count ≡ Some layout.row) × (layout.row.dnib ≡ 0) × AreMasks layout.row.width layout.masks
-    × ArePlaces layout.row.width layout.row.count layout.places
+    (row_for One layout.row.count ≡ Some layout.row) × (layout.row.dnib ≡ 0)
+    × (layout.masks ≡ masks_of layout.row.width) × (layout.places ≡ places_of layout.row.width layout.row.count)
 
 -- a number's bits, of 32
 abbrev pub bits_of : ℤ → ℕ
@@ -65,11 +70,10 @@ paired layout cut pair = (weighed layout cut (2 * pair + 1) + weighed layout cut
 -- what its pair counts for, each difference counts for what it does where they are side by side.
 pub record IsLayoutTwo (layout : LayoutTwo) : Type 0 where
   pub row : row_for Two layout.row.count ≡ Some layout.row
-  pub short : layout.row.width ≤ 15
-  pub masks : (i : ℕ) → i < 8 → slice_index_or layout.masks i (pos 0) ≡ pos (2 ^ layout.row.width - 1)
-  pub small : (i : ℕ) → i < 8 → size_of (slice_index_or layout.weights i (pos 0)) < 32768
+  pub short : nat_lt layout.row.width 16 ≡ true
+  pub masks : layout.masks ≡ map pos (masks_of layout.row.width)
+  pub small : list_all (λ z. nat_lt (size_of z) 32768) layout.weights ≡ true
   pub code : layout.code ≡ layout.row.code
   pub heads : layout.heads ≡ layout.row.dnib * 2 ^ 30 ∷ 0 ∷ 0 ∷ 0 ∷ []
-  pub places : (i : ℕ) → i < 8
-      → bits_of (slice_index_or layout.weights i (pos 0)) * slice_index_or layout.counts (i / 2) 0 % 2 ^ 32
-      ≡ place_of layout.row.width layout.row.count i
+  pub places : map (λ i. bits_of (slice_index_or layout.weights i (pos 0)) * slice_index_or layout.counts (i / 2) 0
+      % 2 ^ 32) (range_with_len 0 8) ≡ places_of layout.row.width layout.row.count

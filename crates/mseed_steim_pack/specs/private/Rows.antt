@@ -1,6 +1,7 @@
 -- The rows of the table of groups, by how many differences they have. What a word spells is stated in Spelling.
-use Rattle.std.specs.Prelude.{◌≡◌, ℕ, ◌-◌, ◌*◌, ◌^◌, ◌<◌, ◌≤◌, ◌==◌, nat_lt, if◌then◌else◌, List, take, slice_index_or}
-use Rattle.std.specs.Prelude.{ℤ, Option, Some, None, All}
+use Rattle.std.specs.Prelude.{◌≡◌, ℕ, ◌-◌, ◌*◌, ◌^◌, ◌<◌, ◌≤◌, ◌==◌, nat_lt, if◌then◌else◌, List, [], ◌∷◌, take}
+use Rattle.std.specs.Prelude.{ℤ, Option, Some, None, All, map, replicate}
+use Rattle.std.specs.List.{range_with_len}
 use Rattle.mseed_steim.specs.declared.scheme.Scheme.{Scheme}
 use Rattle.mseed_steim.specs.declared.scheme.Scheme.TheVariants.{One, Two}
 use Rattle.mseed_steim.specs.Spelling.{IsWithin}
@@ -10,22 +11,20 @@ use Rattle.mseed_steim_pack.specs.Packing.{CanSpell}
 abbrev pub row_with : ℕ → ℕ → ℕ → ℕ → Row
 row_with code dnib count width = record { code = code; dnib = dnib; count = count; width = width }
 
+-- the rows of a scheme
+abbrev pub rows_of : Scheme → List Row
+rows_of One = row_with 3 0 1 32 ∷ row_with 2 0 2 16 ∷ row_with 1 0 4 8 ∷ []
+rows_of Two =
+    row_with 2 1 1 30 ∷ row_with 2 2 2 15 ∷ row_with 2 3 3 10 ∷ row_with 1 0 4 8 ∷ row_with 3 0 5 6 ∷ row_with 3 1 6 5
+    ∷ row_with 3 2 7 4 ∷ []
+
 -- the row of so many differences
+abbrev pub row_in : List Row → ℕ → Option Row
+row_in [] count = None
+row_in (row ∷ rows) count = if count == row.count then Some row else row_in rows count
+
 abbrev pub row_for : Scheme → ℕ → Option Row
-row_for One count =
-    if count == 1 then Some (row_with 3 0 1 32)
-    else if count == 2 then Some (row_with 2 0 2 16)
-    else if count == 4 then Some (row_with 1 0 4 8)
-    else None
-row_for Two count =
-    if count == 1 then Some (row_with 2 1 1 30)
-    else if count == 2 then Some (row_with 2 2 2 15)
-    else if count == 3 then Some (row_with 2 3 3 10)
-    else if count == 4 then Some (row_with 1 0 4 8)
-    else if count == 5 then Some (row_with 3 0 5 6)
-    else if count == 6 then Some (row_with 3 1 6 5)
-    else if count == 7 then Some (row_with 3 2 7 4)
-    else None
+row_for scheme = row_in (rows_of scheme)
 
 -- half of what the bits of a row's differences tell apart: the sizes of those that fit are less; 0 where there's no row
 abbrev pub size_limit : Option Row → ℕ
@@ -51,9 +50,9 @@ IsBestRow scheme ds high (Some row) =
 abbrev pub place_of : ℕ → ℕ → ℕ → ℕ
 place_of width count i = if nat_lt i count then 2 ^ (width * (count - 1 - i)) else 0
 
-abbrev pub ArePlaces : ℕ → ℕ → List ℕ → Type 0
-ArePlaces width count places = (i : ℕ) → i < 8 → slice_index_or places i 0 ≡ place_of width count i
+-- the same of eight, and the bits of one difference of a width, in each lane
+abbrev pub places_of : ℕ → ℕ → List ℕ
+places_of width count = map (place_of width count) (range_with_len 0 8)
 
--- the bits of one difference of a width, in each lane
-abbrev pub AreMasks : ℕ → List ℕ → Type 0
-AreMasks width masks = (i : ℕ) → i < 8 → slice_index_or masks i 0 ≡ 2 ^ width - 1
+abbrev pub masks_of : ℕ → List ℕ
+masks_of width = replicate 8 (2 ^ width - 1)

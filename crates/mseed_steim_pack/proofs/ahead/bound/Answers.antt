@@ -1,7 +1,6 @@
-use Rattle.std.proofs.Common.{◌≡◌, ◌<◌, ◌≤◌, ◌+◌, ◌-◌, ◌*◌, ◌∙◌, ℕ, arith, length, get_or, subst, sym, ⊎_elim}
-use Rattle.std.proofs.lemmas.Bool.{cases_lt}
+use Rattle.std.proofs.Common.{◌≡◌, ◌≤◌, ◌+◌, ◌-◌, ◌*◌, ◌∙◌, arith, length, get_or}
 use Rattle.mseed_steim_pack.specs.private.Ahead.{IsMost}
-use Rattle.mseed_steim_pack.proofs.Sizes.{put_below, put_at, put_above, put_length, most_later}
+use Rattle.mseed_steim_pack.proofs.Sizes.{put_above, put_length, most_later, stored}
 use Rattle.mseed_steim_pack.proofs.ahead.bound.Goals as goal
 
 pub loop-turn-preserved : goal.loop-turn-preserved
@@ -14,17 +13,10 @@ loop-turn-preserved c =
     let long : length lanes ≡ 16 = omega arith in
     record {
       room = put_length 144 at held lanes room (omega (arith, inside));
-      done = λ i less. ⊎_elim
-          (λ (before : i < at). subst (λ (x : ℕ). IsMost c.args.held.now i x)
-          (sym (put_below 144 at i held lanes room (omega (arith, inside)) before))
-          (c.loop-turn.invariant.done i before))
-          (λ (more : at ≤ i).
-          let last : i < at + 16 = omega (arith, less) in
-          subst (λ (x : ℕ). IsMost c.args.held.now i x)
-          (sym (put_at 144 at i held lanes room (omega (arith, inside)) long more last))
-          (most_later 144 at i (get_or lanes (i - at) 0) held c.args.held.now room more c.loop-turn.invariant.rest
-          (c.most_from-lanes.ensures (i - at) (omega (arith, more, last)))))
-          (cases_lt i at);
+      done = stored (λ i x. IsMost c.args.held.now i x) 144 c.loop-turn.turn held lanes room
+          (omega (arith, inside)) long c.loop-turn.invariant.done
+          (λ i more last. most_later 144 at i (get_or lanes (i - at) 0) held c.args.held.now room more
+          c.loop-turn.invariant.rest (c.most_from-lanes.ensures (i - at) (omega (arith, more, last))));
       rest = λ i more. put_above 144 at i held lanes room (omega (arith, inside)) long (omega (arith, more))
           ∙ c.loop-turn.invariant.rest i (omega (arith, more));
     }

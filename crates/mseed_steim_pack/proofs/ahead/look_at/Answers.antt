@@ -1,4 +1,4 @@
-use Rattle.std.proofs.Common.{arith, rules}
+use Rattle.std.proofs.Common.{arith}
 use Rattle.mseed_steim_pack.proofs.Lookaheads.{known_all, known_none}
 use Rattle.mseed_steim_pack.proofs.ahead.look_at.Goals as goal
 
@@ -6,7 +6,4 @@ pub returns-else-diffs-ge-FEW : goal.returns-else-diffs-ge-FEW
 returns-else-diffs-ge-FEW c = known_none c.args.scheme c.args.diffs.now c.args.cut.now 0 (omega arith)
 
 pub returns-then-diffs-ge-AHEAD : goal.returns-then-diffs-ge-AHEAD
-returns-then-diffs-ge-AHEAD c =
-    let found = c.look_ahead.ensures in
-    known_all c.args.scheme c.args.diffs.now c.look_ahead.new.most c.look_ahead.new.cut (search rules) found.ahead
-    found.none found.cut
+returns-then-diffs-ge-AHEAD c = search (arith, known_all)

@@ -1,12 +1,11 @@
-use Rattle.std.proofs.Common.{◌≡◌, ◌<◌, ◌≤◌, ◌+◌, ◌*◌, ◌∙◌, ap, arith, length, ⊎_elim, ℕ, ℤ}
+use Rattle.std.proofs.Common.{◌≡◌, ◌<◌, ◌≤◌, ◌+◌, ◌*◌, ◌∙◌, ap, arith, length, ℕ, ℤ}
 use Rattle.std.proofs.Common.{List, ◌-◌, map, pos, get_or, subst, sym}
-use Rattle.std.proofs.lemmas.Bool.{cases_lt}
 use Rattle.std.proofs.lemmas.Simd.{Each1-from_get_or, map-map}
 use lib.Lanes.{chunk, Each1}
 use borrow.Rule.Slice.PartMut.{mid_of}
 use Rattle.mseed_steim_pack.proofs.Halves.{same_again}
 use Rattle.mseed_steim_pack.specs.private.Ahead.{most_two, size_of}
-use Rattle.mseed_steim_pack.proofs.Sizes.{put_length, put_below, put_at, length_part, mapped_part, length_lanes}
+use Rattle.mseed_steim_pack.proofs.Sizes.{put_length, stored, length_part, mapped_part, length_lanes}
 use Rattle.mseed_steim_pack.proofs.Sizes.{part_at}
 use Rattle.mseed_steim_pack.proofs.ahead.put_most_two.Goals as goal
 
@@ -24,9 +23,7 @@ small cut turn told less each =
     (each (i + at) (omega (arith, h, long, inside))))
 
 pub sizes_of-sizes-requires : goal.sizes_of-sizes-requires
-sizes_of-sizes-requires c =
-    let near = small c.args.cut.now c.loop-turn.turn c.told-cut c.loop-turn-test.true c.requires in
-    subst (λ (xs : List ℤ). Each1 (λ z. size_of z < 32768) xs) (sym (same_again _ near)) near
+sizes_of-sizes-requires c = search (arith, same_again, small)
 
 pub loop-turn-preserved : goal.loop-turn-preserved
 loop-turn-preserved c =
@@ -40,13 +37,8 @@ loop-turn-preserved c =
     (length_part 128 at c.args.cut.now c.told-cut (omega (arith, inside))) in
     record {
       room = put_length 144 at c.loop-turn.most c.most_two.result room (omega (arith, inside));
-      done = λ i less. ⊎_elim
-          (λ (before : i < at). put_below 144 at i c.loop-turn.most c.most_two.result room (omega (arith, inside))
-          before ∙ c.loop-turn.invariant.done i before)
-          (λ (more : at ≤ i).
-          let last : i < at + 16 = omega (arith, less) in
-          put_at 144 at i c.loop-turn.most c.most_two.result room (omega (arith, inside)) long more last
-          ∙ mapped_part (pos 0) (λ z. most_two (size_of z)) 128 at i c.args.cut.now c.most_two.result c.told-cut
-          (omega (arith, inside)) more last value)
-          (cases_lt i at);
+      done = stored (λ i x. x ≡ most_two (size_of (get_or c.args.cut.now i (pos 0)))) 144 c.loop-turn.turn
+          c.loop-turn.most c.most_two.result room (omega (arith, inside)) long c.loop-turn.invariant.done
+          (λ i more last. mapped_part (pos 0) (λ z. most_two (size_of z)) 128 at i c.args.cut.now c.most_two.result
+          c.told-cut (omega (arith, inside)) more last value);
     }

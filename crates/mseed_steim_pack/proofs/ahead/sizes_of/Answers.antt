@@ -1,6 +1,6 @@
 use Rattle.std.proofs.Common.{◌≡◌, ◌-◌, ◌<◌, ℕ, ℤ, List, [], ◌∷◌, map, nat_abs, cond, of_z, to_z, w16, arith}
-use Rattle.std.proofs.Common.{refl, subst, sym, ap, ◌∙◌, ◌≤◌, ⊎_elim, suc}
-use Rattle.std.proofs.lemmas.Bool.{cases_lt, lt-ltb, le-ltb}
+use Rattle.std.proofs.Common.{refl, ap, ◌∙◌}
+use Rattle.std.proofs.lemmas.Bool.{lt-ltb}
 use Rattle.std.proofs.lemmas.Int.{to_z-of_z}
 use lib.Lanes.{Each1, sel_l, top, zip2}
 use lib.Signed.{lt_z}
@@ -13,12 +13,7 @@ abbrev greater : ℕ → ℕ
 greater u = cond (top 15 (cond (lt_z (to_z w16 u) (to_z w16 (65535 - u))) 65535 0)) (65535 - u) u
 
 greater_is : (u : ℕ) → greater u ≡ size_of (to_z w16 u)
-greater_is u = ⊎_elim
-    (λ (a : u < 32768). rw (lt-ltb u 32768 a, le-ltb (65535 - u) 32768 (omega (arith, a))) refl)
-    (λ (b : 32768 ≤ u).
-    let same : 65535 - u ≡ 65536 - suc u = omega arith in
-    rw (le-ltb u 32768 b, lt-ltb (65535 - u) 32768 (omega (arith, b))) same)
-    (cases_lt u 32768)
+greater_is u = search (arith)
 
 lane_is : (z : ℤ) → size_of z < 32768 → greater (of_z w16 z) ≡ size_of z
 lane_is z h = greater_is (of_z w16 z) ∙ ap size_of (to_z-of_z w16 z (fits z h))
@@ -60,5 +55,4 @@ pub returns-clause-value : goal.returns-clause-value
 returns-clause-value c = lanes _ _ _ near c.args.numbers c.requires
 
 pub returns-clause-small : goal.returns-clause-small
-returns-clause-small c = subst (λ (xs : List ℕ). Each1 (λ x. x < 32768) xs)
-    (sym (lanes _ _ _ near c.args.numbers c.requires)) (small c.args.numbers c.requires)
+returns-clause-small c = search (arith, lanes, near, small)

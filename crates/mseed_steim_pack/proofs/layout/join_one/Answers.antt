@@ -1,6 +1,10 @@
 use Rattle.std.proofs.Common.{◌≡◌, ◌<◌, get_or, length, pos, rules, w32, of_z, FitsSigned, arith}
+use Rattle.std.proofs.Common.{List, ap, ◌∙◌, ℕ}
 use Rattle.std.proofs.lemmas.Int.{to_z-of_z}
+use Rattle.std.proofs.lemmas.Simd.{get_or-replicate}
+use Rattle.std.proofs.lemmas.List.FromFn.{get_or-map-range_with_len}
 use Rattle.mseed_steim.specs.declared.scheme.Scheme.TheVariants.{One}
+use Rattle.mseed_steim_pack.specs.private.Rows.{place_of}
 use Rattle.mseed_steim_pack.proofs.Rows.{four_at_most, row_is}
 use Rattle.mseed_steim_pack.proofs.Joins.{placed_none, placed_next, placed_all}
 use Rattle.mseed_steim_pack.proofs.layout.join_one.Goals as goal
@@ -21,11 +25,9 @@ loop-index-preserved c =
     placed_next layout.row.width layout.row.count i c.args.diffs.now c.loop-index.word c.cast_unsigned.result
     (get_or layout.masks i 0) (get_or layout.places i 0) is.wide is.narrow is.room
     (omega (arith, is.most, c.requires.eight)) c.loop-index.invariant fits digit
-    (c.requires.layout.2 i lane) (c.requires.layout.3 i lane)
+    (ap (λ (l : List ℕ). get_or l i 0) c.requires.layout.2 ∙ get_or-replicate 8 i _ 0 lane)
+    (ap (λ (l : List ℕ). get_or l i 0) c.requires.layout.3 ∙ get_or-map-range_with_len
+    (place_of layout.row.width layout.row.count) 0 8 i i 0 lane (omega arith))
 
 pub returns : goal.returns
-returns c =
-    let layout = c.args.layout.now in
-    let enough = four_at_most layout.row.count layout.row c.requires.layout.0 in
-    placed_all layout.row.width layout.row.count c.args.diffs.now c.loop-index.index c.loop-index.word
-    (omega (arith, c.loop-index-test.false, enough)) c.loop-index.invariant
+returns c = search (arith, four_at_most, placed_all)

@@ -1,3 +1,5 @@
+use borrow.Author.Tests.{ltb-true}
+use Rattle.std.proofs.Common.{◌≤◌, arith}
 use Rattle.std.proofs.Common.{◌≡◌, ◌+◌, ◌*◌, ◌%◌, ◌^◌, ◌∙◌, ℕ, ℤ, List, arith, ap, take, length, subst, sym}
 use Rattle.std.proofs.Math.Nat.{mod-eq_of_lt}
 use Rattle.std.proofs.lemmas.List.{length-take-le}
@@ -19,7 +21,8 @@ returns c = λ ds ahead cut.
     let is = (row_is Two layout.row.count layout.row best.0.0).0 in
     let prefix = take layout.row.count ds in
     let few = is.most in
-    let same = same_prefix layout.row.width layout.row.count ds c.args.cut.now reported.short few best.0.1 best.0.2
+    let short : layout.row.width ≤ 15 = omega (arith, ltb-true layout.row.width 16 reported.short) in
+    let same = same_prefix layout.row.width layout.row.count ds c.args.cut.now short few best.0.1 best.0.2
     cut in
     let long : length prefix ≡ layout.row.count = length-take-le layout.row.count ds best.0.1 in
     let below = dnib_below layout.row.dnib layout.row.width prefix is.dnib (rw long is.room)

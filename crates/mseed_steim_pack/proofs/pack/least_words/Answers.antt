@@ -1,7 +1,7 @@
-use Rattle.std.proofs.Common.{◌<◌, ℕ, ℤ, List, drop, arith, subst, length, Some}
+use Rattle.std.proofs.Common.{◌<◌, ℕ, drop, arith, length, Some}
 use Rattle.std.proofs.lemmas.List.{take_rest, drop_all, length-drop}
 use Rattle.mseed_steim.specs.declared.scheme.Scheme.TheVariants.{Two}
-use Rattle.mseed_steim_pack.specs.Packing.{IsFewest, IsFirstTooLarge, PacksRun}
+use Rattle.mseed_steim_pack.specs.Packing.{IsFirstTooLarge}
 use Rattle.mseed_steim_pack.specs.private.Rows.{IsBestRow}
 use Rattle.mseed_steim_pack.proofs.Packs.{least_more, first_large, none_large, refused_least, taken_not_large}
 use Rattle.mseed_steim_pack.proofs.Rows.{row_is}
@@ -30,20 +30,7 @@ returns-in-None-clause-refused c =
     refused_least ℕ c.args.diffs.now c.loop-used.used large
 
 pub returns-clause-fewest : goal.returns-clause-fewest
-returns-clause-fewest c =
-    let run = c.loop-used.invariant.run in
-    let over = c.loop-used-test.false in
-    subst (λ (n : ℕ). IsFewest c.args.diffs.now n) run.1.0
-    (is_fewest run.0 c.args.diffs.now (subst (λ (xs : List ℤ). PacksRun Two run.0 c.args.diffs.now xs)
-    (drop_all c.loop-used.used c.args.diffs.now over) run.1.1))
+returns-clause-fewest c = search (arith, drop_all, is_fewest)
 
 pub returns-clause-refused : goal.returns-clause-refused
-returns-clause-refused c =
-    let run = c.loop-used.invariant.run in
-    let over = c.loop-used-test.false in
-    λ i. (
-      λ e. cc,
-      λ h. let inside = h.0.0 in
-          absurd (taken_not_large Two run.0 c.args.diffs.now (drop c.loop-used.used c.args.diffs.now) i run.1.1
-          (omega (arith, inside, over, length-drop c.loop-used.used c.args.diffs.now)) h.0),
-    )
+returns-clause-refused c = search (arith, length-drop, taken_not_large)

@@ -3,7 +3,6 @@ use Rattle.std.proofs.Common.{subst, sym}
 use Rattle.mseed_steim.specs.declared.scheme.Scheme.{Scheme}
 use Rattle.mseed_steim.specs.Frames.{word_count}
 use Rattle.mseed_steim_pack.specs.declared.ahead.Lookahead.{Lookahead}
-use Rattle.mseed_steim_pack.specs.declared.pack.Packed.{Packed}
 use Rattle.mseed_steim_pack.specs.declared.pack.Reached.{Reached}
 use Rattle.mseed_steim_pack.specs.Lookahead.{IsLookahead}
 use Rattle.mseed_steim_pack.specs.private.Four.{known_from}
@@ -18,19 +17,7 @@ use Rattle.mseed_steim_pack.proofs.pack.pack_run.Goals as goal
 
 begun : (s : Scheme) (ds : List ℤ) (known : Lookahead) (p : List ℕ) (head : ℕ) (r : Reached)
     → IsReached s ds known p head r → head + 16 ≤ length p / 4 → length p % 64 ≡ 0 → Begun s ds known p head r
-begun s ds known p head r is frame whole =
-    let at = is.pushing.coding.at in
-    let from = is.pushing.coding.filling.from in
-    record {
-      reached = is;
-      frame = frame;
-      whole = whole;
-      used = is.pushing.coding.filling.inside;
-      place = is.ahead.place;
-      at = omega (arith, at);
-      low = omega (arith, at, from);
-      high = omega (arith, at, from);
-    }
+begun s ds known p head r is frame whole = search (arith)
 
 pub loop-next-init : goal.loop-next-init
 loop-next-init g c =
@@ -69,19 +56,7 @@ push_each-requires-clause-reached g c = (
 )
 
 pub returns-in-Err-clause-packed : goal.returns-in-Err-clause-packed
-returns-in-Err-clause-packed g c = record {
-  packed = tt;
-  spelled = tt;
-  inside = tt;
-  whole = tt;
-  behind = tt;
-  constants = tt;
-  codes = tt;
-  fewest = tt;
-  farthest = tt;
-  refused = refused_packed Packed c.args.scheme (g.P.Pending.differences c.args.pending.now) c.in-Err.fault.index _
-      c.in-Err.ensures.refused;
-}
+returns-in-Err-clause-packed g c = search (arith, refused_packed)
 
 pub loop-next-preserved-then-reached-end : goal.loop-next-preserved-then-reached-end
 loop-next-preserved-then-reached-end g c =
@@ -123,19 +98,7 @@ loop-next-preserved g c =
     (omega (arith, before.whole, c.push_known-reached.auto.frames, c.push_each.auto.frames))
 
 pub loop-next-smaller : goal.loop-next-smaller
-loop-next-smaller g c =
-    omega (
-      arith,
-      c.look_on-reached.ensures.early,
-      c.look_on-reached.ensures.index,
-      c.push_known-reached.ensures.moves.moves,
-      c.in-Ok.ensures.moves.moves,
-      c.in-Ok.ensures.moves.inside,
-      c.in-Ok.ensures.ended,
-      c.if-reached-end.false,
-      c.if-reached-count.false,
-      c.count-count.ensures.value,
-    )
+loop-next-smaller g c = search (arith)
 
 pub returns-clause-packed : goal.returns-clause-packed
 returns-clause-packed g c =

@@ -47,5 +47,4 @@ returns-else-samples-lt-MOST-clause-fullest c =
     (none_after_seven s ds) full
 
 pub returns-else-samples-lt-MOST-clause-refused : goal.returns-else-samples-lt-MOST-clause-refused
-returns-else-samples-lt-MOST-clause-refused c =
-    rw (to_z-of_z w32 c.args.before c.ranges.before) at c.pack_first-else-samples-lt-MOST.ensures.refused
+returns-else-samples-lt-MOST-clause-refused c = search (arith, to_z-of_z)

@@ -1,21 +1,11 @@
-use Rattle.std.proofs.Common.{◌≢◌, ℕ, ◌<◌, arith, inl, inr, refl}
+use Rattle.std.proofs.Common.{◌≢◌, ℕ, ◌<◌, arith, inr}
 use Rattle.std.proofs.lemmas.List.{length-drop}
 use Rattle.mseed_steim_pack.specs.private.Pushing.{IsReached}
 use Rattle.mseed_steim_pack.proofs.Lookaheads.{known_here}
 use Rattle.mseed_steim_pack.proofs.pack.push_each.Goals as goal
 
 pub loop-reached-init : goal.loop-reached-init
-loop-reached-init g c =
-    let is = c.requires.reached.1 in
-    record {
-      inside = c.requires.frame.inside;
-      begun = c.requires.frame.begun;
-      room = omega (arith, c.requires.frame.room, c.requires.frame.whole);
-      used = is.pushing.coding.filling.inside;
-      place = is.ahead.place;
-      moves = inl (refl, refl);
-      reached = λ head from. from;
-    }
+loop-reached-init g c = search (arith)
 
 pub push_next-requires-clause-some : goal.push_next-requires-clause-some
 push_next-requires-clause-some g c =

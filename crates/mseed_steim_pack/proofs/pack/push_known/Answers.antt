@@ -82,9 +82,7 @@ overflow_add-result-2 c =
     record { fits = omega (arith, found.1.place) }
 
 pub returns-clause-moves : goal.returns-clause-moves
-returns-clause-moves c =
-    let moves = c.loop-index.invariant.moves in
-    record { inside = omega arith; moves = inr (omega (arith, moves)) }
+returns-clause-moves c = search (arith)
 
 pub returns-clause-fills : goal.returns-clause-fills
 returns-clause-fills c = λ ds head from.

@@ -1,6 +1,6 @@
-use Rattle.std.proofs.Common.{◌≡◌, ℕ, ℤ, ◌+◌, ◌-◌, ◌/◌, List, arith, sym, subst, drop, length, rules}
+use Rattle.std.proofs.Common.{◌≡◌, ℕ, ℤ, ◌+◌, ◌-◌, ◌/◌, List, arith, sym, subst, drop, length}
 use Rattle.std.proofs.lemmas.List.{drop-drop}
-use Rattle.mseed_steim_pack.specs.Lookahead.{IsAhead, IsCut, IsLookahead}
+use Rattle.mseed_steim_pack.specs.Lookahead.{IsAhead, IsLookahead}
 use Rattle.mseed_steim_pack.proofs.Filling.{filling_refused}
 use Rattle.mseed_steim_pack.proofs.Held.{fullest_few}
 use Rattle.mseed_steim_pack.proofs.Lookaheads.{known_at, known_here, known_next, rest_long}
@@ -14,15 +14,7 @@ next_word-requires-clause-ahead g c =
     (sym c.from-held.ensures) here.0
 
 pub next_word-requires-clause-cut : goal.next_word-requires-clause-cut
-next_word-requires-clause-cut g c =
-    let s = c.args.scheme in
-    let ds = drop c.args.reached.used (g.P.Pending.differences c.args.pending.now) in
-    let cut = c.args.known.now.cut in
-    let place = c.args.reached.place in
-    let here = known_here s _ _ c.requires.reached.1.ahead in
-    let long : length cut ≡ 128 = search rules in
-    subst (λ (xs : List ℤ). IsCut s c.from-held.result ds xs) (sym (rest_long 128 place cut long))
-    (subst (λ (m : ℕ). IsCut s m ds (drop place cut)) (sym c.from-held.ensures) here.1)
+next_word-requires-clause-cut g c = search (arith, known_here, rest_long)
 
 pub returns-in_default-clause-refused : goal.returns-in_default-clause-refused
 returns-in_default-clause-refused g c =

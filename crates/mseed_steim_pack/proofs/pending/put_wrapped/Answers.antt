@@ -1,7 +1,6 @@
 use Rattle.std.proofs.Common.{◌≡◌, ◌∙◌, ◌<◌, ◌≤◌, ◌+◌, ◌-◌, ◌%◌, ℕ, ℤ, pos, ◌-ℤ◌, List, ◌∷◌, length, take}
-use Rattle.std.proofs.Common.{get_or, set, add-one, refl, sym, ap, arith, ⊎_elim, rules, FitsSigned, w32, to_z, of_z}
+use Rattle.std.proofs.Common.{get_or, set, add-one, refl, sym, ap, arith, rules, FitsSigned, w32, to_z, of_z}
 use Rattle.std.specs.Int.{int_wrap}
-use Rattle.std.proofs.lemmas.Bool.{cases_lt}
 use Rattle.std.proofs.lemmas.Grind.{get_or-set_at}
 use Rattle.std.proofs.lemmas.Int.{to_z-of_z, wrapping_sub-bits}
 use Rattle.std.proofs.lemmas.List.{ext_get_or, get_or-set_other, get_or-take, length-set, length-take-le}
@@ -14,14 +13,8 @@ put_more : (before last z : ℤ) (xs ds : List ℤ) (i : ℕ) → i < length xs 
     → last ≡ get_or (before ∷ xs) i (pos 0) → z ≡ int_wrap w32 (get_or xs i (pos 0) -ℤ last)
     → ((k : ℕ) → k < i → get_or ds k (pos 0) ≡ get_or (wrapped_from before xs) k (pos 0))
     → (k : ℕ) → k < i + 1 → get_or (set ds i z) k (pos 0) ≡ get_or (wrapped_from before xs) k (pos 0)
-put_more before last z xs ds i inside room last_is is done k h = ⊎_elim
-    (λ (less : k < i). get_or-set_other ds i k z (pos 0) (λ e. omega (arith, e, less)) ∙ done k less)
-    (λ (more : i ≤ k).
-    let at : k ≡ i = omega (arith, h, more) in
-    get_or-set_at ds i k z (pos 0) at (omega (arith, inside, room)) ∙ is
-    ∙ ap (λ (y : ℤ). int_wrap w32 (get_or xs i (pos 0) -ℤ y)) last_is ∙ sym (wrapped_at before xs i inside)
-    ∙ ap (λ (n : ℕ). get_or (wrapped_from before xs) n (pos 0)) (sym at))
-    (cases_lt k i)
+put_more before last z xs ds i inside room last_is is done k h =
+    search (arith, get_or-set_at, get_or-set_other, wrapped_at)
 
 pub loop-index-preserved : goal.loop-index-preserved
 loop-index-preserved c =

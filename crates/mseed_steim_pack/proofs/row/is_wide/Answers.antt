@@ -1,5 +1,5 @@
-use Rattle.std.proofs.Common.{◌≡◌, ◌↔◌, ◌^◌, ◌-◌, ◌<◌, ◌≤◌, ℕ, ℤ, arith, refl, subst, sym, ⊎_elim, Some, w32}
-use Rattle.std.proofs.lemmas.Bool.{cases_lt, le-leb, leb-true}
+use Rattle.std.proofs.Common.{◌≡◌, ◌↔◌, ◌^◌, ◌-◌, ◌<◌, ◌≤◌, ℕ, ℤ, arith, refl, Some, w32}
+use Rattle.std.proofs.lemmas.Bool.{le-leb, leb-true}
 use Rattle.std.proofs.lemmas.Int.{to_z-of_z}
 use Rattle.mseed_steim.specs.declared.scheme.Scheme.{Scheme}
 use Rattle.mseed_steim.specs.declared.scheme.Scheme.TheVariants.{One, Two}
@@ -10,14 +10,7 @@ use Rattle.mseed_steim_pack.proofs.row.is_wide.Goals as goal
 
 by_row : (s : Scheme) (d : ℤ) (size : ℕ) (pair : Row) → row_for s 2 ≡ Some pair
     → ((size < 2 ^ (pair.width - 1)) ↔ IsWithin pair.width d) → (2 ^ (pair.width - 1) ≤ size) ↔ IsWide s d
-by_row s d size pair found by = (
-  λ h row e within.
-      let same : pair ≡ row = cc in
-      let less = by.1 (subst (λ (r : Row). IsWithin r.width d) (sym same) within) in
-      omega (arith, h, less),
-  λ wide. ⊎_elim (λ (less : size < 2 ^ (pair.width - 1)). absurd (wide pair found (by.0 less)))
-      (λ (least : 2 ^ (pair.width - 1) ≤ size). least) (cases_lt size (2 ^ (pair.width - 1))),
-)
+by_row s d size pair found by = search (arith)
 
 is_wide : (s : Scheme) (d : ℤ) (size : ℕ) → ((w : ℕ) → (size < 2 ^ (w - 1)) ↔ IsWithin w d)
     → (size_limit (row_for s 2) ≤ size) ↔ IsWide s d

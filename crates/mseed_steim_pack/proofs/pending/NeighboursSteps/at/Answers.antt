@@ -6,25 +6,16 @@ use Rattle.mseed_steim_pack.proofs.Wrapped.{between_at, between_length}
 use Rattle.mseed_steim_pack.proofs.pending.NeighboursSteps.at.Goals as goal
 
 pub overflow_add-result : goal.overflow_add-result
-overflow_add-result c =
-    let inside : c.args.index + 1 < length c.args.self.now.samples.now =
-    omega (arith, c.requires, between_length c.args.self.now.samples.now) in
-    search rules
+overflow_add-result c = search (arith, between_length)
 
 pub offset_bounds-self-index : goal.offset_bounds-self-index
-offset_bounds-self-index c =
-    let inside : c.args.index + 1 < length c.args.self.now.samples.now =
-    omega (arith, c.requires, between_length c.args.self.now.samples.now) in
-    search rules
+offset_bounds-self-index c = search (arith, between_length)
 
 pub bounds-self-index : goal.bounds-self-index
 bounds-self-index c = omega (arith, c.requires, between_length c.args.self.now.samples.now)
 
 pub offset_bounds-self-index-2 : goal.offset_bounds-self-index-2
-offset_bounds-self-index-2 c =
-    let inside : c.args.index < length c.args.self.now.samples.now =
-    omega (arith, c.requires, between_length c.args.self.now.samples.now) in
-    search rules
+offset_bounds-self-index-2 c = search (arith, between_length)
 
 pub bounds-self-index-2 : goal.bounds-self-index-2
 bounds-self-index-2 c = omega (arith, c.requires, between_length c.args.self.now.samples.now)
