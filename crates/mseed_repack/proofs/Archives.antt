@@ -4,7 +4,7 @@ use Rattle.std.proofs.Common.{◌∷◌, ◌++◌, length, map, take, drop, get_
 use Rattle.std.proofs.Common.{append-nil, length-take, All}
 use Rattle.std.specs.List.{AllByRecursion}
 use Rattle.std.proofs.lemmas.List.{drop_more, get_or_default, length-map, take-append-drop, take_all, take_more}
-use Rattle.std.proofs.lemmas.List.Elements.{All-from_recursion, recursion_from_All}
+use Rattle.std.proofs.lemmas.List.Elements.{All-from_recursion}
 use Rattle.mseed_record.specs.View.{View}
 use Rattle.mseed_record.specs.Viewing.{view_of}
 use Rattle.mseed_record.specs.declared.view.RecordView.{RecordView}
@@ -12,16 +12,15 @@ use Rattle.mseed_stream.specs.Device.{BytesWritten}
 use Rattle.mseed_audit.specs.Channels.{is_of}
 use Rattle.mseed_audit.specs.Follows.{IsSound}
 use Rattle.mseed_audit.proofs.Following.{views_are}
-use Rattle.mseed_pack.specs.declared.fault.PackFault.{PackFault}
 use Rattle.mseed_pack.specs.declared.options.Options.{Options}
-use Rattle.mseed_repack.specs.Repack.{AreContinuous, CanBePacked, CantBePacked, Channel, IsFirst, StretchFits, Wrote}
+use Rattle.mseed_repack.specs.Repack.{AreContinuous, CanBePacked, Channel, StretchFits, Wrote}
 use Rattle.mseed_repack.specs.Repack.{records_in}
 use Rattle.mseed_repack.specs.ByStretches.{AreFound, IsFit, kept_of}
 use Rattle.mseed_repack.specs.private.Archives.{IsAudited, IsTrailOf, records_on}
 use Rattle.mseed_repack.specs.private.Planning.{AreReady, IsCutAs, IsPartAs, IsPartOn, IsReady, IsTextAs, IsTextOn}
 use Rattle.mseed_repack.specs.private.Planning.{PartsAs, StandsAs, TextsAs, stretches_by}
 use Rattle.mseed_repack.specs.private.Reading.{channel_in}
-use Rattle.mseed_repack.specs.private.Restretching.{AreUnsound, IsNoMisfit, IsUnbroken}
+use Rattle.mseed_repack.specs.private.Restretching.{AreUnsound}
 use Rattle.mseed_repack.specs.declared.plan.Plan.{Plan}
 use Rattle.mseed_repack.specs.declared.standing.Standing.{Standing}
 use Rattle.mseed_repack.specs.declared.standing.Standing.TheVariants.{Fit, Broken, Misfit}
@@ -30,9 +29,7 @@ use Rattle.mseed_repack.specs.declared.stretching.Cutting.TheVariants.{Whole}
 use Rattle.mseed_repack.specs.declared.archive.Archive.{Archive}
 use Rattle.mseed_repack.specs.declared.archive.Trail.{Trail}
 use Rattle.mseed_repack.proofs.Planning.{part_as, ready_at, text_as, wrote_as}
-use Rattle.mseed_repack.proofs.Repacks.{first_at}
-use Rattle.mseed_repack.proofs.Standings.{all_fit, as_many, each_fits, each_found, first_found, fits_by_standing}
-use Rattle.mseed_repack.proofs.Standings.{stands_at, unsound_at}
+use Rattle.mseed_repack.proofs.Standings.{as_many, each_found, fits_by_standing, unsound_at}
 use Rattle.mseed_repack.proofs.Texts.{wrote_more, wrote_part}
 
 abbrev views_of : Archive → List View
@@ -216,25 +213,6 @@ texts_all cutting o {first = first} {new = new} a ss k past size wrote =
 
 -- Channels that are packed whole.
 
--- of which each is sound, none is broken
-unbroken_whole : (o : Options) (views : List View) (cs : List Channel) (ss : List Standing)
-    → AreFound (StandsAs Whole o) views cs ss
-    → AllByRecursion (λ (c : Channel). AllByRecursion IsSound (records_in views c.0)) cs
-    → AllByRecursion IsUnbroken ss
-unbroken_whole o views [] [] all sound = tt
-unbroken_whole o views [] (s ∷ ss) all sound = absurd all
-unbroken_whole o views (c ∷ cs) [] all sound = tt
-unbroken_whole o views (c ∷ cs) (Fit ∷ ss) all sound = (tt, unbroken_whole o views cs ss all.1 sound.1)
-unbroken_whole o views (c ∷ cs) (Broken ∷ ss) all sound = absurd (all.0 sound.0)
-unbroken_whole o views (c ∷ cs) (Misfit n f ∷ ss) all sound = (tt, unbroken_whole o views cs ss all.1 sound.1)
-
-unbroken_continuous : (o : Options) (views : List View) (cs : List Channel) (ss : List Standing)
-    → AreFound (StandsAs Whole o) views cs ss → AreContinuous views cs → All IsUnbroken ss
-unbroken_continuous o views cs ss all continuous =
-    All-from_recursion IsUnbroken ss (unbroken_whole o views cs ss all
-    (recursion_from_All (λ (c : Channel). AllByRecursion IsSound (records_in views c.0)) cs
-    (λ k d lt. (continuous k d lt).each)))
-
 -- where each fits, each is kept
 kept_all : (cs : List Channel) (ss : List Standing) → length ss ≡ length cs → AllByRecursion IsFit ss
     → kept_of cs ss ≡ cs
@@ -244,34 +222,16 @@ kept_all (c ∷ cs) (Fit ∷ ss) size fit = ap (λ (ds : List Channel). c ∷ ds
 kept_all (c ∷ cs) (Broken ∷ ss) size fit = cc
 kept_all (c ∷ cs) (Misfit n f ∷ ss) size fit = cc
 
--- what is known of them where none doesn't fit
+-- and can be packed
 pub record IsWholeFit (o : Options) (views : List View) (cs : List Channel) (ss : List Standing) : Type 0 where
   pub fit : All (λ (c : Channel). CanBePacked o views c.0) cs
   pub kept : kept_of cs ss ≡ cs
 
 pub whole_fit : (o : Options) (views : List View) (cs : List Channel) (ss : List Standing)
-    → AreFound (StandsAs Whole o) views cs ss → AreContinuous views cs → All IsNoMisfit ss → IsWholeFit o views cs ss
-whole_fit o views cs ss all continuous fine =
-    let each = recursion_from_All IsFit ss (all_fit ss (unbroken_continuous o views cs ss all continuous) fine) in
-    record {
-      fit = All-from_recursion (λ (c : Channel). CanBePacked o views c.0) cs
-          (each_found (StandsAs Whole o) IsFit (StretchFits o) (fits_by_standing (StandsAs Whole o)) views cs ss all
-          each);
-      kept = kept_all cs ss (as_many (StandsAs Whole o) views cs ss all) each;
-    }
-
-pub whole_refused : (o : Options) (views : List View) (cs : List Channel) (ss : List Standing) (k number : ℕ)
-    (fault : PackFault) (c : Channel) → AreFound (StandsAs Whole o) views cs ss → AreContinuous views cs
-    → k < length ss → get_or ss k Fit ≡ Misfit number fault → All IsNoMisfit (take k ss)
-    → IsFirst (CanBePacked o views) (CantBePacked o views fault) (get_or cs k c).0 cs
-whole_refused o views cs ss k number fault c all continuous lt is before =
-    let Before : List ℕ → Type 0 = λ key. CanBePacked o views key in
-    let At : List ℕ → Type 0 = λ key. CantBePacked o views fault key in
-    let d : Channel = get_or cs k c in
-    let size = as_many (StandsAs Whole o) views cs ss all in
-    let less : k < length cs = omega (arith, lt, size) in
-    first_at Before At cs k c less
-    (first_found (StandsAs Whole o) IsFit (StretchFits o) (fits_by_standing (StandsAs Whole o)) views cs ss k all
-    (each_fits ss k (unbroken_continuous o views cs ss all continuous) before))
-    (stands_at (StandsAs Whole o) views cs ss k d (Misfit number fault) all less (get_or_default cs k c d less)
-    (sym is ∙ get_or_default ss k Fit (Misfit number fault) lt))
+    → AreFound (StandsAs Whole o) views cs ss → AllByRecursion IsFit ss → IsWholeFit o views cs ss
+whole_fit o views cs ss all each = record {
+  fit = All-from_recursion (λ (c : Channel). CanBePacked o views c.0) cs
+      (each_found (StandsAs Whole o) IsFit (StretchFits o)
+      (λ vs s is fit. (fits_by_standing (StandsAs Whole o) vs s is fit).1) views cs ss all each);
+  kept = kept_all cs ss (as_many (StandsAs Whole o) views cs ss all) each;
+}

@@ -1,6 +1,7 @@
 -- Those records of an archive that are asked for.
-use Rattle.std.proofs.Common.{◌≡◌, ◌≢◌, ℕ, ◌<◌, ◌≤◌, List, [], ◌∷◌, ◌++◌, length, map, refl}
+use Rattle.std.proofs.Common.{◌≡◌, ◌≢◌, ℕ, ◌<◌, ◌≤◌, ◌^◌, List, [], ◌∷◌, ◌++◌, length, map, refl}
 use Rattle.std.proofs.Common.{sym, ap, subst, arith}
+use Rattle.std.specs.Prelude.{IfOk}
 use Rattle.std.proofs.Common.{Bool, true, false, cond, append-nil, length-append, Result, Ok, Err, ◌∙◌, zero, suc}
 use Rattle.std.specs.List.{AllByRecursion, count_by, filter}
 use Rattle.std.proofs.lemmas.List.{length-map}
@@ -11,22 +12,27 @@ use Rattle.mseed_record.specs.Viewing.{view_of}
 use Rattle.mseed_record.specs.declared.view.RecordView.{RecordView}
 use Rattle.mseed_stream.specs.Device.{BytesRead, BytesWritten}
 use Rattle.mseed_stream.specs.LineWritten.{WritesLine}
+use Rattle.mseed_stream.specs.Archive.{IsArchive}
+use Rattle.mseed_stream.specs.Split.{bytes_of_each}
 use Rattle.mseed_stream.specs.Walk.{bytes_in}
 use Rattle.mseed_stream.specs.declared.fault.StreamFault.{StreamFault}
 use Rattle.mseed_stream.specs.declared.fault.StreamFault.TheVariants.{Memory as NoMemory}
 use Rattle.mseed_select.specs.Select.{selected_bytes}
 use Rattle.mseed_record.specs.Selection.{Selection, asks_for, lacks_time}
-use Rattle.mseed_audit.specs.Channels.{Placed, views_in}
+use Rattle.mseed_audit.specs.Channels.{Placed}
 use Rattle.mseed_audit.specs.Scope.{asked_of}
 use Rattle.mseed_steim.specs.declared.encoding.Encoding.{Encoding}
 use Rattle.mseed_pack.specs.declared.options.Options.{Options}
-use Rattle.mseed_repack.specs.ByStretches.{AreReported, AreReportsOf, IsPartStretched, IsRestretchingAmong, ReportsEach}
-use Rattle.mseed_repack.specs.ByStretches.{WroteKept, also, left_of, silent, worse_of}
+use Rattle.mseed_repack.specs.ByStretches.{AreReported, AreReportsOf, IsRestretchingAmong, ReportsEach}
+use Rattle.mseed_repack.specs.ByStretches.{also, left_of, silent, worse_of}
+use Rattle.mseed_repack.specs.ReadBack.{IsReadOf}
 use Rattle.mseed_repack.specs.Repack.{Channel, IsRepackingAmong, IsUnread, IsWhole}
 use Rattle.mseed_repack.specs.Selected.{IsSelectedRepacking, IsSelectedRestretching}
-use Rattle.mseed_repack.specs.Selected.{ReportsIfLeft, ReportsWithoutTime, WereReportedInPart}
+use Rattle.mseed_repack.specs.Selected.{ReportsWithoutTime, WereReportedInPart}
 use Rattle.mseed_repack.specs.Selected.{read_of, without_time_line, without_time_lines}
-use Rattle.mseed_repack.specs.private.Restretching.{IsRestretchingIfLeft, ReportsAfter, ReportsUnlessLeft}
+use Rattle.mseed_repack.specs.private.Places.{ArePlaces}
+use Rattle.mseed_repack.specs.private.Restretching.{AreAsked, IsPackedIfLeft, IsRestretchingIfLeft}
+use Rattle.mseed_repack.specs.private.Restretching.{IsSelectedAs, ReportsAfter, ReportsUnlessLeft}
 use Rattle.mseed_repack.specs.declared.fault.RepackFault.{RepackFault}
 use Rattle.mseed_repack.specs.declared.fault.RepackFault.TheVariants.{Stream, Broken, Misfit, Write, Memory}
 use Rattle.mseed_repack.specs.declared.refusing.Left.{Left}
@@ -34,10 +40,13 @@ use Rattle.mseed_repack.specs.declared.refusing.Left.TheVariants.{Nothing, Broke
 use Rattle.mseed_repack.specs.declared.standing.Standing.{Standing}
 use Rattle.mseed_repack.specs.declared.standing.Standing.TheVariants.{Fit, Broken as BrokenChannel}
 use Rattle.mseed_repack.specs.declared.standing.Standing.TheVariants.{Misfit as MisfitChannel}
+use Rattle.mseed_repack.specs.declared.stretching.Cutting.{Cutting}
+use Rattle.mseed_repack.specs.declared.stretching.Cutting.TheVariants.{Whole, Stretches}
 use Rattle.mseed_repack.proofs.Each.{each_kept}
 use Rattle.mseed_repack.proofs.OneRepacking.{never_unread}
 use Rattle.mseed_repack.proofs.InPlaces.{views_asked}
 use Rattle.mseed_repack.proofs.Standings.{tells_one}
+use Rattle.mseed_repack.proofs.Wholes.{all_of, whole_read}
 
 -- the views of the records that are kept
 pub kept_views : (p : View → Bool) (rs : List RecordView)
@@ -87,17 +96,48 @@ whole_kept s h views whole = record {
   fine = refl;
 }
 
+-- what was read is a whole archive, of whose records these are asked for
+pub are_asked : (s : Selection) (rs kept : List RecordView) (count : ℕ) {h : BytesRead} {bytes : List ℕ}
+    → IsReadOf bytes h → IsArchive bytes (bytes_of_each rs) []
+    → AllByRecursion (λ (r : RecordView). IsView (view_of r)) rs → length rs < 2 ^ 40
+    → kept ≡ filter (λ r. asks_for s (view_of r)) rs → count ≡ count_by (lacks_time s) (map view_of rs)
+    → AreAsked s bytes h (map view_of kept) count
+are_asked s rs kept count read archive each few kept_is count_is =
+    let all = all_of rs archive each in
+    record {
+      views = map view_of rs;
+      all = all;
+      whole = whole_read rs read all few;
+      kept_are = ap (λ (qs : List RecordView). map view_of qs) kept_is ∙ kept_views (asks_for s) rs;
+      count_is = count_is;
+    }
+
+-- they are one themselves, each at its place among all
+pub asked_whole : {s : Selection} {bytes : List ℕ} {h : BytesRead} {vs : List View} {count : ℕ}
+    (a : AreAsked s bytes h vs count) → IsWhole (read_of (selected_bytes s a.views)) vs
+asked_whole {s = s} {h = h} a =
+    subst (λ (ws : List View). IsWhole (read_of (selected_bytes s a.views)) ws) (sym a.kept_are)
+    (whole_kept s h a.views a.whole)
+
+pub asked_places : {s : Selection} {bytes : List ℕ} {h : BytesRead} {vs : List View} {count : ℕ}
+    (a : AreAsked s bytes h vs count) → ArePlaces s bytes vs (asked_of s a.views)
+asked_places {s = s} a = record {
+  views = a.views;
+  all = a.all;
+  places_are = refl;
+  packed_are = views_asked s a.views ∙ sym a.kept_are;
+}
+
+pub asked_few : {s : Selection} {bytes : List ℕ} {h : BytesRead} {count : ℕ} (rs : List RecordView)
+    → AreAsked s bytes h (map view_of rs) count → length rs < 2 ^ 40
+asked_few rs a = let few = (asked_whole a).few in omega (arith, few, length-map rs view_of)
+
 -- where no line is reported, nothing is written
-silent_only : (lines : List (List ℕ)) (old new : BytesWritten) → ReportsEach lines old new → lines ≡ [] → new ≡ old
+pub silent_only : (lines : List (List ℕ)) (old new : BytesWritten) → ReportsEach lines old new → lines ≡ [] → new ≡ old
 silent_only _ _ _ (silent s) none = refl
 silent_only _ old new (also lines line _ between _ before told) none =
     let size = ap (λ (ls : List (List ℕ)). length ls) none in
     absurd (omega (arith, size, length-append lines (line ∷ [])))
-
-nothing_if_left : (left : Left) (old new : BytesWritten) → ReportsIfLeft left 0 old new → new ≡ old
-nothing_if_left Nothing old new same = same
-nothing_if_left LeftBroken old new told = silent_only [] old new told refl
-nothing_if_left LeftMisfit old new told = silent_only [] old new told refl
 
 -- where nothing is left out, no channel has a line
 some_left : (left : Left) → worse_of BrokenChannel left ≡ Nothing → ⊥
@@ -105,7 +145,7 @@ some_left Nothing e = cc
 some_left LeftBroken e = cc
 some_left LeftMisfit e = cc
 
-lines_none : (encoding : Encoding) (cs : List Channel) (ss : List Standing) (lines : List (List ℕ))
+pub lines_none : (encoding : Encoding) (cs : List Channel) (ss : List Standing) (lines : List (List ℕ))
     → left_of ss ≡ Nothing → AreReportsOf encoding cs ss lines → lines ≡ []
 lines_none encoding [] ss lines e are = are
 lines_none encoding (c ∷ cs) [] lines e are = are
@@ -131,9 +171,9 @@ module _ (s : Selection) (o : Options) (h : BytesRead) (views : List View) (whol
       absurd (never_unread read fault (filter (asks_for s) views) is_input unread (whole_kept s h views whole))
 
   -- each channel whole
-  pub repacked_asked : {U : Type 0} (result : Result U RepackFault) (reported_old reported_new : BytesWritten)
-      → IsRepackingAmong place o result read old new → ReportsAfter result count reported_old reported_new
-      → IsSelectedRepacking s o result h old new reported_old reported_new
+  repacked_asked : {U : Type 0} (result : Result U RepackFault) (first last : BytesWritten)
+      → IsRepackingAmong place o result read old new → ReportsAfter result count first last
+      → IsSelectedRepacking s o result h old new first last
   repacked_asked (Ok u) first last is told = record { views = views; whole = whole; is_so = (is, told) }
   repacked_asked (Err (Stream fault)) first last is told = never fault is.0 is.1
   repacked_asked (Err (Broken key found)) first last is told =
@@ -142,6 +182,13 @@ module _ (s : Selection) (o : Options) (h : BytesRead) (views : List View) (whol
       record { views = views; whole = whole; is_so = (is, told) }
   repacked_asked (Err Write) first last is told = record { views = views; whole = whole; is_so = (is, told) }
   repacked_asked (Err Memory) first last is told = (is, told)
+
+  -- of which none is left out
+  told_after : (result : Result Left RepackFault) (first last : BytesWritten) → IfOk result (λ left. left ≡ Nothing)
+      → ReportsUnlessLeft result count first last → ReportsAfter result count first last
+  told_after (Ok left) first last none told =
+      subst (λ (l : Left). ReportsUnlessLeft (Ok l) count first last) none told
+  told_after (Err fault) first last none told = told
 
   -- the lines of channels that are left out, where none is
   all_kept : (left between last : BytesWritten) (cs : List Channel) (ss : List Standing)
@@ -186,7 +233,7 @@ module _ (s : Selection) (o : Options) (h : BytesRead) (views : List View) (whol
       )
 
   -- by stretches
-  pub restretched_asked : (leave : Bool) (result : Result Left RepackFault) (first between last : BytesWritten)
+  restretched_asked : (leave : Bool) (result : Result Left RepackFault) (first between last : BytesWritten)
       → IsRestretchingIfLeft place o leave count result read old new first between
       → ReportsUnlessLeft result count between last
       → IsSelectedRestretching s o leave result h old new first last
@@ -227,43 +274,16 @@ module _ (s : Selection) (o : Options) (h : BytesRead) (views : List View) (whol
       record { views = views; whole = whole; is_so = (came.0, (came.1.0, (came.1.1.0, is))) }
   restretched_asked leave (Err Memory) first between last is same = (is.0, same ∙ is.1)
 
--- what is so of an input of the records that are asked for is so of them
-pub asked_whole : (s : Selection) (h : BytesRead) (rs kept : List RecordView) → IsWhole h (map view_of rs)
-    → kept ≡ filter (λ r. asks_for s (view_of r)) rs
-    → IsWhole (read_of (selected_bytes s (map view_of rs))) (map view_of kept)
-asked_whole s h rs kept whole e =
-    subst (λ (vs : List View). IsWhole (read_of (selected_bytes s (map view_of rs))) vs)
-    (sym (ap (λ (qs : List RecordView). map view_of qs) e ∙ kept_views (asks_for s) rs))
-    (whole_kept s h (map view_of rs) whole)
-
--- they stand at their places among all
-pub asked_views : (s : Selection) (rs kept : List RecordView) → kept ≡ filter (λ r. asks_for s (view_of r)) rs
-    → views_in (asked_of s (map view_of rs)) ≡ map view_of kept
-asked_views s rs kept e =
-    views_asked s (map view_of rs)
-    ∙ sym (ap (λ (qs : List RecordView). map view_of qs) e ∙ kept_views (asks_for s) rs)
-
--- where no window is given none lacks a time, so that nothing more is reported
-pub none_asked : (place : List View → List Placed) (o : Options) (leave : Bool) (result : Result Left RepackFault)
-    (h : BytesRead) (old new first last : BytesWritten)
-    → IsRestretchingIfLeft place o leave 0 result h old new first last
-    → IsRestretchingAmong place o leave result h old new first last
-none_asked place o leave (Ok left) h old new first last is =
-    subst (λ (w : BytesWritten). IsRestretchingAmong place o leave (Ok left) h old new w last)
-    (nothing_if_left left first is.0 is.1.0) is.1.1
-none_asked place o leave (Err (Stream fault)) h old new first last is = is
-none_asked place o leave (Err (Broken key found)) h old new first last is = is
-none_asked place o leave (Err (Misfit key number fault)) h old new first last is = is
-none_asked place o leave (Err Write) h old new first last came =
-    let vs = came.0 in
-    let cs = came.1.0 in
-    let is = came.1.1.1 in
-    let same = nothing_if_left (left_of is.standings) first is.between is.reported in
-    let kept = subst
-    (λ (w : BytesWritten). WroteKept (IsPartStretched o vs) 1 o leave vs cs is.standings old new w last) same
-    is.kept in
-    (vs, (cs, (came.1.1.0, record { standings = is.standings; kept = kept })))
-none_asked place o leave (Err Memory) h old new first last is = is
+  -- either way
+  pub packed_asked : (cutting : Cutting) (leave : Bool) (result : Result Left RepackFault)
+      (first between last : BytesWritten) → IsPackedIfLeft cutting place o leave count result read old new first between
+      → ReportsUnlessLeft result count between last → IsSelectedAs cutting s o leave result h old new first last
+  packed_asked Whole leave result first between last is told = λ stays.
+      repacked_asked result first last (is stays).1
+      (told_after result first last (is stays).0
+      (subst (λ (w : BytesWritten). ReportsUnlessLeft result count w last) (is stays).2 told))
+  packed_asked Stretches leave result first between last is told =
+      restretched_asked leave result first between last is told
 
 -- what is told of how many lack a time
 pub none_lacks : (count : ℕ) (s : BytesWritten) → count ≤ 0 → ReportsEach (without_time_lines count) s s
@@ -274,14 +294,3 @@ pub some_lack : (count : ℕ) (old new : BytesWritten) → 0 < count → WritesL
     → ReportsEach (without_time_lines count) old new
 some_lack zero old new h told = absurd (omega (arith, h))
 some_lack (suc n) old new h told = tells_one (without_time_line (suc n)) old new told
-
--- there are no more of them
-pub fewer_kept : (s : Selection) (rs kept : List RecordView) → kept ≡ filter (λ r. asks_for s (view_of r)) rs
-    → length kept ≤ length rs
-fewer_kept s rs kept e =
-    omega (
-      arith,
-      ap (λ (qs : List RecordView). length qs) e,
-      length-filter (λ (r : RecordView). asks_for s (view_of r)) rs,
-      count_by-le-length (λ (r : RecordView). asks_for s (view_of r)) rs,
-    )

@@ -20,10 +20,8 @@ use Rattle.mseed_audit.proofs.Following.{end_of}
 use Rattle.mseed_audit.proofs.Views.{added_length}
 use Rattle.mseed_repack.specs.ByStretches.{IsFirstOwn}
 use Rattle.mseed_repack.specs.Repack.{IsFirstFinding}
-use Rattle.mseed_repack.specs.private.Places.{ArePlaces, IsOwnAt, StandsAt}
+use Rattle.mseed_repack.specs.private.Places.{IsOwnAt, StandsAt}
 use Rattle.mseed_repack.specs.private.Reading.{channel_in}
-use Rattle.mseed_repack.specs.declared.places.Places.{Places}
-use Rattle.mseed_repack.specs.declared.places.Places.TheVariants.{All, Asked}
 
 -- ---- the views of records in their places
 
@@ -49,10 +47,6 @@ views_kept p (q ∷ qs) = by (p q.view) (views_kept p qs)
 pub views_asked : (s : Selection) (vs : List View) → views_in (asked_of s vs) ≡ filter (asks_for s) vs
 views_asked s vs =
     views_kept (asks_for s) (placed_of vs) ∙ ap (λ (ws : List View). filter (asks_for s) ws) (views_placed vs)
-
-pub places_views : (places : Places) (vs : List View) (ps : List Placed) → ArePlaces places vs ps → views_in ps ≡ vs
-places_views All vs ps is = ap (λ (qs : List Placed). views_in qs) is ∙ views_placed vs
-places_views (Asked bytes selector) vs ps is = is.1.2
 
 -- as many as their views
 size_of : (ps : List Placed) (vs : List View) → views_in ps ≡ vs → length ps ≡ length vs

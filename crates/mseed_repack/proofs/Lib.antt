@@ -1,4 +1,5 @@
 pub mod Each
+pub mod Everything
 pub mod Texts
 pub mod Repacks
 pub mod AskedFor

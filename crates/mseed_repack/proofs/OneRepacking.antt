@@ -324,7 +324,7 @@ holds_of P [] back k v all = All-head (λ (c : Channel). P c.0) (k, v) back all
 holds_of P (x ∷ xs) back k v all =
     holds_of P xs back k v (All-tail (λ (c : Channel). P c.0) x (xs ++ (k, v) ∷ back) all)
 
-none_first : (Before At : List ℕ → Type 0) (k : List ℕ) (cs : List Channel)
+pub none_first : (Before At : List ℕ → Type 0) (k : List ℕ) (cs : List Channel)
     → ((key : List ℕ) → At key → ¬ (Before key)) → All (λ (c : Channel). Before c.0) cs → IsFirst Before At k cs → ⊥
 none_first Before At k cs not all is =
     not k is.is_it (holds_of Before is.prefix is.back k is.verdict

@@ -1,25 +1,33 @@
 -- What packing an archive anew comes to, by how its channels are planned.
-use Rattle.std.specs.Prelude.{⊤}
-use Rattle.std.proofs.Common.{◌≡◌, ◌∙◌, ℕ, ◌<◌, List, length, take, get_or, ap, refl, subst, sym, Bool}
-use Rattle.std.proofs.Common.{false, All, Ok, Err}
+use Rattle.std.proofs.Common.{◌≡◌, ◌∙◌, ℕ, List, [], ◌∷◌, length, ap, refl, subst, sym, Bool, false, Ok, Err}
 use Rattle.std.specs.List.{AllByRecursion}
+use Rattle.std.proofs.lemmas.List.Elements.{All-weaker}
 use Rattle.mseed_record.specs.View.{View}
-use Rattle.mseed_audit.specs.Channels.{Placed}
+use Rattle.mseed_record.specs.declared.codes.Codes.{Codes}
+use Rattle.mseed_audit.specs.Channels.{Placed, channel_in}
+use Rattle.mseed_audit.specs.Follows.{IsContinuous, IsSound}
+use Rattle.mseed_audit.specs.declared.finding.Finding.{Finding}
 use Rattle.mseed_stream.specs.Device.{BytesRead, BytesWritten}
-use Rattle.mseed_pack.specs.declared.fault.PackFault.{PackFault}
 use Rattle.mseed_pack.specs.declared.options.Options.{Options}
-use Rattle.mseed_repack.specs.Repack.{AreContinuous, Channel, IsArchiveOf, IsRepackingAmong, Wrote}
-use Rattle.mseed_repack.specs.ByStretches.{AreReported, IsFit, kept_of, left_of}
+use Rattle.mseed_repack.specs.Repack.{AreContinuous, CanBePacked, CantBePacked, Channel, IsArchiveOf, IsFirst, Wrote}
+use Rattle.mseed_repack.specs.Repack.{IsFirstFinding, records_in}
+use Rattle.mseed_repack.specs.ByStretches.{AreFound, AreReported, IsFit, kept_of, left_of}
 use Rattle.mseed_repack.specs.Selected.{ReportsIfLeft}
-use Rattle.mseed_repack.specs.private.Planning.{AreReady, PartsAs, TextsAs}
-use Rattle.mseed_repack.specs.private.Restretching.{AreUnsound, IsNoMisfit, IsRestretchingIfLeft}
-use Rattle.mseed_repack.specs.declared.fault.RepackFault.TheVariants.{Misfit as MisfitChannel, Write}
+use Rattle.mseed_repack.specs.private.Planning.{AreReady, PartsAs, StandsAs, TextsAs}
+use Rattle.mseed_repack.specs.private.Restretching.{AreUnsound, IsFirstRefused, IsPackedIfLeft}
+use Rattle.mseed_repack.specs.declared.fault.RepackFault.{RepackFault}
+use Rattle.mseed_repack.specs.declared.fault.RepackFault.TheVariants.{Stream, Broken as BrokenChannel}
+use Rattle.mseed_repack.specs.declared.fault.RepackFault.TheVariants.{Misfit as MisfitChannel, Write, Memory}
 use Rattle.mseed_repack.specs.declared.plan.Plan.{Plan}
+use Rattle.mseed_repack.specs.declared.refusing.Left.{Left}
+use Rattle.mseed_repack.specs.declared.refusing.Left.TheVariants.{Nothing}
 use Rattle.mseed_repack.specs.declared.standing.Standing.{Standing}
-use Rattle.mseed_repack.specs.declared.standing.Standing.TheVariants.{Fit, Misfit}
+use Rattle.mseed_repack.specs.declared.standing.Standing.TheVariants.{Fit, Broken, Misfit}
 use Rattle.mseed_repack.specs.declared.stretching.Cutting.{Cutting}
 use Rattle.mseed_repack.specs.declared.stretching.Cutting.TheVariants.{Whole, Stretches}
-use Rattle.mseed_repack.proofs.Archives.{whole_fit, whole_refused}
+use Rattle.mseed_repack.proofs.Archives.{whole_fit}
+use Rattle.mseed_repack.proofs.AskedFor.{lines_none, silent_only}
+use Rattle.mseed_repack.proofs.OneRepacking.{none_first}
 use Rattle.mseed_repack.proofs.Planning.{standing_each, standings_of, wrote_as}
 use Rattle.mseed_repack.proofs.Standings.{unsound_all, wrote_kept}
 
@@ -30,59 +38,103 @@ pub as_found : {cutting : Cutting} {o : Options} {room places : ℕ} {views : Li
 as_found cs ss ts ls same ready = ap (λ (us : List Standing). length us) same ∙ standing_each cs ss ls ready
 
 -- and each that is said to be broken is
-pub as_unsound : {o : Options} {room places : ℕ} {views : List View} (cs : List Channel) (ss ts : List Standing)
-    (ls : List (List Plan)) → ts ≡ ss → AreReady Stretches o room places views cs ss ls → AreUnsound views cs ts
-as_unsound {o = o} {views = views} cs ss ts ls same ready =
+pub as_unsound : {cutting : Cutting} {o : Options} {room places : ℕ} {views : List View} (cs : List Channel)
+    (ss ts : List Standing) (ls : List (List Plan)) → ts ≡ ss → AreReady cutting o room places views cs ss ls
+    → AreUnsound views cs ts
+as_unsound {cutting = cutting} {o = o} {views = views} cs ss ts ls same ready =
     subst (λ (us : List Standing). AreUnsound views cs us) (sym same)
-    (unsound_all o views cs ss (standings_of cs ss ls ready))
+    (unsound_all cutting o views cs ss (standings_of cs ss ls ready))
 
-module _ (place : List View → List Placed) (o : Options) (room places : ℕ) (views : List View) (cs : List Channel)
-    (ss : List Standing) (ls : List (List Plan)) where
-  -- each channel whole
+none_left : (ss : List Standing) → AllByRecursion IsFit ss → left_of ss ≡ Nothing
+none_left [] fit = refl
+none_left (Fit ∷ ss) fit = none_left ss fit.1
+none_left (Broken ∷ ss) fit = cc
+none_left (Misfit n f ∷ ss) fit = cc
 
-  pub refused : (k number : ℕ) (fault : PackFault) (c : Channel) (h : BytesRead) (s : BytesWritten)
-      → IsArchiveOf h views cs → AreContinuous views cs → AreReady Whole o room places views cs ss ls → k < length ss
-      → get_or ss k Fit ≡ Misfit number fault → All IsNoMisfit (take k ss)
-      → IsRepackingAmong {U = ⊤} place o (Err (MisfitChannel (get_or cs k c).0 1 fault)) h s s
-  refused k number fault c h s archive continuous ready inside is before =
-      let first = whole_refused o views cs ss k number fault c (standings_of cs ss ls ready) continuous inside is
-      before in
-      (views, (cs, (archive, continuous, first, refl, refl)))
+-- what is known of the channels of an archive, which are cut so, before any is written or left out
+pub record AreJudged (cutting : Cutting) (o : Options) (leave : Bool) (h : BytesRead) (views : List View)
+    (cs : List Channel) (ss : List Standing) : Type 0 where
+  pub archive : IsArchiveOf h views cs
+  pub continuous : cutting ≡ Whole → AreContinuous views cs
+  pub found : AreFound (StandsAs cutting o) views cs ss
+  pub fit : leave ≡ false → AllByRecursion IsFit ss
 
-  pub repacked : (h : BytesRead) (old new : BytesWritten) → IsArchiveOf h views cs → AreContinuous views cs
-      → AreReady Whole o room places views cs ss ls → All IsNoMisfit ss
-      → Wrote (TextsAs Whole o views (kept_of cs ss)) 0 old new → IsRepackingAmong {U = ⊤} place o (Ok tt) h old new
-  repacked h old new archive continuous ready fine wrote =
-      let fit = whole_fit o views cs ss (standings_of cs ss ls ready) continuous fine in
-      let texts = wrote_as (λ text is. subst (λ (ds : List Channel). TextsAs Whole o views ds text) fit.kept is)
-      wrote in
-      (views, (cs, (record { archive = archive; continuous = continuous; fit = fit.fit }, texts)))
+module _ (place : List View → List Placed) (o : Options) (leave : Bool) (count : ℕ) (h : BytesRead) (views : List View)
+    (cs : List Channel) where
+  -- where each channel fits, nothing is reported
+  silent : (ss : List Standing) (first between last : BytesWritten) → AllByRecursion IsFit ss
+      → ReportsIfLeft (left_of ss) count first between → AreReported o.encoding cs ss between last → last ≡ first
+  silent ss first between last fit untimed told =
+      silent_only told.lines between last told.each
+      (lines_none o.encoding cs ss told.lines (none_left ss fit) told.are)
+      ∙ subst (λ (left : Left). ReportsIfLeft left count first between) (none_left ss fit) untimed
 
-  pub repacked_in_part : (h : BytesRead) (old new : BytesWritten) → IsArchiveOf h views cs → AreContinuous views cs
-      → AreReady Whole o room places views cs ss ls → All IsNoMisfit ss
-      → Wrote (PartsAs Whole o views (kept_of cs ss)) 1 old new → IsRepackingAmong {U = ⊤} place o (Err Write) h old new
-  repacked_in_part h old new archive continuous ready fine wrote =
-      let fit = whole_fit o views cs ss (standings_of cs ss ls ready) continuous fine in
-      let parts = wrote_as (λ text is. subst (λ (ds : List Channel). PartsAs Whole o views ds text) fit.kept is)
-      wrote in
-      (views, (cs, (record { archive = archive; continuous = continuous; fit = fit.fit }, parts)))
+  pub packed : (cutting : Cutting) (ss : List Standing) (old new first between last : BytesWritten)
+      → AreJudged cutting o leave h views cs ss → ReportsIfLeft (left_of ss) count first between
+      → AreReported o.encoding cs ss between last → Wrote (TextsAs cutting o views (kept_of cs ss)) 0 old new
+      → IsPackedIfLeft cutting place o leave count (Ok (left_of ss)) h old new first last
+  packed Whole ss old new first between last k untimed told wrote = λ stays.
+      let all = whole_fit o views cs ss k.found (k.fit stays) in
+      let texts = wrote_as (λ text is. subst (λ (ds : List Channel). TextsAs Whole o views ds text) all.kept is)
+      wrote in (
+        none_left ss (k.fit stays),
+        (views, (cs, (record { archive = k.archive; continuous = k.continuous refl; fit = all.fit }, texts))),
+        silent ss first between last (k.fit stays) untimed told,
+      )
+  packed Stretches ss old new first between last k untimed told wrote =
+      let kept = wrote_kept k.found k.fit told (wrote_as (λ text is. is) wrote) in
+      (between, (untimed, (views, (cs, (k.archive, record { standings = ss; kept = kept; left_is = refl })))))
 
-  -- or by its stretches
+  pub packed_in_part : (cutting : Cutting) (ss : List Standing) (old new first between last : BytesWritten)
+      → AreJudged cutting o leave h views cs ss → ReportsIfLeft (left_of ss) count first between
+      → AreReported o.encoding cs ss between last → Wrote (PartsAs cutting o views (kept_of cs ss)) 1 old new
+      → IsPackedIfLeft cutting place o leave count (Err Write) h old new first last
+  packed_in_part Whole ss old new first between last k untimed told wrote = λ stays.
+      let all = whole_fit o views cs ss k.found (k.fit stays) in
+      let parts = wrote_as (λ text is. subst (λ (ds : List Channel). PartsAs Whole o views ds text) all.kept is)
+      wrote in (
+        tt,
+        (views, (cs, (record { archive = k.archive; continuous = k.continuous refl; fit = all.fit }, parts))),
+        silent ss first between last (k.fit stays) untimed told,
+      )
+  packed_in_part Stretches ss old new first between last k untimed told wrote =
+      let kept = wrote_kept k.found k.fit told (wrote_as (λ text is. is) wrote) in
+      (views, (cs, (k.archive, record { standings = ss; between = between; reported = untimed; kept = kept })))
 
-  pub restretched : (leave : Bool) (count : ℕ) (h : BytesRead) (old new first between last : BytesWritten)
-      → IsArchiveOf h views cs → AreReady Stretches o room places views cs ss ls
-      → (leave ≡ false → AllByRecursion IsFit ss) → ReportsIfLeft (left_of ss) count first between
-      → AreReported o.encoding cs ss between last → Wrote (TextsAs Stretches o views (kept_of cs ss)) 0 old new
-      → IsRestretchingIfLeft place o leave count (Ok (left_of ss)) h old new first last
-  restretched leave count h old new first between last archive ready fit untimed told wrote =
-      let kept = wrote_kept (standings_of cs ss ls ready) fit told (wrote_as (λ text is. is) wrote) in
-      (between, (untimed, (views, (cs, (archive, record { standings = ss; kept = kept; left_is = refl })))))
+  -- the archive is refused for a channel that isn't continuous
+  pub broken_refused : (cutting : Cutting) (key : Codes) (first : Finding) (s w : BytesWritten) → IsArchiveOf h views cs
+      → cutting ≡ Whole → IsFirst (λ k. IsContinuous (records_in views k)) (λ k. ¬ (IsContinuous (records_in views k)))
+      key cs → IsFirstFinding (channel_in key (place views)) first
+      → IsPackedIfLeft cutting place o leave count (Err (BrokenChannel key first)) h s s w w
+  broken_refused Whole key first s w archive whole is finding =
+      λ _. (tt, (views, (cs, (archive, is, finding, refl))), refl)
+  broken_refused Stretches key first s w archive whole is finding = cc
 
-  pub restretched_in_part : (leave : Bool) (count : ℕ) (h : BytesRead) (old new first between last : BytesWritten)
-      → IsArchiveOf h views cs → AreReady Stretches o room places views cs ss ls
-      → (leave ≡ false → AllByRecursion IsFit ss) → ReportsIfLeft (left_of ss) count first between
-      → AreReported o.encoding cs ss between last → Wrote (PartsAs Stretches o views (kept_of cs ss)) 1 old new
-      → IsRestretchingIfLeft place o leave count (Err Write) h old new first last
-  restretched_in_part leave count h old new first between last archive ready fit untimed told wrote =
-      let kept = wrote_kept (standings_of cs ss ls ready) fit told (wrote_as (λ text is. is) wrote) in
-      (views, (cs, (archive, record { standings = ss; between = between; reported = untimed; kept = kept })))
+  -- or for one that isn't to be left out
+  pub first_refused : (cutting : Cutting) (fault : RepackFault) (s w : BytesWritten) → IsArchiveOf h views cs
+      → (cutting ≡ Whole → AreContinuous views cs) → leave ≡ false
+      → IsFirstRefused cutting o (place views) views cs fault
+      → IsPackedIfLeft cutting place o leave count (Err fault) h s s w w
+  first_refused cutting (Stream f) s w archive whole stays is = absurd is
+  first_refused Whole (BrokenChannel key first) s w archive whole stays is =
+      absurd (none_first (λ (k : List ℕ). AllByRecursion IsSound (records_in views k))
+      (λ (k : List ℕ). ¬ (AllByRecursion IsSound (records_in views k))) key cs (λ k no yes. no yes)
+      (λ k c lt. (whole refl k c lt).each) is.0)
+  first_refused Stretches (BrokenChannel key first) s w archive whole stays is =
+      (views, (cs, (archive, is.0, is.1, stays, refl, refl)))
+  first_refused Whole (MisfitChannel key n f) s w archive whole stays is =
+      let at = is.1 in
+      let first : IsFirst (CanBePacked o views) (CantBePacked o views f) key cs = record {
+        prefix = at.prefix;
+        verdict = at.verdict;
+        back = at.back;
+        parts = at.parts;
+        before = All-weaker (λ (c : Channel). StandsAs Whole o (records_in views c.0) Fit)
+            (λ (c : Channel). CanBePacked o views c.0) (λ c fits. fits.1) at.prefix at.before;
+        is_it = at.is_it.2;
+      } in
+      λ _. (tt, (views, (cs, (archive, whole refl, first, at.is_it.1, refl))), refl)
+  first_refused Stretches (MisfitChannel key n f) s w archive whole stays is =
+      (views, (cs, (archive, is.0, is.1, stays, refl, refl)))
+  first_refused cutting Write s w archive whole stays is = absurd is
+  first_refused cutting Memory s w archive whole stays is = absurd is

@@ -33,19 +33,6 @@ pub record IsPassed (s : Selection) (bytes : List ℕ) (offset number asked : �
   pub fewer : asked ≤ number
   pub within : offset ≤ length bytes
 
-pub none_passed : (s : Selection) (bytes : List ℕ) → IsPassed s bytes 0 0 0
-none_passed s bytes = record {
-  views = [];
-  records = record { joined = refl; each = tt };
-  each = tt;
-  offset_is = refl;
-  number_is = refl;
-  asked_is = refl;
-  few = omega arith;
-  fewer = omega arith;
-  within = omega arith;
-}
-
 end_more : (offset : ℕ) (vs : List View) (v : View) → end_of offset (vs ++ v ∷ []) ≡ end_of offset vs + length v.bytes
 end_more offset [] v = refl
 end_more offset (w ∷ vs) v = end_more (offset + length w.bytes) vs v

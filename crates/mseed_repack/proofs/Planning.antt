@@ -215,7 +215,7 @@ whole_fits o room places p ps vs readable e one fits goes =
     let all : take p.records vs ≡ vs = whole_is p vs readable.few e in
     subst (λ (qs : List Plan). IsReady Whole o room places vs Fit qs) (sym one)
     (record {
-      stands = fits;
+      stands = (readable.sound, fits);
       cut = λ _. ap (λ (us : List View). us ∷ []) all;
       can = λ _. (
         subst (λ (us : List View). IsPlanned o room places p.way us) (sym all)
@@ -223,6 +223,11 @@ whole_fits o room places p ps vs readable e one fits goes =
         tt,
       );
     })
+
+pub whole_misfits : (o : Options) (room places : ℕ) (ps : List Plan) (vs : List View) (fault : PackFault)
+    → AllByRecursion IsSound vs → StretchMisfits o fault vs → IsReady Whole o room places vs (Misfit 1 fault) ps
+whole_misfits o room places ps vs fault sound misfits =
+    record { stands = (sound, refl, misfits); cut = λ fit. cc; can = λ fit. cc }
 
 -- however it is cut, a channel is broken where a record isn't sound
 pub broken_as : (cutting : Cutting) (o : Options) (room places : ℕ) (ps : List Plan) (vs : List View)

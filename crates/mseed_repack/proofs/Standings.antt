@@ -1,11 +1,11 @@
 -- What is found of the channels of an archive, one after another.
 use Rattle.std.proofs.Common.{◌≡◌, ℕ, zero, suc, ◌+◌, ◌<◌, ◌≤◌, List, [], ◌∷◌, ◌++◌, length, take, get_or}
-use Rattle.std.proofs.Common.{refl, sym, ap, subst, ◌∙◌, arith, append_assoc, append-nil, All, Bool, true, false, Err}
+use Rattle.std.proofs.Common.{refl, sym, ap, subst, ◌∙◌, arith, append_assoc, append-nil, All, Bool, true, false}
 use Rattle.std.specs.List.{AllByRecursion}
 use Rattle.std.proofs.lemmas.List.{get_or_default, take_all}
 use Rattle.std.proofs.lemmas.List.Elements.{All-from_recursion, All-take, recursion_from_All}
 use Rattle.mseed_record.specs.View.{View}
-use Rattle.mseed_stream.specs.Device.{BytesRead, BytesWritten}
+use Rattle.mseed_stream.specs.Device.{BytesWritten}
 use Rattle.mseed_stream.specs.LineWritten.{WritesLine}
 use Rattle.mseed_audit.specs.Channels.{Placed, added_from, channel_in as placed_in}
 use Rattle.mseed_audit.specs.Follows.{IsSound}
@@ -15,19 +15,19 @@ use Rattle.mseed_audit.proofs.Following.{views_are}
 use Rattle.mseed_steim.specs.declared.encoding.Encoding.{Encoding}
 use Rattle.mseed_pack.specs.declared.options.Options.{Options}
 use Rattle.mseed_pack.specs.declared.fault.PackFault.{PackFault}
-use Rattle.mseed_repack.specs.Repack.{Channel, IsArchiveOf, IsFirst, Wrote, records_in}
-use Rattle.mseed_repack.specs.Restretch.{ChannelFits, ChannelMisfits}
-use Rattle.mseed_repack.specs.ByStretches.{AreFound, AreStandings, IsFit, ReportsEach, Stands}
+use Rattle.mseed_repack.specs.Repack.{Channel, IsFirst, Wrote, records_in}
+use Rattle.mseed_repack.specs.ByStretches.{AreFound, AreStandings, IsFit, ReportsEach}
 use Rattle.mseed_repack.specs.ByStretches.{AreReported, AreReportsOf, IsFirstOwn, IsReportOf, WroteKept}
 use Rattle.mseed_repack.specs.ByStretches.{also, kept_of, silent}
+use Rattle.mseed_repack.specs.private.Planning.{StandsAs}
 use Rattle.mseed_repack.specs.private.Reading.{channel_in, steps_of}
-use Rattle.mseed_repack.specs.private.Restretching.{AreUnsound, IsFirstRefused, IsNoMisfit, IsRestretchingIfLeft}
-use Rattle.mseed_repack.specs.private.Restretching.{IsUnbroken}
+use Rattle.mseed_repack.specs.private.Restretching.{AreUnsound, IsFirstRefused, IsNoMisfit, IsUnbroken}
 use Rattle.mseed_repack.specs.declared.standing.Standing.{Standing}
 use Rattle.mseed_repack.specs.declared.standing.Standing.TheVariants.{Fit, Broken, Misfit}
-use Rattle.mseed_repack.specs.declared.fault.RepackFault.{RepackFault}
-use Rattle.mseed_repack.specs.declared.fault.RepackFault.TheVariants.{Stream, Broken as BrokenChannel}
-use Rattle.mseed_repack.specs.declared.fault.RepackFault.TheVariants.{Misfit as MisfitStretch, Write, Memory}
+use Rattle.mseed_repack.specs.declared.stretching.Cutting.{Cutting}
+use Rattle.mseed_repack.specs.declared.stretching.Cutting.TheVariants.{Whole, Stretches}
+use Rattle.mseed_repack.specs.declared.fault.RepackFault.TheVariants.{Broken as BrokenChannel}
+use Rattle.mseed_repack.specs.declared.fault.RepackFault.TheVariants.{Misfit as MisfitStretch}
 use Rattle.mseed_repack.proofs.ReadChannels.{steps_in}
 use Rattle.mseed_repack.proofs.Repacks.{first_at, says_of}
 
@@ -106,11 +106,14 @@ wrote_kept are whole reported wrote = record { are = are; whole = whole; reporte
 
 -- channels of which none is broken, and of which each fits
 
-sound_by_standing : (o : Options) (vs : List View) (s : Standing) → Stands o vs s → IsUnbroken s
-    → AllByRecursion IsSound vs
-sound_by_standing o vs Fit fits un = fits.sound
-sound_by_standing o vs Broken not un = absurd un
-sound_by_standing o vs (Misfit n f) misfits un = misfits.sound
+sound_by_standing : (cutting : Cutting) (o : Options) (vs : List View) (s : Standing) → StandsAs cutting o vs s
+    → IsUnbroken s → AllByRecursion IsSound vs
+sound_by_standing Whole o vs Fit fits un = fits.0
+sound_by_standing Whole o vs Broken not un = absurd un
+sound_by_standing Whole o vs (Misfit n f) misfits un = misfits.0
+sound_by_standing Stretches o vs Fit fits un = fits.sound
+sound_by_standing Stretches o vs Broken not un = absurd un
+sound_by_standing Stretches o vs (Misfit n f) misfits un = misfits.sound
 
 pub fits_by_standing : (Is : List View → Standing → Type 0) (vs : List View) (s : Standing) → Is vs s → IsFit s
     → Is vs Fit
@@ -131,17 +134,18 @@ each_fits ss k un fine =
     by (Misfit n f ∷ ts) un fine = absurd fine.0
 
 -- what is said of each channel that is broken
-unsound_by : (o : Options) (vs : List View) (s : Standing) → Stands o vs s → s ≡ Broken
+unsound_by : (cutting : Cutting) (o : Options) (vs : List View) (s : Standing) → StandsAs cutting o vs s → s ≡ Broken
     → ¬ (AllByRecursion IsSound vs)
-unsound_by o vs s is e = subst (λ (t : Standing). Stands o vs t) e is
+unsound_by Whole o vs s is e = subst (λ (t : Standing). StandsAs Whole o vs t) e is
+unsound_by Stretches o vs s is e = subst (λ (t : Standing). StandsAs Stretches o vs t) e is
 
-pub unsound_all : (o : Options) (views : List View) (cs : List Channel) (ss : List Standing)
-    → AreStandings o views cs ss → AreUnsound views cs ss
-unsound_all o views [] [] all = tt
-unsound_all o views [] (s ∷ ss) all = absurd all
-unsound_all o views (c ∷ cs) [] all = absurd all
-unsound_all o views (c ∷ cs) (s ∷ ss) all =
-    (unsound_by o (records_in views c.0) s all.0, unsound_all o views cs ss all.1)
+pub unsound_all : (cutting : Cutting) (o : Options) (views : List View) (cs : List Channel) (ss : List Standing)
+    → AreFound (StandsAs cutting o) views cs ss → AreUnsound views cs ss
+unsound_all cutting o views [] [] all = tt
+unsound_all cutting o views [] (s ∷ ss) all = absurd all
+unsound_all cutting o views (c ∷ cs) [] all = absurd all
+unsound_all cutting o views (c ∷ cs) (s ∷ ss) all =
+    (unsound_by cutting o (records_in views c.0) s all.0, unsound_all cutting o views cs ss all.1)
 
 pub unsound_at : (views : List View) (cs : List Channel) (ss : List Standing) (k : ℕ) (c : Channel)
     → AreUnsound views cs ss → k < length cs → length ss ≡ length cs → c ≡ get_or cs k c → get_or ss k Fit ≡ Broken
@@ -152,41 +156,44 @@ unsound_at views cs ss k c all lt size at broken =
     (sym broken ∙ get_or_default ss k Fit Broken inside) refl
 
 -- the first broken channel is why an archive is refused
-pub refused_broken : (o : Options) (ps : List Placed) (views : List View) (cs : List Channel) (ss : List Standing)
+pub refused_broken : (cutting : Cutting) (o : Options) (ps : List Placed) (views : List View) (cs : List Channel) (ss : List Standing)
     (k : ℕ) (c : Channel) (first : Finding) → k < length ss → length ss ≡ length cs → c ≡ get_or cs k c
-    → get_or ss k Fit ≡ Broken → All IsUnbroken (take k ss) → AreStandings o views cs ss
-    → IsFirstOwn (placed_in c.0 ps) first → IsFirstRefused o ps views cs (BrokenChannel c.0 first)
-refused_broken o ps views cs ss k c first lt size at is before all own =
+    → get_or ss k Fit ≡ Broken → All IsUnbroken (take k ss) → AreFound (StandsAs cutting o) views cs ss
+    → IsFirstOwn (placed_in c.0 ps) first → IsFirstRefused cutting o ps views cs (BrokenChannel c.0 first)
+refused_broken cutting o ps views cs ss k c first lt size at is before all own =
     let Sound : List ℕ → Type 0 = λ key. AllByRecursion IsSound (records_in views key) in
     let Unsound : List ℕ → Type 0 = λ key. ¬ (AllByRecursion IsSound (records_in views key)) in
     let less : k < length cs = omega (arith, lt, size) in
-    let here : Stands o (records_in views c.0) Broken =
-    stands_at (Stands o) views cs ss k c Broken all less at (sym is ∙ get_or_default ss k Fit Broken lt) in
+    let here = unsound_by cutting o (records_in views c.0) Broken
+    (stands_at (StandsAs cutting o) views cs ss k c Broken all less at (sym is ∙ get_or_default ss k Fit Broken lt))
+    refl in
     let is_first : IsFirst Sound Unsound c.0 cs =
     subst (λ (key : List ℕ). IsFirst Sound Unsound key cs) (sym (ap (λ (d : Channel). d.0) at))
     (first_at Sound Unsound cs k c less
-    (first_found (Stands o) IsUnbroken (AllByRecursion IsSound) (sound_by_standing o) views cs ss k all before)
+    (first_found (StandsAs cutting o) IsUnbroken (AllByRecursion IsSound) (sound_by_standing cutting o) views cs ss k all
+    before)
     (subst (λ (d : Channel). Unsound d.0) at here)) in
     (is_first, own)
 
 -- or else the first that doesn't fit
-pub refused_misfit : (o : Options) (ps : List Placed) (views : List View) (cs : List Channel) (ss : List Standing)
+pub refused_misfit : (cutting : Cutting) (o : Options) (ps : List Placed) (views : List View) (cs : List Channel) (ss : List Standing)
     (k n : ℕ) (fault : PackFault) (c : Channel) → k < length ss → length ss ≡ length cs → c ≡ get_or cs k c
-    → get_or ss k Fit ≡ Misfit n fault → All IsUnbroken ss → All IsNoMisfit (take k ss) → AreStandings o views cs ss
-    → IsFirstRefused o ps views cs (MisfitStretch c.0 n fault)
-refused_misfit o ps views cs ss k n fault c lt size at is un before all =
-    let Fits : List ℕ → Type 0 = λ key. ChannelFits o (records_in views key) in
-    let Misfits : List ℕ → Type 0 = λ key. ChannelMisfits o n fault (records_in views key) in
+    → get_or ss k Fit ≡ Misfit n fault → All IsUnbroken ss → All IsNoMisfit (take k ss)
+    → AreFound (StandsAs cutting o) views cs ss → IsFirstRefused cutting o ps views cs (MisfitStretch c.0 n fault)
+refused_misfit cutting o ps views cs ss k n fault c lt size at is un before all =
+    let Fits : List ℕ → Type 0 = λ key. StandsAs cutting o (records_in views key) Fit in
+    let Misfits : List ℕ → Type 0 = λ key. StandsAs cutting o (records_in views key) (Misfit n fault) in
     let less : k < length cs = omega (arith, lt, size) in
-    let here : Stands o (records_in views c.0) (Misfit n fault) =
-    stands_at (Stands o) views cs ss k c (Misfit n fault) all less at (sym is
+    let here : StandsAs cutting o (records_in views c.0) (Misfit n fault) =
+    stands_at (StandsAs cutting o) views cs ss k c (Misfit n fault) all less at (sym is
     ∙ get_or_default ss k Fit (Misfit n fault) lt) in (
       All-from_recursion (λ (d : Channel). AllByRecursion IsSound (records_in views d.0)) cs
-          (each_found (Stands o) IsUnbroken (AllByRecursion IsSound) (sound_by_standing o) views cs ss all
+          (each_found (StandsAs cutting o) IsUnbroken (AllByRecursion IsSound) (sound_by_standing cutting o) views cs ss all
           (recursion_from_All IsUnbroken ss un)),
       subst (λ (key : List ℕ). IsFirst Fits Misfits key cs) (sym (ap (λ (d : Channel). d.0) at))
           (first_at Fits Misfits cs k c less
-          (first_found (Stands o) IsFit (ChannelFits o) (fits_by_standing (Stands o)) views cs ss k all
+          (first_found (StandsAs cutting o) IsFit (λ vs. StandsAs cutting o vs Fit) (fits_by_standing (StandsAs cutting o))
+          views cs ss k all
           (each_fits ss k un before))
           (subst (λ (d : Channel). Misfits d.0) at here)),
     )
@@ -276,16 +283,3 @@ pub no_misfit : (s : Standing) → ((n : ℕ) (f : PackFault) → s ≡ Misfit n
 no_misfit Fit fine = tt
 no_misfit Broken fine = tt
 no_misfit (Misfit n f) fine = fine n f refl
-
--- it is refused for the first channel that isn't to be left out
-pub refused_is : (place : List View → List Placed) (o : Options) (leave : Bool) (count : ℕ) (h : BytesRead)
-    (s reported : BytesWritten) (views : List View) (cs : List Channel) (fault : RepackFault)
-    → IsFirstRefused o (place views) views cs fault → leave ≡ false
-    → IsArchiveOf h views cs → IsRestretchingIfLeft place o leave count (Err fault) h s s reported reported
-refused_is place o leave count h s reported views cs (Stream f) is stays archive = absurd is
-refused_is place o leave count h s reported views cs (BrokenChannel key first) is stays archive =
-    (views, (cs, (archive, is.0, is.1, stays, refl, refl)))
-refused_is place o leave count h s reported views cs (MisfitStretch key n f) is stays archive =
-    (views, (cs, (archive, is.0, is.1, stays, refl, refl)))
-refused_is place o leave count h s reported views cs Write is stays archive = absurd is
-refused_is place o leave count h s reported views cs Memory is stays archive = absurd is

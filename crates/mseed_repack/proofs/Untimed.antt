@@ -1,5 +1,5 @@
 -- The records that some bytes begin with, and how many of them lack a time.
-use Rattle.std.proofs.Common.{◌≡◌, ℕ, ◌+◌, ◌<◌, ◌≤◌, ◌++◌, List, [], ◌∷◌, length, take, drop, refl, sym, subst, ◌∙◌}
+use Rattle.std.proofs.Common.{◌≡◌, ℕ, ◌+◌, ◌<◌, ◌≤◌, ◌++◌, List, [], ◌∷◌, length, take, drop, sym, subst, ◌∙◌}
 use Rattle.std.proofs.Common.{Bool, true, false, arith, cond, length-drop, length-take, ap}
 use Rattle.std.specs.List.{AllByRecursion, count_by}
 use Rattle.std.proofs.ByRecursion.{All-push}
@@ -22,16 +22,6 @@ pub record IsCountedTo (s : Selection) (bytes : List ℕ) (offset count : ℕ) :
   pub count_is : count ≡ count_by (lacks_time s) views
   pub few : count ≤ offset
   pub within : offset ≤ length bytes
-
-pub none_counted : (s : Selection) (bytes : List ℕ) → IsCountedTo s bytes 0 0
-none_counted s bytes = record {
-  views = [];
-  records = record { joined = refl; each = tt };
-  each = tt;
-  count_is = refl;
-  few = omega arith;
-  within = omega arith;
-}
 
 pub at_most_one : (b : Bool) (n : ℕ) → n ≡ cond b 1 0 → n ≤ 1
 at_most_one true n e = omega (arith, e)

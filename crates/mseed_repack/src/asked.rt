@@ -3,42 +3,40 @@ ghost use Rattle.std.specs.Prelude.{◌≡◌, List, if◌then◌else◌, map};
 ghost use Rattle.std.specs.List.{count_by, filter};
 ghost use Rattle.mseed_record.specs.View.{View};
 ghost use Rattle.mseed_record.specs.Viewing.{view_of};
-ghost use Rattle.mseed_select.specs.Selecting.{selection_of};
 ghost use Rattle.mseed_record.specs.Selection.{asks_for, lacks_time};
 ghost use Rattle.mseed_repack.specs.ByStretches.{ReportsEach};
 ghost use Rattle.mseed_repack.specs.Repack.{stream_fault};
 ghost use Rattle.mseed_repack.specs.Selected.{AreRecordsOf, ReportsIfLeft, without_time_lines};
-ghost use Rattle.mseed_repack.specs.private.Restretching.{ReportsAfter, ReportsAtFault, ReportsUnlessLeft};
+ghost use Rattle.mseed_repack.specs.private.Restretching.{ReportsAtFault, ReportsUnlessLeft};
 
 use crate::fault::RepackFault;
 use crate::refusing::Left;
-use mseed_record::RecordView;
-use mseed_select::{Answer, Selector};
+use mseed_record::{Answer, Choice, RecordView};
 use mseed_stream::{Sink, StreamFault, report};
 use mseed_text::Line;
 use std::alloc::Allocator;
 
 /// Lets go of the records that aren't asked for, and returns how many records of the channels that are asked for lack a
 /// time.
-pub(crate) fn keep_asked<A: Allocator>(
+pub(crate) fn keep_asked<A: Allocator, C: Choice>(
     views: &mut Vec<RecordView<'_>, A>,
-    selector: &Selector<'_>,
+    choice: &C,
 ) -> u64
-    ensures kept { views.new.items ≡ filter (λ r. asks_for (selection_of selector.now) (view_of r)) views.old.items }
-    ensures count { result ≡ count_by (lacks_time (selection_of selector.now)) (map view_of views.old.items) }
+    ensures kept { views.new.items ≡ filter (λ r. asks_for (C.selection choice.now) (view_of r)) views.old.items }
+    ensures count { result ≡ count_by (lacks_time (C.selection choice.now)) (map view_of views.old.items) }
 {
-    let count = count_without_time(views, selector);
-    views.retain(|view| matches!(selector.asks_for(view), Answer::AskedFor));
+    let count = count_without_time(views, choice);
+    views.retain(|view| matches!(choice.answer(view), Answer::AskedFor));
     count
 }
 
 /// Returns how many records of the channels that are asked for lack a time.
-fn count_without_time(views: &[RecordView], selector: &Selector<'_>) -> u64
-    ensures { result ≡ count_by (lacks_time (selection_of selector.now)) (map view_of views.now) }
+fn count_without_time<C: Choice>(views: &[RecordView], choice: &C) -> u64
+    ensures { result ≡ count_by (lacks_time (C.selection choice.now)) (map view_of views.now) }
 {
     let mut count = 0;
     for view in views {
-        if let Answer::NoTime = selector.asks_for(view) {
+        if let Answer::NoTime = choice.answer(view) {
             count += 1;
         }
     }
@@ -47,9 +45,9 @@ fn count_without_time(views: &[RecordView], selector: &Selector<'_>) -> u64
 
 /// Returns how many records of the channels that are asked for lack a time, of those that some bytes begin with, one
 /// after another.
-fn count_in_bytes(bytes: &[u8], selector: &Selector<'_>) -> u64
+fn count_in_bytes<C: Choice>(bytes: &[u8], choice: &C) -> u64
     ensures { (views : List View) × (AreRecordsOf bytes.now views
-        × (result ≡ count_by (lacks_time (selection_of selector.now)) views)) }
+        × (result ≡ count_by (lacks_time (C.selection choice.now)) views)) }
 {
     let mut count = 0;
     let mut offset = 0;
@@ -58,17 +56,17 @@ fn count_in_bytes(bytes: &[u8], selector: &Selector<'_>) -> u64
             Ok(view) => view,
             Err(_) => return count,
         };
-        count += count_one(&view, selector);
+        count += count_one(&view, choice);
         offset += view.bytes().len();
     }
     count
 }
 
 /// Returns 1 for a record of a channel that is asked for that lacks a time, and 0 for any other.
-fn count_one(view: &RecordView, selector: &Selector<'_>) -> u64
-    ensures { result ≡ (if lacks_time (selection_of selector.now) (view_of view.now) then 1 else 0) }
+fn count_one<C: Choice>(view: &RecordView, choice: &C) -> u64
+    ensures { result ≡ (if lacks_time (C.selection choice.now) (view_of view.now) then 1 else 0) }
 {
-    match selector.asks_for(view) {
+    match choice.answer(view) {
         Answer::NoTime => 1,
         Answer::AskedFor | Answer::Left => 0,
     }
@@ -76,37 +74,22 @@ fn count_one(view: &RecordView, selector: &Selector<'_>) -> u64
 
 /// Returns why an archive isn't packed of which these bytes were read before this fault. Where it is the input's, it is
 /// reported how many records lack a time before it.
-pub(crate) fn refuse_input<E: Sink>(
+pub(crate) fn refuse_input<C: Choice, E: Sink>(
     fault: StreamFault,
     bytes: &[u8],
-    selector: &Selector<'_>,
+    choice: &C,
     errors: &mut E,
 ) -> RepackFault
     ensures fault { result ≡ stream_fault fault }
-    ensures reported { ReportsAtFault (selection_of selector.now) fault bytes.now (E.written errors.old)
+    ensures reported { ReportsAtFault (C.selection choice.now) fault bytes.now (E.written errors.old)
         (E.written errors.new) }
 {
     match fault {
         StreamFault::Memory => RepackFault::Memory,
         fault => {
-            report_without_time(count_in_bytes(bytes, selector), errors);
+            report_without_time(count_in_bytes(bytes, choice), errors);
             RepackFault::Stream(fault)
         }
-    }
-}
-
-/// Reports how many records lack a time once an archive was packed, or refused for a channel: where the output failed,
-/// or memory was refused, nothing.
-pub(crate) fn report_after<E: Sink>(
-    outcome: &Result<(), RepackFault>,
-    without_time: u64,
-    errors: &mut E,
-)
-    ensures { ReportsAfter outcome.now without_time (E.written errors.old) (E.written errors.new) }
-{
-    match outcome {
-        Err(RepackFault::Write | RepackFault::Memory) => {}
-        _ => report_without_time(without_time, errors),
     }
 }
 
@@ -120,7 +103,8 @@ pub(crate) fn report_if_left<E: Sink>(left: Left, without_time: u64, errors: &mu
     }
 }
 
-/// Reports it afterwards, as [`report_after`] does, where no channel was left out.
+/// Reports it once an archive was packed, or refused for a channel, where no channel was left out; where the output
+/// failed, or memory was refused, nothing.
 pub(crate) fn report_unless_left<E: Sink>(
     outcome: &Result<Left, RepackFault>,
     without_time: u64,

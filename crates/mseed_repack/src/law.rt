@@ -1,6 +1,7 @@
 //! Laws of packing an archive anew.
-ghost use Rattle.std.specs.Prelude.{⊤, ◌≡◌, ◌≢◌, ◌↔◌, ◌∷◌, ◌++◌, ℕ, ℤ, List, [], Result, Ok, None, Some};
+ghost use Rattle.std.specs.Prelude.{⊤, ◌≡◌, ◌≢◌, ◌↔◌, ◌∷◌, ◌++◌, ℕ, ℤ, Bool, List, [], Result, Ok, None, Some};
 ghost use Rattle.std.specs.List.{AllByRecursion};
+ghost use Rattle.mseed_record.specs.Selection.{everything};
 ghost use Rattle.mseed_record.specs.View.{View, IsView, start_of};
 ghost use Rattle.mseed_audit.specs.Follows.{AllNeighbours, IsContinuous};
 ghost use Rattle.mseed_audit.specs.declared.finding.Why.TheVariants.{Gap, Overlap};
@@ -14,12 +15,14 @@ ghost use Rattle.mseed_repack.specs.OneRepacking.{ComeToOne};
 ghost use Rattle.mseed_repack.specs.ReadBack.{IsReadBack};
 ghost use Rattle.mseed_repack.specs.Borders.{AreReadAs, IsClose, IsFoundAfter, IsStretchedArchive, LeavesGap};
 ghost use Rattle.mseed_repack.specs.Borders.{Overlaps};
-ghost use Rattle.mseed_repack.specs.ByStretches.{AreStretched, EachRestretching};
+ghost use Rattle.mseed_repack.specs.ByStretches.{AreStretched, EachRestretching, IsRestretching};
 ghost use Rattle.mseed_repack.specs.Misfits.{difference_bits, sample_bits};
 ghost use Rattle.mseed_repack.specs.Repack.{Channel, IsRepacking};
 ghost use Rattle.mseed_repack.specs.Restretch.{ChannelFits, IsChannelPacked};
+ghost use Rattle.mseed_repack.specs.Selected.{IsSelectedRepacking, IsSelectedRestretching};
 ghost use Rattle.mseed_repack.specs.StretchesReadBack.{IsChannelReadBack, IsStretchedBack};
 ghost use Rattle.mseed_repack.specs.declared.fault.RepackFault.{RepackFault};
+ghost use Rattle.mseed_repack.specs.declared.refusing.Left.{Left};
 
 use crate::stretch_law::{instants_stay_near, one_list_of_stretches, stretches_are_continuous};
 use mseed_audit::{continuous_exactly, one_finding, one_list_of_verdicts, one_series};
@@ -45,6 +48,19 @@ pub fn one_repacking()
     one_packing();
     one_misfit();
 }
+
+/// Where all records are asked for, packing those that are asked for is packing the archive: it comes to the same, and
+/// of records that lack a time nothing is reported.
+pub fn all_are_packed()
+    ensures whole { (options : Options) (result : Result ⊤ RepackFault) (read : BytesRead)
+        (old new reported_old reported_new : BytesWritten)
+        → IsSelectedRepacking everything options result read old new reported_old reported_new
+        → IsRepacking options result read old new × (reported_new ≡ reported_old) }
+    ensures stretches { (options : Options) (leave : Bool) (result : Result Left RepackFault) (read : BytesRead)
+        (old new reported_old reported_new : BytesWritten)
+        → IsSelectedRestretching everything options leave result read old new reported_old reported_new
+        → IsRestretching options leave result read old new reported_old reported_new }
+{}
 
 /// What was written when an archive was packed anew reads back: it is an archive, whose audit calls each channel
 /// continuous, and whose series are those of the input; and packing it anew by the same options comes to the same text.

@@ -3,13 +3,16 @@
 //! instant never further than a quarter of its period from where its record has it.
 #![tactic(auto)]
 
+mod anew;
 mod archive;
 mod asked;
+mod broken;
 mod channel;
 mod channel_fault;
 mod clock;
 mod cutting;
 mod fault;
+mod input;
 mod judging;
 mod law;
 mod misfit;
@@ -40,7 +43,7 @@ pub use channel_fault::ChannelFault;
 pub use cutting::first_stretch;
 pub use fault::RepackFault;
 pub use law::{
-    borders_are_kept, named_numbers_are_held, one_channel_packing, one_repacking,
+    all_are_packed, borders_are_kept, named_numbers_are_held, one_channel_packing, one_repacking,
     repacked_reads_back, stretches_read_back,
 };
 pub use misfit::{misfit_number, put_misfit_more};

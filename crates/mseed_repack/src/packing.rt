@@ -4,7 +4,6 @@ ghost use Rattle.mseed_record.specs.Viewing.{view_of};
 ghost use Rattle.mseed_repack.specs.ByStretches.{kept_of};
 ghost use Rattle.mseed_repack.specs.Repack.{Wrote};
 ghost use Rattle.mseed_repack.specs.Restretch.{IsNumberedOn};
-ghost use Rattle.mseed_repack.specs.declared.stretching.Cutting.{Cutting};
 ghost use Rattle.mseed_repack.specs.private.Archives.{IsAudited};
 ghost use Rattle.mseed_repack.specs.private.Planning.{AreReady, CanBeWritten, IsPartOn, IsTextOn, PartsAs, TextsAs};
 ghost use Rattle.mseed_repack.specs.private.Planning.{stretches_by};
@@ -13,19 +12,21 @@ use crate::archive::Archive;
 use crate::plan::Plan;
 use crate::series::pack_series;
 use crate::standing::Standing;
+use crate::stretching::Cutting;
 use crate::walk::{Part, Walk, skip};
 use mseed_pack::{Options, Packer};
 use mseed_stream::{Failed, Sink};
 use mseed_time::LeapStep;
 use std::alloc::Allocator;
 
-/// Writes the records of the channels that fit, each by how its stretches are packed.
+/// Writes the records of the channels that fit, each by how its stretches are packed, which are cut so.
 ///
 /// # Errors
 ///
 /// `Failed` where the output failed: a part was written.
 pub(crate) fn pack_channels<A: Allocator, W: Sink>(
     archive: &Archive,
+    _cutting: Cutting,
     standings: &[Standing],
     plans: &[Vec<Plan, A>],
     options: &Options,
@@ -33,13 +34,12 @@ pub(crate) fn pack_channels<A: Allocator, W: Sink>(
     steps: &mut [(u64, LeapStep)],
     output: &mut W,
 ) -> Result<(), Failed>
-    ghost cutting: { Cutting }
     requires audited { IsAudited archive.now }
-    requires ready { AreReady cutting options.now (length samples.old) (length steps.old)
+    requires ready { AreReady _cutting options.now (length samples.old) (length steps.old)
         (map view_of archive.now.views.now) archive.now.channels.now standings.now (map (λ own. own.items) plans.now) }
-    ensures ok { OnOk result (Wrote (TextsAs cutting options.now (map view_of archive.now.views.now)
+    ensures ok { OnOk result (Wrote (TextsAs _cutting options.now (map view_of archive.now.views.now)
         (kept_of archive.now.channels.now standings.now)) 0 (W.written output.old) (W.written output.new)) }
-    ensures err { IfErr result (λ _. Wrote (PartsAs cutting options.now (map view_of archive.now.views.now)
+    ensures err { IfErr result (λ _. Wrote (PartsAs _cutting options.now (map view_of archive.now.views.now)
         (kept_of archive.now.channels.now standings.now)) 1 (W.written output.old) (W.written output.new)) }
 {
     let mut packer = Packer::new();

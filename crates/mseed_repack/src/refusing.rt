@@ -7,13 +7,15 @@ ghost use Rattle.mseed_record.specs.Viewing.{view_of};
 ghost use Rattle.mseed_stream.specs.LineWritten.{WritesLine};
 ghost use Rattle.mseed_audit.specs.Channels.{Placed};
 ghost use Rattle.mseed_pack.specs.declared.options.Options.{Options};
-ghost use Rattle.mseed_repack.specs.ByStretches.{AreReported, AreStandings, IsFit, IsReportOf, ReportsEach};
+ghost use Rattle.mseed_repack.specs.ByStretches.{AreFound, AreReported, IsFit, IsReportOf, ReportsEach};
 ghost use Rattle.mseed_repack.specs.ByStretches.{broken_line, broken_text, finding_line, left_of, worse_of};
 ghost use Rattle.mseed_repack.specs.Misfits.{misfit_line, misfit_number, misfit_text, stretch_words};
 ghost use Rattle.mseed_repack.specs.private.Archives.{IsAudited};
 ghost use Rattle.mseed_repack.specs.private.Places.{ArePlaces};
+ghost use Rattle.mseed_repack.specs.private.Planning.{StandsAs};
 ghost use Rattle.mseed_repack.specs.private.Restretching.{AreUnsound, IsFirstRefused, IsNoMisfit, IsUnbroken};
 ghost use Rattle.mseed_repack.specs.declared.standing.Standing.{Standing};
+ghost use Rattle.mseed_repack.specs.declared.stretching.Cutting.{Cutting};
 
 use crate::archive::Archive;
 use crate::fault::RepackFault;
@@ -23,7 +25,7 @@ use crate::places::Places;
 use crate::standing::Standing;
 use mseed_audit::{Finding, Verdict, put_why};
 use mseed_pack::PackFault;
-use mseed_record::Codes;
+use mseed_record::{Choice, Codes};
 use mseed_steim::Encoding;
 use mseed_stream::{Sink, report};
 use mseed_text::{LONGEST_LINE, Line};
@@ -41,19 +43,19 @@ pub enum Left {
 
 /// Returns why an archive with such channels is refused, unless these are left out: the first that is broken, else the
 /// first that doesn't fit.
-pub(crate) fn refusal_unless(
+pub(crate) fn refusal_unless<C: Choice>(
     leave: bool,
     archive: &Archive<'_, '_>,
     standings: &[Standing],
-    places: &Places<'_, '_>,
+    places: &Places<'_, C>,
 ) -> Option<RepackFault>
     requires audited { IsAudited archive.now }
     requires each { length standings.now ≡ length archive.now.channels.now }
     requires unsound { AreUnsound (map view_of archive.now.views.now) archive.now.channels.now standings.now }
-    ensures some { IfSome result (λ fault. (o : Options) (ps : List Placed)
-        → ArePlaces places.now (map view_of archive.now.views.now) ps
-        → AreStandings o (map view_of archive.now.views.now) archive.now.channels.now standings.now
-        → IsFirstRefused o ps (map view_of archive.now.views.now) archive.now.channels.now fault) }
+    ensures some { IfSome result (λ fault. (cutting : Cutting) (o : Options) (ps : List Placed)
+        → ArePlaces (C.selection places.now.choice.now) places.now.bytes.now (map view_of archive.now.views.now) ps
+        → AreFound (StandsAs cutting o) (map view_of archive.now.views.now) archive.now.channels.now standings.now
+        → IsFirstRefused cutting o ps (map view_of archive.now.views.now) archive.now.channels.now fault) }
     ensures refuses { IfSome result (λ _. leave ≡ false) }
     ensures fit { IfNone result (leave ≡ false → AllByRecursion IsFit standings.now) }
 {
@@ -91,7 +93,7 @@ fn first_broken(standings: &[Standing]) -> Option<usize>
 
 /// Returns the index of the first channel of which a stretch doesn't fit, with the stretch's number, from 1, and the
 /// reason.
-pub(crate) fn first_misfit(standings: &[Standing]) -> Option<(usize, u64, PackFault)>
+fn first_misfit(standings: &[Standing]) -> Option<(usize, u64, PackFault)>
     ensures inside { IfSome result (λ found. found.0 < length standings.now) }
     ensures some { IfSome result (λ found. slice_index_or standings.now found.0 Standing.Fit
         ≡ Standing.Misfit found.1 found.2) }

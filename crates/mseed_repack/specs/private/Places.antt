@@ -2,29 +2,27 @@
 use Rattle.std.specs.Prelude.{◌≡◌, ℕ, List, [], ◌∷◌, ◌++◌, length, None, Some, true}
 use Rattle.std.specs.List.{AllByRecursion}
 use Rattle.mseed_record.specs.View.{View, IsView}
+use Rattle.mseed_record.specs.Selection.{Selection}
 use Rattle.mseed_stream.specs.Archive.{IsArchive}
 use Rattle.mseed_stream.specs.Walk.{bytes_in}
-use Rattle.mseed_select.specs.Selecting.{selection_of}
 use Rattle.mseed_audit.specs.Channels.{Placed, is_of, views_in}
 use Rattle.mseed_audit.specs.Follows.{IsSound}
 use Rattle.mseed_audit.specs.Judging.{IsFound}
-use Rattle.mseed_audit.specs.Scope.{asked_of, placed_of}
+use Rattle.mseed_audit.specs.Scope.{asked_of}
 use Rattle.mseed_audit.specs.declared.finding.Finding.{Finding}
 use Rattle.mseed_repack.specs.private.Reading.{channel_in}
-use Rattle.mseed_repack.specs.declared.places.Places.{Places}
-use Rattle.mseed_repack.specs.declared.places.Places.TheVariants.{All, Asked}
 
 -- the bytes are these records, one after another, and nothing else
 pub record AreAllOf (bytes : List ℕ) (views : List View) : Type 0 where
   pub archive : IsArchive bytes (bytes_in views) []
   pub each : AllByRecursion IsView views
 
--- the records that are packed, each at its place in what was read
-abbrev pub ArePlaces : Places → List View → List Placed → Type 0
-ArePlaces All vs ps = ps ≡ placed_of vs
-ArePlaces (Asked bytes selector) vs ps =
-    (views : List View) × (AreAllOf bytes.now views × (ps ≡ asked_of (selection_of selector.now) views)
-    × (views_in ps ≡ vs))
+-- the records that are packed are those that are asked for of the records that the bytes are, each at its place there
+pub record ArePlaces (s : Selection) (bytes : List ℕ) (vs : List View) (ps : List Placed) : Type 0 where
+  pub views : List View
+  pub all : AreAllOf bytes views
+  pub places_are : ps ≡ asked_of s views
+  pub packed_are : views_in ps ≡ vs
 
 -- what is found stands at the record with this index, from 0
 pub record StandsAt (ps : List Placed) (index : ℕ) (f : Finding) : Type 0 where

@@ -116,9 +116,9 @@ CanBeWritten o room places (p ∷ ps) vs =
 
 -- what is found of a channel that is packed whole
 abbrev pub StandsWhole : Options → List View → Standing → Type 0
-StandsWhole o vs Fit = StretchFits o vs
+StandsWhole o vs Fit = AllByRecursion IsSound vs × StretchFits o vs
 StandsWhole o vs Broken = ¬ (AllByRecursion IsSound vs)
-StandsWhole o vs (Misfit number fault) = StretchMisfits o fault vs
+StandsWhole o vs (Misfit number fault) = AllByRecursion IsSound vs × (number ≡ 1) × StretchMisfits o fault vs
 
 -- what is found of a channel whose records are cut so
 abbrev pub StandsAs : Cutting → Options → List View → Standing → Type 0

@@ -3,30 +3,29 @@ use Rattle.std.proofs.lemmas.Bool.{false≢true}
 use Rattle.std.proofs.lemmas.List.{take_rest}
 use Rattle.mseed_record.specs.Viewing.{view_of}
 use Rattle.mseed_record.specs.declared.view.RecordView.{RecordView}
-use Rattle.mseed_select.specs.Selecting.{selection_of}
 use Rattle.mseed_record.specs.Selection.{lacks_time}
 use Rattle.mseed_repack.proofs.Untimed.{IsCountedTo, all_counted, at_most_one, counted_next, ended}
 use Rattle.mseed_repack.proofs.asked.count_in_bytes.Goals as goal
 
 pub returns-in-Err : goal.returns-in-Err
-returns-in-Err c =
+returns-in-Err g c =
     let bytes : List ℕ = c.args.bytes.now in
     let offset : ℕ = c.loop-offset.offset in
     let ok = rw (take_rest bytes offset) at c.in-Err.ensures.ok in
-    all_counted (selection_of c.args.selector.now) bytes offset c.loop-offset.count c.loop-offset.invariant
+    all_counted (g.C.Choice.selection c.args.choice.now) bytes offset c.loop-offset.count c.loop-offset.invariant
     (λ k few is. false≢true (ok.1 (k, (few, is))))
 
 pub overflow_add-count : goal.overflow_add-count
-overflow_add-count c =
-    let s = selection_of c.args.selector.now in
+overflow_add-count g c =
+    let s = g.C.Choice.selection c.args.choice.now in
     let one = at_most_one (lacks_time s (view_of c.in-Ok.view)) c.count_one-count.result c.count_one-count.ensures in
     let below : c.loop-offset.count + c.count_one-count.result ≤ length c.args.bytes.now =
     omega (arith, c.loop-offset.invariant.few, c.loop-offset-test.true, one) in
     search rules
 
 pub loop-offset-preserved : goal.loop-offset-preserved
-loop-offset-preserved c =
-    let s = selection_of c.args.selector.now in
+loop-offset-preserved g c =
+    let s = g.C.Choice.selection c.args.choice.now in
     let bytes : List ℕ = c.args.bytes.now in
     let offset : ℕ = c.loop-offset.offset in
     let count : ℕ = c.loop-offset.count in
@@ -40,8 +39,8 @@ loop-offset-preserved c =
     c.loop-offset-test.true c.in-Ok.ensures.view prefix c.count_one-count.ensures)
 
 pub returns : goal.returns
-returns c =
+returns g c =
     let bytes : List ℕ = c.args.bytes.now in
     let offset : ℕ = c.loop-offset.offset in
-    all_counted (selection_of c.args.selector.now) bytes offset c.loop-offset.count c.loop-offset.invariant
+    all_counted (g.C.Choice.selection c.args.choice.now) bytes offset c.loop-offset.count c.loop-offset.invariant
     (ended bytes offset (omega (arith, c.loop-offset-test.false)))

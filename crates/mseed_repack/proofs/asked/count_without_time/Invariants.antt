@@ -2,11 +2,10 @@ use Rattle.std.proofs.Common.{◌≡◌, take}
 use Rattle.std.specs.List.{count_by}
 use Rattle.mseed_record.specs.Viewing.{view_of}
 use Rattle.mseed_record.specs.declared.view.RecordView.{RecordView}
-use Rattle.mseed_select.specs.Selecting.{selection_of}
 use Rattle.mseed_record.specs.Selection.{lacks_time}
 use Rattle.mseed_repack.proofs.asked.count_without_time.Given as goal
 
 abbrev pub invariant-loop-view : goal.invariant-loop-view
-invariant-loop-view l =
-    l.count ≡ count_by (λ (r : RecordView). lacks_time (selection_of l.selector) (view_of r))
+invariant-loop-view g l =
+    l.count ≡ count_by (λ (r : RecordView). lacks_time (g.C.Choice.selection l.choice) (view_of r))
     (take l.view-index l.views)

@@ -3,24 +3,24 @@ use Rattle.std.specs.List.{AllByRecursion}
 use Rattle.mseed_record.specs.View.{View}
 use Rattle.mseed_record.specs.Viewing.{view_of}
 use Rattle.mseed_audit.specs.Follows.{IsSound}
-use Rattle.mseed_repack.proofs.InPlaces.{own_first, places_views}
+use Rattle.mseed_repack.proofs.InPlaces.{own_first}
 use Rattle.mseed_repack.proofs.OwnFindings.{none_before}
 use Rattle.mseed_repack.proofs.own.first_own.Goals as goal
 
 pub find_own-requires-clause-none : goal.find_own-requires-clause-none
-find_own-requires-clause-none c =
+find_own-requires-clause-none g c =
     none_before c.args.trail.now.codes.now c.args.trail.now.views.now c.args.trail.now.index c.min-begin.result
     c.min-begin.ensures c.requires.all
 
 pub unreachable-requires : goal.unreachable-requires
-unreachable-requires c =
+unreachable-requires g c =
     c.requires.broken (subst (λ (vs : List View). AllByRecursion IsSound vs) (sym c.requires.all)
     c.in-None.ensures.none)
 
 pub returns : goal.returns
-returns c = λ ps at.
+returns g c = λ ps at.
     let vs = map view_of c.args.trail.now.views.now in
     let own = c.in-Some.ensures.own in
     own_first c.args.trail.now.codes.now vs ps own.0 c.in-Some.finding c.placed.result
-    (places_views c.args.places.now vs ps at) own.1.0 (c.placed.ensures.placed vs ps own.0 at own.1.1)
+    at.packed_are own.1.0 (c.placed.ensures.placed vs ps own.0 at own.1.1)
     c.placed.ensures.why

@@ -11,19 +11,19 @@ use Rattle.mseed_repack.proofs.packing.pack_channels.Goals.{in-Fit+in-Ok, in_def
 pub bounds : goal.bounds
 bounds g c =
     let size = standing_each c.args.archive.now.channels.now c.args.standings.now
-    (map (λ own. own.items) c.args.plans.now) c.requires.1.1.1 in
+    (map (λ own. own.items) c.args.plans.now) c.requires.ready in
     omega (arith, size, c.loop-number-test.true)
 
 pub bounds-standings-number : goal.bounds-standings-number
 bounds-standings-number g c =
     let size = standing_each c.args.archive.now.channels.now c.args.standings.now
-    (map (λ own. own.items) c.args.plans.now) c.requires.1.1.1 in
+    (map (λ own. own.items) c.args.plans.now) c.requires.ready in
     omega (arith, size, c.loop-number-test.true)
 
 pub plans_at-requires : goal.plans_at-requires
 plans_at-requires g c =
     let each = plan_each c.args.archive.now.channels.now c.args.standings.now
-    (map (λ own. own.items) c.args.plans.now) c.requires.1.1.1 in
+    (map (λ own. own.items) c.args.plans.now) c.requires.ready in
     let size = length-map c.args.plans.now (λ own. own.items) in
     omega (arith, each, size, c.loop-number-test.true)
 
@@ -33,9 +33,9 @@ pack_stretches-requires g c κs =
     let t = c.trail-trail.result in
     let ps : List Plan = c.plans_at.result.now in
     let ready = ready_on c.args.archive.now c.args.standings.now (map (λ own. own.items) c.args.plans.now) l.number t ps
-    c.loop-number-test.true c.trail-trail.ensures.trail c.plans_at.ensures c.requires.1.1.1 in
+    c.loop-number-test.true c.trail-trail.ensures.trail c.plans_at.ensures c.requires.ready in
     let size = standing_each c.args.archive.now.channels.now c.args.standings.now
-    (map (λ own. own.items) c.args.plans.now) c.requires.1.1.1 in
+    (map (λ own. own.items) c.args.plans.now) c.requires.ready in
     let fit = fit_at c.args.standings.now l.number _ (omega (arith, size, c.loop-number-test.true)) c.in-Fit.is in (
       (refl, tt),
       (
@@ -54,10 +54,10 @@ returns-in-Err-clause-err g c =
     let ps : List Plan = c.plans_at.result.now in
     let ls = map (λ own. own.items) c.args.plans.now in
     let ready = ready_on a c.args.standings.now ls k t ps c.loop-number-test.true c.trail-trail.ensures.trail
-    c.plans_at.ensures c.requires.1.1.1 in
-    let size = standing_each a.channels.now c.args.standings.now ls c.requires.1.1.1 in
+    c.plans_at.ensures c.requires.ready in
+    let size = standing_each a.channels.now c.args.standings.now ls c.requires.ready in
     let fit = fit_at c.args.standings.now k _ (omega (arith, size, c.loop-number-test.true)) c.in-Fit.is in
-    texts_part g.cutting a c.args.standings.now k t ps c.loop-number-test.true size fit c.trail-trail.ensures.trail
+    texts_part c.args._cutting a c.args.standings.now k t ps c.loop-number-test.true size fit c.trail-trail.ensures.trail
     (ready.cut fit) c.loop-number.invariant c.in-Err.ensures.err
 
 pub loop-number-preserved : goal.loop-number-preserved
@@ -67,26 +67,26 @@ loop-number-preserved g c =
     let t = c.trail-trail.result in
     let ss = c.args.standings.now in
     let ls = map (λ own. own.items) c.args.plans.now in
-    let size = standing_each a.channels.now ss ls c.requires.1.1.1 in
+    let size = standing_each a.channels.now ss ls c.requires.ready in
     elim c.match-standings-number.branch [
       | in-Fit+in-Ok w ↦
           let ps : List Plan = w.plans_at.result.now in
           let ready = ready_on a ss ls k t ps c.loop-number-test.true c.trail-trail.ensures.trail w.plans_at.ensures
-          c.requires.1.1.1 in
+          c.requires.ready in
           let fit = fit_at ss k _ (omega (arith, size, c.loop-number-test.true)) w.in-Fit.is in
           rw w.output-is
-          (texts_next g.cutting a ss k t ps c.loop-number-test.true size fit c.trail-trail.ensures.trail
+          (texts_next c.args._cutting a ss k t ps c.loop-number-test.true size fit c.trail-trail.ensures.trail
           (ready.cut fit) c.loop-number.invariant w.in-Ok.ensures.ok)
       | in_default w ↦
           let other = unfit_at ss k _ (omega (arith, size, c.loop-number-test.true)) w.in_default.not-Fit in
           rw w.output-is
-          (texts_still g.cutting c.args.options.now a ss k t c.loop-number-test.true size other
+          (texts_still c.args._cutting c.args.options.now a ss k t c.loop-number-test.true size other
           c.trail-trail.ensures.trail c.loop-number.invariant)
     ]
 
 pub returns-clause-ok : goal.returns-clause-ok
 returns-clause-ok g c =
-    texts_all g.cutting c.args.options.now c.args.archive.now c.args.standings.now c.loop-number.number
+    texts_all c.args._cutting c.args.options.now c.args.archive.now c.args.standings.now c.loop-number.number
     (omega (arith, c.loop-number-test.false))
     (standing_each c.args.archive.now.channels.now c.args.standings.now (map (λ own. own.items) c.args.plans.now)
-    c.requires.1.1.1) c.loop-number.invariant
+    c.requires.ready) c.loop-number.invariant

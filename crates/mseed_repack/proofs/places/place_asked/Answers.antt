@@ -3,7 +3,6 @@ use Rattle.std.proofs.lemmas.Bool.{false≢true}
 use Rattle.std.proofs.lemmas.List.{take_rest}
 use Rattle.mseed_record.specs.Viewing.{view_of}
 use Rattle.mseed_record.specs.declared.view.RecordView.{RecordView}
-use Rattle.mseed_select.specs.Selecting.{selection_of}
 use Rattle.mseed_record.specs.Selection.{asks_for}
 use Rattle.mseed_audit.specs.declared.finding.Finding.{Finding}
 use Rattle.mseed_repack.proofs.Passed.{IsPassed, passed_next, passed_none, passed_to}
@@ -12,22 +11,22 @@ use Rattle.mseed_repack.proofs.places.place_asked.Goals as goal
 use Rattle.mseed_repack.proofs.places.place_asked.Goals.{then-is_asked+else-asked-finding, else-is_asked}
 
 pub returns-in-Err-clause-placed : goal.returns-in-Err-clause-placed
-returns-in-Err-clause-placed c =
+returns-in-Err-clause-placed g c =
     let l = c.loop-offset in
     let bytes : List ℕ = c.args.bytes.now in
     let ok = rw (take_rest bytes l.offset) at c.in-Err.ensures.ok in
-    passed_none (selection_of c.args.selector.now) bytes l.offset l.number l.asked c.args.finding.number c.args.finding
+    passed_none (g.C.Choice.selection c.args.choice.now) bytes l.offset l.number l.asked c.args.finding.number c.args.finding
     l.invariant.0 l.invariant.1 (λ k few is. false≢true (ok.1 (k, (few, is))))
 
 pub returns-clause-placed : goal.returns-clause-placed
-returns-clause-placed c =
+returns-clause-placed g c =
     let l = c.loop-offset in
     let bytes : List ℕ = c.args.bytes.now in
-    passed_none (selection_of c.args.selector.now) bytes l.offset l.number l.asked c.args.finding.number c.args.finding
+    passed_none (g.C.Choice.selection c.args.choice.now) bytes l.offset l.number l.asked c.args.finding.number c.args.finding
     l.invariant.0 l.invariant.1 (ended bytes l.offset (omega (arith, c.loop-offset-test.false)))
 
 pub returns-then-asked-finding-clause-placed : goal.returns-then-asked-finding-clause-placed
-returns-then-asked-finding-clause-placed c = λ views index all inside at.
+returns-then-asked-finding-clause-placed g c = λ views index all inside at.
     let l = c.loop-offset in
     let bytes : List ℕ = c.args.bytes.now in
     let r : RecordView = c.in-Ok.view in
@@ -35,14 +34,14 @@ returns-then-asked-finding-clause-placed c = λ views index all inside at.
     let prefix : b ≡ take (length b) (drop l.offset bytes) = c.in-Ok.ensures.prefix
     ∙ ap (λ (xs : List ℕ). take (length b) xs) (take_rest bytes l.offset) in
     let f : Finding = record { number = l.number + 1; offset = l.offset; why = c.args.finding.why } in
-    passed_to (selection_of c.args.selector.now) bytes l.offset l.number l.asked (view_of r) f l.invariant.0
+    passed_to (g.C.Choice.selection c.args.choice.now) bytes l.offset l.number l.asked (view_of r) f l.invariant.0
     c.in-Ok.ensures.view prefix (sym c.is_asked.ensures ∙ c.if-is_asked.true) refl refl views index all
     (c.if-asked-finding.true ∙ at)
 
 pub loop-offset-preserved : goal.loop-offset-preserved
-loop-offset-preserved c =
+loop-offset-preserved g c =
     let l = c.loop-offset in
-    let s = selection_of c.args.selector.now in
+    let s = g.C.Choice.selection c.args.choice.now in
     let bytes : List ℕ = c.args.bytes.now in
     let r : RecordView = c.in-Ok.view in
     let b : List ℕ = (view_of r).bytes in

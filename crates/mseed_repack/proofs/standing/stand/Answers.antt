@@ -3,7 +3,7 @@ use Rattle.std.proofs.lemmas.Bool.{false≢true}
 use Rattle.mseed_repack.specs.private.Planning.{IsFitting}
 use Rattle.mseed_repack.specs.declared.plan.Plan.{Plan}
 use Rattle.mseed_repack.specs.declared.series.Fitting.{Fitting}
-use Rattle.mseed_repack.proofs.Planning.{broken_as, whole_fits}
+use Rattle.mseed_repack.proofs.Planning.{broken_as, whole_fits, whole_misfits}
 use Rattle.mseed_repack.proofs.standing.stand.Goals as goal
 
 pub returns-then-not-are_all_sound-clause-ready : goal.returns-then-not-are_all_sound-clause-ready
@@ -61,3 +61,14 @@ returns-in_ok-push-in-Fits-clause-ready g c =
       steps_fit = omega (arith, c.requires.steps_fit, c.fit_series.auto.steps);
     })
     refl (c.in_ok-push-in-Fits.ensures.items ∙ ap (λ (ps : List Plan). ps ++ p ∷ []) c.requires.none) fits.0 fits.1)
+
+pub returns-in-Misfits-clause-ready : goal.returns-in-Misfits-clause-ready
+returns-in-Misfits-clause-ready g c =
+    let o = c.args.options.now in
+    let vs = g.R.Walk.left c.args.records in
+    let room : ℕ = length c.fit_series.new.samples.items in
+    let misfits = subst (λ (f : Fitting). IsFitting o room vs f) c.in-Misfits.is
+    c.in_ok-way-in-Whole.ensures.fitting in
+    rw c.in-Whole.is
+    (whole_misfits o room (length c.fit_series.new.steps) c.args.plans.now.items vs c.in-Misfits.fault
+    (c.are_all_sound.ensures.0 c.if-not-are_all_sound.false) misfits)

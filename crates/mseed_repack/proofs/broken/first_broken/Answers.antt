@@ -5,7 +5,7 @@ use Rattle.mseed_audit.specs.Verdict.{says_continuous}
 use Rattle.mseed_repack.specs.Repack.{Channel, records_in}
 use Rattle.mseed_repack.proofs.InPlaces.{first_number}
 use Rattle.mseed_repack.proofs.Repacks.{all_passed, broken_at, continuous_next, first_said}
-use Rattle.mseed_repack.proofs.repacking.first_broken.Goals as goal
+use Rattle.mseed_repack.proofs.broken.first_broken.Goals as goal
 
 pub returns-in-Some-clause-some : goal.returns-in-Some-clause-some
 returns-in-Some-clause-some c =
