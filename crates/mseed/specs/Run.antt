@@ -1,5 +1,5 @@
 -- What `run` comes to, by what is requested, and of which records.
-use Rattle.std.specs.Prelude.{⊤, Bool, Option, Some, None, Result}
+use Rattle.std.specs.Prelude.{⊤, Bool, Option, Result}
 use Rattle.mseed_audit.specs.Selected.{IsEachSelectedOutcome, IsSelectedOutcome}
 use Rattle.mseed_record.specs.Selection.{Selection}
 use Rattle.mseed_join.specs.AuditPart.{IsPartOutcome, IsPartEachOutcome}
@@ -8,8 +8,6 @@ use Rattle.mseed_join.specs.JoinsEach.{IsJoinEachOutcome}
 use Rattle.mseed_join.specs.declared.joining.Form.{Form}
 use Rattle.mseed_join.specs.declared.joining.Form.TheVariants as forms
 use Rattle.mseed_pack.specs.declared.options.Options.{Options}
-use Rattle.mseed_repack.specs.ByStretches.{IsRestretching}
-use Rattle.mseed_repack.specs.Repack.{IsRepacking}
 use Rattle.mseed_repack.specs.Selected.{IsSelectedRepacking, IsSelectedRestretching}
 use Rattle.mseed_repack.specs.declared.fault.RepackFault.{RepackFault}
 use Rattle.mseed_select.specs.Select.{IsSelected}
@@ -47,19 +45,16 @@ abbrev pub HasJoined : Form → Joining → Ended → Streams → Streams → Ty
 HasJoined form joining ended old new =
     IsReported (IsJoinOutcome form joining.past_faults joining.expected) EndsJoin ended old new
 
--- all records were packed anew, or those that are asked for
+-- the records that are asked for were packed anew
 abbrev pub HasRepacked : Options → Option Selection → Ended → Streams → Streams → Type 0
-HasRepacked options None ended old new =
-    IsDone {O = Result ⊤ RepackFault} (IsRepacking options) (EndsRepack options.encoding) ended old new
-HasRepacked options (Some s) ended old new =
-    IsReported {O = Result ⊤ RepackFault} (IsSelectedRepacking s options) (EndsRepack options.encoding) ended old new
+HasRepacked options asked ended old new =
+    IsReported {O = Result ⊤ RepackFault} (IsSelectedRepacking (asked_or_all asked) options)
+    (EndsRepack options.encoding) ended old new
 
 -- by stretches
 abbrev pub HasRestretched : Options → Bool → Option Selection → Ended → Streams → Streams → Type 0
-HasRestretched options leave None ended old new =
-    IsReported (IsRestretching options leave) (EndsStretches options.encoding) ended old new
-HasRestretched options leave (Some s) ended old new =
-    IsReported (IsSelectedRestretching s options leave) (EndsStretches options.encoding) ended old new
+HasRestretched options leave asked ended old new =
+    IsReported (IsSelectedRestretching (asked_or_all asked) options leave) (EndsStretches options.encoding) ended old new
 
 -- An audit, a joint, a listing, a selection and a packing are done with an input, with the records that are asked for,
 -- and end so. Serving and fetching aren't.

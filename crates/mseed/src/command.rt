@@ -27,7 +27,7 @@ use mseed_files::{report_given, word_of};
 use mseed_join::{Form, audit_part, audit_part_each, join, join_each};
 use mseed_pack::Options;
 use mseed_record::{All, Choice};
-use mseed_repack::{repack, repack_selected, repack_selected_stretches, repack_stretches};
+use mseed_repack::{repack_selected, repack_selected_stretches};
 use mseed_select::{select, show_selected};
 use mseed_stream::{Sink, Source, report};
 use mseed_words::{Command, Joining, Mistake, Packing, Refusal, Request};
@@ -155,20 +155,14 @@ fn run_over<A: Allocator + Copy, C: Choice, R: Source, W: Sink, E: Sink>(
         Request::Select => selected(select(alloc, choice, input, output), errors),
         Request::Repack(packing) => {
             let options = options_of(*packing);
-            let outcome = match &command.selector {
-                None => repack(alloc, &options, input, output),
-                Some(asked) => repack_selected(alloc, asked, &options, input, output, errors),
-            };
+            let outcome = repack_selected(alloc, choice, &options, input, output, errors);
             repacked(options.encoding, outcome, errors)
         }
         Request::RepackStretches { packing, leave } => {
             let options = options_of(*packing);
-            let outcome = match &command.selector {
-                None => repack_stretches(alloc, &options, *leave, input, output, errors),
-                Some(asked) => repack_selected_stretches(
-                    alloc, asked, &options, *leave, input, output, errors,
-                ),
-            };
+            let outcome = repack_selected_stretches(
+                alloc, choice, &options, *leave, input, output, errors,
+            );
             restretched(options.encoding, outcome, errors)
         }
         Request::Serve(_) | Request::Live(_) | Request::Fetch(_) => unreachable!(),

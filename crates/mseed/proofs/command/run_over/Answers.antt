@@ -1,4 +1,3 @@
-use Rattle.mseed.proofs.command.run_over.Goals.{in-None, in-None-selector, in-Some, in-Some-selector}
 use Rattle.mseed.proofs.command.run_over.Goals as goal
 
 pub returns-in-Audit-clause-called : goal.returns-in-Audit-clause-called
@@ -44,78 +43,22 @@ returns-in-Select-clause-called g c =
     let found = rw c.requires.asked at c.select.ensures.selected in
     rw c.in-Select.is (c.select.result, (found, c.selected.ensures))
 
-pub returns-after-command-2-clause-called : goal.returns-after-command-2-clause-called
-returns-after-command-2-clause-called g c =
+pub returns-in-Repack-clause-called : goal.returns-in-Repack-clause-called
+returns-in-Repack-clause-called g c =
     let options = c.options_of-options in
-    let came = c.match-command-2 in
-    elim came.branch [
-      | in-None w ↦ rw (c.in-Repack.is, w.in-None.is) (
-        options.result,
-        (
-          options.ensures,
-          (
-            came.outcome,
-            (
-              rw (w.outcome-is, w.input-is, w.output-is) w.repack-outcome.ensures.repacked,
-              rw w.errors-is at c.repacked.ensures,
-            ),
-          ),
-        ),
-      )
-      | in-Some w ↦ rw (c.in-Repack.is, w.in-Some.is) (
-        options.result,
-        (
-          options.ensures,
-          (
-            came.outcome,
-            (
-              g.E.Sink.written came.errors,
-              (
-                rw (w.outcome-is, w.input-is, w.output-is, w.errors-is) w.repack_selected-outcome.ensures.repacked,
-                c.repacked.ensures,
-              ),
-            ),
-          ),
-        ),
-      )
-    ]
+    let came = c.repack_selected-outcome in
+    let packed = rw c.requires.asked at came.ensures.repacked in
+    rw c.in-Repack.is (
+      options.result,
+      (options.ensures, (came.result, (g.E.Sink.written came.new.errors, (packed, c.repacked.ensures)))),
+    )
 
-pub returns-after-command-3-clause-called : goal.returns-after-command-3-clause-called
-returns-after-command-3-clause-called g c =
+pub returns-in-RepackStretches-clause-called : goal.returns-in-RepackStretches-clause-called
+returns-in-RepackStretches-clause-called g c =
     let options = c.options_of-options-in-RepackStretches in
-    let came = c.match-command-3 in
-    elim came.branch [
-      | in-None-selector w ↦ rw (c.in-RepackStretches.is, w.in-None-selector.is) (
-        options.result,
-        (
-          options.ensures,
-          (
-            came.outcome,
-            (
-              g.E.Sink.written came.errors,
-              (
-                rw (w.outcome-is, w.input-is, w.output-is, w.errors-is) w.repack_stretches-outcome.ensures.repacked,
-                c.restretched.ensures,
-              ),
-            ),
-          ),
-        ),
-      )
-      | in-Some-selector w ↦ rw (c.in-RepackStretches.is, w.in-Some-selector.is) (
-        options.result,
-        (
-          options.ensures,
-          (
-            came.outcome,
-            (
-              g.E.Sink.written came.errors,
-              (
-                rw (w.outcome-is, w.input-is, w.output-is, w.errors-is)
-                    w.repack_selected_stretches-outcome.ensures.repacked,
-                c.restretched.ensures,
-              ),
-            ),
-          ),
-        ),
-      )
-    ]
+    let came = c.repack_selected_stretches-outcome in
+    let packed = rw c.requires.asked at came.ensures.repacked in
+    rw c.in-RepackStretches.is (
+      options.result,
+      (options.ensures, (came.result, (g.E.Sink.written came.new.errors, (packed, c.restretched.ensures)))),
+    )
