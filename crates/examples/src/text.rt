@@ -4,7 +4,7 @@ ghost use Rattle.mseed_text.specs.Fault.{fault_line};
 
 use mseed_record::{Codes, RecordView};
 use mseed_stream::StreamFault;
-use mseed_text::{Line, push_fault_line, push_line};
+use mseed_text::{Line, printed_byte, push_fault_line, push_line};
 use mseed_time::{Ratio, TimeFault};
 use std::alloc::{AllocError, Global};
 
@@ -87,4 +87,18 @@ pub fn fault_length(fault: &StreamFault) -> usize {
     let mut line = Line::new();
     line.put_fault_line(fault);
     line.as_slice().len()
+}
+
+/// The line that says what was given, and is not known.
+pub fn push_unknown(text: &mut Vec<u8>, given: &[u8]) -> Result<(), AllocError> {
+    let mut line = Line::new();
+    line.put(b"unknown: ");
+    line.put_shown(given);
+    line.put(b"\n");
+    push_line(text, line.as_slice())
+}
+
+/// Whether a text is shown as it is.
+pub fn is_plain(text: &[u8]) -> bool {
+    text.iter().all(|byte| printed_byte(*byte) == *byte)
 }

@@ -1,7 +1,8 @@
 -- What is reported of a file.
-use Rattle.std.specs.Prelude.{◌≡◌, ◌⊎◌, ℕ, ◌-◌, ◌==◌, List, [], map, decimal, ◌++◌, ◌&&◌, nat_le, slice_get, option_map}
+use Rattle.std.specs.Prelude.{◌≡◌, ◌⊎◌, ℕ, ◌-◌, ◌==◌, List, [], map, decimal, ◌++◌, slice_get, option_map}
 use Rattle.std.specs.Borrow.{Bor}
 use Rattle.std.specs.Prelude.{if◌then◌else◌, Option, Some, None, IfSome, codes}
+use Rattle.mseed_text.specs.Shown.{printed_byte}
 use Rattle.mseed_files.specs.ChainState.{ChainState, IsChain}
 use Rattle.mseed_files.specs.ReaderState.{IsPlace, ReaderState}
 use Rattle.mseed_files.specs.Reason.{reason_text}
@@ -16,10 +17,6 @@ use Rattle.mseed_files.specs.declared.blame.Blame.TheVariants.{Nothing, Read, Fa
 -- the line of memory that was refused
 abbrev pub no_memory : List ℕ
 no_memory = codes "mseed: no memory\n"
-
--- a byte as it is reported: one that isn't a printable character of ASCII as `?`
-abbrev pub printed_byte : ℕ → ℕ
-printed_byte b = if nat_le 32 b && nat_le b 126 then b else 63
 
 -- the line of a file that can't be read, by why it can't, and the word that names it
 abbrev pub reason_words : Reason → List ℕ

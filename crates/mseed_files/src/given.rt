@@ -1,10 +1,8 @@
 //! What was given on a command line, as a line reports it. The line is built without the heap.
-ghost use Rattle.std.specs.Prelude.{◌≡◌, ◌≤◌, ◌+◌, ◌++◌, length, map};
-ghost use Rattle.mseed_files.specs.InputFiles.{printed_byte};
-ghost use Rattle.mseed_files.specs.Given.{given_line, shown};
+ghost use Rattle.std.specs.Prelude.{◌≤◌, length};
+ghost use Rattle.mseed_files.specs.Given.{given_line};
 ghost use Rattle.mseed_stream.specs.LineWritten.{WritesLine};
 
-use crate::naming::printed;
 use mseed_stream::{Sink, report};
 use mseed_text::Line;
 
@@ -19,33 +17,8 @@ pub fn report_given<E: Sink>(errors: &mut E, before: &[u8], given: &[u8], after:
     let mut line = Line::new();
     line.put(b"mseed: ");
     line.put(before);
-    put_shown(&mut line, given);
+    line.put_shown(given);
     line.put(after);
     line.put(b"\n");
     report(errors, line.as_slice());
-}
-
-/// Puts what was given at the end of a line, as it is reported.
-fn put_shown(line: &mut Line, given: &[u8])
-    requires { length line.old ≤ 64 }
-    ensures text { line.new ≡ line.old ++ shown given.now }
-    ensures most { length line.new ≤ length line.old + 60 }
-{
-    if given.len() <= 60 {
-        put_printed(line, given);
-    } else {
-        put_printed(line, &given[..57]);
-        line.put(b"...");
-    }
-}
-
-/// Puts bytes at the end of a line, each as it's written.
-fn put_printed(line: &mut Line, bytes: &[u8])
-    requires { length line.old + length bytes.now ≤ 128 }
-    ensures text { line.new ≡ line.old ++ map printed_byte bytes.now }
-    ensures len { length line.new ≡ length line.old + length bytes.now }
-{
-    for byte in bytes {
-        line.put(&[printed(*byte)]);
-    }
 }

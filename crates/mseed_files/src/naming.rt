@@ -2,7 +2,8 @@
 ghost use Rattle.std.specs.Prelude.{◌++◌, ◌≡◌, IfOk, map};
 ghost use Rattle.mseed_files.specs.InputFiles.{IsReportedPlace, ReportsBlame, ReportsFault, ReportsFile, ReportsName};
 ghost use Rattle.mseed_files.specs.InputFiles.{ReportsFailure, ReportsPlace, ReportsReason, cannot_read, failed_read};
-ghost use Rattle.mseed_files.specs.InputFiles.{fault_in, printed_byte};
+ghost use Rattle.mseed_files.specs.InputFiles.{fault_in};
+ghost use Rattle.mseed_text.specs.Shown.{printed_byte};
 
 use crate::blame::Blame;
 use crate::chain::Chain;
@@ -12,7 +13,7 @@ use crate::place::Place;
 use crate::reason::Reason;
 use crate::watched::Watched;
 use mseed_stream::{Sink, report};
-use mseed_text::Line;
+use mseed_text::{Line, printed_byte};
 use std::alloc::{AllocError, Global};
 
 /// Reports what is wrong with the input that these files are, if something is: which of them can't be read, or in which
@@ -175,19 +176,8 @@ fn named_line(
     let mut line = Vec::new(alloc);
     line.extend_from_slice(before)?;
     for byte in word {
-        line.push(printed(*byte))?;
+        line.push(printed_byte(*byte))?;
     }
     line.extend_from_slice(after)?;
     Ok(line)
-}
-
-/// A byte as it's written.
-pub(crate) fn printed(byte: u8) -> u8
-    ensures { result ≡ printed_byte byte }
-{
-    if 32 <= byte && byte <= 126 {
-        byte
-    } else {
-        b'?'
-    }
 }

@@ -1,3 +1,4 @@
 pub mod Fault
 pub mod Name
+pub mod Shown
 pub mod Time

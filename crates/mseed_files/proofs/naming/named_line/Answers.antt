@@ -1,7 +1,7 @@
 use Rattle.std.proofs.Common.{◌≡◌, ◌+◌, ◌<◌, ◌≤◌, ◌++◌, ◌∷◌, ◌∙◌, [], List, ℕ, length, get_or, map}
 use Rattle.std.proofs.Common.{take, ap, sym, append_assoc}
 use Rattle.std.proofs.lemmas.List.{map_push, take_all, take_more}
-use Rattle.mseed_files.specs.InputFiles.{printed_byte}
+use Rattle.mseed_text.specs.Shown.{printed_byte}
 use Rattle.mseed_files.proofs.naming.named_line.Goals as goal
 
 one_printed : (line now before word : List ℕ) (i byte : ℕ) → i < length word
@@ -25,7 +25,7 @@ all_printed line now before word after i done so_far is =
 pub loop-byte-preserved : goal.loop-byte-preserved
 loop-byte-preserved c =
     one_printed c.loop-byte.line.items c.push.new.self.items c.args.before.now c.args.word.now c.loop-byte.byte-index
-    c.printed.result c.loop-byte-test.true c.loop-byte.invariant c.printed.ensures c.in_ok-push.ensures.items
+    c.printed_byte.result c.loop-byte-test.true c.loop-byte.invariant c.printed_byte.ensures c.in_ok-push.ensures.items
 
 pub returns : goal.returns
 returns c =

@@ -1,5 +1,5 @@
 use Rattle.std.proofs.Common.{◌≡◌, ◌++◌, map, take}
-use Rattle.mseed_files.specs.InputFiles.{printed_byte}
+use Rattle.mseed_text.specs.Shown.{printed_byte}
 use Rattle.mseed_files.proofs.naming.named_line.Given as goal
 
 abbrev pub invariant-loop-byte : goal.invariant-loop-byte

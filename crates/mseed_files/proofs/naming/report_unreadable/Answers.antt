@@ -1,6 +1,7 @@
 use Rattle.std.proofs.Common.{◌∙◌, ◌++◌, List, ℕ, codes, map, subst}
 use Rattle.mseed_stream.specs.Device.{BytesWritten}
-use Rattle.mseed_files.specs.InputFiles.{ReportsName, printed_byte}
+use Rattle.mseed_files.specs.InputFiles.{ReportsName}
+use Rattle.mseed_text.specs.Shown.{printed_byte}
 use Rattle.mseed_files.proofs.naming.report_unreadable.Goals as goal
 
 pub returns : goal.returns

@@ -1,5 +1,5 @@
 use Rattle.std.proofs.Common.{◌≡◌, ◌<◌, List, ℕ, arith, length, length-take-le, sym, take}
-use Rattle.mseed_files.proofs.given.put_shown.Goals as goal
+use Rattle.mseed_text.proofs.line.Line.put_shown.Goals as goal
 
 -- the first 57 of more than 60 bytes
 first : (given : List ℕ) → 60 < length given → length (take 57 given) ≡ 57
@@ -9,13 +9,13 @@ pub slice_bounds-put_printed-end : goal.slice_bounds-put_printed-end
 slice_bounds-put_printed-end c = sym (first c.args.given.now c.if-given-le60.false)
 
 pub put_printed-requires-else-given-le60 : goal.put_printed-requires-else-given-le60
-put_printed-requires-else-given-le60 c = omega (arith, c.requires, first c.args.given.now c.if-given-le60.false)
+put_printed-requires-else-given-le60 c = omega (arith, c.requires.room, first c.args.given.now c.if-given-le60.false)
 
 pub put-requires : goal.put-requires
 put-requires c = record {
   room = omega (
     arith,
-    c.requires,
+    c.requires.room,
     first c.args.given.now c.if-given-le60.false,
     c.put_printed-else-given-le60.ensures.len,
   );
@@ -25,7 +25,7 @@ pub returns-else-given-le60-clause-most : goal.returns-else-given-le60-clause-mo
 returns-else-given-le60-clause-most c =
     omega (
       arith,
-      c.requires,
+      c.requires.room,
       first c.args.given.now c.if-given-le60.false,
       c.put_printed-else-given-le60.ensures.len,
       c.put.ensures.len,

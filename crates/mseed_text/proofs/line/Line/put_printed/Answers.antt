@@ -1,8 +1,8 @@
 use Rattle.std.proofs.Common.{◌≡◌, ◌+◌, ◌<◌, ◌++◌, ◌∷◌, ◌∙◌, [], List, ℕ, length, get_or, map, arith}
 use Rattle.std.proofs.Common.{take, ap, sym, append_assoc}
 use Rattle.std.proofs.lemmas.List.{map_push, take_more}
-use Rattle.mseed_files.specs.InputFiles.{printed_byte}
-use Rattle.mseed_files.proofs.given.put_printed.Goals as goal
+use Rattle.mseed_text.specs.Shown.{printed_byte}
+use Rattle.mseed_text.proofs.line.Line.put_printed.Goals as goal
 
 -- one more byte was put
 one_printed : (line now before word : List ℕ) (i byte : ℕ) → i < length word
@@ -18,7 +18,7 @@ one_printed line now before word i byte less so_far printed is =
 
 pub loop-byte-preserved : goal.loop-byte-preserved
 loop-byte-preserved c = record {
-  text = one_printed c.loop-byte.line c.put.new.self c.args.line.now c.args.bytes.now c.loop-byte.byte-index
-      c.printed.result c.loop-byte-test.true c.loop-byte.invariant.text c.printed.ensures c.put.ensures.text;
+  text = one_printed c.loop-byte.self c.put.new.self c.args.self.now c.args.bytes.now c.loop-byte.byte-index
+      c.printed_byte.result c.loop-byte-test.true c.loop-byte.invariant.text c.printed_byte.ensures c.put.ensures.text;
   len = omega (arith, c.put.ensures.len, c.loop-byte.invariant.len);
 }
