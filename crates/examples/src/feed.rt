@@ -177,6 +177,22 @@ pub fn refused_place(client: &Client) -> Option<Place> {
     }
 }
 
+/// What a server said where it refused a station to a client, and nothing where it refused none.
+pub fn refusal_of(client: &Client) -> &[u8] {
+    match client.ending() {
+        Some(Ending::Refused(_)) => client.reply(),
+        _ => b"",
+    }
+}
+
+/// After how many packets of a client's link bytes came that are none, if they did.
+pub fn packets_before_garbage(client: &Client) -> Option<u64> {
+    match client.ending() {
+        Some(Ending::Garbage) => Some(client.packets()),
+        _ => None,
+    }
+}
+
 /// Serves a new link for a turn; whether a further turn is to be taken.
 pub fn serve_once<S: Duplex>(feed: &Feed, link: &mut S) -> Result<bool, LinkFault> {
     let mut session = Session::new();

@@ -11,7 +11,7 @@ use Rattle.slink_feed.specs.declared.dialogue.Stage.TheVariants.{Unlinked, Stati
 use Rattle.slink_feed.specs.declared.dialogue.Wanted.{Wanted}
 use Rattle.slink_feed.specs.Dialogue.{Talk, Whole, Reply, Packet, End, Garbage, answer_of, at_packet, place_of, ended}
 use Rattle.slink_feed.specs.Dialogue.{read_at, if_wanted, is_taken, next_at, requests_number, requests_place, to_answer}
-use Rattle.slink_feed.specs.Dialogue.{foreign_by, to_place, reported, want_at}
+use Rattle.slink_feed.specs.Dialogue.{foreign_by, heard, to_place, reported, want_at}
 use Rattle.slink_feed.specs.Fetching.{line_written, record_reported}
 use Rattle.slink_feed.specs.Listening.{Brings, IsLinked, Listening, begun, whole}
 
@@ -77,7 +77,7 @@ at_whole t (Ended e) Garbage is = stays_quiet refl refl
 -- so it is with the bytes that a client takes
 pub goes_on_by : (talk : Talk) (bytes : List ℕ) (new : Listening) (event : Event) → Brings talk bytes new event
     → GoesOn (new.talk, event)
-goes_on_by talk bytes new event (whole w is h none) = subst GoesOn h (at_whole talk talk.stage w refl)
+goes_on_by talk bytes new event (whole w is h none) = subst GoesOn h (at_whole (heard w talk) talk.stage w refl)
 goes_on_by talk bytes new event (begun is same quiet) = stays_quiet (ap line_written quiet) (ap record_reported quiet)
 
 pub lines_on : (talk : Talk) (bytes : List ℕ) (new : Listening) (event : Event) → Brings talk bytes new event
@@ -146,6 +146,7 @@ whole_linked t (Ended e) Garbage on = on
 pub still_linked : (talk : Talk) (bytes : List ℕ) (new : Listening) (event : Event) → Brings talk bytes new event
     → IsLinked talk.stage → new.talk.stage ≢ Unlinked
 still_linked talk bytes new event (whole w is h none) linked =
-    subst (λ (x : Talk × Event). x.0.stage ≢ Unlinked) h (whole_linked talk talk.stage w (λ e. subst IsLinked e linked))
+    subst (λ (x : Talk × Event). x.0.stage ≢ Unlinked) h
+    (whole_linked (heard w talk) talk.stage w (λ e. subst IsLinked e linked))
 still_linked talk bytes new event (begun is same quiet) linked =
     subst (λ (l : Listening). l.talk.stage ≢ Unlinked) (sym same) (λ e. subst IsLinked e linked)

@@ -19,7 +19,7 @@ use Rattle.slink_feed.specs.declared.dialogue.Wanted.{Wanted}
 use Rattle.slink_feed.specs.Dialogue.{Talk, Wants, Whole, Reply, Packet, End, Garbage, answer_of, at_packet, place_of}
 use Rattle.slink_feed.specs.Dialogue.{ahead_of, is_ahead, is_taken, ended, read_at, if_wanted, is_of_wanted, next_at}
 use Rattle.slink_feed.specs.Dialogue.{next_set, sends_line, requests_number, requests_place, to_answer, to_place}
-use Rattle.slink_feed.specs.Dialogue.{foreign_by, reported, want_at, with_next}
+use Rattle.slink_feed.specs.Dialogue.{foreign_by, heard, read, reported, want_at, with_next}
 use Rattle.slink_feed.specs.Holding.{AreRising, GoBy, IsNext, Rise, Turn, connects, brings, numbers_in, numbers_of}
 use Rattle.slink_feed.specs.Holding.{talk_after, turned}
 
@@ -183,9 +183,14 @@ moved_read k t (Ended e) (Packet n r) = stays refl refl
 moved_read k t (Ended e) End = stays refl refl
 moved_read k t (Ended e) Garbage = stays refl refl
 
+-- what is heard by it changes no number
+moved_heard : (k : ℕ) (t : Talk) (w : Whole) (x : Talk × Event) → Moved k (heard w t) x → Moved k t x
+moved_heard k t w x (stays none same) = stays none same
+moved_heard k t w x (moves n one wanted next) = moves n one wanted next
+
 moved_turn : (k : ℕ) (t : Talk) (turn : Turn) → Moved k t (turned t turn)
 moved_turn k t connects = moved_place k 0 t (want_at t.wants 0)
-moved_turn k t (brings w) = moved_read k t t.stage w
+moved_turn k t (brings w) = moved_heard k t w (read t w) (moved_read k (heard w t) t.stage w)
 
 pub kept_place : (j : ℕ) (t : Talk) (o : Option Wanted) → (to_place o j t).0.holes ≡ t.holes
 kept_place j t None = refl
@@ -235,7 +240,7 @@ kept_read t (Ended e) Garbage = refl
 
 kept_turn : (t : Talk) (turn : Turn) → (turned t turn).0.holes ≡ t.holes
 kept_turn t connects = kept_place 0 t (want_at t.wants 0)
-kept_turn t (brings w) = kept_read t t.stage w
+kept_turn t (brings w) = kept_read (heard w t) t.stage w
 
 pub go_on_more : (holes : Bool) (want last : Option ℕ) (n : ℕ) (ns : List ℕ) → IfSome want (λ x. IsNext holes x n)
     → GoBy holes (Some ((n + 1) % 2 ^ 24)) ns last → GoBy holes want (n ∷ ns) last

@@ -16,7 +16,7 @@ use Rattle.slink_feed.specs.declared.dialogue.Stage.TheVariants.{Packets}
 use Rattle.slink_feed.specs.Cutting.{IsWhole}
 use Rattle.slink_feed.specs.Delivered.{AreWanted, Numbered, all_packets, record_events}
 use Rattle.slink_feed.specs.Dialogue.{Talk, Whole, Packet, at_packet, place_of, ended, is_ahead, read, read_at}
-use Rattle.slink_feed.specs.Dialogue.{if_wanted, next_at, reported}
+use Rattle.slink_feed.specs.Dialogue.{heard, if_wanted, next_at, reported}
 use Rattle.slink_feed.specs.Listening.{AreBrought, Brought, Listening, Reads, bytes_of, events_of, talk_after}
 use Rattle.slink_feed.specs.Listening.{event_if_any}
 use Rattle.slink_feed.proofs.Received.{begun_none}
@@ -44,11 +44,12 @@ wanted_reported (Some want) k n bytes t is =
 
 packet_read : (t : Talk) (r : Numbered) → t.stage ≡ Packets → place_of t.wants r.bytes ≡ Some r.place
     → IfSome (next_at t.wants r.place) (λ want. r.number ≡ want)
-    → read t (Packet r.number r.bytes) ≡ reported r.place r.number r.bytes t
+    → read t (Packet r.number r.bytes) ≡ reported r.place r.number r.bytes (heard (Packet r.number r.bytes) t)
 packet_read t r at bears wanted =
-    ap (λ (s : Stage). read_at s t (Packet r.number r.bytes)) at
-    ∙ (ap (λ o. at_packet o r.number r.bytes t) bears
-    ∙ wanted_reported (next_at t.wants r.place) r.place r.number r.bytes t wanted)
+    let u : Talk = heard (Packet r.number r.bytes) t in
+    ap (λ (s : Stage). read_at s u (Packet r.number r.bytes)) at
+    ∙ (ap (λ o. at_packet o r.number r.bytes u) bears
+    ∙ wanted_reported (next_at t.wants r.place) r.place r.number r.bytes u wanted)
 
 -- so many bytes of the packets were delivered: what is reported of them, and what the client comes to
 abbrev Prefixed : Talk → List Numbered → ℕ → Type 0
@@ -87,13 +88,13 @@ part_prefixed t r rs d at long small lt =
 
 -- the first packet is reported
 whole_prefixed : (t : Talk) (r : Numbered) (rs : List Numbered) (d : ℕ) → t.stage ≡ Packets → AreWanted t (r ∷ rs)
-    → 520 ≤ d → Prefixed (reported r.place r.number r.bytes t).0 rs (d - 520) → Prefixed t (r ∷ rs) d
+    → 520 ≤ d → Prefixed (reported r.place r.number r.bytes (heard (Packet r.number r.bytes) t)).0 rs (d - 520)
+    → Prefixed t (r ∷ rs) d
 whole_prefixed t r rs d at are ge more =
     let p : List ℕ = packet_bytes r.number r.bytes in
-    let u : Talk = (reported r.place r.number r.bytes t).0 in
     let w : Whole = Packet r.number r.bytes in
     let bs : List Brought = more.1.brought in
-    let h : read t w ≡ reported r.place r.number r.bytes t = packet_read t r at are.2 are.3 in
+    let h : read t w ≡ reported r.place r.number r.bytes (heard w t) = packet_read t r at are.2 are.3 in
     let all : length p ≡ 520 = packet_long r.number r.bytes are.0 in
     let stream : take d (p ++ all_packets rs) ≡ p ++ take (d - 520) (all_packets rs) =
     ap (λ n. take n (p ++ all_packets rs)) (let e : d ≡ length p + (d - 520) = omega (arith, all, ge) in e)
@@ -124,8 +125,8 @@ prefixes_reported [] t d at are within = let none : d ≡ 0 = omega (arith, with
     subst (λ n. Prefixed t [] n) (sym none) (none_prefixed t)
 prefixes_reported (r ∷ rs) t d at are within = elim (cases_lt d 520) [
   | inl lt ↦ part_prefixed t r rs d at are.0 are.1 lt
-  | inr ge ↦ whole_prefixed t r rs d at are ge (prefixes_reported rs (reported r.place r.number r.bytes t).0 (d - 520)
-      at are.4
+  | inr ge ↦ whole_prefixed t r rs d at are ge
+      (prefixes_reported rs (reported r.place r.number r.bytes (heard (Packet r.number r.bytes) t)).0 (d - 520) at are.4
       (omega (
         arith,
         within,

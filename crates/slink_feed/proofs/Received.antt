@@ -13,7 +13,7 @@ use Rattle.slink_feed.specs.declared.dialogue.Stage.TheVariants.{Station, Number
 use Rattle.slink_feed.specs.Cutting.{IsBegun, IsReply, IsWhole, IsWholePacket, IsWholeReply, nothing}
 use Rattle.slink_feed.specs.private.Parts.{IsPacketPart, IsReplyPart}
 use Rattle.slink_feed.specs.Dialogue.{Talk, Whole, Reply, Packet, End, Garbage, at_packet, place_of, ended, read}
-use Rattle.slink_feed.specs.Dialogue.{read_at}
+use Rattle.slink_feed.specs.Dialogue.{heard, read_at}
 use Rattle.slink_feed.specs.Listening.{AreBrought, AwaitsReply, Brings, Brought, IsLinked, Listening, Reads, begun}
 use Rattle.slink_feed.specs.Listening.{bytes_of, events_of, talk_after, event_if_any, whole}
 
@@ -68,40 +68,39 @@ packet_whole t bytes w at is = subst (λ (s : Stage). IsWhole s bytes w) (sym at
 
 pub packet_brings : (t d talk : Talk) (bytes slice kept : List ℕ) (part : Part) (x e : Event) → t.stage ≡ Packets
     → IsPacketPart bytes part → part ≡ parts.Whole → slice ≡ bytes
-    → ((n : ℕ) × (r : List ℕ) × IsPacket slice n r × (at_packet (place_of t.wants r) n r t ≡ (talk, e))) → d ≡ talk
-    → x ≡ e → kept ≡ []
+    → ((n : ℕ) × (r : List ℕ) × IsPacket slice n r
+    × (at_packet (place_of t.wants r) n r (heard (Packet n r) t) ≡ (talk, e))) → d ≡ talk → x ≡ e → kept ≡ []
     → Brings t bytes (record { talk = d; kept = kept }) x
 packet_brings t d talk bytes slice kept part x e at is whole_part same packet same_talk same_event none =
     let long : (n : ℕ) × HasHead bytes n × (length bytes ≡ 520) = subst (IsPacketPart bytes) whole_part is in
     let w : Whole = Packet packet.0 packet.1 in
     whole w (packet_whole t bytes w at (subst (λ (b : List ℕ). IsPacket b packet.0 packet.1) same packet.2, long.2))
-    (paired d talk x e (read t w) (ap (λ (s : Stage). read_at s t w) at ∙ packet.3) same_talk same_event) none
+    (paired d talk x e (read t w) (ap (λ (s : Stage). read_at s (heard w t) w) at ∙ packet.3) same_talk same_event) none
 
 -- a packet at the start of bytes, whose record is wanted
 pub leading_brings : (t new : Talk) (bytes packet r : List ℕ) (n k : ℕ) → t.stage ≡ Packets → packet ≡ take 520 bytes
-    → 520 ≤ length bytes → IsPacket packet n r → at_packet (place_of t.wants r) n r t ≡ (new, events.Record k n r)
+    → 520 ≤ length bytes → IsPacket packet n r
+    → at_packet (place_of t.wants r) n r (heard (Packet n r) t) ≡ (new, events.Record k n r)
     → Brings t (take 520 bytes) (record { talk = new; kept = [] }) (events.Record k n r)
 leading_brings t new bytes packet r n k at same long is h =
     let w : Whole = Packet n r in
     whole w (packet_whole t (take 520 bytes) w at
     (subst (λ (b : List ℕ). IsPacket b n r) same is, length-take-le 520 bytes long))
-    (ap (λ (s : Stage). read_at s t w) at ∙ h) refl
+    (ap (λ (s : Stage). read_at s (heard w t) w) at ∙ h) refl
 
 pub end_brings : (t d talk : Talk) (bytes kept : List ℕ) (part : Part) (x e : Event) → t.stage ≡ Packets
     → IsPacketPart bytes part → part ≡ parts.End → ended endings.End t ≡ (talk, e) → d ≡ talk → x ≡ e → kept ≡ []
     → Brings t bytes (record { talk = d; kept = kept }) x
 end_brings t d talk bytes kept part x e at is end_part h same_talk same_event none =
     whole End (packet_whole t bytes End at (subst (IsPacketPart bytes) end_part is))
-    (paired d talk x e (read t End) (ap (λ (s : Stage). read_at s t End) at ∙ h) same_talk same_event) none
+    (paired d talk x e (read t End) (ap (λ (s : Stage). read_at s (heard End t) End) at ∙ h) same_talk same_event) none
 
 pub garbage_brings : (t d talk : Talk) (bytes kept : List ℕ) (part : Part) (x e : Event) → t.stage ≡ Packets
-    → IsPacketPart bytes part → part ≡ parts.Garbage → ended endings.Garbage t ≡ (talk, e) → d ≡ talk → x ≡ e
-    → kept ≡ []
+    → IsPacketPart bytes part → part ≡ parts.Garbage → read t Garbage ≡ (talk, e) → d ≡ talk → x ≡ e → kept ≡ []
     → Brings t bytes (record { talk = d; kept = kept }) x
 garbage_brings t d talk bytes kept part x e at is garbage_part h same_talk same_event none =
     whole Garbage (packet_whole t bytes Garbage at (subst (IsPacketPart bytes) garbage_part is))
-    (paired d talk x e (read t Garbage) (ap (λ (s : Stage). read_at s t Garbage) at ∙ h) same_talk same_event)
-    none
+    (paired d talk x e (read t Garbage) h same_talk same_event) none
 
 -- before the first byte of a whole
 pub begun_none : (stage : Stage) → IsBegun stage []

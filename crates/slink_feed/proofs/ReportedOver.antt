@@ -20,7 +20,7 @@ use Rattle.slink_feed.specs.Delivered.{Numbered}
 use Rattle.slink_feed.specs.Dialogue.{Talk, Wants, Whole, Reply, Packet, End, Garbage, answer_of, at_packet, place_of}
 use Rattle.slink_feed.specs.Dialogue.{is_taken, ended, read, read_at, if_wanted, is_of_wanted, next_at, next_set}
 use Rattle.slink_feed.specs.Dialogue.{foreign_by, requests_number, requests_place, to_answer, to_place, reported}
-use Rattle.slink_feed.specs.Dialogue.{want_at}
+use Rattle.slink_feed.specs.Dialogue.{heard, want_at}
 use Rattle.slink_feed.specs.Holding.{GoBy, GoOn, IsNext}
 use Rattle.slink_feed.specs.Listening.{AreBrought, Brought, Listening, Reads, events_of, talk_after, event_if_any}
 use Rattle.slink_feed.specs.Reported.{AreOf, HasReported, bytes_in, numbers_at, places_of, record_in, records_reported}
@@ -220,9 +220,9 @@ reported_brought : (t : Talk) (bs : List Brought) → AreBrought t bs
 reported_brought t [] are = reported_none t.holes t.wants
 reported_brought t (b ∷ bs) are =
     let x : Talk × Event = read t b.whole in
-    let one = reported_one t x (comes_read t t.stage b.bytes b.whole are.0) in
+    let one = reported_one (heard b.whole t) x (comes_read (heard b.whole t) t.stage b.bytes b.whole are.0) in
     let more : HasReported t.holes x.0.wants (talk_after x.0 bs).wants (records_reported (events_of x.0 bs)) =
-    rw (kept_read t t.stage b.whole) at (reported_brought x.0 bs are.1) in
+    rw (kept_read (heard b.whole t) t.stage b.whole) at (reported_brought x.0 bs are.1) in
     rw (← (records_both (event_if_any x.1) (events_of x.0 bs))) at (reported_both _ _ _ _ _ _ one more)
 
 -- what a client reports a link
@@ -235,7 +235,7 @@ reported_link start stream events now reads =
 -- It stays whether the client goes past holes.
 kept_brought : (t : Talk) (bs : List Brought) → (talk_after t bs).holes ≡ t.holes
 kept_brought t [] = refl
-kept_brought t (b ∷ bs) = kept_brought (read t b.whole).0 bs ∙ kept_read t t.stage b.whole
+kept_brought t (b ∷ bs) = kept_brought (read t b.whole).0 bs ∙ kept_read (heard b.whole t) t.stage b.whole
 
 pub kept_link : (start : Talk) (stream : List ℕ) (events : List Event) (now : Listening)
     → Reads start stream events now → now.talk.holes ≡ start.holes

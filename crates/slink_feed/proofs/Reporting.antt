@@ -9,7 +9,7 @@ use Rattle.slink_feed.specs.declared.fetching.Counts.{Counts}
 use Rattle.slink_feed.specs.declared.turn.LinkFault.{LinkFault}
 use Rattle.slink_feed.specs.declared.turn.LinkFault.TheVariants as faults
 use Rattle.slink_feed.specs.Delivered.{Numbered}
-use Rattle.slink_feed.specs.Dialogue.{Talk, read}
+use Rattle.slink_feed.specs.Dialogue.{Talk, heard, read}
 use Rattle.slink_feed.specs.Fetching.{Fetching, line_written, record_reported}
 use Rattle.slink_feed.specs.Listening.{Brings, Listening, begun, event_if_any, whole}
 use Rattle.slink_feed.specs.private.Delivery.{FailsToTakeNext, TakesNext, IsDelivered, IsUndelivered}
@@ -165,7 +165,7 @@ reported_event : (talk : Talk) (bytes : List ℕ) (new : Listening) (event : Eve
 reported_event talk bytes new event (whole w is h nothing) =
     subst (λ rs. HasReported talk.holes talk.wants new.talk.wants rs) (event_alone event)
     (subst (λ (x : Talk × Event). HasReported talk.holes talk.wants x.0.wants (records_reported (event_if_any x.1))) h
-    (reported_one talk (read talk w) (comes_read talk talk.stage bytes w is)))
+    (reported_one (heard w talk) (read talk w) (comes_read (heard w talk) talk.stage bytes w is)))
 reported_event talk bytes new event (begun is same quiet) =
     subst (λ (e : Event). HasReported talk.holes talk.wants new.talk.wants (record_in e)) (sym quiet)
     (subst (λ (l : Listening). HasReported talk.holes talk.wants l.talk.wants []) (sym same)
@@ -175,7 +175,7 @@ reported_event talk bytes new event (begun is same quiet) =
 pub kept_event : (talk : Talk) (bytes : List ℕ) (new : Listening) (event : Event) → Brings talk bytes new event
     → new.talk.holes ≡ talk.holes
 kept_event talk bytes new event (whole w is h nothing) =
-    ap (λ (x : Talk × Event). x.0.holes) (sym h) ∙ kept_read talk talk.stage w
+    ap (λ (x : Talk × Event). x.0.holes) (sym h) ∙ kept_read (heard w talk) talk.stage w
 kept_event talk bytes new event (begun is same quiet) = ap (λ (l : Listening). l.talk.holes) same
 
 -- What the output takes of it.

@@ -6,8 +6,8 @@ use Rattle.std.proofs.lemmas.List.{length-set}
 use Rattle.slink_wire.specs.Packet.{packet_bytes}
 use Rattle.slink_feed.specs.declared.dialogue.Wanted.{Wanted}
 use Rattle.slink_feed.specs.Delivered.{AreOfPlace, AreWanted, all_packets, joined, numbered}
-use Rattle.slink_feed.specs.Dialogue.{Talk, Wants, place_of, is_of_wanted, next_at, next_set, reported, want_at}
-use Rattle.slink_feed.specs.Dialogue.{with_next}
+use Rattle.slink_feed.specs.Dialogue.{Packet, Talk, Wants, heard, place_of, is_of_wanted, next_at, next_set, reported}
+use Rattle.slink_feed.specs.Dialogue.{want_at, with_next}
 use Rattle.slink_feed.specs.Sending.{packets_from}
 use Rattle.slink_feed.proofs.Numbers.{place_some, next_here}
 
@@ -48,7 +48,8 @@ slice_wanted k g (r ∷ rs) t are wanted =
       omega arith,
       are.1,
       wanted,
-      slice_wanted k (g + 1) rs (reported k (g % 2 ^ 24) r t).0 (matched_set t.wants k n rs are.2)
+      slice_wanted k (g + 1) rs (reported k (g % 2 ^ 24) r (heard (Packet (g % 2 ^ 24) r) t)).0
+          (matched_set t.wants k n rs are.2)
           (subst (λ o. IfSome o (λ want. (g + 1) % 2 ^ 24 ≡ want)) (sym next) same),
     )
 

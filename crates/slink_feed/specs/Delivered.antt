@@ -3,7 +3,7 @@ use Rattle.std.specs.Prelude.{◌≡◌, ℕ, ◌+◌, ◌%◌, ◌^◌, ◌<◌
 use Rattle.slink_wire.specs.Packet.{packet_bytes}
 use Rattle.slink_feed.specs.declared.dialogue.Event.{Event}
 use Rattle.slink_feed.specs.declared.dialogue.Event.TheVariants as events
-use Rattle.slink_feed.specs.Dialogue.{Talk, Wants, place_of, next_at, reported}
+use Rattle.slink_feed.specs.Dialogue.{Packet, Talk, Wants, heard, place_of, next_at, reported}
 
 -- a record of the station at an index, with its number modulo 2^24
 pub record Numbered : Type 0 where
@@ -16,7 +16,7 @@ abbrev pub AreWanted : Talk → List Numbered → Type 0
 AreWanted t [] = Unit {0}
 AreWanted t (r ∷ rs) = (length r.bytes ≡ 512) × (r.number < 2 ^ 24) × (place_of t.wants r.bytes ≡ Some r.place)
     × IfSome (next_at t.wants r.place) (λ want. r.number ≡ want)
-    × AreWanted (reported r.place r.number r.bytes t).0 rs
+    × AreWanted (reported r.place r.number r.bytes (heard (Packet r.number r.bytes) t)).0 rs
 
 -- the bytes of their packets, one after another
 abbrev pub all_packets : List Numbered → List ℕ

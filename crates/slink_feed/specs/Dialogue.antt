@@ -1,7 +1,7 @@
 -- The requests that a client sends over a link, and what it makes of the replies and packets that the link brings.
 use Rattle.std.specs.Prelude.{◌≡◌, ℕ, Bool, false, ◌+◌, ◌-◌, ◌%◌, ◌^◌, ◌<◌, ◌==◌, ◌&&◌, ◌||◌, nat_lt, List, ◌++◌}
-use Rattle.std.specs.Prelude.{length, map, replicate, bytes_eq, codes, Option, Some, None, nat_eq, unwrap_or, position}
-use Rattle.std.specs.Prelude.{slice_get, slice_range, slice_set, if◌then◌else◌}
+use Rattle.std.specs.Prelude.{[], length, map, min, replicate, bytes_eq, codes, Option, Some, None, nat_eq, unwrap_or}
+use Rattle.std.specs.Prelude.{position, slice_get, slice_range, slice_set, if◌then◌else◌}
 use Rattle.std.specs.List.{starts_with}
 use Rattle.std.specs.Option.{option_and_then}
 use Rattle.slink_wire.specs.declared.request.Request.{Request}
@@ -47,12 +47,14 @@ IsStage (Station k) = k < 16
 IsStage (Number k) = k < 16
 IsStage stage = Unit {0}
 
--- what a client has come to; and whether it goes past holes
+-- what a client has come to; whether it goes past holes; how many packets came since the last reply, and its line
 pub record Talk : Type 0 where
   pub mode : Mode
   pub wants : List (Option Wanted)
   pub stage : Stage
   pub holes : Bool
+  pub packets : ℕ
+  pub reply : List ℕ
 
 -- what a link brings, in one whole
 pub data Whole : Type 0 where
@@ -60,6 +62,21 @@ pub data Whole : Type 0 where
   Packet : ℕ → List ℕ → Whole
   End : Whole
   Garbage : Whole
+
+-- how many packets came since the last reply, once this came: so many are counted at most
+abbrev pub packets_after : Whole → ℕ → ℕ
+packets_after (Reply line) n = 0
+packets_after (Packet number bytes) n = min (n + 1) (2 ^ 64 - 1)
+packets_after whole n = n
+
+-- the line of the last reply, once this came; garbage in its place has none
+abbrev pub reply_after : Whole → List ℕ → List ℕ
+reply_after (Reply line) last = line
+reply_after Garbage last = []
+reply_after whole last = last
+
+abbrev pub heard : Whole → Talk → Talk
+heard whole t = record t { packets = packets_after whole t.packets; reply = reply_after whole t.reply }
 
 -- the event that reports an ending
 abbrev pub event_of : Ending → Event
@@ -167,4 +184,4 @@ read_at Packets t Garbage = ended endings.Garbage t
 read_at stage t whole = (t, events.None)
 
 abbrev pub read : Talk → Whole → Talk × Event
-read t whole = read_at t.stage t whole
+read t whole = read_at t.stage (heard whole t) whole

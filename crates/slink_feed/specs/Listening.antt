@@ -17,7 +17,14 @@ pub record Listening : Type 0 where
 -- a client of these stations before its first link, which goes past holes or doesn't
 abbrev pub new_client : List (Fields × Option ℕ) → Mode → Bool → Listening
 new_client places mode holes = record {
-  talk = record { mode = mode; wants = wants_of places; stage = Unlinked; holes = holes };
+  talk = record {
+    mode = mode;
+    wants = wants_of places;
+    stage = Unlinked;
+    holes = holes;
+    packets = 0;
+    reply = [];
+  };
   kept = [];
 }
 

@@ -8,14 +8,15 @@ ghost use Rattle.slink_feed.specs.Cutting.{IsBegun, IsReply};
 ghost use Rattle.slink_feed.specs.private.Parts.{IsPacketPart, IsReplyPart};
 ghost use Rattle.slink_feed.specs.declared.dialogue.Ending.{Ending};
 ghost use Rattle.slink_feed.specs.declared.dialogue.Event.{Event};
-ghost use Rattle.slink_feed.specs.Dialogue.{Talk, at_packet, place_of, event_of, next_at, requests_place, want_at};
+ghost use Rattle.slink_feed.specs.Dialogue.{Packet as Brought, Talk, at_packet, place_of, event_of, heard, next_at};
+ghost use Rattle.slink_feed.specs.Dialogue.{requests_place, want_at};
 ghost use Rattle.slink_feed.specs.Endings.{ending_at};
 ghost use Rattle.slink_feed.specs.Fetching.{turn_at};
 ghost use Rattle.slink_feed.specs.Listening.{AwaitsReply, Brings, IsLinked, Listening, Reads, new_client};
 ghost use Rattle.slink_feed.specs.Listening.{event_if_any};
 
 use crate::cutting::{Part, take_packet, take_reply};
-use crate::dialogue::{Bytes, Dialogue, Ending, Event, Stage, Wanted, want_at};
+use crate::dialogue::{Bytes, Dialogue, Ending, Event, LONGEST_LINE, Stage, Wanted, want_at};
 use crate::feed::STATIONS;
 use crate::grant::Mode;
 use crate::turn::Turn;
@@ -98,6 +99,22 @@ impl Client {
             Stage::Ended(ending) => Some(ending),
             Stage::Unlinked | Stage::Station(_) | Stage::Number(_) | Stage::Packets => None,
         }
+    }
+
+    /// Returns how many packets came since the last reply, at most 2^64 - 1: once packets are awaited, those of the
+    /// link.
+    pub fn packets(&self) -> u64
+        ensures { result ≡ self.now.talk.packets }
+    {
+        self.dialogue.packets()
+    }
+
+    /// Returns the line of the last reply, without its CR LF. It has no bytes before the first reply, and after bytes
+    /// that are none where one was awaited.
+    pub fn reply(&self) -> &[u8]
+        ensures { result.now ≡ self.now.talk.reply }
+    {
+        self.dialogue.reply()
     }
 
     /// The stations that are requested, each with the number that it wants next.
@@ -219,7 +236,8 @@ impl Client {
 /// The line of a reply.
 fn line_of(bytes: &[u8]) -> &[u8]
     requires { (line : List ℕ) × IsReply bytes.now line }
-    ensures { IsReply bytes.now result.now }
+    ensures reply { IsReply bytes.now result.now }
+    ensures short { length result.now ≤ LONGEST_LINE }
 {
     &bytes[..bytes.len() - 2]
 }
@@ -235,7 +253,7 @@ fn read_reply(dialogue: &mut Dialogue, kept: &mut ArrayVec<u8, PACKET>, part: Pa
         Part::Begun => return Event::None,
         Part::Whole => dialogue.read_reply(line_of(kept.as_slice())),
         Part::End => unreachable!(),
-        Part::Garbage => dialogue.read_no_reply(),
+        Part::Garbage => dialogue.read_garbage(),
     };
     kept.clear();
     event
@@ -252,7 +270,7 @@ fn read_packets(dialogue: &mut Dialogue, kept: &mut ArrayVec<u8, PACKET>, part: 
         Part::Begun => return Event::None,
         Part::Whole => read_packet(dialogue, kept.as_slice()),
         Part::End => dialogue.end(Ending::End),
-        Part::Garbage => dialogue.end(Ending::Garbage),
+        Part::Garbage => dialogue.read_garbage(),
     };
     kept.clear();
     event
@@ -282,7 +300,8 @@ fn read_leading<'a>(dialogue: &mut Dialogue, bytes: &'a [u8]) -> Option<(usize, 
 fn read_packet(dialogue: &mut Dialogue, bytes: &[u8]) -> Event
     requires { (n : ℕ) × HasHead bytes.now n × (length bytes.now ≡ PACKET) }
     ensures read { (n : ℕ) × (r : List ℕ) × IsPacket bytes.now n r
-        × (at_packet (place_of dialogue.old.wants r) n r dialogue.old ≡ (dialogue.new, result)) }
+        × (at_packet (place_of dialogue.old.wants r) n r (heard (Brought n r) dialogue.old)
+        ≡ (dialogue.new, result)) }
     ensures reported { result ≢ Event.None }
 {
     let Some(packet) = bytes.first_chunk() else {

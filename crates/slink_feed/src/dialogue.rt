@@ -2,13 +2,14 @@
 ghost use Rattle.std.specs.Prelude.{◌≡◌, ◌≢◌, ◌+◌, ◌%◌, ◌<◌, ◌≤◌, IfNone, IfSome, length};
 ghost use Rattle.slink_wire.specs.Request.{IsSpelled};
 ghost use Rattle.slink_wire.specs.Place.{AreNumbers};
-ghost use Rattle.slink_feed.specs.Dialogue.{AreShort, Garbage, IsStage, Reply, Talk, answer_of, at_packet, ended};
-ghost use Rattle.slink_feed.specs.Dialogue.{event_of, foreign_by};
+ghost use Rattle.slink_feed.specs.Dialogue.{AreShort, Garbage, IsStage, Packet, Reply, Talk, answer_of, at_packet};
+ghost use Rattle.slink_feed.specs.Dialogue.{ended, event_of, foreign_by, heard};
 ghost use Rattle.slink_feed.specs.Dialogue.{if_wanted, is_ahead, is_of_wanted, is_taken, next_at, place_of, read};
 ghost use Rattle.slink_feed.specs.Dialogue.{requests_number, requests_place, sends_line, to_answer, want_at, wants_of};
 ghost use Rattle.slink_feed.specs.Dialogue.{with_next};
-ghost use Rattle.slink_feed.specs.Listening.{AwaitsReply};
+ghost use Rattle.slink_feed.specs.Listening.{AwaitsReply, IsLinked, new_client};
 
+use crate::cutting::put;
 use crate::feed::STATIONS;
 use crate::grant::Mode;
 use crate::ring::SPAN;
@@ -18,6 +19,9 @@ use std::marker::Model;
 
 /// A line that a client sends, with its CR LF: at most 32 bytes.
 pub type Bytes = ArrayVec<u8, 32>;
+
+/// The most bytes of the line of a reply, without its CR LF.
+pub(crate) const LONGEST_LINE: usize = 254;
 
 /// A station that is requested.
 #[derive(Clone, Copy)]
@@ -157,12 +161,22 @@ pub(crate) struct Dialogue {
     wants: [Option<Wanted>; STATIONS],
     stage: Stage,
     holes: bool,
+    // How many packets came since the last reply, and its line.
+    packets: u64,
+    reply: ArrayVec<u8, LONGEST_LINE>,
 }
 
 impl Model for Dialogue {
     ghost Value = { Talk };
 
-    ghost view = { λ d. record { mode = d.mode; wants = d.wants; stage = d.stage; holes = d.holes } };
+    ghost view = { λ d. record {
+      mode = d.mode;
+      wants = d.wants;
+      stage = d.stage;
+      holes = d.holes;
+      packets = d.packets;
+      reply = d.reply.items;
+    } };
 
     ghost invariant = { λ d. AreShort d.wants × IsStage d.stage };
 }
@@ -230,14 +244,15 @@ impl Dialogue {
     pub(crate) fn new(places: &[(Place, Option<u32>)], mode: Mode, holes: bool) -> Dialogue
         requires count { length places.now ≤ STATIONS }
         requires numbers { AreNumbers places.now }
-        ensures { result
-            ≡ record { mode = mode; wants = wants_of places.now; stage = Stage.Unlinked; holes = holes } }
+        ensures { result ≡ (new_client places.now mode holes).talk }
     {
         Dialogue {
             mode,
             wants: wants_of(places),
             stage: Stage::Unlinked,
             holes,
+            packets: 0,
+            reply: ArrayVec::new(),
         }
     }
 
@@ -253,6 +268,20 @@ impl Dialogue {
         ensures { result.now ≡ self.now.wants }
     {
         &self.wants
+    }
+
+    /// How many packets came since the last reply.
+    pub(crate) fn packets(&self) -> u64
+        ensures { result ≡ self.now.packets }
+    {
+        self.packets
+    }
+
+    /// The line of the last reply.
+    pub(crate) fn reply(&self) -> &[u8]
+        ensures { result.now ≡ self.now.reply }
+    {
+        self.reply.as_slice()
     }
 
     /// The number of the record that is wanted next of the station at an index, modulo 2^24, if one is.
@@ -301,12 +330,24 @@ impl Dialogue {
         self.request_line(Stage::Number(k), request)
     }
 
+    /// Notes a reply, by its line.
+    fn hear(&mut self, line: &[u8])
+        requires { length line.now ≤ LONGEST_LINE }
+        ensures { self.new ≡ heard (Reply line.now) self.old }
+    {
+        self.packets = 0;
+        self.reply.clear();
+        put(&mut self.reply, line);
+    }
+
     /// Takes a reply, by its line without CR LF, and returns the event that it makes.
     pub(crate) fn read_reply(&mut self, line: &[u8]) -> Event
-        requires { AwaitsReply self.old.stage }
+        requires stage { AwaitsReply self.old.stage }
+        requires short { length line.now ≤ LONGEST_LINE }
         ensures read { read self.old (Reply line.now) ≡ (self.new, result) }
         ensures reported { result ≢ Event.None }
     {
+        self.hear(line);
         match self.stage {
             Stage::Station(k) => self.read_station(k, answer_of(line)),
             Stage::Number(k) => self.read_number(k, answer_of(line)),
@@ -314,16 +355,18 @@ impl Dialogue {
         }
     }
 
-    /// Takes bytes that are no reply where one is awaited, and returns the event that they make.
-    pub(crate) fn read_no_reply(&mut self) -> Event
-        requires { AwaitsReply self.old.stage }
+    /// Takes bytes that are nothing of what is awaited, and returns the event that they make.
+    pub(crate) fn read_garbage(&mut self) -> Event
+        requires { IsLinked self.old.stage }
         ensures read { read self.old Garbage ≡ (self.new, result) }
         ensures reported { result ≢ Event.None }
     {
+        self.reply.clear();
         match self.stage {
             Stage::Station(k) => self.end(Ending::Unanswered(k)),
             Stage::Number(k) => self.end(Ending::Unanswered(k)),
-            Stage::Unlinked | Stage::Packets | Stage::Ended(_) => unreachable!(),
+            Stage::Packets => self.end(Ending::Garbage),
+            Stage::Unlinked | Stage::Ended(_) => unreachable!(),
         }
     }
 
@@ -356,9 +399,11 @@ impl Dialogue {
     /// Takes a packet, by its number modulo 2^24 and its record, and returns the event that it makes.
     pub(crate) fn read_packet(&mut self, number: u32, bytes: &[u8; 512]) -> Event
         requires { number < SPAN }
-        ensures read { at_packet (place_of self.old.wants bytes.now) number bytes.now self.old ≡ (self.new, result) }
+        ensures read { at_packet (place_of self.old.wants bytes.now) number bytes.now
+            (heard (Packet number bytes.now) self.old) ≡ (self.new, result) }
         ensures reported { result ≢ Event.None }
     {
+        self.packets = self.packets.saturating_add(1);
         match self.place_of(bytes) {
             Some(k) => self.read_record(k, number, bytes),
             None => self.end(foreign_by(bytes)),
@@ -388,14 +433,15 @@ impl Dialogue {
     /// Takes a packet whose record is wanted, and returns the index of its station. Another packet changes nothing.
     pub(crate) fn read_wanted(&mut self, number: u32, bytes: &[u8; 512]) -> Option<usize>
         requires { number < SPAN }
-        ensures read { IfSome result (λ k. at_packet (place_of self.old.wants bytes.now) number bytes.now self.old
-            ≡ (self.new, Event.Record k number bytes.now)) }
+        ensures read { IfSome result (λ k. at_packet (place_of self.old.wants bytes.now) number bytes.now
+            (heard (Packet number bytes.now) self.old) ≡ (self.new, Event.Record k number bytes.now)) }
         ensures unread { IfNone result (self.new ≡ self.old) }
     {
         let k = self.place_of(bytes)?;
         match self.next(k) {
             Some(want) if !self.is_taken(want, number) => None,
             _ => {
+                self.packets = self.packets.saturating_add(1);
                 self.pass(k, number);
                 Some(k)
             }

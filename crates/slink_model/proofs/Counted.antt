@@ -22,7 +22,8 @@ use Rattle.slink_model.specs.Counted.{Gained, undelivered, events_upon, on_item,
 use Rattle.slink_model.specs.Counted.{with_events}
 use Rattle.slink_feed.specs.Cutting.{IsBegun, IsWhole}
 use Rattle.slink_feed.specs.Dialogue.{Talk, Wants, Reply, Packet, End, at_packet, place_of, ended, read, read_at}
-use Rattle.slink_feed.specs.Dialogue.{next_at, next_set, numbered, sends_line, to_place, reported, want_at, with_next}
+use Rattle.slink_feed.specs.Dialogue.{heard, next_at, next_set, numbered, sends_line, to_place, reported, want_at}
+use Rattle.slink_feed.specs.Dialogue.{with_next}
 use Rattle.slink_feed.specs.Listening.{AreBrought, IsLinked, events_of, talk_after, event_if_any}
 use Rattle.slink_feed.specs.Session.{Grants, State, grant_at}
 use Rattle.slink_model.specs.Ties.{Item, Accepted, Refused, Carried, Finished, Places, item_bytes, of_place, way_bytes}
@@ -126,14 +127,17 @@ module _ (places : Places) (differ : Differ places) (codes_are : (k : ℕ) (p : 
     suited_k : IsSuited (next_at t.wants k) (grant_at grants k) ((n, r) ∷ of_place k rest)
     suited_k = subst (IsSuited (next_at t.wants k) (grant_at grants k)) of_k (s.suited k)
 
-    pub packet_reported : read t (Packet m r) ≡ reported k m r t
-    packet_reported = ap (λ (y : Stage). read_at y t (Packet m r)) s.stage
-        ∙ (ap (λ (o : Option ℕ). at_packet o m r t) found.0
-        ∙ wanted_reported (next_at t.wants k) k m r t
+    abbrev u : Talk
+    u = heard (Packet m r) t
+
+    pub packet_reported : read t (Packet m r) ≡ reported k m r u
+    packet_reported = ap (λ (y : Stage). read_at y u (Packet m r)) s.stage
+        ∙ (ap (λ (o : Option ℕ). at_packet o m r u) found.0
+        ∙ wanted_reported (next_at t.wants k) k m r u
         (some_if (next_at t.wants k) m (suited_wanted (next_at t.wants k) (grant_at grants k) n r (of_place k rest)
         suited_k)))
 
-    pub packet_next : Streams grants phase (reported k m r t).0 rest
+    pub packet_next : Streams grants phase (reported k m r u).0 rest
     packet_next =
         let ws : Wants = with_next t.wants k x in
         let v : Wanted = record { place = found.1.place; next = Some x } in
@@ -161,7 +165,7 @@ module _ (places : Places) (differ : Differ places) (codes_are : (k : ℕ) (p : 
           ends = s.ends;
         }
 
-    pub packet_prefix : (ws bs : List Item) (p : ℕ) → Prefix grants phase (reported k m r t).0 ws bs p
+    pub packet_prefix : (ws bs : List Item) (p : ℕ) → Prefix grants phase (reported k m r u).0 ws bs p
         → Prefix grants phase t (Carried k n r ∷ ws) bs p
     packet_prefix ws bs p h =
         let h' : Prefix grants phase (read t (Packet m r)).0 ws bs p =
@@ -182,7 +186,7 @@ module _ (places : Places) (differ : Differ places) (codes_are : (k : ℕ) (p : 
   end_prefix : (grants : Grants) (phase : Phase) (t : Talk) → Streams grants phase t (Finished ∷ [])
       → Prefix grants phase t (Finished ∷ []) [] 0
   end_prefix grants phase t s =
-      let h : read t End ≡ ended endings.End t = ap (λ (y : Stage). read_at y t End) s.stage in
+      let h : read t End ≡ ended endings.End (heard End t) = ap (λ (y : Stage). read_at y (heard End t) End) s.stage in
       record {
         are = (at_stage t Finished s.stage refl, tt);
         is_begun = λ _. begun_none (read t End).0.stage;
@@ -206,7 +210,7 @@ module _ (places : Places) (differ : Differ places) (codes_are : (k : ℕ) (p : 
       whole_or (Carried k n r) rest d (λ ws bs p. Prefix grants phase t ws bs p)
       (λ fits. packet_prefix grants phase t k n r rest s (wholes (d - size) rest) (undelivered (d - size) rest)
       (part (d - size) rest)
-      (streamed_prefix rest grants phase (reported k (n % 2 ^ 24) r t).0 (d - size)
+      (streamed_prefix rest grants phase (reported k (n % 2 ^ 24) r (heard (Packet (n % 2 ^ 24) r) t)).0 (d - size)
       (packet_next grants phase t k n r rest s)))
       (λ lt. none_prefix grants phase t (Carried k n r) rest d (carried_whole k n r s.matched.0.2) lt s)
   streamed_prefix (Finished ∷ []) grants phase t d s =
@@ -250,9 +254,9 @@ module _ (places : Places) (differ : Differ places) (codes_are : (k : ℕ) (p : 
     -- a line is sent
     line_written : (i : Item) (stage : Stage) (request : Request) → Open s.phase
         → read t (whole_of i) ≡ on_item t.stage i t → IsWhole t.stage (item_bytes i) (whole_of i)
-        → read t (whole_of i) ≡ sends_line t stage request → IsLinked stage
+        → read t (whole_of i) ≡ sends_line (heard (whole_of i) t) stage request → IsLinked stage
         → ((k : ℕ) → IsSuited (next_at t.wants k) (grant_at s.grants k) [])
-        → Shakes (record t { stage = stage }) s.phase taken (way ++ request_bytes request) []
+        → Shakes (record (heard (whole_of i) t) { stage = stage }) s.phase taken (way ++ request_bytes request) []
         → Outcome s taken way t (i ∷ []) [] 0
     line_written i stage request awake on whole h linked suited shakes = record {
       are = (whole, tt);
@@ -261,7 +265,8 @@ module _ (places : Places) (differ : Differ places) (codes_are : (k : ℕ) (p : 
       unwritten = λ shut f g. absurd (awake shut);
       after = λ f g same _. subst
           (λ (y : Talk × Event). Left s taken y.0 (with_events f (event_if_any y.1 ++ []) g).to_server []) (sym h)
-          (subst (λ b. Left s taken (record t { stage = stage }) (b ++ request_bytes request) []) (sym same)
+          (subst (λ b. Left s taken (record (heard (whole_of i) t) { stage = stage }) (b ++ request_bytes request) [])
+          (sym same)
           (record { matched = tt; suited = suited; shakes = shakes; ends = tt }));
       quiet = λ f g same over. absurd (over (subst (λ (y : Talk × Event). IsLinked y.0.stage) (sym h) linked));
     }
@@ -269,7 +274,8 @@ module _ (places : Places) (differ : Differ places) (codes_are : (k : ℕ) (p : 
     -- a station is refused
     refusal_read : (k : ℕ) → Open s.phase → read t (Reply (codes "ERROR")) ≡ on_item t.stage Refused t
         → IsWhole t.stage (item_bytes Refused) (whole_of Refused)
-        → read t (Reply (codes "ERROR")) ≡ ended (endings.Refused k) t → IsAnswered taken way
+        → read t (Reply (codes "ERROR")) ≡ ended (endings.Refused k) (heard (Reply (codes "ERROR")) t)
+        → IsAnswered taken way
         → Outcome s taken way t (Refused ∷ []) [] 0
     refusal_read k awake on whole h reported = record {
       are = (whole, tt);
@@ -298,7 +304,7 @@ module _ (places : Places) (differ : Differ places) (codes_are : (k : ℕ) (p : 
     next_written : (k : ℕ) (o : Option Wanted) → AreCalled places t.wants → t.stage ≡ Number k → s.phase ≡ Granted k
         → IsAnswered taken way → want_at t.wants (k + 1) ≡ o
         → read t (Reply (codes "OK")) ≡ on_item t.stage Accepted t
-        → read t (Reply (codes "OK")) ≡ to_place o (k + 1) t
+        → read t (Reply (codes "OK")) ≡ to_place o (k + 1) (heard (Reply (codes "OK")) t)
         → ((i : ℕ) → IsSuited (next_at t.wants i) (grant_at s.grants i) []) → Outcome s taken way t (Accepted ∷ []) [] 0
     next_written k None called stage phase reported want on h suited =
         line_written Accepted Packets requests.End (open_at s.phase (Granted k) phase tt) on
@@ -345,9 +351,11 @@ module _ (places : Places) (differ : Differ places) (codes_are : (k : ℕ) (p : 
       whole_at stage i is whole = subst (λ (y : Stage). IsWhole y (item_bytes i) (whole_of i)) (sym is) whole
 
       -- the table says the same at this stage
-      on_is : (i : Item) (stage : Stage) → t.stage ≡ stage → read_at stage t (whole_of i) ≡ on_item stage i t
+      on_is : (i : Item) (stage : Stage) → t.stage ≡ stage
+          → read_at stage (heard (whole_of i) t) (whole_of i) ≡ on_item stage i t
           → read t (whole_of i) ≡ on_item t.stage i t
-      on_is i stage is at = subst (λ (y : Stage). read_at y t (whole_of i) ≡ on_item y i t) (sym is) at
+      on_is i stage is at =
+          subst (λ (y : Stage). read_at y (heard (whole_of i) t) (whole_of i) ≡ on_item y i t) (sym is) at
 
       by_shakes : Shakes t s.phase taken way items → Result items
       by_shakes (asks_place k w stage want ready asks none) = empty none (there (Station k) stage tt)
@@ -357,7 +365,8 @@ module _ (places : Places) (differ : Differ places) (codes_are : (k : ℕ) (p : 
           (whole_at (Station k) Accepted stage (ok_reply k))
           (line_written Accepted (Number k) request (open_at s.phase (Chosen k) phase tt)
           (on_is Accepted (Station k) stage refl) (whole_at (Station k) Accepted stage (ok_reply k))
-          (ap (λ (y : Stage). read_at y t (Reply (codes "OK"))) stage) tt (suits Accepted (λ i. refl) one)
+          (ap (λ (y : Stage). read_at y (heard (Reply (codes "OK")) t) (Reply (codes "OK"))) stage) tt
+          (suits Accepted (λ i. refl) one)
           (asks_number k refl phase
           (asks_more (request_line request) taken way (number_line t.mode (next_at t.wants k)) written) refl))
           (subst (Left s taken t way) one left))
@@ -367,14 +376,15 @@ module _ (places : Places) (differ : Differ places) (codes_are : (k : ℕ) (p : 
           (whole_at (Number k) Accepted stage (ok_reply k))
           (next_written k (want_at t.wants (k + 1)) called stage phase written refl
           (on_is Accepted (Number k) stage refl)
-          (ap (λ (y : Stage). read_at y t (Reply (codes "OK"))) stage) (suits Accepted (λ i. refl) one))
+          (ap (λ (y : Stage). read_at y (heard (Reply (codes "OK")) t) (Reply (codes "OK"))) stage)
+          (suits Accepted (λ i. refl) one))
           (subst (Left s taken t way) one left))
       by_shakes (has_none k stage phase written one) =
           subst Result (sym one) (one_or Refused d (there (Number k) stage tt)
           (whole_at (Number k) Refused stage (error_reply k))
           (refusal_read k (open_at s.phase (Chosen k) phase tt) (on_is Refused (Number k) stage refl)
           (whole_at (Number k) Refused stage (error_reply k))
-          (ap (λ (y : Stage). read_at y t (Reply (codes "ERROR"))) stage) written)
+          (ap (λ (y : Stage). read_at y (heard (Reply (codes "ERROR")) t) (Reply (codes "ERROR"))) stage) written)
           (subst (Left s taken t way) one left))
       by_shakes (asks_end k stage phase asks none) = empty none (there Packets stage tt)
       by_shakes (streams stage later sent written) =

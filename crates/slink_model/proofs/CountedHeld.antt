@@ -14,7 +14,7 @@ use Rattle.slink_feed.specs.declared.dialogue.Stage.{Stage}
 use Rattle.slink_feed.specs.declared.dialogue.Stage.TheVariants.{Packets}
 use Rattle.slink_feed.specs.declared.dialogue.Wanted.{Wanted}
 use Rattle.slink_feed.specs.declared.session.Phase.{Phase}
-use Rattle.slink_feed.specs.Dialogue.{Talk, ended, to_place, reported, want_at}
+use Rattle.slink_feed.specs.Dialogue.{End, Packet, Talk, ended, heard, to_place, reported, want_at}
 use Rattle.slink_feed.specs.Listening.{IsLinked}
 use Rattle.slink_feed.specs.Session.{sent}
 use Rattle.slink_feed.specs.Window.{Window}
@@ -163,7 +163,7 @@ module _ (places : Places) (f : Numbers) where
       → HoldsMore g.held is (with_events f (events_upon t is) g).held
   held_packets [] t g p sent matched wide linked = holds_none g.held
   held_packets (Carried j n r ∷ is) t g p sent matched wide linked =
-      let x : Talk × Event = reported j (n % 2 ^ 24) r t in
+      let x : Talk × Event = reported j (n % 2 ^ 24) r (heard (Packet (n % 2 ^ 24) r) t) in
       let h : on_item t.stage (Carried j n r) t ≡ x = ap (λ (s : Stage). on_item s (Carried j n r) t) p in
       let within : j < length places = slice_get_within places j matched.0.0 matched.0.1 in
       let lt : j < length g.held = omega (arith, within, wide) in
@@ -178,7 +178,7 @@ module _ (places : Places) (f : Numbers) where
         count = omega (arith, rest.count, one_counted g.held j r lt);
       })
   held_packets (Finished ∷ is) t g p sent matched wide linked =
-      let x : Talk × Event = ended endings.End t in
+      let x : Talk × Event = ended endings.End (heard End t) in
       let h : on_item t.stage Finished t ≡ x = ap (λ (s : Stage). on_item s Finished t) p in
       absurd (subst (λ (u : Talk). IsLinked u.stage) (unlinked_upon x.0 is (λ l. l)).0
       (subst (λ (y : Talk × Event). IsLinked (talk_upon y.0 is).stage) h linked))
@@ -224,7 +224,7 @@ module _ (places : Places) (f : Numbers) (t : Talk) (g : Gained) (e : ℕ) (its 
   brings phase taken way (has_number k stage at written one) =
       reply Accepted one
       (ap (λ (s : Stage). (with_event f (on_item s Accepted t).1 g).held) stage
-      ∙ placed f (k + 1) (want_at t.wants (k + 1)) t g) (λ j. refl) refl
+      ∙ placed f (k + 1) (want_at t.wants (k + 1)) _ g) (λ j. refl) refl
   brings phase taken way (has_none k stage at written one) =
       reply Refused one
       (ap (λ (s : Stage). (with_event f (on_item s Refused t).1 g).held) stage) (λ j. refl) refl

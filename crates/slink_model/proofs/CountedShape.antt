@@ -1,7 +1,7 @@
 -- What a link was sent: two replies to each station, then packets.
 use Rattle.std.proofs.Common.{◌≡◌, ℕ, ◌+◌, ◌-◌, ◌*◌, ◌<◌, ◌≤◌, inl, inr, zero, suc, refl, sym, ap, subst, ◌∙◌, arith}
 use Rattle.std.proofs.Common.{Bool, true, false, ◌&&◌, not, List, [], ◌∷◌, ◌++◌, append_assoc, length, replicate}
-use Rattle.std.proofs.Common.{Option, Some, None, option_map, slice_get}
+use Rattle.std.proofs.Common.{codes, Option, Some, None, option_map, slice_get}
 use Rattle.std.proofs.lemmas.Option.{slice_get_within}
 use Rattle.slink_wire.specs.Place.{Fields}
 use Rattle.slink_feed.specs.declared.dialogue.Stage.{Stage}
@@ -14,7 +14,7 @@ use Rattle.slink_model.specs.declared.world.Step.TheVariants.{Append, Connect, T
 use Rattle.slink_model.specs.Counted.{AreItems, ArePackets, AreStreamed, Counted, CountedLink, answer_at, undelivered}
 use Rattle.slink_model.specs.Counted.{counted_step, delivered_by, read_by, if_come, items_sent, new_link, news}
 use Rattle.slink_model.specs.Counted.{on_item, part, sent_by, served_by, taken_by, talk_upon, waits, wholes, windows_of}
-use Rattle.slink_feed.specs.Dialogue.{Talk, to_place, want_at}
+use Rattle.slink_feed.specs.Dialogue.{Reply, Talk, heard, to_place, want_at}
 use Rattle.slink_feed.specs.Listening.{AwaitsReply, IsLinked}
 use Rattle.slink_feed.specs.Session.{sent}
 use Rattle.slink_model.specs.Ties.{Item, Accepted, Refused, Greeted, Carried, Finished, Places, item_bytes, items_of}
@@ -231,7 +231,7 @@ module _ (places : Places) (talk : Talk) (called : AreCalled places talk.wants) 
 
   after_number : (k : ℕ) (o : Option Wanted) → its ≡ Accepted ∷ [] → talk.stage ≡ Number k
       → want_at talk.wants (k + 1) ≡ o → undelivered d l.sent ≡ []
-      → Shape places (to_place o (k + 1) talk).0.stage l.sent d
+      → Shape places (to_place o (k + 1) (heard (Reply (codes "OK")) talk)).0.stage l.sent d
   after_number k None one stage want none =
       let lt : k < length places = subst (IsWithin places) stage h.within in
       let last : length places ≤ k + 1 = past (within_or) in

@@ -21,7 +21,8 @@ use Rattle.slink_feed.specs.declared.dialogue.Wanted.{Wanted}
 use Rattle.slink_feed.specs.Cutting.{IsWhole}
 use Rattle.slink_feed.specs.Dialogue.{Talk, Whole, Reply, Packet, End, Garbage, answer_of, at_packet, place_of, ended}
 use Rattle.slink_feed.specs.Dialogue.{event_of, is_ahead, is_taken, read, read_at, if_wanted, next_at, requests_number}
-use Rattle.slink_feed.specs.Dialogue.{foreign_by, requests_place, to_answer, to_place, reported, want_at, with_next}
+use Rattle.slink_feed.specs.Dialogue.{foreign_by, heard, requests_place, to_answer, to_place, reported, want_at}
+use Rattle.slink_feed.specs.Dialogue.{with_next}
 use Rattle.slink_feed.specs.Listening.{Brings, Listening, begun, whole}
 use Rattle.slink_model.specs.Ties.{AreWhole, Item, Accepted, Refused, Greeted, Carried, Finished, Outcome, ends, says}
 use Rattle.slink_model.specs.Ties.{takes, reported_of, waits, way_bytes}
@@ -70,11 +71,12 @@ place_written (Some w) k t = (refl, refl)
 module _ (t : Talk) (bytes way : List ℕ) (new : Listening) (e : Event) (plain : t.holes ≡ false) where
   -- the link is ended
   has_ended : (items : List Item) (ending : Ending) → ended ending t ≡ (new.talk, e) → new.kept ≡ []
-      → Outcome t items bytes way new e
+      → Outcome t.wants items bytes way new e
   has_ended items ending h none =
       let talk : new.talk ≡ record t { stage = Ended ending } = sym (ap (λ (p : Talk × Event). p.0) h) in
       let event : event_of ending ≡ e = ap (λ (p : Talk × Event). p.1) h in
-      ends ending talk none (ap reported_of (sym event) ∙ quiet_ending ending)
+      ends ending (ap (λ (x : Talk). x.stage) talk) (ap (λ (x : Talk). x.wants) talk) none
+      (ap reported_of (sym event) ∙ quiet_ending ending)
 
   -- only an `OK` begins so
   accepted_first : (items : List Item) → codes "OK" ++ (line_end ++ way) ≡ way_bytes items
@@ -137,7 +139,7 @@ module _ (t : Talk) (bytes way : List ℕ) (new : Listening) (e : Event) (plain 
   has_reply : (items : List Item) (line : List ℕ) (k : ℕ) (next : Talk × Event) (a : Answer) → answer_of line ≡ a
       → bytes ≡ line ++ line_end → bytes ++ way ≡ way_bytes items
       → (next.0.wants ≡ t.wants) × (reported_of next.1 ≡ None) → to_answer a k next t ≡ (new.talk, e) → new.kept ≡ []
-      → Outcome t items bytes way new e
+      → Outcome t.wants items bytes way new e
   has_reply items line k next Granted a is h quiet read none =
       let ok : line ≡ codes "OK" = granted_is line a in
       let top : (rest : List Item) × (items ≡ Accepted ∷ rest) × (way ≡ way_bytes rest) =
@@ -150,20 +152,20 @@ module _ (t : Talk) (bytes way : List ℕ) (new : Listening) (e : Event) (plain 
   has_reported : (items : List Item) (n j : ℕ) (r : List ℕ) (k m : ℕ) (rest : List Item) → items ≡ Carried k m r ∷ rest
       → way ≡ way_bytes rest → n ≡ m % 2 ^ 24 → place_of t.wants r ≡ Some j
       → ((w : ℕ) → next_at t.wants j ≡ Some w → n ≡ w) → reported j n r t ≡ (new.talk, e) → new.kept ≡ []
-      → Outcome t items bytes way new e
+      → Outcome t.wants items bytes way new e
   has_reported items n j r k m rest is left number at wanted read none =
-      let talk : new.talk ≡ record t { wants = with_next t.wants j ((n + 1) % 2 ^ 24) } =
-      sym (ap (λ (p : Talk × Event). p.0) read) in
+      let wants : new.talk.wants ≡ with_next t.wants j ((n + 1) % 2 ^ 24) =
+      sym (ap (λ (p : Talk × Event). p.0.wants) read) in
       let event : e ≡ events.Record j n r = sym (ap (λ (p : Talk × Event). p.1) read) in
       takes k j m r rest is left at (λ w next. sym number ∙ wanted w next)
-      (talk ∙ ap (λ x. record t { wants = with_next t.wants j ((x + 1) % 2 ^ 24) }) number) none
+      (wants ∙ ap (λ x. with_next t.wants j ((x + 1) % 2 ^ 24)) number) none
       (ap reported_of event ∙ ap (λ x. Some (record { index = j; number = x; bytes = r })) number)
 
   -- a packet of a station that is there
   has_wanted : (items : List Item) (n j : ℕ) (r : List ℕ) (k m : ℕ) (rest : List Item) (o : Option ℕ)
       → items ≡ Carried k m r ∷ rest → way ≡ way_bytes rest → n ≡ m % 2 ^ 24 → place_of t.wants r ≡ Some j
       → next_at t.wants j ≡ o
-      → if_wanted o j n r t ≡ (new.talk, e) → new.kept ≡ [] → Outcome t items bytes way new e
+      → if_wanted o j n r t ≡ (new.talk, e) → new.kept ≡ [] → Outcome t.wants items bytes way new e
   has_wanted items n j r k m rest None is left number at next read none =
       has_reported items n j r k m rest is left number at (λ w some. absurd (let bad : None ≡ Some w =
       sym next ∙ some in
@@ -187,7 +189,7 @@ module _ (t : Talk) (bytes way : List ℕ) (new : Listening) (e : Event) (plain 
   -- a packet that is read
   has_packet : (items : List Item) (n : ℕ) (r : List ℕ) (o : Option ℕ) → AreWhole items → IsPacket bytes n r
       → length bytes ≡ 520 → bytes ++ way ≡ way_bytes items → place_of t.wants r ≡ o
-      → at_packet o n r t ≡ (new.talk, e) → new.kept ≡ [] → Outcome t items bytes way new e
+      → at_packet o n r t ≡ (new.talk, e) → new.kept ≡ [] → Outcome t.wants items bytes way new e
   has_packet items n r None are is long h at read none = has_ended items (foreign_by r) read none
   has_packet items n r (Some j) are is long h at read none =
       let top : (k m : ℕ) × (rest : List Item) × (items ≡ Carried k m r ∷ rest) × (way ≡ way_bytes rest)
@@ -195,7 +197,8 @@ module _ (t : Talk) (bytes way : List ℕ) (new : Listening) (e : Event) (plain 
       has_wanted items n j r top.0 top.1 top.2 (next_at t.wants j) top.3 top.4 top.5 at refl read none
 
   has_whole : (stage : Stage) (items : List Item) (w : Whole) → AreWhole items → bytes ++ way ≡ way_bytes items
-      → IsWhole stage bytes w → read_at stage t w ≡ (new.talk, e) → new.kept ≡ [] → Outcome t items bytes way new e
+      → IsWhole stage bytes w → read_at stage t w ≡ (new.talk, e) → new.kept ≡ []
+      → Outcome t.wants items bytes way new e
   has_whole Unlinked items w are h is read none = absurd is
   has_whole (Station k) items (Reply line) are h is read none =
       has_reply items line k (requests_number k t) (answer_of line) refl is.0 h (refl, refl) read none
@@ -215,8 +218,10 @@ module _ (t : Talk) (bytes way : List ℕ) (new : Listening) (e : Event) (plain 
   has_whole Packets items Garbage are h is read none = has_ended items endings.Garbage read none
   has_whole (Ended ending) items w are h is read none = absurd is
 
-  -- what comes of bytes, with those that were kept
-  pub outcome : (items : List Item) → AreWhole items → bytes ++ way ≡ way_bytes items → Brings t bytes new e
-      → Outcome t items bytes way new e
-  outcome items are h (whole w is read none) = has_whole t.stage items w are h is read none
-  outcome items are h (begun is same quiet) = waits same (ap reported_of quiet)
+-- what comes of bytes, with those that were kept
+pub outcome : (t : Talk) (bytes way : List ℕ) (new : Listening) (e : Event) → t.holes ≡ false → (items : List Item)
+    → AreWhole items → bytes ++ way ≡ way_bytes items → Brings t bytes new e → Outcome t.wants items bytes way new e
+outcome t bytes way new e plain items are h (whole w is read none) =
+    has_whole (heard w t) bytes way new e plain t.stage items w are h is read none
+outcome t bytes way new e plain items are h (begun is same quiet) =
+    waits (ap (λ (x : Listening). x.talk.wants) same) (ap (λ (x : Listening). x.kept) same) (ap reported_of quiet)

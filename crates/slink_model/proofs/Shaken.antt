@@ -27,7 +27,7 @@ use Rattle.slink_feed.specs.declared.session.Phase.TheVariants.{Chosen, Granted,
 use Rattle.slink_feed.specs.Cutting.{IsReply, IsWhole, LacksEnd}
 use Rattle.slink_feed.specs.Dialogue.{Talk, Wants, Whole, Reply, Packet, End, at_packet, place_of, ended, event_of}
 use Rattle.slink_feed.specs.Dialogue.{read, read_at, is_of_wanted, next_at, next_set, numbered}
-use Rattle.slink_feed.specs.Dialogue.{to_place, reported, want_at, with_next}
+use Rattle.slink_feed.specs.Dialogue.{heard, to_place, reported, want_at, with_next}
 use Rattle.slink_feed.specs.Listening.{Brings, IsLinked, Listening, begun, whole}
 use Rattle.slink_feed.specs.Serving.{SessionState}
 use Rattle.slink_feed.specs.Session.{IsBefore, grant_at}
@@ -80,12 +80,12 @@ the_whole stage b a left rest w v p q e =
 first_read : (stage : Stage) (client : Listening) (bytes left : List ℕ) (w v : Whole) (i : Item) (is : List Item)
     (x : Talk × Event) → client.talk.stage ≡ stage → client.kept ++ (bytes ++ left) ≡ way_bytes (i ∷ is)
     → IsWhole stage (item_bytes i) v → IsWhole client.talk.stage (client.kept ++ bytes) w → read client.talk w ≡ x
-    → (read_at stage client.talk v ≡ x) × (left ≡ way_bytes is)
+    → (read_at stage (heard v client.talk) v ≡ x) × (left ≡ way_bytes is)
 first_read stage client bytes left w v i is x at flow stands here h =
     let the : (w ≡ v) × (left ≡ way_bytes is) =
     the_whole _ _ _ left (way_bytes is) _ _ (subst (λ (s : Stage). IsWhole s (client.kept ++ bytes) w) at here) stands
     (append_assoc client.kept bytes left ∙ flow) in (
-      sym (ap (λ (s : Stage). read_at s client.talk v) at) ∙ (ap (read client.talk) (sym the.0) ∙ h),
+      sym (ap (λ (s : Stage). read_at s (heard v client.talk) v) at) ∙ (ap (read client.talk) (sym the.0) ∙ h),
       the.1,
     )
 
@@ -206,9 +206,9 @@ module _ (places : Places) (differ : Differ places) (codes_are : (k : ℕ) (p : 
     ended_way t new endings.Garbage = refl
     ended_way t new (endings.Foreign station network) = refl
 
-    ended_quiet : (t : Taking) (new : Listening) (ending : Ending) (e : Event)
-        → ended ending t.client.talk ≡ (new.talk, e) → IsQuiet session t.to_server → IsQuiet session (Way t new e)
-    ended_quiet t new ending e h q =
+    ended_quiet : (t : Taking) (talk : Talk) (new : Listening) (ending : Ending) (e : Event)
+        → ended ending talk ≡ (new.talk, e) → IsQuiet session t.to_server → IsQuiet session (Way t new e)
+    ended_quiet t talk new ending e h q =
         subst (λ (x : Event). IsQuiet session (Way t new x)) (ap (λ (p : Talk × Event). p.1) h)
         (subst (IsQuiet session) (sym (ended_way t new ending)) q)
 
@@ -217,19 +217,19 @@ module _ (places : Places) (differ : Differ places) (codes_are : (k : ℕ) (p : 
     seen_as talk new is none = seen_same new (record { talk = talk; kept = [] }) is none
 
     -- a line is sent
-    written_talks : (t : Taking) (new : Listening) (stage : Stage) (request : Request) (e : Event) (left taken : List ℕ)
+    written_talks : (t : Taking) (u : Talk) (new : Listening) (stage : Stage) (request : Request) (e : Event)
+        (left taken : List ℕ)
         → ◌≡◌ {A = Talk × Event} (
-          record t.client.talk { stage = stage },
+          record u { stage = stage },
           events.Say (record { items = request_bytes request }),
         ) (new.talk, e) → new.kept ≡ [] → left ≡ []
-        → IsSpared stage → IsLinked stage → AreCalled places t.client.talk.wants
-        → ((k : ℕ) → IsSuited (next_at t.client.talk.wants k) (grant_at session.state.grants k) [])
+        → IsSpared stage → IsLinked stage → AreCalled places u.wants
+        → ((k : ℕ) → IsSuited (next_at u.wants k) (grant_at session.state.grants k) [])
         → (¬ (session.state.phase ≡ Closed) → IsHeld session.held taken)
-        → Shakes (record t.client.talk { stage = stage }) session.state.phase taken
-        (t.to_server ++ request_bytes request) []
+        → Shakes (record u { stage = stage }) session.state.phase taken (t.to_server ++ request_bytes request) []
         → ClientTalks new (Way t new e) left
-    written_talks t new stage request e left taken h none gone spared linked called suited held shakes =
-        let talk : Talk = record t.client.talk { stage = stage } in
+    written_talks t u new stage request e left taken h none gone spared linked called suited held shakes =
+        let talk : Talk = record u { stage = stage } in
         let is : new ≡ record { talk = talk; kept = [] } =
         seen_as talk new (sym (ap (λ (p : Talk × Event). p.0) h)) none in
         let event : e ≡ events.Say (record { items = request_bytes request }) =
@@ -260,11 +260,13 @@ module _ (places : Places) (differ : Differ places) (codes_are : (k : ℕ) (p : 
     -- where a DATA or FETCH is answered by `OK`
     next_talks : (t : Taking) (new : Listening) (left taken : List ℕ) (e : Event) (k : ℕ) (o : Option Wanted)
         → AreCalled places t.client.talk.wants → session.state.phase ≡ Granted k → IsAnswered taken t.to_server
-        → want_at t.client.talk.wants (k + 1) ≡ o → to_place o (k + 1) t.client.talk ≡ (new.talk, e) → new.kept ≡ []
-        → left ≡ [] → ((i : ℕ) → IsSuited (next_at t.client.talk.wants i) (grant_at session.state.grants i) [])
+        → want_at t.client.talk.wants (k + 1) ≡ o
+        → to_place o (k + 1) (heard (Reply (codes "OK")) t.client.talk) ≡ (new.talk, e) → new.kept ≡ [] → left ≡ []
+        → ((i : ℕ) → IsSuited (next_at t.client.talk.wants i) (grant_at session.state.grants i) [])
         → (¬ (session.state.phase ≡ Closed) → IsHeld session.held taken) → ClientTalks new (Way t new e) left
     next_talks t new left taken e k None called phase reported want written none gone suited held =
-        written_talks t new Packets requests.End e left taken written none gone tt tt called suited held
+        written_talks t (heard (Reply (codes "OK")) t.client.talk) new Packets requests.End e left taken written none
+        gone tt tt called suited held
         (asks_end k refl phase (asks_more (request_line requests.End) taken t.to_server end_line reported) refl)
     next_talks t new left taken e k (Some w) called phase reported want written none gone suited held =
         let q : (p : Fields × Option ℕ) × (slice_get places (k + 1) ≡ Some p) × (w.place ≡ p.0) =
@@ -272,9 +274,8 @@ module _ (places : Places) (differ : Differ places) (codes_are : (k : ℕ) (p : 
         (slice_get places (k + 1)) w (called.alike (k + 1)) want in
         let fields : IsField 5 w.place.station × IsField 2 w.place.network =
         subst (λ (f : Fields). IsField 5 f.station × IsField 2 f.network) (sym q.2) (codes_are (k + 1) q.0 q.1) in
-        written_talks t new (Station (k + 1)) (requests.Station w.place) e left taken written none gone tt tt called
-        suited
-        held
+        written_talks t (heard (Reply (codes "OK")) t.client.talk) new (Station (k + 1)) (requests.Station w.place) e
+        left taken written none gone tt tt called suited held
         (asks_place (k + 1) w refl want (inr (k, refl, phase))
         (asks_more (request_line (requests.Station w.place)) taken t.to_server
         (station_line w.place fields.0 fields.1) reported) refl)
@@ -292,7 +293,8 @@ module _ (places : Places) (differ : Differ places) (codes_are : (k : ℕ) (p : 
             let first = first_read (Station k) t.client bytes left w (Reply (codes "OK")) Accepted [] (new.talk, e)
             stage (l.flows.flow ∙ ap way_bytes one) accepted_whole is h in
             let request : Request = numbered t.client.talk.mode (next_at t.client.talk.wants k) in
-            written_talks t new (Number k) request e left l.taken first.0 none first.1 tt tt called
+            written_talks t (heard (Reply (codes "OK")) t.client.talk) new (Number k) request e left l.taken first.0
+            none first.1 tt tt called
             (reply_suited t.client (bytes ++ left) l.items Accepted one (λ i. refl) l.flows) l.held
             (asks_number k refl phase
             (asks_more (request_line request) l.taken t.to_server
@@ -316,9 +318,10 @@ module _ (places : Places) (differ : Differ places) (codes_are : (k : ℕ) (p : 
         refused_talks stage reported one is h =
             let first = first_read (Number k) t.client bytes left w (Reply (codes "ERROR")) Refused [] (new.talk, e)
             stage (l.flows.flow ∙ ap way_bytes one) refused_whole is h in
-            ended_talks t.client.talk new (endings.Refused k) (Way t new e) left
+            let u : Talk = heard (Reply (codes "ERROR")) t.client.talk in
+            ended_talks u new (endings.Refused k) (Way t new e) left
             (sym (ap (λ (p : Talk × Event). p.0) first.0)) tt called
-            (ended_quiet t new (endings.Refused k) e first.0 (l.taken, λ awake. (l.held awake, reported)))
+            (ended_quiet t u new (endings.Refused k) e first.0 (l.taken, λ awake. (l.held awake, reported)))
 
     -- a packet comes
     packet_talks : (t : Taking) (new : Listening) (bytes left : List ℕ) (e : Event) (w : Whole) (k n : ℕ) (r : List ℕ)
@@ -344,13 +347,14 @@ module _ (places : Places) (differ : Differ places) (codes_are : (k : ℕ) (p : 
         ((n, r) ∷ of_place k rest) =
         subst (IsSuited (next_at t.client.talk.wants k) (grant_at session.state.grants k)) of_k
         (l.flows.suited k) in
-        let written : reported k m r t.client.talk ≡ (new.talk, e) =
-        sym (wanted_reported (next_at t.client.talk.wants k) k m r t.client.talk
+        let u : Talk = heard (Packet m r) t.client.talk in
+        let written : reported k m r u ≡ (new.talk, e) =
+        sym (wanted_reported (next_at t.client.talk.wants k) k m r u
         (some_if (next_at t.client.talk.wants k) m
         (suited_wanted (next_at t.client.talk.wants k) (grant_at session.state.grants k) n r (of_place k rest)
         suited_k)))
-        ∙ (sym (ap (λ (o : Option ℕ). at_packet o m r t.client.talk) found.0) ∙ first.0) in
-        let talk : Talk = record t.client.talk { wants = with_next t.client.talk.wants k x } in
+        ∙ (sym (ap (λ (o : Option ℕ). at_packet o m r u) found.0) ∙ first.0) in
+        let talk : Talk = record u { wants = with_next t.client.talk.wants k x } in
         let now : new ≡ record { talk = talk; kept = [] } =
         seen_as talk new (sym (ap (λ (p : Talk × Event). p.0) written)) none in
         let event : e ≡ events.Record k m r = sym (ap (λ (p : Talk × Event). p.1) written) in
@@ -407,8 +411,9 @@ module _ (places : Places) (differ : Differ places) (codes_are : (k : ℕ) (p : 
     end_talks t new bytes left e w rest l called stage answered one is h =
         let first = first_read Packets t.client bytes left w End Finished rest (new.talk, e) stage
         (l.flows.flow ∙ ap way_bytes one) refl is h in
-        ended_talks t.client.talk new endings.End (Way t new e) left (sym (ap (λ (p : Talk × Event). p.0) first.0)) tt
-        called (ended_quiet t new endings.End e first.0 (l.taken, λ awake. (l.held awake, answered awake)))
+        let u : Talk = heard End t.client.talk in
+        ended_talks u new endings.End (Way t new e) left (sym (ap (λ (p : Talk × Event). p.0) first.0)) tt called
+        (ended_quiet t u new endings.End e first.0 (l.taken, λ awake. (l.held awake, answered awake)))
 
     nothing_talks : (t : Taking) (new : Listening) (bytes left way : List ℕ) (w : Whole)
         (l : LinkTalks places t.client session t.to_server (bytes ++ left)) → l.items ≡ []

@@ -12,7 +12,7 @@ use Rattle.slink_feed.specs.declared.dialogue.Event.{Event}
 use Rattle.slink_feed.specs.declared.dialogue.Event.TheVariants as events
 use Rattle.slink_feed.specs.declared.dialogue.Wanted.{Wanted}
 use Rattle.slink_feed.specs.declared.grant.Grant.{Grant}
-use Rattle.slink_feed.specs.Dialogue.{Talk, Wants, place_of, is_of_wanted, next_at, next_set, want_at, with_next}
+use Rattle.slink_feed.specs.Dialogue.{Wants, place_of, is_of_wanted, next_at, next_set, want_at, with_next}
 use Rattle.slink_feed.specs.Listening.{Brings, IsLinked, Listening}
 use Rattle.slink_feed.specs.Session.{State, grant_at}
 use Rattle.slink_feed.proofs.Reporting.{kept_event}
@@ -296,18 +296,18 @@ module _ (places : Places) (first : ℕ) (pushed : Lists) (state : State) (first
 
   outcome_ties : (client new : Listening) (held held' : Lists) (start start' : Numbers) (way piece left : List ℕ)
       (e : Event) → (c : ClientTies client held start (piece ++ left)) → IsLinked client.talk.stage
-      → Outcome client.talk c.link.items (client.kept ++ piece) left new e → new.talk.holes ≡ client.talk.holes
+      → Outcome client.talk.wants c.link.items (client.kept ++ piece) left new e → new.talk.holes ≡ client.talk.holes
       → (reported_of e ≡ None → (held' ≡ held) × (start' ≡ start))
       → ((a : Reported) → reported_of e ≡ Some a → (held' ≡ with_one held a.index a.bytes)
       × (start' ≡ with_first start a.index (number_at first_sent a.index)))
       → ClientTies new held' start' left
-  outcome_ties client new held held' start start' way piece left e c linked (waits same quiet) holes stays
+  outcome_ties client new held held' start start' way piece left e c linked (waits wants kept quiet) holes stays
       takes_it =
       let flow : (client.kept ++ piece) ++ left ≡ way_bytes c.link.items = append_assoc client.kept piece left
       ∙ c.link.flow linked in
       let done : ClientTies new held start left =
-      quiet_ties client new held start (piece ++ left) left (ap (λ (x : Listening). x.talk.wants) same) holes c
-      c.link.items c.link.are_whole (λ l. ap (λ (x : Listening). x.kept ++ left) same ∙ flow) c.link (λ k. refl) in
+      quiet_ties client new held start (piece ++ left) left wants holes c
+      c.link.items c.link.are_whole (λ l. ap (λ k. k ++ left) kept ∙ flow) c.link (λ k. refl) in
       subst (λ s. ClientTies new held' s left) (sym (stays quiet).1)
       (subst (λ h. ClientTies new h start left) (sym (stays quiet).0) done)
   outcome_ties client new held held' start start' way piece left e c linked (says rest is flow wants none quiet) holes
@@ -317,18 +317,17 @@ module _ (places : Places) (first : ℕ) (pushed : Lists) (state : State) (first
       (λ l. ap (λ k. k ++ left) none ∙ flow) c.link (λ k. sym (ap (of_place k) is)) in
       subst (λ s. ClientTies new held' s left) (sym (stays quiet).1)
       (subst (λ h. ClientTies new h start left) (sym (stays quiet).0) done)
-  outcome_ties client new held held' start start' way piece left e c linked (ends ending talk none quiet) holes
+  outcome_ties client new held held' start start' way piece left e c linked (ends ending stage wants none quiet) holes
       stays takes_it =
       let done : ClientTies new held start left =
-      quiet_ties client new held start (piece ++ left) left (ap (λ (x : Talk). x.wants) talk) holes c c.link.items
-      c.link.are_whole (λ l. absurd (subst (λ (x : Talk). IsLinked x.stage) talk l)) c.link (λ k. refl) in
+      quiet_ties client new held start (piece ++ left) left wants holes c c.link.items c.link.are_whole
+      (λ l. absurd (subst IsLinked stage l)) c.link (λ k. refl) in
       subst (λ s. ClientTies new held' s left) (sym (stays quiet).1)
       (subst (λ h. ClientTies new h start left) (sym (stays quiet).0) done)
   outcome_ties client new held held' start start' way piece left e c linked
-      (takes k j n r rest is flow bears wanted talk none reported) holes stays takes_it =
+      (takes k j n r rest is flow bears wanted wants none reported) holes stays takes_it =
       let done : ClientTies new (with_one held j r) (with_first start j (number_at first_sent j)) left
-      = taken_ties client new held start (piece ++ left) left k j n r rest c is flow bears wanted
-      (ap (λ (x : Talk). x.wants) talk) holes none in
+      = taken_ties client new held start (piece ++ left) left k j n r rest c is flow bears wanted wants holes none in
       let it : (held' ≡ with_one held j r) × (start' ≡ with_first start j (number_at first_sent j)) =
       takes_it (record { index = j; number = n % 2 ^ 24; bytes = r }) reported in
       subst (λ s. ClientTies new held' s left) (sym it.1)
@@ -343,7 +342,7 @@ module _ (places : Places) (first : ℕ) (pushed : Lists) (state : State) (first
       let u : Taking = record t { client = now } in
       let flow : (t.client.kept ++ piece) ++ left ≡ way_bytes c.link.items = append_assoc t.client.kept piece left
       ∙ c.link.flow linked in
-      let out : Outcome t.client.talk c.link.items (t.client.kept ++ piece) left now e =
+      let out : Outcome t.client.talk.wants c.link.items (t.client.kept ++ piece) left now e =
       outcome t.client.talk (t.client.kept ++ piece) left now e c.plain c.link.items c.link.are_whole flow brings in
       subst (λ (x : Listening). ClientTies x (noted first_sent e u).held (noted first_sent e u).start left)
       (sym (same_client first_sent e u))

@@ -3,7 +3,7 @@
 -- how
 -- many bytes of each were taken. There is no ring, no buffer, and no part of a line, a reply or a packet.
 use Rattle.std.specs.Prelude.{◌≡◌, ℕ, Bool, true, false, not, min, ◌+◌, ◌-◌, ◌*◌, ◌%◌, ◌^◌, ◌≤◌, ◌&&◌, List, [], ◌∷◌}
-use Rattle.std.specs.Prelude.{◌++◌, length, map, take, drop, replicate, Option, Some, None, option_map, nat_le}
+use Rattle.std.specs.Prelude.{◌++◌, length, map, take, drop, replicate, codes, Option, Some, None, option_map, nat_le}
 use Rattle.std.specs.Prelude.{unwrap_or, slice_get, if◌then◌else◌}
 use Rattle.slink_wire.specs.Lines.{IsHeld}
 use Rattle.slink_wire.specs.Place.{Fields}
@@ -13,7 +13,7 @@ use Rattle.slink_feed.specs.declared.dialogue.Ending.TheVariants as endings
 use Rattle.slink_feed.specs.declared.dialogue.Event.{Event}
 use Rattle.slink_feed.specs.declared.dialogue.Event.TheVariants as events
 use Rattle.slink_feed.specs.declared.dialogue.Stage.{Stage}
-use Rattle.slink_feed.specs.declared.dialogue.Stage.TheVariants.{Unlinked, Station, Number, Packets}
+use Rattle.slink_feed.specs.declared.dialogue.Stage.TheVariants.{Station, Number, Packets}
 use Rattle.slink_feed.specs.declared.grant.Grant.{Grant}
 use Rattle.slink_feed.specs.declared.session.Phase.TheVariants.{Fresh, Streaming, Closed}
 use Rattle.slink_feed.specs.declared.session.Sent.{Sent}
@@ -21,8 +21,9 @@ use Rattle.slink_feed.specs.declared.session.Sent.TheVariants as sents
 use Rattle.slink_model.specs.declared.world.Setup.{Setup}
 use Rattle.slink_model.specs.declared.world.Step.{Step}
 use Rattle.slink_model.specs.declared.world.Step.TheVariants.{Append, Connect, ToServer, ToClient, Send, Cut}
-use Rattle.slink_feed.specs.Dialogue.{Talk, ended, next_at, requests_number, requests_place, reported, wants_of}
-use Rattle.slink_feed.specs.Listening.{IsLinked}
+use Rattle.slink_feed.specs.Dialogue.{End, Packet, Reply as Heard, Talk, ended, heard, next_at, requests_number}
+use Rattle.slink_feed.specs.Dialogue.{requests_place, reported}
+use Rattle.slink_feed.specs.Listening.{IsLinked, new_client}
 use Rattle.slink_feed.specs.Session.{Grants, State, called, at, chosen, grant_at, sent}
 use Rattle.slink_model.specs.Ties.{Item, Accepted, Refused, Carried, Finished, item_bytes, items_of, way_bytes}
 use Rattle.slink_feed.specs.Window.{Window, record_at, window}
@@ -129,12 +130,12 @@ part d (i ∷ is) = if nat_le (length (item_bytes i)) d then part (d - length (i
 -- link;
 -- a packet brings a record of its station, and the number after it is wanted next.
 abbrev pub on_item : Stage → Item → Talk → Talk × Event
-on_item (Station k) Accepted t = requests_number k t
-on_item (Station k) Refused t = ended (endings.Refused k) t
-on_item (Number k) Accepted t = requests_place (k + 1) t
-on_item (Number k) Refused t = ended (endings.Refused k) t
-on_item Packets (Carried k n r) t = reported k (n % 2 ^ 24) r t
-on_item Packets Finished t = ended endings.End t
+on_item (Station k) Accepted t = requests_number k (heard (Heard (codes "OK")) t)
+on_item (Station k) Refused t = ended (endings.Refused k) (heard (Heard (codes "ERROR")) t)
+on_item (Number k) Accepted t = requests_place (k + 1) (heard (Heard (codes "OK")) t)
+on_item (Number k) Refused t = ended (endings.Refused k) (heard (Heard (codes "ERROR")) t)
+on_item Packets (Carried k n r) t = reported k (n % 2 ^ 24) r (heard (Packet (n % 2 ^ 24) r) t)
+on_item Packets Finished t = ended endings.End (heard End t)
 on_item stage item t = (t, events.None)
 
 abbrev pub talk_upon : Talk → List Item → Talk
@@ -211,7 +212,7 @@ counted_after setup c (step ∷ steps) = counted_after setup (counted_step setup
 abbrev pub counted_opening : Setup → Counted
 counted_opening setup = record {
   pushed = map (λ p. []) setup.places.items;
-  talk = record { mode = setup.mode; wants = wants_of setup.places.items; stage = Unlinked; holes = false };
+  talk = (new_client setup.places.items setup.mode false).talk;
   held = map (λ p. []) setup.places.items;
   start = map (λ p. None) setup.places.items;
   link = None;

@@ -14,7 +14,7 @@ use Rattle.slink_feed.specs.declared.grant.Grant.{Grant}
 use Rattle.slink_feed.specs.declared.dialogue.Wanted.{Wanted}
 use Rattle.slink_feed.specs.declared.session.Phase.{Phase}
 use Rattle.slink_feed.specs.declared.session.Phase.TheVariants.{Streaming, Closed}
-use Rattle.slink_feed.specs.Dialogue.{Talk, Wants, place_of, next_at, want_at, with_next}
+use Rattle.slink_feed.specs.Dialogue.{Wants, place_of, next_at, want_at, with_next}
 use Rattle.slink_feed.specs.Listening.{IsLinked, Listening}
 use Rattle.slink_feed.specs.Session.{State, grant_at, IsBefore}
 use Rattle.slink_feed.specs.Window.{Shows, Window, oldest_of}
@@ -102,17 +102,18 @@ abbrev pub reported_of : Event → Option Reported
 reported_of (events.Record k number bytes) = Some (record { index = k; number = number; bytes = bytes })
 reported_of event = None
 
--- what comes of bytes that a client takes
-pub data Outcome (t : Talk) (items : List Item) (bytes way : List ℕ) (new : Listening) (e : Event) : Type 0 where
-  waits : new ≡ record { talk = t; kept = bytes } → reported_of e ≡ None → Outcome t items bytes way new e
-  says : (rest : List Item) → items ≡ Accepted ∷ rest → way ≡ way_bytes rest → new.talk.wants ≡ t.wants → new.kept ≡ []
-      → reported_of e ≡ None → Outcome t items bytes way new e
+-- what comes of bytes that a client takes, which wants this
+pub data Outcome (wants : Wants) (items : List Item) (bytes way : List ℕ) (new : Listening) (e : Event) : Type 0 where
+  waits : new.talk.wants ≡ wants → new.kept ≡ bytes → reported_of e ≡ None → Outcome wants items bytes way new e
+  says : (rest : List Item) → items ≡ Accepted ∷ rest → way ≡ way_bytes rest → new.talk.wants ≡ wants → new.kept ≡ []
+      → reported_of e ≡ None → Outcome wants items bytes way new e
   takes : (k j n : ℕ) (r : List ℕ) (rest : List Item) → items ≡ Carried k n r ∷ rest → way ≡ way_bytes rest
-      → place_of t.wants r ≡ Some j → ((w : ℕ) → next_at t.wants j ≡ Some w → n % 2 ^ 24 ≡ w)
-      → new.talk ≡ record t { wants = with_next t.wants j ((n % 2 ^ 24 + 1) % 2 ^ 24) } → new.kept ≡ []
-      → reported_of e ≡ Some (record { index = j; number = n % 2 ^ 24; bytes = r }) → Outcome t items bytes way new e
-  ends : (ending : Ending) → new.talk ≡ record t { stage = Ended ending } → new.kept ≡ [] → reported_of e ≡ None
-      → Outcome t items bytes way new e
+      → place_of wants r ≡ Some j → ((w : ℕ) → next_at wants j ≡ Some w → n % 2 ^ 24 ≡ w)
+      → new.talk.wants ≡ with_next wants j ((n % 2 ^ 24 + 1) % 2 ^ 24) → new.kept ≡ []
+      → reported_of e ≡ Some (record { index = j; number = n % 2 ^ 24; bytes = r })
+      → Outcome wants items bytes way new e
+  ends : (ending : Ending) → new.talk.stage ≡ Ended ending → new.talk.wants ≡ wants → new.kept ≡ []
+      → reported_of e ≡ None → Outcome wants items bytes way new e
 
 -- the records that are carried are of these stations, and have 512 bytes
 abbrev pub AreWhole : List Item → Type 0

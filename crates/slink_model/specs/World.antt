@@ -6,7 +6,6 @@ use Rattle.slink_wire.specs.Lines.{IsHeld}
 use Rattle.slink_wire.specs.Place.{Fields, Bears}
 use Rattle.slink_feed.specs.declared.dialogue.Event.{Event}
 use Rattle.slink_feed.specs.declared.dialogue.Event.TheVariants as events
-use Rattle.slink_feed.specs.declared.dialogue.Stage.TheVariants.{Unlinked}
 use Rattle.slink_feed.specs.declared.grant.Grant.{Grant}
 use Rattle.slink_feed.specs.declared.session.Phase.TheVariants.{Fresh}
 use Rattle.slink_feed.specs.declared.session.Sent.{Sent}
@@ -16,8 +15,8 @@ use Rattle.slink_model.specs.declared.world.Setup.{Setup}
 use Rattle.slink_model.specs.declared.world.Step.{Step}
 use Rattle.slink_model.specs.declared.world.Step.TheVariants.{Append, Connect, ToServer, ToClient, Send, Cut}
 use Rattle.slink_model.specs.declared.world.World.{World}
-use Rattle.slink_feed.specs.Dialogue.{requests_place, wants_of}
-use Rattle.slink_feed.specs.Listening.{Brings, IsLinked, Listening}
+use Rattle.slink_feed.specs.Dialogue.{requests_place}
+use Rattle.slink_feed.specs.Listening.{Brings, IsLinked, Listening, new_client}
 use Rattle.slink_feed.specs.Serving.{SessionState, Serves}
 use Rattle.slink_feed.specs.Session.{Grants, at, grant_at, sent, sent_bytes}
 use Rattle.slink_feed.specs.Window.{Window, with_record}
@@ -188,10 +187,7 @@ abbrev pub opening : Setup → WorldState
 opening setup = record {
   windows = map (empty_window setup) setup.places.items;
   pushed = map (λ p. []) setup.places.items;
-  client = record {
-    talk = record { mode = setup.mode; wants = wants_of setup.places.items; stage = Unlinked; holes = false };
-    kept = [];
-  };
+  client = new_client setup.places.items setup.mode false;
   held = map (λ p. []) setup.places.items;
   start = map (λ p. None) setup.places.items;
   link = None;

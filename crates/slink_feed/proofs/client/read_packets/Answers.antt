@@ -9,5 +9,5 @@ returns-clause-brings c = elim c.match-part.branch [
   | in-End w ↦ end_brings c.args.dialogue.now _ _ _ c.clear.new.self.items _ _ _ c.requires.stage c.requires.part
       w.in-End.is w.end-event.ensures.read w.dialogue-is w.event-is c.clear.ensures
   | in-Garbage w ↦ garbage_brings c.args.dialogue.now _ _ _ c.clear.new.self.items _ _ _ c.requires.stage
-      c.requires.part w.in-Garbage.is w.end-event-in-Garbage.ensures.read w.dialogue-is w.event-is c.clear.ensures
+      c.requires.part w.in-Garbage.is w.read_garbage-event.ensures.read w.dialogue-is w.event-is c.clear.ensures
 ]
