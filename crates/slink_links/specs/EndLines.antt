@@ -1,9 +1,10 @@
 -- What is reported at the end of a fetch: a line that says how it ended, and one more that says why.
-use Rattle.std.specs.Prelude.{◌≡◌, ℕ, List, [], ◌∷◌, ◌++◌, Option, Some, None, codes, decimal, length, nat_le, take}
+use Rattle.std.specs.Prelude.{◌≡◌, ℕ, ◌==◌, List, [], ◌∷◌, ◌++◌, Option, Some, None, bytes_eq, codes, decimal}
 use Rattle.std.specs.Prelude.{IsUtf8, if◌then◌else◌}
 use Rattle.std.specs.Option.{option_map}
 use Rattle.std.specs.Net.Text.{ipv4_text}
 use Rattle.mseed_text.specs.Name.{code_text}
+use Rattle.mseed_text.specs.Shown.{shown}
 use Rattle.mseed_stream.specs.Device.{BytesWritten}
 use Rattle.mseed_stream.specs.LineWritten.{WritesLine}
 use Rattle.slink_wire.specs.Hexadecimal.{hexadecimal}
@@ -11,7 +12,7 @@ use Rattle.slink_wire.specs.Hosts.{name_of}
 use Rattle.slink_wire.specs.Place.{label_of}
 use Rattle.slink_wire.specs.declared.host.Host.{Host}
 use Rattle.slink_wire.specs.declared.host.Host.TheVariants as hosts
-use Rattle.slink_feed.specs.Dialogue.{Talk, Wants, want_at}
+use Rattle.slink_feed.specs.Dialogue.{Talk, want_at}
 use Rattle.slink_feed.specs.Endings.{ending_at}
 use Rattle.slink_feed.specs.Reporter.{AreReported, named_number}
 use Rattle.slink_feed.specs.declared.dialogue.Ending.{Ending}
@@ -24,24 +25,33 @@ use Rattle.slink_links.specs.declared.plan.Server.{Server}
 use Rattle.slink_links.specs.declared.trouble.Trouble.{Trouble}
 use Rattle.slink_links.specs.declared.trouble.Trouble.TheVariants.{Undialled, Lost}
 
--- a station that the server refused, with the number that was wanted, if one was
-abbrev pub refused_line : Wanted → List ℕ
-refused_line w = codes "mseed: " ++ label_of w.place ++ named_number (codes " from ") w.next
-    ++ codes ": the server refuses it\n"
+-- what a reply says, where it is more than that it refuses: none is left out, too
+abbrev pub reply_words : List ℕ → List ℕ
+reply_words [] = []
+reply_words reply = if bytes_eq reply (codes "ERROR") then [] else codes ": " ++ shown reply
+
+-- a line about the reply to a station, with the number that was wanted, if one was
+abbrev pub reply_line : List ℕ → Wanted → List ℕ → List ℕ
+reply_line words w reply = codes "mseed: " ++ label_of w.place ++ named_number (codes " from ") w.next ++ words
+    ++ reply_words reply ++ codes "\n"
+
+-- a station that the server refused
+abbrev pub refused_line : Wanted → List ℕ → List ℕ
+refused_line w reply = reply_line (codes ": the server refuses it") w reply
 
 -- a station of which another record came than the one that was wanted
 abbrev pub gap_line : ℕ → ℕ → Wanted → List ℕ
 gap_line want got w = codes "mseed: " ++ label_of w.place ++ codes ": record " ++ hexadecimal 6 want
     ++ codes " was wanted, and " ++ hexadecimal 6 got ++ codes " came\n"
 
--- a station about which no reply came that says whether it is granted, with the number that was wanted, if one was
-abbrev pub unanswered_line : Wanted → List ℕ
-unanswered_line w = codes "mseed: " ++ label_of w.place ++ named_number (codes " from ") w.next
-    ++ codes ": the reply is neither OK nor ERROR\n"
+-- a station about which no reply came that says whether it is granted
+abbrev pub unanswered_line : Wanted → List ℕ → List ℕ
+unanswered_line w reply = reply_line (codes ": the reply is neither OK nor ERROR") w reply
 
--- bytes that begin no packet, and aren't the end
-abbrev pub garbage_line : List ℕ
-garbage_line = codes "mseed: bytes came that are neither a packet nor the end\n"
+-- bytes that begin no packet, and aren't the end, after so many packets
+abbrev pub garbage_line : ℕ → List ℕ
+garbage_line packets = codes "mseed: bytes came that are neither a packet nor the end, after " ++ decimal packets
+    ++ (if packets == 1 then codes " packet\n" else codes " packets\n")
 
 -- a record of another station, by the codes of its header
 abbrev pub foreign_line : List ℕ → List ℕ → List ℕ
@@ -49,32 +59,28 @@ foreign_line station network = codes "mseed: a record of " ++ code_text network 
     ++ codes " came, which is none of the stations\n"
 
 -- what more is said of the end that a client has come to
-abbrev pub line_by : Wants → Option Ending → Option (List ℕ)
-line_by wants None = None
-line_by wants (Some endings.End) = None
-line_by wants (Some (endings.Refused k)) = option_map refused_line (want_at wants k)
-line_by wants (Some (endings.Gap k want got)) = option_map (gap_line want got) (want_at wants k)
-line_by wants (Some (endings.Unanswered k)) = option_map unanswered_line (want_at wants k)
-line_by wants (Some endings.Garbage) = Some garbage_line
-line_by wants (Some (endings.Foreign station network)) = Some (foreign_line station network)
+abbrev pub line_by : Talk → Option Ending → Option (List ℕ)
+line_by t None = None
+line_by t (Some endings.End) = None
+line_by t (Some (endings.Refused k)) = option_map (λ w. refused_line w t.reply) (want_at t.wants k)
+line_by t (Some (endings.Gap k want got)) = option_map (gap_line want got) (want_at t.wants k)
+line_by t (Some (endings.Unanswered k)) = option_map (λ w. unanswered_line w t.reply) (want_at t.wants k)
+line_by t (Some endings.Garbage) = Some (garbage_line t.packets)
+line_by t (Some (endings.Foreign station network)) = Some (foreign_line station network)
 
 abbrev pub ending_line : Talk → Option (List ℕ)
-ending_line t = line_by t.wants (ending_at t.stage)
+ending_line t = line_by t (ending_at t.stage)
 
 -- a line, and one more if there is one
 abbrev pub with_more : List ℕ → Option (List ℕ) → List (List ℕ)
 with_more line None = line ∷ []
 with_more line (Some more) = line ∷ more ∷ []
 
--- of more than 60 bytes the first 57, and three dots
-abbrev pub shown_name : List ℕ → List ℕ
-shown_name given = if nat_le (length given) 60 then given else take 57 given ++ codes "..."
-
 -- a host as it is shown: an address as it is written, or the name that was given
 abbrev pub IsShownHost : Host → List ℕ → Type 0
 IsShownHost (hosts.Address address) text = text ≡ ipv4_text address.octets
 IsShownHost (hosts.Name name) text = (given : List ℕ) × IsUtf8 given × (name_of given ≡ Some name)
-    × (text ≡ shown_name given)
+    × (text ≡ shown given)
 
 -- a line about a server, by what stands before its host and what after its port
 abbrev pub server_line : List ℕ → List ℕ → ℕ → List ℕ → List ℕ

@@ -3,8 +3,8 @@ ghost use Rattle.std.specs.Prelude.{◌≡◌, ◌≤◌, ◌+◌, ◌++◌, Lis
 ghost use Rattle.std.specs.Net.Text.{ipv4_text};
 ghost use Rattle.slink_feed.specs.Reporter.{AreReported, named_number};
 ghost use Rattle.slink_links.specs.EndLines.{IsShownHost, ReportsLinkFailed, ReportsOfFetch, ReportsTrouble};
-ghost use Rattle.slink_links.specs.EndLines.{ending_line, foreign_line, gap_line, garbage_line, outcome, refused_line};
-ghost use Rattle.slink_links.specs.EndLines.{server_line, shown_name, trouble_line, unanswered_line, with_more};
+ghost use Rattle.slink_links.specs.EndLines.{ending_line, foreign_line, gap_line, garbage_line, outcome, reply_line};
+ghost use Rattle.slink_links.specs.EndLines.{reply_words, server_line, trouble_line, with_more};
 
 use crate::fetching::FetchEnd;
 use crate::plan::Server;
@@ -13,6 +13,12 @@ use mseed_stream::{Sink, report};
 use mseed_text::Line;
 use slink_feed::{Client, Ending, Wanted};
 use slink_wire::{Address, Host, six_digits};
+
+/// What is said of a reply that begins with `ERROR`.
+const REFUSES: &[u8] = b": the server refuses it";
+
+/// What is said of a reply that neither grants a station nor refuses it.
+const IS_NEITHER: &[u8] = b": the reply is neither OK nor ERROR";
 
 /// Reports how a fetch ended from a server, and why: by what went wrong in the last try, if one was made, and by what
 /// the client has come to.
@@ -51,24 +57,39 @@ fn ending_line(client: &Client) -> Option<Line>
 {
     match client.ending()? {
         Ending::End => None,
-        Ending::Refused(k) => Some(refused_line(&client.wanted(k)?)),
+        Ending::Refused(k) => Some(reply_line(REFUSES, &client.wanted(k)?, client.reply())),
         Ending::Gap { place, want, got } => Some(gap_line(want, got, &client.wanted(place)?)),
-        Ending::Unanswered(k) => Some(unanswered_line(&client.wanted(k)?)),
-        Ending::Garbage => Some(garbage_line()),
+        Ending::Unanswered(k) => Some(reply_line(IS_NEITHER, &client.wanted(k)?, client.reply())),
+        Ending::Garbage => Some(garbage_line(client.packets())),
         Ending::Foreign { station, network } => Some(foreign_line(&station, &network)),
     }
 }
 
-/// The line of a station that the server refused.
-fn refused_line(wanted: &Wanted) -> Line
-    ensures { result ≡ refused_line wanted.now }
+/// A line about the reply to a station, by the words before what the reply says.
+fn reply_line(words: &[u8], wanted: &Wanted, reply: &[u8]) -> Line
+    requires { length words.now ≤ 40 }
+    ensures { result ≡ reply_line words.now wanted.now reply.now }
 {
     let mut line = Line::new();
     line.put(b"mseed: ");
     line.put(wanted.place.label().as_slice());
     put_number(&mut line, b" from ", wanted.next);
-    line.put(b": the server refuses it\n");
+    line.put(words);
+    put_reply(&mut line, reply);
+    line.put(b"\n");
     line
+}
+
+/// Puts what a reply says at the end of a line, where it is more than that it refuses.
+fn put_reply(line: &mut Line, reply: &[u8])
+    requires { length line.old ≤ 128 }
+    ensures text { line.new ≡ line.old ++ reply_words reply.now }
+    ensures most { length line.new ≤ length line.old + 62 }
+{
+    if !reply.is_empty() && reply != &b"ERROR"[..] {
+        line.put(b": ");
+        line.put_shown(reply);
+    }
 }
 
 /// Puts a number at the end of a line, after its name, where it is known.
@@ -98,24 +119,18 @@ fn gap_line(want: u32, got: u32, wanted: &Wanted) -> Line
     line
 }
 
-/// The line of a station about which no reply came that says whether it is granted.
-fn unanswered_line(wanted: &Wanted) -> Line
-    ensures { result ≡ unanswered_line wanted.now }
+/// The line of bytes that begin no packet, and aren't the end, after so many packets.
+fn garbage_line(packets: u64) -> Line
+    ensures { result ≡ garbage_line packets }
 {
     let mut line = Line::new();
-    line.put(b"mseed: ");
-    line.put(wanted.place.label().as_slice());
-    put_number(&mut line, b" from ", wanted.next);
-    line.put(b": the reply is neither OK nor ERROR\n");
-    line
-}
-
-/// The line of bytes that begin no packet, and aren't the end.
-fn garbage_line() -> Line
-    ensures { result ≡ garbage_line }
-{
-    let mut line = Line::new();
-    line.put(b"mseed: bytes came that are neither a packet nor the end\n");
+    line.put(b"mseed: bytes came that are neither a packet nor the end, after ");
+    line.put_count(packets);
+    if packets == 1 {
+        line.put(b" packet\n");
+    } else {
+        line.put(b" packets\n");
+    }
     line
 }
 
@@ -198,21 +213,7 @@ fn put_host(line: &mut Line, host: &Host)
 {
     match host {
         Host::Address(address) => put_address(line, *address),
-        Host::Name(name) => put_name(line, name.text().as_bytes()),
-    }
-}
-
-/// Puts a name at the end of a line, as it is shown.
-fn put_name(line: &mut Line, name: &[u8])
-    requires { length line.old ≤ 64 }
-    ensures text { line.new ≡ line.old ++ shown_name name.now }
-    ensures most { length line.new ≤ length line.old + 60 }
-{
-    if name.len() <= 60 {
-        line.put(name);
-    } else {
-        line.put(&name[..57]);
-        line.put(b"...");
+        Host::Name(name) => line.put_shown(name.text().as_bytes()),
     }
 }
 

@@ -185,18 +185,24 @@ fn goes_on_after_the_last_record(rt: HostRuntime) {
 /// The lines of a fetch whose station is refused, and of one that is answered otherwise.
 const REFUSED: &[u8] = b"mseed: refused\nmseed: XX_STA from 000001: the server refuses it\n";
 
+const BUSY: &[u8] =
+    b"mseed: refused\nmseed: XX_STA from 000001: the server refuses it: ERROR busy\n";
+
 const UNANSWERED: &[u8] =
+    b"mseed: bad feed\nmseed: XX_STA from 000001: the reply is neither OK nor ERROR: OKAY\n";
+
+const EMPTY: &[u8] =
     b"mseed: bad feed\nmseed: XX_STA from 000001: the reply is neither OK nor ERROR\n";
 
 const GARBAGE: &[u8] =
-    b"mseed: bad feed\nmseed: bytes came that are neither a packet nor the end\n";
+    b"mseed: bad feed\nmseed: bytes came that are neither a packet nor the end, after 0 packets\n";
 
 /// What the first of two links gives, or both packets; the room of the output, and the lines.
 static ENDS: [(Option<&[u8]>, usize, &[u8]); 6] = [
     (Some(b"ERROR\r\n"), ALL, REFUSED),
-    (Some(b"OK\r\nERROR\r\n"), ALL, REFUSED),
+    (Some(b"OK\r\nERROR busy\r\n"), ALL, BUSY),
     (Some(b"OKAY\r\n"), ALL, UNANSWERED),
-    (Some(b"OK\r\n\r\n"), ALL, UNANSWERED),
+    (Some(b"OK\r\n\r\n"), ALL, EMPTY),
     (Some(b"OK\r\nOK\r\nENX"), ALL, GARBAGE),
     (None, 511, b"mseed: write failed\n"),
 ];
