@@ -6,21 +6,23 @@ use std::io;
 use std::io::{Read, Write};
 use std::marker::Model;
 
-/// How many bytes are read at once, where they are there: few enough that a link, which holds them, fits several times
-/// into the stack that a program has from its beginning.
-const ROOM: usize = 1 << 13;
+/// How many bytes are read at once, where they are there.
+pub(crate) const ROOM: usize = 1 << 15;
+
+/// Room for the bytes that are read ahead, which is lent to one link after another.
+pub(crate) type Room = [u8; ROOM];
 
 /// A stream of which all that is there is read at once, and handed on piece by piece. It isn't called while something
 /// is left to hand on, so that a client that takes a packet at a time costs the system one read for many.
 #[derive(Drop)]
-pub(crate) struct Ahead<S> {
+pub(crate) struct Ahead<'a, S> {
     stream: S,
-    bytes: [u8; ROOM],
+    room: &'a mut Room,
     reported: usize,
     count: usize,
 }
 
-impl<S> Model for Ahead<S> {
+impl<'a, S> Model for Ahead<'a, S> {
     ghost Value = { S };
 
     ghost view = { λ a. a.stream };
@@ -28,14 +30,14 @@ impl<S> Model for Ahead<S> {
     ghost invariant = { λ a. (a.reported ≤ a.count) × (a.count ≤ ROOM) };
 }
 
-impl<S> Ahead<S> {
+impl<'a, S> Ahead<'a, S> {
     /// The stream, of which nothing was read ahead yet.
-    pub(crate) fn new(stream: S) -> Ahead<S>
+    pub(crate) fn new(stream: S, room: &'a mut Room) -> Ahead<'a, S>
         ensures { result ≡ stream }
     {
         Ahead {
             stream,
-            bytes: [0; ROOM],
+            room,
             reported: 0,
             count: 0,
         }
@@ -49,14 +51,22 @@ impl<S> Ahead<S> {
     }
 }
 
-impl<S: Read> Read for Ahead<S> {
+impl<'a, S: Drop> Ahead<'a, S> {
+    /// The room, for the next link. What was read ahead and isn't handed on is lost, and the stream is let go of.
+    pub(crate) fn into_room(self) -> &'a mut Room {
+        self.room
+    }
+}
+
+impl<S: Read> Read for Ahead<'_, S> {
     fn read(&mut self, buf: &mut [u8]) -> io::Result<usize> {
+        let room = &mut *self.room;
         if self.reported == self.count {
-            let count = self.stream.read(&mut self.bytes)?;
+            let count = self.stream.read(room)?;
             self.reported = 0;
             self.count = count;
         }
-        let held = &self.bytes[self.reported..self.count];
+        let held = &room[self.reported..self.count];
         let n = held.len().min(buf.len());
         buf[..n].copy_from_slice(&held[..n]);
         self.reported += n;
@@ -64,7 +74,7 @@ impl<S: Read> Read for Ahead<S> {
     }
 }
 
-impl<S: Write> Write for Ahead<S> {
+impl<S: Write> Write for Ahead<'_, S> {
     fn write(&mut self, bytes: &[u8]) -> io::Result<usize> {
         self.stream.write(bytes)
     }

@@ -8,18 +8,21 @@ use std::io::{Read, Write};
 use std::marker::Model;
 
 /// So many bytes are gathered at most: those of 63 packets.
-const ROOM: usize = 63 * PACKET;
+pub(crate) const ROOM: usize = 63 * PACKET;
+
+/// Room for the packets that are gathered, which is lent to one link after another.
+pub(crate) type Room = [u8; ROOM];
 
 /// A stream that gathers packets. They are written before anything shorter is, before the stream is read, and before a
 /// packet for which there is no room, which then goes out at once. An error in writing them is reported at that call.
 #[derive(Drop)]
-pub(crate) struct Gathering<S> {
+pub(crate) struct Gathering<'a, S> {
     stream: S,
-    bytes: [u8; ROOM],
+    room: &'a mut Room,
     count: usize,
 }
 
-impl<S> Model for Gathering<S> {
+impl<'a, S> Model for Gathering<'a, S> {
     ghost Value = { S };
 
     ghost view = { λ g. g.stream };
@@ -27,14 +30,14 @@ impl<S> Model for Gathering<S> {
     ghost invariant = { λ g. g.count ≤ ROOM };
 }
 
-impl<S> Gathering<S> {
+impl<'a, S> Gathering<'a, S> {
     /// The stream, for which nothing was gathered yet.
-    pub(crate) fn new(stream: S) -> Gathering<S>
+    pub(crate) fn new(stream: S, room: &'a mut Room) -> Gathering<'a, S>
         ensures { result ≡ stream }
     {
         Gathering {
             stream,
-            bytes: [0; ROOM],
+            room,
             count: 0,
         }
     }
@@ -47,7 +50,7 @@ impl<S> Gathering<S> {
     }
 }
 
-impl<S: Write> Gathering<S> {
+impl<'a, S: Write> Gathering<'a, S> {
     /// Writes what was gathered.
     ///
     /// # Errors
@@ -56,7 +59,7 @@ impl<S: Write> Gathering<S> {
     fn write_gathered(&mut self) -> io::Result<()> {
         let count = self.count;
         self.count = 0;
-        self.stream.write_all(&self.bytes[..count])
+        self.stream.write_all(&self.room[..count])
     }
 
     /// Writes these bytes after what was gathered, or so many of them as the stream takes at once.
@@ -71,21 +74,21 @@ impl<S: Write> Gathering<S> {
         self.stream.write(bytes)
     }
 
-    /// The stream, once what was gathered is written, unless it fails.
-    pub(crate) fn into_stream(mut self) -> S {
+    /// The stream, once what was gathered is written, unless it fails; and the room, for the next link.
+    pub(crate) fn into_parts(mut self) -> (S, &'a mut Room) {
         let _ = self.write_gathered();
-        self.stream
+        (self.stream, self.room)
     }
 }
 
-impl<S: Read + Write> Read for Gathering<S> {
+impl<S: Read + Write> Read for Gathering<'_, S> {
     fn read(&mut self, buf: &mut [u8]) -> io::Result<usize> {
         self.write_gathered()?;
         self.stream.read(buf)
     }
 }
 
-impl<S: Write> Write for Gathering<S> {
+impl<S: Write> Write for Gathering<'_, S> {
     fn write(&mut self, bytes: &[u8]) -> io::Result<usize> {
         if bytes.len() != PACKET {
             return self.write_further(bytes);
@@ -93,8 +96,10 @@ impl<S: Write> Write for Gathering<S> {
         if self.count > ROOM - PACKET {
             return self.write_further(bytes);
         }
-        self.bytes[self.count..self.count + PACKET].copy_from_slice(bytes);
-        self.count += PACKET;
+        let end = self.count + PACKET;
+        let room = &mut *self.room;
+        room[self.count..end].copy_from_slice(bytes);
+        self.count = end;
         Ok(PACKET)
     }
 

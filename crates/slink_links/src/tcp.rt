@@ -1,5 +1,5 @@
 //! Links over TCP.
-ghost use Rattle.std.specs.Prelude.{◌≡◌, IfOk, OnErr, Option, is_some, nat_lt};
+ghost use Rattle.std.specs.Prelude.{◌≡◌, IfOk, IfSome, OnErr, Option, is_some, nat_lt};
 ghost use Rattle.mseed_stream.specs.Counted.{read_by, written_by};
 ghost use Rattle.mseed_stream.specs.Device.{nothing_read, nothing_written};
 ghost use Rattle.slink_links.specs.Fetched.{FetchesAll, IsQuiet, server_of};
@@ -20,6 +20,7 @@ use crate::pause::Sleeper;
 use crate::plan::{FetchPlan, ServePlan};
 use crate::planned::{fetch_planned, serve_planned};
 use crate::trouble::{DialFault, Loss, Trouble};
+use crate::{ahead, gathering};
 use mseed_stream::{Counted, Exchanges, Sink, Tally};
 use slink_wire::{Address, Host, Name, Timeout};
 use std::alloc::Allocator;
@@ -52,14 +53,14 @@ fn link_over<'a, C: Clock, S: OpenStream + Drop>(
 }
 
 impl<C: Clock, S: Read + Write + OpenStream + Drop> EndsHandshake
-    for Counted<Gathering<Patient<'_, C, S>>> {
+    for Counted<Gathering<'_, Patient<'_, C, S>>> {
     fn end_handshake(&self) {
         self.get_ref().stream().end_handshake();
     }
 }
 
 impl<C: Clock, S: Read + Write + OpenStream + Drop> EndsHandshake
-    for Counted<Ahead<Patient<'_, C, S>>> {
+    for Counted<Ahead<'_, Patient<'_, C, S>>> {
     fn end_handshake(&self) {
         self.get_ref().stream().end_handshake();
     }
@@ -205,10 +206,12 @@ pub(crate) struct Listening<'a, N: Net + Clock> {
     tally: Tally,
     lost: Tally,
     given_back: Exchanges,
+    // It is with the link that is out, if one is.
+    room: Option<&'a mut gathering::Room>,
 }
 
 impl<'a, N: Net + Clock> Listening<'a, N> {
-    /// Takes connections to a port from now on.
+    /// Takes connections to a port from now on. The room is lent to one link after another.
     ///
     /// # Errors
     ///
@@ -218,6 +221,7 @@ impl<'a, N: Net + Clock> Listening<'a, N> {
         address: Address,
         port: u16,
         timeout: Timeout,
+        room: &'a mut gathering::Room,
     ) -> io::Result<Listening<'a, N>>
         ensures { IfOk result (λ l. AreOut 0 l.tally.calls l.tally.failures l.given_back.all) }
     {
@@ -228,29 +232,40 @@ impl<'a, N: Net + Clock> Listening<'a, N> {
             tally: Tally::new(),
             lost: Tally::new(),
             given_back: Exchanges::new(),
+            room: Some(room),
         })
     }
 
-    /// The link over the next connection.
+    /// The next connection, which waits for no longer than it may.
     ///
     /// # Errors
     ///
     /// Where there is none.
-    fn next_link(&self) -> io::Result<Counted<Gathering<Patient<'a, N, N::Stream>>>>
-        ensures { IfOk result (λ link. (read_by link ≡ nothing_read) × (written_by link ≡ nothing_written)) }
-    {
+    fn next_patient(&self) -> io::Result<Patient<'a, N, N::Stream>> {
         // A client that has sent all may be silent for as long as it likes.
         let limits = Limits {
             all: self.timeout.limit(),
             reads: None,
         };
-        let stream = link_over(self.host, next_stream(&self.listener)?, limits)?;
-        Ok(Counted::new(Gathering::new(stream)))
+        link_over(self.host, next_stream(&self.listener)?, limits)
+    }
+}
+
+/// A link that gathers packets, for which there is room while no other one is out.
+fn gathering_of<'a, S: Read + Write + Drop>(
+    stream: S,
+    room: &mut Option<&'a mut gathering::Room>,
+) -> Option<Counted<Gathering<'a, S>>>
+    ensures { IfSome result (λ link. (read_by link ≡ nothing_read) × (written_by link ≡ nothing_written)) }
+{
+    match room.take() {
+        Some(room) => Some(Counted::new(Gathering::new(stream, room))),
+        None => None,
     }
 }
 
 impl<'a, N: Net + Clock> Accept for Listening<'a, N> {
-    type Link = Counted<Gathering<Patient<'a, N, N::Stream>>>;
+    type Link = Counted<Gathering<'a, Patient<'a, N, N::Stream>>>;
 
     ghost calls = { λ l. l.tally.calls };
 
@@ -260,16 +275,21 @@ impl<'a, N: Net + Clock> Accept for Listening<'a, N> {
 
     ghost given_back = { λ l. l.given_back.all };
 
-    fn accept(&mut self) -> Option<Counted<Gathering<Patient<'a, N, N::Stream>>>> {
-        let link = self.next_link().ok();
+    fn accept(&mut self) -> Option<Counted<Gathering<'a, Patient<'a, N, N::Stream>>>> {
+        let link = match self.next_patient() {
+            Ok(stream) => gathering_of(stream, &mut self.room),
+            Err(_) => None,
+        };
         self.tally.record(&[], link.is_none());
         link
     }
 
-    fn hang_up(&mut self, link: Counted<Gathering<Patient<'a, N, N::Stream>>>, failed: bool) {
+    fn hang_up(&mut self, link: Counted<Gathering<'a, Patient<'a, N, N::Stream>>>, failed: bool) {
         self.given_back.record(&link);
         self.lost.record(&[], failed);
-        close(self.host, link.into_inner().into_stream().into_stream());
+        let (stream, room) = link.into_inner().into_parts();
+        self.room = Some(room);
+        close(self.host, stream.into_stream());
     }
 }
 
@@ -283,11 +303,36 @@ pub(crate) struct Dialler<'a, N: Net + Clock> {
     tally: Tally,
     given_back: Exchanges,
     trouble: Option<Trouble>,
+    // It is with the link that is out, if one is.
+    room: Option<&'a mut ahead::Room>,
+}
+
+/// A link that reads ahead, for which there is room while no other one is out.
+///
+/// # Errors
+///
+/// Where there is no room.
+fn ahead_of<'a, S: Read + Write + Drop>(
+    stream: S,
+    room: &mut Option<&'a mut ahead::Room>,
+) -> Result<Counted<Ahead<'a, S>>, DialFault>
+    ensures { IfOk result (λ link. (read_by link ≡ nothing_read) × (written_by link ≡ nothing_written)) }
+{
+    match room.take() {
+        Some(room) => Ok(Counted::new(Ahead::new(stream, room))),
+        None => Err(DialFault::Unconnected(NetworkFault::Other(ListenFault::NoMemory))),
+    }
 }
 
 impl<'a, N: Net + Clock> Dialler<'a, N> {
-    /// No call yet.
-    pub(crate) fn new(net: &'a N, host: Host, port: u16, timeout: Timeout) -> Dialler<'a, N>
+    /// No call yet. The room is lent to one link after another.
+    pub(crate) fn new(
+        net: &'a N,
+        host: Host,
+        port: u16,
+        timeout: Timeout,
+        room: &'a mut ahead::Room,
+    ) -> Dialler<'a, N>
         ensures { AreOut 0 result.tally.calls result.tally.failures result.given_back.all }
     {
         Dialler {
@@ -298,10 +343,11 @@ impl<'a, N: Net + Clock> Dialler<'a, N> {
             tally: Tally::new(),
             given_back: Exchanges::new(),
             trouble: None,
+            room: Some(room),
         }
     }
 
-    /// A new connection.
+    /// A new connection, within a time if there is one.
     ///
     /// # Errors
     ///
@@ -318,42 +364,27 @@ impl<'a, N: Net + Clock> Dialler<'a, N> {
         }
     }
 
-    /// A connection that waits for no longer than these limits.
+    /// A new connection that waits for no longer than it may.
     ///
     /// # Errors
     ///
     /// Why there is none.
-    fn patient(
-        &self,
-        stream: N::Stream,
-        limits: Limits,
-    ) -> Result<Patient<'a, N, N::Stream>, DialFault> {
-        match link_over(self.net, stream, limits) {
-            Ok(link) => Ok(link),
-            Err(error) => Err(unconnected(&error)),
-        }
-    }
-
-    /// The link over a new connection.
-    ///
-    /// # Errors
-    ///
-    /// Why there is none.
-    fn next_link(&self) -> Result<Counted<Ahead<Patient<'a, N, N::Stream>>>, DialFault>
-        ensures { IfOk result (λ link. (read_by link ≡ nothing_read) × (written_by link ≡ nothing_written)) }
-    {
+    fn next_patient(&self) -> Result<Patient<'a, N, N::Stream>, DialFault> {
         let limit = self.timeout.limit();
         let limits = Limits {
             all: limit,
             reads: limit,
         };
         let stream = self.next_stream(limit)?;
-        Ok(Counted::new(Ahead::new(self.patient(stream, limits)?)))
+        match link_over(self.net, stream, limits) {
+            Ok(link) => Ok(link),
+            Err(error) => Err(unconnected(&error)),
+        }
     }
 }
 
 impl<'a, N: Net + Clock> Dial for Dialler<'a, N> {
-    type Link = Counted<Ahead<Patient<'a, N, N::Stream>>>;
+    type Link = Counted<Ahead<'a, Patient<'a, N, N::Stream>>>;
 
     ghost calls = { λ d. d.tally.calls };
 
@@ -363,9 +394,11 @@ impl<'a, N: Net + Clock> Dial for Dialler<'a, N> {
 
     ghost trouble = { λ d. d.trouble };
 
-    fn dial(&mut self) -> Result<Counted<Ahead<Patient<'a, N, N::Stream>>>, DialFault> {
-        // The result is handed on as it is, since a link holds what is read ahead.
-        let dialled = self.next_link();
+    fn dial(&mut self) -> Result<Counted<Ahead<'a, Patient<'a, N, N::Stream>>>, DialFault> {
+        let dialled = match self.next_patient() {
+            Ok(stream) => ahead_of(stream, &mut self.room),
+            Err(fault) => Err(fault),
+        };
         self.tally.record(&[], dialled.is_err());
         if let Err(fault) = &dialled {
             self.trouble = Some(Trouble::Undialled(*fault));
@@ -373,9 +406,10 @@ impl<'a, N: Net + Clock> Dial for Dialler<'a, N> {
         dialled
     }
 
-    fn hang_up(&mut self, link: Counted<Ahead<Patient<'a, N, N::Stream>>>) -> Loss {
+    fn hang_up(&mut self, link: Counted<Ahead<'a, Patient<'a, N, N::Stream>>>) -> Loss {
         self.given_back.record(&link);
         let loss = link.get_ref().stream().loss();
+        self.room = Some(link.into_inner().into_room());
         self.trouble = Some(Trouble::Lost(loss));
         loss
     }
@@ -395,7 +429,8 @@ pub fn serve<N: Net + Clock, A: Allocator, E: Sink>(
     ensures served { IfOk result (λ status. HasServed status (E.written errors.old) (E.written errors.new)) }
     ensures unserved { OnErr result (E.written errors.new ≡ E.written errors.old) }
 {
-    match Listening::bind(host, plan.address, plan.port, plan.timeout) {
+    let mut room = [0; gathering::ROOM];
+    match Listening::bind(host, plan.address, plan.port, plan.timeout, &mut room) {
         Ok(mut listening) => Ok(serve_planned(plan, &mut listening, errors)),
         Err(error) => Err(ListenFault::of(&error)),
     }
@@ -415,7 +450,8 @@ pub fn fetch<N: Net + Clock, W: Sink, E: Sink>(
     ensures quiet { IsQuiet (server_of plan.old) plan.old.report_next plan.old.client.talk.holes plan.new.client.talk
         result (E.written errors.old) (E.written errors.new) }
 {
-    let mut dialler = Dialler::new(net, plan.host, plan.port, plan.timeout);
+    let mut room = [0; ahead::ROOM];
+    let mut dialler = Dialler::new(net, plan.host, plan.port, plan.timeout, &mut room);
     let mut sleeper = Sleeper::new(net);
     fetch_planned(plan, &mut dialler, &mut sleeper, output, errors)
 }
