@@ -1,6 +1,10 @@
 -- Why the system has no link for a client, or has it no more: by the numbers of Linux, and in words.
-use Rattle.std.specs.Prelude.{ℕ, ◌==◌, ℤ, pos, int_lt, unsigned_abs, List, [], ◌∷◌, codes, if◌then◌else◌}
+use Rattle.std.specs.Prelude.{◌≡◌, ◌≢◌, ℕ, ◌==◌, ℤ, pos, int_lt, unsigned_abs, List, [], ◌∷◌, codes, if◌then◌else◌}
 use Rattle.std.specs.Prelude.{Option, Some, None, unwrap_or}
+use Rattle.std.specs.declared.io.Error.{Error}
+use Rattle.std.specs.declared.io.ErrorKind.TheVariants as kinds
+use Rattle.std.specs.IoError.{error_kind, raw_os_error}
+use Rattle.slink_links.specs.declared.listen_fault.ListenFault.TheVariants as listening
 use Rattle.slink_links.specs.declared.network_fault.NetworkFault.{NetworkFault}
 use Rattle.slink_links.specs.declared.network_fault.NetworkFault.TheVariants as fault
 use Rattle.slink_links.specs.ListenFault.{fault_of, listen_text}
@@ -34,3 +38,12 @@ network_text fault.TimedOut = codes "timed out"
 network_text fault.NoNetwork = codes "network unreachable"
 network_text fault.NoRoute = codes "no route to host"
 network_text (fault.Other other) = listen_text other
+
+-- The reason of an error: by its number where it is the system's, and else by its kind.
+pub record IsFaultOf (error : Error) (reason : NetworkFault) : Type 0 where
+  pub number : (number : ℤ) → raw_os_error error ≡ Some number → reason ≡ network_fault_of number
+  pub timed_out : raw_os_error error ≡ None → error_kind error ≡ kinds.TimedOut → reason ≡ fault.TimedOut
+  pub memory : raw_os_error error ≡ None → error_kind error ≡ kinds.OutOfMemory
+      → reason ≡ fault.Other listening.NoMemory
+  pub other : raw_os_error error ≡ None → error_kind error ≢ kinds.TimedOut → error_kind error ≢ kinds.OutOfMemory
+      → reason ≡ fault.Other listening.Other

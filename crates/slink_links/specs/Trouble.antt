@@ -1,6 +1,8 @@
 -- What goes wrong in a try of a fetch, in words.
 use Rattle.std.specs.Prelude.{◌≡◌, ℕ, ◌<◌, List, codes, nat_lt, is_some, Option}
-use Rattle.slink_links.specs.NetworkFault.{network_text}
+use Rattle.std.specs.declared.io.Error.{Error}
+use Rattle.slink_links.specs.NetworkFault.{IsFaultOf, network_text}
+use Rattle.slink_links.specs.declared.network_fault.NetworkFault.TheVariants as faults
 use Rattle.slink_links.specs.declared.trouble.DialFault.{DialFault}
 use Rattle.slink_links.specs.declared.trouble.DialFault.TheVariants as dials
 use Rattle.slink_links.specs.declared.trouble.Loss.{Loss}
@@ -17,6 +19,12 @@ abbrev pub loss_text : Loss → List ℕ
 loss_text losses.Closed = codes "closed by the server before the end"
 loss_text losses.LongHandshake = codes "the handshake took too long"
 loss_text (losses.Failed fault) = network_text fault
+
+-- Nothing more came since a call failed with this error: for its reason, or since the time of the handshake was over.
+abbrev pub IsLossBy : Error → Loss → Type 0
+IsLossBy error losses.Closed = ⊥
+IsLossBy error losses.LongHandshake = IsFaultOf error faults.TimedOut
+IsLossBy error (losses.Failed fault) = IsFaultOf error fault
 
 -- What is known of so many tries is what went wrong in the last one; and something is known exactly where there was
 -- one.

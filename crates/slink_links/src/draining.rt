@@ -1,45 +1,36 @@
 //! Links that are closed so that what was written to them comes through.
 ghost use Rattle.std.specs.Prelude.{◌<◌, IfSome, length};
 
+use crate::closing::{Leftover, MOST};
 use mio::net::TcpStream;
 use mio::{Interest, Registry, Token};
 use std::alloc::{AllocError, Global};
-use std::io::{ErrorKind, Read};
+use std::io::ErrorKind;
 use std::net::Shutdown;
-use std::time::{Duration, Instant};
-
-/// What still comes is thrown away by so many reads at most at a time.
-const READS: usize = 64;
-
-/// For so many seconds it is waited for at most.
-const PATIENCE: u64 = 2;
-
-/// The bytes that one read has room for.
-const ROOM: usize = 1024;
+use std::time::Instant;
 
 /// A stream on which nothing is written any more.
 #[derive(Drop)]
 struct DrainingStream {
     stream: TcpStream,
-    since: Instant,
+    leftover: Leftover,
     may_read: bool,
 }
 
 impl DrainingStream {
     /// Whether it stays: the other side hasn't closed it, sent too many bytes, or had its time.
     fn stays(&mut self, now: Instant) -> bool {
-        if now.saturating_duration_since(self.since) >= Duration::from_secs(PATIENCE) {
+        if self.leftover.time_left(now).is_zero() {
             return false;
         }
         if !self.may_read {
             return true;
         }
         self.may_read = false;
-        let mut room = [0; ROOM];
-        for read in 0..READS {
-            match self.stream.read(&mut room) {
-                Ok(0) => return false,
-                Ok(_) => {}
+        for read in 0..MOST {
+            match self.leftover.throw_away(&mut self.stream) {
+                Ok(true) => {}
+                Ok(false) => return false,
                 Err(error) => return error.kind() == ErrorKind::WouldBlock,
             }
         }
@@ -47,8 +38,7 @@ impl DrainingStream {
     }
 }
 
-/// Streams that are let go of once the other side has closed them. The system resets a stream that is closed while a
-/// byte of it is unread, or to which one comes later, and then drops what the other side hasn't received.
+/// Streams that are let go of once the other side has closed them, or has sent many bytes more, or was given time to.
 #[derive(Drop)]
 pub(crate) struct Draining {
     streams: Vec<Option<DrainingStream>>,
@@ -88,7 +78,7 @@ impl Draining {
         {
             self.streams[index] = Some(DrainingStream {
                 stream,
-                since,
+                leftover: Leftover::new(since),
                 may_read: true,
             });
             self.count = self.count.saturating_add(1);

@@ -1,7 +1,7 @@
 //! Why a link can't be had, or can be had no more.
-ghost use Rattle.std.specs.Prelude.{◌≡◌, ◌≢◌, ◌≤◌, ℤ, None, Some, length};
-ghost use Rattle.std.specs.IoError.{error_kind, raw_os_error};
-ghost use Rattle.slink_links.specs.NetworkFault.{network_fault_of, network_faults, network_text, own_fault, row_in};
+ghost use Rattle.std.specs.Prelude.{◌≡◌, ◌≤◌, length};
+ghost use Rattle.slink_links.specs.NetworkFault.{IsFaultOf, network_fault_of, network_faults, network_text, own_fault};
+ghost use Rattle.slink_links.specs.NetworkFault.{row_in};
 
 use crate::listen_fault::ListenFault;
 use std::io::{Error, ErrorKind};
@@ -29,13 +29,7 @@ impl NetworkFault {
     /// The reason of an error of the system, by the number that Linux has for it; of an error that isn't the system's,
     /// by its kind.
     pub fn of(error: &Error) -> NetworkFault
-        ensures number { (number : ℤ) → raw_os_error error.now ≡ Some number → result ≡ network_fault_of number }
-        ensures timed_out { raw_os_error error.now ≡ None → error_kind error.now ≡ ErrorKind.TimedOut
-            → result ≡ NetworkFault.TimedOut }
-        ensures memory { raw_os_error error.now ≡ None → error_kind error.now ≡ ErrorKind.OutOfMemory
-            → result ≡ NetworkFault.Other ListenFault.NoMemory }
-        ensures other { raw_os_error error.now ≡ None → error_kind error.now ≢ ErrorKind.TimedOut
-            → error_kind error.now ≢ ErrorKind.OutOfMemory → result ≡ NetworkFault.Other ListenFault.Other }
+        ensures { IsFaultOf error.now result }
     {
         match error.raw_os_error() {
             Some(number) => NetworkFault::of_number(number),

@@ -1,4 +1,6 @@
 //! A stream whose calls wait no longer than a time, and whose handshake is over by then.
+ghost use Rattle.std.specs.Prelude.{◌≡◌, IfErr, None, OnOk, Some, unwrap_or};
+ghost use Rattle.slink_links.specs.Trouble.{IsLossBy};
 
 use crate::network_fault::NetworkFault;
 use crate::trouble::Loss;
@@ -52,18 +54,35 @@ impl<'a, C: Clock, S: OpenStream + Drop> Patient<'a, C, S> {
     }
 
     /// Why nothing more comes over it: why the last call failed; or, where it didn't, that the other side closed it.
-    pub(crate) fn loss(&self) -> Loss {
+    pub(crate) fn loss(&self) -> Loss
+        ensures { result ≡ unwrap_or self.now.loss Loss.Closed }
+    {
         self.loss.unwrap_or(Loss::Closed)
     }
 
-    /// Notes why a call failed.
-    fn note(&mut self, error: &io::Error) {
+    /// What a call came to, once it is noted that it failed, and why, or that it didn't.
+    fn noted(&mut self, came: io::Result<usize>) -> io::Result<usize>
+        ensures came { result ≡ came }
+        ensures ok { OnOk came (self.new.loss ≡ None) }
+        ensures failed { IfErr came (λ error. (loss : Loss) × (self.new.loss ≡ Some loss) × IsLossBy error loss) }
+    {
+        self.loss = match &came {
+            Ok(_) => None,
+            Err(error) => Some(self.loss_by(error)),
+        };
+        came
+    }
+
+    /// Why a call failed. One that takes too long in the handshake has used up the time of all of it.
+    fn loss_by(&self, error: &io::Error) -> Loss
+        ensures { IsLossBy error.now result }
+    {
         let fault = NetworkFault::of(error);
-        self.loss = Some(if fault == NetworkFault::TimedOut && !self.is_streaming.get() {
+        if fault == NetworkFault::TimedOut && !self.is_streaming.get() {
             Loss::LongHandshake
         } else {
             Loss::Failed(fault)
-        });
+        }
     }
 
     /// The handshake is over: from here on each call has a time of its own.
@@ -97,39 +116,21 @@ impl<'a, C: Clock, S: OpenStream + Drop> Patient<'a, C, S> {
 
 impl<C: Clock, S: Read + OpenStream + Drop> Read for Patient<'_, C, S> {
     fn read(&mut self, buf: &mut [u8]) -> io::Result<usize> {
-        if let Err(error) = self.grant() {
-            self.note(&error);
-            return Err(error);
-        }
-        match self.stream.read(buf) {
-            Ok(count) => {
-                self.loss = None;
-                Ok(count)
-            }
-            Err(error) => {
-                self.note(&error);
-                Err(error)
-            }
-        }
+        let came = match self.grant() {
+            Ok(()) => self.stream.read(buf),
+            Err(error) => Err(error),
+        };
+        self.noted(came)
     }
 }
 
 impl<C: Clock, S: Write + OpenStream + Drop> Write for Patient<'_, C, S> {
     fn write(&mut self, bytes: &[u8]) -> io::Result<usize> {
-        if let Err(error) = self.grant() {
-            self.note(&error);
-            return Err(error);
-        }
-        match self.stream.write(bytes) {
-            Ok(count) => {
-                self.loss = None;
-                Ok(count)
-            }
-            Err(error) => {
-                self.note(&error);
-                Err(error)
-            }
-        }
+        let came = match self.grant() {
+            Ok(()) => self.stream.write(bytes),
+            Err(error) => Err(error),
+        };
+        self.noted(came)
     }
 
     fn flush(&mut self) -> io::Result<()> {

@@ -12,6 +12,7 @@ use crate::closing::close;
 use crate::dial::Dial;
 use crate::fetching::FetchEnd;
 use crate::gathering::Gathering;
+use crate::guards::{listener_off_streams, off_streams};
 use crate::handshake::EndsHandshake;
 use crate::listen_fault::ListenFault;
 use crate::network_fault::NetworkFault;
@@ -27,11 +28,8 @@ use std::alloc::Allocator;
 use std::io;
 use std::io::{ErrorKind, Read, Write};
 use std::net::{Ipv4Addr, Net, OpenListener, OpenStream, SocketAddr, TcpListener, TcpStream};
-use std::os::fd::{AsRawFd, RawFd};
+use std::os::fd::AsRawFd;
 use std::time::{Clock, Duration, Instant};
-
-/// The descriptors below this one are those of the standard streams.
-const FIRST_FREE: RawFd = 3;
 
 /// A port at an address.
 fn socket_of(address: Address, port: u16) -> SocketAddr {
@@ -66,32 +64,13 @@ impl<C: Clock, S: Read + Write + OpenStream + Drop> EndsHandshake
     }
 }
 
-/// The socket at a descriptor of its own. Where a standard stream is closed, the next socket takes its place, and what
-/// is written to the stream would go over the link. A duplicate never stands there.
-///
-/// # Errors
-///
-/// Where there is no descriptor for the duplicate.
-fn off_streams<S: OpenStream + AsRawFd + Drop>(stream: S) -> io::Result<S> {
-    if stream.as_raw_fd() < FIRST_FREE {
-        stream.try_clone()
-    } else {
-        Ok(stream)
-    }
-}
-
 /// A listener at a port of this host, at a descriptor of its own.
 ///
 /// # Errors
 ///
 /// Where the port can't be had, as one that is taken, or at an address that isn't of this host.
 fn listener_at<N: Net>(net: &N, socket: SocketAddr) -> io::Result<N::Listener> {
-    let listener = TcpListener::bind(net, socket)?;
-    if listener.as_raw_fd() < FIRST_FREE {
-        listener.try_clone()
-    } else {
-        Ok(listener)
-    }
+    listener_off_streams(TcpListener::bind(net, socket)?)
 }
 
 /// The next connection to a port.
