@@ -43,10 +43,23 @@ def lost(port: int, reason: str = CLOSED, host: str = "127.0.0.1") -> bytes:
     return LINK_FAILED + f"mseed: lost the connection to {host}:{port}: {reason}\n".encode()
 
 
-def refused(place: str, want: Optional[int] = None) -> bytes:
-    """The two lines of a `fetch` of which the server refuses a station, with the number that was wanted of it."""
+def printed(given: bytes) -> bytes:
+    """What was given, as a line shows it: each byte outside 32 to 126 as `?`, of more than 60 bytes the first 57 and
+    `...`."""
+    kept = given if len(given) <= 60 else given[:57]
+    return bytes(byte if 32 <= byte <= 126 else 63 for byte in kept) + b"..." * (len(given) > 60)
+
+
+def replied(place: str, want: Optional[int], words: str, reply: bytes) -> bytes:
+    """A line about the reply to a station, or to the number that was wanted of it: an `ERROR` alone is left out."""
     wanted = "" if want is None else f" from {want:06X}"
-    return REFUSED + f"mseed: {place}{wanted}: the server refuses it\n".encode()
+    more = b"" if reply in (b"", b"ERROR") else b": " + printed(reply)
+    return f"mseed: {place}{wanted}: {words}".encode() + more + b"\n"
+
+
+def refused(place: str, want: Optional[int] = None, reply: bytes = b"ERROR") -> bytes:
+    """The two lines of a `fetch` of which the server refuses a station, with the number that was wanted of it."""
+    return REFUSED + replied(place, want, "the server refuses it", reply)
 
 
 def gap(place: str, want: int, got: int) -> bytes:
@@ -54,10 +67,9 @@ def gap(place: str, want: int, got: int) -> bytes:
     return BAD_FEED + f"mseed: {place}: record {want:06X} was wanted, and {got:06X} came\n".encode()
 
 
-def unanswered(place: str, want: Optional[int] = None) -> bytes:
+def unanswered(place: str, want: Optional[int] = None, reply: bytes = b"") -> bytes:
     """The two lines of a `fetch` to which no reply came that says whether a station is granted."""
-    wanted = "" if want is None else f" from {want:06X}"
-    return BAD_FEED + f"mseed: {place}{wanted}: the reply is neither OK nor ERROR\n".encode()
+    return BAD_FEED + replied(place, want, "the reply is neither OK nor ERROR", reply)
 
 
 def strange(*codes: bytes) -> bytes:
@@ -67,7 +79,10 @@ def strange(*codes: bytes) -> bytes:
     return BAD_FEED + b"mseed: a record of " + b"_".join(shown) + b" came, which is none of the stations\n"
 
 
-GARBAGE = BAD_FEED + b"mseed: bytes came that are neither a packet nor the end\n"
+def garbage(packets: int) -> bytes:
+    """The two lines of a `fetch` to which bytes came that are neither a packet nor the end, after so many packets."""
+    before = f"{packets} packet" + "s" * (packets != 1)
+    return BAD_FEED + f"mseed: bytes came that are neither a packet nor the end, after {before}\n".encode()
 
 
 def foreign(number: int, place: str, size: int) -> str:

@@ -193,11 +193,11 @@ class Client:
         self.places, self.mode = [place for place, _ in places], mode
         self.wants = [number for _, number in places]
         self.awaited: Optional[list[tuple[str, int]]] = None
-        self.kept, self.ending = b"", None
+        self.kept, self.ending, self.packets = b"", None, 0
 
     def connect(self) -> bytes:
         """Begins on a new link, over which these bytes are sent. `awaited` are the replies that are still to come."""
-        self.kept, self.ending = b"", None
+        self.kept, self.ending, self.packets = b"", None, 0
         self.awaited = [(word, k) for k in range(len(self.places)) for word in ("STATION", self.mode)]
         return self.line()
 
@@ -230,29 +230,29 @@ class Client:
         """The event of the reply that has come, if it is whole."""
         end = self.kept[:256].find(b"\r\n")
         if end < 0:
-            return ("Unanswered", self.awaited[0][1]) if len(self.kept) >= 256 else None
+            return ("Unanswered", self.awaited[0][1], b"") if len(self.kept) >= 256 else None
         line, self.kept = self.kept[:end], self.kept[end + 2 :]
         if line == b"OK":
             self.awaited.pop(0)
             return ("Say", self.line())
-        return ("Refused" if line.startswith(b"ERROR") else "Unanswered", self.awaited[0][1])
+        return ("Refused" if line.startswith(b"ERROR") else "Unanswered", self.awaited[0][1], line)
 
     def whole(self) -> Optional[tuple]:
         """The event of the packet or end that has come, if it is whole."""
         kept = self.kept
         if kept[:1] not in (b"", b"S", b"E"):
-            return ("Garbage",)
+            return ("Garbage", self.packets)
         if kept[:1] == b"E":
             if len(kept) < 3:
                 return None
-            return ("End",) if kept[:3] == b"END" else ("Garbage",)
+            return ("End",) if kept[:3] == b"END" else ("Garbage", self.packets)
         if len(kept) < 8:
             return None
         if not re.match(rb"SL[0-9A-Fa-f]{6}", kept):
-            return ("Garbage",)
+            return ("Garbage", self.packets)
         if len(kept) < 520:
             return None
-        self.kept = kept[520:]
+        self.kept, self.packets = kept[520:], self.packets + 1
         return self.packet(int(kept[2:8], 16), kept[8:520])
 
     def packet(self, number: int, bytes: bytes) -> tuple:

@@ -10,7 +10,7 @@ from typing import Callable, Optional, Sequence
 from driver.feed import Ended, Fetching, Server, fetch, fetch_words
 from driver.links import dialled, free_port, listening, port_of, reset
 from driver.rows import Cases, Fact, holds
-from driver.texts import GARBAGE, LINK_FAILED, foreign, gap, keeps, lost, refused, strange, unanswered, undialled
+from driver.texts import LINK_FAILED, foreign, gap, garbage, keeps, lost, refused, strange, unanswered, undialled
 from driver.texts import unlistened
 from models.dialogues import feed_at_random, pieces_of, stream_of_client, stream_of_server, wants_at_random
 from models.peers import Speaker, exchanged, fetch_link
@@ -66,17 +66,17 @@ def lines_of(client: Client) -> bytes:
     """What `fetch` reports of the end that a client has come to."""
     kind, *about = client.ending
     if kind == "Refused":
-        [k] = about
-        return refused(client.places[k].text, client.wants[k])
+        k, reply = about
+        return refused(client.places[k].text, client.wants[k], reply)
     if kind == "Gap":
         k, want, got = about
         return gap(client.places[k].text, want, got)
     if kind == "Unanswered":
-        [k] = about
-        return unanswered(client.places[k].text, client.wants[k])
+        k, reply = about
+        return unanswered(client.places[k].text, client.wants[k], reply)
     if kind == "Foreign":
         return strange(*about)
-    return {"End": b"", "Garbage": GARBAGE}[kind]
+    return garbage(*about) if kind == "Garbage" else b""
 
 
 def outcome(places: Sequence[tuple[Place, Optional[int]]],
@@ -187,17 +187,27 @@ def rude_servers() -> Cases:
     """How `fetch` ends by what a server sends, and how often it dials."""
     own, other = record_of(STA, 1), record_of(Place("XX_ABC"), 1)
     good = GRANTED + b"SL000001" + own + b"END"
-    denied = refused("XX_STA", 1)
+    other_server = b"HTTP/1.1 400 Bad Request\r\nContent-Type: text/html\r\n\r\n"
+    longest = b"ERROR" + b"\x00\xff~ " * 62
     for name, streams, errors, output, links in [
-        ("refuses the station", [b"ERROR\r\n"], denied, b"", 1),
-        ("refuses the number", [b"OK\r\nERROR busy\r\n"], denied, b"", 1),
+        ("refuses the station", [b"ERROR\r\n"], refused("XX_STA", 1), b"", 1),
+        ("refuses the number", [b"OK\r\nERROR busy\r\n"], refused("XX_STA", 1, b"ERROR busy"), b"", 1),
+        ("refuses it at length", [longest + b"\r\n"], refused("XX_STA", 1, longest), b"", 1),
         ("sends a gap", [GRANTED + b"SL000002" + own], gap("XX_STA", 1, 2), b"", 1),
         ("sends a gap later", [GRANTED + b"SL000001" + own + b"SL000003" + own], gap("XX_STA", 2, 3), own, 1),
         ("sends a record twice", [GRANTED + b"SL000001" + own + b"SL000001" + own], gap("XX_STA", 2, 1), own, 1),
-        ("sends another reply", [b"OKAY\r\n"], unanswered("XX_STA", 1), b"", 1),
-        ("sends another reply to the number", [b"OK\r\nOKAY\r\n"], unanswered("XX_STA", 1), b"", 1),
-        ("sends garbage for a packet", [GRANTED + b"SL00000g"], GARBAGE, b"", 1),
-        ("sends another end", [GRANTED + b"ENX"], GARBAGE, b"", 1),
+        ("sends another reply", [b"OKAY\r\n"], unanswered("XX_STA", 1, b"OKAY"), b"", 1),
+        ("sends another reply to the number", [b"OK\r\nok\x7f\r\n"], unanswered("XX_STA", 1, b"ok\x7f"), b"", 1),
+        ("sends an empty reply", [b"\r\n"], unanswered("XX_STA", 1), b"", 1),
+        ("sends no reply", [b"OK\r\n" + b"x" * 256], unanswered("XX_STA", 1), b"", 1),
+        ("is another one", [other_server], unanswered("XX_STA", 1, b"HTTP/1.1 400 Bad Request"), b"", 1),
+        ("replies 60 bytes", [b"x" * 60 + b"\r\n"], unanswered("XX_STA", 1, b"x" * 60), b"", 1),
+        ("replies 61 bytes", [b"x" * 61 + b"\r\n"], unanswered("XX_STA", 1, b"x" * 61), b"", 1),
+        ("sends garbage for a packet", [GRANTED + b"SL00000g"], garbage(0), b"", 1),
+        ("sends garbage after a packet", [GRANTED + b"SL000001" + own + b"SL00000g"], garbage(1), own, 1),
+        ("sends another end", [GRANTED + b"SL000001" + own + b"SL000002" + own + b"ENX"], garbage(2), own * 2, 1),
+        ("sends garbage over the second link", [GRANTED + b"SL000001" + own, GRANTED + b"SL000002" + own + b"X"],
+         garbage(1), own * 2, 2),
         ("sends a foreign record", [GRANTED + b"SL000001" + other], strange(b"XX", b"ABC  "), b"", 1),
         ("sends the end alone", [GRANTED + b"END"], b"", b"", 1),
         ("sends nothing", [b"", b"", b""], None, b"", 3),
