@@ -265,30 +265,24 @@ fn client(rt: &impl Abort) -> Client {
 }
 
 /// How much is read ahead at once.
-const AHEAD: usize = 1 << 13;
+const AHEAD: usize = 1 << 15;
 
 /// All that is there is read at once, and the rest where that is given.
-static READ_AHEAD: [Call; 8] = [
+static READ_AHEAD: [Call; 5] = [
     Call::Wrote(16),
     Call::Read(AHEAD),
     Call::Wrote(14),
     Call::Wrote(5),
-    Call::Read(AHEAD),
-    Call::Read(AHEAD),
-    Call::Read(AHEAD),
-    Call::Read(8 + 70 * 520 + 3 - 4 * AHEAD),
+    Call::Read(8 + 70 * 520 + 3 - AHEAD),
 ];
 
 /// What comes of the calls where the server leaves in place of the end.
-static LEFT: [Call; 9] = [
+static LEFT: [Call; 6] = [
     Call::Wrote(16),
     Call::Read(AHEAD),
     Call::Wrote(14),
     Call::Wrote(5),
-    Call::Read(AHEAD),
-    Call::Read(AHEAD),
-    Call::Read(AHEAD),
-    Call::Read(8 + 70 * 520 - 4 * AHEAD),
+    Call::Read(8 + 70 * 520 - AHEAD),
     Call::Read(0),
 ];
 
