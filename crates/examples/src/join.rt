@@ -1,8 +1,6 @@
 //! Calls of `mseed_join`.
 use mseed_audit::{AuditFault, EachFault};
-use mseed_join::{
-    Form, JoinsFault, PartsFault, audit_part, audit_part_each, join, join_each, read_parts,
-};
+use mseed_join::{Form, JoinsFault, audit_part, audit_part_each, join, join_each, read_parts};
 use mseed_stream::{Counted, Sink};
 use std::alloc::Global;
 
@@ -82,7 +80,7 @@ pub fn records_of_parts<E: Sink>(
     alloc: Global,
     parts: &[u8],
     reported: &mut E,
-) -> Result<u64, PartsFault> {
+) -> Result<u64, JoinsFault> {
     let mut source = Counted::new(parts);
     let joint = read_parts(alloc, true, None, &mut source, reported)?;
     Ok(joint.part.records())

@@ -12,8 +12,8 @@ use Rattle.mseed_join.specs.declared.flaw.Flaw.{Flaw}
 use Rattle.mseed_join.specs.declared.flaw.Flaw.TheVariants.{Beginning, Row, Order, Ending, Limit, Long, Unended}
 use Rattle.mseed_join.specs.declared.flaw.Flaw.TheVariants.{Missing}
 use Rattle.mseed_join.specs.declared.joining.Joined.{Joined}
-use Rattle.mseed_join.specs.declared.joining.JoinsFault.{JoinsFault}
-use Rattle.mseed_join.specs.declared.joining.JoinsFault.TheVariants.{Line, Count, Stream, Write, Memory}
+use Rattle.mseed_join.specs.declared.fault.JoinsFault.{JoinsFault}
+use Rattle.mseed_join.specs.declared.fault.JoinsFault.TheVariants.{Line, Count, Stream, Write, Memory}
 use Rattle.mseed.specs.Blame.{join_blame}
 use Rattle.mseed_files.specs.InputFiles.{no_memory}
 use Rattle.mseed.specs.Outcome.{EndsBy, Report, with_line, without_line, write_failed}

@@ -9,18 +9,15 @@ use Rattle.mseed_stream.proofs.Gathered.{all_behind, all_written, cut_part, firs
 use Rattle.mseed_stream.proofs.Gathered.{gathered_written, part_after, part_of}
 use Rattle.mseed_audit.specs.Summary.{IsWritten}
 use Rattle.mseed_join.specs.declared.joining.Joined.{Joined as Answer}
-use Rattle.mseed_join.specs.declared.joining.JoinsFault.{JoinsFault}
-use Rattle.mseed_join.specs.declared.joining.JoinsFault.TheVariants.{Line, Count, Stream, Write, Memory}
+use Rattle.mseed_join.specs.declared.fault.JoinsFault.{JoinsFault}
+use Rattle.mseed_join.specs.declared.fault.JoinsFault.TheVariants.{Line, Count, Stream, Write, Memory}
 use Rattle.mseed_join.specs.declared.joint.JointPart.{JointPart}
 use Rattle.mseed_join.specs.declared.joint.Reported.{Reported}
-use Rattle.mseed_join.specs.declared.reader.PartsFault.{PartsFault}
-use Rattle.mseed_join.specs.declared.reader.PartsFault.TheVariants.{Line as BadLine, Count as Miscount}
-use Rattle.mseed_join.specs.declared.reader.PartsFault.TheVariants.{Stream as Unread, Memory as NoMemory}
 use Rattle.mseed_join.specs.declared.reader.Reader.{Reader}
 use Rattle.mseed_join.specs.Borders.{AreBorders, AreBordersOf, Border, border_lines}
 use Rattle.mseed_join.specs.Flaws.{IsFlaw}
 use Rattle.mseed_join.specs.Joined.{HasNoBadLine, IsBadLine, join_text}
-use Rattle.mseed_join.specs.Joins.{IsAnswer, refusal}
+use Rattle.mseed_join.specs.Joins.{IsAnswer}
 use Rattle.mseed_join.specs.JoinsEach.{AreEachTo, IsJoinEachOutcome, IsReadEach}
 use Rattle.mseed_join.specs.Reached.{AreLinesRead, AreReported, Stage, parts_at, passed_lines, start}
 use Rattle.mseed_join.specs.ReadParts.{AreExpected, AreReadParts, IsReadOutcome, IsStopped, written_of}
@@ -33,12 +30,13 @@ use Rattle.mseed_join.proofs.Bordering.{lines_append}
 
 -- ---- how far was read
 -- by any step that ends reading
-stopped_by : {A : Type 0} → (past : Bool) (h now : BytesRead) (s : Stage) (r : Reader A) (fault : PartsFault)
+stopped_by : {A : Type 0} → (past : Bool) (h now : BytesRead) (s : Stage) (r : Reader A) (fault : JoinsFault)
     → IsNextStep {A = A} past h s (Err fault) now r → IsStoppedAt h now s
-stopped_by past h now s r (BadLine k offset flaw) step = step.stopped
-stopped_by past h now s r (Miscount parts due) step = absurd step
-stopped_by past h now s r (Unread fault) step = step.1.0
-stopped_by past h now s r NoMemory step = step
+stopped_by past h now s r (Line k offset flaw) step = step.stopped
+stopped_by past h now s r (Count parts due) step = absurd step
+stopped_by past h now s r (Stream fault) step = step.1.0
+stopped_by past h now s r Write step = absurd step
+stopped_by past h now s r Memory step = step
 
 -- before it
 along_by : {A : Type 0} → (past : Bool) (h now : BytesRead) (s : Stage) (r : Reader A) → IsAlong past h now s r
@@ -92,8 +90,8 @@ on_way past h old now before after reported first at later Before After u step p
 }
 
 -- the report failed at it
-pub cut_off : {A F : Type 0} → (past : Bool) (expected : Option ℕ) (h now : BytesRead) (r : Reader A) (fault : F)
-    (first at : BytesWritten) (Cuts : List Border → F → Type 0) (Stops : List Border → PartsFault → F → Type 0)
+pub cut_off : {A : Type 0} → (past : Bool) (expected : Option ℕ) (h now : BytesRead) (r : Reader A) (fault : JoinsFault)
+    (first at : BytesWritten) (Cuts : List Border → JoinsFault → Type 0) (Stops : List Border → JoinsFault → JoinsFault → Type 0)
     → h ≡ nothing_read → IsUnderWay past h now r first at (λ found. Cuts found fault)
     → IsUnread fault past expected now first at Cuts Stops
 cut_off past expected h now r fault first at Cuts Stops begin u = record {
@@ -103,20 +101,20 @@ cut_off past expected h now r fault first at Cuts Stops begin u = record {
 }
 
 -- no line was read
-pub none_read_yet : {F : Type 0} → (past : Bool) (expected : Option ℕ) (h : BytesRead) (fault : F)
-    (first : BytesWritten) (Cuts : List Border → F → Type 0) (Stops : List Border → PartsFault → F → Type 0)
-    → h ≡ nothing_read → Stops [] NoMemory fault → IsUnread fault past expected h first first Cuts Stops
+pub none_read_yet : (past : Bool) (expected : Option ℕ) (h : BytesRead) (fault : JoinsFault)
+    (first : BytesWritten) (Cuts : List Border → JoinsFault → Type 0) (Stops : List Border → JoinsFault → JoinsFault → Type 0)
+    → h ≡ nothing_read → Stops [] Memory fault → IsUnread fault past expected h first first Cuts Stops
 none_read_yet past expected h fault first Cuts Stops begin ends = record {
   found = [];
   to = each_to past h h start [] first first begin (none_read h) (AreBorders.none []) (none_reported past first);
-  by = inr (NoMemory, (tt, ends));
+  by = inr (Memory, (tt, ends));
 }
 
-ended_by : {A : Type 0} → (ended : PartsFault) (past : Bool) (expected : Option ℕ) (h now : BytesRead) (s : Stage)
+ended_by : {A : Type 0} → (ended : JoinsFault) (past : Bool) (expected : Option ℕ) (h now : BytesRead) (s : Stage)
     (r : Reader A) (found : List Border) (first at : BytesWritten) → h ≡ nothing_read
     → IsNextStep {A = A} past h s (Err ended) now r → AreBordersOf past (parts_at s) found
     → AreReported (passed_lines past (parts_at s)) first at → IsEndedBy ended past expected now found first at
-ended_by (BadLine k offset flaw) past expected h now s r found first at begin step borders are =
+ended_by (Line k offset flaw) past expected h now s r found first at begin step borders are =
     let stop : IsStoppedAt h now s = step.stopped in
     let all : stop.bytes ≡ now.bytes = all_bytes h now stop.bytes begin stop.reported in
     let before : (r : AreLinesRead now.bytes stop.count s) × IsFlaw flaw s.last r.rest now.is_at_end =
@@ -134,18 +132,19 @@ ended_by (BadLine k offset flaw) past expected h now s r found first at begin st
       };
       borders = borders;
     }
-ended_by (Miscount parts due) past expected h now s r found first at begin step borders are = absurd step
-ended_by (Unread fault) past expected h now s r found first at begin step borders are = (
+ended_by (Count parts due) past expected h now s r found first at begin step borders are = absurd step
+ended_by (Stream fault) past expected h now s r found first at begin step borders are = (
   subst (λ (k : BytesRead). IsStreamFault fault k now) begin step.0,
   subst (λ (b : List ℕ). HasNoBadLine past b) (all_bytes h now step.1.0.bytes begin step.1.0.reported)
       step.1.1,
 )
-ended_by NoMemory past expected h now s r found first at begin step borders are = tt
+ended_by Write past expected h now s r found first at begin step borders are = absurd step
+ended_by Memory past expected h now s r found first at begin step borders are = tt
 
 -- the next line is bad, or can't be read
-pub stopped_at : {A F : Type 0} → (past : Bool) (expected : Option ℕ) (h old now : BytesRead) (before after : Reader A)
-    (ended : PartsFault) (fault : F) (first at : BytesWritten) (Before : List Border → Type 0)
-    (Cuts : List Border → F → Type 0) (Stops : List Border → PartsFault → F → Type 0) → h ≡ nothing_read
+pub stopped_at : {A : Type 0} → (past : Bool) (expected : Option ℕ) (h old now : BytesRead) (before after : Reader A)
+    (ended fault : JoinsFault) (first at : BytesWritten) (Before : List Border → Type 0)
+    (Cuts : List Border → JoinsFault → Type 0) (Stops : List Border → JoinsFault → JoinsFault → Type 0) → h ≡ nothing_read
     → (u : IsUnderWay past h old before first at Before) → IsNextStep {A = A} past h u.stage (Err ended) now after
     → ((found : List Border) → Before found → Stops found ended fault)
     → IsUnread fault past expected now first at Cuts Stops
@@ -175,11 +174,11 @@ all_parts past h now s r first at begin e are = record {
   reported = are;
 }
 
-counted_by : {A : Type 0} → (ended : PartsFault) (past : Bool) (expected : Option ℕ) (h now : BytesRead) (s : Stage)
+counted_by : {A : Type 0} → (ended : JoinsFault) (past : Bool) (expected : Option ℕ) (h now : BytesRead) (s : Stage)
     (r : Reader A) (found : List Border) (first at : BytesWritten) → h ≡ nothing_read → HasEnded past h now s r
     → IsFinished {A = A} r.joint expected (Err ended) → AreBordersOf past (parts_at s) found
     → AreReported (passed_lines past (parts_at s)) first at → IsEndedBy ended past expected now found first at
-counted_by (Miscount parts due) past expected h now s r found first at begin e f borders are = record {
+counted_by (Count parts due) past expected h now s r found first at begin e f borders are = record {
   whole = e.at_end;
   miscounted = record {
     joint = written_of r.joint.so_far;
@@ -190,14 +189,15 @@ counted_by (Miscount parts due) past expected h now s r found first at begin e f
   };
   borders = borders;
 }
-counted_by (BadLine k offset flaw) past expected h now s r found first at begin e f borders are = absurd f
-counted_by (Unread fault) past expected h now s r found first at begin e f borders are = absurd f
-counted_by NoMemory past expected h now s r found first at begin e f borders are = absurd f
+counted_by (Line k offset flaw) past expected h now s r found first at begin e f borders are = absurd f
+counted_by (Stream fault) past expected h now s r found first at begin e f borders are = absurd f
+counted_by Write past expected h now s r found first at begin e f borders are = absurd f
+counted_by Memory past expected h now s r found first at begin e f borders are = absurd f
 
 -- another number of parts is expected
-pub miscounted : {A F : Type 0} → (past : Bool) (expected : Option ℕ) (h old now : BytesRead) (before after : Reader A)
-    (ended : PartsFault) (fault : F) (first at : BytesWritten) (Before : List Border → Type 0)
-    (Cuts : List Border → F → Type 0) (Stops : List Border → PartsFault → F → Type 0) → h ≡ nothing_read
+pub miscounted : {A : Type 0} → (past : Bool) (expected : Option ℕ) (h old now : BytesRead) (before after : Reader A)
+    (ended fault : JoinsFault) (first at : BytesWritten) (Before : List Border → Type 0)
+    (Cuts : List Border → JoinsFault → Type 0) (Stops : List Border → JoinsFault → JoinsFault → Type 0) → h ≡ nothing_read
     → (u : IsUnderWay past h old before first at Before) → HasEnded past h now u.stage after
     → IsFinished {A = A} after.joint expected (Err ended)
     → ((found : List Border) → Before found → Stops found ended fault)
@@ -241,26 +241,27 @@ abbrev stopped : (past : Bool) (h : BytesRead) (found : List Border) (first at :
     → AreEachTo past h found first at → IsStopped past nothing_read h first at
 stopped past h found first at to = record { bytes = h.bytes; more = refl; stage = to.stage; lines = to.lines }
 
-refused_by : (A : Type 0) (fault : PartsFault) (past : Bool) (expected : Option ℕ) (h : BytesRead)
+refused_by : (A : Type 0) (fault : JoinsFault) (past : Bool) (expected : Option ℕ) (h : BytesRead)
     (found : List Border) (first at : BytesWritten) → AreEachTo past h found first at
     → IsEndedBy fault past expected h found first at
     → IsReadOutcome {A = A} (Err fault) past expected nothing_read h first at
-refused_by A (BadLine k offset flaw) past expected h found first at to by = (h.bytes, (refl, by.bad))
-refused_by A (Miscount parts due) past expected h found first at to by = (h.bytes, (refl, by.whole, by.miscounted))
-refused_by A (Unread fault) past expected h found first at to by =
+refused_by A (Line k offset flaw) past expected h found first at to by = (h.bytes, (refl, by.bad))
+refused_by A (Count parts due) past expected h found first at to by = (h.bytes, (refl, by.whole, by.miscounted))
+refused_by A (Stream fault) past expected h found first at to by =
     (by.0, record { stopped = stopped past h found first at to; none_bad = by.1 })
-refused_by A NoMemory past expected h found first at to by = stopped past h found first at to
+refused_by A Write past expected h found first at to by = absurd by
+refused_by A Memory past expected h found first at to by = stopped past h found first at to
 
-unread : (A : Type 0) (fault : PartsFault) (past : Bool) (expected : Option ℕ) (h : BytesRead)
+unread : (A : Type 0) (fault : JoinsFault) (past : Bool) (expected : Option ℕ) (h : BytesRead)
     (found : List Border) (first at : BytesWritten) → AreEachTo past h found first at
-    → ⊥ ⊎ ((ended : PartsFault) × (IsEndedBy ended past expected h found first at × (fault ≡ ended)))
+    → ⊥ ⊎ ((ended : JoinsFault) × (IsEndedBy ended past expected h found first at × (fault ≡ ended)))
     → IsReadOutcome {A = A} (Err fault) past expected nothing_read h first at
 unread A fault past expected h found first at to (inl cut) = absurd cut
 unread A fault past expected h found first at to (inr (ended, (end, same))) =
-    subst (λ (f : PartsFault). IsReadOutcome {A = A} (Err f) past expected nothing_read h first at) (sym same)
+    subst (λ (f : JoinsFault). IsReadOutcome {A = A} (Err f) past expected nothing_read h first at) (sym same)
     (refused_by A ended past expected h found first at to end)
 
-read_by : (A : Type 0) (r : Result (JointPart A) PartsFault) (past : Bool) (expected : Option ℕ) (h : BytesRead)
+read_by : (A : Type 0) (r : Result (JointPart A) JoinsFault) (past : Bool) (expected : Option ℕ) (h : BytesRead)
     (first at : BytesWritten) (Stands : List Border → Type 0)
     → IsReading r past expected h first at Stands (λ found fault. ⊥) (λ found ended fault. fault ≡ ended)
     → IsReadOutcome r past expected nothing_read h first at
@@ -268,7 +269,7 @@ read_by A (Ok joint) past expected h first at Stands all =
     (h.bytes, (refl, all.1.0.read.whole, (all.1.0.read.parts, all.1.0.read.number)))
 read_by A (Err fault) past expected h first at Stands u = unread A fault past expected h u.found first at u.to u.by
 
-pub unreported : (A : Type 0) (result : Result (JointPart A) PartsFault) (past : Bool) (expected : Option ℕ)
+pub unreported : (A : Type 0) (result : Result (JointPart A) JoinsFault) (past : Bool) (expected : Option ℕ)
     (old h : BytesRead) (first at : BytesWritten) (Stands : List Border → Type 0) → old ≡ nothing_read
     → IsReading result past expected h first at Stands (λ found fault. ⊥) (λ found ended fault. fault ≡ ended)
     → IsReadOutcome result past expected old h first at
@@ -309,9 +310,9 @@ lined_in_part first old new taken text whole found more before e cut = (
 )
 
 -- what is gathered was written
-pub flushed : (first old new : BytesWritten) (text whole : List ℕ) (found : List Border) (ended : PartsFault)
-    (fault : JoinsFault) → AreLined first old text found → whole ≡ text → new.bytes ≡ old.bytes ++ whole
-    → new.failures ≡ old.failures → fault ≡ refusal ended → IsFlushed first new found ended fault
+pub flushed : (first old new : BytesWritten) (text whole : List ℕ) (found : List Border) (ended fault : JoinsFault)
+    → AreLined first old text found → whole ≡ text → new.bytes ≡ old.bytes ++ whole
+    → new.failures ≡ old.failures → fault ≡ ended → IsFlushed first new found ended fault
 flushed first old new text whole found ended fault before e bytes fine same =
     let all : AreGathered first new [] (border_lines found) =
     gathered_written first old new text [] (border_lines found) before.lines
@@ -323,7 +324,7 @@ flushed first old new text whole found ended fault before e bytes fine same =
 
 -- or a part of it, before the output failed
 pub flushed_in_part : (first old new : BytesWritten) (text whole : List ℕ) (taken : ℕ) (found : List Border)
-    (ended : PartsFault) → AreLined first old text found → whole ≡ text → new.bytes ≡ old.bytes ++ take taken whole
+    (ended : JoinsFault) → AreLined first old text found → whole ≡ text → new.bytes ≡ old.bytes ++ take taken whole
     → taken < length whole → new.failures ≡ old.failures + 1 → IsFlushed first new found ended Write
 flushed_in_part first old new text whole taken found ended before e bytes within failed = inr (
   (
@@ -344,22 +345,23 @@ cut_by (Stream fault) past expected h found first new reported at to cut = absur
 cut_by Write past expected h found first new reported at to cut = (cut.0, inl (found, (to, cut.1)))
 cut_by Memory past expected h found first new reported at to cut = (cut.0, inl (found, (to, cut.1)))
 
-written_by : (ended : PartsFault) (past : Bool) (expected : Option ℕ) (h : BytesRead) (found : List Border)
+written_by : (ended : JoinsFault) (past : Bool) (expected : Option ℕ) (h : BytesRead) (found : List Border)
     (first new reported at : BytesWritten) → AreEachTo past h found reported at
     → IsEndedBy ended past expected h found reported at → IsWritten (border_lines found) first new
-    → IsJoinEachOutcome past expected (Err (refusal ended)) h first new reported at
-written_by (BadLine k offset flaw) past expected h found first new reported at to by written = (found, (by, written))
-written_by (Miscount parts due) past expected h found first new reported at to by written = (found, (by, written))
-written_by (Unread fault) past expected h found first new reported at to by written =
+    → IsJoinEachOutcome past expected (Err ended) h first new reported at
+written_by (Line k offset flaw) past expected h found first new reported at to by written = (found, (by, written))
+written_by (Count parts due) past expected h found first new reported at to by written = (found, (by, written))
+written_by (Stream fault) past expected h found first new reported at to by written =
     (found, (to, written, by.0, by.1))
-written_by NoMemory past expected h found first new reported at to by written =
+written_by Write past expected h found first new reported at to by written = absurd by
+written_by Memory past expected h found first new reported at to by written =
     let all : AreGathered first new [] (border_lines found) =
     record { taken = border_lines found; bytes = written.bytes; joined = append-nil (border_lines found) } in
     (written.fine, inl (found, (to, gathered_first first new [] (border_lines found) all)))
 
 unread_by : (fault : JoinsFault) (past : Bool) (expected : Option ℕ) (h : BytesRead) (found : List Border)
     (first new reported at : BytesWritten) (Also : Type 0) → AreEachTo past h found reported at
-    → (IsCutShort first new (border_lines found) fault × Also) ⊎ ((ended : PartsFault)
+    → (IsCutShort first new (border_lines found) fault × Also) ⊎ ((ended : JoinsFault)
     × (IsEndedBy ended past expected h found reported at × (IsFlushed first new found ended fault × Also)))
     → IsJoinEachOutcome past expected (Err fault) h first new reported at × Also
 unread_by fault past expected h found first new reported at Also to (inl cut) =

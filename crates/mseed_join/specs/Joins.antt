@@ -8,11 +8,8 @@ use Rattle.mseed_audit.specs.Summary.{IsWritten, broken_count}
 use Rattle.mseed_join.specs.declared.joining.Form.{Form}
 use Rattle.mseed_join.specs.declared.joining.Form.TheVariants.{Audit, Part}
 use Rattle.mseed_join.specs.declared.joining.Joined.{Joined as Answer}
-use Rattle.mseed_join.specs.declared.joining.JoinsFault.{JoinsFault}
-use Rattle.mseed_join.specs.declared.joining.JoinsFault.TheVariants.{Line, Count, Stream, Write, Memory}
-use Rattle.mseed_join.specs.declared.reader.PartsFault.{PartsFault}
-use Rattle.mseed_join.specs.declared.reader.PartsFault.TheVariants.{Line as BadLine, Count as Miscount}
-use Rattle.mseed_join.specs.declared.reader.PartsFault.TheVariants.{Stream as Unread, Memory as NoMemory}
+use Rattle.mseed_join.specs.declared.fault.JoinsFault.{JoinsFault}
+use Rattle.mseed_join.specs.declared.fault.JoinsFault.TheVariants.{Line, Count, Stream, Write, Memory}
 use Rattle.mseed_join.specs.Joined.{join_text, verdict_at}
 use Rattle.mseed_join.specs.ReadParts.{AreBadParts, AreExpected, AreMiscounted, AreReadParts, IsFailed, IsStopped}
 use Rattle.mseed_join.specs.Written.{Written, part_text}
@@ -21,13 +18,6 @@ use Rattle.mseed_join.specs.Written.{Written, part_text}
 abbrev pub text_by : Form → Written → List ℕ
 text_by Audit w = join_text w
 text_by Part w = part_text w
-
--- why parts aren't joined that weren't read
-abbrev pub refusal : PartsFault → JoinsFault
-refusal (BadLine k offset flaw) = Line k offset flaw
-refusal (Miscount parts due) = Count parts due
-refusal (Unread fault) = Stream fault
-refusal NoMemory = Memory
 
 -- it ends with a fault, or faults were passed
 abbrev pub is_faulty : Written → Bool

@@ -3,8 +3,8 @@ use Rattle.std.specs.Prelude.{⊤, ◌≡◌, ◌≢◌, ℕ, ◌+◌, List, ◌
 use Rattle.mseed_stream.specs.Device.{BytesRead, BytesWritten}
 use Rattle.mseed_stream.specs.Fault.{IsStreamFault}
 use Rattle.mseed_join.specs.declared.joint.JointPart.{JointPart}
-use Rattle.mseed_join.specs.declared.reader.PartsFault.{PartsFault}
-use Rattle.mseed_join.specs.declared.reader.PartsFault.TheVariants.{Line, Count, Stream, Memory}
+use Rattle.mseed_join.specs.declared.fault.JoinsFault.{JoinsFault}
+use Rattle.mseed_join.specs.declared.fault.JoinsFault.TheVariants.{Line, Count, Stream, Write, Memory}
 use Rattle.mseed_join.specs.declared.flaw.Flaw.{Flaw}
 use Rattle.mseed_join.specs.Flaws.{IsFlaw}
 use Rattle.mseed_join.specs.Joined.{HasNoBadLine, IsBadLine, IsJointOf}
@@ -70,7 +70,8 @@ pub record IsFailed (past : Bool) (old h : BytesRead) (s new : BytesWritten) : T
   pub none_bad : HasNoBadLine past stopped.bytes
 
 -- By the answer: of what was read of the source, and of the device that faults are reported to, before and after.
-abbrev pub IsReadOutcome : {A : Type 0} → Result (JointPart A) PartsFault → Bool → Option ℕ → BytesRead → BytesRead
+-- Nothing else is written, so no output fails.
+abbrev pub IsReadOutcome : {A : Type 0} → Result (JointPart A) JoinsFault → Bool → Option ℕ → BytesRead → BytesRead
     → BytesWritten → BytesWritten → Type 0
 IsReadOutcome (Ok joint) past expected old h s new =
     (bytes : List ℕ) × (ReadMore old h bytes × (h.is_at_end ≡ true)
@@ -81,4 +82,5 @@ IsReadOutcome (Err (Count parts due)) past expected old h s new =
     (bytes : List ℕ) × (ReadMore old h bytes × (h.is_at_end ≡ true)
     × AreMiscounted past expected bytes parts due s new)
 IsReadOutcome (Err (Stream fault)) past expected old h s new = IsStreamFault fault old h × IsFailed past old h s new
+IsReadOutcome (Err Write) past expected old h s new = ⊥
 IsReadOutcome (Err Memory) past expected old h s new = IsStopped past old h s new

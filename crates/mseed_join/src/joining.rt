@@ -2,19 +2,17 @@
 ghost use Rattle.std.specs.Prelude.{◌≡◌, ◌||◌, ◌++◌, nat_lt, IfOk, OnOk, is_some};
 ghost use Rattle.mseed_stream.specs.Calls.{ReadsOn, WritesOn};
 ghost use Rattle.mseed_stream.specs.Device.{nothing_read};
-ghost use Rattle.mseed_join.specs.Joins.{IsAnswer, IsJoinOutcome, refusal, text_by};
+ghost use Rattle.mseed_join.specs.Joins.{IsAnswer, IsJoinOutcome, text_by};
 
 use crate::auditing::count_broken;
-use crate::flaw::Flaw;
+use crate::fault::JoinsFault;
 use crate::joint::JointPart;
 use crate::part::Part;
 use crate::parts::read_parts;
-use crate::reader::PartsFault;
 use crate::text::{push_join, push_part};
 use mseed_audit::Memory;
 use mseed_stream::{Sink, Source, StreamFault, write_all_of};
 use std::alloc::Allocator;
-use thiserror::Error;
 
 /// What is written of parts that are joined.
 #[derive(Clone, Copy, Debug, PartialEq, Eq)]
@@ -32,56 +30,6 @@ pub struct Joined {
     pub broken: u64,
     /// Whether the last archive ends with a fault, or faults were passed.
     pub fault: bool,
-}
-
-/// Why parts weren't joined, or what they are joined to wasn't written whole.
-#[derive(Clone, Copy, Debug, PartialEq, Eq, Error)]
-pub enum JoinsFault {
-    /// A line is bad. Nothing was written, or by `join_each` the lines of the borders before it.
-    #[error("bad part at line {number}")]
-    Line {
-        /// Its number, from 1 over all parts.
-        number: u64,
-        /// The offset at which it begins, in bytes of the input: where the input ends and lacks it, its length.
-        offset: u64,
-        /// What is wrong with it.
-        flaw: Flaw,
-    },
-    /// So many parts were read, and so many were expected. Nothing was written, or by `join_each` the lines of their
-    /// borders.
-    #[error("{0} parts, not {1}")]
-    Count(u64, u64),
-    /// The parts couldn't be read whole. Nothing was written, or by `join_each` the lines of the borders so far.
-    #[error("the input failed")]
-    Stream(StreamFault),
-    /// The output failed. A prefix of the text was written.
-    #[error("the output failed")]
-    Write,
-    /// An allocation was refused. Nothing was written, or by `join_each` a prefix of the text.
-    #[error("no memory")]
-    Memory,
-}
-
-/// Parts that weren't read aren't joined.
-impl From<PartsFault> for JoinsFault {
-    ghost from_gives = { λ unread fault. fault ≡ refusal unread };
-
-    fn from(unread: PartsFault) -> JoinsFault {
-        match unread {
-            PartsFault::Line {
-                number,
-                offset,
-                flaw,
-            } => JoinsFault::Line {
-                number,
-                offset,
-                flaw,
-            },
-            PartsFault::Count(parts, expected) => JoinsFault::Count(parts, expected),
-            PartsFault::Stream(fault) => JoinsFault::Stream(fault),
-            PartsFault::Memory => JoinsFault::Memory,
-        }
-    }
 }
 
 /// Reads parts, one after another, and writes what they are joined to. Without `past_faults` a part after one that

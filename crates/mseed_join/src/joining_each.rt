@@ -4,7 +4,8 @@ ghost use Rattle.mseed_stream.specs.Calls.{ReadsOn, WritesOn};
 ghost use Rattle.mseed_stream.specs.Device.{nothing_read};
 ghost use Rattle.mseed_join.specs.JoinsEach.{IsJoinEachOutcome};
 
-use crate::joining::{Form, Joined, JoinsFault, push_joined};
+use crate::fault::JoinsFault;
+use crate::joining::{Form, Joined, push_joined};
 use crate::joint::JointPart;
 use crate::parts::read_with;
 use mseed_audit::Memory;

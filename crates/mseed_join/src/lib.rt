@@ -7,6 +7,7 @@ mod bad_field;
 mod border;
 mod borders;
 mod composed;
+mod fault;
 mod fields;
 mod flaw;
 mod hex;
@@ -35,8 +36,9 @@ pub use composed::{
     cut_part, joined_audit, joined_each, joined_texts, no_bad_line, one_text, part_reads_back,
     parts_can_be_joined,
 };
+pub use fault::JoinsFault;
 pub use flaw::{Closing, Flaw};
-pub use joining::{Form, Joined, JoinsFault, join};
+pub use joining::{Form, Joined, join};
 pub use joining_each::join_each;
 pub use joint::JointPart;
 pub use law::{lines_are_short, one_flaw, one_list_of_borders, one_part_of_input};
@@ -46,5 +48,4 @@ pub use part::{JoinFault, Part};
 pub use part_law::{findings_add_up, joined_in_turn, joining_laws, one_part, parts_add_up};
 pub use part_sums::{TooLarge, sum};
 pub use parts::read_parts;
-pub use reader::PartsFault;
 pub use writing::{HEADER, push_channel_line, push_counts_line, push_faults_line};

@@ -7,8 +7,9 @@ ghost use Rattle.mseed_join.specs.Reached.{AreReported};
 ghost use Rattle.mseed_join.specs.private.Bordered.{IsReading};
 ghost use Rattle.mseed_join.specs.private.Taking.{passed_by};
 
+use crate::fault::JoinsFault;
 use crate::joint::{JointPart, Reported};
-use crate::reader::{PartsFault, Reader};
+use crate::reader::Reader;
 use crate::report::{Report, Unreported};
 use mseed_audit::Memory;
 use mseed_stream::{Sink, Source, report};
@@ -32,7 +33,7 @@ pub fn read_parts<A: Allocator + Copy, R: Source, E: Sink>(
     expected: Option<u64>,
     source: &mut R,
     errors: &mut E,
-) -> Result<JointPart<A>, PartsFault>
+) -> Result<JointPart<A>, JoinsFault>
     requires { R.read source.old ≡ nothing_read }
     ensures outcome { IsReadOutcome result past expected (R.read source.old) (R.read source.new) (E.written errors.old)
         (E.written errors.new) }
@@ -58,7 +59,7 @@ pub fn read_parts<A: Allocator + Copy, R: Source, E: Sink>(
 /// # Errors
 ///
 /// Those of `read_parts`, as the report answers them, and those of the report.
-pub(crate) fn read_with<A: Allocator + Copy, R: Source, E: Sink, O, F, P: Report<O, F>>(
+pub(crate) fn read_with<A: Allocator + Copy, R: Source, E: Sink, O, P: Report<O>>(
     alloc: A,
     past: bool,
     expected: Option<u64>,
@@ -66,7 +67,7 @@ pub(crate) fn read_with<A: Allocator + Copy, R: Source, E: Sink, O, F, P: Report
     errors: &mut E,
     report: &mut P,
     output: &mut O,
-) -> Result<JointPart<A>, F>
+) -> Result<JointPart<A>, JoinsFault>
     requires read { R.read source.old ≡ nothing_read }
     requires report { P.stands output.old report.old output.old [] }
     ensures outcome { IsReading result past expected (R.read source.new) (E.written errors.old) (E.written errors.new)
@@ -76,7 +77,7 @@ pub(crate) fn read_with<A: Allocator + Copy, R: Source, E: Sink, O, F, P: Report
 {
     let mut reader = match Reader::new(alloc, past) {
         Ok(reader) => reader,
-        Err(Memory) => return Err(report.stop(output, PartsFault::Memory)),
+        Err(Memory) => return Err(report.stop(output, JoinsFault::Memory)),
     };
     'lines: loop {
         match reader.next(source) {

@@ -5,38 +5,14 @@ ghost use Rattle.mseed_stream.specs.Device.{BytesRead};
 ghost use Rattle.mseed_join.specs.Reached.{Stage, start};
 ghost use Rattle.mseed_join.specs.private.Along.{IsAlong, IsFinished, IsNextStep, flaw_of, is_over};
 
+use crate::fault::JoinsFault;
 use crate::flaw::Flaw;
 use crate::joint::{Joint, JointPart, LineFault, Reported};
 use crate::law::lines_are_short;
 use crate::line_reader::{Ahead, LineReader};
 use mseed_audit::Memory;
-use mseed_stream::{Source, StreamFault};
+use mseed_stream::Source;
 use std::alloc::Allocator;
-use thiserror::Error;
-
-/// Why parts weren't read whole.
-#[derive(Clone, Copy, Debug, PartialEq, Eq, Error)]
-pub enum PartsFault {
-    /// A line is bad.
-    #[error("bad part at line {number}")]
-    Line {
-        /// Its number, from 1 over all parts.
-        number: u64,
-        /// The offset at which it begins, in bytes of the input: where the input ends and lacks it, its length.
-        offset: u64,
-        /// What is wrong with it.
-        flaw: Flaw,
-    },
-    /// So many parts were read, and so many were expected.
-    #[error("{0} parts, not {1}")]
-    Count(u64, u64),
-    /// The source failed, or wasn't at its end after 2^40 reads.
-    #[error("the input failed")]
-    Stream(StreamFault),
-    /// An allocation was refused.
-    #[error("no memory")]
-    Memory,
-}
 
 /// Parts that are read line by line, and joined as they are read.
 #[derive(Drop)]
@@ -67,7 +43,7 @@ impl<A: Allocator + Copy> Reader<A> {
     ///
     /// `Line` where the next line is bad, `Stream` where the source failed, or wasn't at its end after 2^40 reads, and
     /// `Memory` where there was no room for a channel that is new.
-    pub(crate) fn next<R: Source>(&mut self, source: &mut R) -> Result<Option<Reported>, PartsFault>
+    pub(crate) fn next<R: Source>(&mut self, source: &mut R) -> Result<Option<Reported>, JoinsFault>
         requires { (past : Bool) × (h : BytesRead) × (s : Stage) × IsAlong past h (R.read source.old) s self.old }
         ensures step { (past : Bool) (h : BytesRead) (s : Stage) → IsAlong past h (R.read source.old) s self.old
             → IsNextStep past h s result (R.read source.new) self.new }
@@ -79,7 +55,7 @@ impl<A: Allocator + Copy> Reader<A> {
         lines_are_short();
         let ahead = match self.lines.look(source) {
             Ok(ahead) => ahead,
-            Err(fault) => return Err(PartsFault::Stream(fault)),
+            Err(fault) => return Err(JoinsFault::Stream(fault)),
         };
         let number = self.lines.lines() + 1;
         let offset = self.lines.offset();
@@ -89,19 +65,19 @@ impl<A: Allocator + Copy> Reader<A> {
                     self.lines.pass();
                     Ok(Some(reported))
                 }
-                Err(LineFault::Bad(flaw)) => Err(PartsFault::Line {
+                Err(LineFault::Bad(flaw)) => Err(JoinsFault::Line {
                     number,
                     offset,
                     flaw,
                 }),
-                Err(LineFault::Memory) => Err(PartsFault::Memory),
+                Err(LineFault::Memory) => Err(JoinsFault::Memory),
             },
             other => {
                 if self.is_over(other) {
                     Ok(None)
                 } else {
                     let flaw = flaw_of(other);
-                    Err(PartsFault::Line {
+                    Err(JoinsFault::Line {
                         number,
                         offset,
                         flaw,
@@ -124,12 +100,12 @@ impl<A: Allocator + Copy> Reader<A> {
     /// # Errors
     ///
     /// `Count` where they aren't.
-    pub(crate) fn finish(self, expected: Option<u64>) -> Result<JointPart<A>, PartsFault>
+    pub(crate) fn finish(self, expected: Option<u64>) -> Result<JointPart<A>, JoinsFault>
         ensures { IsFinished self.joint expected result }
     {
         let parts = self.joint.parts;
         match expected {
-            Some(due) if parts != due => Err(PartsFault::Count(parts, due)),
+            Some(due) if parts != due => Err(JoinsFault::Count(parts, due)),
             _ => Ok(self.joint.into_part()),
         }
     }

@@ -3,29 +3,27 @@ ghost use Rattle.std.specs.Prelude.{◌≡◌, ◌≤◌, ◌++◌, ⊤, ℕ, If
 ghost use Rattle.mseed_stream.specs.declared.whole.TheConstants.{GATHERED};
 ghost use Rattle.mseed_stream.specs.Calls.{WritesOn};
 ghost use Rattle.mseed_join.specs.Borders.{Border, border_lines};
-ghost use Rattle.mseed_join.specs.declared.joining.JoinsFault.{JoinsFault};
-ghost use Rattle.mseed_join.specs.declared.reader.PartsFault.{PartsFault};
+ghost use Rattle.mseed_join.specs.declared.fault.JoinsFault.{JoinsFault};
 ghost use Rattle.mseed_join.specs.private.Bordered.{AreLined, IsCutShort, IsFlushed};
 ghost use Rattle.mseed_join.specs.private.Taking.{border_by};
 
 use crate::borders::push_reported;
-use crate::joining::JoinsFault;
+use crate::fault::JoinsFault;
 use crate::joint::Reported;
-use crate::reader::PartsFault;
 use mseed_stream::{GATHERED, Sink, write_all_of, write_beyond};
 use std::alloc::Allocator;
 
 /// What is done with the borders that have a finding: nothing, or a line for each goes to an output. The loop over the
-/// lines of parts takes any report; `F` says why parts weren't read, or why what is reported of them wasn't written.
-pub(crate) trait Report<O, F> {
+/// lines of parts takes any report.
+pub(crate) trait Report<O> {
     // So the report and its output stand once these were reported: by the output at first, the report and the output.
     ghost stands: { O → Self → O → List Border → Type 0 };
 
     // So the output stands where a fault came as these were reported: by the output at first, and the output.
-    ghost cuts: { O → O → List Border → F → Type 0 };
+    ghost cuts: { O → O → List Border → JoinsFault → Type 0 };
 
     // So the output stands where the parts ended with a fault after these, and which one is answered then.
-    ghost stops: { O → O → List Border → PartsFault → F → Type 0 };
+    ghost stops: { O → O → List Border → JoinsFault → JoinsFault → Type 0 };
 
     // So many bytes of lines wait to be written.
     ghost waiting: { Self → ℕ };
@@ -36,7 +34,7 @@ pub(crate) trait Report<O, F> {
     /// # Errors
     ///
     /// Where the output failed, or an allocation was refused: it isn't called again.
-    fn add(&mut self, output: &mut O, reported: &Reported) -> Result<(), F>
+    fn add(&mut self, output: &mut O, reported: &Reported) -> Result<(), JoinsFault>
         ensures reported { (first : O) (found : List Border) → stands first self.old output.old found
             → MatchResult result (λ _. stands first self.new output.new (found ++ border_by reported.now))
             (λ fault. cuts first output.new (found ++ border_by reported.now) fault) }
@@ -44,7 +42,7 @@ pub(crate) trait Report<O, F> {
 
     /// Writes to the output what was gathered, since the parts end with a fault, and returns the fault: the output's
     /// where the output failed.
-    fn stop(&self, output: &mut O, fault: PartsFault) -> F
+    fn stop(&self, output: &mut O, fault: JoinsFault) -> JoinsFault
         ensures { (first : O) (found : List Border) → stands first self.now output.old found
             → stops first output.new found fault result };
 }
@@ -53,7 +51,7 @@ pub(crate) trait Report<O, F> {
 #[derive(Clone, Copy)]
 pub(crate) struct Unreported;
 
-impl Report<(), PartsFault> for Unreported {
+impl Report<()> for Unreported {
     ghost stands = { λ _ _ _ _. ⊤ };
 
     ghost cuts = { λ _ _ _ _. ⊥ };
@@ -63,18 +61,18 @@ impl Report<(), PartsFault> for Unreported {
     ghost waiting = { λ _. 0 };
 
     #[inline(always)]
-    fn add(&mut self, _output: &mut (), _reported: &Reported) -> Result<(), PartsFault> {
+    fn add(&mut self, _output: &mut (), _reported: &Reported) -> Result<(), JoinsFault> {
         Ok(())
     }
 
     #[inline(always)]
-    fn stop(&self, _output: &mut (), fault: PartsFault) -> PartsFault {
+    fn stop(&self, _output: &mut (), fault: JoinsFault) -> JoinsFault {
         fault
     }
 }
 
 /// Their lines are gathered in a text, and written some at a time.
-impl<A: Allocator, W: Sink> Report<W, JoinsFault> for Vec<u8, A> {
+impl<A: Allocator, W: Sink> Report<W> for Vec<u8, A> {
     ghost stands = { λ first text now found. AreLined (W.written first) (W.written now) text.items found
         × WritesOn (W.written first) (W.written now) (W.contents first) (W.contents now) (W.beside first)
         (W.beside now) };
@@ -100,9 +98,9 @@ impl<A: Allocator, W: Sink> Report<W, JoinsFault> for Vec<u8, A> {
         }
     }
 
-    fn stop(&self, output: &mut W, fault: PartsFault) -> JoinsFault {
+    fn stop(&self, output: &mut W, fault: JoinsFault) -> JoinsFault {
         match write_all_of(output, self) {
-            Ok(()) => JoinsFault::from(fault),
+            Ok(()) => fault,
             Err(_) => JoinsFault::Write,
         }
     }

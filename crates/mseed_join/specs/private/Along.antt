@@ -10,8 +10,8 @@ use Rattle.mseed_join.specs.declared.joint.JointPart.{JointPart}
 use Rattle.mseed_join.specs.declared.joint.Place.{Place}
 use Rattle.mseed_join.specs.declared.joint.Place.TheVariants.{Start, Channels, Whole}
 use Rattle.mseed_join.specs.declared.joint.Reported.{Reported}
-use Rattle.mseed_join.specs.declared.reader.PartsFault.{PartsFault}
-use Rattle.mseed_join.specs.declared.reader.PartsFault.TheVariants.{Line as BadLine, Count, Stream, Memory}
+use Rattle.mseed_join.specs.declared.fault.JoinsFault.{JoinsFault}
+use Rattle.mseed_join.specs.declared.fault.JoinsFault.TheVariants.{Line as BadLine, Count, Stream, Write, Memory}
 use Rattle.mseed_join.specs.declared.reader.Reader.{Reader}
 use Rattle.mseed_join.specs.declared.flaw.Flaw.{Flaw}
 use Rattle.mseed_join.specs.declared.flaw.Flaw.TheVariants.{Long, Unended as NoEnd, Missing}
@@ -73,7 +73,7 @@ pub record IsBadAfter (past : Bool) (h now : BytesRead) (s : Stage) (k offset : 
   pub flaw_is : IsFlaw flaw s.last stopped.before.rest now.is_at_end
 
 -- by what one step answers: where the source failed, no bad line was read before
-abbrev pub IsNextStep : {A : Type 0} → Bool → BytesRead → Stage → Result (Option Reported) PartsFault → BytesRead
+abbrev pub IsNextStep : {A : Type 0} → Bool → BytesRead → Stage → Result (Option Reported) JoinsFault → BytesRead
     → Reader A
     → Type 0
 IsNextStep past h s (Ok (Some reported)) now r =
@@ -83,13 +83,15 @@ IsNextStep past h s (Err (BadLine k offset flaw)) now r = IsBadAfter past h now 
 IsNextStep past h s (Err (Count parts due)) now r = ⊥
 IsNextStep past h s (Err (Stream fault)) now r =
     IsStreamFault fault h now × ((stopped : IsStoppedAt h now s) × HasNoBadLine past stopped.bytes)
+IsNextStep past h s (Err Write) now r = ⊥
 IsNextStep past h s (Err Memory) now r = IsStoppedAt h now s
 
 -- All parts are read: the joint part, where they are as many as are expected; or their number, and the one that is
 -- expected.
-abbrev pub IsFinished : {A : Type 0} → Joint A → Option ℕ → Result (JointPart A) PartsFault → Type 0
+abbrev pub IsFinished : {A : Type 0} → Joint A → Option ℕ → Result (JointPart A) JoinsFault → Type 0
 IsFinished j expected (Ok joint) = (joint ≡ j.so_far) × AreExpected expected j.parts
 IsFinished j expected (Err (Count parts due)) = (parts ≡ j.parts) × (expected ≡ Some due) × (parts ≢ due)
 IsFinished j expected (Err (BadLine k offset flaw)) = ⊥
 IsFinished j expected (Err (Stream fault)) = ⊥
+IsFinished j expected (Err Write) = ⊥
 IsFinished j expected (Err Memory) = ⊥

@@ -1,7 +1,7 @@
 use Rattle.std.proofs.Common.{◌≡◌, ◌∙◌, ◌++◌, Err, List, ap, inr, refl, rules, sym, subst, ℕ}
 use Rattle.mseed_stream.specs.Device.{BytesRead, BytesWritten}
 use Rattle.mseed_stream.proofs.Calls.{writes_none}
-use Rattle.mseed_join.specs.Joins.{IsJoinOutcome, refusal, text_by}
+use Rattle.mseed_join.specs.Joins.{IsJoinOutcome, text_by}
 use Rattle.mseed_join.specs.ReadParts.{written_of}
 use Rattle.mseed_join.proofs.Refusing.{read_so, refused_so}
 use Rattle.mseed_join.proofs.joining.join.Goals as goal
@@ -12,7 +12,7 @@ returns-in_err-part-clause-outcome g c =
     let old : BytesWritten = g.W.Sink.written c.args.sink.now in
     let reported : BytesWritten = g.E.Sink.written c.args.errors.now in
     let now : BytesWritten = g.E.Sink.written c.read_parts.new.errors in
-    let same : c.from_residual.result ≡ Err (refusal c.in_err-part.field-0.0) = search rules in
+    let same : c.from_residual.result ≡ Err c.in_err-part.field-0.0 = search rules in
     subst (λ r. IsJoinOutcome c.args.form c.args.past_faults c.args.expected r h old old reported now) (sym same)
     (refused_so g.row.A.Denot c.args.form c.args.past_faults c.args.expected c.in_err-part.field-0.0
     (g.R.Source.read c.args.source.now) h old reported now c.requires c.in_err-part.ensures.outcome)

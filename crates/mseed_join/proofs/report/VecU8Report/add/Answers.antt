@@ -1,7 +1,7 @@
 use Rattle.mseed_stream.proofs.Calls.{writes_on}
 use Rattle.mseed_join.specs.private.Taking.{border_by}
 use Rattle.mseed_join.proofs.Each.{lined_in_part, lined_more, lined_no_more}
-use Rattle.mseed_join.proofs.report.VecU8ReportJoinsFault.add.Goals as goal
+use Rattle.mseed_join.proofs.report.VecU8Report.add.Goals as goal
 
 pub returns-in-Ok-write_beyond-clause-reported : goal.returns-in-Ok-write_beyond-clause-reported
 returns-in-Ok-write_beyond-clause-reported g c = λ first found before.
