@@ -156,50 +156,59 @@ NO_LF = "no LF at the end of the input; each line ends with one"
 NO_COUNTS = "the input ends within a part; the counts are missing, as records 2 bytes 256"
 
 
-# The fields of a channel's line and of the counts, and what is said of the first that isn't by the grammar.
+# The fields of a channel's line and of the counts: where each stands, its name, its form, and what would be right.
+IN_LINE, IN_HEAD, IN_TAIL, IN_COUNTS = "line of a channel", "head of a channel", "tail of a channel", "line of the counts"
+AS_RATE = "it is as 20/1, each from 1 to 1073741824"
+AS_RECORDS = "they are as records 2, from 0 to 9223372036854775807"
 CHANNEL_FIELDS = [
-    (r"[0-9A-F]{24}", "key", "it is 24 digits 0-9A-F, or the counts are as records 2 bytes 256"),
-    (rf" records {N}", "records", "they are as records 2, from 0 to 9223372036854775807"),
-    (rf" samples {N}", "samples", "they are as samples 32, from 0 to 9223372036854775807"),
-    (rf" head (?:none|{N} {N} {SIGNED} {N}/{N})", "head", "it is as head 1 0 1704067200000000 20/1, or head none"),
-    (rf" tail (?:none|{SIGNED} {N} {N}/{N} (?:{'|'.join(LEAPS)}))", "tail",
-     "it is as tail 1704067200000000 16 20/1 none, or tail none"),
-    (rf" findings {N}", "findings", "they are as findings 1, and 0 only with a head and a tail"),
-    ("", "first", "where findings are not 0 it ends the line, as first 2 128 gap 25001"),
+    (IN_LINE, "key", r"[0-9A-F]{24}", "it is 24 digits 0-9A-F, or the counts are as records 2 bytes 256"),
+    (IN_LINE, "records", rf" records {N}", AS_RECORDS),
+    (IN_LINE, "samples", rf" samples {N}", "they are as samples 32, from 0 to 9223372036854775807"),
+    (IN_HEAD, "number", rf" head (?:none|{N})", "it is as head 1 0 1704067200000000 20/1, or head none"),
+    (IN_HEAD, "offset", rf" {N}", "it is from 0 to 9223372036854775807"),
+    (IN_HEAD, "start", rf" {SIGNED}", "it is as 1704067200000000, microseconds from 1970, of the years 1800 to 2199"),
+    (IN_HEAD, "rate", rf" {N}/{N}", AS_RATE),
+    (IN_TAIL, "start", rf" tail (?:none|{SIGNED})", "it is as tail 1704067200000000 16 20/1 none, or tail none"),
+    (IN_TAIL, "samples", rf" {N}", "they are from 1 to 65535"),
+    (IN_TAIL, "rate", rf" {N}/{N}", AS_RATE),
+    (IN_TAIL, "leap", rf" (?:{'|'.join(LEAPS)})", "it is none, positive, negative or both"),
+    (IN_LINE, "findings", rf" findings {N}", "they are as findings 1, and 0 only with a head and a tail"),
+    (IN_LINE, "first", "", "where findings are not 0 it ends the line, as first 2 128 gap 25001"),
 ]
 COUNTS_FIELDS = [
-    (rf"records {N}", "records", "they are as records 2, from 0 to 9223372036854775807"),
-    ("", "bytes", "they end it, as bytes 256, from 0 to 9223372036854775807"),
+    (IN_COUNTS, "records", rf"records {N}", AS_RECORDS),
+    (IN_COUNTS, "bytes", "", "they end it, as bytes 256, from 0 to 9223372036854775807"),
 ]
 
 
-def is_within(name: str, field: str, fields: dict[str, str]) -> bool:
+def is_within(place: str, name: str, value: str, has_both: bool) -> bool:
     """Whether the numbers of a field are within their bounds; of no findings, whether they may stand here."""
-    *_, last = words = re.split("[ /]", field.strip())
-    if name in ("records", "samples"):
-        return int(last) <= LARGEST
-    if name == "findings":
-        has_both = " head none" != fields["head"] and " tail none" != fields["tail"]
-        return int(last) <= LARGEST and (last != "0" or has_both)
-    if name == "head" and last != "none":
-        number, offset, start, *rate = map(int, words[1:])
-        return max(number, offset) <= LARGEST and FIRST_INSTANT <= start <= LAST_INSTANT and is_rate((rate[0], rate[1]))
-    if name == "tail" and field != " tail none":
-        start, samples, *rate = map(int, words[1:-1])
-        return FIRST_INSTANT <= start <= LAST_INSTANT and 1 <= samples <= 65535 and is_rate((rate[0], rate[1]))
-    return True
+    if name in ("key", "leap") or value == "none":
+        return True
+    if name == "rate":
+        num, den = map(int, value.split("/"))
+        return is_rate((num, den))
+    number = int(value)
+    if name == "start":
+        return FIRST_INSTANT <= number <= LAST_INSTANT
+    if (place, name) == (IN_TAIL, "samples"):
+        return 1 <= number <= 65535
+    return number <= LARGEST and (name != "findings" or number > 0 or has_both)
 
 
 def bad_field(line: str) -> str:
     """What is said of a line that is neither of a channel nor of the counts: its first bad field, which is the last one
-    where no other is bad."""
-    is_counts = line.startswith("records ")
-    place, fields = 0, {}
-    for form, name, right in COUNTS_FIELDS if is_counts else CHANNEL_FIELDS:
-        found = re.compile(rf"{form}(?= |\Z)").match(line, place)
-        if not form or not found or not is_within(name, found[0], fields):
-            return f"bad {name} in the line of {'the counts' if is_counts else 'a channel'}; {right}"
-        place, fields[name] = found.end(), found[0]
+    where no other is bad. Of a head or a tail that isn't there, there are no further parts."""
+    at, absent = 0, set()
+    for place, name, form, right in COUNTS_FIELDS if line.startswith("records ") else CHANNEL_FIELDS:
+        if place in absent:
+            continue
+        found = re.compile(rf"{form}(?= |\Z)").match(line, at)
+        if not form or not found or not is_within(place, name, found[0].split(" ")[-1], not absent):
+            return f"bad {name} in the {place}; {right}"
+        at = found.end()
+        if found[0] in (" head none", " tail none"):
+            absent.add(place)
     raise AssertionError("the last field has no form")
 
 

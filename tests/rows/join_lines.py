@@ -83,8 +83,10 @@ def flaws() -> Cases:
     """What is said of a bad line, of each kind."""
     begin, bhn, bhz, records, faults, fault = LINES
     no_key = ("bad key in the line of a channel; it is 24 digits 0-9A-F, or the counts are as records 2 bytes 256")
-    no_head = "bad head in the line of a channel; it is as head 1 0 1704067200000000 20/1, or head none"
-    no_tail = "bad tail in the line of a channel; it is as tail 1704067200000000 16 20/1 none, or tail none"
+    no_number = "bad number in the head of a channel; it is as head 1 0 1704067200000000 20/1, or head none"
+    no_start = "bad start in the tail of a channel; it is as tail 1704067200000000 16 20/1 none, or tail none"
+    of_years = "it is as 1704067200000000, microseconds from 1970, of the years 1800 to 2199"
+    as_rate = "it is as 20/1, each from 1 to 1073741824"
     no_findings = ("bad findings in the line of a channel; they are as findings 1, and 0 only with a head and a tail")
     no_first = "bad first in the line of a channel; where findings are not 0 it ends the line, as first 2 128 gap 25001"
     no_bytes = "bad bytes in the line of the counts; they end it, as bytes 256, from 0 to 9223372036854775807"
@@ -109,12 +111,25 @@ def flaws() -> Cases:
          f"bad samples in the line of a channel; they are as samples 32, {to_most}"),
         ("a channel's samples misspelt", text_of([begin, bhn.replace("samples", "sample")]), 2,
          f"bad samples in the line of a channel; they are as samples 32, {to_most}"),
-        ("a head without a rate", text_of([begin, channel(head=f"1 0 {START}", tail="x")]), 2, no_head),
-        ("a head with more behind it", text_of([begin, channel(head=f"1 0 {START} 20/1 x", tail="x")]), 2, no_tail),
-        ("a head with more at it", text_of([begin, channel(head="nonex", findings="1 first 1 0 leap")]), 2, no_head),
-        ("a tail of no samples", text_of([begin, channel(tail=f"{START} 0 20/1 none", findings="x")]), 2, no_tail),
+        ("a head without a rate", text_of([begin, channel(head=f"1 0 {START}", tail="x")]), 2,
+         f"bad rate in the head of a channel; {as_rate}"),
+        ("a head with a rate of 0", text_of([begin, channel(head=f"1 0 {START} 0/1", tail="x")]), 2,
+         f"bad rate in the head of a channel; {as_rate}"),
+        ("a head with more behind it", text_of([begin, channel(head=f"1 0 {START} 20/1 x", tail="x")]), 2, no_start),
+        ("a head with more at it", text_of([begin, channel(head="nonex", findings="1 first 1 0 leap")]), 2, no_number),
+        ("a head's number", text_of([begin, channel(head=f"01 0 {START} 20/1", tail="x")]), 2, no_number),
+        ("a head's offset", text_of([begin, channel(head=f"1 {LARGEST + 1} {START} 20/1", tail="x")]), 2,
+         f"bad offset in the head of a channel; it is {to_most}"),
+        ("a head's start", text_of([begin, channel(head=f"1 0 {LAST_INSTANT + 1} 20/1", tail="x")]), 2,
+         f"bad start in the head of a channel; {of_years}"),
+        ("a tail's start", text_of([begin, channel(tail=f"{FIRST_INSTANT - 1} 16 20/1 none", findings="x")]), 2,
+         no_start),
+        ("a tail of no samples", text_of([begin, channel(tail=f"{START} 0 20/1 none", findings="x")]), 2,
+         "bad samples in the tail of a channel; they are from 1 to 65535"),
+        ("a tail's rate", text_of([begin, channel(tail=f"{START} 16 20 none", findings="x")]), 2,
+         f"bad rate in the tail of a channel; {as_rate}"),
         ("a tail and its leap second", text_of([begin, channel(tail=f"{START} 16 20/1 leap", findings="x")]), 2,
-         no_tail),
+         "bad leap in the tail of a channel; it is none, positive, negative or both"),
         ("a number of findings", text_of([begin, channel(findings="-1 first")]), 2, no_findings),
         ("no findings, and no head", text_of([begin, channel(head="none")]), 2, no_findings),
         ("no findings, and no tail", text_of([begin, channel(tail="none", findings="0 first")]), 2, no_findings),

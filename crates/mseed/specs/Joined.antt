@@ -4,8 +4,10 @@ use Rattle.mseed_stream.specs.Device.{BytesWritten}
 use Rattle.mseed_text.specs.Fault.{fault_line}
 use Rattle.mseed_text.specs.Name.{name_text}
 use Rattle.mseed_join.specs.declared.bad_field.Field.{Field}
-use Rattle.mseed_join.specs.declared.bad_field.Field.TheVariants.{Key, Records, Samples, Head, Tail, Findings}
-use Rattle.mseed_join.specs.declared.bad_field.Field.TheVariants.{First, AllRecords, AllBytes}
+use Rattle.mseed_join.specs.declared.bad_field.Field.TheVariants.{Key, Records, Samples, HeadNumber, HeadOffset}
+use Rattle.mseed_join.specs.declared.bad_field.Field.TheVariants.{HeadStart, HeadRate, TailStart, TailSamples}
+use Rattle.mseed_join.specs.declared.bad_field.Field.TheVariants.{TailRate, TailLeap, Findings, First, AllRecords}
+use Rattle.mseed_join.specs.declared.bad_field.Field.TheVariants.{AllBytes}
 use Rattle.mseed_join.specs.declared.flaw.Closing.{Closing}
 use Rattle.mseed_join.specs.declared.flaw.Closing.TheVariants.{Faults, Fault, Neither}
 use Rattle.mseed_join.specs.declared.flaw.Flaw.{Flaw}
@@ -24,26 +26,63 @@ use Rattle.mseed.specs.declared.outcome.Ended.{Ended}
 abbrev pub joined_status : Joined → ℕ
 joined_status joined = if joined.fault then 2 else if nat_lt 0 joined.broken then 1 else 0
 
--- the first bad field of a channel's line or of that of the counts, and what would be right; a line that has no key and
--- doesn't begin as the counts is neither
+-- a field of a channel's line or of that of the counts
+abbrev pub field_name : Field → List ℕ
+field_name Key = codes "key"
+field_name Records = codes "records"
+field_name Samples = codes "samples"
+field_name HeadNumber = codes "number"
+field_name HeadOffset = codes "offset"
+field_name HeadStart = codes "start"
+field_name HeadRate = codes "rate"
+field_name TailStart = codes "start"
+field_name TailSamples = codes "samples"
+field_name TailRate = codes "rate"
+field_name TailLeap = codes "leap"
+field_name Findings = codes "findings"
+field_name First = codes "first"
+field_name AllRecords = codes "records"
+field_name AllBytes = codes "bytes"
+
+-- where it stands
+abbrev pub field_place : Field → List ℕ
+field_place Key = codes "line of a channel"
+field_place Records = codes "line of a channel"
+field_place Samples = codes "line of a channel"
+field_place HeadNumber = codes "head of a channel"
+field_place HeadOffset = codes "head of a channel"
+field_place HeadStart = codes "head of a channel"
+field_place HeadRate = codes "head of a channel"
+field_place TailStart = codes "tail of a channel"
+field_place TailSamples = codes "tail of a channel"
+field_place TailRate = codes "tail of a channel"
+field_place TailLeap = codes "tail of a channel"
+field_place Findings = codes "line of a channel"
+field_place First = codes "line of a channel"
+field_place AllRecords = codes "line of the counts"
+field_place AllBytes = codes "line of the counts"
+
+-- and what would be right
+abbrev pub field_right : Field → List ℕ
+field_right Key = codes "it is 24 digits 0-9A-F, or the counts are as records 2 bytes 256"
+field_right Records = codes "they are as records 2, from 0 to 9223372036854775807"
+field_right Samples = codes "they are as samples 32, from 0 to 9223372036854775807"
+field_right HeadNumber = codes "it is as head 1 0 1704067200000000 20/1, or head none"
+field_right HeadOffset = codes "it is from 0 to 9223372036854775807"
+field_right HeadStart = codes "it is as 1704067200000000, microseconds from 1970, of the years 1800 to 2199"
+field_right HeadRate = codes "it is as 20/1, each from 1 to 1073741824"
+field_right TailStart = codes "it is as tail 1704067200000000 16 20/1 none, or tail none"
+field_right TailSamples = codes "they are from 1 to 65535"
+field_right TailRate = codes "it is as 20/1, each from 1 to 1073741824"
+field_right TailLeap = codes "it is none, positive, negative or both"
+field_right Findings = codes "they are as findings 1, and 0 only with a head and a tail"
+field_right First = codes "where findings are not 0 it ends the line, as first 2 128 gap 25001"
+field_right AllRecords = codes "they are as records 2, from 0 to 9223372036854775807"
+field_right AllBytes = codes "they end it, as bytes 256, from 0 to 9223372036854775807"
+
+-- the first bad field, and what would be right; a line that has no key and doesn't begin as the counts is neither
 abbrev pub field_text : Field → List ℕ
-field_text Key =
-    codes "bad key in the line of a channel; it is 24 digits 0-9A-F, or the counts are as records 2 bytes 256"
-field_text Records =
-    codes "bad records in the line of a channel; they are as records 2, from 0 to 9223372036854775807"
-field_text Samples =
-    codes "bad samples in the line of a channel; they are as samples 32, from 0 to 9223372036854775807"
-field_text Head = codes "bad head in the line of a channel; it is as head 1 0 1704067200000000 20/1, or head none"
-field_text Tail =
-    codes "bad tail in the line of a channel; it is as tail 1704067200000000 16 20/1 none, or tail none"
-field_text Findings =
-    codes "bad findings in the line of a channel; they are as findings 1, and 0 only with a head and a tail"
-field_text First =
-    codes "bad first in the line of a channel; where findings are not 0 it ends the line, as first 2 128 gap 25001"
-field_text AllRecords =
-    codes "bad records in the line of the counts; they are as records 2, from 0 to 9223372036854775807"
-field_text AllBytes =
-    codes "bad bytes in the line of the counts; they end it, as bytes 256, from 0 to 9223372036854775807"
+field_text f = codes "bad " ++ field_name f ++ codes " in the " ++ field_place f ++ codes "; " ++ field_right f
 
 -- what a line after the counts is not, and what would be right
 abbrev pub closing_text : Closing → List ℕ

@@ -6,7 +6,8 @@ ghost use Rattle.mseed_repack.specs.ByStretches.{broken_text};
 ghost use Rattle.mseed_repack.specs.Misfits.{misfit_text};
 ghost use Rattle.mseed_stream.specs.LineWritten.{WritesLine};
 ghost use Rattle.mseed_text.specs.Fault.{fault_line};
-ghost use Rattle.mseed.specs.Joined.{bad_line_text, closing_text, field_text, flaw_text, join_fault_text};
+ghost use Rattle.mseed.specs.Joined.{bad_line_text, closing_text, field_name, field_place, field_right, field_text};
+ghost use Rattle.mseed.specs.Joined.{flaw_text, join_fault_text};
 ghost use Rattle.mseed.specs.Outcome.{write_failed};
 ghost use Rattle.mseed.specs.Repacked.{refusal_status, refusal_text};
 ghost use Rattle.mseed.specs.Restretched.{stretches_text};
@@ -131,34 +132,87 @@ fn put_field(line: &mut Line, field: Field)
     ensures text { line.new ≡ line.old ++ field_text field }
     ensures most { length line.new ≤ length line.old + 128 }
 {
+    line.put(b"bad ");
+    put_field_name(line, field);
+    line.put(b" in the ");
+    put_field_place(line, field);
+    line.put(b"; ");
+    put_field_right(line, field);
+}
+
+/// Puts the name of a field of a line of parts at a line's end.
+fn put_field_name(line: &mut Line, field: Field)
+    requires { length line.old ≤ 128 }
+    ensures text { line.new ≡ line.old ++ field_name field }
+    ensures most { length line.new ≤ length line.old + 8 }
+{
     match field {
-        Field::Key => line.put(
-            b"bad key in the line of a channel; it is 24 digits 0-9A-F, or the counts are as records 2 bytes 256",
-        ),
-        Field::Records => line.put(
-            b"bad records in the line of a channel; they are as records 2, from 0 to 9223372036854775807",
-        ),
-        Field::Samples => line.put(
-            b"bad samples in the line of a channel; they are as samples 32, from 0 to 9223372036854775807",
-        ),
-        Field::Head => line.put(
-            b"bad head in the line of a channel; it is as head 1 0 1704067200000000 20/1, or head none",
-        ),
-        Field::Tail => line.put(
-            b"bad tail in the line of a channel; it is as tail 1704067200000000 16 20/1 none, or tail none",
-        ),
-        Field::Findings => line.put(
-            b"bad findings in the line of a channel; they are as findings 1, and 0 only with a head and a tail",
-        ),
-        Field::First => line.put(
-            b"bad first in the line of a channel; where findings are not 0 it ends the line, as first 2 128 gap 25001",
-        ),
-        Field::AllRecords => line.put(
-            b"bad records in the line of the counts; they are as records 2, from 0 to 9223372036854775807",
-        ),
-        Field::AllBytes => line.put(
-            b"bad bytes in the line of the counts; they end it, as bytes 256, from 0 to 9223372036854775807",
-        ),
+        Field::Key => line.put(b"key"),
+        Field::Records | Field::AllRecords => line.put(b"records"),
+        Field::Samples | Field::TailSamples => line.put(b"samples"),
+        Field::HeadNumber => line.put(b"number"),
+        Field::HeadOffset => line.put(b"offset"),
+        Field::HeadStart | Field::TailStart => line.put(b"start"),
+        Field::HeadRate | Field::TailRate => line.put(b"rate"),
+        Field::TailLeap => line.put(b"leap"),
+        Field::Findings => line.put(b"findings"),
+        Field::First => line.put(b"first"),
+        Field::AllBytes => line.put(b"bytes"),
+    }
+}
+
+/// Puts where a field of a line of parts stands at a line's end.
+fn put_field_place(line: &mut Line, field: Field)
+    requires { length line.old ≤ 128 }
+    ensures text { line.new ≡ line.old ++ field_place field }
+    ensures most { length line.new ≤ length line.old + 18 }
+{
+    match field {
+        Field::HeadNumber | Field::HeadOffset | Field::HeadStart | Field::HeadRate => {
+            line.put(b"head of a channel")
+        }
+        Field::TailStart | Field::TailSamples | Field::TailRate | Field::TailLeap => {
+            line.put(b"tail of a channel")
+        }
+        Field::AllRecords | Field::AllBytes => line.put(b"line of the counts"),
+        Field::Key | Field::Records | Field::Samples | Field::Findings | Field::First => {
+            line.put(b"line of a channel")
+        }
+    }
+}
+
+/// Puts what would be right in place of a bad field of a line of parts at a line's end.
+fn put_field_right(line: &mut Line, field: Field)
+    requires { length line.old ≤ 128 }
+    ensures text { line.new ≡ line.old ++ field_right field }
+    ensures most { length line.new ≤ length line.old + 80 }
+{
+    match field {
+        Field::Key => {
+            line.put(b"it is 24 digits 0-9A-F, or the counts are as records 2 bytes 256")
+        }
+        Field::Records | Field::AllRecords => {
+            line.put(b"they are as records 2, from 0 to 9223372036854775807")
+        }
+        Field::Samples => line.put(b"they are as samples 32, from 0 to 9223372036854775807"),
+        Field::HeadNumber => line.put(b"it is as head 1 0 1704067200000000 20/1, or head none"),
+        Field::HeadOffset => line.put(b"it is from 0 to 9223372036854775807"),
+        Field::HeadStart => {
+            line.put(
+                b"it is as 1704067200000000, microseconds from 1970, of the years 1800 to 2199",
+            )
+        }
+        Field::HeadRate | Field::TailRate => {
+            line.put(b"it is as 20/1, each from 1 to 1073741824")
+        }
+        Field::TailStart => line.put(b"it is as tail 1704067200000000 16 20/1 none, or tail none"),
+        Field::TailSamples => line.put(b"they are from 1 to 65535"),
+        Field::TailLeap => line.put(b"it is none, positive, negative or both"),
+        Field::Findings => line.put(b"they are as findings 1, and 0 only with a head and a tail"),
+        Field::First => {
+            line.put(b"where findings are not 0 it ends the line, as first 2 128 gap 25001")
+        }
+        Field::AllBytes => line.put(b"they end it, as bytes 256, from 0 to 9223372036854775807"),
     }
 }
 

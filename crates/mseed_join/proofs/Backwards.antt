@@ -59,7 +59,7 @@ pub count_back : (n : ℕ) (rest : List ℕ) → n < 2 ^ 63 → Ends rest
 count_back n rest l e = number_back (2 ^ 63 - 1) n rest (omega (arith, l)) (omega (arith, l)) e
 
 -- ---- rates, starts, leap seconds
-ratio_back : (r : Ratio) (rest : List ℕ) → IsRatio r → Ends rest → ratio_at (ratio_then r rest) ≡ Some (r, rest)
+pub ratio_back : (r : Ratio) (rest : List ℕ) → IsRatio r → Ends rest → ratio_at (ratio_then r rest) ≡ Some (r, rest)
 unfolding ratio_at
 ratio_back r rest fits e =
     let num : nat_lt 0 r.num ≡ true = lt-ltb 0 r.num fits.num_counts in
@@ -76,7 +76,7 @@ pub instant_within : (z : ℤ) → IsInstant z → IsWithin 5_364_662_400_000_00
 instant_within (pos n) i = omega (arith, ints, i.1)
 instant_within (negsuc n) i = omega (arith, ints, i.0)
 
-start_back : (z : ℤ) (rest : List ℕ) → IsInstant z → Ends rest → start_at (signed_decimal z ++ rest) ≡ Some (z, rest)
+pub start_back : (z : ℤ) (rest : List ℕ) → IsInstant z → Ends rest → start_at (signed_decimal z ++ rest) ≡ Some (z, rest)
 start_back z rest i e =
     integer_back 5_364_662_400_000_000 7_258_118_399_999_999 z rest (omega arith) (omega arith) (instant_within z i) e
 
@@ -87,7 +87,7 @@ word_within (negsuc n) l = l
 sample_back : (z : ℤ) (rest : List ℕ) → IsWord z → Ends rest → sample_at (signed_decimal z ++ rest) ≡ Some (z, rest)
 sample_back z rest w e = integer_back (2 ^ 31) (2 ^ 31 - 1) z rest (omega arith) (omega arith) (word_within z w) e
 
-leap_back : (l : Leap) (rest : List ℕ) → leap_at (leap_text l ++ rest) ≡ Some (l, rest)
+pub leap_back : (l : Leap) (rest : List ℕ) → leap_at (leap_text l ++ rest) ≡ Some (l, rest)
 unfolding leap_at
 leap_back NoLeap rest = refl
 leap_back Positive rest = refl
@@ -103,13 +103,13 @@ after_other w b ws bs e =
 other_digit : (b : ℕ) → b ≤ 57 → nat_eq b 110 ≡ false
 other_digit b l = grind (arith, nat_tests)
 
-digits_no_word : (n : ℕ) (rest : List ℕ) → n < 10 ^ 64 → after (codes "none") (decimal n ++ rest) ≡ None
+pub digits_no_word : (n : ℕ) (rest : List ℕ) → n < 10 ^ 64 → after (codes "none") (decimal n ++ rest) ≡ None
 digits_no_word n rest few =
     let b : Begins n = begins n few in
     ap (λ (ds : List ℕ). after (codes "none") (ds ++ rest)) b.is
     ∙ after_other 110 b.first (codes "one") (b.others ++ rest) (other_digit b.first b.high)
 
-integer_no_word : (z : ℤ) (rest : List ℕ) → IsInstant z → after (codes "none") (signed_decimal z ++ rest) ≡ None
+pub integer_no_word : (z : ℤ) (rest : List ℕ) → IsInstant z → after (codes "none") (signed_decimal z ++ rest) ≡ None
 integer_no_word (pos n) rest i = digits_no_word n rest (omega (arith, instant_within (pos n) i))
 integer_no_word (negsuc n) rest i = refl
 
@@ -315,7 +315,7 @@ stream_fault_back (Read offset) bytes rest l e = rw l refl
 stream_fault_back (Turns offset) bytes rest l e = rw l refl
 stream_fault_back Memory bytes rest l e = absurd l
 
-same_number : (n : ℕ) → nat_eq n n ≡ true
+pub same_number : (n : ℕ) → nat_eq n n ≡ true
 same_number n = grind (arith, nat_tests)
 
 pub fault_back : (f : StreamFault) (bytes : ℕ) → HasFaultLine bytes f → fault_at (fault_line f) bytes ≡ Some f

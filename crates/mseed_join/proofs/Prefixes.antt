@@ -15,12 +15,15 @@ use Rattle.mseed_audit.specs.declared.channel.Findings.{Findings}
 use Rattle.mseed_audit.specs.declared.channel.Findings.TheVariants.{Nothing, Counted}
 use Rattle.mseed_audit.specs.declared.channel.Head.{Head}
 use Rattle.mseed_audit.specs.declared.tail.Tail.{Tail}
-use Rattle.mseed_join.specs.Lines.{key_text, leap_text, head_text, tail_text, text_or_none, first_text}
+use Rattle.mseed_join.specs.Lines.{key_text, leap_text, ratio_text, head_text, tail_text, text_or_none, first_text}
 use Rattle.mseed_join.specs.Lines.{findings_text, channel_line, counts_line, faults_line, IsFaultAfter}
 use Rattle.mseed_join.proofs.Digits.{Ends}
 
 abbrev pub ratio_then : Ratio → List ℕ → List ℕ
 ratio_then r rest = decimal r.num ++ (codes "/" ++ (decimal r.den ++ rest))
+
+pub ratio_leading : (r : Ratio) (rest : List ℕ) → ratio_text r ++ rest ≡ ratio_then r rest
+ratio_leading r rest = simp append_assoc
 
 abbrev pub head_then : Head → List ℕ → List ℕ
 head_then h rest =

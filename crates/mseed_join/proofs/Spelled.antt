@@ -65,7 +65,7 @@ bind_then P (Some x) f y e k = k x refl e
 pub leading : (w a b c : List ℕ) → a ≡ w ++ b → b ≡ c → a ≡ w ++ c
 leading w a b c e h = e ∙ ap (λ (t : List ℕ). w ++ t) h
 
-counts : (n : ℕ) → nat_lt 0 n ≡ true → 0 < n
+pub counts : (n : ℕ) → nat_lt 0 n ≡ true → 0 < n
 counts n e = grind (arith, nat_tests)
 
 same : (m n : ℕ) → nat_eq m n ≡ true → m ≡ n
@@ -75,7 +75,7 @@ same m n e = grind (arith, nat_tests)
 abbrev pub IsRead : {X : Type 0} → (X → List ℕ) → (X → Type 0) → List ℕ → X × List ℕ → Type 0
 IsRead text Fits bytes y = (bytes ≡ text y.0 ++ y.1) × Fits y.0
 
-abbrev Any : {X : Type 0} → X → Type 0
+abbrev pub Any : {X : Type 0} → X → Type 0
 Any x = Unit {0}
 
 else_then : {A : Type 0} (P : Type 0) (a b : Option A) (y : A) → else_by a b ≡ Some y → (a ≡ Some y → P)
@@ -129,7 +129,7 @@ counted_spelled {X} text Fits word largest made few is fits bytes y e =
     (b.is ∙ sym (append_assoc word (decimal n.0) n.1) ∙ ap (λ (w : List ℕ). w ++ n.1) (is n.0), fits n.0 b.bounded))
 
 -- ---- rates, starts, leap seconds
-ratio_spelled : (bytes : List ℕ) (y : Ratio × List ℕ) → ratio_at bytes ≡ Some y
+pub ratio_spelled : (bytes : List ℕ) (y : Ratio × List ℕ) → ratio_at bytes ≡ Some y
     → (bytes ≡ ratio_then y.0 y.1) × IsRatio y.0
 unfolding ratio_at
 ratio_spelled bytes y e =
@@ -157,7 +157,7 @@ within_instant : (z : ℤ) → IsWithin 5_364_662_400_000_000 7_258_118_399_999_
 within_instant (pos n) l = (omega (arith, ints, l), omega (arith, ints, l))
 within_instant (negsuc n) l = (omega (arith, ints, l), omega (arith, ints, l))
 
-start_spelled : (bytes : List ℕ) (y : ℤ × List ℕ) → start_at bytes ≡ Some y → IsRead signed_decimal IsInstant bytes y
+pub start_spelled : (bytes : List ℕ) (y : ℤ × List ℕ) → start_at bytes ≡ Some y → IsRead signed_decimal IsInstant bytes y
 start_spelled bytes y e =
     let i : IsInteger 5_364_662_400_000_000 7_258_118_399_999_999 bytes y =
     integer_after 5_364_662_400_000_000 7_258_118_399_999_999 bytes y (omega arith) (omega arith) e in
@@ -173,7 +173,7 @@ sample_spelled bytes y e =
     integer_after (2 ^ 31) (2 ^ 31 - 1) bytes y (omega arith) (omega arith) e in
     (i.0, within_word y.0 i.1)
 
-leap_spelled : (bytes : List ℕ) (y : Leap × List ℕ) → leap_at bytes ≡ Some y → IsRead leap_text Any bytes y
+pub leap_spelled : (bytes : List ℕ) (y : Leap × List ℕ) → leap_at bytes ≡ Some y → IsRead leap_text Any bytes y
 unfolding leap_at
 leap_spelled bytes y e = named_spelled leap_text (NoLeap ∷ Positive ∷ Negative ∷ Both ∷ []) bytes y e
 

@@ -1,18 +1,18 @@
 //! The first field of a line that isn't by the grammar.
-ghost use Rattle.std.specs.Prelude.{◌≡◌, ◌≢◌, List, ℕ};
+ghost use Rattle.std.specs.Prelude.{◌≡◌, ◌≢◌, List, ℕ, None, Some, if◌then◌else◌};
 ghost use Rattle.std.specs.Option.{option_map};
 ghost use Rattle.mseed_audit.specs.declared.channel.Channel.{Channel};
 ghost use Rattle.mseed_join.specs.Fields.{IsFirstBad, ends_field};
 ghost use Rattle.mseed_join.specs.Lines.{channel_line, counts_line, HasChannelLine, HasCountsLine};
-ghost use Rattle.mseed_join.specs.private.Passing.{bad_in_channel, bad_in_counts, past_count, past_findings};
-ghost use Rattle.mseed_join.specs.private.Passing.{past_head, past_key, past_tail};
+ghost use Rattle.mseed_join.specs.private.Passing.{bad_in_channel, bad_in_counts, from_findings, from_head, from_tail};
+ghost use Rattle.mseed_join.specs.private.Passing.{past_count, past_findings, past_key, past_leap, past_rate};
+ghost use Rattle.mseed_join.specs.private.Passing.{past_samples, past_start, past_word};
 
-use crate::fields::{head_at, tail_at};
+use crate::fields::{leap_at, ratio_at, start_at};
 use crate::hex::key_at;
-use crate::numbers::{LIMIT, after, number_after};
-use mseed_audit::{Head, Tail};
+use crate::numbers::{LIMIT, after, number_after, number_at};
 
-/// A field of the line of a channel, or of the line of the counts.
+/// A field of the line of a channel, or of the line of the counts. Of a head and of a tail each part is one.
 #[derive(Clone, Copy, Debug, PartialEq, Eq)]
 pub enum Field {
     /// Of a channel: its key.
@@ -21,10 +21,22 @@ pub enum Field {
     Records,
     /// Of a channel: how many samples it has, with the word before.
     Samples,
-    /// Of a channel: how it begins, with the word before.
-    Head,
-    /// Of a channel: how it ends, with the word before.
-    Tail,
+    /// Of how a channel begins: the record's number, with the word before, or `none` in place of the four.
+    HeadNumber,
+    /// Of how a channel begins: the record's offset.
+    HeadOffset,
+    /// Of how a channel begins: the record's start.
+    HeadStart,
+    /// Of how a channel begins: the record's rate.
+    HeadRate,
+    /// Of how a channel ends: the record's start, with the word before, or `none` in place of the four.
+    TailStart,
+    /// Of how a channel ends: how many samples the record has.
+    TailSamples,
+    /// Of how a channel ends: the record's rate.
+    TailRate,
+    /// Of how a channel ends: the leap seconds that the record carries.
+    TailLeap,
     /// Of a channel: how many findings it has, with the word before.
     Findings,
     /// Of a channel: its first finding, with the word before, and the line's end.
@@ -64,16 +76,63 @@ fn bad_in_channel(line: &[u8]) -> Field
     let Some(rest) = past_count(b" records ", rest) else {
         return Field::Records;
     };
-    let Some(rest) = past_count(b" samples ", rest) else {
-        return Field::Samples;
+    match past_count(b" samples ", rest) {
+        Some(rest) => from_head(rest),
+        None => Field::Samples,
+    }
+}
+
+/// The first bad field of a channel's line from its head on, or the last one.
+#[tactic(auto, unfolding(crate::specs::private::Passing::from_head))]
+fn from_head(bytes: &[u8]) -> Field
+    ensures { result ≡ from_head bytes.now }
+{
+    if let Some(rest) = past_word(b" head none", bytes) {
+        return from_tail(false, rest);
+    }
+    let Some(rest) = past_count(b" head ", bytes) else {
+        return Field::HeadNumber;
     };
-    let Some((head, rest)) = past_head(rest) else {
-        return Field::Head;
+    let Some(rest) = past_count(b" ", rest) else {
+        return Field::HeadOffset;
     };
-    let Some((tail, rest)) = past_tail(rest) else {
-        return Field::Tail;
+    let Some(rest) = past_start(b" ", rest) else {
+        return Field::HeadStart;
     };
-    match past_findings(&head, &tail, rest) {
+    match past_rate(rest) {
+        Some(rest) => from_tail(true, rest),
+        None => Field::HeadRate,
+    }
+}
+
+/// The first bad field of a channel's line from its tail on, or the last one, by whether it has a head.
+#[tactic(auto, unfolding(crate::specs::private::Passing::from_tail))]
+fn from_tail(head: bool, bytes: &[u8]) -> Field
+    ensures { result ≡ from_tail head bytes.now }
+{
+    if let Some(rest) = past_word(b" tail none", bytes) {
+        return from_findings(false, rest);
+    }
+    let Some(rest) = past_start(b" tail ", bytes) else {
+        return Field::TailStart;
+    };
+    let Some(rest) = past_samples(rest) else {
+        return Field::TailSamples;
+    };
+    let Some(rest) = past_rate(rest) else {
+        return Field::TailRate;
+    };
+    match past_leap(rest) {
+        Some(rest) => from_findings(head, rest),
+        None => Field::TailLeap,
+    }
+}
+
+/// The first bad field of a channel's line from its findings on, by whether it has both a head and a tail.
+fn from_findings(both: bool, bytes: &[u8]) -> Field
+    ensures { result ≡ from_findings both bytes.now }
+{
+    match past_findings(both, bytes) {
         Some(_) => Field::First,
         None => Field::Findings,
     }
@@ -100,6 +159,13 @@ fn ends_field(bytes: &[u8]) -> bool
     }
 }
 
+/// These bytes, if a field ends before them.
+fn ended(rest: &[u8]) -> Option<&[u8]>
+    ensures { option_map (λ rest. rest.now) result ≡ (if ends_field rest.now then Some rest.now else None) }
+{
+    if ends_field(rest) { Some(rest) } else { None }
+}
+
 /// The bytes after a key that ends.
 #[tactic(auto, unfolding(crate::specs::private::Passing::past_key))]
 fn past_key(bytes: &[u8]) -> Option<&[u8]>
@@ -108,7 +174,15 @@ fn past_key(bytes: &[u8]) -> Option<&[u8]>
     let Some((_, rest)) = key_at(bytes) else {
         return None;
     };
-    if ends_field(rest) { Some(rest) } else { None }
+    ended(rest)
+}
+
+/// The bytes after a word that ends.
+#[tactic(auto, unfolding(crate::specs::private::Passing::past_word))]
+fn past_word<'a, const N: usize>(word: &[u8; N], bytes: &'a [u8]) -> Option<&'a [u8]>
+    ensures { option_map (λ rest. rest.now) result ≡ past_word word.now bytes.now }
+{
+    ended(after(word, bytes)?)
 }
 
 /// The bytes after a word and a number that ends.
@@ -117,51 +191,59 @@ fn past_count<'a, const N: usize>(word: &[u8; N], bytes: &'a [u8]) -> Option<&'a
     ensures { option_map (λ rest. rest.now) result ≡ past_count word.now bytes.now }
 {
     let (_, rest) = number_after(word, LIMIT, bytes)?;
-    if ends_field(rest) { Some(rest) } else { None }
+    ended(rest)
 }
 
-/// How a channel begins, and the bytes after it, if it ends.
-#[tactic(auto, unfolding(crate::specs::private::Passing::past_head))]
-fn past_head(bytes: &[u8]) -> Option<(Option<Head>, &[u8])>
-    ensures { option_map (λ x. (x.0, x.1.now)) result ≡ past_head bytes.now }
+/// The bytes after a word and a start that ends.
+#[tactic(auto, unfolding(crate::specs::private::Passing::past_start))]
+fn past_start<'a, const N: usize>(word: &[u8; N], bytes: &'a [u8]) -> Option<&'a [u8]>
+    ensures { option_map (λ rest. rest.now) result ≡ past_start word.now bytes.now }
 {
-    let rest = after(b" head ", bytes)?;
-    let Some((head, rest)) = head_at(rest) else {
+    let rest = after(word, bytes)?;
+    let Some((_, rest)) = start_at(rest) else {
         return None;
     };
-    if ends_field(rest) {
-        Some((head, rest))
-    } else {
-        None
-    }
+    ended(rest)
 }
 
-/// How a channel ends, and the bytes after it, if these end the field.
-#[tactic(auto, unfolding(crate::specs::private::Passing::past_tail))]
-fn past_tail(bytes: &[u8]) -> Option<(Option<Tail>, &[u8])>
-    ensures { option_map (λ x. (x.0, x.1.now)) result ≡ past_tail bytes.now }
+/// The bytes after a rate that ends.
+#[tactic(auto, unfolding(crate::specs::private::Passing::past_rate))]
+fn past_rate(bytes: &[u8]) -> Option<&[u8]>
+    ensures { option_map (λ rest. rest.now) result ≡ past_rate bytes.now }
 {
-    let rest = after(b" tail ", bytes)?;
-    let Some((tail, rest)) = tail_at(rest) else {
+    let rest = after(b" ", bytes)?;
+    let Some((_, rest)) = ratio_at(rest) else {
         return None;
     };
-    if ends_field(rest) {
-        Some((tail, rest))
-    } else {
-        None
-    }
+    ended(rest)
 }
 
-/// The bytes after a number of findings that ends: none only where there are a head and a tail.
+/// The bytes after a record's number of samples that ends.
+#[tactic(auto, unfolding(crate::specs::private::Passing::past_samples))]
+fn past_samples(bytes: &[u8]) -> Option<&[u8]>
+    ensures { option_map (λ rest. rest.now) result ≡ past_samples bytes.now }
+{
+    let rest = after(b" ", bytes)?;
+    let (samples, rest) = number_at(65_535, rest)?;
+    if samples > 0 { ended(rest) } else { None }
+}
+
+/// The bytes after leap seconds that end.
+#[tactic(auto, unfolding(crate::specs::private::Passing::past_leap))]
+fn past_leap(bytes: &[u8]) -> Option<&[u8]>
+    ensures { option_map (λ rest. rest.now) result ≡ past_leap bytes.now }
+{
+    let rest = after(b" ", bytes)?;
+    let (_, rest) = leap_at(rest)?;
+    ended(rest)
+}
+
+/// The bytes after a number of findings that ends: none only where there are both a head and a tail.
 #[tactic(auto, unfolding(crate::specs::private::Passing::past_findings))]
-fn past_findings<'a>(head: &Option<Head>, tail: &Option<Tail>, bytes: &'a [u8]) -> Option<&'a [u8]>
-    ensures { option_map (λ rest. rest.now) result ≡ past_findings head.now tail.now bytes.now }
+fn past_findings(both: bool, bytes: &[u8]) -> Option<&[u8]>
+    ensures { option_map (λ rest. rest.now) result ≡ past_findings both bytes.now }
 {
-    let (count, rest) = number_after(b" findings ", LIMIT, bytes)?;
-    let fits = count > 0 || (head.is_some() && tail.is_some());
-    if fits && ends_field(rest) {
-        Some(rest)
-    } else {
-        None
-    }
+    let rest = after(b" findings ", bytes)?;
+    let (count, rest) = number_at(LIMIT, rest)?;
+    if count > 0 || both { ended(rest) } else { None }
 }

@@ -13,7 +13,7 @@ use mseed_time::{Micros, Ratio};
 /// A rate, and the bytes after it.
 #[inline(always)]
 #[tactic(auto, unfolding(crate::specs::private::Reading::ratio_at))]
-fn ratio_at(bytes: &[u8]) -> Option<(Ratio, &[u8])>
+pub(crate) fn ratio_at(bytes: &[u8]) -> Option<(Ratio, &[u8])>
     ensures { option_map (λ x. (x.0, x.1.now)) result ≡ ratio_at bytes.now }
 {
     let (num, rest) = number_at(1 << 30, bytes)?;
@@ -27,7 +27,7 @@ fn ratio_at(bytes: &[u8]) -> Option<(Ratio, &[u8])>
 
 /// A record's start, and the bytes after it.
 #[inline(always)]
-fn start_at(bytes: &[u8]) -> Option<(Micros, &[u8])>
+pub(crate) fn start_at(bytes: &[u8]) -> Option<(Micros, &[u8])>
     ensures { option_map (λ x. (x.0, x.1.now)) result ≡ start_at bytes.now }
 {
     let (start, rest) = integer_at(5_364_662_400_000_000, 7_258_118_399_999_999, bytes)?;
@@ -40,7 +40,7 @@ fn start_at(bytes: &[u8]) -> Option<(Micros, &[u8])>
 /// The leap seconds that a record carries, and the bytes after them.
 #[inline(always)]
 #[tactic(auto, unfolding(crate::specs::private::Reading::leap_at))]
-fn leap_at(bytes: &[u8]) -> Option<(Leap, &[u8])>
+pub(crate) fn leap_at(bytes: &[u8]) -> Option<(Leap, &[u8])>
     ensures { option_map (λ x. (x.0, x.1.now)) result ≡ leap_at bytes.now }
 {
     if let Some(rest) = after(b"none", bytes) {

@@ -104,7 +104,7 @@ static NO_FAULTS: [&str; 6] = [
 ];
 
 /// Lines that are neither of a channel nor of the counts, and the first bad field of each.
-const BAD_FIELDS: [(&str, Field); 17] = [
+const BAD_FIELDS: [(&str, Field); 23] = [
     ("\n", Field::Key),
     ("faults 3\n", Field::Key),
     ("58585354412020202042485a records 1\n", Field::Key),
@@ -120,15 +120,39 @@ const BAD_FIELDS: [(&str, Field); 17] = [
     ),
     (
         "58585354412020202042485A records 1 samples 16 head 1 0 0 20 tail x\n",
-        Field::Head,
+        Field::HeadRate,
     ),
     (
         "58585354412020202042485A records 1 samples 16 head nonex tail x\n",
-        Field::Head,
+        Field::HeadNumber,
+    ),
+    (
+        "58585354412020202042485A records 1 samples 16 head -1 0 0 20/1 tail x\n",
+        Field::HeadNumber,
+    ),
+    (
+        "58585354412020202042485A records 1 samples 16 head 1 00 0 20/1 tail x\n",
+        Field::HeadOffset,
+    ),
+    (
+        "58585354412020202042485A records 1 samples 16 head 1 0 -0 20/1 tail x\n",
+        Field::HeadStart,
+    ),
+    (
+        "58585354412020202042485A records 1 samples 16 head none tail x 1 20/1 none\n",
+        Field::TailStart,
     ),
     (
         "58585354412020202042485A records 1 samples 16 head none tail 0 0 20/1 none findings x\n",
-        Field::Tail,
+        Field::TailSamples,
+    ),
+    (
+        "58585354412020202042485A records 1 samples 16 head none tail 0 1 20/0 none findings x\n",
+        Field::TailRate,
+    ),
+    (
+        "58585354412020202042485A records 1 samples 16 head none tail 0 1 20/1 leap findings x\n",
+        Field::TailLeap,
     ),
     (
         "58585354412020202042485A records 1 samples 16 head none tail 0 1 20/1 none findings 0\n",
