@@ -14,6 +14,7 @@ use Rattle.mseed_join.specs.Joined.{AreJoined, IsJointOf, IsNext, counted, count
 use Rattle.mseed_join.specs.Written.{Written}
 use Rattle.mseed_join.specs.Reached.{OpenPart, none, begun, whole, IsWhere, begun_part, open_part, parts_at}
 use Rattle.mseed_join.specs.private.Steps.{May, goes, counted_part, with_faults, with_end}
+use Rattle.mseed_join.proofs.Onward.{Onward, onward}
 use Rattle.mseed_join.proofs.Machine.{Entries, rows_append}
 use Rattle.mseed_join.proofs.Stepping.{LeavesKept, kept_none, leaves_kept}
 use Rattle.mseed_join.proofs.Sums.{HaveOneJoint, IsFirst, first_of, joined_one, never_open, none_of, some_none}
@@ -219,29 +220,20 @@ IsNoHeader (faults n) = ⊤
 IsNoHeader (fault l f) = ⊤
 
 pub skips_borders : (past : Bool) (over : List Written) (b : OpenPart) (x : Line) (h : Written) (f : StreamFault)
-    → IsWhere over b → May b x → IsNoHeader x → h.end ≡ Some f → IsJointOf past (over ++ open_part b) h
+    → IsWhere over b → Onward b x → IsNoHeader x → h.end ≡ Some f → IsJointOf past (over ++ open_part b) h
     → (found : List Border) → AreBordersOf past (over ++ open_part b) found
     → AreBordersOf past (parts_at (goes over b x)) (found ++ [])
-skips_borders past over none header h f v m p n j found b = absurd p
-skips_borders past over none (channel key c) h f v m p n j found b = absurd m
-skips_borders past over none (counts k l) h f v m p n j found b = absurd m
-skips_borders past over none (faults k) h f v m p n j found b = absurd m
-skips_borders past over none (fault l x) h f v m p n j found b = absurd m
-skips_borders past over (begun cs) header h f v m p n j found b = absurd p
-skips_borders past over (begun cs) (channel key c) h f v m p n j found b =
+skips_borders past over _ _ h f v Onward.opens p n j found b = absurd p
+skips_borders past over _ _ h f v (Onward.row cs key c m) p n j found b =
     skipped past over (begun_part cs ∷ []) (begun_part (cs ++ (key, c) ∷ []) ∷ []) h f n
     (before_is past over (begun_part cs) h f refl n j) found b
-skips_borders past over (begun cs) (counts k l) h f v m p n j found b =
+skips_borders past over _ _ h f v (Onward.sums cs k l) p n j found b =
     skipped past over (begun_part cs ∷ []) (counted_part cs k l ∷ []) h f n
     (before_is past over (begun_part cs) h f refl n j) found b
-skips_borders past over (begun cs) (faults k) h f v m p n j found b = absurd m
-skips_borders past over (begun cs) (fault l x) h f v m p n j found b = absurd m
-skips_borders past over (whole w) header h f v m p n j found b = absurd p
-skips_borders past over (whole w) (channel key c) h f v m p n j found b = absurd m
-skips_borders past over (whole w) (counts k l) h f v m p n j found b = absurd m
-skips_borders past over (whole w) (faults k) h f v m p n j found b =
+skips_borders past over _ _ h f v (Onward.follows w) p n j found b = absurd p
+skips_borders past over _ _ h f v (Onward.passes w k m) p n j found b =
     skipped past over (w ∷ []) (with_faults w k ∷ []) h f n (before_is past over w h f v n j) found b
-skips_borders past over (whole w) (fault l x) h f v m p n j found b =
+skips_borders past over _ _ h f v (Onward.ends w l x m) p n j found b =
     subst (λ (ts : List Written). AreBordersOf past ts (found ++ [])) (sym (append-nil (over ++ with_end w x ∷ [])))
     (skipped past over (w ∷ []) (with_end w x ∷ []) h f n (before_is past over w h f v n j) found b)
 
@@ -268,29 +260,20 @@ ending_channels true w f = refl
 ending_channels false w f = refl
 
 pub ends_borders : (past : Bool) (over : List Written) (b : OpenPart) (x : Line) (h : Written)
-    → IsWhere over b → May b x → IsEnding x → h.end ≡ None → IsJointOf past (over ++ open_part b) h
+    → IsWhere over b → Onward b x → IsEnding x → h.end ≡ None → IsJointOf past (over ++ open_part b) h
     → (found : List Border) → AreBordersOf past (over ++ open_part b) found
     → AreBordersOf past (parts_at (goes over b x)) (found ++ [])
-ends_borders past over none header h v m p n j found b = absurd p
-ends_borders past over none (channel key c) h v m p n j found b = absurd p
-ends_borders past over none (counts k l) h v m p n j found b = absurd m
-ends_borders past over none (faults k) h v m p n j found b = absurd m
-ends_borders past over none (fault l x) h v m p n j found b = absurd m
-ends_borders past over (begun cs) header h v m p n j found b = absurd p
-ends_borders past over (begun cs) (channel key c) h v m p n j found b = absurd p
-ends_borders past over (begun cs) (counts k l) h v m p n j found b =
+ends_borders past over _ _ h v Onward.opens p n j found b = absurd p
+ends_borders past over _ _ h v (Onward.row cs key c m) p n j found b = absurd p
+ends_borders past over _ _ h v (Onward.sums cs k l) p n j found b =
     replaced past over (begun_part cs) (counted_part cs k l) (counted_part cs k l) h
     (last_is past over (begun_part cs) h refl n j) refl (counts_one past (counted_part cs k l) refl) [] found
     (nothing_more past over (begun_part cs) (counted_part cs k l) refl) b
-ends_borders past over (begun cs) (faults k) h v m p n j found b = absurd m
-ends_borders past over (begun cs) (fault l x) h v m p n j found b = absurd m
-ends_borders past over (whole w) header h v m p n j found b = absurd p
-ends_borders past over (whole w) (channel key c) h v m p n j found b = absurd p
-ends_borders past over (whole w) (counts k l) h v m p n j found b = absurd m
-ends_borders past over (whole w) (faults k) h v m p n j found b =
+ends_borders past over _ _ h v (Onward.follows w) p n j found b = absurd p
+ends_borders past over _ _ h v (Onward.passes w k m) p n j found b =
     replaced past over w (with_faults w k) (with_faults w k) h (last_is past over w h v n j) v
     (counts_one past (with_faults w k) v) [] found (nothing_more past over w (with_faults w k) refl) b
-ends_borders past over (whole w) (fault l x) h v m p n j found b =
+ends_borders past over _ _ h v (Onward.ends w l x m) p n j found b =
     subst (λ (ts : List Written). AreBordersOf past ts (found ++ [])) (sym (append-nil (over ++ with_end w x ∷ [])))
     (replaced past over w (with_end w x) (ending_part past w x) h (last_is past over w h v n j) v
     (ending_counts past w x) [] found (nothing_more past over w (ending_part past w x) (ending_channels past w x)) b)

@@ -16,6 +16,7 @@ pub mod Longer
 pub mod Machine
 pub mod Merging
 pub mod OneFlaw
+pub mod Onward
 pub mod OneText
 pub mod Parting
 pub mod Pieces

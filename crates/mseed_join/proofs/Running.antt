@@ -12,6 +12,7 @@ use Rattle.mseed_join.specs.Written.{Written, HasText}
 use Rattle.mseed_join.specs.Reached.{OpenPart, none, begun, whole, Stage, begun_part, open_part, parts_at}
 use Rattle.mseed_join.specs.Reached.{IsWhere, start}
 use Rattle.mseed_join.specs.private.Steps.{May, to, goes, counted_part, with_end}
+use Rattle.mseed_join.proofs.Onward.{Onward, onward}
 use Rattle.mseed_join.proofs.Machine.{Entries, all_rows, end_row, faults_row, part_rows, rows, open_rows, Runs}
 use Rattle.mseed_join.proofs.Machine.{runs_on}
 
@@ -251,15 +252,10 @@ itself over (begun channels) = record {
 }
 itself over (whole w) = record { part = w; others = []; grows = same_grows w; are = refl }
 
-back : (over : List Written) (b : OpenPart) (x : Line) (parts : List Written) → May b x
+back : (over : List Written) (b : OpenPart) (x : Line) (parts : List Written) → Onward b x
     → Extends (goes over b x).over (goes over b x).last parts → Extends over b parts
-back over none header parts m e = (e.part ∷ e.others, e.are)
-back over none (channel k c) parts m e = absurd m
-back over none (counts n l) parts m e = absurd m
-back over none (faults n) parts m e = absurd m
-back over none (fault l f) parts m e = absurd m
-back over (begun cs) header parts m e = absurd m
-back over (begun cs) (channel k c) parts m e = record {
+back over _ _ parts Onward.opens e = (e.part ∷ e.others, e.are)
+back over _ _ parts (Onward.row cs k c m) e = record {
   part = e.part;
   others = e.others;
   grows = record {
@@ -271,7 +267,7 @@ back over (begun cs) (channel k c) parts m e = record {
   };
   are = e.are;
 }
-back over (begun cs) (counts n l) parts m e = record {
+back over _ _ parts (Onward.sums cs n l) e = record {
   part = e.part;
   others = e.others;
   grows = record {
@@ -283,17 +279,13 @@ back over (begun cs) (counts n l) parts m e = record {
   };
   are = e.are;
 }
-back over (begun cs) (faults n) parts m e = absurd m
-back over (begun cs) (fault l f) parts m e = absurd m
-back over (whole w) header parts m e = record {
+back over _ _ parts (Onward.follows w) e = record {
   part = w;
   others = e.part ∷ e.others;
   grows = same_grows w;
   are = e.are ∙ append_assoc over (w ∷ []) (e.part ∷ e.others);
 }
-back over (whole w) (channel k c) parts m e = absurd m
-back over (whole w) (counts n l) parts m e = absurd m
-back over (whole w) (faults n) parts m e = record {
+back over _ _ parts (Onward.passes w n m) e = record {
   part = e.part;
   others = e.others;
   grows = record {
@@ -305,7 +297,7 @@ back over (whole w) (faults n) parts m e = record {
   };
   are = e.are;
 }
-back over (whole w) (fault l f) parts m e = record {
+back over _ _ parts (Onward.ends w l f m) e = record {
   part = with_end w f;
   others = e.0;
   grows = record {
@@ -320,4 +312,4 @@ back over (whole w) (fault l f) parts m e = record {
 
 pub extends : (s t : Stage) (xs : List Line) → Runs s xs t → Extends s.over s.last (parts_at t)
 extends s t [] r = subst (λ (u : Stage). Extends s.over s.last (parts_at u)) r (itself s.over s.last)
-extends s t (x ∷ xs) r = back s.over s.last x (parts_at t) r.0 (extends (to s x) t xs r.1)
+extends s t (x ∷ xs) r = back s.over s.last x (parts_at t) (onward s.last x r.0) (extends (to s x) t xs r.1)

@@ -22,7 +22,8 @@ use Rattle.mseed_join.specs.declared.joint.Reported.TheVariants.{Nothing, Passed
 use Rattle.mseed_join.specs.private.Steps.{May, to, goes, counted_part, with_faults, with_end}
 use Rattle.mseed_join.specs.private.Taking.{IsReadTo, IsTaken, IsPlace, border_by, fault_after, passed_by}
 use Rattle.mseed_join.specs.Borders.{border_with}
-use Rattle.mseed_join.proofs.Bordering.{channel_borders, ends_borders, header_borders, skips_borders}
+use Rattle.mseed_join.proofs.Bordering.{IsNoHeader, channel_borders, ends_borders, header_borders, skips_borders}
+use Rattle.mseed_join.proofs.Onward.{Onward, onward}
 use Rattle.std.specs.Option.{option_map}
 use Rattle.mseed_join.proofs.OneLine.{line_one}
 use Rattle.mseed_join.proofs.Ahead.{IsNextLine, channel_fits, counts_fit, faults_fit, next_line, passed_fit}
@@ -45,72 +46,62 @@ pub record IsHere (past : Bool) (s : Stage) (x : Line) : Type 0 where
 abbrev pub headed : {A : Type 0} → Joint A → Joint A
 headed j = record { so_far = j.so_far; parts = j.parts + 1; place = Channels None; past = j.past }
 
-header_joint : JoinsNone → (past : Bool) (over : List Written) (b : OpenPart) (h : Written) → May b header
+header_joint : JoinsNone → (past : Bool) (over : List Written) (b : OpenPart) (h : Written) → Onward b header
     → IsJointOf past (over ++ open_part b) h → IsJointOf past (parts_at (goes over b header)) h
-header_joint law past over none h m j =
+header_joint law past over _ h Onward.opens j =
     begin_joint law past over h (subst (λ (ws : List Written). IsJointOf past ws h) (append-nil over) j)
-header_joint law past over (begun cs) h m j = absurd m
-header_joint law past over (whole w) h m j = begin_joint law past (over ++ w ∷ []) h j
+header_joint law past over _ h (Onward.follows w) j = begin_joint law past (over ++ w ∷ []) h j
 
-header_number : (over : List Written) (b : OpenPart) (n : ℕ) → May b header → n ≡ length (over ++ open_part b)
+header_number : (over : List Written) (b : OpenPart) (n : ℕ) → Onward b header → n ≡ length (over ++ open_part b)
     → n + 1 ≡ length (parts_at (goes over b header))
-header_number over none n m e =
+header_number over _ n Onward.opens e =
     omega (arith, e, length-append over [], length-append over (begun_part [] ∷ []))
-header_number over (begun cs) n m e = absurd m
-header_number over (whole w) n m e =
+header_number over _ n (Onward.follows w) e =
     omega (arith, e, length-append (over ++ w ∷ []) (begun_part [] ∷ []))
 
-header_place : (over : List Written) (b : OpenPart) → May b header
+header_place : (over : List Written) (b : OpenPart) → Onward b header
     → IsPlace (Channels None) (goes over b header).last
-header_place over none m = refl
-header_place over (begun cs) m = absurd m
-header_place over (whole w) m = refl
-
-no_fault : (bytes : ℕ) (f : StreamFault) → header ≡ fault bytes f → ⊥
-no_fault bytes f e = cc
+header_place over _ Onward.opens = refl
+header_place over _ (Onward.follows w) = refl
 
 pub header_step : {A : Type 0} → JoinsNone → (old : Joint A) (lines : List ℕ) (s : Stage) → IsReadTo lines s old
     → May s.last header → IsTaken lines header_line s (to s header) Nothing old (headed old)
 header_step law old lines s r m =
+    let o = onward s.last header m in
     taken lines s header Nothing old (headed old) r tt m
-    (header_joint law old.past s.over s.last (written_of old.so_far) m r.joint) (header_place s.over s.last m)
-    (header_number s.over s.last old.parts m r.number)
-    (passed_same old.past s.over s.last header r.stage.is_where m no_fault)
+    (header_joint law old.past s.over s.last (written_of old.so_far) o r.joint) (header_place s.over s.last o)
+    (header_number s.over s.last old.parts o r.number)
+    (passed_same old.past s.over s.last header r.stage.is_where o (λ bytes f e. cc e))
     (header_borders old.past s.over s.last (written_of old.so_far) m r.joint) refl
 
--- ---- a channel
-channel_place : (over : List Written) (b : OpenPart) (key : List ℕ) (c : Channel) → May b (channel key c)
-    → IsPlace (Channels (Some key)) (goes over b (channel key c)).last
-channel_place over none key c m = absurd m
-channel_place over (begun cs) key c m = (cs, c, refl)
-channel_place over (whole w) key c m = absurd m
-
-channel_number : (over : List Written) (b : OpenPart) (key : List ℕ) (c : Channel) (n : ℕ) → May b (channel key c)
-    → n ≡ length (over ++ open_part b) → n ≡ length (parts_at (goes over b (channel key c)))
-channel_number over none key c n m e = absurd m
-channel_number over (begun cs) key c n m e =
+-- ---- any other line
+line_number : (over : List Written) (b : OpenPart) (x : Line) (k : ℕ) → Onward b x → IsNoHeader x
+    → k ≡ length (over ++ open_part b) → k ≡ length (parts_at (goes over b x))
+line_number over _ _ k Onward.opens p e = absurd p
+line_number over _ _ k (Onward.follows w) p e = absurd p
+line_number over _ _ k (Onward.row cs key c m) p e =
     e ∙ number_same over (begun_part cs) (begun_part (cs ++ (key, c) ∷ []))
-channel_number over (whole w) key c n m e = absurd m
+line_number over _ _ k (Onward.sums cs n l) p e = e ∙ number_same over (begun_part cs) (counted_part cs n l)
+line_number over _ _ k (Onward.passes w n m) p e = e ∙ number_same over w (with_faults w n)
+line_number over _ _ k (Onward.ends w l f m) p e =
+    e ∙ number_same over w (with_end w f) ∙ ap length (sym (append-nil (over ++ with_end w f ∷ [])))
 
-channel_stops : (past : Bool) (over : List Written) (b : OpenPart) (key : List ℕ) (c : Channel) (h : Written)
-    (f : StreamFault) → May b (channel key c) → h.end ≡ Some f → IsJointOf past (over ++ open_part b) h
-    → IsJointOf past (parts_at (goes over b (channel key c))) h
-channel_stops past over none key c h f m e j = absurd m
-channel_stops past over (begun cs) key c h f m e j =
+no_append : (past : Bool) (ws : List Written) (h : Written) → IsJointOf past ws h → IsJointOf past (ws ++ []) h
+no_append past ws h j = subst (λ (vs : List Written). IsJointOf past vs h) (sym (append-nil ws)) j
+
+-- after a fault it isn't counted in
+line_stops : (past : Bool) (over : List Written) (b : OpenPart) (x : Line) (h : Written) (f : StreamFault)
+    → IsWhere over b → Onward b x → IsNoHeader x → h.end ≡ Some f → IsJointOf past (over ++ open_part b) h
+    → IsJointOf past (parts_at (goes over b x)) h
+line_stops past over _ _ h f v Onward.opens p e j = absurd p
+line_stops past over _ _ h f v (Onward.follows w) p e j = absurd p
+line_stops past over _ _ h f v (Onward.row cs key c m) p e j =
     stopped past over (begun_part (cs ++ (key, c) ∷ []) ∷ []) (begun_part cs) h f refl e j
-channel_stops past over (whole w) key c h f m e j = absurd m
-
-channel_adds : JoinsChannel → (past : Bool) (over : List Written) (b : OpenPart) (key : List ℕ) (c : Channel)
-    (h k : Written) → May b (channel key c) → h.end ≡ None → IsJoint h.part (one_channel key c) k.part
-    → FitsAt h.part.records h.part.bytes (kept_of key h.part.channels) (Some c) → k.faults ≡ h.faults → k.end ≡ None
-    → IsJointOf past (over ++ open_part b) h → IsJointOf past (parts_at (goes over b (channel key c))) k
-channel_adds law past over none key c h k m n joint fit f e j = absurd m
-channel_adds law past over (begun cs) key c h k m n joint fit f e j =
-    channel_joint law past over cs key c h k j n m joint fit f e
-channel_adds law past over (whole w) key c h k m n joint fit f e j = absurd m
-
-channel_no_fault : (key : List ℕ) (c : Channel) (bytes : ℕ) (f : StreamFault) → channel key c ≡ fault bytes f → ⊥
-channel_no_fault key c bytes f e = cc
+line_stops past over _ _ h f v (Onward.sums cs n l) p e j =
+    stopped past over (counted_part cs n l ∷ []) (begun_part cs) h f refl e j
+line_stops past over _ _ h f v (Onward.passes w n m) p e j = stopped past over (with_faults w n ∷ []) w h f v e j
+line_stops past over _ _ h f v (Onward.ends w l x m) p e j =
+    no_append past (over ++ with_end w x ∷ []) h (stopped past over (with_end w x ∷ []) w h f v e j)
 
 abbrev pub placed : {A : Type 0} → Joint A → Place → Joint A
 placed j place = record { so_far = j.so_far; parts = j.parts; place = place; past = j.past }
@@ -118,17 +109,38 @@ placed j place = record { so_far = j.so_far; parts = j.parts; place = place; pas
 abbrev pub kept_as : {A : Type 0} → Joint A → JointPart A → Place → Joint A
 kept_as j so_far place = record { so_far = so_far; parts = j.parts; place = place; past = j.past }
 
+skipped_line : {A : Type 0} → (old : Joint A) (f : StreamFault) → old.so_far.end ≡ Some f → (x : Line) (place : Place)
+    (lines : List ℕ) (s : Stage) → IsReadTo lines s old → IsLine x → (m : May s.last x) → IsNoHeader x
+    → IsPlace place (to s x).last
+    → passed_lines old.past (parts_at (to s x)) ≡ passed_lines old.past (parts_at s) ++ []
+    → IsTaken lines (text_of_line x) s (to s x) Nothing old (placed old place)
+skipped_line old f e x place lines s r l m p at silent =
+    let o = onward s.last x m in
+    taken lines s x Nothing old (placed old place) r l m
+    (line_stops old.past s.over s.last x (written_of old.so_far) f r.stage.is_where o p e r.joint) at
+    (line_number s.over s.last x old.parts o p r.number) silent
+    (skips_borders old.past s.over s.last x (written_of old.so_far) f r.stage.is_where o p e r.joint) refl
+
+-- ---- a channel
+channel_place : (over : List Written) (b : OpenPart) (key : List ℕ) (c : Channel) → Onward b (channel key c)
+    → IsPlace (Channels (Some key)) (goes over b (channel key c)).last
+channel_place over _ _ _ (Onward.row cs key c m) = (cs, c, refl)
+
+channel_adds : JoinsChannel → (past : Bool) (over : List Written) (b : OpenPart) (key : List ℕ) (c : Channel)
+    (h k : Written) → Onward b (channel key c) → h.end ≡ None → IsJoint h.part (one_channel key c) k.part
+    → FitsAt h.part.records h.part.bytes (kept_of key h.part.channels) (Some c) → k.faults ≡ h.faults → k.end ≡ None
+    → IsJointOf past (over ++ open_part b) h → IsJointOf past (parts_at (goes over b (channel key c))) k
+channel_adds law past over _ _ _ h k (Onward.row cs key c m) n joint fit f e j =
+    channel_joint law past over cs key c h k j n m joint fit f e
+
 pub channel_skipped : {A : Type 0} → (old : Joint A) (f : StreamFault) → old.so_far.end ≡ Some f
     → (key : List ℕ) (c : Channel) (lines : List ℕ) (s : Stage) → IsReadTo lines s old → IsLine (channel key c)
     → May s.last (channel key c) → IsTaken lines (text_of_line (channel key c)) s (to s (channel key c)) Nothing old
     (placed old (Channels (Some key)))
 channel_skipped old f e key c lines s r l m =
-    taken lines s (channel key c) Nothing old (placed old (Channels (Some key))) r l m
-    (channel_stops old.past s.over s.last key c (written_of old.so_far) f m e r.joint)
-    (channel_place s.over s.last key c m) (channel_number s.over s.last key c old.parts m r.number)
-    (passed_same old.past s.over s.last (channel key c) r.stage.is_where m (channel_no_fault key c))
-    (skips_borders old.past s.over s.last (channel key c) (written_of old.so_far) f r.stage.is_where m tt e r.joint)
-    refl
+    let o = onward s.last (channel key c) m in
+    skipped_line old f e (channel key c) (Channels (Some key)) lines s r l m tt (channel_place s.over s.last key c o)
+    (passed_same old.past s.over s.last (channel key c) r.stage.is_where o (λ bytes x e. cc e))
 
 pub channel_added : {A : Type 0} → JoinsChannel → HaveOneJoint
     → (old : Joint A) (so_far : JointPart A) (report : Reported)
@@ -141,10 +153,11 @@ pub channel_added : {A : Type 0} → JoinsChannel → HaveOneJoint
     → May s.last (channel key c) → IsTaken lines (text_of_line (channel key c)) s (to s (channel key c)) report old
     (kept_as old so_far (Channels (Some key)))
 channel_added law only old so_far report silent n key c border joint fit f e lines s r l m =
+    let o = onward s.last (channel key c) m in
     taken lines s (channel key c) report old (kept_as old so_far (Channels (Some key))) r l m
-    (channel_adds law old.past s.over s.last key c (written_of old.so_far) (written_of so_far) m n joint fit f (e ∙ n)
-    r.joint) (channel_place s.over s.last key c m) (channel_number s.over s.last key c old.parts m r.number)
-    (passed_same old.past s.over s.last (channel key c) r.stage.is_where m (channel_no_fault key c)
+    (channel_adds law old.past s.over s.last key c (written_of old.so_far) (written_of so_far) o n joint fit f (e ∙ n)
+    r.joint) (channel_place s.over s.last key c o) (line_number s.over s.last (channel key c) old.parts o tt r.number)
+    (passed_same old.past s.over s.last (channel key c) r.stage.is_where o (λ bytes x e. cc e)
     ∙ ap (λ (ts : List (List ℕ)). passed_lines old.past (parts_at s) ++ ts) (sym silent))
     (channel_borders only old.past s.over s.last key c (written_of old.so_far) (border_by report) m n border r.joint)
     refl
@@ -175,59 +188,36 @@ pub channel_refused : {A : Type 0} → HaveOneJoint → (old : Joint A) → old.
     → ⊥) → (lines : List ℕ) (s : Stage) → IsReadTo lines s old → IsLine (channel key c)
     → May s.last (channel key c) → Begins old.past (lines ++ text_of_line (channel key c)) → ⊥
 channel_refused only old n key c limit lines s r l m b =
-    limit (by s.over s.last r.joint m (next_here old.past s lines (channel key c) r.stage l b))
+    limit (by s.over s.last key c r.joint (onward s.last (channel key c) m)
+    (next_here old.past s lines (channel key c) r.stage l b))
   where
-    by : (over : List Written) (b : OpenPart) → IsJointOf old.past (over ++ open_part b) (written_of old.so_far)
-        → May b (channel key c) → IsHere old.past (record { over = over; last = b }) (channel key c)
-        → FitsAt old.so_far.part.records old.so_far.part.bytes (kept_of key old.so_far.part.channels) (Some c)
-    by over none j q h = absurd q
-    by over (begun cs) j q h =
-        channel_fits only old.past over (written_of old.so_far) n h.parts h.joint h.is_joint cs key c j q h.extends_to
-    by over (whole w) j q h = absurd q
+    by : (over : List Written) (b : OpenPart) (k : List ℕ) (d : Channel)
+        → IsJointOf old.past (over ++ open_part b) (written_of old.so_far) → Onward b (channel k d)
+        → IsHere old.past (record { over = over; last = b }) (channel k d)
+        → FitsAt old.so_far.part.records old.so_far.part.bytes (kept_of k old.so_far.part.channels) (Some d)
+    by over _ _ _ j (Onward.row cs k d q) h =
+        channel_fits only old.past over (written_of old.so_far) n h.parts h.joint h.is_joint cs k d j q h.extends_to
 
 -- ---- the counts
-counts_place : (over : List Written) (b : OpenPart) (n l : ℕ) → May b (counts n l)
+counts_place : (over : List Written) (b : OpenPart) (n l : ℕ) → Onward b (counts n l)
     → IsPlace (Whole l false) (goes over b (counts n l)).last
-counts_place over none n l m = absurd m
-counts_place over (begun cs) n l m = (refl, refl)
-counts_place over (whole w) n l m = absurd m
-
-counts_number : (over : List Written) (b : OpenPart) (n l k : ℕ) → May b (counts n l)
-    → k ≡ length (over ++ open_part b) → k ≡ length (parts_at (goes over b (counts n l)))
-counts_number over none n l k m e = absurd m
-counts_number over (begun cs) n l k m e = e ∙ number_same over (begun_part cs) (counted_part cs n l)
-counts_number over (whole w) n l k m e = absurd m
-
-counts_stops : (past : Bool) (over : List Written) (b : OpenPart) (n l : ℕ) (h : Written)
-    (f : StreamFault) → May b (counts n l) → h.end ≡ Some f → IsJointOf past (over ++ open_part b) h
-    → IsJointOf past (parts_at (goes over b (counts n l))) h
-counts_stops past over none n l h f m e j = absurd m
-counts_stops past over (begun cs) n l h f m e j =
-    stopped past over (counted_part cs n l ∷ []) (begun_part cs) h f refl e j
-counts_stops past over (whole w) n l h f m e j = absurd m
+counts_place over _ _ _ (Onward.sums cs n l) = (refl, refl)
 
 counts_adds : JoinsCounts → (past : Bool) (over : List Written) (b : OpenPart) (n l : ℕ) (h k : Written)
-    → May b (counts n l) → h.end ≡ None → IsJoint h.part (counts_alone n l) k.part → Fits h.part (counts_alone n l)
-    → k.faults ≡ h.faults → k.end ≡ None
+    → Onward b (counts n l) → h.end ≡ None → IsJoint h.part (counts_alone n l) k.part
+    → Fits h.part (counts_alone n l) → k.faults ≡ h.faults → k.end ≡ None
     → IsJointOf past (over ++ open_part b) h → IsJointOf past (parts_at (goes over b (counts n l))) k
-counts_adds law past over none n l h k m free joint fit f e j = absurd m
-counts_adds law past over (begun cs) n l h k m free joint fit f e j =
+counts_adds law past over _ _ _ h k (Onward.sums cs n l) free joint fit f e j =
     counts_joint law past over cs n l h k j free joint fit f e
-counts_adds law past over (whole w) n l h k m free joint fit f e j = absurd m
-
-counts_no_fault : (n l bytes : ℕ) (f : StreamFault) → counts n l ≡ fault bytes f → ⊥
-counts_no_fault n l bytes f e = cc
 
 pub counts_skipped : {A : Type 0} → (old : Joint A) (f : StreamFault) → old.so_far.end ≡ Some f
     → (n l : ℕ) (lines : List ℕ) (s : Stage) → IsReadTo lines s old → IsLine (counts n l)
     → May s.last (counts n l) → IsTaken lines (text_of_line (counts n l)) s (to s (counts n l)) Nothing old
     (placed old (Whole l false))
 counts_skipped old f e n l lines s r is m =
-    taken lines s (counts n l) Nothing old (placed old (Whole l false)) r is m
-    (counts_stops old.past s.over s.last n l (written_of old.so_far) f m e r.joint)
-    (counts_place s.over s.last n l m) (counts_number s.over s.last n l old.parts m r.number)
-    (passed_same old.past s.over s.last (counts n l) r.stage.is_where m (counts_no_fault n l))
-    (skips_borders old.past s.over s.last (counts n l) (written_of old.so_far) f r.stage.is_where m tt e r.joint) refl
+    let o = onward s.last (counts n l) m in
+    skipped_line old f e (counts n l) (Whole l false) lines s r is m tt (counts_place s.over s.last n l o)
+    (passed_same old.past s.over s.last (counts n l) r.stage.is_where o (λ bytes x e. cc e))
 
 pub counts_added : {A : Type 0} → JoinsCounts → (old : Joint A) (so_far : JointPart A)
     → old.so_far.end ≡ None → (n l : ℕ) → IsJoint old.so_far.part (counts_alone n l) so_far.part
@@ -236,67 +226,47 @@ pub counts_added : {A : Type 0} → JoinsCounts → (old : Joint A) (so_far : Jo
     → May s.last (counts n l) → IsTaken lines (text_of_line (counts n l)) s (to s (counts n l)) Nothing old
     (kept_as old so_far (Whole l false))
 counts_added law old so_far free n l joint fit f e lines s r is m =
+    let o = onward s.last (counts n l) m in
     taken lines s (counts n l) Nothing old (kept_as old so_far (Whole l false)) r is m
-    (counts_adds law old.past s.over s.last n l (written_of old.so_far) (written_of so_far) m free joint fit f
-    (e ∙ free) r.joint) (counts_place s.over s.last n l m) (counts_number s.over s.last n l old.parts m r.number)
-    (passed_same old.past s.over s.last (counts n l) r.stage.is_where m (counts_no_fault n l))
-    (ends_borders old.past s.over s.last (counts n l) (written_of old.so_far) r.stage.is_where m tt free r.joint) refl
+    (counts_adds law old.past s.over s.last n l (written_of old.so_far) (written_of so_far) o free joint fit f
+    (e ∙ free) r.joint) (counts_place s.over s.last n l o)
+    (line_number s.over s.last (counts n l) old.parts o tt r.number)
+    (passed_same old.past s.over s.last (counts n l) r.stage.is_where o (λ bytes x e. cc e))
+    (ends_borders old.past s.over s.last (counts n l) (written_of old.so_far) r.stage.is_where o tt free r.joint) refl
 
 pub counts_refused : {A : Type 0} → HaveOneJoint → (old : Joint A) → old.so_far.end ≡ None → (n l : ℕ)
     → (Fits old.so_far.part (counts_alone n l) → ⊥) → (lines : List ℕ) (s : Stage) → IsReadTo lines s old
     → IsLine (counts n l) → May s.last (counts n l) → Begins old.past (lines ++ text_of_line (counts n l)) → ⊥
 counts_refused only old free n l limit lines s r is m b =
-    limit (by s.over s.last r.joint m (next_here old.past s lines (counts n l) r.stage is b))
+    limit (by s.over s.last n l r.joint (onward s.last (counts n l) m)
+    (next_here old.past s lines (counts n l) r.stage is b))
   where
-    by : (over : List Written) (b : OpenPart) → IsJointOf old.past (over ++ open_part b) (written_of old.so_far)
-        → May b (counts n l) → IsHere old.past (record { over = over; last = b }) (counts n l)
-        → Fits old.so_far.part (counts_alone n l)
-    by over none j q h = absurd q
-    by over (begun cs) j q h =
-        counts_fit only old.past over (written_of old.so_far) free h.parts h.joint h.is_joint cs n l j h.extends_to
-    by over (whole w) j q h = absurd q
+    by : (over : List Written) (b : OpenPart) (k i : ℕ)
+        → IsJointOf old.past (over ++ open_part b) (written_of old.so_far) → Onward b (counts k i)
+        → IsHere old.past (record { over = over; last = b }) (counts k i) → Fits old.so_far.part (counts_alone k i)
+    by over _ _ _ j (Onward.sums cs k i) h =
+        counts_fit only old.past over (written_of old.so_far) free h.parts h.joint h.is_joint cs k i j h.extends_to
 
 -- ---- the number of faults passed
-faults_place : (over : List Written) (b : OpenPart) (n l : ℕ) → May b (faults n) → 0 < n → IsPlace (Whole l false) b
-    → IsPlace (Whole l true) (goes over b (faults n)).last
-faults_place over none n l m some p = absurd m
-faults_place over (begun cs) n l m some p = absurd m
-faults_place over (whole w) n l m some p = (p.0, some)
-
-faults_number : (over : List Written) (b : OpenPart) (n k : ℕ) → May b (faults n) → k ≡ length (over ++ open_part b)
-    → k ≡ length (parts_at (goes over b (faults n)))
-faults_number over none n k m e = absurd m
-faults_number over (begun cs) n k m e = absurd m
-faults_number over (whole w) n k m e = e ∙ number_same over w (with_faults w n)
-
-faults_stops : (past : Bool) (over : List Written) (b : OpenPart) (n : ℕ) (h : Written) (f : StreamFault)
-    → IsWhere over b → May b (faults n) → h.end ≡ Some f → IsJointOf past (over ++ open_part b) h
-    → IsJointOf past (parts_at (goes over b (faults n))) h
-faults_stops past over none n h f v m e j = absurd m
-faults_stops past over (begun cs) n h f v m e j = absurd m
-faults_stops past over (whole w) n h f v m e j = stopped past over (with_faults w n ∷ []) w h f v e j
+faults_place : (over : List Written) (b : OpenPart) (n l : ℕ) → Onward b (faults n) → 0 < n
+    → IsPlace (Whole l false) b → IsPlace (Whole l true) (goes over b (faults n)).last
+faults_place over _ _ l (Onward.passes w n m) some p = (p.0, some)
 
 faults_adds : (past : Bool) (over : List Written) (b : OpenPart) (n : ℕ) (h k : Written) → IsWhere over b
-    → May b (faults n) → h.end ≡ None → h.faults + n < 2 ^ 63 → k.part ≡ h.part → k.faults ≡ h.faults + n
+    → Onward b (faults n) → h.end ≡ None → h.faults + n < 2 ^ 63 → k.part ≡ h.part → k.faults ≡ h.faults + n
     → k.end ≡ None → IsJointOf past (over ++ open_part b) h → IsJointOf past (parts_at (goes over b (faults n))) k
-faults_adds past over none n h k v m free fit p f e j = absurd m
-faults_adds past over (begun cs) n h k v m free fit p f e j = absurd m
-faults_adds past over (whole w) n h k v m free fit p f e j = faults_joint past over w n h k j v free m fit p f e
-
-faults_no_fault : (n bytes : ℕ) (f : StreamFault) → faults n ≡ fault bytes f → ⊥
-faults_no_fault n bytes f e = cc
+faults_adds past over _ _ h k v (Onward.passes w n m) free fit p f e j =
+    faults_joint past over w n h k j v free m fit p f e
 
 pub faults_skipped : {A : Type 0} → (old : Joint A) (f : StreamFault) → old.so_far.end ≡ Some f → (l : ℕ)
     → old.place ≡ Whole l false → (n : ℕ) (lines : List ℕ) (s : Stage) → IsReadTo lines s old → IsLine (faults n)
     → May s.last (faults n) → IsTaken lines (text_of_line (faults n)) s (to s (faults n)) Nothing old
     (placed old (Whole l true))
 faults_skipped old f e l at n lines s r is m =
-    taken lines s (faults n) Nothing old (placed old (Whole l true)) r is m
-    (faults_stops old.past s.over s.last n (written_of old.so_far) f r.stage.is_where m e r.joint)
-    (faults_place s.over s.last n l m is.some (subst (λ (p : Place). IsPlace p s.last) at r.place))
-    (faults_number s.over s.last n old.parts m r.number)
-    (passed_same old.past s.over s.last (faults n) r.stage.is_where m (faults_no_fault n))
-    (skips_borders old.past s.over s.last (faults n) (written_of old.so_far) f r.stage.is_where m tt e r.joint) refl
+    let o = onward s.last (faults n) m in
+    skipped_line old f e (faults n) (Whole l true) lines s r is m tt
+    (faults_place s.over s.last n l o is.some (subst (λ (p : Place). IsPlace p s.last) at r.place))
+    (passed_same old.past s.over s.last (faults n) r.stage.is_where o (λ bytes x e. cc e))
 
 pub faults_added : {A : Type 0} → (old : Joint A) (so_far : JointPart A) → old.so_far.end ≡ None → (l : ℕ)
     → old.place ≡ Whole l false → (n : ℕ) → old.so_far.faults + n < 2 ^ 63 → so_far.part ≡ old.so_far.part
@@ -305,61 +275,41 @@ pub faults_added : {A : Type 0} → (old : Joint A) (so_far : JointPart A) → o
     → May s.last (faults n) → IsTaken lines (text_of_line (faults n)) s (to s (faults n)) Nothing old
     (kept_as old so_far (Whole l true))
 faults_added old so_far free l at n fit p f e lines s r is m =
+    let o = onward s.last (faults n) m in
     taken lines s (faults n) Nothing old (kept_as old so_far (Whole l true)) r is m
-    (faults_adds old.past s.over s.last n (written_of old.so_far) (written_of so_far) r.stage.is_where m free fit p f
+    (faults_adds old.past s.over s.last n (written_of old.so_far) (written_of so_far) r.stage.is_where o free fit p f
     (e ∙ free) r.joint)
-    (faults_place s.over s.last n l m is.some (subst (λ (q : Place). IsPlace q s.last) at r.place))
-    (faults_number s.over s.last n old.parts m r.number)
-    (passed_same old.past s.over s.last (faults n) r.stage.is_where m (faults_no_fault n))
-    (ends_borders old.past s.over s.last (faults n) (written_of old.so_far) r.stage.is_where m tt free r.joint) refl
+    (faults_place s.over s.last n l o is.some (subst (λ (q : Place). IsPlace q s.last) at r.place))
+    (line_number s.over s.last (faults n) old.parts o tt r.number)
+    (passed_same old.past s.over s.last (faults n) r.stage.is_where o (λ bytes x e. cc e))
+    (ends_borders old.past s.over s.last (faults n) (written_of old.so_far) r.stage.is_where o tt free r.joint) refl
 
 pub faults_refused : {A : Type 0} → HaveOneJoint → (old : Joint A) → old.so_far.end ≡ None → (n : ℕ)
     → (old.so_far.faults + n < 2 ^ 63 → ⊥) → (lines : List ℕ) (s : Stage) → IsReadTo lines s old
     → IsLine (faults n) → May s.last (faults n) → Begins old.past (lines ++ text_of_line (faults n)) → ⊥
 faults_refused only old free n limit lines s r is m b =
-    limit (by s.over s.last r.joint r.stage.is_where m (next_here old.past s lines (faults n) r.stage is b))
+    limit (by s.over s.last n r.joint r.stage.is_where (onward s.last (faults n) m)
+    (next_here old.past s lines (faults n) r.stage is b))
   where
-    by : (over : List Written) (b : OpenPart) → IsJointOf old.past (over ++ open_part b) (written_of old.so_far)
-        → IsWhere over b → May b (faults n) → IsHere old.past (record { over = over; last = b }) (faults n)
-        → old.so_far.faults + n < 2 ^ 63
-    by over none j v q h = absurd q
-    by over (begun cs) j v q h = absurd q
-    by over (whole w) j v q h =
-        faults_fit only old.past over (written_of old.so_far) free h.parts h.joint h.is_joint w n v q j h.extends_to
+    by : (over : List Written) (b : OpenPart) (k : ℕ) → IsJointOf old.past (over ++ open_part b) (written_of old.so_far)
+        → IsWhere over b → Onward b (faults k) → IsHere old.past (record { over = over; last = b }) (faults k)
+        → old.so_far.faults + k < 2 ^ 63
+    by over _ _ j v (Onward.passes w k q) h =
+        faults_fit only old.past over (written_of old.so_far) free h.parts h.joint h.is_joint w k v q j h.extends_to
 
 -- ---- the fault with which a part ends
-fault_place : (over : List Written) (b : OpenPart) (l : ℕ) (f : StreamFault) → May b (fault l f)
+fault_place : (over : List Written) (b : OpenPart) (l : ℕ) (f : StreamFault) → Onward b (fault l f)
     → IsPlace Start (goes over b (fault l f)).last
-fault_place over none l f m = absurd m
-fault_place over (begun cs) l f m = absurd m
-fault_place over (whole w) l f m = tt
-
-fault_number : (over : List Written) (b : OpenPart) (l : ℕ) (f : StreamFault) (k : ℕ) → May b (fault l f)
-    → k ≡ length (over ++ open_part b) → k ≡ length (parts_at (goes over b (fault l f)))
-fault_number over none l f k m e = absurd m
-fault_number over (begun cs) l f k m e = absurd m
-fault_number over (whole w) l f k m e =
-    e ∙ number_same over w (with_end w f) ∙ ap length (sym (append-nil (over ++ with_end w f ∷ [])))
-
-no_append : (past : Bool) (ws : List Written) (h : Written) → IsJointOf past ws h → IsJointOf past (ws ++ []) h
-no_append past ws h j = subst (λ (vs : List Written). IsJointOf past vs h) (sym (append-nil ws)) j
+fault_place over _ _ _ (Onward.ends w l f m) = tt
 
 -- a part that ends with a fault is over
 fault_over : (past : Bool) (over : List Written) (b : OpenPart) (l : ℕ) (x : StreamFault) (h k : Written)
     → ((w : Written) → w.end ≡ None → w.part.bytes ≡ l → IsJointOf past (over ++ w ∷ []) h
     → IsJointOf past (over ++ with_end w x ∷ []) k)
-    → IsWhere over b → May b (fault l x) → IsJointOf past (over ++ open_part b) h
+    → IsWhere over b → Onward b (fault l x) → IsJointOf past (over ++ open_part b) h
     → IsJointOf past (parts_at (goes over b (fault l x))) k
-fault_over past over none l x h k next v m j = absurd m
-fault_over past over (begun cs) l x h k next v m j = absurd m
-fault_over past over (whole w) l x h k next v m j =
+fault_over past over _ _ _ h k next v (Onward.ends w l x m) j =
     no_append past (over ++ with_end w x ∷ []) k (next w v m j)
-
-fault_stops : (past : Bool) (over : List Written) (b : OpenPart) (l : ℕ) (x : StreamFault) (h : Written)
-    (f : StreamFault) → IsWhere over b → May b (fault l x) → h.end ≡ Some f
-    → IsJointOf past (over ++ open_part b) h → IsJointOf past (parts_at (goes over b (fault l x))) h
-fault_stops past over b l x h f v m e j =
-    fault_over past over b l x h h (λ w no_end at i. stopped past over (with_end w x ∷ []) w h f no_end e i) v m j
 
 -- where faults are passed no joint part ends with one
 free_by : (a w : Written) (ws : List Written) (h : Written) (end : Option StreamFault) → w.end ≡ end
@@ -389,12 +339,10 @@ fault_silent past over b l f p =
     ∙ ap (λ (q : Bool). passed_lines q (over ++ open_part b) ++ []) (sym p)
 
 fault_reported : (past : Bool) (over : List Written) (b : OpenPart) (l : ℕ) (f : StreamFault) (k : ℕ) → past ≡ true
-    → IsWhere over b → May b (fault l f) → k ≡ length (over ++ open_part b)
+    → IsWhere over b → Onward b (fault l f) → k ≡ length (over ++ open_part b)
     → passed_lines past (parts_at (goes over b (fault l f)))
     ≡ passed_lines past (over ++ open_part b) ++ passed_line k f ∷ []
-fault_reported past over none l f k p v m e = absurd m
-fault_reported past over (begun cs) l f k p v m e = absurd m
-fault_reported past over (whole w) l f k p v m e =
+fault_reported past over _ _ _ k p v (Onward.ends w l f m) e =
     ap (λ (q : Bool). passed_lines q ((over ++ with_end w f ∷ []) ++ [])) p
     ∙ passed_more over w f v
     ∙ (λ i. passed_lines (sym p i) (over ++ w ∷ []) ++ passed_line (sym e i) f ∷ [])
@@ -405,11 +353,8 @@ pub fault_skipped : {A : Type 0} → (old : Joint A) (f : StreamFault) → old.s
     → May s.last (fault l x) → IsTaken lines (text_of_line (fault l x)) s (to s (fault l x)) Nothing old
     (placed old Start)
 fault_skipped old f e l x lines s r is m =
-    taken lines s (fault l x) Nothing old (placed old Start) r is m
-    (fault_stops old.past s.over s.last l x (written_of old.so_far) f r.stage.is_where m e r.joint)
-    (fault_place s.over s.last l x m) (fault_number s.over s.last l x old.parts m r.number)
+    skipped_line old f e (fault l x) Start lines s r is m tt (fault_place s.over s.last l x (onward s.last (fault l x) m))
     (fault_silent old.past s.over s.last l x (not_past old.past refl))
-    (skips_borders old.past s.over s.last (fault l x) (written_of old.so_far) f r.stage.is_where m tt e r.joint) refl
   where
     not_past : (past : Bool) → old.past ≡ past → old.past ≡ false
     not_past false p = p
@@ -417,7 +362,7 @@ fault_skipped old f e l x lines s r is m =
         absurd (some_none f (sym e ∙ always_free old.past (parts_at s) (written_of old.so_far) p r.joint))
 
 fault_ends : (past : Bool) (over : List Written) (b : OpenPart) (l : ℕ) (x : StreamFault) (h k : Written) → past ≡ false
-    → IsWhere over b → May b (fault l x) → IsLine (fault l x) → h.end ≡ None → k.part ≡ h.part → k.faults ≡ h.faults
+    → IsWhere over b → Onward b (fault l x) → IsLine (fault l x) → h.end ≡ None → k.part ≡ h.part → k.faults ≡ h.faults
     → k.end ≡ Some (fault_after h.part.bytes x)
     → IsJointOf past (over ++ open_part b) h → IsJointOf past (parts_at (goes over b (fault l x))) k
 fault_ends past over b l x h k p v m is free pa fa e j =
@@ -434,15 +379,16 @@ pub fault_kept : {A : Type 0} → (old : Joint A) (so_far : JointPart A) → old
     → May s.last (fault l x) → IsTaken lines (text_of_line (fault l x)) s (to s (fault l x)) Nothing old
     (kept_as old so_far Start)
 fault_kept old so_far p free x pa fa e l lines s r is m =
+    let o = onward s.last (fault l x) m in
     taken lines s (fault l x) Nothing old (kept_as old so_far Start) r is m
-    (fault_ends old.past s.over s.last l x (written_of old.so_far) (written_of so_far) p r.stage.is_where m is free pa
+    (fault_ends old.past s.over s.last l x (written_of old.so_far) (written_of so_far) p r.stage.is_where o is free pa
     fa e r.joint)
-    (fault_place s.over s.last l x m) (fault_number s.over s.last l x old.parts m r.number)
+    (fault_place s.over s.last l x o) (line_number s.over s.last (fault l x) old.parts o tt r.number)
     (fault_silent old.past s.over s.last l x p)
-    (ends_borders old.past s.over s.last (fault l x) (written_of old.so_far) r.stage.is_where m tt free r.joint) refl
+    (ends_borders old.past s.over s.last (fault l x) (written_of old.so_far) r.stage.is_where o tt free r.joint) refl
 
 fault_passes : (past : Bool) (over : List Written) (b : OpenPart) (l : ℕ) (x : StreamFault) (h k : Written)
-    → past ≡ true → IsWhere over b → May b (fault l x) → h.end ≡ None → h.faults + 1 < 2 ^ 63 → k.part ≡ h.part
+    → past ≡ true → IsWhere over b → Onward b (fault l x) → h.end ≡ None → h.faults + 1 < 2 ^ 63 → k.part ≡ h.part
     → k.faults ≡ h.faults + 1 → k.end ≡ None
     → IsJointOf past (over ++ open_part b) h → IsJointOf past (parts_at (goes over b (fault l x))) k
 fault_passes past over b l x h k p v m free fit pa fa e j =
@@ -459,27 +405,27 @@ pub fault_passed : {A : Type 0} → (old : Joint A) (so_far : JointPart A) → o
     → May s.last (fault l x)
     → IsTaken lines (text_of_line (fault l x)) s (to s (fault l x)) (Passed old.parts x) old (kept_as old so_far Start)
 fault_passed old so_far p free x fit pa fa e l lines s r is m =
+    let o = onward s.last (fault l x) m in
     taken lines s (fault l x) (Passed old.parts x) old (kept_as old so_far Start) r is m
-    (fault_passes old.past s.over s.last l x (written_of old.so_far) (written_of so_far) p r.stage.is_where m free fit
+    (fault_passes old.past s.over s.last l x (written_of old.so_far) (written_of so_far) p r.stage.is_where o free fit
     pa fa (e ∙ free) r.joint)
-    (fault_place s.over s.last l x m) (fault_number s.over s.last l x old.parts m r.number)
-    (fault_reported old.past s.over s.last l x old.parts p r.stage.is_where m r.number)
-    (ends_borders old.past s.over s.last (fault l x) (written_of old.so_far) r.stage.is_where m tt free r.joint) refl
+    (fault_place s.over s.last l x o) (line_number s.over s.last (fault l x) old.parts o tt r.number)
+    (fault_reported old.past s.over s.last l x old.parts p r.stage.is_where o r.number)
+    (ends_borders old.past s.over s.last (fault l x) (written_of old.so_far) r.stage.is_where o tt free r.joint) refl
 
 pub fault_refused : {A : Type 0} → HaveOneJoint → (old : Joint A) → old.past ≡ true → old.so_far.end ≡ None
     → (x : StreamFault) → (old.so_far.faults + 1 < 2 ^ 63 → ⊥) → (l : ℕ) (lines : List ℕ) (s : Stage)
     → IsReadTo lines s old → IsLine (fault l x) → May s.last (fault l x)
     → Begins old.past (lines ++ text_of_line (fault l x)) → ⊥
 fault_refused only old p free x limit l lines s r is m b =
-    limit (by s.over s.last r.joint r.stage.is_where m (next_here old.past s lines (fault l x) r.stage is b))
+    limit (by s.over s.last l x r.joint r.stage.is_where (onward s.last (fault l x) m)
+    (next_here old.past s lines (fault l x) r.stage is b))
   where
-    by : (over : List Written) (b : OpenPart) → IsJointOf old.past (over ++ open_part b) (written_of old.so_far)
-        → IsWhere over b → May b (fault l x) → IsHere old.past (record { over = over; last = b }) (fault l x)
-        → old.so_far.faults + 1 < 2 ^ 63
-    by over none j v q h = absurd q
-    by over (begun cs) j v q h = absurd q
-    by over (whole w) j v q h =
-        passed_fit only old.past over (written_of old.so_far) free h.parts h.joint h.is_joint w x h.extends_to.0 p v j
+    by : (over : List Written) (b : OpenPart) (k : ℕ) (y : StreamFault)
+        → IsJointOf old.past (over ++ open_part b) (written_of old.so_far) → IsWhere over b → Onward b (fault k y)
+        → IsHere old.past (record { over = over; last = b }) (fault k y) → old.so_far.faults + 1 < 2 ^ 63
+    by over _ _ _ j v (Onward.ends w k y q) h =
+        passed_fit only old.past over (written_of old.so_far) free h.parts h.joint h.is_joint w y h.extends_to.0 p v j
         h.extends_to.1
 
 pub some_after : (y : StreamFault) (m n : ℕ) (x : StreamFault) → y ≡ fault_after m x → m ≡ n

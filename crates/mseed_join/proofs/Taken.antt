@@ -17,6 +17,7 @@ use Rattle.mseed_join.specs.Joined.{moved_fault, nothing}
 use Rattle.mseed_join.specs.Reached.{OpenPart, none, begun, whole, Stage, begun_part, open_part, parts_at, open_text}
 use Rattle.mseed_join.specs.Reached.{IsStage, IsWhere, passed_from, passed_lines, passed_line, passed_of}
 use Rattle.mseed_join.specs.private.Steps.{May, to, goes, counted_part, with_faults, with_end}
+use Rattle.mseed_join.proofs.Onward.{Onward, onward}
 use Rattle.mseed_join.proofs.Machine.{Entries, rows_append}
 use Rattle.mseed_join.proofs.Running.{HaveTexts, texts_before, texts_after}
 use Rattle.mseed_join.proofs.Sums.{IsFirst, IsSplit, first_of, none_of, some_none, split, glue, stop}
@@ -39,39 +40,30 @@ rows_one (d ∷ cs) key c =
 abbrev leading : Written → List ℕ
 leading w = header_line ++ channel_lines w.part.channels ++ counts_line w.part.records w.part.bytes
 
-text_more : (over : List Written) (b : OpenPart) (x : Line) → IsWhere over b → May b x
+text_more : (over : List Written) (b : OpenPart) (x : Line) → IsWhere over b → Onward b x
     → texts over ++ open_text b ++ text_of_line x ≡ texts (goes over b x).over ++ open_text (goes over b x).last
-text_more over none header w m =
+text_more over _ _ w Onward.opens =
     (λ i. append-nil (texts over) i ++ sym (append-nil header_line) i)
-text_more over none (channel k c) w m = absurd m
-text_more over none (counts n l) w m = absurd m
-text_more over none (faults n) w m = absurd m
-text_more over none (fault l f) w m = absurd m
-text_more over (begun cs) header w m = absurd m
-text_more over (begun cs) (channel k c) w m =
+text_more over _ _ w (Onward.row cs k c m) =
     append_assoc (texts over) (header_line ++ channel_lines cs) (channel_line k c)
     ∙ ap (λ (t : List ℕ). texts over ++ t)
     (append_assoc header_line (channel_lines cs) (channel_line k c)
     ∙ ap (λ (t : List ℕ). header_line ++ t) (sym (rows_one cs k c)))
-text_more over (begun cs) (counts n l) w m =
+text_more over _ _ w (Onward.sums cs n l) =
     append_assoc (texts over) (header_line ++ channel_lines cs) (counts_line n l)
     ∙ ap (λ (t : List ℕ). texts over ++ t)
     (sym (append-nil (header_line ++ channel_lines cs ++ counts_line n l ++ [])
     ∙ append-nil (header_line ++ channel_lines cs ++ counts_line n l)))
-text_more over (begun cs) (faults n) w m = absurd m
-text_more over (begun cs) (fault l f) w m = absurd m
-text_more over (whole v) header w m =
+text_more over _ _ w (Onward.follows v) =
     (λ i. sym (texts_one over v) i ++ sym (append-nil header_line) i)
-text_more over (whole v) (channel k c) w m = absurd m
-text_more over (whole v) (counts n l) w m = absurd m
-text_more over (whole v) (faults n) w m =
+text_more over _ _ w (Onward.passes v n m) =
     append_assoc (texts over) (part_text v) (faults_line n)
     ∙ ap (λ (t : List ℕ). texts over ++ t)
     ((λ i. leading v ++ faults_line (m i) ++ end_line (w i) ++ faults_line n)
     ∙ ap (λ (t : List ℕ). t ++ faults_line n) (append-nil (leading v ++ []) ∙ append-nil (leading v))
     ∙ sym (append-nil (leading v ++ faults_line n))
     ∙ (λ i. leading v ++ faults_line n ++ end_line (sym w i)))
-text_more over (whole v) (fault l f) w m =
+text_more over _ _ w (Onward.ends v l f m) =
     append_assoc (texts over) (part_text v) (fault_line f)
     ∙ ap (λ (t : List ℕ). texts over ++ t)
     ((λ i. leading v ++ faults_line v.faults ++ end_line (w i) ++ fault_line f)
@@ -89,16 +81,11 @@ empty_text = record {
   end = tt;
 }
 
-each_more : (over : List Written) (b : OpenPart) (x : Line) → IsLine x → IsWhere over b → May b x
+each_more : (over : List Written) (b : OpenPart) (x : Line) → IsLine x → IsWhere over b → Onward b x
     → HaveTexts (over ++ open_part b) → HaveTexts (parts_at (goes over b x))
-each_more over none header l w m h =
+each_more over _ _ l w Onward.opens h =
     All-append HasText over (begun_part [] ∷ []) (texts_before over [] h) (empty_text, tt)
-each_more over none (channel k c) l w m h = absurd m
-each_more over none (counts n k) l w m h = absurd m
-each_more over none (faults n) l w m h = absurd m
-each_more over none (fault k f) l w m h = absurd m
-each_more over (begun cs) header l w m h = absurd m
-each_more over (begun cs) (channel k c) l w m h =
+each_more over _ _ l w (Onward.row cs k c m) h =
     let has : HasText (begun_part cs) = (texts_after over (begun_part cs ∷ []) h).0 in
     All-append HasText over (begun_part (cs ++ (k, c) ∷ []) ∷ []) (texts_before over (begun_part cs ∷ []) h) (
       record {
@@ -110,25 +97,21 @@ each_more over (begun cs) (channel k c) l w m h =
       },
       tt,
     )
-each_more over (begun cs) (counts n k) l w m h =
+each_more over _ _ l w (Onward.sums cs n k) h =
     let has : HasText (begun_part cs) = (texts_after over (begun_part cs ∷ []) h).0 in
     All-append HasText over (counted_part cs n k ∷ []) (texts_before over (begun_part cs ∷ []) h) (
       record { ascending = has.ascending; channels = has.channels; counts = l; faults = has.faults; end = tt },
       tt,
     )
-each_more over (begun cs) (faults n) l w m h = absurd m
-each_more over (begun cs) (fault k f) l w m h = absurd m
-each_more over (whole v) header l w m h =
+each_more over _ _ l w (Onward.follows v) h =
     All-append HasText (over ++ v ∷ []) (begun_part [] ∷ []) h (empty_text, tt)
-each_more over (whole v) (channel k c) l w m h = absurd m
-each_more over (whole v) (counts n k) l w m h = absurd m
-each_more over (whole v) (faults n) l w m h =
+each_more over _ _ l w (Onward.passes v n m) h =
     let has : HasText v = (texts_after over (v ∷ []) h).0 in
     All-append HasText over (with_faults v n ∷ []) (texts_before over (v ∷ []) h) (
       record { ascending = has.ascending; channels = has.channels; counts = has.counts; faults = l.fit; end = has.end },
       tt,
     )
-each_more over (whole v) (fault k f) l w m h =
+each_more over _ _ l w (Onward.ends v k f m) h =
     let has : HasText v = (texts_after over (v ∷ []) h).0 in
     All-append HasText (over ++ with_end v f ∷ []) []
     (All-append HasText over (with_end v f ∷ []) (texts_before over (v ∷ []) h) (
@@ -142,31 +125,22 @@ each_more over (whole v) (fault k f) l w m h =
       tt,
     )) tt
 
-where_more : (over : List Written) (b : OpenPart) (x : Line) → IsWhere over b → May b x
+where_more : (over : List Written) (b : OpenPart) (x : Line) → IsWhere over b → Onward b x
     → IsWhere (goes over b x).over (goes over b x).last
-where_more over none header w m = tt
-where_more over none (channel k c) w m = absurd m
-where_more over none (counts n l) w m = absurd m
-where_more over none (faults n) w m = absurd m
-where_more over none (fault l f) w m = absurd m
-where_more over (begun cs) header w m = absurd m
-where_more over (begun cs) (channel k c) w m = tt
-where_more over (begun cs) (counts n l) w m = refl
-where_more over (begun cs) (faults n) w m = absurd m
-where_more over (begun cs) (fault l f) w m = absurd m
-where_more over (whole v) header w m = tt
-where_more over (whole v) (channel k c) w m = absurd m
-where_more over (whole v) (counts n l) w m = absurd m
-where_more over (whole v) (faults n) w m = w
-where_more over (whole v) (fault l f) w m =
+where_more over _ _ w Onward.opens = tt
+where_more over _ _ w (Onward.row cs k c m) = tt
+where_more over _ _ w (Onward.sums cs n l) = refl
+where_more over _ _ w (Onward.follows v) = tt
+where_more over _ _ w (Onward.passes v n m) = w
+where_more over _ _ w (Onward.ends v l f m) =
     inr (record { parts = over; last = with_end v f; fault = f; are = refl; ends = refl })
 
 pub stage_more : (lines : List ℕ) (s : Stage) (x : Line) → IsStage lines s → IsLine x → May s.last x
     → IsStage (lines ++ text_of_line x) (to s x)
 stage_more lines s x i l m = record {
-  text = ap (λ (t : List ℕ). t ++ text_of_line x) i.text ∙ text_more s.over s.last x i.is_where m;
-  each = each_more s.over s.last x l i.is_where m i.each;
-  is_where = where_more s.over s.last x i.is_where m;
+  text = ap (λ (t : List ℕ). t ++ text_of_line x) i.text ∙ text_more s.over s.last x i.is_where (onward s.last x m);
+  each = each_more s.over s.last x l i.is_where (onward s.last x m) i.each;
+  is_where = where_more s.over s.last x i.is_where (onward s.last x m);
 }
 
 -- ---- the joint part
@@ -266,38 +240,29 @@ passed_silent true ws w e =
     ∙ ap (λ (o : Option StreamFault). passed_from 1 ws ++ (passed_of (1 + length ws) o ++ [])) e
     ∙ append-nil (passed_from 1 ws)
 
-pub passed_same : (past : Bool) (over : List Written) (b : OpenPart) (x : Line) → IsWhere over b → May b x
+pub passed_same : (past : Bool) (over : List Written) (b : OpenPart) (x : Line) → IsWhere over b → Onward b x
     → ((bytes : ℕ) (f : StreamFault) → x ≡ fault bytes f → ⊥)
     → passed_lines past (parts_at (goes over b x)) ≡ passed_lines past (over ++ open_part b) ++ []
-passed_same past over none header w m o =
+passed_same past over _ _ w Onward.opens o =
     passed_silent past over (begun_part []) refl
     ∙ ap (λ (ws : List Written). passed_lines past ws) (sym (append-nil over))
     ∙ sym (append-nil (passed_lines past (over ++ [])))
-passed_same past over none (channel k c) w m o = absurd m
-passed_same past over none (counts n l) w m o = absurd m
-passed_same past over none (faults n) w m o = absurd m
-passed_same past over none (fault l f) w m o = absurd m
-passed_same past over (begun cs) header w m o = absurd m
-passed_same past over (begun cs) (channel k c) w m o =
+passed_same past over _ _ w (Onward.row cs k c m) o =
     passed_silent past over (begun_part (cs ++ (k, c) ∷ [])) refl
     ∙ sym (passed_silent past over (begun_part cs) refl)
     ∙ sym (append-nil (passed_lines past (over ++ begun_part cs ∷ [])))
-passed_same past over (begun cs) (counts n l) w m o =
+passed_same past over _ _ w (Onward.sums cs n l) o =
     passed_silent past over (counted_part cs n l) refl
     ∙ sym (passed_silent past over (begun_part cs) refl)
     ∙ sym (append-nil (passed_lines past (over ++ begun_part cs ∷ [])))
-passed_same past over (begun cs) (faults n) w m o = absurd m
-passed_same past over (begun cs) (fault l f) w m o = absurd m
-passed_same past over (whole v) header w m o =
+passed_same past over _ _ w (Onward.follows v) o =
     passed_silent past (over ++ v ∷ []) (begun_part []) refl
     ∙ sym (append-nil (passed_lines past (over ++ v ∷ [])))
-passed_same past over (whole v) (channel k c) w m o = absurd m
-passed_same past over (whole v) (counts n l) w m o = absurd m
-passed_same past over (whole v) (faults n) w m o =
+passed_same past over _ _ w (Onward.passes v n m) o =
     passed_silent past over (with_faults v n) w
     ∙ sym (passed_silent past over v w)
     ∙ sym (append-nil (passed_lines past (over ++ v ∷ [])))
-passed_same past over (whole v) (fault l f) w m o = absurd (o l f refl)
+passed_same past over _ _ w (Onward.ends v l f m) o = absurd (o l f refl)
 
 pub passed_more : (over : List Written) (v : Written) (f : StreamFault) → v.end ≡ None
     → passed_lines true ((over ++ with_end v f ∷ []) ++ [])

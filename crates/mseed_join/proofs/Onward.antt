@@ -1,0 +1,36 @@
+-- The lines that go on from where parts are.
+use Rattle.std.proofs.Common.{◌≡◌, ℕ, List, [], ◌∷◌, ◌++◌}
+use Rattle.mseed_stream.specs.declared.fault.StreamFault.{StreamFault}
+use Rattle.mseed_audit.specs.declared.channel.Channel.{Channel}
+use Rattle.mseed_join.specs.Lines.{Line, header, channel, counts, faults, fault}
+use Rattle.mseed_join.specs.Parts.{IsAscending}
+use Rattle.mseed_join.specs.Reached.{OpenPart, none, begun, whole}
+use Rattle.mseed_join.specs.Written.{Written}
+use Rattle.mseed_join.specs.private.Steps.{May}
+
+-- each with what stands before it
+pub data Onward : OpenPart → Line → Type 0 where
+  opens : Onward none header
+  follows : (w : Written) → Onward (whole w) header
+  row : (cs : List (List ℕ × Channel)) (key : List ℕ) (c : Channel) → IsAscending (cs ++ (key, c) ∷ [])
+      → Onward (begun cs) (channel key c)
+  sums : (cs : List (List ℕ × Channel)) (n l : ℕ) → Onward (begun cs) (counts n l)
+  passes : (w : Written) (n : ℕ) → w.faults ≡ 0 → Onward (whole w) (faults n)
+  ends : (w : Written) (l : ℕ) (f : StreamFault) → w.part.bytes ≡ l → Onward (whole w) (fault l f)
+
+pub onward : (b : OpenPart) (x : Line) → May b x → Onward b x
+onward none header m = Onward.opens
+onward none (channel key c) m = absurd m
+onward none (counts n l) m = absurd m
+onward none (faults n) m = absurd m
+onward none (fault l f) m = absurd m
+onward (begun cs) header m = absurd m
+onward (begun cs) (channel key c) m = Onward.row cs key c m
+onward (begun cs) (counts n l) m = Onward.sums cs n l
+onward (begun cs) (faults n) m = absurd m
+onward (begun cs) (fault l f) m = absurd m
+onward (whole w) header m = Onward.follows w
+onward (whole w) (channel key c) m = absurd m
+onward (whole w) (counts n l) m = absurd m
+onward (whole w) (faults n) m = Onward.passes w n m
+onward (whole w) (fault l f) m = Onward.ends w l f m
