@@ -20,7 +20,7 @@ use Rattle.mseed_join.specs.Joined.{HasNoBadLine, IsBadLine, join_text}
 use Rattle.mseed_join.specs.Joins.{IsAnswer}
 use Rattle.mseed_join.specs.JoinsEach.{AreEachTo, IsJoinEachOutcome, IsReadEach}
 use Rattle.mseed_join.specs.Reached.{AreLinesRead, AreReported, Stage, parts_at, passed_lines, start}
-use Rattle.mseed_join.specs.ReadParts.{AreExpected, AreReadParts, IsReadOutcome, IsStopped, written_of}
+use Rattle.mseed_join.specs.ReadParts.{AreExpected, AreReadParts, IsReadOutcome, written_of}
 use Rattle.mseed_join.specs.Written.{Written, Spells}
 use Rattle.mseed_join.specs.private.Along.{HasEnded, IsAlong, IsFinished, IsNextStep, IsStoppedAt}
 use Rattle.mseed_join.specs.private.Bordered.{AreLined, IsCutShort, IsEndedBy, IsFlushed, IsReading, IsUnread}
@@ -237,45 +237,31 @@ all_read past expected h old now before after joint first at Stands begin u e f 
     )
 
 -- ---- with no report
-abbrev stopped : (past : Bool) (h : BytesRead) (found : List Border) (first at : BytesWritten)
-    → AreEachTo past h found first at → IsStopped past nothing_read h first at
-stopped past h found first at to = record { bytes = h.bytes; more = refl; stage = to.stage; lines = to.lines }
-
 refused_by : (A : Type 0) (fault : JoinsFault) (past : Bool) (expected : Option ℕ) (h : BytesRead)
     (found : List Border) (first at : BytesWritten) → AreEachTo past h found first at
-    → IsEndedBy fault past expected h found first at
-    → IsReadOutcome {A = A} (Err fault) past expected nothing_read h first at
-refused_by A (Line k offset flaw) past expected h found first at to by = (h.bytes, (refl, by.bad))
-refused_by A (Count parts due) past expected h found first at to by = (h.bytes, (refl, by.whole, by.miscounted))
+    → IsEndedBy fault past expected h found first at → IsReadOutcome {A = A} (Err fault) past expected h first at
+refused_by A (Line k offset flaw) past expected h found first at to by = by.bad
+refused_by A (Count parts due) past expected h found first at to by = (by.whole, by.miscounted)
 refused_by A (Stream fault) past expected h found first at to by =
-    (by.0, record { stopped = stopped past h found first at to; none_bad = by.1 })
+    (by.0, record { stopped = record { stage = to.stage; lines = to.lines }; none_bad = by.1 })
 refused_by A Write past expected h found first at to by = absurd by
-refused_by A Memory past expected h found first at to by = stopped past h found first at to
+refused_by A Memory past expected h found first at to by = record { stage = to.stage; lines = to.lines }
 
 unread : (A : Type 0) (fault : JoinsFault) (past : Bool) (expected : Option ℕ) (h : BytesRead)
     (found : List Border) (first at : BytesWritten) → AreEachTo past h found first at
     → ⊥ ⊎ ((ended : JoinsFault) × (IsEndedBy ended past expected h found first at × (fault ≡ ended)))
-    → IsReadOutcome {A = A} (Err fault) past expected nothing_read h first at
+    → IsReadOutcome {A = A} (Err fault) past expected h first at
 unread A fault past expected h found first at to (inl cut) = absurd cut
 unread A fault past expected h found first at to (inr (ended, (end, same))) =
-    subst (λ (f : JoinsFault). IsReadOutcome {A = A} (Err f) past expected nothing_read h first at) (sym same)
+    subst (λ (f : JoinsFault). IsReadOutcome {A = A} (Err f) past expected h first at) (sym same)
     (refused_by A ended past expected h found first at to end)
 
-read_by : (A : Type 0) (r : Result (JointPart A) JoinsFault) (past : Bool) (expected : Option ℕ) (h : BytesRead)
-    (first at : BytesWritten) (Stands : List Border → Type 0)
-    → IsReading r past expected h first at Stands (λ found fault. ⊥) (λ found ended fault. fault ≡ ended)
-    → IsReadOutcome r past expected nothing_read h first at
-read_by A (Ok joint) past expected h first at Stands all =
-    (h.bytes, (refl, all.1.0.read.whole, (all.1.0.read.parts, all.1.0.read.number)))
-read_by A (Err fault) past expected h first at Stands u = unread A fault past expected h u.found first at u.to u.by
-
 pub unreported : (A : Type 0) (result : Result (JointPart A) JoinsFault) (past : Bool) (expected : Option ℕ)
-    (old h : BytesRead) (first at : BytesWritten) (Stands : List Border → Type 0) → old ≡ nothing_read
+    (h : BytesRead) (first at : BytesWritten) (Stands : List Border → Type 0)
     → IsReading result past expected h first at Stands (λ found fault. ⊥) (λ found ended fault. fault ≡ ended)
-    → IsReadOutcome result past expected old h first at
-unreported A result past expected old h first at Stands begin reading =
-    subst (λ (s : BytesRead). IsReadOutcome result past expected s h first at) (sym begin)
-    (read_by A result past expected h first at Stands reading)
+    → IsReadOutcome result past expected h first at
+unreported A (Ok joint) past expected h first at Stands all = all.1.0.read
+unreported A (Err fault) past expected h first at Stands u = unread A fault past expected h u.found first at u.to u.by
 
 -- ---- with a report of lines
 -- one more line was added, and perhaps written

@@ -11,7 +11,7 @@ use Rattle.mseed_join.specs.declared.joining.Joined.{Joined as Answer}
 use Rattle.mseed_join.specs.declared.fault.JoinsFault.{JoinsFault}
 use Rattle.mseed_join.specs.declared.fault.JoinsFault.TheVariants.{Line, Count, Stream, Write, Memory}
 use Rattle.mseed_join.specs.Joined.{join_text, verdict_at}
-use Rattle.mseed_join.specs.ReadParts.{AreBadParts, AreExpected, AreMiscounted, AreReadParts, IsFailed, IsStopped}
+use Rattle.mseed_join.specs.ReadParts.{AreBadParts, AreMiscounted, IsFailed, IsRead, IsStopped}
 use Rattle.mseed_join.specs.Written.{Written, part_text}
 
 -- the text of the audit that it is the part of, or its own
@@ -28,14 +28,6 @@ pub record IsAnswer (answer : Answer) (w : Written) : Type 0 where
   pub broken : answer.broken ≡ broken_count (map verdict_at w.part.channels)
   pub fault : answer.fault ≡ is_faulty w
 
--- the whole input was read: it is the texts of parts, as many as are expected, and this is their joint part; each fault
--- that was passed was reported
-pub record IsRead (past : Bool) (expected : Option ℕ) (h : BytesRead) (w : Written) (reported now : BytesWritten)
-    : Type 0 where
-  pub whole : h.is_at_end ≡ true
-  pub parts : AreReadParts past h.bytes w reported now
-  pub number : AreExpected expected (length parts.parts)
-
 -- By the outcome: of the input, of the output before and after, and of the device that faults are reported to before
 -- and after. Where the parts weren't read whole, or another number of them was expected, nothing was written; where the
 -- input failed, no bad line was read before.
@@ -48,10 +40,10 @@ IsJoinOutcome form past expected (Err (Line k offset flaw)) h old new reported n
 IsJoinOutcome form past expected (Err (Count parts due)) h old new reported now =
     (new ≡ old) × (h.is_at_end ≡ true) × AreMiscounted past expected h.bytes parts due reported now
 IsJoinOutcome form past expected (Err (Stream fault)) h old new reported now =
-    (new ≡ old) × IsStreamFault fault nothing_read h × IsFailed past nothing_read h reported now
+    (new ≡ old) × IsStreamFault fault nothing_read h × IsFailed past h reported now
 IsJoinOutcome form past expected (Err Write) h old new reported now =
     (w : Written) × (IsRead past expected h w reported now
     × ((taken : ℕ) × IsCutOff taken (text_by form w) old new))
 IsJoinOutcome form past expected (Err Memory) h old new reported now =
     (new ≡ old)
-    × (IsStopped past nothing_read h reported now ⊎ ((w : Written) × IsRead past expected h w reported now))
+    × (IsStopped past h reported now ⊎ ((w : Written) × IsRead past expected h w reported now))

@@ -10,9 +10,9 @@ use Rattle.mseed_join.specs.declared.fault.JoinsFault.TheVariants.{Line, Count, 
 use Rattle.mseed_join.specs.declared.flaw.Flaw.{Flaw}
 use Rattle.mseed_join.specs.Borders.{AreBordersOf, Border, border_lines}
 use Rattle.mseed_join.specs.Joined.{HasNoBadLine, join_text}
-use Rattle.mseed_join.specs.Joins.{IsAnswer, IsRead}
+use Rattle.mseed_join.specs.Joins.{IsAnswer}
 use Rattle.mseed_join.specs.Reached.{Stage, parts_at}
-use Rattle.mseed_join.specs.ReadParts.{AreBadParts, AreMiscounted, AreReportedTo}
+use Rattle.mseed_join.specs.ReadParts.{AreBadParts, AreMiscounted, AreReportedTo, IsRead}
 use Rattle.mseed_join.specs.Written.{Written}
 
 -- the whole input was read, and this is found at the borders of its parts

@@ -1,6 +1,6 @@
 -- What reading parts one after another answers.
-use Rattle.std.specs.Prelude.{⊤, ◌≡◌, ◌≢◌, ℕ, ◌+◌, List, ◌++◌, length, Bool, true, Option, Some, None, Result, Ok, Err}
-use Rattle.mseed_stream.specs.Device.{BytesRead, BytesWritten}
+use Rattle.std.specs.Prelude.{⊤, ◌≡◌, ◌≢◌, ℕ, ◌+◌, List, length, Bool, true, Option, Some, None, Result, Ok, Err}
+use Rattle.mseed_stream.specs.Device.{BytesRead, BytesWritten, nothing_read}
 use Rattle.mseed_stream.specs.Fault.{IsStreamFault}
 use Rattle.mseed_join.specs.declared.joint.JointPart.{JointPart}
 use Rattle.mseed_join.specs.declared.fault.JoinsFault.{JoinsFault}
@@ -15,10 +15,6 @@ use Rattle.mseed_join.specs.Written.{Written, Spells}
 abbrev pub written_of : {A : Type 0} → JointPart A → Written
 written_of j = record { part = j.part; faults = j.faults; end = j.end }
 
--- so many bytes more were read of the source
-abbrev pub ReadMore : BytesRead → BytesRead → List ℕ → Type 0
-ReadMore old new bytes = new.bytes ≡ old.bytes ++ bytes
-
 -- the bytes are the texts of parts, and this is their joint part; each fault that was passed was reported
 pub record AreReadParts (past : Bool) (bytes : List ℕ) (joint : Written) (old new : BytesWritten) : Type 0 where
   pub parts : List Written
@@ -30,6 +26,14 @@ pub record AreReadParts (past : Bool) (bytes : List ℕ) (joint : Written) (old 
 abbrev pub AreExpected : Option ℕ → ℕ → Type 0
 AreExpected None parts = ⊤
 AreExpected (Some expected) parts = parts ≡ expected
+
+-- the whole input was read: it is the texts of parts, as many as are expected, and this is their joint part; each fault
+-- that was passed was reported
+pub record IsRead (past : Bool) (expected : Option ℕ) (h : BytesRead) (w : Written) (reported now : BytesWritten)
+    : Type 0 where
+  pub whole : h.is_at_end ≡ true
+  pub parts : AreReadParts past h.bytes w reported now
+  pub number : AreExpected expected (length parts.parts)
 
 -- the bytes are the texts of so many parts, and another number is expected; each fault that was passed was reported
 pub record AreMiscounted (past : Bool) (expected : Option ℕ) (bytes : List ℕ) (parts due : ℕ) (old new : BytesWritten)
@@ -58,29 +62,23 @@ pub record AreReportedTo (past : Bool) (bytes : List ℕ) (stage : Stage) (old n
   pub reported : AreReported (passed_lines past (parts_at stage)) old new
 
 -- so far was read, and no further
-pub record IsStopped (past : Bool) (old h : BytesRead) (s new : BytesWritten) : Type 0 where
-  pub bytes : List ℕ
-  pub more : ReadMore old h bytes
+pub record IsStopped (past : Bool) (h : BytesRead) (s new : BytesWritten) : Type 0 where
   pub stage : Stage
-  pub lines : AreReportedTo past bytes stage s new
+  pub lines : AreReportedTo past h.bytes stage s new
 
 -- the source failed after it: no bad line was read before
-pub record IsFailed (past : Bool) (old h : BytesRead) (s new : BytesWritten) : Type 0 where
-  pub stopped : IsStopped past old h s new
-  pub none_bad : HasNoBadLine past stopped.bytes
+pub record IsFailed (past : Bool) (h : BytesRead) (s new : BytesWritten) : Type 0 where
+  pub stopped : IsStopped past h s new
+  pub none_bad : HasNoBadLine past h.bytes
 
 -- By the answer: of what was read of the source, and of the device that faults are reported to, before and after.
 -- Nothing else is written, so no output fails.
-abbrev pub IsReadOutcome : {A : Type 0} → Result (JointPart A) JoinsFault → Bool → Option ℕ → BytesRead → BytesRead
-    → BytesWritten → BytesWritten → Type 0
-IsReadOutcome (Ok joint) past expected old h s new =
-    (bytes : List ℕ) × (ReadMore old h bytes × (h.is_at_end ≡ true)
-    × ((read : AreReadParts past bytes (written_of joint) s new) × AreExpected expected (length read.parts)))
-IsReadOutcome (Err (Line k offset flaw)) past expected old h s new =
-    (bytes : List ℕ) × (ReadMore old h bytes × AreBadParts past bytes h.is_at_end k offset flaw s new)
-IsReadOutcome (Err (Count parts due)) past expected old h s new =
-    (bytes : List ℕ) × (ReadMore old h bytes × (h.is_at_end ≡ true)
-    × AreMiscounted past expected bytes parts due s new)
-IsReadOutcome (Err (Stream fault)) past expected old h s new = IsStreamFault fault old h × IsFailed past old h s new
-IsReadOutcome (Err Write) past expected old h s new = ⊥
-IsReadOutcome (Err Memory) past expected old h s new = IsStopped past old h s new
+abbrev pub IsReadOutcome : {A : Type 0} → Result (JointPart A) JoinsFault → Bool → Option ℕ → BytesRead → BytesWritten
+    → BytesWritten → Type 0
+IsReadOutcome (Ok joint) past expected h s new = IsRead past expected h (written_of joint) s new
+IsReadOutcome (Err (Line k offset flaw)) past expected h s new = AreBadParts past h.bytes h.is_at_end k offset flaw s new
+IsReadOutcome (Err (Count parts due)) past expected h s new =
+    (h.is_at_end ≡ true) × AreMiscounted past expected h.bytes parts due s new
+IsReadOutcome (Err (Stream fault)) past expected h s new = IsStreamFault fault nothing_read h × IsFailed past h s new
+IsReadOutcome (Err Write) past expected h s new = ⊥
+IsReadOutcome (Err Memory) past expected h s new = IsStopped past h s new

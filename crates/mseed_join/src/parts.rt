@@ -35,7 +35,7 @@ pub fn read_parts<A: Allocator + Copy, R: Source, E: Sink>(
     errors: &mut E,
 ) -> Result<JointPart<A>, JoinsFault>
     requires { R.read source.old ≡ nothing_read }
-    ensures outcome { IsReadOutcome result past expected (R.read source.old) (R.read source.new) (E.written errors.old)
+    ensures outcome { IsReadOutcome result past expected (R.read source.new) (E.written errors.old)
         (E.written errors.new) }
 
     // What the source is known to have left is what was read of it, up to its end where the input is at its end.

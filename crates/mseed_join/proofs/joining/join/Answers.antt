@@ -3,7 +3,7 @@ use Rattle.mseed_stream.specs.Device.{BytesRead, BytesWritten}
 use Rattle.mseed_stream.proofs.Calls.{writes_none}
 use Rattle.mseed_join.specs.Joins.{IsJoinOutcome, text_by}
 use Rattle.mseed_join.specs.ReadParts.{written_of}
-use Rattle.mseed_join.proofs.Refusing.{read_so, refused_so}
+use Rattle.mseed_join.proofs.Refusing.{refused_so}
 use Rattle.mseed_join.proofs.joining.join.Goals as goal
 
 pub returns-in_err-part-clause-outcome : goal.returns-in_err-part-clause-outcome
@@ -15,7 +15,7 @@ returns-in_err-part-clause-outcome g c =
     let same : c.from_residual.result ≡ Err c.in_err-part.field-0.0 = search rules in
     subst (λ r. IsJoinOutcome c.args.form c.args.past_faults c.args.expected r h old old reported now) (sym same)
     (refused_so g.row.A.Denot c.args.form c.args.past_faults c.args.expected c.in_err-part.field-0.0
-    (g.R.Source.read c.args.source.now) h old reported now c.requires c.in_err-part.ensures.outcome)
+    h old reported now c.in_err-part.ensures.outcome)
 
 pub returns-in_err-part-clause-writes : goal.returns-in_err-part-clause-writes
 returns-in_err-part-clause-writes g c = writes_none _ _ _
@@ -28,9 +28,7 @@ returns-in-Err-clause-outcome g c = (
   refl,
   inr (
     written_of c.in_ok-part.field-0,
-    read_so c.args.past_faults c.args.expected c.in_ok-part.field-0 (g.R.Source.read c.args.source.now)
-        (g.R.Source.read c.read_parts.new.source) (g.E.Sink.written c.args.errors.now)
-        (g.E.Sink.written c.read_parts.new.errors) c.requires c.in_ok-part.ensures.outcome,
+    c.in_ok-part.ensures.outcome,
   ),
 )
 
@@ -39,9 +37,7 @@ returns-in-Ok-write_all_of-clause-outcome g c =
     let write = c.in-Ok-write_all_of.ensures in (
       written_of c.in_ok-part.field-0,
       (
-        read_so c.args.past_faults c.args.expected c.in_ok-part.field-0 (g.R.Source.read c.args.source.now)
-            (g.R.Source.read c.read_parts.new.source) (g.E.Sink.written c.args.errors.now)
-            (g.E.Sink.written c.read_parts.new.errors) c.requires c.in_ok-part.ensures.outcome,
+        c.in_ok-part.ensures.outcome,
         c.in-Ok.ensures.answer,
         record {
           bytes = write.ok
@@ -61,9 +57,7 @@ returns-clause-outcome g c =
     ∙ ap (λ (t : List ℕ). t ++ text_by c.args.form (written_of c.in_ok-part.field-0)) c.new-text.ensures.items in (
       written_of c.in_ok-part.field-0,
       (
-        read_so c.args.past_faults c.args.expected c.in_ok-part.field-0 (g.R.Source.read c.args.source.now)
-            (g.R.Source.read c.read_parts.new.source) (g.E.Sink.written c.args.errors.now)
-            (g.E.Sink.written c.read_parts.new.errors) c.requires c.in_ok-part.ensures.outcome,
+        c.in_ok-part.ensures.outcome,
         (
           c.in-Err-write_all_of.field-0,
           record { text = rw text at write.err; part = rw text at write.within; failed = write.failed },
