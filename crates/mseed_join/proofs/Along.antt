@@ -23,6 +23,7 @@ use Rattle.mseed_join.specs.Written.{Written, Spells, channel_lines, part_text, 
 use Rattle.mseed_join.specs.private.Along.{HasEnded, IsAlong, IsBadAfter, IsStoppedAt, can_end, flaw_of, is_over}
 use Rattle.mseed_join.specs.private.LineReading.{GoesOn, Grows, IsLineAhead, IsOpen, IsReadBy, LiesAhead, LinesRead}
 use Rattle.mseed_join.specs.private.Taking.{IsPlace, IsReadTo, IsTaken}
+use Rattle.mseed_join.proofs.Onward.{Standing, standing}
 use Rattle.mseed_join.proofs.Ahead.{IsAhead, ahead, too_long}
 use Rattle.mseed_join.proofs.LinesAhead.{read_by_more}
 use Rattle.mseed_join.proofs.Machine.{AreAll, Runs, lines_text, nothing_first}
@@ -87,27 +88,21 @@ begins lines s j r = record {
 }
 
 -- ---- at the input's end
-over_rest : (place : Place) (b : OpenPart) → IsPlace place b → can_end place ≡ true → rest_of b ≡ []
-over_rest Start none p e = refl
-over_rest Start (begun channels) p e = absurd p
-over_rest Start (whole w) p e = absurd p
-over_rest (Channels last) b p e = absurd (let no : false ≡ true = e in cc no)
-over_rest (Whole bytes has) none p e = absurd p
-over_rest (Whole bytes has) (begun channels) p e = absurd p
-over_rest (Whole bytes has) (whole w) p e = refl
+over_rest : (place : Place) (b : OpenPart) → Standing place b → can_end place ≡ true → rest_of b ≡ []
+over_rest _ _ Standing.starts e = refl
+over_rest _ _ (Standing.rows last cs p) e = absurd (let no : false ≡ true = e in cc no)
+over_rest _ _ (Standing.closes l has w p r) e = refl
 
-open_rest : (place : Place) (b : OpenPart) → IsPlace place b → can_end place ≡ false → 0 < length (rest_of b)
-open_rest Start b p e = absurd (let no : true ≡ false = e in cc no)
-open_rest (Channels last) none p e = absurd p
-open_rest (Channels last) (begun channels) p e = omega arith
-open_rest (Channels last) (whole w) p e = absurd p
-open_rest (Whole bytes has) b p e = absurd (let no : true ≡ false = e in cc no)
+open_rest : (place : Place) (b : OpenPart) → Standing place b → can_end place ≡ false → 0 < length (rest_of b)
+open_rest _ _ Standing.starts e = absurd (let no : true ≡ false = e in cc no)
+open_rest _ _ (Standing.rows last cs p) e = omega arith
+open_rest _ _ (Standing.closes l has w p r) e = absurd (let no : true ≡ false = e in cc no)
 
 pub ended : {A : Type 0} → (lines : List ℕ) (s : Stage) (j : Joint A) → IsReadTo lines s j → can_end j.place ≡ true
     → Spells lines (parts_at s)
 ended lines s j r e = record {
   text = sym (append-nil lines)
-      ∙ ap (λ (t : List ℕ). lines ++ t) (sym (over_rest j.place s.last r.place e))
+      ∙ ap (λ (t : List ℕ). lines ++ t) (sym (over_rest j.place s.last (standing j.place s.last r.place) e))
       ∙ completes lines s r.stage;
   each = r.stage.each;
 }
@@ -128,7 +123,7 @@ lacks lines s j r e ws sp = by a.others a.text a.are a.runs
           arith,
           ap length whole_text,
           length-append lines (rest_of s.last),
-          open_rest j.place s.last r.place e,
+          open_rest j.place s.last (standing j.place s.last r.place) e,
         ))
     by (x ∷ xs) t l runs = nothing_first x (lines_text xs) l.0 (sym t)
 
@@ -276,13 +271,11 @@ stops_all past h now s lines j l held = record {
 }
 
 -- a part has begun here
-missing_at : (place : Place) (b : OpenPart) (at_end : Bool) → IsPlace place b → can_end place ≡ false → at_end ≡ true
+missing_at : (place : Place) (b : OpenPart) (at_end : Bool) → Standing place b → can_end place ≡ false → at_end ≡ true
     → IsFlaw Missing b [] at_end
-missing_at Start b at_end p e ended = absurd (let no : true ≡ false = e in cc no)
-missing_at (Channels last) none at_end p e ended = absurd p
-missing_at (Channels last) (begun channels) at_end p e ended = IsFlaw.missing channels at_end ended
-missing_at (Channels last) (whole w) at_end p e ended = absurd p
-missing_at (Whole bytes has) b at_end p e ended = absurd (let no : true ≡ false = e in cc no)
+missing_at _ _ at_end Standing.starts e ended = absurd (let no : true ≡ false = e in cc no)
+missing_at _ _ at_end (Standing.rows last cs p) e ended = IsFlaw.missing cs at_end ended
+missing_at _ _ at_end (Standing.closes l has w p r) e ended = absurd (let no : true ≡ false = e in cc no)
 
 lacking : {A : Type 0} → (past : Bool) (h now : BytesRead) (s : Stage) (lines : LinesRead) (j : Joint A)
     → (l : IsLooked past h now s lines j) → now.is_at_end ≡ true → lines.held ≡ [] → can_end j.place ≡ false
@@ -292,7 +285,7 @@ lacking past h now s lines j l at_end held e = record {
   bad = IsBadLine.lacks lines.lines at_end l.by.lines (begun_so past h now s lines j l)
       (lacks l.by.passed s j l.read e);
   number = refl;
-  flaw_is = missing_at j.place s.last now.is_at_end l.read.place e at_end;
+  flaw_is = missing_at j.place s.last now.is_at_end (standing j.place s.last l.read.place) e at_end;
 }
 
 has_ended : {A : Type 0} → (past : Bool) (h now : BytesRead) (s : Stage) (r : Reader A)

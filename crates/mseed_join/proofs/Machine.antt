@@ -15,9 +15,7 @@ use Rattle.mseed_join.specs.Written.{Written, HasText, channel_lines, part_text,
 use Rattle.mseed_join.specs.Reached.{OpenPart, none, begun, whole, Stage, open_part, open_text}
 use Rattle.mseed_join.specs.private.Steps.{May, to}
 use Rattle.mseed_join.proofs.Ended.{IsEnded, ended, same_line}
-
-abbrev pub Entries : Type 0
-Entries = List (List ℕ × Channel)
+pub use Rattle.mseed_join.proofs.Adding.{Entries}
 
 -- ---- the lines of parts
 abbrev pub lines_text : List Line → List ℕ

@@ -1,12 +1,15 @@
--- The lines that go on from where parts are.
-use Rattle.std.proofs.Common.{◌≡◌, ℕ, List, [], ◌∷◌, ◌++◌}
+-- Where parts are, and the lines that go on from there.
+use Rattle.std.proofs.Common.{◌≡◌, ℕ, List, [], ◌∷◌, ◌++◌, Bool, Option}
 use Rattle.mseed_stream.specs.declared.fault.StreamFault.{StreamFault}
 use Rattle.mseed_audit.specs.declared.channel.Channel.{Channel}
 use Rattle.mseed_join.specs.Lines.{Line, header, channel, counts, faults, fault}
 use Rattle.mseed_join.specs.Parts.{IsAscending}
 use Rattle.mseed_join.specs.Reached.{OpenPart, none, begun, whole}
 use Rattle.mseed_join.specs.Written.{Written}
+use Rattle.mseed_join.specs.declared.joint.Place.{Place}
+use Rattle.mseed_join.specs.declared.joint.Place.TheVariants.{Start, Channels, Whole}
 use Rattle.mseed_join.specs.private.Steps.{May}
+use Rattle.mseed_join.specs.private.Taking.{IsLastKey, IsPlace, IsRead}
 
 -- each with what stands before it
 pub data Onward : OpenPart → Line → Type 0 where
@@ -34,3 +37,22 @@ onward (whole w) (channel key c) m = absurd m
 onward (whole w) (counts n l) m = absurd m
 onward (whole w) (faults n) m = Onward.passes w n m
 onward (whole w) (fault l f) m = Onward.ends w l f m
+
+-- what a joint part knows of where they are
+pub data Standing : Place → OpenPart → Type 0 where
+  starts : Standing Start none
+  rows : (last : Option (List ℕ)) (cs : List (List ℕ × Channel)) → IsLastKey last cs
+      → Standing (Channels last) (begun cs)
+  closes : (bytes : ℕ) (has : Bool) (w : Written) → bytes ≡ w.part.bytes → IsRead has w.faults
+      → Standing (Whole bytes has) (whole w)
+
+pub standing : (place : Place) (b : OpenPart) → IsPlace place b → Standing place b
+standing Start none p = Standing.starts
+standing Start (begun cs) p = absurd p
+standing Start (whole w) p = absurd p
+standing (Channels last) none p = absurd p
+standing (Channels last) (begun cs) p = Standing.rows last cs p
+standing (Channels last) (whole w) p = absurd p
+standing (Whole bytes has) none p = absurd p
+standing (Whole bytes has) (begun cs) p = absurd p
+standing (Whole bytes has) (whole w) p = Standing.closes bytes has w p.0 p.1

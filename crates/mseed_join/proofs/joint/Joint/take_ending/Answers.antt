@@ -1,18 +1,17 @@
 use Rattle.std.proofs.Common.{ap, ◌∙◌, Bool}
 use Rattle.mseed_join.specs.declared.joint.Place.TheVariants.{Whole}
 use Rattle.mseed_join.specs.declared.flaw.Flaw.TheVariants.{Ending}
-use Rattle.mseed_join.proofs.Rows.{ending_fault, ending_faults, ending_flaw, fault_flaw, faults_flaw, header_or_none}
-use Rattle.mseed_join.proofs.Rows.{whole_no}
+use Rattle.mseed_join.specs.Lines.{fault, faults}
+use Rattle.mseed_join.proofs.Rows.{ending_flaw, fault_stands, faults_stand, header_or_none, line_taken, whole_no}
 use Rattle.mseed_join.proofs.joint.Joint.take_ending.Goals as goal
 
 pub returns-in-Some : goal.returns-in-Some
-returns-in-Some g c = record {
-  step = ending_fault c.args.self.now c.take_fault.new.self c.args.bytes c.args.has_faults c.args.line.now
-      c.in-Some.fault c.take_fault.result c.requires.place c.in-Some.ensures.read c.in-Some.ensures.fits
-      c.take_fault.ensures.step;
-  flaw = fault_flaw c.args.self.now c.args.bytes c.args.has_faults c.args.line.now c.in-Some.fault c.take_fault.result
-      c.requires.place c.in-Some.ensures.read c.in-Some.ensures.fits c.take_fault.ensures.limit;
-}
+returns-in-Some g c =
+    let both = line_taken c.args.self.now c.take_fault.new.self c.args.line.now (fault c.args.bytes c.in-Some.fault)
+    c.take_fault.result c.in-Some.ensures.read c.in-Some.ensures.fits
+    (fault_stands c.args.self.now c.args.bytes c.args.has_faults c.in-Some.fault c.requires.place)
+    c.take_fault.ensures.step c.take_fault.ensures.limit in
+    record { step = both.0; flaw = both.1 }
 
 pub returns-then-has_faults : goal.returns-then-has_faults
 returns-then-has_faults g c = record {
@@ -29,15 +28,14 @@ returns-then-has_faults g c = record {
 }
 
 pub returns-in-Some-read_faults_line : goal.returns-in-Some-read_faults_line
-returns-in-Some-read_faults_line g c = record {
-  step = ending_faults c.args.self.now c.take_faults.new.self c.args.bytes c.args.line.now
-      c.in-Some-read_faults_line.faults c.take_faults.result
-      (c.requires.place ∙ ap (λ (b : Bool). Whole c.args.bytes b) c.if-has_faults.false)
-      c.in-Some-read_faults_line.ensures.read c.in-Some-read_faults_line.ensures.fits c.take_faults.ensures.step;
-  flaw = faults_flaw c.args.self.now c.args.bytes c.args.line.now c.in-Some-read_faults_line.faults
-      c.take_faults.result (c.requires.place ∙ ap (λ (b : Bool). Whole c.args.bytes b) c.if-has_faults.false)
-      c.in-Some-read_faults_line.ensures.read c.in-Some-read_faults_line.ensures.fits c.take_faults.ensures.limit;
-}
+returns-in-Some-read_faults_line g c =
+    let faulty = c.in-Some-read_faults_line in
+    let both = line_taken c.args.self.now c.take_faults.new.self c.args.line.now (faults faulty.faults)
+    c.take_faults.result faulty.ensures.read faulty.ensures.fits
+    (faults_stand c.args.self.now c.args.bytes faulty.faults
+    (c.requires.place ∙ ap (λ (b : Bool). Whole c.args.bytes b) c.if-has_faults.false)) c.take_faults.ensures.step
+    c.take_faults.ensures.limit in
+    record { step = both.0; flaw = both.1 }
 
 pub returns : goal.returns
 returns g c = record {

@@ -1,7 +1,8 @@
 use Rattle.std.proofs.Common.{sym, ◌∙◌}
 use Rattle.std.proofs.lemmas.Bool.{false≢true}
-use Rattle.mseed_join.proofs.Rows.{channel_flaw, counts_flaw, order_flaw, row_counted, row_flaw}
-use Rattle.mseed_join.proofs.Rows.{row_refused, row_taken, row_unknown}
+use Rattle.mseed_join.specs.Lines.{channel, counts}
+use Rattle.mseed_join.proofs.Rows.{channel_stands, counts_stand, line_taken, order_flaw, row_flaw, row_refused}
+use Rattle.mseed_join.proofs.Rows.{row_unknown}
 use Rattle.mseed_join.proofs.joint.Joint.take_row.Goals as goal
 
 pub returns-then-not-is_after : goal.returns-then-not-is_after
@@ -13,14 +14,12 @@ returns-then-not-is_after g c = record {
 }
 
 pub returns-in-Some : goal.returns-in-Some
-returns-in-Some g c = record {
-  step = row_taken c.args.self.now c.take_channel.new.self c.args.last c.args.line.now _ _ c.take_channel.result
-      c.requires.place c.in-Some.ensures.read c.in-Some.ensures.fits
-      (c.is_after.ensures.0 c.if-not-is_after.false) c.take_channel.ensures.step;
-  flaw = channel_flaw c.args.self.now c.args.last c.args.line.now _ _ c.take_channel.result c.requires.place
-      c.in-Some.ensures.read c.in-Some.ensures.fits (c.is_after.ensures.0 c.if-not-is_after.false)
-      c.take_channel.ensures.limit;
-}
+returns-in-Some g c =
+    let both = line_taken c.args.self.now c.take_channel.new.self c.args.line.now (channel _ _) c.take_channel.result
+    c.in-Some.ensures.read c.in-Some.ensures.fits
+    (channel_stands c.args.self.now c.args.last _ _ c.requires.place (c.is_after.ensures.0 c.if-not-is_after.false))
+    c.take_channel.ensures.step c.take_channel.ensures.limit in
+    record { step = both.0; flaw = both.1 }
 
 pub returns-in_default-read_counts_line : goal.returns-in_default-read_counts_line
 returns-in_default-read_counts_line g c = record {
@@ -31,11 +30,9 @@ returns-in_default-read_counts_line g c = record {
 }
 
 pub returns : goal.returns
-returns g c = record {
-  step = row_counted c.args.self.now c.take_counts.new.self c.args.last c.args.line.now
-      c.in-Some-read_counts_line.records c.in-Some-read_counts_line.bytes c.take_counts.result c.requires.place
-      c.in-Some-read_counts_line.ensures.read c.in-Some-read_counts_line.ensures.fits c.take_counts.ensures.step;
-  flaw = counts_flaw c.args.self.now c.args.last c.args.line.now c.in-Some-read_counts_line.records
-      c.in-Some-read_counts_line.bytes c.take_counts.result c.requires.place c.in-Some-read_counts_line.ensures.read
-      c.in-Some-read_counts_line.ensures.fits c.take_counts.ensures.limit;
-}
+returns g c =
+    let both = line_taken c.args.self.now c.take_counts.new.self c.args.line.now (counts _ _) c.take_counts.result
+    c.in-Some-read_counts_line.ensures.read c.in-Some-read_counts_line.ensures.fits
+    (counts_stand c.args.self.now c.args.last _ _ c.requires.place) c.take_counts.ensures.step
+    c.take_counts.ensures.limit in
+    record { step = both.0; flaw = both.1 }
