@@ -9,7 +9,6 @@ use Rattle.mseed_join.specs.declared.line_reader.Ahead.{Ahead}
 use Rattle.mseed_join.specs.declared.line_reader.Ahead.TheVariants.{Line as WholeLine, TooLong, Unended, Nothing}
 use Rattle.mseed_join.specs.declared.joint.Joint.{Joint}
 use Rattle.mseed_join.specs.declared.joint.Place.{Place}
-use Rattle.mseed_join.specs.declared.joint.Place.TheVariants.{Start, Channels, Whole}
 use Rattle.mseed_join.specs.declared.joint.Reported.{Reported}
 use Rattle.mseed_join.specs.declared.reader.Reader.{Reader}
 use Rattle.mseed_join.specs.declared.flaw.Flaw.{Flaw}
@@ -22,7 +21,7 @@ use Rattle.mseed_join.specs.ReadParts.{written_of}
 use Rattle.mseed_join.specs.Written.{Written, Spells, channel_lines, part_text, texts}
 use Rattle.mseed_join.specs.private.Along.{HasEnded, IsAlong, IsBadAfter, IsStoppedAt, can_end, flaw_of, is_over}
 use Rattle.mseed_join.specs.private.LineReading.{GoesOn, Grows, IsLineAhead, IsOpen, IsReadBy, LiesAhead, LinesRead}
-use Rattle.mseed_join.specs.private.Taking.{IsPlace, IsReadTo, IsTaken}
+use Rattle.mseed_join.specs.private.Taking.{IsReadTo, IsTaken}
 use Rattle.mseed_join.proofs.Onward.{Standing, standing}
 use Rattle.mseed_join.proofs.Ahead.{IsAhead, ahead, too_long}
 use Rattle.mseed_join.proofs.LinesAhead.{read_by_more}

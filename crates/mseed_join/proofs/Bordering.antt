@@ -14,7 +14,7 @@ use Rattle.mseed_join.specs.Joined.{AreJoined, IsJointOf, IsNext, counted, count
 use Rattle.mseed_join.specs.Written.{Written}
 use Rattle.mseed_join.specs.Reached.{OpenPart, none, begun, whole, IsWhere, begun_part, open_part, parts_at}
 use Rattle.mseed_join.specs.private.Steps.{May, goes, counted_part, with_faults, with_end}
-use Rattle.mseed_join.proofs.Onward.{Onward, onward}
+use Rattle.mseed_join.proofs.Onward.{Onward}
 use Rattle.mseed_join.proofs.Machine.{Entries, rows_append}
 use Rattle.mseed_join.proofs.Stepping.{LeavesKept, kept_none, leaves_kept}
 use Rattle.mseed_join.proofs.Sums.{HaveOneJoint, IsFirst, first_of, joined_one, never_open, none_of, some_none}

@@ -25,7 +25,7 @@ use Rattle.mseed_audit.specs.declared.tail.Tail.{Tail}
 use Rattle.mseed_join.specs.Fields.{ends_field, to_key, to_records, to_samples, to_head, to_tail, to_findings}
 use Rattle.mseed_join.specs.Fields.{to_head_number, to_head_offset, to_head_start, to_head_rate, or_none}
 use Rattle.mseed_join.specs.Fields.{to_tail_start, to_tail_samples, to_tail_rate, to_tail_leap}
-use Rattle.mseed_join.specs.Fields.{BeginsAsChannel, BeginsAsCounts, IsFirstBad, IsFirstOf, IsGoodTo}
+use Rattle.mseed_join.specs.Fields.{BeginsAsChannel, IsFirstBad, IsFirstOf, IsGoodTo}
 use Rattle.mseed_join.specs.Fields.{channel_fields, counts_fields, fields_of, head_fields, tail_fields}
 use Rattle.mseed_join.specs.Lines.{channel_line, counts_line, key_text, leap_text, ratio_text}
 use Rattle.mseed_join.specs.Lines.{HasChannelLine, HasCountsLine, HasFinding, HasFindings, HasHead, HasTail}

@@ -20,7 +20,7 @@ use Rattle.mseed_join.specs.Fields.{IsFirstBad}
 use Rattle.mseed_join.specs.declared.bad_field.Field.{Field}
 use Rattle.mseed_join.specs.Written.{Written}
 use Rattle.mseed_join.specs.Joined.{AreJoined, Begins, HasNoEnd, none as no_more, nothing}
-use Rattle.mseed_join.specs.Reached.{OpenPart, none, begun, whole, Stage, begun_part, open_part, start}
+use Rattle.mseed_join.specs.Reached.{OpenPart, Stage, begun_part, open_part, start}
 use Rattle.mseed_join.specs.declared.joint.Joint.{Joint}
 use Rattle.mseed_join.specs.declared.joint.LineFault.{LineFault}
 use Rattle.mseed_join.specs.declared.joint.LineFault.TheVariants.{Bad, Memory}

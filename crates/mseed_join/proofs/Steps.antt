@@ -10,7 +10,7 @@ use Rattle.mseed_join.specs.Lines.{IsFaultAfter}
 use Rattle.mseed_join.specs.Lines.{text_of_line}
 use Rattle.mseed_join.specs.Written.{Written}
 use Rattle.mseed_join.specs.Joined.{IsJointOf, AreJoined, Begins, counted, counted_by, moved_fault, nothing}
-use Rattle.mseed_join.specs.Reached.{OpenPart, none, begun, whole, Stage, begun_part, open_part, parts_at, IsStage}
+use Rattle.mseed_join.specs.Reached.{OpenPart, Stage, begun_part, open_part, parts_at, IsStage}
 use Rattle.mseed_join.specs.Reached.{IsWhere, passed_line, passed_lines}
 use Rattle.mseed_join.specs.ReadParts.{written_of}
 use Rattle.mseed_join.specs.declared.joint.Joint.{Joint}

@@ -8,13 +8,13 @@ use Rattle.std.proofs.lemmas.List.{length-append}
 use Rattle.mseed_stream.specs.declared.fault.StreamFault.{StreamFault}
 use Rattle.mseed_text.specs.Fault.{end_line, fault_line}
 use Rattle.mseed_audit.specs.declared.channel.Channel.{Channel}
-use Rattle.mseed_join.specs.Lines.{Line, header, channel, counts, faults, fault, text_of_line, IsLine}
+use Rattle.mseed_join.specs.Lines.{Line, counts, faults, fault, text_of_line, IsLine}
 use Rattle.mseed_join.specs.Lines.{header_line}
 use Rattle.mseed_join.specs.Lines.{channel_line, counts_line, faults_line, HasChannelLine, HasFaultLine}
 use Rattle.mseed_join.specs.Written.{Written, HasText, channel_lines, part_text, texts}
 use Rattle.mseed_join.specs.Joined.{AreJoined, none as no_more, one, IsNext, IsJointOf, counted, counted_by}
 use Rattle.mseed_join.specs.Joined.{moved_fault, nothing}
-use Rattle.mseed_join.specs.Reached.{OpenPart, none, begun, whole, Stage, begun_part, open_part, parts_at, open_text}
+use Rattle.mseed_join.specs.Reached.{OpenPart, Stage, begun_part, open_part, parts_at, open_text}
 use Rattle.mseed_join.specs.Reached.{IsStage, IsWhere, passed_from, passed_lines, passed_line, passed_of}
 use Rattle.mseed_join.specs.private.Steps.{May, to, goes, counted_part, with_faults, with_end}
 use Rattle.mseed_join.proofs.Onward.{Onward, onward}

@@ -1,5 +1,5 @@
 -- What is written of the joint part of parts, and what is answered of it.
-use Rattle.std.specs.Prelude.{◌≡◌, ◌||◌, ◌⊎◌, ℕ, nat_lt, List, length, map, Bool, true, is_some}
+use Rattle.std.specs.Prelude.{◌≡◌, ◌||◌, ◌⊎◌, ℕ, nat_lt, List, map, Bool, true, is_some}
 use Rattle.std.specs.Prelude.{Option, Result, Ok, Err}
 use Rattle.mseed_stream.specs.Device.{BytesRead, BytesWritten, nothing_read}
 use Rattle.mseed_stream.specs.Fault.{IsStreamFault}
