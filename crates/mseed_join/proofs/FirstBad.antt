@@ -64,49 +64,14 @@ past_back : {X : Type 0} → (word z rest : List ℕ) (x : X) (read : List ℕ �
     → read z ≡ Some (x, rest) → ends_field rest ≡ true → past word read (word ++ z) ≡ Some rest
 past_back word z rest x read e ends = rw (after_word word z, e, ends) refl
 
-module _ (rest : List ℕ) (ends : ends_field rest ≡ true) where
-  key_on : (key : List ℕ) → length key ≡ 12 → AreBytes key → past_key (key_text key ++ rest) ≡ Some rest
-  unfolding past_key
-  key_on key long small = rw (key_back key rest long small, ends) refl
+key_on : (rest : List ℕ) → ends_field rest ≡ true → (key : List ℕ) → length key ≡ 12 → AreBytes key
+    → past_key (key_text key ++ rest) ≡ Some rest
+unfolding past_key
+key_on rest ends key long small = rw (key_back key rest long small, ends) refl
 
-  word_on : (word : List ℕ) → past_word word (word ++ rest) ≡ Some rest
-  unfolding past_word
-  word_on word = rw (after_word word rest, ends) refl
-
-  count_on : (word : List ℕ) (n : ℕ) → n < 2 ^ 63 → past_count word (word ++ (decimal n ++ rest)) ≡ Some rest
-  unfolding past_count
-  count_on word n few =
-      past_back word (decimal n ++ rest) rest n count_at (count_back n rest few (ends_number rest ends)) ends
-
-  start_on : (word : List ℕ) (z : ℤ) → IsInstant z → past_start word (word ++ (signed_decimal z ++ rest)) ≡ Some rest
-  unfolding past_start
-  start_on word z fits =
-      past_back word (signed_decimal z ++ rest) rest z start_at (start_back z rest fits (ends_number rest ends)) ends
-
-  rate_on : (r : Ratio) → IsRatio r → past_rate (codes " " ++ (ratio_text r ++ rest)) ≡ Some rest
-  unfolding past_rate
-  rate_on r fits =
-      past_back (codes " ") (ratio_text r ++ rest) rest r ratio_at
-      (ap ratio_at (ratio_leading r rest) ∙ ratio_back r rest fits (ends_number rest ends)) ends
-
-  samples_on : (n : ℕ) → 0 < n → n < 2 ^ 16 → past_samples (codes " " ++ (decimal n ++ rest)) ≡ Some rest
-  unfolding past_samples
-  samples_on n some few =
-      past_back (codes " ") (decimal n ++ rest) rest n samples_at (rw (
-        number_back (2 ^ 16 - 1) n rest (omega (arith, few)) (omega (arith, few)) (ends_number rest ends),
-        lt-ltb 0 n some,
-      ) refl) ends
-
-  leap_on : (l : Leap) → past_leap (codes " " ++ (leap_text l ++ rest)) ≡ Some rest
-  unfolding past_leap
-  leap_on l = past_back (codes " ") (leap_text l ++ rest) rest l leap_at (leap_back l rest) ends
-
-  findings_on : (b : Bool) (n : ℕ) → n < 2 ^ 63 → (nat_lt 0 n || b) ≡ true
-      → past_findings b (codes " findings " ++ (decimal n ++ rest)) ≡ Some rest
-  unfolding past_findings
-  findings_on b n few some =
-      past_back (codes " findings ") (decimal n ++ rest) rest n (findings_at b)
-      (rw (count_back n rest few (ends_number rest ends), some) refl) ends
+word_on : (rest : List ℕ) → ends_field rest ≡ true → (word : List ℕ) → past_word word (word ++ rest) ≡ Some rest
+unfolding past_word
+word_on rest ends word = rw (after_word word rest, ends) refl
 
 -- ---- what is passed is written
 record Passed {X : Type 0} (Fits : X → Type 0) (text : X → List ℕ) (word bytes r : List ℕ) : Type 0 where
@@ -155,32 +120,59 @@ also_spelled few test Fits small fits b y e =
     let s : IsNumber few b n = number_spelled few b n small first in
     subst (λ (z : ℕ × List ℕ). (b ≡ decimal z.0 ++ z.1) × Fits z.0) made.1 (s.is, fits n.0 s.bounded made.0))
 
-count_past : (word bytes r : List ℕ) → past_count word bytes ≡ Some r → Passed IsFew decimal word bytes r
+-- so a field is passed exactly where it is written
+record IsField {X : Type 0} (Fits : X → Type 0) (text : X → List ℕ) (word : List ℕ)
+    (pass : List ℕ → Option (List ℕ)) : Type 0 where
+  on : (x : X) (rest : List ℕ) → Fits x → ends_field rest ≡ true → pass (word ++ (text x ++ rest)) ≡ Some rest
+  past : (bytes r : List ℕ) → pass bytes ≡ Some r → Passed Fits text word bytes r
+
+field_by : {X : Type 0} → (Fits : X → Type 0) (text : X → List ℕ) (word : List ℕ)
+    (read : List ℕ → Option (X × List ℕ))
+    → ((x : X) (rest : List ℕ) → Fits x → Ends rest → read (text x ++ rest) ≡ Some (x, rest))
+    → ((b : List ℕ) (y : X × List ℕ) → read b ≡ Some y → (b ≡ text y.0 ++ y.1) × Fits y.0)
+    → IsField Fits text word (past word read)
+field_by Fits text word read back spelled = record {
+  on = λ x rest fits ends.
+      past_back word (text x ++ rest) rest x read (back x rest fits (ends_number rest ends)) ends;
+  past = passed_by Fits text word read spelled;
+}
+
+count_field : (word : List ℕ) → IsField IsFew decimal word (past_count word)
 unfolding past_count
-count_past word = passed_by IsFew decimal word count_at count_spelled
+count_field word = field_by IsFew decimal word count_at count_back count_spelled
 
-start_past : (word bytes r : List ℕ) → past_start word bytes ≡ Some r → Passed IsInstant signed_decimal word bytes r
+start_field : (word : List ℕ) → IsField IsInstant signed_decimal word (past_start word)
 unfolding past_start
-start_past word = passed_by IsInstant signed_decimal word start_at start_spelled
+start_field word = field_by IsInstant signed_decimal word start_at start_back start_spelled
 
-rate_past : (bytes r : List ℕ) → past_rate bytes ≡ Some r → Passed IsRatio ratio_text (codes " ") bytes r
+rate_field : IsField IsRatio ratio_text (codes " ") past_rate
 unfolding past_rate
-rate_past = passed_by IsRatio ratio_text (codes " ") ratio_at (λ b y is.
-    let s = ratio_spelled b y is in (s.0 ∙ sym (ratio_leading y.0 y.1), s.1))
+rate_field = field_by IsRatio ratio_text (codes " ") ratio_at
+    (λ r rest fits e. ap ratio_at (ratio_leading r rest) ∙ ratio_back r rest fits e)
+    (λ b y is. let s = ratio_spelled b y is in (s.0 ∙ sym (ratio_leading y.0 y.1), s.1))
 
-samples_past : (bytes r : List ℕ) → past_samples bytes ≡ Some r → Passed AreSamples decimal (codes " ") bytes r
+samples_back : (n : ℕ) (rest : List ℕ) → AreSamples n → Ends rest → samples_at (decimal n ++ rest) ≡ Some (n, rest)
+samples_back n rest fits e = rw (
+  number_back (2 ^ 16 - 1) n rest (omega (arith, fits.1)) (omega (arith, fits.1)) e,
+  lt-ltb 0 n fits.0,
+) refl
+
+samples_field : IsField AreSamples decimal (codes " ") past_samples
 unfolding past_samples
-samples_past = passed_by AreSamples decimal (codes " ") samples_at
+samples_field = field_by AreSamples decimal (codes " ") samples_at samples_back
     (also_spelled (2 ^ 16 - 1) (nat_lt 0) AreSamples (omega arith) (λ n l some. (counts n some, omega (arith, l))))
 
-leap_past : (bytes r : List ℕ) → past_leap bytes ≡ Some r → Passed Any leap_text (codes " ") bytes r
+leap_field : IsField Any leap_text (codes " ") past_leap
 unfolding past_leap
-leap_past = passed_by Any leap_text (codes " ") leap_at leap_spelled
+leap_field = field_by Any leap_text (codes " ") leap_at (λ l rest fits e. leap_back l rest) leap_spelled
 
-findings_past : (b : Bool) (bytes r : List ℕ) → past_findings b bytes ≡ Some r
-    → Passed (AreFindings b) decimal (codes " findings ") bytes r
+findings_back : (b : Bool) (n : ℕ) (rest : List ℕ) → AreFindings b n → Ends rest
+    → findings_at b (decimal n ++ rest) ≡ Some (n, rest)
+findings_back b n rest fits e = rw (count_back n rest fits.0 e, fits.1) refl
+
+findings_field : (b : Bool) → IsField (AreFindings b) decimal (codes " findings ") (past_findings b)
 unfolding past_findings
-findings_past b = passed_by (AreFindings b) decimal (codes " findings ") (findings_at b)
+findings_field b = field_by (AreFindings b) decimal (codes " findings ") (findings_at b) (findings_back b)
     (also_spelled (2 ^ 63 - 1) (λ n. nat_lt 0 n || b) (AreFindings b) (omega arith)
     (λ n l some. (omega (arith, l), some)))
 
@@ -230,22 +222,28 @@ first_of : {X : Type 0} → (line : List ℕ) (f : Field) (fs : List Field) (o :
 first_of line f fs None others none some = inl (refl, none refl)
 first_of line f fs (Some x) others none some = inr (some x refl)
 
--- by what is read of the bytes that are left, which is the next field's text wherever one begins as these bytes do
-step : {X : Type 0} → (Fits : X → Type 0) (line bytes : List ℕ) (f : Field) (fs : List Field)
-    (to text : X → List ℕ → List ℕ) (left : List ℕ) (read : List ℕ → Option (List ℕ)) (others : List ℕ → Field)
-    → ((x : X) (rest : List ℕ) → Fits x → ends_field rest ≡ true → bytes ≡ to x rest → text x rest ≡ left)
-    → ((x : X) (rest : List ℕ) → Fits x → ends_field rest ≡ true → read (text x rest) ≡ Some rest)
-    → (IsGoodTo f line → Begins Fits bytes to)
-    → ((r : List ℕ) → read left ≡ Some r → Only Fits bytes to r → IsGoodTo f line × IsFirstOf line (others r) fs)
-    → IsFirstOf line (or_bad f (read left) others) (f ∷ fs)
-step {X = X} Fits line bytes f fs to text left read others at on of more =
-    first_of line f fs (read left) others
-    (λ none g. let b : Begins Fits bytes to = of g in neither (read left) b.rest none (reads b.x b.rest b.fits b.ends b.is))
-    (λ r some. more r some (λ x rest fits ends is.
+-- by what is read of the bytes that are left: where some text begins as these bytes do, its next field is there
+step : {X V : Type 0} → (Fits : X → Type 0) (line bytes : List ℕ) (f : Field) (fs : List Field)
+    (to : X → List ℕ → List ℕ) (left : List ℕ) {FitsV : V → Type 0} {text : V → List ℕ} {word : List ℕ}
+    {pass : List ℕ → Option (List ℕ)} (others : List ℕ → Field) → IsField FitsV text word pass → (get : X → V)
+    → ((x : X) → Fits x → FitsV (get x)) → ((z : List ℕ) → ends_field (word ++ z) ≡ true) → Only Fits bytes to left
+    → (IsGoodTo f line → Begins Fits bytes (λ x rest. to x (word ++ (text (get x) ++ rest))))
+    → ((r : List ℕ) → Passed FitsV text word left r
+    → Only Fits bytes (λ x rest. to x (word ++ (text (get x) ++ rest))) r
+    → IsGoodTo f line × IsFirstOf line (others r) fs)
+    → IsFirstOf line (or_bad f (pass left) others) (f ∷ fs)
+step {X} Fits line bytes f fs to left {text = text} {word = word} {pass = pass} others field get fits_get space only of
+    more =
+    first_of line f fs (pass left) others
+    (λ none g. let b = of g in neither (pass left) b.rest none (reads b.x b.rest b.fits b.ends b.is))
+    (λ r some. more r (field.past left r some) (λ x rest fits ends is.
     same_Some rest r (sym (reads x rest fits ends is) ∙ some)))
   where
-    reads : (x : X) (rest : List ℕ) → Fits x → ends_field rest ≡ true → bytes ≡ to x rest → read left ≡ Some rest
-    reads x rest fits ends is = ap read (sym (at x rest fits ends is)) ∙ on x rest fits ends
+    reads : (x : X) (rest : List ℕ) → Fits x → ends_field rest ≡ true
+        → bytes ≡ to x (word ++ (text (get x) ++ rest)) → pass left ≡ Some rest
+    reads x rest fits ends is =
+        ap pass (sym (only x (word ++ (text (get x) ++ rest)) fits (space (text (get x) ++ rest)) is))
+        ∙ field.on (get x) rest (fits_get x fits) ends
 
 -- ---- channels
 abbrev HasLine : List ℕ × Channel → Type 0
@@ -282,18 +280,14 @@ ends_fit (Counted count first head tail) h = (h.3, h.4)
 
 -- a line begins as that of a channel up to here, and goes on with these bytes; so does each channel's line with which
 -- it begins, and this holds of the channel
-record Reached (line : List ℕ) (to : List ℕ → Channel → List ℕ → List ℕ) (Q : Channel → Type 0) (left : List ℕ)
-    : Type 0 where
-  key : List ℕ
-  channel : Channel
-  has_line : HasChannelLine key channel
-  is : line ≡ to key channel left
-  own : Q channel
+record Reached (line : List ℕ) (to : List ℕ → Channel → List ℕ → List ℕ) (Q : Channel → Type 0) : Type 0 where
+  good : BeginsAsChannel to line
+  own : Q good.channel
   only : (x : List ℕ × Channel) (rest : List ℕ) → HasLine x → ends_field rest ≡ true → line ≡ to x.0 x.1 rest
-      → (rest ≡ left) × Q x.1
+      → (rest ≡ good.rest) × Q x.1
 
 -- some channel's line begins as this one does with other findings
-good_with : (line : List ℕ) (to : List ℕ → Channel → List ℕ → List ℕ) (key : List ℕ) (c : Channel) (f : Findings)
+abbrev good_with : (line : List ℕ) (to : List ℕ → Channel → List ℕ → List ℕ) (key : List ℕ) (c : Channel) (f : Findings)
     (rest : List ℕ) → HasChannelLine key c → HasFindings f → ends_field rest ≡ true → line ≡ to key (with c f) rest
     → BeginsAsChannel to line
 good_with line to key c f rest h fits ends is = record {
@@ -339,27 +333,26 @@ makes zero None (Some tail) h t e = absurd (let no : false ≡ true = e.1 in cc 
 makes zero (Some head) (Some tail) h t e =
     record { findings = Nothing head tail; count_is = refl; head_is = refl; tail_is = refl; fits = (h, t) }
 
-module _ (line bytes : List ℕ) (both : Bool) (m : Reached line (to_tail to_tail_leap) (λ c. has_both c ≡ both) bytes)
+module _ (line : List ℕ) (both : Bool) (m : Reached line (to_tail to_tail_leap) (λ c. has_both c ≡ both))
     (never : (key : List ℕ) (c : Channel) → HasChannelLine key c → line ≢ channel_line key c) where
-  first_from_findings : IsFirstOf line (from_findings both bytes) (InFindings ∷ First ∷ [])
+  first_from_findings : IsFirstOf line (from_findings both m.good.rest) (InFindings ∷ First ∷ [])
   first_from_findings =
-      first_of line InFindings (First ∷ []) (past_findings both bytes) (λ r. First) (λ none g.
-      let f : Findings = g.channel.findings in
-      let there = m.only (g.key, g.channel) (codes " findings " ++ (decimal (count_in f) ++ g.rest)) g.has_line refl g.is
-      in
-      let n = number_fits f g.has_line.findings in
-      neither (past_findings both bytes) g.rest none
+      first_of line InFindings (First ∷ []) (past_findings both m.good.rest) (λ r. First) (λ none g.
+      let n : ℕ = count_in g.channel.findings in
+      let there = m.only (g.key, g.channel) (codes " findings " ++ (decimal n ++ g.rest)) g.has_line refl g.is in
+      neither (past_findings both m.good.rest) g.rest none
       (ap (λ (z : List ℕ). past_findings both z) (sym there.0)
-      ∙ findings_on g.rest g.ends both (count_in f) n.0
-      (ap (λ (b : Bool). nat_lt 0 (count_in f) || b) (sym there.1) ∙ n.1))) (λ r e.
-      let p = findings_past both bytes r e in
-      let old = ends_fit m.channel.findings m.has_line.findings in
-      let made : Makes p.x (head_in m.channel.findings) (tail_in m.channel.findings) =
-      makes p.x (head_in m.channel.findings) (tail_in m.channel.findings) old.0 old.1
+      ∙ (findings_field both).on n g.rest
+      (subst (λ (b : Bool). AreFindings b n) there.1 (number_fits g.channel.findings g.has_line.findings)) g.ends))
+      (λ r e.
+      let p = (findings_field both).past m.good.rest r e in
+      let old = ends_fit m.good.channel.findings m.good.has_line.findings in
+      let made : Makes p.x (head_in m.good.channel.findings) (tail_in m.good.channel.findings) =
+      makes p.x (head_in m.good.channel.findings) (tail_in m.good.channel.findings) old.0 old.1
       (subst (λ (b : Bool). AreFindings b p.x) (sym m.own) p.fits) in
-      let is : line ≡ to_tail to_tail_leap m.key m.channel (codes " findings " ++ (decimal p.x ++ r)) =
-      m.is ∙ ap (λ (z : List ℕ). to_tail to_tail_leap m.key m.channel z) p.is in (
-        good_with line to_findings m.key m.channel made.findings r m.has_line made.fits p.ends
+      let is : line ≡ to_tail to_tail_leap m.good.key m.good.channel (codes " findings " ++ (decimal p.x ++ r)) =
+      m.good.is ∙ ap (λ (z : List ℕ). to_tail to_tail_leap m.good.key m.good.channel z) p.is in (
+        good_with line to_findings m.good.key m.good.channel made.findings r m.good.has_line made.fits p.ends
             (rw (made.count_is, made.head_is, made.tail_is) is),
         inl (refl, λ g. never g.key g.channel g.has_line g.is),
       ))
@@ -388,21 +381,24 @@ tail_fits start samples rate leap s n r = record { start = s; some = n.0; sample
 samples_one : AreSamples 1
 samples_one = (omega arith, omega arith)
 
-module _ (line bytes : List ℕ) (has : Bool) (m : Reached line (to_head to_head_rate) (λ c. has_head c ≡ has) bytes)
+module _ (line : List ℕ) (has : Bool) (m : Reached line (to_head to_head_rate) (λ c. has_head c ≡ has))
     (never : (key : List ℕ) (c : Channel) → HasChannelLine key c → line ≢ channel_line key c) where
+  abbrev bytes : List ℕ
+  bytes = m.good.rest
+
   -- a channel with this tail, or none
   abbrev findings_to : Option Tail → Findings
-  findings_to t = Counted 1 a_finding (head_in m.channel.findings) t
+  findings_to t = Counted 1 a_finding (head_in m.good.channel.findings) t
 
   findings_fit : (t : Option Tail) → IfSome t HasTail → HasFindings (findings_to t)
   findings_fit t fits =
-      (omega arith, omega arith, a_finding_fits, (ends_fit m.channel.findings m.has_line.findings).0, fits)
+      (omega arith, omega arith, a_finding_fits, (ends_fit m.good.channel.findings m.good.has_line.findings).0, fits)
 
-  good_tail : (part : Tail → List ℕ → List ℕ) (t : Option Tail) → IfSome t HasTail → (rest : List ℕ)
+  abbrev good_tail : (part : Tail → List ℕ → List ℕ) (t : Option Tail) → IfSome t HasTail → (rest : List ℕ)
       → ends_field rest ≡ true → bytes ≡ codes " tail " ++ or_none part t rest → BeginsAsChannel (to_tail part) line
   good_tail part t fits rest ends is =
-      good_with line (to_tail part) m.key m.channel (findings_to t) rest m.has_line (findings_fit t fits) ends
-      (m.is ∙ ap (λ (z : List ℕ). to_head to_head_rate m.key m.channel z) is)
+      good_with line (to_tail part) m.good.key m.good.channel (findings_to t) rest m.good.has_line (findings_fit t fits) ends
+      (m.good.is ∙ ap (λ (z : List ℕ). to_head to_head_rate m.good.key m.good.channel z) is)
 
   at_tail : (part : Tail → List ℕ → List ℕ) (x : List ℕ × Channel) (rest : List ℕ) → HasLine x
       → line ≡ to_tail part x.0 x.1 rest
@@ -415,19 +411,7 @@ module _ (line bytes : List ℕ) (has : Bool) (m : Reached line (to_head to_head
       let w = word_past (codes " tail none") bytes r e in
       let good : (part : Tail → List ℕ → List ℕ) → BeginsAsChannel (to_tail part) line =
       λ part. good_tail part None tt r w.1 w.0 in
-      inr (
-        good to_tail_start,
-        inr (
-          good to_tail_samples,
-          inr (
-            good to_tail_rate,
-            inr (
-              good to_tail_leap,
-              first_from_findings line r false reached never,
-            ),
-          ),
-        ),
-      )
+      inr (good to_tail_start, inr (good to_tail_samples, inr (good to_tail_rate, inr (good to_tail_leap, first_from_findings line false reached never))))
     where
       by : (o : Option Tail) (rest : List ℕ) → IfSome o HasTail → ends_field rest ≡ true
           → codes " tail " ++ or_none to_tail_leap o rest ≡ bytes → (rest ≡ r) × (is_some o ≡ false)
@@ -440,13 +424,10 @@ module _ (line bytes : List ℕ) (has : Bool) (m : Reached line (to_head to_head
           absurd (neither (past_word (codes " tail none") bytes) r
           (ap (λ (z : List ℕ). past_word (codes " tail none") z) (sym is) ∙ tail_differs t _ fits) e)
 
-      reached : Reached line (to_tail to_tail_leap) (λ c. has_both c ≡ false) r
+      reached : Reached line (to_tail to_tail_leap) (λ c. has_both c ≡ false)
       reached =
           let w = word_past (codes " tail none") bytes r e in record {
-            key = m.key;
-            channel = with m.channel (findings_to None);
-            has_line = fits_with m.key m.channel (findings_to None) m.has_line (findings_fit None tt);
-            is = m.is ∙ ap (λ (z : List ℕ). to_head to_head_rate m.key m.channel z) w.0;
+            good = good_tail to_tail_leap None tt r w.1 w.0;
             own = refl;
             only = λ x rest fits ends is.
                 let there = by (tail_in x.1.findings) rest (ends_fit x.1.findings fits.findings).1 ends
@@ -457,42 +438,32 @@ module _ (line bytes : List ℕ) (has : Bool) (m : Reached line (to_head to_head
   some_tail : past_word (codes " tail none") bytes ≡ None
       → IsFirstOf line (parts_of_tail has bytes) tail_fields
   some_tail none =
-      step HasTail line bytes TailStart (TailSamples ∷ TailRate ∷ TailLeap ∷ InFindings ∷ First ∷ [])
-      (λ t rest. codes " tail " ++ to_tail_start t rest) (λ t rest. codes " tail " ++ (signed_decimal t.start ++ rest))
-      bytes (past_start (codes " tail ")) _ (λ t rest fits ends is. sym is)
-      (λ t rest fits ends. start_on rest ends (codes " tail ") t.start fits.start) (tail_of to_tail_start) (λ a e1 only1.
-      let s = start_past (codes " tail ") bytes a e1 in (
-        good_tail to_tail_start (Some (tail s.x 1 one NoLeap)) (tail_fits s.x 1 one NoLeap s.fits samples_one rate_one) a s.ends
-            s.is,
+      step HasTail line bytes TailStart (TailSamples ∷ TailRate ∷ TailLeap ∷ InFindings ∷ First ∷ []) (λ t rest. rest)
+      bytes _ (start_field (codes " tail ")) (λ t. t.start) (λ t h. h.start) (λ z. refl)
+      (λ t rest fits ends is. sym is) (tail_of to_tail_start) (λ a s only1. (
+        good_tail to_tail_start (Some (tail s.x 1 one NoLeap)) (tail_fits s.x 1 one NoLeap s.fits samples_one rate_one) a
+            s.ends s.is,
         step HasTail line bytes TailSamples (TailRate ∷ TailLeap ∷ InFindings ∷ First ∷ [])
-            (λ t rest. codes " tail " ++ to_tail_samples t rest) (λ t rest. codes " " ++ (decimal t.samples ++ rest)) a
-            past_samples _ (λ t rest fits ends is. only1 t (codes " " ++ (decimal t.samples ++ rest)) fits refl is)
-            (λ t rest fits ends. samples_on rest ends t.samples fits.some fits.samples) (tail_of to_tail_samples)
-            (λ b e2 only2.
-            let n = samples_past a b e2 in
-            let is2 = leading (codes " tail " ++ signed_decimal s.x) bytes a _ s.is n.is in (
-              good_tail to_tail_samples (Some (tail s.x n.x one NoLeap)) (tail_fits s.x n.x one NoLeap s.fits n.fits rate_one)
-                  b n.ends is2,
+            (λ t rest. codes " tail " ++ to_tail_start t rest) a _ samples_field (λ t. t.samples)
+            (λ t h. (h.some, h.samples)) (λ z. refl) only1 (tail_of to_tail_samples) (λ b n only2.
+            let is2 = s.is ∙ ap (λ (z : List ℕ). codes " tail " ++ (signed_decimal s.x ++ z)) n.is in (
+              good_tail to_tail_samples (Some (tail s.x n.x one NoLeap))
+                  (tail_fits s.x n.x one NoLeap s.fits n.fits rate_one) b n.ends is2,
               step HasTail line bytes TailRate (TailLeap ∷ InFindings ∷ First ∷ [])
-                  (λ t rest. codes " tail " ++ to_tail_rate t rest) (λ t rest. codes " " ++ (ratio_text t.rate ++ rest)) b
-                  past_rate _ (λ t rest fits ends is. only2 t (codes " " ++ (ratio_text t.rate ++ rest)) fits refl is)
-                  (λ t rest fits ends. rate_on rest ends t.rate fits.rate) (tail_of to_tail_rate) (λ c e3 only3.
-                  let q = rate_past b c e3 in
+                  (λ t rest. codes " tail " ++ to_tail_samples t rest) b _ rate_field (λ t. t.rate) (λ t h. h.rate)
+                  (λ z. refl) only2 (tail_of to_tail_rate) (λ c q only3.
                   let is3 = is2 ∙ ap (λ (z : List ℕ). codes " tail " ++ to_tail_samples (tail s.x n.x q.x NoLeap) z) q.is
                   in (
                     good_tail to_tail_rate (Some (tail s.x n.x q.x NoLeap))
                         (tail_fits s.x n.x q.x NoLeap s.fits n.fits q.fits) c q.ends is3,
                     step HasTail line bytes TailLeap (InFindings ∷ First ∷ [])
-                        (λ t rest. codes " tail " ++ to_tail_leap t rest)
-                        (λ t rest. codes " " ++ (leap_text t.leap ++ rest)) c past_leap _
-                        (λ t rest fits ends is. only3 t (codes " " ++ (leap_text t.leap ++ rest)) fits refl is)
-                        (λ t rest fits ends. leap_on rest ends t.leap) (tail_of to_tail_leap) (λ d e4 only4.
-                        let l = leap_past c d e4 in
+                        (λ t rest. codes " tail " ++ to_tail_rate t rest) c _ leap_field (λ t. t.leap) (λ t h. tt)
+                        (λ z. refl) only3 (tail_of to_tail_leap) (λ d l only4.
                         let t : Tail = tail s.x n.x q.x l.x in
                         let fits : HasTail t = tail_fits s.x n.x q.x l.x s.fits n.fits q.fits in
                         let is4 = is3 ∙ ap (λ (z : List ℕ). codes " tail " ++ to_tail_rate t z) l.is in (
                           good_tail to_tail_leap (Some t) fits d l.ends is4,
-                          first_from_findings line d has (reached t fits d is4 only4) never,
+                          first_from_findings line has (reached t fits d l.ends is4 only4) never,
                         )),
                   )),
             )),
@@ -514,19 +485,17 @@ module _ (line bytes : List ℕ) (has : Bool) (m : Reached line (to_head to_head
           (at_tail part (g.key, c) g.rest g.has_line g.is).0 in
           record { x = t.0; fits = t.1.1.0; rest = g.rest; ends = g.ends; is = t.1.1.1 }
 
-      reached : (t : Tail) → HasTail t → (d : List ℕ) → bytes ≡ codes " tail " ++ to_tail_leap t d
+      reached : (t : Tail) → HasTail t → (d : List ℕ) → ends_field d ≡ true
+          → bytes ≡ codes " tail " ++ to_tail_leap t d
           → Only HasTail bytes (λ t rest. codes " tail " ++ to_tail_leap t rest) d
-          → Reached line (to_tail to_tail_leap) (λ c. has_both c ≡ has) d
-      reached t fits d is only = record {
-        key = m.key;
-        channel = with m.channel (findings_to (Some t));
-        has_line = fits_with m.key m.channel (findings_to (Some t)) m.has_line (findings_fit (Some t) fits);
-        is = m.is ∙ ap (λ (z : List ℕ). to_head to_head_rate m.key m.channel z) is;
+          → Reached line (to_tail to_tail_leap) (λ c. has_both c ≡ has)
+      reached t fits d ends is only = record {
+        good = good_tail to_tail_leap (Some t) fits d ends is;
         own = m.own;
-        only = λ x rest h ends same.
+        only = λ x rest h end same.
             let there = at_tail to_tail_leap x rest h same in
-            let u = of_some to_tail_leap (tail_in x.1.findings) rest (ends_fit x.1.findings h.findings).1 ends there.0 in (
-              only u.0 rest u.1.1.0 ends u.1.1.1,
+            let u = of_some to_tail_leap (tail_in x.1.findings) rest (ends_fit x.1.findings h.findings).1 end there.0 in (
+              only u.0 rest u.1.1.0 end u.1.1.1,
               ap (λ (o : Option Tail). is_some o && has_head x.1) u.1.0 ∙ there.1,
             );
       }
@@ -561,8 +530,11 @@ few_none = omega arith
 start_none : IsInstant (pos 0)
 start_none = (omega (arith, ints), omega (arith, ints))
 
-module _ (line bytes : List ℕ) (m : Reached line to_samples (λ c. Unit {0}) bytes)
+module _ (line : List ℕ) (m : Reached line to_samples (λ c. Unit {0}))
     (never : (key : List ℕ) (c : Channel) → HasChannelLine key c → line ≢ channel_line key c) where
+  abbrev left : List ℕ
+  left = m.good.rest
+
   -- a channel with this head, or none
   abbrev findings_with : Option Head → Findings
   findings_with h = Counted 1 a_finding h None
@@ -570,143 +542,112 @@ module _ (line bytes : List ℕ) (m : Reached line to_samples (λ c. Unit {0}) b
   findings_are : (h : Option Head) → IfSome h HasHead → HasFindings (findings_with h)
   findings_are h fits = (omega arith, omega arith, a_finding_fits, fits, tt)
 
-  good_head : (part : Head → List ℕ → List ℕ) (h : Option Head) → IfSome h HasHead → (rest : List ℕ)
-      → ends_field rest ≡ true → bytes ≡ codes " head " ++ or_none part h rest → BeginsAsChannel (to_head part) line
+  abbrev good_head : (part : Head → List ℕ → List ℕ) (h : Option Head) → IfSome h HasHead → (rest : List ℕ)
+      → ends_field rest ≡ true → left ≡ codes " head " ++ or_none part h rest → BeginsAsChannel (to_head part) line
   good_head part h fits rest ends is =
-      good_with line (to_head part) m.key m.channel (findings_with h) rest m.has_line (findings_are h fits) ends
-      (m.is ∙ ap (λ (z : List ℕ). to_samples m.key m.channel z) is)
+      good_with line (to_head part) m.good.key m.good.channel (findings_with h) rest m.good.has_line (findings_are h fits) ends
+      (m.good.is ∙ ap (λ (z : List ℕ). to_samples m.good.key m.good.channel z) is)
 
   at_head : (part : Head → List ℕ → List ℕ) (x : List ℕ × Channel) (rest : List ℕ) → HasLine x
-      → line ≡ to_head part x.0 x.1 rest → codes " head " ++ or_none part (head_in x.1.findings) rest ≡ bytes
+      → line ≡ to_head part x.0 x.1 rest → codes " head " ++ or_none part (head_in x.1.findings) rest ≡ left
   at_head part x rest fits is =
       (m.only x (codes " head " ++ or_none part (head_in x.1.findings) rest) fits refl is).0
 
-  no_head : (r : List ℕ) → past_word (codes " head none") bytes ≡ Some r
+  no_head : (r : List ℕ) → past_word (codes " head none") left ≡ Some r
       → IsFirstOf line (from_tail false r) head_fields
   no_head r e =
-      let w = word_past (codes " head none") bytes r e in
+      let w = word_past (codes " head none") left r e in
       let good : (part : Head → List ℕ → List ℕ) → BeginsAsChannel (to_head part) line =
       λ part. good_head part None tt r w.1 w.0 in
-      inr (
-        good to_head_number,
-        inr (
-          good to_head_offset,
-          inr (
-            good to_head_start,
-            inr (
-              good to_head_rate,
-              first_from_tail line r false reached never,
-            ),
-          ),
-        ),
-      )
+      inr (good to_head_number, inr (good to_head_offset, inr (good to_head_start, inr (good to_head_rate, first_from_tail line false reached never))))
     where
       by : (o : Option Head) (rest : List ℕ) → IfSome o HasHead → ends_field rest ≡ true
-          → codes " head " ++ or_none to_head_rate o rest ≡ bytes → (rest ≡ r) × (is_some o ≡ false)
+          → codes " head " ++ or_none to_head_rate o rest ≡ left → (rest ≡ r) × (is_some o ≡ false)
       by None rest fits ends is = (
         same_Some rest r (sym (word_on rest ends (codes " head none"))
             ∙ ap (λ (z : List ℕ). past_word (codes " head none") z) is ∙ e),
         refl,
       )
       by (Some h) rest fits ends is =
-          absurd (neither (past_word (codes " head none") bytes) r
+          absurd (neither (past_word (codes " head none") left) r
           (ap (λ (z : List ℕ). past_word (codes " head none") z) (sym is) ∙ head_differs h _ fits) e)
 
-      reached : Reached line (to_head to_head_rate) (λ c. has_head c ≡ false) r
+      reached : Reached line (to_head to_head_rate) (λ c. has_head c ≡ false)
       reached =
-          let w = word_past (codes " head none") bytes r e in record {
-            key = m.key;
-            channel = with m.channel (findings_with None);
-            has_line = fits_with m.key m.channel (findings_with None) m.has_line (findings_are None tt);
-            is = m.is ∙ ap (λ (z : List ℕ). to_samples m.key m.channel z) w.0;
+          let w = word_past (codes " head none") left r e in record {
+            good = good_head to_head_rate None tt r w.1 w.0;
             own = refl;
             only = λ x rest fits ends is.
                 by (head_in x.1.findings) rest (ends_fit x.1.findings fits.findings).0 ends
                 (at_head to_head_rate x rest fits is);
           }
 
-  some_head : past_word (codes " head none") bytes ≡ None → IsFirstOf line (parts_of_head bytes) head_fields
+  some_head : past_word (codes " head none") left ≡ None → IsFirstOf line (parts_of_head left) head_fields
   some_head none =
-      step HasHead line bytes HeadNumber (HeadOffset ∷ HeadStart ∷ HeadRate ∷ tail_fields)
-      (λ h rest. codes " head " ++ to_head_number h rest) (λ h rest. codes " head " ++ (decimal h.number ++ rest))
-      bytes (past_count (codes " head ")) _ (λ h rest fits ends is. sym is)
-      (λ h rest fits ends. count_on rest ends (codes " head ") h.number fits.number) (head_of to_head_number) (λ a e1 only1.
-      let n = count_past (codes " head ") bytes a e1 in (
-        good_head to_head_number (Some (head n.x 0 (pos 0) one)) (head_fits n.x 0 (pos 0) one n.fits few_none start_none rate_one)
-            a n.ends n.is,
-        step HasHead line bytes HeadOffset (HeadStart ∷ HeadRate ∷ tail_fields)
-            (λ h rest. codes " head " ++ to_head_offset h rest) (λ h rest. codes " " ++ (decimal h.offset ++ rest)) a
-            (past_count (codes " ")) _
-            (λ h rest fits ends is. only1 h (codes " " ++ (decimal h.offset ++ rest)) fits refl is)
-            (λ h rest fits ends. count_on rest ends (codes " ") h.offset fits.offset) (head_of to_head_offset)
-            (λ b e2 only2.
-            let o = count_past (codes " ") a b e2 in
+      step HasHead line left HeadNumber (HeadOffset ∷ HeadStart ∷ HeadRate ∷ tail_fields) (λ h rest. rest) left _
+      (count_field (codes " head ")) (λ h. h.number) (λ h l. l.number) (λ z. refl) (λ h rest fits ends is. sym is)
+      (head_of to_head_number) (λ a n only1. (
+        good_head to_head_number (Some (head n.x 0 (pos 0) one))
+            (head_fits n.x 0 (pos 0) one n.fits few_none start_none rate_one) a n.ends n.is,
+        step HasHead line left HeadOffset (HeadStart ∷ HeadRate ∷ tail_fields)
+            (λ h rest. codes " head " ++ to_head_number h rest) a _ (count_field (codes " ")) (λ h. h.offset)
+            (λ h l. l.offset) (λ z. refl) only1 (head_of to_head_offset) (λ b o only2.
             let is2 = n.is ∙ ap (λ (z : List ℕ). codes " head " ++ (decimal n.x ++ z)) o.is in (
               good_head to_head_offset (Some (head n.x o.x (pos 0) one))
                   (head_fits n.x o.x (pos 0) one n.fits o.fits start_none rate_one) b o.ends is2,
-              step HasHead line bytes HeadStart (HeadRate ∷ tail_fields)
-                  (λ h rest. codes " head " ++ to_head_start h rest)
-                  (λ h rest. codes " " ++ (signed_decimal h.start ++ rest)) b (past_start (codes " ")) _
-                  (λ h rest fits ends is. only2 h (codes " " ++ (signed_decimal h.start ++ rest)) fits refl is)
-                  (λ h rest fits ends. start_on rest ends (codes " ") h.start fits.start) (head_of to_head_start)
-                  (λ c e3 only3.
-                  let s = start_past (codes " ") b c e3 in
-                  let is3 = is2 ∙ ap (λ (z : List ℕ). codes " head " ++ to_head_offset (head n.x o.x s.x one) z) s.is
-                  in (
+              step HasHead line left HeadStart (HeadRate ∷ tail_fields)
+                  (λ h rest. codes " head " ++ to_head_offset h rest) b _ (start_field (codes " ")) (λ h. h.start)
+                  (λ h l. l.start) (λ z. refl) only2 (head_of to_head_start) (λ c s only3.
+                  let is3 = is2 ∙ ap (λ (z : List ℕ). codes " head " ++ to_head_offset (head n.x o.x s.x one) z) s.is in (
                     good_head to_head_start (Some (head n.x o.x s.x one))
                         (head_fits n.x o.x s.x one n.fits o.fits s.fits rate_one) c s.ends is3,
-                    step HasHead line bytes HeadRate tail_fields (λ h rest. codes " head " ++ to_head_rate h rest)
-                        (λ h rest. codes " " ++ (ratio_text h.rate ++ rest)) c past_rate _
-                        (λ h rest fits ends is. only3 h (codes " " ++ (ratio_text h.rate ++ rest)) fits refl is)
-                        (λ h rest fits ends. rate_on rest ends h.rate fits.rate) (head_of to_head_rate) (λ d e4 only4.
-                        let q = rate_past c d e4 in
+                    step HasHead line left HeadRate tail_fields (λ h rest. codes " head " ++ to_head_start h rest) c _
+                        rate_field (λ h. h.rate) (λ h l. l.rate) (λ z. refl) only3 (head_of to_head_rate) (λ d q only4.
                         let h : Head = head n.x o.x s.x q.x in
                         let fits : HasHead h = head_fits n.x o.x s.x q.x n.fits o.fits s.fits q.fits in
                         let is4 = is3 ∙ ap (λ (z : List ℕ). codes " head " ++ to_head_start h z) q.is in (
                           good_head to_head_rate (Some h) fits d q.ends is4,
-                          first_from_tail line d true (reached h fits d is4 only4) never,
+                          first_from_tail line true (reached h fits d q.ends is4 only4) never,
                         )),
                   )),
             )),
       ))
     where
       of_some : (part : Head → List ℕ → List ℕ) (o : Option Head) (rest : List ℕ) → IfSome o HasHead
-          → ends_field rest ≡ true → codes " head " ++ or_none part o rest ≡ bytes
-          → (h : Head) × ((o ≡ Some h) × (HasHead h × (bytes ≡ codes " head " ++ part h rest)))
+          → ends_field rest ≡ true → codes " head " ++ or_none part o rest ≡ left
+          → (h : Head) × ((o ≡ Some h) × (HasHead h × (left ≡ codes " head " ++ part h rest)))
       of_some part None rest fits ends is =
-          absurd (neither (past_word (codes " head none") bytes) rest none
+          absurd (neither (past_word (codes " head none") left) rest none
           (ap (λ (z : List ℕ). past_word (codes " head none") z) (sym is) ∙ word_on rest ends (codes " head none")))
       of_some part (Some h) rest fits ends is = (h, (refl, (fits, sym is)))
 
       head_of : (part : Head → List ℕ → List ℕ) → BeginsAsChannel (to_head part) line
-          → Begins HasHead bytes (λ h rest. codes " head " ++ part h rest)
+          → Begins HasHead left (λ h rest. codes " head " ++ part h rest)
       head_of part g =
           let c : Channel = g.channel in
           let h = of_some part (head_in c.findings) g.rest (ends_fit c.findings g.has_line.findings).0 g.ends
           (at_head part (g.key, c) g.rest g.has_line g.is) in
           record { x = h.0; fits = h.1.1.0; rest = g.rest; ends = g.ends; is = h.1.1.1 }
 
-      reached : (h : Head) → HasHead h → (d : List ℕ) → bytes ≡ codes " head " ++ to_head_rate h d
-          → Only HasHead bytes (λ h rest. codes " head " ++ to_head_rate h rest) d
-          → Reached line (to_head to_head_rate) (λ c. has_head c ≡ true) d
-      reached h fits d is only = record {
-        key = m.key;
-        channel = with m.channel (findings_with (Some h));
-        has_line = fits_with m.key m.channel (findings_with (Some h)) m.has_line (findings_are (Some h) fits);
-        is = m.is ∙ ap (λ (z : List ℕ). to_samples m.key m.channel z) is;
+      reached : (h : Head) → HasHead h → (d : List ℕ) → ends_field d ≡ true
+          → left ≡ codes " head " ++ to_head_rate h d
+          → Only HasHead left (λ h rest. codes " head " ++ to_head_rate h rest) d
+          → Reached line (to_head to_head_rate) (λ c. has_head c ≡ true)
+      reached h fits d ends is only = record {
+        good = good_head to_head_rate (Some h) fits d ends is;
         own = refl;
-        only = λ x rest l ends same.
-            let u = of_some to_head_rate (head_in x.1.findings) rest (ends_fit x.1.findings l.findings).0 ends
+        only = λ x rest l end same.
+            let u = of_some to_head_rate (head_in x.1.findings) rest (ends_fit x.1.findings l.findings).0 end
             (at_head to_head_rate x rest l same) in
-            (only u.0 rest u.1.1.0 ends u.1.1.1, ap (λ (o : Option Head). is_some o) u.1.0);
+            (only u.0 rest u.1.1.0 end u.1.1.1, ap (λ (o : Option Head). is_some o) u.1.0);
       }
 
-  first_from_head : IsFirstOf line (from_head bytes) head_fields
+  first_from_head : IsFirstOf line (from_head left) head_fields
   unfolding from_head
-  first_from_head = by (past_word (codes " head none") bytes) refl
+  first_from_head = by (past_word (codes " head none") left) refl
     where
-      by : (o : Option (List ℕ)) → past_word (codes " head none") bytes ≡ o
-          → IsFirstOf line (or_else o (from_tail false) (parts_of_head bytes)) head_fields
+      by : (o : Option (List ℕ)) → past_word (codes " head none") left ≡ o
+          → IsFirstOf line (or_else o (from_tail false) (parts_of_head left)) head_fields
       by None e = some_head e
       by (Some r) e = no_head r e
 
@@ -734,10 +675,10 @@ plain_fits key records samples long small r s = record {
 first_in_channel : (line : List ℕ) → NoChannel line → IsFirstOf line (bad_in_channel line) channel_fields
 unfolding bad_in_channel
 first_in_channel line never =
-    step HasLine line line Key (Records ∷ Samples ∷ head_fields) (λ x. to_key x.0 x.1) (λ x rest. key_text x.0 ++ rest)
-    line past_key _ (λ x rest fits ends is. sym is)
-    (λ x rest fits ends. key_on rest ends x.0 fits.key_length fits.key_bytes) (begun line to_key) (λ a e1 only1.
-    let k = key_past line a e1 in (
+    first_of line Key (Records ∷ Samples ∷ head_fields) (past_key line) _ (λ none g.
+    neither (past_key line) g.rest none (ap past_key g.is
+    ∙ key_on g.rest g.ends g.key g.has_line.key_length g.has_line.key_bytes)) (λ a e.
+    let k = key_past line a e in (
       record {
         key = k.0;
         channel = plain 0 0;
@@ -746,12 +687,10 @@ first_in_channel line never =
         is = k.3;
         ends = k.4;
       },
-      step HasLine line line Records (Samples ∷ head_fields) (λ x. to_records x.0 x.1)
-          (λ x rest. codes " records " ++ (decimal x.1.records ++ rest)) a (past_count (codes " records ")) _
-          (λ x rest fits ends is. only1 x (codes " records " ++ (decimal x.1.records ++ rest)) fits refl is)
-          (λ x rest fits ends. count_on rest ends (codes " records ") x.1.records fits.records) (begun line to_records)
-          (λ b e2 only2.
-          let n = count_past (codes " records ") a b e2 in
+      step HasLine line line Records (Samples ∷ head_fields) (λ x. to_key x.0 x.1) a _
+          (count_field (codes " records ")) (λ x. x.1.records) (λ x l. l.records) (λ z. refl)
+          (λ x rest l ends is. same_Some rest a (sym (ap past_key is
+          ∙ key_on rest ends x.0 l.key_length l.key_bytes) ∙ e)) (begun line to_records) (λ b n only2.
           let is2 = leading (key_text k.0) line a _ k.3 n.is in (
             record {
               key = k.0;
@@ -761,20 +700,21 @@ first_in_channel line never =
               is = is2;
               ends = n.ends;
             },
-            step HasLine line line Samples head_fields (λ x. to_samples x.0 x.1)
-                (λ x rest. codes " samples " ++ (decimal x.1.samples ++ rest)) b (past_count (codes " samples ")) _
-                (λ x rest fits ends is. only2 x (codes " samples " ++ (decimal x.1.samples ++ rest)) fits refl is)
-                (λ x rest fits ends. count_on rest ends (codes " samples ") x.1.samples fits.samples)
-                (begun line to_samples) (λ c e3 only3.
-                let s = count_past (codes " samples ") b c e3 in
+            step HasLine line line Samples head_fields (λ x. to_records x.0 x.1) b _
+                (count_field (codes " samples ")) (λ x. x.1.samples) (λ x l. l.samples) (λ z. refl) only2
+                (begun line to_samples) (λ c s only3.
                 let has = plain_fits k.0 n.x s.x k.1 k.2 n.fits s.fits in
                 let is3 = is2 ∙ ap (λ (z : List ℕ). to_records k.0 (plain n.x s.x) z) s.is in (
                   record { key = k.0; channel = plain n.x s.x; has_line = has; rest = c; is = is3; ends = s.ends },
-                  first_from_head line c (record {
-                    key = k.0;
-                    channel = plain n.x s.x;
-                    has_line = has;
-                    is = is3;
+                  first_from_head line (record {
+                    good = record {
+                      key = k.0;
+                      channel = plain n.x s.x;
+                      has_line = has;
+                      rest = c;
+                      is = is3;
+                      ends = s.ends;
+                    };
                     own = tt;
                     only = λ x rest fits ends is. (only3 x rest fits ends is, tt);
                   }) never,
@@ -788,8 +728,8 @@ first_in_counts line never =
     first_of line AllRecords (AllBytes ∷ []) (past_count (codes "records ") line) (λ rest. AllBytes) (λ none g.
     neither (past_count (codes "records ") line) g.rest none
     (ap (λ (z : List ℕ). past_count (codes "records ") z) g.is
-    ∙ count_on g.rest g.ends (codes "records ") g.records g.has_line.records_fit)) (λ r e.
-    let n = count_past (codes "records ") line r e in (
+    ∙ (count_field (codes "records ")).on g.records g.rest g.has_line.records_fit g.ends)) (λ r e.
+    let n = (count_field (codes "records ")).past line r e in (
       record {
         records = n.x;
         bytes = 0;
