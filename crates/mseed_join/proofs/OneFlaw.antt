@@ -4,10 +4,11 @@ use Rattle.std.proofs.Common.{ap, ◌∙◌, subst, arith, inl, inr, append_asso
 use Rattle.std.proofs.Common.{take-append-drop}
 use Rattle.mseed_audit.specs.declared.channel.Channel.{Channel}
 use Rattle.mseed_join.specs.Parts.{IsAscending}
-use Rattle.mseed_join.specs.Lines.{Line, header, channel, counts, faults, fault, text_of_line, IsLine}
+use Rattle.mseed_join.specs.Lines.{Line, channel, counts, faults, fault, text_of_line, IsLine}
 use Rattle.mseed_join.specs.Lines.{header_line, channel_line, HasChannelLine, HasFaultLine}
 use Rattle.mseed_join.specs.Fields.{IsFirstBad}
 use Rattle.mseed_join.specs.declared.bad_field.Field.{Field}
+use Rattle.mseed_join.proofs.Onward.{Onward, onward}
 use Rattle.mseed_join.proofs.FirstBad.{bad_field_one}
 use Rattle.mseed_join.proofs.OneLine.{channel_one, line_one}
 use Rattle.mseed_join.specs.declared.flaw.Flaw.{Flaw}
@@ -72,25 +73,18 @@ told _ _ _ (IsFlawOf.limit last x line is_line may text) =
 
 -- what can stand there has no other flaw
 no_beginning : (line : List ℕ) → line ≢ header_line → Stands none line → ⊥
-no_beginning line other s = by s.x s.may s.text
+no_beginning line other s = by s.x (onward none s.x s.may) s.text
   where
-    by : (x : Line) → May none x → text_of_line x ≡ line → ⊥
-    by header m t = other (sym t)
-    by (channel key c) m t = m
-    by (counts n l) m t = m
-    by (faults n) m t = m
-    by (fault l f) m t = m
+    by : (x : Line) → Onward none x → text_of_line x ≡ line → ⊥
+    by _ Onward.opens t = other (sym t)
 
 no_row : (channels : List (List ℕ × Channel)) (field : Field) (line : List ℕ) → IsNoRow field line
     → Stands (begun channels) line → ⊥
-no_row channels field line e s = by s.x s.is_line s.may s.text
+no_row channels field line e s = by s.x s.is_line (onward (begun channels) s.x s.may) s.text
   where
-    by : (x : Line) → IsLine x → May (begun channels) x → text_of_line x ≡ line → ⊥
-    by header i m t = m
-    by (channel key c) i m t = e.channel key c i (sym t)
-    by (counts n l) i m t = e.counts n l i (sym t)
-    by (faults n) i m t = m
-    by (fault l f) i m t = m
+    by : (x : Line) → IsLine x → Onward (begun channels) x → text_of_line x ≡ line → ⊥
+    by _ i (Onward.row _ key c m) t = e.channel key c i (sym t)
+    by _ i (Onward.sums _ n l) t = e.counts n l i (sym t)
 
 no_order : (channels : List (List ℕ × Channel)) (key line : List ℕ) → IsDisordered channels key line
     → Stands (begun channels) line → ⊥
@@ -99,14 +93,12 @@ no_order channels key line d s =
     d.never (subst (λ (x : Line). May (begun channels) x) (sym same) s.may)
 
 no_ending : (w : Written) (line : List ℕ) → IsNoEnding w line → Stands (whole w) line → ⊥
-no_ending w line e s = by s.x s.is_line s.may s.text
+no_ending w line e s = by s.x s.is_line (onward (whole w) s.x s.may) s.text
   where
-    by : (x : Line) → IsLine x → May (whole w) x → text_of_line x ≡ line → ⊥
-    by header i m t = e.other (sym t)
-    by (channel key c) i m t = m
-    by (counts n l) i m t = m
-    by (faults n) i m t = e.faults m n i (sym t)
-    by (fault l f) i m t = e.fault f (subst (λ (n : ℕ). HasFaultLine n f) (sym m) i) (sym t)
+    by : (x : Line) → IsLine x → Onward (whole w) x → text_of_line x ≡ line → ⊥
+    by _ i (Onward.follows _) t = e.other (sym t)
+    by _ i (Onward.passes _ n m) t = e.faults m n i (sym t)
+    by _ i (Onward.ends _ l f m) t = e.fault f (subst (λ (n : ℕ). HasFaultLine n f) (sym m) i) (sym t)
 
 one_key : (channels : List (List ℕ × Channel)) (key other line : List ℕ) → IsDisordered channels key line
     → IsDisordered channels other line → key ≡ other
