@@ -1,10 +1,13 @@
 -- What a client reads of items, by how many bytes of them it accepted.
-use Rattle.std.proofs.Common.{◌≡◌, ◌≢◌, ℕ, ◌+◌, ◌-◌, ◌%◌, ◌^◌, ◌<◌, inl, inr, refl, sym, ap, subst, ◌∙◌, arith, List}
-use Rattle.std.proofs.Common.{[], ◌∷◌, ◌++◌, length, length-drop, map, set, take, drop, take-append-drop, codes, Option}
+use Rattle.slink_model.proofs.Stations.{each_read}
+use Rattle.slink_feed.specs.Session.{IsBefore}
+use Rattle.slink_model.specs.Spared.{IsFair}
+use Rattle.slink_feed.specs.Dialogue.{event_of}
+use Rattle.slink_feed.specs.declared.dialogue.Ending.{Ending}
+use Rattle.std.proofs.Common.{◌≡◌, ℕ, ◌+◌, ◌-◌, ◌%◌, ◌^◌, ◌<◌, inr, refl, sym, ap, subst, ◌∙◌, arith, List}
+use Rattle.std.proofs.Common.{[], ◌∷◌, ◌++◌, length, length-drop, map, take, drop, take-append-drop, codes, Option}
 use Rattle.std.proofs.Common.{Some, None, slice_get}
-use Rattle.std.specs.Option.{option_and_then}
 use Rattle.std.proofs.lemmas.List.{take-append-le}
-use Rattle.std.proofs.lemmas.Option.{slice_get_within}
 use Rattle.slink_wire.specs.declared.request.Request.{Request}
 use Rattle.slink_wire.specs.declared.request.Request.TheVariants as requests
 use Rattle.slink_wire.specs.Packet.{packet_bytes}
@@ -14,35 +17,30 @@ use Rattle.slink_wire.proofs.Packets.{read_back}
 use Rattle.slink_feed.specs.declared.dialogue.Ending.TheVariants as endings
 use Rattle.slink_feed.specs.declared.dialogue.Event.{Event}
 use Rattle.slink_feed.specs.declared.dialogue.Stage.{Stage}
-use Rattle.slink_feed.specs.declared.dialogue.Stage.TheVariants.{Station, Number, Packets}
+use Rattle.slink_feed.specs.declared.dialogue.Stage.TheVariants.{Station, Number, Packets, Ended}
 use Rattle.slink_feed.specs.declared.dialogue.Wanted.{Wanted}
-use Rattle.slink_feed.specs.declared.session.Phase.{Phase}
-use Rattle.slink_feed.specs.declared.session.Phase.TheVariants.{Granted, Chosen, Closed}
+use Rattle.slink_feed.specs.declared.session.Phase.TheVariants.{Granted}
 use Rattle.slink_model.specs.Counted.{Gained, undelivered, events_upon, on_item, part, talk_upon, wholes, with_event}
 use Rattle.slink_model.specs.Counted.{with_events}
 use Rattle.slink_feed.specs.Cutting.{IsBegun, IsWhole}
-use Rattle.slink_feed.specs.Dialogue.{Talk, Wants, Reply, Packet, End, at_packet, place_of, ended, read, read_at}
-use Rattle.slink_feed.specs.Dialogue.{heard, next_at, next_set, numbered, sends_line, to_place, reported, want_at}
-use Rattle.slink_feed.specs.Dialogue.{with_next}
+use Rattle.slink_feed.specs.Dialogue.{Talk, Reply, Packet, End, at_packet, place_of, ended, read, read_at}
+use Rattle.slink_feed.specs.Dialogue.{heard, next_at, numbered, sends_line, to_place, reported, want_at}
 use Rattle.slink_feed.specs.Listening.{AreBrought, IsLinked, events_of, talk_after, event_if_any}
-use Rattle.slink_feed.specs.Session.{Grants, State, grant_at}
+use Rattle.slink_feed.specs.Session.{State, grant_at}
+use Rattle.slink_model.specs.Spared.{IsSpared}
 use Rattle.slink_model.specs.Ties.{Item, Accepted, Refused, Carried, Finished, Places, item_bytes, of_place, way_bytes}
 use Rattle.slink_model.specs.World.{Differ, Numbers}
-use Rattle.slink_feed.proofs.Closing.{Open}
-use Rattle.slink_model.proofs.Calling.{open_at}
 use Rattle.slink_model.proofs.Counting.{brought_of, whole_of, whole_or}
 use Rattle.slink_model.proofs.Counts.{EndsIn}
 use Rattle.slink_feed.proofs.Prefixed.{wanted_reported, packet_long}
 use Rattle.slink_feed.proofs.Received.{begun_none}
-use Rattle.slink_model.proofs.Items.{carried_here, carried_there}
-use Rattle.slink_feed.proofs.Items.{put_here, put_there, same_or_not}
+use Rattle.slink_model.proofs.Items.{carried_here}
 use Rattle.slink_model.proofs.Lined.{IsAnswered, asks_more}
 use Rattle.slink_feed.proofs.OneReading.{IsRest}
-use Rattle.slink_model.proofs.OneWorld.{reported_events}
+use Rattle.slink_model.proofs.ReadAll.{reported_events}
 use Rattle.slink_wire.proofs.RequestLines.{end_line, station_line}
 use Rattle.slink_model.proofs.Requested.{also_at, number_line}
-use Rattle.slink_model.proofs.Shaken.{called_next, place_found, lacks_end, some_if, suited_next, suited_wanted}
-use Rattle.slink_model.proofs.Shaken.{want_slot}
+use Rattle.slink_model.proofs.Placed.{called_next, place_found, lacks_end, some_if, suited_next, suited_wanted}
 use Rattle.slink_model.proofs.Shaking.{AreCalled, AreOfPlace, AreSent, IsSuited, Shakes, asks_end, asks_number}
 use Rattle.slink_model.proofs.Shaking.{asks_place, has_none, has_number, has_place, streams}
 use Rattle.slink_feed.proofs.Wholes.{prefix_begun}
@@ -71,154 +69,6 @@ part_begun stage i is d whole lt =
 
 module _ (places : Places) (differ : Differ places) (codes_are : (k : ℕ) (p : Fields × Option ℕ)
     → slice_get places k ≡ Some p → IsField 5 p.0.station × IsField 2 p.0.network) where
-  -- packets on their way
-  pub record Streams (grants : Grants) (phase : Phase) (t : Talk) (items : List Item) : Type 0 where
-    pub stage : t.stage ≡ Packets
-    pub called : AreCalled places t.wants
-    pub matched : AreOfPlace places items
-    pub suited : (k : ℕ) → IsSuited (next_at t.wants k) (grant_at grants k) (of_place k items)
-    pub sent : AreSent items
-    pub ends : EndsIn phase items
-
-  -- what some of them leave
-  pub record Prefix (grants : Grants) (phase : Phase) (t : Talk) (ws bs : List Item) (p : ℕ) : Type 0 where
-    pub are : AreBrought t (map brought_of ws)
-    pub is_begun : IsRest (talk_after t (map brought_of ws)).stage (take p (way_bytes bs))
-    pub unwritten : (f : Numbers) (g : Gained) → (with_events f (events_of t (map brought_of ws)) g).to_server
-        ≡ g.to_server
-    pub same : Same t ws
-    pub after : IsLinked (talk_after t (map brought_of ws)).stage
-        → Streams grants phase (talk_after t (map brought_of ws)) bs
-
-  at_stage : (t : Talk) (i : Item) → t.stage ≡ Packets → IsWhole Packets (item_bytes i) (whole_of i)
-      → IsWhole t.stage (item_bytes i) (whole_of i)
-  at_stage t i stage is = subst (λ (s : Stage). IsWhole s (item_bytes i) (whole_of i)) (sym stage) is
-
-  none_prefix : (grants : Grants) (phase : Phase) (t : Talk) (i : Item) (is : List Item) (d : ℕ)
-      → IsWhole Packets (item_bytes i) (whole_of i) → d < length (item_bytes i) → Streams grants phase t (i ∷ is)
-      → Prefix grants phase t [] (i ∷ is) d
-  none_prefix grants phase t i is d whole lt s = record {
-    are = tt;
-    is_begun = λ _. part_begun t.stage i is d (at_stage t i s.stage whole) lt;
-    unwritten = λ f g. refl;
-    same = (refl, λ f g. refl);
-    after = λ _. s;
-  }
-
-  carried_whole : (k n : ℕ) (r : List ℕ) → length r ≡ 512
-      → IsWhole Packets (packet_bytes (n % 2 ^ 24) r) (Packet (n % 2 ^ 24) r)
-  carried_whole k n r long = (read_back (n % 2 ^ 24) r (omega arith), packet_long (n % 2 ^ 24) r long)
-
-  -- a packet is read
-  module _ (grants : Grants) (phase : Phase) (t : Talk) (k n : ℕ) (r : List ℕ) (rest : List Item)
-      (s : Streams grants phase t (Carried k n r ∷ rest)) where
-    abbrev m : ℕ
-    m = n % 2 ^ 24
-
-    abbrev x : ℕ
-    x = (m + 1) % 2 ^ 24
-
-    found : (place_of t.wants r ≡ Some k) × (v : Wanted) × (want_at t.wants k ≡ Some v)
-    found = place_found places differ codes_are t.wants k s.matched.0.0 r s.called s.matched.0.1 s.matched.0.3
-
-    of_k : of_place k (Carried k n r ∷ rest) ≡ (n, r) ∷ of_place k rest
-    of_k = ap (λ b. b ++ of_place k rest) (carried_here k n r)
-
-    suited_k : IsSuited (next_at t.wants k) (grant_at grants k) ((n, r) ∷ of_place k rest)
-    suited_k = subst (IsSuited (next_at t.wants k) (grant_at grants k)) of_k (s.suited k)
-
-    abbrev u : Talk
-    u = heard (Packet m r) t
-
-    pub packet_reported : read t (Packet m r) ≡ reported k m r u
-    packet_reported = ap (λ (y : Stage). read_at y u (Packet m r)) s.stage
-        ∙ (ap (λ (o : Option ℕ). at_packet o m r u) found.0
-        ∙ wanted_reported (next_at t.wants k) k m r u
-        (some_if (next_at t.wants k) m (suited_wanted (next_at t.wants k) (grant_at grants k) n r (of_place k rest)
-        suited_k)))
-
-    pub packet_next : Streams grants phase (reported k m r u).0 rest
-    packet_next =
-        let ws : Wants = with_next t.wants k x in
-        let v : Wanted = record { place = found.1.place; next = Some x } in
-        let becomes : ws ≡ set t.wants k (Some v) = ap (λ (o : Option Wanted). next_set o t.wants k x) found.2 in
-        let lt : k < length t.wants =
-        slice_get_within t.wants k (Some found.1) (want_slot (slice_get t.wants k) found.1 found.2) in
-        let next_k : next_at ws k ≡ Some x = ap (λ (y : Wants). next_at y k) becomes
-        ∙ ap (option_and_then (λ (z : Wanted). z.next)) (put_here t.wants k (Some v) None lt) in
-        let next_i : (i : ℕ) → i ≢ k → next_at ws i ≡ next_at t.wants i =
-        λ i ne. ap (λ (y : Wants). next_at y i) becomes
-        ∙ ap (option_and_then (λ (z : Wanted). z.next)) (put_there t.wants k i (Some v) None ne) in
-        let of_i : (i : ℕ) → i ≢ k → of_place i (Carried k n r ∷ rest) ≡ of_place i rest =
-        λ i ne. ap (λ b. b ++ of_place i rest) (carried_there k i n r (λ q. ne (sym q))) in
-        record {
-          stage = s.stage;
-          called = called_next places differ codes_are t.wants k x found.1 found.2 (omega arith) s.called;
-          matched = s.matched.1;
-          suited = λ i. elim (same_or_not i k) [
-            | inl q ↦ subst (λ y. IsSuited (next_at ws y) (grant_at grants y) (of_place y rest)) (sym q)
-                (rw (← next_k) at (suited_next (next_at t.wants k) (grant_at grants k) n r (of_place k rest) suited_k))
-            | inr ne ↦ subst (λ (o : Option ℕ). IsSuited o (grant_at grants i) (of_place i rest)) (sym (next_i i ne))
-                (subst (IsSuited (next_at t.wants i) (grant_at grants i)) (of_i i ne) (s.suited i))
-          ];
-          sent = s.sent.1;
-          ends = s.ends;
-        }
-
-    pub packet_prefix : (ws bs : List Item) (p : ℕ) → Prefix grants phase (reported k m r u).0 ws bs p
-        → Prefix grants phase t (Carried k n r ∷ ws) bs p
-    packet_prefix ws bs p h =
-        let h' : Prefix grants phase (read t (Packet m r)).0 ws bs p =
-        subst (λ (y : Talk × Event). Prefix grants phase y.0 ws bs p) (sym packet_reported) h in
-        record {
-          are = (at_stage t (Carried k n r) s.stage (carried_whole k n r s.matched.0.2), h'.are);
-          is_begun = h'.is_begun;
-          unwritten = λ f g. ap (λ (z : Gained). z.to_server)
-              (reported_events f (read t (Packet m r)).1 (events_of (read t (Packet m r)).0 (map brought_of ws)) g)
-              ∙ (h'.unwritten f (with_event f (read t (Packet m r)).1 g)
-              ∙ ap (λ (y : Talk × Event). (with_event f y.1 g).to_server) packet_reported);
-          same = same_more t (Carried k n r) ws (packet_reported
-              ∙ ap (λ (y : Stage). on_item y (Carried k n r) t) (sym s.stage)) h'.same;
-          after = h'.after;
-        }
-
-  -- the end is read
-  end_prefix : (grants : Grants) (phase : Phase) (t : Talk) → Streams grants phase t (Finished ∷ [])
-      → Prefix grants phase t (Finished ∷ []) [] 0
-  end_prefix grants phase t s =
-      let h : read t End ≡ ended endings.End (heard End t) = ap (λ (y : Stage). read_at y (heard End t) End) s.stage in
-      record {
-        are = (at_stage t Finished s.stage refl, tt);
-        is_begun = λ _. begun_none (read t End).0.stage;
-        unwritten = λ f g. ap (λ (y : Talk × Event). (with_events f (event_if_any y.1 ++ []) g).to_server) h;
-        same = same_more t Finished [] (h ∙ ap (λ (y : Stage). on_item y Finished t) (sym s.stage)) (refl, λ f g. refl);
-        after = λ linked. absurd (subst (λ (y : Talk × Event). IsLinked y.0.stage) h linked);
-      }
-
-  -- so many bytes are read
-  pub streamed_prefix : (items : List Item) (grants : Grants) (phase : Phase) (t : Talk) (d : ℕ)
-      → Streams grants phase t items → Prefix grants phase t (wholes d items) (undelivered d items) (part d items)
-  streamed_prefix [] grants phase t d s = record {
-    are = tt;
-    is_begun = λ _. begun_none t.stage;
-    unwritten = λ f g. refl;
-    same = (refl, λ f g. refl);
-    after = λ _. s;
-  }
-  streamed_prefix (Carried k n r ∷ rest) grants phase t d s =
-      let size : ℕ = length (item_bytes (Carried k n r)) in
-      whole_or (Carried k n r) rest d (λ ws bs p. Prefix grants phase t ws bs p)
-      (λ fits. packet_prefix grants phase t k n r rest s (wholes (d - size) rest) (undelivered (d - size) rest)
-      (part (d - size) rest)
-      (streamed_prefix rest grants phase (reported k (n % 2 ^ 24) r (heard (Packet (n % 2 ^ 24) r) t)).0 (d - size)
-      (packet_next grants phase t k n r rest s)))
-      (λ lt. none_prefix grants phase t (Carried k n r) rest d (carried_whole k n r s.matched.0.2) lt s)
-  streamed_prefix (Finished ∷ []) grants phase t d s =
-      whole_or Finished [] d (λ ws bs p. Prefix grants phase t ws bs p) (λ fits. end_prefix grants phase t s)
-      (λ lt. none_prefix grants phase t Finished [] d refl lt s)
-  streamed_prefix (Finished ∷ i ∷ rest) grants phase t d s = absurd (let bad : i ∷ rest ≡ [] = s.ends.0 in cc bad)
-  streamed_prefix (item ∷ rest) grants phase t d s = absurd s.sent.0
-
   -- what is on its way once a client has read
   pub record Left (s : State) (taken : List ℕ) (t : Talk) (way : List ℕ) (items : List Item) : Type 0 where
     pub matched : AreOfPlace places items
@@ -230,15 +80,19 @@ module _ (places : Places) (differ : Differ places) (codes_are : (k : ℕ) (p : 
     pub are : AreBrought t (map brought_of ws)
     pub is_begun : IsRest (talk_after t (map brought_of ws)).stage (take p (way_bytes bs))
     pub same : Same t ws
-    pub unwritten : s.phase ≡ Closed → (f : Numbers) (g : Gained)
-        → (with_events f (events_of t (map brought_of ws)) g).to_server ≡ g.to_server
+    pub spared : IsSpared (talk_after t (map brought_of ws)).stage
+    pub called : AreCalled places (talk_after t (map brought_of ws)).wants
     pub after : (f : Numbers) (g : Gained) → g.to_server ≡ way → IsLinked (talk_after t (map brought_of ws)).stage
         → Left s taken (talk_after t (map brought_of ws)) (with_events f (events_of t (map brought_of ws)) g).to_server
         bs
     pub quiet : (f : Numbers) (g : Gained) → g.to_server ≡ way → ¬ (IsLinked (talk_after t (map brought_of ws)).stage)
-        → Open s.phase → IsAnswered taken (with_events f (events_of t (map brought_of ws)) g).to_server
+        → IsAnswered taken (with_events f (events_of t (map brought_of ws)) g).to_server
 
-  module _ (s : State) (taken way : List ℕ) (t : Talk) where
+  linked_spared : (stage : Stage) → IsLinked stage → IsSpared stage
+  linked_spared (Ended ending) linked = absurd linked
+  linked_spared stage linked = tt
+
+  module _ (s : State) (taken way : List ℕ) (t : Talk) (called : AreCalled places t.wants) where
     -- nothing is whole
     nothing_read : (items : List Item) (p : ℕ) → IsBegun t.stage (take p (way_bytes items)) → IsLinked t.stage
         → Left s taken t way items → Outcome s taken way t [] items p
@@ -246,23 +100,25 @@ module _ (places : Places) (differ : Differ places) (codes_are : (k : ℕ) (p : 
       are = tt;
       is_begun = λ _. begun;
       same = (refl, λ f g. refl);
-      unwritten = λ _ f g. refl;
+      spared = linked_spared t.stage linked;
+      called = called;
       after = λ f g same _. subst (λ b. Left s taken t b items) (sym same) left;
       quiet = λ f g same over. absurd (over linked);
     }
 
     -- a line is sent
-    line_written : (i : Item) (stage : Stage) (request : Request) → Open s.phase
+    line_written : (i : Item) (stage : Stage) (request : Request)
         → read t (whole_of i) ≡ on_item t.stage i t → IsWhole t.stage (item_bytes i) (whole_of i)
         → read t (whole_of i) ≡ sends_line (heard (whole_of i) t) stage request → IsLinked stage
         → ((k : ℕ) → IsSuited (next_at t.wants k) (grant_at s.grants k) [])
         → Shakes (record (heard (whole_of i) t) { stage = stage }) s.phase taken (way ++ request_bytes request) []
         → Outcome s taken way t (i ∷ []) [] 0
-    line_written i stage request awake on whole h linked suited shakes = record {
+    line_written i stage request on whole h linked suited shakes = record {
       are = (whole, tt);
       is_begun = λ _. begun_none (read t (whole_of i)).0.stage;
       same = same_more t i [] on (refl, λ f g. refl);
-      unwritten = λ shut f g. absurd (awake shut);
+      spared = subst (λ (y : Talk × Event). IsSpared y.0.stage) (sym h) (linked_spared stage linked);
+      called = subst (λ (y : Talk × Event). AreCalled places y.0.wants) (sym h) called;
       after = λ f g same _. subst
           (λ (y : Talk × Event). Left s taken y.0 (with_events f (event_if_any y.1 ++ []) g).to_server []) (sym h)
           (subst (λ b. Left s taken (record (heard (whole_of i) t) { stage = stage }) (b ++ request_bytes request) [])
@@ -271,29 +127,146 @@ module _ (places : Places) (differ : Differ places) (codes_are : (k : ℕ) (p : 
       quiet = λ f g same over. absurd (over (subst (λ (y : Talk × Event). IsLinked y.0.stage) (sym h) linked));
     }
 
-    -- a station is refused
-    refusal_read : (k : ℕ) → Open s.phase → read t (Reply (codes "ERROR")) ≡ on_item t.stage Refused t
-        → IsWhole t.stage (item_bytes Refused) (whole_of Refused)
-        → read t (Reply (codes "ERROR")) ≡ ended (endings.Refused k) (heard (Reply (codes "ERROR")) t)
-        → IsAnswered taken way
-        → Outcome s taken way t (Refused ∷ []) [] 0
-    refusal_read k awake on whole h reported = record {
+    -- the link is ended
+    ended_read : (i : Item) (ending : Ending) → IsFair ending
+        → ((f : Numbers) (g : Gained)
+        → (with_events f (event_if_any (event_of ending) ++ []) g).to_server ≡ g.to_server)
+        → read t (whole_of i) ≡ on_item t.stage i t → IsWhole t.stage (item_bytes i) (whole_of i)
+        → read t (whole_of i) ≡ ended ending (heard (whole_of i) t) → IsAnswered taken way
+        → Outcome s taken way t (i ∷ []) [] 0
+    ended_read i ending fair nothing on whole h reported = record {
       are = (whole, tt);
-      is_begun = λ _. begun_none (read t (Reply (codes "ERROR"))).0.stage;
-      same = same_more t Refused [] on (refl, λ f g. refl);
-      unwritten = λ shut f g. absurd (awake shut);
+      is_begun = λ _. begun_none (read t (whole_of i)).0.stage;
+      same = same_more t i [] on (refl, λ f g. refl);
+      spared = subst (λ (y : Talk × Event). IsSpared y.0.stage) (sym h) fair;
+      called = subst (λ (y : Talk × Event). AreCalled places y.0.wants) (sym h) called;
       after = λ f g same linked. absurd (subst (λ (y : Talk × Event). IsLinked y.0.stage) h linked);
-      quiet = λ f g same _ _. subst
+      quiet = λ f g same _. subst
           (λ (y : Talk × Event). IsAnswered taken (with_events f (event_if_any y.1 ++ []) g).to_server) (sym h)
-          (subst (IsAnswered taken) (sym same) reported);
+          (subst (IsAnswered taken) (sym (nothing f g ∙ same)) reported);
     }
 
+  at_stage : (t : Talk) (i : Item) → t.stage ≡ Packets → IsWhole Packets (item_bytes i) (whole_of i)
+      → IsWhole t.stage (item_bytes i) (whole_of i)
+  at_stage t i stage is = subst (λ (s : Stage). IsWhole s (item_bytes i) (whole_of i)) (sym stage) is
+
+  carried_whole : (k n : ℕ) (r : List ℕ) → length r ≡ 512
+      → IsWhole Packets (packet_bytes (n % 2 ^ 24) r) (Packet (n % 2 ^ 24) r)
+  carried_whole k n r long = (read_back (n % 2 ^ 24) r (omega arith), packet_long (n % 2 ^ 24) r long)
+
+  -- packets are read
+  module _ (s : State) (taken way : List ℕ) (later : ¬ (IsBefore s.phase)) (answered : IsAnswered taken way) where
+    -- what is on its way
+    record Streams (t : Talk) (items : List Item) : Type 0 where
+      stage : t.stage ≡ Packets
+      called : AreCalled places t.wants
+      matched : AreOfPlace places items
+      suited : (k : ℕ) → IsSuited (next_at t.wants k) (grant_at s.grants k) (of_place k items)
+      sent : AreSent items
+      ends : EndsIn s.phase items
+
+    none_read : (t : Talk) (items : List Item) (d : ℕ) → IsBegun t.stage (take d (way_bytes items)) → Streams t items
+        → Outcome s taken way t [] items d
+    none_read t items d begun x =
+        nothing_read s taken way t x.called items d begun (subst IsLinked (sym x.stage) tt) (record {
+          matched = x.matched;
+          suited = x.suited;
+          shakes = streams x.stage later x.sent answered;
+          ends = x.ends;
+        })
+
+    module _ (t : Talk) (k n : ℕ) (r : List ℕ) (rest : List Item) (s' : Streams t (Carried k n r ∷ rest)) where
+      abbrev m : ℕ
+      m = n % 2 ^ 24
+
+      abbrev x : ℕ
+      x = (m + 1) % 2 ^ 24
+
+      found : (place_of t.wants r ≡ Some k) × (v : Wanted) × (want_at t.wants k ≡ Some v)
+      found = place_found places differ codes_are t.wants k s'.matched.0.0 r s'.called s'.matched.0.1 s'.matched.0.3
+
+      of_k : of_place k (Carried k n r ∷ rest) ≡ (n, r) ∷ of_place k rest
+      of_k = ap (λ b. b ++ of_place k rest) (carried_here k n r)
+
+      suited_k : IsSuited (next_at t.wants k) (grant_at s.grants k) ((n, r) ∷ of_place k rest)
+      suited_k = subst (IsSuited (next_at t.wants k) (grant_at s.grants k)) of_k (s'.suited k)
+
+      abbrev u : Talk
+      u = heard (Packet m r) t
+
+      packet_reported : read t (Packet m r) ≡ reported k m r u
+      packet_reported = ap (λ (y : Stage). read_at y u (Packet m r)) s'.stage
+          ∙ (ap (λ (o : Option ℕ). at_packet o m r u) found.0
+          ∙ wanted_reported (next_at t.wants k) k m r u
+          (some_if (next_at t.wants k) m (suited_wanted (next_at t.wants k) (grant_at s.grants k) n r (of_place k rest)
+          suited_k)))
+
+      packet_next : Streams (reported k m r u).0 rest
+      packet_next = record {
+        stage = s'.stage;
+        called = called_next places differ codes_are t.wants k x found.1 found.2 (omega arith) s'.called;
+        matched = s'.matched.1;
+        suited = each_read t.wants k x n r rest found.1 (λ i o is. IsSuited o (grant_at s.grants i) is) found.2
+            (suited_next (next_at t.wants k) (grant_at s.grants k) n r (of_place k rest) suited_k)
+            (λ i ne. s'.suited i);
+        sent = s'.sent.1;
+        ends = s'.ends;
+      }
+
+      packet_read : (ws bs : List Item) (p : ℕ) → Outcome s taken way (reported k m r u).0 ws bs p
+          → Outcome s taken way t (Carried k n r ∷ ws) bs p
+      packet_read ws bs p h =
+          let h' : Outcome s taken way (read t (Packet m r)).0 ws bs p =
+          subst (λ (y : Talk × Event). Outcome s taken way y.0 ws bs p) (sym packet_reported) h in
+          let e : Event = (read t (Packet m r)).1 in
+          let es : List Event = events_of (read t (Packet m r)).0 (map brought_of ws) in
+          let on : (f : Numbers) (g : Gained) → (with_event f e g).to_server ≡ g.to_server =
+          λ f g. ap (λ (y : Talk × Event). (with_event f y.1 g).to_server) packet_reported in
+          let all : (f : Numbers) (g : Gained) → with_events f (event_if_any e ++ es) g ≡ with_events f es
+          (with_event f e g) = λ f g. reported_events f e es g in
+          record {
+            are = (at_stage t (Carried k n r) s'.stage (carried_whole k n r s'.matched.0.2), h'.are);
+            is_begun = h'.is_begun;
+            same = same_more t (Carried k n r) ws (packet_reported
+                ∙ ap (λ (y : Stage). on_item y (Carried k n r) t) (sym s'.stage)) h'.same;
+            spared = h'.spared;
+            called = h'.called;
+            after = λ f g same linked. subst (λ (x : Gained). Left s taken
+                (talk_after (read t (Packet m r)).0 (map brought_of ws)) x.to_server bs) (sym (all f g))
+                (h'.after f (with_event f e g) (on f g ∙ same) linked);
+            quiet = λ f g same over. subst (λ (x : Gained). IsAnswered taken x.to_server) (sym (all f g))
+                (h'.quiet f (with_event f e g) (on f g ∙ same) over);
+          }
+
+    streamed : (items : List Item) (t : Talk) (d : ℕ) → Streams t items
+        → Outcome s taken way t (wholes d items) (undelivered d items) (part d items)
+    streamed [] t d x = none_read t [] 0 (begun_none t.stage) x
+    streamed (Carried k n r ∷ rest) t d x =
+        let size : ℕ = length (item_bytes (Carried k n r)) in
+        whole_or (Carried k n r) rest d (λ ws bs p. Outcome s taken way t ws bs p)
+        (λ fits. packet_read t k n r rest x (wholes (d - size) rest) (undelivered (d - size) rest)
+        (part (d - size) rest)
+        (streamed rest (reported k (n % 2 ^ 24) r (heard (Packet (n % 2 ^ 24) r) t)).0 (d - size)
+        (packet_next t k n r rest x)))
+        (λ lt. none_read t (Carried k n r ∷ rest) d (part_begun t.stage (Carried k n r) rest d
+        (at_stage t (Carried k n r) x.stage (carried_whole k n r x.matched.0.2)) lt) x)
+    streamed (Finished ∷ []) t d x =
+        let u : Talk = heard End t in
+        let h : read t End ≡ ended endings.End u = ap (λ (y : Stage). read_at y u End) x.stage in
+        whole_or Finished [] d (λ ws bs p. Outcome s taken way t ws bs p)
+        (λ fits. ended_read s taken way t x.called Finished endings.End tt (λ f g. refl)
+        (h ∙ ap (λ (y : Stage). on_item y Finished t) (sym x.stage)) (at_stage t Finished x.stage refl) h answered)
+        (λ lt. none_read t (Finished ∷ []) d (part_begun t.stage Finished [] d (at_stage t Finished x.stage refl) lt) x)
+    streamed (Finished ∷ i ∷ rest) t d x = absurd (let bad : i ∷ rest ≡ [] = x.ends.0 in cc bad)
+    streamed (item ∷ rest) t d x = absurd x.sent.0
+
+  module _ (s : State) (taken way : List ℕ) (t : Talk) (called : AreCalled places t.wants) where
     one_or : (i : Item) (d : ℕ) → IsLinked t.stage → IsWhole t.stage (item_bytes i) (whole_of i)
         → Outcome s taken way t (i ∷ []) [] 0 → Left s taken t way (i ∷ [])
         → Outcome s taken way t (wholes d (i ∷ [])) (undelivered d (i ∷ [])) (part d (i ∷ []))
     one_or i d linked whole done left =
         whole_or i [] d (λ ws bs p. Outcome s taken way t ws bs p) (λ fits. done)
-        (λ lt. nothing_read (i ∷ []) d (part_begun t.stage i [] d whole lt) linked left)
+        (λ lt. nothing_read s taken way t called (i ∷ []) d (part_begun t.stage i [] d whole lt) linked left)
 
     ok_reply : (k : ℕ) → IsWhole (Station k) (item_bytes Accepted) (whole_of Accepted)
     ok_reply k = (refl, lacks_end (codes "OK" ++ 13 ∷ []) refl, omega arith)
@@ -301,22 +274,22 @@ module _ (places : Places) (differ : Differ places) (codes_are : (k : ℕ) (p : 
     error_reply : (k : ℕ) → IsWhole (Number k) (item_bytes Refused) (whole_of Refused)
     error_reply k = (refl, lacks_end (codes "ERROR" ++ 13 ∷ []) refl, omega arith)
 
-    next_written : (k : ℕ) (o : Option Wanted) → AreCalled places t.wants → t.stage ≡ Number k → s.phase ≡ Granted k
+    next_written : (k : ℕ) (o : Option Wanted) → t.stage ≡ Number k → s.phase ≡ Granted k
         → IsAnswered taken way → want_at t.wants (k + 1) ≡ o
         → read t (Reply (codes "OK")) ≡ on_item t.stage Accepted t
         → read t (Reply (codes "OK")) ≡ to_place o (k + 1) (heard (Reply (codes "OK")) t)
         → ((i : ℕ) → IsSuited (next_at t.wants i) (grant_at s.grants i) []) → Outcome s taken way t (Accepted ∷ []) [] 0
-    next_written k None called stage phase reported want on h suited =
-        line_written Accepted Packets requests.End (open_at s.phase (Granted k) phase tt) on
+    next_written k None stage phase reported want on h suited =
+        line_written s taken way t called Accepted Packets requests.End on
         (subst (λ (y : Stage). IsWhole y (item_bytes Accepted) (whole_of Accepted)) (sym stage) (ok_reply k)) h tt
         suited (asks_end k refl phase (asks_more (request_line requests.End) taken way end_line reported) refl)
-    next_written k (Some w) called stage phase reported want on h suited =
+    next_written k (Some w) stage phase reported want on h suited =
         let q : (p : Fields × Option ℕ) × (slice_get places (k + 1) ≡ Some p) × (w.place ≡ p.0) =
         also_at (λ (x : Wanted). x.place) (λ (p : Fields × Option ℕ). p.0) (want_at t.wants (k + 1))
         (slice_get places (k + 1)) w (called.alike (k + 1)) want in
         let fields : IsField 5 w.place.station × IsField 2 w.place.network =
         subst (λ (f : Fields). IsField 5 f.station × IsField 2 f.network) (sym q.2) (codes_are (k + 1) q.0 q.1) in
-        line_written Accepted (Station (k + 1)) (requests.Station w.place) (open_at s.phase (Granted k) phase tt) on
+        line_written s taken way t called Accepted (Station (k + 1)) (requests.Station w.place) on
         (subst (λ (y : Stage). IsWhole y (item_bytes Accepted) (whole_of Accepted)) (sym stage) (ok_reply k)) h tt
         suited
         (asks_place (k + 1) w refl want (inr (k, refl, phase))
@@ -324,7 +297,7 @@ module _ (places : Places) (differ : Differ places) (codes_are : (k : ℕ) (p : 
         reported) refl)
 
     -- by who has sent what
-    module _ (items : List Item) (d : ℕ) (called : AreCalled places t.wants) (matched : AreOfPlace places items)
+    module _ (items : List Item) (d : ℕ) (matched : AreOfPlace places items)
         (suited : (k : ℕ) → IsSuited (next_at t.wants k) (grant_at s.grants k) (of_place k items))
         (ends : EndsIn s.phase items)
         (shakes : Shakes t s.phase taken way items) where
@@ -336,7 +309,7 @@ module _ (places : Places) (differ : Differ places) (codes_are : (k : ℕ) (p : 
 
       empty : items ≡ [] → IsLinked t.stage → Result items
       empty none linked = subst Result (sym none)
-          (nothing_read [] 0 (begun_none t.stage) linked (subst (Left s taken t way) none left))
+          (nothing_read s taken way t called [] 0 (begun_none t.stage) linked (subst (Left s taken t way) none left))
 
       suits : (i : Item) → ((k : ℕ) → of_place k (i ∷ []) ≡ []) → items ≡ i ∷ [] → (k : ℕ)
           → IsSuited (next_at t.wants k) (grant_at s.grants k) []
@@ -363,7 +336,7 @@ module _ (places : Places) (differ : Differ places) (codes_are : (k : ℕ) (p : 
           let request : Request = numbered t.mode (next_at t.wants k) in
           subst Result (sym one) (one_or Accepted d (there (Station k) stage tt)
           (whole_at (Station k) Accepted stage (ok_reply k))
-          (line_written Accepted (Number k) request (open_at s.phase (Chosen k) phase tt)
+          (line_written s taken way t called Accepted (Number k) request
           (on_is Accepted (Station k) stage refl) (whole_at (Station k) Accepted stage (ok_reply k))
           (ap (λ (y : Stage). read_at y (heard (Reply (codes "OK")) t) (Reply (codes "OK"))) stage) tt
           (suits Accepted (λ i. refl) one)
@@ -374,7 +347,7 @@ module _ (places : Places) (differ : Differ places) (codes_are : (k : ℕ) (p : 
       by_shakes (has_number k stage phase written one) =
           subst Result (sym one) (one_or Accepted d (there (Number k) stage tt)
           (whole_at (Number k) Accepted stage (ok_reply k))
-          (next_written k (want_at t.wants (k + 1)) called stage phase written refl
+          (next_written k (want_at t.wants (k + 1)) stage phase written refl
           (on_is Accepted (Number k) stage refl)
           (ap (λ (y : Stage). read_at y (heard (Reply (codes "OK")) t) (Reply (codes "OK"))) stage)
           (suits Accepted (λ i. refl) one))
@@ -382,35 +355,15 @@ module _ (places : Places) (differ : Differ places) (codes_are : (k : ℕ) (p : 
       by_shakes (has_none k stage phase written one) =
           subst Result (sym one) (one_or Refused d (there (Number k) stage tt)
           (whole_at (Number k) Refused stage (error_reply k))
-          (refusal_read k (open_at s.phase (Chosen k) phase tt) (on_is Refused (Number k) stage refl)
+          (ended_read s taken way t called Refused (endings.Refused k) tt (λ f g. refl)
+          (on_is Refused (Number k) stage refl)
           (whole_at (Number k) Refused stage (error_reply k))
           (ap (λ (y : Stage). read_at y (heard (Reply (codes "ERROR")) t) (Reply (codes "ERROR"))) stage) written)
           (subst (Left s taken t way) one left))
       by_shakes (asks_end k stage phase asks none) = empty none (there Packets stage tt)
       by_shakes (streams stage later sent written) =
-          let prefix : Prefix s.grants s.phase t (wholes d items) (undelivered d items) (part d items) =
-          streamed_prefix items s.grants s.phase t d
-          (record { stage = stage; called = called; matched = matched; suited = suited; sent = sent; ends = ends }) in
-          record {
-            are = prefix.are;
-            is_begun = prefix.is_begun;
-            same = prefix.same;
-            unwritten = λ _ f g. prefix.unwritten f g;
-            after = λ f g same linked.
-                let u : Streams s.grants s.phase (talk_after t (map brought_of (wholes d items)))
-                (undelivered d items) =
-                prefix.after linked in
-                let same_way : (with_events f (events_of t (map brought_of (wholes d items))) g).to_server ≡ way =
-                prefix.unwritten f g ∙ same in
-                subst (λ b. Left s taken (talk_after t (map brought_of (wholes d items))) b (undelivered d items))
-                (sym same_way) (record {
-                  matched = u.matched;
-                  suited = u.suited;
-                  shakes = streams u.stage later u.sent written;
-                  ends = u.ends;
-                });
-            quiet = λ f g same over awake. subst (IsAnswered taken) (sym (prefix.unwritten f g ∙ same)) (written awake);
-          }
+          streamed s taken way later written items t d
+          (record { stage = stage; called = called; matched = matched; suited = suited; sent = sent; ends = ends })
 
       pub read_outcome : Result items
       read_outcome = by_shakes shakes

@@ -1,6 +1,6 @@
 -- After the replies a packet is whole for each 520 bytes.
 use Rattle.std.proofs.Common.{◌≡◌, ℕ, ◌-◌, ◌*◌, ◌/◌, ◌%◌, ◌^◌, ◌+◌, ◌<◌, ◌≤◌, zero, suc, refl, sym, ap, ◌∙◌, arith}
-use Rattle.std.proofs.Common.{List, [], ◌∷◌, ◌++◌, length, replicate, take}
+use Rattle.std.proofs.Common.{List, [], ◌∷◌, ◌++◌, append-nil, length, replicate, take, take_all}
 use Rattle.slink_model.specs.Counted.{ArePackets, wholes}
 use Rattle.slink_model.specs.Ties.{Item, Accepted, Carried, Finished, item_bytes}
 use Rattle.slink_model.proofs.Counting.{whole_or}
@@ -16,50 +16,38 @@ replies_whole (suc m) d ps le =
     ∙ ap (λ e. replicate m Accepted ++ wholes e ps) (let e : d - 4 - 4 * m ≡ d - 4 * suc m = omega arith in e)))
     (λ lt. absurd (omega (arith, le, lt)))
 
-packets_whole : (ps : List Item) (e : ℕ) → ArePackets ps → wholes e ps ≡ take (e / 520) ps
-packets_whole [] e are = nothing_taken (e / 520)
+-- of packets and what is after them
+packets_whole : (ps tail : List Item) (e : ℕ) → ArePackets ps → wholes 0 tail ≡ []
+    → wholes e (ps ++ tail) ≡ take (e / 520) ps ++ wholes (e - 520 * length ps) tail
+packets_whole [] tail e are none = nothing_taken (e / 520)
   where
-    nothing_taken : (n : ℕ) → ◌≡◌ {A = List Item} [] (take n [])
-    nothing_taken zero = refl
-    nothing_taken (suc n) = refl
-packets_whole (Carried k n r ∷ ps) e are =
+    nothing_taken : (n : ℕ) → wholes e tail ≡ take n [] ++ wholes (e - 520 * 0) tail
+    nothing_taken zero = ap (λ m. wholes m tail) (let m : e ≡ e - 520 * 0 = omega arith in m)
+    nothing_taken (suc n) = ap (λ m. wholes m tail) (let m : e ≡ e - 520 * 0 = omega arith in m)
+packets_whole (Carried k n r ∷ ps) tail e are none =
     let size : length (item_bytes (Carried k n r)) ≡ 520 = packet_long (n % 2 ^ 24) r are.0 in
-    whole_or (Carried k n r) ps e (λ ws bs p. ws ≡ take (e / 520) (Carried k n r ∷ ps))
+    whole_or (Carried k n r) (ps ++ tail) e
+    (λ ws bs p. ws ≡ take (e / 520) (Carried k n r ∷ ps) ++ wholes (e - 520 * suc (length ps)) tail)
     (λ fits.
     let count : e / 520 ≡ suc ((e - 520) / 520) = omega (arith, fits, size) in
-    ap (λ ws. Carried k n r ∷ ws) (ap (λ s. wholes (e - s) ps) size ∙ packets_whole ps (e - 520) are.1)
-    ∙ ap (λ m. take m (Carried k n r ∷ ps)) (sym count))
-    (λ lt. let none : e / 520 ≡ 0 = omega (arith, lt, size) in ap (λ m. take m (Carried k n r ∷ ps)) (sym none))
-packets_whole (p ∷ ps) e are = absurd are
+    ap (λ ws. Carried k n r ∷ ws) (ap (λ s. wholes (e - s) (ps ++ tail)) size
+    ∙ (packets_whole ps tail (e - 520) are.1 none
+    ∙ ap (λ m. take ((e - 520) / 520) ps ++ wholes m tail)
+    (let m : e - 520 - 520 * length ps ≡ e - 520 * suc (length ps) = omega arith in m)))
+    ∙ ap (λ m. take m (Carried k n r ∷ ps) ++ wholes (e - 520 * suc (length ps)) tail) (sym count))
+    (λ lt. let few : e / 520 ≡ 0 = omega (arith, lt, size) in
+    let rest : e - 520 * suc (length ps) ≡ 0 = omega (arith, lt, size) in
+    sym (ap (λ m. wholes m tail) rest ∙ none)
+    ∙ ap (λ m. take m (Carried k n r ∷ ps) ++ wholes (e - 520 * suc (length ps)) tail) (sym few))
+packets_whole (p ∷ ps) tail e are none = absurd are
 
--- with the end after them
-packets_ending : (ps : List Item) (e : ℕ) → ArePackets ps → e < 520 * length ps + 3
-    → wholes e (ps ++ Finished ∷ []) ≡ take (e / 520) ps
-packets_ending [] e are few = whole_or Finished [] e (λ ws bs p. ws ≡ take (e / 520) [])
-    (λ fits. absurd (omega (arith, few, fits)))
-    (λ lt. let none : e / 520 ≡ 0 = omega (arith, lt) in ap (λ m. take m []) (sym none))
-packets_ending (Carried k n r ∷ ps) e are few =
-    let size : length (item_bytes (Carried k n r)) ≡ 520 = packet_long (n % 2 ^ 24) r are.0 in
-    whole_or (Carried k n r) (ps ++ Finished ∷ []) e (λ ws bs p. ws ≡ take (e / 520) (Carried k n r ∷ ps))
-    (λ fits.
-    let count : e / 520 ≡ suc ((e - 520) / 520) = omega (arith, fits, size) in
-    ap (λ ws. Carried k n r ∷ ws) (ap (λ s. wholes (e - s) (ps ++ Finished ∷ [])) size
-    ∙ packets_ending ps (e - 520) are.1 (omega (arith, few, fits, size)))
-    ∙ ap (λ m. take m (Carried k n r ∷ ps)) (sym count))
-    (λ lt. let none : e / 520 ≡ 0 = omega (arith, lt, size) in ap (λ m. take m (Carried k n r ∷ ps)) (sym none))
-packets_ending (p ∷ ps) e are few = absurd are
+-- of an end
+none_ended : (d : ℕ) → d < 3 → wholes d (Finished ∷ []) ≡ []
+none_ended d few = whole_or Finished [] d (λ ws bs p. ws ≡ []) (λ fits. absurd (omega (arith, few, fits))) (λ lt. refl)
 
-packets_ended : (ps : List Item) (e : ℕ) → ArePackets ps → 520 * length ps + 3 ≤ e
-    → wholes e (ps ++ Finished ∷ []) ≡ ps ++ Finished ∷ []
-packets_ended [] e are all =
-    whole_or Finished [] e (λ ws bs p. ws ≡ Finished ∷ []) (λ fits. refl) (λ lt. absurd (omega (arith, all, lt)))
-packets_ended (Carried k n r ∷ ps) e are all =
-    let size : length (item_bytes (Carried k n r)) ≡ 520 = packet_long (n % 2 ^ 24) r are.0 in
-    whole_or (Carried k n r) (ps ++ Finished ∷ []) e (λ ws bs p. ws ≡ Carried k n r ∷ (ps ++ Finished ∷ []))
-    (λ fits. ap (λ ws. Carried k n r ∷ ws) (ap (λ s. wholes (e - s) (ps ++ Finished ∷ [])) size
-    ∙ packets_ended ps (e - 520) are.1 (omega (arith, all, size))))
-    (λ lt. absurd (omega (arith, all, lt, size)))
-packets_ended (p ∷ ps) e are all = absurd are
+one_ended : (d : ℕ) → 3 ≤ d → wholes d (Finished ∷ []) ≡ Finished ∷ []
+one_ended d all =
+    whole_or Finished [] d (λ ws bs p. ws ≡ Finished ∷ []) (λ fits. refl) (λ lt. absurd (omega (arith, all, lt)))
 
 -- after the replies
 pub after_replies : (places delivered : ℕ) (ps : List Item) → 8 * places ≤ delivered
@@ -75,7 +63,10 @@ pub counted_packets : (places delivered : ℕ) (packets : List Item) → ArePack
     ((delivered - 8 * places) / 520) packets
 counted_packets places delivered packets are le =
     after_replies places delivered packets le
-    ∙ ap (λ ps. replicate (2 * places) Accepted ++ ps) (packets_whole packets (delivered - 8 * places) are)
+    ∙ ap (λ ps. replicate (2 * places) Accepted ++ ps)
+    (ap (wholes (delivered - 8 * places)) (sym (append-nil packets))
+    ∙ (packets_whole packets [] (delivered - 8 * places) are refl
+    ∙ append-nil (take ((delivered - 8 * places) / 520) packets)))
 
 pub counted_ending : (places delivered : ℕ) (packets : List Item) → ArePackets packets → 8 * places ≤ delivered
     → delivered < 8 * places + 520 * length packets + 3
@@ -84,7 +75,10 @@ pub counted_ending : (places delivered : ℕ) (packets : List Item) → ArePacke
 counted_ending places delivered packets are le lt =
     after_replies places delivered (packets ++ Finished ∷ []) le
     ∙ ap (λ ps. replicate (2 * places) Accepted ++ ps)
-    (packets_ending packets (delivered - 8 * places) are (omega (arith, le, lt)))
+    (packets_whole packets (Finished ∷ []) (delivered - 8 * places) are refl
+    ∙ (ap (λ (is : List Item). take ((delivered - 8 * places) / 520) packets ++ is)
+    (none_ended (delivered - 8 * places - 520 * length packets) (omega (arith, le, lt)))
+    ∙ append-nil (take ((delivered - 8 * places) / 520) packets)))
 
 pub counted_ended : (places delivered : ℕ) (packets : List Item) → ArePackets packets
     → 8 * places + 520 * length packets + 3 ≤ delivered
@@ -93,4 +87,8 @@ pub counted_ended : (places delivered : ℕ) (packets : List Item) → ArePacket
 counted_ended places delivered packets are le =
     after_replies places delivered (packets ++ Finished ∷ []) (omega (arith, le))
     ∙ ap (λ ps. replicate (2 * places) Accepted ++ ps)
-    (packets_ended packets (delivered - 8 * places) are (omega (arith, le)))
+    (packets_whole packets (Finished ∷ []) (delivered - 8 * places) are refl
+    ∙ (ap (λ (is : List Item). take ((delivered - 8 * places) / 520) packets ++ is)
+    (one_ended (delivered - 8 * places - 520 * length packets) (omega (arith, le)))
+    ∙ ap (λ (is : List Item). is ++ Finished ∷ [])
+    (take_all ((delivered - 8 * places) / 520) packets (omega (arith, le)))))

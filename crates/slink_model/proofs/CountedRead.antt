@@ -1,8 +1,7 @@
 -- The counts of a link after bytes that come to its client.
 use Rattle.std.proofs.Common.{◌≡◌, ℕ, ◌+◌, inl, inr, refl, sym, ap, subst, ◌∙◌, arith, List, [], ◌∷◌, ◌++◌, append-nil}
 use Rattle.std.proofs.Common.{append_assoc, length, length-append, take, drop, take-append-drop, Option, Some}
-use Rattle.std.proofs.Common.{slice_get, map, ◌≤◌}
-use Rattle.slink_feed.specs.declared.session.Phase.TheVariants.{Closed}
+use Rattle.std.proofs.Common.{slice_get, map}
 use Rattle.std.proofs.Math.Seq.{take-add}
 use Rattle.std.proofs.lemmas.List.{drop-drop, drop_at, length-take-le, take_at}
 use Rattle.slink_wire.specs.Lines.{IsHeld}
@@ -17,16 +16,15 @@ use Rattle.slink_feed.specs.Cutting.{IsBegun}
 use Rattle.slink_feed.specs.Dialogue.{Talk}
 use Rattle.slink_feed.specs.Listening.{Brought, IsLinked, bytes_of, events_of, talk_after}
 use Rattle.slink_feed.specs.Serving.{SessionState}
-use Rattle.slink_feed.specs.Session.{State}
+use Rattle.slink_model.specs.Spared.{IsSpared}
 use Rattle.slink_model.specs.Ties.{Item, Places, way_bytes}
 use Rattle.slink_model.specs.World.{Differ, IsRead, LinkState, Numbers, Taking, WorldState, taking}
-use Rattle.slink_feed.proofs.Closing.{Open}
 use Rattle.slink_model.proofs.Counted.{Left, Outcome, read_outcome}
-use Rattle.slink_model.proofs.Counting.{brought_of, drop_after, drop_on, kept_part, left_after, take_wholes}
+use Rattle.slink_model.proofs.Counting.{after_cut, brought_of, drop_after, drop_on, kept_part, take_wholes}
 use Rattle.slink_model.proofs.Counts.{Counts, Pinned, pinned_as}
 use Rattle.slink_model.proofs.Lined.{IsAnswered}
 use Rattle.slink_feed.proofs.OneReading.{one_brought}
-use Rattle.slink_model.proofs.OneWorld.{gained, read_all, linked_or, lost_all, rest_is}
+use Rattle.slink_model.proofs.ReadAll.{gained, read_all, linked_or, lost_all, rest_is}
 use Rattle.slink_model.proofs.Shaking.{AreCalled}
 
 -- with bytes before what was stated
@@ -63,8 +61,8 @@ unlinked_upon t (i ∷ is) over =
 module _ (places : Places) (differ : Differ places) (codes : (k : ℕ) (p : Fields × Option ℕ)
     → slice_get places k ≡ Some p → IsField 5 p.0.station × IsField 2 p.0.network) (w v : WorldState) (n : ℕ)
     (l m : LinkState) (c : CountedLink)
-    (tie : Counts places w.client c l) (h : IsRead n w v l m) (keeps : IsBegun w.client.talk.stage w.client.kept)
-    (called : AreCalled places w.client.talk.wants) where
+    (tie : Counts places w.client c l) (h : IsRead n w v l m) (begun_before : IsBegun w.client.talk.stage w.client.kept)
+    (called_before : AreCalled places w.client.talk.wants) (spared_before : IsSpared w.client.talk.stage) where
   abbrev its : List Item
   its = undelivered c.delivered c.sent
 
@@ -89,6 +87,9 @@ module _ (places : Places) (differ : Differ places) (codes : (k : ℕ) (p : Fiel
     pub held : v.held ≡ gains.held
     pub start : v.start ≡ gains.start
     pub counts : Counts places v.client now_counted m
+    pub keeps : IsBegun v.client.talk.stage v.client.kept
+    pub called : AreCalled places v.client.talk.wants
+    pub spared : IsSpared v.client.talk.stage
 
   state_is : m.session.state ≡ l.session.state
   state_is = ap (λ (s : SessionState). s.state) h.session
@@ -109,9 +110,10 @@ module _ (places : Places) (differ : Differ places) (codes : (k : ℕ) (p : Fiel
       → gained (taking v m) ≡ with_events l.first_sent (events_upon w.client.talk (news n c)) (gained (taking w l))
       → (IsLinked v.client.talk.stage
       → Pinned places v.client l.session.state before m.to_server m.to_client (undelivered e its))
-      → (¬ (IsLinked v.client.talk.stage) → Open l.session.state.phase → IsAnswered before m.to_server)
-      → (l.session.state.phase ≡ Closed → length m.to_server ≤ 1) → ReadCounts
-  made talk g pinned quiet few =
+      → (¬ (IsLinked v.client.talk.stage) → IsAnswered before m.to_server)
+      → IsBegun v.client.talk.stage v.client.kept → AreCalled places v.client.talk.wants
+      → IsSpared v.client.talk.stage → ReadCounts
+  made talk g pinned quiet keeps_now called_now spared_now =
       let is : gains ≡ put before (gained (taking v m)) = gains_is g in
       let written : gains.to_server ≡ before ++ m.to_server = ap (λ (x : Gained). x.to_server) is in
       let long : length before ≡ c.taken = length-take-le c.taken c.written tie.taken_few in
@@ -128,16 +130,17 @@ module _ (places : Places) (differ : Differ places) (codes : (k : ℕ) (p : Fiel
           to_client = h.left ∙ (ap (drop n) tie.to_client ∙ sym (drop_on (way_bytes c.sent) c.delivered n));
           taken_few = omega (arith, ap length written, length-append before m.to_server, long);
           delivered_few = omega arith;
-          held = λ awake. subst (λ (s : SessionState). IsHeld s.held (take c.taken gains.to_server)) (sym h.session)
-              (subst (IsHeld l.session.held) (sym prefix)
-              (tie.held (subst (λ (s : State). Open s.phase) state_is awake)));
+          held = subst (λ (s : SessionState). IsHeld s.held (take c.taken gains.to_server)) (sym h.session)
+              (subst (IsHeld l.session.held) (sym prefix) tie.held);
           linked = λ there. rw (← state_is) at
               (pinned_as places v.client l.session.state before (take c.taken gains.to_server) m.to_server m.to_server
               m.to_client m.to_client (undelivered e its) (undelivered (delivered_by n c) c.sent) (sym prefix) refl refl
-              (sym (left_after c.sent c.delivered n tie.delivered_few)) (pinned there));
-          quiet = λ over awake. rw prefix (quiet over (subst (λ (s : State). Open s.phase) state_is awake));
-          over = λ shut. few (ap (λ (s : State). s.phase) (sym state_is) ∙ shut);
+              (sym (after_cut c.sent c.delivered n).1) (pinned there));
+          quiet = λ over. rw prefix (quiet over);
         };
+        keeps = keeps_now;
+        called = called_now;
+        spared = spared_now;
       }
 
   -- while more is taken
@@ -149,19 +152,23 @@ module _ (places : Places) (differ : Differ places) (codes : (k : ℕ) (p : Fiel
       let rest : List ℕ = take (part e its) (way_bytes (undelivered e its)) in
       let out : Outcome places differ codes l.session.state before l.to_server w.client.talk (wholes e its)
       (undelivered e its) (part e its)
-      = read_outcome places differ codes l.session.state before l.to_server w.client.talk its e called pin.flows.matched
-      pin.flows.suited pin.ends pin.shakes in
-      let x = read_all l.first_sent (taking w l) (take n l.to_client) (taking v m) h.reads keeps in
+      = read_outcome places differ codes l.session.state before l.to_server w.client.talk called_before its e
+      pin.flows.matched pin.flows.suited pin.ends pin.shakes in
+      let x = read_all l.first_sent (taking w l) (take n l.to_client) (taking v m) h.reads begun_before in
       let way : l.to_client ≡ drop p all = tie.to_client ∙ drop_after c.sent c.delivered in
       let kept = kept_part w.client.kept c.sent c.delivered
       (ap (λ b. w.client.kept ++ b) (sym tie.to_client) ∙ pin.flows.flow) in
       let stream : w.client.kept ++ take n l.to_client ≡ bytes_of bs ++ rest = ap (λ b. b ++ take n l.to_client) kept
       ∙ (ap (λ b. take p all ++ take n b) way ∙ (sym (take-add p n all) ∙ take_wholes its e)) in
-      let one = one_brought w.client.talk x.brought bs (v.client.kept ++ x.lost) rest x.are_brought out.are
-      (sym x.bytes_are ∙ stream) (rest_is l.first_sent (taking w l) (take n l.to_client) (taking v m) x) out.is_begun in
-      let talk : v.client.talk ≡ talk_after w.client.talk bs = x.talk ∙ ap (talk_after w.client.talk) one.0 in
+      let all_is : w.client.kept ++ take n l.to_client ≡ bytes_of x.reads.brought ++ (v.client.kept ++ x.lost) =
+      x.all_is ∙ (ap (λ b. b ++ x.lost) x.reads.bytes ∙ append_assoc (bytes_of x.reads.brought) v.client.kept x.lost) in
+      let one = one_brought w.client.talk x.reads.brought bs (v.client.kept ++ x.lost) rest x.reads.are_brought out.are
+      (sym all_is ∙ stream) (rest_is l.first_sent w.client.talk (gained (taking w l))
+      (w.client.kept ++ take n l.to_client) (taking v m) x) out.is_begun in
+      let talk : v.client.talk ≡ talk_after w.client.talk bs = x.reads.talk ∙ ap (talk_after w.client.talk) one.0 in
       let g : gained (taking v m) ≡ with_events l.first_sent (events_of w.client.talk bs) (gained (taking w l)) =
-      x.gains ∙ ap (λ ys. with_events l.first_sent (events_of w.client.talk ys) (gained (taking w l))) one.0 in
+      x.gains ∙ ap (λ es. with_events l.first_sent es (gained (taking w l)))
+      (x.reads.events_are ∙ ap (events_of w.client.talk) one.0) in
       let server : (with_events l.first_sent (events_of w.client.talk bs) (gained (taking w l))).to_server
       ≡ m.to_server = sym (ap (λ (y : Gained). y.to_server) g) in
       made (talk ∙ out.same.0) (g ∙ out.same.1 l.first_sent (gained (taking w l)))
@@ -171,7 +178,7 @@ module _ (places : Places) (differ : Differ places) (codes : (k : ℕ) (p : Fiel
       (subst (λ b. Left places differ codes l.session.state before (talk_after w.client.talk bs) b (undelivered e its))
       server (out.after l.first_sent (gained (taking w l)) refl (subst (λ (t : Talk). IsLinked t.stage) talk on))) in
       let outputs_now : v.client.kept ≡ rest = sym (append-nil v.client.kept)
-      ∙ (ap (λ b. v.client.kept ++ b) (sym (x.all on)) ∙ one.1) in
+      ∙ (ap (λ b. v.client.kept ++ b) (sym (x.whole on)) ∙ one.1) in
       let way_now : m.to_client ≡ drop (part e its) (way_bytes (undelivered e its)) =
       h.left ∙ (ap (drop n) way ∙ (drop-drop n p all ∙ drop_after its e)) in
       record {
@@ -184,10 +191,11 @@ module _ (places : Places) (differ : Differ places) (codes : (k : ℕ) (p : Fiel
         shakes = left.shakes;
         ends = left.ends;
       })
-      (λ over awake. subst (IsAnswered before) server
+      (λ over. subst (IsAnswered before) server
       (out.quiet l.first_sent (gained (taking w l)) refl
-      (λ on. over (subst (λ (t : Talk). IsLinked t.stage) (sym talk) on)) awake))
-      (λ shut. rw (sym (out.unwritten shut l.first_sent (gained (taking w l))) ∙ server) at (tie.over shut))
+      (λ on. over (subst (λ (t : Talk). IsLinked t.stage) (sym talk) on))))
+      x.reads.is_begun (subst (λ (t : Talk). AreCalled places t.wants) (sym talk) out.called)
+      (subst (λ (t : Talk). IsSpared t.stage) (sym talk) out.spared)
 
   -- and afterwards
   unlinked_read : ¬ (IsLinked w.client.talk.stage) → ReadCounts
@@ -198,8 +206,10 @@ module _ (places : Places) (differ : Differ places) (codes : (k : ℕ) (p : Fiel
       let server : m.to_server ≡ l.to_server = ap (λ (t : Taking). t.to_server) same in
       made (talk ∙ sym nothing.0) (ap gained same ∙ sym (nothing.1 l.first_sent (gained (taking w l))))
       (λ on. absurd (over (subst (λ (t : Talk). IsLinked t.stage) talk on)))
-      (λ _ awake. subst (IsAnswered before) (sym server) (tie.quiet over awake))
-      (λ shut. subst (λ b. length b ≤ 1) (sym server) (tie.over shut))
+      (λ _. subst (IsAnswered before) (sym server) (tie.quiet over))
+      (subst (λ (x : Taking). IsBegun x.client.talk.stage x.client.kept) (sym same) begun_before)
+      (subst (λ (t : Talk). AreCalled places t.wants) (sym talk) called_before)
+      (subst (λ (t : Talk). IsSpared t.stage) (sym talk) spared_before)
 
   pub read_counts : ReadCounts
   read_counts = elim (linked_or w.client.talk.stage) [

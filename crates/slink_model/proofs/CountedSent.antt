@@ -1,34 +1,94 @@
 -- The counts of a link once a packet of it was requested.
-use Rattle.std.proofs.Common.{◌≡◌, ℕ, ◌+◌, ◌%◌, ◌^◌, ◌<◌, ◌==◌, inl, inr, refl, sym, ap, subst, ◌∙◌, arith, Bool, true}
-use Rattle.std.proofs.Common.{false, if◌then◌else◌, List, [], ◌∷◌, ◌++◌, append-nil, length, length-append, set, take}
-use Rattle.std.proofs.Common.{drop, Option, Some, None, slice_get, unwrap_or, ◌≤◌}
+use Rattle.slink_model.proofs.Stations.{each_sent}
+use Rattle.slink_model.proofs.Sends.{by_sent}
+use Rattle.std.proofs.Common.{◌≡◌, ℕ, ◌+◌, ◌-◌, ◌%◌, ◌^◌, inl, inr, refl, sym, ap, subst, ◌∙◌, arith, Bool, true}
+use Rattle.std.proofs.Common.{false, if◌then◌else◌, List, [], ◌∷◌, ◌++◌, append-nil, length, length-append, take}
+use Rattle.std.proofs.Common.{drop, Option, Some, None, slice_get, unwrap_or}
 use Rattle.std.proofs.lemmas.List.{drop-append-le}
 use Rattle.slink_wire.specs.Packet.{packet_bytes}
 use Rattle.slink_wire.specs.Place.{Bears, Fields}
 use Rattle.slink_feed.specs.declared.grant.Grant.{Grant}
 use Rattle.slink_feed.specs.declared.session.Phase.{Phase}
-use Rattle.slink_feed.specs.declared.session.Phase.TheVariants.{Streaming, Closed}
+use Rattle.slink_feed.specs.declared.session.Phase.TheVariants.{Fresh, Chosen, Granted, Streaming, Closed}
 use Rattle.slink_feed.specs.declared.session.Sent.{Sent}
 use Rattle.slink_feed.specs.declared.session.Sent.TheVariants as sents
 use Rattle.slink_model.specs.Counted.{CountedLink, undelivered, carried_at, items_sent, sent_by}
-use Rattle.slink_feed.specs.Dialogue.{next_at}
+use Rattle.slink_feed.specs.declared.dialogue.Stage.TheVariants.{Packets}
+use Rattle.slink_feed.specs.Dialogue.{Talk, next_at}
 use Rattle.slink_feed.specs.Listening.{Listening}
-use Rattle.slink_feed.specs.Session.{IsBefore, State, has_sent_all, at, at_next, grant_at, packet_at, sent, sent_bytes}
-use Rattle.slink_feed.specs.Session.{sent_in, sent_of}
-use Rattle.slink_model.specs.Ties.{Item, Carried, Finished, Places, of_place, way_bytes}
-use Rattle.slink_feed.specs.Window.{Window, record_at}
+use Rattle.slink_feed.specs.Session.{IsBefore, State, at, grant_at, packet_at, sent, sent_bytes}
+use Rattle.slink_model.specs.Ties.{AreSound, Item, Carried, Finished, Places, of_place, way_bytes}
+use Rattle.slink_feed.specs.Window.{Window, oldest_of, record_at}
 use Rattle.slink_model.specs.World.{LinkState, Numbers, first_after, sent_on}
-use Rattle.slink_feed.proofs.Closing.{Open}
-use Rattle.slink_model.proofs.Counting.{after_more}
+use Rattle.slink_model.proofs.Counting.{more_cut}
 use Rattle.slink_model.proofs.Counts.{Counts, EndsIn, Pinned, pinned_as}
-use Rattle.slink_model.proofs.Items.{carried_here, carried_there, carries_none, flow_more, of_more, way_more}
-use Rattle.slink_feed.proofs.Items.{put_here, put_there, same_or_not}
-use Rattle.slink_model.proofs.OneWorld.{linked_or}
+use Rattle.slink_model.proofs.Items.{carries_none, flow_more, way_more}
+use Rattle.slink_feed.proofs.Items.{one_value}
 use Rattle.slink_model.proofs.Requested.{also_at}
-use Rattle.slink_model.proofs.Shaking.{AreOfPlace, AreRinged, AreSent, IsSuited, streams}
-use Rattle.slink_model.proofs.Linked.{slot_within}
-use Rattle.slink_model.proofs.Sparing.{matched_more, sent_more, streaming_is, suited_more, window_sound}
-use Rattle.slink_model.proofs.Waiting.{answered_few}
+use Rattle.slink_model.proofs.Lined.{IsAnswered}
+use Rattle.slink_model.proofs.Shaking.{AreFrom, AreOfPlace, AreRinged, AreSent, IsSuited, Shakes, asks_end, asks_number}
+use Rattle.slink_model.proofs.Shaking.{asks_place, has_none, has_number, has_place, streams}
+
+matched_more : (places : Places) (xs ys : List Item) → AreOfPlace places xs → AreOfPlace places ys
+    → AreOfPlace places (xs ++ ys)
+matched_more places [] ys p q = q
+matched_more places (x ∷ xs) ys p q = (p.0, matched_more places xs ys p.1 q)
+
+sent_more : (xs ys : List Item) → AreSent xs → AreSent ys → AreSent (xs ++ ys)
+sent_more [] ys p q = q
+sent_more (x ∷ xs) ys p q = (p.0, sent_more xs ys p.1 q)
+
+from_more : (n p : ℕ) (rest : List (ℕ × List ℕ)) (r : List ℕ) → p ≡ n + length rest → AreFrom n rest
+    → AreFrom n (rest ++ (p, r) ∷ [])
+from_more n p [] r e a = (omega (arith, e), tt)
+from_more n p (i ∷ is) r e a = (a.0, from_more (n + 1) p is r (omega (arith, e)) a.1)
+
+suited_more : (want : Option ℕ) (o : Option Grant) (g h : Grant) (rest : List (ℕ × List ℕ)) (r : List ℕ)
+    → o ≡ Some g → h.position ≡ g.position + 1 → IsSuited want o rest
+    → IsSuited want (Some h) (rest ++ (g.position, r) ∷ [])
+suited_more want None g h rest r is next s = absurd (let bad : None ≡ Some g = is in cc bad)
+suited_more want (Some f) g h rest r is next s =
+    let same : f.position ≡ g.position = ap (λ (x : Grant). x.position) (one_value (Some f) f g refl is) in (
+      s.0,
+      from_more s.0 g.position rest r (omega (arith, same, s.2)) s.1,
+      omega (arith, next, same, s.2, length-append rest ((g.position, r) ∷ [])),
+      s.3,
+    )
+
+before_no : (phase p : Phase) → phase ≡ p → IsBefore p → ¬ (IsBefore phase) → ⊥
+before_no phase p is before later = later (subst IsBefore (sym is) before)
+
+-- packets are sent
+streaming_is : (talk : Talk) (phase : Phase) (taken way : List ℕ) (items : List Item) → ¬ (IsBefore phase)
+    → Shakes talk phase taken way items → (talk.stage ≡ Packets) × AreSent items
+    × IsAnswered taken way
+streaming_is talk phase taken way items later (asks_place k w stage want ready asks none) =
+    absurd (elim ready [
+      | inl fresh ↦ before_no phase Fresh fresh.1 tt later
+      | inr beyond ↦ before_no phase (Granted beyond.0) beyond.2 tt later
+    ])
+streaming_is talk phase taken way items later (has_place k stage is reported one) =
+    absurd (before_no phase (Chosen k) is tt later)
+streaming_is talk phase taken way items later (asks_number k stage is asks none) =
+    absurd (before_no phase (Chosen k) is tt later)
+streaming_is talk phase taken way items later (has_number k stage is reported one) =
+    absurd (before_no phase (Granted k) is tt later)
+streaming_is talk phase taken way items later (has_none k stage is reported one) =
+    absurd (before_no phase (Chosen k) is tt later)
+streaming_is talk phase taken way items later (asks_end k stage is asks none) =
+    absurd (before_no phase (Granted k) is tt later)
+streaming_is talk phase taken way items later (streams stage over sent reported) = (stage, sent, reported)
+
+-- a record of the window is one of the ring's
+window_sound : (w : Window) (n : ℕ) (r : List ℕ) → AreSound w.place w.records → record_at w n ≡ Some r
+    → (length r ≡ 512) × Bears r w.place
+window_sound w n r sound is =
+    sound (n - oldest_of w) r
+    (got (Rattle.std.proofs.Common.nat_lt n (oldest_of w)) (slice_get w.records (n - oldest_of w)) is)
+  where
+    got : (t : Bool) (o : Option (List ℕ)) → (if t then None else o) ≡ Some r → o ≡ Some r
+    got true o h = absurd (let bad : None ≡ Some r = h in cc bad)
+    got false o h = h
 
 -- what is sent goes after what was
 ends_more : (phase : Phase) (is ys : List Item) → EndsIn Streaming is → EndsIn phase ys → EndsIn phase (is ++ ys)
@@ -50,8 +110,6 @@ module _ (places : Places) (client : Listening) (feed : List Window) (ringed : A
   -- what is sent, with what the session comes to
   record Goes (x : State × Sent) (ys : List Item) : Type 0 where
     bytes : sent_bytes x.1 ≡ way_bytes ys
-    awake : Open x.0.phase → Open s.phase
-    few : x.0.phase ≡ Closed → length l.to_server ≤ 1
     pinned : Pinned places client s before l.to_server l.to_client its
         → Pinned places client x.0 before l.to_server (l.to_client ++ sent_bytes x.1) (its ++ ys)
 
@@ -61,31 +119,16 @@ module _ (places : Places) (client : Listening) (feed : List Window) (ringed : A
   nothing_sent : (o : Sent) → sent_bytes o ≡ [] → items_sent feed s.grants k o ≡ [] → GoesOn (s, o)
   nothing_sent o none nothing = record {
     bytes = none ∙ ap way_bytes (sym nothing);
-    awake = λ a. a;
-    few = counts.over;
     pinned = pinned_as places client s before before l.to_server l.to_server l.to_client (l.to_client ++ sent_bytes o)
         its (its ++ items_sent feed s.grants k o) refl refl
         (sym (ap (λ b. l.to_client ++ b) none ∙ append-nil l.to_client))
         (sym (ap (λ ys. its ++ ys) nothing ∙ append-nil its));
   }
 
-  -- all lines are answered once packets are sent
-  settled : s.phase ≡ Streaming → length l.to_server ≤ 1
-  settled phase =
-      let awake : Open s.phase = λ shut. let bad : Streaming ≡ Closed = sym phase ∙ shut in cc bad in
-      elim (linked_or client.talk.stage) [
-        | inl there ↦ answered_few before l.to_server
-            ((streaming_is client.talk s.phase before l.to_server its (λ b. subst IsBefore phase b)
-            (counts.linked there).shakes).2 awake)
-        | inr over ↦ answered_few before l.to_server (counts.quiet over awake)
-      ]
-
   shut : (o : Sent) (ys : List Item) → s.phase ≡ Streaming → sent_bytes o ≡ way_bytes ys → AreOfPlace places ys
       → AreSent ys → ((i : ℕ) → of_place i ys ≡ []) → EndsIn Closed ys → Goes (at Closed s.grants, o) ys
   shut o ys phase bytes matched sent none ends = record {
     bytes = bytes;
-    awake = λ a. absurd (a refl);
-    few = λ _. settled phase;
     pinned = λ pin.
         let now = streaming_is client.talk s.phase before l.to_server its (λ b. subst IsBefore phase b) pin.shakes in
         record {
@@ -95,7 +138,7 @@ module _ (places : Places) (client : Listening) (feed : List Window) (ringed : A
             suited = λ i. subst (IsSuited (next_at client.talk.wants i) (grant_at s.grants i))
                 (sym (carries_none i its ys (none i))) (pin.flows.suited i);
           };
-          shakes = streams now.0 (λ b. b) (sent_more its ys now.1 sent) (λ over. absurd (over refl));
+          shakes = streams now.0 (λ b. b) (sent_more its ys now.1 sent) now.2;
           ends = ends_more Closed its ys (subst (λ p. EndsIn p its) phase pin.ends) ends;
         };
   }
@@ -106,15 +149,12 @@ module _ (places : Places) (client : Listening) (feed : List Window) (ringed : A
   record_goes g w r phase grant here is =
       let h : Grant = record { mode = g.mode; position = g.position + 1 } in
       let item : List Item = Carried k g.position r ∷ [] in
-      let lt : k < length s.grants = slot_within s.grants k g grant in
       let p : (p : Fields × Option ℕ) × (slice_get places k ≡ Some p) × (w.place ≡ p.0) =
       also_at (λ (v : Window). v.place) (λ (q : Fields × Option ℕ). q.0) (slice_get feed k) (slice_get places k) w
       (ringed.alike k) here in
       let sound : (length r ≡ 512) × Bears r w.place = window_sound w g.position r (ringed.sound k w here) is in
       record {
         bytes = sym (append-nil (packet_bytes (g.position % 2 ^ 24) r));
-        awake = λ a. a;
-        few = counts.over;
         pinned = λ pin.
             let now = streaming_is client.talk s.phase before l.to_server its (λ b. subst IsBefore phase b) pin.shakes
             in
@@ -126,22 +166,9 @@ module _ (places : Places) (client : Listening) (feed : List Window) (ringed : A
                   (p.0, p.1, sound.0, subst (Bears r) p.2 sound.1),
                   tt,
                 );
-                suited = λ i. elim (same_or_not i k) [
-                  | inl e ↦ subst (λ y. IsSuited (next_at client.talk.wants y) (grant_at (set s.grants k (Some h)) y)
-                      (of_place y (its ++ item))) (sym e)
-                      (subst (λ (o : Option Grant). IsSuited (next_at client.talk.wants k) o
-                      (of_place k (its ++ item))) (sym (put_here s.grants k (Some h) None lt))
-                      (subst (IsSuited (next_at client.talk.wants k) (Some h))
-                      (sym (of_more k its item
-                      ∙ ap (λ b. of_place k its ++ (b ++ [])) (carried_here k g.position r)))
-                      (suited_more (next_at client.talk.wants k) (grant_at s.grants k) g h (of_place k its) r grant
-                      refl (pin.flows.suited k))))
-                  | inr ne ↦ subst (λ (o : Option Grant). IsSuited (next_at client.talk.wants i) o
-                      (of_place i (its ++ item))) (sym (put_there s.grants k i (Some h) None ne))
-                      (subst (IsSuited (next_at client.talk.wants i) (grant_at s.grants i))
-                      (sym (carries_none i its item
-                      (ap (λ b. b ++ []) (carried_there k i g.position r (λ e. ne (sym e)))))) (pin.flows.suited i))
-                ];
+                suited = each_sent s k g r its (λ i o is. IsSuited (next_at client.talk.wants i) o is) grant
+                    (suited_more (next_at client.talk.wants k) (grant_at s.grants k) g h (of_place k its) r grant refl
+                    (pin.flows.suited k)) (λ i ne. pin.flows.suited i);
               };
               shakes = streams now.0 (λ b. subst IsBefore phase b) (sent_more its item now.1 (tt, tt)) now.2;
               ends = ends_more s.phase its item (subst (λ p. EndsIn p its) phase pin.ends) tt;
@@ -155,34 +182,6 @@ module _ (places : Places) (client : Listening) (feed : List Window) (ringed : A
   item_is g w r grant here is = ap (λ (o : Option Grant). carried_at k o (slice_get feed k)) grant
       ∙ (ap (λ (o : Option Window). carried_at k (Some g) o) here
       ∙ ap (λ (o : Option (List ℕ)). Carried k g.position (unwrap_or o []) ∷ []) is)
-
-  at_ring : (g : Grant) (w : Window) (o : Option (List ℕ)) → s.phase ≡ Streaming → grant_at s.grants k ≡ Some g
-      → slice_get feed k ≡ Some w → record_at w g.position ≡ o → GoesOn (packet_at s k g o)
-  at_ring g w None phase grant here is = shut sents.Overrun [] phase refl tt tt (λ i. refl) tt
-  at_ring g w (Some r) phase grant here is =
-      subst (Goes (packet_at s k g (Some r))) (sym (item_is g w r grant here is))
-      (record_goes g w r phase grant here is)
-
-  at_end : (t : Bool) → s.phase ≡ Streaming → GoesOn (at_next t s)
-  at_end true phase = shut sents.Done (Finished ∷ []) phase refl (tt, tt) (tt, tt) (λ i. refl) (refl, refl)
-  at_end false phase = nothing_sent sents.Wait refl refl
-
-  choice : (t : Bool) (x y : State × Sent) → GoesOn x → GoesOn y → GoesOn (if t then x else y)
-  choice true x y p q = p
-  choice false x y p q = q
-
-  in_stream : (o : Option Grant) (ring : Option Window) → s.phase ≡ Streaming → grant_at s.grants k ≡ o
-      → slice_get feed k ≡ ring → GoesOn (sent_of feed s k o ring)
-  in_stream None ring phase grant here = nothing_sent sents.Wait refl refl
-  in_stream (Some g) None phase grant here = nothing_sent sents.Wait refl refl
-  in_stream (Some g) (Some w) phase grant here =
-      choice (g.position == w.next) (at_next (has_sent_all feed s.grants) s) (packet_at s k g (record_at w g.position))
-      (at_end (has_sent_all feed s.grants) phase) (at_ring g w (record_at w g.position) phase grant here refl)
-
-  in_phase : (phase : Phase) → s.phase ≡ phase → GoesOn (sent_in phase feed s k)
-  in_phase Streaming is = in_stream (grant_at s.grants k) (slice_get feed k) is refl refl
-  in_phase Closed is = nothing_sent sents.Closed refl refl
-  in_phase phase is = nothing_sent sents.Wait refl refl
 
   abbrev x : State × Sent
   x = sent feed s k
@@ -199,7 +198,11 @@ module _ (places : Places) (client : Listening) (feed : List Window) (ringed : A
 
   pub sent_counts : Counts places client (sent_by feed k c) (sent_on feed k l)
   sent_counts =
-      let go : Goes x ys = in_phase s.phase refl in
+      let go : Goes x ys = by_sent feed s k GoesOn (nothing_sent sents.Wait refl refl)
+      (nothing_sent sents.Closed refl refl) (λ phase. shut sents.Overrun [] phase refl tt tt (λ i. refl) tt)
+      (λ phase. shut sents.Done (Finished ∷ []) phase refl (tt, tt) (tt, tt) (λ i. refl) (refl, refl))
+      (λ g w r phase grant here is. subst (Goes (packet_at s k g (Some r))) (sym (item_is g w r grant here is))
+      (record_goes g w r phase grant here is)) in
       subst (λ (st : State). Counts places client (by_state st) (sent_on feed k l)) counts.session (record {
         session = refl;
         first_sent = ap (λ (f : Numbers). first_after f s.grants k x.1) counts.first_sent;
@@ -215,12 +218,11 @@ module _ (places : Places) (client : Listening) (feed : List Window) (ringed : A
           ap length (way_more c.sent ys),
           length-append (way_bytes c.sent) (way_bytes ys),
         );
-        held = λ a. counts.held (go.awake a);
+        held = counts.held;
         linked = λ there. pinned_as places client x.0 before before l.to_server l.to_server
             (l.to_client ++ sent_bytes x.1) (l.to_client ++ sent_bytes x.1) (its ++ ys)
             (undelivered c.delivered (c.sent ++ ys))
-            refl refl refl (sym (after_more c.sent ys c.delivered counts.delivered_few))
+            refl refl refl (sym (more_cut c.sent ys c.delivered counts.delivered_few).1)
             (go.pinned (counts.linked there));
-        quiet = λ over a. counts.quiet over (go.awake a);
-        over = go.few;
+        quiet = counts.quiet;
       })

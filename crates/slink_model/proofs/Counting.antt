@@ -30,10 +30,7 @@ drop_on xs a n = drop_min (a + n) xs ∙ sym (drop-drop n a xs)
 
 pub item_some : (i : Item) → 0 < length (item_bytes i)
 item_some Accepted = omega arith
-item_some Refused = omega arith
-item_some Greeted = omega arith
-item_some (Carried k n r) = omega arith
-item_some Finished = omega arith
+item_some i = omega arith
 
 -- by whether an item is whole
 pub whole_or : (i : Item) (is : List Item) (d : ℕ) (P : List Item → List Item → ℕ → Type 0)
@@ -80,56 +77,75 @@ take_wholes (i ∷ is) d =
     (take (part (d - length (item_bytes i)) is) (way_bytes (undelivered (d - length (item_bytes i)) is))))))
     (λ lt. refl)
 
--- what goes after stays after
-pub after_more : (xs ys : List Item) (d : ℕ) → d ≤ length (way_bytes xs)
-    → undelivered d (xs ++ ys) ≡ undelivered d xs ++ ys
-after_more [] [] d le = refl
-after_more [] (y ∷ ys) d le =
-    whole_or y ys d (λ ws bs p. bs ≡ y ∷ ys) (λ fits. absurd (omega (arith, le, fits, item_some y))) (λ lt. refl)
-after_more (x ∷ xs) ys d le = elim (leb_tells (length (item_bytes x)) d) [
-  | inl fits ↦ ap (λ t. if t then undelivered (d - length (item_bytes x)) (xs ++ ys) else x ∷ (xs ++ ys)) fits.0
-      ∙ (after_more xs ys (d - length (item_bytes x))
-      (omega (arith, le, fits.1, length-append (item_bytes x) (way_bytes xs)))
-      ∙ ap (λ t. (if t then undelivered (d - length (item_bytes x)) xs else x ∷ xs) ++ ys) (sym fits.0))
-  | inr short ↦ ap (λ t. if t then undelivered (d - length (item_bytes x)) (xs ++ ys) else x ∷ (xs ++ ys)) short.0
-      ∙ ap (λ t. (if t then undelivered (d - length (item_bytes x)) xs else x ∷ xs) ++ ys) (sym short.0)
-]
+-- the items that are whole, and the others
+pub wholes_beyond : (is : List Item) (d : ℕ) → is ≡ wholes d is ++ undelivered d is
+wholes_beyond [] d = refl
+wholes_beyond (i ∷ is) d =
+    whole_or i is d (λ ws bs p. i ∷ is ≡ ws ++ bs)
+    (λ fits. ap (λ xs. i ∷ xs) (wholes_beyond is (d - length (item_bytes i)))) (λ lt. refl)
 
-pub after_all : (is : List Item) (d : ℕ) → length (way_bytes is) ≤ d → undelivered d is ≡ []
-after_all [] d le = refl
-after_all (i ∷ is) d le =
-    whole_or i is d (λ ws bs p. bs ≡ [])
-    (λ fits. after_all is (d - length (item_bytes i))
-    (omega (arith, le, fits, length-append (item_bytes i) (way_bytes is))))
+-- What goes after stays after, and isn't whole yet.
+pub more_cut : (xs ys : List Item) (d : ℕ) → d ≤ length (way_bytes xs)
+    → (wholes d (xs ++ ys) ≡ wholes d xs) × (undelivered d (xs ++ ys) ≡ undelivered d xs ++ ys)
+more_cut [] [] d le = (refl, refl)
+more_cut [] (y ∷ ys) d le =
+    whole_or y ys d (λ ws bs p. (ws ≡ []) × (bs ≡ y ∷ ys)) (λ fits. absurd (omega (arith, le, fits, item_some y)))
+    (λ lt. (refl, refl))
+more_cut (x ∷ xs) ys d le =
+    let size : ℕ = length (item_bytes x) in
+    whole_or x xs d (λ ws bs p. (wholes d (x ∷ (xs ++ ys)) ≡ ws) × (undelivered d (x ∷ (xs ++ ys)) ≡ bs ++ ys))
+    (λ fits. whole_or x (xs ++ ys) d
+    (λ vs cs q. (vs ≡ x ∷ wholes (d - size) xs) × (cs ≡ undelivered (d - size) xs ++ ys))
+    (λ _. let more = more_cut xs ys (d - size) (omega (arith, le, fits, length-append (item_bytes x) (way_bytes xs))) in
+    (ap (λ ws. x ∷ ws) more.0, more.1)) (λ lt. absurd (omega (arith, fits, lt))))
+    (λ lt. whole_or x (xs ++ ys) d (λ vs cs q. (vs ≡ []) × (cs ≡ x ∷ (xs ++ ys)))
+    (λ fits. absurd (omega (arith, fits, lt))) (λ _. (refl, refl)))
+
+all_cut : (is : List Item) (d : ℕ) → length (way_bytes is) ≤ d → (wholes d is ≡ is) × (undelivered d is ≡ [])
+all_cut [] d le = (refl, refl)
+all_cut (i ∷ is) d le =
+    whole_or i is d (λ ws bs p. (ws ≡ i ∷ is) × (bs ≡ []))
+    (λ fits. let more = all_cut is (d - length (item_bytes i))
+    (omega (arith, le, fits, length-append (item_bytes i) (way_bytes is))) in (ap (λ ws. i ∷ ws) more.0, more.1))
     (λ lt. absurd (omega (arith, le, lt, length-append (item_bytes i) (way_bytes is))))
 
--- what is left of what was left
-pub after_on : (is : List Item) (d n : ℕ) → undelivered (d + n) is ≡ undelivered (part d is + n) (undelivered d is)
-after_on [] d n = refl
-after_on (i ∷ is) d n = elim (leb_tells (length (item_bytes i)) d) [
-  | inl fits ↦ elim (leb_tells (length (item_bytes i)) (d + n)) [
-    | inl more ↦ ap (λ t. if t then undelivered (d + n - length (item_bytes i)) is else i ∷ is) more.0
-        ∙ (ap (λ m. undelivered m is) (let e : d + n - length (item_bytes i) ≡ (d - length (item_bytes i)) + n = omega
-        (arith, fits.1) in e)
-        ∙ (after_on is (d - length (item_bytes i)) n
-        ∙ ap (λ t. undelivered ((if t then part (d - length (item_bytes i)) is else d) + n)
-        (if t then undelivered (d - length (item_bytes i)) is else i ∷ is)) (sym fits.0)))
-    | inr less ↦ absurd (omega (arith, fits.1, less.1))
-  ]
-  | inr short ↦ ap (λ t. undelivered ((if t then part (d - length (item_bytes i)) is else d) + n)
-      (if t then undelivered (d - length (item_bytes i)) is else i ∷ is)) (sym short.0)
+-- what is whole where more bytes come, and what is left
+on_cut : (is : List Item) (d n : ℕ)
+    → (wholes (d + n) is ≡ wholes d is ++ wholes (part d is + n) (undelivered d is))
+    × (undelivered (d + n) is ≡ undelivered (part d is + n) (undelivered d is))
+on_cut [] d n = (refl, refl)
+on_cut (i ∷ is) d n =
+    let rest : ℕ = d - length (item_bytes i) in
+    whole_or i is d (λ ws bs p. (wholes (d + n) (i ∷ is) ≡ ws ++ wholes (p + n) bs)
+    × (undelivered (d + n) (i ∷ is) ≡ undelivered (p + n) bs))
+    (λ fits. whole_or i is (d + n)
+    (λ vs cs q. (vs ≡ i ∷ (wholes rest is ++ wholes (part rest is + n) (undelivered rest is)))
+    × (cs ≡ undelivered (part rest is + n) (undelivered rest is)))
+    (λ _. let more = on_cut is rest n in
+    let e : d + n - length (item_bytes i) ≡ rest + n = omega (arith, fits) in
+    (ap (λ m. i ∷ wholes m is) e ∙ ap (λ ws. i ∷ ws) more.0, ap (λ m. undelivered m is) e ∙ more.1))
+    (λ lt. absurd (omega (arith, fits, lt)))) (λ lt. (refl, refl))
+
+pub after_cut : (is : List Item) (d n : ℕ)
+    → (wholes (min (d + n) (length (way_bytes is))) is ≡ wholes d is ++ wholes (part d is + n) (undelivered d is))
+    × (undelivered (min (d + n) (length (way_bytes is))) is ≡ undelivered (part d is + n) (undelivered d is))
+after_cut is d n = elim (leb_tells (d + n) (length (way_bytes is))) [
+  | inl few ↦ let e : min (d + n) (length (way_bytes is)) ≡ d + n = omega (arith, few.1) in
+      (ap (λ m. wholes m is) e ∙ (on_cut is d n).0, ap (λ m. undelivered m is) e ∙ (on_cut is d n).1)
+  | inr many ↦ let some = all_cut is (min (d + n) (length (way_bytes is))) (omega (arith, many.1)) in
+      let all = all_cut is (d + n) (omega (arith, many.1)) in
+      (some.0 ∙ (sym all.0 ∙ (on_cut is d n).0), some.1 ∙ (sym all.1 ∙ (on_cut is d n).1))
 ]
 
--- and where there are no more bytes
-pub left_after : (is : List Item) (d n : ℕ) → d ≤ length (way_bytes is)
-    → undelivered (min (d + n) (length (way_bytes is))) is ≡ undelivered (part d is + n) (undelivered d is)
-left_after is d n le = elim (leb_tells (d + n) (length (way_bytes is))) [
-  | inl few ↦ ap (λ m. undelivered m is)
-      (let e : min (d + n) (length (way_bytes is)) ≡ d + n = omega (arith, few.1) in e)
-      ∙ after_on is d n
-  | inr many ↦ after_all is (min (d + n) (length (way_bytes is))) (omega (arith, many.1))
-      ∙ (sym (after_all is (d + n) (omega (arith, many.1))) ∙ after_on is d n)
-]
+pub wholes_length : (is : List Item) (d : ℕ) → d ≤ length (way_bytes is)
+    → length (way_bytes (wholes d is)) + part d is ≡ d
+wholes_length [] d le = omega (arith, le)
+wholes_length (i ∷ is) d le =
+    whole_or i is d (λ ws bs p. length (way_bytes ws) + p ≡ d)
+    (λ fits. let rest = wholes_length is (d - length (item_bytes i))
+    (omega (arith, le, fits, length-append (item_bytes i) (way_bytes is))) in
+    omega (arith, rest, fits, length-append (item_bytes i) (way_bytes (wholes (d - length (item_bytes i)) is))))
+    (λ lt. omega arith)
 
 -- what is kept of a stream that goes on with what isn't delivered
 pub kept_part : (kept : List ℕ) (is : List Item) (d : ℕ) → kept ++ drop d (way_bytes is) ≡ way_bytes (undelivered d is)

@@ -19,27 +19,26 @@ use Rattle.slink_feed.specs.declared.dialogue.Stage.TheVariants.{Station, Number
 use Rattle.slink_feed.specs.declared.grant.Grant.{Grant}
 use Rattle.slink_feed.specs.declared.grant.Mode.{Mode}
 use Rattle.slink_feed.specs.declared.session.Phase.{Phase}
-use Rattle.slink_feed.specs.declared.session.Phase.TheVariants.{Chosen, Granted, Streaming, Closed}
+use Rattle.slink_feed.specs.declared.session.Phase.TheVariants.{Fresh, Chosen, Granted, Streaming, Closed}
 use Rattle.slink_model.specs.Counted.{CountedLink, answer_at, undelivered, if_come, replied as counted_reply, served_by}
 use Rattle.slink_model.specs.Counted.{taken_by, waits}
 use Rattle.slink_feed.specs.Dialogue.{next_at, numbered}
 use Rattle.slink_feed.specs.Grant.{grant_of}
 use Rattle.slink_feed.specs.Listening.{IsLinked, Listening}
 use Rattle.slink_feed.specs.Rings.{station_at}
-use Rattle.slink_feed.specs.Serving.{SessionState}
-use Rattle.slink_feed.specs.Session.{State, answered, at, chosen, grant_at, granted}
+use Rattle.slink_feed.specs.Session.{IsBefore, State, answered, at, chosen, grant_at, granted}
 use Rattle.slink_model.specs.Ties.{Item, Finished, Places, items_of, way_bytes}
 use Rattle.slink_feed.specs.Window.{Window}
 use Rattle.slink_model.specs.World.{Differ, IsServed, LinkState}
 use Rattle.slink_model.proofs.Answering.{Comes, IsOn, called_on, it_came, not_yet, quiet_on}
-use Rattle.slink_feed.proofs.Closing.{Open, open_or, shut_on}
-use Rattle.slink_model.proofs.Calling.{chosen_open, granted_open, open_at, ready_for_open}
-use Rattle.slink_model.proofs.Counting.{after_more, drop_on, take_on}
+use Rattle.slink_feed.proofs.Closing.{Open}
+use Rattle.slink_model.proofs.Counting.{drop_on, more_cut, take_on}
 use Rattle.slink_model.proofs.Items.{reply_items, way_more}
 use Rattle.slink_model.proofs.Lined.{IsAnswered, IsAsking}
-use Rattle.slink_model.proofs.OneWorld.{linked_or}
+use Rattle.slink_model.proofs.ReadAll.{linked_or}
 use Rattle.slink_model.proofs.Requested.{end_command, number_command, station_command}
-use Rattle.slink_model.proofs.Shaking.{AreCalled, AreRinged, Flows, IsSuited, Shakes, a_grant, called_place, asks_end}
+use Rattle.slink_model.proofs.Shaking.{AreCalled, AreRinged, Flows, IsReadyFor, IsSuited, Shakes, a_grant, asks_end}
+use Rattle.slink_model.proofs.Shaking.{called_place}
 use Rattle.slink_model.proofs.Shaking.{asks_number, asks_place, granted_alike, has_none, has_number, has_place}
 use Rattle.slink_model.proofs.Shaking.{in_phase, is_short, no_grant, none_suited, number_granted, place_chosen, replied}
 use Rattle.slink_model.proofs.Shaking.{streams, unanswered}
@@ -66,18 +65,23 @@ pub record Counts (places : Places) (client : Listening) (c : CountedLink) (l : 
   pub to_client : l.to_client ≡ drop c.delivered (way_bytes c.sent)
   pub taken_few : c.taken ≤ length c.written
   pub delivered_few : c.delivered ≤ length (way_bytes c.sent)
-  pub held : Open l.session.state.phase → IsHeld l.session.held (take c.taken c.written)
+  pub held : IsHeld l.session.held (take c.taken c.written)
   pub linked : IsLinked client.talk.stage
       → Pinned places client l.session.state (take c.taken c.written) l.to_server l.to_client
       (undelivered c.delivered c.sent)
-  pub quiet : ¬ (IsLinked client.talk.stage) → Open l.session.state.phase
-      → IsAnswered (take c.taken c.written) l.to_server
-  pub over : l.session.state.phase ≡ Closed → length l.to_server ≤ 1
+  pub quiet : ¬ (IsLinked client.talk.stage) → IsAnswered (take c.taken c.written) l.to_server
 
 pub pinned_as : (places : Places) (client : Listening) (s : State) (a b x y p q : List ℕ) (i j : List Item) → a ≡ b
     → x ≡ y → p ≡ q → i ≡ j → Pinned places client s a x p i → Pinned places client s b y q j
 pinned_as places client s a b x y p q i j ab xy pq ij h =
     rw ab at (rw xy at (subst (λ z. Pinned places client s a x z j) pq (subst (Pinned places client s a x p) ij h)))
+
+pub open_at : (phase p : Phase) → phase ≡ p → IsBefore p → Open phase
+open_at phase p is before shut = subst IsBefore (sym is ∙ shut) before
+
+ready_open : (k : ℕ) (phase : Phase) → IsReadyFor k phase → Open phase
+ready_open k phase (inl fresh) = open_at phase Fresh fresh.1 tt
+ready_open k phase (inr beyond) = open_at phase (Granted beyond.0) beyond.2 tt
 
 -- whether a line waits
 waits_true : (taken : ℕ) (written way : List ℕ) → way ≡ drop taken written → 2 ≤ length way → waits taken written ≡ true
@@ -104,62 +108,48 @@ module _ (places : Places) (differ : Differ places) (codes : (k : ℕ) (p : Fiel
     abbrev Left : State → Reply → List Item → Type 0
     Left now reply its = Pinned places client now taken rest (way ++ reply_bytes reply) (its ++ items_of reply)
 
-    left_as : (now new : State) (reply other : Reply) → now ≡ new → reply ≡ other → Left new other []
+    left_by : (now : State) (reply : Reply) (x : State × Reply) → x ≡ (now, reply) → Left x.0 x.1 []
         → Left now reply items
-    left_as now new reply other p q h =
-        subst (λ z. Left now reply z) (sym none)
-        (subst (λ (z : Reply). Left now z []) (sym q) (subst (λ (z : State). Left z other []) (sym p) h))
+    left_by now reply x e h =
+        subst (Left now reply) (sym none) (subst (λ (y : State × Reply). Left y.0 y.1 []) e h)
 
     suits : (k : ℕ) → IsSuited (next_at client.talk.wants k) (grant_at s.grants k) []
-    suits = none_suited places differ codes client called feed ringed s.grants way items none f
+    suits = none_suited places client s.grants way items none f
 
     place_left : (now : State) (reply : Reply) (k : ℕ) → client.talk.stage ≡ Station k
         → chosen (Some k) s ≡ (now, reply) → Left now reply items
-    place_left now reply k stage is =
-        left_as now (at (Chosen k) (set s.grants k None)) reply replies.Ok (sym (ap (λ (x : State × Reply). x.0) is))
-        (sym (ap (λ (x : State × Reply). x.1) is)) (record {
-          flows = replied places differ codes client called feed ringed s.grants (set s.grants k None) way items
-              replies.Ok none (λ i. no_grant places differ codes client called feed ringed s.grants k i suits) (
-                tt,
-                tt,
-              ) f;
-          shakes = has_place k stage refl reported refl;
-          ends = tt;
-        })
+    place_left now reply k stage is = left_by now reply (chosen (Some k) s) is (record {
+      flows = replied places client s.grants (set s.grants k None) way items replies.Ok none
+          (λ i. no_grant places client s.grants k i suits) (tt, tt) f;
+      shakes = has_place k stage refl reported refl;
+      ends = tt;
+    })
 
     number_left : (now : State) (reply : Reply) (k : ℕ) (mode : Mode) (o : Option ℕ) → client.talk.stage ≡ Number k
         → s.phase ≡ Chosen k → granted mode k o s ≡ (now, reply)
         → ((p m : ℕ) → o ≡ Some p → next_at client.talk.wants k ≡ Some m → p % 2 ^ 24 ≡ m) → Left now reply items
-    number_left now reply k mode None stage phase is wanted =
-        left_as now s reply replies.Error (sym (ap (λ (x : State × Reply). x.0) is))
-        (sym (ap (λ (x : State × Reply). x.1) is)) (record {
-          flows = replied places differ codes client called feed ringed s.grants s.grants way items replies.Error none
-              suits (tt, tt) f;
-          shakes = has_none k stage phase reported refl;
-          ends = tt;
-        })
+    number_left now reply k mode None stage phase is wanted = left_by now reply (granted mode k None s) is (record {
+      flows = replied places client s.grants s.grants way items replies.Error none suits (tt, tt) f;
+      shakes = has_none k stage phase reported refl;
+      ends = tt;
+    })
     number_left now reply k mode (Some p) stage phase is wanted =
         let g : Grant = record { mode = mode; position = p } in
-        left_as now (at (Granted k) (set s.grants k (Some g))) reply replies.Ok
-        (sym (ap (λ (x : State × Reply). x.0) is)) (sym (ap (λ (x : State × Reply). x.1) is)) (record {
-          flows = replied places differ codes client called feed ringed s.grants (set s.grants k (Some g)) way items
-              replies.Ok none
-              (λ i. a_grant places differ codes client called feed ringed s.grants k i g (λ m e. wanted p m refl e)
-              suits) (tt, tt) f;
+        left_by now reply (granted mode k (Some p) s) is (record {
+          flows = replied places client s.grants (set s.grants k (Some g)) way items replies.Ok none
+              (λ i. a_grant places client s.grants k i g (λ m e. wanted p m refl e) suits) (tt, tt) f;
           shakes = has_number k stage refl reported refl;
           ends = tt;
         })
 
     end_left : (now : State) (reply : Reply) → client.talk.stage ≡ Packets
         → ◌≡◌ {A = State × Reply} (at Streaming s.grants, replies.Nothing) (now, reply) → Left now reply items
-    end_left now reply stage is =
-        left_as now (at Streaming s.grants) reply replies.Nothing (sym (ap (λ (x : State × Reply). x.0) is))
-        (sym (ap (λ (x : State × Reply). x.1) is)) (record {
-          flows = unanswered places differ codes client called feed ringed s.grants s.grants way [] replies.Nothing refl
-              refl (subst (Flows places client s.grants way) none f);
-          shakes = streams stage (λ b. b) tt (λ _. reported);
-          ends = tt;
-        })
+    end_left now reply stage is = left_by now reply (at Streaming s.grants, replies.Nothing) is (record {
+      flows = unanswered places client s.grants s.grants way [] replies.Nothing refl refl
+          (subst (Flows places client s.grants way) none f);
+      shakes = streams stage (λ b. b) tt reported;
+      ends = tt;
+    })
 
   -- ToServer
   module _ (n : ℕ) (l m : LinkState) (served : IsServed feed n l m) (c : CountedLink)
@@ -200,13 +190,12 @@ module _ (places : Places) (differ : Differ places) (codes : (k : ℕ) (p : Fiel
         (sym (append-nil c.sent))
 
     made : (d : CountedLink) (reply : Reply) → d ≡ with_reply reply → m.to_client ≡ l.to_client ++ reply_bytes reply
-        → (Open m.session.state.phase → IsHeld m.session.held (before ++ bytes))
+        → IsHeld m.session.held (before ++ bytes)
         → (IsLinked client.talk.stage
         → Pinned places client m.session.state (before ++ bytes) rest (l.to_client ++ reply_bytes reply)
         (items ++ items_of reply))
-        → (¬ (IsLinked client.talk.stage) → Open m.session.state.phase → IsAnswered (before ++ bytes) rest)
-        → (m.session.state.phase ≡ Closed → length rest ≤ 1) → Counts places client d m
-    made d reply is sent held pinned quiet few =
+        → (¬ (IsLinked client.talk.stage) → IsAnswered (before ++ bytes) rest) → Counts places client d m
+    made d reply is sent held pinned quiet =
         subst (λ (x : CountedLink). Counts places client x m) (sym is) (record {
           session = refl;
           first_sent = served.first_sent ∙ counts.first_sent;
@@ -222,16 +211,15 @@ module _ (places : Places) (differ : Differ places) (codes : (k : ℕ) (p : Fiel
             ap length (way_more c.sent (items_of reply)),
             length-append (way_bytes c.sent) (way_bytes (items_of reply)),
           );
-          held = λ awake. subst (IsHeld m.session.held) (sym take_now) (held awake);
+          held = subst (IsHeld m.session.held) (sym take_now) held;
           linked = λ there. pinned_as places client m.session.state (before ++ bytes) (take (taken_by n c) c.written)
               rest
               m.to_server (l.to_client ++ reply_bytes reply) m.to_client (items ++ items_of reply)
               (undelivered c.delivered (c.sent ++ items_of reply))
               (sym take_now) (sym served.left) (sym sent)
-              (sym (after_more c.sent (items_of reply) c.delivered counts.delivered_few)) (pinned there);
-          quiet = λ over awake. subst (λ b. IsAnswered b m.to_server) (sym take_now)
-              (subst (IsAnswered (before ++ bytes)) (sym served.left) (quiet over awake));
-          over = λ shut. subst (λ b. length b ≤ 1) (sym served.left) (few shut);
+              (sym (more_cut c.sent (items_of reply) c.delivered counts.delivered_few).1) (pinned there);
+          quiet = λ over. subst (λ b. IsAnswered b m.to_server) (sym take_now)
+              (subst (IsAnswered (before ++ bytes)) (sym served.left) (quiet over));
         })
 
     nothing_more : m.to_client ≡ l.to_client → m.to_client ≡ l.to_client ++ reply_bytes replies.Nothing
@@ -245,43 +233,24 @@ module _ (places : Places) (differ : Differ places) (codes : (k : ℕ) (p : Fiel
         (pinned_as places client s (before ++ bytes) (before ++ bytes) rest rest l.to_client (l.to_client ++ []) items
         (items ++ []) refl refl (sym (append-nil l.to_client)) (sym (append-nil items)) h)
 
-    -- a session that is closed
-    shut_counted : s.phase ≡ Closed
-        → (IsLinked client.talk.stage → Pinned places client s (before ++ bytes) rest l.to_client items)
-        → Counts places client (served_by feed client.talk n c) m
-    shut_counted shut pinned =
-        let on : (m.session ≡ l.session) × (m.to_client ≡ l.to_client) =
-        shut_on feed l.session bytes l.to_client m.session m.to_client served.serves shut in
-        let same : m.session.state ≡ s = ap (λ (x : SessionState). x.state) on.0 in
-        let closed : m.session.state.phase ≡ Closed = ap (λ (x : State). x.phase) same ∙ shut in
-        let few : length l.to_server ≤ 1 = counts.over shut in
-        let none : waits c.taken c.written ≡ false = waits_false c.taken c.written l.to_server counts.to_server few in
-        made (served_by feed client.talk n c) replies.Nothing
-        (ap (λ t. if_come (t && not (waits (taken_by n c) c.written)) feed client.talk base) none
-        ∙ base_is (sym same)) (nothing_more on.1) (λ awake. absurd (awake closed))
-        (λ there. pinned_still same (pinned there)) (λ over awake. absurd (awake closed))
-        (λ _. omega (arith, few, length-drop n l.to_server))
-
     -- all lines are answered
-    reported_counted : Open s.phase → IsAnswered before l.to_server
+    reported_counted : IsAnswered before l.to_server
         → (IsLinked client.talk.stage → IsAnswered (before ++ bytes) rest
         → Pinned places client s (before ++ bytes) rest l.to_client items)
         → Counts places client (served_by feed client.talk n c) m
-    reported_counted awake reported pinned =
+    reported_counted reported pinned =
         let on : IsOn feed l.session m.session l.to_client m.to_client (before ++ bytes) rest =
-        quiet_on feed l.session bytes l.to_client m.session m.to_client rest before served.serves awake
-        (counts.held awake) (subst (IsAnswered before) cut reported) in
+        quiet_on feed l.session bytes l.to_client m.session m.to_client rest before served.serves counts.held
+        (subst (IsAnswered before) cut reported) in
         let none : waits c.taken c.written ≡ false =
         waits_false c.taken c.written l.to_server counts.to_server (answered_few before l.to_server reported) in
         made (served_by feed client.talk n c) replies.Nothing
         (ap (λ t. if_come (t && not (waits (taken_by n c) c.written)) feed client.talk base) none
-        ∙ base_is (sym on.state)) (nothing_more on.sent) (λ _. on.held)
-        (λ there. pinned_still on.state (pinned there on.reported)) (λ over _. on.reported)
-        (λ _. answered_few (before ++ bytes) rest on.reported)
+        ∙ base_is (sym on.state)) (nothing_more on.sent) on.held
+        (λ there. pinned_still on.state (pinned there on.reported)) (λ over. on.reported)
 
     -- a line waits
-    request_counted : (r : Request) (awake : Open s.phase) (known : IsCommand (request_line r) (requested r))
-        (stays_open : (new : State) (reply : Reply) → answered feed s (requested r) ≡ (new, reply) → Open new.phase)
+    request_counted : (r : Request) → Open s.phase → IsCommand (request_line r) (requested r)
         → IsLinked client.talk.stage
         → ((now : State) (reply : Reply) → answered feed s (requested r) ≡ (now, reply)
         → answer_at client.talk.stage feed client.talk s ≡ (now, reply)) → IsAsking (request_line r) before l.to_server
@@ -291,9 +260,9 @@ module _ (places : Places) (differ : Differ places) (codes : (k : ℕ) (p : Fiel
         → IsAnswered (before ++ bytes) rest
         → Pinned places client now (before ++ bytes) rest (l.to_client ++ reply_bytes reply) (items ++ items_of reply))
         → Counts places client (served_by feed client.talk n c) m
-    request_counted r awake known stays_open there answer asks still next =
-        which (called_on feed s r awake known stays_open l.session bytes l.to_client m.session m.to_client rest before
-        served.serves refl (counts.held awake) (subst (IsAsking (request_line r) before) cut asks))
+    request_counted r awake known there answer asks still next =
+        which (called_on feed s r awake known l.session bytes l.to_client m.session m.to_client rest before
+        served.serves refl counts.held (subst (IsAsking (request_line r) before) cut asks))
       where
         old : waits c.taken c.written ≡ true
         old = waits_true c.taken c.written l.to_server counts.to_server
@@ -304,15 +273,13 @@ module _ (places : Places) (differ : Differ places) (codes : (k : ℕ) (p : Fiel
         served_as t new = ap (λ b. if_come (b && not (waits (taken_by n c) c.written)) feed client.talk base) old
             ∙ ap (λ b. if_come (true && not b) feed client.talk base) new
 
-        which : Comes feed s r awake known stays_open m.session l.to_client m.to_client (before ++ bytes) rest
+        which : Comes feed s r m.session l.to_client m.to_client (before ++ bytes) rest
             → Counts places client (served_by feed client.talk n c) m
         which (not_yet same sent kept more) =
             made (served_by feed client.talk n c) replies.Nothing
             (served_as true (waits_true (taken_by n c) c.written rest drop_now
             (asking_waits (request_line r) (before ++ bytes) rest more)) ∙ base_is (sym same)) (nothing_more sent)
-            (λ _. kept)
-            (λ _. pinned_still same (still more)) (λ over _. absurd (over there))
-            (λ shut. absurd (awake (ap (λ (x : State). x.phase) (sym same) ∙ shut)))
+            kept (λ _. pinned_still same (still more)) (λ over. absurd (over there))
         which (it_came reply sent done kept reported) =
             let is : answer_at client.talk.stage feed client.talk c.session ≡ (m.session.state, reply) =
             ap (λ (x : State). answer_at client.talk.stage feed client.talk x) (sym counts.session)
@@ -320,9 +287,7 @@ module _ (places : Places) (differ : Differ places) (codes : (k : ℕ) (p : Fiel
             made (served_by feed client.talk n c) reply
             (served_as false (waits_false (taken_by n c) c.written rest drop_now
             (answered_few (before ++ bytes) rest reported)) ∙ ap (λ (x : State × Reply). counted_reply x base) is) sent
-            (λ _. kept)
-            (λ _. next m.session.state reply done reported) (λ over _. absurd (over there))
-            (λ _. answered_few (before ++ bytes) rest reported)
+            kept (λ _. next m.session.state reply done reported) (λ over. absurd (over there))
 
     -- by who has sent what
     by_shakes : IsLinked client.talk.stage → Flows places client s.grants l.to_client items → EndsIn s.phase items
@@ -334,17 +299,16 @@ module _ (places : Places) (differ : Differ places) (codes : (k : ℕ) (p : Fiel
         let choose : (now : State) (reply : Reply)
         → answered feed s (requested (requests.Station w.place)) ≡ (now, reply)
         → chosen (Some k) s ≡ (now, reply) =
-        λ now reply is. place_chosen places differ codes client called feed ringed s now reply k w ready at_k.1 is in
-        request_counted (requests.Station w.place) (ready_for_open k s.phase ready)
-        (station_command w.place at_k.0.0 at_k.0.1)
-        (λ new reply is. (chosen_open s new reply k (choose new reply is)).1) there
+        λ now reply is. place_chosen feed s now reply k w ready at_k.1 is in
+        request_counted (requests.Station w.place) (ready_open k s.phase ready)
+        (station_command w.place at_k.0.0 at_k.0.1) there
         (λ now reply is. ap (λ (x : Stage). answer_at x feed client.talk s) stage ∙ choose now reply is) asks
         (λ more. record { flows = f; shakes = asks_place k w stage want ready more none; ends = ends })
         (λ now reply is reported. place_left s (before ++ bytes) rest l.to_client items none reported f now reply k
         stage
         (choose now reply is))
     by_shakes there f ends (has_place k stage phase reported one) =
-        reported_counted (open_at s.phase (Chosen k) phase tt) reported
+        reported_counted reported
         (λ _ more. record { flows = f; shakes = has_place k stage phase more one; ends = ends })
     by_shakes there f ends (asks_number k stage phase asks none) =
         let mode : Mode = client.talk.mode in
@@ -352,50 +316,41 @@ module _ (places : Places) (differ : Differ places) (codes : (k : ℕ) (p : Fiel
         let o : Option ℕ = option_and_then (grant_of mode number) (slice_get feed k) in
         let grant : (now : State) (reply : Reply) → answered feed s (requested (numbered mode number)) ≡ (now, reply)
         → granted mode k o s ≡ (now, reply) =
-        λ now reply is. number_granted places differ codes client called feed ringed s now reply k mode number phase
+        λ now reply is. number_granted feed s now reply k mode number phase
         is in
         request_counted (numbered mode number) (open_at s.phase (Chosen k) phase tt)
-        (number_command mode number (is_short places differ codes client called feed ringed number
-        (λ x e. called.short k x e))) (λ new reply is. granted_open s new reply k mode o phase (grant new reply is))
-        there
+        (number_command mode number (is_short number
+        (λ x e. called.short k x e))) there
         (λ now reply is. ap (λ (x : Stage). answer_at x feed client.talk s) stage ∙ grant now reply is) asks
         (λ more. record { flows = f; shakes = asks_number k stage phase more none; ends = ends })
         (λ now reply is reported. number_left s (before ++ bytes) rest l.to_client items none reported f now reply k
         mode o
         stage phase (grant now reply is)
-        (λ p m e wanted. granted_alike places differ codes client called feed ringed mode number (slice_get feed k) p m
+        (λ p m e wanted. granted_alike mode number (slice_get feed k) p m
         e wanted (called.short k m wanted)))
     by_shakes there f ends (has_number k stage phase reported one) =
-        reported_counted (open_at s.phase (Granted k) phase tt) reported
+        reported_counted reported
         (λ _ more. record { flows = f; shakes = has_number k stage phase more one; ends = ends })
     by_shakes there f ends (has_none k stage phase reported one) =
-        reported_counted (open_at s.phase (Chosen k) phase tt) reported
+        reported_counted reported
         (λ _ more. record { flows = f; shakes = has_none k stage phase more one; ends = ends })
     by_shakes there f ends (asks_end k stage phase asks none) =
         let streaming : (now : State) (reply : Reply) → answered feed s (requested requests.End) ≡ (now, reply)
         → ◌≡◌ {A = State × Reply} (at Streaming s.grants, replies.Nothing) (now, reply) =
-        λ now reply is. in_phase places differ codes client called feed ringed (Granted k) s now reply requests.End
+        λ now reply is. in_phase feed (Granted k) s now reply requests.End
         phase is in
-        request_counted requests.End (open_at s.phase (Granted k) phase tt) end_command
-        (λ new reply is. subst (λ (x : State × Reply). Open x.0.phase) (streaming new reply is)
-        (λ e. let bad : Streaming ≡ Closed = e in cc bad)) there
+        request_counted requests.End (open_at s.phase (Granted k) phase tt) end_command there
         (λ now reply is. ap (λ (x : Stage). answer_at x feed client.talk s) stage ∙ streaming now reply is) asks
         (λ more. record { flows = f; shakes = asks_end k stage phase more none; ends = ends })
         (λ now reply is reported. end_left s (before ++ bytes) rest l.to_client items none reported f now reply stage
         (streaming now reply is))
-    by_shakes there f ends (streams stage later sent reported) = elim (open_or s.phase) [
-      | inl shut ↦ shut_counted shut
-          (λ _. record { flows = f; shakes = streams stage later sent (λ awake. absurd (awake shut)); ends = ends })
-      | inr awake ↦ reported_counted awake (reported awake)
-          (λ _ more. record { flows = f; shakes = streams stage later sent (λ _. more); ends = ends })
-    ]
+    by_shakes there f ends (streams stage later sent reported) =
+        reported_counted reported
+        (λ _ more. record { flows = f; shakes = streams stage later sent more; ends = ends })
 
     pub served_counts : Counts places client (served_by feed client.talk n c) m
     served_counts = elim (linked_or client.talk.stage) [
       | inl there ↦ let p : Pinned places client s before l.to_server l.to_client items = counts.linked there in
           by_shakes there p.flows p.ends p.shakes
-      | inr over ↦ elim (open_or s.phase) [
-        | inl shut ↦ shut_counted shut (λ there. absurd (over there))
-        | inr awake ↦ reported_counted awake (counts.quiet over awake) (λ there _. absurd (over there))
-      ]
+      | inr over ↦ reported_counted (counts.quiet over) (λ there _. absurd (over there))
     ]

@@ -220,26 +220,16 @@ way_granted few first F held start sent g from near none = (
   subst (λ o. IsFirst start o g.position []) (sym none) (first_none start g.position),
 )
 
-near_few : (few : ℕ → Type 0) (n : ℕ) (start : Option ℕ) (count : ℕ) → ((s : ℕ) → start ≡ Some s → few (s + count))
-    → IsNear (λ x. Unit {0}) n start count → IsNear few n start count
-near_few few n None count lacks near = tt
-near_few few n (Some s) count lacks near = elim near [ inl same ↦ inl same | inr far ↦ inr (far.0, lacks s refl) ]
+-- where other records may be lacking
+near_as : (few more : ℕ → Type 0) (n : ℕ) (start : Option ℕ) (count : ℕ)
+    → ((s : ℕ) → start ≡ Some s → more (s + count)) → IsNear few n start count → IsNear more n start count
+near_as few more n None count on near = tt
+near_as few more n (Some s) count on near = elim near [ inl same ↦ inl same | inr far ↦ inr (far.0, on s refl) ]
 
-near_any : (few : ℕ → Type 0) (n : ℕ) (start : Option ℕ) (count : ℕ) → IsNear few n start count
-    → IsNear (λ x. Unit {0}) n start count
-near_any few n None count near = tt
-near_any few n (Some s) count near = elim near [ inl same ↦ inl same | inr far ↦ inr (far.0, tt) ]
-
-pub way_few : (few : ℕ → Type 0) (first : ℕ) (F held : List (List ℕ)) (start sent : Option ℕ) (grant : Option Grant)
-    (rest : List (ℕ × List ℕ)) → ((s : ℕ) → start ≡ Some s → few (s + length held))
-    → IsOnWay (λ x. Unit {0}) first F held start sent grant rest → IsOnWay few first F held start sent grant rest
-way_few few first F held start sent None rest lacks w = w
-way_few few first F held start sent (Some g) rest lacks w =
-    (w.0, w.1, w.2, w.3, near_few few w.0 start (length held) lacks w.4, w.5)
-
-pub way_any : (few : ℕ → Type 0) (first : ℕ) (F held : List (List ℕ)) (start sent : Option ℕ) (grant : Option Grant)
-    (rest : List (ℕ × List ℕ))
-    → IsOnWay few first F held start sent grant rest → IsOnWay (λ x. Unit {0}) first F held start sent grant rest
-way_any few first F held start sent None rest w = w
-way_any few first F held start sent (Some g) rest w =
-    (w.0, w.1, w.2, w.3, near_any few w.0 start (length held) w.4, w.5)
+pub way_as : (few more : ℕ → Type 0) (first : ℕ) (F held : List (List ℕ)) (start sent : Option ℕ)
+    (grant : Option Grant) (rest : List (ℕ × List ℕ))
+    → ((s : ℕ) → start ≡ Some s → more (s + length held))
+    → IsOnWay few first F held start sent grant rest → IsOnWay more first F held start sent grant rest
+way_as few more first F held start sent None rest on w = w
+way_as few more first F held start sent (Some g) rest on w =
+    (w.0, w.1, w.2, w.3, near_as few more w.0 start (length held) on w.4, w.5)

@@ -1,17 +1,21 @@
 -- The first packet of a station on its way is that of the record after the last one held.
-use Rattle.std.proofs.Common.{◌≡◌, ℕ, ◌+◌, ◌-◌, ◌*◌, ◌%◌, ◌^◌, ◌<◌, inl, inr, refl, sym, ap, subst, ◌∙◌, arith, List}
-use Rattle.std.proofs.Common.{[], ◌∷◌, ◌++◌, length, length-append, append_assoc, get_or, drop, Option, Some, None}
-use Rattle.std.proofs.Common.{slice_get}
+use Rattle.std.proofs.Common.{Bool, true, false, ◌==◌, if◌then◌else◌}
+use Rattle.slink_model.specs.Ties.{AreOfPlaces}
+use Rattle.slink_model.proofs.Pushed.{rings_after}
+use Rattle.std.proofs.Common.{◌≡◌, ℕ, ◌+◌, ◌-◌, ◌%◌, ◌^◌, ◌<◌, inl, inr, refl, sym, ap, subst, ◌∙◌, arith, List}
+use Rattle.std.proofs.Common.{[], ◌∷◌, ◌++◌, length, length-append, append_assoc, get_or, drop, take, Option, Some}
+use Rattle.std.proofs.Common.{None, slice_get}
 use Rattle.std.proofs.lemmas.Bool.{cases_lt}
 use Rattle.std.proofs.lemmas.Option.{slice_get_within}
 use Rattle.slink_wire.specs.Packet.{IsPacket, packet_bytes}
-use Rattle.slink_wire.specs.Place.{Bears, Fields, IsField}
+use Rattle.slink_wire.specs.Place.{Bears, Fields}
 use Rattle.slink_wire.proofs.Carrying.{one_place}
 use Rattle.slink_wire.proofs.Packets.{one_packet, read_back}
 use Rattle.slink_feed.specs.declared.grant.Grant.{Grant}
 use Rattle.slink_model.specs.declared.world.Setup.{Setup}
 use Rattle.slink_model.specs.declared.world.Step.{Step}
 use Rattle.slink_feed.specs.Dialogue.{next_at}
+use Rattle.slink_model.specs.Counted.{counted_after, counted_opening, undelivered}
 use Rattle.slink_model.specs.Going.{GoesOn}
 use Rattle.slink_feed.specs.Listening.{IsLinked}
 use Rattle.slink_feed.specs.Session.{grant_at}
@@ -21,12 +25,12 @@ use Rattle.slink_model.specs.Ties.{AreNext, AreWhole, Holds, IsLinkTied, IsOnWay
 use Rattle.slink_model.specs.Ties.{Carried, Finished, LinkTies, Places, WorldTies, carried_of, of_place, way_bytes}
 use Rattle.slink_model.specs.World.{AllHappen, Differ, LinkState, WorldState, number_at, opening}
 use Rattle.slink_model.proofs.Following.{near_alike}
-use Rattle.slink_model.proofs.Items.{carried_here, carried_there}
-use Rattle.slink_feed.proofs.Items.{same_or_not, within_is}
+use Rattle.slink_model.proofs.Items.{carried_here, mark, mark_of, marked}
+use Rattle.slink_feed.proofs.Items.{within_is}
 use Rattle.slink_model.proofs.Linked.{any}
 use Rattle.slink_model.proofs.Outcomes.{same_cut}
-use Rattle.slink_model.proofs.Shaking.{AreOfPlace, IsOfPlace, IsSuited, LinkTalks}
-use Rattle.slink_model.proofs.Sparing.{IsTalking, WorldTalks, talks_after}
+use Rattle.slink_model.proofs.CountedWorld.{AreCounts, IsWorld, at_after, link_at}
+use Rattle.slink_model.proofs.Shaking.{AreOfPlace, Flows, IsOfPlace, IsSuited}
 use Rattle.slink_model.proofs.Worlds.{last_lacks, ties_after}
 use Rattle.slink_feed.proofs.Prefixed.{packet_long}
 
@@ -34,13 +38,12 @@ module _ (places : Places) (differ : Differ places) where
   -- two packets of the same bytes carry a record of one station
   one_many : (j ka kb na nb : ℕ) (ra rb : List ℕ) → ka ≡ kb
       → length (carried_of j (Carried ka na ra)) ≡ length (carried_of j (Carried kb nb rb))
-  one_many j ka kb na nb ra rb same = elim (same_or_not kb j) [
-    | inl e ↦ subst (λ i. length (carried_of i (Carried ka na ra)) ≡ length (carried_of i (Carried kb nb rb))) e
-        (subst (λ i. length (carried_of kb (Carried i na ra)) ≡ length (carried_of kb (Carried kb nb rb))) (sym same)
-        (ap length (carried_here kb na ra) ∙ sym (ap length (carried_here kb nb rb))))
-    | inr ne ↦ ap length (carried_there ka j na ra (λ e. ne (sym same ∙ e)))
-        ∙ sym (ap length (carried_there kb j nb rb ne))
-  ]
+  one_many j ka kb na nb ra rb same =
+      ap (λ i. length (carried_of j (Carried i na ra))) same ∙ either (kb == j) (na, ra) (nb, rb)
+    where
+      either : (t : Bool) (x y : ℕ × List ℕ) → length (if t then x ∷ [] else []) ≡ length (if t then y ∷ [] else [])
+      either true x y = refl
+      either false x y = refl
 
   carried_many : (xs ys : List Item) (ka na : ℕ) (ra : List ℕ) (kb nb : ℕ) (rb : List ℕ)
       → IsOfPlace places (Carried ka na ra) → IsOfPlace places (Carried kb nb rb)
@@ -61,30 +64,12 @@ module _ (places : Places) (differ : Differ places) where
       ∙ (ap (λ n. length (carried_of j (Carried kb nb rb)) + n) (more cut.1)
       ∙ sym (length-append (carried_of j (Carried kb nb rb)) (of_place j ys))))
 
-  -- what the bytes of an item begin with tells it from the others
-  abbrev mark : Item → ℕ
-  mark Accepted = 20299
-  mark Refused = 17746
-  mark Greeted = 21349
-  mark (Carried k n r) = 21324
-  mark Finished = 17742
-
   abbrev mark_in : List ℕ → ℕ
-  mark_in bytes = 256 * get_or bytes 0 0 + get_or bytes 1 0
-
-  marked : (i : Item) (is : List Item) → mark_in (way_bytes (i ∷ is)) ≡ mark i
-  marked Accepted is = refl
-  marked Refused is = refl
-  marked Greeted is = refl
-  marked (Carried k n r) is = refl
-  marked Finished is = refl
+  mark_in bytes = mark_of (take 2 bytes)
 
   some_mark : (i : Item) → 0 < mark i
   some_mark Accepted = omega arith
-  some_mark Refused = omega arith
-  some_mark Greeted = omega arith
-  some_mark (Carried k n r) = omega arith
-  some_mark Finished = omega arith
+  some_mark i = omega arith
 
   first_many : (x y : Item) (xs ys : List Item) → IsOfPlace places x → IsOfPlace places y → mark x ≡ mark y
       → way_bytes (x ∷ xs) ≡ way_bytes (y ∷ ys) → (j : ℕ)
@@ -154,18 +139,14 @@ goes_next first F held next sent s (Some g) i rest other few holds way suited ma
     ] in
     way.2.0 ∙ is
 
-module _ (places : Places) (differ : Differ places) (codes : (k : ℕ) (p : Fields × Option ℕ)
-    → slice_get places k ≡ Some p → IsField 5 p.0.station × IsField 2 p.0.network) (first : ℕ) (w : WorldState)
-    (l : LinkState) where
-  pub goes_on_at : WorldTies places first w → LacksFew first w → WorldTalks places differ codes w → w.link ≡ Some l
+module _ (places : Places) (differ : Differ places) (first : ℕ) (w : WorldState) (l : LinkState) where
+  goes_on_at : (its : List Item) → Flows places w.client l.session.state.grants l.to_client its
+      → AreOfPlaces places w.pushed → WorldTies places first w → LacksFew first w → w.link ≡ Some l
       → IsLinked w.client.talk.stage → GoesOn places w l
-  goes_on_at t lacks talks is linked =
+  goes_on_at its flows sound_all t lacks is linked =
       let tied : IsLinkTied places first w (Some l) = subst (IsLinkTied places first w) is t.link in
       let ties : LinkTies places first (λ k. any) w.pushed w.client w.held w.start l.session.state l.first_sent
       l.to_client = tied.1 in
-      let both : IsTalking places differ codes w.client (Some l) =
-      subst (IsTalking places differ codes w.client) is talks.link in
-      let talk : LinkTalks places w.client l.session l.to_server l.to_client = both.0 linked in
       let matched : AreOfPlace places ties.items =
       each_matched places differ ties.items ties.are_whole (λ k n r prefix back e.
       let lt : k < length places =
@@ -183,14 +164,14 @@ module _ (places : Places) (differ : Differ places) (codes : (k : ℕ) (p : Fiel
       (number_at l.first_sent k) (grant_at l.session.state.grants k) prefix back n r
       (subst (IsOnWay any first (get_or w.pushed k []) (get_or w.held k []) (number_at w.start k)
       (number_at l.first_sent k) (grant_at l.session.state.grants k)) e (ties.places_are k lt)) in
-      let sound : (length r ≡ 512) × Bears r q.0.0 = t.sound k q.0 q.1 at.0 r at.1 in
+      let sound : (length r ≡ 512) × Bears r q.0.0 = sound_all k q.0 q.1 at.0 r at.1 in
       (q.0, q.1, sound.0, sound.1)) in
       record {
         items = ties.items;
         bytes = ties.flow linked;
         next = λ k start i rest lt held here.
             goes_next first (get_or w.pushed k []) (get_or w.held k []) (next_at w.client.talk.wants k)
-            (number_at l.first_sent k) start (grant_at l.session.state.grants k) i rest (of_place k talk.items)
+            (number_at l.first_sent k) start (grant_at l.session.state.grants k) i rest (of_place k its)
             (lacks k start held)
             (subst (Holds first (get_or w.pushed k []) (next_at w.client.talk.wants k) (get_or w.held k [])) held
             (t.holds k lt))
@@ -198,9 +179,9 @@ module _ (places : Places) (differ : Differ places) (codes : (k : ℕ) (p : Fiel
             (number_at l.first_sent k) (grant_at l.session.state.grants k) (i ∷ rest)) held
             (subst (IsOnWay any first (get_or w.pushed k []) (get_or w.held k []) (number_at w.start k)
             (number_at l.first_sent k) (grant_at l.session.state.grants k)) here (ties.places_are k lt)))
-            (talk.flows.suited k)
-            (sym (ap length here) ∙ same_many places differ ties.items talk.items matched talk.flows.matched
-            (sym (ties.flow linked) ∙ talk.flows.flow) k);
+            (flows.suited k)
+            (sym (ap length here) ∙ same_many places differ ties.items its matched flows.matched
+            (sym (ties.flow linked) ∙ flows.flow) k);
       }
 
 module _ (setup : Setup) (steps : List Step) (now : WorldState) (run : AllHappen (opening setup) steps now)
@@ -210,6 +191,10 @@ module _ (setup : Setup) (steps : List Step) (now : WorldState) (run : AllHappen
   pub goes_on_after : (l : LinkState) → now.link ≡ Some l → IsLinked now.client.talk.stage
       → GoesOn setup.places.items now l
   goes_on_after l at linked =
-      goes_on_at setup.places.items is.differ askable.codes setup.first now l (ties_after setup steps now run is lacks)
-      (last_lacks setup.first steps (opening setup) now run lacks) (talks_after setup steps now run is askable) at
-      linked
+      let world : IsWorld setup is.differ askable.codes (counted_after setup (counted_opening setup) steps) now =
+      (at_after setup steps now run is askable).world in
+      let c = link_at setup is.differ askable.codes now.client _ l
+      (subst (AreCounts setup is.differ askable.codes now.client _) at world.counts) in
+      goes_on_at setup.places.items is.differ setup.first now l (undelivered c.0.delivered c.0.sent)
+      (c.2.linked linked).flows (rings_after setup steps now run is).sound (ties_after setup steps now run is lacks)
+      (last_lacks setup.first steps (opening setup) now run lacks) at linked

@@ -12,6 +12,7 @@ pub mod Counting
 pub mod Counts
 pub mod Following
 pub mod Going
+pub mod ReadAll
 pub mod Reading
 pub mod Lined
 pub mod Linked
@@ -22,11 +23,12 @@ pub mod Pushed
 pub mod Requested
 pub mod Resolved
 pub mod Resumed
+pub mod Sends
 pub mod Served
-pub mod Shaken
+pub mod Placed
 pub mod Shaking
 pub mod Shelves
-pub mod Sparing
+pub mod Stations
 pub mod Stepping
 pub mod Taken
 pub mod Waiting

@@ -53,13 +53,6 @@ pub begins_asking : (line : List ℕ) → IsLine line → IsAsking line [] (line
 begins_asking line is = asks_first line is none_quiet.0
 
 -- more bytes are taken
-one_more : (before reported : List (List ℕ)) (x : List ℕ) (c : ℕ) → reported ≡ take c before → c ≤ length before
-    → reported ≡ before ++ x ∷ [] → ⊥
-one_more before reported x c is le e =
-    let short : length reported ≡ length (take c before) = ap length is in
-    let long : length reported ≡ length (before ++ x ∷ []) = ap length e in
-    omega (arith, short, long, length-take-le c before le, length-append before (x ∷ []), le)
-
 last_reported : (before reported : List (List ℕ)) (line x : List ℕ) (c : ℕ) → reported ≡ take c (before ++ line ∷ [])
     → c ≤ length (before ++ line ∷ []) → reported ≡ before ++ x ∷ [] → line ≡ x
 last_reported before reported line x c is le e =
@@ -108,26 +101,4 @@ more_called line taken piece way (Line l) a tells =
 more_called line taken piece way TooLong a tells =
     let reported : SpellsPrefix (taken ++ piece) (a.before ++ line ∷ []) =
     prefix_spelled _ _ way a.are_lines (append_assoc taken piece way ∙ a.written) in
-    absurd (both_ways (lines_of (taken ++ piece)).is_too_long reported.3 tells.1)
-
--- nothing is reported any more
-pub more_answered : (taken piece way : List ℕ) (what : What) → IsAnswered taken (piece ++ way)
-    → Yields what taken (taken ++ piece) → (what ≡ More) × IsAnswered (taken ++ piece) way
-more_answered taken piece way More a tells = (
-  refl,
-  record {
-    before = a.before;
-    are_lines = a.are_lines;
-    written = append_assoc taken piece way ∙ a.written;
-    reported = tells.0 ∙ a.reported;
-  },
-)
-more_answered taken piece way (Line l) a tells =
-    let reported : SpellsPrefix (taken ++ piece) a.before =
-    prefix_spelled a.before (taken ++ piece) way a.are_lines (append_assoc taken piece way ∙ a.written) in
-    absurd (one_more a.before (lines_of (taken ++ piece)).lines l.items reported.0 reported.2 reported.1 (tells.0
-    ∙ ap (λ ls. ls ++ l.items ∷ []) a.reported))
-more_answered taken piece way TooLong a tells =
-    let reported : SpellsPrefix (taken ++ piece) a.before =
-    prefix_spelled a.before (taken ++ piece) way a.are_lines (append_assoc taken piece way ∙ a.written) in
     absurd (both_ways (lines_of (taken ++ piece)).is_too_long reported.3 tells.1)

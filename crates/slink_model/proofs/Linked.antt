@@ -1,25 +1,27 @@
 -- A link after each answer of the session, and after each packet that is requested.
-use Rattle.std.proofs.Common.{◌≡◌, ◌≢◌, ℕ, ◌+◌, ◌-◌, ◌%◌, ◌^◌, ◌<◌, ◌≤◌, inl, inr, zero, suc, refl, sym, ap, subst, ◌∙◌}
-use Rattle.std.proofs.Common.{arith, Bool, true, false, ◌==◌, List, [], ◌∷◌, ◌++◌, append-nil, length, length-set}
-use Rattle.std.proofs.Common.{get_or, Option, Some, None, option_map, slice_get, if◌then◌else◌, codes}
+use Rattle.slink_model.proofs.Stations.{each_sent}
+use Rattle.slink_model.proofs.Sends.{by_sent}
+use Rattle.std.proofs.Common.{◌≡◌, ℕ, ◌+◌, ◌-◌, ◌%◌, ◌^◌, ◌<◌, ◌≤◌, inr, refl, sym, ap, subst, ◌∙◌}
+use Rattle.std.proofs.Common.{arith, List, [], ◌∷◌, ◌++◌, append-nil, length, length-set}
+use Rattle.std.proofs.Common.{get_or, Option, Some, None, option_map, slice_get, codes}
 use Rattle.slink_wire.specs.declared.reply.Reply.{Reply}
 use Rattle.slink_wire.specs.declared.reply.Reply.TheVariants as replies
 use Rattle.slink_wire.specs.Packet.{packet_bytes}
 use Rattle.slink_wire.specs.Reply.{reply_bytes}
 use Rattle.slink_feed.specs.declared.grant.Grant.{Grant}
 use Rattle.slink_feed.specs.declared.session.Phase.{Phase}
-use Rattle.slink_feed.specs.declared.session.Phase.TheVariants.{Fresh, Chosen, Granted, Streaming, Closed}
+use Rattle.slink_feed.specs.declared.session.Phase.TheVariants.{Streaming, Closed}
 use Rattle.slink_feed.specs.declared.session.Sent.{Sent}
 use Rattle.slink_feed.specs.Listening.{Listening}
 use Rattle.slink_feed.specs.Dialogue.{next_at}
-use Rattle.slink_feed.specs.Session.{Grants, IsBefore, State, has_sent_all, at, at_next, grant_at, packet_at, sent}
-use Rattle.slink_feed.specs.Session.{sent_bytes, sent_in, sent_of}
+use Rattle.slink_feed.specs.Session.{Grants, IsBefore, State, at, grant_at, packet_at, sent}
+use Rattle.slink_feed.specs.Session.{sent_bytes}
 use Rattle.slink_model.specs.Ties.{AllHold, AreShown, AreWhole, Carried, Finished, Holds, IsGranted, IsNear, IsOnWay}
 use Rattle.slink_model.specs.Ties.{Item, Leaves, LinkTies, Places, dropped, given, items_of, of_place, same, way_bytes}
 use Rattle.slink_feed.specs.Window.{Shows, Window, oldest_of, record_at}
-use Rattle.slink_model.specs.World.{Lists, Numbers, first_after, number_at, or_else, with_first}
-use Rattle.slink_feed.proofs.Items.{at_number, oldest_is, one_value, put_here, put_there, same_or_not}
-use Rattle.slink_model.proofs.Items.{carried_here, carried_there, carries_none, flow_more, held_to, of_more}
+use Rattle.slink_model.specs.World.{Lists, Numbers, first_after, number_at, or_else}
+use Rattle.slink_feed.proofs.Items.{at_number, oldest_is, one_value, put_here, put_there}
+use Rattle.slink_model.proofs.Items.{carried_there, carries_none, flow_more, held_to}
 use Rattle.slink_model.proofs.Items.{reply_carries, reply_items, reply_whole, whole_more}
 use Rattle.slink_model.proofs.Following.{way_granted, way_sent}
 
@@ -51,11 +53,6 @@ place_granted feed k first w F held next start sent old new rest here shows room
     (near_granted first g.position F next held start (omega (arith, from, o, room)) h) unsent in
     subst (λ x. IsOnWay any first F held start sent x rest) (sym e)
     (subst (IsOnWay any first F held start sent (Some g)) (sym none) begins)
-
-pub slot_within : (gs : Grants) (k : ℕ) (g : Grant) → grant_at gs k ≡ Some g → k < length gs
-slot_within [] k g h = absurd (let bad : None ≡ Some g = h in cc bad)
-slot_within (x ∷ gs) zero g h = omega arith
-slot_within (x ∷ gs) (suc k) g h = let more : k < length gs = slot_within gs k g h in omega (arith, more)
 
 module _ (places : Places) (first : ℕ) (windows : List Window) (pushed : Lists) (client : Listening) (held : Lists)
     (start : Numbers) (shown : AreShown places first windows pushed)
@@ -137,73 +134,13 @@ module _ (places : Places) (first : ℕ) (windows : List Window) (pushed : Lists
       → Linked new first_sent (way ++ [])
   nothing_sent s first_sent way new was stay l = stays_on s first_sent way new [] [] was stay refl tt (λ k. refl) l
 
-  sent_here : (s : State) (first_sent : Numbers) (items : List Item) (k : ℕ) (g : Grant) (r : List ℕ)
-      → k < length first_sent → grant_at s.grants k ≡ Some g
-      → slice_get (get_or pushed k []) (g.position - first) ≡ Some r
-      → IsOnWay any first (get_or pushed k []) (get_or held k []) (number_at start k) (number_at first_sent k)
-      (grant_at s.grants k) (of_place k items)
-      → IsOnWay any first (get_or pushed k []) (get_or held k []) (number_at start k)
-      (number_at (with_first first_sent k (option_map (λ (x : Grant). x.position) (grant_at s.grants k))) k)
-      (grant_at (packet_at s k g (Some r)).0.grants k) (of_place k (items ++ Carried k g.position r ∷ []))
-  sent_here s first_sent items k g r room grant at way =
-      let h : Grant = record { mode = g.mode; position = g.position + 1 } in
-      let number : number_at (with_first first_sent k (option_map (λ (x : Grant). x.position) (grant_at s.grants k))) k
-      ≡ or_else (number_at first_sent k) (Some g.position)
-      = put_here first_sent k (or_else (number_at first_sent k)
-      (option_map (λ (x : Grant). x.position) (grant_at s.grants k))) None room
-      ∙ ap (λ (o : Option Grant). or_else (number_at first_sent k) (option_map (λ (x : Grant). x.position) o)) grant in
-      let now : grant_at (packet_at s k g (Some r)).0.grants k ≡ Some h =
-      put_here s.grants k (Some h) None (slot_within s.grants k g grant) in
-      let of : of_place k (items ++ Carried k g.position r ∷ []) ≡ of_place k items ++ (g.position, r) ∷ [] =
-      of_more k items (Carried k g.position r ∷ [])
-      ∙ ap (λ b. of_place k items ++ (b ++ [])) (carried_here k g.position r) in
-      let before : IsOnWay any first (get_or pushed k []) (get_or held k []) (number_at start k)
-      (number_at first_sent k) (Some g) (of_place k items)
-      = rw grant at way in
-      let after : IsOnWay any first (get_or pushed k []) (get_or held k []) (number_at start k)
-      (or_else (number_at first_sent k) (Some g.position)) (Some h) (of_place k items ++ (g.position, r) ∷ [])
-      = way_sent any first (get_or pushed k []) (get_or held k []) (number_at start k) (number_at first_sent k) g h
-      (of_place k items) r refl at before in
-      subst (λ (f : Option ℕ). IsOnWay any first (get_or pushed k []) (get_or held k []) (number_at start k) f
-      (grant_at (packet_at s k g (Some r)).0.grants k) (of_place k (items ++ Carried k g.position r ∷ [])))
-      (sym number)
-      (subst (λ (o : Option Grant). IsOnWay any first (get_or pushed k []) (get_or held k []) (number_at start k)
-      (or_else (number_at first_sent k) (Some g.position)) o (of_place k (items ++ Carried k g.position r ∷ [])))
-      (sym now)
-      (subst (IsOnWay any first (get_or pushed k []) (get_or held k []) (number_at start k)
-      (or_else (number_at first_sent k) (Some g.position)) (Some h)) (sym of) after))
-
-  sent_there : (s : State) (first_sent : Numbers) (items : List Item) (k j : ℕ) (g : Grant) (r : List ℕ) → j ≢ k
-      → IsOnWay any first (get_or pushed j []) (get_or held j []) (number_at start j) (number_at first_sent j)
-      (grant_at s.grants j) (of_place j items)
-      → IsOnWay any first (get_or pushed j []) (get_or held j []) (number_at start j)
-      (number_at (with_first first_sent k (option_map (λ (x : Grant). x.position) (grant_at s.grants k))) j)
-      (grant_at (packet_at s k g (Some r)).0.grants j) (of_place j (items ++ Carried k g.position r ∷ []))
-  sent_there s first_sent items k j g r ne way =
-      let h : Grant = record { mode = g.mode; position = g.position + 1 } in
-      let number : number_at (with_first first_sent k (option_map (λ (x : Grant). x.position) (grant_at s.grants k))) j
-      ≡ number_at first_sent j
-      = put_there first_sent k j
-      (or_else (number_at first_sent k) (option_map (λ (x : Grant). x.position) (grant_at s.grants k))) None ne in
-      let now : grant_at (packet_at s k g (Some r)).0.grants j ≡ grant_at s.grants j =
-      put_there s.grants k j (Some h) None ne in
-      let of = carries_none j items (Carried k g.position r ∷ [])
-      (ap (λ b. b ++ []) (carried_there k j g.position r (λ e. ne (sym e)))) in
-      subst (λ (f : Option ℕ). IsOnWay any first (get_or pushed j []) (get_or held j []) (number_at start j) f
-      (grant_at (packet_at s k g (Some r)).0.grants j) (of_place j (items ++ Carried k g.position r ∷ [])))
-      (sym number)
-      (subst (λ (o : Option Grant). IsOnWay any first (get_or pushed j []) (get_or held j []) (number_at start j)
-      (number_at first_sent j) o (of_place j (items ++ Carried k g.position r ∷ []))) (sym now)
-      (subst (IsOnWay any first (get_or pushed j []) (get_or held j []) (number_at start j) (number_at first_sent j)
-      (grant_at s.grants j)) (sym of) way))
-
   record_sent : (s : State) (first_sent : Numbers) (way : List ℕ) (k : ℕ) (g : Grant) (w : Window) (r : List ℕ)
       → k < length places → length places ≤ 16 → s.phase ≡ Streaming → grant_at s.grants k ≡ Some g
       → slice_get windows k ≡ Some w → length r ≡ 512 → record_at w g.position ≡ Some r
       → Linked s first_sent way → Goes first_sent s.grants k way (packet_at s k g (Some r))
   record_sent s first_sent way k g w r lt most phase grant here long at l =
       let h : Grant = record { mode = g.mode; position = g.position + 1 } in
-      let new : State = (packet_at s k g (Some r)).0 in
+      let position : Option ℕ = option_map (λ (x : Grant). x.position) (grant_at s.grants k) in
       let shows : (v : Window) × (slice_get windows k ≡ Some v) × Shows v first (get_or pushed k [])
       × (v.capacity ≤ 1000000) = shown k lt in
       let one : shows.0 ≡ w = one_value (slice_get windows k) shows.0 w shows.1 here in
@@ -212,6 +149,9 @@ module _ (places : Places) (first : ℕ) (windows : List Window) (pushed : Lists
       (subst (λ (v : Window). Shows v first (get_or pushed k [])) one shows.2) at in
       let item : List Item = Carried k g.position r ∷ [] in
       let sent_now : Numbers = first_after first_sent s.grants k (packet_at s k g (Some r)).1 in
+      let number_k : number_at sent_now k ≡ or_else (number_at first_sent k) (Some g.position) =
+      put_here first_sent k (or_else (number_at first_sent k) position) None (omega (arith, l.room, lt, most))
+      ∙ ap (λ (o : Option Grant). or_else (number_at first_sent k) (option_map (λ (x : Grant). x.position) o)) grant in
       record {
         items = l.items ++ item;
         are_whole = whole_more l.items item l.are_whole (long, tt);
@@ -220,62 +160,18 @@ module _ (places : Places) (first : ℕ) (windows : List Window) (pushed : Lists
         before = λ still. absurd (subst IsBefore phase still);
         within = λ j past. carries_none j l.items item
             (ap (λ b. b ++ []) (carried_there k j g.position r (λ e. omega (arith, e, past, lt)))) ∙ l.within j past;
-        places_are = λ j below. elim (same_or_not j k) [
-          | inl e ↦ subst (λ i. IsOnWay any first (get_or pushed i []) (get_or held i []) (number_at start i)
-              (number_at sent_now i) (grant_at new.grants i) (of_place i (l.items ++ item))) (sym e)
-              (sent_here s first_sent l.items k g r (omega (arith, l.room, lt, most)) grant record_is
-              (l.places_are k lt))
-          | inr ne ↦ sent_there s first_sent l.items k j g r ne (l.places_are j below)
-        ];
+        places_are = each_sent s k g r l.items (λ i o is. i < length places → IsOnWay any first (get_or pushed i [])
+            (get_or held i []) (number_at start i) (number_at sent_now i) o is) grant
+            (λ below. subst (λ (f : Option ℕ). IsOnWay any first (get_or pushed k []) (get_or held k [])
+            (number_at start k) f (Some h) (of_place k l.items ++ (g.position, r) ∷ [])) (sym number_k)
+            (way_sent any first (get_or pushed k []) (get_or held k []) (number_at start k) (number_at first_sent k) g h
+            (of_place k l.items) r refl record_is (rw grant at (l.places_are k lt))))
+            (λ i ne below. subst (λ (f : Option ℕ). IsOnWay any first (get_or pushed i []) (get_or held i [])
+            (number_at start i) f (grant_at s.grants i) (of_place i l.items))
+            (sym (put_there first_sent k i (or_else (number_at first_sent k) position) None ne))
+            (l.places_are i below));
         room = length-set first_sent k _ ∙ l.room;
       }
-
-  at_ring : (s : State) (first_sent : Numbers) (way : List ℕ) (k : ℕ) (g : Grant) (w : Window) (o : Option (List ℕ))
-      → k < length places → length places ≤ 16 → s.phase ≡ Streaming → grant_at s.grants k ≡ Some g
-      → slice_get windows k ≡ Some w
-      → ((r : List ℕ) → o ≡ Some r → length r ≡ 512) → record_at w g.position ≡ o → Linked s first_sent way
-      → Goes first_sent s.grants k way (packet_at s k g o)
-  at_ring s first_sent way k g w None lt most phase grant here long found l =
-      nothing_sent s first_sent way (at Closed s.grants) (λ b. absurd b) refl l
-  at_ring s first_sent way k g w (Some r) lt most phase grant here long found l =
-      record_sent s first_sent way k g w r lt most phase grant here (long r refl) found l
-
-  at_end : (s : State) (first_sent : Numbers) (way : List ℕ) (k : ℕ) (b : Bool) → Linked s first_sent way
-      → Goes first_sent s.grants k way (at_next b s)
-  at_end s first_sent way k true l = stays_on s first_sent way (at Closed s.grants) (Finished ∷ []) (codes "END")
-      (λ b. absurd b) refl refl tt (λ k. refl) l
-  at_end s first_sent way k false l = nothing_sent s first_sent way s (λ b. b) refl l
-
-  choice : (Q : State × Sent → Type 0) (t : Bool) (x y : State × Sent) → Q x → Q y → Q (if t then x else y)
-  choice Q true x y p q = p
-  choice Q false x y p q = q
-
-  streamed : (s : State) (first_sent : Numbers) (way : List ℕ) (k : ℕ) (o : Option Grant) (ring : Option Window)
-      → k < length places → length places ≤ 16 → s.phase ≡ Streaming → grant_at s.grants k ≡ o
-      → slice_get windows k ≡ ring
-      → ((w : Window) (n : ℕ) (r : List ℕ) → slice_get windows k ≡ Some w → record_at w n ≡ Some r → length r ≡ 512)
-      → Linked s first_sent way → Goes first_sent s.grants k way (sent_of windows s k o ring)
-  streamed s first_sent way k None ring lt most phase grant here long l =
-      nothing_sent s first_sent way s (λ b. b) refl l
-  streamed s first_sent way k (Some g) None lt most phase grant here long l =
-      nothing_sent s first_sent way s (λ b. b) refl l
-  streamed s first_sent way k (Some g) (Some w) lt most phase grant here long l =
-      choice (Goes first_sent s.grants k way) (g.position == w.next) (at_next (has_sent_all windows s.grants) s)
-      (packet_at s k g (record_at w g.position))
-      (at_end s first_sent way k (has_sent_all windows s.grants) l)
-      (at_ring s first_sent way k g w (record_at w g.position) lt most phase grant here
-      (λ r e. long w g.position r here e) refl l)
-
-  sent_in_phase : (phase : Phase) (s : State) (first_sent : Numbers) (way : List ℕ) (k : ℕ) → k < length places
-      → length places ≤ 16 → s.phase ≡ phase
-      → ((w : Window) (n : ℕ) (r : List ℕ) → slice_get windows k ≡ Some w → record_at w n ≡ Some r → length r ≡ 512)
-      → Linked s first_sent way → Goes first_sent s.grants k way (sent_in phase windows s k)
-  sent_in_phase Fresh s first_sent way k lt most phase long l = nothing_sent s first_sent way s (λ b. b) refl l
-  sent_in_phase (Chosen j) s first_sent way k lt most phase long l = nothing_sent s first_sent way s (λ b. b) refl l
-  sent_in_phase (Granted j) s first_sent way k lt most phase long l = nothing_sent s first_sent way s (λ b. b) refl l
-  sent_in_phase Streaming s first_sent way k lt most phase long l =
-      streamed s first_sent way k (grant_at s.grants k) (slice_get windows k) lt most phase refl refl long l
-  sent_in_phase Closed s first_sent way k lt most phase long l = nothing_sent s first_sent way s (λ b. b) refl l
 
   -- once a packet was requested
   pub sent_link : (s : State) (first_sent : Numbers) (way : List ℕ) (k : ℕ) → k < length places → length places ≤ 16
@@ -283,4 +179,11 @@ module _ (places : Places) (first : ℕ) (windows : List Window) (pushed : Lists
       → Linked s first_sent way
       → Linked (sent windows s k).0 (first_after first_sent s.grants k (sent windows s k).1)
       (way ++ sent_bytes (sent windows s k).1)
-  sent_link s first_sent way k lt most long l = sent_in_phase s.phase s first_sent way k lt most refl long l
+  sent_link s first_sent way k lt most long l =
+      let waits : Linked s first_sent (way ++ []) = nothing_sent s first_sent way s (λ b. b) refl l in
+      by_sent windows s k (Goes first_sent s.grants k way) waits waits
+      (λ phase. nothing_sent s first_sent way (at Closed s.grants) (λ b. absurd b) refl l)
+      (λ phase. stays_on s first_sent way (at Closed s.grants) (Finished ∷ []) (codes "END") (λ b. absurd b) refl refl
+      tt (λ k. refl) l)
+      (λ g w r phase grant here is. record_sent s first_sent way k g w r lt most phase grant here
+      (long w g.position r here is) is l)

@@ -1,7 +1,8 @@
 -- What a client makes of the bytes of replies and packets, cut anywhere.
+use Rattle.slink_model.proofs.Items.{mark, mark_of, marked}
 use Rattle.std.proofs.Common.{◌≡◌, ℕ, ◌+◌, ◌%◌, ◌^◌, inl, inr, refl, sym, ap, subst, ◌∙◌, arith, Bool, true, false}
 use Rattle.std.proofs.Common.{List, [], ◌∷◌, ◌++◌, length, take, drop, take_at, drop_at, Option, Some}
-use Rattle.std.proofs.Common.{None, slice_get, codes, bytes_eq, nat_eq, ◌==◌, ◌&&◌, ◌||◌, if◌then◌else◌}
+use Rattle.std.proofs.Common.{None, codes, bytes_eq, nat_eq, ◌==◌, ◌&&◌, ◌||◌, if◌then◌else◌}
 use Rattle.std.specs.List.{starts_with}
 use Rattle.std.proofs.lemmas.Bool.Decides.{eqb_tells}
 use Rattle.std.proofs.lemmas.List.{take-append-le}
@@ -16,7 +17,7 @@ use Rattle.slink_feed.specs.declared.dialogue.Ending.TheVariants as endings
 use Rattle.slink_feed.specs.declared.dialogue.Event.{Event}
 use Rattle.slink_feed.specs.declared.dialogue.Event.TheVariants as events
 use Rattle.slink_feed.specs.declared.dialogue.Stage.{Stage}
-use Rattle.slink_feed.specs.declared.dialogue.Stage.TheVariants.{Unlinked, Station, Number, Packets, Ended}
+use Rattle.slink_feed.specs.declared.dialogue.Stage.TheVariants.{Station, Number, Packets, Ended}
 use Rattle.slink_feed.specs.declared.dialogue.Wanted.{Wanted}
 use Rattle.slink_feed.specs.Cutting.{IsWhole}
 use Rattle.slink_feed.specs.Dialogue.{Talk, Whole, Reply, Packet, End, Garbage, answer_of, at_packet, place_of, ended}
@@ -24,17 +25,13 @@ use Rattle.slink_feed.specs.Dialogue.{event_of, is_ahead, is_taken, read, read_a
 use Rattle.slink_feed.specs.Dialogue.{foreign_by, heard, requests_place, to_answer, to_place, reported, want_at}
 use Rattle.slink_feed.specs.Dialogue.{with_next}
 use Rattle.slink_feed.specs.Listening.{Brings, Listening, begun, whole}
-use Rattle.slink_model.specs.Ties.{AreWhole, Item, Accepted, Refused, Greeted, Carried, Finished, Outcome, ends, says}
+use Rattle.slink_model.specs.Ties.{AreWhole, Item, Accepted, Carried, Outcome, ends, says}
 use Rattle.slink_model.specs.Ties.{takes, reported_of, waits, way_bytes}
 use Rattle.slink_feed.proofs.Prefixed.{packet_long}
 
 quiet_ending : (ending : Ending) → reported_of (event_of ending) ≡ None
 quiet_ending endings.End = refl
-quiet_ending (endings.Refused k) = refl
-quiet_ending (endings.Gap k want got) = refl
-quiet_ending (endings.Unanswered k) = refl
-quiet_ending endings.Garbage = refl
-quiet_ending (endings.Foreign station network) = refl
+quiet_ending ending = refl
 
 -- two lists that are joined alike, cut at one station
 pub same_cut : (xs ys us vs : List ℕ) → length xs ≡ length us → xs ++ ys ≡ us ++ vs → (xs ≡ us) × (ys ≡ vs)
@@ -42,14 +39,6 @@ same_cut xs ys us vs l h = (
   sym (take_at xs ys (length us) l) ∙ (ap (take (length us)) h ∙ take_at us vs (length us) refl),
   sym (drop_at xs ys (length us) l) ∙ (ap (drop (length us)) h ∙ drop_at us vs (length us) refl),
 )
-
--- one byte stands at an index
-pub one_byte : (xs ys : List ℕ) (i a b : ℕ) → xs ≡ ys → slice_get xs i ≡ Some a → slice_get ys i ≡ Some b → a ≡ b
-one_byte xs ys i a b h left right = let both : Some a ≡ Some b = sym left ∙ (ap (λ zs. slice_get zs i) h ∙ right) in
-    cc both
-
-pub no_byte : (xs ys : List ℕ) (i a : ℕ) → xs ≡ ys → slice_get xs i ≡ Some a → slice_get ys i ≡ None → ⊥
-no_byte xs ys i a h left right = let both : Some a ≡ None = sym left ∙ (ap (λ zs. slice_get zs i) h ∙ right) in cc both
 
 bytes_same : (xs ys : List ℕ) → bytes_eq xs ys ≡ true → xs ≡ ys
 bytes_same xs ys h = (bytes_eq-Decides xs ys).0 h
@@ -81,52 +70,24 @@ module _ (t : Talk) (bytes way : List ℕ) (new : Listening) (e : Event) (plain 
   -- only an `OK` begins so
   accepted_first : (items : List Item) → codes "OK" ++ (line_end ++ way) ≡ way_bytes items
       → (rest : List Item) × (items ≡ Accepted ∷ rest) × (way ≡ way_bytes rest)
-  accepted_first [] h = absurd (no_byte (codes "OK" ++ (line_end ++ way)) [] 0 79 h refl refl)
+  accepted_first [] h = absurd (let e : 20299 ≡ 0 = ap (λ b. mark_of (take 2 b)) h in omega (arith, e))
   accepted_first (Accepted ∷ rest) h = (rest, refl, ap (drop 4) h)
-  accepted_first (Refused ∷ rest) h =
-      absurd (omega (
-        arith,
-        one_byte (codes "OK" ++ (line_end ++ way)) (way_bytes (Refused ∷ rest)) 0 79 69 h refl
-            refl,
-      ))
-  accepted_first (Greeted ∷ rest) h =
-      absurd (omega (
-        arith,
-        one_byte (codes "OK" ++ (line_end ++ way)) (way_bytes (Greeted ∷ rest)) 0 79 83 h refl
-            refl,
-      ))
-  accepted_first (Carried k n r ∷ rest) h =
-      absurd (omega (
-        arith,
-        one_byte (codes "OK" ++ (line_end ++ way)) (way_bytes (Carried k n r ∷ rest)) 0 79 83 h
-            refl refl,
-      ))
-  accepted_first (Finished ∷ rest) h =
-      absurd (omega (
-        arith,
-        one_byte (codes "OK" ++ (line_end ++ way)) (way_bytes (Finished ∷ rest)) 0 79 69 h refl
-            refl,
-      ))
+  accepted_first (i ∷ rest) h =
+      absurd (let e : 20299 ≡ mark i = ap (λ b. mark_of (take 2 b)) h ∙ marked i rest in omega (arith, e))
 
   -- only a packet begins so
   first_carried : (items : List Item) (n : ℕ) (r : List ℕ) → AreWhole items → IsPacket bytes n r → length bytes ≡ 520
       → bytes ++ way ≡ way_bytes items → take 2 (way_bytes items) ≡ codes "SL"
       → (k m : ℕ) × (rest : List Item) × (items ≡ Carried k m r ∷ rest) × (way ≡ way_bytes rest) × (n ≡ m % 2 ^ 24)
-  first_carried [] n r are is long h prefix = absurd (no_byte (codes "SL") [] 0 83 (sym prefix) refl refl)
-  first_carried (Accepted ∷ rest) n r are is long h prefix =
-      absurd (omega (arith, one_byte (take 2 (way_bytes (Accepted ∷ rest))) (codes "SL") 0 79 83 prefix refl refl))
-  first_carried (Refused ∷ rest) n r are is long h prefix =
-      absurd (omega (arith, one_byte (take 2 (way_bytes (Refused ∷ rest))) (codes "SL") 0 69 83 prefix refl refl))
-  first_carried (Greeted ∷ rest) n r are is long h prefix =
-      absurd (omega (arith, one_byte (take 2 (way_bytes (Greeted ∷ rest))) (codes "SL") 1 101 76 prefix refl refl))
-  first_carried (Finished ∷ rest) n r are is long h prefix =
-      absurd (omega (arith, one_byte (take 2 (way_bytes (Finished ∷ rest))) (codes "SL") 0 69 83 prefix refl refl))
+  first_carried [] n r are is long h prefix = absurd (let e : 0 ≡ 21324 = ap mark_of prefix in omega (arith, e))
   first_carried (Carried k m x ∷ rest) n r are is long h prefix =
       let cut = same_cut bytes way (packet_bytes (m % 2 ^ 24) x) (way_bytes rest)
       (long ∙ sym (packet_long (m % 2 ^ 24) x are.0)) h in
       let one = one_packet bytes n (m % 2 ^ 24) r x is
       (subst (λ b. IsPacket b (m % 2 ^ 24) x) (sym cut.0) (read_back (m % 2 ^ 24) x (omega arith))) in
       (k, m, rest, ap (λ y. Carried k m y ∷ rest) (sym one.1), cut.1, one.0)
+  first_carried (i ∷ rest) n r are is long h prefix =
+      absurd (let e : mark i ≡ 21324 = sym (marked i rest) ∙ ap mark_of prefix in omega (arith, e))
 
   carried_first : (items : List Item) (n : ℕ) (r : List ℕ) → AreWhole items → IsPacket bytes n r → length bytes ≡ 520
       → bytes ++ way ≡ way_bytes items
@@ -199,24 +160,18 @@ module _ (t : Talk) (bytes way : List ℕ) (new : Listening) (e : Event) (plain 
   has_whole : (stage : Stage) (items : List Item) (w : Whole) → AreWhole items → bytes ++ way ≡ way_bytes items
       → IsWhole stage bytes w → read_at stage t w ≡ (new.talk, e) → new.kept ≡ []
       → Outcome t.wants items bytes way new e
-  has_whole Unlinked items w are h is read none = absurd is
   has_whole (Station k) items (Reply line) are h is read none =
       has_reply items line k (requests_number k t) (answer_of line) refl is.0 h (refl, refl) read none
-  has_whole (Station k) items (Packet n r) are h is read none = absurd is
-  has_whole (Station k) items End are h is read none = absurd is
   has_whole (Station k) items Garbage are h is read none = has_ended items (endings.Unanswered k) read none
   has_whole (Number k) items (Reply line) are h is read none =
       has_reply items line k (requests_place (k + 1) t) (answer_of line) refl is.0 h
       (place_written (want_at t.wants (k + 1)) (k + 1) t) read none
-  has_whole (Number k) items (Packet n r) are h is read none = absurd is
-  has_whole (Number k) items End are h is read none = absurd is
   has_whole (Number k) items Garbage are h is read none = has_ended items (endings.Unanswered k) read none
-  has_whole Packets items (Reply line) are h is read none = absurd is
   has_whole Packets items (Packet n r) are h is read none =
       has_packet items n r (place_of t.wants r) are is.0 is.1 h refl read none
   has_whole Packets items End are h is read none = has_ended items endings.End read none
   has_whole Packets items Garbage are h is read none = has_ended items endings.Garbage read none
-  has_whole (Ended ending) items w are h is read none = absurd is
+  has_whole stage items w are h is read none = absurd is
 
 -- what comes of bytes, with those that were kept
 pub outcome : (t : Talk) (bytes way : List ℕ) (new : Listening) (e : Event) → t.holes ≡ false → (items : List Item)

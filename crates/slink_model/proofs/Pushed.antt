@@ -1,120 +1,330 @@
--- What was pushed of each station is what the steps append.
-use Rattle.std.proofs.Common.{◌≡◌, All, ◌≢◌, ℕ, ◌<◌, inl, inr, suc, refl, sym, ap, subst, ◌∙◌, arith, List, [], ◌∷◌}
-use Rattle.std.proofs.Common.{◌++◌, append_assoc, append-nil, length, length-set, set, get_or, Option, Some, slice_get}
-use Rattle.std.proofs.Common.{if◌then◌else◌, ◌==◌}
-use Rattle.std.proofs.lemmas.List.{length-map}
-use Rattle.slink_wire.specs.Place.{Fields}
-use Rattle.slink_model.specs.declared.world.Setup.{Setup}
-use Rattle.slink_model.specs.declared.world.Step.{Step}
-use Rattle.slink_model.specs.declared.world.Step.TheVariants.{Append, Connect, ToServer, ToClient, Send, Cut}
+-- The rings show what was pushed, and that is what the steps append.
+use Rattle.slink_feed.proofs.Items.{one_value, same_or_not, set_here, set_there}
+use Rattle.slink_feed.proofs.Items.{drop_none, keep_more, get_drop, within_is}
+use Rattle.slink_feed.specs.Window.{Window, with_record, window}
 use Rattle.slink_model.specs.Pushed.{appended, appended_by}
-use Rattle.slink_feed.specs.Window.{Window, with_record}
-use Rattle.slink_model.specs.World.{AllHappen, Happens, IsOf, Lists, WorldState, empty_window, opening, pushed_to}
+use Rattle.slink_model.specs.Slice.{IsSchedule, IsSound}
+use Rattle.slink_model.specs.Ties.{AreOfPlaces, AreShown, AreSound}
+use Rattle.slink_model.specs.Ties.{Places}
+use Rattle.slink_model.specs.World.{AllHappen, Happens, IsOf}
+use Rattle.slink_model.specs.World.{Lists, WorldState, empty_window, opening, pushed_to}
 use Rattle.slink_model.specs.World.{with_one}
-use Rattle.std.proofs.lemmas.Bool.Decides.{eqb_tells}
+use Rattle.slink_model.specs.declared.world.Setup.{Setup}
+use Rattle.slink_model.specs.declared.world.Step.TheVariants.{Append, Connect, ToServer, ToClient}
+use Rattle.slink_model.specs.declared.world.Step.{Step}
+use Rattle.slink_wire.specs.Place.{Bears, Fields}
+use Rattle.std.proofs.Common.{slice_get, length-set, get_or, map}
+use Rattle.std.proofs.Common.{Option, Some, None, option_map, inl}
+use Rattle.std.proofs.Common.{inr, subst, ◌∙◌, arith, List, [], ◌∷◌, ◌++◌, append_assoc, append-nil, length}
+use Rattle.std.proofs.Common.{length-append, ◌≡◌, ℕ, ◌+◌, ◌-◌, ◌<◌, zero, suc, refl, sym, ap}
+use Rattle.std.proofs.Common.{set, All, ◌≤◌, ◌⊎◌}
+use Rattle.std.proofs.lemmas.List.{length-map}
 use Rattle.std.proofs.lemmas.Option.{slice_get_within}
-use Rattle.slink_model.proofs.Worlds.{nothing_at}
-use Rattle.slink_feed.proofs.Items.{same_or_not, set_here, set_there, within_is}
+use Rattle.std.specs.List.{AllByRecursion}
+use Rattle.slink_model.specs.Counted.{shown_all, shown_of}
+use Rattle.slink_model.proofs.Items.{choice_here, choice_there}
+use Rattle.slink_model.proofs.Shaking.{AreRinged}
+use Rattle.slink_model.proofs.Requested.{also_at}
 
--- a list and a ring for each station
-record IsWide (count : ℕ) (w : WorldState) : Type 0 where
-  windows : length w.windows ≡ count
-  pushed : length w.pushed ≡ count
+-- by index, and one after another
+module _ {X : Type 0} (P : X → Type 0) where
+  pub by_index : (xs : List X) → AllByRecursion P xs → All P xs
+  by_index [] h i d lt = absurd (omega (arith, lt))
+  by_index (x ∷ xs) h zero d lt = h.0
+  by_index (x ∷ xs) h (suc i) d lt = by_index xs h.1 i d (omega (arith, lt))
 
-choice : (j k : ℕ) (b : List ℕ) → (j ≡ k) → (if j == k then b ∷ [] else []) ≡ b ∷ []
-choice j k b e = elim (eqb_tells j k) [
-  | inl same ↦ ap (λ t. if t then b ∷ [] else []) same.0
-  | inr other ↦ absurd (other.1 e)
+  pub in_turn : (xs : List X) → All P xs → AllByRecursion P xs
+  in_turn [] h = tt
+  in_turn (x ∷ xs) h = (h 0 x (omega arith), in_turn xs (λ i d lt. h (suc i) d (omega (arith, lt))))
+
+-- one step after another
+abbrev pub AreOf : Places → List Step → Type 0
+AreOf places [] = Unit {0}
+AreOf places (step ∷ steps) = IsOf places step × IsSound step × AreOf places steps
+
+pub each_of : (places : Places) (steps : List Step) → All (IsOf places) steps → All IsSound steps → AreOf places steps
+each_of places [] of sound = tt
+each_of places (step ∷ steps) of sound = (
+  of 0 step (omega arith),
+  sound 0 step (omega arith),
+  each_of places steps (λ k d lt. of (suc k) d (omega (arith, lt)))
+      (λ k d lt. sound (suc k) d (omega (arith, lt))),
+)
+
+pub nothing_at : (ps : Places) (k : ℕ) → ◌≡◌ {A = List (List ℕ)} (get_or (map (λ _. []) ps) k []) []
+nothing_at [] k = refl
+nothing_at (p ∷ ps) zero = refl
+nothing_at (p ∷ ps) (suc k) = nothing_at ps k
+
+-- the last element, or one before it
+get_last : (xs : List (List ℕ)) (b : List ℕ) (i : ℕ) (r : List ℕ) → slice_get (xs ++ b ∷ []) i ≡ Some r
+    → (slice_get xs i ≡ Some r) ⊎ (b ≡ r)
+get_last [] b zero r h = inr (let both : Some b ≡ Some r = h in cc both)
+get_last [] b (suc i) r h = absurd (let bad : None ≡ Some r = h in cc bad)
+get_last (x ∷ xs) b zero r h = inl h
+get_last (x ∷ xs) b (suc i) r h = get_last xs b i r h
+
+sound_more : (place : Fields) (xs : List (List ℕ)) (b : List ℕ) → length b ≡ 512 → Bears b place
+    → AreSound place xs → AreSound place (xs ++ b ∷ [])
+sound_more place xs b long bears sound i r h = elim (get_last xs b i r h) [
+  | inl before ↦ sound i r before
+  | inr last ↦ (sym (ap length last) ∙ long, subst (λ x. Bears x place) last bears)
 ]
 
-no_choice : (j k : ℕ) (b : List ℕ) → (j ≢ k) → (if j == k then b ∷ [] else []) ≡ []
-no_choice j k b ne = elim (eqb_tells j k) [
-  | inl same ↦ absurd (ne same.1)
-  | inr other ↦ ap (λ t. if t then b ∷ [] else []) other.0
-]
+-- what is shown once a record more was pushed
+shown_more : (setup : Setup) (p : Fields × Option ℕ) (pushed : List (List ℕ)) (b : List ℕ)
+    → with_record (shown_of setup p pushed) b ≡ shown_of setup p (pushed ++ b ∷ [])
+shown_more setup p pushed b =
+    ap (λ (rs : List (List ℕ)). record {
+      place = p.0;
+      capacity = setup.capacity;
+      records = rs;
+      next = setup.first + length pushed + 1;
+    }) (keep_more setup.capacity pushed b)
+    ∙ ap (λ n. record {
+      place = p.0;
+      capacity = setup.capacity;
+      records = window setup.capacity (pushed ++ b ∷ []);
+      next = n;
+    }) (let e : setup.first + length pushed + 1 ≡ setup.first + length (pushed ++ b ∷ []) = omega (
+      arith,
+      length-append pushed (b ∷ []),
+    ) in e)
+
+all_more : (setup : Setup) (ps : Places) (pushed : Lists) (k : ℕ) (b : List ℕ) (v : Window)
+    → slice_get (shown_all setup ps pushed) k ≡ Some v
+    → set (shown_all setup ps pushed) k (with_record v b) ≡ shown_all setup ps (with_one pushed k b)
+all_more setup [] pushed k b v here = absurd (let bad : None ≡ Some v = here in cc bad)
+all_more setup (p ∷ ps) [] k b v here = absurd (let bad : None ≡ Some v = here in cc bad)
+all_more setup (p ∷ ps) (f ∷ fs) zero b v here =
+    let one : shown_of setup p f ≡ v = one_value (Some (shown_of setup p f)) (shown_of setup p f) v refl here in
+    ap (λ (w : Window). w ∷ shown_all setup ps fs) (ap (λ (w : Window). with_record w b) (sym one)
+    ∙ shown_more setup p f b)
+all_more setup (p ∷ ps) (f ∷ fs) (suc k) b v here = ap (λ ws. shown_of setup p f ∷ ws) (all_more setup ps fs k b v here)
+
+opening_shown : (setup : Setup) (ps : Places) → map (empty_window setup) ps ≡ shown_all setup ps (map (λ p. []) ps)
+opening_shown setup [] = refl
+opening_shown setup (p ∷ ps) =
+    let one : empty_window setup p ≡ shown_of setup p [] =
+    ap (λ (rs : List (List ℕ)). record {
+      place = p.0;
+      capacity = setup.capacity;
+      records = rs;
+      next = setup.first;
+    }) (sym (drop_none (0 - setup.capacity)))
+    ∙ ap (λ n. record { place = p.0; capacity = setup.capacity; records = window setup.capacity []; next = n })
+    (let e : setup.first ≡ setup.first + length {A = List ℕ} [] = omega arith in e) in
+    ap (λ (w : Window). w ∷ map (empty_window setup) ps) one
+    ∙ ap (λ ws. shown_of setup p [] ∷ ws) (opening_shown setup ps)
+
+pub shown_at : (setup : Setup) (ps : Places) (pushed : Lists) (k : ℕ) (p : Fields × Option ℕ)
+    → length pushed ≡ length ps → slice_get ps k ≡ Some p
+    → slice_get (shown_all setup ps pushed) k ≡ Some (shown_of setup p (get_or pushed k []))
+shown_at setup [] pushed k p long here = absurd (let bad : None ≡ Some p = here in cc bad)
+shown_at setup (q ∷ ps) [] k p long here = absurd (omega (arith, long))
+shown_at setup (q ∷ ps) (f ∷ fs) zero p long here =
+    ap (λ (x : Fields × Option ℕ). Some (shown_of setup x f)) (one_value (Some q) q p refl here)
+shown_at setup (q ∷ ps) (f ∷ fs) (suc k) p long here = shown_at setup ps fs k p (omega (arith, long)) here
+
+shown_alike : (setup : Setup) (ps : Places) (pushed : Lists) (k : ℕ) → length pushed ≡ length ps
+    → option_map (λ (v : Window). v.place) (slice_get (shown_all setup ps pushed) k) ≡ option_map
+    (λ (p : Fields × Option ℕ). p.0) (slice_get ps k)
+shown_alike setup [] pushed k long = refl
+shown_alike setup (p ∷ ps) [] k long = absurd (omega (arith, long))
+shown_alike setup (p ∷ ps) (f ∷ fs) zero long = refl
+shown_alike setup (p ∷ ps) (f ∷ fs) (suc k) long = shown_alike setup ps fs k (omega (arith, long))
+
+shown_long : (setup : Setup) (ps : Places) (pushed : Lists) → length pushed ≡ length ps
+    → length (shown_all setup ps pushed) ≡ length ps
+shown_long setup [] pushed long = refl
+shown_long setup (p ∷ ps) [] long = absurd (omega (arith, long))
+shown_long setup (p ∷ ps) (f ∷ fs) long =
+    let more : length (shown_all setup ps fs) ≡ length ps = shown_long setup ps fs (omega (arith, long)) in
+    omega (arith, more)
 
 pub one_more : (lists : Lists) (j k : ℕ) (b : List ℕ) → j < length lists
     → get_or (with_one lists j b) k [] ≡ get_or lists k [] ++ appended_by k (Append j b)
 one_more lists j k b lt = elim (same_or_not k j) [
   | inl e ↦ subst (λ i. get_or (with_one lists j b) i [] ≡ get_or lists i [] ++ appended_by i (Append j b)) (sym e)
       (set_here lists j (get_or lists j [] ++ b ∷ []) [] lt
-      ∙ ap (λ xs. get_or lists j [] ++ xs) (sym (choice j j b refl)))
+      ∙ ap (λ xs. get_or lists j [] ++ xs) (sym (choice_here j (b ∷ []) [])))
   | inr ne ↦ set_there lists j k (get_or lists j [] ++ b ∷ []) [] ne
       ∙ (sym (append-nil (get_or lists k []))
-      ∙ ap (λ xs. get_or lists k [] ++ xs) (sym (no_choice j k b (λ e. ne (sym e)))))
+      ∙ ap (λ xs. get_or lists k [] ++ xs) (sym (choice_there j k (b ∷ []) [] (λ e. ne (sym e)))))
 ]
 
-record Moves (count : ℕ) (w : WorldState) (step : Step) (u : WorldState) : Type 0 where
-  wide : IsWide count u
-  grows : (k : ℕ) → get_or u.pushed k [] ≡ get_or w.pushed k [] ++ appended_by k step
+pub each_more : (lists : Lists) (k : ℕ) (b : List ℕ) (i : ℕ) (Q : List (List ℕ) → Type 0) → k < length lists
+    → Q (get_or lists i []) → (Q (get_or lists i []) → Q (get_or lists i [] ++ b ∷ []))
+    → Q (get_or (with_one lists k b) i [])
+each_more lists k b i Q lt q more = elim (same_or_not i k) [
+  | inl e ↦ subst Q (sym (ap (λ y. get_or (with_one lists k b) y []) e
+      ∙ (set_here lists k (get_or lists k [] ++ b ∷ []) [] lt ∙ ap (λ y. get_or lists y [] ++ b ∷ []) (sym e))))
+      (more q)
+  | inr ne ↦ subst Q (sym (set_there lists k i (get_or lists k [] ++ b ∷ []) [] ne)) q
+]
 
-stays : (count : ℕ) (w u : WorldState) (step : Step) → ((k : ℕ) → appended_by k step ≡ []) → u.windows ≡ w.windows
-    → u.pushed ≡ w.pushed → IsWide count w → Moves count w step u
-stays count w u step none windows pushed wide = record {
-  wide = record { windows = ap length windows ∙ wide.windows; pushed = ap length pushed ∙ wide.pushed };
-  grows = λ k. ap (λ (xs : Lists). get_or xs k []) pushed
-      ∙ (sym (append-nil (get_or w.pushed k [])) ∙ ap (λ xs. get_or w.pushed k [] ++ xs) (sym (none k)));
-}
+module _ (setup : Setup) where
+  abbrev places : Places
+  places = setup.places.items
 
-push : (count : ℕ) (w u : WorldState) (j : ℕ) (b : List ℕ) → j < count → IsWide count w
-    → u ≡ pushed_to w j b (slice_get w.windows j) → Moves count w (Append j b) u
-push count w u j b lt wide is =
-    let at : (v : Window) × (slice_get w.windows j ≡ Some v) =
-    within_is w.windows j (omega (arith, lt, wide.windows)) in
-    let becomes : u ≡ record w { windows = set w.windows j (with_record at.0 b); pushed = with_one w.pushed j b } =
-    is ∙ ap (pushed_to w j b) at.1 in
-    let windows : u.windows ≡ set w.windows j (with_record at.0 b) = ap (λ (x : WorldState). x.windows) becomes in
-    let pushed : u.pushed ≡ with_one w.pushed j b = ap (λ (x : WorldState). x.pushed) becomes in
-    record {
-      wide = record {
-        windows = ap length windows ∙ (length-set w.windows j (with_record at.0 b) ∙ wide.windows);
-        pushed = ap length pushed ∙ (length-set w.pushed j (get_or w.pushed j [] ++ b ∷ []) ∙ wide.pushed);
-      };
-      grows = λ k. ap (λ (xs : Lists). get_or xs k []) pushed
-          ∙ one_more w.pushed j k b (omega (arith, lt, wide.pushed));
-    }
+  -- There are as many lists as stations, and each ring shows its own.
+  pub record IsShown (w : WorldState) : Type 0 where
+    pub windows : w.windows ≡ shown_all setup places w.pushed
+    pub long : length w.pushed ≡ length places
 
-moves : (places : List (Fields × Option ℕ)) (w u : WorldState) (step : Step) → IsOf places step
-    → IsWide (length places) w → Happens w step u → Moves (length places) w step u
-moves places w u (Append j b) of wide h = push (length places) w u j b (slice_get_within places j of.0 of.1) wide h
-moves places w u Connect of wide h =
-    stays (length places) w u Connect (λ k. refl) (ap (λ (x : WorldState). x.windows) h.becomes)
-    (ap (λ (x : WorldState). x.pushed) h.becomes) wide
-moves places w u (ToServer n) of wide h =
-    stays _ _ _ _ (λ k. refl) (ap (λ (x : WorldState). x.windows) h.0) (ap (λ (x : WorldState). x.pushed) h.0) wide
-moves places w u (ToClient n) of wide h = stays (length places) w u (ToClient n) (λ k. refl) h.windows h.pushed wide
-moves places w u (Send j) of wide h =
-    stays _ _ _ _ (λ k. refl) (ap (λ (x : WorldState). x.windows) h) (ap (λ (x : WorldState). x.pushed) h) wide
-moves places w u Cut of wide h = stays (length places) w u Cut (λ k. refl) (ap (λ (x : WorldState). x.windows) h)
-    (ap (λ (x : WorldState). x.pushed) h) wide
+  pub ring_at : (w : WorldState) (k : ℕ) (p : Fields × Option ℕ) → IsShown w → slice_get places k ≡ Some p
+      → slice_get w.windows k ≡ Some (shown_of setup p (get_or w.pushed k []))
+  ring_at w k p s here =
+      ap (λ (ws : List Window). slice_get ws k) s.windows ∙ shown_at setup places w.pushed k p s.long here
 
-abbrev AllAreOf : List (Fields × Option ℕ) → List Step → Type 0
-AllAreOf places [] = Unit {0}
-AllAreOf places (step ∷ steps) = IsOf places step × AllAreOf places steps
+  pub rings_long : (w : WorldState) → IsShown w → length w.windows ≡ length places
+  rings_long w s = ap length s.windows ∙ shown_long setup places w.pushed s.long
 
-all_of : (places : List (Fields × Option ℕ)) (steps : List Step) → All (IsOf places) steps → AllAreOf places steps
-all_of places [] h = tt
-all_of places (step ∷ steps) h =
-    (h 0 step (omega arith), all_of places steps (λ i d lt. h (suc i) d (omega (arith, lt))))
+  -- so it is after a step
+  pub record Moves (w : WorldState) (step : Step) (u : WorldState) : Type 0 where
+    pub shown : IsShown u
+    pub grows : (k : ℕ) → get_or u.pushed k [] ≡ get_or w.pushed k [] ++ appended_by k step
 
-all_move : (places : List (Fields × Option ℕ)) (w v : WorldState) (steps : List Step) → AllAreOf places steps
-    → IsWide (length places) w → AllHappen w steps v
-    → (k : ℕ) → get_or v.pushed k [] ≡ get_or w.pushed k [] ++ appended k steps
-all_move places w v [] of wide run k = ap (λ (x : WorldState). get_or x.pushed k []) run
-    ∙ sym (append-nil (get_or w.pushed k []))
-all_move places w v (step ∷ steps) of wide run k =
-    let one : Moves (length places) w step run.0 = moves places w run.0 step of.0 wide run.1 in
-    all_move places run.0 v steps of.1 one.wide run.2 k
-    ∙ (ap (λ xs. xs ++ appended k steps) (one.grows k) ∙ append_assoc (get_or w.pushed k []) (appended_by k step)
-    (appended k steps))
+  stays : (w u : WorldState) (step : Step) → ((k : ℕ) → appended_by k step ≡ []) → u.windows ≡ w.windows
+      → u.pushed ≡ w.pushed → IsShown w → Moves w step u
+  stays w u step none windows pushed s = record {
+    shown = record {
+      windows = windows ∙ (s.windows ∙ ap (shown_all setup places) (sym pushed));
+      long = ap length pushed ∙ s.long;
+    };
+    grows = λ k. ap (λ (xs : Lists). get_or xs k []) pushed
+        ∙ (sym (append-nil (get_or w.pushed k [])) ∙ ap (λ xs. get_or w.pushed k [] ++ xs) (sym (none k)));
+  }
+
+  push : (w u : WorldState) (j : ℕ) (b : List ℕ) → IsOf places (Append j b) → IsShown w
+      → u ≡ pushed_to w j b (slice_get w.windows j) → Moves w (Append j b) u
+  push w u j b of s is =
+      let v : Window = shown_of setup of.0 (get_or w.pushed j []) in
+      let becomes : u ≡ record w { windows = set w.windows j (with_record v b); pushed = with_one w.pushed j b } =
+      is ∙ ap (pushed_to w j b) (ring_at w j of.0 s of.1) in
+      let pushed : u.pushed ≡ with_one w.pushed j b = ap (λ (x : WorldState). x.pushed) becomes in
+      let lt : j < length w.pushed = omega (arith, slice_get_within places j of.0 of.1, s.long) in
+      record {
+        shown = record {
+          windows = ap (λ (x : WorldState). x.windows) becomes
+              ∙ (ap (λ (ws : List Window). set ws j (with_record v b)) s.windows
+              ∙ (all_more setup places w.pushed j b v (shown_at setup places w.pushed j of.0 s.long of.1)
+              ∙ ap (shown_all setup places) (sym pushed)));
+          long = ap length pushed ∙ (length-set w.pushed j (get_or w.pushed j [] ++ b ∷ []) ∙ s.long);
+        };
+        grows = λ k. ap (λ (xs : Lists). get_or xs k []) pushed ∙ one_more w.pushed j k b lt;
+      }
+
+  pub moves : (w u : WorldState) (step : Step) → IsOf places step → IsShown w → Happens w step u → Moves w step u
+  moves w u (Append j b) of s h = push w u j b of s h
+  moves w u Connect of s h = stays w u Connect (λ k. refl) (ap (λ (x : WorldState). x.windows) h.becomes)
+      (ap (λ (x : WorldState). x.pushed) h.becomes) s
+  moves w u (ToServer n) of s h = stays w u (ToServer n) (λ k. refl) (ap (λ (x : WorldState). x.windows) h.0)
+      (ap (λ (x : WorldState). x.pushed) h.0) s
+  moves w u (ToClient n) of s h = stays w u (ToClient n) (λ k. refl) h.windows h.pushed s
+  moves w u step of s h = stays w u step (λ k. refl) (ap (λ (x : WorldState). x.windows) h)
+      (ap (λ (x : WorldState). x.pushed) h) s
+
+  all_move : (w v : WorldState) (steps : List Step) → AllByRecursion (IsOf places) steps → IsShown w
+      → AllHappen w steps v → (k : ℕ) → get_or v.pushed k [] ≡ get_or w.pushed k [] ++ appended k steps
+  all_move w v [] of s run k = ap (λ (x : WorldState). get_or x.pushed k []) run
+      ∙ sym (append-nil (get_or w.pushed k []))
+  all_move w v (step ∷ steps) of s run k =
+      let one : Moves w step run.0 = moves w run.0 step of.0 s run.1 in
+      all_move run.0 v steps of.1 one.shown run.2 k
+      ∙ (ap (λ xs. xs ++ appended k steps) (one.grows k) ∙ append_assoc (get_or w.pushed k []) (appended_by k step)
+      (appended k steps))
+
+  pub opening_is_shown : IsShown (opening setup)
+  opening_is_shown = record { windows = opening_shown setup places; long = length-map places (λ _. []) }
+
+  -- the same, where each record is of its station
+  pub record Rings (w : WorldState) : Type 0 where
+    pub shown : IsShown w
+    pub sound : AreOfPlaces places w.pushed
+
+  sound_on : (w u : WorldState) (step : Step) → IsOf places step → IsSound step
+      → ((k : ℕ) → get_or u.pushed k [] ≡ get_or w.pushed k [] ++ appended_by k step) → AreOfPlaces places w.pushed
+      → AreOfPlaces places u.pushed
+  sound_on w u (Append j b) of long grows sound k p here = elim (same_or_not k j) [
+    | inl e ↦ subst (AreSound p.0) (sym (grows k ∙ ap (λ xs. get_or w.pushed k [] ++ xs)
+        (ap (λ i. appended_by i (Append j b)) e ∙ choice_here j (b ∷ []) [])))
+        (sound_more p.0 (get_or w.pushed k []) b long (subst (λ (q : Fields × Option ℕ). Bears b q.0)
+        (one_value (slice_get places j) of.0 p of.1 (subst (λ i. slice_get places i ≡ Some p) e here)) of.2)
+        (sound k p here))
+    | inr ne ↦ subst (AreSound p.0) (sym (grows k ∙ (ap (λ xs. get_or w.pushed k [] ++ xs)
+        (choice_there j k (b ∷ []) [] (λ e. ne (sym e))) ∙ append-nil (get_or w.pushed k [])))) (sound k p here)
+  ]
+  sound_on w u step of long grows sound k p here =
+      subst (AreSound p.0) (sym (grows k ∙ append-nil (get_or w.pushed k []))) (sound k p here)
+
+  pub rings_next : (w u : WorldState) (step : Step) → IsOf places step → IsSound step → Happens w step u → Rings w
+      → Rings u
+  rings_next w u step of long h r =
+      let one : Moves w step u = moves w u step of r.shown h in
+      record { shown = one.shown; sound = sound_on w u step of long one.grows r.sound }
+
+  pub opening_rings : Rings (opening setup)
+  opening_rings = record {
+    shown = opening_is_shown;
+    sound = λ k p here. subst (AreSound p.0) (sym (nothing_at places k))
+        (λ i r h. absurd (let bad : None ≡ Some r = h in cc bad));
+  }
+
+  pub rings_all : (steps : List Step) (w v : WorldState) (run : AllHappen w steps v) → AreOf places steps → Rings w
+      → Rings v
+  rings_all [] w v run of r = subst Rings (sym run) r
+  rings_all (step ∷ steps) w v run of r =
+      rings_all steps run.0 v run.2 of.2 (rings_next w run.0 step of.0 of.1 run.1 r)
+
+  -- what is known of each ring
+  pub are_shown : (w : WorldState) → setup.capacity ≤ 1000000 → IsShown w
+      → AreShown places setup.first w.windows w.pushed
+  are_shown w room s k lt =
+      let q : (p : Fields × Option ℕ) × (slice_get places k ≡ Some p) = within_is places k lt in (
+        shown_of setup q.0 (get_or w.pushed k []),
+        ring_at w k q.0 s q.1,
+        record { records = refl; next = refl },
+        room,
+      )
+
+  pub ringed : (w : WorldState) → Rings w → AreRinged places w.windows
+  ringed w r = record {
+    alike = alike;
+    sound = λ k v here.
+        let q : (p : Fields × Option ℕ) × (slice_get places k ≡ Some p) × (v.place ≡ p.0) =
+        also_at (λ (x : Window). x.place) (λ (x : Fields × Option ℕ). x.0) (slice_get w.windows k)
+        (slice_get places k) v (alike k) here in
+        let F : List (List ℕ) = get_or w.pushed k [] in
+        subst (λ (x : Window). AreSound x.place x.records)
+        (one_value (slice_get w.windows k) (shown_of setup q.0 F) v (ring_at w k q.0 r.shown q.1) here)
+        (λ j x at_j. r.sound k q.0 q.1 (length F - setup.capacity + j) x
+        (sym (get_drop (length F - setup.capacity) F j) ∙ at_j));
+  }
+    where
+      alike : (k : ℕ) → option_map (λ (v : Window). v.place) (slice_get w.windows k) ≡ option_map
+          (λ (p : Fields × Option ℕ). p.0) (slice_get places k)
+      alike k = ap (λ (ws : List Window). option_map (λ (v : Window). v.place) (slice_get ws k)) r.shown.windows
+          ∙ shown_alike setup places w.pushed k r.shown.long
+
+pub rings_after : (setup : Setup) (steps : List Step) (now : WorldState) → AllHappen (opening setup) steps now
+    → IsSchedule setup steps → Rings setup now
+rings_after setup steps now run is = rings_all setup steps (opening setup) now run
+    (each_of setup.places.items steps is.of_places is.sound) (opening_rings setup)
 
 pub pushes : (setup : Setup) (steps : List Step) (now : WorldState) → AllHappen (opening setup) steps now
     → All (IsOf setup.places.items) steps
     → (k : ℕ) → get_or now.pushed k [] ≡ appended k steps
 pushes setup steps now run of k =
-    all_move setup.places.items (opening setup) now steps (all_of setup.places.items steps of)
-    (record {
-      windows = length-map setup.places.items (empty_window setup);
-      pushed = length-map setup.places.items (λ _. []);
-    }) run k
+    all_move setup (opening setup) now steps (in_turn (IsOf setup.places.items) steps of) (opening_is_shown setup) run k
     ∙ ap (λ xs. xs ++ appended k steps) (nothing_at setup.places.items k)
+
+-- a step appends one record at most
+pub one_at_most : (k : ℕ) (step : Step) → length (appended_by k step) ≤ 1
+one_at_most k (Append j b) = elim (same_or_not j k) [
+  | inl e ↦ let one : length (appended_by k (Append j b)) ≡ 1 =
+      ap length (ap (λ i. appended_by i (Append j b)) (sym e) ∙ choice_here j (b ∷ []) []) in omega (arith, one)
+  | inr ne ↦ let none : length (appended_by k (Append j b)) ≡ 0 = ap length (choice_there j k (b ∷ []) [] ne) in
+      omega (arith, none)
+]
+one_at_most k step = omega arith

@@ -14,23 +14,6 @@ use Rattle.slink_model.specs.World.{Reads, Lists, Numbers, Taking, noted, piece_
 use Rattle.slink_feed.proofs.Received.{begun_none}
 use Rattle.slink_feed.proofs.Wholes.{begun_no_whole}
 
--- There is a link of which more is taken, or none, or it is at its end.
-pub data Place (stage : Stage) : Type 0 where
-  linked : IsLinked stage → Place stage
-  unlinked : stage ≡ Unlinked → Place stage
-  ended : (ending : Ending) → stage ≡ Ended ending → Place stage
-
-place_of : (stage : Stage) → Place stage
-place_of Unlinked = unlinked refl
-place_of (Ended ending) = ended ending refl
-place_of stage = linked tt
-
-not_unlinked : (stage : Stage) → stage ≡ Unlinked → ¬ (IsLinked stage)
-not_unlinked stage e is = subst IsLinked e is
-
-not_ended : (stage : Stage) (ending : Ending) → stage ≡ Ended ending → ¬ (IsLinked stage)
-not_ended stage ending e is = subst IsLinked e is
-
 -- what a client does with a piece, by its contract
 pub record BytesRead (old : Listening) (bytes : List ℕ) (used : ℕ) (new : Listening) (event : Event) : Type 0 where
   pub brings : IsLinked old.talk.stage → Brings old.talk (old.kept ++ take used bytes) new event
@@ -49,40 +32,30 @@ bytes_read old new bytes used event brings all before beyond =
 
 nothing_noted : (first_sent : Numbers) (ending : Ending) (t : Taking) → noted first_sent (event_of ending) t ≡ t
 nothing_noted first_sent endings.End t = refl
-nothing_noted first_sent (endings.Refused k) t = refl
-nothing_noted first_sent (endings.Gap k want got) t = refl
-nothing_noted first_sent (endings.Unanswered k) t = refl
-nothing_noted first_sent endings.Garbage t = refl
-nothing_noted first_sent (endings.Foreign station network) t = refl
+nothing_noted first_sent ending t = refl
 
 module _ (first_sent : Numbers) (held : Lists) (start : Numbers) (to_server : List ℕ) where
   abbrev of : Listening → Taking
   of c = record { client = c; held = held; start = start; to_server = to_server }
 
-  by_place : (old new : Listening) (bytes rest : List ℕ) (used : ℕ) (event : Event) (last : Taking)
-      → Place old.talk.stage → BytesRead old bytes used new event
+  pub reads_more : (old new : Listening) (bytes rest : List ℕ) (used : ℕ) (event : Event) (last : Taking)
+      (stage : Stage) → old.talk.stage ≡ stage → BytesRead old bytes used new event
       → Reads first_sent (noted first_sent event (of new)) rest last
       → Reads first_sent (of old) (take used bytes ++ rest) last
-  by_place old new bytes rest used event last (linked is) h more =
-      piece_read (of old) last new (take used bytes ++ rest) (take used bytes) rest event refl is (h.brings is) more
-  by_place old new bytes rest used event last (unlinked is) h more =
+  reads_more old new bytes rest used event last Unlinked is h more =
       let same : noted first_sent event (of new) ≡ of old =
       ap (λ (e : Event). noted first_sent e (of new)) (h.unlinked is).1 ∙ ap of (h.unlinked is).2 in
-      piece_lost (of old) last (take used bytes ++ rest) (take used bytes) rest refl (not_unlinked old.talk.stage is)
+      piece_lost (of old) last (take used bytes ++ rest) (take used bytes) rest refl (λ on. subst IsLinked is on)
       (subst (λ (t : Taking). Reads first_sent t rest last) same more)
-  by_place old new bytes rest used event last (ended ending is) h more =
+  reads_more old new bytes rest used event last (Ended ending) is h more =
       let same : noted first_sent event (of new) ≡ of old =
       ap (λ (e : Event). noted first_sent e (of new)) (h.ended ending is).1
       ∙ (nothing_noted first_sent ending (of new) ∙ ap of (h.ended ending is).2) in
-      piece_lost (of old) last (take used bytes ++ rest) (take used bytes) rest refl
-      (not_ended old.talk.stage ending is) (subst (λ (t : Taking). Reads first_sent t rest last) same more)
-
-  pub reads_more : (old new : Listening) (bytes rest : List ℕ) (used : ℕ) (event : Event) (last : Taking)
-      → BytesRead old bytes used new event
-      → Reads first_sent (noted first_sent event (of new)) rest last
-      → Reads first_sent (of old) (take used bytes ++ rest) last
-  reads_more old new bytes rest used event last h more =
-      by_place old new bytes rest used event last (place_of old.talk.stage) h more
+      piece_lost (of old) last (take used bytes ++ rest) (take used bytes) rest refl (λ on. subst IsLinked is on)
+      (subst (λ (t : Taking). Reads first_sent t rest last) same more)
+  reads_more old new bytes rest used event last stage is h more =
+      let on : IsLinked old.talk.stage = subst IsLinked (sym is) tt in
+      piece_read (of old) last new (take used bytes ++ rest) (take used bytes) rest event refl on (h.brings on) more
 
 brings_some : (old new : Listening) (bytes : List ℕ) (used : ℕ) (event : Event) → 0 < length bytes → Keeps old
     → BytesRead old bytes used new event → used ≡ 0 → Brings old.talk (old.kept ++ take used bytes) new event → ⊥
@@ -93,32 +66,24 @@ brings_some old new bytes used event some keeps h none (whole w is read empty) =
 brings_some old new bytes used event some keeps h none (begun is same quiet) = let all : used ≡ length bytes =
     h.all quiet in omega (arith, all, none, some)
 
-read_none : (old new : Listening) (bytes : List ℕ) (used : ℕ) (event : Event) → Place old.talk.stage
-    → 0 < length bytes → Keeps old → BytesRead old bytes used new event → used ≡ 0 → (¬ (IsLinked old.talk.stage))
-    × (new ≡ old)
-read_none old new bytes used event (linked is) some keeps h none =
-    absurd (brings_some old new bytes used event some keeps h none (h.brings is))
-read_none old new bytes used event (unlinked is) some keeps h none = (not_unlinked old.talk.stage is, (h.unlinked is).2)
-read_none old new bytes used event (ended ending is) some keeps h none =
-    (not_ended old.talk.stage ending is, (h.ended ending is).2)
-
-pub nothing_read : (old new : Listening) (bytes : List ℕ) (used : ℕ) (event : Event) → 0 < length bytes → Keeps old
-    → BytesRead old bytes used new event → used ≡ 0 → (¬ (IsLinked old.talk.stage)) × (new ≡ old)
-nothing_read old new bytes used event some keeps h none =
-    read_none old new bytes used event (place_of old.talk.stage) some keeps h none
+pub nothing_read : (old new : Listening) (bytes : List ℕ) (used : ℕ) (event : Event) (stage : Stage)
+    → old.talk.stage ≡ stage → 0 < length bytes → Keeps old → BytesRead old bytes used new event → used ≡ 0
+    → (¬ (IsLinked old.talk.stage)) × (new ≡ old)
+nothing_read old new bytes used event Unlinked is some keeps h none =
+    ((λ on. subst IsLinked is on), (h.unlinked is).2)
+nothing_read old new bytes used event (Ended ending) is some keeps h none =
+    ((λ on. subst IsLinked is on), (h.ended ending is).2)
+nothing_read old new bytes used event stage is some keeps h none =
+    absurd (brings_some old new bytes used event some keeps h none (h.brings (subst IsLinked (sym is) tt)))
 
 begun_once : (talk : Talk) (bytes : List ℕ) (new : Listening) (e : Event) → Brings talk bytes new e → Keeps new
 begun_once talk bytes new e (whole w is h empty) =
     subst (IsBegun new.talk.stage) (sym empty) (begun_none new.talk.stage)
 begun_once talk bytes new e (begun is same quiet) = subst Keeps (sym same) is
 
-still_kept : (old new : Listening) (bytes : List ℕ) (used : ℕ) (event : Event) → Place old.talk.stage → Keeps old
-    → BytesRead old bytes used new event → Keeps new
-still_kept old new bytes used event (linked is) keeps h =
-    begun_once old.talk (old.kept ++ take used bytes) new event (h.brings is)
-still_kept old new bytes used event (unlinked is) keeps h = subst Keeps (sym (h.unlinked is).2) keeps
-still_kept old new bytes used event (ended ending is) keeps h = subst Keeps (sym (h.ended ending is).2) keeps
-
-pub still_keeps : (old new : Listening) (bytes : List ℕ) (used : ℕ) (event : Event) → Keeps old
-    → BytesRead old bytes used new event → Keeps new
-still_keeps old new bytes used event keeps h = still_kept old new bytes used event (place_of old.talk.stage) keeps h
+pub still_keeps : (old new : Listening) (bytes : List ℕ) (used : ℕ) (event : Event) (stage : Stage)
+    → old.talk.stage ≡ stage → Keeps old → BytesRead old bytes used new event → Keeps new
+still_keeps old new bytes used event Unlinked is keeps h = subst Keeps (sym (h.unlinked is).2) keeps
+still_keeps old new bytes used event (Ended ending) is keeps h = subst Keeps (sym (h.ended ending is).2) keeps
+still_keeps old new bytes used event stage is keeps h =
+    begun_once old.talk (old.kept ++ take used bytes) new event (h.brings (subst IsLinked (sym is) tt))

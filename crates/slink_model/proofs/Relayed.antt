@@ -1,8 +1,9 @@
 -- What comes of a packing that is sent through a schedule.
+use Rattle.slink_model.proofs.Pushed.{by_index, in_turn, one_at_most}
 use Rattle.std.proofs.Common.{◌≡◌, All, ◌≢◌, ℕ, ◌+◌, ◌-◌, ◌*◌, ◌/◌, ◌^◌, ◌<◌, ◌≤◌, inl, inr, zero, suc, refl, sym, ap}
 use Rattle.std.proofs.Common.{subst, ◌∙◌, arith, List, [], ◌∷◌, ◌++◌, append_assoc, append-nil, length, length-append}
-use Rattle.std.proofs.Common.{map, take, drop, get_or, Bool, true, false, Option, Some, None, Result, Ok, Err, IfOk}
-use Rattle.std.proofs.Common.{IfErr, slice_get, slice_range, if◌then◌else◌, ◌==◌}
+use Rattle.std.proofs.Common.{map, take, drop, get_or, true, false, Option, Some, None, Result, Ok, Err, IfOk}
+use Rattle.std.proofs.Common.{IfErr, slice_get, slice_range, ◌==◌}
 use Rattle.std.specs.List.{AllByRecursion, concat}
 use Rattle.std.specs.Simd.{first_chunks}
 use Rattle.std.proofs.Math.Nat.{mul-div_cancel_left}
@@ -33,17 +34,6 @@ use Rattle.mseed_pack.specs.Packing.{IsPacking}
 use Rattle.slink_model.specs.declared.relaying.RelayFault.{RelayFault}
 use Rattle.slink_model.specs.declared.relaying.RelayFault.TheVariants as faults
 use Rattle.slink_model.specs.private.Relaying.{IsAmong, IsOfRecords, IsPackedAs}
-
--- by index, and one after another
-module _ {X : Type 0} (P : X → Type 0) where
-  pub by_index : (xs : List X) → AllByRecursion P xs → All P xs
-  by_index [] h i d lt = absurd (omega (arith, lt))
-  by_index (x ∷ xs) h zero d lt = h.0
-  by_index (x ∷ xs) h (suc i) d lt = by_index xs h.1 i d (omega (arith, lt))
-
-  pub in_turn : (xs : List X) → All P xs → AllByRecursion P xs
-  in_turn [] h = tt
-  in_turn (x ∷ xs) h = (h 0 x (omega arith), in_turn xs (λ i d lt. h (suc i) d (omega (arith, lt))))
 
 -- records of one length, cut out of their bytes
 long_as : (rs : List (List ℕ)) → AllByRecursion (λ (r : List ℕ). length r ≡ 512) rs
@@ -196,19 +186,11 @@ between rs pushed held steps first next start of is h =
     }
 
 -- they are no more than the steps
-one_at_most : (k : ℕ) (b : List ℕ) → length (appended_by 0 (Append k b)) ≤ 1
-one_at_most k b = elim (eqb_tells k 0) [
-  | inl same ↦ let e : length (appended_by 0 (Append k b)) ≡ 1 =
-      ap (λ (t : Bool). length (if t then b ∷ [] else [])) same.0 in omega (arith, e)
-  | inr other ↦ let e : length (appended_by 0 (Append k b)) ≡ 0 =
-      ap (λ (t : Bool). length (if t then b ∷ [] else [])) other.0 in omega (arith, e)
-]
-
 appended_few : (steps : List Step) → length (appended 0 steps) ≤ length steps
 appended_few [] = omega arith
 appended_few (Append k b ∷ steps) =
     let more : length (appended 0 steps) ≤ length steps = appended_few steps in
-    let one : length (appended_by 0 (Append k b)) ≤ 1 = one_at_most k b in
+    let one : length (appended_by 0 (Append k b)) ≤ 1 = one_at_most 0 (Append k b) in
     let sum : length (appended 0 (Append k b ∷ steps)) ≡ length (appended_by 0 (Append k b)) + length
     (appended 0 steps) = length-append (appended_by 0 (Append k b)) (appended 0 steps) in
     omega (arith, more, one, sum)

@@ -1,11 +1,14 @@
 -- Where a client that comes again is served from.
-use Rattle.std.proofs.Common.{◌≡◌, ℕ, ◌+◌, ◌-◌, ◌%◌, ◌^◌, ◌<◌, ◌≤◌, ◌⊎◌, inl, inr, sym, ap, subst, ◌∙◌, arith, ◌&&◌}
+use Rattle.std.proofs.Common.{length-drop}
+use Rattle.slink_feed.proofs.GrantedAfter.{granted_lost, granted_there}
+use Rattle.slink_model.specs.Ties.{AreShown}
+use Rattle.slink_model.proofs.Pushed.{Rings, are_shown, rings_after, rings_long}
+use Rattle.std.proofs.Common.{◌≡◌, ℕ, ◌+◌, ◌-◌, ◌%◌, ◌^◌, ◌<◌, ◌≤◌, inl, inr, sym, ap, subst, ◌∙◌, arith, ◌&&◌}
 use Rattle.std.proofs.Common.{List, [], length, get_or, Option, Some, None, slice_get, nat_le, if◌then◌else◌}
 use Rattle.std.proofs.lemmas.Bool.Decides.{leb_tells}
 use Rattle.std.specs.Option.{option_and_then}
 use Rattle.slink_feed.specs.declared.grant.Grant.{Grant}
 use Rattle.slink_feed.specs.declared.grant.Mode.{Mode}
-use Rattle.slink_feed.specs.declared.grant.Mode.TheVariants as modes
 use Rattle.slink_model.specs.declared.world.Setup.{Setup}
 use Rattle.slink_model.specs.declared.world.Step.{Step}
 use Rattle.slink_feed.specs.Dialogue.{next_at}
@@ -13,71 +16,34 @@ use Rattle.slink_feed.specs.Grant.{grant_of}
 use Rattle.slink_feed.specs.Session.{granted, grant_at}
 use Rattle.slink_model.specs.Slice.{IsCarried, IsSchedule, LackFew, LacksFew, Resumes, resumed}
 use Rattle.slink_model.specs.Ties.{AreNext, Holds, IsLinkTied, IsOnWay, Places, WorldTies, of_place}
-use Rattle.slink_feed.specs.Window.{Shows, Window, ahead_of, oldest_of, resolve_of}
+use Rattle.slink_feed.specs.Window.{Shows, Window, oldest_of}
 use Rattle.slink_model.specs.World.{AllHappen, LinkState, WorldState, number_at, opening}
-use Rattle.slink_model.proofs.Following.{near_alike}
 use Rattle.slink_model.proofs.Items.{held_to}
-use Rattle.slink_feed.proofs.Items.{oldest_is, one_value}
+use Rattle.slink_feed.proofs.Items.{one_value}
 use Rattle.slink_model.proofs.Linked.{any}
 use Rattle.slink_model.proofs.Worlds.{last_lacks, ties_after}
 use Rattle.std.proofs.lemmas.Bool.{and_from}
 use Rattle.std.proofs.lemmas.Option.{slice_get_within}
-use Rattle.slink_model.proofs.Resolved.{ahead_alike}
-
-resumed_there : (w : Window) (n : ℕ) → oldest_of w ≤ n → n ≤ w.next → resumed w n ≡ Some n
-resumed_there w n lo hi = elim (leb_tells (oldest_of w) n) [
-  | inl a ↦ elim (leb_tells n w.next) [
-    | inl b ↦ ap (λ t. if t then Some n else None) (and_from (nat_le (oldest_of w) n) (nat_le n w.next) a.0 b.0)
-    | inr b ↦ absurd (omega (arith, b.1, hi))
-  ]
-  | inr a ↦ absurd (omega (arith, a.1, lo))
-]
-
-resumed_gone : (w : Window) (n : ℕ) → n < oldest_of w → resumed w n ≡ None
-resumed_gone w n lo = elim (leb_tells (oldest_of w) n) [
-  | inl a ↦ absurd (omega (arith, a.1, lo))
-  | inr a ↦ ap (λ t. if t && nat_le n w.next then Some n else None) a.0
-]
 
 -- the number that is wanted decides, since fewer than 2^24 records are lacking
-resume_at : (w : Window) (n : ℕ) → n ≤ w.next → w.next < n + 2 ^ 24 → w.next ≤ oldest_of w + 1000000
-    → (oldest_of w ≤ n) ⊎ (n < oldest_of w) → resolve_of w (n % 2 ^ 24) ≡ resumed w n
-resume_at w n past lacking near (inl lo) =
-    let o : ℕ = oldest_of w in
-    let alike : (o + ahead_of w (n % 2 ^ 24)) % 2 ^ 24 ≡ n % 2 ^ 24 = ahead_alike o (n % 2 ^ 24)
-    ∙ (let e : n % 2 ^ 24 % 2 ^ 24 ≡ n % 2 ^ 24 = omega arith in e) in
-    let same = near_alike (o + ahead_of w (n % 2 ^ 24)) n alike (omega (arith, lo)) (omega (arith, lo, past, near)) in
-    elim (leb_tells (ahead_of w (n % 2 ^ 24)) (w.next - o)) [
-      | inl passes ↦ ap (λ t. if t then Some (o + ahead_of w (n % 2 ^ 24)) else None) passes.0
-          ∙ (ap (λ m. Some m) same ∙ sym (resumed_there w n lo past))
-      | inr fails ↦ absurd (omega (arith, fails.1, same, lo, past))
-    ]
-resume_at w n past lacking near (inr gone) =
-    let o : ℕ = oldest_of w in
-    let alike : (o + ahead_of w (n % 2 ^ 24)) % 2 ^ 24 ≡ n % 2 ^ 24 = ahead_alike o (n % 2 ^ 24)
-    ∙ (let e : n % 2 ^ 24 % 2 ^ 24 ≡ n % 2 ^ 24 = omega arith in e) in
-    elim (leb_tells (ahead_of w (n % 2 ^ 24)) (w.next - o)) [
-      | inl passes ↦ let same : o + ahead_of w (n % 2 ^ 24) ≡ n =
-          near_alike _ _ alike (omega (arith, passes.1, gone, past, lacking)) (omega (arith, gone)) in
-          absurd (omega (arith, same, gone))
-      | inr fails ↦ ap (λ t. if t then Some (o + ahead_of w (n % 2 ^ 24)) else None) fails.0
-          ∙ sym (resumed_gone w n gone)
-    ]
-
-either : (m n : ℕ) → (m ≤ n) ⊎ (n < m)
-either m n = elim (leb_tells m n) [ inl a ↦ inl a.1 | inr b ↦ inr (omega (arith, b.1)) ]
-
-granted_is : (mode : Mode) (w : Window) (n : ℕ) → n ≤ w.next → w.next < n + 2 ^ 24 → w.next ≤ oldest_of w + 1000000
+granted_is : (mode : Mode) (w : Window) (n : ℕ) → n ≤ w.next → w.next < n + 2 ^ 24 → length w.records ≤ 1000000
     → grant_of mode (Some (n % 2 ^ 24)) w ≡ resumed w n
-granted_is modes.Data w n past lacking near = resume_at w n past lacking near (either (oldest_of w) n)
-granted_is modes.Fetch w n past lacking near = resume_at w n past lacking near (either (oldest_of w) n)
+granted_is mode w n past lacking few = elim (leb_tells (oldest_of w) n) [
+  | inl lo ↦ elim (leb_tells n w.next) [
+    | inl hi ↦ granted_there mode w n few past lo.1 ∙ sym (ap (λ t. if t then Some n else None)
+        (and_from (nat_le (oldest_of w) n) (nat_le n w.next) lo.0 hi.0))
+    | inr over ↦ absurd (omega (arith, over.1, past))
+  ]
+  | inr gone ↦ granted_lost mode w n lacking (omega (arith, gone.1))
+      ∙ sym (ap (λ t. if t && nat_le n w.next then Some n else None) gone.0)
+]
 
-pub resumes_at : (places : Places) (first : ℕ) (w : WorldState) → WorldTies places first w → LacksFew first w
-    → Resumes w
-resumes_at places first w t lacks k start ring mode s held here =
-    let lt : k < length places = omega (arith, slice_get_within w.windows k ring here, t.long.0) in
+resumes_at : (places : Places) (first : ℕ) (w : WorldState) → length w.windows ≡ length places
+    → AreShown places first w.windows w.pushed → WorldTies places first w → LacksFew first w → Resumes w
+resumes_at places first w long are t lacks k start ring mode s held here =
+    let lt : k < length places = omega (arith, slice_get_within w.windows k ring here, long) in
     let shown : (v : Window) × (slice_get w.windows k ≡ Some v) × Shows v first (get_or w.pushed k [])
-    × (v.capacity ≤ 1000000) = t.shown k lt in
+    × (v.capacity ≤ 1000000) = are k lt in
     let one : shown.0 ≡ ring = one_value (slice_get w.windows k) shown.0 ring shown.1 here in
     let shows : Shows ring first (get_or w.pushed k []) =
     subst (λ (v : Window). Shows v first (get_or w.pushed k [])) one shown.2 in
@@ -88,9 +54,13 @@ resumes_at places first w t lacks k start ring mode s held here =
     let n : ℕ = start + length (get_or w.held k []) in
     let to = held_to first start (get_or w.pushed k []) (next_at w.client.talk.wants k) (get_or w.held k []) holds in
     let few : first + length (get_or w.pushed k []) < n + 2 ^ 24 = lacks k start held in
-    let o = oldest_is ring first (get_or w.pushed k []) shows in
-    let is = granted_is mode ring n (omega (arith, shows.next, to)) (omega (arith, shows.next, few))
-    (omega (arith, shows.next, o, room)) in
+    let short : length ring.records ≤ 1000000 = omega (
+      arith,
+      ap length shows.records,
+      length-drop (length (get_or w.pushed k []) - ring.capacity) (get_or w.pushed k []),
+      room,
+    ) in
+    let is = granted_is mode ring n (omega (arith, shows.next, to)) (omega (arith, shows.next, few)) short in
     ap (λ (x : Option ℕ). granted mode k (option_and_then (grant_of mode x) (slice_get w.windows k)) s) holds.4
     ∙ (ap (λ (x : Option Window). granted mode k (option_and_then (grant_of mode (Some (n % 2 ^ 24))) x) s) here
     ∙ ap (λ (x : Option ℕ). granted mode k x s) is)
@@ -125,7 +95,10 @@ module _ (setup : Setup) (steps : List Step) (now : WorldState) (run : AllHappen
     (is : IsSchedule setup steps) (lacks : LackFew setup.first (opening setup) steps now run) where
   -- After any steps the record after the last one held is granted, where it can be.
   pub resume_granted : Resumes now
-  resume_granted = resumes_at setup.places.items setup.first now (ties_after setup steps now run is lacks)
+  resume_granted =
+      let rings : Rings setup now = rings_after setup steps now run is in
+      resumes_at setup.places.items setup.first now (rings_long setup now rings.shown)
+      (are_shown setup now is.capacity rings.shown) (ties_after setup steps now run is lacks)
       (last_lacks setup.first steps (opening setup) now run lacks)
 
   -- After any steps what is on its way is carried.

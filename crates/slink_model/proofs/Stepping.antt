@@ -1,36 +1,19 @@
 -- The rings of a world while steps happen.
-use Rattle.std.proofs.Common.{◌≡◌, ℕ, ◌+◌, ◌^◌, ◌<◌, ◌≤◌, inl, inr, zero, suc, refl, sym, ap, subst, ◌∙◌, arith, List}
-use Rattle.std.proofs.Common.{[], ◌∷◌, length, map, set, get_or, take, drop, Option, Some, None, IfSome, slice_get}
-use Rattle.std.proofs.lemmas.List.{length-map}
-use Rattle.slink_wire.specs.Place.{Fields, Bears}
+use Rattle.slink_model.specs.Counted.{shown_of}
+use Rattle.slink_model.proofs.Pushed.{IsShown, ring_at, rings_long}
+use Rattle.std.proofs.Common.{◌≡◌, ℕ, ◌+◌, ◌^◌, ◌<◌, ◌≤◌, inl, inr, zero, suc, refl, sym, ap, subst, arith, List}
+use Rattle.std.proofs.Common.{[], ◌∷◌, length, map, get_or, take, drop, Option, Some, None, IfSome, slice_get}
+use Rattle.slink_wire.specs.Place.{Fields}
 use Rattle.slink_model.specs.declared.world.Setup.{Setup}
 use Rattle.slink_model.specs.declared.world.Step.{Step}
-use Rattle.slink_model.specs.declared.world.Step.TheVariants.{Append, Connect, ToServer, ToClient, Send}
+use Rattle.slink_model.specs.declared.world.Step.TheVariants.{Append, Send}
 use Rattle.slink_feed.specs.Rings.{HasPlace}
 use Rattle.slink_feed.specs.Session.{Fits, State}
-use Rattle.slink_model.specs.Running.{AreRings, IsPossible, IsServing}
-use Rattle.slink_feed.specs.Window.{Window, with_record}
-use Rattle.slink_feed.proofs.Items.{get_mapped, map_got}
-use Rattle.slink_model.specs.World.{AllHappen, Differ, Happens, IsOf, LinkState, WorldState, empty_window, pushed_to}
-
-module _ {X Y : Type 0} where
-  -- what is written maps as what stood there
-  set_alike : (f : X → Y) (xs : List X) (k : ℕ) (x z : X) → slice_get xs k ≡ Some x → f z ≡ f x
-      → map f (set xs k z) ≡ map f xs
-  set_alike f [] k x z is same = refl
-  set_alike f (y ∷ ys) zero x z is same = let here : y ≡ x = cc is in ap (λ t. t ∷ map f ys) (same ∙ ap f (sym here))
-  set_alike f (y ∷ ys) (suc k) x z is same = ap (λ t. f y ∷ t) (set_alike f ys k x z is same)
+use Rattle.slink_model.specs.Running.{IsPossible, IsServing}
+use Rattle.slink_feed.specs.Window.{Window}
+use Rattle.slink_model.specs.World.{AllHappen, Differ, Happens, IsOf, LinkState, WorldState, empty_window}
 
 module _ {X : Type 0} where
-  -- what stands in a list after a write
-  get_written : (P : X → Type 0) (xs : List X) (k : ℕ) (x : X) → P x
-      → ((j : ℕ) (v : X) → slice_get xs j ≡ Some v → P v) → (j : ℕ) (v : X) → slice_get (set xs k x) j ≡ Some v → P v
-  get_written P [] k x here each j v is = each j v is
-  get_written P (y ∷ ys) zero x here each zero v is = let same : x ≡ v = cc is in subst P same here
-  get_written P (y ∷ ys) zero x here each (suc j) v is = each (suc j) v is
-  get_written P (y ∷ ys) (suc k) x here each zero v is = each zero v is
-  get_written P (y ∷ ys) (suc k) x here each (suc j) v is = get_written P ys k x here (λ i w e. each (suc i) w e) j v is
-
   get_prefix : (xs : List X) (n j : ℕ) (x : X) → slice_get (take n xs) j ≡ Some x → (j < n) × (slice_get xs j ≡ Some x)
   get_prefix [] zero j x is = absurd (let bad : None ≡ Some x = is in cc bad)
   get_prefix [] (suc n) j x is = absurd (let bad : None ≡ Some x = is in cc bad)
@@ -58,68 +41,18 @@ no_double setup places i p differ is has =
     let same : there.0 ≡ i = differ there.0 i there.1 p prefix.1 is there.3 in
     omega (arith, prefix.0, same)
 
-same_places : (setup : Setup) (ps : List (Fields × Option ℕ))
-    → map (λ (v : Window). v.place) (map (empty_window setup) ps) ≡ map (λ (p : Fields × Option ℕ). p.0) ps
-same_places setup [] = refl
-same_places setup (p ∷ ps) = ap (λ t. p.0 ∷ t) (same_places setup ps)
-
-pub opening_rings : (setup : Setup) (places : List (Fields × Option ℕ)) → setup.first < 2 ^ 24
-    → AreRings places (2 ^ 24) (map (empty_window setup) places)
-opening_rings setup places first = record {
-  places_are = same_places setup places;
-  numbers = λ k v is. let at : (p : Fields × Option ℕ) × (slice_get places k ≡ Some p) × (empty_window setup p ≡ v) =
-      get_mapped (empty_window setup) places k v is in
-      let next : setup.first ≡ v.next = ap (λ (w : Window). w.next) at.2 in omega (arith, next, first);
-}
-
 -- a step that names one of the stations can happen
-pub possible : (places : List (Fields × Option ℕ)) (bound : ℕ) (feed : List Window) (step : Step)
-    → AreRings places bound feed → bound < 2 ^ 63 → IsOf places step → IsPossible feed step
-possible places bound feed (Append k bytes) rings small of =
-    let there : slice_get (map (λ (v : Window). v.place) feed) k ≡ Some of.0.0 =
-    ap (λ xs. slice_get xs k) rings.places_are ∙ map_got (λ (p : Fields × Option ℕ). p.0) places k of.0 of.1 in
-    let at : (v : Window) × (slice_get feed k ≡ Some v) × (v.place ≡ of.0.0) =
-    get_mapped (λ (v : Window). v.place) feed k of.0.0 there in
-    let near : at.0.next ≤ bound = rings.numbers k at.0 at.1 in
-    (at.0, at.1, subst (Bears bytes) (sym at.2) of.2, omega (arith, near, small))
-possible places bound feed (Send k) rings small of =
-    let same : length feed ≡ length places = sym (length-map feed (λ (v : Window). v.place))
-    ∙ (ap length rings.places_are ∙ length-map places (λ (p : Fields × Option ℕ). p.0)) in
-    omega (arith, of, same)
-possible places bound feed step rings small of = tt
-
-rings_more : (places : List (Fields × Option ℕ)) (bound : ℕ) (feed new : List Window) → AreRings places bound feed
-    → new ≡ feed → AreRings places (bound + 1) new
-rings_more places bound feed new rings same = subst (AreRings places (bound + 1)) (sym same) (record {
-  places_are = rings.places_are;
-  numbers = λ k v is. let near : v.next ≤ bound = rings.numbers k v is in omega (arith, near);
-})
-
-rings_pushed : (places : List (Fields × Option ℕ)) (bound : ℕ) (w v : WorldState) (k : ℕ) (bytes : List ℕ)
-    (window : Option Window) → AreRings places bound w.windows → slice_get w.windows k ≡ window
-    → v ≡ pushed_to w k bytes window → AreRings places (bound + 1) v.windows
-rings_pushed places bound w v k bytes None rings is same =
-    rings_more places bound w.windows v.windows rings (ap (λ (u : WorldState). u.windows) same)
-rings_pushed places bound w v k bytes (Some x) rings is same =
-    let near : x.next ≤ bound = rings.numbers k x is in
-    subst (AreRings places (bound + 1)) (sym (ap (λ (u : WorldState). u.windows) same)) (record {
-      places_are = set_alike (λ (v : Window). v.place) w.windows k x (with_record x bytes) is refl ∙ rings.places_are;
-      numbers = get_written (λ (u : Window). u.next ≤ bound + 1) w.windows k (with_record x bytes)
-          (omega (arith, near)) (λ j u at. let low : u.next ≤ bound = rings.numbers j u at in omega (arith, low));
-    })
-
--- after a step the rings are of the same stations, and their numbers have grown by one at most
-pub rings_on : (places : List (Fields × Option ℕ)) (bound : ℕ) (w v : WorldState) (step : Step)
-    → AreRings places bound w.windows → Happens w step v → AreRings places (bound + 1) v.windows
-rings_on places bound w v (Append k bytes) rings happens =
-    rings_pushed places bound w v k bytes (slice_get w.windows k) rings refl happens
-rings_on places bound w v Connect rings happens =
-    rings_more places bound w.windows v.windows rings (ap (λ (u : WorldState). u.windows) happens.becomes)
-rings_on places bound w v (ToServer n) rings happens =
-    rings_more places bound w.windows v.windows rings (ap (λ (u : WorldState). u.windows) happens.0)
-rings_on places bound w v (ToClient n) rings happens = rings_more places bound w.windows v.windows rings happens.windows
-rings_on places bound w v step rings happens =
-    rings_more places bound w.windows v.windows rings (ap (λ (u : WorldState). u.windows) happens)
+pub possible : (setup : Setup) (w : WorldState) (n : ℕ) (step : Step) → IsShown setup w
+    → ((k : ℕ) → length (get_or w.pushed k []) ≤ n) → setup.first < 2 ^ 24 → n < 2 ^ 40
+    → IsOf setup.places.items step → IsPossible w.windows step
+possible setup w n (Append k bytes) shown few first small of = (
+  shown_of setup of.0 (get_or w.pushed k []),
+  ring_at setup w k of.0 shown of.1,
+  of.2,
+  omega (arith, few k, first, small),
+)
+possible setup w n (Send k) shown few first small of = omega (arith, of, rings_long setup w shown)
+possible setup w n step shown few first small of = tt
 
 pub happens_more : (w u last : WorldState) (steps : List Step) (i : ℕ) (d : Step) → i < length steps
     → Happens w (get_or steps i d) u → AllHappen u (drop (i + 1) steps) last → AllHappen w (drop i steps) last

@@ -1,11 +1,11 @@
 -- A link after each piece that the client takes.
-use Rattle.std.proofs.Common.{◌≡◌, ◌≢◌, ℕ, ◌+◌, ◌-◌, ◌%◌, ◌^◌, ◌<◌, ◌≤◌, inl, inr, suc, refl, sym, ap, subst, ◌∙◌}
-use Rattle.std.proofs.Common.{arith, Bool, true, false, List, [], ◌∷◌, ◌++◌, append_assoc, length, length-set}
-use Rattle.std.proofs.Common.{set, get_or, Option, Some, None, slice_get, if◌then◌else◌, position, unwrap_or}
-use Rattle.std.specs.Option.{option_and_then}
-use Rattle.std.specs.List.{position_from}
+use Rattle.std.proofs.lemmas.List.Quantifiers.{position-Some}
+use Rattle.std.proofs.lemmas.Option.{slice_get-get_or}
+use Rattle.slink_model.proofs.Stations.{each_read}
+use Rattle.std.proofs.Common.{◌≡◌, ◌≢◌, ℕ, ◌+◌, ◌-◌, ◌%◌, ◌^◌, ◌<◌, ◌≤◌, inl, inr, refl, sym, ap, subst, ◌∙◌}
+use Rattle.std.proofs.Common.{arith, true, false, List, [], ◌∷◌, ◌++◌, append_assoc, length, length-set}
+use Rattle.std.proofs.Common.{set, get_or, Option, Some, None, slice_get, unwrap_or}
 use Rattle.std.proofs.lemmas.Bool.{cases_lt}
-use Rattle.std.proofs.lemmas.Iterator.Adapters.{position_from-zero}
 use Rattle.slink_wire.specs.Place.{Bears, Fields}
 use Rattle.slink_wire.proofs.Carrying.{one_place, passes_carries}
 use Rattle.slink_feed.specs.declared.dialogue.Event.{Event}
@@ -21,38 +21,11 @@ use Rattle.slink_model.specs.Ties.{Outcome, Places, Reported, ends, of_place, sa
 use Rattle.slink_model.specs.Ties.{waits, way_bytes}
 use Rattle.slink_model.specs.World.{Differ, Reads, Lists, Numbers, Taking, none_read, noted, number_at, or_else}
 use Rattle.slink_model.specs.World.{piece_read, piece_lost, with_first, with_one}
-use Rattle.slink_model.proofs.Items.{carried_here, carried_there}
+use Rattle.slink_model.proofs.Items.{carried_here}
 use Rattle.slink_feed.proofs.Items.{one_value, put_here, put_there, same_or_not, set_here, set_there, within_is}
 use Rattle.slink_model.proofs.Outcomes.{outcome}
 use Rattle.slink_model.proofs.Following.{delivered, way_started}
 use Rattle.std.proofs.lemmas.Option.{same_Some, slice_get_within}
-
-module _ {X : Type 0} (p : X → Bool) where
-  abbrev Passes : List X → ℕ → ℕ → Type 0
-  Passes xs i j = (i ≤ j) × (x : X) × (slice_get xs (j - i) ≡ Some x) × (p x ≡ true)
-
-  passes_by : (i j : ℕ) (x : X) (xs : List X) (t : Bool) → p x ≡ t
-      → (if t then Some i else position_from p (i + 1) xs) ≡ Some j
-      → (position_from p (i + 1) xs ≡ Some j → Passes xs (i + 1) j) → Passes (x ∷ xs) i j
-  passes_by i j x xs true is h more =
-      let e : i ≡ j = same_Some i j h in
-      let z : j - i ≡ 0 = omega (arith, e) in
-      (omega (arith, e), x, ap (slice_get (x ∷ xs)) z, is)
-  passes_by i j x xs false is h more =
-      let rest : Passes xs (i + 1) j = more h in
-      let e : j - i ≡ suc (j - (i + 1)) = omega (arith, rest.0) in
-      (omega (arith, rest.0), rest.1, ap (slice_get (x ∷ xs)) e ∙ rest.2, rest.3)
-
-  -- the first element that passes
-  first_passes : (i j : ℕ) (xs : List X) → position_from p i xs ≡ Some j → Passes xs i j
-  first_passes i j [] h = absurd (let bad : None ≡ Some j = h in cc bad)
-  first_passes i j (x ∷ xs) h = passes_by i j x xs (p x) refl h (first_passes (i + 1) j xs)
-
-  found : (xs : List X) (j : ℕ) → position p xs ≡ Some j → (x : X) × (slice_get xs j ≡ Some x) × (p x ≡ true)
-  found xs j h =
-      let all : Passes xs 0 j = first_passes 0 j xs (sym (position_from-zero p xs) ∙ h) in
-      let e : j - 0 ≡ j = omega arith in
-      (all.1, ap (slice_get xs) (sym e) ∙ all.2, all.3)
 
 pub matched_is : (r : List ℕ) (o : Option Wanted) → is_of_wanted r o ≡ true
     → (w : Wanted) × (o ≡ Some w) × Bears r w.place
@@ -63,10 +36,10 @@ matched_is r (Some w) h = (w, refl, passes_carries w.place r h)
 place_is : (wants : Wants) (r : List ℕ) (j : ℕ) → place_of wants r ≡ Some j
     → (w : Wanted) × (slice_get wants j ≡ Some (Some w)) × Bears r w.place
 place_is wants r j h =
-    let at : (o : Option Wanted) × (slice_get wants j ≡ Some o) × (is_of_wanted r o ≡ true) =
-    found (is_of_wanted r) wants j h in
-    let is : (w : Wanted) × (at.0 ≡ Some w) × Bears r w.place = matched_is r at.0 at.2 in
-    (is.0, at.1 ∙ ap (λ o. Some o) is.1, is.2)
+    let at = position-Some (is_of_wanted r) wants j None h in
+    let is : (w : Wanted) × (get_or wants j None ≡ Some w) × Bears r w.place =
+    matched_is r (get_or wants j None) at.1 in
+    (is.0, slice_get-get_or wants j None at.0 ∙ ap (λ o. Some o) is.1, is.2)
 
 quiet_held : (f : Numbers) (e : Event) (t : Taking) → reported_of e ≡ None → ((noted f e t).held ≡ t.held)
     × ((noted f e t).start ≡ t.start)
@@ -76,13 +49,7 @@ quiet_held f event t h = (refl, refl)
 
 pub same_client : (f : Numbers) (e : Event) (t : Taking) → (noted f e t).client ≡ t.client
 same_client f events.None t = refl
-same_client f (events.Say bytes) t = refl
-same_client f (events.Record k n r) t = refl
-same_client f events.End t = refl
-same_client f (events.Refused k) t = refl
-same_client f (events.Gap k want got) t = refl
-same_client f events.Garbage t = refl
-same_client f events.Foreign t = refl
+same_client f event t = refl
 
 no_reported : {A : Type 0} → (a : Reported) → None ≡ Some a → A
 no_reported a e = absurd (let bad : None ≡ Some a = e in cc bad)
@@ -144,6 +111,23 @@ module _ (places : Places) (first : ℕ) (pushed : Lists) (state : State) (first
     };
   }
 
+  -- what is held of a station once a record of one is, and the number of the first
+  held_here : (held : Lists) (start : Numbers) (j : ℕ) (r : List ℕ) (Q : List (List ℕ) → Option ℕ → Type 0)
+      → j < length held → j < length start
+      → Q (get_or held j [] ++ r ∷ []) (or_else (number_at start j) (number_at first_sent j))
+      → Q (get_or (with_one held j r) j []) (number_at (with_first start j (number_at first_sent j)) j)
+  held_here held start j r Q a b q = subst (λ (o : Option ℕ). Q (get_or (with_one held j r) j []) o)
+      (sym (put_here start j (or_else (number_at start j) (number_at first_sent j)) None b))
+      (subst (λ h. Q h (or_else (number_at start j) (number_at first_sent j)))
+      (sym (set_here held j (get_or held j [] ++ r ∷ []) [] a)) q)
+
+  held_there : (held : Lists) (start : Numbers) (j i : ℕ) (r : List ℕ) (Q : List (List ℕ) → Option ℕ → Type 0) → i ≢ j
+      → Q (get_or held i []) (number_at start i)
+      → Q (get_or (with_one held j r) i []) (number_at (with_first start j (number_at first_sent j)) i)
+  held_there held start j i r Q ne q = subst (λ (o : Option ℕ). Q (get_or (with_one held j r) i []) o)
+      (sym (put_there start j i (or_else (number_at start j) (number_at first_sent j)) None ne))
+      (subst (λ h. Q h (number_at start i)) (sym (set_there held j i (get_or held j [] ++ r ∷ []) [] ne)) q)
+
   taken_at : (client new : Listening) (held : Lists) (start : Numbers) (way left : List ℕ) (j n : ℕ) (r : List ℕ)
       (rest : List Item) (w : Wanted) (p : Fields × Option ℕ) (g : Grant) → (c : ClientTies client held start way)
       → c.link.items ≡ Carried j n r ∷ rest → left ≡ way_bytes rest → j < length places → slice_get places j ≡ Some p
@@ -158,52 +142,28 @@ module _ (places : Places) (first : ℕ) (pushed : Lists) (state : State) (first
       let want : want_at client.talk.wants j ≡ Some w = ap (λ o. unwrap_or o None) has in
       let ws : Wants = set client.talk.wants j (Some v) in
       let becomes : new.talk.wants ≡ ws = wants ∙ ap (λ (o : Option Wanted). next_set o client.talk.wants j m) want in
+      let want_j : want_at ws j ≡ Some v =
+      put_here client.talk.wants j (Some v) None (slice_get_within client.talk.wants j (Some w) has) in
+      let want_i : (i : ℕ) → i ≢ j → want_at ws i ≡ want_at client.talk.wants i =
+      λ i ne. put_there client.talk.wants j i (Some v) None ne in
       let held' : Lists = with_one held j r in
       let start' : Numbers = with_first start j (number_at first_sent j) in
+      let in_held : j < length held = omega (arith, lt, c.long.0) in
+      let in_start : j < length start = omega (arith, lt, c.long.1) in
       let F : List (List ℕ) = get_or pushed j [] in
-      let of_j : of_place j c.link.items ≡ (n, r) ∷ of_place j rest = ap (of_place j) is
-      ∙ ap (λ b. b ++ of_place j rest) (carried_here j n r) in
+      let of_all : (i : ℕ) → of_place i c.link.items ≡ of_place i (Carried j n r ∷ rest) = λ i. ap (of_place i) is in
+      let of_j : of_place j c.link.items ≡ (n, r) ∷ of_place j rest =
+      of_all j ∙ ap (λ b. b ++ of_place j rest) (carried_here j n r) in
       let on_way : IsOnWay (few j) first F (get_or held j []) (number_at start j) (number_at first_sent j) (Some g)
       ((n, r) ∷ of_place j rest)
       = subst (λ (o : Option Grant). IsOnWay (few j) first F (get_or held j []) (number_at start j)
       (number_at first_sent j) o ((n, r) ∷ of_place j rest)) grant
       (subst (IsOnWay (few j) first F (get_or held j []) (number_at start j) (number_at first_sent j)
       (grant_at state.grants j)) of_j (c.link.places_are j lt)) in
-      let done : Holds first F (Some ((n + 1) % 2 ^ 24)) (get_or held j [] ++ r ∷ [])
-      (or_else (number_at start j) (number_at first_sent j))
-      × IsOnWay (few j) first F (get_or held j [] ++ r ∷ []) (or_else (number_at start j) (number_at first_sent j))
-      (number_at first_sent j) (Some g) (of_place j rest)
-      = delivered first F (next_at client.talk.wants j) (get_or held j []) (number_at start j) (number_at first_sent j)
-      g n r (of_place j rest) wanted (c.holds j lt) on_way in
-      let held_j : get_or held' j [] ≡ get_or held j [] ++ r ∷ [] =
-      set_here held j (get_or held j [] ++ r ∷ []) [] (omega (arith, lt, c.long.0)) in
-      let start_j : number_at start' j ≡ or_else (number_at start j) (number_at first_sent j) =
-      put_here start j (or_else (number_at start j) (number_at first_sent j)) None (omega (arith, lt, c.long.1)) in
-      let want_j : want_at ws j ≡ Some v =
-      put_here client.talk.wants j (Some v) None (slice_get_within client.talk.wants j (Some w) has) in
-      let next_j : next_at ws j ≡ Some ((n + 1) % 2 ^ 24) = ap (option_and_then (λ (x : Wanted). x.next)) want_j
-      ∙ ap (λ x. Some x) (let e : m ≡ (n + 1) % 2 ^ 24 = omega arith in e) in
-      let holds_j : Holds first F (next_at ws j) (get_or held' j []) (number_at start' j)
-      = subst (λ (o : Option ℕ). Holds first F o (get_or held' j []) (number_at start' j)) (sym next_j)
-      (subst (λ (o : Option ℕ). Holds first F (Some ((n + 1) % 2 ^ 24)) (get_or held' j []) o) (sym start_j)
-      (subst (λ h. Holds first F (Some ((n + 1) % 2 ^ 24)) h (or_else (number_at start j) (number_at first_sent j)))
-      (sym held_j) done.0)) in
-      let way_j : IsOnWay (few j) first F (get_or held' j []) (number_at start' j) (number_at first_sent j)
-      (grant_at state.grants j) (of_place j rest)
-      = subst (λ (o : Option Grant). IsOnWay (few j) first F (get_or held' j []) (number_at start' j)
-      (number_at first_sent j) o (of_place j rest)) (sym grant)
-      (subst (λ (o : Option ℕ). IsOnWay (few j) first F (get_or held' j []) o (number_at first_sent j) (Some g)
-      (of_place j rest)) (sym start_j)
-      (subst (λ h. IsOnWay (few j) first F h (or_else (number_at start j) (number_at first_sent j))
-      (number_at first_sent j) (Some g) (of_place j rest)) (sym held_j) done.1)) in
-      let held_i : (i : ℕ) → i ≢ j → get_or held' i [] ≡ get_or held i [] =
-      λ i ne. set_there held j i (get_or held j [] ++ r ∷ []) [] ne in
-      let start_i : (i : ℕ) → i ≢ j → number_at start' i ≡ number_at start i =
-      λ i ne. put_there start j i (or_else (number_at start j) (number_at first_sent j)) None ne in
-      let want_i : (i : ℕ) → i ≢ j → want_at ws i ≡ want_at client.talk.wants i =
-      λ i ne. put_there client.talk.wants j i (Some v) None ne in
-      let of_i : (i : ℕ) → i ≢ j → of_place i c.link.items ≡ of_place i rest = λ i ne. ap (of_place i) is
-      ∙ ap (λ b. b ++ of_place i rest) (carried_there j i n r (λ e. ne (sym e))) in
+      let done = delivered first F (next_at client.talk.wants j) (get_or held j []) (number_at start j)
+      (number_at first_sent j) g n r (of_place j rest) wanted (c.holds j lt) on_way in
+      let next : Some ((n + 1) % 2 ^ 24) ≡ Some m =
+      ap (λ x. Some x) (let e : (n + 1) % 2 ^ 24 ≡ m = omega arith in e) in
       record {
         wanted = subst (AreWanted places) (sym becomes) (λ i x at. elim (same_or_not i j) [
           | inl e ↦ let one : v ≡ x = one_value (want_at ws j) v x want_j (subst (λ y. want_at ws y ≡ Some x) e at) in (
@@ -214,25 +174,22 @@ module _ (places : Places) (first : ℕ) (pushed : Lists) (state : State) (first
           | inr ne ↦ c.wanted i x (sym (want_i i ne) ∙ at)
         ]);
         plain = holes ∙ c.plain;
-        holds = subst (λ (y : Wants). AllHold places first pushed y held' start') (sym becomes)
-            (λ i below. elim (same_or_not i j) [
-              | inl e ↦ subst (λ y. Holds first (get_or pushed y []) (next_at ws y) (get_or held' y [])
-                  (number_at start' y)) (sym e) holds_j
-              | inr ne ↦ subst (λ (o : Option ℕ). Holds first (get_or pushed i []) o (get_or held' i [])
-                  (number_at start' i)) (sym (ap (option_and_then (λ (x : Wanted). x.next)) (want_i i ne)))
-                  (subst (λ (o : Option ℕ). Holds first (get_or pushed i []) (next_at client.talk.wants i)
-                  (get_or held' i []) o) (sym (start_i i ne))
-                  (subst (λ h. Holds first (get_or pushed i []) (next_at client.talk.wants i) h (number_at start i))
-                  (sym (held_i i ne)) (c.holds i below)))
-            ]);
-        want_first = subst (λ (y : Wants). WantFirst places y start') (sym becomes)
-            (λ i x here unheld. elim (same_or_not i j) [
-              | inl e ↦ absurd (way_started (few j) first F (get_or held j []) (number_at start j)
-                  (number_at first_sent j)
-                  g (n, r) (of_place j rest) on_way (sym start_j ∙ subst (λ y. number_at start' y ≡ None) e unheld))
-              | inr ne ↦ ap (option_and_then (λ (y : Wanted). y.next)) (want_i i ne)
-                  ∙ c.want_first i x here (sym (start_i i ne) ∙ unheld)
-            ]);
+        holds = subst (λ (y : Wants). AllHold places first pushed y held' start') (sym wants)
+            (each_read client.talk.wants j m n r rest w (λ i o _. i < length places
+            → Holds first (get_or pushed i []) o (get_or held' i []) (number_at start' i)) want
+            (λ _. held_here held start j r (Holds first F (Some m)) in_held in_start
+            (subst (λ (o : Option ℕ). Holds first F o (get_or held j [] ++ r ∷ [])
+            (or_else (number_at start j) (number_at first_sent j))) next done.0))
+            (λ i ne below. held_there held start j i r (Holds first (get_or pushed i []) (next_at client.talk.wants i))
+            ne (c.holds i below)));
+        want_first = subst (λ (y : Wants). WantFirst places y start') (sym wants)
+            (each_read client.talk.wants j m n r rest w (λ i o _. (p : Fields × Option ℕ) → slice_get places i ≡ Some p
+            → number_at start' i ≡ None → o ≡ p.1) want
+            (λ p at unheld. absurd (way_started (few j) first F (get_or held j []) (number_at start j)
+            (number_at first_sent j) g (n, r) (of_place j rest) on_way
+            (sym (put_here start j (or_else (number_at start j) (number_at first_sent j)) None in_start) ∙ unheld)))
+            (λ i ne p at unheld. c.want_first i p at
+            (sym (put_there start j i (or_else (number_at start j) (number_at first_sent j)) None ne) ∙ unheld)));
         long = (
           length-set held j (get_or held j [] ++ r ∷ []) ∙ c.long.0,
           length-set start j (or_else (number_at start j) (number_at first_sent j)) ∙ c.long.1,
@@ -241,24 +198,23 @@ module _ (places : Places) (first : ℕ) (pushed : Lists) (state : State) (first
           items = rest;
           are_whole = (let whole : (length r ≡ 512) × AreWhole rest = subst AreWhole is c.link.are_whole in whole.1);
           flow = λ linked. ap (λ k. k ++ left) none ∙ flow;
-          before = λ still i. elim (same_or_not i j) [
-            | inl e ↦ absurd (omega (arith, ap length (sym of_j ∙ (c.link.before still j).0)))
-            | inr ne ↦ (sym (of_i i ne) ∙ (c.link.before still i).0, (c.link.before still i).1)
-          ];
-          within = λ i past. elim (same_or_not i j) [
-            | inl e ↦ absurd (omega (arith, e, past, lt))
-            | inr ne ↦ sym (of_i i ne) ∙ c.link.within i past
-          ];
-          places_are = λ i below. elim (same_or_not i j) [
-            | inl e ↦ subst (λ y. IsOnWay (few y) first (get_or pushed y []) (get_or held' y []) (number_at start' y)
-                (number_at first_sent y) (grant_at state.grants y) (of_place y rest)) (sym e) way_j
-            | inr ne ↦ subst (λ (o : Option ℕ). IsOnWay (few i) first (get_or pushed i []) (get_or held' i []) o
-                (number_at first_sent i) (grant_at state.grants i) (of_place i rest)) (sym (start_i i ne))
-                (subst (λ h. IsOnWay (few i) first (get_or pushed i []) h (number_at start i) (number_at first_sent i)
-                (grant_at state.grants i) (of_place i rest)) (sym (held_i i ne))
-                (subst (IsOnWay (few i) first (get_or pushed i []) (get_or held i []) (number_at start i)
-                (number_at first_sent i) (grant_at state.grants i)) (of_i i ne) (c.link.places_are i below)))
-          ];
+          before = λ still. each_read client.talk.wants j m n r rest w (λ i _ is. (is ≡ [])
+              × (number_at first_sent i ≡ None)) want
+              (absurd (omega (arith, ap length (sym of_j ∙ (c.link.before still j).0))))
+              (λ i ne. (sym (of_all i) ∙ (c.link.before still i).0, (c.link.before still i).1));
+          within = each_read client.talk.wants j m n r rest w (λ i _ is. length places ≤ i → is ≡ []) want
+              (λ past. absurd (omega (arith, past, lt))) (λ i ne past. sym (of_all i) ∙ c.link.within i past);
+          places_are = each_read client.talk.wants j m n r rest w (λ i _ is. i < length places
+              → IsOnWay (few i) first (get_or pushed i []) (get_or held' i []) (number_at start' i)
+              (number_at first_sent i) (grant_at state.grants i) is) want
+              (λ _. subst (λ (o : Option Grant). IsOnWay (few j) first F (get_or held' j []) (number_at start' j)
+              (number_at first_sent j) o (of_place j rest)) (sym grant)
+              (held_here held start j r (λ h s. IsOnWay (few j) first F h s (number_at first_sent j) (Some g)
+              (of_place j rest)) in_held in_start done.1))
+              (λ i ne below. held_there held start j i r (λ h s. IsOnWay (few i) first (get_or pushed i []) h s
+              (number_at first_sent i) (grant_at state.grants i) (of_place i (Carried j n r ∷ rest))) ne
+              (subst (IsOnWay (few i) first (get_or pushed i []) (get_or held i []) (number_at start i)
+              (number_at first_sent i) (grant_at state.grants i)) (of_all i) (c.link.places_are i below)));
           room = c.link.room;
         };
       }

@@ -1,9 +1,13 @@
 -- Each step keeps a world tied to all records that were pushed.
-use Rattle.std.proofs.Common.{◌≡◌, All, ◌≢◌, ℕ, ◌+◌, ◌-◌, ◌^◌, ◌<◌, ◌≤◌, ◌⊎◌, inl, inr, zero, suc, refl, sym, ap, subst}
-use Rattle.std.proofs.Common.{◌∙◌, arith, List, [], ◌∷◌, ◌++◌, length, length-set, set, get_or, take, drop}
+use Rattle.slink_model.proofs.Pushed.{each_more}
+use Rattle.slink_model.specs.Counted.{shown_of}
+use Rattle.slink_model.proofs.Pushed.{AreOf, IsShown, Rings, are_shown, each_of, nothing_at, opening_rings, ring_at}
+use Rattle.slink_model.proofs.Pushed.{rings_next}
+use Rattle.std.proofs.Common.{◌≡◌, All, ℕ, ◌+◌, ◌-◌, ◌^◌, ◌<◌, ◌≤◌, ◌⊎◌, inl, inr, zero, suc, refl, sym, ap, subst}
+use Rattle.std.proofs.Common.{◌∙◌, arith, List, [], ◌∷◌, ◌++◌, length, set, get_or, take, drop}
 use Rattle.std.proofs.Common.{take-append-drop, map, replicate, Option, Some, None, option_map, slice_get}
 use Rattle.std.proofs.lemmas.List.{get_or_default, length-map}
-use Rattle.std.proofs.lemmas.Option.{slice_get-map, same_Some, slice_get_within}
+use Rattle.std.proofs.lemmas.Option.{same_Some, slice_get_within}
 use Rattle.slink_wire.specs.Place.{Bears, Fields}
 use Rattle.slink_feed.specs.declared.dialogue.Wanted.{Wanted}
 use Rattle.slink_model.specs.declared.world.Setup.{Setup}
@@ -15,20 +19,20 @@ use Rattle.slink_feed.specs.Serving.{SessionState}
 use Rattle.slink_feed.specs.Session.{Grants, State, grant_at, sent_in}
 use Rattle.slink_model.specs.Slice.{HoldsSlices, IsSchedule, IsSound, LackFew, LacksFew}
 use Rattle.slink_feed.proofs.Numbers.{kept_place}
-use Rattle.slink_model.specs.Ties.{AllHold, AreOfPlaces, AreShown, AreSound, AreWanted, Holds, IsLinkTied, IsOnWay}
+use Rattle.slink_model.specs.Ties.{AllHold, AreSound, AreWanted, Holds, IsLinkTied, IsOnWay}
 use Rattle.slink_model.specs.Ties.{LinkTies, Places, WantFirst, WorldTies, of_place}
 use Rattle.slink_feed.specs.Running.{HasStream}
 use Rattle.slink_feed.specs.Window.{Shows, Window, with_record}
 use Rattle.slink_model.specs.World.{AllHappen, Both, Connects, Differ, Happens, IsRead, IsOf, IsServed, LinkState}
-use Rattle.slink_model.specs.World.{Lists, Numbers, WorldState, empty_window, number_at, opening, pushed_to, sent_on}
+use Rattle.slink_model.specs.World.{Lists, Numbers, WorldState, number_at, opening, pushed_to, sent_on}
 use Rattle.slink_model.specs.World.{taking, with_one}
 use Rattle.slink_feed.proofs.Fitting.{none_at}
-use Rattle.slink_feed.proofs.Items.{at_number, get_here, get_there, one_value, same_or_not, set_here, set_there}
-use Rattle.slink_feed.proofs.Items.{shows_more, within_is, drop_none}
+use Rattle.slink_feed.proofs.Items.{at_number, one_value}
+use Rattle.slink_feed.proofs.Items.{within_is}
 use Rattle.slink_model.proofs.Linked.{any, sent_link}
 use Rattle.slink_model.proofs.Outcomes.{place_written}
 use Rattle.slink_model.proofs.Served.{serves_link}
-use Rattle.slink_model.proofs.Following.{holds_pushed, way_any, way_few, way_pushed}
+use Rattle.slink_model.proofs.Following.{holds_pushed, way_as, way_pushed}
 use Rattle.slink_model.proofs.Taken.{ClientTies, reads_ties}
 
 -- the last element, or one before it
@@ -46,19 +50,19 @@ sound_more place xs b long bears sound i r h = elim (get_last xs b i r h) [
   | inr last ↦ (sym (ap length last) ∙ long, subst (λ x. Bears x place) last bears)
 ]
 
--- one step after another
-abbrev pub AreOf : Places → List Step → Type 0
-AreOf places [] = Unit {0}
-AreOf places (step ∷ steps) = IsOf places step × IsSound step × AreOf places steps
+module _ (setup : Setup) (room : setup.capacity ≤ 1000000) where
+  abbrev places : Places
+  places = setup.places.items
 
-module _ (places : Places) (first : ℕ) where
+  abbrev first : ℕ
+  first = setup.first
+
   -- Append
   pushed_link : (w : WorldState) (k : ℕ) (b : List ℕ) (windows : List Window) (o : Option LinkState)
       → k < length w.pushed → IsLinkTied places first w o
       → IsLinkTied places first (record w { windows = windows; pushed = with_one w.pushed k b }) o
   pushed_link w k b windows None lt l = tt
   pushed_link w k b windows (Some l) lt t =
-      let now : Lists = with_one w.pushed k b in
       let ties : LinkTies places first (λ k. any) w.pushed w.client w.held w.start l.session.state l.first_sent
       l.to_client = t.1 in (
         t.0,
@@ -68,91 +72,38 @@ module _ (places : Places) (first : ℕ) where
           flow = ties.flow;
           before = ties.before;
           within = ties.within;
-          places_are = λ i below. elim (same_or_not i k) [
-            | inl e ↦ subst (λ y. IsOnWay any first (get_or now y []) (get_or w.held y []) (number_at w.start y)
-                (number_at l.first_sent y) (grant_at l.session.state.grants y) (of_place y ties.items)) (sym e)
-                (rw (← (set_here w.pushed k (get_or w.pushed k [] ++ b ∷ []) [] lt)) at
-                (way_pushed any first (get_or w.pushed k []) (get_or w.held k []) (number_at w.start k)
-                (number_at l.first_sent k) (grant_at l.session.state.grants k) (of_place k ties.items) b
-                (rw e at (ties.places_are i below))))
-            | inr ne ↦ rw (← (set_there w.pushed k i (get_or w.pushed k [] ++ b ∷ []) [] ne)) at
-                (ties.places_are i below)
-          ];
+          places_are = λ i below. each_more w.pushed k b i
+              (λ F. IsOnWay any first F (get_or w.held i []) (number_at w.start i) (number_at l.first_sent i)
+              (grant_at l.session.state.grants i) (of_place i ties.items)) lt (ties.places_are i below)
+              (way_pushed any first (get_or w.pushed i []) (get_or w.held i []) (number_at w.start i)
+              (number_at l.first_sent i) (grant_at l.session.state.grants i) (of_place i ties.items) b);
           room = ties.room;
         },
       )
 
-  append_ties : (w : WorldState) (k : ℕ) (b : List ℕ) → IsOf places (Append k b) → length b ≡ 512
+  append_ties : (w : WorldState) (k : ℕ) (b : List ℕ) → IsOf places (Append k b) → IsShown setup w
       → WorldTies places first w → WorldTies places first (pushed_to w k b (slice_get w.windows k))
-  append_ties w k b of long t =
-      let lt : k < length places = slice_get_within places k of.0 of.1 in
-      let ring : (v : Window) × (slice_get w.windows k ≡ Some v) × Shows v first (get_or w.pushed k [])
-      × (v.capacity ≤ 1000000) = t.shown k lt in
-      let now : Lists = with_one w.pushed k b in
-      let room : k < length w.pushed = omega (arith, lt, t.long.1) in
-      let at_k : get_or now k [] ≡ get_or w.pushed k [] ++ b ∷ [] =
-      set_here w.pushed k (get_or w.pushed k [] ++ b ∷ []) [] room in
-      let at_i : (i : ℕ) → i ≢ k → get_or now i [] ≡ get_or w.pushed i [] =
-      λ i ne. set_there w.pushed k i (get_or w.pushed k [] ++ b ∷ []) [] ne in
-      let windows : List Window = set w.windows k (with_record ring.0 b) in
-      let shown : AreShown places first windows now = λ i below. elim (same_or_not i k) [
-        | inl e ↦ (
-          with_record ring.0 b,
-          subst (λ y. slice_get windows y ≡ Some (with_record ring.0 b)) (sym e)
-              (get_here w.windows k (with_record ring.0 b) (omega (arith, lt, t.long.0))),
-          subst (λ y. Shows (with_record ring.0 b) first (get_or now y [])) (sym e)
-              (subst (Shows (with_record ring.0 b) first) (sym at_k)
-              (shows_more ring.0 first (get_or w.pushed k []) b ring.2)),
-          ring.3,
-        )
-        | inr ne ↦ let other : (v : Window) × (slice_get w.windows i ≡ Some v) × Shows v first (get_or w.pushed i [])
-            × (v.capacity ≤ 1000000) = t.shown i below in (
-              other.0,
-              get_there w.windows k i (with_record ring.0 b) ne ∙ other.1,
-              subst (Shows other.0 first) (sym (at_i i ne)) other.2,
-              other.3,
-            )
-      ] in
-      let sound : AreOfPlaces places now = λ i p here. elim (same_or_not i k) [
-        | inl e ↦ let one : of.0 ≡ p =
-            one_value (slice_get places k) of.0 p of.1 (subst (λ y. slice_get places y ≡ Some p) e here) in
-            subst (λ y. AreSound p.0 (get_or now y [])) (sym e) (subst (AreSound p.0) (sym at_k)
-            (sound_more p.0 (get_or w.pushed k []) b long (subst (λ (q : Fields × Option ℕ). Bears b q.0) one of.2)
-            (t.sound k p (subst (λ y. slice_get places y ≡ Some p) e here))))
-        | inr ne ↦ subst (AreSound p.0) (sym (at_i i ne)) (t.sound i p here)
-      ] in
-      let holds : AllHold places first now w.client.talk.wants w.held w.start = λ i below. elim (same_or_not i k) [
-        | inl e ↦ subst (λ y. Holds first (get_or now y []) (next_at w.client.talk.wants y) (get_or w.held y [])
-            (number_at w.start y)) (sym e)
-            (subst (λ F. Holds first F (next_at w.client.talk.wants k) (get_or w.held k []) (number_at w.start k))
-            (sym at_k)
-            (holds_pushed first (get_or w.pushed k []) (next_at w.client.talk.wants k) (get_or w.held k [])
-            (number_at w.start k) b (t.holds k lt)))
-        | inr ne ↦ subst (λ F. Holds first F (next_at w.client.talk.wants i) (get_or w.held i [])
-            (number_at w.start i)) (sym (at_i i ne)) (t.holds i below)
-      ] in
-      subst (λ (o : Option Window). WorldTies places first (pushed_to w k b o)) (sym ring.1) (record {
-        shown = shown;
-        sound = sound;
+  append_ties w k b of s t =
+      let v : Window = shown_of setup of.0 (get_or w.pushed k []) in
+      let inside : k < length w.pushed = omega (arith, slice_get_within places k of.0 of.1, s.long) in
+      subst (λ (o : Option Window). WorldTies places first (pushed_to w k b o)) (sym (ring_at setup w k of.0 s of.1))
+      (record {
         wanted = t.wanted;
         plain = t.plain;
-        holds = holds;
+        holds = λ i below. each_more w.pushed k b i
+            (λ F. Holds first F (next_at w.client.talk.wants i) (get_or w.held i []) (number_at w.start i)) inside
+            (t.holds i below)
+            (holds_pushed first (get_or w.pushed i []) (next_at w.client.talk.wants i) (get_or w.held i [])
+            (number_at w.start i) b);
         want_first = t.want_first;
-        long = (
-          length-set w.windows k (with_record ring.0 b) ∙ t.long.0,
-          length-set w.pushed k (get_or w.pushed k [] ++ b ∷ []) ∙ t.long.1,
-          t.long.2,
-          t.long.3,
-        );
-        link = pushed_link w k b windows w.link room t.link;
+        long = t.long;
+        link = pushed_link w k b (set w.windows k (with_record v b)) w.link inside t.link;
       })
 
   -- a link that changes alone
   with_link : (w : WorldState) (o : Option LinkState) → WorldTies places first w
       → IsLinkTied places first (record w { link = o }) o → WorldTies places first (record w { link = o })
   with_link w o t l = record {
-    shown = t.shown;
-    sound = t.sound;
     wanted = t.wanted;
     plain = t.plain;
     holds = t.holds;
@@ -179,8 +130,6 @@ module _ (places : Places) (first : ℕ) where
       (place_written (want_at w.client.talk.wants 0) 0 w.client.talk).0 in
       let grants : c.session.state.grants ≡ replicate 16 None = ap (λ (s : State). s.grants) c.is_new.state in
       subst (WorldTies places first) (sym c.becomes) (record {
-        shown = t.shown;
-        sound = t.sound;
         wanted = subst (AreWanted places) (sym wants) t.wanted;
         plain = kept_place 0 w.client.talk (want_at w.client.talk.wants 0) ∙ t.plain;
         holds = subst (λ (x : Wants). AllHold places first w.pushed x w.held w.start) (sym wants) t.holds;
@@ -201,102 +150,86 @@ module _ (places : Places) (first : ℕ) where
       })
 
   -- ToServer
-  served_tied : (w : WorldState) (n : ℕ) (o p : Option LinkState) → WorldTies places first w
+  served_tied : (w : WorldState) (n : ℕ) (o p : Option LinkState) → IsShown setup w → WorldTies places first w
       → IsLinkTied places first w o → Both (IsServed w.windows n) o p → IsLinkTied places first w p
-  served_tied w n None None t l s = tt
-  served_tied w n None (Some m) t l s = absurd s
-  served_tied w n (Some l) None t tied s = absurd s
-  served_tied w n (Some l) (Some m) t tied s =
+  served_tied w n None None z t l s = tt
+  served_tied w n None (Some m) z t l s = absurd s
+  served_tied w n (Some l) None z t tied s = absurd s
+  served_tied w n (Some l) (Some m) z t tied s =
       let done : HasStream m.session × LinkTies places first (λ k. any) w.pushed w.client w.held w.start
       m.session.state l.first_sent m.to_client
-      = serves_link places first w.windows w.pushed w.client w.held w.start t.shown t.holds l.first_sent l.session
-      (take n l.to_server) l.to_client m.session m.to_client s.serves tied.0 tied.1 in (
+      = serves_link places first w.windows w.pushed w.client w.held w.start (are_shown setup w room z) t.holds
+      l.first_sent l.session (take n l.to_server) l.to_client m.session m.to_client s.serves tied.0 tied.1 in (
         done.0,
         rw (← s.first_sent) at done.1,
       )
 
   -- Send
   sent_tied : (w : WorldState) (k : ℕ) (o : Option LinkState) → length places ≤ 16 → k < length places
-      → WorldTies places first w → IsLinkTied places first w o
+      → Rings setup w → WorldTies places first w → IsLinkTied places first w o
       → IsLinkTied places first w (option_map (sent_on w.windows k) o)
-  sent_tied w k None most lt t l = tt
-  sent_tied w k (Some l) most lt t tied =
+  sent_tied w k None most lt z t l = tt
+  sent_tied w k (Some l) most lt z t tied =
       let q : (p : Fields × Option ℕ) × (slice_get places k ≡ Some p) = within_is places k lt in
       let ring : (v : Window) × (slice_get w.windows k ≡ Some v) × Shows v first (get_or w.pushed k [])
-      × (v.capacity ≤ 1000000) = t.shown k lt in (
+      × (v.capacity ≤ 1000000) = are_shown setup w room z.shown k lt in (
         (tied.0.0, λ over. tied.0.1 (λ e. over (ap (λ ph. (sent_in ph w.windows l.session.state k).0.phase) e ∙ e))),
-        sent_link places first w.windows w.pushed w.client w.held w.start t.shown t.holds l.session.state l.first_sent
-            l.to_client k lt most
+        sent_link places first w.windows w.pushed w.client w.held w.start (are_shown setup w room z.shown)
+            t.holds l.session.state l.first_sent l.to_client k lt most
             (λ v n r here found. let one : ring.0 ≡ v = one_value (slice_get w.windows k) ring.0 v ring.1 here in
-            (t.sound k q.0 q.1 (n - first) r
+            (z.sound k q.0 q.1 (n - first) r
             (at_number v first (get_or w.pushed k []) n r
             (subst (λ (x : Window). Shows x first (get_or w.pushed k [])) one ring.2) found)).0) tied.1,
       )
 
   -- ToClient
-  relaxed : (few : ℕ → ℕ → Type 0) (pushed : Lists) (client : Listening) (held : Lists) (start : Numbers)
+  link_as : (few more : ℕ → ℕ → Type 0) (pushed : Lists) (client : Listening) (held : Lists) (start : Numbers)
       (state : State) (sent : Numbers) (way : List ℕ)
+      → ((k s : ℕ) → number_at start k ≡ Some s → more k (s + length (get_or held k [])))
       → LinkTies places first few pushed client held start state sent way
-      → LinkTies places first (λ k. any) pushed client held start state sent way
-  relaxed few pushed client held start state sent way l = record {
+      → LinkTies places first more pushed client held start state sent way
+  link_as few more pushed client held start state sent way on l = record {
     items = l.items;
     are_whole = l.are_whole;
     flow = l.flow;
     before = l.before;
     within = l.within;
-    places_are = λ k lt. way_any (few k) first (get_or pushed k []) (get_or held k []) (number_at start k)
-        (number_at sent k) (grant_at state.grants k) (of_place k l.items) (l.places_are k lt);
-    room = l.room;
-  }
-
-  bounded : (w : WorldState) (state : State) (sent : Numbers) (way : List ℕ) → LacksFew first w
-      → LinkTies places first (λ k. any) w.pushed w.client w.held w.start state sent way
-      → LinkTies places first (λ k x. first + length (get_or w.pushed k []) < x + 2 ^ 24) w.pushed w.client w.held
-      w.start state sent way
-  bounded w state sent way lacks l = record {
-    items = l.items;
-    are_whole = l.are_whole;
-    flow = l.flow;
-    before = l.before;
-    within = l.within;
-    places_are = λ k lt. way_few (λ x. first + length (get_or w.pushed k []) < x + 2 ^ 24) first (get_or w.pushed k [])
-        (get_or w.held k []) (number_at w.start k) (number_at sent k) (grant_at state.grants k) (of_place k l.items)
-        (λ s e. lacks k s e) (l.places_are k lt);
+    places_are = λ k lt. way_as (few k) (more k) first (get_or pushed k []) (get_or held k []) (number_at start k)
+        (number_at sent k) (grant_at state.grants k) (of_place k l.items) (on k) (l.places_are k lt);
     room = l.room;
   }
 
   read_ties : (w v : WorldState) (n : ℕ) (l m : LinkState) → Differ places → LacksFew first w → v.windows ≡ w.windows
-      → v.pushed ≡ w.pushed → v.link ≡ Some m → IsRead n w v l m → WorldTies places first w
+      → v.pushed ≡ w.pushed → v.link ≡ Some m → IsRead n w v l m → Rings setup w → WorldTies places first w
       → IsLinkTied places first w (Some l) → WorldTies places first v
-  read_ties w v n l m differ lacks windows pushed link s t tied =
+  read_ties w v n l m differ lacks windows pushed link s z t tied =
       let all : l.to_client ≡ take n l.to_client ++ drop n l.to_client = sym (take-append-drop n l.to_client) in
-      let c : ClientTies places first w.pushed l.session.state l.first_sent differ t.sound w.client w.held w.start
+      let c : ClientTies places first w.pushed l.session.state l.first_sent differ z.sound w.client w.held w.start
       (take n l.to_client ++ drop n l.to_client) = record {
         wanted = t.wanted;
         plain = t.plain;
         holds = t.holds;
         want_first = t.want_first;
-        long = (t.long.2, t.long.3);
-        link = bounded w l.session.state l.first_sent (take n l.to_client ++ drop n l.to_client) lacks
+        long = t.long;
+        link = link_as (λ k. any) (λ k x. first + length (get_or w.pushed k []) < x + 2 ^ 24) w.pushed w.client w.held
+            w.start l.session.state l.first_sent (take n l.to_client ++ drop n l.to_client) (λ k s e. lacks k s e)
             (subst (LinkTies places first (λ k. any) w.pushed w.client w.held w.start l.session.state l.first_sent) all
             tied.1);
       } in
-      let d : ClientTies places first w.pushed l.session.state l.first_sent differ t.sound v.client v.held v.start
+      let d : ClientTies places first w.pushed l.session.state l.first_sent differ z.sound v.client v.held v.start
       (drop n l.to_client)
-      = reads_ties places first w.pushed l.session.state l.first_sent differ t.sound (taking w l) (take n l.to_client)
+      = reads_ties places first w.pushed l.session.state l.first_sent differ z.sound (taking w l) (take n l.to_client)
       (taking v m) (drop n l.to_client) s.reads c in
       let now : LinkTies places first (λ k. any) w.pushed v.client v.held v.start l.session.state l.first_sent
       (drop n l.to_client)
-      = relaxed (λ k x. first + length (get_or w.pushed k []) < x + 2 ^ 24) w.pushed v.client v.held v.start
-      l.session.state l.first_sent (drop n l.to_client) d.link in
+      = link_as (λ k x. first + length (get_or w.pushed k []) < x + 2 ^ 24) (λ k. any) w.pushed v.client v.held v.start
+      l.session.state l.first_sent (drop n l.to_client) (λ k s e. tt) d.link in
       record {
-        shown = rw (← windows) at (subst (AreShown places first w.windows) (sym pushed) t.shown);
-        sound = subst (AreOfPlaces places) (sym pushed) t.sound;
         wanted = d.wanted;
         plain = d.plain;
         holds = subst (λ (x : Lists). AllHold places first x v.client.talk.wants v.held v.start) (sym pushed) d.holds;
         want_first = d.want_first;
-        long = (ap length windows ∙ t.long.0, ap length pushed ∙ t.long.1, d.long.0, d.long.1);
+        long = d.long;
         link = subst (IsLinkTied places first v) (sym link) (
           subst HasStream (sym s.session) tied.0,
           subst (λ (x : Lists). LinkTies places first (λ k. any) x v.client v.held v.start m.session.state m.first_sent
@@ -311,35 +244,37 @@ module _ (places : Places) (first : ℕ) where
 
   delivered_ties : (w v : WorldState) (n : ℕ) (o p : Option LinkState) → Differ places → LacksFew first w
       → v.windows ≡ w.windows → v.pushed ≡ w.pushed → w.link ≡ o → v.link ≡ p → Both (IsRead n w v) o p
-      → (w.link ≡ None → v ≡ w) → WorldTies places first w → WorldTies places first v
-  delivered_ties w v n None None differ lacks windows pushed was is s unlinked t =
+      → (w.link ≡ None → v ≡ w) → Rings setup w → WorldTies places first w → WorldTies places first v
+  delivered_ties w v n None None differ lacks windows pushed was is s unlinked z t =
       subst (WorldTies places first) (sym (unlinked was)) t
-  delivered_ties w v n None (Some m) differ lacks windows pushed was is s unlinked t = absurd s
-  delivered_ties w v n (Some l) None differ lacks windows pushed was is s unlinked t = absurd s
-  delivered_ties w v n (Some l) (Some m) differ lacks windows pushed was is s unlinked t =
-      read_ties w v n l m differ lacks windows pushed is s t (subst (IsLinkTied places first w) was t.link)
+  delivered_ties w v n None (Some m) differ lacks windows pushed was is s unlinked z t = absurd s
+  delivered_ties w v n (Some l) None differ lacks windows pushed was is s unlinked z t = absurd s
+  delivered_ties w v n (Some l) (Some m) differ lacks windows pushed was is s unlinked z t =
+      read_ties w v n l m differ lacks windows pushed is s z t (subst (IsLinkTied places first w) was t.link)
 
   pub step_ties : (w v : WorldState) (step : Step) → length places ≤ 16 → Differ places → IsOf places step
-      → IsSound step → LacksFew first w → Happens w step v → WorldTies places first w → WorldTies places first v
-  step_ties w v (Append k b) most differ of sound lacks h t =
-      subst (WorldTies places first) (sym h) (append_ties w k b of sound t)
-  step_ties w v Connect most differ of sound lacks h t = connect_ties w v h t
-  step_ties w v (ToServer n) most differ of sound lacks h t =
-      subst (WorldTies places first) (sym h.0) (linked_ties w v.link t (served_tied w n w.link v.link t t.link h.1))
-  step_ties w v (ToClient n) most differ of sound lacks h t =
-      delivered_ties w v n w.link v.link differ lacks h.windows h.pushed refl refl h.link h.unlinked t
-  step_ties w v (Send k) most differ of sound lacks h t =
+      → LacksFew first w → Happens w step v → Rings setup w → WorldTies places first w
+      → WorldTies places first v
+  step_ties w v (Append k b) most differ of lacks h z t =
+      subst (WorldTies places first) (sym h) (append_ties w k b of z.shown t)
+  step_ties w v Connect most differ of lacks h z t = connect_ties w v h t
+  step_ties w v (ToServer n) most differ of lacks h z t =
+      subst (WorldTies places first) (sym h.0)
+      (linked_ties w v.link t (served_tied w n w.link v.link z.shown t t.link h.1))
+  step_ties w v (ToClient n) most differ of lacks h z t =
+      delivered_ties w v n w.link v.link differ lacks h.windows h.pushed refl refl h.link h.unlinked z t
+  step_ties w v (Send k) most differ of lacks h z t =
       subst (WorldTies places first) (sym h) (linked_ties w (option_map (sent_on w.windows k) w.link) t
-      (sent_tied w k w.link most of t t.link))
-  step_ties w v Cut most differ of sound lacks h t = subst (WorldTies places first) (sym h) (with_link w None t tt)
+      (sent_tied w k w.link most of z t t.link))
+  step_ties w v Cut most differ of lacks h z t = subst (WorldTies places first) (sym h) (with_link w None t tt)
 
   pub all_ties : (steps : List Step) (w v : WorldState) (run : AllHappen w steps v) → length places ≤ 16
-      → Differ places → AreOf places steps → LackFew first w steps v run → WorldTies places first w
+      → Differ places → AreOf places steps → LackFew first w steps v run → Rings setup w → WorldTies places first w
       → WorldTies places first v
-  all_ties [] w v run most differ of lacks t = subst (WorldTies places first) (sym run) t
-  all_ties (step ∷ steps) w v run most differ of lacks t =
+  all_ties [] w v run most differ of lacks z t = subst (WorldTies places first) (sym run) t
+  all_ties (step ∷ steps) w v run most differ of lacks z t =
       all_ties steps run.0 v run.2 most differ of.2 lacks.1
-      (step_ties w run.0 step most differ of.0 of.1 lacks.0 run.1 t)
+      (rings_next setup w run.0 step of.0 of.1 run.1 z) (step_ties w run.0 step most differ of.0 lacks.0 run.1 z t)
 
 pub last_lacks : (first : ℕ) (steps : List Step) (w v : WorldState) (run : AllHappen w steps v)
     → LackFew first w steps v run → LacksFew first v
@@ -370,47 +305,19 @@ none_number [] k = refl
 none_number (p ∷ ps) zero = refl
 none_number (p ∷ ps) (suc k) = none_number ps k
 
-pub nothing_at : (ps : Places) (k : ℕ) → ◌≡◌ {A = List (List ℕ)} (get_or (map (λ _. []) ps) k []) []
-nothing_at [] k = refl
-nothing_at (p ∷ ps) zero = refl
-nothing_at (p ∷ ps) (suc k) = nothing_at ps k
-
-pub opening_ties : (setup : Setup) → setup.capacity ≤ 1000000 → WorldTies setup.places.items setup.first (opening setup)
-opening_ties setup room =
+pub opening_ties : (setup : Setup) → WorldTies setup.places.items setup.first (opening setup)
+opening_ties setup =
     let ps : Places = setup.places.items in
     let n : ℕ = length ps in
     record {
-      shown = λ k lt. let q : (p : Fields × Option ℕ) × (slice_get ps k ≡ Some p) = within_is ps k lt in (
-        empty_window setup q.0,
-        slice_get-map (empty_window setup) ps k ∙ ap (option_map (empty_window setup)) q.1,
-        subst (Shows (empty_window setup q.0) setup.first) (sym (nothing_at ps k))
-            (record { records = sym (drop_none (0 - setup.capacity)); next = omega arith }),
-        room,
-      );
-      sound = λ k p here. subst (AreSound p.0) (sym (nothing_at ps k)) (λ i r h. absurd (let bad : None ≡ Some r = h in
-          cc bad));
       wanted = λ k w h. opening_wanted ps (16 - n) k w h;
       plain = refl;
       holds = λ k lt. subst (λ (o : Option ℕ). Holds setup.first (get_or (map (λ _. []) ps) k [])
           (next_at (wants_of ps) k) (get_or (map (λ _. []) ps) k []) o) (sym (none_number ps k)) (nothing_at ps k);
       want_first = λ k p here unheld. opening_first ps (16 - n) k p here;
-      long = (
-        length-map ps (empty_window setup),
-        length-map ps (λ _. []),
-        length-map ps (λ _. []),
-        length-map ps (λ _. None),
-      );
+      long = (length-map ps (λ _. []), length-map ps (λ _. None));
       link = tt;
     }
-
-pub each_of : (places : Places) (steps : List Step) → All (IsOf places) steps → All IsSound steps → AreOf places steps
-each_of places [] of sound = tt
-each_of places (step ∷ steps) of sound = (
-  of 0 step (omega arith),
-  sound 0 step (omega arith),
-  each_of places steps (λ k d lt. of (suc k) d (omega (arith, lt)))
-      (λ k d lt. sound (suc k) d (omega (arith, lt))),
-)
 
 -- each record of a schedule has 512 bytes, one after another
 pub schedule_is : (setup : Setup) (steps : List Step) → length setup.places.items ≤ 16 → setup.capacity ≤ 1000000
@@ -427,8 +334,8 @@ schedule_is setup steps few room differ of sound = record {
 module _ (setup : Setup) (steps : List Step) (now : WorldState) (run : AllHappen (opening setup) steps now)
     (is : IsSchedule setup steps) (lacks : LackFew setup.first (opening setup) steps now run) where
   pub ties_after : WorldTies setup.places.items setup.first now
-  ties_after = all_ties setup.places.items setup.first steps (opening setup) now run is.few_places is.differ
-      (each_of setup.places.items steps is.of_places is.sound) lacks (opening_ties setup is.capacity)
+  ties_after = all_ties setup is.capacity steps (opening setup) now run is.few_places is.differ
+      (each_of setup.places.items steps is.of_places is.sound) lacks (opening_rings setup) (opening_ties setup)
 
   -- After any steps one slice of its records is held of each station.
   pub slice_held : HoldsSlices setup.places.items setup.first now

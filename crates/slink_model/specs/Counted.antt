@@ -15,7 +15,7 @@ use Rattle.slink_feed.specs.declared.dialogue.Event.TheVariants as events
 use Rattle.slink_feed.specs.declared.dialogue.Stage.{Stage}
 use Rattle.slink_feed.specs.declared.dialogue.Stage.TheVariants.{Station, Number, Packets}
 use Rattle.slink_feed.specs.declared.grant.Grant.{Grant}
-use Rattle.slink_feed.specs.declared.session.Phase.TheVariants.{Fresh, Streaming, Closed}
+use Rattle.slink_feed.specs.declared.session.Phase.TheVariants.{Fresh, Streaming}
 use Rattle.slink_feed.specs.declared.session.Sent.{Sent}
 use Rattle.slink_feed.specs.declared.session.Sent.TheVariants as sents
 use Rattle.slink_model.specs.declared.world.Setup.{Setup}
@@ -223,7 +223,7 @@ counted_opening setup = record {
 -- delivered of the first reply or packet that isn't whole.
 pub record IsCountedLink (talk : Talk) (kept : List ℕ) (c : CountedLink) (l : LinkState) : Type 0 where
   pub session : l.session.state ≡ c.session
-  pub begun : ¬ (c.session.phase ≡ Closed) → IsHeld l.session.held (take c.taken c.written)
+  pub begun : IsHeld l.session.held (take c.taken c.written)
   pub first_sent : l.first_sent ≡ c.first_sent
   pub to_server : l.to_server ≡ drop c.taken c.written
   pub to_client : l.to_client ≡ drop c.delivered (way_bytes c.sent)

@@ -184,12 +184,9 @@ IsLinkTied places first w (Some l) =
 
 -- how a world stands to all records that were pushed, at any moment of any schedule
 pub record WorldTies (places : Places) (first : ℕ) (w : WorldState) : Type 0 where
-  pub shown : AreShown places first w.windows w.pushed
-  pub sound : AreOfPlaces places w.pushed
   pub wanted : AreWanted places w.client.talk.wants
   pub plain : w.client.talk.holes ≡ false
   pub holds : AllHold places first w.pushed w.client.talk.wants w.held w.start
   pub want_first : WantFirst places w.client.talk.wants w.start
-  pub long : (length w.windows ≡ length places) × (length w.pushed ≡ length places)
-      × (length w.held ≡ length places) × (length w.start ≡ length places)
+  pub long : (length w.held ≡ length places) × (length w.start ≡ length places)
   pub link : IsLinkTied places first w w.link

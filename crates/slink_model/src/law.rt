@@ -61,7 +61,7 @@ pub fn carries_a_slice()
 /// After any steps of a schedule, the link of a client has ended only where all that was requested was sent or a
 /// station was refused: it is informed of no gap, of no record of another station, and of no bytes that are neither a
 /// reply, a packet nor the end.
-#[tactic(auto, using(crate::proofs::Sparing::client_spared))]
+#[tactic(auto, using(crate::proofs::CountedWorld::client_spared))]
 pub fn spares_the_client()
     ensures spared { (setup : Setup) (steps : List Step) (now : WorldState) → AllHappen (opening setup) steps now
         → IsSchedule setup steps → AreAskable setup.places.items → IsSpared now.client.talk.stage }
