@@ -79,25 +79,31 @@ raised_total w word some (suc n) =
 -- 4 differences of 8 bits
 pub four_is : (a b c d : ℕ) → a < 256 → b < 256 → c < 256 → d < 256
     → raised_sum 8 (word_of a b c d) 4 ≡ (a + 128) % 256 + (b + 128) % 256 + (c + 128) % 256 + (d + 128) % 256
-four_is a b c d is has same fits = search (arith)
+four_is a b c d A B C D = search (arith)
 
 -- 2 differences of 15 bits
 pub two_is : (a b c d : ℕ) → a < 256 → b < 256 → c < 256 → d < 256
     → raised_sum 15 (word_of a b c d) 2 ≡ 512 * ((a + 32) % 64) + 2 * b + c / 128 + 256 * ((c + 64) % 128) + d
-two_is a b c d is has same fits = search (arith)
+two_is a b c d A B C D = search (arith)
 
 -- 3 differences of 10 bits
 pub three_is : (a b c d : ℕ) → a < 256 → b < 256 → c < 256 → d < 256
     → raised_sum 10 (word_of a b c d) 3 ≡ 16 * ((a + 32) % 64) + b / 16 + 64 * ((b + 8) % 16) + c / 4 + 256 * ((c + 2) %
     4)
     + d
-three_is a b c d is has same fits = search (arith)
+three_is a b c d A B C D = search (arith)
 
 -- 5 differences of 6 bits
 pub five_is : (a b c d : ℕ) → a < 256 → b < 256 → c < 256 → d < 256
     → raised_sum 6 (word_of a b c d) 5 ≡ (a + 32) % 64 + (b / 4 + 32) % 64 + 16 * ((b + 2) % 4) + c / 16
     + 4 * ((c + 8) % 16) + d / 64 + (d + 32) % 64
-five_is a b c d is has same fits = search (arith)
+five_is a b c d A B C D =
+    let digit_4 : (word_of a b c d / 16777216 % 64 + 32) % 64 ≡ (a + 32) % 64 = omega arith in
+    let digit_3 : (word_of a b c d / 262144 % 64 + 32) % 64 ≡ (b / 4 + 32) % 64 = omega arith in
+    let digit_2 : (word_of a b c d / 4096 % 64 + 32) % 64 ≡ 16 * ((b + 2) % 4) + c / 16 = omega arith in
+    let digit_1 : (word_of a b c d / 64 % 64 + 32) % 64 ≡ 4 * ((c + 8) % 16) + d / 64 = omega arith in
+    let digit_0 : (word_of a b c d / 1 % 64 + 32) % 64 ≡ (d + 32) % 64 = omega arith in
+    omega (arith, digit_4, digit_3, digit_2, digit_1, digit_0)
 
 -- 6 differences of 5 bits
 pub six_is : (a b c d : ℕ) → a < 256 → b < 256 → c < 256 → d < 256
@@ -117,12 +123,20 @@ pub seven_is : (a b c d : ℕ) → a < 256 → b < 256 → c < 256 → d < 256
     → raised_sum 4 (word_of a b c d) 7 ≡ (a + 8) % 16 + (b / 16 + 8) % 16 + (b + 8) % 16 + (c / 16 + 8) % 16 + (c + 8) %
     16
     + (d / 16 + 8) % 16 + (d + 8) % 16
-seven_is a b c d is has same fits = search (arith)
+seven_is a b c d A B C D =
+    let digit_6 : (word_of a b c d / 16777216 % 16 + 8) % 16 ≡ (a + 8) % 16 = omega arith in
+    let digit_5 : (word_of a b c d / 1048576 % 16 + 8) % 16 ≡ (b / 16 + 8) % 16 = omega arith in
+    let digit_4 : (word_of a b c d / 65536 % 16 + 8) % 16 ≡ (b + 8) % 16 = omega arith in
+    let digit_3 : (word_of a b c d / 4096 % 16 + 8) % 16 ≡ (c / 16 + 8) % 16 = omega arith in
+    let digit_2 : (word_of a b c d / 256 % 16 + 8) % 16 ≡ (c + 8) % 16 = omega arith in
+    let digit_1 : (word_of a b c d / 16 % 16 + 8) % 16 ≡ (d / 16 + 8) % 16 = omega arith in
+    let digit_0 : (word_of a b c d / 1 % 16 + 8) % 16 ≡ (d + 8) % 16 = omega arith in
+    omega (arith, digit_6, digit_5, digit_4, digit_3, digit_2, digit_1, digit_0)
 
 -- 2 differences of 16 bits
 pub wide_is : (a b c d : ℕ) → a < 256 → b < 256 → c < 256 → d < 256
     → raised_sum 16 (word_of a b c d) 2 ≡ 256 * ((a + 128) % 256) + b + 256 * ((c + 128) % 256) + d
-wide_is a b c d is has same fits = search (arith)
+wide_is a b c d A B C D = search (arith)
 
 -- By a row, what the parts of a word count for tells what its differences come to: it is 128-fold, and more by `least`.
 abbrev pub Tells : List ℕ → List ℕ → (ℕ → ℕ → ℕ → ℕ → ℕ → ℕ) → (ℕ → ℕ) → ℕ → Type 0
