@@ -3,8 +3,8 @@ use Rattle.std.specs.Prelude.{ℕ, List, Some, Result, Ok, Err}
 use Rattle.mseed_stream.specs.Device.{BytesWritten}
 use Rattle.mseed_steim.specs.declared.encoding.Encoding.{Encoding}
 use Rattle.mseed_repack.specs.Misfits.{misfit_text}
-use Rattle.mseed_repack.specs.declared.refusing.Left.{Left}
-use Rattle.mseed_repack.specs.declared.refusing.Left.TheVariants.{Nothing, Broken as LeftBroken, Misfit as LeftMisfit}
+use Rattle.mseed_repack.specs.declared.refusing.LeftOut.{LeftOut}
+use Rattle.mseed_repack.specs.declared.refusing.LeftOut.TheVariants.{Nothing, Broken as LeftBroken, Misfit as LeftMisfit}
 use Rattle.mseed_repack.specs.declared.fault.RepackFault.{RepackFault}
 use Rattle.mseed_repack.specs.declared.fault.RepackFault.TheVariants.{Misfit}
 use Rattle.mseed.specs.Blame.{packing_blame}
@@ -19,15 +19,15 @@ stretches_text e (Misfit key number fault) = misfit_text e key (Some number) fau
 stretches_text e fault = refusal_text e fault
 
 -- the exit status where all was written but what was left out
-abbrev pub left_status : Left → ℕ
+abbrev pub left_status : LeftOut → ℕ
 left_status Nothing = 0
 left_status LeftBroken = 1
 left_status LeftMisfit = 2
 
 -- after the lines that were reported
-abbrev pub stretches_report : Encoding → Result Left RepackFault → Report
+abbrev pub stretches_report : Encoding → Result LeftOut RepackFault → Report
 stretches_report e (Ok left) = without_line (left_status left) blames.Nothing
 stretches_report e (Err fault) = with_line (refusal_status fault) (stretches_text e fault) (packing_blame fault)
 
-abbrev pub EndsStretches : Encoding → Result Left RepackFault → Ended → BytesWritten → BytesWritten → Type 0
+abbrev pub EndsStretches : Encoding → Result LeftOut RepackFault → Ended → BytesWritten → BytesWritten → Type 0
 EndsStretches e outcome ended old new = EndsBy (stretches_report e outcome) ended old new

@@ -15,7 +15,7 @@ use crate::refusal::{
 use mseed_audit::{AuditFault, EachFault, SelectedSummary, Summary};
 use mseed_files::{blame_by, blame_of};
 use mseed_join::{Joined, JoinsFault};
-use mseed_repack::{Left, RepackFault, report_without_time};
+use mseed_repack::{LeftOut, RepackFault, report_without_time};
 use mseed_select::{SelectFault, Selected};
 use mseed_steim::Encoding;
 use mseed_stream::{Sink, StreamFault};
@@ -190,15 +190,15 @@ pub fn repacked<E: Sink>(
 /// out counts.
 pub fn restretched<E: Sink>(
     encoding: Encoding,
-    outcome: Result<Left, RepackFault>,
+    outcome: Result<LeftOut, RepackFault>,
     errors: &mut E,
 ) -> Ended
     ensures { EndsStretches encoding outcome result (E.written errors.old) (E.written errors.new) }
 {
     match outcome {
-        Ok(Left::Nothing) => Ended::with(DONE),
-        Ok(Left::Broken) => Ended::with(BROKEN),
-        Ok(Left::Misfit) => Ended::with(FAULT),
+        Ok(LeftOut::Nothing) => Ended::with(DONE),
+        Ok(LeftOut::Broken) => Ended::with(BROKEN),
+        Ok(LeftOut::Misfit) => Ended::with(FAULT),
         Err(fault) => Ended {
             status: refuse_to_stretch(errors, encoding, &fault),
             blame: packing_blame(&fault),

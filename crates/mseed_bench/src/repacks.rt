@@ -6,7 +6,7 @@ use crate::failure::Failure;
 use crate::scale::Scale;
 use crate::shape::{dealt, with_gaps};
 use mseed_pack::Options;
-use mseed_repack::{Left, repack, repack_stretches};
+use mseed_repack::{LeftOut, repack, repack_stretches};
 use mseed_stream::Counted;
 
 /// Steim-2 in records of 4,096 bytes.
@@ -98,10 +98,10 @@ fn rounds_of(scale: Scale) -> Rounds {
 }
 
 /// A number for what was left out.
-fn left_out(left: Left) -> u64 {
+fn left_out(left: LeftOut) -> u64 {
     match left {
-        Left::Nothing => 0,
-        Left::Broken => 1,
-        Left::Misfit => 2,
+        LeftOut::Nothing => 0,
+        LeftOut::Broken => 1,
+        LeftOut::Misfit => 2,
     }
 }

@@ -24,7 +24,7 @@ use Rattle.mseed_audit.specs.Scope.{asked_of}
 use Rattle.mseed_steim.specs.declared.encoding.Encoding.{Encoding}
 use Rattle.mseed_pack.specs.declared.options.Options.{Options}
 use Rattle.mseed_repack.specs.ByStretches.{AreReported, AreReportsOf, IsRestretchingAmong, ReportsEach}
-use Rattle.mseed_repack.specs.ByStretches.{also, left_of, silent, worse_of}
+use Rattle.mseed_repack.specs.ByStretches.{also, left_out_of, silent, worse_of}
 use Rattle.mseed_repack.specs.ReadBack.{IsReadOf}
 use Rattle.mseed_repack.specs.Repack.{Channel, IsRepackingAmong, IsUnread, IsWhole}
 use Rattle.mseed_repack.specs.Selected.{IsSelectedRepacking, IsSelectedRestretching}
@@ -35,17 +35,17 @@ use Rattle.mseed_repack.specs.private.Restretching.{AreAsked, IsPackedIfLeft, Is
 use Rattle.mseed_repack.specs.private.Restretching.{IsSelectedAs, ReportsAfter, ReportsUnlessLeft}
 use Rattle.mseed_repack.specs.declared.fault.RepackFault.{RepackFault}
 use Rattle.mseed_repack.specs.declared.fault.RepackFault.TheVariants.{Stream, Broken, Misfit, Write, Memory}
-use Rattle.mseed_repack.specs.declared.refusing.Left.{Left}
-use Rattle.mseed_repack.specs.declared.refusing.Left.TheVariants.{Nothing, Broken as LeftBroken, Misfit as LeftMisfit}
-use Rattle.mseed_repack.specs.declared.standing.Standing.{Standing}
-use Rattle.mseed_repack.specs.declared.standing.Standing.TheVariants.{Fit, Broken as BrokenChannel}
-use Rattle.mseed_repack.specs.declared.standing.Standing.TheVariants.{Misfit as MisfitChannel}
+use Rattle.mseed_repack.specs.declared.refusing.LeftOut.{LeftOut}
+use Rattle.mseed_repack.specs.declared.refusing.LeftOut.TheVariants.{Nothing, Broken as LeftBroken, Misfit as LeftMisfit}
+use Rattle.mseed_repack.specs.declared.packability.Packability.{Packability}
+use Rattle.mseed_repack.specs.declared.packability.Packability.TheVariants.{Fit, Broken as BrokenChannel}
+use Rattle.mseed_repack.specs.declared.packability.Packability.TheVariants.{Misfit as MisfitChannel}
 use Rattle.mseed_repack.specs.declared.stretching.Cutting.{Cutting}
 use Rattle.mseed_repack.specs.declared.stretching.Cutting.TheVariants.{Whole, Stretches}
 use Rattle.mseed_repack.proofs.Each.{each_kept}
 use Rattle.mseed_repack.proofs.OneRepacking.{never_unread}
 use Rattle.mseed_repack.proofs.InPlaces.{views_asked}
-use Rattle.mseed_repack.proofs.Standings.{tells_one}
+use Rattle.mseed_repack.proofs.Packabilities.{tells_one}
 use Rattle.mseed_repack.proofs.Wholes.{all_of, whole_read}
 
 -- the views of the records that are kept
@@ -140,18 +140,18 @@ silent_only _ old new (also lines line _ between _ before told) none =
     absurd (omega (arith, size, length-append lines (line ∷ [])))
 
 -- where nothing is left out, no channel has a line
-some_left : (left : Left) → worse_of BrokenChannel left ≡ Nothing → ⊥
+some_left : (left : LeftOut) → worse_of BrokenChannel left ≡ Nothing → ⊥
 some_left Nothing e = cc
 some_left LeftBroken e = cc
 some_left LeftMisfit e = cc
 
-pub lines_none : (encoding : Encoding) (cs : List Channel) (ss : List Standing) (lines : List (List ℕ))
-    → left_of ss ≡ Nothing → AreReportsOf encoding cs ss lines → lines ≡ []
+pub lines_none : (encoding : Encoding) (cs : List Channel) (ss : List Packability) (lines : List (List ℕ))
+    → left_out_of ss ≡ Nothing → AreReportsOf encoding cs ss lines → lines ≡ []
 lines_none encoding [] ss lines e are = are
 lines_none encoding (c ∷ cs) [] lines e are = are
 lines_none encoding (c ∷ cs) (Fit ∷ ss) lines e (own, (rest, (joined, none, others))) =
     joined ∙ ap (λ (ls : List (List ℕ)). ls ++ rest) none ∙ lines_none encoding cs ss rest e others
-lines_none encoding (c ∷ cs) (BrokenChannel ∷ ss) lines e are = absurd (some_left (left_of ss) e)
+lines_none encoding (c ∷ cs) (BrokenChannel ∷ ss) lines e are = absurd (some_left (left_out_of ss) e)
 lines_none encoding (c ∷ cs) (MisfitChannel number fault ∷ ss) lines e are = cc
 
 module _ (s : Selection) (o : Options) (h : BytesRead) (views : List View) (whole : IsWhole h views)
@@ -184,15 +184,15 @@ module _ (s : Selection) (o : Options) (h : BytesRead) (views : List View) (whol
   repacked_asked (Err Memory) first last is told = (is, told)
 
   -- of which none is left out
-  told_after : (result : Result Left RepackFault) (first last : BytesWritten) → IfOk result (λ left. left ≡ Nothing)
+  told_after : (result : Result LeftOut RepackFault) (first last : BytesWritten) → IfOk result (λ left. left ≡ Nothing)
       → ReportsUnlessLeft result count first last → ReportsAfter result count first last
   told_after (Ok left) first last none told =
-      subst (λ (l : Left). ReportsUnlessLeft (Ok l) count first last) none told
+      subst (λ (l : LeftOut). ReportsUnlessLeft (Ok l) count first last) none told
   told_after (Err fault) first last none told = told
 
   -- the lines of channels that are left out, where none is
-  all_kept : (left between last : BytesWritten) (cs : List Channel) (ss : List Standing)
-      → left_of ss ≡ Nothing → AreReported o.encoding cs ss left between
+  all_kept : (left between last : BytesWritten) (cs : List Channel) (ss : List Packability)
+      → left_out_of ss ≡ Nothing → AreReported o.encoding cs ss left between
       → ReportsWithoutTime count between last
       → ReportsWithoutTime count left last × AreReported o.encoding cs ss last last
   all_kept left between last cs ss none nothing told =
@@ -214,7 +214,7 @@ module _ (s : Selection) (o : Options) (h : BytesRead) (views : List View) (whol
       let cs = came.1.0 in
       let is = came.1.1.1 in
       let kept = is.kept in
-      let both = all_kept first between last cs is.standings (sym is.left_is) kept.reported told in (
+      let both = all_kept first between last cs is.packabilities (sym is.left_is) kept.reported told in (
         both.0,
         (
           came.0,
@@ -223,7 +223,7 @@ module _ (s : Selection) (o : Options) (h : BytesRead) (views : List View) (whol
             (
               came.1.1.0,
               record {
-                standings = is.standings;
+                packabilities = is.packabilities;
                 kept = record { are = kept.are; whole = kept.whole; reported = both.1; wrote = kept.wrote };
                 left_is = is.left_is;
               },
@@ -233,7 +233,7 @@ module _ (s : Selection) (o : Options) (h : BytesRead) (views : List View) (whol
       )
 
   -- by stretches
-  restretched_asked : (leave : Bool) (result : Result Left RepackFault) (first between last : BytesWritten)
+  restretched_asked : (leave : Bool) (result : Result LeftOut RepackFault) (first between last : BytesWritten)
       → IsRestretchingIfLeft place o leave count result read old new first between
       → ReportsUnlessLeft result count between last
       → IsSelectedRestretching s o leave result h old new first last
@@ -275,7 +275,7 @@ module _ (s : Selection) (o : Options) (h : BytesRead) (views : List View) (whol
   restretched_asked leave (Err Memory) first between last is same = (is.0, same ∙ is.1)
 
   -- either way
-  pub packed_asked : (cutting : Cutting) (leave : Bool) (result : Result Left RepackFault)
+  pub packed_asked : (cutting : Cutting) (leave : Bool) (result : Result LeftOut RepackFault)
       (first between last : BytesWritten) → IsPackedIfLeft cutting place o leave count result read old new first between
       → ReportsUnlessLeft result count between last → IsSelectedAs cutting s o leave result h old new first last
   packed_asked Whole leave result first between last is told = λ stays.

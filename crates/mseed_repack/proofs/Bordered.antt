@@ -61,9 +61,9 @@ pub record Layers : Type 0 where
   pub cut : (vs : List View) (ss ts : List (List View)) → AreStretches vs ss → AreStretches vs ts → ss ≡ ts
 
 -- The views of what was written of each stretch, one stretch's after another's.
-abbrev AreLaid : List (List View) → List View → Type 0
-AreLaid [] ws = ws ≡ []
-AreLaid (s ∷ ss) ws = (own : List View) × ((rest : List View) × ((ws ≡ own ++ rest) × IsLaid s own × AreLaid ss rest))
+abbrev AreLinked : List (List View) → List View → Type 0
+AreLinked [] ws = ws ≡ []
+AreLinked (s ∷ ss) ws = (own : List View) × ((rest : List View) × ((ws ≡ own ++ rest) × IsLaid s own × AreLinked ss rest))
 
 lay_one : Layers → (o next : Options) (n : ℕ) (s : List View) (records : List (List ℕ)) → IsNumberedOn o n next
     → IsSoundStretch s → StretchFits o s → IsStretchPacked next s records
@@ -94,8 +94,8 @@ lay_one laws o next n s records on is fits packed =
       ),
     )
 
-laid_after : (ss : List (List View)) (s ws own : List View) → AreLaid ss ws → IsLaid s own
-    → AreLaid (ss ++ s ∷ []) (ws ++ own)
+laid_after : (ss : List (List View)) (s ws own : List View) → AreLinked ss ws → IsLaid s own
+    → AreLinked (ss ++ s ∷ []) (ws ++ own)
 laid_after [] s ws own e h =
     (own, ([], (ap (λ (us : List View). us ++ own) e ∙ sym (append-nil own), h, refl)))
 laid_after (t ∷ ts) s ws own (mine, (rest, (parts, here, more))) h = (
@@ -112,7 +112,7 @@ laid_after (t ∷ ts) s ws own (mine, (rest, (parts, here, more))) h = (
 
 all_laid : Layers → (o : Options) (ss : List (List View)) (records : List (List ℕ)) → AllByRecursion IsSoundStretch ss
     → AllByRecursion (StretchFits o) ss → ArePackedOn o ss records
-    → (ws : List View) × (AreLaid ss ws × (bytes_in ws ≡ records))
+    → (ws : List View) × (AreLinked ss ws × (bytes_in ws ≡ records))
 all_laid laws o _ _ sound fit packed_none = ([], (refl, refl))
 all_laid laws o _ _ sound fit (packed_more ss s records others next packed on here) =
     let before = all_laid laws o ss records (each_in_leading IsSoundStretch ss (s ∷ []) sound)
@@ -128,7 +128,7 @@ all_laid laws o _ _ sound fit (packed_more ss s records others next packed on he
 
 -- They are views, and there are no others of the same records.
 
-each_view : (ss : List (List View)) (ws : List View) → AreLaid ss ws → AllByRecursion IsView ws
+each_view : (ss : List (List View)) (ws : List View) → AreLinked ss ws → AllByRecursion IsView ws
 each_view [] ws e = subst (λ (us : List View). AllByRecursion IsView us) (sym e) tt
 each_view (s ∷ ss) ws (own, (rest, (parts, here, more))) =
     subst (λ (us : List View). AllByRecursion IsView us) (sym parts)
@@ -149,7 +149,7 @@ of_key_at key s first (v ∷ vs) samples e h =
     )
 
 each_of_key : (key : List ℕ) (vs : List View) (ss : List (List View)) (ws : List View) → AreStretchesUpTo vs ss []
-    → AllByRecursion (λ (v : View). key_at v.bytes ≡ key) vs → AreLaid ss ws
+    → AllByRecursion (λ (v : View). key_at v.bytes ≡ key) vs → AreLinked ss ws
     → AllByRecursion (λ (v : View). IsTrue (is_of key v)) ws
 each_of_key key vs [] ws cut keys e =
     subst (λ (us : List View). AllByRecursion (λ (v : View). IsTrue (is_of key v)) us) (sym e) tt
@@ -391,7 +391,7 @@ record NextLaid (v : View) (ws : List View) : Type 0 where
   here : IsLaid (v ∷ further) own
 
 next_laid : (left : List View) (v : View) (back : List View) (ss : List (List View)) (ws : List View) → left ≡ v ∷ back
-    → AreStretchesUpTo left ss [] → AreLaid ss ws → NextLaid v ws
+    → AreStretchesUpTo left ss [] → AreLinked ss ws → NextLaid v ws
 next_laid left v back [] ws e cut all = absurd (nothing_there [] v back (sym cut ∙ e))
 next_laid left v back ([] ∷ ss) ws e (others, (first, cut)) all = absurd first.stretch
 next_laid left v back ((w ∷ s) ∷ ss) ws e (others, (first, cut)) (own, (rest, (parts, here, more))) =
@@ -445,7 +445,7 @@ later s own leading back left rest ws b v here parts h there =
     }
 
 find : {R : View → View → Type 0} {why : ℕ → Why} → Shows R why → (vs : List View) (ss : List (List View))
-    (ws leading : List View) (b v : View) (back : List View) → AreStretchesUpTo vs ss [] → AreLaid ss ws → R b v
+    (ws leading : List View) (b v : View) (back : List View) → AreStretchesUpTo vs ss [] → AreLinked ss ws → R b v
     → vs ≡ leading ++ b ∷ (v ∷ back) → IsFoundAfter why (samples_of (leading ++ b ∷ [])) (start_of v) ws
 find shows vs [] ws leading b v back cut all r e = absurd (nothing_there leading b (v ∷ back) (sym cut ∙ e))
 find {R} {why} shows vs (s ∷ ss) ws leading b v back (left, (first, cut)) (own, (rest, (parts, here, more))) r e =
@@ -494,14 +494,14 @@ ending v (w ∷ vs) =
 own_continuous : Layers → (s own : List View) → IsLaid s own → IsContinuous own
 own_continuous laws s own h = continuous_at laws.single h.trace h.is h.slow h.some own h.at
 
-each_laid_sound : Layers → (ss : List (List View)) (ws : List View) → AreLaid ss ws → AllByRecursion IsSound ws
+each_laid_sound : Layers → (ss : List (List View)) (ws : List View) → AreLinked ss ws → AllByRecursion IsSound ws
 each_laid_sound laws [] ws e = subst (λ (us : List View). AllByRecursion IsSound us) (sym e) tt
 each_laid_sound laws (s ∷ ss) ws (own, (rest, (parts, here, more))) =
     subst (λ (us : List View). AllByRecursion IsSound us) (sym parts)
     (All-append IsSound own rest (own_continuous laws s own here).each (each_laid_sound laws ss rest more))
 
 all_follow : Layers → (vs : List View) (ss : List (List View)) (ws : List View) → AllNeighbours IsClose vs
-    → AreStretchesUpTo vs ss [] → AreLaid ss ws → AllNeighbours Follows ws
+    → AreStretchesUpTo vs ss [] → AreLinked ss ws → AllNeighbours Follows ws
 all_follow laws vs [] ws close cut e = subst (λ (us : List View). AllNeighbours Follows us) (sym e) tt
 all_follow laws vs (s ∷ []) ws close cut (own, (rest, (parts, here, none))) =
     let only : ws ≡ own = parts ∙ ap (λ (us : List View). own ++ us) none ∙ append-nil own in
@@ -531,7 +531,7 @@ all_follow laws vs ((w ∷ s) ∷ ((v ∷ t) ∷ ts)) ws close (left, (first, cu
     (subst (λ (us : List View). AllNeighbours Follows us) next behind))
 
 some_written : Layers → (vs : List View) (ss : List (List View)) (ws : List View) → vs ≢ []
-    → AreStretchesUpTo vs ss [] → AreLaid ss ws → ws ≢ []
+    → AreStretchesUpTo vs ss [] → AreLinked ss ws → ws ≢ []
 some_written laws vs [] ws some cut all none = some cut
 some_written laws vs (s ∷ ss) ws some cut (own, (rest, (parts, here, more))) none =
     by own (own_continuous laws s own here).some parts
@@ -541,7 +541,7 @@ some_written laws vs (s ∷ ss) ws some cut (own, (rest, (parts, here, more))) n
     by (v ∷ vs) is e = nothing_there [] v (vs ++ rest) (sym none ∙ e)
 
 pub keeps_borders : Layers → (vs : List View) (ss : List (List View)) (ws : List View) → AreStretches vs ss
-    → AreLaid ss ws → KeepsBorders vs ws
+    → AreLinked ss ws → KeepsBorders vs ws
 keeps_borders laws vs ss ws cut all = record {
   continuous = λ some close. record {
     some = some_written laws vs ss ws some cut all;
@@ -579,7 +579,7 @@ own_of laws o vs key records views keys fits packed =
 -- What is so of the views of what was written.
 read_as : Layers → (o : Options) (vs : List View) (records : List (List ℕ)) (P : List View → Type 0)
     → AllByRecursion IsView vs → ChannelFits o vs → IsChannelPacked o vs records
-    → ((ss : List (List View)) (ws : List View) → AreStretches vs ss → AreLaid ss ws → P ws) → AreReadAs P records
+    → ((ss : List (List View)) (ws : List View) → AreStretches vs ss → AreLinked ss ws → P ws) → AreReadAs P records
 read_as laws o vs records P views fits packed is_so =
     let same = laws.cut vs fits.stretches packed.stretches fits.are packed.are in
     let fit = subst (λ (ss : List (List View)). AllByRecursion (StretchFits o) ss) same fits.fit in

@@ -18,7 +18,7 @@ use Rattle.mseed_audit.specs.Series.{Trace, AreJoined, IsSeriesOf, none, one, st
 use Rattle.mseed_audit.proofs.Joined.{count_is}
 use Rattle.mseed_repack.specs.Stretches.{IsStretch, added_by, drift_of, samples_of}
 use Rattle.mseed_repack.proofs.Drifts.{miss_is}
-use Rattle.mseed_repack.proofs.Joining.{Stands, added_one, both_some, samples_one, stands_first}
+use Rattle.mseed_repack.proofs.Joining.{IsPackability, added_one, both_some, samples_one, stands_first}
 use Rattle.mseed_repack.proofs.Times.{stands_at}
 use Rattle.mseed_pack.specs.Clock.{added_before, instant_at}
 use Rattle.mseed_pack.specs.Fitting.{IsTooFast}
@@ -276,7 +276,7 @@ bordering s before others (w ∷ ws) written b v h k e =
     let way = past s (w ∷ ws) h first (sym h.series.start) ends (start_of v) counts.0 in
     let stretch : IsStretch (first ∷ rest) = subst (λ (vs : List View). IsStretch vs) h.series.parts h.stretch in
     let parts : first ∷ rest ≡ before ++ b ∷ [] = sym h.series.parts ∙ e in
-    let stands : Stands rate (start_of first) before b =
+    let stands : IsPackability rate (start_of first) before b =
     stands_at rate first [] [] first rest before [] b known refl (stands_first rate first known) stretch parts in
     record {
       before = ends.before;

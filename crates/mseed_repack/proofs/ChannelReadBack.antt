@@ -19,9 +19,9 @@ use Rattle.mseed_pack.specs.ReadBack.{ReadsAs}
 use Rattle.mseed_steim.specs.declared.encoding.Encoding.{Encoding}
 use Rattle.mseed_pack.specs.declared.options.Options.{Options}
 use Rattle.mseed_pack.proofs.Traced.{is_trace, kept_views}
-use Rattle.mseed_repack.specs.ByStretches.{AreStandings, AreStretched, EachRestretching, WroteFitting, kept_of}
-use Rattle.mseed_repack.specs.declared.standing.Standing.{Standing}
-use Rattle.mseed_repack.specs.declared.standing.Standing.TheVariants.{Fit, Broken, Misfit}
+use Rattle.mseed_repack.specs.ByStretches.{ArePackabilities, AreStretched, EachRestretching, WroteFitting, kept_of}
+use Rattle.mseed_repack.specs.declared.packability.Packability.{Packability}
+use Rattle.mseed_repack.specs.declared.packability.Packability.TheVariants.{Fit, Broken, Misfit}
 use Rattle.mseed_repack.specs.Repack.{Channel, IsArchiveOf, IsStretchPacked, StretchFits, records_in}
 use Rattle.mseed_repack.specs.Restretch.{ArePackedOn, ChannelFits, IsChannelPacked, IsChannelText, IsNumberedOn}
 use Rattle.mseed_repack.specs.Restretch.{none as packed_none, more as packed_more}
@@ -237,7 +237,7 @@ one_archive laws o views cs text other a b =
 -- What was written of an archive reads back.
 
 -- each channel that is kept fits
-pub kept_fit : (o : Options) (views : List View) (cs : List Channel) (ss : List Standing) → AreStandings o views cs ss
+pub kept_fit : (o : Options) (views : List View) (cs : List Channel) (ss : List Packability) → ArePackabilities o views cs ss
     → AllByRecursion (λ (c : Channel). ChannelFits o (records_in views c.0)) (kept_of cs ss)
 kept_fit o views [] ss all = tt
 kept_fit o views (c ∷ cs) [] all = tt
@@ -261,7 +261,7 @@ channels_read laws o views cs text each fit written =
 
 -- what follows for a text of channels that fit is so of whatever is written of an archive
 pub each_restretching : (P : List View → List Channel → List ℕ → Type 0)
-    → ((o : Options) (h : BytesRead) (views : List View) (channels : List Channel) (ss : List Standing) (text : List ℕ)
+    → ((o : Options) (h : BytesRead) (views : List View) (channels : List Channel) (ss : List Packability) (text : List ℕ)
     → IsArchiveOf h views channels
     → AllByRecursion (λ (c : Channel). ChannelFits o (records_in views c.0)) (kept_of channels ss)
     → AreStretched o views (kept_of channels ss) text → P views (kept_of channels ss) text)
@@ -276,12 +276,12 @@ each_restretching P follows place o leave left h old new reported_old reported_n
       views = views;
       channels = channels;
       archive = archive;
-      standings = were.standings;
+      packabilities = were.packabilities;
       are = kept.are;
       wrote = record {
         text = kept.wrote.text;
-        text_is = follows o h views channels were.standings kept.wrote.text archive
-            (kept_fit o views channels were.standings kept.are) kept.wrote.text_is;
+        text_is = follows o h views channels were.packabilities kept.wrote.text archive
+            (kept_fit o views channels were.packabilities kept.are) kept.wrote.text_is;
         bytes = kept.wrote.bytes;
         failed = kept.wrote.failed;
       };

@@ -12,14 +12,14 @@ use Rattle.mseed_audit.specs.Channels.{Placed, channel_in}
 use Rattle.mseed_audit.specs.Scope.{Scope, asked_of, placed_of}
 use Rattle.mseed_audit.proofs.Outcomes.{asked_all, none_lacks}
 use Rattle.mseed_pack.specs.declared.options.Options.{Options}
-use Rattle.mseed_repack.specs.ByStretches.{IsFirstOwn, IsPartStretched, IsRestretchingAmong, WroteKept, left_of}
+use Rattle.mseed_repack.specs.ByStretches.{IsFirstOwn, IsPartStretched, IsRestretchingAmong, WroteKept, left_out_of}
 use Rattle.mseed_repack.specs.Repack.{Channel, IsArchiveOf, IsFirstFinding, IsFitFor, IsRepackingAmong, IsWhole}
 use Rattle.mseed_repack.specs.Selected.{IsSelectedRepacking, IsSelectedRestretching, ReportsIfLeft, ReportsOfBytes}
 use Rattle.mseed_repack.specs.Selected.{ReportsWithoutTime, read_of}
 use Rattle.mseed_repack.specs.declared.fault.RepackFault.{RepackFault}
 use Rattle.mseed_repack.specs.declared.fault.RepackFault.TheVariants.{Stream, Broken, Misfit, Write, Memory}
-use Rattle.mseed_repack.specs.declared.refusing.Left.{Left}
-use Rattle.mseed_repack.specs.declared.refusing.Left.TheVariants.{Nothing, Broken as LeftBroken, Misfit as LeftMisfit}
+use Rattle.mseed_repack.specs.declared.refusing.LeftOut.{LeftOut}
+use Rattle.mseed_repack.specs.declared.refusing.LeftOut.TheVariants.{Nothing, Broken as LeftBroken, Misfit as LeftMisfit}
 use Rattle.mseed_repack.proofs.AskedFor.{silent_only, whole_kept}
 
 -- nothing is reported of how many lack a time
@@ -31,7 +31,7 @@ untold views old new told =
 untold_of_bytes : (bytes : List ℕ) (old new : BytesWritten) → ReportsOfBytes everything bytes old new → new ≡ old
 untold_of_bytes bytes old new told = untold told.0 old new told.1.1
 
-untold_if_left : (left : Left) (views : List View) (old new : BytesWritten)
+untold_if_left : (left : LeftOut) (views : List View) (old new : BytesWritten)
     → ReportsIfLeft left (count_by (lacks_time everything) views) old new → new ≡ old
 untold_if_left Nothing views old new same = same
 untold_if_left LeftBroken views old new told = untold views old new told
@@ -90,7 +90,7 @@ all_repacked o (Err Write) h old new first last is =
 all_repacked o (Err Memory) h old new first last is = is
 
 -- by stretches, nothing is reported before the lines of channels
-after_none : (views : List View) (o : Options) (leave : Bool) (result : Result Left RepackFault) (h : BytesRead)
+after_none : (views : List View) (o : Options) (leave : Bool) (result : Result LeftOut RepackFault) (h : BytesRead)
     (old new first between last : BytesWritten)
     → ReportsWithoutTime (count_by (lacks_time everything) views) first between
     → IsRestretchingAmong placed_of o leave result h old new between last
@@ -99,7 +99,7 @@ after_none views o leave result h old new first between last told came =
     subst (λ (w : BytesWritten). IsRestretchingAmong placed_of o leave result h old new w last)
     (untold views first between told) came
 
-pub all_restretched : (o : Options) (leave : Bool) (result : Result Left RepackFault) (h : BytesRead)
+pub all_restretched : (o : Options) (leave : Bool) (result : Result LeftOut RepackFault) (h : BytesRead)
     (old new first last : BytesWritten) → IsSelectedRestretching everything o leave result h old new first last
     → IsRestretchingAmong placed_of o leave result h old new first last
 all_restretched o leave (Ok left) h old new first last is =
@@ -124,7 +124,7 @@ all_restretched o leave (Err Write) h old new first last is =
     let cs = is.is_so.1.0 in
     let were = is.is_so.1.1.1 in
     let kept = subst
-    (λ (w : BytesWritten). WroteKept (IsPartStretched o vs) 1 o leave vs cs were.standings old new w last)
-    (untold_if_left (left_of were.standings) is.views first were.between were.reported) were.kept in
-    (vs, (cs, (archive is.whole is.is_so.1.1.0, record { standings = were.standings; kept = kept })))
+    (λ (w : BytesWritten). WroteKept (IsPartStretched o vs) 1 o leave vs cs were.packabilities old new w last)
+    (untold_if_left (left_out_of were.packabilities) is.views first were.between were.reported) were.kept in
+    (vs, (cs, (archive is.whole is.is_so.1.1.0, record { packabilities = were.packabilities; kept = kept })))
 all_restretched o leave (Err Memory) h old new first last is = is

@@ -51,7 +51,7 @@ both_some v r e = both_by (factor_at v.order v.bytes) (multiplier_at v.order v.b
     (unless_some (time_fault_of v) (rate_in v) r e)
 
 -- A record that is on time after others, by a rate and a start, and has that rate itself.
-pub record Stands (rate : Ratio) (start : ℤ) (before : List View) (b : View) : Type 0 where
+pub record IsPackability (rate : Ratio) (start : ℤ) (before : List View) (b : View) : Type 0 where
   pub own : Ratio
   pub known : known_rate b ≡ Some own
   pub same : SameRate rate own
@@ -114,7 +114,7 @@ going rate first rest v known (other, (next, go)) =
     (next, subst (λ (r : Ratio). GoesOnAt r next first rest v) same go)
 
 follows_next : (rate next : Ratio) (first : View) (rest before : List View) (b v : View) → known_rate first ≡ Some rate
-    → first ∷ rest ≡ before ++ b ∷ [] → Stands rate (start_of first) before b → GoesOnAt rate next first rest v
+    → first ∷ rest ≡ before ++ b ∷ [] → IsPackability rate (start_of first) before b → GoesOnAt rate next first rest v
     → Follows b v
 follows_next rate next first rest before b v known e stands go =
     let some : 0 < rate.den = (both_some first rate known).1 in (
@@ -134,7 +134,7 @@ follows_next rate next first rest before b v known e stands go =
 
 pub stands_next : (rate next : Ratio) (first : View) (rest before : List View) (b v : View)
     → first ∷ rest ≡ before ++ b ∷ [] → GoesOnAt rate next first rest v
-    → Stands rate (start_of first) (before ++ b ∷ []) v
+    → IsPackability rate (start_of first) (before ++ b ∷ []) v
 stands_next rate next first rest before b v e go = record {
   own = next;
   known = go.next_is;
@@ -146,7 +146,7 @@ stands_next rate next first rest before b v e go = record {
 }
 
 neighbours : (rate : Ratio) (first : View) (rest before : List View) (b : View) (vs : List View)
-    → known_rate first ≡ Some rate → first ∷ rest ≡ before ++ b ∷ [] → Stands rate (start_of first) before b
+    → known_rate first ≡ Some rate → first ∷ rest ≡ before ++ b ∷ [] → IsPackability rate (start_of first) before b
     → AllGoOn (first ∷ rest) vs → AllNeighbours Follows (b ∷ vs)
 neighbours rate first rest before b [] known e stands more = tt
 neighbours rate first rest before b (v ∷ vs) known e stands (go, more) =
@@ -160,7 +160,7 @@ pub rate_there : (o : Option Ratio) → IsSome o → (r : Ratio) × (o ≡ Some 
 rate_there None some = absurd (false≢true some)
 rate_there (Some r) some = (r, refl)
 
-pub stands_first : (rate : Ratio) (first : View) → known_rate first ≡ Some rate → Stands rate (start_of first) [] first
+pub stands_first : (rate : Ratio) (first : View) → known_rate first ≡ Some rate → IsPackability rate (start_of first) [] first
 stands_first rate first known = record {
   own = rate;
   known = known;

@@ -9,7 +9,7 @@ pub mod OneRepacking
 pub mod Near
 pub mod Plain
 pub mod Supplied
-pub mod Trails
+pub mod Linked
 pub mod ReadChannels
 pub mod Outlines
 pub mod Written
@@ -19,7 +19,7 @@ pub mod Planning
 pub mod CutStretches
 pub mod Walks
 pub mod Archives
-pub mod Standings
+pub mod Packabilities
 pub mod SoundRecords
 pub mod ChannelReadBack
 pub mod Misses

@@ -11,41 +11,41 @@ use Rattle.mseed_stream.specs.Device.{BytesRead, BytesWritten}
 use Rattle.mseed_pack.specs.declared.options.Options.{Options}
 use Rattle.mseed_repack.specs.Repack.{AreContinuous, CanBePacked, CantBePacked, Channel, IsArchiveOf, IsFirst, Wrote}
 use Rattle.mseed_repack.specs.Repack.{IsFirstFinding, records_in}
-use Rattle.mseed_repack.specs.ByStretches.{AreFound, AreReported, IsFit, kept_of, left_of}
+use Rattle.mseed_repack.specs.ByStretches.{AreFound, AreReported, IsFit, kept_of, left_out_of}
 use Rattle.mseed_repack.specs.Selected.{ReportsIfLeft}
-use Rattle.mseed_repack.specs.private.Planning.{AreReady, PartsAs, StandsAs, TextsAs}
+use Rattle.mseed_repack.specs.private.Planning.{AreReady, PartsAs, IsPackabilityAs, TextsAs}
 use Rattle.mseed_repack.specs.private.Restretching.{AreUnsound, IsFirstRefused, IsPackedIfLeft}
 use Rattle.mseed_repack.specs.declared.fault.RepackFault.{RepackFault}
 use Rattle.mseed_repack.specs.declared.fault.RepackFault.TheVariants.{Stream, Broken as BrokenChannel}
 use Rattle.mseed_repack.specs.declared.fault.RepackFault.TheVariants.{Misfit as MisfitChannel, Write, Memory}
 use Rattle.mseed_repack.specs.declared.plan.Plan.{Plan}
-use Rattle.mseed_repack.specs.declared.refusing.Left.{Left}
-use Rattle.mseed_repack.specs.declared.refusing.Left.TheVariants.{Nothing}
-use Rattle.mseed_repack.specs.declared.standing.Standing.{Standing}
-use Rattle.mseed_repack.specs.declared.standing.Standing.TheVariants.{Fit, Broken, Misfit}
+use Rattle.mseed_repack.specs.declared.refusing.LeftOut.{LeftOut}
+use Rattle.mseed_repack.specs.declared.refusing.LeftOut.TheVariants.{Nothing}
+use Rattle.mseed_repack.specs.declared.packability.Packability.{Packability}
+use Rattle.mseed_repack.specs.declared.packability.Packability.TheVariants.{Fit, Broken, Misfit}
 use Rattle.mseed_repack.specs.declared.stretching.Cutting.{Cutting}
 use Rattle.mseed_repack.specs.declared.stretching.Cutting.TheVariants.{Whole, Stretches}
 use Rattle.mseed_repack.proofs.Archives.{whole_fit}
 use Rattle.mseed_repack.proofs.AskedFor.{lines_none, silent_only}
 use Rattle.mseed_repack.proofs.OneRepacking.{none_first}
-use Rattle.mseed_repack.proofs.Planning.{standing_each, standings_of, wrote_as}
-use Rattle.mseed_repack.proofs.Standings.{unsound_all, wrote_kept}
+use Rattle.mseed_repack.proofs.Planning.{packability_each, packabilities_of, wrote_as}
+use Rattle.mseed_repack.proofs.Packabilities.{unsound_all, wrote_kept}
 
 -- as many channels are found something of as there are, in whatever list that is
 pub as_found : {cutting : Cutting} {o : Options} {room places : ℕ} {views : List View} (cs : List Channel)
-    (ss ts : List Standing) (ls : List (List Plan)) → ts ≡ ss → AreReady cutting o room places views cs ss ls
+    (ss ts : List Packability) (ls : List (List Plan)) → ts ≡ ss → AreReady cutting o room places views cs ss ls
     → length ts ≡ length cs
-as_found cs ss ts ls same ready = ap (λ (us : List Standing). length us) same ∙ standing_each cs ss ls ready
+as_found cs ss ts ls same ready = ap (λ (us : List Packability). length us) same ∙ packability_each cs ss ls ready
 
 -- and each that is said to be broken is
 pub as_unsound : {cutting : Cutting} {o : Options} {room places : ℕ} {views : List View} (cs : List Channel)
-    (ss ts : List Standing) (ls : List (List Plan)) → ts ≡ ss → AreReady cutting o room places views cs ss ls
+    (ss ts : List Packability) (ls : List (List Plan)) → ts ≡ ss → AreReady cutting o room places views cs ss ls
     → AreUnsound views cs ts
 as_unsound {cutting = cutting} {o = o} {views = views} cs ss ts ls same ready =
-    subst (λ (us : List Standing). AreUnsound views cs us) (sym same)
-    (unsound_all cutting o views cs ss (standings_of cs ss ls ready))
+    subst (λ (us : List Packability). AreUnsound views cs us) (sym same)
+    (unsound_all cutting o views cs ss (packabilities_of cs ss ls ready))
 
-none_left : (ss : List Standing) → AllByRecursion IsFit ss → left_of ss ≡ Nothing
+none_left : (ss : List Packability) → AllByRecursion IsFit ss → left_out_of ss ≡ Nothing
 none_left [] fit = refl
 none_left (Fit ∷ ss) fit = none_left ss fit.1
 none_left (Broken ∷ ss) fit = cc
@@ -53,26 +53,26 @@ none_left (Misfit n f ∷ ss) fit = cc
 
 -- what is known of the channels of an archive, which are cut so, before any is written or left out
 pub record AreJudged (cutting : Cutting) (o : Options) (leave : Bool) (h : BytesRead) (views : List View)
-    (cs : List Channel) (ss : List Standing) : Type 0 where
+    (cs : List Channel) (ss : List Packability) : Type 0 where
   pub archive : IsArchiveOf h views cs
   pub continuous : cutting ≡ Whole → AreContinuous views cs
-  pub found : AreFound (StandsAs cutting o) views cs ss
+  pub found : AreFound (IsPackabilityAs cutting o) views cs ss
   pub fit : leave ≡ false → AllByRecursion IsFit ss
 
 module _ (place : List View → List Placed) (o : Options) (leave : Bool) (count : ℕ) (h : BytesRead) (views : List View)
     (cs : List Channel) where
   -- where each channel fits, nothing is reported
-  silent : (ss : List Standing) (first between last : BytesWritten) → AllByRecursion IsFit ss
-      → ReportsIfLeft (left_of ss) count first between → AreReported o.encoding cs ss between last → last ≡ first
+  silent : (ss : List Packability) (first between last : BytesWritten) → AllByRecursion IsFit ss
+      → ReportsIfLeft (left_out_of ss) count first between → AreReported o.encoding cs ss between last → last ≡ first
   silent ss first between last fit untimed told =
       silent_only told.lines between last told.each
       (lines_none o.encoding cs ss told.lines (none_left ss fit) told.are)
-      ∙ subst (λ (left : Left). ReportsIfLeft left count first between) (none_left ss fit) untimed
+      ∙ subst (λ (left : LeftOut). ReportsIfLeft left count first between) (none_left ss fit) untimed
 
-  pub packed : (cutting : Cutting) (ss : List Standing) (old new first between last : BytesWritten)
-      → AreJudged cutting o leave h views cs ss → ReportsIfLeft (left_of ss) count first between
+  pub packed : (cutting : Cutting) (ss : List Packability) (old new first between last : BytesWritten)
+      → AreJudged cutting o leave h views cs ss → ReportsIfLeft (left_out_of ss) count first between
       → AreReported o.encoding cs ss between last → Wrote (TextsAs cutting o views (kept_of cs ss)) 0 old new
-      → IsPackedIfLeft cutting place o leave count (Ok (left_of ss)) h old new first last
+      → IsPackedIfLeft cutting place o leave count (Ok (left_out_of ss)) h old new first last
   packed Whole ss old new first between last k untimed told wrote = λ stays.
       let all = whole_fit o views cs ss k.found (k.fit stays) in
       let texts = wrote_as (λ text is. subst (λ (ds : List Channel). TextsAs Whole o views ds text) all.kept is)
@@ -83,10 +83,10 @@ module _ (place : List View → List Placed) (o : Options) (leave : Bool) (count
       )
   packed Stretches ss old new first between last k untimed told wrote =
       let kept = wrote_kept k.found k.fit told (wrote_as (λ text is. is) wrote) in
-      (between, (untimed, (views, (cs, (k.archive, record { standings = ss; kept = kept; left_is = refl })))))
+      (between, (untimed, (views, (cs, (k.archive, record { packabilities = ss; kept = kept; left_is = refl })))))
 
-  pub packed_in_part : (cutting : Cutting) (ss : List Standing) (old new first between last : BytesWritten)
-      → AreJudged cutting o leave h views cs ss → ReportsIfLeft (left_of ss) count first between
+  pub packed_in_part : (cutting : Cutting) (ss : List Packability) (old new first between last : BytesWritten)
+      → AreJudged cutting o leave h views cs ss → ReportsIfLeft (left_out_of ss) count first between
       → AreReported o.encoding cs ss between last → Wrote (PartsAs cutting o views (kept_of cs ss)) 1 old new
       → IsPackedIfLeft cutting place o leave count (Err Write) h old new first last
   packed_in_part Whole ss old new first between last k untimed told wrote = λ stays.
@@ -99,7 +99,7 @@ module _ (place : List View → List Placed) (o : Options) (leave : Bool) (count
       )
   packed_in_part Stretches ss old new first between last k untimed told wrote =
       let kept = wrote_kept k.found k.fit told (wrote_as (λ text is. is) wrote) in
-      (views, (cs, (k.archive, record { standings = ss; between = between; reported = untimed; kept = kept })))
+      (views, (cs, (k.archive, record { packabilities = ss; between = between; reported = untimed; kept = kept })))
 
   -- the archive is refused for a channel that isn't continuous
   pub broken_refused : (cutting : Cutting) (key : Codes) (first : Finding) (s w : BytesWritten) → IsArchiveOf h views cs
@@ -129,7 +129,7 @@ module _ (place : List View → List Placed) (o : Options) (leave : Bool) (count
         verdict = at.verdict;
         back = at.back;
         parts = at.parts;
-        before = All-weaker (λ (c : Channel). StandsAs Whole o (records_in views c.0) Fit)
+        before = All-weaker (λ (c : Channel). IsPackabilityAs Whole o (records_in views c.0) Fit)
             (λ (c : Channel). CanBePacked o views c.0) (λ c fits. fits.1) at.prefix at.before;
         is_it = at.is_it.2;
       } in

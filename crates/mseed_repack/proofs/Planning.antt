@@ -24,13 +24,13 @@ use Rattle.mseed_repack.specs.Restretch.{IsNumberedOn, more, none}
 use Rattle.mseed_repack.specs.ByStretches.{AreFound}
 use Rattle.mseed_repack.specs.private.Planning.{AreReady, CanBeWritten, GoesBy, IsCutAs, IsPartAs, IsPartOn}
 use Rattle.mseed_repack.specs.private.Planning.{IsPlanned, IsReadable, IsReady, IsStretchText, IsStretchWritten}
-use Rattle.mseed_repack.specs.private.Planning.{IsTextAs, IsTextOn, StandsAs, ready_next, ready_none, stretches_by}
+use Rattle.mseed_repack.specs.private.Planning.{IsTextAs, IsTextOn, IsPackabilityAs, ready_next, ready_none, stretches_by}
 use Rattle.mseed_repack.specs.private.Reading.{steps_of}
 use Rattle.mseed_repack.specs.declared.plan.Plan.{Plan}
 use Rattle.mseed_repack.specs.declared.plan.Way.{Way}
 use Rattle.mseed_repack.specs.declared.plan.Way.TheVariants.{Frames, Listed}
-use Rattle.mseed_repack.specs.declared.standing.Standing.{Standing}
-use Rattle.mseed_repack.specs.declared.standing.Standing.TheVariants.{Fit, Broken, Misfit}
+use Rattle.mseed_repack.specs.declared.packability.Packability.{Packability}
+use Rattle.mseed_repack.specs.declared.packability.Packability.TheVariants.{Fit, Broken, Misfit}
 use Rattle.mseed_repack.specs.declared.stretching.Cutting.{Cutting}
 use Rattle.mseed_repack.specs.declared.stretching.Cutting.TheVariants.{Whole, Stretches}
 use Rattle.mseed_repack.proofs.ChannelReadBack.{ends_apart, one_next}
@@ -492,27 +492,27 @@ part_as Stretches o vs ss text cut p = channel_part o vs ss text cut p
 
 -- What is found of all channels, and how they are planned.
 
-pub standings_of : {cutting : Cutting} {o : Options} {room places : ℕ} {views : List View} (cs : List Channel)
-    (ss : List Standing) (ls : List (List Plan)) → AreReady cutting o room places views cs ss ls
-    → AreFound (StandsAs cutting o) views cs ss
-standings_of _ _ _ ready_none = tt
-standings_of _ _ _ (ready_next c s ps cs ss ls one rest) = (one.stands, standings_of cs ss ls rest)
+pub packabilities_of : {cutting : Cutting} {o : Options} {room places : ℕ} {views : List View} (cs : List Channel)
+    (ss : List Packability) (ls : List (List Plan)) → AreReady cutting o room places views cs ss ls
+    → AreFound (IsPackabilityAs cutting o) views cs ss
+packabilities_of _ _ _ ready_none = tt
+packabilities_of _ _ _ (ready_next c s ps cs ss ls one rest) = (one.stands, packabilities_of cs ss ls rest)
 
 -- of each channel something is found, and there are plans for it
-pub standing_each : {cutting : Cutting} {o : Options} {room places : ℕ} {views : List View} (cs : List Channel)
-    (ss : List Standing) (ls : List (List Plan)) → AreReady cutting o room places views cs ss ls
+pub packability_each : {cutting : Cutting} {o : Options} {room places : ℕ} {views : List View} (cs : List Channel)
+    (ss : List Packability) (ls : List (List Plan)) → AreReady cutting o room places views cs ss ls
     → length ss ≡ length cs
-standing_each _ _ _ ready_none = refl
-standing_each _ _ _ (ready_next c s ps cs ss ls one rest) = ap suc (standing_each cs ss ls rest)
+packability_each _ _ _ ready_none = refl
+packability_each _ _ _ (ready_next c s ps cs ss ls one rest) = ap suc (packability_each cs ss ls rest)
 
 pub plan_each : {cutting : Cutting} {o : Options} {room places : ℕ} {views : List View} (cs : List Channel)
-    (ss : List Standing) (ls : List (List Plan)) → AreReady cutting o room places views cs ss ls
+    (ss : List Packability) (ls : List (List Plan)) → AreReady cutting o room places views cs ss ls
     → length cs ≡ length ls
 plan_each _ _ _ ready_none = refl
 plan_each _ _ _ (ready_next c s ps cs ss ls one rest) = ap suc (plan_each cs ss ls rest)
 
 pub ready_at : {cutting : Cutting} {o : Options} {room places : ℕ} {views : List View} (cs : List Channel)
-    (ss : List Standing) (ls : List (List Plan)) (k : ℕ) (c : Channel) → AreReady cutting o room places views cs ss ls
+    (ss : List Packability) (ls : List (List Plan)) (k : ℕ) (c : Channel) → AreReady cutting o room places views cs ss ls
     → k < length cs
     → IsReady cutting o room places (records_in views (get_or cs k c).0) (get_or ss k Fit) (get_or ls k [])
 ready_at _ _ _ k c ready_none lt = absurd (omega (arith, lt))
@@ -521,7 +521,7 @@ ready_at _ _ _ (suc k) c (ready_next d s ps cs ss ls one rest) lt = ready_at cs 
 
 -- one more channel
 pub ready_more : (cutting : Cutting) (o : Options) (room next places further : ℕ) (views : List View)
-    (cs : List Channel) (ss : List Standing) (ls : List (List Plan)) (c : Channel) (s : Standing) (ps : List Plan)
+    (cs : List Channel) (ss : List Packability) (ls : List (List Plan)) (c : Channel) (s : Packability) (ps : List Plan)
     → room ≤ next → places ≤ further → AreReady cutting o room places views cs ss ls
     → IsReady cutting o next further (records_in views c.0) s ps
     → AreReady cutting o next further views (cs ++ c ∷ []) (ss ++ s ∷ []) (ls ++ ps ∷ [])

@@ -19,12 +19,12 @@ use Rattle.mseed_audit.specs.Reported.{IsFoundAfter, last_of}
 use Rattle.mseed_audit.specs.Reported.{channel_in as channel_in_placed}
 use Rattle.mseed_audit.specs.declared.finding.Why.{Why}
 use Rattle.mseed_audit.proofs.Continuity.{HaveOneReading}
-use Rattle.mseed_repack.specs.private.Archives.{AreAlone, has_own}
+use Rattle.mseed_repack.specs.private.Archives.{AreAlone, is_own}
 use Rattle.mseed_repack.specs.private.Reading.{channel_in}
 
 -- a record of which no finding of its own is found
 pub sound_found : HaveOneReading → (before : Option View) (v : View) (why : Option Why) → IsFound before v why
-    → has_own why ≡ false → IsSound v
+    → is_own why ≡ false → IsSound v
 sound_found single before v _ (time fault e) none = absurd (false≢true (sym none))
 sound_found single before v _ (rate e r) none = absurd (false≢true (sym none))
 sound_found single before v _ (read next known fault f) none = absurd (false≢true (sym none))
@@ -37,7 +37,7 @@ sound_found single before v _ (after next known samples whole) none = record {
 
 -- one with samples, of which no finding of its own is found
 pub sound_by_finding : HaveOneReading → (v : View) (earlier : List Placed) (why : Option Why)
-    → IsFoundAfter earlier v why → has_own why ≡ false → 0 < count_of v → IsSound v
+    → IsFoundAfter earlier v why → is_own why ≡ false → 0 < count_of v → IsSound v
 sound_by_finding single v earlier why found none some =
     sound_found single (last_of None (channel_in_placed (key_at v.bytes) earlier)) v why (found.judged some) none
 

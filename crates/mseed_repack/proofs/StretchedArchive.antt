@@ -25,8 +25,8 @@ use Rattle.mseed_repack.specs.Borders.{IsArchiveKept, IsStretchedArchive, KeepsB
 use Rattle.mseed_repack.specs.ByStretches.{AreStretched, EachRestretching, kept_of}
 use Rattle.mseed_repack.specs.Repack.{Channel, IsArchiveOf, records_in}
 use Rattle.mseed_repack.specs.Restretch.{ChannelFits}
-use Rattle.mseed_repack.specs.declared.standing.Standing.{Standing}
-use Rattle.mseed_repack.specs.declared.standing.Standing.TheVariants.{Fit, Broken, Misfit}
+use Rattle.mseed_repack.specs.declared.packability.Packability.{Packability}
+use Rattle.mseed_repack.specs.declared.packability.Packability.TheVariants.{Fit, Broken, Misfit}
 use Rattle.mseed_repack.proofs.Bordered.{Layers, own_of}
 use Rattle.mseed_repack.proofs.ChannelReadBack.{each_restretching}
 use Rattle.mseed_repack.proofs.ReadBack.{all_records, none_further, others_by}
@@ -107,7 +107,7 @@ unfolding IsStrictlySortedBy
 distinct [] sorted = tt
 distinct (c ∷ cs) sorted = (others_by (λ (d : Channel). d.0) c.0 cs sorted.0, distinct cs sorted.1)
 
-others_kept : (key : List ℕ) (cs : List Channel) (ss : List Standing) → AreOthers key cs
+others_kept : (key : List ℕ) (cs : List Channel) (ss : List Packability) → AreOthers key cs
     → AreOthers key (kept_of cs ss)
 others_kept key [] ss h = tt
 others_kept key (c ∷ cs) [] h = tt
@@ -115,7 +115,7 @@ others_kept key (c ∷ cs) (Fit ∷ ss) h = (h.0, others_kept key cs ss h.1)
 others_kept key (c ∷ cs) (Broken ∷ ss) h = others_kept key cs ss h.1
 others_kept key (c ∷ cs) (Misfit n f ∷ ss) h = others_kept key cs ss h.1
 
-distinct_kept : (cs : List Channel) (ss : List Standing) → AreDistinct cs → AreDistinct (kept_of cs ss)
+distinct_kept : (cs : List Channel) (ss : List Packability) → AreDistinct cs → AreDistinct (kept_of cs ss)
 distinct_kept [] ss h = tt
 distinct_kept (c ∷ cs) [] h = tt
 distinct_kept (c ∷ cs) (Fit ∷ ss) h = (others_kept c.0 cs ss h.0, distinct_kept cs ss h.1)
@@ -196,7 +196,7 @@ in_records views written (c ∷ cs) h = (
 )
 
 archive_kept : Layers → (o : Options) (h : BytesRead) (views : List View) (channels : List Channel)
-    (ss : List Standing) (text : List ℕ) → IsArchiveOf h views channels
+    (ss : List Packability) (text : List ℕ) → IsArchiveOf h views channels
     → AllByRecursion (λ (c : Channel). ChannelFits o (records_in views c.0)) (kept_of channels ss)
     → AreStretched o views (kept_of channels ss) text → IsArchiveKept views (kept_of channels ss) text
 archive_kept laws o h views channels ss text archive fit stretched =

@@ -8,16 +8,16 @@ use Rattle.mseed_audit.specs.Judging.{known_rate}
 use Rattle.mseed_repack.specs.Stretches.{AllGoOn, AllStayNear, IsOnTime, IsStretch, added_by, drift_of}
 use Rattle.mseed_repack.specs.Stretches.{instant_times, samples_of}
 use Rattle.mseed_repack.proofs.Drifts.{times_sub}
-use Rattle.mseed_repack.proofs.Joining.{Stands, going, stands_first, stands_next}
+use Rattle.mseed_repack.proofs.Joining.{IsPackability, going, stands_first, stands_next}
 
 -- each record of a stretch is on time
 pub stands_at : (rate : Ratio) (first : View) (rest before : List View) (b : View) (vs leading back : List View)
-    (v : View) → known_rate first ≡ Some rate → first ∷ rest ≡ before ++ b ∷ [] → Stands rate (start_of first) before b
-    → AllGoOn (first ∷ rest) vs → b ∷ vs ≡ leading ++ v ∷ back → Stands rate (start_of first) (before ++ leading) v
+    (v : View) → known_rate first ≡ Some rate → first ∷ rest ≡ before ++ b ∷ [] → IsPackability rate (start_of first) before b
+    → AllGoOn (first ∷ rest) vs → b ∷ vs ≡ leading ++ v ∷ back → IsPackability rate (start_of first) (before ++ leading) v
 stands_at rate first rest before b vs [] back v known e stands more at =
     let same : b ≡ v = cc in
-    subst (λ (w : View). Stands rate (start_of first) (before ++ []) w) same
-    (subst (λ (us : List View). Stands rate (start_of first) us b) (sym (append-nil before)) stands)
+    subst (λ (w : View). IsPackability rate (start_of first) (before ++ []) w) same
+    (subst (λ (us : List View). IsPackability rate (start_of first) us b) (sym (append-nil before)) stands)
 stands_at rate first rest before b [] (w ∷ []) back v known e stands more at = cc
 stands_at rate first rest before b [] (w ∷ (u ∷ us)) back v known e stands more at = cc
 stands_at rate first rest before b (x ∷ vs) (w ∷ leading) back v known e stands more at =
@@ -28,7 +28,7 @@ stands_at rate first rest before b (x ∷ vs) (w ∷ leading) back v known e sta
     (ap (λ (us : List View). us ++ x ∷ []) e) (stands_next rate next.0 first rest before b x e next.1) more.1 after in
     let all : (before ++ b ∷ []) ++ leading ≡ before ++ w ∷ leading =
     append_assoc before (b ∷ []) leading ∙ ap (λ (u : View). before ++ u ∷ leading) here in
-    subst (λ (us : List View). Stands rate (start_of first) us v) all later
+    subst (λ (us : List View). IsPackability rate (start_of first) us v) all later
 
 -- what a sample's two instants differ by is what its record begins beside the clock
 moved : (x y z : ℤ) (p q r : ℕ) → x ≡ y -ℤ z → p ≡ q + r → (y +ℤ pos r -ℤ pos 0) -ℤ (z +ℤ pos p) ≡ x -ℤ pos q

@@ -22,30 +22,30 @@ use Rattle.mseed_repack.specs.Restretch.{ChannelFits, ChannelMisfits, IsChannelP
 use Rattle.mseed_repack.specs.declared.fault.RepackFault.{RepackFault}
 use Rattle.mseed_repack.specs.declared.fault.RepackFault.TheVariants.{Stream, Broken as BrokenChannel}
 use Rattle.mseed_repack.specs.declared.fault.RepackFault.TheVariants.{Misfit as MisfitStretch, Write, Memory}
-use Rattle.mseed_repack.specs.declared.refusing.Left.{Left}
-use Rattle.mseed_repack.specs.declared.refusing.Left.TheVariants.{Nothing, Broken as LeftBroken, Misfit as LeftMisfit}
-use Rattle.mseed_repack.specs.declared.standing.Standing.{Standing}
-use Rattle.mseed_repack.specs.declared.standing.Standing.TheVariants.{Fit, Broken, Misfit}
+use Rattle.mseed_repack.specs.declared.refusing.LeftOut.{LeftOut}
+use Rattle.mseed_repack.specs.declared.refusing.LeftOut.TheVariants.{Nothing, Broken as LeftBroken, Misfit as LeftMisfit}
+use Rattle.mseed_repack.specs.declared.packability.Packability.{Packability}
+use Rattle.mseed_repack.specs.declared.packability.Packability.TheVariants.{Fit, Broken, Misfit}
 
 -- what is found of a channel: each stretch can be packed; or some record isn't sound; or which stretch can't
-abbrev pub Stands : Options → List View → Standing → Type 0
-Stands o vs Fit = ChannelFits o vs
-Stands o vs Broken = ¬ (AllByRecursion IsSound vs)
-Stands o vs (Misfit number fault) = ChannelMisfits o number fault vs
+abbrev pub IsPackability : Options → List View → Packability → Type 0
+IsPackability o vs Fit = ChannelFits o vs
+IsPackability o vs Broken = ¬ (AllByRecursion IsSound vs)
+IsPackability o vs (Misfit number fault) = ChannelMisfits o number fault vs
 
 -- the records of each channel of an archive are to what is found of it in this relation
-abbrev pub AreFound : (List View → Standing → Type 0) → List View → List Channel → List Standing → Type 0
+abbrev pub AreFound : (List View → Packability → Type 0) → List View → List Channel → List Packability → Type 0
 AreFound Is views [] [] = ⊤
 AreFound Is views [] (s ∷ ss) = ⊥
 AreFound Is views (c ∷ cs) [] = ⊥
 AreFound Is views (c ∷ cs) (s ∷ ss) = Is (records_in views c.0) s × AreFound Is views cs ss
 
 -- what is found of each channel of an archive
-abbrev pub AreStandings : Options → List View → List Channel → List Standing → Type 0
-AreStandings o views channels standings = AreFound (Stands o) views channels standings
+abbrev pub ArePackabilities : Options → List View → List Channel → List Packability → Type 0
+ArePackabilities o views channels packabilities = AreFound (IsPackability o) views channels packabilities
 
 -- the channels that fit
-abbrev pub kept_of : List Channel → List Standing → List Channel
+abbrev pub kept_of : List Channel → List Packability → List Channel
 kept_of [] ss = []
 kept_of (c ∷ cs) [] = []
 kept_of (c ∷ cs) (Fit ∷ ss) = c ∷ kept_of cs ss
@@ -68,20 +68,20 @@ abbrev pub AreSound : List View → List Channel → Type 0
 AreSound views channels = All (λ c. AllByRecursion IsSound (records_in views c.0)) channels
 
 -- the channel is written
-abbrev pub IsFit : Standing → Type 0
+abbrev pub IsFit : Packability → Type 0
 IsFit s = s ≡ Fit
 
 -- what is left out, the worst of it
-abbrev pub worse_of : Standing → Left → Left
+abbrev pub worse_of : Packability → LeftOut → LeftOut
 worse_of Fit left = left
 worse_of Broken Nothing = LeftBroken
 worse_of Broken LeftBroken = LeftBroken
 worse_of Broken LeftMisfit = LeftMisfit
 worse_of (Misfit number fault) left = LeftMisfit
 
-abbrev pub left_of : List Standing → Left
-left_of [] = Nothing
-left_of (s ∷ ss) = worse_of s (left_of ss)
+abbrev pub left_out_of : List Packability → LeftOut
+left_out_of [] = Nothing
+left_out_of (s ∷ ss) = worse_of s (left_out_of ss)
 
 -- of these records of a channel the first that has a finding of its own has this one
 pub record IsFirstOwn (ps : List Placed) (f : Finding) : Type 0 where
@@ -109,13 +109,13 @@ abbrev pub broken_text : List ℕ → Finding → List ℕ
 broken_text key f = broken_line key ++ finding_line f
 
 -- what is reported of a channel that is left out, where such an encoding is requested
-abbrev pub IsReportOf : Encoding → List ℕ → Standing → List (List ℕ) → Type 0
+abbrev pub IsReportOf : Encoding → List ℕ → Packability → List (List ℕ) → Type 0
 IsReportOf e key Fit lines = lines ≡ []
 IsReportOf e key Broken lines = lines ≡ broken_line key ∷ []
 IsReportOf e key (Misfit number fault) lines = lines ≡ misfit_text e key (Some number) fault ∷ []
 
 -- and of each that is, in the order of the channels
-abbrev pub AreReportsOf : Encoding → List Channel → List Standing → List (List ℕ) → Type 0
+abbrev pub AreReportsOf : Encoding → List Channel → List Packability → List (List ℕ) → Type 0
 AreReportsOf e [] ss lines = lines ≡ []
 AreReportsOf e (c ∷ cs) [] lines = lines ≡ []
 AreReportsOf e (c ∷ cs) (s ∷ ss) lines =
@@ -129,34 +129,34 @@ pub data ReportsEach : List (List ℕ) → BytesWritten → BytesWritten → Typ
       → WritesLine line between new → ReportsEach (lines ++ line ∷ []) old new
 
 -- the channels that are left out are reported
-pub record AreReported (e : Encoding) (channels : List Channel) (standings : List Standing)
+pub record AreReported (e : Encoding) (channels : List Channel) (packabilities : List Packability)
     (old new : BytesWritten) : Type 0 where
   pub lines : List (List ℕ)
-  pub are : AreReportsOf e channels standings lines
+  pub are : AreReportsOf e channels packabilities lines
   pub each : ReportsEach lines old new
 
 -- Of the channels that fit a text was written of which this is so; and the others were reported, unless there was to be
 -- none.
 pub record WroteKept (P : List Channel → List ℕ → Type 0) (failures : ℕ) (o : Options) (leave : Bool)
-    (views : List View) (channels : List Channel) (standings : List Standing)
+    (views : List View) (channels : List Channel) (packabilities : List Packability)
     (old new reported_old reported_new : BytesWritten) : Type 0 where
-  pub are : AreStandings o views channels standings
-  pub whole : leave ≡ false → AllByRecursion IsFit standings
-  pub reported : AreReported o.encoding channels standings reported_old reported_new
-  pub wrote : Wrote (P (kept_of channels standings)) failures old new
+  pub are : ArePackabilities o views channels packabilities
+  pub whole : leave ≡ false → AllByRecursion IsFit packabilities
+  pub reported : AreReported o.encoding channels packabilities reported_old reported_new
+  pub wrote : Wrote (P (kept_of channels packabilities)) failures old new
 
 -- What was written by stretches: of each channel that fits its stretches' records.
 pub record WereStretched (o : Options) (leave : Bool) (views : List View)
-    (channels : List Channel) (left : Left) (old new reported_old reported_new : BytesWritten) : Type 0 where
-  pub standings : List Standing
-  pub kept : WroteKept (AreStretched o views) 0 o leave views channels standings old new reported_old reported_new
-  pub left_is : left ≡ left_of standings
+    (channels : List Channel) (left : LeftOut) (old new reported_old reported_new : BytesWritten) : Type 0 where
+  pub packabilities : List Packability
+  pub kept : WroteKept (AreStretched o views) 0 o leave views channels packabilities old new reported_old reported_new
+  pub left_is : left ≡ left_out_of packabilities
 
 -- the same, where the output failed
 pub record WereStretchedInPart (o : Options) (leave : Bool) (views : List View)
     (channels : List Channel) (old new reported_old reported_new : BytesWritten) : Type 0 where
-  pub standings : List Standing
-  pub kept : WroteKept (IsPartStretched o views) 1 o leave views channels standings old new reported_old
+  pub packabilities : List Packability
+  pub kept : WroteKept (IsPartStretched o views) 1 o leave views channels packabilities old new reported_old
       reported_new
 
 -- What packing anew by stretches comes to, where each record of the archive stands at such a place in what was read.
@@ -164,7 +164,7 @@ pub record WereStretchedInPart (o : Options) (leave : Bool) (views : List View)
 -- packed, and the others are reported, or else the archive is refused for the first of them; a prefix is written where
 -- the output failed; and nothing otherwise, where memory was refused too. Of a channel that isn't sound the first
 -- finding that is a record's own is answered.
-abbrev pub IsRestretchingAmong : (List View → List Placed) → Options → Bool → Result Left RepackFault → BytesRead
+abbrev pub IsRestretchingAmong : (List View → List Placed) → Options → Bool → Result LeftOut RepackFault → BytesRead
     → BytesWritten → BytesWritten → BytesWritten → BytesWritten → Type 0
 IsRestretchingAmong place o leave (Ok left) h old new reported_old reported_new =
     Exists (λ views channels. IsArchiveOf h views channels
@@ -188,7 +188,7 @@ IsRestretchingAmong place o leave (Err Memory) h old new reported_old reported_n
     (new ≡ old) × (reported_new ≡ reported_old)
 
 -- the same, where the archive is all that was read
-abbrev pub IsRestretching : Options → Bool → Result Left RepackFault → BytesRead → BytesWritten → BytesWritten
+abbrev pub IsRestretching : Options → Bool → Result LeftOut RepackFault → BytesRead → BytesWritten → BytesWritten
     → BytesWritten → BytesWritten → Type 0
 IsRestretching o leave result h old new reported_old reported_new =
     IsRestretchingAmong placed_of o leave result h old new reported_old reported_new
@@ -199,13 +199,13 @@ pub record WroteFitting (P : List View → List Channel → List ℕ → Type 0)
   pub views : List View
   pub channels : List Channel
   pub archive : IsArchiveOf h views channels
-  pub standings : List Standing
-  pub are : AreStandings o views channels standings
-  pub wrote : Wrote (P views (kept_of channels standings)) 0 old new
+  pub packabilities : List Packability
+  pub are : ArePackabilities o views channels packabilities
+  pub wrote : Wrote (P views (kept_of channels packabilities)) 0 old new
 
 -- this is so of whatever an archive was packed into by stretches
 abbrev pub EachRestretching : (Options → BytesRead → BytesWritten → BytesWritten → Type 0) → Type 0
 EachRestretching P =
-    (place : List View → List Placed) (o : Options) (leave : Bool) (left : Left) (read : BytesRead)
+    (place : List View → List Placed) (o : Options) (leave : Bool) (left : LeftOut) (read : BytesRead)
     (old new reported_old reported_new : BytesWritten)
     → IsRestretchingAmong place o leave (Ok left) read old new reported_old reported_new → P o read old new

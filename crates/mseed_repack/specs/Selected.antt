@@ -14,12 +14,12 @@ use Rattle.mseed_audit.specs.Channels.{Placed}
 use Rattle.mseed_audit.specs.Scope.{asked_of}
 use Rattle.mseed_pack.specs.declared.options.Options.{Options}
 use Rattle.mseed_repack.specs.Repack.{Channel, Exists, IsArchiveOf, IsRepackingAmong, IsUnread, IsWhole}
-use Rattle.mseed_repack.specs.ByStretches.{IsPartStretched, IsRestretchingAmong, ReportsEach, WroteKept, left_of}
+use Rattle.mseed_repack.specs.ByStretches.{IsPartStretched, IsRestretchingAmong, ReportsEach, WroteKept, left_out_of}
 use Rattle.mseed_repack.specs.declared.fault.RepackFault.{RepackFault}
 use Rattle.mseed_repack.specs.declared.fault.RepackFault.TheVariants.{Stream, Write, Memory}
-use Rattle.mseed_repack.specs.declared.refusing.Left.{Left}
-use Rattle.mseed_repack.specs.declared.refusing.Left.TheVariants.{Nothing, Broken as LeftBroken, Misfit as LeftMisfit}
-use Rattle.mseed_repack.specs.declared.standing.Standing.{Standing}
+use Rattle.mseed_repack.specs.declared.refusing.LeftOut.{LeftOut}
+use Rattle.mseed_repack.specs.declared.refusing.LeftOut.TheVariants.{Nothing, Broken as LeftBroken, Misfit as LeftMisfit}
+use Rattle.mseed_repack.specs.declared.packability.Packability.{Packability}
 
 -- a text that was read to its end
 abbrev pub read_of : List ℕ → BytesRead
@@ -65,7 +65,7 @@ pub record IsOfSelected (P : List Placed → ℕ → BytesRead → Type 0) (s : 
   pub is_so : P (asked_of s views) (count_by (lacks_time s) views) (read_of (selected_bytes s views))
 
 -- it is reported where something is left out
-abbrev pub ReportsIfLeft : Left → ℕ → BytesWritten → BytesWritten → Type 0
+abbrev pub ReportsIfLeft : LeftOut → ℕ → BytesWritten → BytesWritten → Type 0
 ReportsIfLeft Nothing count old new = new ≡ old
 ReportsIfLeft LeftBroken count old new = ReportsWithoutTime count old new
 ReportsIfLeft LeftMisfit count old new = ReportsWithoutTime count old new
@@ -74,10 +74,10 @@ ReportsIfLeft LeftMisfit count old new = ReportsWithoutTime count old new
 -- the others were reported, behind the number of records that lack a time; where each channel fits, neither was.
 pub record WereReportedInPart (o : Options) (leave : Bool) (count : ℕ) (views : List View)
     (channels : List Channel) (old new reported_old reported_new : BytesWritten) : Type 0 where
-  pub standings : List Standing
+  pub packabilities : List Packability
   pub between : BytesWritten
-  pub reported : ReportsIfLeft (left_of standings) count reported_old between
-  pub kept : WroteKept (IsPartStretched o views) 1 o leave views channels standings old new between reported_new
+  pub reported : ReportsIfLeft (left_out_of packabilities) count reported_old between
+  pub kept : WroteKept (IsPartStretched o views) 1 o leave views channels packabilities old new between reported_new
 
 -- What packing the records anew that are asked for comes to: what packing an archive of them alone comes to, but that a
 -- finding's number and offset are those in the whole input. That is refused for a fault anywhere in it, and for nothing
@@ -98,7 +98,7 @@ IsSelectedRepacking s o result h old new reported_old reported_new =
 
 -- By stretches: how many records lack a time is reported before the channels that are left out, and where none is left
 -- out, as of a packing of whole channels.
-abbrev pub IsSelectedRestretching : Selection → Options → Bool → Result Left RepackFault → BytesRead → BytesWritten
+abbrev pub IsSelectedRestretching : Selection → Options → Bool → Result LeftOut RepackFault → BytesRead → BytesWritten
     → BytesWritten → BytesWritten → BytesWritten → Type 0
 IsSelectedRestretching s o leave (Err (Stream fault)) h old new reported_old reported_new =
     IsRefusedInput s fault h old new reported_old reported_new

@@ -6,5 +6,5 @@ pub mod Planning
 pub mod Reading
 pub mod Restretching
 pub mod Supplying
-pub mod Trails
+pub mod Links
 pub mod Nexts

@@ -17,7 +17,7 @@ use crate::judging::judge_records;
 use crate::packing::pack_channels;
 use crate::places::Places;
 use crate::planned::plan_archive;
-use crate::refusing::{Left, left_of, refusal_unless, report_left};
+use crate::refusing::{LeftOut, left_out_of, refusal_unless, report_left_out};
 use crate::stretching::Cutting;
 use mseed_pack::{Encoding, Options};
 use mseed_record::{Choice, RecordView};
@@ -42,7 +42,7 @@ pub(crate) fn pack_asked<A: Allocator + Copy, C: Choice, R: Source, W: Sink, E: 
     input: &mut R,
     output: &mut W,
     errors: &mut E,
-) -> Result<Left, RepackFault>
+) -> Result<LeftOut, RepackFault>
     requires { R.read input.old ≡ nothing_read }
     ensures packed { IsSelectedAs cutting (C.selection choice.now) options.now leave result (R.read input.new)
         (W.written output.old) (W.written output.new) (E.written errors.old) (E.written errors.new) }
@@ -90,7 +90,7 @@ fn pack_records<A: Allocator + Copy, C: Choice, W: Sink, E: Sink>(
     without_time: u64,
     output: &mut W,
     errors: &mut E,
-) -> Result<Left, RepackFault>
+) -> Result<LeftOut, RepackFault>
     requires { length views.now < 2 ^ 40 }
     ensures { (read : BytesRead) (place : List View → List Placed) → IsWhole read (map view_of views.now)
         → ArePlaces (C.selection places.now.choice.now) places.now.bytes.now (map view_of views.now)
@@ -104,17 +104,17 @@ fn pack_records<A: Allocator + Copy, C: Choice, W: Sink, E: Sink>(
         return Err(RepackFault::Broken(broken.0, broken.1));
     }
     let mut planned = plan_archive(alloc, views, channels, &judged, cutting, options)?;
-    let archive = planned.trails.archive(views, channels);
-    if let Some(fault) = refusal_unless(leave, &archive, &planned.standings, places) {
+    let archive = planned.links.archive(views, channels);
+    if let Some(fault) = refusal_unless(leave, &archive, &planned.packabilities, places) {
         return Err(fault);
     }
-    let left = left_of(&planned.standings);
+    let left = left_out_of(&planned.packabilities);
     report_if_left(left, without_time, errors);
-    report_left(channels, &planned.standings, options.encoding, errors);
+    report_left_out(channels, &planned.packabilities, options.encoding, errors);
     match pack_channels(
         &archive,
         cutting,
-        &planned.standings,
+        &planned.packabilities,
         &planned.plans,
         options,
         &mut planned.samples,

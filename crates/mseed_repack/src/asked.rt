@@ -10,7 +10,7 @@ ghost use Rattle.mseed_repack.specs.Selected.{AreRecordsOf, ReportsIfLeft, witho
 ghost use Rattle.mseed_repack.specs.private.Restretching.{ReportsAtFault, ReportsUnlessLeft};
 
 use crate::fault::RepackFault;
-use crate::refusing::Left;
+use crate::refusing::LeftOut;
 use mseed_record::{Answer, Choice, RecordView};
 use mseed_stream::{Sink, StreamFault, report};
 use mseed_text::Line;
@@ -94,26 +94,26 @@ pub(crate) fn refuse_input<C: Choice, E: Sink>(
 }
 
 /// Reports how many records lack a time before anything is written, where a channel is left out.
-pub(crate) fn report_if_left<E: Sink>(left: Left, without_time: u64, errors: &mut E)
+pub(crate) fn report_if_left<E: Sink>(left: LeftOut, without_time: u64, errors: &mut E)
     ensures { ReportsIfLeft left without_time (E.written errors.old) (E.written errors.new) }
 {
     match left {
-        Left::Nothing => {}
-        Left::Broken | Left::Misfit => report_without_time(without_time, errors),
+        LeftOut::Nothing => {}
+        LeftOut::Broken | LeftOut::Misfit => report_without_time(without_time, errors),
     }
 }
 
 /// Reports it once an archive was packed, or refused for a channel, where no channel was left out; where the output
 /// failed, or memory was refused, nothing.
 pub(crate) fn report_unless_left<E: Sink>(
-    outcome: &Result<Left, RepackFault>,
+    outcome: &Result<LeftOut, RepackFault>,
     without_time: u64,
     errors: &mut E,
 )
     ensures { ReportsUnlessLeft outcome.now without_time (E.written errors.old) (E.written errors.new) }
 {
     match outcome {
-        Ok(Left::Broken | Left::Misfit) | Err(RepackFault::Write | RepackFault::Memory) => {}
+        Ok(LeftOut::Broken | LeftOut::Misfit) | Err(RepackFault::Write | RepackFault::Memory) => {}
         _ => report_without_time(without_time, errors),
     }
 }

@@ -8,13 +8,13 @@ ghost use Rattle.mseed_repack.specs.private.Planning.{CanBeWritten, stretches_by
 ghost use Rattle.mseed_repack.specs.Restretch.{IsChannelRepacking};
 
 use crate::channel_fault::ChannelFault;
+use crate::packability::{Packability, fit_stretches};
 use crate::packing::pack_stretches;
 use crate::plan::Plan;
 use crate::reading::count_steps;
 use crate::room::blank_steps;
 use crate::sound::is_sound;
-use crate::standing::{Standing, fit_stretches};
-use crate::walk::{Row, Walk};
+use crate::walk::{RecordList, Walk};
 use mseed_pack::{Options, Packer};
 use mseed_record::RecordView;
 use mseed_stream::Sink;
@@ -43,7 +43,7 @@ pub fn repack_channel<A: Allocator + Copy, W: Sink>(
     ensures { IsChannelRepacking options.now (map view_of records.now) result
         (W.written output.old) (W.written output.new) }
 {
-    let row = Row { records, index: 0 };
+    let row = RecordList { records, index: 0 };
     if !are_sound(row) {
         return Err(ChannelFault::Broken);
     }
@@ -51,9 +51,9 @@ pub fn repack_channel<A: Allocator + Copy, W: Sink>(
     let mut samples = Vec::new(alloc);
     let mut plans = Vec::new(alloc);
     match fit_stretches(alloc, row, options, &mut plans, &mut samples, &mut steps)? {
-        Standing::Fit => repack_planned(row, &plans, options, &mut samples, &mut steps, output),
-        Standing::Broken => Err(ChannelFault::Broken),
-        Standing::Misfit(number, fault) => Err(ChannelFault::Misfit(number, fault)),
+        Packability::Fit => repack_planned(row, &plans, options, &mut samples, &mut steps, output),
+        Packability::Broken => Err(ChannelFault::Broken),
+        Packability::Misfit(number, fault) => Err(ChannelFault::Misfit(number, fault)),
     }
 }
 

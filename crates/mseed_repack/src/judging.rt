@@ -6,7 +6,7 @@ ghost use Rattle.mseed_steim.specs.Reading.{count_of};
 ghost use Rattle.mseed_audit.specs.Channels.{added_from};
 ghost use Rattle.mseed_audit.specs.Verdict.{AreVerdicts};
 ghost use Rattle.mseed_audit.specs.Follows.{IsSound};
-ghost use Rattle.mseed_repack.specs.private.Archives.{AreAlone, has_own};
+ghost use Rattle.mseed_repack.specs.private.Archives.{AreAlone, is_own};
 ghost use Rattle.mseed_repack.specs.private.Reading.{steps_of};
 ghost use Rattle.mseed_repack.specs.private.Supplying.{IsPlain};
 
@@ -58,7 +58,7 @@ pub(crate) fn judge_records<A: Allocator + Copy>(
         steps += step_count(view);
         match audit.add_judged(view, begin) {
             Ok(why) => {
-                if has_own(why) {
+                if is_own(why) {
                     sound = false;
                 }
                 if plain {
@@ -78,10 +78,10 @@ pub(crate) fn judge_records<A: Allocator + Copy>(
 
 /// Whether a record of which this is found is known to be plain, or has no samples.
 fn is_plain_by(view: &RecordView, why: Option<Why>) -> bool
-    requires { has_own why ≡ false → 0 < count_of (view_of view.now) → IsSound (view_of view.now) }
+    requires { is_own why ≡ false → 0 < count_of (view_of view.now) → IsSound (view_of view.now) }
     ensures { OnTrue result (0 < count_of (view_of view.now) → IsPlain (view_of view.now)) }
 {
-    if has_own(why) {
+    if is_own(why) {
         return false;
     }
     if view.samples() == 0 {
@@ -91,8 +91,8 @@ fn is_plain_by(view: &RecordView, why: Option<Why>) -> bool
 }
 
 /// Whether a finding is a record's own, and not one of the border between it and the record before.
-fn has_own(why: Option<Why>) -> bool
-    ensures { result ≡ has_own why }
+fn is_own(why: Option<Why>) -> bool
+    ensures { result ≡ is_own why }
 {
     matches!(why, Some(Why::Time(_) | Why::Rate | Why::Read(_)))
 }

@@ -22,7 +22,7 @@ ghost use Rattle.mseed_repack.specs.Restretch.{ChannelFits, IsChannelPacked};
 ghost use Rattle.mseed_repack.specs.Selected.{IsSelectedRepacking, IsSelectedRestretching};
 ghost use Rattle.mseed_repack.specs.StretchesReadBack.{IsChannelReadBack, IsStretchedBack};
 ghost use Rattle.mseed_repack.specs.declared.fault.RepackFault.{RepackFault};
-ghost use Rattle.mseed_repack.specs.declared.refusing.Left.{Left};
+ghost use Rattle.mseed_repack.specs.declared.refusing.LeftOut.{LeftOut};
 
 use crate::stretch_law::{instants_stay_near, one_list_of_stretches, stretches_are_continuous};
 use mseed_audit::{continuous_exactly, one_finding, one_list_of_verdicts, one_series};
@@ -56,7 +56,7 @@ pub fn all_are_packed()
         (old new reported_old reported_new : BytesWritten)
         → IsSelectedRepacking everything options result read old new reported_old reported_new
         → IsRepacking options result read old new × (reported_new ≡ reported_old) }
-    ensures stretches { (options : Options) (leave : Bool) (result : Result Left RepackFault) (read : BytesRead)
+    ensures stretches { (options : Options) (leave : Bool) (result : Result LeftOut RepackFault) (read : BytesRead)
         (old new reported_old reported_new : BytesWritten)
         → IsSelectedRestretching everything options leave result read old new reported_old reported_new
         → IsRestretching options leave result read old new reported_old reported_new }

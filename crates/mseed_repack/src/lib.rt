@@ -15,9 +15,11 @@ mod fault;
 mod input;
 mod judging;
 mod law;
+mod links;
 mod misfit;
 mod outline;
 mod own;
+mod packability;
 mod packing;
 mod places;
 mod plan;
@@ -29,11 +31,9 @@ mod restretching;
 mod room;
 mod series;
 mod sound;
-mod standing;
 mod stretch;
 mod stretch_law;
 mod stretching;
-mod trail;
 mod unpacking;
 mod walk;
 
@@ -47,10 +47,10 @@ pub use law::{
     repacked_reads_back, stretches_read_back,
 };
 pub use misfit::{misfit_number, put_misfit_more};
-pub use refusing::{Left, report_broken, report_misfit};
+pub use packability::Packability;
+pub use refusing::{LeftOut, report_broken, report_misfit};
 pub use repacking::{repack, repack_selected};
 pub use restretching::{repack_selected_stretches, repack_stretches};
 pub use sound::is_sound;
-pub use standing::Standing;
 pub use stretch::Stretch;
 pub use stretch_law::{instants_stay_near, one_list_of_stretches, stretches_are_continuous};

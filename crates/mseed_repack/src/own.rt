@@ -12,26 +12,29 @@ ghost use Rattle.mseed_repack.specs.private.Archives.{records_on};
 ghost use Rattle.mseed_repack.specs.private.Places.{ArePlaces, IsOwnAt, StandsAt};
 ghost use Rattle.mseed_repack.specs.private.Reading.{channel_in};
 
-use crate::archive::Trail;
+use crate::archive::ChannelWalk;
 use crate::places::Places;
 use mseed_audit::{Finding, Why, is_of};
 use mseed_record::{Choice, Codes, RecordView};
 use mseed_steim::{check_samples, one_reading};
 
-/// Returns the first finding that is a record's own, of a channel that has one, by the channel's trail: with the number
+/// Returns the first finding that is a record's own, of a channel that has one, by its channel's walk: with the number
 /// and the offset that the record has in what was read.
 #[cold]
 #[inline(never)]
-pub(crate) fn first_own<C: Choice>(trail: &Trail<'_, '_>, places: &Places<'_, C>) -> Finding
-    requires few { length trail.now.views.now ≤ 2 ^ 40 }
-    requires all { records_on trail.now ≡ channel_in trail.now.codes.now (map view_of trail.now.views.now) }
-    requires broken { ¬ (AllByRecursion IsSound (records_on trail.now)) }
+pub(crate) fn first_own<C: Choice>(
+    channel_walk: &ChannelWalk<'_, '_>,
+    places: &Places<'_, C>,
+) -> Finding
+    requires few { length channel_walk.now.views.now ≤ 2 ^ 40 }
+    requires all { records_on channel_walk.now ≡ channel_in channel_walk.now.codes.now (map view_of channel_walk.now.views.now) }
+    requires broken { ¬ (AllByRecursion IsSound (records_on channel_walk.now)) }
     ensures { (ps : List Placed)
-        → ArePlaces (C.selection places.now.choice.now) places.now.bytes.now (map view_of trail.now.views.now) ps
-        → IsFirstOwn (placed_in trail.now.codes.now ps) result }
+        → ArePlaces (C.selection places.now.choice.now) places.now.bytes.now (map view_of channel_walk.now.views.now) ps
+        → IsFirstOwn (placed_in channel_walk.now.codes.now ps) result }
 {
-    let begin = trail.index.min(trail.views.len());
-    match find_own(trail.views, begin, trail.codes) {
+    let begin = channel_walk.index.min(channel_walk.views.len());
+    match find_own(channel_walk.views, begin, channel_walk.codes) {
         Some(finding) => places.placed(finding),
         None => unreachable!(),
     }

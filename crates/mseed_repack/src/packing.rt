@@ -9,9 +9,9 @@ ghost use Rattle.mseed_repack.specs.private.Planning.{AreReady, CanBeWritten, Is
 ghost use Rattle.mseed_repack.specs.private.Planning.{stretches_by};
 
 use crate::archive::Archive;
+use crate::packability::Packability;
 use crate::plan::Plan;
 use crate::series::pack_series;
-use crate::standing::Standing;
 use crate::stretching::Cutting;
 use crate::walk::{Part, Walk, skip};
 use mseed_pack::{Options, Packer};
@@ -27,7 +27,7 @@ use std::alloc::Allocator;
 pub(crate) fn pack_channels<A: Allocator, W: Sink>(
     archive: &Archive,
     _cutting: Cutting,
-    standings: &[Standing],
+    packabilities: &[Packability],
     plans: &[Vec<Plan, A>],
     options: &Options,
     samples: &mut [i32],
@@ -36,18 +36,18 @@ pub(crate) fn pack_channels<A: Allocator, W: Sink>(
 ) -> Result<(), Failed>
     requires audited { IsAudited archive.now }
     requires ready { AreReady _cutting options.now (length samples.old) (length steps.old)
-        (map view_of archive.now.views.now) archive.now.channels.now standings.now (map (λ own. own.items) plans.now) }
+        (map view_of archive.now.views.now) archive.now.channels.now packabilities.now (map (λ own. own.items) plans.now) }
     ensures ok { OnOk result (Wrote (TextsAs _cutting options.now (map view_of archive.now.views.now)
-        (kept_of archive.now.channels.now standings.now)) 0 (W.written output.old) (W.written output.new)) }
+        (kept_of archive.now.channels.now packabilities.now)) 0 (W.written output.old) (W.written output.new)) }
     ensures err { IfErr result (λ _. Wrote (PartsAs _cutting options.now (map view_of archive.now.views.now)
-        (kept_of archive.now.channels.now standings.now)) 1 (W.written output.old) (W.written output.new)) }
+        (kept_of archive.now.channels.now packabilities.now)) 1 (W.written output.old) (W.written output.new)) }
 {
     let mut packer = Packer::new();
     for number in 0..archive.channels.len() {
-        let trail = archive.trail(number);
-        if let Standing::Fit = standings[number] {
+        let channel_walk = archive.channel_walk(number);
+        if let Packability::Fit = packabilities[number] {
             match pack_stretches(
-                trail,
+                channel_walk,
                 plans_at(plans, number),
                 options,
                 samples,

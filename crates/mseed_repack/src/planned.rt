@@ -10,14 +10,14 @@ ghost use Rattle.mseed_repack.specs.private.Archives.{AreAlone};
 ghost use Rattle.mseed_repack.specs.private.Planning.{AreReady};
 ghost use Rattle.mseed_repack.specs.private.Reading.{steps_of};
 ghost use Rattle.mseed_repack.specs.private.Supplying.{IsPlain};
-ghost use Rattle.mseed_repack.specs.private.Trails.{AreLaid};
+ghost use Rattle.mseed_repack.specs.private.Links.{AreLinked};
 
 use crate::judging::Judged;
+use crate::links::{ChannelLinks, link_channels};
+use crate::packability::{Packability, plan_channels};
 use crate::plan::Plan;
 use crate::room::blank_steps;
-use crate::standing::{Standing, stand_all};
 use crate::stretching::Cutting;
-use crate::trail::{Trails, lay_trails};
 use mseed_audit::Verdict;
 use mseed_pack::Options;
 use mseed_record::{Codes, RecordView};
@@ -28,9 +28,9 @@ use std::alloc::{AllocError, Allocator};
 #[derive(Drop)]
 pub(crate) struct Planned<A: Allocator> {
     /// Where the records of each channel stand.
-    pub(crate) trails: Trails<A>,
+    pub(crate) links: ChannelLinks<A>,
     /// What is found of each channel.
-    pub(crate) standings: Vec<Standing, A>,
+    pub(crate) packabilities: Vec<Packability, A>,
     /// How the stretches of each channel are packed; none of one that doesn't fit.
     pub(crate) plans: Vec<Vec<Plan, A>, A>,
     /// Room for the samples of each stretch that goes by a list.
@@ -60,18 +60,18 @@ pub(crate) fn plan_archive<A: Allocator + Copy>(
     requires steps { judged.now.steps ≡ steps_of (map view_of views.now) }
     requires whole { cutting ≡ Whole → AreContinuous (map view_of views.now) channels.now }
     ensures laid { IfOk result (λ planned.
-        AreLaid views.now channels.now planned.trails.firsts.items planned.trails.nexts.items) }
+        AreLinked views.now channels.now planned.links.firsts.items planned.links.nexts.items) }
     ensures ready { IfOk result (λ planned. AreReady cutting options.now (length planned.samples.items)
-        (length planned.steps.items) (map view_of views.now) channels.now planned.standings.items
+        (length planned.steps.items) (map view_of views.now) channels.now planned.packabilities.items
         (map (λ own. own.items) planned.plans.items)) }
 {
-    let trails = lay_trails(alloc, views, channels)?;
+    let links = link_channels(alloc, views, channels)?;
     let mut steps = blank_steps(alloc, judged.steps)?;
     let mut samples = Vec::new(alloc);
     let mut plans = Vec::new(alloc);
-    let standings = stand_all(
+    let packabilities = plan_channels(
         alloc,
-        &trails.archive(views, channels),
+        &links.archive(views, channels),
         judged,
         cutting,
         options,
@@ -80,8 +80,8 @@ pub(crate) fn plan_archive<A: Allocator + Copy>(
         &mut steps,
     )?;
     Ok(Planned {
-        trails,
-        standings,
+        links,
+        packabilities,
         plans,
         samples,
         steps,

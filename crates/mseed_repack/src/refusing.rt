@@ -8,21 +8,21 @@ ghost use Rattle.mseed_stream.specs.LineWritten.{WritesLine};
 ghost use Rattle.mseed_audit.specs.Channels.{Placed};
 ghost use Rattle.mseed_pack.specs.declared.options.Options.{Options};
 ghost use Rattle.mseed_repack.specs.ByStretches.{AreFound, AreReported, IsFit, IsReportOf, ReportsEach};
-ghost use Rattle.mseed_repack.specs.ByStretches.{broken_line, broken_text, finding_line, left_of, worse_of};
+ghost use Rattle.mseed_repack.specs.ByStretches.{broken_line, broken_text, finding_line, left_out_of, worse_of};
 ghost use Rattle.mseed_repack.specs.Misfits.{misfit_line, misfit_number, misfit_text, stretch_words};
 ghost use Rattle.mseed_repack.specs.private.Archives.{IsAudited};
 ghost use Rattle.mseed_repack.specs.private.Places.{ArePlaces};
-ghost use Rattle.mseed_repack.specs.private.Planning.{StandsAs};
+ghost use Rattle.mseed_repack.specs.private.Planning.{IsPackabilityAs};
 ghost use Rattle.mseed_repack.specs.private.Restretching.{AreUnsound, IsFirstRefused, IsNoMisfit, IsUnbroken};
-ghost use Rattle.mseed_repack.specs.declared.standing.Standing.{Standing};
+ghost use Rattle.mseed_repack.specs.declared.packability.Packability.{Packability};
 ghost use Rattle.mseed_repack.specs.declared.stretching.Cutting.{Cutting};
 
 use crate::archive::Archive;
 use crate::fault::RepackFault;
 use crate::misfit::{misfit_number, put_misfit_more};
 use crate::own::first_own;
+use crate::packability::Packability;
 use crate::places::Places;
-use crate::standing::Standing;
 use mseed_audit::{Finding, Verdict, put_why};
 use mseed_pack::PackFault;
 use mseed_record::{Choice, Codes};
@@ -32,7 +32,7 @@ use mseed_text::{LONGEST_LINE, Line};
 
 /// What was left out, the worst of it.
 #[derive(Clone, Copy, Debug, PartialEq, Eq)]
-pub enum Left {
+pub enum LeftOut {
     /// Nothing.
     Nothing,
     /// A channel of which a record has a finding of its own, and none of which a stretch can't be packed.
@@ -46,27 +46,27 @@ pub enum Left {
 pub(crate) fn refusal_unless<C: Choice>(
     leave: bool,
     archive: &Archive<'_, '_>,
-    standings: &[Standing],
+    packabilities: &[Packability],
     places: &Places<'_, C>,
 ) -> Option<RepackFault>
     requires audited { IsAudited archive.now }
-    requires each { length standings.now ≡ length archive.now.channels.now }
-    requires unsound { AreUnsound (map view_of archive.now.views.now) archive.now.channels.now standings.now }
+    requires each { length packabilities.now ≡ length archive.now.channels.now }
+    requires unsound { AreUnsound (map view_of archive.now.views.now) archive.now.channels.now packabilities.now }
     ensures some { IfSome result (λ fault. (cutting : Cutting) (o : Options) (ps : List Placed)
         → ArePlaces (C.selection places.now.choice.now) places.now.bytes.now (map view_of archive.now.views.now) ps
-        → AreFound (StandsAs cutting o) (map view_of archive.now.views.now) archive.now.channels.now standings.now
+        → AreFound (IsPackabilityAs cutting o) (map view_of archive.now.views.now) archive.now.channels.now packabilities.now
         → IsFirstRefused cutting o ps (map view_of archive.now.views.now) archive.now.channels.now fault) }
     ensures refuses { IfSome result (λ _. leave ≡ false) }
-    ensures fit { IfNone result (leave ≡ false → AllByRecursion IsFit standings.now) }
+    ensures fit { IfNone result (leave ≡ false → AllByRecursion IsFit packabilities.now) }
 {
     if leave {
         return None;
     }
-    if let Some(number) = first_broken(standings) {
-        let first = first_own(&archive.trail(number), places);
+    if let Some(number) = first_broken(packabilities) {
+        let first = first_own(&archive.channel_walk(number), places);
         return Some(RepackFault::Broken(archive.channels[number].0, first));
     }
-    match first_misfit(standings) {
+    match first_misfit(packabilities) {
         Some((number, stretch, fault)) => Some(RepackFault::Misfit(
             archive.channels[number].0,
             stretch,
@@ -77,14 +77,14 @@ pub(crate) fn refusal_unless<C: Choice>(
 }
 
 /// Returns the index of the first channel that is broken.
-fn first_broken(standings: &[Standing]) -> Option<usize>
-    ensures inside { IfSome result (λ number. number < length standings.now) }
-    ensures some { IfSome result (λ number. slice_index_or standings.now number Standing.Fit ≡ Standing.Broken) }
-    ensures before { IfSome result (λ number. All IsUnbroken (take number standings.now)) }
-    ensures none { IfNone result (All IsUnbroken standings.now) }
+fn first_broken(packabilities: &[Packability]) -> Option<usize>
+    ensures inside { IfSome result (λ number. number < length packabilities.now) }
+    ensures some { IfSome result (λ number. slice_index_or packabilities.now number Packability.Fit ≡ Packability.Broken) }
+    ensures before { IfSome result (λ number. All IsUnbroken (take number packabilities.now)) }
+    ensures none { IfNone result (All IsUnbroken packabilities.now) }
 {
-    for (number, standing) in standings.iter().enumerate() {
-        if let Standing::Broken = standing {
+    for (number, packability) in packabilities.iter().enumerate() {
+        if let Packability::Broken = packability {
             return Some(number);
         }
     }
@@ -93,15 +93,15 @@ fn first_broken(standings: &[Standing]) -> Option<usize>
 
 /// Returns the index of the first channel of which a stretch doesn't fit, with the stretch's number, from 1, and the
 /// reason.
-fn first_misfit(standings: &[Standing]) -> Option<(usize, u64, PackFault)>
-    ensures inside { IfSome result (λ found. found.0 < length standings.now) }
-    ensures some { IfSome result (λ found. slice_index_or standings.now found.0 Standing.Fit
-        ≡ Standing.Misfit found.1 found.2) }
-    ensures before { IfSome result (λ found. All IsNoMisfit (take found.0 standings.now)) }
-    ensures none { IfNone result (All IsNoMisfit standings.now) }
+fn first_misfit(packabilities: &[Packability]) -> Option<(usize, u64, PackFault)>
+    ensures inside { IfSome result (λ found. found.0 < length packabilities.now) }
+    ensures some { IfSome result (λ found. slice_index_or packabilities.now found.0 Packability.Fit
+        ≡ Packability.Misfit found.1 found.2) }
+    ensures before { IfSome result (λ found. All IsNoMisfit (take found.0 packabilities.now)) }
+    ensures none { IfNone result (All IsNoMisfit packabilities.now) }
 {
-    for (number, standing) in standings.iter().enumerate() {
-        if let Standing::Misfit(stretch, fault) = *standing {
+    for (number, packability) in packabilities.iter().enumerate() {
+        if let Packability::Misfit(stretch, fault) = *packability {
             return Some((number, stretch, fault));
         }
     }
@@ -110,34 +110,34 @@ fn first_misfit(standings: &[Standing]) -> Option<(usize, u64, PackFault)>
 
 /// Writes a line to `errors` for each channel that is left out, which says why, in the order of their keys; where a
 /// stretch of it can't be packed in the encoding, one more.
-pub(crate) fn report_left<E: Sink>(
+pub(crate) fn report_left_out<E: Sink>(
     channels: &[(Codes, Verdict)],
-    standings: &[Standing],
+    packabilities: &[Packability],
     encoding: Encoding,
     errors: &mut E,
 )
-    requires { length standings.now ≡ length channels.now }
-    ensures { AreReported encoding channels.now standings.now (E.written errors.old) (E.written errors.new) }
+    requires { length packabilities.now ≡ length channels.now }
+    ensures { AreReported encoding channels.now packabilities.now (E.written errors.old) (E.written errors.new) }
 {
     for (number, channel) in channels.iter().enumerate() {
-        report_standing(&channel.0, &standings[number], encoding, errors);
+        report_packability(&channel.0, &packabilities[number], encoding, errors);
     }
 }
 
 /// Writes to `errors` why a channel is left out, where it is.
-fn report_standing<E: Sink>(
+fn report_packability<E: Sink>(
     channel: &Codes,
-    standing: &Standing,
+    packability: &Packability,
     encoding: Encoding,
     errors: &mut E,
 )
-    ensures { (lines : List (List ℕ)) × (IsReportOf encoding channel.now standing.now lines
+    ensures { (lines : List (List ℕ)) × (IsReportOf encoding channel.now packability.now lines
         × ReportsEach lines (E.written errors.old) (E.written errors.new)) }
 {
-    match *standing {
-        Standing::Fit => {}
-        Standing::Broken => report_left_broken(channel, errors),
-        Standing::Misfit(stretch, fault) => {
+    match *packability {
+        Packability::Fit => {}
+        Packability::Broken => report_left_broken(channel, errors),
+        Packability::Misfit(stretch, fault) => {
             report_misfit(channel, Some(stretch), encoding, &fault, errors)
         }
     }
@@ -243,24 +243,24 @@ fn put_stretch(line: &mut Line, stretch: Option<u64>)
 }
 
 /// Returns the worst of what is left out, by what is found of each channel.
-pub(crate) fn left_of(standings: &[Standing]) -> Left
-    ensures { result ≡ left_of standings.now }
+pub(crate) fn left_out_of(packabilities: &[Packability]) -> LeftOut
+    ensures { result ≡ left_out_of packabilities.now }
 {
-    let mut left = Left::Nothing;
-    for turn in 0..standings.len() {
-        left = worse_of(&standings[standings.len() - 1 - turn], left);
+    let mut left = LeftOut::Nothing;
+    for turn in 0..packabilities.len() {
+        left = worse_of(&packabilities[packabilities.len() - 1 - turn], left);
     }
     left
 }
 
 /// Returns the worse of what is left out for one channel, and for others.
-fn worse_of(standing: &Standing, left: Left) -> Left
-    ensures { result ≡ worse_of standing.now left }
+fn worse_of(packability: &Packability, left: LeftOut) -> LeftOut
+    ensures { result ≡ worse_of packability.now left }
 {
-    match (standing, left) {
-        (Standing::Fit, left) => left,
-        (Standing::Broken, Left::Nothing) => Left::Broken,
-        (Standing::Broken, left) => left,
-        (Standing::Misfit(_, _), _) => Left::Misfit,
+    match (packability, left) {
+        (Packability::Fit, left) => left,
+        (Packability::Broken, LeftOut::Nothing) => LeftOut::Broken,
+        (Packability::Broken, left) => left,
+        (Packability::Misfit(_, _), _) => LeftOut::Misfit,
     }
 }

@@ -7,7 +7,7 @@ ghost use Rattle.mseed_repack.specs.Selected.{IsSelectedRestretching};
 
 use crate::anew::pack_asked;
 use crate::fault::RepackFault;
-use crate::refusing::Left;
+use crate::refusing::LeftOut;
 use crate::stretching::Cutting;
 use mseed_pack::Options;
 use mseed_record::{All, Choice};
@@ -32,7 +32,7 @@ pub fn repack_stretches<A: Allocator + Copy, R: Source, W: Sink, E: Sink>(
     input: &mut R,
     output: &mut W,
     errors: &mut E,
-) -> Result<Left, RepackFault>
+) -> Result<LeftOut, RepackFault>
     requires { R.read input.old ≡ nothing_read }
     ensures repacked { IsRestretching options.now leave result (R.read input.new)
         (W.written output.old) (W.written output.new) (E.written errors.old) (E.written errors.new) }
@@ -61,7 +61,7 @@ pub fn repack_selected_stretches<A: Allocator + Copy, C: Choice, R: Source, W: S
     input: &mut R,
     output: &mut W,
     errors: &mut E,
-) -> Result<Left, RepackFault>
+) -> Result<LeftOut, RepackFault>
     requires { R.read input.old ≡ nothing_read }
     ensures repacked { IsSelectedRestretching (C.selection choice.now) options.now leave result (R.read input.new)
         (W.written output.old) (W.written output.new) (E.written errors.old) (E.written errors.new) }

@@ -23,12 +23,12 @@ pub(crate) trait Walk<'a>: Copy {
 
 /// The records of a list from an index on.
 #[derive(Clone, Copy)]
-pub(crate) struct Row<'r, 'a> {
+pub(crate) struct RecordList<'r, 'a> {
     pub(crate) records: &'r [RecordView<'a>],
     pub(crate) index: usize,
 }
 
-impl<'r, 'a> Walk<'a> for Row<'r, 'a> {
+impl<'r, 'a> Walk<'a> for RecordList<'r, 'a> {
     ghost left = { λ s. map view_of (drop s.index s.records.now) };
 
     ghost leads = { λ s. Unit {0} };

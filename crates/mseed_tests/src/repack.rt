@@ -6,7 +6,7 @@ use crate::select::selector_of;
 use mseed_pack::Options;
 use mseed_record::RecordView;
 use mseed_repack::{
-    ChannelFault, Left, RepackFault, repack_channel, repack_selected, repack_selected_stretches,
+    ChannelFault, LeftOut, RepackFault, repack_channel, repack_selected, repack_selected_stretches,
     repack_stretches,
 };
 use mseed_stream::{Counted, StreamFault};
@@ -97,7 +97,7 @@ fn left_of(
     alloc: Global,
     channels: Option<&[u8]>,
     archive: &[u8],
-) -> (Result<Left, RepackFault>, Vec<u8>, Vec<u8>) {
+) -> (Result<LeftOut, RepackFault>, Vec<u8>, Vec<u8>) {
     let options = Options::new(7, 3, 1).expect(rt, "options");
     let mut input = Counted::new(archive);
     let mut output = Counted::new(Vec::new(alloc));
@@ -123,7 +123,7 @@ const REPORTED: &[u8] = b"mseed: XX_STA__LOG is broken\n";
 #[test]
 fn packs_an_archive_and_leaves_out_its_log(rt: HostRuntime) {
     let (left, packed, reported) = left_of(&rt, rt.alloc(), None, &with_log());
-    assert!(rt; left == Ok(Left::Broken) && are_both(&packed));
+    assert!(rt; left == Ok(LeftOut::Broken) && are_both(&packed));
     assert!(rt; reported.as_slice() == REPORTED);
 }
 
@@ -212,6 +212,6 @@ fn refuses_a_fault_behind_what_is_asked_for(rt: HostRuntime) {
 #[test]
 fn packs_stretches_of_what_is_asked_for(rt: HostRuntime) {
     let (left, packed, lines) = left_of(&rt, rt.alloc(), Some(b"*_*_*_BHZ"), &with_log());
-    assert!(rt; left == Ok(Left::Nothing) && are_both(&packed));
+    assert!(rt; left == Ok(LeftOut::Nothing) && are_both(&packed));
     assert!(rt; lines.is_empty());
 }

@@ -16,15 +16,15 @@ use Rattle.mseed_repack.specs.private.Reading.{AreOf, samples_of, steps_of}
 use Rattle.mseed_repack.specs.private.Supplying.{AreUnread}
 use Rattle.mseed_repack.specs.Repack.{AreTexts, Channel, IsPackedInPart, IsSeriesText, IsTextUpTo, StretchFits}
 use Rattle.mseed_repack.specs.Repack.{StretchMisfits, Wrote, records_in}
-use Rattle.mseed_repack.specs.ByStretches.{IsFit, Stands}
+use Rattle.mseed_repack.specs.ByStretches.{IsFit, IsPackability}
 use Rattle.mseed_repack.specs.Restretch.{ArePackedOn, IsChannelPart, IsChannelText, IsNumberedOn}
 use Rattle.mseed_repack.specs.declared.plan.Plan.{Plan}
 use Rattle.mseed_repack.specs.declared.plan.Way.{Way}
 use Rattle.mseed_repack.specs.declared.plan.Way.TheVariants.{Frames, Listed}
 use Rattle.mseed_repack.specs.declared.series.Fitting.{Fitting}
 use Rattle.mseed_repack.specs.declared.series.Fitting.TheVariants.{Fits, Misfits}
-use Rattle.mseed_repack.specs.declared.standing.Standing.{Standing}
-use Rattle.mseed_repack.specs.declared.standing.Standing.TheVariants.{Fit, Broken, Misfit}
+use Rattle.mseed_repack.specs.declared.packability.Packability.{Packability}
+use Rattle.mseed_repack.specs.declared.packability.Packability.TheVariants.{Fit, Broken, Misfit}
 use Rattle.mseed_repack.specs.declared.unpacking.TheConstants.{ROOM}
 use Rattle.mseed_repack.specs.declared.stretching.Cutting.{Cutting}
 use Rattle.mseed_repack.specs.declared.stretching.Cutting.TheVariants.{Whole, Stretches}
@@ -115,15 +115,15 @@ CanBeWritten o room places (p ∷ ps) vs =
     IsPlanned o room places p.way (take p.records vs) × CanBeWritten o room places ps (drop p.records vs)
 
 -- what is found of a channel that is packed whole
-abbrev pub StandsWhole : Options → List View → Standing → Type 0
-StandsWhole o vs Fit = AllByRecursion IsSound vs × StretchFits o vs
-StandsWhole o vs Broken = ¬ (AllByRecursion IsSound vs)
-StandsWhole o vs (Misfit number fault) = AllByRecursion IsSound vs × (number ≡ 1) × StretchMisfits o fault vs
+abbrev pub IsPackabilityWhole : Options → List View → Packability → Type 0
+IsPackabilityWhole o vs Fit = AllByRecursion IsSound vs × StretchFits o vs
+IsPackabilityWhole o vs Broken = ¬ (AllByRecursion IsSound vs)
+IsPackabilityWhole o vs (Misfit number fault) = AllByRecursion IsSound vs × (number ≡ 1) × StretchMisfits o fault vs
 
 -- what is found of a channel whose records are cut so
-abbrev pub StandsAs : Cutting → Options → List View → Standing → Type 0
-StandsAs Whole = StandsWhole
-StandsAs Stretches = Stands
+abbrev pub IsPackabilityAs : Cutting → Options → List View → Packability → Type 0
+IsPackabilityAs Whole = IsPackabilityWhole
+IsPackabilityAs Stretches = IsPackability
 
 -- the text is what a channel is packed into whose records are cut so
 abbrev pub IsTextAs : Cutting → Options → List View → List ℕ → Type 0
@@ -147,17 +147,17 @@ PartsAs cutting o views cs text =
     (λ (c : Channel) own. IsPartAs cutting o (records_in views c.0) own) cs text
 
 -- this is found of a channel; if it fits, it is cut by its plans, and can be written as these say
-pub record IsReady (cutting : Cutting) (o : Options) (room places : ℕ) (vs : List View) (s : Standing)
+pub record IsReady (cutting : Cutting) (o : Options) (room places : ℕ) (vs : List View) (s : Packability)
     (ps : List Plan) : Type 0 where
-  pub stands : StandsAs cutting o vs s
+  pub stands : IsPackabilityAs cutting o vs s
   pub cut : IsFit s → IsCutAs cutting vs (stretches_by ps vs)
   pub can : IsFit s → CanBeWritten o room places ps vs
 
 -- the same of all channels of an archive
 pub data AreReady (cutting : Cutting) (o : Options) (room places : ℕ) (views : List View) : List Channel
-    → List Standing → List (List Plan) → Type 0 where
+    → List Packability → List (List Plan) → Type 0 where
   ready_none : AreReady cutting o room places views [] [] []
-  ready_next : (c : Channel) (s : Standing) (ps : List Plan) (cs : List Channel) (ss : List Standing)
+  ready_next : (c : Channel) (s : Packability) (ps : List Plan) (cs : List Channel) (ss : List Packability)
       (ls : List (List Plan)) → IsReady cutting o room places (records_in views c.0) s ps
       → AreReady cutting o room places views cs ss ls
       → AreReady cutting o room places views (c ∷ cs) (s ∷ ss) (ps ∷ ls)

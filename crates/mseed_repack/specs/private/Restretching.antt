@@ -15,20 +15,20 @@ use Rattle.mseed_stream.specs.Device.{BytesRead, BytesWritten}
 use Rattle.mseed_stream.specs.declared.fault.StreamFault.{StreamFault}
 use Rattle.mseed_stream.specs.declared.fault.StreamFault.TheVariants.{Memory as NoMemory}
 use Rattle.mseed_repack.specs.private.Places.{AreAllOf}
-use Rattle.mseed_repack.specs.private.Planning.{StandsAs}
-use Rattle.mseed_repack.specs.declared.refusing.Left.{Left}
-use Rattle.mseed_repack.specs.declared.refusing.Left.TheVariants.{Nothing, Broken as LeftBroken, Misfit as LeftMisfit}
+use Rattle.mseed_repack.specs.private.Planning.{IsPackabilityAs}
+use Rattle.mseed_repack.specs.declared.refusing.LeftOut.{LeftOut}
+use Rattle.mseed_repack.specs.declared.refusing.LeftOut.TheVariants.{Nothing, Broken as LeftBroken, Misfit as LeftMisfit}
 use Rattle.mseed_repack.specs.declared.fault.RepackFault.{RepackFault}
 use Rattle.mseed_repack.specs.declared.fault.RepackFault.TheVariants.{Stream, Broken, Misfit, Write, Memory}
-use Rattle.mseed_repack.specs.declared.standing.Standing.{Standing}
-use Rattle.mseed_repack.specs.declared.standing.Standing.TheVariants.{Fit, Broken as IsBroken, Misfit as IsMisfit}
+use Rattle.mseed_repack.specs.declared.packability.Packability.{Packability}
+use Rattle.mseed_repack.specs.declared.packability.Packability.TheVariants.{Fit, Broken as IsBroken, Misfit as IsMisfit}
 use Rattle.mseed_repack.specs.declared.stretching.Cutting.{Cutting}
 use Rattle.mseed_repack.specs.declared.stretching.Cutting.TheVariants.{Whole, Stretches}
 
 -- a channel that is said to be broken has a record that isn't sound
-abbrev pub AreUnsound : List View → List Channel → List Standing → Type 0
-AreUnsound views channels standings =
-    AreFound (λ vs s. s ≡ IsBroken → ¬ (AllByRecursion IsSound vs)) views channels standings
+abbrev pub AreUnsound : List View → List Channel → List Packability → Type 0
+AreUnsound views channels packabilities =
+    AreFound (λ vs s. s ≡ IsBroken → ¬ (AllByRecursion IsSound vs)) views channels packabilities
 
 -- the fault is the first channel that is broken, or else the first that doesn't fit, where channels are cut so; these are
 -- the records in their places
@@ -38,18 +38,18 @@ IsFirstRefused cutting o ps views channels (Broken key first) =
     key channels × IsFirstOwn (channel_in key ps) first
 IsFirstRefused cutting o ps views channels (Misfit key number fault) =
     AreSound views channels
-    × IsFirst (λ k. StandsAs cutting o (records_in views k) Fit)
-    (λ k. StandsAs cutting o (records_in views k) (IsMisfit number fault)) key channels
+    × IsFirst (λ k. IsPackabilityAs cutting o (records_in views k) Fit)
+    (λ k. IsPackabilityAs cutting o (records_in views k) (IsMisfit number fault)) key channels
 IsFirstRefused cutting o ps views channels fault = ⊥
 
 -- a channel isn't broken
-abbrev pub IsUnbroken : Standing → Type 0
+abbrev pub IsUnbroken : Packability → Type 0
 IsUnbroken Fit = ⊤
 IsUnbroken IsBroken = ⊥
 IsUnbroken (IsMisfit number fault) = ⊤
 
 -- no stretch of it is known not to fit
-abbrev pub IsNoMisfit : Standing → Type 0
+abbrev pub IsNoMisfit : Packability → Type 0
 IsNoMisfit Fit = ⊤
 IsNoMisfit IsBroken = ⊤
 IsNoMisfit (IsMisfit number fault) = ⊥
@@ -77,7 +77,7 @@ pub record AreAsked (s : Selection) (bytes : List ℕ) (h : BytesRead) (kept : L
 
 -- what packing by stretches comes to where the number of records that lack a time is reported if a channel is left out,
 -- before it, and else isn't
-abbrev pub IsRestretchingIfLeft : (List View → List Placed) → Options → Bool → ℕ → Result Left RepackFault → BytesRead
+abbrev pub IsRestretchingIfLeft : (List View → List Placed) → Options → Bool → ℕ → Result LeftOut RepackFault → BytesRead
     → BytesWritten → BytesWritten → BytesWritten → BytesWritten → Type 0
 IsRestretchingIfLeft place o leave count (Ok left) h old new reported_old reported_new =
     (between : BytesWritten) × (ReportsIfLeft left count reported_old between
@@ -89,7 +89,7 @@ IsRestretchingIfLeft place o leave count result h old new reported_old reported_
     IsRestretchingAmong place o leave result h old new reported_old reported_new
 
 -- what packing comes to where channels are cut so: where they aren't, none is left out
-abbrev pub IsPackedIfLeft : Cutting → (List View → List Placed) → Options → Bool → ℕ → Result Left RepackFault
+abbrev pub IsPackedIfLeft : Cutting → (List View → List Placed) → Options → Bool → ℕ → Result LeftOut RepackFault
     → BytesRead → BytesWritten → BytesWritten → BytesWritten → BytesWritten → Type 0
 IsPackedIfLeft Whole place o leave count result h old new reported_old reported_new =
     leave ≡ false → IfOk result (λ left. left ≡ Nothing) × IsRepackingAmong place o result h old new
@@ -98,7 +98,7 @@ IsPackedIfLeft Stretches place o leave count result h old new reported_old repor
     IsRestretchingIfLeft place o leave count result h old new reported_old reported_new
 
 -- and of those records that are asked for
-abbrev pub IsSelectedAs : Cutting → Selection → Options → Bool → Result Left RepackFault → BytesRead → BytesWritten
+abbrev pub IsSelectedAs : Cutting → Selection → Options → Bool → Result LeftOut RepackFault → BytesRead → BytesWritten
     → BytesWritten → BytesWritten → BytesWritten → Type 0
 IsSelectedAs Whole s o leave result h old new reported_old reported_new =
     leave ≡ false → IsSelectedRepacking s o result h old new reported_old reported_new
@@ -112,7 +112,7 @@ ReportsAfter (Err Memory) count old new = new ≡ old
 ReportsAfter result count old new = ReportsWithoutTime count old new
 
 -- ..unless it was reported before
-abbrev pub ReportsUnlessLeft : Result Left RepackFault → ℕ → BytesWritten → BytesWritten → Type 0
+abbrev pub ReportsUnlessLeft : Result LeftOut RepackFault → ℕ → BytesWritten → BytesWritten → Type 0
 ReportsUnlessLeft (Ok LeftBroken) count old new = new ≡ old
 ReportsUnlessLeft (Ok LeftMisfit) count old new = new ≡ old
 ReportsUnlessLeft result count old new = ReportsAfter result count old new

@@ -2,7 +2,7 @@ use Rattle.std.proofs.Common.{map}
 use Rattle.mseed_record.specs.Viewing.{view_of}
 use Rattle.mseed_repack.proofs.Outcomes.{AreJudged, as_found, as_unsound, broken_refused, first_refused, packed}
 use Rattle.mseed_repack.proofs.Outcomes.{packed_in_part}
-use Rattle.mseed_repack.proofs.Planning.{standings_of}
+use Rattle.mseed_repack.proofs.Planning.{packabilities_of}
 use Rattle.mseed_repack.proofs.Wholes.{archive_of}
 use Rattle.mseed_repack.proofs.anew.pack_records.Goals as goal
 
@@ -15,8 +15,8 @@ refusal_unless-requires g c = record {
       (as_unsound c.as_slice-channels.result.now _ _ _ c.deref.ensures.value c.in_ok-planned.ensures.ready);
 }
 
-pub report_left-requires : goal.report_left-requires
-report_left-requires g c =
+pub report_left_out-requires : goal.report_left_out-requires
+report_left_out-requires g c =
     as_found c.as_slice-channels.result.now _ _ _ c.deref-3.ensures.value c.in_ok-planned.ensures.ready
 
 pub returns-in-Some : goal.returns-in-Some
@@ -37,7 +37,7 @@ returns-in-Some-refusal_unless g c = λ read place whole at.
     c.in_default.ensures.none c.in-Some-refusal_unless.ensures.refuses
     ((rw (c.deref.ensures.value, c.archive-archive.ensures.views, c.archive-archive.ensures.channels) at
     c.in-Some-refusal_unless.ensures.some) c.args.cutting c.args.options.now (place views) at
-    (standings_of c.as_slice-channels.result.now _ _ c.in_ok-planned.ensures.ready))
+    (packabilities_of c.as_slice-channels.result.now _ _ c.in_ok-planned.ensures.ready))
 
 pub pack_channels-requires : goal.pack_channels-requires
 pack_channels-requires g c = record {
@@ -56,36 +56,36 @@ pack_channels-requires g c = record {
 pub returns-in-Ok : goal.returns-in-Ok
 returns-in-Ok g c = λ read place whole at.
     let judged : AreJudged c.args.cutting c.args.options.now c.args.leave read (map view_of c.args.views.now)
-    c.as_slice-channels.result.now c.in_ok-planned.planned.standings.items = record {
+    c.as_slice-channels.result.now c.in_ok-planned.planned.packabilities.items = record {
       archive = archive_of whole c.in_ok-judged.ensures.verdicts c.as_slice-channels.ensures;
       continuous = c.in_default.ensures.none;
-      found = standings_of c.as_slice-channels.result.now _ _ c.in_ok-planned.ensures.ready;
+      found = packabilities_of c.as_slice-channels.result.now _ _ c.in_ok-planned.ensures.ready;
       fit = rw c.deref.ensures.value at c.in_default-refusal_unless.ensures.fit;
     } in
-    rw (c.left_of-left.ensures, c.deref-2.ensures.value)
+    rw (c.left_out_of-left.ensures, c.deref-2.ensures.value)
     (packed place c.args.options.now c.args.leave c.args.without_time read (map view_of c.args.views.now)
     c.as_slice-channels.result.now c.args.cutting _ (g.W.Sink.written c.args.output.now)
     (g.W.Sink.written c.pack_channels.new.output) (g.E.Sink.written c.args.errors.now)
-    (g.E.Sink.written c.report_if_left.new.errors) (g.E.Sink.written c.report_left.new.errors) judged
-    (rw (c.left_of-left.ensures, c.deref-2.ensures.value) at c.report_if_left.ensures)
-    (rw c.deref-3.ensures.value at c.report_left.ensures)
+    (g.E.Sink.written c.report_if_left.new.errors) (g.E.Sink.written c.report_left_out.new.errors) judged
+    (rw (c.left_out_of-left.ensures, c.deref-2.ensures.value) at c.report_if_left.ensures)
+    (rw c.deref-3.ensures.value at c.report_left_out.ensures)
     (rw (c.archive-archive.ensures.views, c.archive-archive.ensures.channels, c.deref-4.ensures.value) at
     c.in-Ok.ensures.ok))
 
 pub returns : goal.returns
 returns g c = λ read place whole at.
     let judged : AreJudged c.args.cutting c.args.options.now c.args.leave read (map view_of c.args.views.now)
-    c.as_slice-channels.result.now c.in_ok-planned.planned.standings.items = record {
+    c.as_slice-channels.result.now c.in_ok-planned.planned.packabilities.items = record {
       archive = archive_of whole c.in_ok-judged.ensures.verdicts c.as_slice-channels.ensures;
       continuous = c.in_default.ensures.none;
-      found = standings_of c.as_slice-channels.result.now _ _ c.in_ok-planned.ensures.ready;
+      found = packabilities_of c.as_slice-channels.result.now _ _ c.in_ok-planned.ensures.ready;
       fit = rw c.deref.ensures.value at c.in_default-refusal_unless.ensures.fit;
     } in
     packed_in_part place c.args.options.now c.args.leave c.args.without_time read (map view_of c.args.views.now)
     c.as_slice-channels.result.now c.args.cutting _ (g.W.Sink.written c.args.output.now)
     (g.W.Sink.written c.pack_channels.new.output) (g.E.Sink.written c.args.errors.now)
-    (g.E.Sink.written c.report_if_left.new.errors) (g.E.Sink.written c.report_left.new.errors) judged
-    (rw (c.left_of-left.ensures, c.deref-2.ensures.value) at c.report_if_left.ensures)
-    (rw c.deref-3.ensures.value at c.report_left.ensures)
+    (g.E.Sink.written c.report_if_left.new.errors) (g.E.Sink.written c.report_left_out.new.errors) judged
+    (rw (c.left_out_of-left.ensures, c.deref-2.ensures.value) at c.report_if_left.ensures)
+    (rw c.deref-3.ensures.value at c.report_left_out.ensures)
     (rw (c.archive-archive.ensures.views, c.archive-archive.ensures.channels, c.deref-4.ensures.value) at
     c.in-Err.ensures.err)

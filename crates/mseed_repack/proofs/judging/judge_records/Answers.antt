@@ -10,7 +10,7 @@ use Rattle.mseed_repack.proofs.ReadChannels.{steps_next}
 use Rattle.mseed_repack.proofs.Repacks.{audit_next}
 use Rattle.mseed_repack.proofs.SoundRecords.{alone_next, sound_by_finding}
 use Rattle.mseed_repack.proofs.judging.judge_records.Goals as goal
-use Rattle.mseed_repack.proofs.judging.judge_records.Goals.{then-has_own, else-has_own, then-plain, else-plain}
+use Rattle.mseed_repack.proofs.judging.judge_records.Goals.{then-is_own, else-is_own, then-plain, else-plain}
 
 pub loop-index-preserved : goal.loop-index-preserved
 loop-index-preserved g c =
@@ -30,11 +30,11 @@ loop-index-preserved g c =
       ap (λ (bytes : List ℕ). offset + length bytes) c.bytes.ensures.value
           ∙ end_next rs n r offset below c.index-views-index.is inv.2,
       omega (arith, few, inv.3),
-      λ sound. elim c.if-has_own.branch [
-        | then-has_own w ↦ absurd (false≢true (sym w.sound-is ∙ sound))
-        | else-has_own w ↦ alone_next IsSound rs n r below c.index-views-index.is (inv.4 (sym w.sound-is ∙ sound))
+      λ sound. elim c.if-is_own.branch [
+        | then-is_own w ↦ absurd (false≢true (sym w.sound-is ∙ sound))
+        | else-is_own w ↦ alone_next IsSound rs n r below c.index-views-index.is (inv.4 (sym w.sound-is ∙ sound))
             (sound_by_finding c.one_reading.ensures (view_of r) (numbered 1 earlier) c.in-Ok.why
-            (c.in-Ok.ensures.found earlier inv.0) (sym c.has_own.ensures ∙ w.if-has_own.false))
+            (c.in-Ok.ensures.found earlier inv.0) (sym c.is_own.ensures ∙ w.if-is_own.false))
       ],
       λ plain. elim c.if-plain.branch [
         | then-plain w ↦ alone_next IsPlain rs n r below c.index-views-index.is (inv.5 w.if-plain.true)

@@ -9,7 +9,7 @@ use Rattle.mseed_repack.proofs.own.first_own.Goals as goal
 
 pub find_own-requires-clause-none : goal.find_own-requires-clause-none
 find_own-requires-clause-none g c =
-    none_before c.args.trail.now.codes.now c.args.trail.now.views.now c.args.trail.now.index c.min-begin.result
+    none_before c.args.channel_walk.now.codes.now c.args.channel_walk.now.views.now c.args.channel_walk.now.index c.min-begin.result
     c.min-begin.ensures c.requires.all
 
 pub unreachable-requires : goal.unreachable-requires
@@ -19,8 +19,8 @@ unreachable-requires g c =
 
 pub returns : goal.returns
 returns g c = λ ps at.
-    let vs = map view_of c.args.trail.now.views.now in
+    let vs = map view_of c.args.channel_walk.now.views.now in
     let own = c.in-Some.ensures.own in
-    own_first c.args.trail.now.codes.now vs ps own.0 c.in-Some.finding c.placed.result
+    own_first c.args.channel_walk.now.codes.now vs ps own.0 c.in-Some.finding c.placed.result
     at.packed_are own.1.0 (c.placed.ensures.placed vs ps own.0 at own.1.1)
     c.placed.ensures.why

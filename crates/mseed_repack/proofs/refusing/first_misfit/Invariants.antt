@@ -3,4 +3,4 @@ use Rattle.mseed_repack.specs.private.Restretching.{IsNoMisfit}
 use Rattle.mseed_repack.proofs.refusing.first_misfit.Given as goal
 
 abbrev pub invariant-loop-number : goal.invariant-loop-number
-invariant-loop-number l = All IsNoMisfit (take l.number l.standings)
+invariant-loop-number l = All IsNoMisfit (take l.number l.packabilities)

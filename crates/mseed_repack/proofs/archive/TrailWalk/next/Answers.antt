@@ -1,8 +1,0 @@
-use Rattle.mseed_repack.proofs.Trails.{next_on}
-use Rattle.mseed_repack.proofs.archive.TrailWalk.next.Goals as goal
-
-pub returns-clause-next : goal.returns-clause-next
-returns-clause-next c =
-    let t = c.args.self.now in
-    next_on t.codes.now t.views.now t.index t.nexts.now c.index-self-self.result c.if-self.false
-    c.index-self-self.is c.requires.of c.requires.nexts_are
