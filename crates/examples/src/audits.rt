@@ -6,7 +6,7 @@ ghost use Rattle.mseed_audit.specs.Text.{why_text};
 use mseed_audit::{
     Audit, AuditFault, BadStep, Channel, ChannelList, EachFault, Memory, NotContinuous, Series,
     Verdict, Why, audit, audit_each, audit_each_selected, audit_selected, gather, gather_each,
-    is_of, push_total_line, push_verdict_line, put_why, series,
+    is_of_channel, push_total_line, push_verdict_line, put_why, series,
 };
 use mseed_record::{Codes, RecordView};
 use mseed_select::Selector;
@@ -127,7 +127,10 @@ pub fn first_series(alloc: Global, views: &[RecordView]) -> Result<Series, NotCo
 
 /// How many records of a channel have samples.
 pub fn count_of(codes: &Codes, views: &[RecordView]) -> usize {
-    views.iter().filter(|view| is_of(codes, view)).count()
+    views
+        .iter()
+        .filter(|view| is_of_channel(codes, view))
+        .count()
 }
 
 /// A series made by hand, with a leap second after its 100th sample.

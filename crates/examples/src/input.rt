@@ -1,6 +1,6 @@
 //! Calls of `mseed_files`: the input that arguments name.
 use mseed_files::{
-    Blame, Chain, Files, Reason, Watched, blame_by, blame_of, report_blame, report_fault,
+    Blame, Chain, Files, Reason, TrackedSource, blame_by, blame_of, report_blame, report_fault,
     report_given, report_no_memory, report_number, report_reason, report_unreadable, texts_of,
     word_of,
 };
@@ -23,17 +23,17 @@ pub fn is_standard_input(text: &str, words: &[Vec<u8>]) -> bool {
 }
 
 /// A source of which it is known where its last record is.
-pub fn watched<R: Source>(source: R) -> Watched<R> {
-    Watched::new(source)
+pub fn watched<R: Source>(source: R) -> TrackedSource<R> {
+    TrackedSource::new(source)
 }
 
 /// Where the record begins that ends at an offset, if it is the last one that was cut.
-pub fn begins_before<R: Source>(input: &Watched<R>, offset: u64) -> Option<u64> {
+pub fn begins_before<R: Source>(input: &TrackedSource<R>, offset: u64) -> Option<u64> {
     input.record_before(offset)
 }
 
 /// How many bytes a watched source holds that can be read without a call of its device.
-pub fn held_by<R: Source>(watched: &Watched<R>) -> usize {
+pub fn held_by<R: Source>(watched: &TrackedSource<R>) -> usize {
     watched.source().lend().len()
 }
 
@@ -45,7 +45,7 @@ pub fn is_wrong(end: &Option<StreamFault>) -> bool {
 /// Reports in which of the files that arguments name a fault lies that ended their bytes.
 pub fn report_fault_of<F: Files, E: Sink>(
     alloc: Global,
-    input: &Watched<Chain<F>>,
+    input: &TrackedSource<Chain<F>>,
     words: &[&[u8]],
     fault: &StreamFault,
     errors: &mut E,
@@ -55,7 +55,7 @@ pub fn report_fault_of<F: Files, E: Sink>(
 
 /// Reports why the input failed of a program whose arguments name no file, if a read of it did.
 pub fn report_failure_of<F: Files, E: Sink>(
-    input: &Watched<Chain<F>>,
+    input: &TrackedSource<Chain<F>>,
     fault: &StreamFault,
     errors: &mut E,
 ) {

@@ -4,7 +4,8 @@ use Rattle.mseed_stream.specs.Device.{BytesWritten}
 use Rattle.mseed_steim.specs.declared.encoding.Encoding.{Encoding}
 use Rattle.mseed_repack.specs.Misfits.{misfit_text}
 use Rattle.mseed_repack.specs.declared.refusing.LeftOut.{LeftOut}
-use Rattle.mseed_repack.specs.declared.refusing.LeftOut.TheVariants.{Nothing, Broken as LeftBroken, Misfit as LeftMisfit}
+use Rattle.mseed_repack.specs.declared.refusing.LeftOut.TheVariants.{Nothing, Broken as LeftBroken}
+use Rattle.mseed_repack.specs.declared.refusing.LeftOut.TheVariants.{Misfit as LeftMisfit}
 use Rattle.mseed_repack.specs.declared.fault.RepackFault.{RepackFault}
 use Rattle.mseed_repack.specs.declared.fault.RepackFault.TheVariants.{Misfit}
 use Rattle.mseed.specs.Blame.{packing_blame}

@@ -54,7 +54,8 @@ HasRepacked options asked ended old new =
 -- by stretches
 abbrev pub HasRestretched : Options → Bool → Option Selection → Ended → Streams → Streams → Type 0
 HasRestretched options leave asked ended old new =
-    IsReported (IsSelectedRestretching (asked_or_all asked) options leave) (EndsStretches options.encoding) ended old new
+    IsReported (IsSelectedRestretching (asked_or_all asked) options leave) (EndsStretches options.encoding)
+    ended old new
 
 -- An audit, a joint, a listing, a selection and a packing are done with an input, with the records that are asked for,
 -- and end so. Serving and fetching aren't.

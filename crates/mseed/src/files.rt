@@ -9,7 +9,7 @@ ghost use Rattle.mseed.specs.Streams.{streams};
 
 use crate::command::run;
 use mseed_files::{
-    Chain, Files, STANDARD_INPUT, Watched, find_unreadable, report_blame, report_reason,
+    Chain, Files, STANDARD_INPUT, TrackedSource, find_unreadable, report_blame, report_reason,
     report_unreadable, word_of,
 };
 use mseed_stream::Sink;
@@ -112,7 +112,7 @@ fn run_over_files<'a, F: Files, W: Sink, E: Sink>(
         Ok(chain) => chain,
         Err(error) => return Err(error),
     };
-    let mut input = Watched::new(chain);
+    let mut input = TrackedSource::new(chain);
     let ended = run(alloc, command, &mut input, output, errors);
     if are_named {
         report_blame(alloc, errors, names, &input, ended.blame);

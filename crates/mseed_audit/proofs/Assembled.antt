@@ -20,7 +20,7 @@ use Rattle.mseed_audit.specs.declared.finding.Finding.{Finding}
 use Rattle.mseed_audit.specs.declared.verdict.Verdict.{Verdict}
 use Rattle.mseed_audit.specs.declared.verdict.Verdict.TheVariants.{Continuous, Broken}
 use Rattle.mseed_audit.specs.Audit.{Stands, verdict_of}
-use Rattle.mseed_audit.specs.Channels.{Placed, added_from, is_of, same_key, records_of, views_in}
+use Rattle.mseed_audit.specs.Channels.{Placed, added_from, is_of_channel, same_key, records_of, views_in}
 use Rattle.mseed_audit.specs.Follows.{IsSound, IsContinuous}
 use Rattle.mseed_audit.specs.Judging.{rate_in, rate_unless, time_fault_of}
 use Rattle.mseed_audit.specs.private.ChannelState.{IsFirstRate}
@@ -50,15 +50,16 @@ broken_by exact c first count ps e stands =
 
 -- each record of a continuous channel is sound
 pub all_sound : (key : List ℕ) (vs : List View) → IsContinuous (views_in (records_of key (added_from 0 vs)))
-    → AllByRecursion IsSound (filter (is_of key) vs)
+    → AllByRecursion IsSound (filter (is_of_channel key) vs)
 all_sound key vs continuous = subst (λ (ws : List View). AllByRecursion IsSound ws) (views_are key vs) continuous.each
 
 -- the first record of a channel has its key
 pub first_key : (key : List ℕ) (vs : List View) (first : View) (rest : List View)
-    → filter (is_of key) vs ≡ first ∷ rest → key ≡ key_at first.bytes
+    → filter (is_of_channel key) vs ≡ first ∷ rest → key ≡ key_at first.bytes
 first_key key vs first rest e =
-    let passes : All (λ (v : View). is_of key v ≡ true) (first ∷ rest) =
-    subst (λ (ws : List View). All (λ (v : View). is_of key v ≡ true) ws) e (filter_passes (is_of key) vs) in
+    let passes : All (λ (v : View). is_of_channel key v ≡ true) (first ∷ rest) =
+    subst (λ (ws : List View). All (λ (v : View). is_of_channel key v ≡ true) ws) e (filter_passes (is_of_channel key)
+    vs) in
     same_is key (key_at first.bytes) (and_parts (nat_lt 0 (count_of first)) (same_key key (key_at first.bytes))
     (passes 0 first (omega arith))).1
 
@@ -78,16 +79,16 @@ later_by false v ws vs rate e h = h e
 
 -- the first record of a channel, after others that are of none or of another
 pub first_there : (key : List ℕ) (rs : List RecordView) (n : ℕ) (r : RecordView) (rate : Option Rate) → n < length rs
-    → r ≡ get_or rs n r → true ≡ is_of key (view_of r)
-    → filter (is_of key) (map view_of (take n rs)) ≡ [] → IsFirstRate (view_of r ∷ []) rate
-    → IsFirstRate (filter (is_of key) (map view_of rs)) rate
+    → r ≡ get_or rs n r → true ≡ is_of_channel key (view_of r)
+    → filter (is_of_channel key) (map view_of (take n rs)) ≡ [] → IsFirstRate (view_of r ∷ []) rate
+    → IsFirstRate (filter (is_of_channel key) (map view_of rs)) rate
 first_there key [] n r rate l is of none h = absurd (omega (arith, l))
 first_there key (s ∷ rs) zero r rate l is of none h =
-    subst (λ (q : RecordView). IsFirstRate (filter (is_of key) (map view_of (q ∷ rs))) rate) is
-    (first_by (is_of key (view_of r)) (view_of r) (filter (is_of key) (map view_of rs)) rate of h)
+    subst (λ (q : RecordView). IsFirstRate (filter (is_of_channel key) (map view_of (q ∷ rs))) rate) is
+    (first_by (is_of_channel key (view_of r)) (view_of r) (filter (is_of_channel key) (map view_of rs)) rate of h)
 first_there key (s ∷ rs) (suc n) r rate l is of none h =
-    later_by (is_of key (view_of s)) (view_of s) (filter (is_of key) (map view_of (take n rs)))
-    (filter (is_of key) (map view_of rs)) rate none
+    later_by (is_of_channel key (view_of s)) (view_of s) (filter (is_of_channel key) (map view_of (take n rs)))
+    (filter (is_of_channel key) (map view_of rs)) rate none
     (λ e. first_there key rs n r rate (omega (arith, l)) is of e h)
 
 -- the rate of the first record, by its factor and multiplier
@@ -105,26 +106,28 @@ rate_there (Some fault) rate known e none = cc (e)
 -- the first record of a continuous channel has a rate
 pub has_rate : (key : List ℕ) (vs : List View) (start : ℤ) (rate : Ratio) (records samples : ℕ)
     → IsVerdict (Continuous start rate records samples) (records_of key (added_from 0 vs))
-    → IsFirstRate (filter (is_of key) vs) None → ⊥
+    → IsFirstRate (filter (is_of_channel key) vs) None → ⊥
 has_rate key vs start rate records samples verdict h =
     let first : Placed = verdict.0 in
     let rest : List Placed = verdict.1.0 in
-    let parts : filter (is_of key) vs ≡ first.view ∷ views_in rest =
+    let parts : filter (is_of_channel key) vs ≡ first.view ∷ views_in rest =
     sym (views_are key vs) ∙ ap (λ (qs : List Placed). views_in qs) verdict.1.1.0 in
     rate_there (time_fault_of first.view) (rate_in first.view) rate verdict.1.1.1.rate_is
     (subst (λ (ws : List View). IsFirstRate ws None) parts h)
 
 pub series_of : (key : List ℕ) (vs : List View) (start : ℤ) (rate : Ratio) (written : Rate) (records samples : ℕ)
     (s : Trace) → IsVerdict (Continuous start rate records samples) (records_of key (added_from 0 vs))
-    → IsFirstRate (filter (is_of key) vs) (Some written)
-    → HoldsAll key start written (filter (is_of key) vs) s → IsSeriesOf s (views_in (records_of key (added_from 0 vs)))
+    → IsFirstRate (filter (is_of_channel key) vs) (Some written)
+    → HoldsAll key start written (filter (is_of_channel key) vs) s → IsSeriesOf s (views_in (records_of key
+    (added_from 0 vs)))
 series_of key vs start rate written records samples s verdict is holds =
     let first : Placed = verdict.0 in
     let rest : List Placed = verdict.1.0 in
     let run = verdict.1.1.1 in
     let ps : List Placed = records_of key (added_from 0 vs) in
     let parts : views_in ps ≡ first.view ∷ views_in rest = ap (λ (qs : List Placed). views_in qs) verdict.1.1.0 in
-    let pair = first_is (filter (is_of key) vs) first.view (views_in rest) written (sym (views_are key vs) ∙ parts)
+    let pair = first_is (filter (is_of_channel key) vs) first.view (views_in rest) written (sym (views_are key vs) ∙
+    parts)
     is in
     record {
       first = first.view;
@@ -142,8 +145,9 @@ series_of key vs start rate written records samples s verdict is holds =
 pub assembled : (key : List ℕ) (vs : List View) (start : ℤ) (rate : Ratio) (written : Rate) (records samples : ℕ)
     (result : Result Trace NotContinuous)
     → IsVerdict (Continuous start rate records samples) (records_of key (added_from 0 vs))
-    → IsContinuous (views_in (records_of key (added_from 0 vs))) → IsFirstRate (filter (is_of key) vs) (Some written)
-    → IfOk result (λ s. HoldsAll key start written (filter (is_of key) vs) s) → IfErr result (λ e. e ≡ Memory)
+    → IsContinuous (views_in (records_of key (added_from 0 vs))) → IsFirstRate (filter (is_of_channel key) vs)
+    (Some written)
+    → IfOk result (λ s. HoldsAll key start written (filter (is_of_channel key) vs) s) → IfErr result (λ e. e ≡ Memory)
     → IsSeries result (records_of key (added_from 0 vs))
 assembled key vs start rate written records samples (Ok s) verdict continuous is holds memory =
     (continuous, series_of key vs start rate written records samples s verdict is holds)

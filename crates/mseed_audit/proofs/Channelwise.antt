@@ -17,7 +17,7 @@ use Rattle.mseed_record.specs.declared.answer.Answer.TheVariants.{AskedFor, Left
 use Rattle.mseed_stream.specs.Device.{BytesRead}
 use Rattle.mseed_audit.specs.declared.finding.Why.{Why}
 use Rattle.mseed_audit.specs.declared.verdict.Verdict.{Verdict}
-use Rattle.mseed_audit.specs.Channels.{Placed, channel_in, is_of, same_key}
+use Rattle.mseed_audit.specs.Channels.{Placed, channel_in, is_of_channel, same_key}
 use Rattle.mseed_audit.specs.Each.{AuditedEach, AuditedEachIn}
 use Rattle.mseed_audit.specs.Reported.{AreReported, IsFoundOf, Reported, none, one, reported_at}
 use Rattle.mseed_audit.specs.Scope.{HasNoWindow, asked, asked_of, placed_of}
@@ -46,19 +46,19 @@ asks_so s free v =
     ∙ ap (λ (o : Option ℤ). is_asked (if m then answer_in None o v else Left)) free.1 ∙ by_match m
 
 -- a record of a channel has its key
-key_is : (key : List ℕ) (v : View) → is_of key v ≡ true → key ≡ key_at v.bytes
+key_is : (key : List ℕ) (v : View) → is_of_channel key v ≡ true → key ≡ key_at v.bytes
 key_is key v e = same_is key (key_at v.bytes) (sym (of_some key v (samples_of key v e)) ∙ e)
 
-asks_of : (s : Selection) → HasNoWindow s → (key : List ℕ) (v : View) → is_of key v ≡ true
+asks_of : (s : Selection) → HasNoWindow s → (key : List ℕ) (v : View) → is_of_channel key v ≡ true
     → asks_for s v ≡ matching s key
 asks_of s free key v e = asks_so s free v ∙ ap (λ (k : List ℕ). matching s k) (sym (key_is key v e))
 
 -- of another channel than those that are asked for, or the other way round
 differ : (s : Selection) → HasNoWindow s → (key : List ℕ) (v : View) (b c : Bool) → asks_for s v ≡ b
-    → matching s key ≡ c → (b ≡ c → ⊥) → is_of key v ≡ false
-differ s free key v b c e h other = go (is_of key v) refl
+    → matching s key ≡ c → (b ≡ c → ⊥) → is_of_channel key v ≡ false
+differ s free key v b c e h other = go (is_of_channel key v) refl
   where
-    go : (d : Bool) → is_of key v ≡ d → is_of key v ≡ false
+    go : (d : Bool) → is_of_channel key v ≡ d → is_of_channel key v ≡ false
     go true f = absurd (other (sym e ∙ asks_of s free key v f ∙ h))
     go false f = f
 
@@ -88,7 +88,7 @@ module _ (s : Selection) (free : HasNoWindow s) where
       go : (b : Bool) → test p ≡ b → channel_in key (wanted ps) ≡ channel_in key ps
           → channel_in key (wanted (p ∷ ps)) ≡ channel_in key (p ∷ ps)
       go true e rest = ap (λ (qs : List Placed). channel_in key qs) (wanted_with p ps e)
-          ∙ ap (λ (qs : List Placed). cond (is_of key p.view) (p ∷ qs) qs) rest
+          ∙ ap (λ (qs : List Placed). cond (is_of_channel key p.view) (p ∷ qs) qs) rest
       go false e rest = ap (λ (qs : List Placed). channel_in key qs) (wanted_without p ps e) ∙ rest
           ∙ sym (channel_without key p ps (differ s free key p.view false true e m false≢true))
 
@@ -226,14 +226,14 @@ module _ (s : Selection) (free : HasNoWindow s) where
 
   alike_with : (some all : List Placed) (p : Placed) → AreAlike some all → AreAlike (some ++ p ∷ []) (all ++ p ∷ [])
   alike_with some all p alike = λ key m.
-      filter-append (λ q. is_of key q.view) some (p ∷ [])
+      filter-append (λ q. is_of_channel key q.view) some (p ∷ [])
       ∙ ap (λ (ps : List Placed). ps ++ channel_in key (p ∷ [])) (alike key m)
-      ∙ sym (filter-append (λ q. is_of key q.view) all (p ∷ []))
+      ∙ sym (filter-append (λ q. is_of_channel key q.view) all (p ∷ []))
 
   alike_past : (some all : List Placed) (p : Placed) → test p ≡ false → AreAlike some all
       → AreAlike some (all ++ p ∷ [])
   alike_past some all p e alike = λ key m.
-      alike key m ∙ sym (filter-append (λ q. is_of key q.view) all (p ∷ [])
+      alike key m ∙ sym (filter-append (λ q. is_of_channel key q.view) all (p ∷ [])
       ∙ ap (λ (ps : List Placed). channel_in key all ++ ps)
       (channel_without key p [] (differ s free key p.view false true e m false≢true))
       ∙ append-nil (channel_in key all))

@@ -11,7 +11,8 @@ use Rattle.mseed_record.specs.View.{View, IsView}
 use Rattle.mseed_record.specs.Viewing.{view_of}
 use Rattle.mseed_record.specs.declared.view.RecordView.{RecordView}
 use Rattle.mseed_audit.specs.declared.channel.Channel.{Channel}
-use Rattle.mseed_audit.specs.Channels.{Added, Placed, added_from, numbered, is_of, records_of, with_record, views_in}
+use Rattle.mseed_audit.specs.Channels.{Added, Placed, added_from, numbered, is_of_channel, records_of, with_record}
+use Rattle.mseed_audit.specs.Channels.{views_in}
 use Rattle.mseed_audit.specs.Follows.{IsSound}
 use Rattle.mseed_audit.specs.Audit.{StandsAt}
 use Rattle.mseed_audit.proofs.More.{placed_at, records_more}
@@ -107,14 +108,15 @@ by_test false vs v true e = absurd (false≢true e)
 by_test false vs v false e = append-nil vs
 
 pub kept_next : (key : List ℕ) (rs : List RecordView) (n : ℕ) (r : RecordView) (b : Bool) → n < length rs
-    → r ≡ get_or rs n r → b ≡ is_of key (view_of r)
-    → filter (is_of key) (map view_of (take (n + 1) rs))
-    ≡ (if b then filter (is_of key) (map view_of (take n rs)) ++ view_of r ∷ [] else filter (is_of key)
+    → r ≡ get_or rs n r → b ≡ is_of_channel key (view_of r)
+    → filter (is_of_channel key) (map view_of (take (n + 1) rs))
+    ≡ (if b then filter (is_of_channel key) (map view_of (take n rs)) ++ view_of r ∷ [] else filter (is_of_channel key)
     (map view_of (take n rs)))
 kept_next key rs n r b h is of =
     let vs : List View = map view_of (take n rs) in
-    ap (λ (ws : List View). filter (is_of key) ws) (passed rs n r h is) ∙ filter-append (is_of key) vs (view_of r ∷ [])
-    ∙ by_test (is_of key (view_of r)) (filter (is_of key) vs) (view_of r) b (sym of)
+    ap (λ (ws : List View). filter (is_of_channel key) ws) (passed rs n r h is) ∙ filter-append (is_of_channel key) vs
+    (view_of r ∷ [])
+    ∙ by_test (is_of_channel key (view_of r)) (filter (is_of_channel key) vs) (view_of r) b (sym of)
 
 first_sound : (b : Bool) (v : View) (vs : List View) → b ≡ true → AllByRecursion IsSound (cond b (v ∷ vs) vs)
     → IsSound v
@@ -128,16 +130,16 @@ rest_sound false v vs h = h
 
 -- each record of the channel is sound
 pub sound_at : (key : List ℕ) (rs : List RecordView) (n : ℕ) (r : RecordView) → n < length rs → r ≡ get_or rs n r
-    → true ≡ is_of key (view_of r)
-    → AllByRecursion IsSound (filter (is_of key) (map view_of rs)) → IsSound (view_of r)
+    → true ≡ is_of_channel key (view_of r)
+    → AllByRecursion IsSound (filter (is_of_channel key) (map view_of rs)) → IsSound (view_of r)
 sound_at key [] n r h is of all = absurd (omega (arith, h))
 sound_at key (s ∷ rs) zero r h is of all =
     subst (λ (q : RecordView). IsSound (view_of q)) (sym is)
-    (first_sound (is_of key (view_of s)) (view_of s) (filter (is_of key) (map view_of rs))
-    (sym (of ∙ ap (λ (q : RecordView). is_of key (view_of q)) is)) all)
+    (first_sound (is_of_channel key (view_of s)) (view_of s) (filter (is_of_channel key) (map view_of rs))
+    (sym (of ∙ ap (λ (q : RecordView). is_of_channel key (view_of q)) is)) all)
 sound_at key (s ∷ rs) (suc n) r h is of all =
     sound_at key rs n r (omega (arith, h)) is of
-    (rest_sound (is_of key (view_of s)) (view_of s) (filter (is_of key) (map view_of rs)) all)
+    (rest_sound (is_of_channel key (view_of s)) (view_of s) (filter (is_of_channel key) (map view_of rs)) all)
 
 -- the records of a channel are those that pass its test
 either : (b : Bool) (p : Placed) (ps : List Placed) (vs : List View) → views_in ps ≡ vs
@@ -146,12 +148,14 @@ either true p ps vs e = ap (λ (ws : List View). p.view ∷ ws) e
 either false p ps vs e = e
 
 views_from : (key : List ℕ) (n offset : ℕ) (vs : List View)
-    → views_in (filter (λ p. is_of key p.view) (numbered n (added_from offset vs))) ≡ filter (is_of key) vs
+    → views_in (filter (λ p. is_of_channel key p.view) (numbered n (added_from offset vs))) ≡ filter
+    (is_of_channel key) vs
 views_from key n offset [] = refl
 views_from key n offset (v ∷ vs) =
-    either (is_of key v) (record { view = v; offset = offset; number = n })
-    (filter (λ p. is_of key p.view) (numbered (n + 1) (added_from (offset + length v.bytes) vs)))
-    (filter (is_of key) vs) (views_from key (n + 1) (offset + length v.bytes) vs)
+    either (is_of_channel key v) (record { view = v; offset = offset; number = n })
+    (filter (λ p. is_of_channel key p.view) (numbered (n + 1) (added_from (offset + length v.bytes) vs)))
+    (filter (is_of_channel key) vs) (views_from key (n + 1) (offset + length v.bytes) vs)
 
-pub views_are : (key : List ℕ) (vs : List View) → views_in (records_of key (added_from 0 vs)) ≡ filter (is_of key) vs
+pub views_are : (key : List ℕ) (vs : List View) → views_in (records_of key (added_from 0 vs)) ≡ filter
+    (is_of_channel key) vs
 views_are key vs = views_from key 1 0 vs

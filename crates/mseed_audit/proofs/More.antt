@@ -7,7 +7,8 @@ use Rattle.std.specs.Map.{lookup}
 use Rattle.std.proofs.lemmas.List.{length-append}
 use Rattle.mseed_record.specs.View.{View}
 use Rattle.mseed_audit.specs.declared.channel.Channel.{Channel}
-use Rattle.mseed_audit.specs.Channels.{Added, Placed, channel_in, numbered, same_key, is_of, records_of, with_record}
+use Rattle.mseed_audit.specs.Channels.{Added, Placed, channel_in, numbered, same_key, is_of_channel, records_of}
+use Rattle.mseed_audit.specs.Channels.{with_record}
 use Rattle.mseed_audit.specs.Audit.{Held, StandsAt, IsAuditAmong, IsAuditOf}
 
 abbrev pub placed_at : Added → ℕ → Placed
@@ -28,14 +29,16 @@ filter_by true ps p = refl
 filter_by false ps p = append-nil ps
 
 filter_more : (key : List ℕ) (ps : List Placed) (p : Placed)
-    → filter (λ q. is_of key q.view) (ps ++ p ∷ []) ≡ with_record key (filter (λ q. is_of key q.view) ps) p
-filter_more key ps p = filter-append (λ q. is_of key q.view) ps (p ∷ [])
-    ∙ filter_by (is_of key p.view) (filter (λ q. is_of key q.view) ps) p
+    → filter (λ q. is_of_channel key q.view) (ps ++ p ∷ []) ≡ with_record key (filter (λ q. is_of_channel key q.view)
+    ps) p
+filter_more key ps p = filter-append (λ q. is_of_channel key q.view) ps (p ∷ [])
+    ∙ filter_by (is_of_channel key p.view) (filter (λ q. is_of_channel key q.view) ps) p
 
 -- the channel's records with one more record of the archive
 pub records_more : (key : List ℕ) (added : List Added) (a : Added)
     → records_of key (added ++ a ∷ []) ≡ with_record key (records_of key added) (placed_at a (1 + length added))
-records_more key added a = ap (λ (ps : List Placed). filter (λ q. is_of key q.view) ps) (numbered_more 1 added a)
+records_more key added a = ap (λ (ps : List Placed). filter (λ q. is_of_channel key q.view) ps)
+    (numbered_more 1 added a)
     ∙ filter_more key (numbered 1 added) (placed_at a (1 + length added))
 
 -- an audit that takes a record in

@@ -12,7 +12,7 @@ use Rattle.mseed_audit.specs.declared.finding.Finding.{Finding}
 use Rattle.mseed_audit.specs.declared.finding.Why.{Why}
 use Rattle.mseed_audit.specs.declared.verdict.Verdict.{Verdict}
 use Rattle.mseed_audit.specs.declared.verdict.Verdict.TheVariants.{Continuous, Broken}
-use Rattle.mseed_audit.specs.Channels.{Added, Placed, added_from, is_of, numbered, records_of, same_key}
+use Rattle.mseed_audit.specs.Channels.{Added, Placed, added_from, is_of_channel, numbered, records_of, same_key}
 use Rattle.mseed_audit.specs.Each.{AuditedEach, each_text}
 use Rattle.mseed_audit.specs.Judging.{IsFound}
 use Rattle.mseed_audit.specs.Summary.{text_of}
@@ -58,17 +58,17 @@ each_one only excludes input h a b =
     ∙ ap (λ (xs : List ℕ). reported_lines b.reported ++ xs) (text_one a.audited b.audited same)
 
 -- a record with samples is of its channel alone
-pub of_some : (key : List ℕ) (v : View) → 0 < count_of v → is_of key v ≡ same_key key (key_at v.bytes)
+pub of_some : (key : List ℕ) (v : View) → 0 < count_of v → is_of_channel key v ≡ same_key key (key_at v.bytes)
 of_some key v some =
     let yes : nat_lt 0 (count_of v) ≡ true = search rules in
     ap (λ (b : Bool). b && same_key key (key_at v.bytes)) yes
 
-of_none : (key : List ℕ) (v : View) → count_of v ≡ 0 → is_of key v ≡ false
+of_none : (key : List ℕ) (v : View) → count_of v ≡ 0 → is_of_channel key v ≡ false
 of_none key v silent =
     let no : nat_lt 0 (count_of v) ≡ false = search rules in
     ap (λ (b : Bool). b && same_key key (key_at v.bytes)) no
 
-pub samples_of : (key : List ℕ) (v : View) → is_of key v ≡ true → 0 < count_of v
+pub samples_of : (key : List ℕ) (v : View) → is_of_channel key v ≡ true → 0 < count_of v
 samples_of key v e = go (count_of v) refl
   where
     go : (n : ℕ) → count_of v ≡ n → 0 < count_of v
@@ -76,29 +76,30 @@ samples_of key v e = go (count_of v) refl
     go (suc n) z = omega (arith, z)
 
 -- the record is of the channel
-pub channel_with : (key : List ℕ) (p : Placed) (ps : List Placed) → is_of key p.view ≡ true
+pub channel_with : (key : List ℕ) (p : Placed) (ps : List Placed) → is_of_channel key p.view ≡ true
     → channel_in key (p ∷ ps) ≡ p ∷ channel_in key ps
 channel_with key p ps e = rw e refl
 
-pub channel_without : (key : List ℕ) (p : Placed) (ps : List Placed) → is_of key p.view ≡ false
+pub channel_without : (key : List ℕ) (p : Placed) (ps : List Placed) → is_of_channel key p.view ≡ false
     → channel_in key (p ∷ ps) ≡ channel_in key ps
 channel_without key p ps e = rw e refl
 
-pub last_with : (key : List ℕ) (p : Placed) (earlier : List Placed) → is_of key p.view ≡ true
+pub last_with : (key : List ℕ) (p : Placed) (earlier : List Placed) → is_of_channel key p.view ≡ true
     → last_of None (channel_in key (earlier ++ p ∷ [])) ≡ Some p.view
 last_with key p earlier e =
-    ap (λ (ps : List Placed). last_of None ps) (filter-append (λ q. is_of key q.view) earlier (p ∷ [])
+    ap (λ (ps : List Placed). last_of None ps) (filter-append (λ q. is_of_channel key q.view) earlier (p ∷ [])
     ∙ ap (λ (ps : List Placed). channel_in key earlier ++ ps) (channel_with key p [] e))
     ∙ last_snoc None (channel_in key earlier) p
 
-pub last_without : (key : List ℕ) (p : Placed) (earlier : List Placed) → is_of key p.view ≡ false
+pub last_without : (key : List ℕ) (p : Placed) (earlier : List Placed) → is_of_channel key p.view ≡ false
     → channel_in key (earlier ++ p ∷ []) ≡ channel_in key earlier
 last_without key p earlier e =
-    filter-append (λ q. is_of key q.view) earlier (p ∷ []) ∙ ap (λ (ps : List Placed). channel_in key earlier ++ ps)
+    filter-append (λ q. is_of_channel key q.view) earlier (p ∷ []) ∙ ap (λ
+    (ps : List Placed). channel_in key earlier ++ ps)
     (channel_without key p [] e) ∙ append-nil (channel_in key earlier)
 
 reported_elsewhere : (key : List ℕ) (p : Placed) (why : Option Why) (rest : List Reported) (channel : List Placed)
-    → is_of key p.view ≡ false → IsFoundOf channel p.view why
+    → is_of_channel key p.view ≡ false → IsFoundOf channel p.view why
     → reported_with key (reported_at p why ++ rest) ≡ reported_with key rest
 reported_elsewhere key p None rest channel e h = refl
 reported_elsewhere key p (Some why) rest channel e h = go (count_of p.view) refl
@@ -117,7 +118,7 @@ pub data AreReportedIn : Option View → List Placed → List Reported → Type 
       → AreReportedIn (Some p.view) ps reported → AreReportedIn before (p ∷ ps) (reported_at p why ++ reported)
 
 -- a record of a channel has its key
-pub key_of : (key : List ℕ) (v : View) → is_of key v ≡ true → same_key key (key_at v.bytes) ≡ true
+pub key_of : (key : List ℕ) (v : View) → is_of_channel key v ≡ true → same_key key (key_at v.bytes) ≡ true
 key_of key v e = sym (of_some key v (samples_of key v e)) ∙ e
 
 reported_here : (key : List ℕ) (p : Placed) (why : Option Why) (rest : List Reported)
@@ -127,7 +128,7 @@ reported_here key p None rest e = refl
 reported_here key p (Some why) rest e = rw e refl
 
 by_channel : (key : List ℕ) (earlier : List Placed) (p : Placed) (ps : List Placed) (why : Option Why)
-    (rest : List Reported) (b : Bool) → is_of key p.view ≡ b
+    (rest : List Reported) (b : Bool) → is_of_channel key p.view ≡ b
     → IsFoundOf (channel_in (key_at p.view.bytes) earlier) p.view why
     → AreReportedIn (last_of None (channel_in key (earlier ++ p ∷ []))) (channel_in key ps) (reported_with key rest)
     → AreReportedIn (last_of None (channel_in key earlier)) (channel_in key (p ∷ ps))
@@ -163,7 +164,7 @@ reported_channel : (key : List ℕ) (earlier ps : List Placed) (reported : List 
     → AreReportedIn (last_of None (channel_in key earlier)) (channel_in key ps) (reported_with key reported)
 reported_channel key earlier [] reported (none _) = nothing_in (last_of None (channel_in key earlier))
 reported_channel key earlier (p ∷ ps) reported (one _ _ _ why rest h later) =
-    by_channel key earlier p ps why rest (is_of key p.view) refl h
+    by_channel key earlier p ps why rest (is_of_channel key p.view) refl h
     (reported_channel key (earlier ++ p ∷ []) ps rest later)
 
 -- what is reported of a channel's records

@@ -5,25 +5,25 @@ use Rattle.std.specs.Map.{lookup}
 use Rattle.mseed_record.specs.Header.{key_at}
 use Rattle.mseed_steim.specs.Reading.{count_of}
 use Rattle.mseed_audit.specs.declared.channel.Channel.{Channel}
-use Rattle.mseed_audit.specs.Channels.{Placed, same_key, is_of, with_record}
+use Rattle.mseed_audit.specs.Channels.{Placed, same_key, is_of_channel, with_record}
 use Rattle.mseed_audit.specs.Audit.{Stands, StandsAt}
 use Rattle.mseed_audit.proofs.Maps.{same_back, same_is}
 
 -- a record with samples is of the channel with its own key, and of no other
 of_key : (key code : List ℕ) (p : Placed) (b : Bool) → code ≡ key_at p.view.bytes → 0 < count_of p.view
-    → same_key code key ≡ b → is_of key p.view ≡ b
+    → same_key code key ≡ b → is_of_channel key p.view ≡ b
 of_key key code p b at some e =
     let some_is : nat_lt 0 (count_of p.view) ≡ true = search rules in
     ap (λ (s : Bool). s && same_key key (key_at p.view.bytes)) some_is ∙ ap (λ (k : List ℕ). same_key key k) (sym at)
     ∙ same_back key code ∙ e
 
-with_is : (key : List ℕ) (ps : List Placed) (p : Placed) (b : Bool) → is_of key p.view ≡ b
+with_is : (key : List ℕ) (ps : List Placed) (p : Placed) (b : Bool) → is_of_channel key p.view ≡ b
     → with_record key ps p ≡ (if b then ps ++ p ∷ [] else ps)
 with_is key ps p b e = ap (λ (s : Bool). if s then ps ++ p ∷ [] else ps) e
 
 by_key : (old new : List (List ℕ × Channel)) (code : List ℕ) (p : Placed) (c : Channel) (key : List ℕ)
     (ps : List Placed) (b : Bool)
-    → same_key code key ≡ b → is_of key p.view ≡ b
+    → same_key code key ≡ b → is_of_channel key p.view ≡ b
     → lookup (same_key key) new ≡ cond b (Some c) (lookup (same_key key) old)
     → ((qs : List Placed) → StandsAt (lookup (same_key code) old) qs → Stands c (qs ++ p ∷ []))
     → StandsAt (lookup (same_key key) old) ps → StandsAt (lookup (same_key key) new) (with_record key ps p)

@@ -27,12 +27,12 @@ abbrev pub same_key : List ℕ → List ℕ → Bool
 same_key key other = is_eq (slice_cmp nat_cmp key other)
 
 -- a record with samples, of the channel with this key; one without samples is silent
-abbrev pub is_of : List ℕ → View → Bool
-is_of key v = nat_lt 0 (count_of v) && same_key key (key_at v.bytes)
+abbrev pub is_of_channel : List ℕ → View → Bool
+is_of_channel key v = nat_lt 0 (count_of v) && same_key key (key_at v.bytes)
 
 -- the records of a channel among others
 abbrev pub channel_in : List ℕ → List Placed → List Placed
-channel_in key ps = filter (λ p. is_of key p.view) ps
+channel_in key ps = filter (λ p. is_of_channel key p.view) ps
 
 -- the records of a channel, in their order; numbers count from 1, and count silent records too
 abbrev pub records_of : List ℕ → List Added → List Placed
@@ -40,7 +40,7 @@ records_of key added = channel_in key (numbered 1 added)
 
 -- and with one more record of the archive, which may be of another channel
 abbrev pub with_record : List ℕ → List Placed → Placed → List Placed
-with_record key ps p = if is_of key p.view then ps ++ p ∷ [] else ps
+with_record key ps p = if is_of_channel key p.view then ps ++ p ∷ [] else ps
 
 abbrev pub views_in : List Placed → List View
 views_in ps = map (λ p. p.view) ps

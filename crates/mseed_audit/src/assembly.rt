@@ -6,7 +6,7 @@ ghost use Rattle.mseed_time.specs.declared.rate.Rate.{Rate};
 ghost use Rattle.mseed_record.specs.View.{View};
 ghost use Rattle.mseed_record.specs.Viewing.{view_of};
 ghost use Rattle.mseed_audit.specs.declared.assembly.NotContinuous.TheVariants.{Memory};
-ghost use Rattle.mseed_audit.specs.Channels.{Placed, added_from, is_of, records_of, with_record};
+ghost use Rattle.mseed_audit.specs.Channels.{Placed, added_from, is_of_channel, records_of, with_record};
 ghost use Rattle.mseed_audit.specs.Audit.{StandsAt};
 ghost use Rattle.mseed_audit.specs.private.ChannelState.{IsBounded, IsFirstRate};
 ghost use Rattle.mseed_audit.specs.Series.{HoldsAll, IsSeries};
@@ -63,10 +63,10 @@ pub fn series<A: Allocator + Copy>(
 
 /// The sample rate of a channel's first record as its header has it; none where there is none.
 fn first_rate(views: &[RecordView], codes: &Codes) -> Option<Rate>
-    ensures { IsFirstRate (filter (is_of codes.now) (map view_of views.now)) result }
+    ensures { IsFirstRate (filter (is_of_channel codes.now) (map view_of views.now)) result }
 {
     for view in views {
-        if is_of(codes, view) {
+        if is_of_channel(codes, view) {
             return match view.rate() {
                 Ok(rate) => Some(rate),
                 Err(_) => None,
@@ -105,7 +105,7 @@ fn channel_with(
     ensures bounded { (n : ℕ) → IfSome channel (λ c. IsBounded n c)
         → IfSome result (λ c. IsBounded (n + 1) c) }
 {
-    if !is_of(codes, view) {
+    if !is_of_channel(codes, view) {
         return channel;
     }
     match channel {
@@ -118,8 +118,8 @@ fn channel_with(
 }
 
 /// Returns whether a record has samples and is of this channel.
-pub fn is_of(codes: &Codes, view: &RecordView) -> bool
-    ensures { result ≡ is_of codes.now (view_of view.now) }
+pub fn is_of_channel(codes: &Codes, view: &RecordView) -> bool
+    ensures { result ≡ is_of_channel codes.now (view_of view.now) }
 {
     view.samples() > 0 && *codes == view.codes()
 }
@@ -133,9 +133,9 @@ fn assemble<A: Allocator + Copy>(
     rate: Rate,
     count: u64,
 ) -> Result<Series<A>, NotContinuous>
-    requires { AllByRecursion IsSound (filter (is_of codes.now) (map view_of views.now)) }
+    requires { AllByRecursion IsSound (filter (is_of_channel codes.now) (map view_of views.now)) }
     ensures holds { IfOk result (λ s. HoldsAll codes.now start rate
-        (filter (is_of codes.now) (map view_of views.now)) s) }
+        (filter (is_of_channel codes.now) (map view_of views.now)) s) }
     ensures memory { IfErr result (λ e. e ≡ Memory) }
 {
     let samples = match Vec::with_capacity(alloc, count as usize) {
@@ -144,7 +144,7 @@ fn assemble<A: Allocator + Copy>(
     };
     let mut series = Series::new(alloc, *codes, start, rate, samples);
     for view in views {
-        if is_of(codes, view) {
+        if is_of_channel(codes, view) {
             append_record(&mut series, view)?;
         }
     }

@@ -17,7 +17,7 @@ mod tail;
 mod text;
 mod verdict;
 
-pub use assembly::{NotContinuous, is_of, series};
+pub use assembly::{NotContinuous, is_of_channel, series};
 pub use audits::{Audit, ByChannel, Channels, Memory, Verdicts};
 pub use channel::{Channel, Findings, Head};
 pub use channel_list::ChannelList;

@@ -21,7 +21,7 @@ use Rattle.mseed_stream.specs.declared.fault.StreamFault.TheVariants.{Memory}
 use Rattle.slink_wire.specs.Place.{Bears, Fields}
 use Rattle.slink_wire.proofs.Carrying.{carries_fails, one_place, passes_carries}
 use Rattle.slink_wire.proofs.Cuts.{both}
-use Rattle.slink_feed.specs.Intake.{IsOfFeed, foreign_of, is_of, places_of, pushed}
+use Rattle.slink_feed.specs.Intake.{IsOfFeed, foreign_of, is_of_station, places_of, pushed}
 use Rattle.slink_feed.specs.Rings.{HasPlace}
 use Rattle.slink_feed.specs.Window.{Shows, Window, window, with_record}
 use Rattle.slink_feed.specs.declared.input.InputFault.{InputFault}
@@ -35,15 +35,15 @@ use Rattle.mseed_feed.specs.private.Pushing.{IsNextPushed}
 use Rattle.mseed_feed.specs.declared.filling.Step.{Step}
 use Rattle.mseed_feed.specs.declared.filling.Step.TheVariants.{Pushed}
 
-records_taken : (p : Fields) (rs : List (List ℕ)) (r : List ℕ) → is_of p r ≡ true
+records_taken : (p : Fields) (rs : List (List ℕ)) (r : List ℕ) → is_of_station p r ≡ true
     → records_of p (rs ++ r ∷ []) ≡ records_of p rs ++ r ∷ []
-records_taken p rs r is = filter-append (is_of p) rs (r ∷ [])
+records_taken p rs r is = filter-append (is_of_station p) rs (r ∷ [])
     ∙ ap (λ (t : Bool). records_of p rs ++ (if t then r ∷ [] else [])) is
 
-records_left : (p : Fields) (rs : List (List ℕ)) (r : List ℕ) → is_of p r ≡ false
+records_left : (p : Fields) (rs : List (List ℕ)) (r : List ℕ) → is_of_station p r ≡ false
     → records_of p (rs ++ r ∷ []) ≡ records_of p rs
 records_left p rs r is =
-    filter-append (is_of p) rs (r ∷ [])
+    filter-append (is_of_station p) rs (r ∷ [])
     ∙ (ap (λ (t : Bool). records_of p rs ++ (if t then r ∷ [] else [])) is
     ∙ append-nil (records_of p rs))
 
@@ -56,7 +56,7 @@ with_list s p rs = record {
   next = s.first + length rs;
 }
 
-ring_taken : (s : Serving) (rs : List (List ℕ)) (r : List ℕ) (p : Fields) → is_of p r ≡ true
+ring_taken : (s : Serving) (rs : List (List ℕ)) (r : List ℕ) (p : Fields) → is_of_station p r ≡ true
     → with_record (ring_of s rs p) r ≡ ring_of s (rs ++ r ∷ []) p
 ring_taken s rs r p is =
     let old : Window = ring_of s rs p in
@@ -76,7 +76,7 @@ ring_taken s rs r p is =
     }) more.next
     ∙ ap (with_list s p) (sym (records_taken p rs r is)))
 
-ring_left : (s : Serving) (rs : List (List ℕ)) (r : List ℕ) (p : Fields) → is_of p r ≡ false
+ring_left : (s : Serving) (rs : List (List ℕ)) (r : List ℕ) (p : Fields) → is_of_station p r ≡ false
     → ring_of s rs p ≡ ring_of s (rs ++ r ∷ []) p
 ring_left s rs r p is = ap (with_list s p) (sym (records_left p rs r is))
 
@@ -126,9 +126,9 @@ rings_left s rs r p (q ∷ qs) h lacks =
 rings_more : (s : Serving) (rs : List (List ℕ)) (r : List ℕ) (ps : List Fields) → Distinct ps
     → pushed (map (ring_of s rs) ps) r ≡ map (ring_of s (rs ++ r ∷ [])) ps
 rings_more s rs r [] distinct = refl
-rings_more s rs r (p ∷ ps) distinct = by_test (is_of p r) refl (rings_more s rs r ps distinct.1)
+rings_more s rs r (p ∷ ps) distinct = by_test (is_of_station p r) refl (rings_more s rs r ps distinct.1)
   where
-    by_test : (t : Bool) → is_of p r ≡ t
+    by_test : (t : Bool) → is_of_station p r ≡ t
         → pushed (map (ring_of s rs) ps) r ≡ map (ring_of s (rs ++ r ∷ [])) ps
         → pushed (map (ring_of s rs) (p ∷ ps)) r ≡ map (ring_of s (rs ++ r ∷ [])) (p ∷ ps)
     by_test true is more =
@@ -158,7 +158,7 @@ next_at_most s rs feed k w is here =
     let at : (q : Fields) × (slice_get (served s) k ≡ Some q) × (ring_of s rs q ≡ w) =
     get_mapped (ring_of s rs) (served s) k w (subst (λ (ws : List Window). slice_get ws k ≡ Some w) is here) in
     let next : s.first + length (records_of at.0 rs) ≡ w.next = ap (λ (v : Window). v.next) at.2 in
-    omega (arith, next, length-filter (is_of at.0) rs, count_by-le-length (is_of at.0) rs)
+    omega (arith, next, length-filter (is_of_station at.0) rs, count_by-le-length (is_of_station at.0) rs)
 
 pub all_of_feed : (places : List Fields) (rs : List (List ℕ)) (r : List ℕ) → AreOfFeed places rs → IsOfFeed places r
     → AreOfFeed places (rs ++ r ∷ [])

@@ -7,7 +7,7 @@ use Rattle.mseed_stream.specs.Walk.{AreAllViews, AreViews, bytes_in}
 use Rattle.mseed_stream.specs.declared.fault.StreamFault.{StreamFault}
 use Rattle.mseed_stream.specs.declared.fault.StreamFault.TheVariants.{Memory}
 use Rattle.slink_wire.specs.Place.{Fields}
-use Rattle.slink_feed.specs.Intake.{IsOfFeed, foreign_of, is_of}
+use Rattle.slink_feed.specs.Intake.{IsOfFeed, foreign_of, is_of_station}
 use Rattle.slink_feed.specs.Window.{Window, window}
 use Rattle.slink_feed.specs.declared.input.ForeignRecord.{ForeignRecord}
 use Rattle.slink_feed.specs.declared.input.InputFault.{InputFault}
@@ -20,7 +20,7 @@ served serving = map (λ p. p.0) serving.places
 
 -- the records of a place, in their order
 abbrev pub records_of : Fields → List (List ℕ) → List (List ℕ)
-records_of place records = filter (is_of place) records
+records_of place records = filter (is_of_station place) records
 
 -- A place's ring, once these records were reported: it has the last ones of its place, as many as it keeps. The first
 -- of its place had the first number.

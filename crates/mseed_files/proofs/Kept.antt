@@ -4,7 +4,7 @@ use Rattle.std.proofs.Common.{◌∙◌, arith, subst, length-append, length-dro
 use Rattle.std.proofs.lemmas.List.{drop-append-le, take-append-le}
 use Rattle.mseed_record.specs.Record.{IsRecord}
 use Rattle.mseed_stream.specs.Device.{HasRecordAt}
-use Rattle.mseed_files.specs.declared.watched.Cut.{Cut}
+use Rattle.mseed_files.specs.declared.tracked_source.Cut.{Cut}
 
 record_stays : (old new more : List ℕ) (offset size : ℕ) → new ≡ old ++ more → HasRecordAt old offset size
     → HasRecordAt new offset size

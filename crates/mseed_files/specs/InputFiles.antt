@@ -10,7 +10,7 @@ use Rattle.mseed_files.specs.declared.place.Place.{Place}
 use Rattle.mseed_files.specs.declared.reason.Reason.{Reason}
 use Rattle.mseed_stream.specs.Device.{BytesWritten}
 use Rattle.mseed_stream.specs.LineWritten.{WritesLine}
-use Rattle.mseed_files.specs.Watched.{IsRecordBefore}
+use Rattle.mseed_files.specs.TrackedSource.{IsRecordBefore}
 use Rattle.mseed_files.specs.declared.blame.Blame.{Blame}
 use Rattle.mseed_files.specs.declared.blame.Blame.TheVariants.{Nothing, Read, Fault}
 

@@ -9,5 +9,5 @@ pub mod Blame
 pub mod InputFiles
 pub mod Given
 pub mod Texts
-pub mod Watched
+pub mod TrackedSource
 pub mod private

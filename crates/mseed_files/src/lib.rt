@@ -6,7 +6,8 @@
 //! [`find_unreadable`] looks at them before anything is read. [`System`] opens the files of the system.
 //!
 //! The texts that [`texts_of`] makes of the words can be given to a parser, and [`word_of`] finds the word that one
-//! stands for. A [`Watched`] source knows where the last record is that was cut of it. [`report_blame`] reports what is
+//! stands for. A [`TrackedSource`] source knows where the last record is that was cut of it. [`report_blame`] reports
+//! what is
 //! wrong with an input, its [`Blame`], of the file in which it lies, and [`report_reason`] why a read of one failed
 //! that has no name.
 #![tactic(auto)]
@@ -25,7 +26,7 @@ mod reader;
 mod reason;
 mod system;
 mod texts;
-mod watched;
+mod tracked_source;
 
 pub use arguments::{Arguments, Process, words_of};
 pub use blame::{Blame, blame_by, blame_of};
@@ -40,4 +41,4 @@ pub use place::Place;
 pub use reason::Reason;
 pub use system::{Input, STANDARD_INPUT, System};
 pub use texts::{texts_of, word_of};
-pub use watched::Watched;
+pub use tracked_source::TrackedSource;

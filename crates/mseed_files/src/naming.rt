@@ -11,7 +11,7 @@ use crate::files::Files;
 use crate::lines::report_no_memory;
 use crate::place::Place;
 use crate::reason::Reason;
-use crate::watched::Watched;
+use crate::tracked_source::TrackedSource;
 use mseed_stream::{Sink, report};
 use mseed_text::{Line, printed_byte};
 use std::alloc::{AllocError, Global};
@@ -23,7 +23,7 @@ pub fn report_blame<E: Sink, F: Files>(
     alloc: Global,
     errors: &mut E,
     names: &[&[u8]],
-    input: &Watched<Chain<F>>,
+    input: &TrackedSource<Chain<F>>,
     blame: Blame,
 )
     ensures { ReportsBlame blame names.now input.now (E.written errors.old) (E.written errors.new) }
@@ -39,7 +39,11 @@ pub fn report_blame<E: Sink, F: Files>(
 }
 
 /// Reports why a read of an input failed that has no name, if that is what is wrong with it. The line needs no memory.
-pub fn report_reason<E: Sink, F: Files>(errors: &mut E, input: &Watched<Chain<F>>, blame: Blame)
+pub fn report_reason<E: Sink, F: Files>(
+    errors: &mut E,
+    input: &TrackedSource<Chain<F>>,
+    blame: Blame,
+)
     ensures { ReportsReason blame input.now (E.written errors.old) (E.written errors.new) }
 {
     match blame {
@@ -87,7 +91,7 @@ fn report_faulty_file<E: Sink, F: Files>(
     alloc: Global,
     errors: &mut E,
     names: &[&[u8]],
-    input: &Watched<Chain<F>>,
+    input: &TrackedSource<Chain<F>>,
     offset: u64,
 )
     ensures { ReportsFault offset names.now input.now (E.written errors.old) (E.written errors.new) }

@@ -76,7 +76,10 @@ pub instant_within : (z : ℤ) → IsInstant z → IsWithin 5_364_662_400_000_00
 instant_within (pos n) i = omega (arith, ints, i.1)
 instant_within (negsuc n) i = omega (arith, ints, i.0)
 
-pub start_back : (z : ℤ) (rest : List ℕ) → IsInstant z → Ends rest → start_at (signed_decimal z ++ rest) ≡ Some (z, rest)
+pub start_back : (z : ℤ) (rest : List ℕ) → IsInstant z → Ends rest → start_at (signed_decimal z ++ rest) ≡ Some (
+  z,
+  rest,
+)
 start_back z rest i e =
     integer_back 5_364_662_400_000_000 7_258_118_399_999_999 z rest (omega arith) (omega arith) (instant_within z i) e
 

@@ -91,7 +91,8 @@ on_way past h old now before after reported first at later Before After u step p
 
 -- the report failed at it
 pub cut_off : {A : Type 0} → (past : Bool) (expected : Option ℕ) (h now : BytesRead) (r : Reader A) (fault : JoinsFault)
-    (first at : BytesWritten) (Cuts : List Border → JoinsFault → Type 0) (Stops : List Border → JoinsFault → JoinsFault → Type 0)
+    (first at : BytesWritten) (Cuts : List Border → JoinsFault → Type 0) (Stops : List Border → JoinsFault → JoinsFault
+    → Type 0)
     → h ≡ nothing_read → IsUnderWay past h now r first at (λ found. Cuts found fault)
     → IsUnread fault past expected now first at Cuts Stops
 cut_off past expected h now r fault first at Cuts Stops begin u = record {
@@ -102,7 +103,8 @@ cut_off past expected h now r fault first at Cuts Stops begin u = record {
 
 -- no line was read
 pub none_read_yet : (past : Bool) (expected : Option ℕ) (h : BytesRead) (fault : JoinsFault)
-    (first : BytesWritten) (Cuts : List Border → JoinsFault → Type 0) (Stops : List Border → JoinsFault → JoinsFault → Type 0)
+    (first : BytesWritten) (Cuts : List Border → JoinsFault → Type 0) (Stops : List Border → JoinsFault → JoinsFault
+    → Type 0)
     → h ≡ nothing_read → Stops [] Memory fault → IsUnread fault past expected h first first Cuts Stops
 none_read_yet past expected h fault first Cuts Stops begin ends = record {
   found = [];
@@ -144,7 +146,8 @@ ended_by Memory past expected h now s r found first at begin step borders are = 
 -- the next line is bad, or can't be read
 pub stopped_at : {A : Type 0} → (past : Bool) (expected : Option ℕ) (h old now : BytesRead) (before after : Reader A)
     (ended fault : JoinsFault) (first at : BytesWritten) (Before : List Border → Type 0)
-    (Cuts : List Border → JoinsFault → Type 0) (Stops : List Border → JoinsFault → JoinsFault → Type 0) → h ≡ nothing_read
+    (Cuts : List Border → JoinsFault → Type 0) (Stops : List Border → JoinsFault → JoinsFault → Type 0) → h
+    ≡ nothing_read
     → (u : IsUnderWay past h old before first at Before) → IsNextStep {A = A} past h u.stage (Err ended) now after
     → ((found : List Border) → Before found → Stops found ended fault)
     → IsUnread fault past expected now first at Cuts Stops
@@ -197,7 +200,8 @@ counted_by Memory past expected h now s r found first at begin e f borders are =
 -- another number of parts is expected
 pub miscounted : {A : Type 0} → (past : Bool) (expected : Option ℕ) (h old now : BytesRead) (before after : Reader A)
     (ended fault : JoinsFault) (first at : BytesWritten) (Before : List Border → Type 0)
-    (Cuts : List Border → JoinsFault → Type 0) (Stops : List Border → JoinsFault → JoinsFault → Type 0) → h ≡ nothing_read
+    (Cuts : List Border → JoinsFault → Type 0) (Stops : List Border → JoinsFault → JoinsFault → Type 0) → h
+    ≡ nothing_read
     → (u : IsUnderWay past h old before first at Before) → HasEnded past h now u.stage after
     → IsFinished {A = A} after.joint expected (Err ended)
     → ((found : List Border) → Before found → Stops found ended fault)

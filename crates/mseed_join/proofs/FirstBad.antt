@@ -1,6 +1,7 @@
 -- The first field of a line that isn't by the grammar.
 use Rattle.std.proofs.Common.{◌≡◌, ◌≢◌, ℕ, zero, suc, ◌-◌, ◌^◌, ◌<◌, ◌≤◌, ◌&&◌, ◌||◌, nat_lt, List, [], ◌∷◌, ◌++◌}
-use Rattle.std.proofs.Common.{Bool, true, false, cond, Option, Some, None, IfSome, length, take, drop, ℤ, pos, refl, sym}
+use Rattle.std.proofs.Common.{Bool, true, false, cond, Option, Some, None, IfSome, length, take, drop, ℤ, pos, refl}
+use Rattle.std.proofs.Common.{sym}
 use Rattle.std.proofs.Common.{ap, ◌∙◌, subst, arith, inl, inr, append-nil}
 use Rattle.std.specs.Prelude.{decimal, codes, is_some, nat_eq}
 use Rattle.std.specs.Cmp.Lexicographic.{pointwise}
@@ -362,13 +363,20 @@ abbrev one : Ratio
 one = record { num = 1; den = 1 }
 
 rate_one : IsRatio one
-rate_one = record { num_counts = omega arith; num_bound = omega arith; den_counts = omega arith; den_bound = omega arith }
+rate_one = record {
+  num_counts = omega arith;
+  num_bound = omega arith;
+  den_counts = omega arith;
+  den_bound = omega
+      arith;
+}
 
 tail_differs : (t : Tail) (z : List ℕ) → HasTail t
     → past_word (codes " tail none") (codes " tail " ++ (signed_decimal t.start ++ z)) ≡ None
 unfolding past_word
 tail_differs t z fits =
-    rw (after_prefix (codes " tail ") (codes "none") (signed_decimal t.start ++ z) ∙ integer_no_word t.start z fits.start)
+    rw (after_prefix (codes " tail ") (codes "none") (signed_decimal t.start ++ z) ∙
+    integer_no_word t.start z fits.start)
     refl
 
 abbrev tail : ℤ → ℕ → Ratio → Leap → Tail
@@ -397,7 +405,8 @@ module _ (line : List ℕ) (has : Bool) (m : Reached line (to_head to_head_rate)
   abbrev good_tail : (part : Tail → List ℕ → List ℕ) (t : Option Tail) → IfSome t HasTail → (rest : List ℕ)
       → ends_field rest ≡ true → bytes ≡ codes " tail " ++ or_none part t rest → BeginsAsChannel (to_tail part) line
   good_tail part t fits rest ends is =
-      good_with line (to_tail part) m.good.key m.good.channel (findings_to t) rest m.good.has_line (findings_fit t fits) ends
+      good_with line (to_tail part) m.good.key m.good.channel (findings_to t) rest m.good.has_line
+      (findings_fit t fits) ends
       (m.good.is ∙ ap (λ (z : List ℕ). to_head to_head_rate m.good.key m.good.channel z) is)
 
   at_tail : (part : Tail → List ℕ → List ℕ) (x : List ℕ × Channel) (rest : List ℕ) → HasLine x
@@ -411,7 +420,19 @@ module _ (line : List ℕ) (has : Bool) (m : Reached line (to_head to_head_rate)
       let w = word_past (codes " tail none") bytes r e in
       let good : (part : Tail → List ℕ → List ℕ) → BeginsAsChannel (to_tail part) line =
       λ part. good_tail part None tt r w.1 w.0 in
-      inr (good to_tail_start, inr (good to_tail_samples, inr (good to_tail_rate, inr (good to_tail_leap, first_from_findings line false reached never))))
+      inr (
+        good to_tail_start,
+        inr (
+          good to_tail_samples,
+          inr (
+            good to_tail_rate,
+            inr (
+              good to_tail_leap,
+              first_from_findings line false reached never,
+            ),
+          ),
+        ),
+      )
     where
       by : (o : Option Tail) (rest : List ℕ) → IfSome o HasTail → ends_field rest ≡ true
           → codes " tail " ++ or_none to_tail_leap o rest ≡ bytes → (rest ≡ r) × (is_some o ≡ false)
@@ -441,7 +462,8 @@ module _ (line : List ℕ) (has : Bool) (m : Reached line (to_head to_head_rate)
       step HasTail line bytes TailStart (TailSamples ∷ TailRate ∷ TailLeap ∷ InFindings ∷ First ∷ []) (λ t rest. rest)
       bytes _ (start_field (codes " tail ")) (λ t. t.start) (λ t h. h.start) (λ z. refl)
       (λ t rest fits ends is. sym is) (tail_of to_tail_start) (λ a s only1. (
-        good_tail to_tail_start (Some (tail s.x 1 one NoLeap)) (tail_fits s.x 1 one NoLeap s.fits samples_one rate_one) a
+        good_tail to_tail_start (Some (tail s.x 1 one NoLeap)) (tail_fits s.x 1 one NoLeap s.fits samples_one rate_one)
+            a
             s.ends s.is,
         step HasTail line bytes TailSamples (TailRate ∷ TailLeap ∷ InFindings ∷ First ∷ [])
             (λ t rest. codes " tail " ++ to_tail_start t rest) a _ samples_field (λ t. t.samples)
@@ -452,7 +474,8 @@ module _ (line : List ℕ) (has : Bool) (m : Reached line (to_head to_head_rate)
               step HasTail line bytes TailRate (TailLeap ∷ InFindings ∷ First ∷ [])
                   (λ t rest. codes " tail " ++ to_tail_samples t rest) b _ rate_field (λ t. t.rate) (λ t h. h.rate)
                   (λ z. refl) only2 (tail_of to_tail_rate) (λ c q only3.
-                  let is3 = is2 ∙ ap (λ (z : List ℕ). codes " tail " ++ to_tail_samples (tail s.x n.x q.x NoLeap) z) q.is
+                  let is3 = is2 ∙ ap (λ (z : List ℕ). codes " tail " ++ to_tail_samples (tail s.x n.x q.x NoLeap) z)
+                  q.is
                   in (
                     good_tail to_tail_rate (Some (tail s.x n.x q.x NoLeap))
                         (tail_fits s.x n.x q.x NoLeap s.fits n.fits q.fits) c q.ends is3,
@@ -494,7 +517,8 @@ module _ (line : List ℕ) (has : Bool) (m : Reached line (to_head to_head_rate)
         own = m.own;
         only = λ x rest h end same.
             let there = at_tail to_tail_leap x rest h same in
-            let u = of_some to_tail_leap (tail_in x.1.findings) rest (ends_fit x.1.findings h.findings).1 end there.0 in (
+            let u = of_some to_tail_leap (tail_in x.1.findings) rest
+            (ends_fit x.1.findings h.findings).1 end there.0 in (
               only u.0 rest u.1.1.0 end u.1.1.1,
               ap (λ (o : Option Tail). is_some o && has_head x.1) u.1.0 ∙ there.1,
             );
@@ -545,7 +569,8 @@ module _ (line : List ℕ) (m : Reached line to_samples (λ c. Unit {0}))
   abbrev good_head : (part : Head → List ℕ → List ℕ) (h : Option Head) → IfSome h HasHead → (rest : List ℕ)
       → ends_field rest ≡ true → left ≡ codes " head " ++ or_none part h rest → BeginsAsChannel (to_head part) line
   good_head part h fits rest ends is =
-      good_with line (to_head part) m.good.key m.good.channel (findings_with h) rest m.good.has_line (findings_are h fits) ends
+      good_with line (to_head part) m.good.key m.good.channel (findings_with h) rest m.good.has_line
+      (findings_are h fits) ends
       (m.good.is ∙ ap (λ (z : List ℕ). to_samples m.good.key m.good.channel z) is)
 
   at_head : (part : Head → List ℕ → List ℕ) (x : List ℕ × Channel) (rest : List ℕ) → HasLine x
@@ -559,7 +584,19 @@ module _ (line : List ℕ) (m : Reached line to_samples (λ c. Unit {0}))
       let w = word_past (codes " head none") left r e in
       let good : (part : Head → List ℕ → List ℕ) → BeginsAsChannel (to_head part) line =
       λ part. good_head part None tt r w.1 w.0 in
-      inr (good to_head_number, inr (good to_head_offset, inr (good to_head_start, inr (good to_head_rate, first_from_tail line false reached never))))
+      inr (
+        good to_head_number,
+        inr (
+          good to_head_offset,
+          inr (
+            good to_head_start,
+            inr (
+              good to_head_rate,
+              first_from_tail line false reached never,
+            ),
+          ),
+        ),
+      )
     where
       by : (o : Option Head) (rest : List ℕ) → IfSome o HasHead → ends_field rest ≡ true
           → codes " head " ++ or_none to_head_rate o rest ≡ left → (rest ≡ r) × (is_some o ≡ false)
@@ -598,7 +635,8 @@ module _ (line : List ℕ) (m : Reached line to_samples (λ c. Unit {0}))
               step HasHead line left HeadStart (HeadRate ∷ tail_fields)
                   (λ h rest. codes " head " ++ to_head_offset h rest) b _ (start_field (codes " ")) (λ h. h.start)
                   (λ h l. l.start) (λ z. refl) only2 (head_of to_head_start) (λ c s only3.
-                  let is3 = is2 ∙ ap (λ (z : List ℕ). codes " head " ++ to_head_offset (head n.x o.x s.x one) z) s.is in (
+                  let is3 = is2 ∙ ap (λ (z : List ℕ). codes " head " ++ to_head_offset (head n.x o.x s.x one) z)
+                  s.is in (
                     good_head to_head_start (Some (head n.x o.x s.x one))
                         (head_fits n.x o.x s.x one n.fits o.fits s.fits rate_one) c s.ends is3,
                     step HasHead line left HeadRate tail_fields (λ h rest. codes " head " ++ to_head_start h rest) c _

@@ -14,7 +14,7 @@ use Rattle.mseed_audit.specs.declared.finding.Finding.{Finding}
 use Rattle.mseed_audit.specs.declared.finding.Why.{Why}
 use Rattle.mseed_audit.specs.declared.tail.Tail.{Tail}
 use Rattle.mseed_audit.specs.Audit.{IsHeadOf, Stands, StandsAt, break_by, head_in, tail_in}
-use Rattle.mseed_audit.specs.Channels.{Placed, added_from, is_of, numbered, records_of, same_key}
+use Rattle.mseed_audit.specs.Channels.{Placed, added_from, is_of_channel, numbered, records_of, same_key}
 use Rattle.mseed_audit.specs.Judging.{rate_in, rate_unless, time_fault_of}
 use Rattle.mseed_audit.specs.Reported.{Reported, AreReportedOf, last_of, reported_with}
 use Rattle.mseed_audit.proofs.Maps.{same_is}
@@ -178,14 +178,15 @@ reported_joined only key (Some c) (Some o) ps qs reported further s t keys are m
 
 -- the first record of a channel has its key
 first_with : (key : List ℕ) (ps : List Placed) (q : Placed) (rest : List Placed)
-    → filter (λ p. is_of key p.view) ps ≡ q ∷ rest → is_of key q.view ≡ true
+    → filter (λ p. is_of_channel key p.view) ps ≡ q ∷ rest → is_of_channel key q.view ≡ true
 first_with key [] q rest e = cc (e)
-first_with key (p ∷ ps) q rest e = by (is_of key p.view) refl e (λ k. first_with key ps q rest k)
+first_with key (p ∷ ps) q rest e = by (is_of_channel key p.view) refl e (λ k. first_with key ps q rest k)
   where
-    by : (b : Bool) → is_of key p.view ≡ b
-        → cond b (p ∷ filter (λ r. is_of key r.view) ps) (filter (λ r. is_of key r.view) ps) ≡ q ∷ rest
-        → (filter (λ r. is_of key r.view) ps ≡ q ∷ rest → is_of key q.view ≡ true) → is_of key q.view ≡ true
-    by true h k later = let same : p ≡ q = cc (k) in ap (λ (r : Placed). is_of key r.view) (sym same) ∙ h
+    by : (b : Bool) → is_of_channel key p.view ≡ b
+        → cond b (p ∷ filter (λ r. is_of_channel key r.view) ps) (filter (λ r. is_of_channel key r.view) ps) ≡ q ∷ rest
+        → (filter (λ r. is_of_channel key r.view) ps ≡ q ∷ rest → is_of_channel key q.view ≡ true)
+        → is_of_channel key q.view ≡ true
+    by true h k later = let same : p ≡ q = cc (k) in ap (λ (r : Placed). is_of_channel key r.view) (sym same) ∙ h
     by false h k later = later k
 
 moved_first : (key : List ℕ) (d e : ℕ) (ps : List Placed)

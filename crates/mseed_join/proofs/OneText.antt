@@ -4,7 +4,8 @@ use Rattle.mseed_join.specs.Lines.{Line}
 use Rattle.mseed_join.specs.Reached.{Stage, parts_at, start}
 use Rattle.mseed_join.specs.Written.{Written, Spells}
 use Rattle.mseed_join.specs.private.Steps.{to}
-use Rattle.mseed_join.proofs.Machine.{AreAll, Runs, all_rows, first_same, lines_text, nothing_first, texts_all, texts_are}
+use Rattle.mseed_join.proofs.Machine.{AreAll, Runs, all_rows, first_same, lines_text, nothing_first, texts_all}
+use Rattle.mseed_join.proofs.Machine.{texts_are}
 use Rattle.mseed_join.proofs.Running.{all_run}
 
 -- lines one after another
@@ -31,5 +32,6 @@ text_one bytes ws vs p q =
     let a = all_run ws p.each in
     let b = all_run vs q.each in
     sym a.1.1
-    ∙ ap parts_at (runs_one start a.0 b.0 (all_rows vs) (subst (λ (xs : List Line). Runs start xs a.0) same a.1.0) b.1.0)
+    ∙ ap parts_at (runs_one start a.0 b.0 (all_rows vs) (subst (λ (xs : List Line). Runs start xs a.0) same a.1.0)
+    b.1.0)
     ∙ b.1.1

@@ -5,7 +5,7 @@ use Rattle.std.proofs.lemmas.List.{map-append}
 use Rattle.std.proofs.lemmas.List.Elements.{filter-append}
 use Rattle.std.specs.List.{filter}
 use Rattle.mseed_record.specs.View.{View}
-use Rattle.mseed_audit.specs.Channels.{Placed, numbered, is_of, records_of, added_from}
+use Rattle.mseed_audit.specs.Channels.{Placed, numbered, is_of_channel, records_of, added_from}
 use Rattle.mseed_join.specs.Parts.{bytes_in}
 
 -- a record after so many more records and bytes
@@ -75,7 +75,7 @@ filter_map_same {X} {Y} f p q same (x ∷ xs) =
 pub records_append : (key : List ℕ) (xs ys : List View) → records_of key (added_from 0 (xs ++ ys))
     ≡ records_of key (added_from 0 xs) ++ map (moved (length xs) (bytes_in xs)) (records_of key (added_from 0 ys))
 records_append key xs ys =
-    let test : Placed → Bool = λ p. is_of key p.view in
+    let test : Placed → Bool = λ p. is_of_channel key p.view in
     ap (λ (ps : List Placed). filter test ps) (placed_after xs ys)
     ∙ filter-append test (placed 1 0 xs) (map (moved (length xs) (bytes_in xs)) (placed 1 0 ys))
     ∙ ap (λ (ps : List Placed). filter test (placed 1 0 xs) ++ ps)

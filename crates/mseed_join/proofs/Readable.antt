@@ -43,7 +43,7 @@ use Rattle.mseed_audit.specs.declared.finding.Finding.{Finding}
 use Rattle.mseed_audit.specs.declared.finding.Why.{Why}
 use Rattle.mseed_audit.specs.declared.tail.Tail.{Tail}
 use Rattle.mseed_audit.specs.Audit.{AreCounted, IsHead, IsHeadOf, IsTail, IsTailOf, Stands, StandsAt, head_in, tail_in}
-use Rattle.mseed_audit.specs.Channels.{Placed, added_from, is_of, numbered, records_of, same_key, sample_count}
+use Rattle.mseed_audit.specs.Channels.{Placed, added_from, is_of_channel, numbered, records_of, same_key, sample_count}
 use Rattle.mseed_audit.specs.Verdict.{AreFindings, finding_at, none, one}
 use Rattle.mseed_audit.proofs.Maps.{same_is, same_itself}
 use Rattle.mseed_audit.proofs.Outcomes.{numbered_length}
@@ -80,7 +80,8 @@ pub record IsOne (key : List ℕ) (n size : ℕ) (p : Placed) : Type 0 where
   pub some : 0 < count_of p.view
   pub key_is : key ≡ key_at p.view.bytes
 
-one_of : (key : List ℕ) (n size : ℕ) (p : Placed) → IsPlaced n size p → is_of key p.view ≡ true → IsOne key n size p
+one_of : (key : List ℕ) (n size : ℕ) (p : Placed) → IsPlaced n size p → is_of_channel key p.view ≡ true
+    → IsOne key n size p
 one_of key n size p placed e =
     let both = and_parts (ltb 0 (count_of p.view)) (same_key key (key_at p.view.bytes)) e in
     record {
@@ -90,14 +91,14 @@ one_of key n size p placed e =
     }
 
 all_ones : (key : List ℕ) (n size : ℕ) (ps : List Placed) → AllByRecursion (IsPlaced n size) ps
-    → AllByRecursion (IsOne key n size) (filter (λ p. is_of key p.view) ps)
+    → AllByRecursion (IsOne key n size) (filter (λ p. is_of_channel key p.view) ps)
 all_ones key n size [] h = tt
-all_ones key n size (p ∷ ps) h = by (is_of key p.view) refl (all_ones key n size ps h.1)
+all_ones key n size (p ∷ ps) h = by (is_of_channel key p.view) refl (all_ones key n size ps h.1)
   where
-    by : (b : Bool) → is_of key p.view ≡ b
-        → AllByRecursion (IsOne key n size) (filter (λ p. is_of key p.view) ps)
+    by : (b : Bool) → is_of_channel key p.view ≡ b
+        → AllByRecursion (IsOne key n size) (filter (λ p. is_of_channel key p.view) ps)
         → AllByRecursion (IsOne key n size)
-        (cond b (p ∷ filter (λ p. is_of key p.view) ps) (filter (λ p. is_of key p.view) ps))
+        (cond b (p ∷ filter (λ p. is_of_channel key p.view) ps) (filter (λ p. is_of_channel key p.view) ps))
     by true e rest = (one_of key n size p h.0 e, rest)
     by false e rest = rest
 
@@ -111,7 +112,7 @@ ones_of key size views all fits =
 pub count_of_key : (key : List ℕ) (views : List View) → length (records_of key (added_from 0 views)) ≤ length views
 count_of_key key views =
     let ps : List Placed = numbered 1 (added_from 0 views) in
-    let test : Placed → Bool = λ p. is_of key p.view in
+    let test : Placed → Bool = λ p. is_of_channel key p.view in
     omega (
       arith,
       length-filter test ps,

@@ -157,7 +157,8 @@ within_instant : (z : ℤ) → IsWithin 5_364_662_400_000_000 7_258_118_399_999_
 within_instant (pos n) l = (omega (arith, ints, l), omega (arith, ints, l))
 within_instant (negsuc n) l = (omega (arith, ints, l), omega (arith, ints, l))
 
-pub start_spelled : (bytes : List ℕ) (y : ℤ × List ℕ) → start_at bytes ≡ Some y → IsRead signed_decimal IsInstant bytes y
+pub start_spelled : (bytes : List ℕ) (y : ℤ × List ℕ) → start_at bytes ≡ Some y
+    → IsRead signed_decimal IsInstant bytes y
 start_spelled bytes y e =
     let i : IsInteger 5_364_662_400_000_000 7_258_118_399_999_999 bytes y =
     integer_after 5_364_662_400_000_000 7_258_118_399_999_999 bytes y (omega arith) (omega arith) e in

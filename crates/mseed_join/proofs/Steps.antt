@@ -353,7 +353,8 @@ pub fault_skipped : {A : Type 0} → (old : Joint A) (f : StreamFault) → old.s
     → May s.last (fault l x) → IsTaken lines (text_of_line (fault l x)) s (to s (fault l x)) Nothing old
     (placed old Start)
 fault_skipped old f e l x lines s r is m =
-    skipped_line old f e (fault l x) Start lines s r is m tt (fault_place s.over s.last l x (onward s.last (fault l x) m))
+    skipped_line old f e (fault l x) Start lines s r is m tt (fault_place s.over s.last l x (onward s.last (fault l x)
+    m))
     (fault_silent old.past s.over s.last l x (not_past old.past refl))
   where
     not_past : (past : Bool) → old.past ≡ past → old.past ≡ false

@@ -76,7 +76,8 @@ pub record IsFailed (past : Bool) (h : BytesRead) (s new : BytesWritten) : Type 
 abbrev pub IsReadOutcome : {A : Type 0} → Result (JointPart A) JoinsFault → Bool → Option ℕ → BytesRead → BytesWritten
     → BytesWritten → Type 0
 IsReadOutcome (Ok joint) past expected h s new = IsRead past expected h (written_of joint) s new
-IsReadOutcome (Err (Line k offset flaw)) past expected h s new = AreBadParts past h.bytes h.is_at_end k offset flaw s new
+IsReadOutcome (Err (Line k offset flaw)) past expected h s new = AreBadParts past h.bytes h.is_at_end k offset flaw s
+    new
 IsReadOutcome (Err (Count parts due)) past expected h s new =
     (h.is_at_end ≡ true) × AreMiscounted past expected h.bytes parts due s new
 IsReadOutcome (Err (Stream fault)) past expected h s new = IsStreamFault fault nothing_read h × IsFailed past h s new

@@ -12,7 +12,7 @@ use Rattle.std.proofs.lemmas.Map.Lookups.{exact_bytes}
 use Rattle.mseed_record.specs.Header.{key_at}
 use Rattle.mseed_record.specs.View.{View, IsView}
 use Rattle.mseed_steim.specs.Reading.{count_of}
-use Rattle.mseed_audit.specs.Channels.{Placed, added_from, is_of, numbered, same_key, views_in}
+use Rattle.mseed_audit.specs.Channels.{Placed, added_from, is_of_channel, numbered, same_key, views_in}
 use Rattle.mseed_pack.specs.ReadBack.{AreApart, AreViewsOf, Packed, ReadsAs, StandsIn, records_of_all}
 use Rattle.mseed_pack.proofs.Followed.{bytes_in}
 
@@ -25,42 +25,45 @@ same_is : (key other : List ℕ) → same_key key other ≡ true → key ≡ oth
 same_is key other e = exact_bytes key other (equal_from (slice_cmp nat_cmp key other) e)
 
 -- a record is of one channel at most
-pub key_of : (key : List ℕ) (v : View) → is_of key v ≡ true → key ≡ key_at v.bytes
+pub key_of : (key : List ℕ) (v : View) → is_of_channel key v ≡ true → key ≡ key_at v.bytes
 key_of key v e = same_is key (key_at v.bytes) (and_parts (nat_lt 0 (count_of v)) (same_key key (key_at v.bytes)) e).1
 
-not_of : (key other : List ℕ) (v : View) → key ≢ other → is_of key v ≡ true → is_of other v ≡ false
-not_of key other v apart e = by (is_of other v) refl
+not_of : (key other : List ℕ) (v : View) → key ≢ other → is_of_channel key v ≡ true → is_of_channel other v ≡ false
+not_of key other v apart e = by (is_of_channel other v) refl
   where
-    by : (b : Bool) → is_of other v ≡ b → is_of other v ≡ false
+    by : (b : Bool) → is_of_channel other v ≡ b → is_of_channel other v ≡ false
     by true f = absurd (apart (key_of key v e ∙ sym (key_of other v f)))
     by false f = f
 
 -- the channel's records by their views
 pub views_filtered : (key : List ℕ) (n offset : ℕ) (vs : List View)
-    → views_in (filter (λ (p : Placed). is_of key p.view) (numbered n (added_from offset vs))) ≡ filter (is_of key) vs
+    → views_in (filter (λ (p : Placed). is_of_channel key p.view) (numbered n (added_from offset vs))) ≡ filter
+    (is_of_channel key) vs
 views_filtered key n offset [] = refl
-views_filtered key n offset (v ∷ vs) = by (is_of key v) (views_filtered key (n + 1) (offset + length v.bytes) vs)
+views_filtered key n offset (v ∷ vs) = by (is_of_channel key v) (views_filtered key (n + 1) (offset + length v.bytes)
+    vs)
   where
     by : (b : Bool) → views_in
-        (filter (λ (p : Placed). is_of key p.view) (numbered (n + 1) (added_from (offset + length v.bytes) vs)))
-        ≡ filter (is_of key) vs
+        (filter (λ (p : Placed). is_of_channel key p.view) (numbered (n + 1) (added_from (offset + length v.bytes) vs)))
+        ≡ filter (is_of_channel key) vs
         → views_in (cond b (record { view = v; offset = offset; number = n } ∷ filter
-        (λ (p : Placed). is_of key p.view) (numbered (n + 1) (added_from (offset + length v.bytes) vs)))
-        (filter (λ (p : Placed). is_of key p.view) (numbered (n + 1) (added_from (offset + length v.bytes) vs))))
-        ≡ cond b (v ∷ filter (is_of key) vs) (filter (is_of key) vs)
+        (λ (p : Placed). is_of_channel key p.view) (numbered (n + 1) (added_from (offset + length v.bytes) vs)))
+        (filter (λ (p : Placed). is_of_channel key p.view) (numbered (n + 1) (added_from (offset + length v.bytes)
+        vs))))
+        ≡ cond b (v ∷ filter (is_of_channel key) vs) (filter (is_of_channel key) vs)
     by true rest = ap (λ (us : List View). v ∷ us) rest
     by false rest = rest
 
-pub all_kept : (key : List ℕ) (vs : List View) → AllByRecursion (λ (v : View). IsTrue (is_of key v)) vs
-    → filter (is_of key) vs ≡ vs
+pub all_kept : (key : List ℕ) (vs : List View) → AllByRecursion (λ (v : View). IsTrue (is_of_channel key v)) vs
+    → filter (is_of_channel key) vs ≡ vs
 all_kept key [] h = refl
-all_kept key (v ∷ vs) h = let here : is_of key v ≡ true = h.0 in
+all_kept key (v ∷ vs) h = let here : is_of_channel key v ≡ true = h.0 in
     rw here (ap (λ (us : List View). v ∷ us) (all_kept key vs h.1))
 
 none_kept : (key other : List ℕ) (vs : List View) → key ≢ other
-    → AllByRecursion (λ (v : View). IsTrue (is_of key v)) vs → filter (is_of other) vs ≡ []
+    → AllByRecursion (λ (v : View). IsTrue (is_of_channel key v)) vs → filter (is_of_channel other) vs ≡ []
 none_kept key other [] apart h = refl
-none_kept key other (v ∷ vs) apart h = let here : is_of other v ≡ false = not_of key other v apart h.0 in
+none_kept key other (v ∷ vs) apart h = let here : is_of_channel other v ≡ false = not_of key other v apart h.0 in
     rw here (none_kept key other vs apart h.1)
 
 -- views are cut where their records are
@@ -95,44 +98,46 @@ halves (x ∷ xs) ys (v ∷ vs) e h =
 
 -- the records of a packed series are of its channel
 of_channel : (p : Packed) (vs : List View) → ReadsAs p.series p.records → AreViewsOf p.records vs
-    → AllByRecursion (λ (v : View). IsTrue (is_of p.series.codes v)) vs
+    → AllByRecursion (λ (v : View). IsTrue (is_of_channel p.series.codes v)) vs
 of_channel p vs reads are =
-    subst (λ (us : List View). AllByRecursion (λ (v : View). IsTrue (is_of p.series.codes v)) us)
+    subst (λ (us : List View). AllByRecursion (λ (v : View). IsTrue (is_of_channel p.series.codes v)) us)
     (sym (reads.only vs are)) reads.channel
 
 -- none of those of others is of another channel
 pub others_gone : (key : List ℕ) (packed : List Packed) (vs : List View)
     → AllByRecursion (λ (p : Packed). ReadsAs p.series p.records) packed
     → AllByRecursion (λ (q : Packed). q.series.codes ≢ key) packed → AreViewsOf (records_of_all packed) vs
-    → filter (is_of key) vs ≡ []
+    → filter (is_of_channel key) vs ≡ []
 others_gone key [] [] reads apart are = refl
 others_gone key [] (v ∷ vs) reads apart are = let e = are.bytes in cc
 others_gone key (p ∷ ps) vs reads apart are =
     let cut = halves p.records (records_of_all ps) vs are.bytes are.each in
     let first = none_kept p.series.codes key cut.prefix apart.0 (of_channel p cut.prefix reads.0 cut.first) in
     let second = others_gone key ps cut.back reads.1 apart.1 cut.second in
-    ap (λ (us : List View). filter (is_of key) us) cut.parts ∙ filter-append (is_of key) cut.prefix cut.back
+    ap (λ (us : List View). filter (is_of_channel key) us) cut.parts ∙ filter-append (is_of_channel key)
+    cut.prefix cut.back
     ∙ (λ i. first i ++ second i)
 
 -- where nothing before it is of these channels
 abbrev Gone : List View → List Packed → Type 0
-Gone prefix packed = AllByRecursion (λ (p : Packed). filter (is_of p.series.codes) prefix ≡ []) packed
+Gone prefix packed = AllByRecursion (λ (p : Packed). filter (is_of_channel p.series.codes) prefix ≡ []) packed
 
 gone_more : (key : List ℕ) (prefix more : List View) (packed : List Packed) → Gone prefix packed
-    → AllByRecursion (λ (v : View). IsTrue (is_of key v)) more
+    → AllByRecursion (λ (v : View). IsTrue (is_of_channel key v)) more
     → AllByRecursion (λ (q : Packed). q.series.codes ≢ key) packed → Gone (prefix ++ more) packed
 gone_more key prefix more [] gone of_key apart = tt
 gone_more key prefix more (q ∷ qs) gone of_key apart =
     let second = none_kept key q.series.codes more (λ e. apart.0 (sym e)) of_key in
     let first = gone.0 in (
-      filter-append (is_of q.series.codes) prefix more ∙ (λ i. first i ++ second i),
+      filter-append (is_of_channel q.series.codes) prefix more ∙ (λ i. first i ++ second i),
       gone_more key prefix more qs gone.1 of_key apart.1,
     )
 
 stand : (prefix : List View) (packed : List Packed) (vs : List View) → Gone prefix packed
     → AllByRecursion (λ (p : Packed). ReadsAs p.series p.records) packed → AreApart packed
     → AreViewsOf (records_of_all packed) vs
-    → AllByRecursion (λ (p : Packed). AreViewsOf p.records (filter (is_of p.series.codes) (prefix ++ vs))) packed
+    → AllByRecursion (λ (p : Packed). AreViewsOf p.records (filter (is_of_channel p.series.codes) (prefix ++ vs)))
+    packed
 stand prefix [] vs gone reads apart are = tt
 stand prefix (p ∷ ps) vs gone reads apart are =
     let key = p.series.codes in
@@ -141,10 +146,12 @@ stand prefix (p ∷ ps) vs gone reads apart are =
     let kept = all_kept key cut.prefix of_key in
     let others = others_gone key ps cut.back reads.1 apart.0 cut.second in
     let first = gone.0 in
-    let own : filter (is_of key) (prefix ++ vs) ≡ cut.prefix =
-    filter-append (is_of key) prefix vs ∙ ap (λ (us : List View). filter (is_of key) prefix ++ filter (is_of key) us)
+    let own : filter (is_of_channel key) (prefix ++ vs) ≡ cut.prefix =
+    filter-append (is_of_channel key) prefix vs ∙ ap (λ (us : List View). filter (is_of_channel key) prefix ++ filter
+    (is_of_channel key) us)
     cut.parts
-    ∙ ap (λ (us : List View). filter (is_of key) prefix ++ us) (filter-append (is_of key) cut.prefix cut.back)
+    ∙ ap (λ (us : List View). filter (is_of_channel key) prefix ++ us) (filter-append (is_of_channel key)
+    cut.prefix cut.back)
     ∙ (λ i. first i ++ (kept i ++ others i)) ∙ append-nil cut.prefix in
     let rest = stand (prefix ++ cut.prefix) ps cut.back (gone_more key prefix cut.prefix ps gone.1 of_key apart.0)
     reads.1 apart.1 cut.second in
@@ -152,7 +159,7 @@ stand prefix (p ∷ ps) vs gone reads apart are =
     ∙ ap (λ (us : List View). prefix ++ us) (sym cut.parts) in (
       subst (λ (us : List View). AreViewsOf p.records us) (sym own) cut.first,
       subst (λ (us : List View). AllByRecursion
-          (λ (q : Packed). AreViewsOf q.records (filter (is_of q.series.codes) us)) ps) whole rest,
+          (λ (q : Packed). AreViewsOf q.records (filter (is_of_channel q.series.codes) us)) ps) whole rest,
     )
 
 nothing_in_prefix : (packed : List Packed) → Gone [] packed
@@ -160,7 +167,7 @@ nothing_in_prefix [] = tt
 nothing_in_prefix (p ∷ ps) = (refl, nothing_in_prefix ps)
 
 placed : (packed : List Packed) (vs : List View)
-    → AllByRecursion (λ (p : Packed). AreViewsOf p.records (filter (is_of p.series.codes) vs)) packed
+    → AllByRecursion (λ (p : Packed). AreViewsOf p.records (filter (is_of_channel p.series.codes) vs)) packed
     → AllByRecursion (StandsIn vs) packed
 placed [] vs h = tt
 placed (p ∷ ps) vs h = (

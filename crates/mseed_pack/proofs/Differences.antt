@@ -11,7 +11,7 @@ use Rattle.std.proofs.lemmas.List.{get_or-set_other}
 use Rattle.std.proofs.lemmas.List.Elements.{All-get_or}
 use Rattle.mseed_steim.specs.Spelling.{IsWithin}
 use Rattle.mseed_steim.specs.Samples.{differences_from}
-use Rattle.mseed_pack.specs.private.Marks.{sample_before}
+use Rattle.mseed_pack.specs.private.KnownSamples.{sample_before}
 use Rattle.mseed_pack.specs.Stretches.{differences}
 
 from_at : (before : ℤ) (xs : List ℤ) (i : ℕ) → i < length xs

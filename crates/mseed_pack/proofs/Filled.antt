@@ -15,9 +15,9 @@ use Rattle.mseed_steim.proofs.Widths.{within_wider}
 use Rattle.mseed_steim_pack.specs.Packed.{IsRunPacked}
 use Rattle.mseed_steim_pack.specs.Packing.{IsEmptyWord, PacksRun}
 use Rattle.mseed_steim_pack.proofs.Packs.{rest_shorter}
-use Rattle.mseed_pack.specs.declared.payload.Left.{Left}
+use Rattle.mseed_pack.specs.declared.payload.Remaining.{Remaining}
 use Rattle.mseed_pack.specs.declared.window.Window.{Window}
-use Rattle.mseed_pack.specs.private.Filling.{AreFrames, AreLeft, AreSet, AreTaken, HoldsDifferences}
+use Rattle.mseed_pack.specs.private.Filling.{AreFrames, AreRemaining, AreSet, AreTaken, HoldsDifferences}
 use Rattle.mseed_pack.specs.private.Filling.{width_of}
 use Rattle.mseed_pack.specs.Packing.{HoldsFrames}
 use Rattle.mseed_pack.specs.Stretches.{differences}
@@ -154,7 +154,7 @@ used_seven s xs first end until used words p f =
     let fits = f.used_fits in
     omega (arith, run, fits, count, length-drop used part)
 
-pub taken_of : (s : Scheme) (xs : List ℤ) (l : Left) (until used words : ℕ) (p : List ℕ)
+pub taken_of : (s : Scheme) (xs : List ℤ) (l : Remaining) (until used words : ℕ) (p : List ℕ)
     → Fills s xs l.first l.end until used words p → length p ≤ 4032 → AreTaken l used
 taken_of s xs l until used words p f short =
     let some = some_used_of s xs l.first l.end until used words p f in
@@ -223,8 +223,8 @@ holds s xs first end until used words p q f size set =
     }
 
 -- by what packing answered
-pub fills_by : (s : Scheme) (xs : List ℤ) (l : Left) (until used words : ℕ) (old p : List ℕ) (ds : List ℤ)
-    → AreLeft xs l → AreFrames old → ds ≡ slice_range (differences xs) l.first until → until ≤ l.end
+pub fills_by : (s : Scheme) (xs : List ℤ) (l : Remaining) (until used words : ℕ) (old p : List ℕ) (ds : List ℤ)
+    → AreRemaining xs l → AreFrames old → ds ≡ slice_range (differences xs) l.first until → until ≤ l.end
     → (until ≡ l.end) ⊎ (l.first + 7 * (length old / 4) ≤ until) → length p ≡ length old
     → IsRunPacked s ds p (Ok (record { used = used; words = words })) → Fills s xs l.first l.end until used words p
 fills_by s xs l until used words old p ds left frames e most enough size run =
@@ -252,7 +252,8 @@ held_enough all held few until high is = ⊎_elim
     (cases_lt held all)
 
 -- the same, of what a window holds of the samples that are left
-pub fills_from : (s : Scheme) (xs : List ℤ) (l : Left) (w : Window) (end used words : ℕ) (old p : List ℕ) → AreLeft xs l
+pub fills_from : (s : Scheme) (xs : List ℤ) (l : Remaining) (w : Window) (end used words : ℕ) (old p : List ℕ)
+    → AreRemaining xs l
     → AreFrames old → HoldsDifferences xs w → w.first ≤ l.first → min l.end (l.first + 7 * (length old / 4)) ≤ w.end
     → length w.differences ≡ 7056 → end ≡ min l.end w.end → length p ≡ length old
     → IsRunPacked s (slice_range w.differences (l.first - w.first) (end - w.first)) p

@@ -8,7 +8,7 @@ use Rattle.std.proofs.lemmas.List.Elements.{All-get_or}
 use Rattle.mseed_steim.specs.Spelling.{IsWithin}
 use Rattle.mseed_pack.specs.declared.window.Window.{Window}
 use Rattle.mseed_pack.specs.private.Filling.{HoldsDifferences}
-use Rattle.mseed_pack.specs.private.Marks.{sample_before}
+use Rattle.mseed_pack.specs.private.KnownSamples.{sample_before}
 use Rattle.mseed_pack.specs.Stretches.{differences}
 use Rattle.mseed_pack.proofs.Differences.{difference_at, first_difference, within_fits}
 

@@ -12,8 +12,8 @@ use Rattle.mseed_steim.specs.Spelling.{residue, IsWithin}
 use Rattle.byteorder.specs.Numbers.{length-bytes_high_first}
 use Rattle.mseed_pack.specs.declared.integers.Width.{Width}
 use Rattle.mseed_pack.specs.declared.integers.Width.TheVariants.{Two as Short, Four as Long}
-use Rattle.mseed_pack.specs.declared.payload.Left.{Left}
-use Rattle.mseed_pack.specs.private.Filling.{AreLeft, AreTaken, bytes_in, integer_bytes}
+use Rattle.mseed_pack.specs.declared.payload.Remaining.{Remaining}
+use Rattle.mseed_pack.specs.private.Filling.{AreRemaining, AreTaken, bytes_in, integer_bytes}
 
 pub residue_16 : (z : ℤ) → IsWithin 16 z → of_z w16 z ≡ residue (2 ^ 16) z
 residue_16 (pos n) h = let high = h.1 in omega (arith, ints, high)
@@ -95,8 +95,8 @@ length_flat w (z ∷ zs) = omega (
 )
 
 -- some are taken, and all of them stand before the end
-pub taken : (w : Width) (xs : List ℤ) (left : Left) (size r count : ℕ) → r ≡ bytes_in w
-    → count ≡ min (left.end - left.first) (size / r) → AreLeft xs left → 64 ≤ size → size ≤ 4032
+pub taken : (w : Width) (xs : List ℤ) (left : Remaining) (size r count : ℕ) → r ≡ bytes_in w
+    → count ≡ min (left.end - left.first) (size / r) → AreRemaining xs left → 64 ≤ size → size ≤ 4032
     → AreTaken left count
 taken Short xs left size r count e m l long short =
     let some = l.some in

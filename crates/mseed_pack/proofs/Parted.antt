@@ -8,7 +8,7 @@ use Rattle.mseed_record.specs.Header.{key_at}
 use Rattle.mseed_record.specs.View.{View, IsView}
 use Rattle.mseed_audit.specs.declared.assembly.NotContinuous.{NotContinuous}
 use Rattle.mseed_audit.specs.declared.assembly.NotContinuous.TheVariants.{Absent, Broken, Memory}
-use Rattle.mseed_audit.specs.Channels.{Placed, added_from, is_of, records_of, views_in}
+use Rattle.mseed_audit.specs.Channels.{Placed, added_from, is_of_channel, records_of, views_in}
 use Rattle.mseed_audit.specs.Follows.{AllNeighbours, Follows, IsContinuous, IsSound}
 use Rattle.mseed_audit.specs.Series.{Trace, AreJoined, none, one, IsSeries, IsSeriesOf}
 use Rattle.mseed_pack.specs.declared.options.Options.{Options}
@@ -76,7 +76,7 @@ record Thirds (s : Trace) (before after : List (List ℕ)) (views : List View) :
   back : List View
   first : AreViewsOf before prefix
   second : AreViewsOf after back
-  channel : AllByRecursion (λ (v : View). IsTrue (is_of s.codes v)) (prefix ++ (views ++ back))
+  channel : AllByRecursion (λ (v : View). IsTrue (is_of_channel s.codes v)) (prefix ++ (views ++ back))
   continuous : IsContinuous (prefix ++ (views ++ back))
   series : IsSeriesOf s (prefix ++ (views ++ back))
 
@@ -94,7 +94,7 @@ thirds s before held after views reads are =
       back = rest.back;
       first = cut.first;
       second = rest.second;
-      channel = subst (λ (vs : List View). AllByRecursion (λ (v : View). IsTrue (is_of s.codes v)) vs) same
+      channel = subst (λ (vs : List View). AllByRecursion (λ (v : View). IsTrue (is_of_channel s.codes v)) vs) same
           reads.channel;
       continuous = subst (λ (vs : List View). IsContinuous vs) same reads.continuous;
       series = subst (λ (vs : List View). IsSeriesOf s vs) same reads.series;
@@ -102,11 +102,11 @@ thirds s before held after views reads are =
 
 of_channel : (s : Trace) (before held after : List (List ℕ)) (views : List View)
     → ReadsAs s (before ++ (held ++ after)) → AreViewsOf held views
-    → AllByRecursion (λ (v : View). IsTrue (is_of s.codes v)) views
+    → AllByRecursion (λ (v : View). IsTrue (is_of_channel s.codes v)) views
 of_channel s before held after views reads are =
     let cut = thirds s before held after views reads are in
-    all_prefix (λ (v : View). IsTrue (is_of s.codes v)) views cut.back
-    (all_back (λ (v : View). IsTrue (is_of s.codes v)) cut.prefix (views ++ cut.back) cut.channel)
+    all_prefix (λ (v : View). IsTrue (is_of_channel s.codes v)) views cut.back
+    (all_back (λ (v : View). IsTrue (is_of_channel s.codes v)) cut.prefix (views ++ cut.back) cut.channel)
 
 none_of : (held : List (List ℕ)) → bytes_in [] ≡ held → held ≡ []
 none_of held e = sym e
@@ -123,10 +123,10 @@ continuous s before held after views reads are some =
     }
 
 first_of_channel : (s : Trace) (first : View) (rest views : List View) → views ≡ first ∷ rest
-    → AllByRecursion (λ (v : View). IsTrue (is_of s.codes v)) views → s.codes ≡ key_at first.bytes
+    → AllByRecursion (λ (v : View). IsTrue (is_of_channel s.codes v)) views → s.codes ≡ key_at first.bytes
 first_of_channel s first rest views e h =
-    let all : AllByRecursion (λ (v : View). IsTrue (is_of s.codes v)) (first ∷ rest) =
-    subst (λ (vs : List View). AllByRecursion (λ (v : View). IsTrue (is_of s.codes v)) vs) e h in
+    let all : AllByRecursion (λ (v : View). IsTrue (is_of_channel s.codes v)) (first ∷ rest) =
+    subst (λ (vs : List View). AllByRecursion (λ (v : View). IsTrue (is_of_channel s.codes v)) vs) e h in
     key_of s.codes first all.0
 
 pub is_part : ((vs : List View) (xs ys : List ℤ) → AreJoined vs xs → AreJoined vs ys → xs ≡ ys)
@@ -183,7 +183,7 @@ same_length s o records k =
     subst (λ (rs : List (List ℕ)). AllByRecursion (λ (r : List ℕ). length r ≡ 2 ^ o.exponent) rs) k.bytes
     (all_long s o k.pieces k.each)
 
-keys : (s : Trace) (views : List View) → AllByRecursion (λ (v : View). IsTrue (is_of s.codes v)) views
+keys : (s : Trace) (views : List View) → AllByRecursion (λ (v : View). IsTrue (is_of_channel s.codes v)) views
     → AllByRecursion (λ (v : View). key_at v.bytes ≡ s.codes) views
 keys s [] h = tt
 keys s (v ∷ vs) h = (sym (key_of s.codes v h.0), keys s vs h.1)

@@ -10,7 +10,7 @@ use Rattle.mseed_record.specs.Record.{IsRecord}
 use Rattle.mseed_record.specs.View.{View, IsView}
 use Rattle.mseed_steim.specs.Reading.{count_of, HasOneReading}
 use Rattle.mseed_stream.specs.Walk.{AreViews}
-use Rattle.mseed_audit.specs.Channels.{is_of, same_key}
+use Rattle.mseed_audit.specs.Channels.{is_of_channel, same_key}
 use Rattle.mseed_audit.specs.Series.{Trace}
 use Rattle.mseed_pack.specs.declared.options.Options.{Options}
 use Rattle.mseed_pack.specs.Fitting.{Fits}
@@ -45,7 +45,8 @@ stand vs records h =
 same_itself : (key : List ℕ) → same_key key key ≡ true
 same_itself key = (eq_by_cmp_equiv nat_list_cmp_total).refl key
 
-is_of_key : (s : Trace) (first : ℕ) (v : View) (samples : List ℤ) → IsAt s first v samples → IsTrue (is_of s.codes v)
+is_of_key : (s : Trace) (first : ℕ) (v : View) (samples : List ℤ) → IsAt s first v samples → IsTrue
+    (is_of_channel s.codes v)
 is_of_key s first v samples is =
     let counted : 0 < count_of v = subst (λ (n : ℕ). 0 < n) (sym is.count) is.some in
     let some : nat_lt 0 (count_of v) ≡ true = grind (arith, nat_tests) in
@@ -54,7 +55,7 @@ is_of_key s first v samples is =
     ap (λ (b : Bool). b && same_key s.codes (key_at v.bytes)) some ∙ key
 
 of_channel : (s : Trace) (first : ℕ) (vs : List View) (samples : List ℤ) → AreAt s first vs samples
-    → AllByRecursion (λ (v : View). IsTrue (is_of s.codes v)) vs
+    → AllByRecursion (λ (v : View). IsTrue (is_of_channel s.codes v)) vs
 of_channel s first [] samples h = tt
 of_channel s first (v ∷ vs) samples h =
     (is_of_key s first v h.0 h.1.1.1, of_channel s (first + length h.0) vs h.1.0 h.1.1.2)

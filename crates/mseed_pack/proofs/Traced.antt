@@ -26,7 +26,7 @@ use Rattle.mseed_record.proofs.Bytes.{key_long}
 use Rattle.mseed_record.proofs.Called.{record_long}
 use Rattle.mseed_steim.specs.Reading.{count_of}
 use Rattle.mseed_stream.proofs.Records.{view_record}
-use Rattle.mseed_audit.specs.Channels.{is_of}
+use Rattle.mseed_audit.specs.Channels.{is_of_channel}
 use Rattle.mseed_audit.specs.Follows.{IsContinuous, IsSound}
 use Rattle.mseed_audit.specs.Judging.{rate_unless, rate_in, time_fault_of, step_in}
 use Rattle.mseed_audit.specs.Series.{Trace, AreJoined, none, one, AreStepsFrom, AreSteps, IsSeriesOf, step_at}
@@ -128,12 +128,12 @@ start_within s o (p ∷ ps) samples steps some joined placed each =
 
 -- each record of a channel is one
 pub kept_views : (key : List ℕ) (vs : List View) → AllByRecursion IsView vs
-    → AllByRecursion IsView (filter (is_of key) vs)
+    → AllByRecursion IsView (filter (is_of_channel key) vs)
 kept_views key [] h = tt
-kept_views key (v ∷ vs) h = by (is_of key v) (kept_views key vs h.1)
+kept_views key (v ∷ vs) h = by (is_of_channel key v) (kept_views key vs h.1)
   where
-    by : (b : Bool) → AllByRecursion IsView (filter (is_of key) vs)
-        → AllByRecursion IsView (cond b (v ∷ filter (is_of key) vs) (filter (is_of key) vs))
+    by : (b : Bool) → AllByRecursion IsView (filter (is_of_channel key) vs)
+        → AllByRecursion IsView (cond b (v ∷ filter (is_of_channel key) vs) (filter (is_of_channel key) vs))
     by true rest = (h.0, rest)
     by false rest = rest
 

@@ -6,7 +6,7 @@ use Rattle.mseed_time.specs.declared.outcome.LeapStep.{LeapStep}
 use Rattle.mseed_record.specs.View.{View, IsView}
 use Rattle.mseed_audit.specs.declared.assembly.NotContinuous.{NotContinuous}
 use Rattle.mseed_audit.specs.declared.assembly.NotContinuous.TheVariants.{Absent, Broken, Memory}
-use Rattle.mseed_audit.specs.Channels.{added_from, is_of, records_of, views_in}
+use Rattle.mseed_audit.specs.Channels.{added_from, is_of_channel, records_of, views_in}
 use Rattle.mseed_audit.specs.Follows.{IsContinuous}
 use Rattle.mseed_audit.specs.Series.{Trace, AreJoined, IsSeriesOf}
 use Rattle.mseed_pack.specs.Clock.{instant_at}
@@ -25,7 +25,7 @@ pub record ReadsAs (s : Trace) (records : List (List ℕ)) : Type 0 where
   pub views : List View
   pub are_views : AreViewsOf records views
   pub only : (others : List View) → AreViewsOf records others → others ≡ views
-  pub channel : AllByRecursion (λ (v : View). IsTrue (is_of s.codes v)) views
+  pub channel : AllByRecursion (λ (v : View). IsTrue (is_of_channel s.codes v)) views
   pub continuous : IsContinuous views
   pub series : IsSeriesOf s views
 

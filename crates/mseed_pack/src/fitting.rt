@@ -66,7 +66,7 @@ pub fn fit_view(series: &SeriesView, options: &Options) -> Result<(), PackFault>
     // What the types of its parts say of each series.
     ensures trace { IsTrace (trace_of series.now) }
 {
-    know(series);
+    series_is_a_trace(series);
     match misfit(series, options) {
         Some(fault) => Err(fault),
         None => Ok(()),
@@ -74,29 +74,29 @@ pub fn fit_view(series: &SeriesView, options: &Options) -> Result<(), PackFault>
 }
 
 /// What the types of its parts say of each series.
-fn know(series: &SeriesView)
+fn series_is_a_trace(series: &SeriesView)
     requires { AreSteps (length series.now.samples.now) series.now.steps.now }
     ensures { IsTrace (trace_of series.now) }
 {
-    know_key(series.codes.key());
-    know_start(series.start);
-    know_rate(series.rate);
+    key_has_12_bytes(series.codes.key());
+    start_is_an_instant(series.start);
+    rate_has_16_bits(series.rate);
 }
 
 /// A key is 12 bytes.
-fn know_key(key: &[u8; 12])
+fn key_has_12_bytes(key: &[u8; 12])
     ensures { length key.now ≡ 12 }
 {}
 
 /// An instant lies in the years 1800 to 2199.
-fn know_start(start: Micros)
+fn start_is_an_instant(start: Micros)
     ensures { IsInstant start }
 {
     let _micros = start.get();
 }
 
 /// A rate's factor and multiplier have 16 bits, and aren't 0.
-fn know_rate(rate: Rate)
+fn rate_has_16_bits(rate: Rate)
     ensures factor { FitsSigned w16 rate.factor }
     ensures factor_counts { rate.factor ≢ pos 0 }
     ensures multiplier { FitsSigned w16 rate.multiplier }
@@ -104,7 +104,7 @@ fn know_rate(rate: Rate)
 {}
 
 /// A rate is so many samples in so many seconds, each in 1..=2^30.
-fn know_ratio(rate: Rate)
+fn rate_is_a_ratio(rate: Rate)
     ensures { IsRatio (ratio_of rate) }
 {
     let _ratio = rate.ratio();
@@ -214,8 +214,8 @@ fn fault_in(head: &SeriesHead, span: Span) -> PackFault
     ensures { (samples : List ℤ) (options : Options) → length samples ≡ head.now.count → samples ≢ []
         → ¬ (IsTooFast (headed head.now samples)) → IsMisfit (headed head.now samples) options result }
 {
-    know_start(head.start);
-    know_ratio(head.rate);
+    start_is_an_instant(head.start);
+    rate_is_a_ratio(head.rate);
     let index = first_outside(head.start, head.rate, span);
     let instant = moment_at(head.start, head.rate, span, index);
     PackFault::TimeOutOfRange { index, instant }

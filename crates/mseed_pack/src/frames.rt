@@ -6,14 +6,14 @@ ghost use Rattle.mseed_steim.specs.Spelling.{IsWithin};
 ghost use Rattle.mseed_steim_pack.specs.Lookahead.{IsLookahead};
 ghost use Rattle.mseed_steim_pack.specs.Packed.{IsRunPacked};
 ghost use Rattle.mseed_pack.specs.declared.window.TheConstants.{ROOM};
-ghost use Rattle.mseed_pack.specs.private.Filling.{AreAhead, AreBegun, AreFrames, AreLeft, AreRunEnds, AreSet};
+ghost use Rattle.mseed_pack.specs.private.Filling.{AreAhead, AreBegun, AreFrames, AreRemaining, AreRunEnds, AreSet};
 ghost use Rattle.mseed_pack.specs.private.Filling.{AreTaken, GoesOn, Holds, HoldsDifferences, HoldsInFrames};
 ghost use Rattle.mseed_pack.specs.private.Filling.{width_of};
-ghost use Rattle.mseed_pack.specs.private.Marks.{sample_before};
+ghost use Rattle.mseed_pack.specs.private.KnownSamples.{sample_before};
 
-use crate::marks::Mark;
+use crate::known_samples::KnownSample;
 use crate::options::Encoding;
-use crate::payload::{Filled, Filler, Left};
+use crate::payload::{Filled, Filler, Remaining};
 use crate::supply::Supply;
 use crate::window::Window;
 use byteorder::{BigEndian, ByteOrder};
@@ -70,7 +70,7 @@ impl Frames {
         ensures window { self.new.window ≡ self.old.window }
         ensures known { self.new.known ≡ self.old.known }
     {
-        let before = Mark {
+        let before = KnownSample {
             place,
             sample: self.before,
         };
@@ -93,7 +93,7 @@ impl<S: Supply> Filler<S> for Frames {
     fn fill(
         &mut self,
         encoding: Encoding,
-        left: Left,
+        left: Remaining,
         supply: &mut S,
         payload: &mut [u8],
     ) -> Filled {
@@ -109,16 +109,16 @@ impl<S: Supply> Filler<S> for Frames {
 /// the window.
 fn fill_frames<S: Supply>(
     scheme: Scheme,
-    left: Left,
+    left: Remaining,
     frames: &mut Frames,
     supply: &mut S,
     payload: &mut [u8],
 ) -> Filled
     requires frames { AreFrames payload.old }
     requires left { (samples : List ℤ) × (GoesOn S.supplies frames.old supply.old scheme samples left.first
-        × AreLeft samples left) }
+        × AreRemaining samples left) }
     ensures filled { (samples : List ℤ) → GoesOn S.supplies frames.old supply.old scheme samples left.first
-        → AreLeft samples left → HoldsInFrames scheme samples left result payload.new
+        → AreRemaining samples left → HoldsInFrames scheme samples left result payload.new
         × GoesOn S.supplies frames.new supply.new scheme samples (left.first + result.samples) }
     ensures taken { AreTaken left result.samples }
     ensures beside { S.beside supply.new ≡ S.beside supply.old }
@@ -130,7 +130,7 @@ fn fill_frames<S: Supply>(
 
 /// Packs what the window holds into a payload: of all samples that are left the differences, or of as many as there is
 /// room for.
-fn pack_held(scheme: Scheme, left: Left, frames: &mut Frames, payload: &mut [u8]) -> Filled
+fn pack_held(scheme: Scheme, left: Remaining, frames: &mut Frames, payload: &mut [u8]) -> Filled
     requires frames { AreFrames payload.old }
     requires held { (samples : List ℤ) × Holds frames.old scheme samples left (length payload.old) }
     ensures filled { (samples : List ℤ) → Holds frames.old scheme samples left (length payload.old)

@@ -2,10 +2,10 @@
 ghost use Rattle.std.specs.Prelude.{◌≡◌, ◌+◌, ◌-◌, ◌*◌, ◌<◌, ◌≤◌, ◌++◌, length, All, pos, slice_index_or};
 ghost use Rattle.std.specs.Prelude.{slice_range, drop};
 ghost use Rattle.mseed_steim.specs.Spelling.{IsWithin};
-ghost use Rattle.mseed_pack.specs.private.Filling.{AreFrames, AreLeft, AreTaken, bytes_in, integer_bytes};
+ghost use Rattle.mseed_pack.specs.private.Filling.{AreFrames, AreRemaining, AreTaken, bytes_in, integer_bytes};
 ghost use Rattle.mseed_pack.specs.Packing.{HoldsIntegers};
 
-use crate::payload::{Filled, Left};
+use crate::payload::{Filled, Remaining};
 use byteorder::{BigEndian, ByteOrder};
 
 /// How wide an integer is, in bytes.
@@ -26,8 +26,13 @@ fn bytes_in(width: Width) -> usize
 }
 
 /// Writes the samples from one on, as many as there is room for, as big-endian integers, and zeros after them.
-pub(crate) fn fill_integers(width: Width, samples: &[i32], left: Left, payload: &mut [u8]) -> Filled
-    requires left { AreLeft samples.now left }
+pub(crate) fn fill_integers(
+    width: Width,
+    samples: &[i32],
+    left: Remaining,
+    payload: &mut [u8],
+) -> Filled
+    requires left { AreRemaining samples.now left }
     requires frames { AreFrames payload.old }
     requires fits { All (IsWithin (8 * bytes_in width)) samples.now }
     ensures holds { HoldsIntegers (bytes_in width) (left.end - left.first)

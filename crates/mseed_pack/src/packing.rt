@@ -186,7 +186,7 @@ impl Packer {
             (W.beside sink.old) (W.beside sink.new) }
         ensures beside { S.beside supply.new ≡ S.beside supply.old }
     {
-        know_count(head.count);
+        count_has_64_bits(head.count);
         let job = Job { head, options };
         self.frames.begin(head.first);
         write_records(&job, &mut self.frames, supply, &mut self.records, sink)
@@ -194,7 +194,7 @@ impl Packer {
 }
 
 /// A number of samples has 64 bits.
-fn know_count(count: usize)
+fn count_has_64_bits(count: usize)
     ensures { count < 2 ^ 64 }
 {}
 

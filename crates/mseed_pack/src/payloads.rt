@@ -3,13 +3,13 @@ ghost use Rattle.std.specs.Prelude.{ℤ, List, ◌+◌, slice_range, Ok};
 ghost use Rattle.mseed_steim.specs.declared.scheme.Scheme.{Scheme};
 ghost use Rattle.mseed_steim_pack.specs.Lookahead.{IsLookahead};
 ghost use Rattle.mseed_steim_pack.specs.Packed.{IsRunPacked};
-ghost use Rattle.mseed_pack.specs.private.Filling.{AreAhead, AreFrames, AreLeft, AreTaken, HoldsInFrames};
+ghost use Rattle.mseed_pack.specs.private.Filling.{AreAhead, AreFrames, AreRemaining, AreTaken, HoldsInFrames};
 ghost use Rattle.mseed_pack.specs.Stretches.{differences};
 
 use crate::frames::{frames_of, put_constants};
 use crate::integers::{Width, fill_integers};
 use crate::options::Encoding;
-use crate::payload::{Filled, Filler, Left};
+use crate::payload::{Filled, Filler, Remaining};
 use mseed_steim::Scheme;
 use mseed_steim_pack::{Lookahead, Packed, pack_samples_ahead};
 
@@ -38,7 +38,7 @@ impl<'a> Filler<&'a [i32]> for Payloads {
     fn fill(
         &mut self,
         encoding: Encoding,
-        left: Left,
+        left: Remaining,
         list: &mut &'a [i32],
         payload: &mut [u8],
     ) -> Filled {
@@ -56,12 +56,12 @@ impl<'a> Filler<&'a [i32]> for Payloads {
 fn fill_listed(
     scheme: Scheme,
     samples: &[i32],
-    left: Left,
+    left: Remaining,
     known: &mut Lookahead,
     payload: &mut [u8],
 ) -> Filled
     requires frames { AreFrames payload.old }
-    requires left { AreLeft samples.now left }
+    requires left { AreRemaining samples.now left }
     requires ahead { AreAhead known.old scheme samples.now left.first }
     ensures filled { HoldsInFrames scheme samples.now left result payload.new }
     ensures ahead { AreAhead known.new scheme samples.now (left.first + result.samples) }
@@ -81,12 +81,12 @@ fn fill_listed(
 fn pack_left(
     scheme: Scheme,
     samples: &[i32],
-    left: Left,
+    left: Remaining,
     known: &mut Lookahead,
     payload: &mut [u8],
 ) -> Packed
     requires frames { AreFrames payload.old }
-    requires left { AreLeft samples.now left }
+    requires left { AreRemaining samples.now left }
     requires ahead { AreAhead known.old scheme samples.now left.first }
     ensures packed { IsRunPacked scheme (slice_range (differences samples.now) left.first left.end) payload.new
         (Ok result) }

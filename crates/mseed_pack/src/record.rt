@@ -11,7 +11,7 @@ ghost use Rattle.mseed_pack.specs.Stretches.{flags_of, step_after};
 use crate::batch::{Job, Place};
 use crate::clock::time_at;
 use crate::options::Options;
-use crate::payload::{Filled, Filler, Left};
+use crate::payload::{Filled, Filler, Remaining};
 use crate::series_head::SeriesHead;
 use crate::span::Span;
 use mseed_record::{Fields, write_header};
@@ -117,7 +117,7 @@ pub(crate) fn write_record<S, F: Filler<S>>(
     ensures within { place.first + result ≤ place.span.end }
     ensures beside { F.beside supply.new ≡ F.beside supply.old }
 {
-    let left = Left {
+    let left = Remaining {
         first: place.first,
         end: place.span.end,
     };

@@ -1,6 +1,6 @@
 //! A window over the differences of a series.
 
-use crate::marks::{Mark, Marks};
+use crate::known_samples::{KnownSample, KnownSamples};
 use crate::supply::Supply;
 
 /// How many differences a window holds: the most that are looked at for a record, of whose 1008 words none holds more
@@ -16,7 +16,7 @@ pub(crate) struct Window {
     /// The sample after the one whose difference is the last.
     pub(crate) end: usize,
     /// Samples that are known without adding up differences.
-    pub(crate) marks: Marks,
+    pub(crate) marks: KnownSamples,
 }
 
 impl Window {
@@ -25,7 +25,7 @@ impl Window {
     ghost use Rattle.mseed_steim.specs.Spelling.{IsWithin};
     ghost use Rattle.mseed_pack.specs.declared.window.TheConstants.{ROOM};
     ghost use Rattle.mseed_pack.specs.private.Filling.{Draws, HoldsDifferences};
-    ghost use Rattle.mseed_pack.specs.private.Marks.{IsMark, sample_before};
+    ghost use Rattle.mseed_pack.specs.private.KnownSamples.{IsKnownSample, sample_before};
 
     /// A window that holds nothing.
     pub(crate) fn new() -> Window {
@@ -33,7 +33,7 @@ impl Window {
             differences: [0; ROOM],
             first: 0,
             end: 0,
-            marks: Marks::of(0),
+            marks: KnownSamples::of(0),
         }
     }
 
@@ -46,7 +46,7 @@ impl Window {
     {
         self.first = 0;
         self.end = 0;
-        self.marks = Marks::of(first);
+        self.marks = KnownSamples::of(first);
     }
 
     /// Makes it hold the differences of so many samples from one on. It takes what it lacks from the supply, from
@@ -129,18 +129,23 @@ impl Window {
     {
         if let Some(sample) = supply.last() {
             let place = self.end;
-            self.marks.put(Mark { place, sample });
+            self.marks.put(KnownSample { place, sample });
         }
     }
 
     /// The nearer to a place of a mark that stands before it and of the marks that are kept, looked for from an index
     /// on; and the index of that.
-    pub(crate) fn nearest(&self, mark: Mark, index: usize, place: usize) -> (Mark, usize)
+    pub(crate) fn nearest(
+        &self,
+        mark: KnownSample,
+        index: usize,
+        place: usize,
+    ) -> (KnownSample, usize)
         requires low { self.now.first ≤ mark.place }
         requires order { mark.place ≤ place }
         requires high { place ≤ self.now.end }
-        ensures mark { (samples : List ℤ) → HoldsDifferences samples self.now → IsMark samples mark
-            → IsMark samples result.0 }
+        ensures mark { (samples : List ℤ) → HoldsDifferences samples self.now → IsKnownSample samples mark
+            → IsKnownSample samples result.0 }
         ensures low { self.now.first ≤ result.0.place }
         ensures high { result.0.place ≤ self.now.end }
     {
@@ -154,7 +159,7 @@ impl Window {
     }
 
     /// The sample before a place, by a mark.
-    pub(crate) fn sample_before(&self, place: usize, mark: Mark) -> i32
+    pub(crate) fn sample_before(&self, place: usize, mark: KnownSample) -> i32
         requires low { self.now.first ≤ place }
         requires high { place ≤ self.now.end }
         requires mark_low { self.now.first ≤ mark.place }
@@ -162,7 +167,7 @@ impl Window {
         requires some { 0 < place }
         requires held { (samples : List ℤ) × HoldsDifferences samples self.now }
         ensures { (samples : List ℤ) → HoldsDifferences samples self.now → All (IsWithin 32) samples
-            → IsMark samples mark → result ≡ sample_before samples place }
+            → IsKnownSample samples mark → result ≡ sample_before samples place }
     {
         if mark.place <= place {
             mark.sample.wrapping_add(self.moved(mark.place, place))

@@ -9,7 +9,7 @@ use Rattle.mseed_record.specs.View.{View}
 use Rattle.mseed_record.specs.Viewing.{view_of}
 use Rattle.mseed_record.specs.declared.view.RecordView.{RecordView}
 use Rattle.mseed_stream.specs.Device.{BytesWritten}
-use Rattle.mseed_audit.specs.Channels.{is_of}
+use Rattle.mseed_audit.specs.Channels.{is_of_channel}
 use Rattle.mseed_audit.specs.Follows.{IsSound}
 use Rattle.mseed_audit.proofs.Following.{views_are}
 use Rattle.mseed_pack.specs.declared.options.Options.{Options}
@@ -38,7 +38,7 @@ views_of a = map view_of a.views.now
 -- a channel has no more records than an archive
 few_in : (key : List ℕ) (vs : List View) → length (channel_in key vs) ≤ length vs
 few_in key [] = omega arith
-few_in key (v ∷ vs) = by (is_of key v) (few_in key vs)
+few_in key (v ∷ vs) = by (is_of_channel key v) (few_in key vs)
   where
     by : (b : Bool) → length (channel_in key vs) ≤ length vs
         → length (if b then v ∷ channel_in key vs else channel_in key vs) ≤ length (v ∷ vs)
@@ -154,7 +154,8 @@ text_of cutting o a c own = IsTextAs cutting o (records_in (views_of a) c.0) own
 
 -- one that doesn't fit is left out
 pub texts_still : {first new : BytesWritten} (cutting : Cutting) (o : Options) (a : Archive) (ss : List Packability)
-    (k : ℕ) (t : ChannelWalk) → k < length a.channels.now → length ss ≡ length a.channels.now → (get_or ss k Fit ≡ Fit → ⊥)
+    (k : ℕ) (t : ChannelWalk) → k < length a.channels.now → length ss ≡ length a.channels.now → (get_or ss k Fit ≡ Fit
+    → ⊥)
     → IsWalkOf a k t
     → Wrote (TextsAs cutting o (map view_of a.views.now) (kept_of (take k a.channels.now) (take k ss))) 0 first new
     → Wrote (TextsAs cutting o (map view_of a.views.now) (kept_of (take (k + 1) a.channels.now) (take (k + 1) ss))) 0
@@ -202,7 +203,8 @@ texts_part {o = o} cutting a ss k t ps lt size fit w cut before one =
     (wrote_as (λ text is. subst (λ (vs : List View). IsPartAs cutting o vs text) (at_index a k t w)
     (part_as cutting o (records_on t) (stretches_by ps (records_on t)) text cut is)) one)
 
-pub texts_all : (cutting : Cutting) (o : Options) {first new : BytesWritten} (a : Archive) (ss : List Packability) (k : ℕ)
+pub texts_all : (cutting : Cutting) (o : Options) {first new : BytesWritten} (a : Archive) (ss : List Packability)
+    (k : ℕ)
     → length a.channels.now ≤ k → length ss ≡ length a.channels.now
     → Wrote (TextsAs cutting o (map view_of a.views.now) (kept_of (take k a.channels.now) (take k ss))) 0 first new
     → Wrote (TextsAs cutting o (map view_of a.views.now) (kept_of a.channels.now ss)) 0 first new

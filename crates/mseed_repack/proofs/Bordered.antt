@@ -20,7 +20,7 @@ use Rattle.mseed_record.specs.declared.leap.Leap.TheVariants.{None as NoLeap, Po
 use Rattle.mseed_record.specs.Header.{key_at}
 use Rattle.mseed_record.specs.View.{View, IsView, leap_of, start_of}
 use Rattle.mseed_steim.specs.Reading.{HasOneReading, count_of}
-use Rattle.mseed_audit.specs.Channels.{is_of, same_key}
+use Rattle.mseed_audit.specs.Channels.{is_of_channel, same_key}
 use Rattle.mseed_audit.specs.declared.finding.Why.{Why}
 use Rattle.mseed_audit.specs.declared.finding.Why.TheVariants.{Gap, Overlap}
 use Rattle.mseed_audit.specs.Follows.{AllNeighbours, Follows, IsContinuous, IsSound}
@@ -63,7 +63,8 @@ pub record Layers : Type 0 where
 -- The views of what was written of each stretch, one stretch's after another's.
 abbrev AreLinked : List (List View) → List View → Type 0
 AreLinked [] ws = ws ≡ []
-AreLinked (s ∷ ss) ws = (own : List View) × ((rest : List View) × ((ws ≡ own ++ rest) × IsLaid s own × AreLinked ss rest))
+AreLinked (s ∷ ss) ws = (own : List View) × ((rest : List View) × ((ws ≡ own ++ rest) × IsLaid s own
+    × AreLinked ss rest))
 
 lay_one : Layers → (o next : Options) (n : ℕ) (s : List View) (records : List (List ℕ)) → IsNumberedOn o n next
     → IsSoundStretch s → StretchFits o s → IsStretchPacked next s records
@@ -136,7 +137,7 @@ each_view (s ∷ ss) ws (own, (rest, (parts, here, more))) =
 
 -- those of records of one key are of that key
 of_key_at : (key : List ℕ) (s : Trace) (first : ℕ) (vs : List View) (samples : List ℤ) → s.codes ≡ key
-    → AreAt s first vs samples → AllByRecursion (λ (v : View). IsTrue (is_of key v)) vs
+    → AreAt s first vs samples → AllByRecursion (λ (v : View). IsTrue (is_of_channel key v)) vs
 of_key_at key s first [] samples e h = tt
 of_key_at key s first (v ∷ vs) samples e h =
     let is = h.1.1.1 in
@@ -150,17 +151,17 @@ of_key_at key s first (v ∷ vs) samples e h =
 
 each_of_key : (key : List ℕ) (vs : List View) (ss : List (List View)) (ws : List View) → AreStretchesUpTo vs ss []
     → AllByRecursion (λ (v : View). key_at v.bytes ≡ key) vs → AreLinked ss ws
-    → AllByRecursion (λ (v : View). IsTrue (is_of key v)) ws
+    → AllByRecursion (λ (v : View). IsTrue (is_of_channel key v)) ws
 each_of_key key vs [] ws cut keys e =
-    subst (λ (us : List View). AllByRecursion (λ (v : View). IsTrue (is_of key v)) us) (sym e) tt
+    subst (λ (us : List View). AllByRecursion (λ (v : View). IsTrue (is_of_channel key v)) us) (sym e) tt
 each_of_key key vs (s ∷ ss) ws (left, (first, cut)) keys (own, (rest, (parts, here, more))) =
     let P : View → Type 0 = λ v. key_at v.bytes ≡ key in
     let all : AllByRecursion P (s ++ left) = subst (λ (us : List View). AllByRecursion P us) first.parts keys in
     let of_first : AllByRecursion P (here.series.first ∷ here.series.rest) =
     subst (λ (us : List View). AllByRecursion P us) here.series.parts (each_in_leading P s left all) in
     let code : here.trace.codes ≡ key = here.series.codes ∙ of_first.0 in
-    subst (λ (us : List View). AllByRecursion (λ (v : View). IsTrue (is_of key v)) us) (sym parts)
-    (All-append (λ (v : View). IsTrue (is_of key v)) own rest
+    subst (λ (us : List View). AllByRecursion (λ (v : View). IsTrue (is_of_channel key v)) us) (sym parts)
+    (All-append (λ (v : View). IsTrue (is_of_channel key v)) own rest
     (of_key_at key here.trace 0 own here.trace.samples code here.at)
     (each_of_key key left ss rest cut (each_at_back P s left all) more))
 
@@ -557,7 +558,7 @@ pub record IsOwn (vs : List View) (key : List ℕ) (records : List (List ℕ)) :
   pub views : List View
   pub bytes : bytes_in views ≡ records
   pub each : AllByRecursion IsView views
-  pub of_key : AllByRecursion (λ (v : View). IsTrue (is_of key v)) views
+  pub of_key : AllByRecursion (λ (v : View). IsTrue (is_of_channel key v)) views
   pub borders : KeepsBorders vs views
 
 pub own_of : Layers → (o : Options) (vs : List View) (key : List ℕ) (records : List (List ℕ))

@@ -237,7 +237,8 @@ one_archive laws o views cs text other a b =
 -- What was written of an archive reads back.
 
 -- each channel that is kept fits
-pub kept_fit : (o : Options) (views : List View) (cs : List Channel) (ss : List Packability) → ArePackabilities o views cs ss
+pub kept_fit : (o : Options) (views : List View) (cs : List Channel) (ss : List Packability)
+    → ArePackabilities o views cs ss
     → AllByRecursion (λ (c : Channel). ChannelFits o (records_in views c.0)) (kept_of cs ss)
 kept_fit o views [] ss all = tt
 kept_fit o views (c ∷ cs) [] all = tt
@@ -261,7 +262,8 @@ channels_read laws o views cs text each fit written =
 
 -- what follows for a text of channels that fit is so of whatever is written of an archive
 pub each_restretching : (P : List View → List Channel → List ℕ → Type 0)
-    → ((o : Options) (h : BytesRead) (views : List View) (channels : List Channel) (ss : List Packability) (text : List ℕ)
+    → ((o : Options) (h : BytesRead) (views : List View) (channels : List Channel) (ss : List Packability)
+    (text : List ℕ)
     → IsArchiveOf h views channels
     → AllByRecursion (λ (c : Channel). ChannelFits o (records_in views c.0)) (kept_of channels ss)
     → AreStretched o views (kept_of channels ss) text → P views (kept_of channels ss) text)

@@ -19,11 +19,13 @@ use Rattle.mseed_repack.specs.Selected.{ReportsWithoutTime, read_of}
 use Rattle.mseed_repack.specs.declared.fault.RepackFault.{RepackFault}
 use Rattle.mseed_repack.specs.declared.fault.RepackFault.TheVariants.{Stream, Broken, Misfit, Write, Memory}
 use Rattle.mseed_repack.specs.declared.refusing.LeftOut.{LeftOut}
-use Rattle.mseed_repack.specs.declared.refusing.LeftOut.TheVariants.{Nothing, Broken as LeftBroken, Misfit as LeftMisfit}
+use Rattle.mseed_repack.specs.declared.refusing.LeftOut.TheVariants.{Nothing, Broken as LeftBroken}
+use Rattle.mseed_repack.specs.declared.refusing.LeftOut.TheVariants.{Misfit as LeftMisfit}
 use Rattle.mseed_repack.proofs.AskedFor.{silent_only, whole_kept}
 
 -- nothing is reported of how many lack a time
-untold : (views : List View) (old new : BytesWritten) → ReportsWithoutTime (count_by (lacks_time everything) views) old new
+untold : (views : List View) (old new : BytesWritten) → ReportsWithoutTime (count_by (lacks_time everything) views)
+    old new
     → new ≡ old
 untold views old new told =
     silent_only [] old new (subst (λ (n : ℕ). ReportsWithoutTime n old new) (none_lacks views) told) refl

@@ -9,7 +9,8 @@ use Rattle.std.proofs.lemmas.List.Elements.{filter-append}
 use Rattle.std.proofs.lemmas.List.Sums.{length-filter}
 use Rattle.mseed_record.specs.View.{View}
 use Rattle.mseed_record.specs.Selection.{Selection, asks_for}
-use Rattle.mseed_audit.specs.Channels.{Added, Placed, added_from, channel_in as placed_in, is_of, numbered, views_in}
+use Rattle.mseed_audit.specs.Channels.{Added, Placed, added_from, channel_in as placed_in, is_of_channel, numbered}
+use Rattle.mseed_audit.specs.Channels.{views_in}
 use Rattle.mseed_audit.specs.Follows.{IsSound}
 use Rattle.mseed_audit.specs.Judging.{IsFound}
 use Rattle.mseed_audit.specs.Scope.{asked_of, placed_of}
@@ -210,9 +211,10 @@ own_first key vs ps index f g same own at why =
       parts = ap (λ (qs : List Placed). placed_in key qs) at.parts
           ∙ filter-append test at.leading (at.at ∷ at.back)
           ∙ ap (λ (b : Bool). placed_in key at.leading ++ cond b (at.at ∷ placed_in key at.back)
-          (placed_in key at.back)) (ap (λ (v : View). is_of key v) both.1 ∙ own.of);
+          (placed_in key at.back)) (ap (λ (v : View). is_of_channel key v) both.1 ∙ own.of);
       sound = subst (λ (ws : List View). AllByRecursion IsSound ws)
-          (sym (views_kept (is_of key) at.leading ∙ ap (λ (ws : List View). channel_in key ws) both.0)) own.sound;
+          (sym (views_kept (is_of_channel key) at.leading ∙ ap (λ (ws : List View). channel_in key ws) both.0))
+          own.sound;
       number = at.number;
       offset = at.offset;
       found = subst (λ (v : View). IsFound None v (Some g.why)) (sym both.1)
@@ -220,7 +222,7 @@ own_first key vs ps index f g same own at why =
     }
   where
     test : Placed → Bool
-    test q = is_of key q.view
+    test q = is_of_channel key q.view
 
 -- ---- findings of records at other places
 
@@ -307,8 +309,9 @@ moved key before (p ∷ ps) [] found same is = cc
 moved key before (p ∷ ps) (q ∷ qs) found same is =
     let here : p.view ≡ q.view = cc in
     let others : views_in ps ≡ views_in qs = cc in
-    moved_either before p q ps qs (placed_in key ps) (placed_in key qs) found (is_of key p.view) (is_of key q.view)
-    (ap (λ (v : View). is_of key v) here) here (λ prior later more. moved key prior ps qs later others more) is
+    moved_either before p q ps qs (placed_in key ps) (placed_in key qs) found (is_of_channel key p.view)
+    (is_of_channel key q.view)
+    (ap (λ (v : View). is_of_channel key v) here) here (λ prior later more. moved key prior ps qs later others more) is
 
 -- the first finding of a channel stands at some record
 pub first_index : (key : List ℕ) (vs : List View) (f : Finding) → IsFirstFinding (placed_in key (placed_of vs)) f

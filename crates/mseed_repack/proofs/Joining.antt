@@ -160,7 +160,8 @@ pub rate_there : (o : Option Ratio) → IsSome o → (r : Ratio) × (o ≡ Some 
 rate_there None some = absurd (false≢true some)
 rate_there (Some r) some = (r, refl)
 
-pub stands_first : (rate : Ratio) (first : View) → known_rate first ≡ Some rate → IsPackability rate (start_of first) [] first
+pub stands_first : (rate : Ratio) (first : View) → known_rate first ≡ Some rate → IsPackability rate (start_of first)
+    [] first
 stands_first rate first known = record {
   own = rate;
   known = known;

@@ -17,7 +17,7 @@ use Rattle.mseed_record.specs.View.{View}
 use Rattle.mseed_record.specs.Viewing.{view_of}
 use Rattle.mseed_record.specs.declared.view.RecordView.{RecordView}
 use Rattle.mseed_steim.specs.Reading.{count_of}
-use Rattle.mseed_audit.specs.Channels.{is_of, same_key}
+use Rattle.mseed_audit.specs.Channels.{is_of_channel, same_key}
 use Rattle.mseed_audit.proofs.Maps.{same_back, same_is}
 use Rattle.mseed_repack.specs.Repack.{Channel}
 use Rattle.mseed_repack.specs.private.Reading.{channel_in}
@@ -89,7 +89,7 @@ searched_none cs key k sorted h = λ j d lt.
 
 -- the records of a channel from an index on: the one there, where it is of the channel, and those after it
 first_on : (key : List ℕ) (rs : List RecordView) (n : ℕ) (r : RecordView) (b : Bool) → n < length rs → r ≡ get_or rs n r
-    → is_of key (view_of r) ≡ b → channel_in key (map view_of (drop n rs))
+    → is_of_channel key (view_of r) ≡ b → channel_in key (map view_of (drop n rs))
     ≡ (if b then view_of r ∷ channel_in key (map view_of (drop (n + 1) rs)) else
     channel_in key (map view_of (drop (n + 1) rs)))
 first_on key rs n r b lt is of =
@@ -119,7 +119,7 @@ one_record rs n q r lt a b = a ∙ get_or_default rs n q r lt ∙ sym b
 
 -- another channel's walk isn't changed
 pub trail_past : (key : List ℕ) (rs : List RecordView) (n first : ℕ) (nexts new : List ℕ) (r : RecordView)
-    → n < length rs → r ≡ get_or rs n r → is_of key (view_of r) ≡ false
+    → n < length rs → r ≡ get_or rs n r → is_of_channel key (view_of r) ≡ false
     → ((i : ℕ) → n < i → get_or new i 0 ≡ get_or nexts i 0) → IsLinkedFrom (n + 1) key rs first nexts
     → IsLinkedFrom n key rs first new
 trail_past key rs n first nexts new r lt is of kept h = record {
@@ -135,20 +135,20 @@ trail_past key rs n first nexts new r lt is of kept h = record {
       let index : i ≡ n = omega (arith, from, here) in
       let at_n : q ≡ get_or rs n q = subst (λ (m : ℕ). q ≡ get_or rs m q) index at in
       let same : q ≡ r = one_record rs n q r lt at_n is in
-      absurd (false≢true (sym of ∙ ap (λ (x : RecordView). is_of key (view_of x)) (sym same) ∙ there)))
+      absurd (false≢true (sym of ∙ ap (λ (x : RecordView). is_of_channel key (view_of x)) (sym same) ∙ there)))
       (cases_lt n i);
 }
 
 -- the record's own channel is led to it, and from it to where it was led before
 pub trail_here : (key : List ℕ) (rs : List RecordView) (n first : ℕ) (nexts new : List ℕ) (r : RecordView)
-    → n < length rs → r ≡ get_or rs n r → is_of key (view_of r) ≡ true → get_or new n 0 ≡ first
+    → n < length rs → r ≡ get_or rs n r → is_of_channel key (view_of r) ≡ true → get_or new n 0 ≡ first
     → ((i : ℕ) → n < i → get_or new i 0 ≡ get_or nexts i 0) → IsLinkedFrom (n + 1) key rs first nexts
     → IsLinkedFrom n key rs n new
 trail_here key rs n first nexts new r lt is of put kept h = record {
   first_is = record {
     order = omega arith;
     none = refl;
-    of = λ q _ at. ap (λ (x : RecordView). is_of key (view_of x)) (one_record rs n q r lt at is) ∙ of;
+    of = λ q _ at. ap (λ (x : RecordView). is_of_channel key (view_of x)) (one_record rs n q r lt at is) ∙ of;
   };
   nexts_are = λ i q from less at there. ⊎_elim
       (λ (behind : n < i). subst (λ (m : ℕ). LeadsTo key rs (i + 1) m) (sym (kept i behind))
@@ -159,11 +159,11 @@ trail_here key rs n first nexts new r lt is of put kept h = record {
       (cases_lt n i);
 }
 
-silent : (key : List ℕ) (r : RecordView) → count_of (view_of r) ≡ 0 → is_of key (view_of r) ≡ false
+silent : (key : List ℕ) (r : RecordView) → count_of (view_of r) ≡ 0 → is_of_channel key (view_of r) ≡ false
 silent key r none = rw none refl
 
 foreign : (key : List ℕ) (r : RecordView) → same_key key (key_at (view_of r).bytes) ≡ false
-    → is_of key (view_of r) ≡ false
+    → is_of_channel key (view_of r) ≡ false
 foreign key r other = by (nat_lt 0 (count_of (view_of r))) (same_key key (key_at (view_of r).bytes)) other
   where
     by : (a b : Bool) → b ≡ false → (a && b) ≡ false
@@ -171,7 +171,7 @@ foreign key r other = by (nat_lt 0 (count_of (view_of r))) (same_key key (key_at
     by false b e = refl
 
 own_record : (key : List ℕ) (r : RecordView) → 0 < count_of (view_of r)
-    → same_key key (key_at (view_of r).bytes) ≡ true → is_of key (view_of r) ≡ true
+    → same_key key (key_at (view_of r).bytes) ≡ true → is_of_channel key (view_of r) ≡ true
 own_record key r some same = rw (same, lt-ltb 0 (count_of (view_of r)) some) refl
 
 -- a record without samples
@@ -214,7 +214,7 @@ links_more rs cs n number firsts nexts r sorted inside long room some found lt i
     own : (k : ℕ) (c : Channel) → k < length cs → k ≡ number
         → IsLinkedFrom n (get_or cs k c).0 rs (get_or (set firsts number n) k 0) new
     own k c less e =
-        let of : is_of (get_or cs k c).0 (view_of r) ≡ true = own_record (get_or cs k c).0 r some
+        let of : is_of_channel (get_or cs k c).0 (view_of r) ≡ true = own_record (get_or cs k c).0 r some
         (ap (λ (m : ℕ). same_key (get_or cs m c).0 (key_at (view_of r).bytes)) e ∙ found c) in
         let put : get_or (set firsts number n) k 0 ≡ n = ap (λ (m : ℕ). get_or (set firsts number n) m 0) e
         ∙ get_or-set_same firsts number n 0 (omega (arith, inside, long)) in

@@ -9,7 +9,7 @@ use Rattle.std.proofs.lemmas.List.Elements.{filter-append}
 use Rattle.mseed_record.specs.View.{View}
 use Rattle.mseed_record.specs.Viewing.{view_of}
 use Rattle.mseed_record.specs.declared.view.RecordView.{RecordView}
-use Rattle.mseed_audit.specs.Channels.{is_of}
+use Rattle.mseed_audit.specs.Channels.{is_of_channel}
 use Rattle.mseed_audit.specs.Follows.{IsSound}
 use Rattle.mseed_audit.specs.Judging.{IsFound}
 use Rattle.mseed_audit.specs.Scope.{placed_of}
@@ -34,7 +34,7 @@ before_at rs n lt = length-map (take n rs) view_of ∙ length-take-le n rs (omeg
 
 -- it is the first
 pub own_at : (key : List ℕ) (rs : List RecordView) (n : ℕ) (r : RecordView) (f : Finding) → n < length rs
-    → r ≡ get_or rs n r → is_of key (view_of r) ≡ true
+    → r ≡ get_or rs n r → is_of_channel key (view_of r) ≡ true
     → AllByRecursion IsSound (channel_in key (map view_of (take n rs))) → IsFound None (view_of r) (Some f.why)
     → IsOwnAt key (map view_of rs) n f
 own_at key rs n r f lt is of sound found = record {
@@ -57,7 +57,7 @@ stands_in rs n r f lt is number offset =
 
 -- one more that is sound, or of another channel
 pub sound_next : (key : List ℕ) (rs : List RecordView) (n : ℕ) (r : RecordView) (b : Bool) → n < length rs
-    → r ≡ get_or rs n r → b ≡ is_of key (view_of r)
+    → r ≡ get_or rs n r → b ≡ is_of_channel key (view_of r)
     → AllByRecursion IsSound (channel_in key (map view_of (take n rs))) → (b ≡ true → IsSound (view_of r))
     → AllByRecursion IsSound (channel_in key (map view_of (take (n + 1) rs)))
 sound_next key rs n r b lt is of before here =
@@ -85,7 +85,7 @@ none_in key rs n e =
     ≡ channel_in key (map view_of (take n rs)) ++ channel_in key (map view_of (drop n rs)) =
     ap (λ (qs : List RecordView). channel_in key (map view_of qs)) (sym (take-append-drop n rs))
     ∙ ap (λ (vs : List View). channel_in key vs) (map-append view_of (take n rs) (drop n rs))
-    ∙ filter-append (is_of key) (map view_of (take n rs)) (map view_of (drop n rs)) in
+    ∙ filter-append (is_of_channel key) (map view_of (take n rs)) (map view_of (drop n rs)) in
     none_after (channel_in key (map view_of (take n rs))) (channel_in key (map view_of (drop n rs)))
     (sym parts ∙ sym e)
 

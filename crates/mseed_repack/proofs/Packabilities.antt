@@ -50,7 +50,8 @@ stands_at Is views (d ∷ ds) (t ∷ ts) (suc k) c s all lt at is =
     stands_at Is views ds ts k c s all.1 (omega (arith, lt)) at is
 
 -- the first of them
-found_take : (Is : List View → Packability → Type 0) (views : List View) (cs : List Channel) (ss : List Packability) (k : ℕ)
+found_take : (Is : List View → Packability → Type 0) (views : List View) (cs : List Channel) (ss : List Packability)
+    (k : ℕ)
     → AreFound Is views cs ss → AreFound Is views (take k cs) (take k ss)
 found_take Is views cs ss zero all = tt
 found_take Is views [] [] (suc k) all = tt
@@ -106,7 +107,8 @@ wrote_kept are whole reported wrote = record { are = are; whole = whole; reporte
 
 -- channels of which none is broken, and of which each fits
 
-sound_by_packability : (cutting : Cutting) (o : Options) (vs : List View) (s : Packability) → IsPackabilityAs cutting o vs s
+sound_by_packability : (cutting : Cutting) (o : Options) (vs : List View) (s : Packability)
+    → IsPackabilityAs cutting o vs s
     → IsUnbroken s → AllByRecursion IsSound vs
 sound_by_packability Whole o vs Fit fits un = fits.0
 sound_by_packability Whole o vs Broken not un = absurd un
@@ -134,7 +136,8 @@ each_fits ss k un fine =
     by (Misfit n f ∷ ts) un fine = absurd fine.0
 
 -- what is said of each channel that is broken
-unsound_by : (cutting : Cutting) (o : Options) (vs : List View) (s : Packability) → IsPackabilityAs cutting o vs s → s ≡ Broken
+unsound_by : (cutting : Cutting) (o : Options) (vs : List View) (s : Packability) → IsPackabilityAs cutting o vs s → s
+    ≡ Broken
     → ¬ (AllByRecursion IsSound vs)
 unsound_by Whole o vs s is e = subst (λ (t : Packability). IsPackabilityAs Whole o vs t) e is
 unsound_by Stretches o vs s is e = subst (λ (t : Packability). IsPackabilityAs Stretches o vs t) e is
@@ -156,7 +159,8 @@ unsound_at views cs ss k c all lt size at broken =
     (sym broken ∙ get_or_default ss k Fit Broken inside) refl
 
 -- the first broken channel is why an archive is refused
-pub refused_broken : (cutting : Cutting) (o : Options) (ps : List Placed) (views : List View) (cs : List Channel) (ss : List Packability)
+pub refused_broken : (cutting : Cutting) (o : Options) (ps : List Placed) (views : List View) (cs : List Channel)
+    (ss : List Packability)
     (k : ℕ) (c : Channel) (first : Finding) → k < length ss → length ss ≡ length cs → c ≡ get_or cs k c
     → get_or ss k Fit ≡ Broken → All IsUnbroken (take k ss) → AreFound (IsPackabilityAs cutting o) views cs ss
     → IsFirstOwn (placed_in c.0 ps) first → IsFirstRefused cutting o ps views cs (BrokenChannel c.0 first)
@@ -165,21 +169,25 @@ refused_broken cutting o ps views cs ss k c first lt size at is before all own =
     let Unsound : List ℕ → Type 0 = λ key. ¬ (AllByRecursion IsSound (records_in views key)) in
     let less : k < length cs = omega (arith, lt, size) in
     let here = unsound_by cutting o (records_in views c.0) Broken
-    (stands_at (IsPackabilityAs cutting o) views cs ss k c Broken all less at (sym is ∙ get_or_default ss k Fit Broken lt))
+    (stands_at (IsPackabilityAs cutting o) views cs ss k c Broken all less at (sym is ∙
+    get_or_default ss k Fit Broken lt))
     refl in
     let is_first : IsFirst Sound Unsound c.0 cs =
     subst (λ (key : List ℕ). IsFirst Sound Unsound key cs) (sym (ap (λ (d : Channel). d.0) at))
     (first_at Sound Unsound cs k c less
-    (first_found (IsPackabilityAs cutting o) IsUnbroken (AllByRecursion IsSound) (sound_by_packability cutting o) views cs ss k all
+    (first_found (IsPackabilityAs cutting o) IsUnbroken (AllByRecursion IsSound) (sound_by_packability cutting o)
+    views cs ss k all
     before)
     (subst (λ (d : Channel). Unsound d.0) at here)) in
     (is_first, own)
 
 -- or else the first that doesn't fit
-pub refused_misfit : (cutting : Cutting) (o : Options) (ps : List Placed) (views : List View) (cs : List Channel) (ss : List Packability)
+pub refused_misfit : (cutting : Cutting) (o : Options) (ps : List Placed) (views : List View) (cs : List Channel)
+    (ss : List Packability)
     (k n : ℕ) (fault : PackFault) (c : Channel) → k < length ss → length ss ≡ length cs → c ≡ get_or cs k c
     → get_or ss k Fit ≡ Misfit n fault → All IsUnbroken ss → All IsNoMisfit (take k ss)
-    → AreFound (IsPackabilityAs cutting o) views cs ss → IsFirstRefused cutting o ps views cs (MisfitStretch c.0 n fault)
+    → AreFound (IsPackabilityAs cutting o) views cs ss → IsFirstRefused cutting o ps views cs
+    (MisfitStretch c.0 n fault)
 refused_misfit cutting o ps views cs ss k n fault c lt size at is un before all =
     let Fits : List ℕ → Type 0 = λ key. IsPackabilityAs cutting o (records_in views key) Fit in
     let Misfits : List ℕ → Type 0 = λ key. IsPackabilityAs cutting o (records_in views key) (Misfit n fault) in
@@ -188,11 +196,13 @@ refused_misfit cutting o ps views cs ss k n fault c lt size at is un before all 
     stands_at (IsPackabilityAs cutting o) views cs ss k c (Misfit n fault) all less at (sym is
     ∙ get_or_default ss k Fit (Misfit n fault) lt) in (
       All-from_recursion (λ (d : Channel). AllByRecursion IsSound (records_in views d.0)) cs
-          (each_found (IsPackabilityAs cutting o) IsUnbroken (AllByRecursion IsSound) (sound_by_packability cutting o) views cs ss all
+          (each_found (IsPackabilityAs cutting o) IsUnbroken (AllByRecursion IsSound) (sound_by_packability cutting o)
+          views cs ss all
           (recursion_from_All IsUnbroken ss un)),
       subst (λ (key : List ℕ). IsFirst Fits Misfits key cs) (sym (ap (λ (d : Channel). d.0) at))
           (first_at Fits Misfits cs k c less
-          (first_found (IsPackabilityAs cutting o) IsFit (λ vs. IsPackabilityAs cutting o vs Fit) (fits_by_packability (IsPackabilityAs cutting o))
+          (first_found (IsPackabilityAs cutting o) IsFit (λ vs. IsPackabilityAs cutting o vs Fit) (fits_by_packability
+          (IsPackabilityAs cutting o))
           views cs ss k all
           (each_fits ss k un before))
           (subst (λ (d : Channel). Misfits d.0) at here)),

@@ -24,7 +24,8 @@ use Rattle.mseed_repack.specs.Restretch.{IsNumberedOn, more, none}
 use Rattle.mseed_repack.specs.ByStretches.{AreFound}
 use Rattle.mseed_repack.specs.private.Planning.{AreReady, CanBeWritten, GoesBy, IsCutAs, IsPartAs, IsPartOn}
 use Rattle.mseed_repack.specs.private.Planning.{IsPlanned, IsReadable, IsReady, IsStretchText, IsStretchWritten}
-use Rattle.mseed_repack.specs.private.Planning.{IsTextAs, IsTextOn, IsPackabilityAs, ready_next, ready_none, stretches_by}
+use Rattle.mseed_repack.specs.private.Planning.{IsTextAs, IsTextOn, IsPackabilityAs, ready_next, ready_none}
+use Rattle.mseed_repack.specs.private.Planning.{stretches_by}
 use Rattle.mseed_repack.specs.private.Reading.{steps_of}
 use Rattle.mseed_repack.specs.declared.plan.Plan.{Plan}
 use Rattle.mseed_repack.specs.declared.plan.Way.{Way}
@@ -512,7 +513,8 @@ plan_each _ _ _ ready_none = refl
 plan_each _ _ _ (ready_next c s ps cs ss ls one rest) = ap suc (plan_each cs ss ls rest)
 
 pub ready_at : {cutting : Cutting} {o : Options} {room places : ℕ} {views : List View} (cs : List Channel)
-    (ss : List Packability) (ls : List (List Plan)) (k : ℕ) (c : Channel) → AreReady cutting o room places views cs ss ls
+    (ss : List Packability) (ls : List (List Plan)) (k : ℕ) (c : Channel)
+    → AreReady cutting o room places views cs ss ls
     → k < length cs
     → IsReady cutting o room places (records_in views (get_or cs k c).0) (get_or ss k Fit) (get_or ls k [])
 ready_at _ _ _ k c ready_none lt = absurd (omega (arith, lt))

@@ -7,7 +7,7 @@ use Rattle.mseed_record.specs.View.{View, leap_of}
 use Rattle.mseed_record.specs.Viewing.{view_of}
 use Rattle.mseed_record.specs.declared.view.RecordView.{RecordView}
 use Rattle.mseed_steim.specs.Reading.{count_of, IsWhole}
-use Rattle.mseed_audit.specs.Channels.{is_of}
+use Rattle.mseed_audit.specs.Channels.{is_of_channel}
 use Rattle.mseed_audit.specs.Judging.{step_in}
 use Rattle.mseed_audit.specs.Series.{AreSteps, step_at}
 use Rattle.mseed_audit.proofs.Joined.{count_is, holds_more, holds_none}
@@ -36,7 +36,7 @@ steps_append (v ∷ vs) ws = let rest = steps_append vs ws in omega (arith, rest
 
 pub steps_in : (key : List ℕ) (vs : List View) → steps_of (channel_in key vs) ≤ steps_of vs
 steps_in key [] = omega arith
-steps_in key (v ∷ vs) = by (is_of key v) (steps_in key vs)
+steps_in key (v ∷ vs) = by (is_of_channel key v) (steps_in key vs)
   where
     by : (b : Bool) → steps_of (channel_in key vs) ≤ steps_of vs
         → steps_of (if b then v ∷ channel_in key vs else channel_in key vs) ≤ step_count v + steps_of vs

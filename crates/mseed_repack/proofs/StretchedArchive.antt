@@ -16,7 +16,7 @@ use Rattle.mseed_record.specs.Header.{key_at}
 use Rattle.mseed_record.specs.View.{View, IsView}
 use Rattle.mseed_stream.specs.Device.{BytesRead}
 use Rattle.mseed_stream.specs.Walk.{bytes_in}
-use Rattle.mseed_audit.specs.Channels.{is_of}
+use Rattle.mseed_audit.specs.Channels.{is_of_channel}
 use Rattle.mseed_audit.proofs.Following.{views_are}
 use Rattle.mseed_pack.specs.declared.options.Options.{Options}
 use Rattle.mseed_pack.proofs.Archived.{all_kept, key_of}
@@ -35,7 +35,7 @@ use Rattle.mseed_repack.proofs.ReadBack.{all_records, none_further, others_by}
 
 record IsOf (views : List View) (c : Channel) (own : List View) : Type 0 where
   each : AllByRecursion IsView own
-  of_key : AllByRecursion (λ (v : View). IsTrue (is_of c.0 v)) own
+  of_key : AllByRecursion (λ (v : View). IsTrue (is_of_channel c.0 v)) own
   borders : KeepsBorders (records_in views c.0) own
 
 abbrev AreOf : List View → List Channel → List View → Type 0
@@ -45,13 +45,14 @@ AreOf views (c ∷ cs) ws =
 
 -- the records of a channel have its key
 kept_keys : (key : List ℕ) (vs : List View)
-    → AllByRecursion (λ (v : View). key_at v.bytes ≡ key) (filter (is_of key) vs)
+    → AllByRecursion (λ (v : View). key_at v.bytes ≡ key) (filter (is_of_channel key) vs)
 kept_keys key [] = tt
-kept_keys key (v ∷ vs) = by (is_of key v) refl (kept_keys key vs)
+kept_keys key (v ∷ vs) = by (is_of_channel key v) refl (kept_keys key vs)
   where
-    by : (b : Bool) → is_of key v ≡ b → AllByRecursion (λ (u : View). key_at u.bytes ≡ key) (filter (is_of key) vs)
+    by : (b : Bool) → is_of_channel key v ≡ b → AllByRecursion (λ (u : View). key_at u.bytes ≡ key) (filter
+        (is_of_channel key) vs)
         → AllByRecursion (λ (u : View). key_at u.bytes ≡ key)
-        (cond b (v ∷ filter (is_of key) vs) (filter (is_of key) vs))
+        (cond b (v ∷ filter (is_of_channel key) vs) (filter (is_of_channel key) vs))
     by true e rest = (sym (key_of key v e), rest)
     by false e rest = rest
 
@@ -62,7 +63,7 @@ all_of laws o views [] text each fit none = ([], (refl, sym none))
 all_of laws o views (c ∷ cs) text each fit (its, (rest, written)) =
     let here = written.1 in
     let behind = all_of laws o views cs rest each fit.1 written.2 in
-    let mine : records_in views c.0 ≡ filter (is_of c.0) views = views_are c.0 views in
+    let mine : records_in views c.0 ≡ filter (is_of_channel c.0) views = views_are c.0 views in
     let own_views : AllByRecursion IsView (records_in views c.0) =
     subst (λ (vs : List View). AllByRecursion IsView vs) (sym mine) (kept_views c.0 views each) in
     let keys : AllByRecursion (λ (v : View). key_at v.bytes ≡ c.0) (records_in views c.0) =
@@ -125,57 +126,59 @@ distinct_kept (c ∷ cs) (Misfit n f ∷ ss) h = distinct_kept cs ss h.1
 -- Of all that was written, the records of a channel are its own.
 
 none_of : (key other : List ℕ) (vs : List View) → key ≢ other
-    → AllByRecursion (λ (v : View). IsTrue (is_of key v)) vs → filter (is_of other) vs ≡ []
+    → AllByRecursion (λ (v : View). IsTrue (is_of_channel key v)) vs → filter (is_of_channel other) vs ≡ []
 none_of key other [] apart h = refl
-none_of key other (v ∷ vs) apart h = by (is_of other v) refl (none_of key other vs apart h.1)
+none_of key other (v ∷ vs) apart h = by (is_of_channel other v) refl (none_of key other vs apart h.1)
   where
-    by : (b : Bool) → is_of other v ≡ b → filter (is_of other) vs ≡ []
-        → cond b (v ∷ filter (is_of other) vs) (filter (is_of other) vs) ≡ []
+    by : (b : Bool) → is_of_channel other v ≡ b → filter (is_of_channel other) vs ≡ []
+        → cond b (v ∷ filter (is_of_channel other) vs) (filter (is_of_channel other) vs) ≡ []
     by true e rest = absurd (apart (key_of key v h.0 ∙ sym (key_of other v e)))
     by false e rest = rest
 
 filter_parts : (key : List ℕ) (ws own rest : List View) → ws ≡ own ++ rest
-    → filter (is_of key) ws ≡ filter (is_of key) own ++ filter (is_of key) rest
+    → filter (is_of_channel key) ws ≡ filter (is_of_channel key) own ++ filter (is_of_channel key) rest
 filter_parts key ws own rest e =
-    ap (λ (us : List View). filter (is_of key) us) e ∙ filter-append (is_of key) own rest
+    ap (λ (us : List View). filter (is_of_channel key) us) e ∙ filter-append (is_of_channel key) own rest
 
 none_among : (views : List View) (key : List ℕ) (cs : List Channel) (ws : List View) → AreOf views cs ws
-    → AreOthers key cs → filter (is_of key) ws ≡ []
-none_among views key [] ws e others = ap (λ (us : List View). filter (is_of key) us) e
+    → AreOthers key cs → filter (is_of_channel key) ws ≡ []
+none_among views key [] ws e others = ap (λ (us : List View). filter (is_of_channel key) us) e
 none_among views key (c ∷ cs) ws (own, (rest, (parts, here, more))) others =
-    let mine : filter (is_of key) own ≡ [] = none_of c.0 key own others.0 here.of_key in
-    let theirs : filter (is_of key) rest ≡ [] = none_among views key cs rest more others.1 in
+    let mine : filter (is_of_channel key) own ≡ [] = none_of c.0 key own others.0 here.of_key in
+    let theirs : filter (is_of_channel key) rest ≡ [] = none_among views key cs rest more others.1 in
     filter_parts key ws own rest parts ∙ (λ i. mine i ++ theirs i)
 
 -- before others nothing of theirs stands
 abbrev NoneBefore : List View → List Channel → Type 0
-NoneBefore before cs = AllByRecursion (λ (c : Channel). filter (is_of c.0) before ≡ []) cs
+NoneBefore before cs = AllByRecursion (λ (c : Channel). filter (is_of_channel c.0) before ≡ []) cs
 
 none_yet : (cs : List Channel) → NoneBefore [] cs
 none_yet [] = tt
 none_yet (c ∷ cs) = (refl, none_yet cs)
 
 none_still : (key : List ℕ) (before own : List View) (cs : List Channel)
-    → AllByRecursion (λ (v : View). IsTrue (is_of key v)) own → AreOthers key cs → NoneBefore before cs
+    → AllByRecursion (λ (v : View). IsTrue (is_of_channel key v)) own → AreOthers key cs → NoneBefore before cs
     → NoneBefore (before ++ own) cs
 none_still key before own [] of_key others none = tt
 none_still key before own (c ∷ cs) of_key others none =
-    let first : filter (is_of c.0) before ≡ [] = none.0 in
-    let mine : filter (is_of c.0) own ≡ [] = none_of key c.0 own (λ e. others.0 (sym e)) of_key in (
-      filter-append (is_of c.0) before own ∙ (λ i. first i ++ mine i),
+    let first : filter (is_of_channel c.0) before ≡ [] = none.0 in
+    let mine : filter (is_of_channel c.0) own ≡ [] = none_of key c.0 own (λ e. others.0 (sym e)) of_key in (
+      filter-append (is_of_channel c.0) before own ∙ (λ i. first i ++ mine i),
       none_still key before own cs of_key others.1 none.1,
     )
 
 each_keeps : (views : List View) (cs : List Channel) (before ws : List View) → AreOf views cs ws → AreDistinct cs
     → NoneBefore before cs
-    → AllByRecursion (λ (c : Channel). KeepsBorders (records_in views c.0) (filter (is_of c.0) (before ++ ws))) cs
+    → AllByRecursion (λ (c : Channel). KeepsBorders (records_in views c.0) (filter (is_of_channel c.0) (before ++ ws)))
+    cs
 each_keeps views [] before ws are apart none = tt
 each_keeps views (c ∷ cs) before ws (own, (rest, (parts, here, more))) apart none =
-    let first : filter (is_of c.0) before ≡ [] = none.0 in
-    let mine : filter (is_of c.0) own ≡ own = all_kept c.0 own here.of_key in
-    let theirs : filter (is_of c.0) rest ≡ [] = none_among views c.0 cs rest more apart.0 in
-    let same : filter (is_of c.0) (before ++ ws) ≡ own =
-    filter-append (is_of c.0) before ws ∙ (λ i. first i ++ filter (is_of c.0) ws) ∙ filter_parts c.0 ws own rest parts
+    let first : filter (is_of_channel c.0) before ≡ [] = none.0 in
+    let mine : filter (is_of_channel c.0) own ≡ own = all_kept c.0 own here.of_key in
+    let theirs : filter (is_of_channel c.0) rest ≡ [] = none_among views c.0 cs rest more apart.0 in
+    let same : filter (is_of_channel c.0) (before ++ ws) ≡ own =
+    filter-append (is_of_channel c.0) before ws ∙ (λ i. first i ++ filter (is_of_channel c.0) ws) ∙
+    filter_parts c.0 ws own rest parts
     ∙ (λ i. mine i ++ theirs i) ∙ append-nil own in
     let further = each_keeps views cs (before ++ own) rest more apart.1
     (none_still c.0 before own cs here.of_key apart.0 none.1) in
@@ -183,11 +186,11 @@ each_keeps views (c ∷ cs) before ws (own, (rest, (parts, here, more))) apart n
     append_assoc before own rest ∙ ap (λ (us : List View). before ++ us) (sym parts) in (
       subst (λ (us : List View). KeepsBorders (records_in views c.0) us) (sym same) here.borders,
       subst (λ (us : List View). AllByRecursion
-          (λ (d : Channel). KeepsBorders (records_in views d.0) (filter (is_of d.0) us)) cs) all further,
+          (λ (d : Channel). KeepsBorders (records_in views d.0) (filter (is_of_channel d.0) us)) cs) all further,
     )
 
 in_records : (views written : List View) (cs : List Channel)
-    → AllByRecursion (λ (c : Channel). KeepsBorders (records_in views c.0) (filter (is_of c.0) written)) cs
+    → AllByRecursion (λ (c : Channel). KeepsBorders (records_in views c.0) (filter (is_of_channel c.0) written)) cs
     → AllByRecursion (λ (c : Channel). KeepsBorders (records_in views c.0) (records_in written c.0)) cs
 in_records views written [] h = tt
 in_records views written (c ∷ cs) h = (

@@ -12,8 +12,10 @@ use Rattle.mseed_repack.proofs.Joining.{IsPackability, going, stands_first, stan
 
 -- each record of a stretch is on time
 pub stands_at : (rate : Ratio) (first : View) (rest before : List View) (b : View) (vs leading back : List View)
-    (v : View) → known_rate first ≡ Some rate → first ∷ rest ≡ before ++ b ∷ [] → IsPackability rate (start_of first) before b
-    → AllGoOn (first ∷ rest) vs → b ∷ vs ≡ leading ++ v ∷ back → IsPackability rate (start_of first) (before ++ leading) v
+    (v : View) → known_rate first ≡ Some rate → first ∷ rest ≡ before ++ b ∷ [] → IsPackability rate (start_of first)
+    before b
+    → AllGoOn (first ∷ rest) vs → b ∷ vs ≡ leading ++ v ∷ back → IsPackability rate (start_of first)
+    (before ++ leading) v
 stands_at rate first rest before b vs [] back v known e stands more at =
     let same : b ≡ v = cc in
     subst (λ (w : View). IsPackability rate (start_of first) (before ++ []) w) same

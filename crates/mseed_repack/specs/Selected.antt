@@ -18,7 +18,8 @@ use Rattle.mseed_repack.specs.ByStretches.{IsPartStretched, IsRestretchingAmong,
 use Rattle.mseed_repack.specs.declared.fault.RepackFault.{RepackFault}
 use Rattle.mseed_repack.specs.declared.fault.RepackFault.TheVariants.{Stream, Write, Memory}
 use Rattle.mseed_repack.specs.declared.refusing.LeftOut.{LeftOut}
-use Rattle.mseed_repack.specs.declared.refusing.LeftOut.TheVariants.{Nothing, Broken as LeftBroken, Misfit as LeftMisfit}
+use Rattle.mseed_repack.specs.declared.refusing.LeftOut.TheVariants.{Nothing, Broken as LeftBroken}
+use Rattle.mseed_repack.specs.declared.refusing.LeftOut.TheVariants.{Misfit as LeftMisfit}
 use Rattle.mseed_repack.specs.declared.packability.Packability.{Packability}
 
 -- a text that was read to its end

@@ -14,7 +14,7 @@ ghost use Rattle.mseed_repack.specs.private.Reading.{channel_in};
 
 use crate::archive::ChannelWalk;
 use crate::places::Places;
-use mseed_audit::{Finding, Why, is_of};
+use mseed_audit::{Finding, Why, is_of_channel};
 use mseed_record::{Choice, Codes, RecordView};
 use mseed_steim::{check_samples, one_reading};
 
@@ -27,7 +27,8 @@ pub(crate) fn first_own<C: Choice>(
     places: &Places<'_, C>,
 ) -> Finding
     requires few { length channel_walk.now.views.now ≤ 2 ^ 40 }
-    requires all { records_on channel_walk.now ≡ channel_in channel_walk.now.codes.now (map view_of channel_walk.now.views.now) }
+    requires all { records_on channel_walk.now ≡ channel_in channel_walk.now.codes.now
+        (map view_of channel_walk.now.views.now) }
     requires broken { ¬ (AllByRecursion IsSound (records_on channel_walk.now)) }
     ensures { (ps : List Placed)
         → ArePlaces (C.selection places.now.choice.now) places.now.bytes.now (map view_of channel_walk.now.views.now) ps
@@ -58,7 +59,7 @@ fn find_own(views: &[RecordView], begin: usize, codes: &Codes) -> Option<Finding
     }
     for index in begin..views.len() {
         let view = &views[index];
-        if is_of(codes, view) {
+        if is_of_channel(codes, view) {
             if let Some(why) = own_finding(view) {
                 return Some(Finding {
                     number: index as u64 + 1,

@@ -36,7 +36,8 @@ pub(crate) fn pack_channels<A: Allocator, W: Sink>(
 ) -> Result<(), Failed>
     requires audited { IsAudited archive.now }
     requires ready { AreReady _cutting options.now (length samples.old) (length steps.old)
-        (map view_of archive.now.views.now) archive.now.channels.now packabilities.now (map (λ own. own.items) plans.now) }
+        (map view_of archive.now.views.now) archive.now.channels.now packabilities.now (map (λ own. own.items)
+        plans.now) }
     ensures ok { OnOk result (Wrote (TextsAs _cutting options.now (map view_of archive.now.views.now)
         (kept_of archive.now.channels.now packabilities.now)) 0 (W.written output.old) (W.written output.new)) }
     ensures err { IfErr result (λ _. Wrote (PartsAs _cutting options.now (map view_of archive.now.views.now)

@@ -54,7 +54,8 @@ pub(crate) fn refusal_unless<C: Choice>(
     requires unsound { AreUnsound (map view_of archive.now.views.now) archive.now.channels.now packabilities.now }
     ensures some { IfSome result (λ fault. (cutting : Cutting) (o : Options) (ps : List Placed)
         → ArePlaces (C.selection places.now.choice.now) places.now.bytes.now (map view_of archive.now.views.now) ps
-        → AreFound (IsPackabilityAs cutting o) (map view_of archive.now.views.now) archive.now.channels.now packabilities.now
+        → AreFound (IsPackabilityAs cutting o) (map view_of archive.now.views.now)
+        archive.now.channels.now packabilities.now
         → IsFirstRefused cutting o ps (map view_of archive.now.views.now) archive.now.channels.now fault) }
     ensures refuses { IfSome result (λ _. leave ≡ false) }
     ensures fit { IfNone result (leave ≡ false → AllByRecursion IsFit packabilities.now) }
@@ -79,7 +80,8 @@ pub(crate) fn refusal_unless<C: Choice>(
 /// Returns the index of the first channel that is broken.
 fn first_broken(packabilities: &[Packability]) -> Option<usize>
     ensures inside { IfSome result (λ number. number < length packabilities.now) }
-    ensures some { IfSome result (λ number. slice_index_or packabilities.now number Packability.Fit ≡ Packability.Broken) }
+    ensures some { IfSome result (λ number. slice_index_or packabilities.now number Packability.Fit
+        ≡ Packability.Broken) }
     ensures before { IfSome result (λ number. All IsUnbroken (take number packabilities.now)) }
     ensures none { IfNone result (All IsUnbroken packabilities.now) }
 {

@@ -6,7 +6,7 @@ use Rattle.std.specs.Char.{is_ascii_alphanumeric}
 use Rattle.std.specs.List.{after_first, before_first, list_all, position_or_len}
 use Rattle.clap.specs.Walk.{Row, Text, first_of}
 use Rattle.slink_wire.specs.Place.{Fields, fields_of}
-use Rattle.mseed_words.specs.Found.{asks, further_in, text_or}
+use Rattle.mseed_words.specs.Found.{is_set, further_in, text_or}
 use Rattle.mseed_words.specs.Mistakes.{and_then, mapped, name_text}
 use Rattle.mseed_words.specs.Numbers.{counted_in, hexadecimal_in, number_in}
 use Rattle.mseed_words.specs.Places.{ArePlaces, Called, has_place}
@@ -189,8 +189,8 @@ fetching_of rows =
       server = server;
       tries = tries;
       places = places;
-      report_next = asks (codes "tell-next") rows;
-      holes = asks (codes "holes") rows;
+      report_next = is_set (codes "tell-next") rows;
+      holes = is_set (codes "holes") rows;
     })))))
 
 -- a port that there is

@@ -22,5 +22,5 @@ is_true None = false
 is_true (Some text) = bytes_eq text (codes "true")
 
 -- whether a flag is set
-abbrev pub asks : Text → List Row → Bool
-asks name rows = is_true (first_of name rows)
+abbrev pub is_set : Text → List Row → Bool
+is_set name rows = is_true (first_of name rows)

@@ -11,7 +11,7 @@ use Rattle.mseed_steim.specs.declared.encoding.Encoding.{Encoding}
 use Rattle.mseed_steim.specs.declared.encoding.Encoding.TheVariants.{Int16, Int32, Steim1, Steim2}
 use Rattle.mseed_record.specs.Selection.{Selection}
 use Rattle.mseed_words.specs.Files.{files_of}
-use Rattle.mseed_words.specs.Found.{asks, further_in, text_or}
+use Rattle.mseed_words.specs.Found.{is_set, further_in, text_or}
 use Rattle.mseed_words.specs.Mistakes.{and_then, mapped, name_text}
 use Rattle.mseed_words.specs.Names.{name_of, nearest}
 use Rattle.mseed_words.specs.Numbers.{number_in, number_within}
@@ -70,7 +70,7 @@ packing_by false true packing = Err mistake.Leave
 abbrev pub packing_of : List Row → Result Request Mistake
 packing_of rows =
     and_then (exponent_of rows) (λ exponent. and_then (encoding_of rows) (λ encoding.
-    packing_by (asks (codes "stretches") rows) (asks (codes "leave") rows)
+    packing_by (is_set (codes "stretches") rows) (is_set (codes "leave") rows)
     (record { exponent = exponent; encoding = encoding })))
 
 -- what an audit writes: with a line for each finding or without, the text of the audit or its part
@@ -87,7 +87,7 @@ auditing_with each false (Some option) = Ok (auditing_by each false)
 auditing_with each true (Some option) = Err (mistake.Value option wanted.AllOfPart)
 
 abbrev pub auditing_of : List Row → Result Request Mistake
-auditing_of rows = auditing_with (asks (codes "each") rows) (asks (codes "part") rows) (option_given rows)
+auditing_of rows = auditing_with (is_set (codes "each") rows) (is_set (codes "part") rows) (option_given rows)
 
 -- how many parts there have to be, where a number is given: at least one
 abbrev pub expected_by : Option ℕ → Result (Option ℕ) Mistake
@@ -110,8 +110,8 @@ joining_by true true joining = Err mistake.EachPart
 abbrev pub joining_of : List Row → Result Request Mistake
 joining_of rows =
     and_then (expected_in (first_of (codes "expect") rows)) (λ expected.
-    joining_by (asks (codes "each") rows) (asks (codes "part") rows)
-    (record { past_faults = asks (codes "past-faults") rows; expected = expected }))
+    joining_by (is_set (codes "each") rows) (is_set (codes "part") rows)
+    (record { past_faults = is_set (codes "past-faults") rows; expected = expected }))
 
 -- what serving asks for: all of the input first, or while it comes
 abbrev pub serving_by : Bool → List Row → Result Request Mistake
@@ -125,7 +125,7 @@ request_of command.Join rows = joining_of rows
 request_of command.Show rows = Ok Show
 request_of command.Select rows = Ok Select
 request_of command.Repack rows = packing_of rows
-request_of command.Serve rows = serving_by (asks (codes "live") rows) rows
+request_of command.Serve rows = serving_by (is_set (codes "live") rows) rows
 request_of command.Fetch rows = mapped Fetch (fetching_of rows)
 
 -- records of 128 to 4096 bytes; a feed that can be

@@ -12,7 +12,7 @@ ghost use Rattle.mseed_words.specs.FeedWords.{host_of, is_code, live_serving_of,
 ghost use Rattle.mseed_words.specs.FeedWords.{place_in, place_of, places_in, port_of, serving_in, serving_of};
 ghost use Rattle.mseed_words.specs.FeedWords.{timeout_of, unnamed};
 
-use crate::found::{asks, is_given, text_of, text_or};
+use crate::found::{is_given, is_set, text_of, text_or};
 use crate::host_words::{address_in, host_in, timeout_in};
 use crate::mistake::{Mistake, PlaceFault, Valued, Wanted};
 use crate::numbers::{counted_in, hexadecimal_in, number_in};
@@ -126,8 +126,8 @@ pub(crate) fn fetching_of(matches: &ArgMatches<'_>) -> Result<Fetching, Mistake>
         server,
         tries,
         places,
-        report_next: asks(matches, "tell-next"),
-        holes: asks(matches, "holes"),
+        report_next: is_set(matches, "tell-next"),
+        holes: is_set(matches, "holes"),
     })
 }
 

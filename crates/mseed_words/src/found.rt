@@ -4,7 +4,7 @@ ghost use Rattle.std.specs.List.{list_any};
 ghost use Rattle.std.specs.Str.{bytes_eq};
 ghost use Rattle.clap.specs.Matches.{found_of};
 ghost use Rattle.clap.specs.Walk.{first_of, rows_of};
-ghost use Rattle.mseed_words.specs.Found.{asks, text_or};
+ghost use Rattle.mseed_words.specs.Found.{is_set, text_or};
 
 use clap::ArgMatches;
 
@@ -33,8 +33,8 @@ pub(crate) fn is_given(matches: &ArgMatches<'_>, name: &str) -> bool
 }
 
 /// Whether a flag is set.
-pub(crate) fn asks(matches: &ArgMatches<'_>, name: &str) -> bool
-    ensures { result ≡ asks name.now (rows_of (found_of matches.now)) }
+pub(crate) fn is_set(matches: &ArgMatches<'_>, name: &str) -> bool
+    ensures { result ≡ is_set name.now (rows_of (found_of matches.now)) }
 {
     match text_of(matches, name) {
         Some(text) => text == "true",

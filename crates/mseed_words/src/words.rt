@@ -20,7 +20,7 @@ ghost use Rattle.mseed_words.specs.private.Refused.{IsMistakenAs, IsRefusedAs};
 use crate::command_name::{CommandName, name_of, nearest};
 use crate::feed_words::{fetching_of, live_serving_of, serving_of};
 use crate::files::{file_mistake, takes_files};
-use crate::found::{asks, text_of, text_or};
+use crate::found::{is_set, text_of, text_or};
 use crate::mistake::{Mistake, Valued, Wanted};
 use crate::numbers::{number_in, number_within};
 use crate::options::{command, program};
@@ -250,7 +250,7 @@ fn request_of(name: CommandName, matches: &ArgMatches<'_>) -> Result<Request, Mi
         CommandName::Show => Ok(Request::Show),
         CommandName::Select => Ok(Request::Select),
         CommandName::Repack => packing_of(matches),
-        CommandName::Serve => serving_by(asks(matches, "live"), matches),
+        CommandName::Serve => serving_by(is_set(matches, "live"), matches),
         CommandName::Fetch => Ok(Request::Fetch(fetching_of(matches)?)),
     }
 }
@@ -280,10 +280,10 @@ fn auditing_of(matches: &ArgMatches<'_>) -> Result<Request, Mistake>
     ensures value { result ≡ auditing_of (rows_of (found_of matches.now)) }
     ensures range { IfOk result CanBeCalled }
 {
-    let part = asks(matches, "part");
+    let part = is_set(matches, "part");
     match option_given(matches) {
         Some(option) if part => Err(Mistake::Value(option, Wanted::AllOfPart)),
-        _ => Ok(auditing_by(asks(matches, "each"), part)),
+        _ => Ok(auditing_by(is_set(matches, "each"), part)),
     }
 }
 
@@ -311,10 +311,10 @@ fn joining_of(matches: &ArgMatches<'_>) -> Result<Request, Mistake>
 {
     let expected = expected_in(text_of(matches, "expect"))?;
     let joining = Joining {
-        past_faults: asks(matches, "past-faults"),
+        past_faults: is_set(matches, "past-faults"),
         expected,
     };
-    joining_by(asks(matches, "each"), asks(matches, "part"), joining)
+    joining_by(is_set(matches, "each"), is_set(matches, "part"), joining)
 }
 
 /// What is requested of joining: the text of an audit or a part, and a line for each border before the text alone.
@@ -363,7 +363,11 @@ fn packing_of(matches: &ArgMatches<'_>) -> Result<Request, Mistake>
     let exponent = exponent_of(matches)?;
     let encoding = encoding_of(matches)?;
     let packing = Packing { exponent, encoding };
-    packing_by(asks(matches, "stretches"), asks(matches, "leave"), packing)
+    packing_by(
+        is_set(matches, "stretches"),
+        is_set(matches, "leave"),
+        packing,
+    )
 }
 
 /// Packing anew, as it is, or by stretches.

@@ -28,7 +28,7 @@ use Rattle.slink_feed.specs.Rounds.{Attending, Gives, SendsAll, all_sent, place_
 use Rattle.slink_feed.specs.Running.{HasStream, Stands, StandsFor}
 use Rattle.slink_feed.specs.Sending.{AreCalled, AreShown, Called, IsReadFrom, packet_in, packets_of}
 use Rattle.slink_feed.specs.Serving.{Answers, IsAnswer, Serves, SessionState, Takes, none_served, piece_served}
-use Rattle.slink_feed.specs.Session.{IsBefore, State, has_sent_all, answered_in, at_next, grant_at, in_streaming}
+use Rattle.slink_feed.specs.Session.{IsBefore, State, has_sent_all, answered_in, at_next, grant_at, answer_streaming}
 use Rattle.slink_feed.specs.Session.{packet_at, reply_at_next, sent, sent_bytes, sent_in, sent_of}
 use Rattle.slink_feed.specs.Window.{Shows, Window, record_at}
 use Rattle.slink_feed.proofs.Closing.{Open, open_or}
@@ -186,7 +186,7 @@ slices feeds s bytes on w = record {
 }
 
 -- what a session that streams replies: nothing
-quiet_line : (s : State) (c : Command) → (in_streaming s c).1 ≡ written.Nothing
+quiet_line : (s : State) (c : Command) → (answer_streaming s c).1 ≡ written.Nothing
 quiet_line s Bye = refl
 quiet_line s Hello = refl
 quiet_line s (Station sta net) = refl

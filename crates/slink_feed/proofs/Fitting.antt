@@ -14,7 +14,7 @@ use Rattle.slink_feed.specs.declared.session.Phase.TheVariants.{Fresh, Chosen, G
 use Rattle.slink_feed.specs.Grant.{grant_of}
 use Rattle.slink_feed.specs.Rings.{station_at}
 use Rattle.slink_feed.specs.Session.{Fits, IsReached, State, IsChosenOf, at, grant_at, answered, answered_in, called}
-use Rattle.slink_feed.specs.Session.{chosen, granted, in_chosen, in_fresh, in_granted, in_streaming}
+use Rattle.slink_feed.specs.Session.{chosen, granted, answer_chosen, answer_fresh, answer_granted, answer_streaming}
 use Rattle.slink_feed.specs.Window.{Window, ahead_of, oldest_of, resolve_of, with_record}
 use Rattle.slink_feed.proofs.Reached.{reached_with, reached_without}
 use Rattle.std.proofs.lemmas.Option.{same_Some}
@@ -78,14 +78,14 @@ fits_called : (feed : List Window) (s : State) (mode : Mode) (k : ℕ) (number :
     → Fits feed (called feed k mode number s).0
 fits_called feed s mode k number lt f = fits_ring feed s mode k number (slice_get feed k) refl lt f
 
-fits_fresh : (feed : List Window) (s : State) (c : Command) → Fits feed s → Fits feed (in_fresh feed s c).0
+fits_fresh : (feed : List Window) (s : State) (c : Command) → Fits feed s → Fits feed (answer_fresh feed s c).0
 fits_fresh feed s (Station sta net) f = fits_station feed s sta net f
 fits_fresh feed s Bye f = (tt, f.1)
 fits_fresh feed s command f = f
 
 -- where a station is chosen, with a grant or without
 fits_when_chosen : (feed : List Window) (k : ℕ) (s : State) (c : Command) → k < length feed → Fits feed s
-    → Fits feed (in_chosen feed k s c).0 × Fits feed (in_granted feed k s c).0
+    → Fits feed (answer_chosen feed k s c).0 × Fits feed (answer_granted feed k s c).0
 fits_when_chosen feed k s (Station sta net) lt f = (fits_station feed s sta net f, fits_station feed s sta net f)
 fits_when_chosen feed k s (Data number) lt f =
     (fits_called feed s Modes.Data k number lt f, fits_called feed s Modes.Data k number lt f)
@@ -95,7 +95,7 @@ fits_when_chosen feed k s End lt f = (f, (tt, f.1))
 fits_when_chosen feed k s Bye lt f = ((tt, f.1), (tt, f.1))
 fits_when_chosen feed k s command lt f = (f, f)
 
-fits_streaming : (feed : List Window) (s : State) (c : Command) → Fits feed s → Fits feed (in_streaming s c).0
+fits_streaming : (feed : List Window) (s : State) (c : Command) → Fits feed s → Fits feed (answer_streaming s c).0
 fits_streaming feed s Bye f = (tt, f.1)
 fits_streaming feed s command f = f
 

@@ -4,7 +4,7 @@ use Rattle.std.proofs.Common.{◌∷◌, length, set, Some, None, option_map, sl
 use Rattle.std.proofs.lemmas.Option.{slice_get-map, same_Some}
 use Rattle.slink_wire.specs.Place.{Bears, Fields}
 use Rattle.slink_wire.proofs.Carrying.{carries_fails, carries_passes}
-use Rattle.slink_feed.specs.Intake.{IsOfFeed, is_of, places_of, pushed}
+use Rattle.slink_feed.specs.Intake.{IsOfFeed, is_of_station, places_of, pushed}
 use Rattle.slink_feed.specs.Rings.{IsOfNoPlace, IsPlaceOf}
 use Rattle.slink_feed.specs.Window.{Window, with_record}
 use Rattle.slink_feed.proofs.Items.{within_is}
@@ -32,7 +32,7 @@ places_if false v ws xs r e = ap (λ ps. v.place ∷ ps) e
 
 pub places_pushed : (feed : List Window) (r : List ℕ) → places_of (pushed feed r) ≡ places_of feed
 places_pushed [] r = refl
-places_pushed (v ∷ ws) r = places_if (is_of v.place r) v ws (pushed ws r) r (places_pushed ws r)
+places_pushed (v ∷ ws) r = places_if (is_of_station v.place r) v ws (pushed ws r) r (places_pushed ws r)
 
 place_at : (feed : List Window) (k : ℕ) (w : Window) → slice_get feed k ≡ Some w
     → slice_get (places_of feed) k ≡ Some w.place

@@ -16,7 +16,8 @@ use Rattle.slink_feed.specs.declared.session.Phase.TheVariants.{Streaming, Close
 use Rattle.slink_feed.specs.declared.session.Sent.{Sent}
 use Rattle.slink_feed.specs.declared.session.Sent.TheVariants as Sents
 use Rattle.slink_feed.specs.Serving.{IsAnswer}
-use Rattle.slink_feed.specs.Session.{Grants, State, has_sent_all, answered_in, at_next, grant_at, in_streaming, sent_in}
+use Rattle.slink_feed.specs.Session.{Grants, State, has_sent_all, answered_in, at_next, grant_at, answer_streaming}
+use Rattle.slink_feed.specs.Session.{sent_in}
 use Rattle.slink_feed.specs.Session.{packet_at, sent, sent_of}
 use Rattle.slink_feed.specs.Sending.{AreCalled, AreShown, Called, IsReadFrom, IsSlice, packet_in, packets_from}
 use Rattle.slink_feed.specs.Sending.{packets_of}
@@ -202,7 +203,7 @@ slice_sent k first pushed (a ∷ more) s g on at_k called shown =
     ]
 
 -- what a line leaves of a session that streams
-line_read : (s : State) (c : Command) → IsReadFrom s (in_streaming s c).0
+line_read : (s : State) (c : Command) → IsReadFrom s (answer_streaming s c).0
 line_read s Bye = inr refl
 line_read s command = inl refl
 

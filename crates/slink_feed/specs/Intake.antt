@@ -10,8 +10,9 @@ abbrev pub places_of : List Window → List Fields
 places_of feed = map (λ w. w.place) feed
 
 -- whether a record's header has the codes of a station
-abbrev pub is_of : Fields → List ℕ → Bool
-is_of place bytes = bytes_eq (slice_range bytes 8 13) place.station && bytes_eq (slice_range bytes 18 20) place.network
+abbrev pub is_of_station : Fields → List ℕ → Bool
+is_of_station place bytes = bytes_eq (slice_range bytes 8 13) place.station && bytes_eq (slice_range bytes 18 20)
+    place.network
 
 -- The record has 512 bytes, and is of one of the stations.
 abbrev pub IsOfFeed : List Fields → List ℕ → Type 0
@@ -21,7 +22,7 @@ IsOfFeed places bytes =
 -- the rings, once the first one of a record's station accepted it
 abbrev pub pushed : List Window → List ℕ → List Window
 pushed [] bytes = []
-pushed (w ∷ ws) bytes = if is_of w.place bytes then with_record w bytes ∷ ws else w ∷ pushed ws bytes
+pushed (w ∷ ws) bytes = if is_of_station w.place bytes then with_record w bytes ∷ ws else w ∷ pushed ws bytes
 
 -- the codes of the header that these bytes begin with; spaces where they aren't all there
 abbrev pub codes_of : List ℕ → Fields

@@ -71,45 +71,45 @@ abbrev pub called : List Window → ℕ → Mode → Option ℕ → State → St
 called feed k mode number s = granted mode k (option_and_then (grant_of mode number) (slice_get feed k)) s
 
 -- The answers, state by command. Where no new state stands, state and grants stay.
-abbrev pub in_fresh : List Window → State → Command → State × Reply
-in_fresh feed s Hello = (s, Replies.Hello)
-in_fresh feed s (Station sta net) = chosen (station_at feed sta net) s
-in_fresh feed s SelectAll = (s, Replies.Error)
-in_fresh feed s (Data number) = (s, Replies.Error)
-in_fresh feed s (Fetch number) = (s, Replies.Error)
-in_fresh feed s End = (s, Replies.Error)
-in_fresh feed s Bye = (at Closed s.grants, Replies.Nothing)
-in_fresh feed s Other = (s, Replies.Error)
+abbrev pub answer_fresh : List Window → State → Command → State × Reply
+answer_fresh feed s Hello = (s, Replies.Hello)
+answer_fresh feed s (Station sta net) = chosen (station_at feed sta net) s
+answer_fresh feed s SelectAll = (s, Replies.Error)
+answer_fresh feed s (Data number) = (s, Replies.Error)
+answer_fresh feed s (Fetch number) = (s, Replies.Error)
+answer_fresh feed s End = (s, Replies.Error)
+answer_fresh feed s Bye = (at Closed s.grants, Replies.Nothing)
+answer_fresh feed s Other = (s, Replies.Error)
 
-abbrev pub in_chosen : List Window → ℕ → State → Command → State × Reply
-in_chosen feed k s Hello = (s, Replies.Hello)
-in_chosen feed k s (Station sta net) = chosen (station_at feed sta net) s
-in_chosen feed k s SelectAll = (s, Replies.Ok)
-in_chosen feed k s (Data number) = called feed k Modes.Data number s
-in_chosen feed k s (Fetch number) = called feed k Modes.Fetch number s
-in_chosen feed k s End = (s, Replies.Error)
-in_chosen feed k s Bye = (at Closed s.grants, Replies.Nothing)
-in_chosen feed k s Other = (s, Replies.Error)
+abbrev pub answer_chosen : List Window → ℕ → State → Command → State × Reply
+answer_chosen feed k s Hello = (s, Replies.Hello)
+answer_chosen feed k s (Station sta net) = chosen (station_at feed sta net) s
+answer_chosen feed k s SelectAll = (s, Replies.Ok)
+answer_chosen feed k s (Data number) = called feed k Modes.Data number s
+answer_chosen feed k s (Fetch number) = called feed k Modes.Fetch number s
+answer_chosen feed k s End = (s, Replies.Error)
+answer_chosen feed k s Bye = (at Closed s.grants, Replies.Nothing)
+answer_chosen feed k s Other = (s, Replies.Error)
 
-abbrev pub in_granted : List Window → ℕ → State → Command → State × Reply
-in_granted feed k s Hello = (s, Replies.Hello)
-in_granted feed k s (Station sta net) = chosen (station_at feed sta net) s
-in_granted feed k s SelectAll = (s, Replies.Ok)
-in_granted feed k s (Data number) = called feed k Modes.Data number s
-in_granted feed k s (Fetch number) = called feed k Modes.Fetch number s
-in_granted feed k s End = (at Streaming s.grants, Replies.Nothing)
-in_granted feed k s Bye = (at Closed s.grants, Replies.Nothing)
-in_granted feed k s Other = (s, Replies.Error)
+abbrev pub answer_granted : List Window → ℕ → State → Command → State × Reply
+answer_granted feed k s Hello = (s, Replies.Hello)
+answer_granted feed k s (Station sta net) = chosen (station_at feed sta net) s
+answer_granted feed k s SelectAll = (s, Replies.Ok)
+answer_granted feed k s (Data number) = called feed k Modes.Data number s
+answer_granted feed k s (Fetch number) = called feed k Modes.Fetch number s
+answer_granted feed k s End = (at Streaming s.grants, Replies.Nothing)
+answer_granted feed k s Bye = (at Closed s.grants, Replies.Nothing)
+answer_granted feed k s Other = (s, Replies.Error)
 
-abbrev pub in_streaming : State → Command → State × Reply
-in_streaming s Bye = (at Closed s.grants, Replies.Nothing)
-in_streaming s _ = (s, Replies.Nothing)
+abbrev pub answer_streaming : State → Command → State × Reply
+answer_streaming s Bye = (at Closed s.grants, Replies.Nothing)
+answer_streaming s _ = (s, Replies.Nothing)
 
 abbrev pub answered_in : Phase → List Window → State → Command → State × Reply
-answered_in Fresh feed s c = in_fresh feed s c
-answered_in (Chosen k) feed s c = in_chosen feed k s c
-answered_in (Granted k) feed s c = in_granted feed k s c
-answered_in Streaming feed s c = in_streaming s c
+answered_in Fresh feed s c = answer_fresh feed s c
+answered_in (Chosen k) feed s c = answer_chosen feed k s c
+answered_in (Granted k) feed s c = answer_granted feed k s c
+answered_in Streaming feed s c = answer_streaming s c
 answered_in Closed feed s c = (s, Replies.Nothing)
 
 -- the state after a command, and the reply

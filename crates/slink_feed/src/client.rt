@@ -198,7 +198,7 @@ impl Client {
     }
 
     /// What is kept reads as what is begun. Nothing is done.
-    pub(crate) fn has_reading(&self)
+    pub(crate) fn kept_reads_as_begun(&self)
         ensures { Reads self.now.talk self.now.kept [] self.now }
     {
         // The prover learns here that what is kept is begun.

@@ -91,7 +91,7 @@ pub fn fetch_turn_in<S: Duplex, W: Sink, E: Sink>(
         (fetching client.new (S.written link.new) (W.written output.new)) (S.read link.old) (S.read link.new)
         reporter.old reporter.new (E.written errors.old) (E.written errors.new) }
 {
-    client.has_reading();
+    client.kept_reads_as_begun();
     let lack = client.lack();
     let count = match link.pull(&mut room[..lack]) {
         Ok(count) => count,

@@ -4,7 +4,6 @@
 
 mod client;
 mod connection;
-mod course;
 mod cutting;
 mod dialogue;
 mod feed;
@@ -12,6 +11,7 @@ mod fetching;
 mod grant;
 mod input;
 mod law;
+mod progress;
 mod reported;
 mod reporter;
 mod ring;

@@ -12,8 +12,8 @@ ghost use Rattle.slink_feed.specs.Serving.{Answers, SessionState, TakesWhole};
 ghost use Rattle.slink_feed.specs.Session.{Fits, IsAtNext, IsWaiting, has_sent_all, at, grant_at, sent, sent_bytes};
 ghost use Rattle.slink_feed.specs.Session.{sent_without};
 
-use crate::course::Course;
 use crate::feed::{Feed, STATIONS};
+use crate::progress::Progress;
 use crate::ring::MOST_RECORDS;
 use slink_wire::{Lines, PACKET, Reply, Took};
 use std::alloc::Allocator;
@@ -89,17 +89,17 @@ impl Unsent {
 /// The session of one connection.
 #[derive(Drop)]
 pub struct Session {
-    course: Course,
+    progress: Progress,
     lines: Lines,
 }
 
 impl Model for Session {
     ghost Value = { SessionState };
 
-    ghost view = { λ s. record { state = s.course; held = s.lines } };
+    ghost view = { λ s. record { state = s.progress; held = s.lines } };
 
     // Unless it is closed, it stands for the stream that its link brought, in which no line is too long.
-    ghost invariant = { λ s. Stands (record { state = s.course; held = s.lines }) };
+    ghost invariant = { λ s. Stands (record { state = s.progress; held = s.lines }) };
 }
 
 impl Session {
@@ -111,7 +111,7 @@ impl Session {
         ensures stands { Stands result }
     {
         Session {
-            course: Course::new(),
+            progress: Progress::new(),
             lines: Lines::new(),
         }
     }
@@ -142,11 +142,11 @@ impl Session {
         ensures fits { Fits feed.now self.new.state }
         ensures stands { Stands self.new }
     {
-        if self.course.is_closed() {
+        if self.progress.is_closed() {
             return (bytes.len(), Reply::Nothing);
         }
         let Took { used, what } = self.lines.take(bytes);
-        (used, self.course.answer_to(feed, what))
+        (used, self.progress.answer_to(feed, what))
     }
 
     /// Returns the next packet of the station at an index of the feed, or why none is sent.
@@ -163,7 +163,7 @@ impl Session {
         ensures few { (bytes : List ℕ) → result ≡ Sent.Packet bytes
             → ForSome (slice_get feed.now k) (λ w. length w.records ≤ MOST_RECORDS) }
     {
-        self.course.packet(feed, k)
+        self.progress.packet(feed, k)
     }
 
     /// Returns the record of the next packet of the station at an index of the feed, with its number modulo 2^24. The
@@ -192,7 +192,7 @@ impl Session {
         // The ring of a record keeps at most 1,000,000 records.
         ensures few { IfOk result (λ _. ForSome (slice_get feed.now k) (λ w. length w.records ≤ MOST_RECORDS)) }
     {
-        self.course.next_record(feed, k)
+        self.progress.next_record(feed, k)
     }
 
     /// Returns whether nothing is sent of any station now: then [`Session::packet`] gives nothing for any of them.
@@ -201,7 +201,7 @@ impl Session {
     pub fn is_waiting<A: Allocator>(&self, feed: &Feed<A>) -> bool
         ensures { IsTrue result ↔ IsWaiting feed.now self.now.state }
     {
-        self.course.is_waiting(feed)
+        self.progress.is_waiting(feed)
     }
 
     /// Returns whether a record is due of the station at an index of the feed: the session streams, was granted the
@@ -217,7 +217,7 @@ impl Session {
         ensures no { OnFalse result
             (self.now.state.phase ≡ Phase.Streaming → IsAtNext feed.now self.now.state.grants k) }
     {
-        self.course.is_due(feed, k)
+        self.progress.is_due(feed, k)
     }
 
     /// Returns whether all that was requested is sent, and no record that comes later is requested. It is so of a
@@ -227,7 +227,7 @@ impl Session {
     pub fn has_sent_all<A: Allocator>(&self, feed: &Feed<A>) -> bool
         ensures { result ≡ has_sent_all feed.now self.now.state.grants }
     {
-        self.course.has_sent_all(feed)
+        self.progress.has_sent_all(feed)
     }
 
     /// Does nothing. Where it is called, a proof knows that the session stands for the stream that its link brought,
@@ -236,7 +236,7 @@ impl Session {
         ensures { Stands self.now }
     {
         // The prover learns here what is true of every session.
-        let _ = &self.course;
+        let _ = &self.progress;
     }
 
     /// Returns whether the session is closed: nothing more is answered or sent.
@@ -244,7 +244,7 @@ impl Session {
         ensures yes { OnTrue result (self.now.state.phase ≡ Phase.Closed) }
         ensures no { OnFalse result (self.now.state.phase ≢ Phase.Closed) }
     {
-        self.course.is_closed()
+        self.progress.is_closed()
     }
 
     /// Returns whether records are sent: the client has ended the handshake by END.
@@ -252,14 +252,14 @@ impl Session {
         ensures yes { OnTrue result (self.now.state.phase ≡ Phase.Streaming) }
         ensures no { OnFalse result (self.now.state.phase ≢ Phase.Streaming) }
     {
-        self.course.is_streaming()
+        self.progress.is_streaming()
     }
 
     /// Returns the number of the record that is sent next of the station at an index of the feed, where it has a grant.
     pub fn position(&self, k: usize) -> Option<u64>
         ensures { result ≡ option_map (λ (g : Grant). g.position) (grant_at self.now.state.grants k) }
     {
-        match self.course.grant_of(k) {
+        match self.progress.grant_of(k) {
             Some(grant) => Some(grant.position),
             None => None,
         }

@@ -12,28 +12,28 @@
 
 mod accept;
 mod acceptor;
-mod ahead;
 mod closing;
 mod dial;
 mod draining;
 mod ending;
 mod fetching;
-mod gathering;
 mod guards;
 mod handshake;
 mod input;
 mod listen_fault;
 mod live_tcp;
 mod network_fault;
-mod patient;
+mod packet_buffer;
 mod pause;
 mod plan;
 mod planned;
+mod read_ahead;
 mod round;
 mod serving;
 mod slot;
 mod status;
 mod tcp;
+mod time_limited;
 mod trouble;
 
 pub use accept::Accept;

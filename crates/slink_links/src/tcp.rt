@@ -7,21 +7,21 @@ ghost use Rattle.slink_links.specs.Out.{AreOut};
 ghost use Rattle.slink_links.specs.Served.{HasServed};
 
 use crate::accept::Accept;
-use crate::ahead::Ahead;
 use crate::closing::close;
 use crate::dial::Dial;
 use crate::fetching::FetchEnd;
-use crate::gathering::Gathering;
 use crate::guards::{listener_off_streams, off_streams};
 use crate::handshake::EndsHandshake;
 use crate::listen_fault::ListenFault;
 use crate::network_fault::NetworkFault;
-use crate::patient::{Limits, Patient};
+use crate::packet_buffer::PacketBuffer;
 use crate::pause::Sleeper;
 use crate::plan::{FetchPlan, ServePlan};
 use crate::planned::{fetch_planned, serve_planned};
+use crate::read_ahead::ReadAhead;
+use crate::time_limited::{Limits, TimeLimited};
 use crate::trouble::{DialFault, Loss, Trouble};
-use crate::{ahead, gathering};
+use crate::{packet_buffer, read_ahead};
 use mseed_stream::{Counted, Exchanges, Sink, Tally};
 use slink_wire::{Address, Host, Name, Timeout};
 use std::alloc::Allocator;
@@ -45,20 +45,20 @@ fn link_over<'a, C: Clock, S: OpenStream + Drop>(
     clock: &'a C,
     stream: S,
     limits: Limits,
-) -> io::Result<Patient<'a, C, S>> {
+) -> io::Result<TimeLimited<'a, C, S>> {
     let _ = stream.set_nodelay(true);
-    Patient::new(clock, stream, limits)
+    TimeLimited::new(clock, stream, limits)
 }
 
 impl<C: Clock, S: Read + Write + OpenStream + Drop> EndsHandshake
-    for Counted<Gathering<'_, Patient<'_, C, S>>> {
+    for Counted<PacketBuffer<'_, TimeLimited<'_, C, S>>> {
     fn end_handshake(&self) {
         self.get_ref().stream().end_handshake();
     }
 }
 
 impl<C: Clock, S: Read + Write + OpenStream + Drop> EndsHandshake
-    for Counted<Ahead<'_, Patient<'_, C, S>>> {
+    for Counted<ReadAhead<'_, TimeLimited<'_, C, S>>> {
     fn end_handshake(&self) {
         self.get_ref().stream().end_handshake();
     }
@@ -186,7 +186,7 @@ pub(crate) struct Listening<'a, N: Net + Clock> {
     lost: Tally,
     given_back: Exchanges,
     // It is with the link that is out, if one is.
-    room: Option<&'a mut gathering::Room>,
+    room: Option<&'a mut packet_buffer::Room>,
 }
 
 impl<'a, N: Net + Clock> Listening<'a, N> {
@@ -200,7 +200,7 @@ impl<'a, N: Net + Clock> Listening<'a, N> {
         address: Address,
         port: u16,
         timeout: Timeout,
-        room: &'a mut gathering::Room,
+        room: &'a mut packet_buffer::Room,
     ) -> io::Result<Listening<'a, N>>
         ensures { IfOk result (λ l. AreOut 0 l.tally.calls l.tally.failures l.given_back.all) }
     {
@@ -220,7 +220,7 @@ impl<'a, N: Net + Clock> Listening<'a, N> {
     /// # Errors
     ///
     /// Where there is none.
-    fn next_patient(&self) -> io::Result<Patient<'a, N, N::Stream>> {
+    fn next_patient(&self) -> io::Result<TimeLimited<'a, N, N::Stream>> {
         // A client that has sent all may be silent for as long as it likes.
         let limits = Limits {
             all: self.timeout.limit(),
@@ -233,18 +233,18 @@ impl<'a, N: Net + Clock> Listening<'a, N> {
 /// A link that gathers packets, for which there is room while no other one is out.
 fn gathering_of<'a, S: Read + Write + Drop>(
     stream: S,
-    room: &mut Option<&'a mut gathering::Room>,
-) -> Option<Counted<Gathering<'a, S>>>
+    room: &mut Option<&'a mut packet_buffer::Room>,
+) -> Option<Counted<PacketBuffer<'a, S>>>
     ensures { IfSome result (λ link. (read_by link ≡ nothing_read) × (written_by link ≡ nothing_written)) }
 {
     match room.take() {
-        Some(room) => Some(Counted::new(Gathering::new(stream, room))),
+        Some(room) => Some(Counted::new(PacketBuffer::new(stream, room))),
         None => None,
     }
 }
 
 impl<'a, N: Net + Clock> Accept for Listening<'a, N> {
-    type Link = Counted<Gathering<'a, Patient<'a, N, N::Stream>>>;
+    type Link = Counted<PacketBuffer<'a, TimeLimited<'a, N, N::Stream>>>;
 
     ghost calls = { λ l. l.tally.calls };
 
@@ -254,7 +254,7 @@ impl<'a, N: Net + Clock> Accept for Listening<'a, N> {
 
     ghost given_back = { λ l. l.given_back.all };
 
-    fn accept(&mut self) -> Option<Counted<Gathering<'a, Patient<'a, N, N::Stream>>>> {
+    fn accept(&mut self) -> Option<Counted<PacketBuffer<'a, TimeLimited<'a, N, N::Stream>>>> {
         let link = match self.next_patient() {
             Ok(stream) => gathering_of(stream, &mut self.room),
             Err(_) => None,
@@ -263,7 +263,11 @@ impl<'a, N: Net + Clock> Accept for Listening<'a, N> {
         link
     }
 
-    fn hang_up(&mut self, link: Counted<Gathering<'a, Patient<'a, N, N::Stream>>>, failed: bool) {
+    fn hang_up(
+        &mut self,
+        link: Counted<PacketBuffer<'a, TimeLimited<'a, N, N::Stream>>>,
+        failed: bool,
+    ) {
         self.given_back.record(&link);
         self.lost.record(&[], failed);
         let (stream, room) = link.into_inner().into_parts();
@@ -283,7 +287,7 @@ pub(crate) struct Dialler<'a, N: Net + Clock> {
     given_back: Exchanges,
     trouble: Option<Trouble>,
     // It is with the link that is out, if one is.
-    room: Option<&'a mut ahead::Room>,
+    room: Option<&'a mut read_ahead::Room>,
 }
 
 /// A link that reads ahead, for which there is room while no other one is out.
@@ -293,12 +297,12 @@ pub(crate) struct Dialler<'a, N: Net + Clock> {
 /// Where there is no room.
 fn ahead_of<'a, S: Read + Write + Drop>(
     stream: S,
-    room: &mut Option<&'a mut ahead::Room>,
-) -> Result<Counted<Ahead<'a, S>>, DialFault>
+    room: &mut Option<&'a mut read_ahead::Room>,
+) -> Result<Counted<ReadAhead<'a, S>>, DialFault>
     ensures { IfOk result (λ link. (read_by link ≡ nothing_read) × (written_by link ≡ nothing_written)) }
 {
     match room.take() {
-        Some(room) => Ok(Counted::new(Ahead::new(stream, room))),
+        Some(room) => Ok(Counted::new(ReadAhead::new(stream, room))),
         None => Err(DialFault::Unconnected(NetworkFault::Other(ListenFault::NoMemory))),
     }
 }
@@ -310,7 +314,7 @@ impl<'a, N: Net + Clock> Dialler<'a, N> {
         host: Host,
         port: u16,
         timeout: Timeout,
-        room: &'a mut ahead::Room,
+        room: &'a mut read_ahead::Room,
     ) -> Dialler<'a, N>
         ensures { AreOut 0 result.tally.calls result.tally.failures result.given_back.all }
     {
@@ -348,7 +352,7 @@ impl<'a, N: Net + Clock> Dialler<'a, N> {
     /// # Errors
     ///
     /// Why there is none.
-    fn next_patient(&self) -> Result<Patient<'a, N, N::Stream>, DialFault> {
+    fn next_patient(&self) -> Result<TimeLimited<'a, N, N::Stream>, DialFault> {
         let limit = self.timeout.limit();
         let limits = Limits {
             all: limit,
@@ -363,7 +367,7 @@ impl<'a, N: Net + Clock> Dialler<'a, N> {
 }
 
 impl<'a, N: Net + Clock> Dial for Dialler<'a, N> {
-    type Link = Counted<Ahead<'a, Patient<'a, N, N::Stream>>>;
+    type Link = Counted<ReadAhead<'a, TimeLimited<'a, N, N::Stream>>>;
 
     ghost calls = { λ d. d.tally.calls };
 
@@ -373,7 +377,7 @@ impl<'a, N: Net + Clock> Dial for Dialler<'a, N> {
 
     ghost trouble = { λ d. d.trouble };
 
-    fn dial(&mut self) -> Result<Counted<Ahead<'a, Patient<'a, N, N::Stream>>>, DialFault> {
+    fn dial(&mut self) -> Result<Counted<ReadAhead<'a, TimeLimited<'a, N, N::Stream>>>, DialFault> {
         let dialled = match self.next_patient() {
             Ok(stream) => ahead_of(stream, &mut self.room),
             Err(fault) => Err(fault),
@@ -385,7 +389,7 @@ impl<'a, N: Net + Clock> Dial for Dialler<'a, N> {
         dialled
     }
 
-    fn hang_up(&mut self, link: Counted<Ahead<'a, Patient<'a, N, N::Stream>>>) -> Loss {
+    fn hang_up(&mut self, link: Counted<ReadAhead<'a, TimeLimited<'a, N, N::Stream>>>) -> Loss {
         self.given_back.record(&link);
         let loss = link.get_ref().stream().loss();
         self.room = Some(link.into_inner().into_room());
@@ -408,7 +412,7 @@ pub fn serve<N: Net + Clock, A: Allocator, E: Sink>(
     ensures served { IfOk result (λ status. HasServed status (E.written errors.old) (E.written errors.new)) }
     ensures unserved { OnErr result (E.written errors.new ≡ E.written errors.old) }
 {
-    let mut room = [0; gathering::ROOM];
+    let mut room = [0; packet_buffer::ROOM];
     match Listening::bind(host, plan.address, plan.port, plan.timeout, &mut room) {
         Ok(mut listening) => Ok(serve_planned(plan, &mut listening, errors)),
         Err(error) => Err(ListenFault::of(&error)),
@@ -429,7 +433,7 @@ pub fn fetch<N: Net + Clock, W: Sink, E: Sink>(
     ensures quiet { IsQuiet (server_of plan.old) plan.old.report_next plan.old.client.talk.holes plan.new.client.talk
         result (E.written errors.old) (E.written errors.new) }
 {
-    let mut room = [0; ahead::ROOM];
+    let mut room = [0; read_ahead::ROOM];
     let mut dialler = Dialler::new(net, plan.host, plan.port, plan.timeout, &mut room);
     let mut sleeper = Sleeper::new(net);
     fetch_planned(plan, &mut dialler, &mut sleeper, output, errors)

@@ -1,7 +1,7 @@
 -- The rings, record after record.
 use Rattle.std.proofs.Common.{◌≡◌, ℕ, zero, suc, ◌+◌, ◌≤◌, ◌⊎◌, ◌∙◌, ap, subst, refl, sym, arith, Bool, true, false}
 use Rattle.std.proofs.Common.{inl, inr, List, [], ◌∷◌, ◌++◌, length, set, Some, None, slice_get, if◌then◌else◌}
-use Rattle.slink_feed.specs.Intake.{is_of, places_of, pushed}
+use Rattle.slink_feed.specs.Intake.{is_of_station, places_of, pushed}
 use Rattle.slink_feed.specs.Session.{Fits, State}
 use Rattle.slink_feed.specs.Window.{Window, with_record}
 use Rattle.slink_feed.proofs.Fitting.{fits_pushed}
@@ -48,7 +48,7 @@ once_if false v ws xs r (inr e) = inr (suc e.0, e.1, e.2, ap (λ ys. v ∷ ys) e
 
 pushed_once : (feed : List Window) (r : List ℕ) → PushedOnce feed (pushed feed r) r
 pushed_once [] r = inl refl
-pushed_once (v ∷ ws) r = once_if (is_of v.place r) v ws (pushed ws r) r (pushed_once ws r)
+pushed_once (v ∷ ws) r = once_if (is_of_station v.place r) v ws (pushed ws r) r (pushed_once ws r)
 
 once_below : (n : ℕ) (feed new : List Window) (r : List ℕ) → PushedOnce feed new r → IsBelow n feed
     → IsBelow (n + 1) new

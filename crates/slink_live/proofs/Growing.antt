@@ -11,9 +11,9 @@ use Rattle.slink_wire.specs.declared.reply.Reply.{Reply}
 use Rattle.slink_feed.specs.declared.session.Phase.{Phase}
 use Rattle.slink_feed.specs.declared.session.Phase.TheVariants as Phases
 use Rattle.slink_feed.specs.declared.session.Sent.{Sent}
-use Rattle.slink_feed.specs.Intake.{is_of, pushed}
+use Rattle.slink_feed.specs.Intake.{is_of_station, pushed}
 use Rattle.slink_feed.specs.Serving.{IsAnswer}
-use Rattle.slink_feed.specs.Session.{State, answered_in, in_streaming, sent, sent_in}
+use Rattle.slink_feed.specs.Session.{State, answered_in, answer_streaming, sent, sent_in}
 use Rattle.slink_feed.specs.Window.{Window, with_record}
 use Rattle.slink_live.specs.Fairness.{HasDue, HasNext, IsAmong, TakesTurns, TakesTurnsOn, called_on, comes, hears}
 use Rattle.slink_live.specs.Fairness.{next_called, no_more, no_more_on}
@@ -39,7 +39,7 @@ later_if false x ws r (suc j) w e on = on j e
 later_pushed : (feed : List Window) (r : List ℕ) (j : ℕ) (w : Window) → slice_get feed j ≡ Some w
     → IsLater (pushed feed r) j w
 later_pushed [] r j w e = absurd (let bad : None ≡ Some w = e in cc bad)
-later_pushed (x ∷ ws) r j w e = later_if (is_of x.place r) x ws r j w e (λ i f. later_pushed ws r i w f)
+later_pushed (x ∷ ws) r j w e = later_if (is_of_station x.place r) x ws r j w e (λ i f. later_pushed ws r i w f)
 
 later_fed : (feed : List Window) (rs : List (List ℕ)) (j : ℕ) (w : Window) → slice_get feed j ≡ Some w
     → IsLater (fed feed rs) j w
@@ -73,7 +73,7 @@ next_due feed s j d = record {
 }
 
 -- What its client says leaves a session that streams as it is, or closes it; and a closed one stays closed.
-said : (s : State) (c : Command) (now : State) (reply : Reply) → in_streaming s c ≡ (now, reply)
+said : (s : State) (c : Command) (now : State) (reply : Reply) → answer_streaming s c ≡ (now, reply)
     → (now.phase ≡ Phases.Closed) ⊎ (now ≡ s)
 said s Bye now reply e = inl (sym (ap (λ (x : State × Reply). x.0.phase) e))
 said s c now reply e = inr (sym (ap (λ (x : State × Reply). x.0) e))

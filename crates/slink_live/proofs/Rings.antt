@@ -3,7 +3,7 @@ use Rattle.std.proofs.Common.{◌≡◌, ℕ, zero, suc, ◌∙◌, ap, subst, r
 use Rattle.std.proofs.Common.{◌++◌, append_assoc, append-nil, Option, Some, None, slice_get, if◌then◌else◌}
 use Rattle.slink_feed.specs.Window.{Shows, Window, with_record}
 use Rattle.slink_feed.proofs.Items.{shows_more}
-use Rattle.slink_feed.specs.Intake.{is_of, places_of, pushed}
+use Rattle.slink_feed.specs.Intake.{is_of_station, places_of, pushed}
 use Rattle.slink_feed.proofs.Intakes.{places_pushed}
 use Rattle.slink_live.specs.Input.{fed}
 use Rattle.slink_live.specs.Slices.{is_first, records_at}
@@ -21,7 +21,7 @@ shows_nil w first xs s = subst (Shows w first) (sym (append-nil xs)) s
 
 -- one record comes to the rings
 shows_first : (t : Bool) (v : Window) (ws : List Window) (r : List ℕ) (k first : ℕ) (w : Window)
-    (xs : List (List ℕ)) → slice_get (v ∷ ws) k ≡ Some w → Shows w first xs → is_of v.place r ≡ t
+    (xs : List (List ℕ)) → slice_get (v ∷ ws) k ≡ Some w → Shows w first xs → is_of_station v.place r ≡ t
     → ((j : ℕ) → slice_get ws j ≡ Some w
     → ShowsAt (slice_get (pushed ws r) j) first (xs ++ one_if (is_first j (places_of ws) r) r))
     → ShowsAt (slice_get (if t then with_record v r ∷ ws else v ∷ pushed ws r) k) first
@@ -52,7 +52,7 @@ shows_pushed : (feed : List Window) (r : List ℕ) (k first : ℕ) (w : Window) 
     → ShowsAt (slice_get (pushed feed r) k) first (xs ++ one_if (is_first k (places_of feed) r) r)
 shows_pushed [] r k first w xs here s = absurd (let bad : None ≡ Some w = here in cc bad)
 shows_pushed (v ∷ ws) r k first w xs here s =
-    shows_first (is_of v.place r) v ws r k first w xs here s refl (λ j e. shows_pushed ws r j first w xs e s)
+    shows_first (is_of_station v.place r) v ws r k first w xs here s refl (λ j e. shows_pushed ws r j first w xs e s)
 
 filter_one : (t : Bool) (r : List ℕ) (xs : List (List ℕ)) → one_if t r ++ xs ≡ (if t then r ∷ xs else xs)
 filter_one true r xs = refl

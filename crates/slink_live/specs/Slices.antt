@@ -10,13 +10,13 @@ use Rattle.slink_feed.specs.Connection.{bytes_sent}
 use Rattle.slink_feed.specs.Sending.{AreCalled, Called, IsSlice, packets_of}
 use Rattle.slink_feed.specs.Session.{State, grant_at}
 use Rattle.slink_feed.specs.Window.{Shows, Window}
-use Rattle.slink_feed.specs.Intake.{is_of, places_of}
+use Rattle.slink_feed.specs.Intake.{is_of_station, places_of}
 
 -- whether the station at an index is the first one that a record is of
 abbrev pub is_first : ℕ → List Fields → List ℕ → Bool
 is_first k [] bytes = false
-is_first zero (p ∷ ps) bytes = is_of p bytes
-is_first (suc k) (p ∷ ps) bytes = not (is_of p bytes) && is_first k ps bytes
+is_first zero (p ∷ ps) bytes = is_of_station p bytes
+is_first (suc k) (p ∷ ps) bytes = not (is_of_station p bytes) && is_first k ps bytes
 
 -- the records of the station at an index
 abbrev pub records_at : ℕ → List Fields → List (List ℕ) → List (List ℕ)

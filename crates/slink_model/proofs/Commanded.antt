@@ -15,7 +15,7 @@ use Rattle.slink_feed.specs.Grant.{grant_of}
 use Rattle.slink_feed.specs.Rings.{station_at}
 use Rattle.slink_feed.specs.Serving.{IsAnswer}
 use Rattle.slink_feed.specs.Session.{IsBefore, State, answered_in, called, at, chosen, grant_at, granted}
-use Rattle.slink_feed.specs.Session.{in_chosen, in_fresh, in_granted, in_streaming, reply_at_next}
+use Rattle.slink_feed.specs.Session.{answer_chosen, answer_fresh, answer_granted, answer_streaming, reply_at_next}
 use Rattle.slink_model.specs.Ties.{IsGranted, Leaves, dropped, given, same}
 use Rattle.slink_feed.specs.Window.{Window, oldest_of}
 use Rattle.slink_feed.proofs.Fitting.{granted_at}
@@ -49,24 +49,24 @@ module _ (feed : List Window) (s : State) where
   ask : (mode : Mode) (j : ℕ) (number : Option ℕ) → Grants_stay (called feed j mode number s).0
   ask mode j number = ask_of mode j number (slice_get feed j) refl
 
-  leaves_fresh : (c : Command) → Grants_stay (in_fresh feed s c).0
+  leaves_fresh : (c : Command) → Grants_stay (answer_fresh feed s c).0
   leaves_fresh (Station sta net) = choose (station_at feed sta net)
   leaves_fresh command = stay
 
-  leaves_chosen : (j : ℕ) (c : Command) → Grants_stay (in_chosen feed j s c).0
+  leaves_chosen : (j : ℕ) (c : Command) → Grants_stay (answer_chosen feed j s c).0
   leaves_chosen j (Station sta net) = choose (station_at feed sta net)
   leaves_chosen j (Data number) = ask modes.Data j number
   leaves_chosen j (Fetch number) = ask modes.Fetch j number
   leaves_chosen j command = stay
 
-  leaves_granted : (j : ℕ) (c : Command) → Grants_stay (in_granted feed j s c).0
+  leaves_granted : (j : ℕ) (c : Command) → Grants_stay (answer_granted feed j s c).0
   leaves_granted j End = stay
   leaves_granted j c = leaves_chosen j c
 
   still : s.phase ≡ Streaming → ¬ (IsBefore s.phase)
   still e before = subst IsBefore e before
 
-  leaves_streaming : (c : Command) → s.phase ≡ Streaming → Leaves Streaming feed s (in_streaming s c)
+  leaves_streaming : (c : Command) → s.phase ≡ Streaming → Leaves Streaming feed s (answer_streaming s c)
   leaves_streaming Bye e = (refl, refl, λ before. before)
   leaves_streaming command e = (refl, refl, still e)
 

@@ -23,7 +23,8 @@ IsEndedBy Memory past expected h found first at = ⊤
 
 -- reading ended so after these borders: the report failed, or the parts end with a fault, at which the report stops
 pub record IsUnread (fault : JoinsFault) (past : Bool) (expected : Option ℕ) (h : BytesRead)
-    (first at : BytesWritten) (Cuts : List Border → JoinsFault → Type 0) (Stops : List Border → JoinsFault → JoinsFault → Type 0)
+    (first at : BytesWritten) (Cuts : List Border → JoinsFault → Type 0) (Stops : List Border → JoinsFault → JoinsFault
+    → Type 0)
     : Type 0 where
   pub found : List Border
   pub to : AreEachTo past h found first at
@@ -32,7 +33,8 @@ pub record IsUnread (fault : JoinsFault) (past : Bool) (expected : Option ℕ) (
 
 -- by the outcome: all parts were read, or not
 abbrev pub IsReading : {A : Type 0} → Result (JointPart A) JoinsFault → Bool → Option ℕ → BytesRead → BytesWritten
-    → BytesWritten → (List Border → Type 0) → (List Border → JoinsFault → Type 0) → (List Border → JoinsFault → JoinsFault → Type 0)
+    → BytesWritten → (List Border → Type 0) → (List Border → JoinsFault → Type 0) → (List Border → JoinsFault
+    → JoinsFault → Type 0)
     → Type 0
 IsReading (Ok joint) past expected h first at Stands Cuts Stops =
     (found : List Border) × (IsReadEach past expected h (written_of joint) found first at × Stands found)

@@ -12,11 +12,11 @@ use Rattle.mseed_pack.specs.declared.listed.Listed.{Listed}
 use Rattle.mseed_steim.specs.declared.encoding.Encoding.{Encoding}
 use Rattle.mseed_steim.specs.declared.encoding.Encoding.TheVariants.{Int16, Int32, Steim1, Steim2}
 use Rattle.mseed_pack.specs.declared.payload.Filled.{Filled}
-use Rattle.mseed_pack.specs.declared.payload.Left.{Left}
+use Rattle.mseed_pack.specs.declared.payload.Remaining.{Remaining}
 use Rattle.mseed_pack.specs.declared.payloads.Payloads.{Payloads}
 use Rattle.mseed_pack.specs.declared.window.TheConstants.{ROOM}
 use Rattle.mseed_pack.specs.declared.window.Window.{Window}
-use Rattle.mseed_pack.specs.private.Marks.{AreMarks, sample_before}
+use Rattle.mseed_pack.specs.private.KnownSamples.{AreKnownSamples, sample_before}
 use Rattle.mseed_pack.specs.Packing.{HoldsFrames, HoldsSamples}
 use Rattle.mseed_pack.specs.Stretches.{differences}
 use Rattle.mseed_pack.specs.declared.integers.Width.TheVariants.{Two as Short, Four as Long}
@@ -53,7 +53,7 @@ pub record HoldsDifferences (samples : List ℤ) (window : Window) : Type 0 wher
   pub few : window.end ≤ window.first + ROOM
   pub each : (k : ℕ) → k < window.end - window.first
       → slice_index_or window.differences k (pos 0) ≡ slice_index_or (differences samples) (window.first + k) (pos 0)
-  pub marked : AreMarks samples window.marks
+  pub marked : AreKnownSamples samples window.marks
 
 -- a number less than a limit, and no less than its negative
 abbrev pub IsUnder : ℤ → ℤ → Type 0
@@ -67,7 +67,7 @@ pub record AreFourUnder (limit : ℤ) (zs : List ℤ) (index part : ℕ) : Type 
   pub fourth : IsUnder limit (slice_index_or zs (index + 3 * part) (pos 0))
 
 -- some are left
-pub record AreLeft (samples : List ℤ) (left : Left) : Type 0 where
+pub record AreRemaining (samples : List ℤ) (left : Remaining) : Type 0 where
   pub some : left.first < left.end
   pub inside : left.end ≤ length samples
 
@@ -78,19 +78,19 @@ pub record AreFrames (payload : List ℕ) : Type 0 where
   pub whole : length payload % 64 ≡ 0
 
 -- some of them were put there
-pub record AreTaken (left : Left) (count : ℕ) : Type 0 where
+pub record AreTaken (left : Remaining) (count : ℕ) : Type 0 where
   pub some : 0 < count
   pub within : left.first + count ≤ left.end
   pub few : count < 2 ^ 16
 
 -- the payload holds so many of those that are left, as the encoding has them
-abbrev pub IsFilled : Encoding → List ℤ → Left → Filled → List ℕ → Type 0
+abbrev pub IsFilled : Encoding → List ℤ → Remaining → Filled → List ℕ → Type 0
 IsFilled encoding samples left filled payload =
     HoldsSamples encoding (slice_range (differences samples) left.first left.end)
     (slice_range samples left.first (left.first + filled.samples)) filled.frames payload
 
 -- the same, in frames
-abbrev pub HoldsInFrames : Scheme → List ℤ → Left → Filled → List ℕ → Type 0
+abbrev pub HoldsInFrames : Scheme → List ℤ → Remaining → Filled → List ℕ → Type 0
 HoldsInFrames scheme samples left filled payload =
     HoldsFrames scheme (slice_range (differences samples) left.first left.end)
     (slice_range samples left.first (left.first + filled.samples)) filled.frames payload
@@ -133,13 +133,13 @@ pub record GoesOn {S : Type 0} (supplies : S → List ℤ → ℕ → Type 0) (f
   pub few : length samples < 2 ^ 64
 
 -- frames hold differences of the samples that are left: of all, or at least seven for each word of so many bytes
-pub record Holds (frames : Frames) (scheme : Scheme) (samples : List ℤ) (left : Left) (bytes : ℕ) : Type 0 where
+pub record Holds (frames : Frames) (scheme : Scheme) (samples : List ℤ) (left : Remaining) (bytes : ℕ) : Type 0 where
   pub held : HoldsDifferences samples frames.window
   pub low : frames.window.first ≤ left.first
   pub high : min left.end (left.first + 7 * (bytes / 4)) ≤ frames.window.end
   pub before : frames.before ≡ sample_before samples left.first
   pub ahead : AreAhead frames.known scheme samples left.first
-  pub are_left : AreLeft samples left
+  pub are_left : AreRemaining samples left
 
 -- frames go on so in an encoding, which is either Steim
 abbrev pub GoesOnIn : {S : Type 0} → (S → List ℤ → ℕ → Type 0) → Frames → S → Encoding → List ℤ → ℕ → Type 0

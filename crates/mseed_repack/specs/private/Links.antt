@@ -2,13 +2,13 @@
 use Rattle.std.specs.Prelude.{◌≡◌, ℕ, ◌+◌, ◌<◌, ◌≤◌, List, length, map, drop, slice_index_or, true}
 use Rattle.mseed_record.specs.Viewing.{view_of}
 use Rattle.mseed_record.specs.declared.view.RecordView.{RecordView}
-use Rattle.mseed_audit.specs.Channels.{is_of}
+use Rattle.mseed_audit.specs.Channels.{is_of_channel}
 use Rattle.mseed_repack.specs.private.Reading.{channel_in}
 use Rattle.mseed_repack.specs.Repack.{Channel}
 
 -- the record at an index, where there is one, is of the channel with this key
 abbrev pub IsOfAt : List ℕ → List RecordView → ℕ → Type 0
-IsOfAt key rs at = (r : RecordView) → at < length rs → r ≡ slice_index_or rs at r → is_of key (view_of r) ≡ true
+IsOfAt key rs at = (r : RecordView) → at < length rs → r ≡ slice_index_or rs at r → is_of_channel key (view_of r) ≡ true
 
 -- of the records from one index on the first that is of the channel stands at another, where there is one
 pub record LeadsTo (key : List ℕ) (rs : List RecordView) (from at : ℕ) : Type 0 where
@@ -19,7 +19,8 @@ pub record LeadsTo (key : List ℕ) (rs : List RecordView) (from at : ℕ) : Typ
 -- after each of the channel's records from an index on, where the next one stands
 abbrev pub AreNexts : List ℕ → List RecordView → ℕ → List ℕ → Type 0
 AreNexts key rs from nexts =
-    (i : ℕ) (r : RecordView) → from ≤ i → i < length rs → r ≡ slice_index_or rs i r → is_of key (view_of r) ≡ true
+    (i : ℕ) (r : RecordView) → from ≤ i → i < length rs → r ≡ slice_index_or rs i r → is_of_channel key (view_of r)
+    ≡ true
     → LeadsTo key rs (i + 1) (slice_index_or nexts i 0)
 
 -- of the channel's records from an index on, where the first one stands, and after each the next one

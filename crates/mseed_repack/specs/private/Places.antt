@@ -5,7 +5,7 @@ use Rattle.mseed_record.specs.View.{View, IsView}
 use Rattle.mseed_record.specs.Selection.{Selection}
 use Rattle.mseed_stream.specs.Archive.{IsArchive}
 use Rattle.mseed_stream.specs.Walk.{bytes_in}
-use Rattle.mseed_audit.specs.Channels.{Placed, is_of, views_in}
+use Rattle.mseed_audit.specs.Channels.{Placed, is_of_channel, views_in}
 use Rattle.mseed_audit.specs.Follows.{IsSound}
 use Rattle.mseed_audit.specs.Judging.{IsFound}
 use Rattle.mseed_audit.specs.Scope.{asked_of}
@@ -41,6 +41,6 @@ pub record IsOwnAt (key : List ℕ) (vs : List View) (index : ℕ) (f : Finding)
   pub back : List View
   pub parts : vs ≡ leading ++ at ∷ back
   pub index_is : length leading ≡ index
-  pub of : is_of key at ≡ true
+  pub of : is_of_channel key at ≡ true
   pub sound : AllByRecursion IsSound (channel_in key leading)
   pub found : IsFound None at (Some f.why)

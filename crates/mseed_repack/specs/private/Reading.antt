@@ -4,7 +4,7 @@ use Rattle.std.specs.List.{AllByRecursion, filter}
 use Rattle.mseed_time.specs.declared.outcome.LeapStep.{LeapStep}
 use Rattle.mseed_time.specs.declared.rate.Rate.{Rate}
 use Rattle.mseed_record.specs.View.{View, leap_of}
-use Rattle.mseed_audit.specs.Channels.{is_of}
+use Rattle.mseed_audit.specs.Channels.{is_of_channel}
 use Rattle.mseed_audit.specs.Follows.{IsSound}
 use Rattle.mseed_audit.specs.Judging.{step_in}
 use Rattle.mseed_audit.specs.Series.{HoldsAll, step_at}
@@ -22,7 +22,7 @@ steps_of (v ∷ vs) = step_count v + steps_of vs
 
 -- the records of the channel with this key
 abbrev pub channel_in : List ℕ → List View → List View
-channel_in key views = filter (is_of key) views
+channel_in key views = filter (is_of_channel key) views
 
 -- the samples and leap seconds are those of the records, whatever the start and the rate are
 abbrev pub AreOf : List ℕ → List View → List ℤ → List (ℕ × LeapStep) → Type 0

@@ -17,7 +17,8 @@ use Rattle.mseed_stream.specs.declared.fault.StreamFault.TheVariants.{Memory as 
 use Rattle.mseed_repack.specs.private.Places.{AreAllOf}
 use Rattle.mseed_repack.specs.private.Planning.{IsPackabilityAs}
 use Rattle.mseed_repack.specs.declared.refusing.LeftOut.{LeftOut}
-use Rattle.mseed_repack.specs.declared.refusing.LeftOut.TheVariants.{Nothing, Broken as LeftBroken, Misfit as LeftMisfit}
+use Rattle.mseed_repack.specs.declared.refusing.LeftOut.TheVariants.{Nothing, Broken as LeftBroken}
+use Rattle.mseed_repack.specs.declared.refusing.LeftOut.TheVariants.{Misfit as LeftMisfit}
 use Rattle.mseed_repack.specs.declared.fault.RepackFault.{RepackFault}
 use Rattle.mseed_repack.specs.declared.fault.RepackFault.TheVariants.{Stream, Broken, Misfit, Write, Memory}
 use Rattle.mseed_repack.specs.declared.packability.Packability.{Packability}
@@ -30,7 +31,8 @@ abbrev pub AreUnsound : List View → List Channel → List Packability → Type
 AreUnsound views channels packabilities =
     AreFound (λ vs s. s ≡ IsBroken → ¬ (AllByRecursion IsSound vs)) views channels packabilities
 
--- the fault is the first channel that is broken, or else the first that doesn't fit, where channels are cut so; these are
+-- the fault is the first channel that is broken, or else the first that doesn't fit, where channels are cut so; these
+-- are
 -- the records in their places
 abbrev pub IsFirstRefused : Cutting → Options → List Placed → List View → List Channel → RepackFault → Type 0
 IsFirstRefused cutting o ps views channels (Broken key first) =
@@ -77,7 +79,8 @@ pub record AreAsked (s : Selection) (bytes : List ℕ) (h : BytesRead) (kept : L
 
 -- what packing by stretches comes to where the number of records that lack a time is reported if a channel is left out,
 -- before it, and else isn't
-abbrev pub IsRestretchingIfLeft : (List View → List Placed) → Options → Bool → ℕ → Result LeftOut RepackFault → BytesRead
+abbrev pub IsRestretchingIfLeft : (List View → List Placed) → Options → Bool → ℕ → Result LeftOut RepackFault
+    → BytesRead
     → BytesWritten → BytesWritten → BytesWritten → BytesWritten → Type 0
 IsRestretchingIfLeft place o leave count (Ok left) h old new reported_old reported_new =
     (between : BytesWritten) × (ReportsIfLeft left count reported_old between

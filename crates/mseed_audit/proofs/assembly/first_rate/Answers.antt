@@ -5,7 +5,7 @@ use Rattle.mseed_record.specs.View.{View}
 use Rattle.mseed_record.specs.declared.view.RecordView.{RecordView}
 use Rattle.mseed_record.specs.Viewing.{view_of}
 use Rattle.mseed_audit.specs.Judging.{rate_in}
-use Rattle.mseed_audit.specs.Channels.{is_of}
+use Rattle.mseed_audit.specs.Channels.{is_of_channel}
 use Rattle.mseed_audit.specs.private.ChannelState.{IsFirstRate}
 use Rattle.mseed_audit.proofs.Assembled.{first_there}
 use Rattle.mseed_audit.proofs.Following.{kept_next}
@@ -15,23 +15,23 @@ use Rattle.mseed_audit.proofs.assembly.first_rate.Goals as goal
 pub returns-in-Ok : goal.returns-in-Ok
 returns-in-Ok c =
     first_there c.args.codes.now c.args.views.now c.loop-view.view-index c.view-item.result (Some c.in-Ok.rate)
-    c.loop-view-test.true c.view-item.is c.if-is_of.ensures c.loop-view.invariant
+    c.loop-view-test.true c.view-item.is c.if-is_of_channel.ensures c.loop-view.invariant
     (c.in-Ok.ensures.factor, c.in-Ok.ensures.multiplier)
 
 pub returns-in-Err : goal.returns-in-Err
 returns-in-Err c =
     first_there c.args.codes.now c.args.views.now c.loop-view.view-index c.view-item.result None
-    c.loop-view-test.true c.view-item.is c.if-is_of.ensures c.loop-view.invariant
+    c.loop-view-test.true c.view-item.is c.if-is_of_channel.ensures c.loop-view.invariant
     (none_unless (rate_in (view_of c.view-item.result))
     (λ some. let no : false ≡ true = c.in-Err.ensures.ok.1 some in cc))
 
 pub loop-view-preserved : goal.loop-view-preserved
 loop-view-preserved c =
     kept_next c.args.codes.now c.args.views.now c.loop-view.view-index c.view-item.result false c.loop-view-test.true
-    c.view-item.is c.if-is_of.ensures ∙ c.loop-view.invariant
+    c.view-item.is c.if-is_of_channel.ensures ∙ c.loop-view.invariant
 
 pub returns : goal.returns
 returns c =
     let all = take_all c.loop-view.view-index c.args.views.now (omega (arith, c.loop-view-test.false)) in
-    subst (λ (rs : List RecordView). IsFirstRate (filter (is_of c.args.codes.now) (map view_of rs)) None) all
+    subst (λ (rs : List RecordView). IsFirstRate (filter (is_of_channel c.args.codes.now) (map view_of rs)) None) all
     (subst (λ (vs : List View). IsFirstRate vs None) (sym c.loop-view.invariant) refl)

@@ -18,8 +18,8 @@ moment_at-instant-requires-clause-known c =
     let first = first_of_span head.start (ratio_of head.rate) head.steps.now head.count c.args.span i
     c.requires.outside found.begin found.end found.outside found.before in
     subst (λ (t : ℤ). IsInstant t) (sym same)
-    (first_is_instant head.start (ratio_of head.rate) head.steps.now head.count i c.know_start.ensures
-    c.know_ratio.ensures c.requires.steps first)
+    (first_is_instant head.start (ratio_of head.rate) head.steps.now head.count i c.start_is_an_instant.ensures
+    c.rate_is_a_ratio.ensures c.requires.steps first)
 
 pub returns : goal.returns
 returns c = λ xs o size some slow.

@@ -4,7 +4,7 @@ use Rattle.std.specs.Prelude.{slice_range}
 use Rattle.std.proofs.lemmas.Int.{to_z-of_z}
 use Rattle.mseed_steim.specs.Samples.{differences_from}
 use Rattle.mseed_steim_pack.specs.Packed.{IsRunPacked}
-use Rattle.mseed_pack.specs.declared.payload.Left.{Left}
+use Rattle.mseed_pack.specs.declared.payload.Remaining.{Remaining}
 use Rattle.mseed_pack.specs.private.Filling.{width_of}
 use Rattle.mseed_pack.specs.Stretches.{differences}
 use Rattle.mseed_pack.proofs.Differences.{part_differences}
@@ -13,7 +13,7 @@ use Rattle.mseed_pack.proofs.Onward.{known_of, known_on}
 use Rattle.mseed_pack.proofs.payloads.pack_left.Goals as goal
 
 -- the differences that are packed are those that are left
-packed_are : (xs : List ℤ) (l : Left) (n : ℕ) → n ≡ l.first - 1 → FitsSigned w32 (get_or xs n (pos 0))
+packed_are : (xs : List ℤ) (l : Remaining) (n : ℕ) → n ≡ l.first - 1 → FitsSigned w32 (get_or xs n (pos 0))
     → differences_from (to_z w32 (of_z w32 (get_or xs n (pos 0)))) (slice_range xs l.first l.end)
     ≡ slice_range (differences xs) l.first l.end
 packed_are xs l n e fits =

@@ -32,7 +32,8 @@ pub returns-in-Some-refusal_unless : goal.returns-in-Some-refusal_unless
 returns-in-Some-refusal_unless g c = λ read place whole at.
     let views = map view_of c.args.views.now in
     first_refused place c.args.options.now c.args.leave c.args.without_time read views c.as_slice-channels.result.now
-    c.args.cutting c.in-Some-refusal_unless.fault (g.W.Sink.written c.args.output.now) (g.E.Sink.written c.args.errors.now)
+    c.args.cutting c.in-Some-refusal_unless.fault (g.W.Sink.written c.args.output.now)
+    (g.E.Sink.written c.args.errors.now)
     (archive_of whole c.in_ok-judged.ensures.verdicts c.as_slice-channels.ensures)
     c.in_default.ensures.none c.in-Some-refusal_unless.ensures.refuses
     ((rw (c.deref.ensures.value, c.archive-archive.ensures.views, c.archive-archive.ensures.channels) at

@@ -10,7 +10,7 @@ use Rattle.mseed_repack.specs.private.Reading.{channel_in}
 use Rattle.mseed_repack.proofs.OwnFindings.{own_at, sound_next, stands_in}
 use Rattle.mseed_repack.proofs.SoundRecords.{sound_found}
 use Rattle.mseed_repack.proofs.own.find_own.Goals as goal
-use Rattle.mseed_repack.proofs.own.find_own.Goals.{then-is_of+in_default, else-is_of}
+use Rattle.mseed_repack.proofs.own.find_own.Goals.{then-is_of_channel+in_default, else-is_of_channel}
 
 pub returns-in-Some-clause-own : goal.returns-in-Some-clause-own
 returns-in-Some-clause-own c =
@@ -21,7 +21,7 @@ returns-in-Some-clause-own c =
       n,
       (
         own_at c.args.codes.now rs n r f c.loop-index-test.true c.index-views-index.is
-            (sym c.is_of.ensures ∙ c.if-is_of.true) c.loop-index.invariant.0 c.in-Some.ensures,
+            (sym c.is_of_channel.ensures ∙ c.if-is_of_channel.true) c.loop-index.invariant.0 c.in-Some.ensures,
         stands_in rs n r f c.loop-index-test.true c.index-views-index.is refl c.loop-index.invariant.1,
       ),
     )
@@ -50,11 +50,15 @@ loop-index-preserved c =
     c.index-views-index.is
     c.loop-index.invariant.1 c.loop-index.invariant.2 c.bytes-in-loop-index.ensures.view
     c.bytes-in-loop-index.ensures.value in
-    let sound : AllByRecursion IsSound (channel_in key (map view_of (take (n + 1) rs))) = elim c.if-is_of.branch [
-      | then-is_of+in_default w ↦ sound_next key rs n r c.is_of.result c.loop-index-test.true c.index-views-index.is
-          c.is_of.ensures c.loop-index.invariant.0
+    let sound : AllByRecursion IsSound (channel_in key (map view_of (take (n + 1) rs)))
+    = elim c.if-is_of_channel.branch [
+      | then-is_of_channel+in_default w ↦ sound_next key rs n r c.is_of_channel.result c.loop-index-test.true
+          c.index-views-index.is
+          c.is_of_channel.ensures c.loop-index.invariant.0
           (λ _. sound_found c.one_reading.ensures _ (view_of r) _ w.in_default.ensures refl)
-      | else-is_of w ↦ sound_next key rs n r c.is_of.result c.loop-index-test.true c.index-views-index.is
-          c.is_of.ensures c.loop-index.invariant.0 (λ yes. absurd (false≢true (sym w.if-is_of.false ∙ yes)))
+      | else-is_of_channel w ↦ sound_next key rs n r c.is_of_channel.result c.loop-index-test.true
+          c.index-views-index.is
+          c.is_of_channel.ensures c.loop-index.invariant.0 (λ yes. absurd (false≢true (sym w.if-is_of_channel.false ∙
+          yes)))
     ] in
     (sound, next.0, next.1)

@@ -9,7 +9,8 @@ use Rattle.mseed_repack.proofs.own.first_own.Goals as goal
 
 pub find_own-requires-clause-none : goal.find_own-requires-clause-none
 find_own-requires-clause-none g c =
-    none_before c.args.channel_walk.now.codes.now c.args.channel_walk.now.views.now c.args.channel_walk.now.index c.min-begin.result
+    none_before c.args.channel_walk.now.codes.now c.args.channel_walk.now.views.now c.args.channel_walk.now.index
+    c.min-begin.result
     c.min-begin.ensures c.requires.all
 
 pub unreachable-requires : goal.unreachable-requires

@@ -36,7 +36,8 @@ plan_channel-requires g c κs =
         (
           few_trail a l.number t c.channel_walk.ensures.channel_walk c.requires.places.audited,
           (
-            λ whole. some_on a l.number t c.loop-number-test.true c.channel_walk.ensures.channel_walk (c.requires.whole whole),
+            λ whole. some_on a l.number t c.loop-number-test.true c.channel_walk.ensures.channel_walk
+                (c.requires.whole whole),
             (
               λ known. ⊎_elim
                   (λ sound. subst (AllByRecursion IsSound) (sym own)
@@ -97,7 +98,10 @@ loop-number-preserved g c =
     (subst (λ (ds : List Channel). AreReady cutting o room places views ds found (before ++ own ∷ [])) next
     (ready_more cutting o (length l.samples.items) room (length l.steps) places views (take l.number cs)
     l.packabilities.items
-    before d c.in_ok-packability.packability own c.in_ok-packability.ensures.grown (omega (arith, c.plan_channel.auto.steps))
+    before d c.in_ok-packability.packability own c.in_ok-packability.ensures.grown (omega (
+      arith,
+      c.plan_channel.auto.steps,
+    ))
     l.invariant
     (subst (λ (vs : List View). IsReady cutting o room places vs c.in_ok-packability.packability own) same
     c.in_ok-packability.ensures.ready))))

@@ -32,7 +32,8 @@ pack_stretches-requires g c κs =
     let l = c.loop-number in
     let t = c.channel_walk-channel_walk.result in
     let ps : List Plan = c.plans_at.result.now in
-    let ready = ready_on c.args.archive.now c.args.packabilities.now (map (λ own. own.items) c.args.plans.now) l.number t ps
+    let ready = ready_on c.args.archive.now c.args.packabilities.now (map (λ own. own.items) c.args.plans.now)
+    l.number t ps
     c.loop-number-test.true c.channel_walk-channel_walk.ensures.channel_walk c.plans_at.ensures c.requires.ready in
     let size = packability_each c.args.archive.now.channels.now c.args.packabilities.now
     (map (λ own. own.items) c.args.plans.now) c.requires.ready in
@@ -53,11 +54,13 @@ returns-in-Err-clause-err g c =
     let t = c.channel_walk-channel_walk.result in
     let ps : List Plan = c.plans_at.result.now in
     let ls = map (λ own. own.items) c.args.plans.now in
-    let ready = ready_on a c.args.packabilities.now ls k t ps c.loop-number-test.true c.channel_walk-channel_walk.ensures.channel_walk
+    let ready = ready_on a c.args.packabilities.now ls k t ps c.loop-number-test.true
+    c.channel_walk-channel_walk.ensures.channel_walk
     c.plans_at.ensures c.requires.ready in
     let size = packability_each a.channels.now c.args.packabilities.now ls c.requires.ready in
     let fit = fit_at c.args.packabilities.now k _ (omega (arith, size, c.loop-number-test.true)) c.in-Fit.is in
-    texts_part c.args._cutting a c.args.packabilities.now k t ps c.loop-number-test.true size fit c.channel_walk-channel_walk.ensures.channel_walk
+    texts_part c.args._cutting a c.args.packabilities.now k t ps c.loop-number-test.true size fit
+    c.channel_walk-channel_walk.ensures.channel_walk
     (ready.cut fit) c.loop-number.invariant c.in-Err.ensures.err
 
 pub loop-number-preserved : goal.loop-number-preserved
@@ -71,11 +74,13 @@ loop-number-preserved g c =
     elim c.match-packabilities-number.branch [
       | in-Fit+in-Ok w ↦
           let ps : List Plan = w.plans_at.result.now in
-          let ready = ready_on a ss ls k t ps c.loop-number-test.true c.channel_walk-channel_walk.ensures.channel_walk w.plans_at.ensures
+          let ready = ready_on a ss ls k t ps c.loop-number-test.true c.channel_walk-channel_walk.ensures.channel_walk
+          w.plans_at.ensures
           c.requires.ready in
           let fit = fit_at ss k _ (omega (arith, size, c.loop-number-test.true)) w.in-Fit.is in
           rw w.output-is
-          (texts_next c.args._cutting a ss k t ps c.loop-number-test.true size fit c.channel_walk-channel_walk.ensures.channel_walk
+          (texts_next c.args._cutting a ss k t ps c.loop-number-test.true size fit
+          c.channel_walk-channel_walk.ensures.channel_walk
           (ready.cut fit) c.loop-number.invariant w.in-Ok.ensures.ok)
       | in_default w ↦
           let other = unfit_at ss k _ (omega (arith, size, c.loop-number-test.true)) w.in_default.not-Fit in

@@ -15,14 +15,16 @@ returns-in-Err-clause-placed g c =
     let l = c.loop-offset in
     let bytes : List ℕ = c.args.bytes.now in
     let ok = rw (take_rest bytes l.offset) at c.in-Err.ensures.ok in
-    passed_none (g.C.Choice.selection c.args.choice.now) bytes l.offset l.number l.asked c.args.finding.number c.args.finding
+    passed_none (g.C.Choice.selection c.args.choice.now) bytes l.offset l.number l.asked c.args.finding.number
+    c.args.finding
     l.invariant.0 l.invariant.1 (λ k few is. false≢true (ok.1 (k, (few, is))))
 
 pub returns-clause-placed : goal.returns-clause-placed
 returns-clause-placed g c =
     let l = c.loop-offset in
     let bytes : List ℕ = c.args.bytes.now in
-    passed_none (g.C.Choice.selection c.args.choice.now) bytes l.offset l.number l.asked c.args.finding.number c.args.finding
+    passed_none (g.C.Choice.selection c.args.choice.now) bytes l.offset l.number l.asked c.args.finding.number
+    c.args.finding
     l.invariant.0 l.invariant.1 (ended bytes l.offset (omega (arith, c.loop-offset-test.false)))
 
 pub returns-then-asked-finding-clause-placed : goal.returns-then-asked-finding-clause-placed

@@ -17,8 +17,10 @@ first_own-first-requires g c =
     let inside : c.in-Some.number < length c.args.archive.now.channels.now =
     omega (arith, c.in-Some.ensures.inside, c.requires.each) in
     record {
-      few = subst (λ (rs : List RecordView). length rs ≤ 2 ^ 40) (sym c.channel_walk.ensures.views) c.requires.audited.few;
-      all = all_on c.args.archive.now c.in-Some.number c.channel_walk.result c.channel_walk.ensures.channel_walk c.channel_walk.ensures.views;
+      few = subst (λ (rs : List RecordView). length rs ≤ 2 ^ 40) (sym c.channel_walk.ensures.views)
+          c.requires.audited.few;
+      all = all_on c.args.archive.now c.in-Some.number c.channel_walk.result c.channel_walk.ensures.channel_walk
+          c.channel_walk.ensures.views;
       broken = unsound_on c.args.archive.now c.args.packabilities.now c.in-Some.number c.channel_walk.result
           c.channel_walk.ensures.channel_walk c.requires.unsound inside c.requires.each c.in-Some.ensures.some;
     }
@@ -37,7 +39,8 @@ returns-in-Some-clause-some g c = λ cutting o ps at all.
     let same = channel_on a c.in-Some.number c.channel_walk.result r w inside c.index-archive-number.is in
     subst (λ (d : Channel). IsFirstRefused cutting o ps vs a.channels.now (Broken d.0 c.first_own-first.result))
     (same ∙ c.index-archive-number.is)
-    (refused_broken cutting o ps vs a.channels.now c.args.packabilities.now c.in-Some.number w.channel c.first_own-first.result
+    (refused_broken cutting o ps vs a.channels.now c.args.packabilities.now c.in-Some.number w.channel
+    c.first_own-first.result
     c.in-Some.ensures.inside c.requires.each w.at c.in-Some.ensures.some c.in-Some.ensures.before all own)
 
 pub returns-in-Some-first_misfit-clause-some : goal.returns-in-Some-first_misfit-clause-some

@@ -48,7 +48,7 @@ returns-then-count-eq0 g c =
         ok = closed_turn _ _ _ _ (ap (λ (written : BytesWritten). fetching c.args.client.now written
             (g.W.Sink.written c.args.output.now)) same) read;
         fault = tt;
-        reading = c.has_reading.ensures;
+        reading = c.kept_reads_as_begun.ensures;
       };
       reported = noted_none _ _ _ _;
     }
@@ -65,7 +65,7 @@ returns-in-Err g c =
           ap (λ (written : BytesWritten). fetching c.args.client.now written (g.W.Sink.written c.args.output.now)) same,
           c.in-Err.ensures.read ∙ failed_is (g.S.Source.read c.args.link.now) c.in-Err.field-0 c.pull.new.buf,
         );
-        reading = c.has_reading.ensures;
+        reading = c.kept_reads_as_begun.ensures;
       };
       reported = noted_none _ _ _ _;
     }
@@ -86,7 +86,7 @@ returns g c =
             c.if-count-eq0.false c.in-Ok.ensures.bound c.pull.auto.buf c.lack-lack.ensures.most c.turn.result
             c.in_ok-read.ensures.ok c.turn.ensures;
         fault = tt;
-        reading = c.has_reading.ensures;
+        reading = c.kept_reads_as_begun.ensures;
       };
       reported = c.read.ensures.noted;
     }
@@ -109,7 +109,7 @@ returns-in_err-read g c =
             (g.met.S.Duplex.writes_apart c.pull.new.self))
             c.if-count-eq0.false c.in-Ok.ensures.bound c.pull.auto.buf c.lack-lack.ensures.most c.in_err-read.field-0.0
             c.in_err-read.ensures.fault);
-        reading = c.has_reading.ensures;
+        reading = c.kept_reads_as_begun.ensures;
       };
       reported = c.read.ensures.noted;
     }

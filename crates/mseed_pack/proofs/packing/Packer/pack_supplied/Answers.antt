@@ -10,7 +10,7 @@ pub write_records-requires-clause-begins : goal.write_records-requires-clause-be
 write_records-requires-clause-begins g c = (
   c.requires.supplied.0,
   supply_begins g.S.Supply.supplies _ c.args.supply.now _ c.requires.supplied.0 c.requires.steim c.requires.supplied.1
-      c.know_count.ensures (begun_by _ _ (search rules) c.begin.ensures),
+      c.count_has_64_bits.ensures (begun_by _ _ (search rules) c.begin.ensures),
 )
 
 pub returns-clause-ok : goal.returns-clause-ok
@@ -22,7 +22,7 @@ returns-clause-ok g c =
     IfOk-weaker _ _ (λ (count : ℕ). (samples : List ℤ)
     → SuppliesFitting g.S.Supply.supplies c.args.supply.now h o samples → EmittedAll (headed h samples) o count old new)
     (λ count all xs fitting. all xs (supply_begins g.S.Supply.supplies _ c.args.supply.now _ xs c.requires.steim fitting
-    c.know_count.ensures (begun_by _ _ (search rules) c.begin.ensures)))
+    c.count_has_64_bits.ensures (begun_by _ _ (search rules) c.begin.ensures)))
     c.write_records.ensures.ok
 
 pub returns-clause-err : goal.returns-clause-err
@@ -35,5 +35,5 @@ returns-clause-err g c =
     → SuppliesFitting g.S.Supply.supplies c.args.supply.now h o samples
     → EmittedPrefix (headed h samples) o taken old new)
     (λ taken all xs fitting. all xs (supply_begins g.S.Supply.supplies _ c.args.supply.now _ xs c.requires.steim fitting
-    c.know_count.ensures (begun_by _ _ (search rules) c.begin.ensures)))
+    c.count_has_64_bits.ensures (begun_by _ _ (search rules) c.begin.ensures)))
     c.write_records.ensures.err

@@ -3,17 +3,18 @@ use Rattle.std.specs.Prelude.{slice_range}
 use Rattle.mseed_steim.specs.declared.encoding.Encoding.{Encoding}
 use Rattle.mseed_steim.specs.declared.scheme.Scheme.TheVariants.{One, Two}
 use Rattle.mseed_pack.specs.declared.payload.Filled.{Filled}
-use Rattle.mseed_pack.specs.declared.payload.Left.{Left}
+use Rattle.mseed_pack.specs.declared.payload.Remaining.{Remaining}
 use Rattle.mseed_pack.specs.Packing.{HoldsIntegers}
 use Rattle.mseed_pack.specs.Stretches.{differences}
-use Rattle.mseed_pack.specs.private.Filling.{AreAhead, AreLeft, GoOnAt, HoldsInFrames, IsFilled}
+use Rattle.mseed_pack.specs.private.Filling.{AreAhead, AreRemaining, GoOnAt, HoldsInFrames, IsFilled}
 use Rattle.mseed_pack.specs.private.Filling.{StandsInList}
 use Rattle.mseed_pack.proofs.Differences.{length-differences}
 use Rattle.mseed_pack.proofs.Filled.{length_part}
 use Rattle.mseed_pack.proofs.payloads.PayloadsFillerRefSliceI32.fill.Goals as goal
 
 -- integers, of as many as are left
-integers : (bytes : ℕ) (xs list : List ℤ) (l : Left) (r : Filled) (payload : List ℕ) → list ≡ xs → AreLeft xs l
+integers : (bytes : ℕ) (xs list : List ℤ) (l : Remaining) (r : Filled) (payload : List ℕ) → list ≡ xs
+    → AreRemaining xs l
     → HoldsIntegers bytes (l.end - l.first) (slice_range list l.first (l.first + r.samples)) r.frames payload
     → HoldsIntegers bytes (length (slice_range (differences xs) l.first l.end))
     (slice_range xs l.first (l.first + r.samples)) r.frames payload

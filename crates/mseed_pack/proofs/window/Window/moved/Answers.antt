@@ -3,7 +3,7 @@ use Rattle.std.proofs.Common.{to_z}
 use Rattle.std.specs.Int.{int_wrap}
 use Rattle.std.specs.Prelude.{slice_range}
 use Rattle.std.proofs.lemmas.Int.{wrapping_add_onto}
-use Rattle.mseed_pack.specs.private.Marks.{sample_before}
+use Rattle.mseed_pack.specs.private.KnownSamples.{sample_before}
 use Rattle.mseed_pack.proofs.Filled.{part_at}
 use Rattle.mseed_pack.proofs.Marked.{moved_on}
 use Rattle.mseed_pack.proofs.window.Window.moved.Goals as goal

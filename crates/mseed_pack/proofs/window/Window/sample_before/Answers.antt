@@ -1,5 +1,5 @@
 use Rattle.std.proofs.Common.{arith, rules}
-use Rattle.mseed_pack.specs.private.Marks.{sample_before}
+use Rattle.mseed_pack.specs.private.KnownSamples.{sample_before}
 use Rattle.mseed_pack.proofs.Marked.{before_fits, reached, returned}
 use Rattle.mseed_pack.proofs.window.Window.sample_before.Goals as goal
 

@@ -9,7 +9,7 @@ use Rattle.slink_feed.proofs.session.Session.take.Goals as goal
 
 pub invariant_of-self : goal.invariant_of-self
 invariant_of-self g c =
-    let old : SessionState = record { state = c.self.inside.course; held = c.self.inside.lines } in
+    let old : SessionState = record { state = c.self.inside.progress; held = c.self.inside.lines } in
     let new : SessionState = record { state = c.answer_to.new.self; held = c.take-used.new.self } in
     still_stands c.args.feed.now old new (take c.take-used.result.used c.args.bytes.now) c.answer_to.result
     c.self.invariant (record {
