@@ -50,6 +50,7 @@ pub mod Digits
 pub mod DigitLanes
 pub mod HexLanes
 pub mod HexPairs
+pub mod PassedFields
 pub mod FirstBad
 pub mod FirstReason
 pub mod Prefixes

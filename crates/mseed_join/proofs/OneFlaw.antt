@@ -1,10 +1,10 @@
 -- One thing is wrong with a line at most.
-use Rattle.std.proofs.Common.{◌≡◌, ◌≢◌, ◌⊎◌, ◌+◌, ◌<◌, ◌≤◌, ℕ, List, [], ◌∷◌, ◌++◌, length, take, drop, Bool, refl, sym}
+use Rattle.std.proofs.Common.{◌≡◌, ◌≢◌, ◌⊎◌, ◌<◌, ◌≤◌, ℕ, List, [], ◌∷◌, ◌++◌, length, take, drop, Bool, refl, sym}
 use Rattle.std.proofs.Common.{ap, ◌∙◌, subst, arith, inl, inr, append_assoc, append-nil, length-append, length-take}
 use Rattle.std.proofs.Common.{take-append-drop}
 use Rattle.mseed_audit.specs.declared.channel.Channel.{Channel}
 use Rattle.mseed_join.specs.Parts.{IsAscending}
-use Rattle.mseed_join.specs.Lines.{Line, channel, counts, faults, fault, text_of_line, IsLine}
+use Rattle.mseed_join.specs.Lines.{Line, channel, text_of_line, IsLine}
 use Rattle.mseed_join.specs.Lines.{header_line, channel_line, HasChannelLine, HasFaultLine}
 use Rattle.mseed_join.specs.Fields.{IsFirstBad}
 use Rattle.mseed_join.specs.declared.bad_field.Field.{Field}

@@ -7,7 +7,7 @@ use Rattle.std.specs.Map.{keys_of}
 use Rattle.mseed_stream.specs.declared.fault.StreamFault.{StreamFault}
 use Rattle.mseed_audit.specs.declared.channel.Channel.{Channel}
 use Rattle.mseed_join.specs.Parts.{IsAscending}
-use Rattle.mseed_join.specs.Lines.{Line, header, counts, faults, fault}
+use Rattle.mseed_join.specs.Lines.{Line, header, counts}
 use Rattle.mseed_join.specs.Written.{Written, HasText}
 use Rattle.mseed_join.specs.Reached.{OpenPart, none, begun, whole, Stage, begun_part, open_part, parts_at}
 use Rattle.mseed_join.specs.Reached.{IsWhere, start}
