@@ -1,5 +1,5 @@
 -- Channels in the order of their keys.
-use Rattle.std.proofs.Common.{◌≡◌, ◌∙◌, ◌<◌, ◌∷◌, [], ℕ, List, Bool, true, false, cond, Option, Some, None, length}
+use Rattle.std.proofs.Common.{◌≡◌, ◌∙◌, ◌<◌, ◌∷◌, [], ℕ, List, cond, Option, Some, None, length}
 use Rattle.std.proofs.Common.{◌+◌, refl, sym, ap, append-nil, arith}
 use Rattle.std.proofs.lemmas.List.Elements.{All-nil}
 use Rattle.std.specs.BTreeMap.{insert_entry}
@@ -8,16 +8,16 @@ use Rattle.std.specs.List.{AllByRecursion}
 use Rattle.std.specs.List.Sorted.{IsStrictlySortedBy}
 use Rattle.std.specs.Map.{keys_of, lookup}
 use Rattle.std.specs.Option.{option_map}
-use Rattle.std.specs.Ordering.{is_eq, match_ordering, nat_cmp, ordering_reverse}
+use Rattle.std.specs.Ordering.{match_ordering, nat_cmp, ordering_reverse}
 use Rattle.std.specs.declared.cmp.Ordering.{Ordering}
 use Rattle.std.specs.declared.cmp.Ordering.TheVariants.{Less, Equal, Greater}
-use Rattle.std.proofs.lemmas.Bool.{false≢true}
 use Rattle.std.proofs.lemmas.Cmp.{nat_list_cmp_total}
 use Rattle.mseed_audit.specs.declared.channel.Channel.{Channel}
 use Rattle.mseed_audit.specs.Channels.{same_key}
 use Rattle.mseed_audit.specs.Places.{ArePlaced, by_key}
 use Rattle.mseed_audit.proofs.Alike.{one_list}
-use Rattle.mseed_audit.proofs.Maps.{equal_from, same_is}
+use Rattle.mseed_audit.proofs.Maps.{same_is, same_itself}
+use Rattle.std.proofs.lemmas.Map.Lookups.{exact_bytes}
 use Rattle.mseed_audit.proofs.Rosters.{AreMade, all_made, made_at}
 
 abbrev Entries : Type 0
@@ -33,38 +33,36 @@ abbrev pub IsAscending : Entries → Type 0
 IsAscending es = IsStrictlySortedBy cmp (keys_of es)
 
 -- ---- they ascend
-above_by : (o : Ordering) (x key : List ℕ) (c : Channel) (e : List ℕ × Channel) (es : Entries) → cmp x key ≡ Less
-    → AreAbove x (e ∷ es) → AreAbove x (insert_entry cmp es key c)
-    → AreAbove x (match_ordering o ((key, c) ∷ e ∷ es) ((e.0, c) ∷ es) (e ∷ insert_entry cmp es key c))
-above_by Less x key c e es less all more = (less, all)
-above_by Equal x key c e es less all more = all
-above_by Greater x key c e es less all more = (all.0, more)
-
 above_insert : (x key : List ℕ) (c : Channel) (es : Entries) → cmp x key ≡ Less → AreAbove x es
     → AreAbove x (insert_entry cmp es key c)
 above_insert x key c [] less all = (less, tt)
 above_insert x key c (e ∷ es) less all =
-    above_by (cmp key e.0) x key c e es less all (above_insert x key c es less all.1)
+    let more = above_insert x key c es less all.1 in
+    elim (cmp key e.0) as (λ o. AreAbove x
+    (match_ordering o ((key, c) ∷ e ∷ es) ((e.0, c) ∷ es) (e ∷ insert_entry cmp es key c))) [
+      | Less ↦ (less, all)
+      | Equal ↦ all
+      | Greater ↦ (all.0, more)
+    ]
 
 all_above : (key x : List ℕ) (es : Entries) → cmp key x ≡ Less → AreAbove x es → AreAbove key es
 all_above key x [] less all = tt
 all_above key x (e ∷ es) less all =
     (nat_list_cmp_total.trans key x e.0 less all.0, all_above key x es less all.1)
 
-ascends_by : (o : Ordering) (key : List ℕ) (c : Channel) (e : List ℕ × Channel) (es : Entries) → cmp key e.0 ≡ o
-    → IsAscending (e ∷ es) → IsAscending (insert_entry cmp es key c)
-    → IsAscending (match_ordering o ((key, c) ∷ e ∷ es) ((e.0, c) ∷ es) (e ∷ insert_entry cmp es key c))
-unfolding IsStrictlySortedBy
-ascends_by Less key c e es is s more = ((is, all_above key e.0 es is s.0), s)
-ascends_by Equal key c e es is s more = s
-ascends_by Greater key c e es is s more =
-    (above_insert e.0 key c es (nat_list_cmp_total.antisymm e.0 key ∙ ap ordering_reverse is) s.0, more)
-
 pub insert_ascends : (key : List ℕ) (c : Channel) (es : Entries) → IsAscending es
     → IsAscending (insert_entry cmp es key c)
 unfolding IsStrictlySortedBy
 insert_ascends key c [] s = (tt, tt)
-insert_ascends key c (e ∷ es) s = ascends_by (cmp key e.0) key c e es refl s (insert_ascends key c es s.1)
+insert_ascends key c (e ∷ es) s =
+    let more = insert_ascends key c es s.1 in
+    elim (cmp key e.0) as (λ o. cmp key e.0 ≡ o → IsAscending
+    (match_ordering o ((key, c) ∷ e ∷ es) ((e.0, c) ∷ es) (e ∷ insert_entry cmp es key c))) [
+      | Less ↦ λ is. ((is, all_above key e.0 es is s.0), s)
+      | Equal ↦ λ is. s
+      | Greater ↦ λ is.
+          (above_insert e.0 key c es (nat_list_cmp_total.antisymm e.0 key ∙ ap ordering_reverse is) s.0, more)
+    ] refl
 
 pub by_key_ascends : (es : Entries) → IsAscending (by_key es)
 unfolding IsStrictlySortedBy
@@ -72,51 +70,25 @@ by_key_ascends [] = tt
 by_key_ascends (e ∷ es) = insert_ascends e.0 e.1 (by_key es) (by_key_ascends es)
 
 -- ---- and are the same
-module _ {X : Type 0} where
-  both_by : (a b : Bool) (x y : X) (rest : Option X) → (a ≡ true → b ≡ true → ⊥)
-      → cond a (Some y) (cond b (Some x) rest) ≡ cond b (Some x) (cond a (Some y) rest)
-  both_by true true x y rest differ = absurd (differ refl refl)
-  both_by true false x y rest differ = refl
-  both_by false true x y rest differ = refl
-  both_by false false x y rest differ = refl
-
-  over_by : (a b : Bool) (x y : X) (rest : Option X) → a ≡ b
-      → cond a (Some x) rest ≡ cond b (Some x) (cond a (Some y) rest)
-  over_by true true x y rest e = refl
-  over_by true false x y rest e = absurd (false≢true (sym e))
-  over_by false true x y rest e = absurd (false≢true e)
-  over_by false false x y rest e = refl
-
-  kept_at : (o : Ordering) (key other : List ℕ) (x : X) (e : List ℕ × X) (es : List (List ℕ × X)) → cmp key e.0 ≡ o
-      → lookup (same_key other) (insert_entry cmp es key x)
-      ≡ cond (same_key other key) (Some x) (lookup (same_key other) es)
-      → lookup (same_key other)
-      (match_ordering o ((key, x) ∷ e ∷ es) ((e.0, x) ∷ es) (e ∷ insert_entry cmp es key x))
-      ≡ cond (same_key other key) (Some x) (lookup (same_key other) (e ∷ es))
-  kept_at Less key other x e es is more = refl
-  kept_at Equal key other x e es is more =
-      over_by (same_key other e.0) (same_key other key) x e.1 (lookup (same_key other) es)
-      (ap (λ (k : List ℕ). same_key other k) (sym (same_is key e.0 (ap is_eq is))))
-  kept_at Greater key other x e es is more =
-      ap (λ (o : Option X). cond (same_key other e.0) (Some e.1) o) more
-      ∙ both_by (same_key other e.0) (same_key other key) x e.1 (lookup (same_key other) es)
-      (λ here there.
-      let alike : same_key key e.0 ≡ true =
-      ap (λ (k : List ℕ). same_key k e.0) (sym (same_is other key there)) ∙ here in
-      absurd (cc (sym is ∙ equal_from (cmp key e.0) alike)))
-
-  -- what is at a key once another is entered
-  pub kept_insert : (key : List ℕ) (x : X) (es : List (List ℕ × X)) (other : List ℕ)
-      → lookup (same_key other) (insert_entry cmp es key x)
-      ≡ cond (same_key other key) (Some x) (lookup (same_key other) es)
-  kept_insert key x [] other = refl
-  kept_insert key x (e ∷ es) other = kept_at (cmp key e.0) key other x e es refl (kept_insert key x es other)
+-- what is at a key once another is entered
+pub kept_insert : {X : Type 0} (key : List ℕ) (x : X) (es : List (List ℕ × X)) (other : List ℕ)
+    → lookup (same_key other) (insert_entry cmp es key x)
+    ≡ cond (same_key other key) (Some x) (lookup (same_key other) es)
+kept_insert key x [] other = refl
+kept_insert key x (e ∷ es) other =
+    grind (
+      arith,
+      kept_insert key x es other,
+      exact_bytes key e.0,
+      same_is other key,
+      same_is other e.0,
+      same_itself key,
+    )
 
 pub kept_by_key : (es : Entries) (key : List ℕ) → lookup (same_key key) (by_key es) ≡ lookup (same_key key) es
 kept_by_key [] key = refl
 kept_by_key (e ∷ es) key =
-    kept_insert e.0 e.1 (by_key es) key
-    ∙ ap (λ (o : Option Channel). cond (same_key key e.0) (Some e.1) o) (kept_by_key es key)
+    rw (kept_insert e.0 e.1 (by_key es) key, kept_by_key es key) refl
 
 -- what is at each key what a list has there, and ascends, is the list by key
 abbrev pub itself : Channel → Channel
@@ -127,8 +99,7 @@ map_itself None = refl
 map_itself (Some c) = refl
 
 pub made_by_key : (es made : Entries) → AreMade itself es made → made ≡ by_key es
-made_by_key es made are =
-    one_list made (by_key es) are.ascending (by_key_ascends es)
+made_by_key es made are = one_list made (by_key es) are.ascending (by_key_ascends es)
     (λ key. are.each key ∙ map_itself (lookup (same_key key) es) ∙ sym (kept_by_key es key))
 
 -- so is what is at the places of the channels, which ascend by their keys

@@ -1,18 +1,17 @@
 -- A verdict says that a channel is continuous exactly where it is.
 use Rattle.std.proofs.Common.{◌≡◌, ◌↔◌, ℤ, List, [], ◌∷◌, ◌++◌, true, false, Option, Some, None, IsSome, IsTrue, refl}
-use Rattle.std.proofs.Common.{ap, sym, ◌∙◌, subst}
 use Rattle.std.specs.List.{AllByRecursion}
 use Rattle.mseed_time.specs.Rate.{Ratio}
 use Rattle.mseed_record.specs.View.{View}
 use Rattle.mseed_steim.specs.declared.fault.ReadFault.{ReadFault}
-use Rattle.mseed_steim.specs.Reading.{IsFault, IsWhole, HasOneReading}
+use Rattle.mseed_steim.specs.Reading.{IsFault, IsReading, IsWhole, HasOneReading}
 use Rattle.mseed_audit.specs.declared.finding.Why.{Why}
 use Rattle.mseed_audit.specs.declared.finding.Finding.{Finding}
 use Rattle.mseed_audit.specs.declared.verdict.Verdict.{Verdict}
 use Rattle.mseed_audit.specs.declared.verdict.Verdict.TheVariants.{Continuous, Broken}
 use Rattle.mseed_audit.specs.Channels.{Placed, views_in}
-use Rattle.mseed_audit.specs.Follows.{FollowsAt, Follows, AllNeighbours, IsSound, IsContinuous}
-use Rattle.mseed_audit.specs.Judging.{known_rate, why_from, why_after, IsFound, time as by_time, rate as by_rate}
+use Rattle.mseed_audit.specs.Follows.{Follows, AllNeighbours, IsSound, IsContinuous}
+use Rattle.mseed_audit.specs.Judging.{known_rate, why_after, IsFound, time as by_time, rate as by_rate}
 use Rattle.mseed_audit.specs.Judging.{read as by_read, after as by_after}
 use Rattle.mseed_audit.specs.Verdict.{finding_at, AreFindings, none, one, IsVerdict, says_continuous}
 use Rattle.mseed_audit.proofs.Judged.{unknown_timed, known_timed}
@@ -32,18 +31,13 @@ found_none : HaveOneReading → (before : Option View) (v : View) (why : Option 
 found_none single before v why (by_time fault e) h = cc
 found_none single before v why (by_rate e r) h = cc
 found_none single before v why (by_read next known fault f) h = cc
-found_none single before v why (by_after next known samples whole) h = (
-  record {
-    timed = subst (λ (r : Option Ratio). IsSome r) (sym known) refl;
-    samples = samples;
-    whole = whole;
-    only = λ others r. single v others samples r whole.0;
-  },
-  (next, (known, h)),
-)
+found_none single before v why (by_after next known samples whole) h =
+    let only : (others : List ℤ) → IsReading v others → others ≡ samples =
+    λ others r. single v others samples r whole.0 in
+    (record { timed = rw known refl; samples = samples; whole = whole; only = only }, (next, (known, h)))
 
 unknown : (v : View) → IsSome (known_rate v) → known_rate v ≡ None → ⊥
-unknown v some e = let no : false ≡ true = subst (λ (r : Option Ratio). IsSome r) e some in cc (no)
+unknown v some e = let no : false ≡ true = rw e at some in cc (no)
 
 -- a sound record that follows
 none_found : (before : Option View) (v : View) (why : Option Why) → Excludes → IsFound before v why → IsSound v
@@ -59,19 +53,11 @@ none_found before v why excludes (by_after next known samples whole) sound follo
 after_none : (b v : View) (next : Ratio) → Follows b v → known_rate v ≡ Some next → why_after (Some b) v next ≡ None
 after_none b v next h known =
     let same : h.1.0 ≡ next = cc (h.1.1.next_is, known) in
-    ap (λ (r : Option Ratio). why_from b r v next) h.1.1.before_is
-    ∙ between_none b v h.0 next (subst (λ (r : Ratio). FollowsAt h.0 r b v) same h.1.1)
+    rw h.1.1.before_is (between_none b v h.0 next (rw same at h.1.1))
 
 follows_after : (b v : View) (rate next : Ratio) → known_rate b ≡ Some rate → known_rate v ≡ Some next
     → why_after (Some b) v next ≡ None → Follows b v
-follows_after b v rate next known later e = (
-  rate,
-  (
-    next,
-    follows_of b v rate next known later (sym (ap (λ (r : Option Ratio). why_from b r v next) known)
-        ∙ e),
-  ),
-)
+follows_after b v rate next known later e = (rate, (next, follows_of b v rate next known later (rw known at e)))
 
 no_finding : (p : Placed) (why : Option Why) (rest : List Finding) → finding_at p why ++ rest ≡ []
     → (why ≡ None) × (rest ≡ [])
@@ -99,7 +85,7 @@ run_continuous single first rest found (one _ _ _ why others h later) e =
 
 none_more : (p : Placed) (why : Option Why) (rest : List Finding) → why ≡ None → rest ≡ []
     → finding_at p why ++ rest ≡ []
-none_more p why rest e k = ap (λ (w : Option Why). finding_at p w ++ rest) e ∙ k
+none_more p why rest e k = rw (e, k) refl
 
 -- nothing is found of sound records that follow one another
 later_none : Excludes → (b : View) (ps : List Placed) (found : List Finding) → AreFindings (Some b) ps found
@@ -122,8 +108,7 @@ none_continuous excludes (p ∷ ps) found (one _ _ _ why rest k later) h =
 pub verdict_exact : HaveOneReading → Excludes → (verdict : Verdict) (ps : List Placed) → IsVerdict verdict ps
     → (IsTrue (says_continuous verdict) ↔ IsContinuous (views_in ps))
 verdict_exact single excludes (Continuous start rate records samples) ps h = (
-  (λ says. subst (λ (qs : List Placed). IsContinuous (views_in qs)) (sym h.1.1.0)
-      (run_continuous single h.0 h.1.0 [] h.1.1.1.findings refl)),
+  (λ says. rw h.1.1.0 (run_continuous single h.0 h.1.0 [] h.1.1.1.findings refl)),
   (λ is. refl),
 )
 verdict_exact single excludes (Broken first count) ps h =

@@ -1,5 +1,5 @@
 -- What is kept of the channels, as their verdicts.
-use Rattle.std.proofs.Common.{◌≡◌, ◌↔◌, ℕ, List, IsTrue, Option, Some, None, length, map, refl, sym, subst}
+use Rattle.std.proofs.Common.{◌≡◌, ◌↔◌, ℕ, List, IsTrue, Option, Some, None, length, map, refl}
 use Rattle.std.specs.Map.{lookup, keys_of}
 use Rattle.std.specs.Option.{option_map}
 use Rattle.std.specs.Ordering.{nat_cmp}
@@ -33,8 +33,7 @@ pub finished : AreExact → (h : Held) (ps : List Placed) (count : ℕ) (verdict
     → IsAuditAmong h ps count → AreVerdictsAmong ps verdicts
 finished exact h ps count verdicts sorted found is =
     let each : (key : List ℕ) → IsVerdictAt (lookup (same_key key) verdicts) (channel_in key ps) =
-    λ key. subst (λ (o : Option Verdict). IsVerdictAt o (channel_in key ps)) (sym (found key))
-    (verdict_at (lookup (same_key key) h.channels) (channel_in key ps) (is.each key)) in record {
+    λ key. rw (found key) (verdict_at (lookup (same_key key) h.channels) (channel_in key ps) (is.each key)) in record {
       ascending = sorted;
       each = each;
       exact = λ key. exact_at exact (lookup (same_key key) verdicts) (channel_in key ps) (each key);
@@ -46,6 +45,5 @@ pub channels_finished : AreExact → (added : List Added) (channels : List (List
 channels_finished exact added channels is =
     finished exact (record { channels = channels; added = length added }) (numbered 1 added) (length added)
     (map (λ e. (e.0, verdict_of e.1)) channels)
-    (subst (λ (keys : List (List ℕ)). IsStrictlySortedBy (slice_cmp nat_cmp) keys)
-    (sym (keys_of-map_values verdict_of channels)) is.ascending)
+    (rw (keys_of-map_values verdict_of channels) is.ascending)
     (λ key. lookup-map_values verdict_of (same_key key) channels) (record { number = refl; each = is.each })

@@ -1,5 +1,5 @@
 -- The lines of records with a finding, as they are gathered, written, and followed by the audit's text.
-use Rattle.std.proofs.Common.{◌≡◌, ℕ, ◌+◌, ◌++◌, List, [], refl, sym, ap, ◌∙◌, subst, inl, inr, Option, Ok, Err}
+use Rattle.std.proofs.Common.{◌≡◌, ℕ, ◌++◌, List, [], refl, ◌∙◌, inl, inr, Option, Ok, Err, arith}
 use Rattle.mseed_record.specs.View.{View}
 use Rattle.mseed_stream.specs.Calls.{WritesOn}
 use Rattle.mseed_stream.specs.Device.{BytesRead, BytesWritten}
@@ -22,45 +22,27 @@ use Rattle.mseed_audit.specs.Reported.{Reported, AreReported}
 use Rattle.mseed_audit.proofs.Outcomes.{timed}
 use Rattle.mseed_audit.proofs.Reporting.{lines_after}
 
--- lines were added to what is gathered
-pub gathered_reported : (first old : BytesWritten) (text next : List ℕ) (reported more : List Reported)
-    → AreGathered first old text (reported_lines reported) → next ≡ text ++ reported_lines more
-    → AreGathered first old next (reported_lines (reported ++ more))
-gathered_reported first old text next reported more before e =
-    subst (λ (xs : List ℕ). AreGathered first old next xs) (sym (lines_after reported more))
-    (gathered_more first old old text next (reported_lines reported) (reported_lines more) before
-    (subst (λ (xs : List ℕ). AreGathered old old next xs) e (gathered_all old next)))
-
 -- what was written is so of the lines of the first records
 in_lines : (scope : Scope) (Emitted : List ℕ → Type 0) (h : BytesRead) (offset : ℕ) (views : List View)
     (reported : List Reported) → AreViews h.bytes offset views → AreReported [] (scope.judged views) reported
     → Emitted (reported_lines reported) → EndsInLinesIn scope Emitted h
-in_lines scope Emitted h offset views reported shown are prefix = record {
-  offset = offset;
-  views = views;
-  reported = reported;
-  shown = shown;
-  are_reported = are;
-  prefix = prefix;
-}
+in_lines scope Emitted h offset views reported shown are prefix = search
 
 -- no memory for more than these lines
 pub memory_short : (scope : Scope) (h : BytesRead) (first new : BytesWritten) (text : List ℕ) (offset : ℕ)
     (views : List View) (reported : List Reported) → AreViews h.bytes offset views → new.failures ≡ first.failures
     → AreGathered first new text (reported_lines reported) → AreReported [] (scope.judged views) reported
     → IsLinesFaultIn scope Memory h first new
-memory_short scope h first new text offset views reported shown same before are = (
-  same,
-  in_lines scope (EmittedFirst first new) h offset views reported shown are
-      (gathered_first first new text (reported_lines reported) before),
-)
+memory_short scope h first new text offset views reported shown same before are =
+    let prefix = gathered_first first new text (reported_lines reported) before in
+    (same, in_lines scope (EmittedFirst first new) h offset views reported shown are prefix)
 
 -- ---- a report of lines
 -- nothing is reported yet
 pub lined_first : (first : BytesWritten) (held : Option (List ℕ)) (apart : BytesRead) (text : List ℕ) → text ≡ []
     → AreLined first first held held apart apart text []
 lined_first first held apart text none = record {
-  lines = subst (λ (xs : List ℕ). AreGathered first first xs []) (sym none) (gathered_all first []);
+  lines = rw none (gathered_all first []);
   fine = refl;
   writes = writes_none first held apart;
 }
@@ -70,7 +52,8 @@ pub lined_more : (first now : BytesWritten) (held holds : Option (List ℕ)) (ap
     (text next : List ℕ) (reported more : List Reported) → AreLined first now held holds apart later text reported
     → next ≡ text ++ reported_lines more → AreLined first now held holds apart later next (reported ++ more)
 lined_more first now held holds apart later text next reported more before e = record {
-  lines = gathered_reported first now text next reported more before.lines e;
+  lines = rw (e, lines_after reported more) (gathered_more first now now text (text ++ reported_lines more)
+      (reported_lines reported) (reported_lines more) before.lines (gathered_all now (text ++ reported_lines more)));
   fine = before.fine;
   writes = before.writes;
 }
@@ -93,7 +76,7 @@ pub lined_in_part : (first old new : BytesWritten) (held holds keeps : Option (L
     → AreLinedInPart first new held keeps apart last reported
 lined_in_part first old new held holds keeps apart later last taken text reported before cut writes = record {
   part = part_of first old new text (reported_lines reported) before.lines (taken, (cut.part, cut.text));
-  failed = cut.failed ∙ ap (λ (n : ℕ). n + 1) before.fine;
+  failed = omega (arith, cut.failed, before.fine);
   writes = writes_on first old new held holds keeps apart later last before.writes writes;
 }
 
@@ -103,17 +86,14 @@ pub lines_fault : (A : Type 0) (s : Selection) (fault : EachFault) (h : BytesRea
     → IsGathering {A = A} s (Err fault) h (AreLined first new held holds apart later text)
     (AreLinedInPart first new held holds apart later)
     → IsLinesFaultIn (asked s) fault h first new × WritesOn first new held holds apart later
-lines_fault A s Write h first new held holds apart later text (offset, (views, (shown, r))) = (
-  (
-    r.stands.failed,
-    in_lines (asked s) (EmittedPart first new) h offset views r.reported shown r.are_reported r.stands.part,
-  ),
-  r.stands.writes,
-)
-lines_fault A s Memory h first new held holds apart later text (offset, (views, (shown, r))) = (
-  memory_short (asked s) h first new text offset views r.reported shown r.stands.fine r.stands.lines r.are_reported,
-  r.stands.writes,
-)
+lines_fault A s Write h first new held holds apart later text (offset, (views, (shown, r))) =
+    let lines = in_lines (asked s) (EmittedPart first new) h offset views r.reported shown r.are_reported
+    r.stands.part in
+    ((r.stands.failed, lines), r.stands.writes)
+lines_fault A s Memory h first new held holds apart later text (offset, (views, (shown, r))) =
+    let lines = memory_short (asked s) h first new text offset views r.reported shown r.stands.fine r.stands.lines
+    r.are_reported in
+    (lines, r.stands.writes)
 
 -- ---- before the audit's text
 -- the lines that were written are those before a text
@@ -126,11 +106,8 @@ lines_outcome s Memory h old new f = (f.0, inl f.1)
 abbrev reported_also : (s : Selection) {h : BytesRead} (found : SelectedSummary) (views : List View)
     (reported : List Reported) (text whole : List ℕ) (f : IsFinished s found h views text whole)
     → AreReported [] (asked_of s views) reported → AuditedEachIn (asked s) h
-reported_also s found views reported text whole f are = record {
-  audited = f.audited;
-  reported = reported;
-  are_reported = subst (λ (vs : List View). AreReported [] (asked_of s vs) reported) (sym f.views_are) are;
-}
+reported_also s found views reported text whole f are =
+    record { audited = f.audited; reported = reported; are_reported = rw f.views_are are }
 
 -- the whole text was written
 pub each_written : (s : Selection) {h : BytesRead} (found : SelectedSummary) (views : List View)
@@ -140,19 +117,11 @@ pub each_written : (s : Selection) {h : BytesRead} (found : SelectedSummary) (vi
     → new.bytes ≡ old.bytes ++ whole → old.failures ≡ first.failures → new.failures ≡ old.failures
     → IsEachSelectedOutcome s (Ok found) h first new
 each_written s found views reported first old new text whole f are before bytes same fine =
-    let tail : List ℕ = text_in (asked s) f.audited in (
+    let all : new.bytes ≡ first.bytes ++ (reported_lines reported ++ text_in (asked s) f.audited) =
+    all_behind first old new text (reported_lines reported) (text_in (asked s) f.audited) before
+    (rw f.text_is at bytes) in (
       reported_also s found views reported text whole f are,
-      (
-        (
-          f.summary,
-          record {
-            bytes = all_behind first old new text (reported_lines reported) tail before
-                (bytes ∙ ap (λ (xs : List ℕ). old.bytes ++ xs) f.text_is);
-            fine = fine ∙ same;
-          },
-        ),
-        timed s found views text whole f,
-      ),
+      ((f.summary, record { bytes = all; fine = fine ∙ same }), timed s found views text whole f),
     )
 
 -- a prefix of it was written, before the output failed
@@ -163,12 +132,6 @@ pub each_short : (s : Selection) {h : BytesRead} (taken : ℕ) (found : Selected
     → old.failures ≡ first.failures → IsCutOff taken whole old new
     → IsEachSelectedOutcome s (Err Write) h first new
 each_short s taken found views reported first old new text whole f are before same cut =
-    let a : AuditedEachIn (asked s) _ = reported_also s found views reported text whole f are in
-    let tail : List ℕ = text_in (asked s) f.audited in (
-      cut.failed ∙ ap (λ (n : ℕ). n + 1) same,
-      inr (
-        a,
-        cut_part first old new taken text (reported_lines reported) tail before
-            (subst (λ (xs : List ℕ). IsCutOff taken xs old new) f.text_is cut),
-      ),
-    )
+    let part = cut_part first old new taken text (reported_lines reported) (text_in (asked s) f.audited) before
+    (rw f.text_is at cut) in
+    (omega (arith, cut.failed, same), inr (reported_also s found views reported text whole f are, part))

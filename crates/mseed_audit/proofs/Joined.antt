@@ -1,5 +1,5 @@
 -- The samples and leap seconds of records, with one more.
-use Rattle.std.proofs.Common.{◌≡◌, ℕ, ℤ, ◌+◌, ◌<◌, List, [], ◌∷◌, ◌++◌, Option, Some, length, refl, sym, ap, subst, ◌∙◌}
+use Rattle.std.proofs.Common.{◌≡◌, ℕ, ℤ, ◌+◌, ◌<◌, List, [], ◌∷◌, ◌++◌, Option, Some, length, refl, sym, ap, ◌∙◌}
 use Rattle.std.proofs.Common.{append_assoc, append-nil, arith}
 use Rattle.std.proofs.lemmas.List.{length-append}
 use Rattle.mseed_time.specs.declared.order.Order.{Order}
@@ -25,19 +25,14 @@ count_is v samples h = counted h.0.form v.payload_order _ (count_of v) samples h
 -- and they are some
 pub some_more : (v : View) (old more new : List ℤ) → IsWhole v more → new ≡ old ++ more → length old < length new
 some_more v old more new whole e =
-    let count = count_is v more whole in
-    let some = whole.0.some in
-    let size = ap (λ (xs : List ℤ). length xs) e ∙ length-append old more in
-    omega (arith, count, some, size)
+    rw e (omega (arith, count_is v more whole, whole.0.some, length-append old more))
 
 joined_more : (vs : List View) (samples : List ℤ) (v : View) (more : List ℤ) → AreJoined vs samples → IsWhole v more
     → AreJoined (vs ++ v ∷ []) (samples ++ more)
-joined_more [] [] v more none h =
-    subst (λ (xs : List ℤ). AreJoined (v ∷ []) xs) (append-nil more) (one v [] more [] h none)
+joined_more [] [] v more none h = rw append-nil at (one v [] more [] h none)
 joined_more [] (s ∷ samples) v more joined h = elim joined [ ]
 joined_more (w ∷ vs) _ v more (one _ _ first rest is later) h =
-    subst (λ (xs : List ℤ). AreJoined (w ∷ (vs ++ v ∷ [])) xs) (sym (append_assoc first rest more))
-    (one w (vs ++ v ∷ []) first (rest ++ more) is (joined_more vs rest v more later h))
+    rw append_assoc (one w (vs ++ v ∷ []) first (rest ++ more) is (joined_more vs rest v more later h))
 
 -- the leap second of one more record stands after all samples
 steps_next : (place : ℕ) (vs : List View) (samples : List ℤ) (v : View) → AreJoined vs samples
@@ -48,14 +43,10 @@ steps_next place [] [] v none =
     ∙ ap (λ (n : ℕ). step_at n (step_in (leap_of v.bytes))) (omega arith)
 steps_next place [] (s ∷ samples) v joined = elim joined [ ]
 steps_next place (w ∷ vs) _ v (one _ _ first rest is later) =
-    let here : List (ℕ × LeapStep) = step_at (place + count_of w) (step_in (leap_of w.bytes)) in
-    let last : List (ℕ × LeapStep) =
-    step_at (place + count_of w + length rest + count_of v) (step_in (leap_of v.bytes)) in
     let at : place + count_of w + length rest + count_of v ≡ place + length (first ++ rest) + count_of v =
     omega (arith, length-append first rest, count_is w first is) in
-    ap (λ (ss : List (ℕ × LeapStep)). here ++ ss) (steps_next (place + count_of w) vs rest v later)
-    ∙ sym (append_assoc here (steps_from (place + count_of w) vs) last)
-    ∙ ap (λ (n : ℕ). (here ++ steps_from (place + count_of w) vs) ++ step_at n (step_in (leap_of v.bytes))) at
+    rw (steps_next (place + count_of w) vs rest v later, at) (sym (append_assoc
+    (step_at (place + count_of w) (step_in (leap_of w.bytes))) (steps_from (place + count_of w) vs) _))
 
 -- a series with a further record's samples, and its leap second
 pub holds_more : (codes : List ℕ) (start : ℤ) (rate : Rate) (vs : List View) (v : View) (more : List ℤ)
@@ -69,50 +60,30 @@ pub holds_more : (codes : List ℕ) (start : ℤ) (rate : Rate) (vs : List View)
 holds_more codes start rate vs v more step old new before whole step_is e =
     let at : 0 + length old.samples + count_of v ≡ length old.samples + length more =
     omega (arith, count_is v more whole) in
-    let next : steps_from 0 (vs ++ v ∷ []) ≡ steps_from 0 vs ++ step_at (length old.samples + length more) step =
-    steps_next 0 vs old.samples v before.samples
-    ∙ ap (λ (n : ℕ). steps_from 0 vs ++ step_at n (step_in (leap_of v.bytes))) at
-    ∙ ap (λ (o : Option LeapStep). steps_from 0 vs ++ step_at (length old.samples + length more) o) (sym step_is) in
-    let all : HoldsAll codes start rate (vs ++ v ∷ [])
-    (record old {
-      samples = old.samples ++ more;
-      steps = old.steps ++ step_at (length old.samples + length more) step;
-    }) = record {
+    rw e (record {
       codes_is = before.codes_is;
       start_is = before.start_is;
       rate_is = before.rate_is;
       samples = joined_more vs old.samples v more before.samples whole;
-      steps = ap (λ (ss : List (ℕ × LeapStep)). ss ++ step_at (length old.samples + length more) step) before.steps
-          ∙ sym next;
-    } in
-    subst (λ (s : Trace). HoldsAll codes start rate (vs ++ v ∷ []) s) (sym e) all
+      steps = rw (before.steps, steps_next 0 vs old.samples v before.samples, at, step_is) refl;
+    })
 
 -- a series without samples
 pub holds_none : (codes : List ℕ) (start : ℤ) (rate : Rate) (samples : List ℤ) (s : Trace) → samples ≡ []
     → s ≡ record { codes = codes; start = start; rate = rate; samples = samples; steps = [] }
     → HoldsAll codes start rate [] s
-holds_none codes start rate samples s empty e =
-    let all : HoldsAll codes start rate [] (record {
-      codes = codes;
-      start = start;
-      rate = rate;
-      samples = samples;
-      steps = [];
-    }) = record {
-      codes_is = refl;
-      start_is = refl;
-      rate_is = refl;
-      samples = subst (λ (xs : List ℤ). AreJoined [] xs) (sym empty) none;
-      steps = refl;
-    } in
-    subst (λ (t : Trace). HoldsAll codes start rate [] t) (sym e) all
+holds_none codes start rate samples s empty e = rw (e, empty) (record {
+  codes_is = refl;
+  start_is = refl;
+  rate_is = refl;
+  samples = none;
+  steps = refl;
+})
 
 -- of the same series and records
 pub holds_same : (codes : List ℕ) (start : ℤ) (rate : Rate) (vs ws : List View) (s t : Trace) → ws ≡ vs → t ≡ s
     → HoldsAll codes start rate vs s → HoldsAll codes start rate ws t
-holds_same codes start rate vs ws s t e f h =
-    subst (λ (us : List View). HoldsAll codes start rate us t) (sym e)
-    (subst (λ (u : Trace). HoldsAll codes start rate vs u) (sym f) h)
+holds_same codes start rate vs ws s t e f h = rw (e, f) h
 
 -- a series with more samples, and a leap second after them
 pub pushed : (old : Trace) (samples more : List ℤ) (steps : List (ℕ × LeapStep)) (place : ℕ) (step : LeapStep)
@@ -122,6 +93,4 @@ pub pushed : (old : Trace) (samples more : List ℤ) (steps : List (ℕ × LeapS
       steps = old.steps ++ step_at (length old.samples + length more) (Some step);
     }
 pushed old samples more steps place step e at f =
-    let place_is : place ≡ length old.samples + length more = at ∙ ap (λ (xs : List ℤ). length xs) e
-    ∙ length-append old.samples more in
-    rw (e, f, place_is) refl
+    rw (f, at, e, length-append old.samples more) refl

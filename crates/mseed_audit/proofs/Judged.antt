@@ -1,6 +1,6 @@
 -- What is found of a record, by what's kept of the one before it.
-use Rattle.std.proofs.Common.{◌≡◌, ◌*◌, if◌then◌else◌, ◌==◌, Option, Some, None, IsSome, ℕ, List, ℤ, subst, refl, ap}
-use Rattle.std.proofs.Common.{sym, ◌∙◌}
+use Rattle.std.proofs.Common.{◌≡◌, ◌*◌, if◌then◌else◌, ◌==◌, Option, Some, None, IsSome, ℕ, List, ℤ, refl, ap}
+use Rattle.std.proofs.Common.{subst, sym, ◌∙◌}
 use Rattle.std.proofs.lemmas.Bool.{ne_eqb}
 use Rattle.mseed_time.specs.declared.fault.TimeFault.{TimeFault}
 use Rattle.mseed_time.specs.Join.{join_of}

@@ -1,5 +1,5 @@
--- Maps by the bytes of their keys.
-use Rattle.std.proofs.Common.{◌≡◌, ℕ, List, true, refl}
+-- Maps by the bytes of their keys, and records by theirs.
+use Rattle.std.proofs.Common.{◌≡◌, ◌∙◌, ◌<◌, ℕ, List, true, refl, sym, arith}
 use Rattle.std.specs.Ordering.{nat_cmp, eq_by_cmp, is_eq}
 use Rattle.std.specs.Cmp.{IsEquivalence}
 use Rattle.std.specs.Cmp.Lexicographic.{slice_cmp}
@@ -8,7 +8,11 @@ use Rattle.std.specs.declared.cmp.Ordering.{Ordering}
 use Rattle.std.specs.declared.cmp.Ordering.TheVariants.{Less, Equal, Greater}
 use Rattle.std.proofs.lemmas.Map.Lookups.{exact_bytes}
 use Rattle.std.proofs.lemmas.Bool.{false≢true}
-use Rattle.mseed_audit.specs.Channels.{same_key}
+use Rattle.std.proofs.lemmas.Bool.Decides.{nat_tests}
+use Rattle.mseed_record.specs.Header.{key_at}
+use Rattle.mseed_record.specs.View.{View}
+use Rattle.mseed_steim.specs.Reading.{count_of}
+use Rattle.mseed_audit.specs.Channels.{is_of_channel, same_key}
 
 pub keys_alike : IsEquivalence (eq_by_cmp (slice_cmp nat_cmp))
 keys_alike = eq_by_cmp_equiv nat_list_cmp_total
@@ -27,3 +31,14 @@ equal_from Greater e = absurd (false≢true e)
 -- keys that compare equal are equal
 pub same_is : (key other : List ℕ) → same_key key other ≡ true → key ≡ other
 same_is key other e = exact_bytes key other (equal_from (slice_cmp nat_cmp key other) e)
+
+-- a record with samples is of its channel alone
+pub of_some : (key : List ℕ) (v : View) → 0 < count_of v → is_of_channel key v ≡ same_key key (key_at v.bytes)
+of_some key v some = grind (arith, nat_tests)
+
+pub samples_of : (key : List ℕ) (v : View) → is_of_channel key v ≡ true → 0 < count_of v
+samples_of key v e = grind (arith, nat_tests)
+
+-- a record of a channel has its key
+pub key_of : (key : List ℕ) (v : View) → is_of_channel key v ≡ true → same_key key (key_at v.bytes) ≡ true
+key_of key v e = sym (of_some key v (samples_of key v e)) ∙ e

@@ -4,8 +4,8 @@ use Rattle.std.specs.Map.{lookup}
 use Rattle.mseed_audit.specs.declared.finding.Finding.{Finding}
 use Rattle.mseed_audit.specs.declared.verdict.Verdict.{Verdict}
 use Rattle.mseed_audit.specs.declared.verdict.Verdict.TheVariants.{Continuous, Broken}
-use Rattle.mseed_audit.specs.Channels.{Added, Placed, same_key, records_of}
-use Rattle.mseed_audit.specs.Verdict.{AreFindings, IsVerdict, IsVerdictAt, AreVerdicts}
+use Rattle.mseed_audit.specs.Channels.{Placed, channel_in, same_key}
+use Rattle.mseed_audit.specs.Verdict.{AreFindings, IsVerdict, IsVerdictAt, AreVerdictsAmong}
 use Rattle.mseed_audit.proofs.Alike.{one_list}
 use Rattle.mseed_audit.proofs.Continuity.{Excludes}
 use Rattle.mseed_audit.proofs.OneVerdict.{HasOneFault, verdict_one}
@@ -29,9 +29,9 @@ verdict_at only excludes None (Some w) ps h k = absurd (no_verdict w ps h k)
 verdict_at only excludes (Some v) None ps h k = absurd (no_verdict v ps k h)
 verdict_at only excludes (Some v) (Some w) ps h k = ap (λ (u : Verdict). Some u) (verdict_one only excludes v w ps h k)
 
-pub verdicts_one : HasOneFault → Excludes → (added : List Added) (vs ws : List (List ℕ × Verdict))
-    → AreVerdicts added vs → AreVerdicts added ws → vs ≡ ws
-verdicts_one only excludes added vs ws h k =
+pub verdicts_one : HasOneFault → Excludes → (ps : List Placed) (vs ws : List (List ℕ × Verdict))
+    → AreVerdictsAmong ps vs → AreVerdictsAmong ps ws → vs ≡ ws
+verdicts_one only excludes ps vs ws h k =
     one_list vs ws h.ascending k.ascending
-    (λ key. verdict_at only excludes (lookup (same_key key) vs) (lookup (same_key key) ws) (records_of key added)
+    (λ key. verdict_at only excludes (lookup (same_key key) vs) (lookup (same_key key) ws) (channel_in key ps)
     (h.each key) (k.each key))

@@ -1,8 +1,7 @@
 -- Records have one series at most, and leap seconds one first that a series can't have.
-use Rattle.std.proofs.Common.{◌≡◌, ℕ, ℤ, ◌<◌, ◌≤◌, List, [], ◌∷◌, ◌++◌, length, refl, sym, ap, subst, ◌∙◌, arith}
+use Rattle.std.proofs.Common.{◌≡◌, ℕ, ℤ, ◌≤◌, List, [], ◌∷◌, ◌++◌, length, refl, sym, ◌∙◌, arith}
 use Rattle.mseed_time.specs.declared.outcome.LeapStep.{LeapStep}
-use Rattle.mseed_record.specs.Header.{key_at, factor_at, multiplier_at}
-use Rattle.mseed_record.specs.View.{View, start_of}
+use Rattle.mseed_record.specs.View.{View}
 use Rattle.mseed_steim.specs.Reading.{HasOneReading}
 use Rattle.mseed_audit.specs.Series.{Trace, AreStepsFrom, IsBadStep, AreJoined, none, one, IsSeriesOf}
 use Rattle.mseed_audit.proofs.OneVerdict.{same_rate}
@@ -15,20 +14,15 @@ joined_one single (v ∷ vs) _ _ (one _ _ samples rest is later) (one _ _ others
     let after : rest ≡ more = joined_one single vs rest more later latter in
     λ i. here i ++ after i
 
-same_first : (v w : View) (vs ws : List View) → v ∷ vs ≡ w ∷ ws → v ≡ w
-same_first v w vs ws e = cc
-
 pub series_one : ((v : View) → HasOneReading v) → (s t : Trace) (vs : List View) → IsSeriesOf s vs → IsSeriesOf t vs
     → s ≡ t
 series_one single s t vs h k =
-    let first : h.first ≡ k.first = same_first h.first k.first h.rest k.rest (sym h.parts ∙ k.parts) in
-    let codes : s.codes ≡ t.codes = h.codes ∙ ap (λ (v : View). key_at v.bytes) first ∙ sym k.codes in
-    let start : s.start ≡ t.start = h.start ∙ ap start_of first ∙ sym k.start in
-    let factor : s.rate.factor ≡ t.rate.factor = h.factor ∙ ap (λ (v : View). factor_at v.order v.bytes) first
-    ∙ sym k.factor in
-    let multiplier : s.rate.multiplier ≡ t.rate.multiplier =
-    h.multiplier ∙ ap (λ (v : View). multiplier_at v.order v.bytes) first ∙ sym k.multiplier in
-    let rate : s.rate ≡ t.rate = same_rate s.rate t.rate factor multiplier in
+    let parts : h.first ∷ h.rest ≡ k.first ∷ k.rest = sym h.parts ∙ k.parts in
+    let first : h.first ≡ k.first = cc parts in
+    let codes : s.codes ≡ t.codes = rw (h.codes, k.codes, first) refl in
+    let start : s.start ≡ t.start = rw (h.start, k.start, first) refl in
+    let rate : s.rate ≡ t.rate = same_rate s.rate t.rate (rw (h.factor, k.factor, first) refl)
+    (rw (h.multiplier, k.multiplier, first) refl) in
     let samples : s.samples ≡ t.samples = joined_one single vs s.samples t.samples h.samples k.samples in
     let steps : s.steps ≡ t.steps = h.steps ∙ sym k.steps in
     λ i. record { codes = codes i; start = start i; rate = rate i; samples = samples i; steps = steps i }
@@ -40,14 +34,11 @@ no_later : (place size : ℕ) (prefix back others rest : List (ℕ × LeapStep))
 no_later place size [] back [] rest bad other e good not_good = omega arith
 no_later place size (s ∷ prefix) back [] rest bad other e good not_good = omega arith
 no_later place size [] back (t ∷ others) rest bad other e good not_good =
-    let same : t ≡ bad = cc in
-    absurd (not_good (subst (λ (u : ℕ × LeapStep). (place < u.0) × (u.0 ≤ size) × AreStepsFrom u.0 size []) same
-    (good.0, good.1, tt)))
+    let same : t ≡ bad = cc in absurd (not_good (rw (← same) (good.0, good.1, tt)))
 no_later place size (s ∷ prefix) back (t ∷ others) rest bad other e good not_good =
     let same : t ≡ s = cc in
     let after : prefix ++ bad ∷ back ≡ others ++ other ∷ rest = cc in
-    let moved : (place < s.0) × (s.0 ≤ size) × AreStepsFrom s.0 size others =
-    subst (λ (u : ℕ × LeapStep). (place < u.0) × (u.0 ≤ size) × AreStepsFrom u.0 size others) same good in
+    let moved = rw same at good in
     let fewer : length others ≤ length prefix =
     no_later s.0 size prefix back others rest bad other after moved.2 (λ all. not_good (moved.0, moved.1, all)) in
     omega (arith, fewer)

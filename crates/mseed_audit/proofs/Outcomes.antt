@@ -1,6 +1,6 @@
 -- What an audit of a whole input comes to, by what its calls ensure.
-use Rattle.std.proofs.Common.{◌≡◌, ℕ, suc, ◌+◌, ◌++◌, List, [], ◌∷◌, length, Option, refl, ap, ◌∙◌, subst}
-use Rattle.std.proofs.Common.{Ok, Err, sym, arith, is_some}
+use Rattle.std.proofs.Common.{◌≡◌, ℕ, suc, ◌+◌, ◌++◌, List, [], ◌∷◌, length, Option, refl, ap, ◌∙◌}
+use Rattle.std.proofs.Common.{Ok, Err, arith, is_some}
 use Rattle.std.specs.List.{count_by, filter}
 use Rattle.mseed_record.specs.View.{View}
 use Rattle.mseed_stream.specs.Device.{BytesRead, BytesWritten}
@@ -17,7 +17,7 @@ use Rattle.mseed_audit.specs.Audit.{Held, IsAuditAmong}
 use Rattle.mseed_audit.specs.Text.{audit_text}
 use Rattle.mseed_audit.specs.Scope.{asked, asked_of, placed_of, whole}
 use Rattle.mseed_audit.specs.Selected.{IsSelectedOutcome}
-use Rattle.mseed_audit.specs.Summary.{broken_count, text_in}
+use Rattle.mseed_audit.specs.Summary.{broken_count}
 use Rattle.mseed_audit.specs.private.Gathered.{HasEnded, IsFinished}
 pub use Rattle.mseed_audit.proofs.Views.{added_length}
 
@@ -46,47 +46,26 @@ finished s found held p end bytes h views verdicts slice records text next ended
       views_are = refl;
       summary = record { records = counted ∙ judged; channels = size; broken = broken; fault = fault; end = last };
       without_time = time ∙ ended.passed.without_time;
-      text_is = is ∙ ap (λ (vs : List (List ℕ × Verdict)). text ++ audit_text vs records end) same
-          ∙ ap (λ (n : ℕ). text ++ audit_text verdicts n end) judged;
+      text_is = rw (same, judged) at is;
     }
-
--- as the whole text
-all_text : (s : Selection) {h : BytesRead} (found : SelectedSummary) (views : List View) (start text : List ℕ)
-    (f : IsFinished s found h views start text) → start ≡ [] → text ≡ text_in (asked s) f.audited
-all_text s found views start text f empty =
-    f.text_is ∙ ap (λ (xs : List ℕ). xs ++ text_in (asked s) f.audited) empty
 
 pub timed : (s : Selection) {h : BytesRead} (found : SelectedSummary) (views : List View) (start text : List ℕ)
     (f : IsFinished s found h views start text) → found.without_time ≡ count_by (lacks_time s) f.audited.views
-timed s found views start text f =
-    f.without_time ∙ ap (λ (vs : List View). count_by (lacks_time s) vs) (sym f.views_are)
+timed s found views start text f = rw f.views_are f.without_time
 
--- which was written
+-- the whole text was written
 pub written : (s : Selection) {h : BytesRead} (found : SelectedSummary) (views : List View) (start text : List ℕ)
     (old new : BytesWritten) → IsFinished s found h views start text → start ≡ [] → new.bytes ≡ old.bytes ++ text
     → new.failures ≡ old.failures → IsSelectedOutcome s (Ok found) h old new
-written s found views start text old new f empty wrote fine = (
-  f.audited,
-  (
-    (
-      f.summary,
-      record {
-        bytes = wrote ∙ ap (λ (xs : List ℕ). old.bytes ++ xs) (all_text s found views start text f empty);
-        fine = fine;
-      },
-    ),
-    timed s found views start text f,
-  ),
-)
+written s found views start text old new f empty wrote fine =
+    let bytes = rw (f.text_is, empty) at wrote in
+    (f.audited, ((f.summary, record { bytes = bytes; fine = fine }), timed s found views start text f))
 
 -- or a part of it
 pub cut_off : (s : Selection) {h : BytesRead} (found : SelectedSummary) (taken : ℕ) (views : List View)
     (start text : List ℕ) (old new : BytesWritten) → IsFinished s found h views start text → start ≡ []
     → IsCutOff taken text old new → IsSelectedOutcome s (Err (Write taken)) h old new
-cut_off s found taken views start text old new f empty cut = (
-  f.audited,
-  subst (λ (xs : List ℕ). IsCutOff taken xs old new) (all_text s found views start text f empty) cut,
-)
+cut_off s found taken views start text old new f empty cut = (f.audited, rw (f.text_is, empty) at cut)
 
 -- ---- where all records are asked for
 asked_each : (ps : List Placed) → filter (λ p. asks_for everything p.view) ps ≡ ps

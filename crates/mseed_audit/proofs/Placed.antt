@@ -1,14 +1,12 @@
 -- Channels in a list, and where each of them stands.
-use Rattle.std.proofs.Common.{◌≡◌, ◌∙◌, ◌+◌, ◌<◌, ◌++◌, ◌∷◌, [], ℕ, suc, List, Bool, cond, Option, Some, None, length}
-use Rattle.std.proofs.Common.{get_or, set, refl, sym, ap, subst, arith}
+use Rattle.std.proofs.Common.{◌≡◌, ◌∙◌, ◌+◌, ◌<◌, ◌++◌, ◌∷◌, [], ℕ, suc, List, cond, Option, Some, None, length}
+use Rattle.std.proofs.Common.{get_or, set, refl, sym, arith}
 use Rattle.std.specs.BTreeMap.{insert_entry}
 use Rattle.std.specs.Cmp.Lexicographic.{slice_cmp}
 use Rattle.std.specs.List.{All, slice_get}
 use Rattle.std.specs.List.Sorted.{IsStrictlySortedBy}
 use Rattle.std.specs.Map.{keys_of, lookup, set_value, values_of}
-use Rattle.std.specs.Ordering.{is_eq, match_ordering, nat_cmp}
-use Rattle.std.specs.declared.cmp.Ordering.{Ordering}
-use Rattle.std.specs.declared.cmp.Ordering.TheVariants.{Less, Equal, Greater}
+use Rattle.std.specs.Ordering.{nat_cmp}
 use Rattle.std.proofs.lemmas.List.{length-append}
 use Rattle.std.proofs.lemmas.Map.{length-set_value}
 use Rattle.std.proofs.lemmas.Map.Views.{All-values-insert_entry}
@@ -20,7 +18,7 @@ use Rattle.mseed_audit.specs.private.ChannelState.{IsMissed}
 use Rattle.mseed_audit.proofs.ByKey.{kept_insert}
 use Rattle.mseed_audit.proofs.Maps.{same_back}
 use Rattle.mseed_audit.proofs.Apart.{apart_place, apart_push, apart_set}
-use Rattle.mseed_audit.proofs.Rosters.{all_below, no_place, places_more, places_set, places_stay, set_is as set_at}
+use Rattle.mseed_audit.proofs.Rosters.{no_place, places_more, places_set, places_stay, set_is as set_at}
 use Rattle.mseed_audit.proofs.Rosters.{with_is}
 
 abbrev Entries : Type 0
@@ -33,16 +31,16 @@ module _ (es : Entries) (i : ℕ) (e : List ℕ × Channel) (within : i < length
 
   module _ (ps : List (List ℕ × ℕ)) (are : ArePlaced ps es) (after : Channel) where
     place : place_of (same_key e.0) es ≡ Some i
-    place = apart_place e.0 es i e are.apart there refl
+    place = apart_place es i e are.apart there
 
     pub set_is : set es i (e.0, after) ≡ with_channel es i after
-    set_is = ap (λ (x : List ℕ × Channel). set es i (x.0, after)) at ∙ set_at es i e after
+    set_is = rw at (set_at es i e after)
 
     same : set es i (e.0, after) ≡ set_value (same_key e.0) es after
     same = set_is ∙ with_is (same_key e.0) es i after place
 
     pub set_placed : ArePlaced ps (set es i (e.0, after))
-    set_placed = subst (λ (fs : Entries). ArePlaced ps fs) (sym same) (record {
+    set_placed = rw same (record {
       places = places_set ps (same_key e.0) es after are.places;
       apart = apart_set (same_key e.0) es after are.apart;
       ascending = are.ascending;
@@ -51,9 +49,7 @@ module _ (es : Entries) (i : ℕ) (e : List ℕ × Channel) (within : i < length
 
     pub set_missed : (missed : Option (List ℕ)) → IsMissed missed es → IsMissed missed (set es i (e.0, after))
     set_missed None is = tt
-    set_missed (Some key) is =
-        ap (λ (fs : Entries). place_of (same_key key) fs) same
-        ∙ places_stay (same_key key) (same_key e.0) es after ∙ is
+    set_missed (Some key) is = rw same (places_stay (same_key key) (same_key e.0) es after ∙ is)
 
 -- ---- a new channel after the others
 abbrev Places : Type 0
@@ -62,47 +58,29 @@ Places = List (List ℕ × ℕ)
 abbrev put : Places → List ℕ → ℕ → Places
 put ps key i = insert_entry (slice_cmp nat_cmp) ps key i
 
-longer_by : (o : Ordering) (key : List ℕ) (i : ℕ) (e : List ℕ × ℕ) (ps : Places) → slice_cmp nat_cmp key e.0 ≡ o
-    → lookup (same_key key) (e ∷ ps) ≡ None
-    → (lookup (same_key key) ps ≡ None → length (put ps key i) ≡ suc (length ps))
-    → length (match_ordering o ((key, i) ∷ e ∷ ps) ((e.0, i) ∷ ps) (e ∷ put ps key i)) ≡ suc (suc (length ps))
-longer_by Less key i e ps is none later = refl
-longer_by Equal key i e ps is none later =
-    absurd (cc (sym (ap (λ (b : Bool). cond b (Some e.1) (lookup (same_key key) ps)) (ap is_eq is)) ∙ none))
-longer_by Greater key i e ps is none later =
-    ap suc (later (sym (ap (λ (b : Bool). cond b (Some e.1) (lookup (same_key key) ps)) (ap is_eq is)) ∙ none))
-
 longer : (key : List ℕ) (i : ℕ) (ps : Places) → lookup (same_key key) ps ≡ None
     → length (put ps key i) ≡ suc (length ps)
 longer key i [] none = refl
-longer key i (e ∷ ps) none = longer_by (slice_cmp nat_cmp key e.0) key i e ps refl none (longer key i ps)
+longer key i (e ∷ ps) none = grind (arith, longer key i ps)
 
 pub placed_push : (ps more : Places) (es fs : Entries) (key : List ℕ) (c : Channel) → ArePlaced ps es
     → fs ≡ es ++ (key, c) ∷ [] → lookup (same_key key) es ≡ None → more ≡ put ps key (length es)
     → IsStrictlySortedBy (slice_cmp nat_cmp) (keys_of more) → ArePlaced more fs
 placed_push ps more es fs key c are entered none is ascending =
-    let next : Entries = es ++ (key, c) ∷ [] in
-    let size : length next ≡ length es + 1 = length-append es ((key, c) ∷ []) in
-    let below : All (λ i. i < length next) (values_of ps) =
-    subst (λ (n : ℕ). All (λ i. i < n) (values_of ps)) (sym size)
-    (all_below (values_of ps) (length es) are.places.within) in
+    let size : length (es ++ (key, c) ∷ []) ≡ length es + 1 = length-append es ((key, c) ∷ []) in
+    let below : All (λ i. i < length es + 1) (values_of ps) =
+    λ k d l. omega (arith, are.places.within k d l) in
     let updated : (other : List ℕ)
     → lookup (same_key other) more ≡ cond (same_key key other) (Some (length es)) (lookup (same_key other) ps) =
-    λ other.
-    ap (λ (qs : Places). lookup (same_key other) qs) is ∙ kept_insert key (length es) ps other
-    ∙ ap (λ (b : Bool). cond b (Some (length es)) (lookup (same_key other) ps)) (same_back other key) in
-    let absent : lookup (same_key key) ps ≡ None =
-    are.places.each key ∙ no_place (same_key key) es none in
-    let one_more : length more ≡ suc (length ps) =
-    ap (λ (qs : Places). length qs) is ∙ longer key (length es) ps absent in
-    subst (λ (gs : Entries). ArePlaced more gs) (sym entered) (record {
+    λ other. rw (is, kept_insert key (length es) ps other, same_back other key) refl in
+    let absent = no_place (same_key key) es none in
+    rw entered (record {
       places = record {
-        each = λ other. places_more ps more es key c are.places none updated other;
-        within = subst (λ (qs : Places). All (λ i. i < length next) (values_of qs)) (sym is)
-            (All-values-insert_entry (slice_cmp nat_cmp) key (length es) (λ i. i < length next) ps below
-            (omega (arith, size)));
+        each = places_more ps more es key c are.places none updated;
+        within = rw (size, is) (All-values-insert_entry (slice_cmp nat_cmp) key (length es) (λ i. i < length es + 1) ps
+            below (omega arith));
       };
-      apart = apart_push es (key, c) are.apart (no_place (same_key key) es none);
+      apart = apart_push es (key, c) are.apart absent;
       ascending = ascending;
-      many = omega (arith, one_more, are.many, size);
+      many = rw is (omega (arith, longer key (length es) ps (are.places.each key ∙ absent), are.many, size));
     })

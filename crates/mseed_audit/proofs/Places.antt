@@ -1,8 +1,8 @@
 -- The places of leap seconds.
 use Rattle.std.proofs.Common.{◌≡◌, ℕ, suc, ◌+◌, ◌<◌, ◌≤◌, List, [], ◌∷◌, ◌++◌, length, take, drop, get_or, refl, sym}
-use Rattle.std.proofs.Common.{ap, subst, ◌∙◌, append_assoc, length-take-le, arith}
+use Rattle.std.proofs.Common.{◌∙◌, append_assoc, length-take-le, arith}
 use Rattle.std.proofs.Math.Seq.{take-suc}
-use Rattle.std.proofs.lemmas.List.{take-append-drop}
+use Rattle.std.proofs.lemmas.List.{take-append-drop, take_more}
 use Rattle.mseed_time.specs.declared.outcome.LeapStep.{LeapStep}
 use Rattle.mseed_audit.specs.Series.{AreStepsFrom, AreSteps, IsBadStep}
 
@@ -34,9 +34,7 @@ place_more place (t ∷ ss) s = place_more t.0 ss s
 
 pub cut_at : (ss : List (ℕ × LeapStep)) (i : ℕ) (d : ℕ × LeapStep) → i < length ss
     → ss ≡ take i ss ++ get_or ss i d ∷ drop (suc i) ss
-cut_at ss i d lt = sym (take-append-drop (suc i) ss) ∙ ap (λ (ts : List (ℕ × LeapStep)). ts ++ drop (suc i) ss)
-    (take-suc ss i d lt)
-    ∙ append_assoc (take i ss) (get_or ss i d ∷ []) (drop (suc i) ss)
+cut_at ss i d lt = sym (take-append-drop (suc i) ss) ∙ rw (take-suc ss i d lt) (append_assoc (take i ss) _ _)
 
 -- the first that doesn't stand after the one before it
 pub bad_step : (size : ℕ) (ss : List (ℕ × LeapStep)) (i : ℕ) (d : ℕ × LeapStep) (before : ℕ) → i < length ss
@@ -50,28 +48,21 @@ bad_step size ss i d before lt good at refuses = record {
   index_is = sym (length-take-le i ss (omega (arith, lt)));
   good = good;
   not_good = λ h.
-      let last = steps_last 0 size (take i ss) (get_or ss i d) h in
-      refuses (subst (λ (n : ℕ). n < (get_or ss i d).0) (sym at) last.0, last.1);
+      refuses (rw at (steps_last 0 size (take i ss) (get_or ss i d) h));
 }
 
 pub bad_steps : (size : ℕ) (ss : List (ℕ × LeapStep)) (i : ℕ) → IsBadStep size ss i → AreSteps size ss → ⊥
 bad_steps size ss i bad all =
-    let whole : AreSteps size ((bad.prefix ++ bad.bad ∷ []) ++ bad.back) =
-    subst (λ (ts : List (ℕ × LeapStep)). AreSteps size ts) (bad.parts
-    ∙ sym (append_assoc bad.prefix (bad.bad ∷ []) bad.back)) all in
-    bad.not_good (steps_prefix 0 size (bad.prefix ++ bad.bad ∷ []) bad.back whole)
+    bad.not_good (steps_prefix 0 size (bad.prefix ++ bad.bad ∷ []) bad.back (rw append_assoc (rw bad.parts at all)))
 
 pub more_steps : (size : ℕ) (ss : List (ℕ × LeapStep)) (i : ℕ) (d : ℕ × LeapStep) (before : ℕ) → i < length ss
     → AreSteps size (take i ss) → before ≡ place_of 0 (take i ss)
     → before < (get_or ss i d).0 → (get_or ss i d).0 ≤ size → AreSteps size (take (i + 1) ss)
     × ((get_or ss i d).0 ≡ place_of 0 (take (i + 1) ss))
 more_steps size ss i d before lt good at low high =
-    let next : take i ss ++ get_or ss i d ∷ [] ≡ take (i + 1) ss = sym (take-suc ss i d lt)
-    ∙ ap (λ (n : ℕ). take n ss) {x = suc i} (omega arith) in
-    let stands : place_of 0 (take i ss) < (get_or ss i d).0 = subst (λ (n : ℕ). n < (get_or ss i d).0) at low in (
-      subst (λ (ts : List (ℕ × LeapStep)). AreSteps size ts) next
-          (steps_more 0 size (take i ss) (get_or ss i d) good stands high),
-      sym (place_more 0 (take i ss) (get_or ss i d)) ∙ ap (λ (ts : List (ℕ × LeapStep)). place_of 0 ts) next,
+    rw (take_more ss i d lt) (
+      steps_more 0 size (take i ss) (get_or ss i d) good (rw at at low) high,
+      sym (place_more 0 (take i ss) (get_or ss i d)),
     )
 
 -- of more samples
@@ -88,12 +79,9 @@ last_within place size (s ∷ ss) le h = last_within s.0 size ss h.1 h.2
 pub steps_after : (m n place : ℕ) (old new : List (ℕ × LeapStep)) (step : LeapStep) → m < n → place ≡ n
     → AreSteps m old → new ≡ old ++ (place, step) ∷ [] → AreSteps n new
 steps_after m n place old new step lt at h e =
-    let last : place_of 0 old ≤ m = last_within 0 m old (omega arith) h in
-    let all : AreSteps n (old ++ (place, step) ∷ []) =
-    steps_more 0 n old (place, step) (steps_wider 0 m n old (omega (arith, lt)) h) (omega (arith, last, lt, at))
-    (omega (arith, at)) in
-    subst (λ (ss : List (ℕ × LeapStep)). AreSteps n ss) (sym e) all
+    rw e (steps_more 0 n old (place, step) (steps_wider 0 m n old (omega (arith, lt)) h)
+    (omega (arith, last_within 0 m old (omega arith) h, lt, at)) (omega (arith, at)))
 
 -- those of fewer samples
 pub steps_kept : (m n : ℕ) (old new : List (ℕ × LeapStep)) → m ≤ n → AreSteps m old → new ≡ old → AreSteps n new
-steps_kept m n old new le h e = subst (λ (ss : List (ℕ × LeapStep)). AreSteps n ss) (sym e) (steps_wider 0 m n old le h)
+steps_kept m n old new le h e = rw e (steps_wider 0 m n old le h)

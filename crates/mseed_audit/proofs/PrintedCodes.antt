@@ -1,7 +1,7 @@
 -- A pattern that fits a channel's codes fits them as they are printed, and the other way round.
-use Rattle.std.proofs.Common.{◌≡◌, ◌⊎◌, ℕ, ◌≤◌, refl, sym, ap, subst, ◌∙◌, arith, Bool, true, false, ◌&&◌}
-use Rattle.std.proofs.Common.{cond, eqb}
-use Rattle.std.proofs.Common.{List, [], ◌∷◌, ◌++◌, length, map, inl, inr, append_assoc, nat_le}
+use Rattle.std.proofs.Common.{◌≡◌, ℕ, ◌≤◌, refl, sym, ap, ◌∙◌, arith, true}
+use Rattle.std.proofs.Common.{eqb}
+use Rattle.std.proofs.Common.{List, [], ◌∷◌, ◌++◌, length, map, inl, inr, append_assoc}
 use Rattle.std.specs.Prelude.{slice_range}
 use Rattle.std.specs.List.{join_with_byte, list_all}
 use Rattle.std.proofs.lemmas.Bool.{and_parts}
@@ -23,31 +23,16 @@ in_range c e = (grind (arith, nat_tests, e), grind (arith, nat_tests, e))
 printed_itself : (c : ℕ) → 33 ≤ c → c ≤ 126 → printed c ≡ c
 printed_itself c low high = grind (arith, nat_tests)
 
-printed_cases : (x : ℕ) → (printed x ≡ x) ⊎ (printed x ≡ 63)
-printed_cases x = by (nat_le 33 x && nat_le x 126)
-  where
-    by : (b : Bool) → (cond b x 63 ≡ x) ⊎ (cond b x 63 ≡ 63)
-    by true = inl refl
-    by false = inr refl
-
 takes_printed : (c : ℕ) (taken : List ℕ) → is_character c ≡ true → Takes c taken → Takes c (map printed taken)
 takes_printed c taken e (inl same) =
-    let range = in_range c e in
-    inl (ap (λ (xs : List ℕ). map printed xs) same ∙ ap (λ (x : ℕ). x ∷ []) (printed_itself c range.0 range.1))
+    let range = in_range c e in inl (rw (same, printed_itself c range.0 range.1) refl)
 takes_printed c taken e (inr (inl one)) = inr (inl (one.0, length-map taken printed ∙ one.1))
 takes_printed c taken e (inr (inr star)) = inr (inr star)
 
 takes_back : (c : ℕ) (taken : List ℕ) → Takes c (map printed taken) → Takes c taken
-takes_back c [] (inl same) = absurd (omega (arith, ap (λ (xs : List ℕ). length xs) same))
-takes_back c (x ∷ []) (inl same) = by (printed_cases x)
-  where
-    first : printed x ≡ c
-    first = cc same
-
-    by : (printed x ≡ x) ⊎ (printed x ≡ 63) → Takes c (x ∷ [])
-    by (inl e) = inl (ap (λ (y : ℕ). y ∷ []) (sym e ∙ first))
-    by (inr e) = inr (inl (sym first ∙ e, refl))
-takes_back c (x ∷ y ∷ xs) (inl same) = absurd (omega (arith, ap (λ (zs : List ℕ). length zs) same))
+takes_back c [] (inl same) = absurd (cc (same))
+takes_back c (x ∷ []) (inl same) = grind (arith, nat_tests, same)
+takes_back c (x ∷ y ∷ xs) (inl same) = absurd (cc (same))
 takes_back c taken (inr (inl one)) = inr (inl (one.0, sym (length-map taken printed) ∙ one.1))
 takes_back c taken (inr (inr star)) = inr (inr star)
 
@@ -56,15 +41,13 @@ pub fits_printed : (field code : List ℕ) → list_all is_character field ≡ t
     → Fits field (map printed code)
 fits_printed [] code all fits = ap (λ (xs : List ℕ). map printed xs) fits
 fits_printed (c ∷ cs) code all (taken, (rest, (whole, takes, more))) =
-    let both = and_parts (is_character c) (list_all is_character cs) all in (
+    let both = and_parts (is_character c) (list_all is_character cs) all in
+    let same : map printed code ≡ map printed taken ++ map printed rest =
+    rw (whole, map-append printed taken rest) refl in (
       map printed taken,
       (
         map printed rest,
-        (
-          ap (λ (xs : List ℕ). map printed xs) whole ∙ map-append printed taken rest,
-          takes_printed c taken both.0 takes,
-          fits_printed cs rest both.1 more,
-        ),
+        (same, takes_printed c taken both.0 takes, fits_printed cs rest both.1 more),
       ),
     )
 
@@ -78,7 +61,7 @@ record IsInTwo (code one other : List ℕ) : Type 0 where
 
 in_two : (code one other : List ℕ) → map printed code ≡ one ++ other → IsInTwo code one other
 in_two code [] other e = record { front = []; back = code; whole = refl; front_is = refl; back_is = e }
-in_two [] (y ∷ ys) other e = absurd (omega (arith, ap (λ (xs : List ℕ). length xs) e))
+in_two [] (y ∷ ys) other e = absurd (cc e)
 in_two (x ∷ xs) (y ∷ ys) other e =
     let first : printed x ≡ y = cc e in
     let others : map printed xs ≡ ys ++ other = cc e in
@@ -92,26 +75,18 @@ in_two (x ∷ xs) (y ∷ ys) other e =
 
 nothing_printed : (code : List ℕ) → map printed code ≡ [] → code ≡ []
 nothing_printed [] e = refl
-nothing_printed (x ∷ xs) e = absurd (omega (arith, ap (λ (zs : List ℕ). length zs) e))
+nothing_printed (x ∷ xs) e = absurd (cc e)
 
 pub fits_back : (field code : List ℕ) → Fits field (map printed code) → Fits field code
 fits_back [] code fits = nothing_printed code fits
 fits_back (c ∷ cs) code (taken, (rest, (whole, takes, more))) =
-    let two = in_two code taken rest whole in (
-      two.front,
-      (
-        two.back,
-        (
-          two.whole,
-          takes_back c two.front (subst (λ (xs : List ℕ). Takes c xs) (sym two.front_is) takes),
-          fits_back cs two.back (subst (λ (xs : List ℕ). Fits cs xs) (sym two.back_is) more),
-        ),
-      ),
-    )
+    let two = in_two code taken rest whole in
+    let front = takes_back c two.front (rw two.front_is takes) in
+    (two.front, (two.back, (two.whole, front, fits_back cs two.back (rw two.back_is more))))
 
 location_printed : (field code : List ℕ) → list_all is_character field ≡ true → FitsLocation field code
     → FitsLocation field (map printed code)
-location_printed field code all (inl dashes) = inl (dashes.0, ap (λ (xs : List ℕ). map printed xs) dashes.1)
+location_printed field code all (inl dashes) = inl (dashes.0, rw dashes.1 refl)
 location_printed field code all (inr fits) = inr (fits_printed field code all fits)
 
 location_back : (field code : List ℕ) → FitsLocation field (map printed code) → FitsLocation field code
@@ -121,8 +96,7 @@ location_back field code (inr fits) = inr (fits_back field code fits)
 -- ---- a pattern
 part : (a rest : List ℕ) → list_all is_character (a ++ 95 ∷ rest) ≡ true
     → (list_all is_character a ≡ true) × (list_all is_character rest ≡ true)
-part a rest e = and_parts (list_all is_character a) (list_all is_character rest)
-    (sym (list_all-append is_character a (95 ∷ rest)) ∙ e)
+part a rest e = and_parts (list_all is_character a) _ (rw (list_all-append is_character a (95 ∷ rest)) at e)
 
 pub pattern_printed : (pattern key : List ℕ) → is_pattern pattern ≡ true → Matches pattern key
     → MatchesPrinted pattern (printed_codes key)
@@ -130,8 +104,7 @@ pattern_printed pattern key e m =
     let characters = (and_parts (list_all is_character pattern) (eqb (length (fields_in pattern)) 4) e).0 in
     let joins : pattern ≡ join_with_byte 95 (m.network ∷ m.station ∷ m.location ∷ m.channel ∷ []) =
     sym (join_with_byte-slice_split 95 pattern) ∙ ap (λ (ps : List (List ℕ)). join_with_byte 95 ps) m.fields in
-    let one = part m.network (m.station ++ 95 ∷ (m.location ++ 95 ∷ m.channel))
-    (sym (ap (λ (xs : List ℕ). list_all is_character xs) joins) ∙ characters) in
+    let one = part m.network (m.station ++ 95 ∷ (m.location ++ 95 ∷ m.channel)) (rw joins at characters) in
     let two = part m.station (m.location ++ 95 ∷ m.channel) one.1 in
     let three = part m.location m.channel two.1 in record {
       network = m.network;
@@ -161,14 +134,11 @@ pattern_back pattern key m =
       location = m.location;
       channel = m.channel;
       fields = m.fields;
-      fits_network = fits_back m.network (network_of key) (subst (λ
-          (xs : List ℕ). Fits m.network xs) network m.fits_network);
-      fits_station = fits_back m.station (station_of key) (subst (λ
-          (xs : List ℕ). Fits m.station xs) station m.fits_station);
+      fits_network = fits_back m.network (network_of key) (rw network at m.fits_network);
+      fits_station = fits_back m.station (station_of key) (rw station at m.fits_station);
       fits_location = location_back m.location (location_of key)
-          (subst (λ (xs : List ℕ). FitsLocation m.location xs) location m.fits_location);
-      fits_channel = fits_back m.channel (channel_of key) (subst (λ
-          (xs : List ℕ). Fits m.channel xs) channel m.fits_channel);
+          (rw location at m.fits_location);
+      fits_channel = fits_back m.channel (channel_of key) (rw channel at m.fits_channel);
     }
 
 -- a name is its codes with `_` between them

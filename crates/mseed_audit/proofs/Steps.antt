@@ -1,66 +1,101 @@
--- One more record, by channel.
-use Rattle.std.proofs.Common.{◌≡◌, ℕ, ◌<◌, ◌&&◌, Option, IsSome, nat_lt, List, [], ◌∷◌, ◌++◌, Bool, true, false}
-use Rattle.std.proofs.Common.{cond, if◌then◌else◌, Some, None, sym, ap, subst, refl, ◌∙◌, rules}
-use Rattle.std.specs.Map.{lookup}
+-- A further record, added to what is kept of the channels.
+use Rattle.std.proofs.Common.{◌≡◌, ◌∙◌, ◌<◌, ◌+◌, ◌∷◌, ◌++◌, [], ℕ, List, Option, Some, None, false, cond, Bool, refl}
+use Rattle.std.proofs.Common.{sym, ap, arith, inl, inr}
+use Rattle.std.proofs.lemmas.Bool.{cases_Bool}
+use Rattle.std.proofs.lemmas.List.{map-append}
+use Rattle.std.proofs.lemmas.List.Elements.{All-push}
+use Rattle.std.proofs.lemmas.Map.{lookup-set_value}
+use Rattle.std.proofs.lemmas.Map.Views.{All-values-set_value, IfSome-lookup_from_All}
+use Rattle.std.specs.List.{slice_get}
+use Rattle.std.specs.Map.{lookup, set_value, values_of}
+use Rattle.std.specs.Option.{option_map}
 use Rattle.mseed_record.specs.Header.{key_at}
 use Rattle.mseed_steim.specs.Reading.{count_of}
 use Rattle.mseed_audit.specs.declared.channel.Channel.{Channel}
-use Rattle.mseed_audit.specs.Channels.{Placed, same_key, is_of_channel, with_record}
+use Rattle.mseed_audit.specs.declared.finding.Why.{Why}
 use Rattle.mseed_audit.specs.Audit.{Stands, StandsAt}
-use Rattle.mseed_audit.proofs.Maps.{same_back, same_is}
+use Rattle.mseed_audit.specs.Channels.{Placed, is_of_channel, same_key}
+use Rattle.mseed_audit.specs.Judging.{IsFound}
+use Rattle.mseed_audit.specs.Places.{place_of, with_channel}
+use Rattle.mseed_audit.specs.Reported.{last_of}
+use Rattle.mseed_audit.specs.private.ChannelState.{AddsTo, AreBounded, IsBounded, TakesIn}
+use Rattle.mseed_audit.proofs.Counts.{all_within_more, within_more}
+use Rattle.mseed_audit.proofs.Maps.{keys_alike, of_some, same_back, same_is}
+use Rattle.mseed_audit.proofs.Rosters.{found_at, kept_more, with_is}
 
--- a record with samples is of the channel with its own key, and of no other
-of_key : (key code : List ℕ) (p : Placed) (b : Bool) → code ≡ key_at p.view.bytes → 0 < count_of p.view
-    → same_key code key ≡ b → is_of_channel key p.view ≡ b
-of_key key code p b at some e =
-    let some_is : nat_lt 0 (count_of p.view) ≡ true = search rules in
-    ap (λ (s : Bool). s && same_key key (key_at p.view.bytes)) some_is ∙ ap (λ (k : List ℕ). same_key key k) (sym at)
-    ∙ same_back key code ∙ e
+abbrev Entries : Type 0
+Entries = List (List ℕ × Channel)
 
-with_is : (key : List ℕ) (ps : List Placed) (p : Placed) (b : Bool) → is_of_channel key p.view ≡ b
-    → with_record key ps p ≡ (if b then ps ++ p ∷ [] else ps)
-with_is key ps p b e = ap (λ (s : Bool). if s then ps ++ p ∷ [] else ps) e
+-- a silent one
+pub adds_silent : (es : Entries) (p : Placed) → count_of p.view ≡ 0 → AddsTo es es p None
+adds_silent es p silent = record {
+  stands = λ key ps s. let other : is_of_channel key p.view ≡ false = grind arith in rw other s;
+  found = λ ps s. record { silent = λ e. refl; judged = λ some. absurd (omega (arith, silent, some)) };
+  bounded = λ n all. all_within_more n (n + 1) es (omega arith) all;
+}
 
-by_key : (old new : List (List ℕ × Channel)) (code : List ℕ) (p : Placed) (c : Channel) (key : List ℕ)
-    (ps : List Placed) (b : Bool)
-    → same_key code key ≡ b → is_of_channel key p.view ≡ b
-    → lookup (same_key key) new ≡ cond b (Some c) (lookup (same_key key) old)
-    → ((qs : List Placed) → StandsAt (lookup (same_key code) old) qs → Stands c (qs ++ p ∷ []))
-    → StandsAt (lookup (same_key key) old) ps → StandsAt (lookup (same_key key) new) (with_record key ps p)
-by_key old new code p c key ps true e of kept step before =
-    let same : code ≡ key = same_is code key e in
-    let there : StandsAt (lookup (same_key code) old) ps =
-    subst (λ (k : List ℕ). StandsAt (lookup (same_key k) old) ps) (sym same) before in
-    let after : StandsAt (Some c) (ps ++ p ∷ []) = step ps there in
-    subst (λ (qs : List Placed). StandsAt (lookup (same_key key) new) qs) (sym (with_is key ps p true of))
-    (subst (λ o. StandsAt o (ps ++ p ∷ [])) (sym kept) after)
-by_key old new code p c key ps false e of kept step before =
-    subst (λ (qs : List Placed). StandsAt (lookup (same_key key) new) qs) (sym (with_is key ps p false of))
-    (subst (λ o. StandsAt o ps) (sym kept) before)
-
--- a channel that takes the record in leaves the others as they were
-pub stands_more : (old new : List (List ℕ × Channel)) (code : List ℕ) (p : Placed) (c : Channel)
+-- its channel becomes another, and the others stay as they were
+adds_at : (old new : Entries) (code : List ℕ) (p : Placed) (why : Option Why) (c : Channel)
     → code ≡ key_at p.view.bytes → 0 < count_of p.view
-    → ((q : List ℕ) → lookup (same_key q) new ≡ cond (same_key code q) (Some c) (lookup (same_key q) old))
-    → ((qs : List Placed) → StandsAt (lookup (same_key code) old) qs → Stands c (qs ++ p ∷ []))
-    → (key : List ℕ) (ps : List Placed) → StandsAt (lookup (same_key key) old) ps
-    → StandsAt (lookup (same_key key) new) (with_record key ps p)
-stands_more old new code p c at some kept step key ps before =
-    by_key old new code p c key ps (same_key code key) refl (of_key key code p (same_key code key) at some refl)
-    (kept key) step before
+    → ((key : List ℕ) → lookup (same_key key) new ≡ cond (same_key code key) (Some c) (lookup (same_key key) old))
+    → ((ps : List Placed) → StandsAt (lookup (same_key code) old) ps
+    → Stands c (ps ++ p ∷ []) × IsFound (last_of None ps) p.view why)
+    → ((n : ℕ) → AreBounded n old → AreBounded (n + 1) new) → AddsTo old new p why
+adds_at old new code p why c at some kept takes bounded = record {
+  stands = λ key ps s.
+      let of : is_of_channel key p.view ≡ same_key code key = of_some key p.view some ∙ ap (same_key key) (sym at)
+      ∙ same_back key code in elim (cases_Bool (same_key code key)) [
+        | inl e ↦ rw (kept key, of, e) (takes ps (rw (same_is code key e) s)).0
+        | inr e ↦ rw (kept key, of, e) s
+      ];
+  found = λ ps s. record {
+    silent = λ e. absurd (omega (arith, some, e));
+    judged = λ _. (takes ps (rw (← at) at s)).1;
+  };
+  bounded = bounded;
+}
 
-pub some_is : {X : Type 0} (o : Option X) (x : X) → Some x ≡ o → IsSome o
-some_is o x e = subst (λ o. IsSome o) e (search rules)
+-- this channel stands there, among channels that are those of the roster
+pub record IsThere (code : List ℕ) (es old : Entries) (i : ℕ) (c : Channel) : Type 0 where
+  pub same : es ≡ old
+  pub place : place_of (same_key code) es ≡ Some i
+  pub at : option_map (λ (e : List ℕ × Channel). e.1) (slice_get es i) ≡ Some c
 
--- a new channel begins with the record
-pub new_stands : (old new : List (List ℕ × Channel)) (code : List ℕ) (p : Placed) (c : Channel)
-    → code ≡ key_at p.view.bytes → 0 < count_of p.view
-    → ((q : List ℕ) → lookup (same_key q) new ≡ (if same_key q code then Some c else lookup (same_key q) old))
-    → lookup (same_key code) old ≡ None → Stands c (p ∷ [])
-    → (key : List ℕ) (ps : List Placed) → StandsAt (lookup (same_key key) old) ps
-    → StandsAt (lookup (same_key key) new) (with_record key ps p)
-new_stands old new code p c at some kept none stands key ps before =
-    let begins : (qs : List Placed) → StandsAt (lookup (same_key code) old) qs → Stands c (qs ++ p ∷ []) =
-    λ qs s. subst (λ (rs : List Placed). Stands c (rs ++ p ∷ [])) (sym (subst (λ o. StandsAt o qs) none s)) stands in
-    stands_more old new code p c at some (λ q. kept q ∙ ap (λ (b : Bool). cond b (Some c) (lookup (same_key q) old))
-    (same_back q code)) begins key ps before
+pub is_there : (code : List ℕ) (es now old : Entries) (i : ℕ) (c : Channel) → es ≡ now → now ≡ old
+    → Some i ≡ place_of (same_key code) now
+    → option_map (λ (e : List ℕ × Channel). e.1) (slice_get es i) ≡ Some c → IsThere code es old i c
+is_there code es now old i c stays are place at =
+    record { same = stays ∙ are; place = rw stays (sym place); at = at }
+
+pub there_bounded : (code : List ℕ) (es old : Entries) (i : ℕ) (c : Channel) → IsThere code es old i c → (n : ℕ)
+    → AreBounded n old → IsBounded n c
+there_bounded code es old i c there n all =
+    rw (found_at (same_key code) es i c there.place there.at) at
+    (IfSome-lookup_from_All (λ (d : Channel). IsBounded n d) (same_key code) es (rw there.same all))
+
+-- it takes the record in
+pub there_adds : (code : List ℕ) (es old : Entries) (i : ℕ) (c next : Channel) (p : Placed) (why : Option Why)
+    → IsThere code es old i c → code ≡ key_at p.view.bytes → 0 < count_of p.view → TakesIn c next p why
+    → ((n : ℕ) → IsBounded n c → IsBounded (n + 1) next) → AddsTo old (with_channel es i next) p why
+there_adds code es old i c next p why there at some takes counted =
+    let found : lookup (same_key code) es ≡ Some c = found_at (same_key code) es i c there.place there.at in
+    rw (← there.same, with_is (same_key code) es i next there.place)
+    (adds_at es (set_value (same_key code) es next) code p why next at some
+    (λ key. lookup-set_value keys_alike (same_key code)
+    (λ x y e. ap (λ (k : List ℕ). same_key k y) (same_is code x e)) key next es (rw found refl))
+    (λ ps s. let stands = rw found at s in (takes.stands ps stands, takes.found ps stands))
+    (λ n all. All-values-set_value (same_key code) (λ (d : Channel). IsBounded (n + 1) d) es next
+    (all_within_more n (n + 1) es (omega arith) all)
+    (counted n (there_bounded code es old i c there n (rw there.same at all)))))
+
+-- a new channel begins with it
+pub new_adds : (old new : Entries) (code : List ℕ) (c : Channel) (p : Placed) (why : Option Why)
+    → new ≡ old ++ (code, c) ∷ [] → lookup (same_key code) old ≡ None → code ≡ key_at p.view.bytes
+    → 0 < count_of p.view → Stands c (p ∷ []) → IsFound None p.view why → IsBounded 1 c → AddsTo old new p why
+new_adds old new code c p why is none at some stands found one =
+    rw is (adds_at old (old ++ (code, c) ∷ []) code p why c at some
+    (λ key. kept_more old code c none key
+    ∙ ap (λ (b : Bool). cond b (Some c) (lookup (same_key key) old)) (same_back key code))
+    (λ ps s. let empty : ps ≡ [] = rw none at s in rw empty (stands, found))
+    (λ n all. rw map-append (All-push (λ (d : Channel). IsBounded (n + 1) d) (values_of old) c
+    (all_within_more n (n + 1) old (omega arith) all) (within_more 1 (n + 1) c (omega arith) one))))

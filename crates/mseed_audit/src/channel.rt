@@ -8,8 +8,7 @@ ghost use Rattle.mseed_audit.specs.Judging.{IsFound, known_rate};
 ghost use Rattle.mseed_audit.specs.Audit.{IsTailOf, Stands, count_in, head_in, tail_in, verdict_of};
 ghost use Rattle.mseed_audit.specs.Channels.{Placed};
 ghost use Rattle.mseed_audit.specs.private.ChannelState.{IsExamined, IsLearnt, IsTailBefore, end_in, why_in, with_end};
-ghost use Rattle.mseed_audit.specs.private.ChannelState.{IsBounded, with_finding};
-ghost use Rattle.mseed_audit.specs.Reported.{last_of};
+ghost use Rattle.mseed_audit.specs.private.ChannelState.{IsBounded, TakesIn, with_finding};
 
 use crate::finding::{Finding, Why};
 use crate::tail::Tail;
@@ -132,10 +131,8 @@ impl Channel {
     pub(crate) fn add_sound(&mut self, view: &RecordView) -> Result<(), Option<Examined>>
         requires some { 0 < count_of (view_of view.now) }
         requires bounded { IsBounded (2 ^ 40) self.old }
-        ensures stands { OnOk result ((ps : List Placed) (offset number : ℕ) → Stands self.old ps
-            → Stands self.new (ps ++ record { view = view_of view.now; offset = offset; number = number } ∷ [])) }
-        ensures sound { OnOk result ((ps : List Placed) → Stands self.old ps
-            → IsFound (last_of None ps) (view_of view.now) None) }
+        ensures takes { OnOk result ((offset number : ℕ) → TakesIn self.old self.new
+            (record { view = view_of view.now; offset = offset; number = number }) None) }
         ensures bounded { OnOk result ((n : ℕ) → IsBounded n self.old → IsBounded (n + 1) self.new) }
         ensures unchanged { OnErr result (self.new ≡ self.old) }
         ensures learnt { IfErr result (λ examined. IsLearnt examined (view_of view.now)) }
@@ -158,10 +155,9 @@ impl Channel {
         requires some { 0 < count_of (view_of view.now) }
         requires learnt { IsLearnt examined (view_of view.now) }
         requires bounded { IsBounded (2 ^ 40) self.old }
-        ensures stands { (ps : List Placed) → Stands self.old ps
-            → Stands self.new (ps ++ record { view = view_of view.now; offset = offset; number = number } ∷ []) }
+        ensures takes { TakesIn self.old self.new
+            (record { view = view_of view.now; offset = offset; number = number }) result }
         ensures bounded { (n : ℕ) → IsBounded n self.old → IsBounded (n + 1) self.new }
-        ensures found { (ps : List Placed) → Stands self.old ps → IsFound (last_of None ps) (view_of view.now) result }
     {
         self.records += 1;
         self.samples += u64::from(view.samples());

@@ -33,6 +33,7 @@ use mseed_steim::{one_fault, one_reading};
 use mseed_stream::one_input;
 
 /// A channel's verdict says that it is continuous exactly where it is.
+#[tactic(auto, using(crate::proofs::Continuity::verdict_exact))]
 pub fn continuous_exactly()
     ensures { (verdict : Verdict) (ps : List Placed) → IsVerdict verdict ps
         → (IsTrue (says_continuous verdict) ↔ IsContinuous (views_in ps)) }
@@ -42,6 +43,7 @@ pub fn continuous_exactly()
 }
 
 /// A record has one finding, which may be none, and records one list of findings.
+#[tactic(auto, using(crate::proofs::OneVerdict::found_one, crate::proofs::OneVerdict::findings_same))]
 pub fn one_finding()
     ensures of_one { (before : Option View) (v : View) (a b : Option Why) → IsFound before v a
         → IsFound before v b → a ≡ b }
@@ -52,6 +54,7 @@ pub fn one_finding()
 }
 
 /// A channel has one verdict at most.
+#[tactic(auto, using(crate::proofs::OneVerdict::verdict_one))]
 pub fn one_verdict()
     ensures { (v w : Verdict) (ps : List Placed) → IsVerdict v ps → IsVerdict w ps → v ≡ w }
 {
@@ -100,6 +103,7 @@ pub fn one_selected_audit()
 
 /// Where all records are asked for, all are judged, and none lacks a time: so the audit of the records that are asked
 /// for is the audit of all.
+#[tactic(auto, using(crate::proofs::Outcomes::asked_all, crate::proofs::Outcomes::none_lacks))]
 pub fn all_are_asked_for()
     ensures judged { asked everything ≡ whole }
     ensures timed { (views : List View) → count_by (lacks_time everything) views ≡ 0 }

@@ -9,12 +9,10 @@ ghost use Rattle.std.specs.Option.{option_map};
 ghost use Rattle.std.specs.Ordering.{nat_cmp};
 ghost use Rattle.std.specs.Cmp.Lexicographic.{slice_cmp};
 ghost use Rattle.std.specs.List.Sorted.{IsStrictlySortedBy};
-ghost use Rattle.mseed_audit.specs.Channels.{Placed, same_key, with_record};
-ghost use Rattle.mseed_audit.specs.Audit.{Stands, StandsAt, verdict_of};
-ghost use Rattle.mseed_audit.specs.Judging.{IsFound};
+ghost use Rattle.mseed_audit.specs.Channels.{same_key};
+ghost use Rattle.mseed_audit.specs.Audit.{verdict_of};
 ghost use Rattle.mseed_audit.specs.declared.channel.Channel.{Channel};
-ghost use Rattle.mseed_audit.specs.private.ChannelState.{AreBounded, HasRoom, IsBounded, IsLearnt};
-ghost use Rattle.mseed_audit.specs.Reported.{IsFoundOf};
+ghost use Rattle.mseed_audit.specs.private.ChannelState.{AddsTo, AreBounded, HasRoom, IsLearnt};
 
 use crate::audits::Memory;
 use crate::channel::{Channel, Examined};
@@ -70,13 +68,8 @@ impl<A: Allocator + Copy> Roster<A> {
     #[inline(always)]
     pub(crate) fn add_sound(&mut self, view: &RecordView) -> Result<(), Option<Examined>>
         requires { AreBounded (2 ^ 40) self.old }
-        ensures stands { OnOk result ((key : List ℕ) (ps : List Placed) (offset number : ℕ)
-            → StandsAt (lookup (same_key key) self.old) ps → StandsAt (lookup (same_key key) self.new)
-            (with_record key ps (record { view = view_of view.now; offset = offset; number = number }))) }
-        ensures sound { OnOk result ((ps : List Placed)
-            → StandsAt (lookup (same_key (key_at (view_of view.now).bytes)) self.old) ps
-            → IsFoundOf ps (view_of view.now) None) }
-        ensures bounded { OnOk result ((n : ℕ) → AreBounded n self.old → AreBounded (n + 1) self.new) }
+        ensures adds { OnOk result ((offset number : ℕ) → AddsTo self.old self.new
+            (record { view = view_of view.now; offset = offset; number = number }) None) }
         ensures unchanged { OnErr result (self.new ≡ self.old) }
         ensures learnt { IfErr result (λ examined. IsLearnt examined (view_of view.now)) }
     {
@@ -105,13 +98,8 @@ impl<A: Allocator + Copy> Roster<A> {
     ) -> Result<Option<Why>, Memory>
         requires bounded { AreBounded (2 ^ 40) self.old }
         requires learnt { IsLearnt examined (view_of view.now) }
-        ensures stands { (key : List ℕ) (ps : List Placed) → StandsAt (lookup (same_key key) self.old) ps
-            → OnOk result (StandsAt (lookup (same_key key) self.new)
-            (with_record key ps (record { view = view_of view.now; offset = offset; number = number }))) }
-        ensures found { (ps : List Placed)
-            → StandsAt (lookup (same_key (key_at (view_of view.now).bytes)) self.old) ps
-            → IfOk result (λ why. IsFoundOf ps (view_of view.now) why) }
-        ensures bounded { (n : ℕ) → AreBounded n self.old → AreBounded (n + 1) self.new }
+        ensures adds { IfOk result (λ why. AddsTo self.old self.new
+            (record { view = view_of view.now; offset = offset; number = number }) why) }
         ensures unchanged { OnErr result (self.new ≡ self.old) }
         ensures memory { (count_of (view_of view.now) ≡ 0)
             ⊎ IsSome (lookup (same_key (key_at (view_of view.now).bytes)) self.old) → IsOk result }
@@ -140,10 +128,10 @@ impl<A: Allocator + Copy> Roster<A> {
         offset: u64,
     ) -> Result<Option<Why>, Memory>
         requires some { 0 < count_of (view_of view.now) }
+        requires key { codes ≡ key_at (view_of view.now).bytes }
         requires new { lookup (same_key codes) self.old ≡ None }
-        ensures begun { IfOk result (λ why. (channel : Channel) × ((self.new ≡ self.old ++ (codes, channel) ∷ [])
-            × Stands channel (record { view = view_of view.now; offset = offset; number = number } ∷ [])
-            × IsBounded 1 channel × IsFound None (view_of view.now) why)) }
+        ensures adds { IfOk result (λ why. AddsTo self.old self.new
+            (record { view = view_of view.now; offset = offset; number = number }) why) }
         ensures unchanged { OnErr result (self.new ≡ self.old) }
     {
         let (channel, why) = Channel::begin(view, number, offset);

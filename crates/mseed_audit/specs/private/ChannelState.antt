@@ -1,11 +1,11 @@
 -- Words of what is kept of a channel: no public contract is stated by them.
-use Rattle.std.specs.Prelude.{⊤, ◌≡◌, ◌≤◌, ◌+◌, ◌*◌, ℕ, ℤ, List, [], ◌∷◌, length, Option, Some, None}
+use Rattle.std.specs.Prelude.{⊤, ◌≡◌, ◌≤◌, ◌+◌, ◌*◌, ℕ, ℤ, List, [], ◌∷◌, ◌++◌, length, Option, Some, None}
 use Rattle.std.specs.List.{All}
-use Rattle.std.specs.Map.{values_of}
+use Rattle.std.specs.Map.{lookup, values_of}
 use Rattle.std.specs.Vec.{vec_capacity}
 use Rattle.std.specs.declared.vec.Vec.{Vec}
 use Rattle.mseed_time.specs.declared.rate.Rate.{Rate}
-use Rattle.mseed_record.specs.Header.{factor_at, multiplier_at}
+use Rattle.mseed_record.specs.Header.{factor_at, key_at, multiplier_at}
 use Rattle.mseed_record.specs.View.{View}
 use Rattle.mseed_audit.specs.declared.channel.Channel.{Channel}
 use Rattle.mseed_audit.specs.declared.channel.Findings.{Findings}
@@ -19,10 +19,11 @@ use Rattle.mseed_audit.specs.declared.finding.Finding.{Finding}
 use Rattle.mseed_audit.specs.declared.finding.Why.{Why}
 use Rattle.mseed_audit.specs.declared.tail.Tail.{Tail}
 use Rattle.mseed_audit.specs.declared.verdict.Verdict.{Verdict}
-use Rattle.mseed_audit.specs.Audit.{IsTail, count_in, break_by}
-use Rattle.mseed_audit.specs.Channels.{same_key}
-use Rattle.mseed_audit.specs.Judging.{known_rate, rate_in}
+use Rattle.mseed_audit.specs.Audit.{IsTail, Stands, StandsAt, count_in, break_by}
+use Rattle.mseed_audit.specs.Channels.{Placed, same_key, with_record}
+use Rattle.mseed_audit.specs.Judging.{IsFound, known_rate, rate_in}
 use Rattle.mseed_audit.specs.Places.{place_of}
+use Rattle.mseed_audit.specs.Reported.{IsFoundOf, last_of}
 
 -- what is found of a record that was judged
 abbrev pub why_in : Judged → Option Why
@@ -71,6 +72,17 @@ abbrev pub with_finding : Findings → Finding → Option Tail → Findings
 with_finding (Nothing head tail) finding end = Counted 1 finding (Some head) end
 with_finding (Counted count first head tail) finding end = Counted (count + 1) first head end
 
+-- with a further record of which this was judged
+abbrev pub with_judged : Findings → Placed → Judged → Findings
+with_judged findings p (Sound end) = with_end findings end
+with_judged findings p (Faulty why end) =
+    with_finding findings (record { number = p.number; offset = p.offset; why = why }) end
+
+-- a channel takes a further record in, of which this is found
+pub record TakesIn (old new : Channel) (p : Placed) (why : Option Why) : Type 0 where
+  pub stands : (ps : List Placed) → Stands old ps → Stands new (ps ++ p ∷ [])
+  pub found : (ps : List Placed) → Stands old ps → IsFound (last_of None ps) p.view why
+
 -- the counts of a channel of at most so many records
 pub record IsBounded (n : ℕ) (c : Channel) : Type 0 where
   pub records : c.records ≤ n
@@ -79,6 +91,15 @@ pub record IsBounded (n : ℕ) (c : Channel) : Type 0 where
 
 abbrev pub AreBounded : ℕ → List (List ℕ × Channel) → Type 0
 AreBounded n channels = All (λ c. IsBounded n c) (values_of channels)
+
+-- A further record is added to what is kept of the channels: its own takes it in, or begins with it, and this is found
+-- of it. A silent one changes nothing.
+pub record AddsTo (old new : List (List ℕ × Channel)) (p : Placed) (why : Option Why) : Type 0 where
+  pub stands : (key : List ℕ) (ps : List Placed) → StandsAt (lookup (same_key key) old) ps
+      → StandsAt (lookup (same_key key) new) (with_record key ps p)
+  pub found : (ps : List Placed) → StandsAt (lookup (same_key (key_at p.view.bytes)) old) ps
+      → IsFoundOf ps p.view why
+  pub bounded : (n : ℕ) → AreBounded n old → AreBounded (n + 1) new
 
 -- no channel has the key, if there is one
 abbrev pub IsMissed : Option (List ℕ) → List (List ℕ × Channel) → Type 0

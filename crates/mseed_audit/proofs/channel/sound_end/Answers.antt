@@ -1,8 +1,7 @@
-use Rattle.std.proofs.Common.{◌≡◌, Option, Some, None, ap, subst, sym, ◌∙◌}
+use Rattle.std.proofs.Common.{◌≡◌, Option, Some, None, ap, sym, ◌∙◌}
 use Rattle.mseed_time.specs.Rate.{Ratio}
 use Rattle.mseed_record.specs.View.{View}
 use Rattle.mseed_record.specs.Viewing.{view_of}
-use Rattle.mseed_steim.specs.declared.fault.ReadFault.{ReadFault}
 use Rattle.mseed_audit.specs.declared.tail.Tail.{Tail}
 use Rattle.mseed_audit.specs.Audit.{tail_in}
 use Rattle.mseed_audit.specs.Judging.{known_rate}
@@ -16,7 +15,7 @@ returns-in-None-clause-sound c = λ b before.
     let examined = c.in-Ok.ensures.examined in
     let next : Ratio = c.in-Ok.examined.tail.rate in
     let known : known_rate v ≡ Some next = examined.tail.rate in
-    let whole : IsReadTo v None = subst (λ (f : Option ReadFault). IsReadTo v f) c.in-None.is examined.read in
+    let whole : IsReadTo v None = rw c.in-None.is at examined.read in
     found_whole b v next whole.0 None known whole.1.0 whole.1.1
     (after_either (tail_in c.args.findings.now) c.in-Ok.examined.tail b v before examined.tail
     ∙ ap (λ (t : Option Tail). break_after t c.in-Ok.examined.tail) (sym c.tail.ensures)

@@ -38,12 +38,8 @@ returns-clause-added g c =
     kept_first items c.resize.new.self.items _ have (have + c.from.result) c.in_ok-resize.ensures.items (omega arith)
     (omega (arith, c.len-before.ensures)) in
     let within : have ≤ length now = omega (arith, c.deref_mut.ensures.len, c.in_ok-resize.ensures.len) in
-    let long : length out ≡ length now - have = omega (
-      arith,
-      c.fill_samples.auto.out,
-      length-take (length now - have) (drop have now),
-      length-drop have now,
-    ) in (
+    let taken = length-take (length now - have) (drop have now) in
+    let long : length out ≡ length now - have = omega (arith, c.fill_samples.auto.out, taken, length-drop have now) in (
       out,
       (
         c.in-Ok.ensures.reading,

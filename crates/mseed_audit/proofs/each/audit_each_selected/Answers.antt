@@ -13,45 +13,33 @@ gather_with-requires-clause-report g c = lined_first _ _ _ _ c.new-text.ensures.
 
 pub returns-in-Ok-write_all_of-clause-outcome : goal.returns-in-Ok-write_all_of-clause-outcome
 returns-in-Ok-write_all_of-clause-outcome g c =
-    let s : Selection = g.C.Choice.selection c.args.choice.now in
-    let read : BytesRead = g.R.Source.read c.gather_with.new.source in
     let found = c.in-Ok.ensures.gathered in
     let r = found.1.1 in
-    let write = c.in-Ok-write_all_of.ensures in
-    each_written s c.in-Ok-push_finished.found found.0 r.reported (g.W.Sink.written c.args.sink.now)
-    (g.W.Sink.written c.gather_with.new.output) (g.W.Sink.written c.write_all_of.new.sink)
-    c.gather_with.new.report.items c.push_finished.new.text.items
-    (c.in-Ok-push_finished.ensures s read found.0 found.1.0)
-    r.are_reported r.stands.lines (rw c.deref.ensures.value at write.ok) r.stands.fine write.fine
+    let finished = c.in-Ok-push_finished.ensures _ _ found.0 found.1.0 in
+    each_written _ _ _ _ _ _ _ _ _ finished r.are_reported r.stands.lines
+    (rw c.deref.ensures.value at c.in-Ok-write_all_of.ensures.ok) r.stands.fine c.in-Ok-write_all_of.ensures.fine
 
 pub returns-clause-outcome : goal.returns-clause-outcome
 returns-clause-outcome g c =
-    let s : Selection = g.C.Choice.selection c.args.choice.now in
-    let read : BytesRead = g.R.Source.read c.gather_with.new.source in
     let found = c.in-Ok.ensures.gathered in
     let r = found.1.1 in
-    let write = c.in-Err-write_all_of.ensures in
-    each_short s c.in-Err-write_all_of.field-0 c.in-Ok-push_finished.found found.0 r.reported
-    (g.W.Sink.written c.args.sink.now) (g.W.Sink.written c.gather_with.new.output)
-    (g.W.Sink.written c.write_all_of.new.sink)
-    c.gather_with.new.report.items c.push_finished.new.text.items
-    (c.in-Ok-push_finished.ensures s read found.0 found.1.0)
-    r.are_reported r.stands.lines r.stands.fine (record {
-      text = rw c.deref.ensures.value at write.err;
-      part = rw c.deref.ensures.value at write.within;
-      failed = write.failed;
+    let finished = c.in-Ok-push_finished.ensures _ _ found.0 found.1.0 in
+    each_short _ _ _ _ _ _ _ (g.W.Sink.written c.write_all_of.new.sink) _ _ finished r.are_reported r.stands.lines
+    r.stands.fine (record {
+      text = rw c.deref.ensures.value at c.in-Err-write_all_of.ensures.err;
+      part = rw c.deref.ensures.value at c.in-Err-write_all_of.ensures.within;
+      failed = c.in-Err-write_all_of.ensures.failed;
     })
 
 pub returns-in-Err-push_finished-clause-outcome : goal.returns-in-Err-push_finished-clause-outcome
 returns-in-Err-push_finished-clause-outcome g c =
     let s : Selection = g.C.Choice.selection c.args.choice.now in
-    let read : BytesRead = g.R.Source.read c.gather_with.new.source in
     let first : BytesWritten = g.W.Sink.written c.args.sink.now in
     let old : BytesWritten = g.W.Sink.written c.gather_with.new.output in
     let found = c.in-Ok.ensures.gathered in
     let r = found.1.1 in
-    lines_outcome s Memory read first old (memory_short (asked s) read first old c.gather_with.new.report.items
-    found.1.0.all.all.offset found.0 r.reported found.1.0.all.all.records r.stands.fine r.stands.lines r.are_reported)
+    lines_outcome s Memory (g.R.Source.read c.gather_with.new.source) first old (memory_short (asked s) _ first old _ _
+    found.0 _ found.1.0.all.all.records r.stands.fine r.stands.lines r.are_reported)
 
 pub returns-in-Err-clause-outcome : goal.returns-in-Err-clause-outcome
 returns-in-Err-clause-outcome g c =
@@ -65,9 +53,7 @@ returns-in-Err-clause-outcome g c =
 
 pub returns-in-Err-clause-writes : goal.returns-in-Err-clause-writes
 returns-in-Err-clause-writes g c =
-    (lines_fault g.row.A.Denot (g.C.Choice.selection c.args.choice.now) c.in-Err.fault
-    (g.R.Source.read c.gather_with.new.source) (g.W.Sink.written c.args.sink.now)
-    (g.W.Sink.written c.gather_with.new.output) _ _ _ _
+    (lines_fault g.row.A.Denot (g.C.Choice.selection c.args.choice.now) c.in-Err.fault _ _ _ _ _ _ _
     c.gather_with.new.report.items c.in-Err.ensures.gathered).1
 
 pub returns-in-Ok-write_all_of-clause-writes : goal.returns-in-Ok-write_all_of-clause-writes

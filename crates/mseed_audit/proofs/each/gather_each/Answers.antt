@@ -1,5 +1,4 @@
 use Rattle.std.proofs.Common.{subst}
-use Rattle.mseed_stream.specs.Device.{BytesRead, BytesWritten}
 use Rattle.mseed_record.specs.Selection.{everything}
 use Rattle.mseed_audit.specs.Scope.{Scope}
 use Rattle.mseed_audit.specs.Each.{HasLinesIn, IsLinesFaultIn}
@@ -12,14 +11,12 @@ gather_with-requires-clause-report g c = lined_first _ _ _ _ c.requires.text
 
 pub returns-in-Ok-clause-reported : goal.returns-in-Ok-clause-reported
 returns-in-Ok-clause-reported g c =
-    let read : BytesRead = g.R.Source.read c.gather_with.new.source in
-    let old : BytesWritten = g.W.Sink.written c.args.sink.now in
-    let new : BytesWritten = g.W.Sink.written c.gather_with.new.output in
     let found = c.in-Ok.found in
     let o = c.in-Ok.ensures.gathered in
     let r = o.1.1 in
-    subst (λ (scope : Scope). HasLinesIn scope found.audit found.end found.bytes read old new
-    c.gather_with.new.report.items) asked_all (record {
+    subst (λ (scope : Scope). HasLinesIn scope found.audit found.end found.bytes
+    (g.R.Source.read c.gather_with.new.source) (g.W.Sink.written c.args.sink.now)
+    (g.W.Sink.written c.gather_with.new.output) c.gather_with.new.report.items) asked_all (record {
       views = o.0;
       reported = r.reported;
       all = o.1.0.all;
@@ -33,15 +30,12 @@ returns-in-Ok-clause-writes g c = c.in-Ok.ensures.gathered.1.1.stands.writes
 
 pub returns-in-Err-clause-reported : goal.returns-in-Err-clause-reported
 returns-in-Err-clause-reported g c =
-    let read : BytesRead = g.R.Source.read c.gather_with.new.source in
-    let old : BytesWritten = g.W.Sink.written c.args.sink.now in
-    let new : BytesWritten = g.W.Sink.written c.gather_with.new.output in
-    subst (λ (scope : Scope). IsLinesFaultIn scope c.in-Err.fault read old new) asked_all
-    (lines_fault g.row.A.Denot everything c.in-Err.fault read old new _ _ _ _ c.gather_with.new.report.items
+    subst (λ (scope : Scope). IsLinesFaultIn scope c.in-Err.fault (g.R.Source.read c.gather_with.new.source)
+    (g.W.Sink.written c.args.sink.now) (g.W.Sink.written c.gather_with.new.output)) asked_all
+    (lines_fault g.row.A.Denot everything c.in-Err.fault _ _ _ _ _ _ _ c.gather_with.new.report.items
     c.in-Err.ensures.gathered).0
 
 pub returns-in-Err-clause-writes : goal.returns-in-Err-clause-writes
 returns-in-Err-clause-writes g c =
-    (lines_fault g.row.A.Denot everything c.in-Err.fault (g.R.Source.read c.gather_with.new.source)
-    (g.W.Sink.written c.args.sink.now) (g.W.Sink.written c.gather_with.new.output) _ _ _ _
-    c.gather_with.new.report.items c.in-Err.ensures.gathered).1
+    (lines_fault g.row.A.Denot everything c.in-Err.fault _ _ _ _ _ _ _ c.gather_with.new.report.items
+    c.in-Err.ensures.gathered).1

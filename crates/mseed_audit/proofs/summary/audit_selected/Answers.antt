@@ -1,32 +1,21 @@
 use Rattle.std.proofs.Common.{arith}
 use Rattle.mseed_audit.proofs.Outcomes.{added_length, cut_off, written}
-use Rattle.mseed_stream.specs.Device.{BytesRead}
 use Rattle.mseed_stream.proofs.Calls.{writes_none}
 use Rattle.mseed_audit.proofs.summary.audit_selected.Goals as goal
 
 pub returns-in-Ok-write_all_of-clause-outcome : goal.returns-in-Ok-write_all_of-clause-outcome
 returns-in-Ok-write_all_of-clause-outcome g c =
-    let read : BytesRead = g.R.Source.read c.gather_with.new.source in
     let found = c.in-Ok.ensures.gathered in
-    let write = c.in-Ok-write_all_of.ensures in
-    written (g.C.Choice.selection c.args.choice.now) c.in-Ok-push_finished.found found.0 c.new-text.result.items
-    c.push_finished.new.text.items (g.W.Sink.written c.args.sink.now) (g.W.Sink.written c.write_all_of.new.sink)
-    (c.in-Ok-push_finished.ensures (g.C.Choice.selection c.args.choice.now) read found.0 found.1.0)
-    c.new-text.ensures.items (rw c.deref.ensures.value at write.ok) write.fine
+    written _ _ _ _ _ _ _ (c.in-Ok-push_finished.ensures _ _ found.0 found.1.0) c.new-text.ensures.items
+    (rw c.deref.ensures.value at c.in-Ok-write_all_of.ensures.ok) c.in-Ok-write_all_of.ensures.fine
 
 pub returns-clause-outcome : goal.returns-clause-outcome
 returns-clause-outcome g c =
-    let read : BytesRead = g.R.Source.read c.gather_with.new.source in
     let found = c.in-Ok.ensures.gathered in
-    let write = c.in-Err-write_all_of.ensures in
-    cut_off (g.C.Choice.selection c.args.choice.now) c.in-Ok-push_finished.found c.in-Err-write_all_of.taken found.0
-    c.new-text.result.items c.push_finished.new.text.items (g.W.Sink.written c.args.sink.now)
-    (g.W.Sink.written c.write_all_of.new.sink)
-    (c.in-Ok-push_finished.ensures (g.C.Choice.selection c.args.choice.now) read found.0 found.1.0)
-    c.new-text.ensures.items (record {
-      text = rw c.deref.ensures.value at write.err;
-      part = rw c.deref.ensures.value at write.within;
-      failed = write.failed;
+    cut_off _ _ _ _ _ _ _ _ (c.in-Ok-push_finished.ensures _ _ found.0 found.1.0) c.new-text.ensures.items (record {
+      text = rw c.deref.ensures.value at c.in-Err-write_all_of.ensures.err;
+      part = rw c.deref.ensures.value at c.in-Err-write_all_of.ensures.within;
+      failed = c.in-Err-write_all_of.ensures.failed;
     })
 
 pub returns-in-Err-clause-writes : goal.returns-in-Err-clause-writes

@@ -1,4 +1,4 @@
-use Rattle.std.proofs.Common.{◌++◌, ◌∷◌, [], List, ap, refl, subst, sym, append-nil, arith}
+use Rattle.std.proofs.Common.{◌++◌, ◌∷◌, [], List, ap, refl, sym, append-nil, arith}
 use Rattle.std.proofs.KnownBytes.{Consumes-nil}
 use Rattle.mseed_record.specs.View.{View}
 use Rattle.mseed_stream.specs.Device.{BytesRead}
@@ -15,8 +15,7 @@ pub records-init : goal.records-init
 records-init g c =
     let read : BytesRead = g.R.Source.read c.args.source.now in
     let handed : HasHandedOut read c.new-cutter.result [] =
-    subst (λ (h : BytesRead). HasHandedOut h c.new-cutter.result []) (sym c.requires.read)
-    c.new-cutter.ensures.handed in
+    rw c.requires.read c.new-cutter.ensures.handed in
     record {
       along = handed.along;
       judged = (

@@ -1,9 +1,7 @@
-use Rattle.std.proofs.Common.{◌∙◌, ◌++◌, List, Option, ℕ, None, Some, append-nil, subst, sym}
-use Rattle.std.specs.Prelude.{MatchResult}
+use Rattle.std.proofs.Common.{◌∙◌, List, None, Some, append-nil}
 use Rattle.mseed_record.specs.View.{View}
 use Rattle.mseed_record.specs.Viewing.{view_of}
-use Rattle.mseed_audit.specs.declared.finding.Why.{Why}
-use Rattle.mseed_audit.specs.Reported.{IsFoundAfter, Reported, reported_at}
+use Rattle.mseed_audit.specs.Reported.{Reported}
 use Rattle.mseed_audit.proofs.Reporting.{judged_asked, judged_passed, judged_reported, not_asked}
 use Rattle.mseed_audit.proofs.summary.judge.Goals as goal
 
@@ -14,10 +12,8 @@ returns-in_default-2 g c = λ first now bytes views shown judged.
     c.add_judged.new.self c.args.passed.now c.answer-answer.result None
     (g.P.Report.stands first c.args.report.now now) (g.P.Report.stands first c.args.report.now now)
     c.answer-answer.ensures c.in-AskedFor.is shown judged c.in_ok-why.ensures.among
-    (λ ps count is. subst (λ (why : Option Why). IsFoundAfter ps v why) c.in_default-2.is
-    (c.in_ok-why.ensures.found_among ps count is))
-    (λ reported before. subst (λ (ts : List Reported). g.P.Report.stands first c.args.report.now now ts)
-    (sym (append-nil reported)) before)
+    (λ ps count is. rw c.in_default-2.is at (c.in_ok-why.ensures.found_among ps count is))
+    (λ reported before. rw (append-nil reported) before)
 
 pub returns-in-AskedFor : goal.returns-in-AskedFor
 returns-in-AskedFor g c = λ first now bytes views shown judged.
@@ -27,12 +23,9 @@ returns-in-AskedFor g c = λ first now bytes views shown judged.
     c.add_judged.new.self c.args.passed.now c.answer-answer.result (Some c.in-Some.why)
     (g.P.Report.stands first c.args.report.now now) After c.answer-answer.ensures c.in-AskedFor.is shown judged
     c.in_ok-why.ensures.among
-    (λ ps count is. subst (λ (why : Option Why). IsFoundAfter ps v why) c.in-Some.is
-    (c.in_ok-why.ensures.found_among ps count is))
-    (λ reported before. subst (λ (n : ℕ). MatchResult c.add.result (λ _. After (reported
-    ++ reported_at (record { view = v; offset = c.args.offset; number = n }) (Some c.in-Some.why)))
-    (λ _. After reported)) (c.added-number.ensures ∙ c.in_ok-why.ensures.number)
-    (c.add.ensures first now reported before))
+    (λ ps count is. rw c.in-Some.is at (c.in_ok-why.ensures.found_among ps count is))
+    (λ reported before. rw (c.added-number.ensures ∙ c.in_ok-why.ensures.number)
+    at (c.add.ensures first now reported before))
 
 pub returns : goal.returns
 returns g c = λ first now bytes views shown judged.

@@ -1,10 +1,10 @@
 use Rattle.std.proofs.Common.{Some, Err, refl, rules}
-use Rattle.std.proofs.Common.{◌≡◌, ◌∙◌, ◌++◌, ◌∷◌, [], List, None, ℕ, length, take, sym, subst, ap, arith}
+use Rattle.std.proofs.Common.{◌≡◌, ◌∙◌, ◌++◌, ◌∷◌, [], List, None, ℕ, length, take, sym, ap, arith}
 use Rattle.mseed_record.specs.declared.view.RecordView.{RecordView}
 use Rattle.mseed_record.specs.View.{View}
 use Rattle.mseed_record.specs.Viewing.{view_of}
 use Rattle.mseed_stream.specs.Device.{BytesRead}
-use Rattle.mseed_stream.specs.Cutting.{IfEnds, IsAhead}
+use Rattle.mseed_stream.specs.Cutting.{IfEnds}
 use Rattle.mseed_stream.specs.declared.fault.StreamFault.{StreamFault}
 use Rattle.mseed_stream.specs.declared.fault.StreamFault.TheVariants.{Frame, Truncated, Read, Turns, Memory}
 use Rattle.mseed_stream.specs.Walk.{AreAllViews, HasHandedOut}
@@ -15,8 +15,7 @@ use Rattle.mseed_audit.proofs.summary.take_next.Goals as goal
 
 pub pass-requires-clause-ahead : goal.pass-requires-clause-ahead
 pass-requires-clause-ahead g c =
-    subst (λ (xs : List ℕ). IsAhead (length xs) c.args.cutter.now (g.R.Source.lent c.args.source.now))
-    (sym c.bytes-size.ensures.value) c.in-Some.ensures.ahead
+    rw c.bytes-size.ensures.value c.in-Some.ensures.ahead
 
 pub returns-in-Ok-None-clause-next : goal.returns-in-Ok-None-clause-next
 returns-in-Ok-None-clause-next g c = λ first now views before judged.

@@ -1,24 +1,8 @@
-use Rattle.std.proofs.Common.{◌≡◌, ◌++◌, ◌∙◌, List, ℕ, append_assoc, codes, decimal}
-use Rattle.mseed_audit.specs.declared.finding.Finding.{Finding}
-use Rattle.mseed_audit.specs.Text.{why_text}
+use Rattle.std.proofs.Common.{append_assoc}
 use Rattle.mseed_audit.proofs.text.put_broken.Goals as goal
-
--- what was put, one after another
-joined : (line words count record-word number offset-word offset gap why end : List ℕ)
-    → ((((((((line ++ words) ++ count) ++ record-word) ++ number) ++ offset-word) ++ offset) ++ gap) ++ why) ++ end
-    ≡ line ++ (words ++ count ++ record-word ++ number ++ offset-word ++ offset ++ gap ++ why ++ end)
-joined line words count record-word number offset-word offset gap why end = simp append_assoc
 
 pub returns : goal.returns
 returns c =
-    let f : Finding = c.args.first.now in
-    let a2 = rw c.put.ensures.text at c.put_count.ensures.text in
-    let a3 = rw a2 at c.put-2.ensures.text in
-    let a4 = rw a3 at c.put_count-2.ensures.text in
-    let a5 = rw a4 at c.put-3.ensures.text in
-    let a6 = rw a5 at c.put_count-3.ensures.text in
-    let a7 = rw a6 at c.put-4.ensures.text in
-    let a8 = rw a7 at c.put_why.ensures.text in
-    let a9 = rw a8 at c.put-5.ensures.text in
-    a9 ∙ joined c.args.line.now (codes " broken findings ") (decimal c.args.count) (codes " first record ")
-    (decimal f.number) (codes " offset ") (decimal f.offset) (codes " ") (why_text f.why) (codes "\n")
+    rw (c.put-5.ensures.text, c.put_why.ensures.text, c.put-4.ensures.text, c.put_count-3.ensures.text)
+    (rw (c.put-3.ensures.text, c.put_count-2.ensures.text, c.put-2.ensures.text)
+    (rw (c.put_count.ensures.text, c.put.ensures.text) (simp append_assoc)))

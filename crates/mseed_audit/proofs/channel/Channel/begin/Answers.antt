@@ -1,10 +1,7 @@
-use Rattle.std.proofs.Common.{◌≡◌, ◌∷◌, [], Option, None, Some, refl, subst, sym, ◌∙◌}
+use Rattle.std.proofs.Common.{◌≡◌, [], None, Some, refl, ◌∙◌}
 use Rattle.mseed_record.specs.View.{View}
 use Rattle.mseed_record.specs.Viewing.{view_of}
 use Rattle.mseed_steim.specs.Reading.{count_of}
-use Rattle.mseed_audit.specs.declared.channel.Findings.{Findings}
-use Rattle.mseed_audit.specs.declared.finding.Why.{Why}
-use Rattle.mseed_audit.specs.Audit.{Stands}
 use Rattle.mseed_audit.specs.Channels.{Placed}
 use Rattle.mseed_audit.proofs.ChannelState.{one_stands}
 use Rattle.mseed_audit.proofs.channel.Channel.begin.Goals as goal
@@ -17,9 +14,7 @@ returns-clause-stands c =
     let samples : c.from.result ≡ count_of v = c.from.ensures ∙ c.samples.ensures in
     elim c.match-judge.branch [
       | in-Sound w ↦
-          subst (λ (f : Findings × Option Why). Stands (record { records = 1; samples = c.from.result; findings = f.0 })
-          (p ∷ [])) (sym w.why-is)
-          (one_stands _ p None (w.in-Sound.ensures.why None tt) refl samples
+          rw w.why-is (one_stands _ p None (w.in-Sound.ensures.why None tt) refl samples
           (record {
             sound = w.in-Sound.ensures.why None tt;
             number = refl;
@@ -28,8 +23,6 @@ returns-clause-stands c =
             rate = w.in-Sound.ensures.tail.rate;
           }) w.in-Sound.ensures.tail refl)
       | in-Faulty w ↦
-          subst (λ (f : Findings × Option Why). Stands (record { records = 1; samples = c.from.result; findings = f.0 })
-          (p ∷ [])) (sym w.why-is)
-          (one_stands _ p (Some w.in-Faulty.why) (w.in-Faulty.ensures.why None tt) refl samples
+          rw w.why-is (one_stands _ p (Some w.in-Faulty.why) (w.in-Faulty.ensures.why None tt) refl samples
           (w.in-Faulty.why, w.in-Faulty.ensures.why None tt) w.in-Faulty.ensures.tail ([], (refl, refl)))
     ]

@@ -1,6 +1,5 @@
-use Rattle.std.proofs.Common.{◌∙◌, ◌<◌, List, ℕ, get_or, length, refl, subst, sym, ap, arith, rules}
+use Rattle.std.proofs.Common.{◌∙◌, ◌<◌, List, ℕ, get_or, length, refl, ap, arith, rules}
 use Rattle.mseed_audit.specs.declared.channel.Channel.{Channel}
-use Rattle.mseed_audit.specs.Places.{ArePlaces}
 use Rattle.mseed_audit.proofs.ByKey.{itself, made_by_key}
 use Rattle.mseed_audit.proofs.Rosters.{all_made, making_begin, making_more}
 use Rattle.mseed_audit.proofs.channel_list.ChannelList.by_key.Goals as goal
@@ -15,8 +14,7 @@ pub index-requires : goal.index-requires
 index-requires g c =
     let inv = rw c.in-Some.ensures.steps at c.loop-codes.invariant in
     let within : c.in-Some.index.now < length c.self.inside.channels.items =
-    subst (λ (fs : List (List ℕ × Channel)). c.in-Some.index.now < length fs) (sym c.self.view_is)
-    (inv.within 0 0 (omega arith)) in
+    rw c.self.view_is (inv.within 0 0 (omega arith)) in
     omega (arith, within)
 
 pub loop-codes-preserved : goal.loop-codes-preserved
@@ -33,5 +31,4 @@ returns g c =
     made_by_key c.args.self.now c.loop-codes.sorted.items
     (all_made itself c.args.self.now c.args.self.now _ _ c.self.inside.places.entries c.loop-codes.sorted.items _
     c.loop-codes.invariant c.in-None.ensures.steps.0 (search rules)
-    (subst (λ (fs : List (List ℕ × Channel)). ArePlaces c.self.inside.places.entries fs) c.self.view_is
-    c.self.invariant.0.places) c.self.invariant.0.ascending refl)
+    (rw c.self.view_is at c.self.invariant.0.places) c.self.invariant.0.ascending refl)

@@ -1,4 +1,4 @@
-use Rattle.std.proofs.Common.{◌≡◌, ◌++◌, ◌∷◌, [], ◌∙◌, ℕ, List, None, Some, length, ap, subst, sym, arith, rules}
+use Rattle.std.proofs.Common.{◌≡◌, ◌++◌, ◌∷◌, [], ◌∙◌, ℕ, List, None, Some, length, ap, arith, rules}
 use Rattle.std.specs.BTreeMap.{insert_entry}
 use Rattle.std.specs.Cmp.Lexicographic.{slice_cmp}
 use Rattle.std.specs.List.Sorted.{IsStrictlySortedBy}
@@ -6,7 +6,7 @@ use Rattle.std.specs.Map.{keys_of}
 use Rattle.std.specs.Ordering.{nat_cmp}
 use Rattle.mseed_audit.specs.declared.channel.Channel.{Channel}
 use Rattle.mseed_audit.specs.Channels.{same_key}
-use Rattle.mseed_audit.specs.Places.{ArePlaced, place_of}
+use Rattle.mseed_audit.specs.Places.{place_of}
 use Rattle.mseed_audit.proofs.Placed.{placed_push}
 use Rattle.mseed_audit.proofs.Rosters.{none_there, place_within}
 use Rattle.mseed_audit.proofs.channel_list.ChannelList.search_or_keep.Goals as goal
@@ -40,7 +40,6 @@ invariant_of-self-2 g c =
 
 pub invariant_of-self : goal.invariant_of-self
 invariant_of-self g c = (
-  subst (λ (ps : List (List ℕ × ℕ)). ArePlaced ps c.self.inside.channels.items)
-      (sym c.in_err-index.ensures.unchanged) c.self.invariant.0,
+  rw c.in_err-index.ensures.unchanged c.self.invariant.0,
   c.self.invariant.1,
 )

@@ -1,6 +1,5 @@
-use Rattle.std.proofs.Common.{◌∙◌, ◌++◌, ◌∷◌, [], List, ap, append-nil, subst, sym, ℕ}
+use Rattle.std.proofs.Common.{◌∙◌, ◌++◌, ◌∷◌, [], List, ap, append-nil, sym, ℕ}
 use Rattle.mseed_record.specs.Viewing.{view_of}
-use Rattle.mseed_audit.specs.private.Gathered.{AreLined}
 use Rattle.mseed_audit.specs.Reported.{Reported}
 use Rattle.mseed_audit.specs.Text.{reported_line}
 use Rattle.mseed_audit.proofs.Gathers.{lined_more}
@@ -15,6 +14,4 @@ returns-in-Ok g c = λ first now reported before.
 
 pub returns-in-Err : goal.returns-in-Err
 returns-in-Err g c = λ first now reported before.
-    subst (λ (xs : List ℕ). AreLined (g.W.Sink.written first) (g.W.Sink.written now) (g.W.Sink.contents first)
-    (g.W.Sink.contents now) (g.W.Sink.beside first) (g.W.Sink.beside now) xs reported)
-    (sym c.in-Err.ensures.unchanged) before
+    rw c.in-Err.ensures.unchanged before

@@ -1,4 +1,4 @@
-use Rattle.std.proofs.Common.{◌≡◌, ◌∙◌, List, ℕ, Vec, sym, ap, subst}
+use Rattle.std.proofs.Common.{◌≡◌, ◌∙◌, List, ℕ, Vec, ap}
 use Rattle.std.specs.Map.{lookup}
 use Rattle.std.proofs.lemmas.Result.{IfOk-weaker}
 use Rattle.mseed_audit.specs.declared.channel.Channel.{Channel}
@@ -12,7 +12,7 @@ returns-clause-ascending g c =
     let es : List (List ℕ × Channel) = c.self.inside.channels in
     IfOk-weaker c.by_key.result (λ (s : Vec (List ℕ × Channel) g.row.A.Denot). s.items ≡ by_key es)
     (λ (s : Vec (List ℕ × Channel) g.row.A.Denot). IsAscending s.items)
-    (λ s e. subst (λ (fs : List (List ℕ × Channel)). IsAscending fs) (sym e) (by_key_ascends es)) c.by_key.ensures
+    (λ s e. rw e (by_key_ascends es)) c.by_key.ensures
 
 pub returns-clause-each : goal.returns-clause-each
 returns-clause-each g c =

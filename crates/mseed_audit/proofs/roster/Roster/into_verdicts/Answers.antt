@@ -1,8 +1,7 @@
-use Rattle.std.proofs.Common.{◌≡◌, ◌≤◌, ◌<◌, ◌∙◌, List, ℕ, get_or, length, refl, subst, sym, ap, arith, rules}
+use Rattle.std.proofs.Common.{◌≡◌, ◌≤◌, ◌∙◌, List, ℕ, get_or, length, refl, sym, ap, arith, rules}
 use Rattle.std.specs.Vec.{vec_capacity}
 use Rattle.mseed_audit.specs.Audit.{verdict_of}
 use Rattle.mseed_audit.specs.declared.channel.Channel.{Channel}
-use Rattle.mseed_audit.specs.Places.{ArePlaces}
 use Rattle.mseed_audit.proofs.Rosters.{all_made, making_begin, making_more}
 use Rattle.mseed_audit.proofs.roster.Roster.into_verdicts.Goals as goal
 
@@ -29,12 +28,10 @@ pub returns : goal.returns
 returns g c =
     let all = all_made verdict_of c.args.self c.args.self _ _ c.places.result.now.entries
     c.loop-codes.verdicts.items _ c.loop-codes.invariant c.in-None.ensures.steps.0 (search rules)
-    (subst (λ (fs : List (List ℕ × Channel)). ArePlaces c.places.result.now.entries fs) c.self.view_is
-    c.places.ensures.places) c.places.ensures.ascending refl in
+    (rw c.self.view_is at c.places.ensures.places) c.places.ensures.ascending refl in
     record { ascending = all.ascending; each = all.each }
 
 pub bounds-as_slice-index : goal.bounds-as_slice-index
 bounds-as_slice-index g c =
     let inv = rw c.in-Some.ensures.steps at c.loop-codes.invariant in
-    subst (λ (fs : List (List ℕ × Channel)). c.in-Some.index.now < length fs)
-    (sym (c.as_slice.ensures ∙ c.self.view_is)) (inv.within 0 0 (omega arith))
+    rw (c.as_slice.ensures ∙ c.self.view_is) (inv.within 0 0 (omega arith))

@@ -1,5 +1,5 @@
 use Rattle.std.proofs.Common.{◌≡◌, ◌≤◌, ◌+◌, ◌++◌, ◌∷◌, [], Result, Ok, Err, OnOk, ◌∙◌, ℕ, List, ap}
-use Rattle.std.proofs.Common.{OnErr, false, length, arith, subst, length-append}
+use Rattle.std.proofs.Common.{OnErr, false, length, arith, length-append}
 use Rattle.std.specs.Result.{is_err}
 use Rattle.std.specs.Vec.{vec_capacity, vec_len}
 use Rattle.std.specs.Map.{lookup}
@@ -33,10 +33,8 @@ invariant_of-self-2 g c = (
 
 pub returns-clause-kept : goal.returns-clause-kept
 returns-clause-kept g c =
-    subst (λ (es : List (List ℕ × Channel)). OnOk c.keep.result
-    (c.keep.new.self ≡ es ++ (c.args.codes, c.args.channel) ∷ [])) c.self.view_is c.keep.ensures.kept
+    rw c.self.view_is at c.keep.ensures.kept
 
 pub returns-clause-unchanged : goal.returns-clause-unchanged
 returns-clause-unchanged g c =
-    subst (λ (es : List (List ℕ × Channel)). OnErr c.keep.result (c.keep.new.self ≡ es)) c.self.view_is
-    c.keep.ensures.unchanged
+    rw c.self.view_is at c.keep.ensures.unchanged
