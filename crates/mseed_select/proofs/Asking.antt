@@ -1,9 +1,9 @@
 -- A record is asked for exactly where the test says so.
-use Rattle.std.proofs.Common.{◌≡◌, ◌≢◌, ◌⊎◌, ℕ, ◌-◌, ◌*◌, ◌^◌, refl, ap, ◌∙◌, arith, Bool, true, false, cond}
+use Rattle.std.proofs.Common.{◌≡◌, ◌≢◌, ◌⊎◌, ℕ, ◌-◌, ◌*◌, ◌^◌, refl, ap, ◌∙◌, arith, Bool, true, cond}
 use Rattle.std.proofs.Common.{◌&&◌, inl, inr, Option, Some, None, ℤ, pos, ◌+ℤ◌, ◌-ℤ◌, ◌*ℤ◌}
 use Rattle.std.proofs.Common.{◌≤ℤ◌, ◌<ℤ◌}
 use Rattle.std.specs.Prelude.{int_le, int_lt}
-use Rattle.std.proofs.lemmas.Bool.{and_from, and_parts}
+use Rattle.std.proofs.lemmas.Bool.{and_parts}
 use Rattle.std.proofs.lemmas.Int.{ints}
 use Rattle.std.specs.Bool.{Decides}
 use Rattle.mseed_time.specs.Join.{drift_of}
@@ -42,17 +42,10 @@ begins_decides None v = ((λ e. tt), (λ t. refl))
 begins_decides (Some until) v = lt_decides (start_of v) until
 
 by_asked : (fault : Option TimeFault) (b : Bool) → answer_by fault b ≡ AskedFor → (fault ≡ None) × (b ≡ true)
-by_asked (Some fault) b e = absurd (let f : NoTime ≡ AskedFor = e in cc f)
-by_asked None true e = (refl, refl)
-by_asked None false e = absurd (let f : Left ≡ AskedFor = e in cc f)
-
-by_back : (fault : Option TimeFault) (b : Bool) → fault ≡ None → b ≡ true → answer_by fault b ≡ AskedFor
-by_back fault b e h = ap (λ (f : Option TimeFault). answer_by f b) e ∙ ap (λ (x : Bool). answer_by None x) h
+by_asked fault b e = search arith
 
 by_unknown : (fault : Option TimeFault) (b : Bool) → answer_by fault b ≡ NoTime → fault ≢ None
-by_unknown (Some fault) b e = λ n. absurd (cc n)
-by_unknown None true e = absurd (let f : AskedFor ≡ NoTime = e in cc f)
-by_unknown None false e = absurd (let f : Left ≡ NoTime = e in cc f)
+by_unknown fault b e none = grind arith
 
 by_known : (fault : Option TimeFault) (b : Bool) → fault ≢ None → answer_by fault b ≡ NoTime
 by_known (Some fault) b ne = refl
@@ -71,11 +64,9 @@ window_yes (Some from) until v e =
 
 window_back : (from until : Option ℤ) (v : View) → IsInWindow from until v → answer_in from until v ≡ AskedFor
 window_back None None v w = refl
-window_back None (Some until) v w = by_back (start_fault v) (reaches None v && begins_before (Some until) v) w.0
-    (and_from (reaches None v) (begins_before (Some until) v) refl ((begins_decides (Some until) v).1 w.2))
-window_back (Some from) until v w = by_back (start_fault v) (reaches (Some from) v && begins_before until v) w.0
-    (and_from (reaches (Some from) v) (begins_before until v) ((reaches_decides (Some from) v).1 w.1)
-    ((begins_decides until v).1 w.2))
+window_back None (Some until) v w = rw (w.0, (begins_decides (Some until) v).1 w.2) refl
+window_back (Some from) until v w =
+    rw (w.0, (reaches_decides (Some from) v).1 w.1, (begins_decides until v).1 w.2) refl
 
 window_unknown : (from until : Option ℤ) (v : View) → answer_in from until v ≡ NoTime
     → ((from ≢ None) ⊎ (until ≢ None)) × (start_fault v ≢ None)
@@ -96,24 +87,22 @@ window_bounded (Some from) until v bounded unknown =
 
 -- ---- both
 chosen : (b : Bool) (a : Answer) → cond b a Left ≡ AskedFor → (b ≡ true) × (a ≡ AskedFor)
-chosen true a e = (refl, e)
-chosen false a e = absurd (let f : Left ≡ AskedFor = e in cc f)
+chosen b a e = search arith
 
 chosen_unknown : (b : Bool) (a : Answer) → cond b a Left ≡ NoTime → (b ≡ true) × (a ≡ NoTime)
-chosen_unknown true a e = (refl, e)
-chosen_unknown false a e = absurd (let f : Left ≡ NoTime = e in cc f)
+chosen_unknown b a e = search arith
 
 pub asked_yes : (s : Selection) (v : View) → answer_of s v ≡ AskedFor → IsAskedFor s v
 asked_yes s v e =
-    let h = chosen (is_of_channels s.channels (key_at v.bytes)) (answer_in s.from s.until v) e in record {
+    let h =
+    chosen (is_of_channels s.channels (key_at v.bytes)) (answer_in s.from s.until v) e in record {
       channel = channels_yes s.channels (key_at v.bytes) h.0;
       window = window_yes s.from s.until v h.1;
     }
 
 pub asked_back : (s : Selection) (v : View) → IsAskedFor s v → answer_of s v ≡ AskedFor
 asked_back s v a =
-    ap (λ (b : Bool). cond b (answer_in s.from s.until v) Left) (channels_back s.channels (key_at v.bytes) a.channel)
-    ∙ window_back s.from s.until v a.window
+    rw (channels_back s.channels (key_at v.bytes) a.channel) (window_back s.from s.until v a.window)
 
 pub lacks_yes : (s : Selection) (v : View) → answer_of s v ≡ NoTime → LacksTime s v
 lacks_yes s v e =
@@ -126,13 +115,10 @@ lacks_yes s v e =
 
 pub lacks_back : (s : Selection) (v : View) → LacksTime s v → answer_of s v ≡ NoTime
 lacks_back s v l =
-    ap (λ (b : Bool). cond b (answer_in s.from s.until v) Left) (channels_back s.channels (key_at v.bytes) l.channel)
-    ∙ window_bounded s.from s.until v l.bounded l.unknown
+    rw (channels_back s.channels (key_at v.bytes) l.channel) (window_bounded s.from s.until v l.bounded l.unknown)
 
 is_asked_yes : (a : Answer) → is_asked a ≡ true → a ≡ AskedFor
-is_asked_yes AskedFor e = refl
-is_asked_yes Left e = absurd (let f : false ≡ true = e in cc f)
-is_asked_yes NoTime e = absurd (let f : false ≡ true = e in cc f)
+is_asked_yes a e = search arith
 
 pub asks_for_yes : (s : Selection) (v : View) → asks_for s v ≡ true → IsAskedFor s v
 asks_for_yes s v e = asked_yes s v (is_asked_yes (answer_of s v) e)
@@ -159,9 +145,7 @@ lasts_is start n rate instant miss e =
     ∙ less_than ((instant -ℤ start) *ℤ pos rate.num) due
 
 unknown_yes : (a : Answer) → is_without_time a ≡ true → a ≡ NoTime
-unknown_yes AskedFor e = absurd (let f : false ≡ true = e in cc f)
-unknown_yes Left e = absurd (let f : false ≡ true = e in cc f)
-unknown_yes NoTime e = refl
+unknown_yes a e = search arith
 
 pub lacks_time_yes : (s : Selection) (v : View) → lacks_time s v ≡ true → LacksTime s v
 lacks_time_yes s v e = lacks_yes s v (unknown_yes (answer_of s v) e)

@@ -1,9 +1,9 @@
 -- The records that are asked for, as what is written of them is gathered and written.
-use Rattle.std.proofs.Common.{◌≡◌, ℕ, ◌+◌, ◌++◌, List, [], ◌∷◌, length, refl, sym, ap, ◌∙◌, subst}
+use Rattle.std.proofs.Common.{subst, ◌≡◌, ℕ, ◌+◌, ◌++◌, List, [], ◌∷◌, length, refl, sym, ap, ◌∙◌}
 use Rattle.std.proofs.Common.{append_assoc, append-nil, arith, inl, inr, Bool, true, false, cond, Result, Ok, Err}
 use Rattle.std.proofs.lemmas.List.{length-append}
 use Rattle.std.proofs.lemmas.List.Elements.{filter-append}
-use Rattle.std.specs.List.{concat, count_by, filter}
+use Rattle.std.specs.List.{concat}
 use Rattle.std.specs.Result.{IsErrAnd}
 use Rattle.mseed_record.specs.View.{View}
 use Rattle.mseed_stream.specs.Device.{BytesRead, BytesWritten}
@@ -14,7 +14,7 @@ use Rattle.mseed_stream.proofs.Handed.{views_stay}
 use Rattle.mseed_stream.specs.CutterState.{CutterState}
 use Rattle.mseed_stream.specs.Walk.{AreViews, HasHandedOut, bytes_in}
 use Rattle.mseed_select.specs.Counting.{counts_of, one_if}
-use Rattle.mseed_select.specs.Formatted.{IsFormatted, Texts, asked_text, texts_of, whole_text}
+use Rattle.mseed_select.specs.Formatted.{IsFormatted, IsWrittenInPart, Texts, asked_text, texts_of}
 use Rattle.mseed_select.specs.Halves.{Placed, placed_from}
 use Rattle.mseed_record.proofs.Counted.{count_more}
 use Rattle.mseed_record.specs.Selection.{Selection, answer_of, asks_for, is_asked, is_without_time, lacks_time}
@@ -37,46 +37,28 @@ abbrev made : ℕ → ℕ → ℕ → Counts
 made records asked_for without_time =
     record { records = records; asked_for = asked_for; without_time = without_time }
 
-counts_are : (a b c d e f : ℕ) → a ≡ b → c ≡ d → e ≡ f → made a c e ≡ made b d f
-counts_are a b c d e f p q r = ap (λ (n : ℕ). made n c e) p ∙ ap (λ (n : ℕ). made b n e) q
-    ∙ ap (λ (n : ℕ). made b d n) r
-
 -- what is counted of one more
 pub counts_more : (s : Selection) (views : List View) (v : View) (old new : Counts) (answer : Answer)
     → old ≡ counts_of s views → answer ≡ answer_of s v
     → new ≡ made (old.records + 1) (old.asked_for + one_if (is_asked answer))
     (old.without_time + one_if (is_without_time answer))
     → new ≡ counts_of s (views ++ v ∷ [])
-counts_more s views v old new answer before answered e =
-    let n : ℕ = count_by (asks_for s) views in
-    let m : ℕ = count_by (lacks_time s) views in
-    let is : new ≡ made (length views + 1) (n + one_if (asks_for s v)) (m + one_if (lacks_time s v)) =
-    e ∙ ap (λ (k : Counts). made (k.records + 1) (k.asked_for + one_if (is_asked answer))
-    (k.without_time + one_if (is_without_time answer))) before
-    ∙ ap (λ (a : Answer). made (length views + 1) (n + one_if (is_asked a)) (m + one_if (is_without_time a)))
-    answered in
-    is ∙ sym (counts_are (length (views ++ v ∷ [])) (length views + 1) (count_by (asks_for s) (views ++ v ∷ []))
-    (count_by (asks_for s) views + one_if (asks_for s v)) (count_by (lacks_time s) (views ++ v ∷ []))
-    (count_by (lacks_time s) views + one_if (lacks_time s v)) (length-append views (v ∷ []))
-    (count_more (asks_for s) views v) (count_more (lacks_time s) views v))
+counts_more s views v old new answer before answered e = rw (e, before, answered)
+    (rw (length-append views (v ∷ []), count_more (asks_for s) views v, count_more (lacks_time s) views v) refl)
 
 -- ---- the text of one more
 texts_append : (t : Texts) (ps qs : List Placed) → texts_of t (ps ++ qs) ≡ texts_of t ps ++ texts_of t qs
 texts_append t [] qs = refl
-texts_append t (p ∷ ps) qs = ap (λ (xs : List ℕ). t.of_record p.offset p.view ++ xs) (texts_append t ps qs)
-    ∙ sym (append_assoc (t.of_record p.offset p.view) (texts_of t ps) (texts_of t qs))
+texts_append t (p ∷ ps) qs =
+    rw (texts_append t ps qs) (sym (append_assoc (t.of_record p.offset p.view) _ _))
 
 placed_more : (offset : ℕ) (views : List View) (v : View) (n : ℕ) → n ≡ offset + length (concat (bytes_in views))
     → placed_from offset (views ++ v ∷ []) ≡ placed_from offset views ++ record { offset = n; view = v } ∷ []
-placed_more offset [] v n e =
-    let same : offset ≡ n = omega (arith, e) in
-    ap (λ (m : ℕ). placed_from m (v ∷ [])) same
+placed_more offset [] v n e = ap (λ (m : ℕ). placed_from m (v ∷ [])) (omega (arith, e))
 placed_more offset (w ∷ views) v n e =
-    let rest : List ℕ = concat (bytes_in views) in
-    let size : length (w.bytes ++ rest) ≡ length w.bytes + length rest = length-append w.bytes rest in
-    let later : n ≡ (offset + length w.bytes) + length rest = omega (arith, e, size) in
-    let here : Placed = record { offset = offset; view = w } in
-    ap (λ (ps : List Placed). here ∷ ps) (placed_more (offset + length w.bytes) views v n later)
+    ap (λ (ps : List Placed). record { offset = offset; view = w } ∷ ps)
+    (placed_more (offset + length w.bytes) views v n
+    (omega (arith, e, length-append w.bytes (concat (bytes_in views)))))
 
 one_text : (t : Texts) (b : Bool) (p : Placed)
     → texts_of t (cond b (p ∷ []) []) ≡ cond b (t.of_record p.offset p.view) []
@@ -87,13 +69,9 @@ one_text t false p = refl
 pub text_more : (t : Texts) (s : Selection) (bytes : List ℕ) (offset : ℕ) (views : List View) (v : View)
     → AreViews bytes offset views → asked_text t s (views ++ v ∷ []) ≡ asked_text t s views ++ text_by t s offset v
 text_more t s bytes offset views v shown =
-    let test : Placed → Bool = λ p. asks_for s p.view in
     let here : Placed = record { offset = offset; view = v } in
-    let all = placed_more 0 views v offset (omega (arith, shown.offset_is)) in
-    ap (λ (ps : List Placed). texts_of t (filter test ps)) all
-    ∙ ap (texts_of t) (filter-append test (placed_from 0 views) (here ∷ []))
-    ∙ texts_append t (filter test (placed_from 0 views)) (filter test (here ∷ []))
-    ∙ ap (λ (xs : List ℕ). asked_text t s views ++ xs) (one_text t (asks_for s v) here)
+    rw (placed_more 0 views v offset (omega (arith, shown.offset_is)), filter-append, texts_append)
+    (ap (λ (xs : List ℕ). asked_text t s views ++ xs) (one_text t (asks_for s v) here))
 
 -- ---- what is held of them
 -- some more was added of the next record
@@ -123,30 +101,17 @@ held_on t s first old new text rest views held written fine = record {
 pub cut_short : (t : Texts) (s : Selection) (h : BytesRead) (offset : ℕ) (first now : BytesWritten) (text : List ℕ)
     (views : List View) → AreViews h.bytes offset views → IsHeld t s first now text views
     → IsFormatted t s (Err Memory) h first now
-cut_short t s h offset first now text views shown held = (
-  held.fine,
-  (
-    offset,
-    (
-      views,
-      record {
-        shown = shown;
-        prefix = inl (gathered_first first now text (asked_text t s views) held.gathered);
-      },
-    ),
-  ),
-)
+cut_short t s h offset first now text views shown held =
+    let prefix = gathered_first first now text (asked_text t s views) held.gathered in
+    (held.fine, (offset, (views, record { shown = shown; prefix = inl prefix })))
 
 -- the output failed
 pub cut_off : (t : Texts) (s : Selection) (h : BytesRead) (offset : ℕ) (first old new : BytesWritten)
     (text : List ℕ) (taken : ℕ) (views : List View) → AreViews h.bytes offset views → IsHeld t s first old text views
     → IsCutOff taken text old new → IsFormatted t s (Err Write) h first new
 cut_off t s h offset first old new text taken views shown held cut =
-    let part : EmittedPart first new (asked_text t s views) =
-    part_of first old new text (asked_text t s views) held.gathered (taken, (cut.part, cut.text)) in (
-      omega (arith, held.fine, cut.failed),
-      (offset, (views, record { shown = shown; prefix = inl part })),
-    )
+    let part = part_of first old new text (asked_text t s views) held.gathered (taken, (cut.part, cut.text)) in
+    (omega (arith, held.fine, cut.failed), (offset, (views, record { shown = shown; prefix = inl part })))
 
 pub next_err : (t : Texts) (s : Selection) (r : Result Step SelectFault) (views : List View) (offset : ℕ)
     (before h : BytesRead) (c : CutterState) (first now : BytesWritten) (text added : List ℕ)
@@ -154,15 +119,14 @@ pub next_err : (t : Texts) (s : Selection) (r : Result Step SelectFault) (views 
     → IsNext t s r views before h c first now added
 next_err t s (Ok step) views offset before h c first now text added is shown held = absurd is
 next_err t s (Err e) views offset before h c first now text added is shown held =
-    subst (λ (x : SelectFault). IsFormatted t s (Err x) h first now) (sym is)
-    (cut_short t s h offset first now text views shown held)
+    rw is (cut_short t s h offset first now text views shown held)
 
 pub copied_err : (t : Texts) (s : Selection) (r : Result Selected SelectFault) (Q : SelectFault → Type 0)
     (fault : SelectFault) (h : BytesRead) (old new : BytesWritten) (text : List ℕ) → IsErrAnd r Q
     → ((e : SelectFault) → Q e → e ≡ fault) → IsFormatted t s (Err fault) h old new → IsCopying t s r h old new text
 copied_err t s (Ok x) Q fault h old new text is q shown = absurd is
 copied_err t s (Err e) Q fault h old new text is q shown =
-    subst (λ (x : SelectFault). IsFormatted t s (Err x) h old new) (sym (q e is)) shown
+    rw (q e is) shown
 
 -- no memory for the end
 pub end_err : (t : Texts) (s : Selection) (r : Result Selected SelectFault) (found : Selected) (h : BytesRead)
@@ -170,35 +134,26 @@ pub end_err : (t : Texts) (s : Selection) (r : Result Selected SelectFault) (fou
     → HasCopied t s found h first new text views → IsFormatted t s r h first new
 end_err t s (Ok x) found h first new text views is copied = absurd is
 end_err t s (Err e) found h first new text views is copied =
-    subst (λ (x : SelectFault). IsFormatted t s (Err x) h first new) (sym is)
-    (cut_short t s h copied.is_found.all.offset first new text views copied.is_found.all.records copied.held)
+    rw is (cut_short t s h copied.is_found.all.offset first new text views copied.is_found.all.records copied.held)
 
 -- all of it was written
 pub written_all : (t : Texts) (s : Selection) (found : Selected) (h : BytesRead) (first old new : BytesWritten)
     (text whole : List ℕ) (views : List View) → HasCopied t s found h first old text views
     → whole ≡ text ++ t.at_end found → new.bytes ≡ old.bytes ++ whole → new.failures ≡ old.failures
     → IsFormatted t s (Ok found) h first new
-written_all t s found h first old new text whole views copied e bytes fine = (
-  views,
-  record {
-    is_found = copied.is_found;
-    text = all_behind first old new text (asked_text t s views) (t.at_end found) copied.held.gathered
-        (bytes ∙ ap (λ (xs : List ℕ). old.bytes ++ xs) e);
-    fine = fine ∙ copied.held.fine;
-  },
-)
+written_all t s found h first old new text whole views copied e bytes fine =
+    let text = all_behind first old new text (asked_text t s views) (t.at_end found) copied.held.gathered
+    (rw e at bytes) in
+    (views, record { is_found = copied.is_found; text = text; fine = fine ∙ copied.held.fine })
 
 -- a prefix of what was left was written
 pub written_short : (t : Texts) (s : Selection) (found : Selected) (h : BytesRead) (first old new : BytesWritten)
     (text whole : List ℕ) (taken : ℕ) (views : List View) → HasCopied t s found h first old text views
     → whole ≡ text ++ t.at_end found → IsCutOff taken whole old new → IsFormatted t s (Err Write) h first new
 written_short t s found h first old new text whole taken views copied e cut =
-    let part : EmittedPart first new (whole_text t s views found) =
+    let part =
     cut_part first old new taken text (asked_text t s views) (t.at_end found) copied.held.gathered
-    (subst (λ (xs : List ℕ). IsCutOff taken xs old new) e cut) in (
-      omega (arith, copied.held.fine, cut.failed),
-      (
-        copied.is_found.all.offset,
-        (views, record { shown = copied.is_found.all.records; prefix = inr (found, (copied.is_found, part)) }),
-      ),
-    )
+    (rw e at cut) in
+    let short : IsWrittenInPart (EmittedPart first new) t s h copied.is_found.all.offset views =
+    record { shown = copied.is_found.all.records; prefix = inr (found, (copied.is_found, part)) } in
+    (omega (arith, copied.held.fine, cut.failed), (copied.is_found.all.offset, (views, short)))

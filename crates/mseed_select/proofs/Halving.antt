@@ -38,8 +38,6 @@ halves s offset [] each = (refl, refl)
 halves s offset (v ∷ vs) each =
     let p : Placed = record { offset = offset; view = v } in
     let next : ℕ = offset + length v.bytes in
-    let rest : List Placed = placed_from next vs in
-    let before : IsBefore p rest = later_begins p next vs (omega (arith, has_bytes v each.0)) in
-    merged_more (asks_for s v) p rest (asked_of s rest) (others_of s rest)
-    (filtered p (λ q. asks_for s q.view) rest before) (filtered p (λ q. not (asks_for s q.view)) rest before)
-    (halves s next vs each.1)
+    let before = later_begins p next vs (omega (arith, has_bytes v each.0)) in
+    merged_more (asks_for s v) p (placed_from next vs) _ _ (filtered p _ (placed_from next vs) before)
+    (filtered p _ (placed_from next vs) before) (halves s next vs each.1)

@@ -1,59 +1,34 @@
 -- A pattern matches a channel exactly where the test says so.
-use Rattle.std.proofs.Common.{◌≡◌, ℕ, refl, ap, ◌∙◌, arith, Bool, true, false, ◌&&◌, List, [], ◌∷◌, length, eqb}
+use Rattle.std.proofs.Common.{◌≡◌, ℕ, refl, arith, true, ◌&&◌, List, [], ◌∷◌, length, eqb}
 use Rattle.std.proofs.Common.{Option, Some, None, codes}
 use Rattle.std.specs.Bool.{Decides}
 use Rattle.std.specs.List.{Any}
 use Rattle.std.proofs.lemmas.Bool.{and_parts, eqb-true}
-use Rattle.std.proofs.lemmas.Bool.Decides.{Decides-and, Decides-or}
+use Rattle.std.proofs.lemmas.Bool.Decides.{Decides-and, Decides-or, nat_tests}
 use Rattle.std.proofs.lemmas.List.Folds.{Any-from_list_any, list_any-from_Any}
 use Rattle.mseed_record.specs.Pattern.{FitsLocation, IsOfChannels, Matches, channel_of, fields_in, fits, fits_fields}
 use Rattle.mseed_record.specs.Pattern.{fits_location, is_dashes, is_of_channels, location_of, matches, network_of}
 use Rattle.mseed_record.specs.Pattern.{patterns_in, station_of}
 use Rattle.mseed_select.proofs.Fitting.{fits_decides}
-
-dashes_yes : (field : List ℕ) → is_dashes field ≡ true → field ≡ codes "--"
-dashes_yes [] e = absurd (let f : false ≡ true = e in cc f)
-dashes_yes (a ∷ []) e = absurd (let f : false ≡ true = e in cc f)
-dashes_yes (a ∷ b ∷ []) e =
-    let h : (eqb a 45 ≡ true) × (eqb b 45 ≡ true) = and_parts (eqb a 45) (eqb b 45) e in
-    ap (λ (x : ℕ). x ∷ b ∷ []) (eqb-true a 45 h.0) ∙ ap (λ (x : ℕ). 45 ∷ x ∷ []) (eqb-true b 45 h.1)
-dashes_yes (a ∷ b ∷ c ∷ cs) e = absurd (let f : false ≡ true = e in cc f)
+use Rattle.mseed_select.proofs.TimeParts.{nothing}
 
 dashes_decides : (field : List ℕ) → Decides (is_dashes field) (field ≡ codes "--")
-dashes_decides field = (dashes_yes field, λ e. ap (λ (cs : List ℕ). is_dashes cs) e)
-
-none_yes : (code : List ℕ) → eqb (length code) 0 ≡ true → code ≡ []
-none_yes [] e = refl
-none_yes (c ∷ cs) e = absurd (omega (arith, eqb-true (length (c ∷ cs)) 0 e))
+dashes_decides field = (λ e. grind (arith, nat_tests, e), λ e. rw e refl)
 
 none_decides : (code : List ℕ) → Decides (eqb (length code) 0) (code ≡ [])
-none_decides code = (none_yes code, λ e. ap (λ (cs : List ℕ). eqb (length cs) 0) e)
+none_decides code = (λ e. nothing code (eqb-true (length code) 0 e), λ e. rw e refl)
 
 location_decides : (field code : List ℕ) → Decides (fits_location field code) (FitsLocation field code)
 location_decides field code = Decides-or (is_dashes field && eqb (length code) 0) (fits field code)
     (Decides-and (is_dashes field) (eqb (length code) 0) (dashes_decides field) (none_decides code))
     (fits_decides field code)
 
-all_four : (a b c d : Bool) → a ≡ true → b ≡ true → c ≡ true → d ≡ true → (a && (b && (c && d))) ≡ true
-all_four a b c d e f g h = ap (λ (x : Bool). x && (b && (c && d))) e
-    ∙ ap (λ (x : Bool). x && (c && d)) f ∙ ap (λ (x : Bool). x && d) g ∙ h
-
 matches_by : (parts : List (List ℕ)) (pattern key : List ℕ) → fields_in pattern ≡ parts → fits_fields parts key ≡ true
     → Matches pattern key
-matches_by [] pattern key e h = absurd (let f : false ≡ true = h in cc f)
-matches_by (n ∷ []) pattern key e h = absurd (let f : false ≡ true = h in cc f)
-matches_by (n ∷ s ∷ []) pattern key e h = absurd (let f : false ≡ true = h in cc f)
-matches_by (n ∷ s ∷ l ∷ []) pattern key e h = absurd (let f : false ≡ true = h in cc f)
 matches_by (n ∷ s ∷ l ∷ c ∷ []) pattern key e h =
-    let one : (fits n (network_of key) ≡ true) × ((fits s (station_of key)
-    && (fits_location l (location_of key) && fits c (channel_of key))) ≡ true) =
-    and_parts (fits n (network_of key))
-    (fits s (station_of key) && (fits_location l (location_of key) && fits c (channel_of key))) h in
-    let two : (fits s (station_of key) ≡ true)
-    × ((fits_location l (location_of key) && fits c (channel_of key)) ≡ true) =
-    and_parts (fits s (station_of key)) (fits_location l (location_of key) && fits c (channel_of key)) one.1 in
-    let three : (fits_location l (location_of key) ≡ true) × (fits c (channel_of key) ≡ true) =
-    and_parts (fits_location l (location_of key)) (fits c (channel_of key)) two.1 in record {
+    let one = and_parts (fits n (network_of key)) _ h in
+    let two = and_parts (fits s (station_of key)) _ one.1 in
+    let three = and_parts (fits_location l (location_of key)) _ two.1 in record {
       network = n;
       station = s;
       location = l;
@@ -64,16 +39,15 @@ matches_by (n ∷ s ∷ l ∷ c ∷ []) pattern key e h =
       fits_location = (location_decides l (location_of key)).0 three.0;
       fits_channel = (fits_decides c (channel_of key)).0 three.1;
     }
-matches_by (n ∷ s ∷ l ∷ c ∷ more ∷ others) pattern key e h = absurd (let f : false ≡ true = h in cc f)
+matches_by parts pattern key e h = cc (h)
 
 matches_back : (pattern key : List ℕ) → Matches pattern key → matches pattern key ≡ true
-matches_back pattern key m = ap (λ (parts : List (List ℕ)). fits_fields parts key) m.fields
-    ∙ all_four (fits m.network (network_of key)) (fits m.station (station_of key))
-    (fits_location m.location (location_of key)) (fits m.channel (channel_of key))
-    ((fits_decides m.network (network_of key)).1 m.fits_network)
-    ((fits_decides m.station (station_of key)).1 m.fits_station)
-    ((location_decides m.location (location_of key)).1 m.fits_location)
-    ((fits_decides m.channel (channel_of key)).1 m.fits_channel)
+matches_back pattern key m = rw (
+  m.fields,
+  (fits_decides m.network (network_of key)).1 m.fits_network,
+  (fits_decides m.station (station_of key)).1 m.fits_station,
+  (location_decides m.location (location_of key)).1 m.fits_location,
+) ((fits_decides m.channel (channel_of key)).1 m.fits_channel)
 
 pub channels_yes : (o : Option (List ℕ)) (key : List ℕ) → is_of_channels o key ≡ true → IsOfChannels o key
 channels_yes None key e = tt

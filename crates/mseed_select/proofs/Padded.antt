@@ -1,15 +1,16 @@
 -- Numbers of so many digits, as they are written and as they are read.
 use Rattle.std.proofs.Common.{◌≡◌, ◌⊎◌, ℕ, zero, suc, ◌+◌, ◌-◌, ◌*◌, ◌/◌, ◌%◌, ◌^◌, ◌<◌, ◌≤◌, refl, sym, ap, ◌∙◌}
 use Rattle.std.proofs.Common.{arith}
-use Rattle.std.proofs.Common.{Bool, true, false, ◌&&◌, cond, eqb, List, [], ◌∷◌, ◌++◌, length, replicate, Some, None}
-use Rattle.std.proofs.Common.{inl, inr, fold}
+use Rattle.std.proofs.Common.{true, false, ◌&&◌, eqb, List, [], ◌∷◌, ◌++◌, length, replicate, Some}
+use Rattle.std.proofs.Common.{fold}
 use Rattle.std.specs.List.{All}
 use Rattle.std.proofs.lemmas.Bool.{and_parts, eqb-true}
 use Rattle.std.proofs.lemmas.Bool.Decides.{nat_tests}
 use Rattle.std.proofs.lemmas.Grind.{pow_more}
 use Rattle.std.proofs.lemmas.List.{length-append, length-replicate}
-use Rattle.std.proofs.lemmas.List.Elements.{All-cons, All-nil}
+use Rattle.std.proofs.lemmas.List.Elements.{All-append, All-cons}
 use Rattle.std.proofs.lemmas.List.Folds.{list_all-append}
+use Rattle.std.proofs.lemmas.List.Sums.{AllPass-from_list_all}
 use Rattle.std.proofs.lemmas.Nat.{div-mul-add, mod_below, mul-add-lt}
 use Rattle.mseed_time.specs.Btime.{is_within}
 use Rattle.mseed_time.specs.Text.{padded_decimal}
@@ -21,28 +22,26 @@ use Rattle.mseed_select.proofs.Digits.{fraction_is}
 abbrev pub Lacks : ℕ → List ℕ → Type 0
 Lacks c text = All (λ (x : ℕ). eqb x c ≡ false) text
 
+-- two texts and what stands between them
+pub lacks_both : (c : ℕ) (a : List ℕ) (x : ℕ) (b : List ℕ) → Lacks c a → eqb x c ≡ false → Lacks c b
+    → Lacks c (a ++ x ∷ b)
+lacks_both c a x b one other two =
+    All-append (λ (k : ℕ). eqb k c ≡ false) a (x ∷ b) one (All-cons (λ (k : ℕ). eqb k c ≡ false) x b other two)
+
 digit_is_other : (x c : ℕ) → is_within 48 57 x ≡ true → (57 < c) ⊎ (c < 48) → eqb x c ≡ false
-digit_is_other x c digit (inl over) =
-    let in_range = within_is 48 57 x digit in
-    grind (arith, nat_tests)
-digit_is_other x c digit (inr under) =
-    let in_range = within_is 48 57 x digit in
-    grind (arith, nat_tests)
+digit_is_other x c digit other =
+    let in_range = within_is 48 57 x digit in grind (arith, nat_tests, other)
 
 -- digits are no separator
 pub digits_lack : (c : ℕ) (text : List ℕ) → (57 < c) ⊎ (c < 48) → are_digits text ≡ true → Lacks c text
-digits_lack c [] other all = All-nil (λ (x : ℕ). eqb x c ≡ false)
-digits_lack c (x ∷ xs) other all =
-    let both = and_parts (is_within 48 57 x) (are_digits xs) all in
-    All-cons (λ (y : ℕ). eqb y c ≡ false) x xs (digit_is_other x c both.0 other) (digits_lack c xs other both.1)
+digits_lack c text other all = λ k d h.
+    digit_is_other _ c (AllPass-from_list_all (λ (x : ℕ). is_within 48 57 x) text all k d h) other
 
 pub padded_digits : (n x : ℕ) → are_digits (padded_decimal n x) ≡ true
 padded_digits zero x = refl
 padded_digits (suc n) x =
-    let digit : ℕ = 48 + x / 10 ^ n % 10 in
     let high : 48 + x / 10 ^ n % 10 ≤ 57 = omega (arith, mod_below (x / 10 ^ n) 10 (omega arith)) in
-    ap (λ (b : Bool). b && are_digits (padded_decimal n x)) (within_yes 48 57 digit (omega arith) high)
-    ∙ padded_digits n x
+    rw (within_yes 48 57 (48 + x / 10 ^ n % 10) (omega arith) high) (padded_digits n x)
 
 pub padded_length : (n x : ℕ) → length (padded_decimal n x) ≡ n
 padded_length zero x = refl
@@ -105,12 +104,6 @@ padded_back a (x ∷ xs) all =
 pub number_of-2 : (x : ℕ) → x < 100 → number_of (padded_decimal 2 x) ≡ x
 number_of-2 x h = omega arith
 
-pub number_of-3 : (x : ℕ) → x < 1000 → number_of (padded_decimal 3 x) ≡ x
-number_of-3 x h = omega arith
-
-pub number_of-4 : (x : ℕ) → x < 10_000 → number_of (padded_decimal 4 x) ≡ x
-number_of-4 x h = omega arith
-
 pub number_of-6 : (x : ℕ) → x < 1_000_000 → number_of (padded_decimal 6 x) ≡ x
 number_of-6 x h = omega arith
 
@@ -118,17 +111,8 @@ number_of-6 x h = omega arith
 pub number_in-padded : (count low high x : ℕ) → number_of (padded_decimal count x) ≡ x → low ≤ x → x ≤ high
     → number_in count low high (padded_decimal count x) ≡ Some x
 number_in-padded count low high x e l h =
-    let text : List ℕ = padded_decimal count x in
-    let long : eqb (length text) count ≡ true =
-    ap (λ (n : ℕ). eqb n count) (padded_length count x)
-    ∙ (let same : eqb count count ≡ true = grind (arith, nat_tests) in same) in
-    let within : is_within low high (number_of text) ≡ true =
-    ap (λ (n : ℕ). is_within low high n) e ∙ within_yes low high x l h in
-    ap (λ (b : Bool). cond (b && are_digits text && is_within low high (number_of text)) (Some
-    (number_of text)) None) long
-    ∙ ap (λ (b : Bool). cond (b && is_within low high (number_of text)) (Some (number_of text)) None)
-    (padded_digits count x)
-    ∙ ap (λ (b : Bool). cond b (Some (number_of text)) None) within ∙ ap (λ (n : ℕ). Some n) e
+    let same : eqb count count ≡ true = grind (arith, nat_tests) in
+    rw (padded_length count x, same, padded_digits count x, e, within_yes low high x l h) refl
 
 pub record IsNumber (count low high : ℕ) (text : List ℕ) (x : ℕ) : Type 0 where
   pub text_is : text ≡ padded_decimal count x
@@ -138,15 +122,16 @@ pub record IsNumber (count low high : ℕ) (text : List ℕ) (x : ℕ) : Type 0 
 pub number_in-is : (count low high : ℕ) (text : List ℕ) (x : ℕ) → number_in count low high text ≡ Some x
     → IsNumber count low high text x
 number_in-is count low high text x e =
-    let both = some_by (eqb (length text) count && are_digits text && is_within low high (number_of text))
+    let both =
+    some_by (eqb (length text) count && are_digits text && is_within low high (number_of text))
     (number_of text) x e in
-    let tests = and_parts (eqb (length text) count && are_digits text) (is_within low high (number_of text)) both.0 in
+    let tests =
+    and_parts (eqb (length text) count && are_digits text) (is_within low high (number_of text)) both.0 in
     let shape = and_parts (eqb (length text) count) (are_digits text) tests.0 in
     let long : length text ≡ count = eqb-true (length text) count shape.0 in
     let range = within_is low high (number_of text) tests.1 in
     record {
-      text_is = sym (padded_back 0 text shape.1) ∙ ap (λ (n : ℕ). padded_decimal n (number_of text)) long
-          ∙ ap (λ (n : ℕ). padded_decimal count n) both.1;
+      text_is = rw (← both.1, ← long) (sym (padded_back 0 text shape.1));
       least = omega (arith, range, both.1);
       most = omega (arith, range, both.1);
     }
@@ -173,12 +158,8 @@ spelled_append a (x ∷ xs) ys = spelled_append (10 * a + (x - 48)) xs ys
 
 number_zeros : (xs : List ℕ) (j : ℕ) → number_of (xs ++ replicate j 48) ≡ number_of xs * 10 ^ j
 number_zeros xs j =
-    let long : length (replicate j 48) ≡ j = length-replicate {A = ℕ} j 48 in
-    let power : 10 ^ length (replicate j 48) ≡ 10 ^ j = ap (λ (n : ℕ). 10 ^ n) long in
-    spelled_append 0 xs (replicate j 48) ∙ spelled_from (number_of xs) (replicate j 48)
-    ∙ ap (λ (n : ℕ). number_of xs * n + number_of (replicate j 48)) power
-    ∙ ap (λ (n : ℕ). number_of xs * 10 ^ j + n) (zeros_spell j)
-    ∙ (let e : number_of xs * 10 ^ j + 0 ≡ number_of xs * 10 ^ j = omega arith in e)
+    rw (spelled_append 0 xs (replicate j 48), spelled_from (number_of xs) (replicate j 48))
+    (rw (length-replicate {A = ℕ} j 48, zeros_spell j) (omega arith))
 
 pub fraction_of-is : (text : List ℕ) (micros : ℕ) → fraction_of text ≡ Some micros
     → IsFraction text micros × (are_digits text ≡ true)
@@ -190,27 +171,14 @@ fraction_of-is text micros e =
     let j : ℕ = 6 - length text in
     let all : List ℕ = text ++ replicate j 48 in
     let digits : are_digits all ≡ true =
-    list_all-append (λ c. is_within 48 57 c) text (replicate j 48)
-    ∙ ap (λ (b : Bool). b && are_digits (replicate j 48)) tests.1 ∙ zero_digits j in
-    let six : length all ≡ 6 = omega (
-      arith,
-      long,
-      length-append text (replicate j 48),
-      length-replicate {A = ℕ} j 48,
-    ) in
+    rw (list_all-append (λ c. is_within 48 57 c) text (replicate j 48), tests.1) (zero_digits j) in
+    let six : length all ≡ 6 = omega (arith, long, length-append {A = ℕ}, length-replicate {A = ℕ}) in
     let number : number_of all ≡ micros = number_zeros text j ∙ both.1 in (
       record {
         zeros = j;
         few = omega (arith, long);
-        below = let most = number_below all digits in
-            let power : 10 ^ length all ≡ 1_000_000 = ap (λ (n : ℕ). 10 ^ n) six in omega (
-              arith,
-              most,
-              power,
-              number,
-            );
-        whole = sym (padded_back 0 all digits) ∙ ap (λ (n : ℕ). padded_decimal n (number_of all)) six
-            ∙ ap (λ (n : ℕ). padded_decimal 6 n) number;
+        below = rw (number, six) at (number_below all digits);
+        whole = rw (six, number) at (sym (padded_back 0 all digits));
       },
       tests.1,
     )
@@ -218,19 +186,13 @@ fraction_of-is text micros e =
 pub fraction_digits : (text : List ℕ) (micros : ℕ) → IsFraction text micros → are_digits text ≡ true
 fraction_digits text micros f =
     (and_parts (are_digits text) (are_digits (replicate f.zeros 48))
-    (sym (list_all-append (λ c. is_within 48 57 c) text (replicate f.zeros 48))
-    ∙ ap (λ (xs : List ℕ). are_digits xs) f.whole ∙ padded_digits 6 micros)).0
+    (rw (← list_all-append (λ c. is_within 48 57 c) text (replicate f.zeros 48), f.whole) (padded_digits 6 micros))).0
 
 pub fraction_of-back : (text : List ℕ) (micros : ℕ) → IsFraction text micros → fraction_of text ≡ Some micros
 fraction_of-back text micros f =
+    let whole = ap (λ (xs : List ℕ). length xs) f.whole in
     let six : length text + f.zeros ≡ 6 =
-    omega (
-      arith,
-      length-append text (replicate f.zeros 48),
-      length-replicate {A = ℕ} f.zeros 48,
-      ap (λ (xs : List ℕ). length xs) f.whole,
-      padded_length 6 micros,
-    ) in
+    omega (arith, length-append {A = ℕ}, length-replicate {A = ℕ}, whole, padded_length 6 micros) in
     let number : number_of text * 10 ^ f.zeros ≡ micros =
     sym (number_zeros text f.zeros) ∙ ap (λ (xs : List ℕ). number_of xs) f.whole ∙ number_of-6 micros f.below in
     let power : 10 ^ f.zeros ≡ 10 ^ (6 - length text) =

@@ -1,25 +1,20 @@
 -- A field's piece up to its first `*` is best put as far to the front as it fits.
-use Rattle.std.proofs.Common.{◌≡◌, ◌≢◌, ℕ, refl, sym, ap, ◌∙◌, arith, Bool, true, false, cond, ◌&&◌, ◌||◌}
+use Rattle.std.proofs.Common.{◌≡◌, ◌≢◌, ℕ, refl, sym, ◌∙◌, arith, Bool, true, ◌&&◌, ◌||◌}
 use Rattle.std.proofs.Common.{List, [], ◌∷◌, length, get_or, drop, eqb, inl, inr, ◌≤◌}
 use Rattle.std.proofs.lemmas.Bool.{and_parts, or_cases}
 use Rattle.mseed_record.specs.Pattern.{any_rest, after_one, fits}
 use Rattle.mseed_select.specs.declared.matching.Piece.{Piece}
 use Rattle.mseed_select.specs.declared.matching.Piece.TheVariants.{Whole, Fails, Star}
 use Rattle.mseed_select.specs.private.Pieces.{IsLeft, IsPiece}
-use Rattle.mseed_select.proofs.Fitting.{fits_one, or_true, other_star, two_stars}
-
--- a test that holds of a code holds of some rest of it
-any_first : (test : List ℕ → Bool) (code : List ℕ) → test code ≡ true → any_rest test code ≡ true
-any_first test [] e = e
-any_first test (x ∷ xs) e = ap (λ (b : Bool). b || any_rest test xs) e
+use Rattle.mseed_select.proofs.Fitting.{any_first, fits_one, or_true, other_star, two_stars}
 
 any_more : (test : List ℕ → Bool) (x : ℕ) (xs : List ℕ) → any_rest test xs ≡ true → any_rest test (x ∷ xs) ≡ true
-any_more test x xs e = ap (λ (b : Bool). test (x ∷ xs) || b) e ∙ or_true (test (x ∷ xs))
+any_more test x xs e = rw e (or_true (test (x ∷ xs)))
 
 -- what holds after a later character holds of a rest
 later_one : (c : ℕ) (test : List ℕ → Bool) (xs : List ℕ) → any_rest (λ rest. after_one c test rest) xs ≡ true
     → any_rest test xs ≡ true
-later_one c test [] e = absurd (let f : false ≡ true = e in cc f)
+later_one c test [] e = cc (e)
 later_one c test (x ∷ xs) e =
     elim (or_cases ((eqb c 63 || eqb c x) && test xs) (any_rest (λ rest. after_one c test rest) xs) e) [
       | inl here ↦ any_more test x xs (any_first test xs (and_parts (eqb c 63 || eqb c x) (test xs) here).1)
@@ -27,31 +22,26 @@ later_one c test (x ∷ xs) e =
     ]
 
 absorbs : (a q r : Bool) → a ≡ r → (q ≡ true → r ≡ true) → (a || q) ≡ r
-absorbs true q r e h = e
-absorbs false true r e h = sym (h refl)
-absorbs false false r e h = e
+absorbs a q r e h = grind (arith, e, h)
 
 -- a `*` before a character that is none
 star_on : (c : ℕ) (cs code : List ℕ) → c ≢ 42
     → fits (42 ∷ c ∷ cs) code ≡ any_rest (λ rest. after_one c (λ others. fits cs others) rest) code
-star_on c cs code ne =
-    ap (λ (b : Bool). any_rest (λ rest. cond b (any_rest (λ others. fits cs others) rest)
-    (after_one c (λ others. fits cs others) rest)) code) (other_star c ne)
+star_on c cs code ne = rw (other_star c ne) refl
 
 -- the first place is the best
 first_place : (c x : ℕ) (cs xs : List ℕ) (r : Bool) → c ≢ 42 → (eqb c 63 || eqb c x) ≡ true → fits cs xs ≡ r
     → fits (42 ∷ cs) xs ≡ r → fits (42 ∷ c ∷ cs) (x ∷ xs) ≡ r
 first_place c x cs xs r ne takes here later =
     let rests : Bool = any_rest (λ rest. after_one c (λ others. fits cs others) rest) xs in
-    star_on c cs (x ∷ xs) ne ∙ ap (λ (b : Bool). (b && fits cs xs) || rests) takes
-    ∙ absorbs (fits cs xs) rests r here (λ e. sym later ∙ later_one c (λ others. fits cs others) xs e)
+    star_on c cs (x ∷ xs) ne ∙ rw takes
+    (absorbs (fits cs xs) rests r here (λ e. sym later ∙ later_one c (λ others. fits cs others) xs e))
 
 -- ---- a piece, character by character
 one_on : (field code : List ℕ) → 1 ≤ length field → get_or field 0 0 ≢ 42 → 1 ≤ length code
     → (eqb (get_or field 0 0) 63 || eqb (get_or field 0 0) (get_or code 0 0)) ≡ true
     → fits field code ≡ fits (drop 1 field) (drop 1 code)
-one_on field code h ne some takes = fits_one field code h ne some
-    ∙ ap (λ (b : Bool). b && fits (drop 1 field) (drop 1 code)) takes
+one_on field code h ne some takes = rw takes at (fits_one field code h ne some)
 
 left_on : (after left field code : List ℕ) → 1 ≤ length field → get_or field 0 0 ≢ 42 → 1 ≤ length code
     → (eqb (get_or field 0 0) 63 || eqb (get_or field 0 0) (get_or code 0 0)) ≡ true
@@ -77,8 +67,8 @@ pub piece_star : (field code : List ℕ) → 1 ≤ length field → get_or field
     → IsLeft (drop 1 field) code field code
 piece_star [] code h star = absurd (omega (arith, h))
 piece_star (c ∷ cs) code h star = record {
-  here = ap (λ (x : ℕ). fits (x ∷ cs) code) star;
-  later = ap (λ (x : ℕ). fits (42 ∷ x ∷ cs) code) star ∙ two_stars cs code;
+  here = rw star refl;
+  later = rw star (two_stars cs code);
   shorter = omega arith;
   no_longer = omega arith;
 }

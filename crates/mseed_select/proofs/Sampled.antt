@@ -1,5 +1,5 @@
 -- A sample in the window lies in a record that is asked for.
-use Rattle.std.proofs.Common.{ℕ, suc, zero, ◌*◌, ◌-◌, ◌^◌, ◌<◌, ◌≤◌, sym, subst, arith, Option, Some, None}
+use Rattle.std.proofs.Common.{ℕ, suc, zero, ◌*◌, ◌-◌, ◌^◌, ◌<◌, ◌≤◌, arith, Option, Some, None}
 use Rattle.std.proofs.Common.{ℤ, pos, negsuc, ◌-ℤ◌, ◌*ℤ◌, ◌≤ℤ◌, ◌<ℤ◌}
 use Rattle.std.specs.Option.{IsSome, unwrap_or}
 use Rattle.std.proofs.Common.{◌≡◌, refl}
@@ -44,7 +44,7 @@ within (Some from) until v rate i h =
     let lasts : LastsTo (Some rate) (start_of v) samples from =
     last_on ((from -ℤ start_of v) *ℤ pos rate.num) i samples rate.den h.from_on h.sample in (
       h.known,
-      subst (λ (r : Option Ratio). LastsTo r (start_of v) samples from) (sym h.rated) lasts,
+      rw h.rated lasts,
       begins until v rate i h.before,
     )
 

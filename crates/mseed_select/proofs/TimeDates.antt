@@ -1,9 +1,8 @@
 -- A date is read from its texts, and from no other.
-use Rattle.std.proofs.Common.{◌≡◌, ◌⊎◌, ℕ, ◌+◌, ◌-◌, ◌<◌, ◌≤◌, refl, sym, ap, subst, ◌∙◌, arith, false, eqb}
+use Rattle.std.proofs.Common.{◌≡◌, ◌⊎◌, ℕ, ◌+◌, ◌-◌, ◌<◌, ◌≤◌, refl, sym, ◌∙◌, arith, false, eqb}
 use Rattle.std.proofs.Common.{List, [], ◌∷◌, ◌++◌, Option, Some, None, inl, inr, pos}
 use Rattle.std.specs.List.{join_with_byte, slice_split}
 use Rattle.std.proofs.lemmas.Bool.Decides.{nat_tests}
-use Rattle.std.proofs.lemmas.List.Elements.{All-append, All-cons}
 use Rattle.jiff_core.proofs.CalendarLemmas.{days_in_month_bounds}
 use Rattle.mseed_time.specs.Btime.{days_in_year}
 use Rattle.mseed_time.specs.Calendar.{day_in_year, day_of_month, month_start, months_over, place_in_year, year_of}
@@ -17,7 +16,8 @@ use Rattle.mseed_time.proofs.Ranges.{year_days}
 use Rattle.mseed_select.specs.declared.dates.Date.{Date}
 use Rattle.mseed_select.specs.TimeTexts.{IsDateText}
 use Rattle.mseed_select.specs.Word.{date_by_day, date_by_month, date_by_parts, date_in_year, date_of, number_in}
-use Rattle.mseed_select.proofs.Padded.{Lacks, number_in-is, number_in-padded, number_of-2, number_of-3, number_of-4}
+use Rattle.mseed_select.specs.Word.{number_of}
+use Rattle.mseed_select.proofs.Padded.{Lacks, lacks_both, number_in-is, number_in-padded, number_of-2}
 use Rattle.mseed_select.proofs.Padded.{padded_lack}
 use Rattle.mseed_select.proofs.TimeParts.{joined, three_parts, two_parts}
 
@@ -49,39 +49,26 @@ lack_45 : (n x : ℕ) → Lacks 45 (padded_decimal n x)
 lack_45 n x = padded_lack 45 n x (inr (omega arith))
 
 year_read : (y : ℕ) → 1900 ≤ y → y ≤ 2100 → number_in 4 1900 2100 (padded_decimal 4 y) ≡ Some y
-year_read y low high = number_in-padded 4 1900 2100 y (number_of-4 y (omega arith)) low high
+year_read y low high = number_in-padded 4 1900 2100 y (omega (arith, high)) low high
 
 two_read : (x : ℕ) → x ≤ 99 → number_in 2 0 99 (padded_decimal 2 x) ≡ Some x
 two_read x few = number_in-padded 2 0 99 x (number_of-2 x (omega arith)) (omega arith) few
-
-day_read : (y n : ℕ) → 1900 ≤ y → y ≤ 2100 → 1 ≤ n → n ≤ days_in_year y
-    → date_of (day_text y n) ≡ Some (record { year = y; day = n })
-day_read y n low high first last =
-    ap (λ (ps : List (List ℕ)). date_by_parts ps)
-    (two_parts 45 (padded_decimal 4 y) (padded_decimal 3 n) (lack_45 4 y) (lack_45 3 n))
-    ∙ ap (λ (o : Option ℕ). date_in_year o (padded_decimal 3 n ∷ [])) (year_read y low high)
-    ∙ ap (λ (o : Option ℕ). date_by_day y o)
-    (number_in-padded 3 1 (days_in_year y) n (number_of-3 n (omega (arith, last, year_days y))) first last)
-
-month_read : (y m d n : ℕ) → 1900 ≤ y → y ≤ 2100 → m ≤ 99 → d ≤ 99 → day_in_year y m d ≡ Some n
-    → date_of (month_text y m d) ≡ Some (record { year = y; day = n })
-month_read y m d n low high few short is =
-    ap (λ (ps : List (List ℕ)). date_by_parts ps)
-    (three_parts 45 (padded_decimal 4 y) (padded_decimal 2 m) (padded_decimal 2 d) (lack_45 4 y) (lack_45 2 m)
-    (lack_45 2 d))
-    ∙ ap (λ (o : Option ℕ). date_in_year o (padded_decimal 2 m ∷ padded_decimal 2 d ∷ [])) (year_read y low high)
-    ∙ ap (λ (o : Option ℕ). date_by_month y o (number_in 2 0 99 (padded_decimal 2 d))) (two_read m few)
-    ∙ ap (λ (o : Option ℕ). date_by_month y (Some m) o) (two_read d short)
-    ∙ ap (λ (o : Option ℕ). date_by_day y o) is
 
 pub day_shape_read : (text : List ℕ) (y n : ℕ) → IsDayShape text y n
     → date_of text ≡ Some (record { year = y; day = n })
 day_shape_read text y n is = by is.form
   where
     by : (text ≡ day_text y n) ⊎ IsMonthForm text y n → date_of text ≡ Some (record { year = y; day = n })
-    by (inl e) = ap (λ (t : List ℕ). date_of t) e ∙ day_read y n is.low is.high is.first is.last
-    by (inr f) = ap (λ (t : List ℕ). date_of t) f.text_is
-        ∙ month_read y f.m f.d n is.low is.high f.short_month f.short_day f.day_is
+    by (inl e) =
+        let day : number_of (padded_decimal 3 n) ≡ n = omega (arith, is.last, year_days y) in
+        rw (e, two_parts 45 (padded_decimal 4 y) (padded_decimal 3 n) (lack_45 4 y) (lack_45 3 n))
+        (rw (year_read y is.low is.high, number_in-padded 3 1 (days_in_year y) n day is.first is.last) refl)
+    by (inr f) =
+        let three =
+        three_parts 45 (padded_decimal 4 y) (padded_decimal 2 f.m) (padded_decimal 2 f.d) (lack_45 4 y)
+        (lack_45 2 f.m) (lack_45 2 f.d) in
+        rw f.text_is (rw (three, year_read y is.low is.high, two_read f.m f.short_month, two_read f.d f.short_day) (
+        rw f.day_is refl))
 
 -- ---- known by what was read
 pub record IsDateRead (text : List ℕ) (date : Date) : Type 0 where
@@ -90,72 +77,49 @@ pub record IsDateRead (text : List ℕ) (date : Date) : Type 0 where
   pub shape : IsDayShape text y n
   pub date_is : date ≡ record { year = y; day = n }
 
-record IsOfDay (y : ℕ) (o : Option ℕ) (date : Date) : Type 0 where
-  n : ℕ
-  day : o ≡ Some n
-  date_is : date ≡ record { year = y; day = n }
+read_as : {text : List ℕ} (y n : ℕ) (date : Date) → date ≡ record { year = y; day = n } → 1900 ≤ y → y ≤ 2100 → 1 ≤ n
+    → n ≤ days_in_year y → (text ≡ day_text y n) ⊎ IsMonthForm text y n → IsDateRead text date
+read_as y n date is low high first last form = record {
+  y = y;
+  n = n;
+  shape = record { low = low; high = high; first = first; last = last; form = form };
+  date_is = is;
+}
 
-by_day_is : (y : ℕ) (o : Option ℕ) (date : Date) → date_by_day y o ≡ Some date → IsOfDay y o date
-by_day_is y (Some n) date e = record { n = n; day = refl; date_is = sym (cc e) }
+by_day_is : (y : ℕ) (o : Option ℕ) (date : Date) → date_by_day y o ≡ Some date
+    → (n : ℕ) × (o ≡ Some n) × (date ≡ record { year = y; day = n })
+by_day_is y (Some n) date e = (n, refl, sym (cc e))
 by_day_is y None date e = absurd (let f : None ≡ Some date = e in cc f)
 
-record IsOfMonth (y : ℕ) (om od : Option ℕ) (date : Date) : Type 0 where
-  m : ℕ
-  d : ℕ
-  month : om ≡ Some m
-  day : od ≡ Some d
-  of_day : IsOfDay y (day_in_year y m d) date
-
-by_month_is : (y : ℕ) (om od : Option ℕ) (date : Date) → date_by_month y om od ≡ Some date → IsOfMonth y om od date
-by_month_is y (Some m) (Some d) date e =
-    record { m = m; d = d; month = refl; day = refl; of_day = by_day_is y (day_in_year y m d) date e }
-by_month_is y (Some m) None date e = absurd (let f : None ≡ Some date = e in cc f)
-by_month_is y None od date e = absurd (let f : None ≡ Some date = e in cc f)
+by_month_is : (y : ℕ) (om od : Option ℕ) (date : Date) → date_by_month y om od ≡ Some date
+    → (m : ℕ) × (d : ℕ) × (om ≡ Some m) × (od ≡ Some d) × (date_by_day y (day_in_year y m d) ≡ Some date)
+by_month_is y (Some m) (Some d) date e = (m, d, refl, refl, e)
+by_month_is y om od date e = cc (e)
 
 in_year_is : (year : List ℕ) (oy : Option ℕ) (parts : List (List ℕ)) (date : Date) → number_in 4 1900 2100 year ≡ oy
     → date_in_year oy parts ≡ Some date → IsDateRead (join_with_byte 45 (year ∷ parts)) date
-in_year_is year None parts date year_in e = absurd (let f : None ≡ Some date = e in cc f)
-in_year_is year (Some y) [] date year_in e = absurd (let f : None ≡ Some date = e in cc f)
 in_year_is year (Some y) (day ∷ []) date year_in e =
     let first = number_in-is 4 1900 2100 year y year_in in
     let is = by_day_is y (number_in 3 1 (days_in_year y) day) date e in
-    let n = number_in-is 3 1 (days_in_year y) day is.n is.day in record {
-      y = y;
-      n = is.n;
-      shape = record {
-        low = first.least;
-        high = first.most;
-        first = n.least;
-        last = n.most;
-        form = inl (λ i. first.text_is i ++ 45 ∷ n.text_is i);
-      };
-      date_is = is.date_is;
-    }
+    let n = number_in-is 3 1 (days_in_year y) day is.0 is.1 in
+    read_as y is.0 date is.2 first.least first.most n.least n.most (inl (λ i. first.text_is i ++ 45 ∷ n.text_is i))
 in_year_is year (Some y) (month ∷ day ∷ []) date year_in e =
     let first = number_in-is 4 1900 2100 year y year_in in
     let is = by_month_is y (number_in 2 0 99 month) (number_in 2 0 99 day) date e in
-    let m = number_in-is 2 0 99 month is.m is.month in
-    let d = number_in-is 2 0 99 day is.d is.day in
-    let in_month = day_in_year-is y is.m is.d is.of_day.n is.of_day.day in record {
-      y = y;
-      n = is.of_day.n;
-      shape = record {
-        low = first.least;
-        high = first.most;
-        first = omega (arith, in_month.first, in_month.is);
-        last = day_within y is.m is.d is.of_day.n in_month;
-        form = inr (record {
-          m = is.m;
-          d = is.d;
-          text_is = λ i. first.text_is i ++ 45 ∷ (m.text_is i ++ 45 ∷ d.text_is i);
-          short_month = m.most;
-          short_day = d.most;
-          day_is = is.of_day.day;
-        });
-      };
-      date_is = is.of_day.date_is;
-    }
-in_year_is year (Some y) (a ∷ b ∷ c ∷ more) date year_in e = absurd (let f : None ≡ Some date = e in cc f)
+    let of_day = by_day_is y (day_in_year y is.0 is.1) date is.4 in
+    let m = number_in-is 2 0 99 month is.0 is.2 in
+    let d = number_in-is 2 0 99 day is.1 is.3 in
+    let in_month = day_in_year-is y is.0 is.1 of_day.0 of_day.1 in
+    read_as y of_day.0 date of_day.2 first.least first.most (omega (arith, in_month.first, in_month.is))
+    (day_within y is.0 is.1 of_day.0 in_month) (inr (record {
+      m = is.0;
+      d = is.1;
+      text_is = λ i. first.text_is i ++ 45 ∷ (m.text_is i ++ 45 ∷ d.text_is i);
+      short_month = m.most;
+      short_day = d.most;
+      day_is = of_day.1;
+    }))
+in_year_is year oy parts date year_in e = cc (e)
 
 parts_is : (parts : List (List ℕ)) (date : Date) → date_by_parts parts ≡ Some date
     → IsDateRead (join_with_byte 45 parts) date
@@ -165,7 +129,7 @@ parts_is (year ∷ parts) date e = in_year_is year (number_in 4 1900 2100 year) 
 pub date_read : (text : List ℕ) (date : Date) → date_of text ≡ Some date → IsDateRead text date
 date_read text date e =
     let parts : List (List ℕ) = slice_split (λ (x : ℕ). eqb x 45) text in
-    subst (λ (t : List ℕ). IsDateRead t date) (sym (joined 45 text parts refl)) (parts_is parts date e)
+    rw (joined 45 text parts refl) (parts_is parts date e)
 
 -- ---- the texts of a day
 year_ends : (y n : ℕ) → 1900 ≤ y → y ≤ 2100 → n ≤ days_in_year y → 1 ≤ n
@@ -184,16 +148,10 @@ shape_day text y n is =
 
     by_place : (year_of (year_start y + n - 1) ≡ y) × (place_in_year (year_start y + n - 1) + 1 ≡ n)
     by_place =
-        let same : year_start y + (n - 1) ≡ year_start y + n - 1 = omega (arith, is.first) in
-        let both = day_of_place y (n - 1) (omega (arith, is.low)) (omega (arith, is.high)) (omega (
-          arith,
-          is.last,
-          is.first,
-        )) in (
-          ap (λ (x : ℕ). year_of x) (sym same) ∙ both.0,
-          ap (λ (x : ℕ). place_in_year x + 1) (sym same) ∙ ap (λ (x : ℕ). x + 1) both.1
-              ∙ (let e : n - 1 + 1 ≡ n = omega (arith, is.first) in e),
-        )
+        let same : year_start y + n - 1 ≡ year_start y + (n - 1) = omega (arith, is.first) in
+        let few : n - 1 < days_in_year y = omega (arith, is.last, is.first) in
+        let both = day_of_place y (n - 1) (omega (arith, is.low)) (omega (arith, is.high)) few in
+        rw same (both.0, omega (arith, both.1, is.first))
 
     by : (text ≡ day_text y n) ⊎ IsMonthForm text y n
         → (text ≡ date_text (year_start y + n - 1)) ⊎ (text ≡ ordinal_text (year_start y + n - 1))
@@ -218,7 +176,8 @@ pub record IsOfShape (text : List ℕ) (day : ℕ) : Type 0 where
 pub day_shape : (text : List ℕ) (day : ℕ) → IsDateText text day → IsOfShape text day
 day_shape text day is =
     let here = day_in_its_year day (omega (arith, is.to_2100)) in
-    let range = year_range (year_of day) day here.low here.high here.begins here.within is.from_1900 is.to_2100 in
+    let range =
+    year_range (year_of day) day here.low here.high here.begins here.within is.from_1900 is.to_2100 in
     record {
       y = year_of day;
       n = place_in_year day + 1;
@@ -244,17 +203,14 @@ day_shape text day is =
         let here = day_at (year_of day) (place_in_year day) within in
         let in_month = day_in_year-is (year_of day) (months_over day + 1) (day_of_month day)
         (place_in_year day + 1) here in
+        let days = days_in_month-jiff (year_of day) (months_over day + 1) in_month.low in_month.high in
+        let bounds = days_in_month_bounds (pos (year_of day)) (months_over day + 1) in
         inr (record {
           m = months_over day + 1;
           d = day_of_month day;
           text_is = e;
           short_month = omega (arith, few);
-          short_day = omega (
-            arith,
-            in_month.last,
-            days_in_month-jiff (year_of day) (months_over day + 1) in_month.low in_month.high,
-            days_in_month_bounds (pos (year_of day)) (months_over day + 1),
-          );
+          short_day = omega (arith, in_month.last, days, bounds);
           day_is = here;
         })
 
@@ -262,15 +218,12 @@ day_shape text day is =
 digits_and : (c n x : ℕ) (rest : List ℕ) → 57 < c → Lacks c rest → Lacks c (padded_decimal n x ++ 45 ∷ rest)
 digits_and c n x rest over none =
     let other : eqb 45 c ≡ false = grind (arith, nat_tests, over) in
-    All-append (λ (k : ℕ). eqb k c ≡ false) (padded_decimal n x) (45 ∷ rest) (padded_lack c n x (inl over))
-    (All-cons (λ (k : ℕ). eqb k c ≡ false) 45 rest other none)
+    lacks_both c (padded_decimal n x) 45 rest (padded_lack c n x (inl over)) other none
 
 pub date_lacks : (c : ℕ) (text : List ℕ) (y n : ℕ) → 57 < c → IsDayShape text y n → Lacks c text
 date_lacks c text y n over is = by is.form
   where
     by : (text ≡ day_text y n) ⊎ IsMonthForm text y n → Lacks c text
-    by (inl e) = subst (λ (t : List ℕ). Lacks c t) (sym e) (digits_and c 4 y (padded_decimal 3 n) over
-        (padded_lack c 3 n (inl over)))
-    by (inr f) = subst (λ (t : List ℕ). Lacks c t) (sym f.text_is)
-        (digits_and c 4 y (padded_decimal 2 f.m ++ 45 ∷ padded_decimal 2 f.d) over
+    by (inl e) = rw e (digits_and c 4 y (padded_decimal 3 n) over (padded_lack c 3 n (inl over)))
+    by (inr f) = rw f.text_is (digits_and c 4 y (padded_decimal 2 f.m ++ 45 ∷ padded_decimal 2 f.d) over
         (digits_and c 2 f.m (padded_decimal 2 f.d) over (padded_lack c 2 f.d (inl over))))

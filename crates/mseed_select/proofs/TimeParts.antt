@@ -1,5 +1,5 @@
 -- The parts of a text, put together and taken apart.
-use Rattle.std.proofs.Common.{◌≡◌, ℕ, zero, suc, ◌+◌, ◌≤◌, refl, sym, ap, ◌∙◌, arith, Bool, false, eqb, List, [], ◌∷◌}
+use Rattle.std.proofs.Common.{◌≡◌, ℕ, zero, suc, ◌≤◌, refl, sym, ap, ◌∙◌, arith, false, eqb, List, [], ◌∷◌}
 use Rattle.std.proofs.Common.{◌++◌, length, get_or, inl, inr}
 use Rattle.std.proofs.lemmas.List.{append-nil, length-append}
 use Rattle.std.proofs.lemmas.Bool.Decides.{leb_tells}
@@ -8,16 +8,13 @@ use Rattle.std.proofs.lemmas.List.Splits.{join_with_byte-slice_split, slice_spli
 use Rattle.std.proofs.lemmas.Bool.Decides.{nat_tests}
 use Rattle.mseed_select.proofs.Padded.{Lacks}
 
-itself : (c : ℕ) → eqb c c ≡ Rattle.std.proofs.Common.true
-itself c = grind (arith, nat_tests)
-
 -- ---- put together
 pub one_part : (c : ℕ) (a : List ℕ) → Lacks c a → slice_split (λ (x : ℕ). eqb x c) a ≡ a ∷ []
 one_part c a none = slice_split_none (λ (x : ℕ). eqb x c) a none
 
 pub next_part : (c : ℕ) (a b : List ℕ) → Lacks c a
     → slice_split (λ (x : ℕ). eqb x c) (a ++ c ∷ b) ≡ a ∷ slice_split (λ (x : ℕ). eqb x c) b
-next_part c a b none = slice_split_at (λ (x : ℕ). eqb x c) a c b none (itself c)
+next_part c a b none = slice_split_at (λ (x : ℕ). eqb x c) a c b none (grind (arith, nat_tests))
 
 pub two_parts : (c : ℕ) (a b : List ℕ) → Lacks c a → Lacks c b
     → slice_split (λ (x : ℕ). eqb x c) (a ++ c ∷ b) ≡ a ∷ b ∷ []

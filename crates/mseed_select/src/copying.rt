@@ -161,6 +161,7 @@ fn push_next<A: Allocator, C: Choice, F: Format<A>, R: Source, W: Sink>(
 /// # Errors
 ///
 /// `Memory` where memory was refused.
+#[tactic(auto, using(mseed_stream::proofs::Calls::reads_next))]
 fn ask_next<A: Allocator, C: Choice, F: Format<A>, R: Source>(
     cutter: &mut Cutter<A>,
     choice: &C,

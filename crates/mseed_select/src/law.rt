@@ -21,21 +21,25 @@ pub fn patterns_exactly()
 {}
 
 /// The test of a pattern's field is exact.
+#[tactic(auto, using(crate::proofs::Fitting::fits_yes, crate::proofs::Fitting::fits_back))]
 pub fn fits_exactly()
     ensures { (field code : List ℕ) → IsTrue (fits field code) ↔ Fits field code }
 {}
 
 /// The test of a record is exact.
+#[tactic(auto, using(crate::proofs::Asking::asks_for_yes, crate::proofs::Asking::asks_for_back))]
 pub fn asked_for_exactly()
     ensures { (s : Selection) (v : View) → IsTrue (asks_for s v) ↔ IsAskedFor s v }
 {}
 
 /// The test of whether a record of a channel that is asked for lacks a time is exact: for what any choice asks for.
+#[tactic(auto, using(crate::proofs::Asking::lacks_time_yes, crate::proofs::Asking::lacks_time_back))]
 pub fn lacks_time_exactly()
     ensures { (s : Selection) (v : View) → (IsTrue (lacks_time s v) ↔ LacksTime s v) }
 {}
 
 /// The records that are asked for and the others, merged by offset, are all the records.
+#[tactic(auto, using(crate::proofs::Halving::halves))]
 pub fn two_halves()
     ensures { (s : Selection) (offset : ℕ) (views : List View) → AllByRecursion IsView views
         → AreMerged (placed_from offset views) (asked_of s (placed_from offset views))
@@ -44,6 +48,7 @@ pub fn two_halves()
 
 /// Each sample in the window, of a record of a channel that is asked for whose start and rate are known, lies in a
 /// record that is asked for.
+#[tactic(auto, using(crate::proofs::Sampled::sampled))]
 pub fn samples_in_window()
     ensures { (s : Selection) (v : View) (rate : Ratio) (i : ℕ) → IsOfChannels s.channels (key_at v.bytes)
         → HasSampleIn s.from s.until v rate i → IsAskedFor s v }

@@ -9,12 +9,5 @@ returns-in-Some c =
     let three = rw c.in_ok-rest-3.was at c.first_part-3.ensures in
     let four = rw c.in-Some.is at c.first_part-4.ensures in
     let count = λ (xs : List (List ℕ)). length xs in
-    λ few. absurd (omega (
-      arith,
-      few,
-      ap count one,
-      ap count two,
-      ap count three,
-      ap count four,
-      length-slice_split (λ (x : ℕ). eqb x 95) c.in-Some.field-0.now,
-    ))
+    let last = length-slice_split (λ (x : ℕ). eqb x 95) c.in-Some.field-0.now in
+    λ few. absurd (omega (arith, few, ap count one, ap count two, ap count three, ap count four, last))

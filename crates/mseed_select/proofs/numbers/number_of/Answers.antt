@@ -7,11 +7,9 @@ overflow_mul-number c =
     omega (arith, small c.loop-digit.number c.loop-digit.digit-index c.loop-digit.invariant.1 (omega arith))
 
 pub overflow_add-number : goal.overflow_add-number
-overflow_add-number c = omega (
-  arith,
-  small c.loop-digit.number c.loop-digit.digit-index c.loop-digit.invariant.1 (omega arith),
-  digit_at c.args.digits.now c.loop-digit.digit-index c.requires.digits c.loop-digit-test.true,
-)
+overflow_add-number c =
+    let few = small c.loop-digit.number c.loop-digit.digit-index c.loop-digit.invariant.1 (omega arith) in
+    omega (arith, few, digit_at c.args.digits.now c.loop-digit.digit-index c.requires.digits c.loop-digit-test.true)
 
 pub loop-digit-preserved : goal.loop-digit-preserved
 loop-digit-preserved c =

@@ -8,10 +8,5 @@ returns-in-Some-rest-2 c =
     let two = rw c.in-Some-rest.is at c.first_part-2.ensures in
     let three = rw c.in-Some-rest-2.is at c.first_part-3.ensures in
     let count = λ (xs : List (List ℕ)). length xs in
-    omega (
-      arith,
-      ap count one,
-      ap count two,
-      ap count three,
-      length-slice_split (λ (x : ℕ). eqb x c.args.separator) c.in-Some-rest-2.field-0.now,
-    )
+    let last = length-slice_split (λ (x : ℕ). eqb x c.args.separator) c.in-Some-rest-2.field-0.now in
+    omega (arith, ap count one, ap count two, ap count three, last)
