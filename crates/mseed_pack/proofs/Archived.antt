@@ -1,58 +1,43 @@
 -- Among the records of several packed series each channel's are its series' own.
-use Rattle.std.proofs.Common.{◌≡◌, ◌≢◌, ℕ, ◌+◌, nat_lt, Bool, true, false, cond, List, [], ◌∷◌, ◌++◌, length, IsTrue}
-use Rattle.std.proofs.Common.{refl, sym, ap, subst, ◌∙◌, append_assoc, append-nil}
+use Rattle.std.proofs.Common.{◌≡◌, ◌≢◌, ℕ, ◌+◌, nat_lt, true, List, [], ◌∷◌, ◌++◌, length, IsTrue}
+use Rattle.std.proofs.Common.{refl, sym, ap, ◌∙◌, append_assoc, append-nil}
 use Rattle.std.specs.List.{AllByRecursion, filter}
 use Rattle.std.specs.Ordering.{nat_cmp, is_eq}
 use Rattle.std.specs.Cmp.Lexicographic.{slice_cmp}
 use Rattle.std.specs.declared.cmp.Ordering.{Ordering}
 use Rattle.std.specs.declared.cmp.Ordering.TheVariants.{Less, Equal, Greater}
-use Rattle.std.proofs.lemmas.Bool.{false≢true, and_parts}
+use Rattle.std.proofs.Common.{inl, inr}
+use Rattle.std.proofs.lemmas.Bool.{and_parts, cases_Bool}
 use Rattle.std.proofs.lemmas.List.Elements.{filter-append}
 use Rattle.std.proofs.lemmas.Map.Lookups.{exact_bytes}
 use Rattle.mseed_record.specs.Header.{key_at}
 use Rattle.mseed_record.specs.View.{View, IsView}
 use Rattle.mseed_steim.specs.Reading.{count_of}
-use Rattle.mseed_audit.specs.Channels.{Placed, added_from, is_of_channel, numbered, same_key, views_in}
+use Rattle.mseed_audit.specs.Channels.{Placed, added_from, is_of_channel, numbered, views_in}
 use Rattle.mseed_pack.specs.ReadBack.{AreApart, AreViewsOf, Packed, ReadsAs, StandsIn, records_of_all}
 use Rattle.mseed_pack.proofs.Followed.{bytes_in}
 
-equal_from : (o : Ordering) → is_eq o ≡ true → o ≡ Equal
-equal_from Less e = absurd (false≢true e)
-equal_from Equal e = refl
-equal_from Greater e = absurd (false≢true e)
-
-same_is : (key other : List ℕ) → same_key key other ≡ true → key ≡ other
-same_is key other e = exact_bytes key other (equal_from (slice_cmp nat_cmp key other) e)
-
 -- a record is of one channel at most
 pub key_of : (key : List ℕ) (v : View) → is_of_channel key v ≡ true → key ≡ key_at v.bytes
-key_of key v e = same_is key (key_at v.bytes) (and_parts (nat_lt 0 (count_of v)) (same_key key (key_at v.bytes)) e).1
-
-not_of : (key other : List ℕ) (v : View) → key ≢ other → is_of_channel key v ≡ true → is_of_channel other v ≡ false
-not_of key other v apart e = by (is_of_channel other v) refl
+key_of key v e = exact_bytes key (key_at v.bytes)
+    (equal_from (slice_cmp nat_cmp key (key_at v.bytes)) (and_parts (nat_lt 0 (count_of v)) _ e).1)
   where
-    by : (b : Bool) → is_of_channel other v ≡ b → is_of_channel other v ≡ false
-    by true f = absurd (apart (key_of key v e ∙ sym (key_of other v f)))
-    by false f = f
+    equal_from : (o : Ordering) → is_eq o ≡ true → o ≡ Equal
+    equal_from Less f = cc
+    equal_from Equal f = refl
+    equal_from Greater f = cc
 
 -- the channel's records by their views
 pub views_filtered : (key : List ℕ) (n offset : ℕ) (vs : List View)
     → views_in (filter (λ (p : Placed). is_of_channel key p.view) (numbered n (added_from offset vs))) ≡ filter
     (is_of_channel key) vs
 views_filtered key n offset [] = refl
-views_filtered key n offset (v ∷ vs) = by (is_of_channel key v) (views_filtered key (n + 1) (offset + length v.bytes)
-    vs)
-  where
-    by : (b : Bool) → views_in
-        (filter (λ (p : Placed). is_of_channel key p.view) (numbered (n + 1) (added_from (offset + length v.bytes) vs)))
-        ≡ filter (is_of_channel key) vs
-        → views_in (cond b (record { view = v; offset = offset; number = n } ∷ filter
-        (λ (p : Placed). is_of_channel key p.view) (numbered (n + 1) (added_from (offset + length v.bytes) vs)))
-        (filter (λ (p : Placed). is_of_channel key p.view) (numbered (n + 1) (added_from (offset + length v.bytes)
-        vs))))
-        ≡ cond b (v ∷ filter (is_of_channel key) vs) (filter (is_of_channel key) vs)
-    by true rest = ap (λ (us : List View). v ∷ us) rest
-    by false rest = rest
+views_filtered key n offset (v ∷ vs) =
+    let rest = views_filtered key (n + 1) (offset + length v.bytes) vs in
+    elim (cases_Bool (is_of_channel key v)) [
+      | inl is ↦ rw is (ap (λ (us : List View). v ∷ us) rest)
+      | inr other ↦ rw other rest
+    ]
 
 pub all_kept : (key : List ℕ) (vs : List View) → AllByRecursion (λ (v : View). IsTrue (is_of_channel key v)) vs
     → filter (is_of_channel key) vs ≡ vs
@@ -63,8 +48,10 @@ all_kept key (v ∷ vs) h = let here : is_of_channel key v ≡ true = h.0 in
 none_kept : (key other : List ℕ) (vs : List View) → key ≢ other
     → AllByRecursion (λ (v : View). IsTrue (is_of_channel key v)) vs → filter (is_of_channel other) vs ≡ []
 none_kept key other [] apart h = refl
-none_kept key other (v ∷ vs) apart h = let here : is_of_channel other v ≡ false = not_of key other v apart h.0 in
-    rw here (none_kept key other vs apart h.1)
+none_kept key other (v ∷ vs) apart h = elim (cases_Bool (is_of_channel other v)) [
+  | inl is ↦ absurd (apart (key_of key v h.0 ∙ sym (key_of other v is)))
+  | inr not ↦ rw not (none_kept key other vs apart h.1)
+]
 
 -- views are cut where their records are
 pub record Halves (xs ys : List (List ℕ)) (vs : List View) : Type 0 where
@@ -100,8 +87,7 @@ halves (x ∷ xs) ys (v ∷ vs) e h =
 of_channel : (p : Packed) (vs : List View) → ReadsAs p.series p.records → AreViewsOf p.records vs
     → AllByRecursion (λ (v : View). IsTrue (is_of_channel p.series.codes v)) vs
 of_channel p vs reads are =
-    subst (λ (us : List View). AllByRecursion (λ (v : View). IsTrue (is_of_channel p.series.codes v)) us)
-    (sym (reads.only vs are)) reads.channel
+    rw (reads.only vs are) reads.channel
 
 -- none of those of others is of another channel
 pub others_gone : (key : List ℕ) (packed : List Packed) (vs : List View)
@@ -114,9 +100,7 @@ others_gone key (p ∷ ps) vs reads apart are =
     let cut = halves p.records (records_of_all ps) vs are.bytes are.each in
     let first = none_kept p.series.codes key cut.prefix apart.0 (of_channel p cut.prefix reads.0 cut.first) in
     let second = others_gone key ps cut.back reads.1 apart.1 cut.second in
-    ap (λ (us : List View). filter (is_of_channel key) us) cut.parts ∙ filter-append (is_of_channel key)
-    cut.prefix cut.back
-    ∙ (λ i. first i ++ second i)
+    rw (cut.parts, filter-append, first, second)
 
 -- where nothing before it is of these channels
 abbrev Gone : List View → List Packed → Type 0
@@ -128,10 +112,7 @@ gone_more : (key : List ℕ) (prefix more : List View) (packed : List Packed) �
 gone_more key prefix more [] gone of_key apart = tt
 gone_more key prefix more (q ∷ qs) gone of_key apart =
     let second = none_kept key q.series.codes more (λ e. apart.0 (sym e)) of_key in
-    let first = gone.0 in (
-      filter-append (is_of_channel q.series.codes) prefix more ∙ (λ i. first i ++ second i),
-      gone_more key prefix more qs gone.1 of_key apart.1,
-    )
+    (rw (filter-append, gone.0, second), gone_more key prefix more qs gone.1 of_key apart.1)
 
 stand : (prefix : List View) (packed : List Packed) (vs : List View) → Gone prefix packed
     → AllByRecursion (λ (p : Packed). ReadsAs p.series p.records) packed → AreApart packed
@@ -145,38 +126,27 @@ stand prefix (p ∷ ps) vs gone reads apart are =
     let of_key = of_channel p cut.prefix reads.0 cut.first in
     let kept = all_kept key cut.prefix of_key in
     let others = others_gone key ps cut.back reads.1 apart.0 cut.second in
-    let first = gone.0 in
     let own : filter (is_of_channel key) (prefix ++ vs) ≡ cut.prefix =
-    filter-append (is_of_channel key) prefix vs ∙ ap (λ (us : List View). filter (is_of_channel key) prefix ++ filter
-    (is_of_channel key) us)
-    cut.parts
-    ∙ ap (λ (us : List View). filter (is_of_channel key) prefix ++ us) (filter-append (is_of_channel key)
-    cut.prefix cut.back)
-    ∙ (λ i. first i ++ (kept i ++ others i)) ∙ append-nil cut.prefix in
+    ap (λ (us : List View). filter (is_of_channel key) (prefix ++ us)) cut.parts
+    ∙ rw (filter-append, filter-append, gone.0, kept, others, append-nil) in
     let rest = stand (prefix ++ cut.prefix) ps cut.back (gone_more key prefix cut.prefix ps gone.1 of_key apart.0)
     reads.1 apart.1 cut.second in
     let whole : (prefix ++ cut.prefix) ++ cut.back ≡ prefix ++ vs = append_assoc prefix cut.prefix cut.back
-    ∙ ap (λ (us : List View). prefix ++ us) (sym cut.parts) in (
-      subst (λ (us : List View). AreViewsOf p.records us) (sym own) cut.first,
-      subst (λ (us : List View). AllByRecursion
-          (λ (q : Packed). AreViewsOf q.records (filter (is_of_channel q.series.codes) us)) ps) whole rest,
-    )
-
-nothing_in_prefix : (packed : List Packed) → Gone [] packed
-nothing_in_prefix [] = tt
-nothing_in_prefix (p ∷ ps) = (refl, nothing_in_prefix ps)
-
-placed : (packed : List Packed) (vs : List View)
-    → AllByRecursion (λ (p : Packed). AreViewsOf p.records (filter (is_of_channel p.series.codes) vs)) packed
-    → AllByRecursion (StandsIn vs) packed
-placed [] vs h = tt
-placed (p ∷ ps) vs h = (
-  subst (λ (us : List View). AreViewsOf p.records us)
-      (sym (views_filtered p.series.codes 1 0 vs)) h.0,
-  placed ps vs h.1,
-)
+    ∙ ap (λ (us : List View). prefix ++ us) (sym cut.parts) in
+    (rw own cut.first, rw whole at rest)
 
 pub archived : (packed : List Packed) (vs : List View)
     → AllByRecursion (λ (p : Packed). ReadsAs p.series p.records) packed → AreApart packed
     → AreViewsOf (records_of_all packed) vs → AllByRecursion (StandsIn vs) packed
-archived packed vs reads apart are = placed packed vs (stand [] packed vs (nothing_in_prefix packed) reads apart are)
+archived packed vs reads apart are =
+    placed packed (stand [] packed vs (nothing_in_prefix packed) reads apart are)
+  where
+    nothing_in_prefix : (ps : List Packed) → Gone [] ps
+    nothing_in_prefix [] = tt
+    nothing_in_prefix (p ∷ ps) = (refl, nothing_in_prefix ps)
+
+    placed : (ps : List Packed)
+        → AllByRecursion (λ (p : Packed). AreViewsOf p.records (filter (is_of_channel p.series.codes) vs)) ps
+        → AllByRecursion (StandsIn vs) ps
+    placed [] h = tt
+    placed (p ∷ ps) h = (rw (views_filtered p.series.codes 1 0 vs) h.0, placed ps h.1)

@@ -1,12 +1,11 @@
 -- Before the first sample of a series is packed.
-use Rattle.std.proofs.Common.{◌≡◌, ℕ, ◌<◌, ◌^◌, ℤ, pos, List, length, get_or, arith, refl, sym, subst, All}
+use Rattle.std.proofs.Common.{◌≡◌, ℕ, ◌<◌, ◌^◌, ℤ, pos, List, length, get_or, arith, refl, sym, All}
 use Rattle.std.proofs.Common.{Bor, FitsSigned, w32, to_z, of_z}
 use Rattle.std.proofs.lemmas.Int.{to_z-of_z}
 use Rattle.mseed_steim.specs.declared.scheme.Scheme.{Scheme}
 use Rattle.mseed_steim.specs.declared.scheme.Scheme.TheVariants.{One, Two}
 use Rattle.mseed_steim.specs.Spelling.{IsWithin}
 use Rattle.mseed_steim_pack.specs.Lookahead.{IsLookahead}
-use Rattle.mseed_audit.specs.Series.{Trace}
 use Rattle.mseed_pack.specs.declared.batch.Job.{Job}
 use Rattle.mseed_pack.specs.declared.frames.Frames.{Frames}
 use Rattle.mseed_pack.specs.declared.listed.Listed.{Listed}
@@ -20,58 +19,52 @@ use Rattle.mseed_pack.specs.Stretches.{differences}
 use Rattle.mseed_pack.specs.Supplies.{SuppliesFitting}
 use Rattle.mseed_pack.specs.Traces.{headed, trace_of}
 use Rattle.mseed_pack.specs.private.Filling.{AreBegun, GoOnAt, GoesOn, GoesOnIn, IsListed, StandsInList, width_of}
-use Rattle.mseed_pack.specs.private.Spans.{CanBegin}
+use Rattle.mseed_pack.specs.declared.batch.Place.{Place}
+use Rattle.mseed_pack.specs.private.Spans.{CanBegin, CanGoOn, StandsAt}
 use Rattle.mseed_pack.proofs.Filled.{scheme_fits}
 
 -- as it is passed, in 32 bits
 pub begun_by : (f : Frames) (first : ℤ) → FitsSigned w32 first → AreBegun f (to_z w32 (of_z w32 first))
     → AreBegun f first
-begun_by f first fits begins = subst (λ (z : ℤ). AreBegun f z) (to_z-of_z w32 first fits) begins
+begun_by f first fits begins = rw (to_z-of_z w32 first fits) at begins
 
 begun : {S : Type 0} (supplies : S → List ℤ → ℕ → Type 0) (f : Frames) (supply : S) (scheme : Scheme) (xs : List ℤ)
     → supplies supply xs 0 → length xs < 2 ^ 64 → AreBegun f (get_or xs 0 (pos 0)) → All (IsWithin 32) xs
     → All (IsWithin (width_of scheme)) (differences xs) → GoesOn supplies f supply scheme xs 0
 begun supplies f supply scheme xs supplied few begins fit differences_fit =
-    let low = begins.low in
-    let high = begins.high in
     record {
       draws = record {
         held = begins.held xs refl;
-        supplied = subst (λ (n : ℕ). supplies supply xs n) (sym high) supplied;
-        low = omega (arith, low);
-        high = omega (arith, high);
+        supplied = rw begins.high supplied;
+        low = omega (arith, begins.low);
+        high = omega (arith, begins.high);
       };
       before = begins.before;
-      ahead = record {
-        fit = fit;
-        differences_fit = differences_fit;
-        known = begins.known scheme (differences xs);
-      };
+      ahead = record { fit = fit; differences_fit = differences_fit; known = begins.known scheme (differences xs) };
       few = few;
     }
 
 pub frames_begun : {S : Type 0} (supplies : S → List ℤ → ℕ → Type 0) (f : Frames) (supply : S) (e : Encoding)
     (xs : List ℤ) → IsSteim e → supplies supply xs 0 → length xs < 2 ^ 64 → AreBegun f (get_or xs 0 (pos 0))
     → All (IsSampleOf e) xs → All (IsDifferenceOf e) (differences xs) → GoesOnIn supplies f supply e xs 0
-frames_begun supplies f supply Int16 xs steim supplied few begins fit differences_fit = absurd steim
-frames_begun supplies f supply Int32 xs steim supplied few begins fit differences_fit = absurd steim
-frames_begun supplies f supply Steim1 xs steim supplied few begins fit differences_fit =
-    begun supplies f supply One xs supplied few begins fit differences_fit
-frames_begun supplies f supply Steim2 xs steim supplied few begins fit differences_fit =
-    begun supplies f supply Two xs supplied few begins fit differences_fit
-
-listed : (list : Listed) (xs : List ℤ) → list.samples.now ≡ xs → list.given ≡ 0 → All (IsWithin 32) (differences xs)
-    → IsListed list xs 0
-listed list xs same none fits = record { samples_are = same; given_is = none; inside = omega arith; fits = fits }
+frames_begun supplies f supply Int16 xs steim = absurd steim
+frames_begun supplies f supply Int32 xs steim = absurd steim
+frames_begun supplies f supply Steim1 xs steim = begun supplies f supply One xs
+frames_begun supplies f supply Steim2 xs steim = begun supplies f supply Two xs
 
 -- a list supplies samples whose differences an encoding holds
 pub list_supplies : (list : Listed) (e : Encoding) (xs : List ℤ) → IsSteim e → list.samples.now ≡ xs → list.given ≡ 0
     → All (IsDifferenceOf e) (differences xs) → IsListed list xs 0
 list_supplies list Int16 xs steim same none fits = absurd steim
 list_supplies list Int32 xs steim same none fits = absurd steim
-list_supplies list Steim1 xs steim same none fits = listed list xs same none fits
-list_supplies list Steim2 xs steim same none fits =
-    listed list xs same none (scheme_fits Two (differences xs) fits)
+list_supplies list Steim1 xs steim same none fits =
+    record { samples_are = same; given_is = none; inside = omega arith; fits = fits }
+list_supplies list Steim2 xs steim same none fits = record {
+  samples_are = same;
+  given_is = none;
+  inside = omega arith;
+  fits = scheme_fits Two (differences xs) fits;
+}
 
 -- whatever comes, payloads go on at its first sample
 pub list_begun : (p : Payloads) (e : Encoding) (xs : List ℤ)
@@ -84,6 +77,14 @@ list_begun p Steim1 xs new fit differences_fit =
 list_begun p Steim2 xs new fit differences_fit =
     record { fit = fit; differences_fit = differences_fit; known = new Two (differences xs) }
 
+-- one that was begun goes on
+pub go_on : {F S : Type 0} {stands : F → S → Encoding → List ℤ → ℕ → Type 0} {job : Job} {filler : F} {supply : S}
+    {place : Place} {xs : List ℤ} → length xs ≡ job.head.now.count → Fits (headed job.head.now xs) job.options.now
+    → StandsAt job.head.now.steps.now job.head.now.count place → place.first < job.head.now.count
+    → stands filler supply job.options.now.encoding xs place.first → CanGoOn stands job filler supply place xs
+go_on count fits standing more there =
+    record { count = count; fits = fits; standing = standing; more = more; stands_there = there }
+
 -- a series where it lies
 pub series_begins : (p : Payloads) (list : Bor (List ℤ)) (job : Job) (view : SeriesView)
     → headed job.head.now view.samples.now ≡ trace_of view → job.head.now.count ≡ length view.samples.now
@@ -92,11 +93,8 @@ pub series_begins : (p : Payloads) (list : Bor (List ℤ)) (job : Job) (view : S
     → CanBegin StandsInList job p list view.samples.now
 series_begins p list job view trace count fits same new = record {
   count = sym count;
-  fits = subst (λ (s : Trace). Fits s job.options.now) (sym trace) fits;
-  stands_first = (
-    same,
-    list_begun p job.options.now.encoding view.samples.now new fits.samples fits.differences_fit,
-  );
+  fits = rw trace fits;
+  stands_first = (same, list_begun p job.options.now.encoding view.samples.now new fits.samples fits.differences_fit);
 }
 
 -- one that comes from a supply
@@ -105,11 +103,9 @@ pub supply_begins : {S : Type 0} (supplies : S → List ℤ → ℕ → Type 0) 
     → SuppliesFitting supplies supply job.head.now job.options.now xs → job.head.now.count < 2 ^ 64
     → AreBegun f job.head.now.first → CanBegin (λ g s e ys n. GoesOnIn supplies g s e ys n) job f supply xs
 supply_begins supplies f supply job xs steim h few begins =
-    let count = h.count in
     record {
       count = h.count;
       fits = h.fits;
       stands_first = frames_begun supplies f supply job.options.now.encoding xs steim h.supplied
-          (omega (arith, count, few)) (subst (λ (z : ℤ). AreBegun f z) (sym h.first) begins)
-          h.fits.samples h.fits.differences_fit;
+          (omega (arith, h.count, few)) (rw h.first begins) h.fits.samples h.fits.differences_fit;
     }

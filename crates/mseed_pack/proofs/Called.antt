@@ -1,5 +1,5 @@
 -- What an audit says of records that a series is packed into.
-use Rattle.std.proofs.Common.{◌≡◌, ◌↔◌, ℕ, List, IsTrue, refl, sym, ap, subst, ◌⊎◌, inl, inr, Result, Ok, Err}
+use Rattle.std.proofs.Common.{◌≡◌, ◌↔◌, ℕ, List, IsTrue, refl, ap, ◌⊎◌, inl, inr, Result, Ok, Err}
 use Rattle.mseed_record.specs.View.{View}
 use Rattle.mseed_audit.specs.declared.assembly.NotContinuous.{NotContinuous}
 use Rattle.mseed_audit.specs.declared.assembly.NotContinuous.TheVariants.{Absent, Broken, Memory}
@@ -21,10 +21,8 @@ OneSeries = (s t : Trace) (vs : List View) → IsSeriesOf s vs → IsSeriesOf t 
 same_views : (s : Trace) (records : List (List ℕ)) (vs : List View) → (reads : ReadsAs s records)
     → AreViewsOf records vs → IsContinuous vs × IsSeriesOf s vs
 same_views s records vs reads are =
-    let same : vs ≡ reads.views = reads.only vs are in (
-      subst (λ (us : List View). IsContinuous us) (sym same) reads.continuous,
-      subst (λ (us : List View). IsSeriesOf s us) (sym same) reads.series,
-    )
+    let same : vs ≡ reads.views = reads.only vs are in
+    (rw same reads.continuous, rw same reads.series)
 
 pub called : ExactVerdicts → (s : Trace) (records : List (List ℕ)) (ps : List Placed) (verdict : Verdict)
     → ReadsAs s records → AreViewsOf records (views_in ps) → IsVerdict verdict ps → IsTrue (says_continuous verdict)

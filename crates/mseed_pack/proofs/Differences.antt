@@ -1,13 +1,13 @@
 -- The differences of a series, one by one.
-use Rattle.std.proofs.Common.{◌≡◌, ◌≢◌, ◌∙◌, ℕ, zero, suc, ◌+◌, ◌-◌, ◌<◌, ◌≤◌, List, [], ◌∷◌, length, get_or, set, refl}
-use Rattle.std.proofs.Common.{sym, ap, take, drop, All, ⊎_elim, arith, ℤ, pos, negsuc, ◌-ℤ◌}
+use Rattle.std.proofs.Common.{inl, inr}
+use Rattle.std.proofs.Common.{◌≡◌, ◌≢◌, ◌∙◌, ℕ, zero, suc, ◌+◌, ◌-◌, ◌<◌, List, [], ◌∷◌, length, get_or, set, refl}
+use Rattle.std.proofs.Common.{sym, ap, take, drop, All, arith, ℤ, pos, negsuc, ◌-ℤ◌}
 use Rattle.std.proofs.Common.{FitsSigned, w32}
 use Rattle.std.specs.Prelude.{slice_range}
 use native.Mathlib.Numerals.{unary_clauses}
-use Rattle.std.proofs.lemmas.Bool.{cases_lt}
-use Rattle.std.proofs.lemmas.Grind.{get_or-set_at}
+use Rattle.std.proofs.lemmas.Bool.{cases_eq}
 use Rattle.std.proofs.lemmas.Int.{ints}
-use Rattle.std.proofs.lemmas.List.{get_or-set_other}
+use Rattle.std.proofs.lemmas.List.{get_or-set_other, get_or-set_same}
 use Rattle.std.proofs.lemmas.List.Elements.{All-get_or}
 use Rattle.mseed_steim.specs.Spelling.{IsWithin}
 use Rattle.mseed_steim.specs.Samples.{differences_from}
@@ -49,17 +49,13 @@ from_drop before xs zero = refl
 from_drop before [] (suc n) = refl
 from_drop before (x ∷ xs) (suc n) = from_drop x xs n
 
-none_from : (x : ℤ) → pos 0 ≡ x -ℤ x
-none_from x = omega (arith, ints)
-
-drop_differences : (xs : List ℤ) (n : ℕ)
+pub drop_differences : (xs : List ℤ) (n : ℕ)
     → drop n (differences xs) ≡ differences_from (sample_before xs n) (drop n xs)
 drop_differences [] zero = refl
 drop_differences [] (suc n) = refl
-drop_differences (x ∷ xs) zero = ap (λ (z : ℤ). z ∷ differences_from x xs) (none_from x)
-drop_differences (x ∷ xs) (suc n) =
-    let place : n ≡ suc n - 1 = omega arith in
-    from_drop x xs n ∙ ap (λ (k : ℕ). differences_from (get_or (x ∷ xs) k (pos 0)) (drop n xs)) place
+drop_differences (x ∷ xs) zero = let none : pos 0 ≡ x -ℤ x = omega (arith, ints) in
+    ap (λ (z : ℤ). z ∷ differences_from x xs) none
+drop_differences (x ∷ xs) (suc n) = let place : suc n - 1 ≡ n = omega arith in rw place (from_drop x xs n)
 
 -- those of some samples, the first of them from the sample before it
 pub part_differences : (xs : List ℤ) (first end : ℕ)
@@ -74,21 +70,14 @@ difference_fits xs i inside all =
     All-get_or (IsWithin 32) (differences xs) i (pos 0) (omega (arith, inside, length-differences xs)) all
 
 pub within_fits : (z : ℤ) → IsWithin 32 z → FitsSigned w32 z
-within_fits (pos n) h = let high = h.1 in record { sfits = omega (arith, ints, high) }
-within_fits (negsuc n) h = let low = h.0 in record { sfits = omega (arith, ints, low) }
+within_fits (pos n) h = record { sfits = omega (arith, ints, h.1) }
+within_fits (negsuc n) h = record { sfits = omega (arith, ints, h.0) }
 
 -- one of them is put into a list, where others stand
 pub put_one : (ds xs : List ℤ) (first i : ℕ) (z : ℤ) → i < length xs → z ≡ get_or ds (first + i) (pos 0) → (k : ℕ)
     → (k ≢ i → get_or xs k (pos 0) ≡ get_or ds (first + k) (pos 0))
     → get_or (set xs i z) k (pos 0) ≡ get_or ds (first + k) (pos 0)
-put_one ds xs first i z inside is k others = ⊎_elim
-    (λ (less : k < i).
-    get_or-set_other xs i k z (pos 0) (λ e. omega (arith, e, less)) ∙ others (λ e. omega (arith, e, less)))
-    (λ (least : i ≤ k). ⊎_elim
-    (λ (more : i < k).
-    get_or-set_other xs i k z (pos 0) (λ e. omega (arith, e, more)) ∙ others (λ e. omega (arith, e, more)))
-    (λ (most : k ≤ i).
-    let same : k ≡ i = omega (arith, most, least) in
-    get_or-set_at xs i k z (pos 0) same inside ∙ is ∙ ap (λ (n : ℕ). get_or ds (first + n) (pos 0)) (sym same))
-    (cases_lt i k))
-    (cases_lt k i)
+put_one ds xs first i z inside is k others = elim (cases_eq k i) [
+  | inl same ↦ rw (same, get_or-set_same xs i z (pos 0) inside) is
+  | inr other ↦ rw (get_or-set_other xs i k z (pos 0) other) (others other)
+]

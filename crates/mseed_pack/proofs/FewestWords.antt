@@ -1,22 +1,20 @@
 -- Each record of a Steim-2 packing has as few words in use as its differences need.
 use Rattle.std.proofs.Common.{◌≡◌, ◌≢◌, ℕ, suc, ◌+◌, ◌-◌, ◌<◌, ◌==◌, not, true, false, List, [], ◌∷◌, ◌++◌, length}
-use Rattle.std.proofs.Common.{take, drop, refl, sym, ap, subst, ◌∙◌, arith, ℤ}
+use Rattle.std.proofs.Common.{take, drop, refl, ap, arith, ℤ}
 use Rattle.std.specs.List.{filter, AllByRecursion}
 use Rattle.std.proofs.lemmas.Bool.{ne_eqb, eq-eqb}
 use Rattle.std.proofs.lemmas.List.{length-take-le, take-append-drop, take-take}
 use Rattle.mseed_steim.specs.declared.scheme.Scheme.{Scheme}
-use Rattle.mseed_steim.specs.declared.scheme.Scheme.TheVariants.{One, Two}
-use Rattle.mseed_steim.specs.Groups.{Group, group_of}
-use Rattle.std.proofs.Common.{Some}
+use Rattle.mseed_steim.specs.declared.scheme.Scheme.TheVariants.{Two}
+use Rattle.mseed_steim.proofs.Table.{no_row}
 use Rattle.mseed_steim.specs.Spelling.{Spells, empty, row}
 use Rattle.mseed_steim.specs.Frames.{DataWord, data_words}
 use Rattle.mseed_steim_pack.specs.Packing.{IsEmptyWord, IsFewest, PacksRun}
 use Rattle.mseed_audit.specs.Series.{Trace}
-use Rattle.mseed_steim.specs.declared.encoding.Encoding.{Encoding}
 use Rattle.mseed_steim.specs.declared.encoding.Encoding.TheVariants.{Steim2}
 use Rattle.mseed_pack.specs.declared.options.Options.{Options}
 use Rattle.mseed_pack.specs.FewestWords.{words_in_use, HasFewestWords}
-use Rattle.mseed_pack.specs.Packing.{Piece, HoldsFrames, HoldsSamples, IsPacked}
+use Rattle.mseed_pack.specs.Packing.{Piece, HoldsFrames, IsPacked}
 use Rattle.mseed_pack.specs.Stretches.{differences, span_end, left_of}
 use Rattle.mseed_pack.proofs.Viewed.{short}
 
@@ -28,15 +26,11 @@ PackedFewest = (ws : List DataWord) (ds : List ℤ) (used : ℕ) → PacksRun Tw
 abbrev in_use : List DataWord → List DataWord
 in_use ws = filter (λ (w : DataWord). not (w.code == 0)) ws
 
-no_row : (s : Scheme) (d : ℕ) (g : Group) → group_of s 0 d ≡ Some g → ⊥
-no_row One d g e = cc
-no_row Two d g e = cc
-
 -- a word that spells something has a code
 coded : (s : Scheme) (code word : ℕ) (ds : List ℤ) → 0 < length ds → Spells s code word ds → code ≢ 0
 coded s code word ds some (empty e none) z = let size : length ds ≡ 0 = ap (λ (xs : List ℤ). length xs) none in
     omega (arith, size, some)
-coded s code word ds some (row g d found is) z = no_row s d g (subst (λ (c : ℕ). group_of s c d ≡ Some g) z found)
+coded s code word ds some (row g d found is) z = no_row s d g (rw z at found)
 
 none_in_use : (vs : List DataWord) → AllByRecursion IsEmptyWord vs → length (in_use vs) ≡ 0
 none_in_use [] h = refl
@@ -49,35 +43,27 @@ all_in_use s [] vs ds rest run h = none_in_use vs h
 all_in_use s (w ∷ ws) vs ds rest run h =
     let full = run.1.0 in
     let size = length-take-le run.0 ds full.inside in
-    let some = full.some in
     let code : (w.code == 0) ≡ false =
-    ne_eqb w.code 0 (coded s w.code w.bits (take run.0 ds) (omega (arith, size, some)) full.spelled) in
+    ne_eqb w.code 0 (coded s w.code w.bits (take run.0 ds) (omega (arith, size, full.some)) full.spelled) in
     rw code (ap suc (all_in_use s ws vs (drop run.0 ds) rest run.1.1 h))
 
 frames_fewest : PackedFewest → (left samples : List ℤ) (frames : ℕ) (payload : List ℕ)
     → HoldsFrames Two left samples frames payload → IsFewest (take (length samples) left) (words_in_use payload)
 frames_fewest fewest left samples frames payload h =
     let ws = data_words payload in
-    let size : length (take h.words ws) ≡ h.words = length-take-le h.words ws h.inside in
-    let used : words_in_use payload ≡ length (take h.words ws) =
-    ap (λ (us : List DataWord). length (in_use us)) (sym (take-append-drop h.words ws))
-    ∙ all_in_use Two (take h.words ws) (drop h.words ws) left (drop (length samples) left) h.packed h.behind in
-    subst (λ (n : ℕ). IsFewest (take (length samples) left) n) (sym used)
-    (fewest (take h.words ws) left (length samples) h.packed)
+    rw (
+      ← all_in_use Two (take h.words ws) (drop h.words ws) left (drop (length samples) left) h.packed h.behind,
+      take-append-drop,
+    ) at (fewest (take h.words ws) left (length samples) h.packed)
 
 pub record_fewest : PackedFewest → (s : Trace) (o : Options) (p : Piece) → o.encoding ≡ Steim2 → IsPacked s o p
     → HasFewestWords s p
 record_fewest fewest s o p two k =
     let n = length p.samples in
-    let holds : HoldsFrames Two (left_of s p.first) p.samples k.frames (drop 64 p.bytes) =
-    subst (λ (e : Encoding). HoldsSamples e (left_of s p.first) p.samples k.frames (drop 64 p.bytes)) two
-    k.payload in
-    let left : take n (left_of s p.first) ≡ take n (drop p.first (differences s.samples)) =
-    take-take n (span_end s p.first - p.first) (drop p.first (differences s.samples)) (short s p k.within) in
+    let holds : HoldsFrames Two (left_of s p.first) p.samples k.frames (drop 64 p.bytes) = rw two at k.payload in
     let count : p.first + n - p.first ≡ n = omega arith in
-    subst (λ (m : ℕ). IsFewest (take m (drop p.first (differences s.samples))) (words_in_use (drop 64 p.bytes)))
-    (sym count)
-    (subst (λ (ds : List ℤ). IsFewest ds (words_in_use (drop 64 p.bytes))) left
+    rw (count)
+    (rw (← take-take n (span_end s p.first - p.first) (drop p.first (differences s.samples)) (short s p k.within))
     (frames_fewest fewest (left_of s p.first) p.samples k.frames (drop 64 p.bytes) holds))
 
 pub all_fewest : PackedFewest → (s : Trace) (o : Options) (ps : List Piece) → o.encoding ≡ Steim2

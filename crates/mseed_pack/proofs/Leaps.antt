@@ -1,9 +1,9 @@
 -- The leap seconds of a series, record by record.
-use Rattle.std.proofs.Common.{◌≡◌, ℕ, ◌+◌, ◌<◌, ◌≤◌, ◌==◌, nat_le, nat_lt, true, false, cond, List, [], ◌∷◌, ◌++◌, refl}
-use Rattle.std.proofs.Common.{arith, ℤ, pos, ◌+ℤ◌, Option, Some, None, unwrap_or, ⊎_elim}
+use Rattle.std.proofs.Common.{◌≡◌, ℕ, ◌+◌, ◌<◌, ◌≤◌, ◌==◌, nat_lt, cond, List, [], ◌∷◌, ◌++◌, refl}
+use Rattle.std.proofs.Common.{arith, pos, ◌+ℤ◌, Option, None, unwrap_or}
 use Rattle.std.specs.Prelude.{option_map, find}
-use Rattle.std.proofs.lemmas.Bool.{cases_lt}
-use Rattle.std.proofs.lemmas.Bool.Decides.{nat_tests}
+use Rattle.std.proofs.Common.{inl, inr}
+use Rattle.std.proofs.lemmas.Bool.{cases_lt, eq-eqb, le-leb, le-ltb, lt-leb, lt-ltb, ne_eqb}
 use Rattle.std.proofs.lemmas.Int.{ints}
 use Rattle.mseed_time.specs.declared.outcome.LeapStep.{LeapStep}
 use Rattle.mseed_time.specs.Join.{step_of}
@@ -31,22 +31,16 @@ pub record Before (steps : List (ℕ × LeapStep)) (place : ℕ) : Type 0 where
   pub none : step_in steps place ≡ None
   pub all : later steps place ≡ steps
 
-nothing_added : (z : ℤ) → z ≡ pos 0 → pos 0 +ℤ z ≡ pos 0
-nothing_added z e = omega (arith, ints)
-
 pub before : (low size : ℕ) (steps : List (ℕ × LeapStep)) (place : ℕ) → place ≤ low → AreStepsFrom low size steps
     → Before steps place
 before low size [] place h are = record { added = refl; none = refl; all = refl }
 before low size (t ∷ ts) place h are =
-    let behind : low < t.0 = are.0 in
-    let rest = before t.0 size ts place (omega (arith, behind, h)) are.2 in
-    let not_le : nat_le t.0 place ≡ false = grind (arith, nat_tests) in
-    let not_eq : (t.0 == place) ≡ false = grind (arith, nat_tests) in
-    let lt : nat_lt place t.0 ≡ true = grind (arith, nat_tests) in
+    let behind : place < t.0 = omega (arith, are.0, h) in
+    let rest = before t.0 size ts place (omega (arith, behind)) are.2 in
     record {
-      added = rw not_le (nothing_added (added_before ts place) rest.added);
-      none = rw not_eq rest.none;
-      all = rw lt refl;
+      added = rw (lt-leb t.0 place behind, rest.added);
+      none = rw (ne_eqb t.0 place (λ e. omega (arith, behind, e))) rest.none;
+      all = rw (lt-ltb place t.0 behind);
     }
 
 -- From one record's first sample to the next one's, of which there's no leap second between: the seconds that were
@@ -55,51 +49,42 @@ pub record Passes (steps : List (ℕ × LeapStep)) (first count : ℕ) : Type 0 
   pub added : added_before steps (first + count) ≡ added_before steps first +ℤ step_of (step_in steps (first + count))
   pub left : later steps first ≡ step_at (first + count) (step_in steps (first + count)) ++ later steps (first + count)
 
-same_twice : (a b c d e : ℤ) → a ≡ b +ℤ c → (d +ℤ a) ≡ (d +ℤ b) +ℤ c
-same_twice a b c d e h = omega (arith, ints)
-
 pub passes : (low size : ℕ) (steps : List (ℕ × LeapStep)) (first count : ℕ) → AreStepsFrom low size steps → 0 < count
     → first + count ≤ end_in steps size first → Passes steps first count
 passes low size [] first count are some h = record { added = refl; left = refl }
-passes low size (t ∷ ts) first count are some h = ⊎_elim
-    (λ (next : first < t.0).
-    let is_next : nat_lt first t.0 ≡ true = grind (arith, nat_tests) in
-    let not_le : nat_le t.0 first ≡ false = grind (arith, nat_tests) in
-    let inside : first + count ≤ t.0 = rw is_next at h in
-    let at_first = before t.0 size ts first (omega (arith, next)) are.2 in
-    let at_end = before t.0 size ts (first + count) inside are.2 in
-    ⊎_elim
-    (λ (less : first + count < t.0).
-    let not_yet : nat_le t.0 (first + count) ≡ false = grind (arith, nat_tests) in
-    let not_eq : (t.0 == (first + count)) ≡ false = grind (arith, nat_tests) in
-    let still : nat_lt (first + count) t.0 ≡ true = grind (arith, nat_tests) in
-    record {
-      added = rw (not_yet, not_le, not_eq, at_end.added, at_first.added, at_end.none) refl;
-      left = rw (is_next, not_eq, still, at_end.none) refl;
-    })
-    (λ (more : t.0 ≤ first + count).
-    let here : t.0 ≡ first + count = omega (arith, more, inside) in
-    let is_le : nat_le t.0 (first + count) ≡ true = grind (arith, nat_tests) in
-    let is_eq : (t.0 == (first + count)) ≡ true = grind (arith, nat_tests) in
-    let over : nat_lt (first + count) t.0 ≡ false = grind (arith, nat_tests) in
-    record {
-      added = rw (is_le, not_le, is_eq, at_end.added, at_first.added) (omega (arith, ints));
-      left = rw (is_next, is_eq, over, at_end.all) (λ i. (here i, t.1) ∷ ts);
-    })
-    (cases_lt (first + count) t.0))
-    (λ (past : t.0 ≤ first).
-    let not_next : nat_lt first t.0 ≡ false = grind (arith, nat_tests) in
-    let is_le : nat_le t.0 first ≡ true = grind (arith, nat_tests) in
-    let is_le_too : nat_le t.0 (first + count) ≡ true = grind (arith, nat_tests) in
-    let not_eq : (t.0 == (first + count)) ≡ false = grind (arith, nat_tests) in
-    let over : nat_lt (first + count) t.0 ≡ false = grind (arith, nat_tests) in
-    let inside : first + count ≤ end_in ts size first = rw not_next at h in
-    let rest = passes t.0 size ts first count are.2 some inside in
-    record {
-      added = rw (is_le_too, is_le, not_eq) (same_twice _ _ _ (step_of (Some t.1)) (pos 0) rest.added);
-      left = rw (not_next, not_eq, over) rest.left;
-    })
-    (cases_lt first t.0)
+passes low size (t ∷ ts) first count are some h =
+    let end = first + count in
+    elim (cases_lt first t.0) [
+      | inl next ↦
+          let inside : end ≤ t.0 = rw (lt-ltb first t.0 next) at h in
+          let at_first = before t.0 size ts first (omega (arith, next)) are.2 in
+          let at_end = before t.0 size ts end inside are.2 in
+          elim (cases_lt end t.0) [
+            | inl less ↦
+                let not_eq = ne_eqb t.0 end (λ e. omega (arith, e, less)) in
+                record {
+                  added = rw (lt-leb t.0 end less, lt-leb t.0 first next, not_eq, at_end.added, at_first.added)
+                      (rw (at_end.none));
+                  left = rw (lt-ltb first t.0 next, not_eq, lt-ltb end t.0 less, at_end.none);
+                }
+            | inr more ↦
+                let here : t.0 ≡ end = omega (arith, more, inside) in
+                record {
+                  added = rw (le-leb t.0 end more, lt-leb t.0 first next, eq-eqb t.0 end here, at_end.added)
+                      (rw (at_first.added) (omega (arith, ints)));
+                  left = rw (lt-ltb first t.0 next, eq-eqb t.0 end here, le-ltb end t.0 more, at_end.all)
+                      (λ i. (here i, t.1) ∷ ts);
+                }
+          ]
+      | inr past ↦
+          let not_eq = ne_eqb t.0 end (λ e. omega (arith, e, past, some)) in
+          let rest = passes t.0 size ts first count are.2 some (rw (le-ltb first t.0 past) at h) in
+          record {
+            added = rw (le-leb t.0 end (omega (arith, past)), le-leb t.0 first past, not_eq)
+                (omega (arith, ints, rest.added));
+            left = rw (le-ltb first t.0 past, not_eq, le-ltb end t.0 (omega (arith, past))) rest.left;
+          }
+    ]
 
 -- before the first sample all are left, and after the last none
 pub all_left : (size : ℕ) (steps : List (ℕ × LeapStep)) → AreSteps size steps
@@ -108,7 +93,4 @@ all_left size steps are = let b = before 0 size steps 0 (omega arith) are in (b.
 
 pub none_left : (low size : ℕ) (steps : List (ℕ × LeapStep)) → AreStepsFrom low size steps → later steps size ≡ []
 none_left low size [] are = refl
-none_left low size (t ∷ ts) are =
-    let inside : t.0 ≤ size = are.1 in
-    let over : nat_lt size t.0 ≡ false = grind (arith, nat_tests) in
-    rw over (none_left t.0 size ts are.2)
+none_left low size (t ∷ ts) are = rw (le-ltb size t.0 are.1) (none_left t.0 size ts are.2)

@@ -1,5 +1,5 @@
 -- Samples by sums of the differences between them.
-use Rattle.std.proofs.Common.{◌≡◌, ◌∙◌, ℕ, zero, suc, ◌+◌, ◌-◌, ◌<◌, ◌≤◌, List, length, get_or, ap, arith, subst, sym}
+use Rattle.std.proofs.Common.{◌≡◌, ◌∙◌, ℕ, zero, suc, ◌+◌, ◌-◌, ◌<◌, ◌≤◌, List, length, get_or, arith}
 use Rattle.std.proofs.Common.{All, FitsSigned, w32, ℤ, pos, ◌+ℤ◌, ◌-ℤ◌}
 use Rattle.std.specs.Int.{int_wrap, int_wrapping_add, int_wrapping_sub}
 use Rattle.std.proofs.lemmas.Int.{ints, int_wrap-add_left, int_wrap-add_right, int_wrap-sub_right, int_wrap_fits}
@@ -20,10 +20,7 @@ next_of xs (suc i) inside =
     let at : suc i ≡ i + 1 = omega arith in
     let behind : i + 1 + 1 - 1 ≡ i + 1 = omega arith in
     let before : i + 1 - 1 ≡ i = omega arith in
-    subst (λ (n : ℕ). get_or (differences xs) n (pos 0) ≡ sample_before xs (n + 1) -ℤ sample_before xs n) (sym at)
-    (difference_at xs i (omega (arith, inside))
-    ∙ ap (λ (n : ℕ). get_or xs n (pos 0) -ℤ get_or xs i (pos 0)) (sym behind)
-    ∙ ap (λ (n : ℕ). get_or xs (i + 1 + 1 - 1) (pos 0) -ℤ get_or xs n (pos 0)) (sym before))
+    rw (at, behind, before) (difference_at xs i (omega (arith, inside)))
 
 -- one more difference is added
 pub moved_on : (xs : List ℤ) (w : Window) (first k : ℕ) (moved : ℤ) → HoldsDifferences xs w → w.first ≤ first
@@ -31,7 +28,6 @@ pub moved_on : (xs : List ℤ) (w : Window) (first k : ℕ) (moved : ℤ) → Ho
     → int_wrap w32 (moved +ℤ get_or w.differences (first - w.first + k) (pos 0))
     ≡ int_wrap w32 (sample_before xs (first + (k + 1)) -ℤ sample_before xs first)
 moved_on xs w first k moved h low high is =
-    let inside = h.inside in
     let place : w.first + (first - w.first + k) ≡ first + k = omega (arith, low) in
     let next : first + k + 1 ≡ first + (k + 1) = omega arith in
     let d = get_or w.differences (first - w.first + k) (pos 0) in
@@ -39,10 +35,9 @@ moved_on xs w first k moved h low high is =
     let b = sample_before xs (first + k) in
     let c = sample_before xs (first + k + 1) in
     let difference : d ≡ c -ℤ b = h.each (first - w.first + k) (omega (arith, low, high))
-    ∙ ap (λ (n : ℕ). get_or (differences xs) n (pos 0)) place ∙ next_of xs (first + k) (omega (arith, high, inside)) in
+    ∙ rw place (next_of xs (first + k) (omega (arith, high, h.inside))) in
     let sum : b -ℤ a +ℤ d ≡ c -ℤ a = omega (arith, ints, difference) in
-    ap (λ (z : ℤ). int_wrap w32 (z +ℤ d)) is ∙ int_wrap-add_left w32 (b -ℤ a) d ∙ ap (λ (z : ℤ). int_wrap w32 z) sum
-    ∙ ap (λ (n : ℕ). int_wrap w32 (sample_before xs n -ℤ a)) next
+    rw (is, int_wrap-add_left, sum, next)
 
 pub before_fits : (xs : List ℤ) (place : ℕ) → 0 < place → place ≤ length xs → All (IsWithin 32) xs
     → FitsSigned w32 (sample_before xs place)
@@ -55,14 +50,10 @@ pub reached : (sample moved a b : ℤ) → FitsSigned w32 sample → FitsSigned 
     → moved ≡ int_wrap w32 (b -ℤ a) → int_wrapping_add w32 sample moved ≡ b
 reached sample moved a b one two fits is by =
     let sum : a +ℤ (b -ℤ a) ≡ b = omega (arith, ints) in
-    wrapping_add_is w32 sample moved one two ∙ ap (λ (z : ℤ). int_wrap w32 (z +ℤ moved)) is
-    ∙ ap (λ (z : ℤ). int_wrap w32 (a +ℤ z)) by ∙ int_wrap-add_right w32 a (b -ℤ a)
-    ∙ ap (λ (z : ℤ). int_wrap w32 z) sum ∙ int_wrap_fits w32 b fits
+    rw (wrapping_add_is w32 sample moved one two, is, by, int_wrap-add_right, sum, int_wrap_fits w32 b fits)
 
 pub returned : (sample moved a b : ℤ) → FitsSigned w32 sample → FitsSigned w32 moved → FitsSigned w32 a → sample ≡ b
     → moved ≡ int_wrap w32 (b -ℤ a) → int_wrapping_sub w32 sample moved ≡ a
 returned sample moved a b one two fits is by =
     let rest : b -ℤ (b -ℤ a) ≡ a = omega (arith, ints) in
-    wrapping_sub_is w32 sample moved one two ∙ ap (λ (z : ℤ). int_wrap w32 (z -ℤ moved)) is
-    ∙ ap (λ (z : ℤ). int_wrap w32 (b -ℤ z)) by ∙ int_wrap-sub_right w32 b (b -ℤ a)
-    ∙ ap (λ (z : ℤ). int_wrap w32 z) rest ∙ int_wrap_fits w32 a fits
+    rw (wrapping_sub_is w32 sample moved one two, is, by, int_wrap-sub_right, rest, int_wrap_fits w32 a fits)

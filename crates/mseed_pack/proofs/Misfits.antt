@@ -1,14 +1,13 @@
 -- What is found of a series' samples.
 use Rattle.std.proofs.Common.{◌*◌, ◌%◌, ◌^◌, negsuc, FitsSigned, w32, of_z}
 use Rattle.std.proofs.Common.{◌≡◌, ◌↔◌, ◌<◌, ◌≤◌, ◌+◌, ◌-◌, ℕ, zero, suc, ℤ, ◌-ℤ◌, List, length, get_or, pos}
-use Rattle.std.proofs.Common.{false, sym, subst, ap, ◌∙◌, arith, refl, All, below_more, ⊎_elim}
+use Rattle.std.proofs.Common.{inl, inr, false, arith, All, below_more}
 use Rattle.std.specs.Int.RustNames.{bit_or}
 use Rattle.std.specs.Prelude.{IsTrue}
 use Rattle.std.proofs.lemmas.Bool.{cases_lt, false≢true}
 use Rattle.std.proofs.lemmas.Int.{ints}
 use Rattle.std.proofs.lemmas.Nat.{le_or_l, le_or_r, or_lt}
 use Rattle.std.proofs.lemmas.List.Elements.{All-from_get_or, All-get_or}
-use native.Mathlib.Numerals.{unary_clauses}
 use Rattle.mseed_steim.specs.Spelling.{IsWithin}
 use Rattle.mseed_pack.specs.private.Filling.{AreFourUnder, IsUnder}
 use Rattle.mseed_pack.specs.Fitting.{IsDifferenceOf, IsFirstNot}
@@ -30,20 +29,17 @@ zero_fits Steim2 = (omega (arith, ints), omega (arith, ints))
 near_fits : (e : Encoding) (x y : ℤ) → IsWithin 29 x → IsWithin 29 y → IsDifferenceOf e (y -ℤ x)
 near_fits Int16 x y h k = tt
 near_fits Int32 x y h k = tt
-near_fits Steim1 x y h k = (omega (arith, ints, h.0, h.1, k.0, k.1), omega (arith, ints, h.0, h.1, k.0, k.1))
-near_fits Steim2 x y h k = (omega (arith, ints, h.0, h.1, k.0, k.1), omega (arith, ints, h.0, h.1, k.0, k.1))
+near_fits Steim1 x y h k = (omega (arith, ints, h, k), omega (arith, ints, h, k))
+near_fits Steim2 x y h k = (omega (arith, ints, h, k), omega (arith, ints, h, k))
 
 near_at : (e : Encoding) (xs : List ℤ) → All (IsWithin 29) xs → (k : ℕ) → k < length xs
     → IsDifferenceOf e (get_or (differences xs) k (pos 0))
-near_at e xs near zero h = subst (λ (z : ℤ). IsDifferenceOf e z) (sym (first_difference xs)) (zero_fits e)
+near_at e xs near zero h = rw (first_difference xs) (zero_fits e)
 near_at e xs near (suc i) h =
-    let inside : i + 1 < length xs = omega (arith, h) in
-    let here : i < length xs = omega (arith, h) in
-    let next : i + 1 ≡ suc i = simp unary_clauses refl in
-    let at : get_or (differences xs) (suc i) (pos 0) ≡ get_or xs (i + 1) (pos 0) -ℤ get_or xs i (pos 0) =
-    ap (λ (n : ℕ). get_or (differences xs) n (pos 0)) (sym next) ∙ difference_at xs i inside in
-    subst (λ (z : ℤ). IsDifferenceOf e z) (sym at) (near_fits e (get_or xs i (pos 0)) (get_or xs (i + 1) (pos 0))
-    (All-get_or (IsWithin 29) xs i (pos 0) here near) (All-get_or (IsWithin 29) xs (i + 1) (pos 0) inside near))
+    let next : suc i ≡ i + 1 = omega arith in
+    rw (next, difference_at xs i (omega (arith, h))) (near_fits e (get_or xs i (pos 0)) (get_or xs (i + 1) (pos 0))
+    (All-get_or (IsWithin 29) xs i (pos 0) (omega (arith, h)) near)
+    (All-get_or (IsWithin 29) xs (i + 1) (pos 0) (omega (arith, h)) near))
 
 -- samples of 29 bits aren't too far apart for any encoding
 pub near_differences : (e : Encoding) (xs : List ℤ) → All (IsWithin 29) xs → All (IsDifferenceOf e) (differences xs)
@@ -75,9 +71,7 @@ pub both_below : {P Q : Type 0} (bound a b : ℕ) → IsPower bound → (a < bou
 both_below bound a b power one two = (
   λ less. (one.0 (omega (arith, less, le_or_l a b)), two.0 (omega (arith, less, le_or_r a b))),
   λ all.
-      let fits : bit_or a b < 2 ^ power.0 = or_lt power.0 a b
-      (subst (λ (m : ℕ). a < m) power.1 (one.1 all.0)) (subst (λ (m : ℕ). b < m) power.1 (two.1 all.1)) in
-      subst (λ (m : ℕ). bit_or a b < m) (sym power.1) fits,
+      rw power.1 (or_lt power.0 a b (omega (arith, power.1, one.1 all.0)) (omega (arith, power.1, two.1 all.1))),
 )
 
 pub four_below : (limit : ℤ) (zs : List ℤ) (index part bound a b c d : ℕ) → IsPower bound
@@ -138,12 +132,10 @@ one_more limit zs part last bound bits raised power low one before =
           let h = both.0 less in
           record {
             eight = h.0.eight;
-            behind = λ k from high. ⊎_elim
-                (λ (less : k < last). h.0.behind k from less)
-                (λ (same : last ≤ k).
-                let is : last ≡ k = omega (arith, same, high) in
-                subst (λ (n : ℕ). IsUnder limit (get_or zs n (pos 0))) is h.1)
-                (cases_lt k last);
+            behind = λ k from high. elim (cases_lt k last) [
+              | inl less ↦ h.0.behind k from less
+              | inr same ↦ let is : k ≡ last = omega (arith, same, high) in rw is h.1
+            ];
           },
       λ all. both.1 (
         record { eight = all.eight; behind = λ k from high. all.behind k from (omega (arith, high)) },
@@ -155,37 +147,35 @@ one_more limit zs part last bound bits raised power low one before =
 four_under : (limit : ℤ) (zs : List ℤ) (part base : ℕ)
     → ((k n : ℕ) → k < part → n ≡ k + base → AreFourUnder limit zs n part) → (k : ℕ) → base ≤ k → k < base + 4 * part
     → IsUnder limit (get_or zs k (pos 0))
-four_under limit zs part base h k low high = ⊎_elim
-    (λ (a : k < base + part). (h (k - base) k (omega (arith, low, a)) (omega (arith, low))).first)
-    (λ (a : base + part ≤ k). ⊎_elim
-    (λ (b : k < base + 2 * part).
-    subst (λ (n : ℕ). IsUnder limit (get_or zs n (pos 0))) {x = k - part + part} {y = k} (omega (arith, a))
-    (h (k - part - base) (k - part) (omega (arith, a, b)) (omega (arith, a))).second)
-    (λ (b : base + 2 * part ≤ k). ⊎_elim
-    (λ (c : k < base + 3 * part).
-    subst (λ (n : ℕ). IsUnder limit (get_or zs n (pos 0))) {x = k - 2 * part + 2 * part} {y = k} (omega (arith, b))
-    (h (k - 2 * part - base) (k - 2 * part) (omega (arith, b, c)) (omega (arith, b))).third)
-    (λ (c : base + 3 * part ≤ k).
-    subst (λ (n : ℕ). IsUnder limit (get_or zs n (pos 0))) {x = k - 3 * part + 3 * part} {y = k} (omega (arith, c))
-    (h (k - 3 * part - base) (k - 3 * part) (omega (arith, c, high)) (omega (arith, c))).fourth)
-    (cases_lt k (base + 3 * part)))
-    (cases_lt k (base + 2 * part)))
-    (cases_lt k (base + part))
+four_under limit zs part base h k low high = elim (cases_lt k (base + part)) [
+  | inl a ↦ (h (k - base) k (omega (arith, low, a)) (omega (arith, low))).first
+  | inr a ↦ elim (cases_lt k (base + 2 * part)) [
+    | inl b ↦
+        let is : k - part + part ≡ k = omega (arith, a) in
+        rw is at (h (k - part - base) (k - part) (omega (arith, a, b)) (omega (arith, a))).second
+    | inr b ↦ elim (cases_lt k (base + 3 * part)) [
+      | inl c ↦
+          let is : k - 2 * part + 2 * part ≡ k = omega (arith, b) in
+          rw is at (h (k - 2 * part - base) (k - 2 * part) (omega (arith, b, c)) (omega (arith, b))).third
+      | inr c ↦
+          let is : k - 3 * part + 3 * part ≡ k = omega (arith, c) in
+          rw is at (h (k - 3 * part - base) (k - 3 * part) (omega (arith, c, high)) (omega (arith, c))).fourth
+    ]
+  ]
+]
 
 -- so are all
 pub all_under : (limit : ℤ) (zs : List ℤ) (part last : ℕ) → length zs ≤ last → AreUnderTo limit zs part part last
     → All (IsUnder limit) zs
-all_under limit zs part last to h = All-from_get_or (IsUnder limit) zs (pos 0) (λ k inside. ⊎_elim
-    (λ (a : k < 4 * part). four_under limit zs part 0
-    (λ i n b e. subst (λ (m : ℕ). AreFourUnder limit zs m part) {x = i} {y = n} (omega (arith, e)) (h.eight i b).0)
-    k (omega arith) (omega (arith, a)))
-    (λ (a : 4 * part ≤ k). ⊎_elim
-    (λ (b : k < 8 * part). four_under limit zs part (4 * part)
-    (λ i n c e. subst (λ (m : ℕ). AreFourUnder limit zs m part) (sym e) (h.eight i c).1)
-    k a (omega (arith, b)))
-    (λ (b : 8 * part ≤ k). h.behind k b (omega (arith, inside, to)))
-    (cases_lt k (8 * part)))
-    (cases_lt k (4 * part)))
+all_under limit zs part last to h = All-from_get_or (IsUnder limit) zs (pos 0) (λ k inside.
+    elim (cases_lt k (4 * part)) [
+      | inl a ↦ four_under limit zs part 0
+          (λ i n b e. let is : n ≡ i = omega (arith, e) in rw is (h.eight i b).0) k (omega arith) (omega (arith, a))
+      | inr a ↦ elim (cases_lt k (8 * part)) [
+        | inl b ↦ four_under limit zs part (4 * part) (λ i n c e. rw e (h.eight i c).1) k a (omega (arith, b))
+        | inr b ↦ h.behind k b (omega (arith, inside, to))
+      ]
+    ])
 
 four_of : (limit : ℤ) (zs : List ℤ) (part k : ℕ) → k + 3 * part < length zs → All (IsUnder limit) zs
     → AreFourUnder limit zs k part
@@ -209,6 +199,5 @@ each_under limit zs part last fit within all = record {
 
 -- a first difference that an encoding doesn't hold is none of the first sample
 pub difference_late : (e : Encoding) (xs : List ℤ) (i : ℕ) → IsFirstNot (IsDifferenceOf e) (differences xs) i → 0 < i
-difference_late e xs zero h =
-    absurd (h.not_it (subst (λ (z : ℤ). IsDifferenceOf e z) (sym (first_difference xs)) (zero_fits e)))
+difference_late e xs zero h = absurd (h.not_it (rw (first_difference xs) (zero_fits e)))
 difference_late e xs (suc i) h = omega arith

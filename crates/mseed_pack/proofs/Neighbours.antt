@@ -1,6 +1,6 @@
 -- Two neighbouring records join: each begins at the floor of its first sample's time, so the two floors differ from the
 -- exact distance by less than a microsecond, and half a sample period is at least one.
-use Rattle.std.proofs.Common.{◌≡◌, ℕ, ◌+◌, ◌-◌, ◌*◌, ◌/◌, ◌%◌, ◌^◌, ◌<◌, ◌≤◌, sym, ap, subst, ◌∙◌, arith, ℤ, pos, ◌+ℤ◌}
+use Rattle.std.proofs.Common.{◌≡◌, ℕ, ◌+◌, ◌-◌, ◌*◌, ◌/◌, ◌%◌, ◌^◌, ◌<◌, ◌≤◌, ap, ◌∙◌, arith, ℤ, pos, ◌+ℤ◌}
 use Rattle.std.proofs.Common.{◌-ℤ◌, ◌*ℤ◌, unsigned_abs, Option}
 use Rattle.std.proofs.lemmas.Int.{ints}
 use Rattle.std.proofs.Math.Nat.{div-add-mod, le-div_iff_mul-le}
@@ -23,13 +23,10 @@ floors : (num first way : ℕ) → 0 < num → Floors num first way
 floors num first way some =
     let q = first / num in
     let p = (first + way) / num in
-    let a : num * q + first % num ≡ first = div-add-mod first num in
-    let b : num * p + (first + way) % num ≡ first + way = div-add-mod (first + way) num in
     let rises : q ≤ p = (le-div_iff_mul-le {k = num} {x = q} {y = first + way} some).1 (omega arith) in
-    let whole : p ≡ q + (p - q) = omega arith in
-    let both = remainders num q (p - q) (first % num) ((first + way) % num) first way a
-    (subst (λ (x : ℕ). num * x + (first + way) % num ≡ first + way) whole b) (omega (arith, some))
-    (omega (arith, some)) in
+    let whole : p ≡ q + (p - q) = omega (arith, rises) in
+    let both = remainders num q (p - q) (first % num) ((first + way) % num) first way (div-add-mod first num)
+    (rw (← whole) (div-add-mod (first + way) num)) (omega (arith, some)) (omega (arith, some)) in
     record { apart = p - q; second = whole; low = both.0; high = both.1 }
 
 -- a difference of two naturals is no further from 0 than they lie apart
@@ -53,15 +50,9 @@ pub joins : (start shift later : ℤ) (first count : ℕ) (rate : Ratio) (step :
 joins start shift later first count rate step some slow e =
     let way = count * rate.den * 10 ^ 6 in
     let f = floors rate.num first way some in
-    let apart = apart_is start shift later (step_of step) (first / rate.num) f.apart e in
-    let moved : (start +ℤ pos ((first + way) / rate.num) -ℤ later) -ℤ (start +ℤ pos (first / rate.num) -ℤ shift) +ℤ
-    step_of step ≡ pos f.apart =
-    ap (λ (n : ℕ). (start +ℤ pos n -ℤ later) -ℤ (start +ℤ pos (first / rate.num) -ℤ shift) +ℤ step_of step) f.second
-    ∙ apart in
-    let scale = scaled _ f.apart rate.num moved in
-    let near : unsigned_abs (pos (f.apart * rate.num) -ℤ pos way) ≤ rate.num =
-    abs_apart (f.apart * rate.num) way rate.num f.high f.low in
+    let near = abs_apart (f.apart * rate.num) way rate.num f.high f.low in
+    let moved = apart_is start shift later (step_of step) (first / rate.num) f.apart e in
     let miss : unsigned_abs (miss_of (start +ℤ pos (first / rate.num) -ℤ shift) count rate step
     (start +ℤ pos ((first + way) / rate.num) -ℤ later)) ≤ rate.num =
-    subst (λ (z : ℤ). unsigned_abs (z -ℤ pos way) ≤ rate.num) (sym scale) near in
+    rw (f.second, scaled _ f.apart rate.num moved) near in
     omega (arith, miss, slow)

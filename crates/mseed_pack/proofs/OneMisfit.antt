@@ -1,7 +1,6 @@
 -- A series has one reason at most why it isn't packed, and none where it fits.
-use Rattle.std.proofs.Common.{◌≡◌, ℕ, ◌<◌, ◌≤◌, List, refl, ap, arith, ℤ, pos, All, get_or}
-use Rattle.std.proofs.Common.{⊎_elim, Err, length}
-use Rattle.std.proofs.lemmas.Bool.{cases_lt}
+use Rattle.std.proofs.Common.{◌≡◌, ℕ, List, refl, ap, arith, ℤ, pos, All, get_or}
+use Rattle.std.proofs.Common.{Err, length}
 use Rattle.mseed_stream.specs.Device.{BytesWritten}
 use Rattle.mseed_audit.specs.Series.{Trace}
 use Rattle.mseed_pack.specs.declared.options.Options.{Options}
@@ -15,18 +14,10 @@ use Rattle.mseed_pack.specs.Outcome.{IsOutcome}
 use Rattle.mseed_pack.specs.Stretches.{differences}
 
 one_first : (P : ℤ → Type 0) (xs : List ℤ) (i j : ℕ) → IsFirstNot P xs i → IsFirstNot P xs j → i ≡ j
-one_first P xs i j h k = ⊎_elim
-    (λ (less : i < j). absurd (h.not_it (k.before i less)))
-    (λ (more : j ≤ i). ⊎_elim (λ (less : j < i). absurd (k.not_it (h.before j less)))
-    (λ (same : i ≤ j). omega (arith, more, same)) (cases_lt j i))
-    (cases_lt i j)
+one_first P xs i j h k = search (arith)
 
 one_outside : (instant : ℕ → ℤ) (size i j : ℕ) → IsFirstOutside instant size i → IsFirstOutside instant size j → i ≡ j
-one_outside instant size i j h k = ⊎_elim
-    (λ (less : i < j). absurd (k.before i less h.outside))
-    (λ (more : j ≤ i). ⊎_elim (λ (less : j < i). absurd (h.before j less k.outside))
-    (λ (same : i ≤ j). omega (arith, more, same)) (cases_lt j i))
-    (cases_lt i j)
+one_outside instant size i j h k = search (arith)
 
 none_first : (P : ℤ → Type 0) (xs : List ℤ) (i : ℕ) → All P xs → IsFirstNot P xs i → ⊥
 none_first P xs i all h = h.not_it (all i (pos 0) h.inside)

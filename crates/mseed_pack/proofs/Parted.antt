@@ -1,6 +1,6 @@
 -- Some records, one after another, of those that a series is packed into.
 use Rattle.std.proofs.Common.{◌≡◌, ◌≢◌, ℕ, ℤ, List, [], ◌∷◌, ◌++◌, ◌^◌, length, map, IsTrue, Result, Ok, Err, refl, sym}
-use Rattle.std.proofs.Common.{ap, subst, ◌∙◌, append_assoc}
+use Rattle.std.proofs.Common.{ap, ◌∙◌, append_assoc}
 use Rattle.std.specs.List.{AllByRecursion}
 use Rattle.std.proofs.ByRecursion.{All-append}
 use Rattle.std.proofs.lemmas.List.{map-append}
@@ -26,14 +26,11 @@ all_back : {X : Type 0} (P : X → Type 0) (xs ys : List X) → AllByRecursion P
 all_back P [] ys h = h
 all_back P (x ∷ xs) ys h = all_back P xs ys h.1
 
-neighbours_after : {X : Type 0} (R : X → X → Type 0) (x : X) (xs : List X) → AllNeighbours R (x ∷ xs)
-    → AllNeighbours R xs
-neighbours_after R x [] h = tt
-neighbours_after R x (y ∷ ys) h = h.1
-
 neighbours_back : {X : Type 0} (R : X → X → Type 0) (xs ys : List X) → AllNeighbours R (xs ++ ys) → AllNeighbours R ys
 neighbours_back R [] ys h = h
-neighbours_back R (x ∷ xs) ys h = neighbours_back R xs ys (neighbours_after R x (xs ++ ys) h)
+neighbours_back R (x ∷ []) [] h = tt
+neighbours_back R (x ∷ []) (y ∷ ys) h = h.1
+neighbours_back R (x ∷ (z ∷ zs)) ys h = neighbours_back R (z ∷ zs) ys h.1
 
 neighbours_prefix : {X : Type 0} (R : X → X → Type 0) (xs ys : List X) → AllNeighbours R (xs ++ ys) → AllNeighbours R xs
 neighbours_prefix R [] ys h = tt
@@ -63,71 +60,52 @@ shares (v ∷ vs) back _ (one _ _ xs rest is more) =
 pub views_joined : (xs ys : List (List ℕ)) (us vs : List View) → AreViewsOf xs us → AreViewsOf ys vs
     → AreViewsOf (xs ++ ys) (us ++ vs)
 views_joined xs ys us vs h k =
-    let first = h.bytes in
-    let second = k.bytes in
-    record {
-      bytes = map-append (λ (v : View). v.bytes) us vs ∙ (λ i. first i ++ second i);
-      each = All-append IsView us vs h.each k.each;
-    }
+    record { bytes = rw (map-append, h.bytes, k.bytes); each = All-append IsView us vs h.each k.each }
 
 -- the series' views, with those of the records that are looked at in their place
-record Thirds (s : Trace) (before after : List (List ℕ)) (views : List View) : Type 0 where
-  prefix : List View
-  back : List View
-  first : AreViewsOf before prefix
-  second : AreViewsOf after back
-  channel : AllByRecursion (λ (v : View). IsTrue (is_of_channel s.codes v)) (prefix ++ (views ++ back))
-  continuous : IsContinuous (prefix ++ (views ++ back))
-  series : IsSeriesOf s (prefix ++ (views ++ back))
+pub record Thirds (s : Trace) (before after : List (List ℕ)) (views : List View) : Type 0 where
+  pub prefix : List View
+  pub back : List View
+  pub first : AreViewsOf before prefix
+  pub second : AreViewsOf after back
+  pub channel : AllByRecursion (λ (v : View). IsTrue (is_of_channel s.codes v)) views
+  pub continuous : IsContinuous (prefix ++ (views ++ back))
+  pub series : IsSeriesOf s (prefix ++ (views ++ back))
 
-thirds : (s : Trace) (before held after : List (List ℕ)) (views : List View) → ReadsAs s (before ++ (held ++ after))
-    → AreViewsOf held views → Thirds s before after views
+pub thirds : (s : Trace) (before held after : List (List ℕ)) (views : List View)
+    → ReadsAs s (before ++ (held ++ after)) → AreViewsOf held views → Thirds s before after views
 thirds s before held after views reads are =
     let cut = halves before (held ++ after) reads.views reads.are_views.bytes reads.are_views.each in
     let rest = halves held after cut.back cut.second.bytes cut.second.each in
-    let others = views_joined before (held ++ after) cut.prefix (views ++ rest.back) cut.first
-    (views_joined held after views rest.back are rest.second) in
-    let same : reads.views ≡ cut.prefix ++ (views ++ rest.back) =
-    sym (reads.only (cut.prefix ++ (views ++ rest.back)) others) in
+    let same = sym (reads.only (cut.prefix ++ (views ++ rest.back)) (views_joined before (held ++ after) cut.prefix
+    (views ++ rest.back) cut.first (views_joined held after views rest.back are rest.second))) in
     record {
       prefix = cut.prefix;
       back = rest.back;
       first = cut.first;
       second = rest.second;
-      channel = subst (λ (vs : List View). AllByRecursion (λ (v : View). IsTrue (is_of_channel s.codes v)) vs) same
-          reads.channel;
-      continuous = subst (λ (vs : List View). IsContinuous vs) same reads.continuous;
-      series = subst (λ (vs : List View). IsSeriesOf s vs) same reads.series;
+      channel = all_prefix (λ (v : View). IsTrue (is_of_channel s.codes v)) views rest.back
+          (all_back (λ (v : View). IsTrue (is_of_channel s.codes v)) cut.prefix (views ++ rest.back)
+          (rw same at reads.channel));
+      continuous = rw same at reads.continuous;
+      series = rw same at reads.series;
     }
-
-of_channel : (s : Trace) (before held after : List (List ℕ)) (views : List View)
-    → ReadsAs s (before ++ (held ++ after)) → AreViewsOf held views
-    → AllByRecursion (λ (v : View). IsTrue (is_of_channel s.codes v)) views
-of_channel s before held after views reads are =
-    let cut = thirds s before held after views reads are in
-    all_prefix (λ (v : View). IsTrue (is_of_channel s.codes v)) views cut.back
-    (all_back (λ (v : View). IsTrue (is_of_channel s.codes v)) cut.prefix (views ++ cut.back) cut.channel)
-
-none_of : (held : List (List ℕ)) → bytes_in [] ≡ held → held ≡ []
-none_of held e = sym e
 
 pub continuous : (s : Trace) (before held after : List (List ℕ)) (views : List View)
     → ReadsAs s (before ++ (held ++ after)) → AreViewsOf held views → held ≢ [] → IsContinuous views
 continuous s before held after views reads are some =
     let cut = thirds s before held after views reads are in
     record {
-      some = λ (none : views ≡ []). some (none_of held (subst (λ (vs : List View). bytes_in vs ≡ held) none are.bytes));
+      some = λ (none : views ≡ []). some (sym are.bytes ∙ ap (λ (vs : List View). bytes_in vs) none);
       each = all_prefix IsSound views cut.back (all_back IsSound cut.prefix (views ++ cut.back) cut.continuous.each);
       follow = neighbours_prefix Follows views cut.back
           (neighbours_back Follows cut.prefix (views ++ cut.back) cut.continuous.follow);
     }
 
-first_of_channel : (s : Trace) (first : View) (rest views : List View) → views ≡ first ∷ rest
-    → AllByRecursion (λ (v : View). IsTrue (is_of_channel s.codes v)) views → s.codes ≡ key_at first.bytes
-first_of_channel s first rest views e h =
-    let all : AllByRecursion (λ (v : View). IsTrue (is_of_channel s.codes v)) (first ∷ rest) =
-    subst (λ (vs : List View). AllByRecursion (λ (v : View). IsTrue (is_of_channel s.codes v)) vs) e h in
-    key_of s.codes first all.0
+keys : (s : Trace) (views : List View) → AllByRecursion (λ (v : View). IsTrue (is_of_channel s.codes v)) views
+    → AllByRecursion (λ (v : View). key_at v.bytes ≡ s.codes) views
+keys s [] h = tt
+keys s (v ∷ vs) h = (sym (key_of s.codes v h.0), keys s vs h.1)
 
 pub is_part : ((vs : List View) (xs ys : List ℤ) → AreJoined vs xs → AreJoined vs ys → xs ≡ ys)
     → (s part : Trace) (before held after : List (List ℕ)) (views : List View) → ReadsAs s (before ++ (held ++ after))
@@ -137,24 +115,22 @@ is_part same s part before held after views reads are series =
     let cut = thirds s before held after views reads are in
     let outer = shares cut.prefix (views ++ cut.back) s.samples cut.series.samples in
     let inner = shares views cut.back outer.later outer.second in
-    let middle : inner.older ≡ part.samples = same views inner.older part.samples inner.first series.samples in
     record {
       older = outer.older;
       later = inner.later;
-      samples = outer.parts ∙ ap (λ (xs : List ℤ). outer.older ++ xs) (inner.parts ∙ (λ i. middle i ++ inner.later));
+      samples = outer.parts ∙ ap (λ (xs : List ℤ). outer.older ++ xs) (inner.parts ∙ ap (λ (xs : List ℤ). xs
+          ++ inner.later) (same views inner.older part.samples inner.first series.samples));
       before_it = (cut.prefix, cut.first, outer.first);
       after_it = (cut.back, cut.second, inner.second);
-      codes = series.codes ∙ sym (first_of_channel s series.first series.rest views series.parts
-          (of_channel s before held after views reads are));
+      codes = series.codes ∙ (rw series.parts at (keys s views cut.channel)).0;
     }
 
 assembled_of : (views : List View) (ps : List Placed) (answer : Result Trace NotContinuous) → views_in ps ≡ views
     → IsContinuous views → IsSeries answer ps → IsAssembled answer views
-assembled_of views ps (Ok t) same continuous is = (continuous, subst (λ (vs : List View). IsSeriesOf t vs) same is.1)
+assembled_of views ps (Ok t) same continuous is = (continuous, rw same at is.1)
 assembled_of views ps (Err Absent) same continuous is =
     continuous.some (sym same ∙ ap (λ (qs : List Placed). views_in qs) is)
-assembled_of views ps (Err (Broken first)) same continuous is =
-    is.0 (subst (λ (vs : List View). IsContinuous vs) (sym same) continuous)
+assembled_of views ps (Err (Broken first)) same continuous is = is.0 (rw same continuous)
 assembled_of views ps (Err Memory) same continuous is = tt
 
 pub assembled : (s : Trace) (before held after : List (List ℕ)) (views : List View)
@@ -162,7 +138,7 @@ pub assembled : (s : Trace) (before held after : List (List ℕ)) (views : List 
     → held ≢ [] → IsSeries answer (records_of s.codes (added_from 0 views)) → IsAssembled answer views
 assembled s before held after views answer reads are some is =
     assembled_of views (records_of s.codes (added_from 0 views)) answer
-    (views_filtered s.codes 1 0 views ∙ all_kept s.codes views (of_channel s before held after views reads are))
+    (views_filtered s.codes 1 0 views ∙ all_kept s.codes views (thirds s before held after views reads are).channel)
     (continuous s before held after views reads are some) is
 
 pub have_views : (s : Trace) (before held after : List (List ℕ)) → ReadsAs s (before ++ (held ++ after))
@@ -179,16 +155,9 @@ all_long s o (p ∷ ps) h = (packed_length s o p h.0, all_long s o ps h.1)
 
 pub same_length : (s : Trace) (o : Options) (records : List (List ℕ)) → IsPacking s o records
     → AllByRecursion (λ (r : List ℕ). length r ≡ 2 ^ o.exponent) records
-same_length s o records k =
-    subst (λ (rs : List (List ℕ)). AllByRecursion (λ (r : List ℕ). length r ≡ 2 ^ o.exponent) rs) k.bytes
-    (all_long s o k.pieces k.each)
-
-keys : (s : Trace) (views : List View) → AllByRecursion (λ (v : View). IsTrue (is_of_channel s.codes v)) views
-    → AllByRecursion (λ (v : View). key_at v.bytes ≡ s.codes) views
-keys s [] h = tt
-keys s (v ∷ vs) h = (sym (key_of s.codes v h.0), keys s vs h.1)
+same_length s o records k = rw k.bytes at (all_long s o k.pieces k.each)
 
 pub of_key : (s : Trace) (before held after : List (List ℕ)) (views : List View)
     → ReadsAs s (before ++ (held ++ after)) → AreViewsOf held views
     → AllByRecursion (λ (v : View). key_at v.bytes ≡ s.codes) views
-of_key s before held after views reads are = keys s views (of_channel s before held after views reads are)
+of_key s before held after views reads are = keys s views (thirds s before held after views reads are).channel

@@ -1,6 +1,6 @@
 -- Bytes of whole frames are reported by their words' codes and bits, X0 and Xn.
 use Rattle.std.proofs.Common.{◌≡◌, ◌≢◌, ℕ, zero, suc, ◌+◌, ◌-◌, ◌*◌, ◌/◌, ◌%◌, ◌^◌, ◌<◌, ◌≤◌, List, ◌∷◌, length, drop}
-use Rattle.std.proofs.Common.{get_or, refl, sym, ap, subst, ◌∙◌, arith, ◌⊎◌, inl, inr, ⊎_elim}
+use Rattle.std.proofs.Common.{get_or, sym, ap, subst, ◌∙◌, arith, ◌⊎◌, inl, inr}
 use Rattle.std.proofs.Math.Nat.{div-div-eq-div-mul}
 use Rattle.std.proofs.lemmas.Nat.{pow-add}
 use Rattle.std.proofs.lemmas.Bool.{cases_eq, cases_lt}
@@ -9,8 +9,9 @@ use Rattle.std.proofs.lemmas.Int.{ints}
 use Rattle.std.proofs.lemmas.List.{ext_get_or, get_or-drop}
 use Rattle.byteorder.specs.Endian.{twos_complement}
 use Rattle.byteorder.specs.Numbers.{big_from-lt}
-use Rattle.mseed_steim.specs.Frames.{DataWord, words_from, data_words, word_at, code_at, word_count}
-use Rattle.mseed_steim.specs.Frames.{first_constant, last_constant}
+use Rattle.mseed_steim.specs.Frames.{words_from, data_words, word_at, code_at, word_count}
+use Rattle.mseed_steim.specs.Frames.{AreOctets, first_constant, last_constant}
+use Rattle.byteorder.specs.Endian.{big_number}
 use Rattle.mseed_steim.proofs.Walking.{words_skip, words_step}
 use Rattle.mseed_steim_pack.specs.Packing.{contents}
 
@@ -27,37 +28,22 @@ head_alike a b c d xs ys e =
 each_alike : (p q : List ℕ) (k n : ℕ) → contents (words_from p k n) ≡ contents (words_from q k n) → (i : ℕ) → k ≤ i
     → i < k + n → i % 16 ≢ 0 → Alike p q i
 each_alike p q k zero e i low high plain = absurd (omega (arith, low, high))
-each_alike p q k (suc n) e i low high plain = ⊎_elim
-    (λ (first : k % 16 ≡ 0).
-    let rest : contents (words_from p (k + 1) n) ≡ contents (words_from q (k + 1) n) =
-    ap (λ (ws : List DataWord). contents ws) (sym (words_skip p k n first)) ∙ e
-    ∙ ap (λ (ws : List DataWord). contents ws) (words_skip q k n first) in
-    ⊎_elim
-    (λ (same : k ≡ i). absurd (plain (subst (λ (m : ℕ). m % 16 ≡ 0) same first)))
-    (λ (other : k ≡ i → ⊥). each_alike p q (k + 1) n rest i (above k i low other) (omega (arith, high)) plain)
-    (cases_eq k i))
-    (λ (word : k % 16 ≡ 0 → ⊥).
-    let both : (code_at p k, word_at p k) ∷ contents (words_from p (k + 1) n) ≡ (code_at q k, word_at q k) ∷ contents
-    (words_from q (k + 1) n) =
-    ap (λ (ws : List DataWord). contents ws) (sym (words_step p k n word)) ∙ e
-    ∙ ap (λ (ws : List DataWord). contents ws) (words_step q k n word) in
-    let parts = head_alike (code_at p k) (word_at p k) (code_at q k) (word_at q k) (contents (words_from p (k + 1) n))
-    (contents (words_from q (k + 1) n)) both in
-    ⊎_elim
-    (λ (same : k ≡ i). subst (λ (m : ℕ). Alike p q m) same (parts.0, parts.1))
-    (λ (other : k ≡ i → ⊥). each_alike p q (k + 1) n parts.2 i (above k i low other) (omega (arith, high)) plain)
-    (cases_eq k i))
-    (cases_eq (k % 16) 0)
-  where
-    above : (k i : ℕ) → k ≤ i → (k ≡ i → ⊥) → k + 1 ≤ i
-    above k i low other = omega (arith, low, other)
+each_alike p q k (suc n) e i low high plain = elim (cases_eq (k % 16) 0) [
+  | inl first ↦
+      each_alike p q (k + 1) n (rw (words_skip p k n first, words_skip q k n first) at e) i
+      (omega (arith, low, first, plain)) (omega (arith, high)) plain
+  | inr word ↦
+      let parts = head_alike (code_at p k) (word_at p k) (code_at q k) (word_at q k) (contents (words_from p (k + 1) n))
+      (contents (words_from q (k + 1) n)) (rw (words_step p k n word, words_step q k n word) at e) in
+      elim (cases_eq k i) [
+        | inl same ↦ subst (λ (m : ℕ). Alike p q m) same (parts.0, parts.1)
+        | inr other ↦ each_alike p q (k + 1) n parts.2 i (omega (arith, low, other)) (omega (arith, high)) plain
+      ]
+]
 
 -- two's complement tells the number
 one_complement : (x y : ℕ) → x < 2 ^ 32 → y < 2 ^ 32 → twos_complement 4 x ≡ twos_complement 4 y → x ≡ y
 one_complement x y a b e = grind (arith, nat_tests, ints)
-
-abbrev pub Octets : List ℕ → Type 0
-Octets p = (i : ℕ) → get_or p i 0 < 256
 
 -- sixteen codes tell the word that holds them
 quarters : (w v n : ℕ) → w / 2 ^ (2 * n) ≡ v / 2 ^ (2 * n)
@@ -85,92 +71,69 @@ code_of_frame p frame k h =
     ∙ ap (λ (j : ℕ). word_at p (16 * frame) / 2 ^ (30 - 2 * j) % 4) place.1
     ∙ ap (λ (m : ℕ). word_at p (16 * frame) / 2 ^ m % 4) shift
 
-word_lt : (p : List ℕ) → Octets p → (k : ℕ) → word_at p k < 2 ^ 32
-word_lt p octets k = big_from-lt 0 4 (drop (4 * k) p)
-    (λ i. subst (λ (b : ℕ). b < 256) (sym (get_or-drop (4 * k) p i 0)) (octets (4 * k + i)))
+pub octets_behind : (n : ℕ) (p : List ℕ) → AreOctets p → AreOctets (drop n p)
+octets_behind n p octets i = rw get_or-drop (octets (n + i))
 
-no_higher : (w : ℕ) → w < 2 ^ 32 → w / 2 ^ (2 * 16) ≡ 0
-no_higher w h = omega (arith, h)
+word_lt : (p : List ℕ) → AreOctets p → (k : ℕ) → word_at p k < 2 ^ 32
+word_lt p octets k = big_from-lt 0 4 (drop (4 * k) p) (octets_behind (4 * k) p octets)
 
-frame_word : (p q : List ℕ) → Octets p → Octets q → (frame : ℕ)
+frame_word : (p q : List ℕ) → AreOctets p → AreOctets q → (frame : ℕ)
     → ((j : ℕ) → j < 16 → code_at p (16 * frame + j) ≡ code_at q (16 * frame + j))
     → word_at p (16 * frame) ≡ word_at q (16 * frame)
 frame_word p q a b frame codes =
     quarters (word_at p (16 * frame)) (word_at q (16 * frame)) 16
-    (no_higher (word_at p (16 * frame)) (word_lt p a (16 * frame))
-    ∙ sym (no_higher (word_at q (16 * frame)) (word_lt q b (16 * frame))))
+    (omega (arith, word_lt p a (16 * frame), word_lt q b (16 * frame)))
     (λ k h. sym (code_of_frame p frame k h) ∙ codes (15 - k) (omega arith) ∙ code_of_frame q frame k h)
 
--- four bytes are reported by their number
-four_bytes : (a b c d e f g h : ℕ) → a < 256 → b < 256 → c < 256 → d < 256 → e < 256 → f < 256 → g < 256 → h < 256
-    → a * 256 ^ 3 + (b * 256 ^ 2 + (c * 256 ^ 1 + (d * 256 ^ 0 + 0))) ≡ e * 256 ^ 3
-    + (f * 256 ^ 2 + (g * 256 ^ 1 + (h * 256 ^ 0 + 0))) → (a ≡ e) × (b ≡ f) × (c ≡ g) × (d ≡ h)
-four_bytes a b c d e f g h la lb lc ld le lf lg lh same =
-    let first : a ≡ e = omega arith in
-    let second : b ≡ f = omega arith in
-    let third : c ≡ g = omega arith in
-    (first, second, third, omega arith)
+-- a word tells its bytes
+byte_is : (xs : List ℕ) → AreOctets xs → (j : ℕ) → j < 4
+    → get_or xs j 0 ≡ big_number 4 xs / 256 ^ (3 - j) % 256
+byte_is xs o zero h = omega (arith, o 0, o 1, o 2, o 3)
+byte_is xs o (suc zero) h = omega (arith, o 0, o 1, o 2, o 3)
+byte_is xs o (suc (suc zero)) h = omega (arith, o 0, o 1, o 2, o 3)
+byte_is xs o (suc (suc (suc zero))) h = omega (arith, o 0, o 1, o 2, o 3)
+byte_is xs o (suc (suc (suc (suc j)))) h = absurd (omega (arith, h))
 
-byte_of_word : (p q : List ℕ) → Octets p → Octets q → (k : ℕ) → word_at p k ≡ word_at q k → (j : ℕ) → j < 4
+byte_of_word : (p q : List ℕ) → AreOctets p → AreOctets q → (k : ℕ) → word_at p k ≡ word_at q k → (j : ℕ) → j < 4
     → get_or p (4 * k + j) 0 ≡ get_or q (4 * k + j) 0
-byte_of_word p q a b k e j h =
-    let at : (xs : List ℕ) → Octets xs → (i : ℕ) → get_or (drop (4 * k) xs) i 0 < 256 =
-    λ xs o i. subst (λ (x : ℕ). x < 256) (sym (get_or-drop (4 * k) xs i 0)) (o (4 * k + i)) in
-    let all = four_bytes _ _ _ _ _ _ _ _ (at p a 0) (at p a 1) (at p a 2) (at p a 3) (at q b 0) (at q b 1) (at q b 2)
-    (at q b 3) e in
-    sym (get_or-drop (4 * k) p j 0) ∙ one_of j h all.0 all.1 all.2 all.3 ∙ get_or-drop (4 * k) q j 0
-  where
-    one_of : (j : ℕ) → j < 4 → get_or (drop (4 * k) p) 0 0 ≡ get_or (drop (4 * k) q) 0 0
-        → get_or (drop (4 * k) p) 1 0 ≡ get_or (drop (4 * k) q) 1 0
-        → get_or (drop (4 * k) p) 2 0 ≡ get_or (drop (4 * k) q) 2 0
-        → get_or (drop (4 * k) p) 3 0 ≡ get_or (drop (4 * k) q) 3 0
-        → get_or (drop (4 * k) p) j 0 ≡ get_or (drop (4 * k) q) j 0
-    one_of zero h w x y z = w
-    one_of (suc zero) h w x y z = x
-    one_of (suc (suc zero)) h w x y z = y
-    one_of (suc (suc (suc zero))) h w x y z = z
-    one_of (suc (suc (suc (suc j)))) h w x y z = absurd (omega arith)
+byte_of_word p q a b k e j h = rw (← get_or-drop (4 * k) p j 0, ← get_or-drop (4 * k) q j 0)
+    (rw (byte_is (drop (4 * k) p) (octets_behind (4 * k) p a) j h)
+    (rw (byte_is (drop (4 * k) q) (octets_behind (4 * k) q b) j h, e)))
 
 -- Frames with the same data words, X0 and Xn, and no codes for what holds no differences, are the same bytes.
-pub same_payload : (p q : List ℕ) → Octets p → Octets q → length p ≡ length q → length p % 64 ≡ 0
+pub same_payload : (p q : List ℕ) → AreOctets p → AreOctets q → length p ≡ length q → length p % 64 ≡ 0
     → contents (data_words p) ≡ contents (data_words q) → first_constant p ≡ first_constant q
     → last_constant p ≡ last_constant q
     → ((k : ℕ) → k < word_count p → (k < 3) ⊎ (k % 16 ≡ 0) → code_at p k ≡ 0)
     → ((k : ℕ) → k < word_count q → (k < 3) ⊎ (k % 16 ≡ 0) → code_at q k ≡ 0) → p ≡ q
 same_payload p q a b size whole words first last p_codes q_codes =
     let count : word_count q ≡ word_count p = ap (λ (n : ℕ). 16 * (n / 64)) (sym size) in
-    let same_words : contents (words_from p 3 (word_count p - 3)) ≡ contents (words_from q 3 (word_count p - 3)) =
-    words ∙ ap (λ (n : ℕ). contents (words_from q 3 (n - 3))) count in
     let inner : (i : ℕ) → 3 ≤ i → i < word_count p → i % 16 ≢ 0 → Alike p q i =
-    λ i low high plain. each_alike p q 3 (word_count p - 3) same_words i low (omega (arith, low, high)) plain in
+    λ i low high. each_alike p q 3 (word_count p - 3) (rw count at words) i low (omega (arith, low, high)) in
     let none : (i : ℕ) → i < word_count p → (i < 3) ⊎ (i % 16 ≡ 0) → code_at p i ≡ code_at q i =
     λ i high h. p_codes i high h ∙ sym (q_codes i (omega (arith, high, count)) h) in
-    let codes : (i : ℕ) → i < word_count p → code_at p i ≡ code_at q i = λ i high. ⊎_elim
-    (λ (low : i < 3). none i high (inl low))
-    (λ (up : 3 ≤ i). ⊎_elim (λ (prefix : i % 16 ≡ 0). none i high (inr prefix))
-    (λ (plain : i % 16 ≡ 0 → ⊥). (inner i up high plain).0) (cases_eq (i % 16) 0))
-    (cases_lt i 3) in
-    let prefixes : (i : ℕ) → i < word_count p → i % 16 ≡ 0 → word_at p i ≡ word_at q i = λ i high prefix.
-    let place : 16 * (i / 16) ≡ i = omega (arith, prefix) in
-    subst (λ (n : ℕ). word_at p n ≡ word_at q n) place
-    (frame_word p q a b (i / 16) (λ j h. codes (16 * (i / 16) + j) (omega (arith, h, high, prefix)))) in
+    let codes : (i : ℕ) → i < word_count p → code_at p i ≡ code_at q i = λ i high. elim (cases_eq (i % 16) 0) [
+      | inl head ↦ none i high (inr head)
+      | inr plain ↦ elim (cases_lt i 3) [
+        | inl low ↦ none i high (inl low)
+        | inr up ↦ (inner i up high plain).0
+      ]
+    ] in
     let one = one_complement (word_at p 1) (word_at q 1) (word_lt p a 1) (word_lt q b 1) first in
     let two = one_complement (word_at p 2) (word_at q 2) (word_lt p a 2) (word_lt q b 2) last in
-    let all : (i : ℕ) → i < word_count p → word_at p i ≡ word_at q i = λ i high. ⊎_elim
-    (λ (prefix : i % 16 ≡ 0). prefixes i high prefix)
-    (λ (plain : i % 16 ≡ 0 → ⊥). ⊎_elim
-    (λ (low : i < 3). constants p q i low plain one two)
-    (λ (up : 3 ≤ i). (inner i up high plain).1)
-    (cases_lt i 3))
-    (cases_eq (i % 16) 0) in
+    let all : (i : ℕ) → i < word_count p → word_at p i ≡ word_at q i = λ i high. elim (cases_eq (i % 16) 0) [
+      | inl head ↦
+          let place : 16 * (i / 16) ≡ i = omega (arith, head) in
+          rw place at (frame_word p q a b (i / 16)
+          (λ j h. codes (16 * (i / 16) + j) (omega (arith, h, high, head))))
+      | inr plain ↦ elim (cases_lt i 3) [
+        | inl low ↦ elim (cases_eq i 1) [
+          | inl same ↦ rw same one
+          | inr other ↦ let same : i ≡ 2 = omega (arith, low, plain, other) in rw same two
+        ]
+        | inr up ↦ (inner i up high plain).1
+      ]
+    ] in
     ext_get_or 0 p q size (λ i h.
     let place : 4 * (i / 4) + i % 4 ≡ i = omega arith in
-    subst (λ (n : ℕ). get_or p n 0 ≡ get_or q n 0) place
-    (byte_of_word p q a b (i / 4) (all (i / 4) (omega (arith, h, whole))) (i % 4) (omega arith)))
-  where
-    constants : (p q : List ℕ) (i : ℕ) → i < 3 → (i % 16 ≡ 0 → ⊥) → word_at p 1 ≡ word_at q 1
-        → word_at p 2 ≡ word_at q 2 → word_at p i ≡ word_at q i
-    constants p q zero low plain one two = absurd (plain refl)
-    constants p q (suc zero) low plain one two = one
-    constants p q (suc (suc zero)) low plain one two = two
-    constants p q (suc (suc (suc i))) low plain one two = absurd (omega arith)
+    rw place at (byte_of_word p q a b (i / 4) (all (i / 4) (omega (arith, h, whole))) (i % 4) (omega arith)))

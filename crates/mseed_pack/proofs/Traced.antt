@@ -1,11 +1,10 @@
 -- What is so of the series of a channel's records.
-use Rattle.std.proofs.Common.{◌≡◌, ◌≢◌, ℕ, zero, suc, ℤ, pos, negsuc, ◌+◌, ◌*◌, ◌/◌, ◌^◌, ◌<◌, ◌≤◌, ◌+ℤ◌, ◌-ℤ◌}
-use Rattle.std.proofs.Common.{List, [], ◌∷◌, ◌++◌, length, get_or, Bool, true, false, cond, Option, Some, None, IsSome}
-use Rattle.std.proofs.Common.{FitsSigned, sym, ap, subst, ◌∙◌, arith, length-append}
+use Rattle.std.proofs.Common.{◌≡◌, ◌≢◌, ℕ, zero, suc, ℤ, pos, negsuc, ◌+◌, ◌*◌, ◌^◌, ◌<◌, ◌≤◌, ◌+ℤ◌}
+use Rattle.std.proofs.Common.{List, [], ◌∷◌, ◌++◌, length, get_or, Option, Some, None, IsSome}
+use Rattle.std.proofs.Common.{FitsSigned, sym, ap, ◌∙◌, arith, length-append}
 use Rattle.std.specs.Prelude.{flat_map, neg_ℤ, ◌≤ℤ◌, ◌*ℤ◌}
 use Rattle.std.specs.Int.{w16}
 use Rattle.std.specs.List.{filter, AllByRecursion}
-use Rattle.std.proofs.Math.Nat.{zero-div}
 use Rattle.std.proofs.lemmas.Bool.{false≢true}
 use Rattle.std.proofs.lemmas.Bool.Decides.{nat_tests}
 use Rattle.std.proofs.lemmas.Int.{ints}
@@ -27,17 +26,18 @@ use Rattle.mseed_record.proofs.Called.{record_long}
 use Rattle.mseed_steim.specs.Reading.{count_of}
 use Rattle.mseed_stream.proofs.Records.{view_record}
 use Rattle.mseed_audit.specs.Channels.{is_of_channel}
-use Rattle.mseed_audit.specs.Follows.{IsContinuous, IsSound}
+use Rattle.mseed_audit.specs.Follows.{IsContinuous}
 use Rattle.mseed_audit.specs.Judging.{rate_unless, rate_in, time_fault_of, step_in}
 use Rattle.mseed_audit.specs.Series.{Trace, AreJoined, none, one, AreStepsFrom, AreSteps, IsSeriesOf, step_at}
 use Rattle.mseed_audit.specs.Series.{steps_from}
 use Rattle.mseed_audit.proofs.Joined.{count_is}
-use Rattle.mseed_pack.specs.Clock.{added_before, instant_at}
+use Rattle.mseed_pack.specs.Clock.{instant_at}
 use Rattle.mseed_pack.specs.Fitting.{Fits}
 use Rattle.mseed_pack.specs.Outcome.{IsTrace}
 use Rattle.mseed_pack.specs.Packing.{IsPacked, IsPacking, Piece, ArePlaced}
 use Rattle.mseed_pack.specs.declared.options.Options.{Options}
-use Rattle.mseed_pack.proofs.Leaps.{all_left}
+use Rattle.std.proofs.lemmas.List.Elements.{All-filter, All-from_recursion, recursion_from_All}
+use Rattle.mseed_pack.proofs.Times.{reading_first}
 
 -- a number of two bytes
 number_small : (order : Order) (b : List ℕ) (o : ℕ) → ((i : ℕ) → get_or b i 0 < 256) → number_at order 2 o b < 2 ^ 16
@@ -81,11 +81,8 @@ steps_in place (v ∷ vs) _ (one _ _ first rest is later) =
     let some : 0 < n = is.0.some in
     let size : place + n + length rest ≡ place + length (first ++ rest) =
     omega (arith, count, length-append first rest) in
-    let behind : AreStepsFrom (place + n) (place + length (first ++ rest)) (steps_from (place + n) vs) =
-    subst (λ (m : ℕ). AreStepsFrom (place + n) m (steps_from (place + n) vs)) size
-    (steps_in (place + n) vs rest later) in
     one_step place n (place + length (first ++ rest)) (step_in (leap_of v.bytes)) (steps_from (place + n) vs) some
-    (omega (arith, size)) behind
+    (omega (arith, size)) (rw size at (steps_in (place + n) vs rest later))
 
 -- the instants that have a name
 within : (day : ℤ) (hour minute second fraction : ℕ) (us instant : ℤ) → neg_ℤ (pos 30_000) ≤ℤ day → day ≤ℤ pos 50_000
@@ -106,60 +103,43 @@ named instant t us n =
     within (day_of t.year t.day) t.hour t.minute t.second t.fraction us instant day.0 day.1 valid.4 valid.5 valid.6
     valid.7 n.low n.high n.value
 
-first_at : (start added : ℤ) (den num : ℕ) → added ≡ pos 0 → start +ℤ pos (0 * den * 10 ^ 6 / num) -ℤ added ≡ start
-first_at start added den num none_added =
-    let way : 0 * den * 10 ^ 6 ≡ 0 = omega arith in
-    let none_passed : 0 * den * 10 ^ 6 / num ≡ 0 = ap (λ (n : ℕ). n / num) way ∙ zero-div num in
-    omega (arith, ints, none_added, none_passed)
-
 -- the first sample has the instant at which the series starts
 start_within : (s : Trace) (o : Options) (pieces : List Piece) (samples : List ℤ) → AreSteps (length s.samples) s.steps
     → samples ≢ [] → flat_map (λ (p : Piece). p.samples) pieces ++ [] ≡ samples → ArePlaced 0 0 pieces
     → AllByRecursion (IsPacked s o) pieces → IsInstant s.start
 start_within s o [] samples steps some joined placed each = absurd (some (sym joined))
 start_within s o (p ∷ ps) samples steps some joined placed each =
-    let names = each.0.fields.start in
-    let first : instant_at s 0 ≡ s.start =
-    first_at s.start (added_before s.steps 0) (ratio_of s.rate).den (ratio_of s.rate).num
-    (all_left (length s.samples) s.steps steps).1 in
-    let at : instant_at s p.first ≡ s.start = ap (λ (n : ℕ). instant_at s n) placed.1 ∙ first in
-    named s.start each.0.header.start each.0.header.microseconds
-    (subst (λ (z : ℤ). Names z each.0.header.start each.0.header.microseconds) at names)
+    let first : instant_at s p.first ≡ s.start =
+    rw placed.1 (reading_first s.start (ratio_of s.rate) s.steps (length s.samples) steps) in
+    named s.start each.0.header.start each.0.header.microseconds (rw first at each.0.fields.start)
 
 -- each record of a channel is one
 pub kept_views : (key : List ℕ) (vs : List View) → AllByRecursion IsView vs
     → AllByRecursion IsView (filter (is_of_channel key) vs)
-kept_views key [] h = tt
-kept_views key (v ∷ vs) h = by (is_of_channel key v) (kept_views key vs h.1)
-  where
-    by : (b : Bool) → AllByRecursion IsView (filter (is_of_channel key) vs)
-        → AllByRecursion IsView (cond b (v ∷ filter (is_of_channel key) vs) (filter (is_of_channel key) vs))
-    by true rest = (h.0, rest)
-    by false rest = rest
+kept_views key vs h = recursion_from_All IsView (filter (is_of_channel key) vs)
+    (All-filter (is_of_channel key) IsView vs (All-from_recursion IsView vs h))
 
 -- what is so of the trace of every series, of that of records
 pub is_trace : (s : Trace) (o : Options) (vs : List View) (records : List (List ℕ)) → AllByRecursion IsView vs
     → IsContinuous vs → IsSeriesOf s vs → Fits s o → IsPacking s o records → IsTrace s
 is_trace s o vs records each continuous series fits packing =
     let first : View = series.first in
-    let view : IsView first = (subst (λ (ws : List View). AllByRecursion IsView ws) series.parts each).0 in
-    let sound : IsSound first =
-    (subst (λ (ws : List View). AllByRecursion IsSound ws) series.parts continuous.each).0 in
+    let view = (rw series.parts at each).0 in
+    let sound = (rw series.parts at continuous.each).0 in
     let octets = view.1.1.1.record_is.octets in
     let counts = rate_counts (factor_at first.order first.bytes) (multiplier_at first.order first.bytes)
     (some_rate (time_fault_of first) (rate_in first) sound.timed) in
     let size : 0 + length s.samples ≡ length s.samples = omega arith in
     let steps : AreSteps (length s.samples) s.steps =
-    subst (λ (ts : List (ℕ × LeapStep)). AreSteps (length s.samples) ts) (sym series.steps)
-    (subst (λ (n : ℕ). AreStepsFrom 0 n (steps_from 0 vs)) size (steps_in 0 vs s.samples series.samples)) in
+    rw series.steps (rw size at (steps_in 0 vs s.samples series.samples)) in
     record {
       key = ap (λ (k : List ℕ). length k) series.codes
           ∙ key_long first.bytes (omega (arith, record_long first.bytes (view_record first view)));
       start = start_within s o packing.pieces s.samples steps fits.some packing.joined packing.placed packing.each;
-      factor = subst (λ (z : ℤ). FitsSigned w16 z) (sym series.factor)
+      factor = rw series.factor
           (fits_16 (number_at first.order 2 32 first.bytes) (number_small first.order first.bytes 32 octets));
       factor_counts = λ e. counts.0 (sym series.factor ∙ e);
-      multiplier = subst (λ (z : ℤ). FitsSigned w16 z) (sym series.multiplier)
+      multiplier = rw series.multiplier
           (fits_16 (number_at first.order 2 34 first.bytes) (number_small first.order first.bytes 34 octets));
       multiplier_counts = λ e. counts.1 (sym series.multiplier ∙ e);
       steps = steps;

@@ -1,12 +1,12 @@
 -- A packed record's bytes are a record, and its view says what was packed.
 use Rattle.std.proofs.Common.{◌≡◌, ◌≢◌, ℕ, zero, suc, ◌+◌, ◌-◌, ◌^◌, ◌<◌, ◌≤◌, ◌==◌, cond, List, [], ◌∷◌, length, take}
-use Rattle.std.proofs.Common.{drop, refl, sym, ap, subst, ◌∙◌, arith, ℤ, pos, negsuc, neg_ℤ, ◌≤ℤ◌, All, Option, Some}
+use Rattle.std.proofs.Common.{drop, refl, sym, ap, ◌∙◌, arith, ℤ, pos, negsuc, neg_ℤ, ◌≤ℤ◌, All, Option, Some}
 use Rattle.std.proofs.Common.{None, unwrap_or, length-append, FitsSigned, w8}
 use Rattle.std.specs.Prelude.{slice_get}
 use Rattle.std.specs.Int.{bit_at}
 use Rattle.std.proofs.Math.Pow.{pow_mono}
 use Rattle.std.proofs.lemmas.Bool.Decides.{nat_tests}
-use Rattle.std.proofs.lemmas.Int.{ints}
+use Rattle.std.proofs.lemmas.Int.{fits_signed_from_abs, ints}
 use Rattle.std.proofs.lemmas.List.{length-drop, length-take-le, length-take, take-take, take-append-drop}
 use Rattle.std.proofs.lemmas.List.Elements.{All-take, All-drop}
 use Rattle.mseed_time.specs.declared.order.Order.TheVariants.{Big}
@@ -42,7 +42,7 @@ use Rattle.mseed_pack.specs.Fitting.{IsSampleOf, Fits}
 use Rattle.mseed_pack.specs.Outcome.{IsTrace}
 use Rattle.mseed_pack.specs.Packing.{Piece, HoldsFrames, HoldsSamples, IsPacked}
 use Rattle.mseed_pack.specs.Stretches.{differences, span_end, left_of, flags_of, step_after}
-use Rattle.mseed_pack.proofs.Counted.{few_words, run_seven}
+use Rattle.mseed_pack.proofs.Room.{run_few, words_fit}
 use Rattle.mseed_pack.proofs.Spellings.{begins, length-all}
 use Rattle.mseed_pack.proofs.Leaps.{end_in}
 use Rattle.mseed_pack.proofs.Sums.{starts}
@@ -118,20 +118,23 @@ few_frames : (scheme : Scheme) (left samples : List ℤ) (frames : ℕ) (payload
     → HoldsFrames scheme left samples frames payload → length payload ≤ 4096 → length samples < 2 ^ 16
 few_frames scheme left samples frames payload within h few =
     let ws = data_words payload in
-    let most = run_seven scheme (take h.words ws) left (drop (length samples) left) h.packed in
-    let words : length (take h.words ws) ≡ h.words = length-take-le h.words ws h.inside in
-    let all = few_words payload in
-    let used = h.inside in
-    omega (arith, most, words, all, used, few, within, length-drop (length samples) left)
+    omega (
+      arith,
+      run_few scheme (take h.words ws) left (drop (length samples) left) h.packed,
+      length-take-le h.words ws h.inside,
+      words_fit payload,
+      h.inside,
+      few,
+      within,
+      length-drop (length samples) left,
+    )
 
 few_samples : (e : Encoding) (left samples : List ℤ) (frames : ℕ) (payload : List ℕ) → length samples ≤ length left
     → HoldsSamples e left samples frames payload → length payload ≤ 4096 → length samples < 2 ^ 16
 few_samples Int16 left samples frames payload within h few =
-    let size = ap (λ (xs : List ℕ). length xs) h.bytes in
-    omega (arith, size, few, simp (length-append, length-all) at size)
+    omega (arith, few, simp (length-append, length-all) at (ap (λ (xs : List ℕ). length xs) h.bytes))
 few_samples Int32 left samples frames payload within h few =
-    let size = ap (λ (xs : List ℕ). length xs) h.bytes in
-    omega (arith, size, few, simp (length-append, length-all) at size)
+    omega (arith, few, simp (length-append, length-all) at (ap (λ (xs : List ℕ). length xs) h.bytes))
 few_samples Steim1 left samples frames payload within h few =
     few_frames Steim1s left samples frames payload within h few
 few_samples Steim2 left samples frames payload within h few =
@@ -151,19 +154,19 @@ no_fault : (t : Parts) → IsTime t → first_fault t ≡ None
 no_fault t h = grind (arith, nat_tests)
 
 -- a rate that isn't 0 has its ratio
-has_ratio : (f m : ℤ) → f ≢ pos 0 → m ≢ pos 0
-    → rate_of f m ≡ Some (unwrap_or (rate_of f m) (record { num = 0; den = 0 }))
+pub has_ratio : (f m : ℤ) → f ≢ pos 0 → m ≢ pos 0
+    → (rate_of f m ≡ Some (unwrap_or (rate_of f m) (record { num = 0; den = 0 })))
+    × (0 < (unwrap_or (rate_of f m) (record { num = 0; den = 0 })).num)
 has_ratio (pos zero) m f_counts m_counts = absurd (f_counts refl)
 has_ratio (pos (suc f)) (pos zero) f_counts m_counts = absurd (m_counts refl)
-has_ratio (pos (suc f)) (pos (suc m)) f_counts m_counts = refl
-has_ratio (pos (suc f)) (negsuc m) f_counts m_counts = refl
+has_ratio (pos (suc f)) (pos (suc m)) f_counts m_counts = (refl, omega arith)
+has_ratio (pos (suc f)) (negsuc m) f_counts m_counts = (refl, omega arith)
 has_ratio (negsuc f) (pos zero) f_counts m_counts = absurd (m_counts refl)
-has_ratio (negsuc f) (pos (suc m)) f_counts m_counts = refl
-has_ratio (negsuc f) (negsuc m) f_counts m_counts = refl
+has_ratio (negsuc f) (pos (suc m)) f_counts m_counts = (refl, omega arith)
+has_ratio (negsuc f) (negsuc m) f_counts m_counts = (refl, omega arith)
 
 small_micros : (u : ℤ) → neg_ℤ (pos 50) ≤ℤ u → u ≤ℤ pos 49 → FitsSigned w8 u
-small_micros (pos n) low high = record { sfits = omega (arith, ints) }
-small_micros (negsuc n) low high = record { sfits = omega (arith, ints) }
+small_micros u low high = fits_signed_from_abs w8 u (omega (arith, ints, low, high))
 
 -- What the view of a record says that holds these samples of the series, with so many before them.
 pub record IsAt (s : Trace) (first : ℕ) (v : View) (samples : List ℤ) : Type 0 where
@@ -205,30 +208,24 @@ slice_of : (s : Trace) (o : Options) (p : Piece) → Fits s o
     → Slice o.encoding (left_of s p.first) p.samples
 slice_of s o p fits here k =
     let n = length p.samples in
-    let left : take n (left_of s p.first) ≡ take n (drop p.first (differences s.samples)) =
-    take-take n (span_end s p.first - p.first) (drop p.first (differences s.samples)) (short s p k.within) in
     record {
       some = k.some;
       within = k.within;
-      sums = λ first e. subst (λ (ds : List ℤ). StartsAndAdds first ds p.samples) (sym left)
-          (subst (λ (xs : List ℤ). StartsAndAdds first (take n (drop p.first (differences s.samples))) xs) (sym here)
-          (starts s.samples p.first n first
-          (first_take n (drop p.first s.samples) first
-          (subst (λ (xs : List ℤ). slice_get xs 0 ≡ Some first) here e))));
-      fit = subst (λ (xs : List ℤ). All (IsSampleOf o.encoding) xs) (sym here)
-          (All-take (IsSampleOf o.encoding) n (drop p.first s.samples)
+      sums = λ first e. rw (take-take n (span_end s p.first - p.first) (drop p.first (differences s.samples))
+          (short s p k.within))
+          (rw (← here) at (starts s.samples p.first n first
+          (first_take n (drop p.first s.samples) first (rw here at e))));
+      fit = rw here (All-take (IsSampleOf o.encoding) n (drop p.first s.samples)
           (All-drop (IsSampleOf o.encoding) p.first s.samples fits.samples));
     }
 
 -- what the header says fits its fields
 writable : (s : Trace) (o : Options) (p : Piece) → IsTrace s → (k : IsPacked s o p) → IsWritable k.header
 writable s o p trace k =
-    let size : length p.bytes ≡ 2 ^ k.header.exponent = k.headed.size in
-    let exponent : k.header.exponent ≤ 12 = rw k.fields.exponent o.short in
-    let long : 2 ^ k.header.exponent ≤ 4096 = pow_mono {i = k.header.exponent} {j = 12} exponent in
-    let payload : length (drop 64 p.bytes) ≤ 4096 = omega (arith, size, long, length-drop 64 p.bytes) in
+    let long : 2 ^ k.header.exponent ≤ 4096 =
+    pow_mono {i = k.header.exponent} {j = 12} (rw k.fields.exponent o.short) in
     let few = few_samples o.encoding (left_of s p.first) p.samples k.frames (drop 64 p.bytes) k.within k.payload
-    payload in
+    (omega (arith, k.headed.size, long, length-drop 64 p.bytes)) in
     record {
       key = ap (λ (xs : List ℕ). length xs) k.fields.key ∙ trace.key;
       time = k.fields.start.valid;
@@ -255,9 +252,7 @@ whole_of spells s o p k slice back =
         payload = back.has_payload;
         spelled = rw (payload, count) both.0;
       },
-      λ other e.
-          let same : form_in o.encoding ≡ other = cc (form, e) in
-          subst (λ (f : Form). EndsOnConstant f (payload_of v) p.samples) same (rw payload both.1),
+      λ other e. let same : other ≡ form_in o.encoding = cc (form, e) in rw (same, payload) both.1,
     )
 
 pub at : HeadersReadBack → PackedSpells → (s : Trace) (o : Options) (p : Piece) → IsTrace s → Fits s o
@@ -274,17 +269,16 @@ at headers spells s o p trace fits here k =
     let leap : leap_of v.bytes ≡ leap_by (flags_of (step_after s (p.first + length p.samples))) = ap leap_by flags in
     let tells = reported (step_after s (p.first + length p.samples)) in
     let within = short s p k.within in
-    let some = k.some in
     record {
       is_view = back.is_view;
-      some = some;
-      within = omega (arith, within, some);
+      some = k.some;
+      within = omega (arith, within, k.some);
       key = back.key ∙ k.fields.key;
       factor = factor;
       multiplier = multiplier;
       rate = known v k.header.start s.rate.factor s.rate.multiplier (ratio_of s.rate) back.time
           (no_fault k.header.start k.fields.start.valid) factor multiplier
-          (has_ratio s.rate.factor s.rate.multiplier trace.factor_counts trace.multiplier_counts);
+          (has_ratio s.rate.factor s.rate.multiplier trace.factor_counts trace.multiplier_counts).0;
       start = back.start ∙ k.fields.start.value;
       count = back.samples ∙ k.fields.samples;
       step = ap step_in leap ∙ tells.0;

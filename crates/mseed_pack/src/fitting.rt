@@ -74,7 +74,7 @@ pub fn fit_view(series: &SeriesView, options: &Options) -> Result<(), PackFault>
 }
 
 /// What the types of its parts say of each series.
-fn series_is_a_trace(series: &SeriesView)
+pub(crate) fn series_is_a_trace(series: &SeriesView)
     requires { AreSteps (length series.now.samples.now) series.now.steps.now }
     ensures { IsTrace (trace_of series.now) }
 {

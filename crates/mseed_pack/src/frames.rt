@@ -8,7 +8,8 @@ ghost use Rattle.mseed_steim_pack.specs.Packed.{IsRunPacked};
 ghost use Rattle.mseed_pack.specs.declared.window.TheConstants.{ROOM};
 ghost use Rattle.mseed_pack.specs.private.Filling.{AreAhead, AreBegun, AreFrames, AreRemaining, AreRunEnds, AreSet};
 ghost use Rattle.mseed_pack.specs.private.Filling.{AreTaken, GoesOn, Holds, HoldsDifferences, HoldsInFrames};
-ghost use Rattle.mseed_pack.specs.private.Filling.{width_of};
+ghost use Rattle.mseed_pack.specs.private.Filling.{Fills, width_of};
+ghost use Rattle.mseed_pack.specs.declared.payload.Remaining.{Remaining};
 ghost use Rattle.mseed_pack.specs.private.KnownSamples.{sample_before};
 
 use crate::known_samples::KnownSample;
@@ -141,17 +142,27 @@ fn pack_held(scheme: Scheme, left: Remaining, frames: &mut Frames, payload: &mut
     ensures few { left.first + result.samples ≤ frames.old.window.end }
     ensures window { frames.new.window ≡ frames.old.window }
 {
+    let packed = pack_window(scheme, left, frames, payload);
+    let ends = frames.add_ends(left.first, packed.used);
+    let filled = end_payload(packed, ends, payload);
+    frames.before = ends.last;
+    filled
+}
+
+/// Packs the differences that the window holds of those that are left, as many as there is room for.
+fn pack_window(scheme: Scheme, left: Remaining, frames: &mut Frames, payload: &mut [u8]) -> Packed
+    requires frames { AreFrames payload.old }
+    requires held { (samples : List ℤ) × Holds frames.old scheme samples left (length payload.old) }
+    ensures filled { (samples : List ℤ) → Holds frames.old scheme samples left (length payload.old)
+        → Fills scheme samples left (min left.end frames.old.window.end) result payload.new
+        × AreAhead frames.new.known scheme samples (left.first + result.used) }
+    ensures window { frames.new.window ≡ frames.old.window }
+    ensures before { frames.new.before ≡ frames.old.before }
+{
     let window = &mut frames.window;
     let end = left.end.min(window.end);
     let known = &mut frames.known;
-    let packed = pack_part(scheme, left.first, end, window, known, payload);
-    let ends = frames.add_ends(left.first, packed.used);
-    put_constants(payload, ends.first, ends.last);
-    frames.before = ends.last;
-    Filled {
-        samples: packed.used,
-        frames: frames_of(packed.words),
-    }
+    pack_part(scheme, left.first, end, window, known, payload)
 }
 
 /// Packs the differences that the window holds from a place to another, as many as there is room for.
@@ -187,8 +198,24 @@ fn pack_part(
     }
 }
 
+/// Writes the first and the last of the samples whose differences were packed into a payload.
+pub(crate) fn end_payload(packed: Packed, ends: Ends, payload: &mut [u8]) -> Filled
+    requires { (scheme : Scheme) × ((samples : List ℤ) × ((left : Remaining) × ((until : ℕ)
+        × Fills scheme samples left until packed payload.old))) }
+    ensures samples { result.samples ≡ packed.used }
+    ensures filled { (scheme : Scheme) (samples : List ℤ) (left : Remaining) (until : ℕ)
+        → Fills scheme samples left until packed payload.old → AreRunEnds ends samples left.first packed.used
+        → HoldsInFrames scheme samples left result payload.new }
+{
+    put_constants(payload, ends.first, ends.last);
+    Filled {
+        samples: packed.used,
+        frames: frames_of(packed.words),
+    }
+}
+
 /// How many frames hold so many data words: 15 each, the first one two fewer.
-pub(crate) fn frames_of(words: usize) -> u8
+fn frames_of(words: usize) -> u8
     requires { words ≤ 1008 }
     ensures { result ≡ (words + 16) / 15 }
 {
@@ -196,7 +223,7 @@ pub(crate) fn frames_of(words: usize) -> u8
 }
 
 /// Writes the first and the last sample into the words 1 and 2 of some frames.
-pub(crate) fn put_constants(frames: &mut [u8], first: i32, last: i32)
+fn put_constants(frames: &mut [u8], first: i32, last: i32)
     requires { 64 ≤ length frames.old }
     ensures { AreSet frames.old frames.new first last }
 {

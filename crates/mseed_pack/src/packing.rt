@@ -5,7 +5,7 @@ ghost use Rattle.mseed_audit.specs.Series.{AreSteps};
 ghost use Rattle.mseed_pack.specs.declared.record.TheConstants.{LONGEST};
 ghost use Rattle.mseed_pack.specs.Fitting.{Fits};
 ghost use Rattle.mseed_pack.specs.FewestWords.{EachHasFewestWords};
-ghost use Rattle.mseed_pack.specs.Outcome.{IsOutcome, IsTrace, EmittedAll, EmittedPrefix};
+ghost use Rattle.mseed_pack.specs.Outcome.{IsOutcome, EmittedAll, EmittedPrefix};
 ghost use Rattle.mseed_pack.specs.ReadBack.{EachReadsBack};
 ghost use Rattle.mseed_pack.specs.Options.{IsSteim};
 ghost use Rattle.mseed_pack.specs.Supplies.{SuppliesFitting};
@@ -14,7 +14,7 @@ ghost use Rattle.mseed_pack.specs.private.Spans.{CanBegin};
 
 use crate::batch::{Job, first_place, gather};
 use crate::fault::PackFault;
-use crate::fitting::fit_view;
+use crate::fitting::{fit_view, series_is_a_trace};
 use crate::frames::Frames;
 use crate::law::{fewest_words, reads_back};
 use crate::options::Options;
@@ -82,23 +82,7 @@ pub fn pack_view<W: Sink>(
     // In Steim-2 no fewer words hold the differences of any of its records.
     ensures fewest { EachHasFewestWords (trace_of series.now) options.now }
 {
-    reads_back();
-    fewest_words();
-    pack_if_fit(series, options, sink)
-}
-
-/// Packs a series, where it fits.
-fn pack_if_fit<W: Sink>(
-    series: &SeriesView,
-    options: &Options,
-    sink: &mut W,
-) -> Result<u64, PackFault>
-    requires steps { AreSteps (length series.now.samples.now) series.now.steps.now }
-    ensures outcome { IsOutcome result (trace_of series.now) options.now (W.written sink.old) (W.written sink.new) }
-    ensures writes { WritesOn (W.written sink.old) (W.written sink.new) (W.contents sink.old) (W.contents sink.new)
-        (W.beside sink.old) (W.beside sink.new) }
-    ensures trace { IsTrace (trace_of series.now) }
-{
+    packings_read_back(series, options);
     if let Err(fault) = fit_view(series, options) {
         return Err(fault);
     }
@@ -107,6 +91,17 @@ fn pack_if_fit<W: Sink>(
         Ok(count) => Ok(count),
         Err(taken) => Err(PackFault::Write(taken)),
     }
+}
+
+/// What a series that fits is packed into reads back as it, and no fewer words hold its differences.
+fn packings_read_back(series: &SeriesView, options: &Options)
+    requires { AreSteps (length series.now.samples.now) series.now.steps.now }
+    ensures reads_back { EachReadsBack (trace_of series.now) options.now }
+    ensures fewest { EachHasFewestWords (trace_of series.now) options.now }
+{
+    series_is_a_trace(series);
+    reads_back();
+    fewest_words();
 }
 
 /// The room that packing works in, for one series after another: it is cleared once.

@@ -1,16 +1,14 @@
 //! The samples of a list, in payloads of any encoding.
-ghost use Rattle.std.specs.Prelude.{ℤ, List, ◌+◌, slice_range, Ok};
+ghost use Rattle.std.specs.Prelude.{ℤ, List, ◌+◌};
 ghost use Rattle.mseed_steim.specs.declared.scheme.Scheme.{Scheme};
 ghost use Rattle.mseed_steim_pack.specs.Lookahead.{IsLookahead};
-ghost use Rattle.mseed_steim_pack.specs.Packed.{IsRunPacked};
-ghost use Rattle.mseed_pack.specs.private.Filling.{AreAhead, AreFrames, AreRemaining, AreTaken, HoldsInFrames};
-ghost use Rattle.mseed_pack.specs.Stretches.{differences};
+ghost use Rattle.mseed_pack.specs.private.Filling.{AreAhead, AreFrames, AreRemaining, AreTaken, Fills, HoldsInFrames};
 
-use crate::frames::{frames_of, put_constants};
+use crate::frames::end_payload;
 use crate::integers::{Width, fill_integers};
 use crate::options::Encoding;
 use crate::payload::{Filled, Filler, Remaining};
-use mseed_steim::Scheme;
+use mseed_steim::{Ends, Scheme};
 use mseed_steim_pack::{Lookahead, Packed, pack_samples_ahead};
 
 /// What payloads of any encoding are filled from, beside the list: what is known ahead of its next sample.
@@ -68,12 +66,11 @@ fn fill_listed(
     ensures taken { AreTaken left result.samples }
 {
     let packed = pack_left(scheme, samples, left, known, payload);
-    let last = left.first + packed.used - 1;
-    put_constants(payload, samples[left.first], samples[last]);
-    Filled {
-        samples: packed.used,
-        frames: frames_of(packed.words),
-    }
+    let ends = Ends {
+        first: samples[left.first],
+        last: samples[left.first + packed.used - 1],
+    };
+    end_payload(packed, ends, payload)
 }
 
 /// Packs the samples from one on, as many as there is room for, into Steim frames, but for the first and the last
@@ -88,8 +85,7 @@ fn pack_left(
     requires frames { AreFrames payload.old }
     requires left { AreRemaining samples.now left }
     requires ahead { AreAhead known.old scheme samples.now left.first }
-    ensures packed { IsRunPacked scheme (slice_range (differences samples.now) left.first left.end) payload.new
-        (Ok result) }
+    ensures packed { Fills scheme samples.now left left.end result payload.new }
     ensures ahead { AreAhead known.new scheme samples.now (left.first + result.used) }
     ensures taken { AreTaken left result.used }
 {

@@ -1,11 +1,14 @@
 -- Steps of filling a payload.
 use Rattle.std.specs.Prelude.{◌≡◌, ℕ, ◌+◌, ◌-◌, ◌*◌, ◌/◌, ◌%◌, ◌^◌, ◌<◌, ◌≤◌, List, length, drop, min}
 use Rattle.std.specs.Prelude.{slice_index_or, slice_range, ℤ, pos, neg_ℤ, ◌≤ℤ◌, ◌<ℤ◌, All}
+use Rattle.std.specs.Prelude.{◌⊎◌, Ok}
 use Rattle.std.specs.Borrow.{Bor}
 use Rattle.byteorder.specs.Endian.{big_bytes}
 use Rattle.mseed_steim.specs.Spelling.{IsWithin, residue}
 use Rattle.mseed_steim_pack.specs.declared.ahead.Lookahead.{Lookahead}
+use Rattle.mseed_steim_pack.specs.declared.pack.Packed.{Packed}
 use Rattle.mseed_steim_pack.specs.Lookahead.{IsLookahead}
+use Rattle.mseed_steim_pack.specs.Packed.{IsRunPacked}
 use Rattle.mseed_pack.specs.declared.frames.Frames.{Frames}
 use Rattle.mseed_pack.specs.declared.integers.Width.{Width}
 use Rattle.mseed_pack.specs.declared.listed.Listed.{Listed}
@@ -82,6 +85,16 @@ pub record AreTaken (left : Remaining) (count : ℕ) : Type 0 where
   pub some : 0 < count
   pub within : left.first + count ≤ left.end
   pub few : count < 2 ^ 16
+
+-- What was packed of the differences up to a place, but for the first and the last sample: of all that are left, or of
+-- seven for each word.
+pub record Fills (scheme : Scheme) (samples : List ℤ) (left : Remaining) (until : ℕ) (packed : Packed)
+    (payload : List ℕ) : Type 0 where
+  pub are_left : AreRemaining samples left
+  pub frames : AreFrames payload
+  pub most : until ≤ left.end
+  pub enough : (until ≡ left.end) ⊎ (left.first + 7 * (length payload / 4) ≤ until)
+  pub run : IsRunPacked scheme (slice_range (differences samples) left.first until) payload (Ok packed)
 
 -- the payload holds so many of those that are left, as the encoding has them
 abbrev pub IsFilled : Encoding → List ℤ → Remaining → Filled → List ℕ → Type 0

@@ -23,17 +23,17 @@ abbrev pub end_by : List (ℕ × LeapStep) → ℕ → ℕ
 end_by [] size = size
 end_by (step ∷ steps) size = step.0
 
--- the span lies between the leap seconds that were passed and those that are left
+-- The span lies between the leap seconds that were passed and those that are left. It ends within all the samples, and
+-- has some where any are left.
 pub record IsSpan (steps : List (ℕ × LeapStep)) (size : ℕ) (span : Span) : Type 0 where
-  pub passed : List (ℕ × LeapStep)
-  pub left : List (ℕ × LeapStep)
-  pub parts : steps ≡ passed ++ left
-  pub count : length passed ≡ span.passed
-  pub before : AllByRecursion (λ (step : ℕ × LeapStep). step.0 ≤ span.begin) passed
-  pub behind : AreStepsFrom span.begin size left
-  pub end_is : span.end ≡ end_by left size
-  pub added_is : span.added ≡ added_before passed span.begin
+  pub few : span.passed ≤ length steps
+  pub before : AllByRecursion (λ (step : ℕ × LeapStep). step.0 ≤ span.begin) (take span.passed steps)
+  pub behind : AreStepsFrom span.begin size (drop span.passed steps)
+  pub end_is : span.end ≡ end_by (drop span.passed steps) size
+  pub added_is : span.added ≡ added_before (take span.passed steps) span.begin
   pub added_bound : nat_abs span.added ≤ 10 ^ 6 * span.passed
+  pub most : span.end ≤ size
+  pub some : span.begin < size → span.begin < span.end
 
 -- the span of a place is the one in which its sample stands, or the one before it where that begins there
 pub record StandsAt (steps : List (ℕ × LeapStep)) (size : ℕ) (place : Place) : Type 0 where

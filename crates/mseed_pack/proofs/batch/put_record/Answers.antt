@@ -1,5 +1,6 @@
 use Rattle.std.proofs.Common.{◌+◌, refl, arith}
 use Rattle.mseed_pack.specs.Traces.{headed}
+use Rattle.mseed_pack.proofs.Begun.{go_on}
 use Rattle.mseed_pack.proofs.Growing.{on_one}
 use Rattle.mseed_pack.proofs.Recorded.{lengths}
 use Rattle.mseed_pack.proofs.batch.put_record.Goals as goal
@@ -24,30 +25,20 @@ write_record-count-requires-clause-whole g c =
 
 pub returns-clause-to : goal.returns-clause-to
 returns-clause-to g c = λ xs on.
-    let n = c.write_record-count.result in
-    let all = on.count in
     let at = c.span_at-span in
-    let inside = at.ensures.inside in
-    let standing = on.standing in
-    let one = c.write_record-count.ensures.recorded xs (record {
-      count = on.count;
-      fits = on.fits;
-      standing = record {
-        span = at.ensures.standing;
-        begun = at.ensures.begun;
-        ends = omega (arith, inside);
-        inside = standing.inside;
-        counted = standing.counted;
-      };
-      more = on.more;
-      stands_there = on.stands_there;
-    }) in
+    let one = c.write_record-count.ensures.recorded xs (go_on on.count on.fits (record {
+      span = at.ensures.standing;
+      begun = at.ensures.begun;
+      ends = omega (arith, at.ensures.inside);
+      inside = on.standing.inside;
+      counted = on.standing.counted;
+    }) on.more on.stands_there) in
     record {
       on = on_one (headed c.args.job.now.head.now xs) c.args.job.now.options.now c.args.place (record {
         span = at.result;
         number = c.args.place.number + 1;
-        first = c.args.place.first + n;
-      }) n c.write_record-count.new.out refl refl
-          (omega (arith, c.write_record-count.ensures.within, at.ensures.most, all)) one.packed;
+        first = c.args.place.first + c.write_record-count.result;
+      }) c.write_record-count.result c.write_record-count.new.out refl refl
+          (omega (arith, c.write_record-count.ensures.within, at.ensures.most, on.count)) one.packed;
       stands_next = one.stands_after;
     }

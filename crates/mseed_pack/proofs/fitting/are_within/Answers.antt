@@ -1,7 +1,6 @@
-use Rattle.std.proofs.Common.{◌≡◌, ◌↔◌, ◌<◌, ◌*◌, w32, pos, get_or, rules, subst, ℤ, to_z, arith, of_z}
+use Rattle.std.proofs.Common.{◌*◌, w32, pos, get_or, rules, arith}
 use Rattle.std.proofs.lemmas.Bool.{lt-ltb, ltb-true}
 use Rattle.std.proofs.lemmas.Int.{to_z-of_z}
-use Rattle.mseed_pack.specs.private.Filling.{IsUnder}
 use Rattle.mseed_pack.proofs.Misfits.{all_under, each_under, eight_more, none_under, one_more}
 use Rattle.mseed_pack.proofs.fitting.are_within.Goals as goal
 
@@ -19,11 +18,9 @@ pub loop-last-preserved : goal.loop-last-preserved
 loop-last-preserved c =
     let xs = c.args.samples.now in
     let i = c.loop-last.last in
-    let same : to_z w32 (of_z w32 (get_or xs i (pos 0))) ≡ get_or xs i (pos 0) = to_z-of_z w32 _ (search rules) in
     one_more (pos c.args.limit) xs _ i (2 * c.args.limit) c.loop-last.bits c.raised-bits.result c.requires.power
     (search rules)
-    (subst (λ (z : ℤ). (c.raised-bits.result < 2 * c.args.limit) ↔ IsUnder (pos c.args.limit) z) same
-    c.raised-bits.ensures)
+    (rw (to_z-of_z w32 (get_or xs i (pos 0)) (search rules)) at c.raised-bits.ensures)
     c.loop-last.invariant
 
 pub returns : goal.returns

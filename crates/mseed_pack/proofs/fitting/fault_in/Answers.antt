@@ -1,10 +1,5 @@
-use Rattle.std.proofs.Common.{◌∙◌, ℕ, ℤ, subst, sym}
-use Rattle.mseed_time.specs.Btime.{IsInstant}
 use Rattle.mseed_time.specs.Ratios.{ratio_of}
-use Rattle.mseed_pack.specs.Clock.{reading_at}
-use Rattle.mseed_pack.specs.Fitting.{IsFirstOutside, IsMisfit, time_outside}
-use Rattle.mseed_pack.specs.Traces.{headed}
-use Rattle.mseed_pack.specs.declared.fault.PackFault.TheVariants.{TimeOutOfRange}
+use Rattle.mseed_pack.specs.Fitting.{time_outside}
 use Rattle.mseed_pack.proofs.Times.{first_of_span, first_is_instant, reading_in}
 use Rattle.mseed_pack.proofs.fitting.fault_in.Goals as goal
 
@@ -13,24 +8,21 @@ moment_at-instant-requires-clause-known c =
     let head = c.args.head.now in
     let found = c.first_outside-index.ensures in
     let i = c.first_outside-index.result in
-    let same = reading_in head.start (ratio_of head.rate) head.steps.now head.count c.args.span i
-    c.requires.outside.standing found.begin found.end in
-    let first = first_of_span head.start (ratio_of head.rate) head.steps.now head.count c.args.span i
-    c.requires.outside found.begin found.end found.outside found.before in
-    subst (λ (t : ℤ). IsInstant t) (sym same)
+    rw (reading_in head.start (ratio_of head.rate) head.steps.now head.count c.args.span i
+    c.requires.outside.standing found.begin found.end)
     (first_is_instant head.start (ratio_of head.rate) head.steps.now head.count i c.start_is_an_instant.ensures
-    c.rate_is_a_ratio.ensures c.requires.steps first)
+    c.rate_is_a_ratio.ensures c.requires.steps (first_of_span head.start (ratio_of head.rate) head.steps.now head.count
+    c.args.span i c.requires.outside found.begin found.end found.outside found.before))
 
 pub returns : goal.returns
 returns c = λ xs o size some slow.
     let head = c.args.head.now in
     let found = c.first_outside-index.ensures in
     let i = c.first_outside-index.result in
-    let same = reading_in head.start (ratio_of head.rate) head.steps.now head.count c.args.span i
-    c.requires.outside.standing found.begin found.end in
-    let first = first_of_span head.start (ratio_of head.rate) head.steps.now head.count c.args.span i
-    c.requires.outside found.begin found.end found.outside found.before in
-    subst (λ (t : ℤ). IsMisfit (headed head xs) o (TimeOutOfRange i t)) (sym (c.moment_at-instant.ensures ∙ same))
-    (time_outside some slow i
-    (subst (λ (n : ℕ). IsFirstOutside (λ (k : ℕ). reading_at head.start (ratio_of head.rate) head.steps.now k) n i)
-    (sym size) first))
+    rw (
+      c.moment_at-instant.ensures,
+      reading_in head.start (ratio_of head.rate) head.steps.now head.count c.args.span i
+          c.requires.outside.standing found.begin found.end,
+    ) (time_outside some slow i
+    (rw size (first_of_span head.start (ratio_of head.rate) head.steps.now head.count c.args.span i c.requires.outside
+    found.begin found.end found.outside found.before)))

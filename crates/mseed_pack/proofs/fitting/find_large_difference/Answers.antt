@@ -1,4 +1,4 @@
-use Rattle.std.proofs.Common.{◌≡◌, ℕ, ℤ, pos, arith, refl, get_or, below_more, sym, subst, ◌∙◌, w64, rules}
+use Rattle.std.proofs.Common.{◌≡◌, pos, arith, refl, below_more, w64, rules}
 use Rattle.std.proofs.lemmas.Bool.{false≢true}
 use Rattle.std.proofs.lemmas.Int.{to_z-of_z}
 use Rattle.std.proofs.lemmas.List.Elements.{All-from_get_or}
@@ -10,15 +10,13 @@ use Rattle.mseed_pack.proofs.fitting.find_large_difference.Goals as goal
 
 pub loop-index-init : goal.loop-index-init
 loop-index-init c = λ k h.
-    let none : 0 ≡ k = omega (arith, h) in
-    subst (λ (n : ℕ). IsDifferenceOf c.args.encoding (get_or (differences c.args.samples.now) n (pos 0))) none
-    (subst (λ (z : ℤ). IsDifferenceOf c.args.encoding z) (sym (first_difference c.args.samples.now))
-    (zero_fits c.args.encoding))
+    let none : k ≡ 0 = omega (arith, h) in
+    rw (none, first_difference c.args.samples.now) (zero_fits c.args.encoding)
 
 pub loop-index-preserved : goal.loop-index-preserved
 loop-index-preserved c = below_more _ _ c.loop-index.invariant
-    (subst (λ (z : ℤ). IsDifferenceOf c.args.encoding z) (to_z-of_z w64 c.difference_at.result (search rules)
-    ∙ c.difference_at.ensures) (c.if-not-is_difference.ensures.0 refl))
+    (rw (to_z-of_z w64 c.difference_at.result (search rules), c.difference_at.ensures) at
+    (c.if-not-is_difference.ensures.0 refl))
 
 pub returns-clause-none : goal.returns-clause-none
 returns-clause-none c =
@@ -30,7 +28,6 @@ returns-then-not-is_difference-clause-some c = record {
   inside = omega (arith, length-differences c.args.samples.now, c.loop-index-test.true);
   not_it = λ p. false≢true
       (c.if-not-is_difference.ensures.1
-      (subst (λ (z : ℤ). IsDifferenceOf c.args.encoding z) (sym (to_z-of_z w64 c.difference_at.result (search rules)
-      ∙ c.difference_at.ensures)) p));
+      (rw (to_z-of_z w64 c.difference_at.result (search rules), c.difference_at.ensures) p));
   before = c.loop-index.invariant;
 }

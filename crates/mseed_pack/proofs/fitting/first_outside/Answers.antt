@@ -1,8 +1,7 @@
-use Rattle.std.proofs.Common.{◌<◌, ◌≤◌, ◌-◌, ℕ, arith, pos, ◌+ℤ◌, ◌-ℤ◌, refl, subst, ⊎_elim}
+use Rattle.std.proofs.Common.{◌≡◌, inl, inr}
+use Rattle.std.proofs.Common.{◌-◌, arith, refl, ⊎_elim}
 use Rattle.std.proofs.lemmas.Bool.{cases_lt}
-use Rattle.mseed_time.specs.Naming.{IsOutside}
 use Rattle.mseed_time.specs.Ratios.{ratio_of}
-use Rattle.mseed_pack.specs.Clock.{periods}
 use Rattle.mseed_pack.proofs.Misfits.{not_so}
 use Rattle.mseed_pack.proofs.Times.{between_timed}
 use Rattle.mseed_pack.proofs.fitting.first_outside.Goals as goal
@@ -18,15 +17,14 @@ loop-inside-init c =
     let span = c.args.span in
     let first = not_so c.if-is_outside_at.ensures.1 in
     let last = ⊎_elim (λ early. absurd (first early)) (λ late. late) c.requires.ends in
-    let apart : span.begin < span.end - 1 = ⊎_elim
-    (λ (less : span.begin < span.end - 1). less)
-    (λ (same : span.end - 1 ≤ span.begin). absurd (first (subst
-    (λ (n : ℕ). IsOutside (c.args.start +ℤ pos (periods (ratio_of c.args.rate) n) -ℤ span.added))
-    {x = span.end - 1} {y = span.begin} (omega (arith, same, c.requires.some)) last)))
-    (cases_lt span.begin (span.end - 1)) in
     record {
       begin = omega arith;
-      apart = apart;
+      apart = elim (cases_lt span.begin (span.end - 1)) [
+        | inl less ↦ less
+        | inr more ↦
+            let same : span.end - 1 ≡ span.begin = omega (arith, more, c.requires.some) in
+            absurd (first (rw same at last))
+      ];
       end = omega (arith, c.requires.some);
       early = first;
       late = last;

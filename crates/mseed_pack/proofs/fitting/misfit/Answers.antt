@@ -1,28 +1,21 @@
-use Rattle.std.proofs.Common.{◌≡◌, ◌∙◌, ℤ, arith, get_or, of_z, pos, rules, subst, sym, to_z, w32, w64}
+use Rattle.std.proofs.Common.{arith, get_or, pos, rules, sym, w32, w64}
 use Rattle.std.proofs.lemmas.Int.{to_z-of_z}
-use Rattle.mseed_audit.specs.Series.{Trace}
-use Rattle.mseed_pack.specs.Fitting.{IsMisfit, large_sample, large_difference}
-use Rattle.mseed_pack.specs.Traces.{trace_of}
-use Rattle.mseed_pack.specs.private.Heads.{IsHeadFit}
-use Rattle.mseed_pack.specs.declared.fault.PackFault.TheVariants.{SampleTooLarge, DifferenceTooLarge}
+use Rattle.mseed_pack.specs.Fitting.{large_sample, large_difference}
 use Rattle.mseed_pack.proofs.Differences.{length-differences}
 use Rattle.mseed_pack.proofs.Misfits.{difference_late}
 use Rattle.mseed_pack.proofs.fitting.misfit.Goals as goal
 
 pub returns-in-Some-clause-some : goal.returns-in-Some-clause-some
 returns-in-Some-clause-some c =
-    let o = c.args.options.now in
-    subst (λ (s : Trace). IsMisfit s o c.in-Some.fault) c.head.ensures.trace
-    (c.in-Some.ensures.some c.args.series.now.samples.now o (sym c.head.ensures.count))
+    rw c.head.ensures.trace at
+    (c.in-Some.ensures.some c.args.series.now.samples.now c.args.options.now (sym c.head.ensures.count))
 
 pub returns-in-Some-first_large_sample-clause-some : goal.returns-in-Some-first_large_sample-clause-some
 returns-in-Some-first_large_sample-clause-some c =
-    let fit = subst IsHeadFit c.head.ensures.trace
+    let fit = rw c.head.ensures.trace at
     (c.in_default.ensures.none c.args.series.now.samples.now (sym c.head.ensures.count)) in
     let i = c.in-Some-first_large_sample.index in
-    let sample = get_or c.args.series.now.samples.now i (pos 0) in
-    let same : to_z w32 (of_z w32 sample) ≡ sample = to_z-of_z w32 sample (search rules) in
-    subst (λ (z : ℤ). IsMisfit (trace_of c.args.series.now) c.args.options.now (SampleTooLarge i z)) (sym same)
+    rw (to_z-of_z w32 (get_or c.args.series.now.samples.now i (pos 0)) (search rules))
     (large_sample fit.some fit.slow fit.timed i c.in-Some-first_large_sample.ensures.some)
 
 pub difference_at-requires-clause-some : goal.difference_at-requires-clause-some
@@ -37,17 +30,15 @@ difference_at-requires-clause-inside c =
 
 pub returns-in-Some-first_large_difference-clause-some : goal.returns-in-Some-first_large_difference-clause-some
 returns-in-Some-first_large_difference-clause-some c =
-    let fit = subst IsHeadFit c.head.ensures.trace
+    let fit = rw c.head.ensures.trace at
     (c.in_default.ensures.none c.args.series.now.samples.now (sym c.head.ensures.count)) in
-    let i = c.in-Some-first_large_difference.index in
-    subst (λ (z : ℤ). IsMisfit (trace_of c.args.series.now) c.args.options.now (DifferenceTooLarge i z))
-    (sym (to_z-of_z w64 c.difference_at.result (search rules) ∙ c.difference_at.ensures))
-    (large_difference fit.some fit.slow fit.timed c.in_default-first_large_sample.ensures.none i
-    c.in-Some-first_large_difference.ensures.some)
+    rw (to_z-of_z w64 c.difference_at.result (search rules), c.difference_at.ensures)
+    (large_difference fit.some fit.slow fit.timed c.in_default-first_large_sample.ensures.none
+    c.in-Some-first_large_difference.index c.in-Some-first_large_difference.ensures.some)
 
 pub returns-clause-none : goal.returns-clause-none
 returns-clause-none c =
-    let fit = subst IsHeadFit c.head.ensures.trace
+    let fit = rw c.head.ensures.trace at
     (c.in_default.ensures.none c.args.series.now.samples.now (sym c.head.ensures.count)) in
     record {
       some = fit.some;

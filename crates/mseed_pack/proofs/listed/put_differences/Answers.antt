@@ -1,4 +1,4 @@
-use Rattle.std.proofs.Common.{◌≡◌, ◌≢◌, ◌+◌, ◌-◌, ◌<◌, ℕ, pos, rules, arith, eqb, false, get_or, length, sym, ap, ◌∙◌}
+use Rattle.std.proofs.Common.{◌≡◌, ◌≢◌, ◌+◌, ◌<◌, ℕ, pos, rules, arith, eqb, false, get_or, length, sym, ap, ◌∙◌}
 use Rattle.std.proofs.Common.{w32}
 use Rattle.std.proofs.lemmas.Bool.{eqb-false}
 use Rattle.std.proofs.lemmas.Int.{to_z-of_z}
@@ -6,7 +6,8 @@ use Rattle.std.proofs.lemmas.List.{ext_get_or}
 use Rattle.std.specs.Prelude.{slice_range}
 use Rattle.mseed_pack.specs.Stretches.{differences}
 use Rattle.mseed_pack.proofs.Differences.{difference_fits, length-differences, put_one}
-use Rattle.mseed_pack.proofs.Filled.{length_part, part_at}
+use Rattle.std.proofs.lemmas.List.Edits.{length-between}
+use Rattle.mseed_pack.proofs.Filled.{part_at}
 use Rattle.mseed_pack.proofs.listed.put_differences.Goals as goal
 
 some_items : (n : ℕ) → eqb n 0 ≡ false → 0 < n
@@ -53,8 +54,7 @@ returns c =
     let xs = c.args.samples.now in
     let n = length c.args.out.now in
     let kept : length c.loop-index.out ≡ n = search rules in
-    let size : length (slice_range (differences xs) c.args.first (c.args.first + n)) ≡ c.args.first + n
-    - c.args.first = length_part (differences xs) c.args.first (c.args.first + n) (omega arith)
+    let size = length-between (differences xs) c.args.first (c.args.first + n)
     (omega (arith, c.requires.inside, length-differences xs)) in
     ext_get_or (pos 0) c.loop-index.out (slice_range (differences xs) c.args.first (c.args.first + n))
     (omega (arith, size, kept))

@@ -1,14 +1,14 @@
-use Rattle.std.proofs.Common.{◌≡◌, ◌-◌, ◌∙◌, ℕ, ℤ, pos, List, Ok, refl, arith, rules, length, drop, get_or}
-use Rattle.std.proofs.Common.{ap, subst, FitsSigned, w32, to_z, of_z, inl}
+use Rattle.std.proofs.Common.{◌≡◌, ◌-◌, ◌∙◌, ℕ, ℤ, pos, List, refl, arith, rules, drop, get_or}
+use Rattle.std.proofs.Common.{ap, FitsSigned, w32, to_z, of_z, inl}
 use Rattle.std.specs.Prelude.{slice_range}
 use Rattle.std.proofs.lemmas.Int.{to_z-of_z}
 use Rattle.mseed_steim.specs.Samples.{differences_from}
-use Rattle.mseed_steim_pack.specs.Packed.{IsRunPacked}
 use Rattle.mseed_pack.specs.declared.payload.Remaining.{Remaining}
 use Rattle.mseed_pack.specs.private.Filling.{width_of}
 use Rattle.mseed_pack.specs.Stretches.{differences}
 use Rattle.mseed_pack.proofs.Differences.{part_differences}
-use Rattle.mseed_pack.proofs.Filled.{fills_by, none_large, part_fits, scheme_fits, taken_of}
+use Rattle.mseed_pack.specs.private.Filling.{Fills}
+use Rattle.mseed_pack.proofs.Filled.{none_large, part_fits, scheme_fits, taken_of}
 use Rattle.mseed_pack.proofs.Onward.{known_of, known_on}
 use Rattle.mseed_pack.proofs.payloads.pack_left.Goals as goal
 
@@ -23,10 +23,9 @@ packed_are xs l n e fits =
 
 pub pack_samples_ahead-requires-clause-fits : goal.pack_samples_ahead-requires-clause-fits
 pack_samples_ahead-requires-clause-fits c =
-    let xs = c.args.samples.now in
     let l = c.args.left in
-    scheme_fits c.args.scheme _ (part_fits (width_of c.args.scheme) xs _ l.first l.end
-    (packed_are xs l _ c.saturating_sub.ensures (search rules)) c.requires.ahead.differences_fit)
+    scheme_fits c.args.scheme _ (part_fits (width_of c.args.scheme) c.args.samples.now _ l.first l.end
+    (packed_are c.args.samples.now l _ c.saturating_sub.ensures (search rules)) c.requires.ahead.differences_fit)
 
 pub pack_samples_ahead-requires-clause-known : goal.pack_samples_ahead-requires-clause-known
 pack_samples_ahead-requires-clause-known c =
@@ -46,32 +45,31 @@ unreachable-requires c =
     none_large c.args.scheme _ c.in-Err.field-0.index (part_fits (width_of c.args.scheme) xs _ l.first l.end
     (packed_are xs l _ c.saturating_sub.ensures (search rules)) c.requires.ahead.differences_fit) large.0.0
 
+fills : (c : goal.In-Ok) → Fills c.args.scheme c.args.samples.now c.args.left c.args.left.end c.in-Ok.packed
+    c.pack_samples_ahead.new.frames
+fills c = record {
+  are_left = c.requires.left;
+  frames = search rules;
+  most = omega arith;
+  enough = inl refl;
+  run = rw (packed_are c.args.samples.now c.args.left _ c.saturating_sub.ensures (search rules)) at
+      c.in-Ok.ensures.packed;
+}
+
 pub returns-clause-packed : goal.returns-clause-packed
-returns-clause-packed c =
-    subst (λ (ds : List ℤ). IsRunPacked c.args.scheme ds c.pack_samples_ahead.new.frames (Ok c.in-Ok.packed))
-    (packed_are c.args.samples.now c.args.left _ c.saturating_sub.ensures (search rules)) c.in-Ok.ensures.packed
+returns-clause-packed = fills
 
 pub returns-clause-ahead : goal.returns-clause-ahead
 returns-clause-ahead c =
-    let xs = c.args.samples.now in
     let l = c.args.left in
-    let some = c.requires.left.some in
     record {
       fit = c.requires.ahead.fit;
       differences_fit = c.requires.ahead.differences_fit;
-      known = known_on c.args.scheme c.pack_samples_ahead.new.known _ (differences xs) l.first l.end
-          c.in-Ok.packed.used (omega (arith, some)) (packed_are xs l _ c.saturating_sub.ensures (search rules))
-          c.in-Ok.ensures.packed.inside.0 c.in-Ok.ensures.known;
+      known = known_on c.args.scheme c.pack_samples_ahead.new.known _ (differences c.args.samples.now) l.first l.end
+          c.in-Ok.packed.used (omega (arith, c.requires.left.some))
+          (packed_are c.args.samples.now l _ c.saturating_sub.ensures (search rules)) c.in-Ok.ensures.packed.inside.0
+          c.in-Ok.ensures.known;
     }
 
 pub returns-clause-taken : goal.returns-clause-taken
-returns-clause-taken c =
-    let xs = c.args.samples.now in
-    let l = c.args.left in
-    let r = c.in-Ok.packed in
-    let p = c.pack_samples_ahead.new.frames in
-    let size : length p ≡ length c.args.payload.now = search rules in
-    let fills = fills_by c.args.scheme xs l l.end r.used r.words c.args.payload.now p _ c.requires.left
-    c.requires.frames (packed_are xs l _ c.saturating_sub.ensures (search rules)) (omega arith) (inl refl) size
-    c.in-Ok.ensures.packed in
-    taken_of c.args.scheme xs l l.end r.used r.words p fills (omega (arith, size, c.requires.frames.short))
+returns-clause-taken c = taken_of _ _ _ _ _ _ (fills c)

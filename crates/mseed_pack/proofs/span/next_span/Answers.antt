@@ -11,15 +11,14 @@ moved : (c : goal.After-end_of)
     → c.match-steps-span.added ≡ c.args.span.added +ℤ step_of
     (Some (get_or c.args.steps.now c.args.span.passed (0, Plus)).1)
 moved c =
-    let bound = c.requires.span.added_bound in
     elim c.match-steps-span.branch [
       | in-Plus w ↦
           let sum : c.match-steps-span.added ≡ c.args.span.added +ℤ step_of (Some Plus) =
-          omega (arith, ints, w.added-is, c.match-steps-span.added-is, bound) in
+          omega (arith, ints, w.added-is, c.match-steps-span.added-is, c.requires.span.added_bound) in
           sum ∙ ap (λ (k : LeapStep). c.args.span.added +ℤ step_of (Some k)) (sym w.in-Plus.is)
       | in-Minus w ↦
           let sum : c.match-steps-span.added ≡ c.args.span.added +ℤ step_of (Some Minus) =
-          omega (arith, ints, w.added-is, c.match-steps-span.added-is, bound) in
+          omega (arith, ints, w.added-is, c.match-steps-span.added-is, c.requires.span.added_bound) in
           sum ∙ ap (λ (k : LeapStep). c.args.span.added +ℤ step_of (Some k)) (sym w.in-Minus.is)
     ]
 

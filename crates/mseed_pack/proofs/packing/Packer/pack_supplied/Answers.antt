@@ -27,13 +27,11 @@ returns-clause-ok g c =
 
 pub returns-clause-err : goal.returns-clause-err
 returns-clause-err g c =
-    let h = c.args.head.now in
-    let o = c.args.options.now in
     let old = g.W.Sink.written c.args.sink.now in
     let new = g.W.Sink.written c.write_records.new.sink in
     IfErr-weaker _ _ (λ (taken : ℕ). (samples : List ℤ)
-    → SuppliesFitting g.S.Supply.supplies c.args.supply.now h o samples
-    → EmittedPrefix (headed h samples) o taken old new)
+    → SuppliesFitting g.S.Supply.supplies c.args.supply.now c.args.head.now c.args.options.now samples
+    → EmittedPrefix (headed c.args.head.now samples) c.args.options.now taken old new)
     (λ taken all xs fitting. all xs (supply_begins g.S.Supply.supplies _ c.args.supply.now _ xs c.requires.steim fitting
     c.count_has_64_bits.ensures (begun_by _ _ (search rules) c.begin.ensures)))
     c.write_records.ensures.err

@@ -23,8 +23,7 @@ loop-difference-preserved c = λ xs h.
 
 pub returns : goal.returns
 returns c = λ xs h.
-    let first = c.args.first in
-    let end : first + c.loop-difference.difference-index ≡ c.args.end =
+    let end : c.args.first + c.loop-difference.difference-index ≡ c.args.end =
     omega (
       arith,
       c.loop-difference-test.false,
@@ -34,5 +33,5 @@ returns c = λ xs h.
       c.requires.high,
     ) in
     let bits = to_z w32 c.loop-difference.moved-bits in
-    subst (λ (n : ℕ). bits ≡ int_wrap w32 (sample_before xs n -ℤ sample_before xs first)) end
+    subst (λ (n : ℕ). bits ≡ int_wrap w32 (sample_before xs n -ℤ sample_before xs c.args.first)) end
     (c.loop-difference.invariant xs h)

@@ -12,8 +12,7 @@ returns-then-mark-place c = λ xs h fit is.
 
 pub returns-else-mark-place : goal.returns-else-mark-place
 returns-else-mark-place c = λ xs h fit is.
-    let inside = h.inside in
     returned c.args.mark.sample c.moved-else-mark-place.result (sample_before xs c.args.place)
     (sample_before xs c.args.mark.place) (search rules) (search rules)
-    (before_fits xs c.args.place c.requires.some (omega (arith, inside, c.requires.high)) fit) is
+    (before_fits xs c.args.place c.requires.some (omega (arith, h.inside, c.requires.high)) fit) is
     (c.moved-else-mark-place.ensures xs h)
