@@ -1,15 +1,14 @@
 -- The links of an archive's channels, and what is found and written of their records.
-use Rattle.std.proofs.Common.{◌≡◌, ◌≢◌, ℕ, ◌+◌, ◌<◌, ◌≤◌, ◌^◌, Bool, true, false, if◌then◌else◌, List, []}
-use Rattle.std.proofs.Common.{◌∷◌, ◌++◌, length, map, take, drop, get_or, refl, sym, ap, subst, ◌∙◌, arith}
-use Rattle.std.proofs.Common.{append-nil, length-take, All}
+use Rattle.std.proofs.Common.{◌≡◌, ◌≢◌, ℕ, ◌+◌, ◌<◌, ◌≤◌, ◌^◌, List, []}
+use Rattle.std.proofs.Common.{◌∷◌, length, map, drop, get_or, refl, sym, ap, ◌∙◌, arith}
+use Rattle.std.proofs.Common.{All}
 use Rattle.std.specs.List.{AllByRecursion}
-use Rattle.std.proofs.lemmas.List.{drop_more, get_or_default, length-map, take-append-drop, take_all, take_more}
+use Rattle.std.proofs.lemmas.List.{drop_all, drop_more, get_or_default, length-map}
 use Rattle.std.proofs.lemmas.List.Elements.{All-from_recursion}
 use Rattle.mseed_record.specs.View.{View}
 use Rattle.mseed_record.specs.Viewing.{view_of}
 use Rattle.mseed_record.specs.declared.view.RecordView.{RecordView}
 use Rattle.mseed_stream.specs.Device.{BytesWritten}
-use Rattle.mseed_audit.specs.Channels.{is_of_channel}
 use Rattle.mseed_audit.specs.Follows.{IsSound}
 use Rattle.mseed_audit.proofs.Following.{views_are}
 use Rattle.mseed_pack.specs.declared.options.Options.{Options}
@@ -17,7 +16,8 @@ use Rattle.mseed_repack.specs.Repack.{AreContinuous, CanBePacked, Channel, Stret
 use Rattle.mseed_repack.specs.Repack.{records_in}
 use Rattle.mseed_repack.specs.ByStretches.{AreFound, IsFit, kept_of}
 use Rattle.mseed_repack.specs.private.Archives.{IsAudited, IsWalkOf, records_on}
-use Rattle.mseed_repack.specs.private.Planning.{AreReady, IsCutAs, IsPartAs, IsPartOn, IsReady, IsTextAs, IsTextOn}
+use Rattle.mseed_repack.specs.private.Planning.{AreReady, CanBeWritten, IsCutAs, IsPartAs, IsPartOn, IsReady}
+use Rattle.mseed_repack.specs.private.Planning.{IsTextAs, IsTextOn}
 use Rattle.mseed_repack.specs.private.Planning.{PartsAs, IsPackabilityAs, TextsAs, stretches_by}
 use Rattle.mseed_repack.specs.private.Reading.{channel_in}
 use Rattle.mseed_repack.specs.private.Restretching.{AreUnsound}
@@ -28,9 +28,9 @@ use Rattle.mseed_repack.specs.declared.stretching.Cutting.{Cutting}
 use Rattle.mseed_repack.specs.declared.stretching.Cutting.TheVariants.{Whole}
 use Rattle.mseed_repack.specs.declared.archive.Archive.{Archive}
 use Rattle.mseed_repack.specs.declared.archive.ChannelWalk.{ChannelWalk}
-use Rattle.mseed_repack.proofs.Planning.{part_as, ready_at, text_as, wrote_as}
+use Rattle.mseed_repack.proofs.Planning.{packability_each, part_as, ready_at, text_as, wrote_as}
 use Rattle.mseed_repack.proofs.Packabilities.{as_many, each_found, fits_by_packability, unsound_at}
-use Rattle.mseed_repack.proofs.Texts.{wrote_more, wrote_part}
+use Rattle.mseed_repack.proofs.Texts.{IsWrittenSo, written_all, written_next, written_part}
 
 abbrev views_of : Archive → List View
 views_of a = map view_of a.views.now
@@ -38,12 +38,7 @@ views_of a = map view_of a.views.now
 -- a channel has no more records than an archive
 few_in : (key : List ℕ) (vs : List View) → length (channel_in key vs) ≤ length vs
 few_in key [] = omega arith
-few_in key (v ∷ vs) = by (is_of_channel key v) (few_in key vs)
-  where
-    by : (b : Bool) → length (channel_in key vs) ≤ length vs
-        → length (if b then v ∷ channel_in key vs else channel_in key vs) ≤ length (v ∷ vs)
-    by true rest = omega (arith, rest)
-    by false rest = omega (arith, rest)
+few_in key (v ∷ vs) = grind (arith, few_in key vs)
 
 -- the records of a walk are those of its channel
 pub on_trail : (a : Archive) (k : ℕ) (t : ChannelWalk) (w : IsWalkOf a k t)
@@ -60,9 +55,7 @@ all_on a k t w same = on_trail a k t w ∙ ap (λ (key : List ℕ). channel_in k
 pub unsound_on : (a : Archive) (ss : List Packability) (k : ℕ) (t : ChannelWalk) → IsWalkOf a k t
     → AreUnsound (map view_of a.views.now) a.channels.now ss → k < length a.channels.now
     → length ss ≡ length a.channels.now → get_or ss k Fit ≡ Broken → ¬ (AllByRecursion IsSound (records_on t))
-unsound_on a ss k t w all lt size broken =
-    subst (λ (vs : List View). ¬ (AllByRecursion IsSound vs)) (sym w.records_are)
-    (unsound_at (map view_of a.views.now) a.channels.now ss k w.channel all lt size w.at broken)
+unsound_on a ss k t h h2 h3 h4 h5 = grind (arith, unsound_at)
 
 -- the channel is the one at its number
 pub channel_on : (a : Archive) (k : ℕ) (t : ChannelWalk) (c : Channel) (w : IsWalkOf a k t) → k < length a.channels.now
@@ -82,136 +75,80 @@ at_index a k t w = w.records_are ∙ ap (λ (d : Channel). records_in (views_of 
 
 pub few_on : (a : Archive) (k : ℕ) (t : ChannelWalk) → IsWalkOf a k t → length (records_on t) ≤ length a.views.now
 few_on a k t w =
-    let size : length (records_on t) ≡ length (channel_in w.channel.0 (views_of a)) =
-    ap (λ (vs : List View). length vs) (on_trail a k t w) in
+    let size = ap (λ (vs : List View). length vs) (on_trail a k t w) in
     let most = few_in w.channel.0 (views_of a) in
     let all = length-map a.views.now view_of in
     omega (arith, size, most, all)
 
 -- no channel has more records than a loop can count
 pub few_trail : (a : Archive) (k : ℕ) (t : ChannelWalk) → IsWalkOf a k t → IsAudited a → length (records_on t) ≤ 2 ^ 40
-few_trail a k t w h =
-    let most = few_on a k t w in
-    let few = h.few in
-    omega (arith, most, few)
+few_trail a k t h h2 = search (arith, few_on)
 
 -- the records of a continuous channel are some
 pub some_on : (a : Archive) (k : ℕ) (t : ChannelWalk) → k < length a.channels.now → IsWalkOf a k t
     → AreContinuous (map view_of a.views.now) a.channels.now → records_on t ≢ []
-some_on a k t lt w continuous =
-    subst (λ (vs : List View). vs ≢ []) (sym (at_index a k t w)) (continuous k w.channel lt).some
-
--- What is found and written of the channel of a walk.
-
-pub ready_on : {cutting : Cutting} {o : Options} {room places : ℕ} (a : Archive) (ss : List Packability)
-    (ls : List (List Plan)) (k : ℕ) (t : ChannelWalk) (ps : List Plan) → k < length a.channels.now → IsWalkOf a k t
-    → ps ≡ get_or ls k [] → AreReady cutting o room places (map view_of a.views.now) a.channels.now ss ls
-    → IsReady cutting o room places (records_on t) (get_or ss k Fit) ps
-ready_on {cutting = cutting} {o = o} {room = room} {places = places} a ss ls k t ps lt w e all =
-    subst (λ (qs : List Plan). IsReady cutting o room places (records_on t) (get_or ss k Fit) qs) (sym e)
-    (subst (λ (vs : List View). IsReady cutting o room places vs (get_or ss k Fit) (get_or ls k []))
-    (sym (at_index a k t w)) (ready_at a.channels.now ss ls k w.channel all lt))
-
--- the channels that fit, part by part
-kept_append : (cs ds : List Channel) (ss ts : List Packability) → length ss ≡ length cs
-    → kept_of (cs ++ ds) (ss ++ ts) ≡ kept_of cs ss ++ kept_of ds ts
-kept_append [] ds [] ts size = refl
-kept_append [] ds (s ∷ ss) ts size = absurd (omega (arith, size))
-kept_append (c ∷ cs) ds [] ts size = absurd (omega (arith, size))
-kept_append (c ∷ cs) ds (Fit ∷ ss) ts size =
-    ap (λ (es : List Channel). c ∷ es) (kept_append cs ds ss ts (omega (arith, size)))
-kept_append (c ∷ cs) ds (Broken ∷ ss) ts size = kept_append cs ds ss ts (omega (arith, size))
-kept_append (c ∷ cs) ds (Misfit n f ∷ ss) ts size = kept_append cs ds ss ts (omega (arith, size))
-
-kept_from : (cs : List Channel) (ss : List Packability) (k : ℕ) → length ss ≡ length cs
-    → kept_of cs ss ≡ kept_of (take k cs) (take k ss) ++ kept_of (drop k cs) (drop k ss)
-kept_from cs ss k size =
-    ap (λ (ds : List Channel). kept_of ds ss) (sym (take-append-drop k cs))
-    ∙ ap (λ (ts : List Packability). kept_of (take k cs ++ drop k cs) ts) (sym (take-append-drop k ss))
-    ∙ kept_append (take k cs) (drop k cs) (take k ss) (drop k ss)
-    (omega (arith, size, length-take k cs, length-take k ss))
-
-kept_more : (cs : List Channel) (ss : List Packability) (k : ℕ) (c : Channel) → length ss ≡ length cs → k < length cs
-    → kept_of (take (k + 1) cs) (take (k + 1) ss)
-    ≡ kept_of (take k cs) (take k ss) ++ kept_of (get_or cs k c ∷ []) (get_or ss k Fit ∷ [])
-kept_more cs ss k c size lt =
-    ap (λ (ds : List Channel). kept_of ds (take (k + 1) ss)) (take_more cs k c lt)
-    ∙ ap (λ (ts : List Packability). kept_of (take k cs ++ get_or cs k c ∷ []) ts)
-    (take_more ss k Fit (omega (arith, size, lt)))
-    ∙ kept_append (take k cs) (get_or cs k c ∷ []) (take k ss) (get_or ss k Fit ∷ [])
-    (omega (arith, size, length-take k cs, length-take k ss))
-
-none_kept : (c : Channel) (s : Packability) → (s ≡ Fit → ⊥) → kept_of (c ∷ []) (s ∷ []) ≡ []
-none_kept c Fit other = absurd (other refl)
-none_kept c Broken other = refl
-none_kept c (Misfit n f) other = refl
-
-abbrev kept_to : Archive → List Packability → ℕ → List Channel
-kept_to a ss k = kept_of (take k a.channels.now) (take k ss)
-
-abbrev text_of : Cutting → Options → Archive → Channel → List ℕ → Type 0
-text_of cutting o a c own = IsTextAs cutting o (records_in (views_of a) c.0) own
+some_on a k t h h2 h3 = grind (arith, at_index)
 
 -- one that doesn't fit is left out
-pub texts_still : {first new : BytesWritten} (cutting : Cutting) (o : Options) (a : Archive) (ss : List Packability)
-    (k : ℕ) (t : ChannelWalk) → k < length a.channels.now → length ss ≡ length a.channels.now → (get_or ss k Fit ≡ Fit
-    → ⊥)
-    → IsWalkOf a k t
-    → Wrote (TextsAs cutting o (map view_of a.views.now) (kept_of (take k a.channels.now) (take k ss))) 0 first new
-    → Wrote (TextsAs cutting o (map view_of a.views.now) (kept_of (take (k + 1) a.channels.now) (take (k + 1) ss))) 0
-    first new
-texts_still {first = first} {new = new} cutting o a ss k t lt size other w wrote =
-    subst (λ (ds : List Channel). Wrote (TextsAs cutting o (views_of a) ds) 0 first new)
-    (sym (kept_more a.channels.now ss k w.channel size lt
-    ∙ ap (λ (ds : List Channel). kept_to a ss k ++ ds)
-    (none_kept (get_or a.channels.now k w.channel) (get_or ss k Fit) other) ∙ append-nil (kept_to a ss k))) wrote
+unkept : (c : Channel) (s : Packability) (cs : List Channel) (ss : List Packability) → (s ≡ Fit → ⊥)
+    → kept_of (c ∷ cs) (s ∷ ss) ≡ kept_of cs ss
+unkept c s cs ss h = grind (arith)
 
--- of one that fits the text is written, or a part of it
-pub texts_next : {o : Options} {first old new : BytesWritten} (cutting : Cutting) (a : Archive) (ss : List Packability)
-    (k : ℕ) (t : ChannelWalk) (ps : List Plan) → k < length a.channels.now → length ss ≡ length a.channels.now
-    → get_or ss k Fit ≡ Fit → IsWalkOf a k t → IsCutAs cutting (records_on t) (stretches_by ps (records_on t))
-    → Wrote (TextsAs cutting o (map view_of a.views.now) (kept_of (take k a.channels.now) (take k ss))) 0 first old
-    → Wrote (IsTextOn o (stretches_by ps (records_on t))) 0 old new
-    → Wrote (TextsAs cutting o (map view_of a.views.now) (kept_of (take (k + 1) a.channels.now) (take (k + 1) ss))) 0
-    first new
-texts_next {o = o} {first = first} {new = new} cutting a ss k t ps lt size fit w cut before one =
-    let c : Channel = get_or a.channels.now k w.channel in
-    subst (λ (ds : List Channel). Wrote (TextsAs cutting o (views_of a) ds) 0 first new)
-    (sym (kept_more a.channels.now ss k w.channel size lt
-    ∙ ap (λ (s : Packability). kept_to a ss k ++ kept_of (c ∷ []) (s ∷ [])) fit))
-    (wrote_more (text_of cutting o a) (kept_to a ss k) c before
-    (wrote_as (λ text is. subst (λ (vs : List View). IsTextAs cutting o vs text) (at_index a k t w)
-    (text_as cutting o (records_on t) (stretches_by ps (records_on t)) text cut is)) one))
+-- what was written of the first channels
+abbrev pub text_of : Cutting → Options → Archive → Channel → List ℕ → Type 0
+text_of cutting o a c own = IsTextAs cutting o (records_in (map view_of a.views.now) c.0) own
 
-pub texts_part : {o : Options} {first old new : BytesWritten} (cutting : Cutting) (a : Archive) (ss : List Packability)
-    (k : ℕ) (t : ChannelWalk) (ps : List Plan) → k < length a.channels.now → length ss ≡ length a.channels.now
-    → get_or ss k Fit ≡ Fit → IsWalkOf a k t → IsCutAs cutting (records_on t) (stretches_by ps (records_on t))
-    → Wrote (TextsAs cutting o (map view_of a.views.now) (kept_of (take k a.channels.now) (take k ss))) 0 first old
-    → Wrote (IsPartOn o (stretches_by ps (records_on t))) 1 old new
-    → Wrote (PartsAs cutting o (map view_of a.views.now) (kept_of a.channels.now ss)) 1 first new
-texts_part {o = o} cutting a ss k t ps lt size fit w cut before one =
-    let cs : List Channel = a.channels.now in
-    let c : Channel = get_or cs k w.channel in
-    let back : List Channel = kept_of (drop (k + 1) cs) (drop (k + 1) ss) in
-    let parts : kept_of cs ss ≡ kept_to a ss k ++ c ∷ back =
-    kept_from cs ss k size
-    ∙ ap (λ (ds : List Channel). kept_to a ss k ++ kept_of ds (drop k ss)) (drop_more cs k w.channel lt)
-    ∙ ap (λ (ts : List Packability). kept_to a ss k ++ kept_of (c ∷ drop (k + 1) cs) ts)
-    (drop_more ss k Fit (omega (arith, size, lt)) ∙ ap (λ (s : Packability). s ∷ drop (k + 1) ss) fit) in
-    wrote_part (text_of cutting o a) (λ (d : Channel) own. IsPartAs cutting o (records_in (views_of a) d.0) own)
-    (kept_to a ss k) back c (kept_of cs ss) parts before
-    (wrote_as (λ text is. subst (λ (vs : List View). IsPartAs cutting o vs text) (at_index a k t w)
-    (part_as cutting o (records_on t) (stretches_by ps (records_on t)) text cut is)) one)
+abbrev pub part_of : Cutting → Options → Archive → Channel → List ℕ → Type 0
+part_of cutting o a c own = IsPartAs cutting o (records_in (map view_of a.views.now) c.0) own
 
+abbrev pub AreWrittenTo : Cutting → Options → Archive → List Packability → ℕ → BytesWritten → BytesWritten → Type 0
+AreWrittenTo cutting o a ss k =
+    IsWrittenSo (text_of cutting o a) (part_of cutting o a) (kept_of a.channels.now ss)
+    (kept_of (drop k a.channels.now) (drop k ss))
+
+-- What is found and written of the channel of a walk.
+module _ {cutting : Cutting} {o : Options} {room places : ℕ} (a : Archive) (ss : List Packability)
+    (ls : List (List Plan)) (ready : AreReady cutting o room places (map view_of a.views.now) a.channels.now ss ls)
+    (k : ℕ) (lt : k < length a.channels.now) (t : ChannelWalk) (w : IsWalkOf a k t) where
+  inside : k < length ss
+  inside = omega (arith, lt, packability_each a.channels.now ss ls ready)
+
+  pub ready_on : (s : Packability) (ps : List Plan) → get_or ss k s ≡ Fit → ps ≡ get_or ls k []
+      → IsCutAs cutting (records_on t) (stretches_by ps (records_on t)) × CanBeWritten o room places ps (records_on t)
+  ready_on s ps fit e =
+      let is = ready_at a.channels.now ss ls k w.channel ready lt in
+      let here : IsReady cutting o room places (records_on t) (get_or ss k Fit) ps = rw (e, at_index a k t w) is in
+      let fits = get_or_default ss k Fit s inside ∙ fit in
+      (here.cut fits, here.can fits)
+
+  pub texts_still : {first new : BytesWritten} (s : Packability) → (get_or ss k s ≡ Fit → ⊥)
+      → AreWrittenTo cutting o a ss k first new → AreWrittenTo cutting o a ss (k + 1) first new
+  texts_still s h h2 = grind (arith, drop_more, inside, unkept)
+
+  -- of one that fits the text is written, or a part of it
+  kept_on : {first old : BytesWritten} (s : Packability) → get_or ss k s ≡ Fit → AreWrittenTo cutting o a ss k first old
+      → IsWrittenSo (text_of cutting o a) (part_of cutting o a) (kept_of a.channels.now ss)
+      (get_or a.channels.now k w.channel ∷ kept_of (drop (k + 1) a.channels.now) (drop (k + 1) ss)) first old
+  kept_on s h h2 = grind (arith, drop_more, inside)
+
+  pub texts_next : {first old new : BytesWritten} (s : Packability) (ps : List Plan) → get_or ss k s ≡ Fit
+      → IsCutAs cutting (records_on t) (stretches_by ps (records_on t)) → AreWrittenTo cutting o a ss k first old
+      → Wrote (IsTextOn o (stretches_by ps (records_on t))) 0 old new → AreWrittenTo cutting o a ss (k + 1) first new
+  texts_next s ps fit cut so one = written_next (kept_on s fit so) (wrote_as (λ text is.
+      rw (at_index a k t w) at (text_as cutting o (records_on t) (stretches_by ps (records_on t)) text cut is)) one)
+
+  pub texts_part : {first old new : BytesWritten} (s : Packability) (ps : List Plan) → get_or ss k s ≡ Fit
+      → IsCutAs cutting (records_on t) (stretches_by ps (records_on t)) → AreWrittenTo cutting o a ss k first old
+      → Wrote (IsPartOn o (stretches_by ps (records_on t))) 1 old new
+      → Wrote (PartsAs cutting o (map view_of a.views.now) (kept_of a.channels.now ss)) 1 first new
+  texts_part s ps fit cut so one = written_part (kept_on s fit so) (wrote_as (λ text is.
+      rw (at_index a k t w) at (part_as cutting o (records_on t) (stretches_by ps (records_on t)) text cut is)) one)
+
+-- all are written
 pub texts_all : (cutting : Cutting) (o : Options) {first new : BytesWritten} (a : Archive) (ss : List Packability)
-    (k : ℕ)
-    → length a.channels.now ≤ k → length ss ≡ length a.channels.now
-    → Wrote (TextsAs cutting o (map view_of a.views.now) (kept_of (take k a.channels.now) (take k ss))) 0 first new
+    (k : ℕ) → length a.channels.now ≤ k → AreWrittenTo cutting o a ss k first new
     → Wrote (TextsAs cutting o (map view_of a.views.now) (kept_of a.channels.now ss)) 0 first new
-texts_all cutting o {first = first} {new = new} a ss k past size wrote =
-    subst (λ (ds : List Channel). Wrote (TextsAs cutting o (views_of a) ds) 0 first new)
-    (ap (λ (ds : List Channel). kept_of ds (take k ss)) (take_all k a.channels.now past)
-    ∙ ap (λ (ts : List Packability). kept_of a.channels.now ts) (take_all k ss (omega (arith, size, past)))) wrote
+texts_all cutting o a ss k past so = let none = drop_all k a.channels.now past in written_all (rw none at so)
 
 -- Channels that are packed whole.
 

@@ -2,7 +2,7 @@
 use Rattle.std.proofs.Common.{◌≡◌, ◌≢◌, ℕ, ◌<◌, ◌≤◌, ◌^◌, List, [], ◌∷◌, ◌++◌, length, map, refl}
 use Rattle.std.proofs.Common.{sym, ap, subst, arith}
 use Rattle.std.specs.Prelude.{IfOk}
-use Rattle.std.proofs.Common.{Bool, true, false, cond, append-nil, length-append, Result, Ok, Err, ◌∙◌, zero, suc}
+use Rattle.std.proofs.Common.{Bool, append-nil, length-append, Result, Ok, Err, ◌∙◌, zero, suc}
 use Rattle.std.specs.List.{AllByRecursion, count_by, filter}
 use Rattle.std.proofs.lemmas.List.{length-map}
 use Rattle.std.proofs.lemmas.List.Sums.{count_by-le-length, length-filter}
@@ -28,7 +28,7 @@ use Rattle.mseed_repack.specs.ByStretches.{also, left_out_of, silent, worse_of}
 use Rattle.mseed_repack.specs.ReadBack.{IsReadOf}
 use Rattle.mseed_repack.specs.Repack.{Channel, IsRepackingAmong, IsUnread, IsWhole}
 use Rattle.mseed_repack.specs.Selected.{IsSelectedRepacking, IsSelectedRestretching}
-use Rattle.mseed_repack.specs.Selected.{ReportsWithoutTime, WereReportedInPart}
+use Rattle.mseed_repack.specs.Selected.{ReportsWithoutTime}
 use Rattle.mseed_repack.specs.Selected.{read_of, without_time_line, without_time_lines}
 use Rattle.mseed_repack.specs.private.Places.{ArePlaces}
 use Rattle.mseed_repack.specs.private.Restretching.{AreAsked, IsPackedIfLeft, IsRestretchingIfLeft}
@@ -42,8 +42,7 @@ use Rattle.mseed_repack.specs.declared.packability.Packability.{Packability}
 use Rattle.mseed_repack.specs.declared.packability.Packability.TheVariants.{Fit, Broken as BrokenChannel}
 use Rattle.mseed_repack.specs.declared.packability.Packability.TheVariants.{Misfit as MisfitChannel}
 use Rattle.mseed_repack.specs.declared.stretching.Cutting.{Cutting}
-use Rattle.mseed_repack.specs.declared.stretching.Cutting.TheVariants.{Whole, Stretches}
-use Rattle.mseed_repack.proofs.Each.{each_kept}
+use Rattle.std.proofs.ByRecursion.{all_kept_by}
 use Rattle.mseed_repack.proofs.OneRepacking.{never_unread}
 use Rattle.mseed_repack.proofs.InPlaces.{views_asked}
 use Rattle.mseed_repack.proofs.Packabilities.{tells_one}
@@ -53,16 +52,7 @@ use Rattle.mseed_repack.proofs.Wholes.{all_of, whole_read}
 pub kept_views : (p : View → Bool) (rs : List RecordView)
     → map view_of (filter (λ r. p (view_of r)) rs) ≡ filter p (map view_of rs)
 kept_views p [] = refl
-kept_views p (r ∷ rs) = by (p (view_of r)) (kept_views p rs)
-  where
-    kept : List RecordView
-    kept = filter (λ r. p (view_of r)) rs
-
-    by : (b : Bool) → map view_of kept ≡ filter p (map view_of rs)
-        → map view_of (cond b (r ∷ kept) kept)
-        ≡ cond b (view_of r ∷ filter p (map view_of rs)) (filter p (map view_of rs))
-    by true e = ap (λ (vs : List View). view_of r ∷ vs) e
-    by false e = e
+kept_views p (r ∷ rs) = grind (arith, kept_views p rs)
 
 -- how many are counted
 pub counted_views : (p : View → Bool) (rs : List RecordView)
@@ -75,27 +65,12 @@ counted_views p rs =
 records_kept : (p : View → Bool) (vs : List View) → AllByRecursion IsRecord (bytes_in vs)
     → AllByRecursion IsRecord (bytes_in (filter p vs))
 records_kept p [] h = tt
-records_kept p (v ∷ vs) h = by (p v) (records_kept p vs h.1)
-  where
-    by : (b : Bool) → AllByRecursion IsRecord (bytes_in (filter p vs))
-        → AllByRecursion IsRecord (bytes_in (cond b (v ∷ filter p vs) (filter p vs)))
-    by true rest = (h.0, rest)
-    by false rest = rest
+records_kept p (v ∷ vs) h = grind (arith, records_kept p vs h.1)
 
 -- records that are kept of an archive are one themselves
 pub whole_kept : (s : Selection) (h : BytesRead) (views : List View) → IsWhole h views
     → IsWhole (read_of (selected_bytes s views)) (filter (asks_for s) views)
-whole_kept s h views whole = record {
-  archive = record {
-    joined = sym (append-nil (selected_bytes s views));
-    each = records_kept (asks_for s) views whole.archive.each;
-    no_further = whole.archive.no_further;
-  };
-  each = each_kept IsView (asks_for s) views whole.each;
-  few = omega (arith, whole.few, length-filter (asks_for s) views, count_by-le-length (asks_for s) views);
-  ended = refl;
-  fine = refl;
-}
+whole_kept s h views h' = grind (arith, append-nil, records_kept, all_kept_by, length-filter, count_by-le-length)
 
 -- what was read is a whole archive, of whose records these are asked for
 pub are_asked : (s : Selection) (rs kept : List RecordView) (count : ℕ) {h : BytesRead} {bytes : List ℕ}
@@ -116,18 +91,11 @@ are_asked s rs kept count read archive each few kept_is count_is =
 -- they are one themselves, each at its place among all
 pub asked_whole : {s : Selection} {bytes : List ℕ} {h : BytesRead} {vs : List View} {count : ℕ}
     (a : AreAsked s bytes h vs count) → IsWhole (read_of (selected_bytes s a.views)) vs
-asked_whole {s = s} {h = h} a =
-    subst (λ (ws : List View). IsWhole (read_of (selected_bytes s a.views)) ws) (sym a.kept_are)
-    (whole_kept s h a.views a.whole)
+asked_whole {s = s} {h = h} a = rw a.kept_are (whole_kept s h a.views a.whole)
 
 pub asked_places : {s : Selection} {bytes : List ℕ} {h : BytesRead} {vs : List View} {count : ℕ}
     (a : AreAsked s bytes h vs count) → ArePlaces s bytes vs (asked_of s a.views)
-asked_places {s = s} a = record {
-  views = a.views;
-  all = a.all;
-  places_are = refl;
-  packed_are = views_asked s a.views ∙ sym a.kept_are;
-}
+asked_places a = grind (arith, views_asked)
 
 pub asked_few : {s : Selection} {bytes : List ℕ} {h : BytesRead} {count : ℕ} (rs : List RecordView)
     → AreAsked s bytes h (map view_of rs) count → length rs < 2 ^ 40
@@ -142,9 +110,7 @@ silent_only _ old new (also lines line _ between _ before told) none =
 
 -- where nothing is left out, no channel has a line
 some_left : (left : LeftOut) → worse_of BrokenChannel left ≡ Nothing → ⊥
-some_left Nothing e = cc
-some_left LeftBroken e = cc
-some_left LeftMisfit e = cc
+some_left left h = grind (arith)
 
 pub lines_none : (encoding : Encoding) (cs : List Channel) (ss : List Packability) (lines : List (List ℕ))
     → left_out_of ss ≡ Nothing → AreReportsOf encoding cs ss lines → lines ≡ []
@@ -177,29 +143,23 @@ module _ (s : Selection) (o : Options) (h : BytesRead) (views : List View) (whol
       → IsSelectedRepacking s o result h old new first last
   repacked_asked (Ok u) first last is told = record { views = views; whole = whole; is_so = (is, told) }
   repacked_asked (Err (Stream fault)) first last is told = never fault is.0 is.1
-  repacked_asked (Err (Broken key found)) first last is told =
-      record { views = views; whole = whole; is_so = (is, told) }
-  repacked_asked (Err (Misfit key number fault)) first last is told =
-      record { views = views; whole = whole; is_so = (is, told) }
+  repacked_asked (Err (Broken key found)) first last is told = grind (arith)
+  repacked_asked (Err (Misfit key number fault)) first last is told = grind (arith)
   repacked_asked (Err Write) first last is told = record { views = views; whole = whole; is_so = (is, told) }
   repacked_asked (Err Memory) first last is told = (is, told)
 
   -- of which none is left out
   told_after : (result : Result LeftOut RepackFault) (first last : BytesWritten) → IfOk result (λ left. left ≡ Nothing)
       → ReportsUnlessLeft result count first last → ReportsAfter result count first last
-  told_after (Ok left) first last none told =
-      subst (λ (l : LeftOut). ReportsUnlessLeft (Ok l) count first last) none told
-  told_after (Err fault) first last none told = told
+  told_after result first last h h2 = grind (arith)
 
   -- the lines of channels that are left out, where none is
-  all_kept : (left between last : BytesWritten) (cs : List Channel) (ss : List Packability)
-      → left_out_of ss ≡ Nothing → AreReported o.encoding cs ss left between
-      → ReportsWithoutTime count between last
+  all_kept : (left between last : BytesWritten) (cs : List Channel) (ss : List Packability) → left_out_of ss ≡ Nothing
+      → AreReported o.encoding cs ss left between → ReportsWithoutTime count between last
       → ReportsWithoutTime count left last × AreReported o.encoding cs ss last last
   all_kept left between last cs ss none nothing told =
       let no_lines = lines_none o.encoding cs ss nothing.lines none nothing.are in (
-        subst (λ (w : BytesWritten). ReportsWithoutTime count w last)
-            (silent_only nothing.lines left between nothing.each no_lines) told,
+        rw (silent_only nothing.lines left between nothing.each no_lines) at told,
         record {
           lines = nothing.lines;
           are = nothing.are;
@@ -236,55 +196,24 @@ module _ (s : Selection) (o : Options) (h : BytesRead) (views : List View) (whol
   -- by stretches
   restretched_asked : (leave : Bool) (result : Result LeftOut RepackFault) (first between last : BytesWritten)
       → IsRestretchingIfLeft place o leave count result read old new first between
-      → ReportsUnlessLeft result count between last
-      → IsSelectedRestretching s o leave result h old new first last
+      → ReportsUnlessLeft result count between last → IsSelectedRestretching s o leave result h old new first last
   restretched_asked leave (Ok Nothing) first between last is told =
-      let all = none_left leave first between last
-      (subst (λ (w : BytesWritten). IsRestretchingAmong place o leave (Ok Nothing) read old new w between) is.1.0
-      is.1.1) told in
+      let all = none_left leave first between last (rw is.1.0 at is.1.1) told in
       record { views = views; whole = whole; is_so = (last, (all.0, all.1)) }
-  restretched_asked leave (Ok LeftBroken) first between last is same =
-      let came = subst (λ (w : BytesWritten). IsRestretchingAmong place o leave (Ok LeftBroken) read old new is.0 w)
-      (sym same) is.1.1 in
-      record { views = views; whole = whole; is_so = (is.0, (is.1.0, came)) }
-  restretched_asked leave (Ok LeftMisfit) first between last is same =
-      let came = subst (λ (w : BytesWritten). IsRestretchingAmong place o leave (Ok LeftMisfit) read old new is.0 w)
-      (sym same) is.1.1 in
-      record { views = views; whole = whole; is_so = (is.0, (is.1.0, came)) }
+  restretched_asked leave (Ok LeftBroken) first between last is same = grind (arith)
+  restretched_asked leave (Ok LeftMisfit) first between last is same = grind (arith)
   restretched_asked leave (Err (Stream fault)) first between last is told = never fault is.0 is.1
-  restretched_asked leave (Err (Broken key found)) first between last came told =
-      let is = came.1.1 in
-      let reported = subst (λ (w : BytesWritten). ReportsWithoutTime count w last) is.5 told in
-      record {
-        views = views;
-        whole = whole;
-        is_so = (last, (reported, (came.0, (came.1.0, (is.0, is.1, is.2, is.3, is.4, refl)))));
-      }
-  restretched_asked leave (Err (Misfit key number fault)) first between last came told =
-      let is = came.1.1 in
-      let reported = subst (λ (w : BytesWritten). ReportsWithoutTime count w last) is.5 told in
-      record {
-        views = views;
-        whole = whole;
-        is_so = (last, (reported, (came.0, (came.1.0, (is.0, is.1, is.2, is.3, is.4, refl)))));
-      }
-  restretched_asked leave (Err Write) first between last came same =
-      let is = subst
-      (λ (w : BytesWritten). WereReportedInPart o leave count came.0 came.1.0 old new first w) (sym same)
-      came.1.1.1 in
-      record { views = views; whole = whole; is_so = (came.0, (came.1.0, (came.1.1.0, is))) }
+  restretched_asked leave (Err (Broken key found)) first between last came told = grind (arith)
+  restretched_asked leave (Err (Misfit key number fault)) first between last came told = grind (arith)
+  restretched_asked leave (Err Write) first between last came same = grind (arith)
   restretched_asked leave (Err Memory) first between last is same = (is.0, same ∙ is.1)
 
   -- either way
   pub packed_asked : (cutting : Cutting) (leave : Bool) (result : Result LeftOut RepackFault)
       (first between last : BytesWritten) → IsPackedIfLeft cutting place o leave count result read old new first between
       → ReportsUnlessLeft result count between last → IsSelectedAs cutting s o leave result h old new first last
-  packed_asked Whole leave result first between last is told = λ stays.
-      repacked_asked result first last (is stays).1
-      (told_after result first last (is stays).0
-      (subst (λ (w : BytesWritten). ReportsUnlessLeft result count w last) (is stays).2 told))
-  packed_asked Stretches leave result first between last is told =
-      restretched_asked leave result first between last is told
+  packed_asked cutting leave result first between last h' h2 =
+      grind (arith, repacked_asked, told_after, restretched_asked)
 
 -- what is told of how many lack a time
 pub none_lacks : (count : ℕ) (s : BytesWritten) → count ≤ 0 → ReportsEach (without_time_lines count) s s
@@ -293,5 +222,4 @@ none_lacks (suc n) s h = absurd (omega (arith, h))
 
 pub some_lack : (count : ℕ) (old new : BytesWritten) → 0 < count → WritesLine (without_time_line count) old new
     → ReportsEach (without_time_lines count) old new
-some_lack zero old new h told = absurd (omega (arith, h))
-some_lack (suc n) old new h told = tells_one (without_time_line (suc n)) old new told
+some_lack count old new h h2 = grind (arith, tells_one)

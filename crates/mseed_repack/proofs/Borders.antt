@@ -1,7 +1,7 @@
 -- What is written where two stretches border on one another.
-use Rattle.std.proofs.Common.{◌≡◌, ◌≢◌, ℕ, ◌+◌, ◌*◌, ◌^◌, ◌<◌, ◌≤◌, nat_le, true, List, [], ◌∷◌, ◌++◌, length}
-use Rattle.std.proofs.Common.{refl, sym, ap, subst, ◌∙◌, arith, ℤ, pos, ◌+ℤ◌, ◌-ℤ◌, unsigned_abs, Option, Some}
-use Rattle.std.proofs.Common.{None, length-append}
+use Rattle.std.proofs.Common.{◌≡◌, ◌≢◌, ℕ, ◌+◌, ◌*◌, ◌^◌, ◌<◌, ◌≤◌, List, [], ◌∷◌, ◌++◌, length}
+use Rattle.std.proofs.Common.{refl, sym, ap, ◌∙◌, arith, ℤ, pos, ◌+ℤ◌, ◌-ℤ◌, unsigned_abs, Option, Some}
+use Rattle.std.proofs.Common.{length-append}
 use Rattle.std.specs.List.{AllByRecursion}
 use Rattle.std.proofs.lemmas.Bool.Decides.{nat_tests}
 use Rattle.std.proofs.lemmas.Int.{ints}
@@ -18,9 +18,9 @@ use Rattle.mseed_audit.specs.Series.{Trace, AreJoined, IsSeriesOf, none, one, st
 use Rattle.mseed_audit.proofs.Joined.{count_is}
 use Rattle.mseed_repack.specs.Stretches.{IsStretch, added_by, drift_of, samples_of}
 use Rattle.mseed_repack.proofs.Drifts.{miss_is}
-use Rattle.mseed_repack.proofs.Joining.{IsPackability, added_one, both_some, samples_one, stands_first}
+use Rattle.mseed_repack.proofs.Joining.{added_one, both_some, samples_one, stands_first}
 use Rattle.mseed_repack.proofs.Times.{stands_at}
-use Rattle.mseed_pack.specs.Clock.{added_before, instant_at}
+use Rattle.mseed_pack.specs.Clock.{added_before}
 use Rattle.mseed_pack.specs.Fitting.{IsTooFast}
 use Rattle.mseed_pack.specs.Outcome.{IsTrace}
 use Rattle.mseed_pack.specs.Stretches.{step_after}
@@ -46,20 +46,12 @@ pub record IsLaid (s own : List View) : Type 0 where
 pub samples_at : (s : Trace) (first : ℕ) (vs : List View) (samples : List ℤ) → AreAt s first vs samples
     → samples_of vs ≡ length samples
 samples_at s first [] samples h = sym (ap (λ (xs : List ℤ). length xs) h)
-samples_at s first (v ∷ vs) samples h =
-    let rest : samples_of vs ≡ length h.1.0 = samples_at s (first + length h.0) vs h.1.0 h.1.1.2 in
-    let here : count_of v ≡ length h.0 = h.1.1.1.count in
-    let all : length samples ≡ length h.0 + length h.1.0 =
-    ap (λ (xs : List ℤ). length xs) h.1.1.0 ∙ length-append h.0 h.1.0 in
-    omega (arith, rest, here, all)
+samples_at s first (v ∷ vs) samples h = grind (arith, length-append, samples_at s (first + length h.0) vs h.1.0 h.1.1.2)
 
 pub joined_samples : (vs : List View) (samples : List ℤ) → AreJoined vs samples → samples_of vs ≡ length samples
 joined_samples _ _ none = refl
 joined_samples _ _ (one v vs samples rest whole behind) =
-    let here = count_is v samples whole in
-    let more = joined_samples vs rest behind in
-    let all = length-append samples rest in
-    omega (arith, here, more, all)
+    grind (arith, count_is, length-append, joined_samples vs rest behind)
 
 added_append : (xs ys : List (ℕ × LeapStep)) (n : ℕ)
     → added_before (xs ++ ys) n ≡ added_before xs n +ℤ added_before ys n
@@ -67,20 +59,13 @@ added_append [] ys n = omega (arith, ints)
 added_append (x ∷ xs) ys n = let rest = added_append xs ys n in omega (arith, ints, rest)
 
 step_added : (place size : ℕ) (o : Option LeapStep) → place ≤ size → added_before (step_at place o) size ≡ step_of o
-step_added place size None h = refl
-step_added place size (Some step) h =
-    let inside : nat_le place size ≡ true = grind (arith, nat_tests) in
-    rw inside (omega (arith, ints))
+step_added place size o h = grind (arith, nat_tests, ints)
 
 added_all : (place size : ℕ) (vs : List View) → place + samples_of vs ≤ size
     → added_before (steps_from place vs) size ≡ added_by vs
 added_all place size [] h = refl
 added_all place size (v ∷ vs) h =
-    let here = step_added (place + count_of v) size (step_in (leap_of v.bytes)) (omega (arith, h)) in
-    let rest = added_all (place + count_of v) size vs (omega (arith, h)) in
-    let all = added_append (step_at (place + count_of v) (step_in (leap_of v.bytes)))
-    (steps_from (place + count_of v) vs) size in
-    omega (arith, ints, here, rest, all)
+    grind (arith, step_added, added_append, ints, added_all (place + count_of v) size vs (omega (arith, h)))
 
 -- The last of the records that were written ends where the series does.
 
@@ -96,21 +81,12 @@ record EndsAt (s : Trace) (vs : List View) (end : ℕ) : Type 0 where
 ends_at : (s : Trace) (first : ℕ) (v : View) (vs : List View) (samples : List ℤ) → AreAt s first (v ∷ vs) samples
     → EndsAt s (v ∷ vs) (first + length samples)
 ends_at s first v [] samples h =
-    let all : length samples ≡ length h.0 + length h.1.0 =
-    ap (λ (xs : List ℤ). length xs) h.1.1.0 ∙ length-append h.0 h.1.0 in
+    let all = ap (λ (xs : List ℤ). length xs) h.1.1.0 ∙ length-append h.0 h.1.0 in
     let nothing : length h.1.0 ≡ 0 = ap (λ (xs : List ℤ). length xs) h.1.1.2 in
-    record {
-      before = [];
-      last = v;
-      place = first;
-      samples = h.0;
-      parts = refl;
-      is = h.1.1.1;
-      end_is = omega (arith, all, nothing);
-    }
+    let size : first + length h.0 ≡ first + length samples = omega (arith, all, nothing) in
+    record { before = []; last = v; place = first; samples = h.0; parts = refl; is = h.1.1.1; end_is = size }
 ends_at s first v (w ∷ vs) samples h =
-    let all : length samples ≡ length h.0 + length h.1.0 =
-    ap (λ (xs : List ℤ). length xs) h.1.1.0 ∙ length-append h.0 h.1.0 in
+    let all = ap (λ (xs : List ℤ). length xs) h.1.1.0 ∙ length-append h.0 h.1.0 in
     let rest = ends_at s (first + length h.0) w vs h.1.0 h.1.1.2 in
     let end_there = rest.end_is in
     record {
@@ -122,6 +98,19 @@ ends_at s first v (w ∷ vs) samples h =
       is = rest.is;
       end_is = omega (arith, all, end_there);
     }
+
+-- by how much a record misses the end of another, by a rate
+abbrev pub miss_at : View → View → Ratio → ℤ
+miss_at b v rate = miss_of (start_of b) (count_of b) rate (step_in (leap_of b.bytes)) (start_of v)
+
+-- the first record that was written of a stretch comes as the first that was read does
+pub record Comes (v next : View) : Type 0 where
+  pub rate : Ratio
+  pub rate_is : known_rate next ≡ Some rate
+  pub read_is : known_rate v ≡ Some rate
+  pub start : start_of next ≡ start_of v
+  pub samples : List ℤ
+  pub whole : IsWhole next samples
 
 -- What is known of the two records that are written on both sides of a border, by the two that were read there: what
 -- the later one misses the end of the one before by is what it was before, moved by a quarter of a period at most, and
@@ -135,18 +124,12 @@ pub record IsBorder (b v last next : View) : Type 0 where
   pub own_is : known_rate b ≡ Some own
   pub same : SameRate rate own
   pub own_counts : (0 < own.num) × (0 < own.den)
-  pub coming : Ratio
-  pub coming_is : known_rate next ≡ Some coming
-  pub read_is : known_rate v ≡ Some coming
-  pub start : start_of next ≡ start_of v
-  pub samples : List ℤ
-  pub whole : IsWhole next samples
+  pub comes : Comes v next
   pub drift : ℤ
   pub near : 4 * unsigned_abs drift ≤ rate.den * 10 ^ 6
   pub left : ℕ
   pub small : left < rate.num
-  pub miss : miss_of (start_of last) (count_of last) rate (step_in (leap_of last.bytes)) (start_of next)
-      ≡ (miss_of (start_of b) (count_of b) rate (step_in (leap_of b.bytes)) (start_of v) +ℤ drift) +ℤ pos left
+  pub miss : miss_at last next rate ≡ (miss_at b v rate +ℤ drift) +ℤ pos left
 
 -- the last record written of a stretch misses the next start as the stretch's clock does, and less than a microsecond
 -- more
@@ -158,15 +141,11 @@ record IsPast (s : List View) (first last : View) (rate : Ratio) (t : ℤ) : Typ
 
 same_miss : (t a : ℤ) (n m : ℕ) (rate : Ratio) (o q : Option LeapStep) (u : ℤ) → t ≡ a → n ≡ m → o ≡ q
     → miss_of t n rate o u ≡ miss_of a m rate q u
-same_miss t a n m rate o q u e f g =
-    ap (λ (x : ℤ). miss_of x n rate o u) e ∙ ap (λ (x : ℕ). miss_of a x rate o u) f
-    ∙ ap (λ (x : Option LeapStep). miss_of a m rate x u) g
+same_miss t a n m rate o q u h h2 h3 = grind (arith)
 
 same_drift : (s a : ℤ) (n m : ℕ) (rate : Ratio) (x y : ℤ) (t : ℤ) → s ≡ a → n ≡ m → x ≡ y
     → drift_of s n rate x t ≡ drift_of a m rate y t
-same_drift s a n m rate x y t e f g =
-    ap (λ (z : ℤ). drift_of z n rate x t) e ∙ ap (λ (k : ℕ). drift_of a k rate x t) f
-    ∙ ap (λ (z : ℤ). drift_of a m rate z t) g
+same_drift s a n m rate x y t h h2 h3 = grind (arith)
 
 past : (s own : List View) (h : IsLaid s own) (first : View) → start_of first ≡ h.trace.start
     → (e : EndsAt h.trace own (length h.trace.samples)) → (t : ℤ) → 0 < (ratio_of h.trace.rate).num
@@ -180,16 +159,12 @@ past s own h first begin e t some =
     let by = rounded trace.start t (added_before trace.steps e.place) (step_of step) e.place n rate.num rate.den some in
     let size : e.place + n ≡ samples_of s = e.end_is ∙ sym (joined_samples s trace.samples h.series.samples) in
     let inside : 0 + samples_of s ≤ e.place + n = omega (arith, size) in
-    let added : added_before trace.steps e.place +ℤ step_of step ≡ added_by s =
-    sym pass.added ∙ ap (λ (xs : List (ℕ × LeapStep)). added_before xs (e.place + n)) h.series.steps
-    ∙ added_all 0 (e.place + n) s inside in
+    let added = sym pass.added ∙ ap (λ (xs : List (ℕ × LeapStep)). added_before xs (e.place + n)) h.series.steps ∙
+    added_all 0 (e.place + n) s inside in
     record {
       left = by.0;
       small = by.1.0;
-      miss = same_miss (start_of e.last) (instant_at trace e.place) (count_of e.last) n rate
-          (step_in (leap_of e.last.bytes)) step t e.is.start e.is.count e.is.step ∙ by.1.1
-          ∙ ap (λ (z : ℤ). z +ℤ pos by.0) (same_drift trace.start (start_of first) (e.place + n) (samples_of s) rate
-          (added_before trace.steps e.place +ℤ step_of step) (added_by s) t (sym begin) size added);
+      miss = rw (e.is.start, e.is.count, e.is.step, begin, ← size, ← added) by.1.1;
     }
 
 -- so does the last record that was read of it, moved by what it stood beside the clock
@@ -202,14 +177,9 @@ beside : (first : View) (s before : List View) (b : View) (rate : Ratio) (t : �
     +ℤ drift_of (start_of first) (samples_of before) rate (added_by before) (start_of b)
 beside first s before b rate t e =
     let step : ℤ = step_of (step_in (leap_of b.bytes)) in
-    let count : samples_of s ≡ samples_of before + count_of b = ap samples_of e ∙ samples_one before b in
-    let added : added_by s ≡ added_by before +ℤ step = ap added_by e ∙ added_one before b in
-    same_drift (start_of first) (start_of first) (samples_of s) (samples_of before + count_of b) rate (added_by s)
-    (added_by before +ℤ step) t refl count added
-    ∙ moved (miss_of (start_of b) (count_of b) rate (step_in (leap_of b.bytes)) t)
-    (drift_of (start_of first) (samples_of before + count_of b) rate (added_by before +ℤ step) t)
-    (drift_of (start_of first) (samples_of before) rate (added_by before) (start_of b))
-    (miss_is (start_of first) (start_of b) t (added_by before) step rate.num (samples_of before) (count_of b) rate.den)
+    rw (e, samples_one before b, added_one before b)
+    (moved _ _ _ (miss_is (start_of first) (start_of b) t (added_by before) step rate.num (samples_of before) (count_of
+    b) rate.den))
 
 -- The records of two stretches, one after the other, and what was written of them.
 pub record AreBordering (b v : View) (own others : List View) : Type 0 where
@@ -221,36 +191,20 @@ pub record AreBordering (b v : View) (own others : List View) : Type 0 where
   pub parts_after : others ≡ next ∷ behind
   pub border : IsBorder b v last next
 
--- the first record that was written of a stretch
-record BeginsAt (v : View) (own : List View) : Type 0 where
-  next : View
-  behind : List View
-  parts : own ≡ next ∷ behind
-  rate : Ratio
-  rate_is : known_rate next ≡ Some rate
-  read_is : known_rate v ≡ Some rate
-  start : start_of next ≡ start_of v
-  samples : List ℤ
-  whole : IsWhole next samples
-
 first_of : (s own : List View) (h : IsLaid s own) → AllByRecursion IsSound (h.series.first ∷ h.series.rest)
     → known_rate h.series.first ≡ Some (ratio_of h.trace.rate)
 first_of s own h sound = rate_as h.series.first h.trace.rate sound.0 h.series.factor h.series.multiplier
 
 sound_first : (s own : List View) (h : IsLaid s own) → AllByRecursion IsSound (h.series.first ∷ h.series.rest)
-sound_first s own h = subst (λ (vs : List View). AllByRecursion IsSound vs) h.series.parts h.sound
+sound_first s own h = rw h.series.parts at h.sound
 
-begins_at : (v : View) (vs own : List View) → IsLaid (v ∷ vs) own → BeginsAt v own
-begins_at v vs [] h = absurd (h.some h.at)
-begins_at v vs (next ∷ behind) h =
+comes : (v next : View) (vs behind : List View) → IsLaid (v ∷ vs) (next ∷ behind) → Comes v next
+comes v next vs behind h =
     let is = h.at.1.1.1 in
     let same : h.series.first ≡ v = cc (h.series.parts) in
     let back : IsSeriesOf h.trace (next ∷ behind) = series_at h.trace h.is h.some (next ∷ behind) h.at in
     let here : next ≡ back.first = cc (back.parts) in
     record {
-      next = next;
-      behind = behind;
-      parts = refl;
       rate = ratio_of h.trace.rate;
       rate_is = is.rate;
       read_is = ap (λ (w : View). known_rate w) (sym same) ∙ first_of (v ∷ vs) (next ∷ behind) h
@@ -263,28 +217,27 @@ begins_at v vs (next ∷ behind) h =
 pub bordering : (s before others own written : List View) (b v : View) → IsLaid s own
     → IsLaid (v ∷ others) written → s ≡ before ++ b ∷ [] → AreBordering b v own written
 bordering s before others [] written b v h k e = absurd (h.some h.at)
-bordering s before others (w ∷ ws) written b v h k e =
+bordering s before others (w ∷ ws) [] b v h k e = absurd (k.some k.at)
+bordering s before others (w ∷ ws) (next ∷ behind) b v h k e =
     let first : View = h.series.first in
-    let rest : List View = h.series.rest in
+    let rest = h.series.rest in
     let rate : Ratio = ratio_of h.trace.rate in
     let known : known_rate first ≡ Some rate = first_of s (w ∷ ws) h (sound_first s (w ∷ ws) h) in
     let counts = both_some first rate known in
     let whole : 0 + length h.trace.samples ≡ length h.trace.samples = omega arith in
-    let ends : EndsAt h.trace (w ∷ ws) (length h.trace.samples) =
-    subst (λ (n : ℕ). EndsAt h.trace (w ∷ ws) n) whole (ends_at h.trace 0 w ws h.trace.samples h.at) in
-    let begins = begins_at v others written k in
+    let ends = rw whole at (ends_at h.trace 0 w ws h.trace.samples h.at) in
+    let coming = comes v next others behind k in
     let way = past s (w ∷ ws) h first (sym h.series.start) ends (start_of v) counts.0 in
-    let stretch : IsStretch (first ∷ rest) = subst (λ (vs : List View). IsStretch vs) h.series.parts h.stretch in
-    let parts : first ∷ rest ≡ before ++ b ∷ [] = sym h.series.parts ∙ e in
-    let stands : IsPackability rate (start_of first) before b =
-    stands_at rate first [] [] first rest before [] b known refl (stands_first rate first known) stretch parts in
+    let stretch = rw h.series.parts at h.stretch in
+    let parts = sym h.series.parts ∙ e in
+    let stands = stands_at _ _ _ _ _ _ _ _ _ known refl (stands_first rate first known) stretch parts in
     record {
       before = ends.before;
       last = ends.last;
-      next = begins.next;
-      behind = begins.behind;
+      next = next;
+      behind = behind;
       parts = ends.parts;
-      parts_after = begins.parts;
+      parts_after = refl;
       border = record {
         rate = rate;
         rate_is = ends.is.rate;
@@ -294,18 +247,13 @@ bordering s before others (w ∷ ws) written b v h k e =
         own_is = stands.known;
         same = stands.same;
         own_counts = both_some b stands.own stands.known;
-        coming = begins.rate;
-        coming_is = begins.rate_is;
-        read_is = begins.read_is;
-        start = begins.start;
-        samples = begins.samples;
-        whole = begins.whole;
+        comes = coming;
         drift = drift_of (start_of first) (samples_of before) rate (added_by before) (start_of b);
         near = stands.on_time;
         left = way.left;
         small = way.small;
         miss = ap (λ (t : ℤ). miss_of (start_of ends.last) (count_of ends.last) rate
-            (step_in (leap_of ends.last.bytes)) t) begins.start ∙ way.miss
+            (step_in (leap_of ends.last.bytes)) t) coming.start ∙ way.miss
             ∙ ap (λ (z : ℤ). z +ℤ pos way.left) (beside first s before b rate (start_of v) e);
       };
     }

@@ -31,12 +31,7 @@ cut_first {v = v} e kept = record { own = v ∷ []; parts = e; stretch = tt; kep
 -- there is room to count one more
 pub few_more : {all left rest : List View} {s : Stretch} {v : View} → IsCutSo all left s → left ≡ v ∷ rest
     → s.records < length all
-few_more {all = all} {left = left} {s = s} h e =
-    let count = counted s h.own h.kept in
-    let size = length-append h.own left in
-    let whole : length all ≡ length (h.own ++ left) = ap (λ (vs : List View). length vs) h.parts in
-    let more = ap (λ (vs : List View). length vs) e in
-    omega (arith, count, size, whole, more)
+few_more h h2 = grind (arith, counted, length-append)
 
 -- the next record goes on with it
 pub cut_on : {all left rest : List View} {s new : Stretch} {v : View} → (h : IsCutSo all left s) → left ≡ v ∷ rest
@@ -50,9 +45,7 @@ cut_on {rest = rest} {v = v} h e go kept = record {
 
 -- it has so many records
 pub left_are : {all left : List View} {s : Stretch} → IsCutSo all left s → left ≡ drop s.records all
-left_are {left = left} {s = s} h =
-    sym (drop_at h.own left s.records (sym (counted s h.own h.kept)))
-    ∙ ap (λ (vs : List View). drop s.records vs) (sym h.parts)
+left_are h = grind (arith, drop_at, counted)
 
 -- and ends there
 pub cut_off : {all left : List View} {s : Stretch} → (h : IsCutSo all left s) → EndsBefore h.own left
@@ -61,6 +54,5 @@ cut_off {all = all} {left = left} {s = s} h ends =
     let n : ℕ = s.records in
     let front : h.own ≡ take n all =
     sym (take_at h.own left n (sym (counted s h.own h.kept))) ∙ ap (λ (vs : List View). take n vs) (sym h.parts) in
-    subst (λ (us : List View). IsFirstStretch all us (drop n all)) front
-    (subst (λ (us : List View). IsFirstStretch all h.own us) (left_are h)
+    rw front at (subst (λ (us : List View). IsFirstStretch all h.own us) (left_are h)
     (record { stretch = h.stretch; parts = h.parts; ends = ends }))

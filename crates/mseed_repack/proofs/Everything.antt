@@ -1,4 +1,5 @@
 -- Where all records are asked for, those that are asked for are all, and none of them lacks a time.
+use Rattle.std.proofs.Common.{arith}
 use Rattle.std.proofs.Common.{◌≡◌, ◌∙◌, ℕ, Bool, List, [], ◌∷◌, ap, subst, sym, refl, Result, Ok, Err}
 use Rattle.std.specs.List.{count_by, filter}
 use Rattle.mseed_record.specs.View.{View}
@@ -24,11 +25,9 @@ use Rattle.mseed_repack.specs.declared.refusing.LeftOut.TheVariants.{Misfit as L
 use Rattle.mseed_repack.proofs.AskedFor.{silent_only, whole_kept}
 
 -- nothing is reported of how many lack a time
-untold : (views : List View) (old new : BytesWritten) → ReportsWithoutTime (count_by (lacks_time everything) views)
-    old new
-    → new ≡ old
-untold views old new told =
-    silent_only [] old new (subst (λ (n : ℕ). ReportsWithoutTime n old new) (none_lacks views) told) refl
+untold : (views : List View) (old new : BytesWritten)
+    → ReportsWithoutTime (count_by (lacks_time everything) views) old new → new ≡ old
+untold views old new h = grind (arith, silent_only, none_lacks)
 
 untold_of_bytes : (bytes : List ℕ) (old new : BytesWritten) → ReportsOfBytes everything bytes old new → new ≡ old
 untold_of_bytes bytes old new told = untold told.0 old new told.1.1
@@ -75,8 +74,7 @@ pub all_repacked : {U : Type 0} (o : Options) (result : Result U RepackFault) (h
 all_repacked o (Ok u) h old new first last is =
     let came = is.is_so.0 in
     ((came.0, (came.1.0, (fit is.whole came.1.1.0, came.1.1.1))), untold is.views first last is.is_so.1)
-all_repacked o (Err (Stream fault)) h old new first last is =
-    ((is.is_input, is.unread, is.unwritten), untold_of_bytes h.bytes first last is.reported)
+all_repacked o (Err (Stream fault)) h old new first last is = search (arith, untold_of_bytes)
 all_repacked o (Err (Broken key found)) h old new first last is =
     let came = is.is_so.0 in
     let of = came.1.1 in
@@ -97,9 +95,7 @@ after_none : (views : List View) (o : Options) (leave : Bool) (result : Result L
     → ReportsWithoutTime (count_by (lacks_time everything) views) first between
     → IsRestretchingAmong placed_of o leave result h old new between last
     → IsRestretchingAmong placed_of o leave result h old new first last
-after_none views o leave result h old new first between last told came =
-    subst (λ (w : BytesWritten). IsRestretchingAmong placed_of o leave result h old new w last)
-    (untold views first between told) came
+after_none views o leave result h old new first between last h' h2 = grind (arith, untold)
 
 pub all_restretched : (o : Options) (leave : Bool) (result : Result LeftOut RepackFault) (h : BytesRead)
     (old new first last : BytesWritten) → IsSelectedRestretching everything o leave result h old new first last
@@ -108,8 +104,7 @@ all_restretched o leave (Ok left) h old new first last is =
     let came = is.is_so.1.1 in
     after_none is.views o leave (Ok left) h old new first is.is_so.0 last is.is_so.1.0
     (came.0, (came.1.0, (archive is.whole came.1.1.0, came.1.1.1)))
-all_restretched o leave (Err (Stream fault)) h old new first last is =
-    (is.is_input, is.unread, is.unwritten, untold_of_bytes h.bytes first last is.reported)
+all_restretched o leave (Err (Stream fault)) h old new first last is = search (arith, untold_of_bytes)
 all_restretched o leave (Err (Broken key found)) h old new first last is =
     let came = is.is_so.1.1 in
     let of = came.1.1 in

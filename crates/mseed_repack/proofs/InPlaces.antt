@@ -3,7 +3,6 @@ use Rattle.std.specs.Prelude.{⊤}
 use Rattle.std.proofs.Common.{◌≡◌, ℕ, suc, ◌+◌, ◌<◌, List, [], ◌∷◌, ◌++◌, length, Bool, true, false, cond}
 use Rattle.std.proofs.Common.{refl, sym, ap, subst, ◌∙◌, arith, length-append, Option, None, Some}
 use Rattle.std.specs.List.{AllByRecursion, count_by, filter}
-use Rattle.std.proofs.lemmas.Bool.{false≢true}
 use Rattle.std.proofs.lemmas.List.{length-map, map-append}
 use Rattle.std.proofs.lemmas.List.Elements.{filter-append}
 use Rattle.std.proofs.lemmas.List.Sums.{length-filter}
@@ -35,15 +34,7 @@ views_placed vs = views_from 1 0 vs
 
 views_kept : (p : View → Bool) (ps : List Placed) → views_in (filter (λ q. p q.view) ps) ≡ filter p (views_in ps)
 views_kept p [] = refl
-views_kept p (q ∷ qs) = by (p q.view) (views_kept p qs)
-  where
-    kept : List Placed
-    kept = filter (λ r. p r.view) qs
-
-    by : (b : Bool) → views_in kept ≡ filter p (views_in qs)
-        → views_in (cond b (q ∷ kept) kept) ≡ cond b (q.view ∷ filter p (views_in qs)) (filter p (views_in qs))
-    by true e = ap (λ (vs : List View). q.view ∷ vs) e
-    by false e = e
+views_kept p (q ∷ qs) = grind (arith, views_kept p qs)
 
 pub views_asked : (s : Selection) (vs : List View) → views_in (asked_of s vs) ≡ filter (asks_for s) vs
 views_asked s vs =
@@ -61,16 +52,11 @@ asked_count s vs = size_of (asked_of s vs) (filter (asks_for s) vs) (views_asked
 added_split : (offset : ℕ) (vs ws : List View)
     → added_from offset (vs ++ ws) ≡ added_from offset vs ++ added_from (end_of offset vs) ws
 added_split offset [] ws = refl
-added_split offset (v ∷ vs) ws =
-    let here : Added = record { view = v; offset = offset } in
-    ap (λ (xs : List Added). here ∷ xs) (added_split (offset + length v.bytes) vs ws)
+added_split offset (v ∷ vs) ws = grind (arith, added_split (offset + length v.bytes) vs ws)
 
 numbered_split : (n : ℕ) (xs ys : List Added) → numbered n (xs ++ ys) ≡ numbered n xs ++ numbered (n + length xs) ys
 numbered_split n [] ys = ap (λ (k : ℕ). numbered k ys) (omega arith)
-numbered_split n (x ∷ xs) ys =
-    let here : Placed = record { view = x.view; offset = x.offset; number = n } in
-    ap (λ (ps : List Placed). here ∷ ps)
-    (numbered_split (n + 1) xs ys ∙ ap (λ (k : ℕ). numbered (n + 1) xs ++ numbered k ys) (omega arith))
+numbered_split n (x ∷ xs) ys = grind (arith, numbered_split (n + 1) xs ys)
 
 -- it stands behind those before it, which are numbered from 1
 abbrev pub placed_behind : List View → View → Placed
@@ -81,61 +67,26 @@ placed_after leading v back =
     numbered (length leading + 1 + 1) (added_from (end_of 0 leading + length v.bytes) back)
 
 placed_split : (leading : List View) (v : View) (back : List View)
-    → placed_of (leading ++ v ∷ back)
-    ≡ placed_of leading ++ placed_behind leading v ∷ placed_after leading v back
-placed_split leading v back =
-    ap (λ (xs : List Added). numbered 1 xs) (added_split 0 leading (v ∷ back))
-    ∙ numbered_split 1 (added_from 0 leading) (added_from (end_of 0 leading) (v ∷ back))
-    ∙ ap (λ (k : ℕ). placed_of leading ++ numbered k (added_from (end_of 0 leading) (v ∷ back)))
-    (ap (λ (k : ℕ). 1 + k) (added_length 0 leading) ∙ count (length leading))
-  where
-    count : (n : ℕ) → 1 + n ≡ n + 1
-    count n = omega arith
+    → placed_of (leading ++ v ∷ back) ≡ placed_of leading ++ placed_behind leading v ∷ placed_after leading v back
+placed_split leading v back = grind (arith, added_split, numbered_split, end_of, added_length)
 
 pub stands_among : (leading : List View) (v : View) (back : List View) (index : ℕ) (f : Finding)
     → length leading ≡ index → f.number ≡ index + 1 → f.offset ≡ end_of 0 leading
     → StandsAt (placed_of (leading ++ v ∷ back)) index f
-stands_among leading v back index f at number offset = record {
-  leading = placed_of leading;
-  at = placed_behind leading v;
-  back = placed_after leading v back;
-  parts = placed_split leading v back;
-  index_is = size_of (placed_of leading) leading (views_placed leading) ∙ at;
-  number = number ∙ ap (λ (k : ℕ). k + 1) (sym at);
-  offset = offset;
-}
+stands_among leading v back index f h h2 h3 = grind (arith, placed_split, size_of, views_placed)
 
 -- and among those that are asked for, where it is one of them
 pub stands_asked : (s : Selection) (leading : List View) (v : View) (back : List View) (index : ℕ) (f : Finding)
     → asks_for s v ≡ true → count_by (asks_for s) leading ≡ index → f.number ≡ length leading + 1
     → f.offset ≡ end_of 0 leading → StandsAt (asked_of s (leading ++ v ∷ back)) index f
-stands_asked s leading v back index f asked count number offset = record {
-  leading = asked_of s leading;
-  at = placed_behind leading v;
-  back = filter test (placed_after leading v back);
-  parts = ap (λ (ps : List Placed). filter test ps) (placed_split leading v back)
-      ∙ filter-append test (placed_of leading) (placed_behind leading v ∷ placed_after leading v back)
-      ∙ ap (λ (b : Bool). asked_of s leading ++ cond b (placed_behind leading v ∷ filter test
-      (placed_after leading v back)) (filter test (placed_after leading v back))) asked;
-  index_is = asked_count s leading ∙ count;
-  number = number;
-  offset = offset;
-}
-  where
-    test : Placed → Bool
-    test q = asks_for s q.view
+stands_asked s leading v back index f h h2 h3 h4 = grind (arith, placed_split, filter-append, asked_count)
 
 -- the number tells the index
 number_from : (n offset : ℕ) (vs : List View) (leading back : List Placed) (p : Placed)
     → numbered n (added_from offset vs) ≡ leading ++ p ∷ back → p.number ≡ n + length leading
 number_from n offset [] [] back p e = cc
 number_from n offset [] (q ∷ leading) back p e = cc
-number_from n offset (v ∷ vs) [] back p e =
-    let first : record { view = v; offset = offset; number = n } ≡ p = cc in
-    sym (ap (λ (q : Placed). q.number) first) ∙ nothing n
-  where
-    nothing : (k : ℕ) → k ≡ k + 0
-    nothing k = omega arith
+number_from n offset (v ∷ vs) [] back p e = grind (arith)
 number_from n offset (v ∷ vs) (q ∷ leading) back p e =
     let rest : numbered (n + 1) (added_from (offset + length v.bytes) vs) ≡ leading ++ p ∷ back = cc in
     number_from (n + 1) (offset + length v.bytes) vs leading back p rest ∙ later n (length leading)
@@ -144,19 +95,10 @@ number_from n offset (v ∷ vs) (q ∷ leading) back p e =
     later k m = omega arith
 
 pub number_at : (vs : List View) (index : ℕ) (f : Finding) → StandsAt (placed_of vs) index f → f.number ≡ index + 1
-number_at vs index f at =
-    at.number ∙ number_from 1 0 vs at.leading at.back at.at at.parts ∙ ap (λ (k : ℕ). 1 + k) at.index_is ∙ count index
-  where
-    count : (n : ℕ) → 1 + n ≡ n + 1
-    count n = omega arith
+number_at vs index f h = grind (arith, number_from)
 
 pub index_inside : (ps : List Placed) (index : ℕ) (f : Finding) → StandsAt ps index f → index < length ps
-index_inside ps index f at =
-    omega (
-      arith,
-      at.index_is,
-      ap (λ (qs : List Placed). length qs) at.parts ∙ length-append at.leading (at.at ∷ at.back),
-    )
+index_inside ps index f h = grind (arith, length-append)
 
 -- as many records of what was read as are packed
 pub index_among : (vs : List View) (ps : List Placed) (index : ℕ) (f : Finding) → views_in ps ≡ vs
@@ -185,25 +127,17 @@ parts_alike {X} (w ∷ xs) (z ∷ ys) cs ds x y size e =
 -- what stands at one record, for one reason, is one finding
 pub one_at : (ps : List Placed) (index : ℕ) (f g : Finding) → StandsAt ps index f → StandsAt ps index g → f.why ≡ g.why
     → f ≡ g
-one_at ps index f g a b why =
-    let both = parts_alike a.leading b.leading a.back b.back a.at b.at (a.index_is ∙ sym b.index_is)
-    (sym a.parts ∙ b.parts) in
-    let number : f.number ≡ g.number = a.number ∙ ap (λ (p : Placed). p.number) both.1 ∙ sym b.number in
-    let offset : f.offset ≡ g.offset = a.offset ∙ ap (λ (p : Placed). p.offset) both.1 ∙ sym b.offset in
-    λ i. record { number = number i; offset = offset i; why = why i }
+one_at ps index f g h h2 h3 = grind (arith, parts_alike)
 
 -- ---- the first finding that is a record's own
 
 pub own_first : (key : List ℕ) (vs : List View) (ps : List Placed) (index : ℕ) (f g : Finding) → views_in ps ≡ vs
     → IsOwnAt key vs index f → StandsAt ps index g → g.why ≡ f.why → IsFirstOwn (placed_in key ps) g
 own_first key vs ps index f g same own at why =
-    let size : length (views_in at.leading) ≡ length own.leading =
-    length-map at.leading (λ q. q.view) ∙ (at.index_is ∙ sym own.index_is) in
-    let joined : views_in at.leading ++ at.at.view ∷ views_in at.back ≡ own.leading ++ own.at ∷ own.back =
-    sym (map-append (λ (q : Placed). q.view) at.leading (at.at ∷ at.back))
-    ∙ ap (λ (qs : List Placed). views_in qs) (sym at.parts) ∙ same ∙ own.parts in
-    let both = parts_alike (views_in at.leading) own.leading (views_in at.back) own.back at.at.view own.at size
-    joined in
+    let size = length-map at.leading (λ q. q.view) ∙ (at.index_is ∙ sym own.index_is) in
+    let joined = sym (map-append (λ (q : Placed). q.view) at.leading (at.at ∷ at.back)) ∙ ap (λ (qs : List Placed).
+    views_in qs) (sym at.parts) ∙ same ∙ own.parts in
+    let both = parts_alike _ _ _ _ _ _ size joined in
     record {
       leading = placed_in key at.leading;
       at = at.at;
@@ -234,15 +168,8 @@ AreFirst ps qs (f ∷ fs) (g ∷ gs) = (index : ℕ) × (StandsAt ps index f × 
 
 stands_later : (p : Placed) (ps : List Placed) (index : ℕ) (f : Finding) → StandsAt ps index f
     → StandsAt (p ∷ ps) (suc index) f
-stands_later p ps index f at = record {
-  leading = p ∷ at.leading;
-  at = at.at;
-  back = at.back;
-  parts = ap (λ (qs : List Placed). p ∷ qs) at.parts;
-  index_is = ap suc at.index_is;
-  number = at.number;
-  offset = at.offset;
-}
+stands_later p ps index f at =
+    record { leading = p ∷ at.leading; at = at.at; back = at.back; parts = cc; index_is = cc; number = cc; offset = cc }
 
 first_later : (p q : Placed) (ps qs : List Placed) (found others : List Finding) → AreFirst ps qs found others
     → AreFirst (p ∷ ps) (q ∷ qs) found others
@@ -252,8 +179,7 @@ first_later p q ps qs (f ∷ fs) (g ∷ gs) is =
     (suc is.0, (stands_later p ps is.0 f is.1.0, stands_later q qs is.0 g is.1.1, is.1.2))
 
 first_here : (p q : Placed) (ps qs : List Placed) (why : Option Why) (found others : List Finding)
-    → AreFirst ps qs found others
-    → AreFirst (p ∷ ps) (q ∷ qs) (finding_at p why ++ found) (finding_at q why ++ others)
+    → AreFirst ps qs found others → AreFirst (p ∷ ps) (q ∷ qs) (finding_at p why ++ found) (finding_at q why ++ others)
 first_here p q ps qs None found others is = first_later p q ps qs found others is
 first_here p q ps qs (Some why) found others is = (
   0,
@@ -277,8 +203,7 @@ moved_here before p q ps qs kept own found same rest (one _ _ _ why later h more
     let others = rest later more in (
       finding_at q why ++ others.0,
       (
-        one before q kept why others.0 (subst (λ (v : View). IsFound before v why) same h)
-            (subst (λ (v : View). AreFindings (Some v) kept others.0) same others.1.0),
+        one before q kept why others.0 (subst (λ (v : View). IsFound before v why) same h) (rw same at others.1.0),
         first_here p q ps qs why later others.0 others.1.1,
       ),
     )
@@ -288,30 +213,24 @@ moved_past : (before : Option View) (p q : Placed) (ps qs kept : List Placed) (f
     → Moved before ps qs kept found → Moved before (p ∷ ps) (q ∷ qs) kept found
 moved_past before p q ps qs kept found m = (m.0, (m.1.0, first_later p q ps qs found m.0 m.1.1))
 
-moved_either : (before : Option View) (p q : Placed) (ps qs own kept : List Placed) (found : List Finding) (b c : Bool)
-    → b ≡ c → p.view ≡ q.view
+moved_either : (before : Option View) (p q : Placed) (ps qs own kept : List Placed) (found : List Finding) (b : Bool)
+    → p.view ≡ q.view
     → ((prior : Option View) (later : List Finding) → AreFindings prior own later → Moved prior ps qs kept later)
-    → AreFindings before (cond b (p ∷ own) own) found
-    → Moved before (p ∷ ps) (q ∷ qs) (cond c (q ∷ kept) kept) found
-moved_either before p q ps qs own kept found true true e same rest is =
-    moved_here before p q ps qs kept own found same (rest (Some p.view)) is
-moved_either before p q ps qs own kept found false false e same rest is =
-    moved_past before p q ps qs kept found (rest before found is)
-moved_either before p q ps qs own kept found true false e same rest is = absurd (false≢true (sym e))
-moved_either before p q ps qs own kept found false true e same rest is = absurd (false≢true e)
+    → AreFindings before (cond b (p ∷ own) own) found → Moved before (p ∷ ps) (q ∷ qs) (cond b (q ∷ kept) kept) found
+moved_either before p q ps qs own kept found true same rest is = search (arith, moved_here)
+moved_either before p q ps qs own kept found false same rest is = grind (arith, moved_past)
 
-moved : (key : List ℕ) (before : Option View) (ps qs : List Placed) (found : List Finding)
-    → views_in ps ≡ views_in qs → AreFindings before (placed_in key ps) found
-    → Moved before ps qs (placed_in key qs) found
+moved : (key : List ℕ) (before : Option View) (ps qs : List Placed) (found : List Finding) → views_in ps ≡ views_in qs
+    → AreFindings before (placed_in key ps) found → Moved before ps qs (placed_in key qs) found
 moved key before [] [] _ same (none _) = ([], (none before, tt))
 moved key before [] (q ∷ qs) found same is = cc
 moved key before (p ∷ ps) [] found same is = cc
 moved key before (p ∷ ps) (q ∷ qs) found same is =
     let here : p.view ≡ q.view = cc in
     let others : views_in ps ≡ views_in qs = cc in
-    moved_either before p q ps qs (placed_in key ps) (placed_in key qs) found (is_of_channel key p.view)
-    (is_of_channel key q.view)
-    (ap (λ (v : View). is_of_channel key v) here) here (λ prior later more. moved key prior ps qs later others more) is
+    subst (λ (v : View). Moved before (p ∷ ps) (q ∷ qs) (cond (is_of_channel key v) (q ∷ placed_in key qs)
+    (placed_in key qs)) found) here
+    (moved_either _ _ _ _ _ _ _ _ _ here (λ prior later more. moved key prior ps qs later others more) is)
 
 -- the first finding of a channel stands at some record
 pub first_index : (key : List ℕ) (vs : List View) (f : Finding) → IsFirstFinding (placed_in key (placed_of vs)) f
@@ -347,6 +266,5 @@ first_moved key vs ps f g same first stands why = by m.0 m.1.0 m.1.1
     by [] are is = absurd is
     by (h ∷ hs) are is = (
       hs,
-      subst (λ (x : Finding). AreFindings None (placed_in key ps) (x ∷ hs))
-          (one_at ps is.0 h g is.1.1 (stands is.0 is.1.0) (is.1.2 ∙ sym why)) are,
+      rw (one_at ps is.0 h g is.1.1 (stands is.0 is.1.0) (is.1.2 ∙ sym why)) at are,
     )

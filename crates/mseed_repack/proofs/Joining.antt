@@ -1,7 +1,7 @@
 -- The neighbours in a stretch join.
-use Rattle.std.proofs.Common.{◌≡◌, ◌≢◌, ℕ, zero, suc, ◌+◌, ◌*◌, ◌^◌, ◌≤◌, ◌<◌, List, [], ◌∷◌, ◌++◌, ℤ, pos, negsuc}
+use Rattle.std.proofs.Common.{◌≡◌, ◌≢◌, ℕ, suc, ◌+◌, ◌*◌, ◌^◌, ◌≤◌, ◌<◌, List, [], ◌∷◌, ◌++◌, ℤ, pos}
 use Rattle.std.proofs.Common.{◌+ℤ◌}
-use Rattle.std.proofs.Common.{◌-ℤ◌, ◌*ℤ◌, unsigned_abs, arith, refl, Some, Option, None, IsSome, sym, ap, subst, ◌∙◌}
+use Rattle.std.proofs.Common.{◌-ℤ◌, ◌*ℤ◌, unsigned_abs, arith, refl, Some, Option, IsSome, sym, ap, subst, ◌∙◌}
 use Rattle.std.proofs.lemmas.Bool.{false≢true}
 use Rattle.std.proofs.lemmas.Int.{ints}
 use Rattle.std.specs.List.{AllByRecursion}
@@ -10,14 +10,13 @@ use Rattle.mseed_time.specs.declared.fault.TimeFault.{TimeFault}
 use Rattle.mseed_time.specs.Join.{Joins, step_of}
 use Rattle.mseed_time.specs.Rate.{Ratio, SameRate, rate_of}
 use Rattle.mseed_record.specs.declared.leap.Leap.TheVariants.{Both}
-use Rattle.mseed_record.specs.Header.{factor_at, multiplier_at}
 use Rattle.mseed_record.specs.View.{View, leap_of, start_of, step_in}
 use Rattle.mseed_steim.specs.Reading.{count_of}
 use Rattle.mseed_audit.specs.Follows.{AllNeighbours, Follows, IsContinuous, IsSound}
-use Rattle.mseed_audit.specs.Judging.{known_rate, rate_in, rate_unless, time_fault_of}
-use Rattle.mseed_repack.specs.Stretches.{AllGoOn, GoesOn, GoesOnAt, IsOnTime, IsStretch, added_by, drift_of, last_of}
+use Rattle.mseed_audit.specs.Judging.{known_rate, rate_unless}
+use Rattle.mseed_repack.specs.Stretches.{AllGoOn, GoesOn, GoesOnAt, IsOnTime, IsStretch, added_by, last_of}
 use Rattle.mseed_repack.specs.Stretches.{samples_of}
-use Rattle.mseed_repack.proofs.Drifts.{at_start, half, half_alike, miss_is, same_rates}
+use Rattle.mseed_repack.proofs.Drifts.{at_start, half_alike, miss_is, same_rates}
 use Rattle.mseed_repack.proofs.Runs.{added_append, last_snoc, samples_append}
 
 -- of a rate both numbers count
@@ -26,29 +25,13 @@ product : (a b : ℕ) → 0 < suc a * suc b
 product a b = omega arith
 
 both_by : (f m : ℤ) (r : Ratio) → rate_of f m ≡ Some r → (0 < r.num) × (0 < r.den)
-both_by (pos zero) m r e = cc
-both_by (pos (suc f)) (pos zero) r e = cc
-both_by (pos (suc f)) (pos (suc m)) r e =
-    subst (λ (s : Ratio). (0 < s.num) × (0 < s.den)) (same_Some (record { num = suc f * suc m; den = 1 }) r e)
-    (product f m, omega arith)
-both_by (pos (suc f)) (negsuc m) r e =
-    subst (λ (s : Ratio). (0 < s.num) × (0 < s.den)) (same_Some (record { num = suc f; den = suc m }) r e)
-    (omega arith, omega arith)
-both_by (negsuc f) (pos zero) r e = cc
-both_by (negsuc f) (pos (suc m)) r e =
-    subst (λ (s : Ratio). (0 < s.num) × (0 < s.den)) (same_Some (record { num = suc m; den = suc f }) r e)
-    (omega arith, omega arith)
-both_by (negsuc f) (negsuc m) r e =
-    subst (λ (s : Ratio). (0 < s.num) × (0 < s.den)) (same_Some (record { num = 1; den = suc f * suc m }) r e)
-    (omega arith, product f m)
+both_by f m r h = grind (arith, same_Some, product)
 
 unless_some : (o : Option TimeFault) (rate : Option Ratio) (r : Ratio) → rate_unless o rate ≡ Some r → rate ≡ Some r
-unless_some None rate r e = e
-unless_some (Some fault) rate r e = cc
+unless_some o rate r h = grind (arith)
 
 pub both_some : (v : View) (r : Ratio) → known_rate v ≡ Some r → (0 < r.num) × (0 < r.den)
-both_some v r e = both_by (factor_at v.order v.bytes) (multiplier_at v.order v.bytes) r
-    (unless_some (time_fault_of v) (rate_in v) r e)
+both_some v r h = search (arith, both_by, unless_some)
 
 -- A record that is on time after others, by a rate and a start, and has that rate itself.
 pub record IsPackability (rate : Ratio) (start : ℤ) (before : List View) (b : View) : Type 0 where
@@ -60,19 +43,12 @@ pub record IsPackability (rate : Ratio) (start : ℤ) (before : List View) (b : 
 -- the last of records that end with one
 pub last_is : (first : View) (rest before : List View) (b : View) → first ∷ rest ≡ before ++ b ∷ []
     → last_of first rest ≡ b
-last_is first rest [] b e =
-    let none : rest ≡ [] = cc in
-    let here : first ≡ b = cc in
-    ap (λ (vs : List View). last_of first vs) none ∙ here
-last_is first rest (w ∷ ws) b e =
-    let back : rest ≡ ws ++ b ∷ [] = cc in
-    ap (λ (vs : List View). last_of first vs) back ∙ last_snoc first ws b
+last_is first rest [] b e = grind (arith)
+last_is first rest (w ∷ ws) b e = grind (arith, last_snoc)
 
 pub added_one : (before : List View) (b : View)
     → added_by (before ++ b ∷ []) ≡ added_by before +ℤ step_of (step_in (leap_of b.bytes))
-added_one before b =
-    let one : added_by (b ∷ []) ≡ step_of (step_in (leap_of b.bytes)) = omega (arith, ints) in
-    added_append before (b ∷ []) ∙ ap (λ (z : ℤ). added_by before +ℤ z) one
+added_one before b = grind (arith, ints, added_append)
 
 pub samples_one : (before : List View) (b : View) → samples_of (before ++ b ∷ []) ≡ samples_of before + count_of b
 samples_one before b = let all = samples_append before (b ∷ []) in omega (arith, all)
@@ -83,12 +59,9 @@ next_on_time : (rate next : Ratio) (first : View) (rest before : List View) (b v
     → IsOnTime (start_of first) (samples_of before + count_of b) rate
     (added_by before +ℤ step_of (step_in (leap_of b.bytes))) (start_of v)
 next_on_time rate next first rest before b v e go =
-    let count : samples_of (first ∷ rest) ≡ samples_of before + count_of b =
-    ap samples_of e ∙ samples_one before b in
-    let added : added_by (first ∷ rest) ≡ added_by before +ℤ step_of (step_in (leap_of b.bytes)) =
-    ap added_by e ∙ added_one before b in
-    subst (λ (z : ℤ). IsOnTime (start_of first) (samples_of before + count_of b) rate z (start_of v)) added
-    (subst (λ (n : ℕ). IsOnTime (start_of first) n rate (added_by (first ∷ rest)) (start_of v)) count go.on_time)
+    let count = ap samples_of e ∙ samples_one before b in
+    let added = ap added_by e ∙ added_one before b in
+    rw (count, added) at go.on_time
 
 -- and joins this one
 next_joins : (rate own : Ratio) (start : ℤ) (n : ℕ) (added : ℤ) (b v : View) → 0 < rate.den → SameRate rate own
@@ -99,19 +72,15 @@ next_joins rate own start n added b v some same near far =
     let step : ℤ = step_of (step_in (leap_of b.bytes)) in
     let way : ℤ = start_of v -ℤ start_of b +ℤ step in
     let miss : ℤ = way *ℤ pos rate.num -ℤ pos (count_of b * rate.den * 10 ^ 6) in
-    let within : 2 * unsigned_abs miss ≤ rate.den * 10 ^ 6 =
-    half (drift_of start n rate added (start_of b)) (drift_of start (n + count_of b) rate (added +ℤ step) (start_of v))
-    miss (rate.den * 10 ^ 6) near far
-    (miss_is start (start_of b) (start_of v) added step rate.num n (count_of b) rate.den) in
+    let is = miss_is start (start_of b) (start_of v) added step rate.num n (count_of b) rate.den in
+    let within : 2 * unsigned_abs miss ≤ rate.den * 10 ^ 6 = omega (arith, ints, near, far, is) in
     half_alike way rate.num rate.den own.num own.den (count_of b) some (sym same) within
 
 -- one record further
 
 pub going : (rate : Ratio) (first : View) (rest : List View) (v : View) → known_rate first ≡ Some rate
     → GoesOn (first ∷ rest) v → (next : Ratio) × GoesOnAt rate next first rest v
-going rate first rest v known (other, (next, go)) =
-    let same : other ≡ rate = same_Some other rate (sym go.rate_is ∙ known) in
-    (next, subst (λ (r : Ratio). GoesOnAt r next first rest v) same go)
+going rate first rest v h h2 = grind (arith, same_Some)
 
 follows_next : (rate next : Ratio) (first : View) (rest before : List View) (b v : View) → known_rate first ≡ Some rate
     → first ∷ rest ≡ before ++ b ∷ [] → IsPackability rate (start_of first) before b → GoesOnAt rate next first rest v
@@ -135,15 +104,7 @@ follows_next rate next first rest before b v known e stands go =
 pub stands_next : (rate next : Ratio) (first : View) (rest before : List View) (b v : View)
     → first ∷ rest ≡ before ++ b ∷ [] → GoesOnAt rate next first rest v
     → IsPackability rate (start_of first) (before ++ b ∷ []) v
-stands_next rate next first rest before b v e go = record {
-  own = next;
-  known = go.next_is;
-  same = go.same;
-  on_time =
-      subst (λ (z : ℤ). IsOnTime (start_of first) (samples_of (before ++ b ∷ [])) rate z (start_of v)) (ap added_by e)
-      (subst (λ (n : ℕ). IsOnTime (start_of first) n rate (added_by (first ∷ rest)) (start_of v)) (ap samples_of e)
-      go.on_time);
-}
+stands_next rate next first rest before b v h h2 = grind (arith)
 
 neighbours : (rate : Ratio) (first : View) (rest before : List View) (b : View) (vs : List View)
     → known_rate first ≡ Some rate → first ∷ rest ≡ before ++ b ∷ [] → IsPackability rate (start_of first) before b
@@ -157,17 +118,11 @@ neighbours rate first rest before b (v ∷ vs) known e stands (go, more) =
     )
 
 pub rate_there : (o : Option Ratio) → IsSome o → (r : Ratio) × (o ≡ Some r)
-rate_there None some = absurd (false≢true some)
-rate_there (Some r) some = (r, refl)
+rate_there o h = grind (arith, false≢true)
 
 pub stands_first : (rate : Ratio) (first : View) → known_rate first ≡ Some rate → IsPackability rate (start_of first)
     [] first
-stands_first rate first known = record {
-  own = rate;
-  known = known;
-  same = refl;
-  on_time = at_start (start_of first) rate.num rate.den;
-}
+stands_first rate first h = grind (arith, at_start)
 
 pub continuous : (s : List View) → AllByRecursion IsSound s → IsStretch s → IsContinuous s
 continuous [] each is = absurd is

@@ -1,6 +1,6 @@
 -- The links of channels, laid from the last record on.
-use Rattle.std.proofs.Common.{◌≡◌, ◌≢◌, ℕ, zero, suc, ◌+◌, ◌<◌, ◌≤◌, ◌&&◌, Bool, true, false, List, [], ◌∷◌, length}
-use Rattle.std.proofs.Common.{if◌then◌else◌, drop, map, set, get_or, refl, sym, ap, subst, ◌∙◌, arith, ⊎_elim, nat_lt}
+use Rattle.std.proofs.Common.{◌≡◌, ◌≢◌, ℕ, zero, suc, ◌+◌, ◌<◌, ◌≤◌, Bool, true, false, List, [], ◌∷◌, length}
+use Rattle.std.proofs.Common.{if◌then◌else◌, drop, map, set, get_or, refl, sym, ap, subst, ◌∙◌, arith, ⊎_elim}
 use Rattle.std.proofs.Common.{Ok, Err, All}
 use Rattle.std.specs.List.{AllByRecursion}
 use Rattle.std.specs.Map.{keys_of}
@@ -8,7 +8,7 @@ use Rattle.std.specs.Ordering.{nat_cmp, is_eq, ordering_index}
 use Rattle.std.specs.Cmp.Lexicographic.{slice_cmp}
 use Rattle.std.specs.List.Sorted.{IsStrictlySortedBy, IsNonDecreasingBy, IsBinarySearchResult}
 use Rattle.std.specs.declared.cmp.Ordering.{Ordering}
-use Rattle.std.specs.declared.cmp.Ordering.TheVariants.{Less, Equal, Greater}
+use Rattle.std.specs.declared.cmp.Ordering.TheVariants.{Less}
 use Rattle.std.proofs.lemmas.Bool.{cases_lt, false≢true, lt-ltb}
 use Rattle.std.proofs.lemmas.Cmp.{nat_list_cmp_total}
 use Rattle.std.proofs.lemmas.List.{drop_more, get_or_default, get_or-set_same, get_or-set_other}
@@ -21,7 +21,7 @@ use Rattle.mseed_audit.specs.Channels.{is_of_channel, same_key}
 use Rattle.mseed_audit.proofs.Maps.{same_back, same_is}
 use Rattle.mseed_repack.specs.Repack.{Channel}
 use Rattle.mseed_repack.specs.private.Reading.{channel_in}
-use Rattle.mseed_repack.specs.private.Links.{AreNexts, AreLinks, AreLinksFrom, IsOfAt, IsLinkedFrom, LeadsTo}
+use Rattle.mseed_repack.specs.private.Links.{AreNexts, AreLinks, AreLinksFrom, IsOfAt, IsLinkedFrom}
 
 -- the channel at an index is below each after it
 less_at : (key : List ℕ) (cs : List Channel) → AllByRecursion (λ k. slice_cmp nat_cmp key k ≡ Less) (keys_of cs)
@@ -42,34 +42,18 @@ ascending_at (c ∷ cs) sorted (suc j) (suc k) d less lt =
 -- so no two have one key
 apart_at : (cs : List Channel) → IsStrictlySortedBy (slice_cmp nat_cmp) (keys_of cs) → (j k : ℕ) (d : Channel)
     → j < length cs → k < length cs → j ≢ k → same_key (get_or cs j d).0 (get_or cs k d).0 ≡ false
-apart_at cs sorted j k d a b differ = ⊎_elim
-    (λ (less : j < k). ap is_eq (ascending_at cs sorted j k d less b))
-    (λ (more : k ≤ j). same_back (get_or cs j d).0 (get_or cs k d).0
-    ∙ ap is_eq (ascending_at cs sorted k j d (further j k more differ) a))
-    (cases_lt j k)
-  where
-    further : (j k : ℕ) → k ≤ j → j ≢ k → k < j
-    further j k more differ =
-        ⊎_elim (λ (less : k < j). less) (λ (le : j ≤ k). absurd (differ (omega (arith, more, le)))) (cases_lt k j)
+apart_at cs h j k d h2 h3 h4 = grind (arith, ascending_at, same_back, cases_lt)
 
 most : (o : Ordering) → ordering_index o ≤ 2
-most Less = omega arith
-most Equal = omega arith
-most Greater = omega arith
+most o = grind (arith)
 
 rises : (x y z : List ℕ) (o : Ordering) → slice_cmp nat_cmp y z ≡ o → slice_cmp nat_cmp x y ≡ Less
     → ordering_index (slice_cmp nat_cmp x z) ≤ ordering_index (slice_cmp nat_cmp y z)
-rises x y z Less e less = rw (e, nat_list_cmp_total.trans x y z less e) (omega arith)
-rises x y z Equal e less = let same : y ≡ z = same_is y z (ap is_eq e) in rw (e, ← same, less) (omega arith)
-rises x y z Greater e less = rw e (most (slice_cmp nat_cmp x z))
+rises x y z o h h2 = grind (arith, nat_list_cmp_total, same_is, most)
 
 all_rise : (cs : List Channel) (key : List ℕ) → IsStrictlySortedBy (slice_cmp nat_cmp) (keys_of cs)
     → IsNonDecreasingBy (λ (c : Channel). ordering_index (slice_cmp nat_cmp c.0 key)) cs
-all_rise cs key sorted i j d le lt = ⊎_elim
-    (λ (less : i < j). rises (get_or cs i d).0 (get_or cs j d).0 key (slice_cmp nat_cmp (get_or cs j d).0 key) refl
-    (ascending_at cs sorted i j d less lt))
-    (λ (back : j ≤ i). let same : i ≡ j = omega (arith, le, back) in rw same (omega arith))
-    (cases_lt i j)
+all_rise cs key h = grind (arith, rises, ascending_at, cases_lt)
 
 -- what a search by the key finds
 pub searched_some : (cs : List Channel) (key : List ℕ) (k : ℕ)
@@ -80,23 +64,14 @@ searched_some cs key k h = λ c. ap is_eq (h c)
 pub searched_none : (cs : List Channel) (key : List ℕ) (k : ℕ) → IsStrictlySortedBy (slice_cmp nat_cmp) (keys_of cs)
     → IsBinarySearchResult (λ (c : Channel). slice_cmp nat_cmp c.0 key) cs (Err k)
     → All (λ (c : Channel). same_key c.0 key ≡ false) cs
-searched_none cs key k sorted h = λ j d lt.
-    let parted = h (all_rise cs key sorted) in
-    ⊎_elim
-    (λ (before : j < k). ap is_eq (parted.0 j d (omega arith) before))
-    (λ (behind : k ≤ j). ap is_eq (parted.1 j d behind lt))
-    (cases_lt j k)
+searched_none cs key k h h2 = grind (arith, all_rise, cases_lt)
 
 -- the records of a channel from an index on: the one there, where it is of the channel, and those after it
 first_on : (key : List ℕ) (rs : List RecordView) (n : ℕ) (r : RecordView) (b : Bool) → n < length rs → r ≡ get_or rs n r
     → is_of_channel key (view_of r) ≡ b → channel_in key (map view_of (drop n rs))
     ≡ (if b then view_of r ∷ channel_in key (map view_of (drop (n + 1) rs)) else
     channel_in key (map view_of (drop (n + 1) rs)))
-first_on key rs n r b lt is of =
-    let behind : List View = channel_in key (map view_of (drop (n + 1) rs)) in
-    ap (λ (qs : List RecordView). channel_in key (map view_of qs)) (drop_more rs n r lt
-    ∙ ap (λ (q : RecordView). q ∷ drop (n + 1) rs) (sym is))
-    ∙ ap (λ (a : Bool). if a then view_of r ∷ behind else behind) of
+first_on key rs n r b h h2 h3 = grind (arith, drop_more)
 
 -- the next record of a walk, and those that are left after it
 pub next_on : (key : List ℕ) (rs : List RecordView) (n : ℕ) (nexts : List ℕ) (r : RecordView) → n < length rs
@@ -129,8 +104,7 @@ trail_past key rs n first nexts new r lt is of kept h = record {
     of = h.first_is.of;
   };
   nexts_are = λ i q from less at there. ⊎_elim
-      (λ (behind : n < i). subst (λ (m : ℕ). LeadsTo key rs (i + 1) m) (sym (kept i behind))
-      (h.nexts_are i q (omega (arith, behind)) less at there))
+      (λ (behind : n < i). rw (sym (kept i behind)) at (h.nexts_are i q (omega (arith, behind)) less at there))
       (λ (here : i ≤ n).
       let index : i ≡ n = omega (arith, from, here) in
       let at_n : q ≡ get_or rs n q = subst (λ (m : ℕ). q ≡ get_or rs m q) index at in
@@ -144,31 +118,14 @@ pub trail_here : (key : List ℕ) (rs : List RecordView) (n first : ℕ) (nexts 
     → n < length rs → r ≡ get_or rs n r → is_of_channel key (view_of r) ≡ true → get_or new n 0 ≡ first
     → ((i : ℕ) → n < i → get_or new i 0 ≡ get_or nexts i 0) → IsLinkedFrom (n + 1) key rs first nexts
     → IsLinkedFrom n key rs n new
-trail_here key rs n first nexts new r lt is of put kept h = record {
-  first_is = record {
-    order = omega arith;
-    none = refl;
-    of = λ q _ at. ap (λ (x : RecordView). is_of_channel key (view_of x)) (one_record rs n q r lt at is) ∙ of;
-  };
-  nexts_are = λ i q from less at there. ⊎_elim
-      (λ (behind : n < i). subst (λ (m : ℕ). LeadsTo key rs (i + 1) m) (sym (kept i behind))
-      (h.nexts_are i q (omega (arith, behind)) less at there))
-      (λ (here : i ≤ n). let index : n ≡ i = omega (arith, from, here) in
-      subst (λ (m : ℕ). LeadsTo key rs (m + 1) (get_or new m 0)) index
-      (subst (λ (m : ℕ). LeadsTo key rs (n + 1) m) (sym put) h.first_is))
-      (cases_lt n i);
-}
+trail_here key rs n first nexts new r h h2 h3 h4 h5 h6 = grind (arith, one_record, cases_lt)
 
 silent : (key : List ℕ) (r : RecordView) → count_of (view_of r) ≡ 0 → is_of_channel key (view_of r) ≡ false
 silent key r none = rw none refl
 
 foreign : (key : List ℕ) (r : RecordView) → same_key key (key_at (view_of r).bytes) ≡ false
     → is_of_channel key (view_of r) ≡ false
-foreign key r other = by (nat_lt 0 (count_of (view_of r))) (same_key key (key_at (view_of r).bytes)) other
-  where
-    by : (a b : Bool) → b ≡ false → (a && b) ≡ false
-    by true b e = e
-    by false b e = refl
+foreign key r h = grind (arith)
 
 own_record : (key : List ℕ) (r : RecordView) → 0 < count_of (view_of r)
     → same_key key (key_at (view_of r).bytes) ≡ true → is_of_channel key (view_of r) ≡ true
@@ -179,16 +136,14 @@ pub links_silent : (rs : List RecordView) (cs : List Channel) (n : ℕ) (firsts 
     → count_of (view_of r) ≡ 0 → n < length rs → r ≡ get_or rs n r → AreLinksFrom (n + 1) rs cs firsts nexts
     → AreLinksFrom n rs cs firsts nexts
 links_silent rs cs n firsts nexts r none lt is h = λ k c less.
-    trail_past (get_or cs k c).0 rs n (get_or firsts k 0) nexts nexts r lt is (silent (get_or cs k c).0 r none)
-    (λ i _. refl) (h k c less)
+    trail_past _ _ _ _ _ _ _ lt is (silent (get_or cs k c).0 r none) (λ i _. refl) (h k c less)
 
 -- or of no channel
 pub links_foreign : (rs : List RecordView) (cs : List Channel) (n : ℕ) (firsts nexts : List ℕ) (r : RecordView)
     → All (λ (c : Channel). same_key c.0 (key_at (view_of r).bytes) ≡ false) cs → n < length rs → r ≡ get_or rs n r
     → AreLinksFrom (n + 1) rs cs firsts nexts → AreLinksFrom n rs cs firsts nexts
 links_foreign rs cs n firsts nexts r none lt is h = λ k c less.
-    trail_past (get_or cs k c).0 rs n (get_or firsts k 0) nexts nexts r lt is
-    (foreign (get_or cs k c).0 r (none k c less)) (λ i _. refl) (h k c less)
+    trail_past _ _ _ _ _ _ _ lt is (foreign (get_or cs k c).0 r (none k c less)) (λ i _. refl) (h k c less)
 
 -- or of the channel with this number
 pub links_more : (rs : List RecordView) (cs : List Channel) (n number : ℕ) (firsts nexts : List ℕ) (r : RecordView)
@@ -218,10 +173,8 @@ links_more rs cs n number firsts nexts r sorted inside long room some found lt i
         (ap (λ (m : ℕ). same_key (get_or cs m c).0 (key_at (view_of r).bytes)) e ∙ found c) in
         let put : get_or (set firsts number n) k 0 ≡ n = ap (λ (m : ℕ). get_or (set firsts number n) m 0) e
         ∙ get_or-set_same firsts number n 0 (omega (arith, inside, long)) in
-        subst (λ (m : ℕ). IsLinkedFrom n (get_or cs k c).0 rs m new) (sym put)
-        (trail_here (get_or cs k c).0 rs n (get_or firsts k 0) nexts new r lt is of
-        (get_or-set_same nexts n (get_or firsts number 0) 0 room ∙ ap (λ (m : ℕ). get_or firsts m 0) (sym e)) kept
-        (h k c less))
+        rw put (trail_here _ _ _ _ _ _ _ lt is of (get_or-set_same nexts n (get_or firsts number 0) 0 room ∙ ap (λ (m :
+        ℕ). get_or firsts m 0) (sym e)) kept (h k c less))
 
     other : (k : ℕ) (c : Channel) → k < length cs → k ≢ number
         → IsLinkedFrom n (get_or cs k c).0 rs (get_or (set firsts number n) k 0) new
@@ -237,21 +190,9 @@ links_more rs cs n number firsts nexts r sorted inside long room some found lt i
 -- before any record is met
 pub links_none : (rs : List RecordView) (cs : List Channel) (firsts nexts : List ℕ) (from : ℕ) → from ≡ length rs
     → length firsts ≡ length cs → All (λ first. first ≡ length rs) firsts → AreLinksFrom from rs cs firsts nexts
-links_none rs cs firsts nexts from end long each = λ k c less. record {
-  first_is =
-      let at : get_or firsts k 0 ≡ from = each k 0 (omega (arith, less, long)) ∙ sym end in
-      let key : List ℕ = (get_or cs k c).0 in
-      subst (λ (m : ℕ). LeadsTo key rs from m) (sym at) (record {
-        order = omega arith;
-        none = refl;
-        of = λ r inside _. absurd (omega (arith, end, inside));
-      });
-  nexts_are = λ i q low high at there. absurd (omega (arith, low, high, end));
-}
+links_none rs cs firsts nexts from h h2 h3 = grind (arith)
 
 -- the walk of the channel at an index
 pub trail_at : (rs : List RecordView) (cs : List Channel) (firsts nexts : List ℕ) (k : ℕ) (c : Channel)
-    → AreLinks rs cs firsts nexts → k < length cs → c ≡ get_or cs k c
-    → IsLinkedFrom 0 c.0 rs (get_or firsts k 0) nexts
-trail_at rs cs firsts nexts k c laid lt is =
-    subst (λ (d : Channel). IsLinkedFrom 0 d.0 rs (get_or firsts k 0) nexts) (sym is) (laid k c lt)
+    → AreLinks rs cs firsts nexts → k < length cs → c ≡ get_or cs k c → IsLinkedFrom 0 c.0 rs (get_or firsts k 0) nexts
+trail_at rs cs firsts nexts k c laid lt is = rw (sym is) at (laid k c lt)

@@ -1,5 +1,5 @@
 -- Samples of records that are near one another.
-use Rattle.std.proofs.Common.{◌≡◌, ℕ, ◌+◌, ◌-◌, List, [], ◌∷◌, ◌++◌, length, slice_get, refl, sym, subst, ◌∙◌, arith, ℤ}
+use Rattle.std.proofs.Common.{◌≡◌, ℕ, ◌+◌, List, [], ◌∷◌, ◌++◌, length, slice_get, refl, sym, subst, arith, ℤ}
 use Rattle.std.proofs.Common.{pos, ◌-ℤ◌, Some, All}
 use Rattle.std.specs.List.{AllByRecursion}
 use Rattle.std.proofs.lemmas.Int.{ints}
@@ -10,7 +10,6 @@ use Rattle.mseed_steim.specs.declared.fault.Ends.{Ends}
 use Rattle.mseed_steim.specs.declared.form.Width.{Width}
 use Rattle.mseed_steim.specs.declared.form.Width.TheVariants.{Two, Four}
 use Rattle.mseed_steim.specs.declared.form.Form.{Form}
-use Rattle.mseed_steim.specs.declared.form.Form.TheVariants.{Integers, Frames}
 use Rattle.mseed_steim.specs.Nearness.{AreNearFrom, AreNear as AreNeighboursNear}
 use Rattle.mseed_steim.specs.Reading.{count_of, IsWhole}
 use Rattle.mseed_steim.specs.Samples.{AreEnds, BeginsWith, IsPayloadReading, bytes_of, differences_from}
@@ -29,29 +28,25 @@ from_near before (s ∷ ss) h = (h.0, from_near s ss h.1)
 
 -- samples are near one another where their differences are
 pub near_by : (ss : List ℤ) → AreNeighboursNear ss → AreNear ss
-near_by [] h = tt
-near_by (s ∷ ss) h = (zero_near, from_near s ss h)
+near_by ss h = grind (arith, zero_near, from_near)
 
 begins_within : (order : Order) (width : Width) (bytes : List ℕ) (place : ℕ) (zs : List ℤ)
     → BeginsWith order (bytes_of width) bytes place zs → AllByRecursion (IsWithin 32) zs
 begins_within order width bytes place [] h = tt
 begins_within order Two bytes place (z ∷ zs) h =
-    (within_wider 16 32 z (omega arith) h.1, begins_within order Two bytes (place + 2) zs h.3)
+    grind (arith, within_wider, begins_within order Two bytes (place + 2) zs h.3)
 begins_within order Four bytes place (z ∷ zs) h = (h.1, begins_within order Four bytes (place + 4) zs h.3)
 
 payload_within : (form : Form) (order : Order) (payload : List ℕ) (n : ℕ) (ss : List ℤ)
     → IsPayloadReading form order payload n ss → All (IsWithin 32) ss
-payload_within (Integers width) order payload n ss h =
-    All-from_recursion (IsWithin 32) ss (begins_within order width payload 0 ss h.1)
-payload_within (Frames scheme) order payload n ss h = h.2
+payload_within form order payload n ss h = grind (arith, All-from_recursion, begins_within)
 
 -- samples have 32 bits
 pub whole_within : (v : View) (s : List ℤ) → IsWhole v s → All (IsWithin 32) s
 whole_within v s whole = payload_within whole.0.form v.payload_order (payload_of v) (count_of v) s whole.0.spelled
 
 pub after_near : (before last : ℤ) (xs ys : List ℤ) → AllByRecursion (IsWithin 30) (differences_from before xs)
-    → last_after before xs ≡ last
-    → AllByRecursion (IsWithin 30) (differences_from last ys)
+    → last_after before xs ≡ last → AllByRecursion (IsWithin 30) (differences_from last ys)
     → AllByRecursion (IsWithin 30) (differences_from before (xs ++ ys))
 after_near before last [] ys a e b = subst (λ (z : ℤ). AllByRecursion (IsWithin 30) (differences_from z ys)) (sym e) b
 after_near before last (x ∷ xs) ys a e b = (a.0, after_near x last xs ys a.1 e b)
@@ -65,26 +60,14 @@ last_at x [] last e = cc
 last_at x (y ∷ ys) last e = last_at y ys last e
 
 pub ends_on : (ends : Ends) (x : ℤ) (xs : List ℤ) → AreEnds ends (x ∷ xs) → last_after x xs ≡ ends.last
-ends_on ends x xs h =
-    let at : length (x ∷ xs) - 1 ≡ length xs = omega arith in
-    last_at x xs ends.last (subst (λ (n : ℕ). slice_get (x ∷ xs) n ≡ Some ends.last) at h.1)
+ends_on ends x xs h = grind (arith, last_at)
 
 -- the first record's samples
 pub known_first : (ends : Ends) (xs s : List ℤ) → xs ≡ [] → AreEnds ends s → AreNear s
     → IsKnown (Near ends.last) (xs ++ s)
-known_first ends xs [] e h near = let none : slice_get {X = ℤ} [] 0 ≡ Some ends.first = h.0 in cc
-known_first ends xs (x ∷ s) e h near =
-    subst (λ (zs : List ℤ). IsKnown (Near ends.last) (zs ++ x ∷ s)) (sym e) (ends_on ends x s h, near)
+known_first ends xs s h h2 h3 = grind (arith, ends_on)
 
 -- and those of one more, of which the first is near the last one before
 pub known_more : (ends : Ends) (last : ℤ) (xs s : List ℤ) → IsKnown (Near last) xs → AreEnds ends s → AreNear s
     → IsWithin 30 (ends.first -ℤ last) → IsKnown (Near ends.last) (xs ++ s)
-known_more ends last [] s known h near step = absurd known.0
-known_more ends last (x ∷ xs) [] known h near step = let none : slice_get {X = ℤ} [] 0 ≡ Some ends.first = h.0 in cc
-known_more ends last (x ∷ xs) (y ∷ s) known h near step =
-    let first : slice_get (y ∷ s) 0 ≡ Some ends.first = h.0 in
-    let is : y ≡ ends.first = cc in
-    let here : IsWithin 30 (y -ℤ last) = subst (λ (z : ℤ). IsWithin 30 (z -ℤ last)) (sym is) step in (
-      last_append x xs (y ∷ s) ∙ ends_on ends y s h,
-      (zero_near, after_near x last xs (y ∷ s) known.1.1 known.0 (here, near.1)),
-    )
+known_more ends last xs s h h2 h3 h4 = grind (arith, last_append, ends_on, zero_near, after_near)

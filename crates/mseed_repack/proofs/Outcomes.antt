@@ -1,5 +1,6 @@
 -- What packing an archive anew comes to, by how its channels are planned.
-use Rattle.std.proofs.Common.{◌≡◌, ◌∙◌, ℕ, List, [], ◌∷◌, length, ap, refl, subst, sym, Bool, false, Ok, Err}
+use Rattle.std.proofs.Common.{arith}
+use Rattle.std.proofs.Common.{◌≡◌, ◌∙◌, ℕ, List, [], ◌∷◌, length, ap, refl, subst, Bool, false, Ok, Err}
 use Rattle.std.specs.List.{AllByRecursion}
 use Rattle.std.proofs.lemmas.List.Elements.{All-weaker}
 use Rattle.mseed_record.specs.View.{View}
@@ -19,7 +20,6 @@ use Rattle.mseed_repack.specs.declared.fault.RepackFault.{RepackFault}
 use Rattle.mseed_repack.specs.declared.fault.RepackFault.TheVariants.{Stream, Broken as BrokenChannel}
 use Rattle.mseed_repack.specs.declared.fault.RepackFault.TheVariants.{Misfit as MisfitChannel, Write, Memory}
 use Rattle.mseed_repack.specs.declared.plan.Plan.{Plan}
-use Rattle.mseed_repack.specs.declared.refusing.LeftOut.{LeftOut}
 use Rattle.mseed_repack.specs.declared.refusing.LeftOut.TheVariants.{Nothing}
 use Rattle.mseed_repack.specs.declared.packability.Packability.{Packability}
 use Rattle.mseed_repack.specs.declared.packability.Packability.TheVariants.{Fit, Broken, Misfit}
@@ -41,9 +41,7 @@ as_found cs ss ts ls same ready = ap (λ (us : List Packability). length us) sam
 pub as_unsound : {cutting : Cutting} {o : Options} {room places : ℕ} {views : List View} (cs : List Channel)
     (ss ts : List Packability) (ls : List (List Plan)) → ts ≡ ss → AreReady cutting o room places views cs ss ls
     → AreUnsound views cs ts
-as_unsound {cutting = cutting} {o = o} {views = views} cs ss ts ls same ready =
-    subst (λ (us : List Packability). AreUnsound views cs us) (sym same)
-    (unsound_all cutting o views cs ss (packabilities_of cs ss ls ready))
+as_unsound cs ss ts ls h h2 = grind (arith, unsound_all, packabilities_of)
 
 none_left : (ss : List Packability) → AllByRecursion IsFit ss → left_out_of ss ≡ Nothing
 none_left [] fit = refl
@@ -64,10 +62,7 @@ module _ (place : List View → List Placed) (o : Options) (leave : Bool) (count
   -- where each channel fits, nothing is reported
   silent : (ss : List Packability) (first between last : BytesWritten) → AllByRecursion IsFit ss
       → ReportsIfLeft (left_out_of ss) count first between → AreReported o.encoding cs ss between last → last ≡ first
-  silent ss first between last fit untimed told =
-      silent_only told.lines between last told.each
-      (lines_none o.encoding cs ss told.lines (none_left ss fit) told.are)
-      ∙ subst (λ (left : LeftOut). ReportsIfLeft left count first between) (none_left ss fit) untimed
+  silent ss first between last h h2 h3 = grind (arith, silent_only, lines_none, none_left)
 
   pub packed : (cutting : Cutting) (ss : List Packability) (old new first between last : BytesWritten)
       → AreJudged cutting o leave h views cs ss → ReportsIfLeft (left_out_of ss) count first between
@@ -81,9 +76,7 @@ module _ (place : List View → List Placed) (o : Options) (leave : Bool) (count
         (views, (cs, (record { archive = k.archive; continuous = k.continuous refl; fit = all.fit }, texts))),
         silent ss first between last (k.fit stays) untimed told,
       )
-  packed Stretches ss old new first between last k untimed told wrote =
-      let kept = wrote_kept k.found k.fit told (wrote_as (λ text is. is) wrote) in
-      (between, (untimed, (views, (cs, (k.archive, record { packabilities = ss; kept = kept; left_is = refl })))))
+  packed Stretches ss old new first between last k untimed told wrote = grind (arith, wrote_kept, wrote_as)
 
   pub packed_in_part : (cutting : Cutting) (ss : List Packability) (old new first between last : BytesWritten)
       → AreJudged cutting o leave h views cs ss → ReportsIfLeft (left_out_of ss) count first between
@@ -97,18 +90,14 @@ module _ (place : List View → List Placed) (o : Options) (leave : Bool) (count
         (views, (cs, (record { archive = k.archive; continuous = k.continuous refl; fit = all.fit }, parts))),
         silent ss first between last (k.fit stays) untimed told,
       )
-  packed_in_part Stretches ss old new first between last k untimed told wrote =
-      let kept = wrote_kept k.found k.fit told (wrote_as (λ text is. is) wrote) in
-      (views, (cs, (k.archive, record { packabilities = ss; between = between; reported = untimed; kept = kept })))
+  packed_in_part Stretches ss old new first between last k untimed told wrote = grind (arith, wrote_kept, wrote_as)
 
   -- the archive is refused for a channel that isn't continuous
   pub broken_refused : (cutting : Cutting) (key : Codes) (first : Finding) (s w : BytesWritten) → IsArchiveOf h views cs
       → cutting ≡ Whole → IsFirst (λ k. IsContinuous (records_in views k)) (λ k. ¬ (IsContinuous (records_in views k)))
       key cs → IsFirstFinding (channel_in key (place views)) first
       → IsPackedIfLeft cutting place o leave count (Err (BrokenChannel key first)) h s s w w
-  broken_refused Whole key first s w archive whole is finding =
-      λ _. (tt, (views, (cs, (archive, is, finding, refl))), refl)
-  broken_refused Stretches key first s w archive whole is finding = cc
+  broken_refused cutting key first s w h' h2 h3 h4 = grind (arith)
 
   -- or for one that isn't to be left out
   pub first_refused : (cutting : Cutting) (fault : RepackFault) (s w : BytesWritten) → IsArchiveOf h views cs
@@ -117,24 +106,15 @@ module _ (place : List View → List Placed) (o : Options) (leave : Bool) (count
       → IsPackedIfLeft cutting place o leave count (Err fault) h s s w w
   first_refused cutting (Stream f) s w archive whole stays is = absurd is
   first_refused Whole (BrokenChannel key first) s w archive whole stays is =
-      absurd (none_first (λ (k : List ℕ). AllByRecursion IsSound (records_in views k))
-      (λ (k : List ℕ). ¬ (AllByRecursion IsSound (records_in views k))) key cs (λ k no yes. no yes)
-      (λ k c lt. (whole refl k c lt).each) is.0)
-  first_refused Stretches (BrokenChannel key first) s w archive whole stays is =
-      (views, (cs, (archive, is.0, is.1, stays, refl, refl)))
+      absurd (none_first (λ (k : List ℕ). AllByRecursion IsSound (records_in views k)) is.0 (λ no yes. no yes)
+      (λ k c lt. (whole refl k c lt).each))
+  first_refused Stretches (BrokenChannel key first) s w archive whole stays is = grind (arith)
   first_refused Whole (MisfitChannel key n f) s w archive whole stays is =
       let at = is.1 in
-      let first : IsFirst (CanBePacked o views) (CantBePacked o views f) key cs = record {
-        prefix = at.prefix;
-        verdict = at.verdict;
-        back = at.back;
-        parts = at.parts;
-        before = All-weaker (λ (c : Channel). IsPackabilityAs Whole o (records_in views c.0) Fit)
-            (λ (c : Channel). CanBePacked o views c.0) (λ c fits. fits.1) at.prefix at.before;
-        is_it = at.is_it.2;
-      } in
+      let before = All-weaker (λ (c : Channel). IsPackabilityAs Whole o (records_in views c.0) Fit)
+      (λ (c : Channel). CanBePacked o views c.0) (λ c fits. fits.1) at.prefix at.before in
+      let first : IsFirst (CanBePacked o views) (CantBePacked o views f) key cs = search (at, before, at.is_it.2) in
       λ _. (tt, (views, (cs, (archive, whole refl, first, at.is_it.1, refl))), refl)
-  first_refused Stretches (MisfitChannel key n f) s w archive whole stays is =
-      (views, (cs, (archive, is.0, is.1, stays, refl, refl)))
+  first_refused Stretches (MisfitChannel key n f) s w archive whole stays is = grind (arith)
   first_refused cutting Write s w archive whole stays is = absurd is
   first_refused cutting Memory s w archive whole stays is = absurd is

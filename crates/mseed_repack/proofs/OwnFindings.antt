@@ -52,16 +52,14 @@ pub stands_in : (rs : List RecordView) (n : ℕ) (r : RecordView) (f : Finding) 
     → f.number ≡ n + 1 → f.offset ≡ end_of 0 (map view_of (take n rs)) → StandsAt (placed_of (map view_of rs)) n f
 stands_in rs n r f lt is number offset =
     subst (λ (vs : List View). StandsAt (placed_of vs) n f) (sym (parts_at rs n r lt is))
-    (stands_among (map view_of (take n rs)) (view_of r) (map view_of (drop (n + 1) rs)) n f (before_at rs n lt) number
-    offset)
+    (stands_among _ _ _ _ _ (before_at rs n lt) number offset)
 
 -- one more that is sound, or of another channel
 pub sound_next : (key : List ℕ) (rs : List RecordView) (n : ℕ) (r : RecordView) (b : Bool) → n < length rs
     → r ≡ get_or rs n r → b ≡ is_of_channel key (view_of r)
     → AllByRecursion IsSound (channel_in key (map view_of (take n rs))) → (b ≡ true → IsSound (view_of r))
     → AllByRecursion IsSound (channel_in key (map view_of (take (n + 1) rs)))
-sound_next key rs n r b lt is of before here =
-    subst (λ (vs : List View). AllByRecursion IsSound vs) (sym (kept_next key rs n r b lt is of)) (by b here)
+sound_next key rs n r b lt is of before here = rw (sym (kept_next key rs n r b lt is of)) at (by b here)
   where
     kept : List View
     kept = channel_in key (map view_of (take n rs))
@@ -81,17 +79,12 @@ none_in : (key : List ℕ) (rs : List RecordView) (n : ℕ)
     → channel_in key (map view_of (drop n rs)) ≡ channel_in key (map view_of rs)
     → channel_in key (map view_of (take n rs)) ≡ []
 none_in key rs n e =
-    let parts : channel_in key (map view_of rs)
-    ≡ channel_in key (map view_of (take n rs)) ++ channel_in key (map view_of (drop n rs)) =
-    ap (λ (qs : List RecordView). channel_in key (map view_of qs)) (sym (take-append-drop n rs))
-    ∙ ap (λ (vs : List View). channel_in key vs) (map-append view_of (take n rs) (drop n rs))
-    ∙ filter-append (is_of_channel key) (map view_of (take n rs)) (map view_of (drop n rs)) in
-    none_after (channel_in key (map view_of (take n rs))) (channel_in key (map view_of (drop n rs)))
-    (sym parts ∙ sym e)
+    let parts = ap (λ (qs : List RecordView). channel_in key (map view_of qs)) (sym (take-append-drop n rs)) ∙ ap (λ (vs
+    : List View). channel_in key vs) (map-append view_of (take n rs) (drop n rs)) ∙ filter-append (is_of_channel key)
+    (map view_of (take n rs)) (map view_of (drop n rs)) in
+    none_after _ _ (sym parts ∙ sym e)
 
 pub none_before : (key : List ℕ) (rs : List RecordView) (index n : ℕ) → n ≡ min index (length rs)
     → channel_in key (map view_of (drop index rs)) ≡ channel_in key (map view_of rs)
     → channel_in key (map view_of (take n rs)) ≡ []
-none_before key rs index n is e =
-    let all : take n rs ≡ take index rs = ap (λ (k : ℕ). take k rs) is ∙ take_min index rs in
-    ap (λ (qs : List RecordView). channel_in key (map view_of qs)) all ∙ none_in key rs index e
+none_before key rs index n h h2 = grind (arith, take_min, none_in)

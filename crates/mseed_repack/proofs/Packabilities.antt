@@ -25,7 +25,6 @@ use Rattle.mseed_repack.specs.private.Restretching.{AreUnsound, IsFirstRefused, 
 use Rattle.mseed_repack.specs.declared.packability.Packability.{Packability}
 use Rattle.mseed_repack.specs.declared.packability.Packability.TheVariants.{Fit, Broken, Misfit}
 use Rattle.mseed_repack.specs.declared.stretching.Cutting.{Cutting}
-use Rattle.mseed_repack.specs.declared.stretching.Cutting.TheVariants.{Whole, Stretches}
 use Rattle.mseed_repack.specs.declared.fault.RepackFault.TheVariants.{Broken as BrokenChannel}
 use Rattle.mseed_repack.specs.declared.fault.RepackFault.TheVariants.{Misfit as MisfitStretch}
 use Rattle.mseed_repack.proofs.ReadChannels.{steps_in}
@@ -43,16 +42,13 @@ pub stands_at : (Is : List View → Packability → Type 0) (views : List View) 
     → s ≡ get_or ss k s → Is (records_in views c.0) s
 stands_at Is views [] ss k c s all lt at is = absurd (omega (arith, lt))
 stands_at Is views (d ∷ ds) [] k c s all lt at is = absurd all
-stands_at Is views (d ∷ ds) (t ∷ ts) zero c s all lt at is =
-    subst (λ (u : Packability). Is (records_in views c.0) u) (sym is)
-    (subst (λ (e : Channel). Is (records_in views e.0) t) (sym at) all.0)
+stands_at Is views (d ∷ ds) (t ∷ ts) zero c s all lt at is = grind (arith)
 stands_at Is views (d ∷ ds) (t ∷ ts) (suc k) c s all lt at is =
     stands_at Is views ds ts k c s all.1 (omega (arith, lt)) at is
 
 -- the first of them
 found_take : (Is : List View → Packability → Type 0) (views : List View) (cs : List Channel) (ss : List Packability)
-    (k : ℕ)
-    → AreFound Is views cs ss → AreFound Is views (take k cs) (take k ss)
+    (k : ℕ) → AreFound Is views cs ss → AreFound Is views (take k cs) (take k ss)
 found_take Is views cs ss zero all = tt
 found_take Is views [] [] (suc k) all = tt
 found_take Is views [] (s ∷ ss) (suc k) all = absurd all
@@ -67,7 +63,7 @@ pub each_found : (Is : List View → Packability → Type 0) (Such : Packability
 each_found Is Such So one views [] ss all such = tt
 each_found Is Such So one views (c ∷ cs) [] all such = absurd all
 each_found Is Such So one views (c ∷ cs) (s ∷ ss) all such =
-    (one (records_in views c.0) s all.0 such.0, each_found Is Such So one views cs ss all.1 such.1)
+    grind (arith, each_found Is Such So one views cs ss all.1 such.1)
 
 pub first_found : (Is : List View → Packability → Type 0) (Such : Packability → Type 0) (So : List View → Type 0)
     → ((vs : List View) (s : Packability) → Is vs s → Such s → So vs) → (views : List View) (cs : List Channel)
@@ -92,10 +88,7 @@ sound_by views cs i c b vs are lt is of e sound =
 
 pub steps_gathered : (key : List ℕ) (vs views : List View) (room : ℕ) → vs ≡ channel_in key views
     → steps_of views ≤ room → steps_of vs ≤ room
-steps_gathered key vs views room e le =
-    let same : steps_of vs ≡ steps_of (channel_in key views) = ap steps_of e in
-    let most = steps_in key views in
-    omega (arith, same, most, le)
+steps_gathered key vs views room h h2 = grind (arith, steps_in)
 
 -- what was written of the channels that fit, and reported of the others
 pub wrote_kept : {P : List Channel → List ℕ → Type 0} {failures : ℕ} {o : Options} {leave : Bool}
@@ -108,24 +101,16 @@ wrote_kept are whole reported wrote = record { are = are; whole = whole; reporte
 -- channels of which none is broken, and of which each fits
 
 sound_by_packability : (cutting : Cutting) (o : Options) (vs : List View) (s : Packability)
-    → IsPackabilityAs cutting o vs s
-    → IsUnbroken s → AllByRecursion IsSound vs
-sound_by_packability Whole o vs Fit fits un = fits.0
-sound_by_packability Whole o vs Broken not un = absurd un
-sound_by_packability Whole o vs (Misfit n f) misfits un = misfits.0
-sound_by_packability Stretches o vs Fit fits un = fits.sound
-sound_by_packability Stretches o vs Broken not un = absurd un
-sound_by_packability Stretches o vs (Misfit n f) misfits un = misfits.sound
+    → IsPackabilityAs cutting o vs s → IsUnbroken s → AllByRecursion IsSound vs
+sound_by_packability cutting o vs s h h2 = grind (arith)
 
 pub fits_by_packability : (Is : List View → Packability → Type 0) (vs : List View) (s : Packability) → Is vs s → IsFit s
     → Is vs Fit
 fits_by_packability Is vs s is fit = subst (Is vs) fit is
 
 -- where no channel is broken, those before the first that doesn't fit do
-pub each_fits : (ss : List Packability) (k : ℕ) → All IsUnbroken ss → All IsNoMisfit (take k ss)
-    → All IsFit (take k ss)
-each_fits ss k un fine =
-    All-from_recursion IsFit (take k ss)
+pub each_fits : (ss : List Packability) (k : ℕ) → All IsUnbroken ss → All IsNoMisfit (take k ss) → All IsFit (take k ss)
+each_fits ss k un fine = All-from_recursion IsFit (take k ss)
     (by (take k ss) (recursion_from_All IsUnbroken (take k ss) (All-take IsUnbroken k ss un))
     (recursion_from_All IsNoMisfit (take k ss) fine))
   where
@@ -136,19 +121,16 @@ each_fits ss k un fine =
     by (Misfit n f ∷ ts) un fine = absurd fine.0
 
 -- what is said of each channel that is broken
-unsound_by : (cutting : Cutting) (o : Options) (vs : List View) (s : Packability) → IsPackabilityAs cutting o vs s → s
-    ≡ Broken
-    → ¬ (AllByRecursion IsSound vs)
-unsound_by Whole o vs s is e = subst (λ (t : Packability). IsPackabilityAs Whole o vs t) e is
-unsound_by Stretches o vs s is e = subst (λ (t : Packability). IsPackabilityAs Stretches o vs t) e is
+unsound_by : (cutting : Cutting) (o : Options) (vs : List View) (s : Packability) → IsPackabilityAs cutting o vs s
+    → s ≡ Broken → ¬ (AllByRecursion IsSound vs)
+unsound_by cutting o vs s h h2 = grind (arith)
 
 pub unsound_all : (cutting : Cutting) (o : Options) (views : List View) (cs : List Channel) (ss : List Packability)
     → AreFound (IsPackabilityAs cutting o) views cs ss → AreUnsound views cs ss
 unsound_all cutting o views [] [] all = tt
 unsound_all cutting o views [] (s ∷ ss) all = absurd all
 unsound_all cutting o views (c ∷ cs) [] all = absurd all
-unsound_all cutting o views (c ∷ cs) (s ∷ ss) all =
-    (unsound_by cutting o (records_in views c.0) s all.0, unsound_all cutting o views cs ss all.1)
+unsound_all cutting o views (c ∷ cs) (s ∷ ss) all = grind (arith, unsound_by, unsound_all cutting o views cs ss all.1)
 
 pub unsound_at : (views : List View) (cs : List Channel) (ss : List Packability) (k : ℕ) (c : Channel)
     → AreUnsound views cs ss → k < length cs → length ss ≡ length cs → c ≡ get_or cs k c → get_or ss k Fit ≡ Broken
@@ -168,26 +150,20 @@ refused_broken cutting o ps views cs ss k c first lt size at is before all own =
     let Sound : List ℕ → Type 0 = λ key. AllByRecursion IsSound (records_in views key) in
     let Unsound : List ℕ → Type 0 = λ key. ¬ (AllByRecursion IsSound (records_in views key)) in
     let less : k < length cs = omega (arith, lt, size) in
-    let here = unsound_by cutting o (records_in views c.0) Broken
-    (stands_at (IsPackabilityAs cutting o) views cs ss k c Broken all less at (sym is ∙
-    get_or_default ss k Fit Broken lt))
-    refl in
+    let here = unsound_by _ _ _ _ (stands_at (IsPackabilityAs cutting o) views cs ss k c Broken all less at (sym is ∙
+    get_or_default ss k Fit Broken lt)) refl in
     let is_first : IsFirst Sound Unsound c.0 cs =
     subst (λ (key : List ℕ). IsFirst Sound Unsound key cs) (sym (ap (λ (d : Channel). d.0) at))
-    (first_at Sound Unsound cs k c less
-    (first_found (IsPackabilityAs cutting o) IsUnbroken (AllByRecursion IsSound) (sound_by_packability cutting o)
-    views cs ss k all
-    before)
-    (subst (λ (d : Channel). Unsound d.0) at here)) in
+    (first_at _ _ _ _ _ less (first_found (IsPackabilityAs cutting o) IsUnbroken (AllByRecursion IsSound)
+    (sound_by_packability cutting o) views cs ss k all before) (subst (λ (d : Channel). Unsound d.0) at here)) in
     (is_first, own)
 
 -- or else the first that doesn't fit
 pub refused_misfit : (cutting : Cutting) (o : Options) (ps : List Placed) (views : List View) (cs : List Channel)
-    (ss : List Packability)
-    (k n : ℕ) (fault : PackFault) (c : Channel) → k < length ss → length ss ≡ length cs → c ≡ get_or cs k c
-    → get_or ss k Fit ≡ Misfit n fault → All IsUnbroken ss → All IsNoMisfit (take k ss)
-    → AreFound (IsPackabilityAs cutting o) views cs ss → IsFirstRefused cutting o ps views cs
-    (MisfitStretch c.0 n fault)
+    (ss : List Packability) (k n : ℕ) (fault : PackFault) (c : Channel) → k < length ss → length ss ≡ length cs
+    → c ≡ get_or cs k c → get_or ss k Fit ≡ Misfit n fault → All IsUnbroken ss → All IsNoMisfit (take k ss)
+    → AreFound (IsPackabilityAs cutting o) views cs ss
+    → IsFirstRefused cutting o ps views cs (MisfitStretch c.0 n fault)
 refused_misfit cutting o ps views cs ss k n fault c lt size at is un before all =
     let Fits : List ℕ → Type 0 = λ key. IsPackabilityAs cutting o (records_in views key) Fit in
     let Misfits : List ℕ → Type 0 = λ key. IsPackabilityAs cutting o (records_in views key) (Misfit n fault) in
@@ -197,10 +173,8 @@ refused_misfit cutting o ps views cs ss k n fault c lt size at is un before all 
     ∙ get_or_default ss k Fit (Misfit n fault) lt) in (
       All-from_recursion (λ (d : Channel). AllByRecursion IsSound (records_in views d.0)) cs
           (each_found (IsPackabilityAs cutting o) IsUnbroken (AllByRecursion IsSound) (sound_by_packability cutting o)
-          views cs ss all
-          (recursion_from_All IsUnbroken ss un)),
-      subst (λ (key : List ℕ). IsFirst Fits Misfits key cs) (sym (ap (λ (d : Channel). d.0) at))
-          (first_at Fits Misfits cs k c less
+          views cs ss all (recursion_from_All IsUnbroken ss un)),
+      rw (sym (ap (λ (d : Channel). d.0) at)) at (first_at Fits Misfits cs k c less
           (first_found (IsPackabilityAs cutting o) IsFit (λ vs. IsPackabilityAs cutting o vs Fit) (fits_by_packability
           (IsPackabilityAs cutting o))
           views cs ss k all
@@ -210,9 +184,7 @@ refused_misfit cutting o ps views cs ss k n fault c lt size at is un before all 
 
 -- where none doesn't fit either, each fits
 pub all_fit : (ss : List Packability) → All IsUnbroken ss → All IsNoMisfit ss → All IsFit ss
-all_fit ss un fine =
-    subst (All IsFit) (take_all (length ss) ss (omega arith))
-    (each_fits ss (length ss) un (subst (All IsNoMisfit) (sym (take_all (length ss) ss (omega arith))) fine))
+all_fit ss h h2 = grind (arith, take_all, each_fits)
 
 -- what is reported of the channels so far, and of one more
 reports_next : (e : Encoding) (cs : List Channel) (ss : List Packability) (k : ℕ) (c : Channel) (s : Packability)
@@ -221,17 +193,7 @@ reports_next : (e : Encoding) (cs : List Channel) (ss : List Packability) (k : �
     → AreReportsOf e (take (k + 1) cs) (take (k + 1) ss) (lines ++ own)
 reports_next e [] ss k c s lines own lt size at before one = absurd (omega (arith, lt))
 reports_next e (d ∷ ds) [] k c s lines own lt size at before one = absurd (omega (arith, size))
-reports_next e (d ∷ ds) (t ∷ ts) zero c s lines own lt size at before one = (
-  own,
-  (
-    [],
-    (
-      ap (λ (ls : List (List ℕ)). ls ++ own) before ∙ sym (append-nil own),
-      subst (λ (f : Channel). IsReportOf e f.0 t own) at one,
-      refl,
-    ),
-  ),
-)
+reports_next e (d ∷ ds) (t ∷ ts) zero c s lines own lt size at before one = grind (arith, append-nil)
 reports_next e (d ∷ ds) (t ∷ ts) (suc k) c s lines own lt size at (mine, (rest, (joined, here, others))) one =
     let later = reports_next e ds ts k c s rest own (omega (arith, lt)) (omega (arith, size)) at others one in
     let same : suc (k + 1) ≡ suc k + 1 = omega arith in
@@ -246,8 +208,7 @@ reports_next e (d ∷ ds) (t ∷ ts) (suc k) c s lines own lt size at (mine, (re
 -- lines that are reported after others
 tells_append : (leading back : List (List ℕ)) (old between new : BytesWritten) → ReportsEach leading old between
     → ReportsEach back between new → ReportsEach (leading ++ back) old new
-tells_append leading _ old _ _ a (silent s) =
-    subst (λ (ls : List (List ℕ)). ReportsEach ls old s) (sym (append-nil leading)) a
+tells_append leading _ old _ _ a (silent s) = grind (arith, append-nil)
 tells_append leading _ old between _ a (also lines line _ middle new b reported) =
     subst (λ (ls : List (List ℕ)). ReportsEach ls old new) (append_assoc leading lines (line ∷ []))
     (also (leading ++ lines) line old middle new (tells_append leading lines old between middle a b) reported)
@@ -274,22 +235,8 @@ pub all_to_end : {X : Type 0} (P : X → Type 0) (xs : List X) (n : ℕ) → len
 all_to_end {X} P xs n past all = subst (λ (ys : List X). All P ys) (take_all n xs past) all
 
 -- a packability that isn't of a kind
-
--- a channel that fits, and one that doesn't, by what is read in place of it past the end
-pub fit_at : (ss : List Packability) (k : ℕ) (s : Packability) → k < length ss → get_or ss k s ≡ Fit
-    → get_or ss k Fit ≡ Fit
-fit_at ss k s inside fit = get_or_default ss k Fit s inside ∙ fit
-
-pub unfit_at : (ss : List Packability) (k : ℕ) (s : Packability) → k < length ss → (get_or ss k s ≡ Fit → ⊥)
-    → get_or ss k Fit ≡ Fit → ⊥
-unfit_at ss k s inside other fit = other (get_or_default ss k s Fit inside ∙ fit)
-
 pub unbroken : (s : Packability) → (s ≡ Broken → ⊥) → IsUnbroken s
-unbroken Fit fine = tt
-unbroken Broken fine = fine refl
-unbroken (Misfit n f) fine = tt
+unbroken s h = grind (arith)
 
 pub no_misfit : (s : Packability) → ((n : ℕ) (f : PackFault) → s ≡ Misfit n f → ⊥) → IsNoMisfit s
-no_misfit Fit fine = tt
-no_misfit Broken fine = tt
-no_misfit (Misfit n f) fine = fine n f refl
+no_misfit s h = grind (arith)

@@ -1,5 +1,5 @@
 -- A stretch that is cut from the start of records, record by record.
-use Rattle.std.proofs.Common.{◌≡◌, ℕ, suc, ◌+◌, ◌<◌, List, [], ◌∷◌, ◌++◌, length, take, drop, get_or, map, arith}
+use Rattle.std.proofs.Common.{◌≡◌, ℕ, ◌+◌, ◌<◌, List, [], ◌∷◌, ◌++◌, length, take, drop, get_or, map, arith}
 use Rattle.std.proofs.Common.{sym, ap, subst, ◌∙◌, append_assoc, append-nil}
 use Rattle.std.proofs.Math.Seq.{drop-cons}
 use Rattle.std.proofs.lemmas.List.{map-append, map_more, take-append-drop}
@@ -18,8 +18,7 @@ go_more b (x ∷ xs) v all go = (
 )
 
 pub stretch_on : (s : List View) (v : View) → IsStretch s → GoesOn s v → IsStretch (s ++ v ∷ [])
-stretch_on [] v is go = absurd is
-stretch_on (x ∷ xs) v is go = go_more (x ∷ []) xs v is go
+stretch_on s v h h2 = grind (arith, go_more)
 
 -- the first n records are a stretch, of which this is kept
 pub record IsPassed (rs : List RecordView) (s : Stretch) (n : ℕ) : Type 0 where
@@ -47,16 +46,10 @@ whole rs n = ap (λ (qs : List RecordView). map view_of qs) (sym (take-append-dr
 cut_at : (rs : List RecordView) (s : Stretch) (n : ℕ) → IsPassed rs s n
     → EndsBefore (map view_of (take n rs)) (map view_of (drop n rs))
     → IsFirstStretch (map view_of rs) (map view_of (take s.records rs)) (map view_of (drop s.records rs))
-cut_at rs s n h ends =
-    subst (λ (m : ℕ). IsFirstStretch (map view_of rs) (map view_of (take m rs)) (map view_of (drop m rs)))
-    (sym h.records_is) (record { stretch = h.is; parts = whole rs n; ends = ends })
+cut_at rs s n h ends = rw h.records_is (record { stretch = h.is; parts = whole rs n; ends = ends })
 
 -- it ends before a record that doesn't go on
 pub cut_before : (rs : List RecordView) (n : ℕ) (r : RecordView) (s : Stretch) → n < length rs → r ≡ get_or rs n r
     → IsPassed rs s n → ¬ (GoesOn (map view_of (take n rs)) (view_of r))
     → IsFirstStretch (map view_of rs) (map view_of (take s.records rs)) (map view_of (drop s.records rs))
-cut_before rs n r s lt is h stops =
-    let next : drop n rs ≡ r ∷ drop (suc n) rs =
-    drop-cons rs n r lt ∙ ap (λ (q : RecordView). q ∷ drop (suc n) rs) (sym is) in
-    cut_at rs s n h
-    (subst (λ (qs : List RecordView). EndsBefore (map view_of (take n rs)) (map view_of qs)) (sym next) stops)
+cut_before rs n r s h h2 h3 h4 = grind (arith, drop-cons, cut_at)

@@ -2,7 +2,7 @@
 use Rattle.std.proofs.Common.{◌≡◌, ◌≢◌, ℕ, zero, suc, ◌+◌, ◌-◌, ◌<◌, ◌≤◌, ◌^◌, List, [], ◌∷◌, ◌++◌}
 use Rattle.std.proofs.Common.{length, take, drop, get_or, refl, sym, ap, subst, ◌∙◌, arith, append_assoc, append-nil}
 use Rattle.std.proofs.Common.{length-append}
-use Rattle.std.specs.Prelude.{ℤ, Result, Ok, Err, IfOk, IfErr}
+use Rattle.std.specs.Prelude.{Result, Ok, Err, IfOk, IfErr}
 use Rattle.std.specs.List.{AllByRecursion, concat}
 use Rattle.std.proofs.lemmas.List.{drop_all, drop_more, same_from_push, take_all}
 use Rattle.std.proofs.lemmas.List.Folds.{concat-append}
@@ -12,14 +12,12 @@ use Rattle.mseed_audit.specs.Follows.{IsSound}
 use Rattle.mseed_audit.specs.Series.{Trace, IsSeriesOf}
 use Rattle.mseed_repack.specs.Stretches.{AreStretches, AreStretchesUpTo, IsFirstStretch}
 use Rattle.mseed_pack.specs.Outcome.{EmittedAll, EmittedPrefix}
-use Rattle.mseed_pack.specs.Traces.{headed}
-use Rattle.mseed_pack.specs.declared.series_head.SeriesHead.{SeriesHead}
 use Rattle.mseed_pack.specs.declared.fault.PackFault.{PackFault}
 use Rattle.mseed_steim.specs.declared.encoding.Encoding.{Encoding}
 use Rattle.mseed_pack.specs.declared.options.Options.{Options}
-use Rattle.mseed_repack.specs.Repack.{Channel, IsPackedInPart, IsSeriesText, IsStretchPacked, StretchFits}
+use Rattle.mseed_repack.specs.Repack.{Channel, IsPackedInPart, IsStretchPacked, StretchFits}
 use Rattle.mseed_repack.specs.Repack.{StretchMisfits, Wrote, records_in}
-use Rattle.mseed_repack.specs.Restretch.{ArePackedOn, ChannelFits, IsChannelPart, IsChannelText, IsNextStretch}
+use Rattle.mseed_repack.specs.Restretch.{ArePackedOn, ChannelFits, IsNextStretch}
 use Rattle.mseed_repack.specs.Restretch.{IsNumberedOn, more, none}
 use Rattle.mseed_repack.specs.ByStretches.{AreFound}
 use Rattle.mseed_repack.specs.private.Planning.{AreReady, CanBeWritten, GoesBy, IsCutAs, IsPartAs, IsPartOn}
@@ -29,7 +27,6 @@ use Rattle.mseed_repack.specs.private.Planning.{stretches_by}
 use Rattle.mseed_repack.specs.private.Reading.{steps_of}
 use Rattle.mseed_repack.specs.declared.plan.Plan.{Plan}
 use Rattle.mseed_repack.specs.declared.plan.Way.{Way}
-use Rattle.mseed_repack.specs.declared.plan.Way.TheVariants.{Frames, Listed}
 use Rattle.mseed_repack.specs.declared.packability.Packability.{Packability}
 use Rattle.mseed_repack.specs.declared.packability.Packability.TheVariants.{Fit, Broken, Misfit}
 use Rattle.mseed_repack.specs.declared.stretching.Cutting.{Cutting}
@@ -42,44 +39,23 @@ use Rattle.mseed_repack.proofs.Stretched.{on_more, on_none}
 -- what is so of a text that was written
 pub wrote_as : {P Q : List ℕ → Type 0} {n : ℕ} {old new : BytesWritten} → ((text : List ℕ) → P text → Q text)
     → Wrote P n old new → Wrote Q n old new
-wrote_as is wrote = record {
-  text = wrote.text;
-  text_is = is wrote.text wrote.text_is;
-  bytes = wrote.bytes;
-  failed = wrote.failed;
-}
+wrote_as is wrote = search (is, wrote)
 
 -- a stretch goes its way in more room, and whatever the sequence number is
 pub goes_on : (encoding other : Encoding) (room next : ℕ) (way : Way) (s : List View) → other ≡ encoding → room ≤ next
     → GoesBy encoding room way s → GoesBy other next way s
-goes_on encoding other room next (Frames count) s e le goes =
-    subst (λ (f : Encoding). GoesBy f next (Frames count) s) (sym e)
-    (goes.0, goes.1, goes.2, omega (arith, goes.3, le))
-goes_on encoding other room next Listed s e le fits = omega (arith, fits, le)
+goes_on encoding other room next way s h h2 h3 = grind (arith)
 
--- and so does one that is planned, where there is room for more leap seconds too
-roomier : {o : Options} {room places : ℕ} {way : Way} {s : List View} (next further : ℕ) → room ≤ next
-    → places ≤ further → IsPlanned o room places way s → IsPlanned o next further way s
-roomier {o = o} {room = room} {way = way} {s = s} next further le within h =
-    let fit = h.readable.steps_fit in
-    record {
-      readable = record {
-        some = h.readable.some;
-        sound = h.readable.sound;
-        few = h.readable.few;
-        steps_fit = omega (arith, fit, within);
-      };
-      fits = h.fits;
-      goes = goes_on o.encoding o.encoding room next way s refl le h.goes;
-    }
+-- and so does one that is planned
+roomier : {o : Options} {room places : ℕ} {way : Way} {s : List View} (next : ℕ) → room ≤ next
+    → IsPlanned o room places way s → IsPlanned o next places way s
+roomier next h h2 = grind (arith, goes_on)
 
-pub written_on : (o : Options) (room next places further : ℕ) (ps : List Plan) (vs : List View) → room ≤ next
-    → places ≤ further → CanBeWritten o room places ps vs → CanBeWritten o next further ps vs
-written_on o room next places further [] vs le within all = tt
-written_on o room next places further (p ∷ ps) vs le within all = (
-  roomier next further le within all.0,
-  written_on o room next places further ps (drop p.records vs) le within all.1,
-)
+pub written_on : (o : Options) (room next places : ℕ) (ps : List Plan) (vs : List View) → room ≤ next
+    → CanBeWritten o room places ps vs → CanBeWritten o next places ps vs
+written_on o room next places [] vs le all = tt
+written_on o room next places (p ∷ ps) vs le all =
+    (roomier next le all.0, written_on o room next places ps (drop p.records vs) le all.1)
 
 -- each stretch can be packed
 fit_by : (o : Options) (room places : ℕ) (ps : List Plan) (vs : List View) → CanBeWritten o room places ps vs
@@ -96,38 +72,15 @@ pub record CanGoOn (places : ℕ) (vs : List View) : Type 0 where
   pub steps_fit : steps_of vs ≤ places
 
 some_first : (vs s rest : List View) → IsFirstStretch vs s rest → s ≢ []
-some_first vs [] rest first = λ e. first.stretch
-some_first vs (v ∷ s) rest first = λ e. cc
+some_first vs s rest h = grind (arith)
 
 pub first_fewer : (vs s rest : List View) → IsFirstStretch vs s rest → length rest < length vs
-first_fewer vs [] rest first = absurd first.stretch
-first_fewer vs (v ∷ s) rest first =
-    omega (arith, ap (λ (us : List View). length us) first.parts, length-append (v ∷ s) rest)
+first_fewer vs s rest h = grind (arith, length-append)
 
 -- the first stretch of them, and those after it
 pub first_read : (places n : ℕ) (vs : List View) → CanGoOn places vs → IsFirstStretch vs (take n vs) (drop n vs)
     → IsReadable places (take n vs) × CanGoOn places (drop n vs)
-first_read places n vs h first =
-    let s : List View = take n vs in
-    let rest : List View = drop n vs in
-    let each = subst (λ (us : List View). AllByRecursion IsSound us) first.parts h.sound in
-    let long : length vs ≡ length (s ++ rest) = ap (λ (us : List View). length us) first.parts in
-    let size = length-append s rest in
-    let steps : steps_of vs ≡ steps_of s + steps_of rest = ap steps_of first.parts ∙ steps_append s rest in
-    let few = h.few in
-    let fit = h.steps_fit in (
-      record {
-        some = some_first vs s rest first;
-        sound = each_in_leading IsSound s rest each;
-        few = omega (arith, long, size, few);
-        steps_fit = omega (arith, steps, fit);
-      },
-      record {
-        sound = each_at_back IsSound s rest each;
-        few = omega (arith, long, size, few);
-        steps_fit = omega (arith, steps, fit);
-      },
-    )
+first_read places n vs h h2 = grind (arith, length-append, steps_append, some_first, each_in_leading, each_at_back)
 
 -- the records begin with stretches that are planned, up to those that are left
 abbrev pub ArePlannedUpTo : Options → ℕ → ℕ → List Plan → List View → List View → Type 0
@@ -141,26 +94,21 @@ pub planned_more : (o : Options) (room next places : ℕ) (ps : List Plan) (p : 
     → ArePlannedUpTo o room places ps vs left → IsFirstStretch left (take p.records left) (drop p.records left)
     → IsPlanned o next places p.way (take p.records left)
     → ArePlannedUpTo o next places (ps ++ p ∷ []) vs (drop p.records left)
-planned_more o room next places [] p vs left le e first one =
-    subst (λ (us : List View). ArePlannedUpTo o next places (p ∷ []) us (drop p.records left)) (sym e)
-    (first, one, refl)
-planned_more o room next places (q ∷ ps) p vs left le all first one = (
-  all.0,
-  roomier next places le (omega arith) all.1,
-  planned_more o room next places ps p (drop q.records vs) left le all.2 first one,
-)
+planned_more o room next places [] p vs left le e first one = grind (arith)
+planned_more o room next places (q ∷ ps) p vs left le all first one =
+    grind (arith, roomier, planned_more o room next places ps p (drop q.records vs) left le all.2 first one)
 
 planned_cut : (o : Options) (room places : ℕ) (ps : List Plan) (vs left : List View)
     → ArePlannedUpTo o room places ps vs left → AreStretchesUpTo vs (stretches_by ps vs) left
 planned_cut o room places [] vs left e = e
 planned_cut o room places (p ∷ ps) vs left all =
-    (drop p.records vs, (all.0, planned_cut o room places ps (drop p.records vs) left all.2))
+    grind (arith, planned_cut o room places ps (drop p.records vs) left all.2)
 
 planned_written : (o : Options) (room places : ℕ) (ps : List Plan) (vs left : List View)
     → ArePlannedUpTo o room places ps vs left → CanBeWritten o room places ps vs
 planned_written o room places [] vs left e = tt
 planned_written o room places (p ∷ ps) vs left all =
-    (all.1, planned_written o room places ps (drop p.records vs) left all.2)
+    grind (arith, planned_written o room places ps (drop p.records vs) left all.2)
 
 as_planned : (ps : List Plan) (vs : List View) → length (stretches_by ps vs) ≡ length ps
 as_planned [] vs = refl
@@ -169,40 +117,19 @@ as_planned (p ∷ ps) vs = ap suc (as_planned ps (drop p.records vs))
 -- where none is left, the channel fits
 pub channel_fits : (o : Options) (room places : ℕ) (ps : List Plan) (vs : List View) → AllByRecursion IsSound vs
     → AreStretches vs (stretches_by ps vs) → CanBeWritten o room places ps vs → ChannelFits o vs
-channel_fits o room places ps vs sound are can =
-    record { sound = sound; stretches = stretches_by ps vs; are = are; fit = fit_by o room places ps vs can }
+channel_fits o room places ps vs h h2 h3 = grind (arith, fit_by)
 
 pub planned_all : (o : Options) (room places : ℕ) (ps : List Plan) (vs left : List View) → AllByRecursion IsSound vs
     → ArePlannedUpTo o room places ps vs left → left ≡ [] → IsReady Stretches o room places vs Fit ps
-planned_all o room places ps vs left sound h e =
-    let can = planned_written o room places ps vs left h in
-    let cut : AreStretches vs (stretches_by ps vs) =
-    subst (λ (us : List View). AreStretchesUpTo vs (stretches_by ps vs) us) e
-    (planned_cut o room places ps vs left h) in
-    record {
-      stands = channel_fits o room places ps vs sound cut can;
-      cut = λ _. cut;
-      can = λ _. can;
-    }
+planned_all o room places ps vs left h h2 h3 = grind (arith, planned_written, planned_cut, channel_fits)
 
 -- or the next one can't be packed
 pub planned_misfit : (o : Options) (room next places further : ℕ) (ps : List Plan) (vs left s rest : List View)
     (n : ℕ) (fault : PackFault) → AllByRecursion IsSound vs → ArePlannedUpTo o room places ps vs left
     → IsFirstStretch left s rest → n ≡ length ps + 1 → StretchMisfits o fault s
     → IsReady Stretches o next further vs (Misfit n fault) ps
-planned_misfit o room next places further ps vs left s rest n fault sound h first number misfit = record {
-  stands = record {
-    sound = sound;
-    before = stretches_by ps vs;
-    stretch = s;
-    next = record { left = left; cut = planned_cut o room places ps vs left h; rest = rest; first = first };
-    number_is = omega (arith, number, as_planned ps vs);
-    fit = fit_by o room places ps vs (planned_written o room places ps vs left h);
-    misfit = misfit;
-  };
-  cut = λ fit. cc;
-  can = λ fit. cc;
-}
+planned_misfit o room next places further ps vs left s rest n fault h h2 h3 h4 h5 =
+    grind (arith, planned_cut, as_planned, fit_by, planned_written)
 
 -- A channel that isn't cut is one stretch.
 
@@ -212,29 +139,16 @@ whole_is p vs few e = take_all p.records vs (omega (arith, few, e))
 pub whole_fits : (o : Options) (room places : ℕ) (p : Plan) (ps : List Plan) (vs : List View) → IsReadable places vs
     → p.records ≡ 2 ^ 64 - 1 → ps ≡ p ∷ [] → StretchFits o vs → GoesBy o.encoding room p.way vs
     → IsReady Whole o room places vs Fit ps
-whole_fits o room places p ps vs readable e one fits goes =
-    let all : take p.records vs ≡ vs = whole_is p vs readable.few e in
-    subst (λ (qs : List Plan). IsReady Whole o room places vs Fit qs) (sym one)
-    (record {
-      stands = (readable.sound, fits);
-      cut = λ _. ap (λ (us : List View). us ∷ []) all;
-      can = λ _. (
-        subst (λ (us : List View). IsPlanned o room places p.way us) (sym all)
-            (record { readable = readable; fits = fits; goes = goes }),
-        tt,
-      );
-    })
+whole_fits o room places p ps vs h h2 h3 h4 h5 = grind (arith, whole_is)
 
 pub whole_misfits : (o : Options) (room places : ℕ) (ps : List Plan) (vs : List View) (fault : PackFault)
     → AllByRecursion IsSound vs → StretchMisfits o fault vs → IsReady Whole o room places vs (Misfit 1 fault) ps
-whole_misfits o room places ps vs fault sound misfits =
-    record { stands = (sound, refl, misfits); cut = λ fit. cc; can = λ fit. cc }
+whole_misfits o room places ps vs fault h h2 = grind (arith)
 
 -- however it is cut, a channel is broken where a record isn't sound
 pub broken_as : (cutting : Cutting) (o : Options) (room places : ℕ) (ps : List Plan) (vs : List View)
     → ¬ (AllByRecursion IsSound vs) → IsReady cutting o room places vs Broken ps
-broken_as Whole o room places ps vs unsound = record { stands = unsound; cut = λ fit. cc; can = λ fit. cc }
-broken_as Stretches o room places ps vs unsound = record { stands = unsound; cut = λ fit. cc; can = λ fit. cc }
+broken_as cutting o room places ps vs h = grind (arith)
 
 -- The stretches that are written, one after another.
 
@@ -269,15 +183,10 @@ pub packed_next : {o next : Options} {room places : ℕ} {ss : List (List View)}
     {old new : BytesWritten} (ps : List Plan) (k : ℕ) (p : Plan) (vs : List View) → k < length ps → p ≡ get_or ps k p
     → vs ≡ left → IsPackedSo o room places ss (drop k ps) left next old new
     → IsPackedSo o room places ss (p ∷ drop (k + 1) ps) vs next old new
-packed_next {o = o} {next = next} {room = room} {places = places} {ss = ss} {left = left} {old = old} {new = new} ps k
-    p vs inside is same h =
-    subst (λ (us : List View). IsPackedSo o room places ss (p ∷ drop (k + 1) ps) us next old new) (sym same)
-    (subst (λ (qs : List Plan). IsPackedSo o room places ss qs left next old new)
-    (drop_more ps k p inside ∙ ap (λ (q : Plan). q ∷ drop (k + 1) ps) (sym is)) h)
+packed_next ps k p vs h h2 h3 h4 = grind (arith, drop_more)
 
 pub packed_more : {o next further : Options} {room places : ℕ} {ss : List (List View)} {p : Plan} {ps : List Plan}
-    {vs : List View} {count : ℕ} {first old new : BytesWritten}
-    → IsPackedSo o room places ss (p ∷ ps) vs next first old
+    {vs : List View} {count : ℕ} {first old new : BytesWritten} → IsPackedSo o room places ss (p ∷ ps) vs next first old
     → Wrote (IsStretchText next (take p.records vs) count) 0 old new → IsNumberedOn next count further
     → IsPackedSo o room places ss ps (drop p.records vs) further first new
 packed_more {o = o} {next = next} {further = further} {p = p} {ps = ps} {vs = vs} {count = count} {first = first} h
@@ -294,8 +203,7 @@ packed_more {o = o} {next = next} {further = further} {p = p} {ps = ps} {vs = vs
       can = h.can.1;
       records = h.records ++ one.records;
       packed = more h.done s h.records one.records next h.packed h.next_is one.packed;
-      next_is = subst (λ (m : ℕ). IsNumberedOn o m further) behind
-          (on_more o next further (length h.records) count h.next_is on);
+      next_is = rw behind at (on_more o next further (length h.records) count h.next_is on);
       bytes = wrote.bytes ∙ ap (λ (xs : List ℕ). xs ++ wrote.text) h.bytes
           ∙ append_assoc first.bytes (concat h.records) wrote.text
           ∙ ap (λ (xs : List ℕ). first.bytes ++ (concat h.records ++ xs)) one.text_is
@@ -306,20 +214,7 @@ packed_more {o = o} {next = next} {further = further} {p = p} {ps = ps} {vs = vs
 pub packed_all : {o next : Options} {room places : ℕ} {ss : List (List View)} {left : List View}
     {first new : BytesWritten} (ps : List Plan) (k : ℕ) → length ps ≤ k
     → IsPackedSo o room places ss (drop k ps) left next first new → Wrote (IsTextOn o ss) 0 first new
-packed_all {o = o} {left = left} ps k past h =
-    let none_left : stretches_by (drop k ps) left ≡ [] =
-    ap (λ (qs : List Plan). stretches_by qs left) (drop_all k ps past) in
-    record {
-      text = concat h.records;
-      text_is = record {
-        records = h.records;
-        packed = subst (λ (ts : List (List View)). ArePackedOn o ts h.records)
-            (sym (h.parts ∙ ap (λ (ts : List (List View)). h.done ++ ts) none_left ∙ append-nil h.done)) h.packed;
-        text_is = refl;
-      };
-      bytes = h.bytes;
-      failed = omega (arith, h.failures);
-    }
+packed_all ps k h h2 = grind (arith, drop_all, append-nil)
 
 pub packed_part : {o next : Options} {room places : ℕ} {ss : List (List View)} {p : Plan} {ps : List Plan}
     {vs : List View} {first old new : BytesWritten} → IsPackedSo o room places ss (p ∷ ps) vs next first old
@@ -345,114 +240,59 @@ packed_part {next = next} {p = p} {ps = ps} {vs = vs} {first = first} h wrote = 
 }
 
 -- what packing a stretch left behind
-emitted_stretch : (o : Options) (vs : List View) (s : Trace) (count : ℕ) (old new : BytesWritten) → IsSeriesOf s vs
-    → EmittedAll s o count old new → Wrote (IsStretchText o vs count) 0 old new
-emitted_stretch o vs s count old new series emitted = record {
-  text = concat emitted.records;
-  text_is = record {
-    series = record {
-      records = emitted.records;
-      packed = record { trace = s; series = series; packing = emitted.packing };
-      text_is = refl;
-    };
-    count_is = emitted.count_is;
-  };
-  bytes = emitted.bytes;
-  failed = omega (arith, emitted.failures);
-}
-
-emitted_part : (o : Options) (vs : List View) (s : Trace) (taken : ℕ) (old new : BytesWritten) → IsSeriesOf s vs
-    → EmittedPrefix s o taken old new → Wrote (IsPackedInPart o vs) 1 old new
-emitted_part o vs s taken old new series emitted = record {
-  text = take taken (concat (emitted.records ++ emitted.last ∷ []));
-  text_is = record {
-    trace = s;
-    series = series;
-    records = emitted.records ++ emitted.last ∷ [];
-    left = emitted.left;
-    packing = emitted.packing;
-    taken = taken;
-    text_is = refl;
-  };
-  bytes = emitted.bytes;
-  failed = emitted.failures;
-}
-
 pub emitted : (o : Options) (vs : List View) (s : Trace) (result : Result ℕ ℕ) (old new : BytesWritten)
     → IsSeriesOf s vs → IfOk result (λ count. EmittedAll s o count old new)
     → IfErr result (λ taken. EmittedPrefix s o taken old new) → IsStretchWritten o vs result old new
-emitted o vs s (Ok count) old new series all part = emitted_stretch o vs s count old new series all
-emitted o vs s (Err taken) old new series all part = emitted_part o vs s taken old new series part
-
--- the same where the samples came from a supply
-pub emitted_supplied : (o : Options) (vs : List View) (head : SeriesHead) (xs : List ℤ)
-    (Supplies : List ℤ → Type 0) (result : Result ℕ ℕ) (old new : BytesWritten) → Supplies xs
-    → IsSeriesOf (headed head xs) vs
-    → IfOk result (λ count. (ys : List ℤ) → Supplies ys → EmittedAll (headed head ys) o count old new)
-    → IfErr result (λ taken. (ys : List ℤ) → Supplies ys → EmittedPrefix (headed head ys) o taken old new)
-    → IsStretchWritten o vs result old new
-emitted_supplied o vs head xs Supplies (Ok count) old new supplied series all part =
-    emitted_stretch o vs (headed head xs) count old new series (all xs supplied)
-emitted_supplied o vs head xs Supplies (Err taken) old new supplied series all part =
-    emitted_part o vs (headed head xs) taken old new series (part xs supplied)
+emitted o vs s (Ok count) old new series all part = record {
+  text = concat all.records;
+  text_is = record {
+    series = record {
+      records = all.records;
+      packed = record { trace = s; series = series; packing = all.packing };
+      text_is = refl;
+    };
+    count_is = all.count_is;
+  };
+  bytes = all.bytes;
+  failed = omega (arith, all.failures);
+}
+emitted o vs s (Err taken) old new series all part = record {
+  text = take taken (concat (part.records ++ part.last ∷ []));
+  text_is = record {
+    trace = s;
+    series = series;
+    records = part.records ++ part.last ∷ [];
+    left = part.left;
+    packing = part.packing;
+    taken = taken;
+    text_is = refl;
+  };
+  bytes = part.bytes;
+  failed = part.failures;
+}
 
 -- The text of a channel whose records are cut so.
 
 next_upto : (before back : List (List View)) (s vs left : List View) → AreStretchesUpTo vs (before ++ s ∷ back) left
     → IsNextStretch vs before s
 next_upto [] back s vs left (rest, (first, behind)) = record { left = vs; cut = refl; rest = rest; first = first }
-next_upto (b ∷ before) back s vs left (rest, (first, behind)) =
-    let h = next_upto before back s rest left behind in
-    record { left = h.left; cut = (rest, (first, h.cut)); rest = h.rest; first = h.first }
-
-next_in : (before back ss : List (List View)) (s vs : List View) → AreStretches vs ss → ss ≡ before ++ s ∷ back
-    → IsNextStretch vs before s
-next_in before back ss s vs are e =
-    next_upto before back s vs [] (subst (λ (ts : List (List View)). AreStretches vs ts) e are)
-
-pub channel_text : (o : Options) (vs : List View) (ss : List (List View)) (text : List ℕ) → AreStretches vs ss
-    → IsTextOn o ss text → IsChannelText o vs text
-channel_text o vs ss text are is = record {
-  records = is.records;
-  packed = record { stretches = ss; are = are; packed = is.packed };
-  text_is = is.text_is;
-}
-
-pub channel_part : (o : Options) (vs : List View) (ss : List (List View)) (text : List ℕ) → AreStretches vs ss
-    → IsPartOn o ss text → IsChannelPart o vs text
-channel_part o vs ss text are p = record {
-  before = p.before;
-  stretch = p.stretch;
-  next = next_in p.before p.back ss p.stretch vs are p.parts;
-  records = p.records;
-  packed = p.packed;
-  options = p.options;
-  numbered = p.numbered;
-  own = p.own;
-  part = p.part;
-  text_is = p.text_is;
-}
+next_upto (b ∷ before) back s vs left (rest, (first, behind)) = grind (arith, next_upto before back s rest left behind)
 
 on_nothing : (o : Options) (ss : List (List View)) (records : List (List ℕ)) → ArePackedOn o ss records → ss ≡ []
     → records ≡ []
-on_nothing o _ _ none e = refl
-on_nothing o _ _ (more ss s records others next before on here) e = absurd (ends_apart ss s (sym e))
+on_nothing o ss records h h2 = grind (arith, ends_apart)
 
 -- after nothing the options are the same
 on_same : (o next : Options) (records : List (List ℕ)) → records ≡ [] → IsNumberedOn o (length records) next → next ≡ o
-on_same o next records e on =
-    one_next o next o 0 (subst (λ (rs : List (List ℕ)). IsNumberedOn o (length rs) next) e on)
-    (on_none o o.numbered)
+on_same o next records e on = one_next o next o 0 (rw e at on) (on_none o o.numbered)
 
 on_one : (o : Options) (ss : List (List View)) (s : List View) (records : List (List ℕ)) → ArePackedOn o ss records
     → ss ≡ s ∷ [] → IsStretchPacked o s records
 on_one o _ s _ none e = absurd (ends_apart [] s e)
 on_one o _ s _ (more ss t records others next before on here) e =
     let same = same_from_push ss [] t s e in
-    let first : records ≡ [] = on_nothing o ss records before same.0 in
-    subst (λ (rs : List (List ℕ)). IsStretchPacked o s (rs ++ others)) (sym first)
-    (subst (λ (us : List View). IsStretchPacked o us others) same.1
-    (subst (λ (p : Options). IsStretchPacked p t others) (on_same o next records first on) here))
+    let first = on_nothing o ss records before same.0 in
+    rw first (rw (same.1, on_same o next records first on) at here)
 
 one_part : (before back : List (List View)) (s t : List View) → s ∷ [] ≡ before ++ t ∷ back → (before ≡ []) × (t ≡ s)
 one_part [] back s t e = (refl, ap (λ (ts : List (List View)). get_or ts 0 t) (sym e))
@@ -461,35 +301,22 @@ one_part (b ∷ before) back s t e =
     let long = length-append before (t ∷ back) in
     absurd (omega (arith, size, long))
 
-whole_text : (o : Options) (vs : List View) (ss : List (List View)) (text : List ℕ) → ss ≡ vs ∷ []
-    → IsTextOn o ss text → IsSeriesText o vs text
-whole_text o vs ss text one is = record {
-  records = is.records;
-  packed = on_one o ss vs is.records is.packed one;
-  text_is = is.text_is;
-}
-
-whole_part : (o : Options) (vs : List View) (ss : List (List View)) (text : List ℕ) → ss ≡ vs ∷ []
-    → IsPartOn o ss text → IsPackedInPart o vs text
-whole_part o vs ss text one p =
-    let same = one_part p.before p.back vs p.stretch (sym one ∙ p.parts) in
-    let first : p.records ≡ [] = on_nothing o p.before p.records p.packed same.0 in
-    let own : p.own ≡ text =
-    sym (p.text_is ∙ ap (λ (rs : List (List ℕ)). concat rs ++ p.own) first) in
-    subst (λ (t : List ℕ). IsPackedInPart o vs t) own
-    (subst (λ (us : List View). IsPackedInPart o us p.own) same.1
-    (subst (λ (q : Options). IsPackedInPart q p.stretch p.own) (on_same o p.options p.records first p.numbered)
-    p.part))
-
 pub text_as : (cutting : Cutting) (o : Options) (vs : List View) (ss : List (List View)) (text : List ℕ)
     → IsCutAs cutting vs ss → IsTextOn o ss text → IsTextAs cutting o vs text
-text_as Whole o vs ss text cut is = whole_text o vs ss text cut is
-text_as Stretches o vs ss text cut is = channel_text o vs ss text cut is
+text_as Whole o vs ss text one is = search (arith, on_one)
+text_as Stretches o vs ss text are is = grind (arith)
 
 pub part_as : (cutting : Cutting) (o : Options) (vs : List View) (ss : List (List View)) (text : List ℕ)
     → IsCutAs cutting vs ss → IsPartOn o ss text → IsPartAs cutting o vs text
-part_as Whole o vs ss text cut p = whole_part o vs ss text cut p
-part_as Stretches o vs ss text cut p = channel_part o vs ss text cut p
+part_as Whole o vs ss text one p =
+    let same = one_part p.before p.back vs p.stretch (sym one ∙ p.parts) in
+    let first : p.records ≡ [] = on_nothing o p.before p.records p.packed same.0 in
+    let own : p.own ≡ text = sym (p.text_is ∙ ap (λ (rs : List (List ℕ)). concat rs ++ p.own) first) in
+    subst (λ (q : Options). IsPackedInPart q vs text) (on_same o p.options p.records first p.numbered)
+    (rw same.1 at (subst (λ (t : List ℕ). IsPackedInPart p.options p.stretch t) own p.part))
+part_as Stretches o vs ss text are p =
+    let next = next_upto p.before p.back p.stretch vs [] (rw p.parts at are) in
+    search (next, p)
 
 -- What is found of all channels, and how they are planned.
 
@@ -514,27 +341,24 @@ plan_each _ _ _ (ready_next c s ps cs ss ls one rest) = ap suc (plan_each cs ss 
 
 pub ready_at : {cutting : Cutting} {o : Options} {room places : ℕ} {views : List View} (cs : List Channel)
     (ss : List Packability) (ls : List (List Plan)) (k : ℕ) (c : Channel)
-    → AreReady cutting o room places views cs ss ls
-    → k < length cs
+    → AreReady cutting o room places views cs ss ls → k < length cs
     → IsReady cutting o room places (records_in views (get_or cs k c).0) (get_or ss k Fit) (get_or ls k [])
 ready_at _ _ _ k c ready_none lt = absurd (omega (arith, lt))
 ready_at _ _ _ zero c (ready_next d s ps cs ss ls one rest) lt = one
 ready_at _ _ _ (suc k) c (ready_next d s ps cs ss ls one rest) lt = ready_at cs ss ls k c rest (omega (arith, lt))
 
 -- one more channel
-pub ready_more : (cutting : Cutting) (o : Options) (room next places further : ℕ) (views : List View)
-    (cs : List Channel) (ss : List Packability) (ls : List (List Plan)) (c : Channel) (s : Packability) (ps : List Plan)
-    → room ≤ next → places ≤ further → AreReady cutting o room places views cs ss ls
-    → IsReady cutting o next further (records_in views c.0) s ps
-    → AreReady cutting o next further views (cs ++ c ∷ []) (ss ++ s ∷ []) (ls ++ ps ∷ [])
-ready_more cutting o room next places further views _ _ _ c s ps le within ready_none one =
-    ready_next c s ps [] [] [] one ready_none
-ready_more cutting o room next places further views _ _ _ c s ps le within
+pub ready_more : {cutting : Cutting} {o : Options} {room places : ℕ} (next : ℕ) {views : List View} (cs : List Channel)
+    (ss : List Packability) (ls : List (List Plan)) (c : Channel) (s : Packability) (ps : List Plan) → room ≤ next
+    → AreReady cutting o room places views cs ss ls → IsReady cutting o next places (records_in views c.0) s ps
+    → AreReady cutting o next places views (cs ++ c ∷ []) (ss ++ s ∷ []) (ls ++ ps ∷ [])
+ready_more next _ _ _ c s ps le ready_none one = ready_next c s ps [] [] [] one ready_none
+ready_more {o = o} {room = room} {places = places} next {views = views} _ _ _ c s ps le
     (ready_next d t qs cs ss ls first rest) one =
     ready_next d t qs (cs ++ c ∷ []) (ss ++ s ∷ []) (ls ++ ps ∷ [])
     (record {
       stands = first.stands;
       cut = first.cut;
-      can = λ fit. written_on o room next places further qs (records_in views d.0) le within (first.can fit);
+      can = λ fit. written_on o room next places qs (records_in views d.0) le (first.can fit);
     })
-    (ready_more cutting o room next places further views cs ss ls c s ps le within rest one)
+    (ready_more next cs ss ls c s ps le rest one)

@@ -1,17 +1,17 @@
 -- A channel's samples and leap seconds, record by record.
-use Rattle.std.proofs.Common.{◌≡◌, ℕ, ℤ, ◌+◌, ◌<◌, ◌≤◌, ◌++◌, List, [], ◌∷◌, Bool, true, false, if◌then◌else◌, length}
-use Rattle.std.proofs.Common.{take, get_or, map, refl, sym, ap, ◌∙◌, arith, append-nil, Option, Some, None}
+use Rattle.std.proofs.Common.{◌≡◌, ℕ, ℤ, ◌+◌, ◌<◌, ◌≤◌, ◌++◌, List, [], ◌∷◌, length}
+use Rattle.std.proofs.Common.{take, get_or, map, refl, sym, ap, ◌∙◌, arith, append-nil, Option}
 use Rattle.std.proofs.lemmas.List.{length-take-le, take_more, map-append}
 use Rattle.mseed_time.specs.declared.outcome.LeapStep.{LeapStep}
 use Rattle.mseed_record.specs.View.{View, leap_of}
 use Rattle.mseed_record.specs.Viewing.{view_of}
 use Rattle.mseed_record.specs.declared.view.RecordView.{RecordView}
 use Rattle.mseed_steim.specs.Reading.{count_of, IsWhole}
-use Rattle.mseed_audit.specs.Channels.{is_of_channel}
 use Rattle.mseed_audit.specs.Judging.{step_in}
 use Rattle.mseed_audit.specs.Series.{AreSteps, step_at}
 use Rattle.mseed_audit.proofs.Joined.{count_is, holds_more, holds_none}
 use Rattle.mseed_audit.proofs.Places.{steps_after, steps_kept}
+use Rattle.mseed_repack.proofs.Runs.{samples_append}
 use Rattle.mseed_repack.specs.private.Reading.{AreOf, channel_in, samples_of, step_count, steps_of}
 
 -- what of the lists was read of these records
@@ -23,12 +23,7 @@ pub record IsRead (key : List ℕ) (vs : List View) (m k : ℕ) (samples : List 
   pub steps_count : k ≡ steps_of vs
 
 pub no_step : (o : Option LeapStep) (m : ℕ) → length (step_at 0 o) ≡ 0 → step_at m o ≡ []
-no_step None m e = refl
-no_step (Some step) m e = absurd (omega (arith, e))
-
-pub samples_append : (vs ws : List View) → samples_of (vs ++ ws) ≡ samples_of vs + samples_of ws
-samples_append [] ws = omega arith
-samples_append (v ∷ vs) ws = let rest = samples_append vs ws in omega (arith, rest)
+no_step o m h = grind (arith)
 
 pub steps_append : (vs ws : List View) → steps_of (vs ++ ws) ≡ steps_of vs + steps_of ws
 steps_append [] ws = omega arith
@@ -36,22 +31,15 @@ steps_append (v ∷ vs) ws = let rest = steps_append vs ws in omega (arith, rest
 
 pub steps_in : (key : List ℕ) (vs : List View) → steps_of (channel_in key vs) ≤ steps_of vs
 steps_in key [] = omega arith
-steps_in key (v ∷ vs) = by (is_of_channel key v) (steps_in key vs)
-  where
-    by : (b : Bool) → steps_of (channel_in key vs) ≤ steps_of vs
-        → steps_of (if b then v ∷ channel_in key vs else channel_in key vs) ≤ step_count v + steps_of vs
-    by true rest = omega (arith, rest)
-    by false rest = omega (arith, rest)
+steps_in key (v ∷ vs) = grind (arith, steps_in key vs)
 
 pub steps_next : (rs : List RecordView) (n : ℕ) (r : RecordView) → n < length rs → r ≡ get_or rs n r
     → steps_of (map view_of (take (n + 1) rs)) ≡ steps_of (map view_of (take n rs)) + step_count (view_of r)
 steps_next rs n r h is =
     let prefix = map view_of (take n rs) in
-    let all : map view_of (take (n + 1) rs) ≡ prefix ++ view_of r ∷ [] =
-    ap (λ (qs : List RecordView). map view_of qs) (take_more rs n r h
-    ∙ ap (λ (q : RecordView). take n rs ++ q ∷ []) (sym is)) ∙ map-append view_of (take n rs) (r ∷ []) in
-    let sum : steps_of (map view_of (take (n + 1) rs)) ≡ steps_of prefix + steps_of (view_of r ∷ []) =
-    ap (λ (vs : List View). steps_of vs) all ∙ steps_append prefix (view_of r ∷ []) in
+    let all = ap (λ (qs : List RecordView). map view_of qs) (take_more rs n r h ∙ ap (λ (q : RecordView). take n rs ++ q
+    ∷ []) (sym is)) ∙ map-append view_of (take n rs) (r ∷ []) in
+    let sum = ap (λ (vs : List View). steps_of vs) all ∙ steps_append prefix (view_of r ∷ []) in
     omega (arith, sum)
 
 pub read_none : (key : List ℕ) (samples : List ℤ) (steps : List (ℕ × LeapStep)) → IsRead key [] 0 0 samples steps
@@ -70,21 +58,18 @@ read_none key samples steps = record {
 
 places_more : (o : Option LeapStep) (m n : ℕ) (old new : List (ℕ × LeapStep)) → m < n → AreSteps m old
     → new ≡ old ++ step_at n o → AreSteps n new
-places_more None m n old new less h e = steps_kept m n old new (omega (arith, less)) h (e ∙ append-nil old)
-places_more (Some step) m n old new less h e = steps_after m n n old new step less refl h e
+places_more o m n old new h h2 h3 = grind (arith, steps_kept, append-nil, steps_after)
 
 -- one more record
 pub read_more : (key : List ℕ) (vs : List View) (v : View) (m k m' k' : ℕ) (xs xs' s : List ℤ)
-    (ss ss' : List (ℕ × LeapStep)) → m ≤ length xs → IsRead key vs m k xs ss
-    → IsWhole v s → take m' xs' ≡ take m xs ++ s → take k' ss' ≡ take k ss ++ step_at m' (step_in (leap_of v.bytes))
-    → m' ≡ m + count_of v → k' ≡ k + step_count v
-    → IsRead key (vs ++ v ∷ []) m' k' xs' ss'
+    (ss ss' : List (ℕ × LeapStep)) → m ≤ length xs → IsRead key vs m k xs ss → IsWhole v s
+    → take m' xs' ≡ take m xs ++ s → take k' ss' ≡ take k ss ++ step_at m' (step_in (leap_of v.bytes))
+    → m' ≡ m + count_of v → k' ≡ k + step_count v → IsRead key (vs ++ v ∷ []) m' k' xs' ss'
 read_more key vs v m k m' k' xs xs' s ss ss' inside h whole samples steps count bears =
     let o : Option LeapStep = step_in (leap_of v.bytes) in
     let long : length (take m xs) ≡ m = length-take-le m xs inside in
     let at : m' ≡ length (take m xs) + length s = omega (arith, long, count, count_is v s whole) in
-    let behind : take k' ss' ≡ take k ss ++ step_at (length (take m xs) + length s) o =
-    steps ∙ ap (λ (n : ℕ). take k ss ++ step_at n o) at in
+    let behind = steps ∙ ap (λ (n : ℕ). take k ss ++ step_at n o) at in
     let some = whole.0.some in
     record {
       read = λ start rate.

@@ -1,6 +1,7 @@
 -- Channels of an archive, as they are packed one by one.
+use Rattle.std.proofs.Common.{arith}
 use Rattle.std.proofs.Common.{◌≡◌, ℕ, suc, ◌+◌, ◌<◌, ◌≤◌, ◌↔◌, Bool, true, ◌++◌, List, [], ◌∷◌, length, take, drop, map}
-use Rattle.std.proofs.Common.{get_or, refl, sym, ap, subst, ◌∙◌, append_assoc, false, IsTrue, Option, Some, All}
+use Rattle.std.proofs.Common.{get_or, refl, sym, ap, subst, ◌∙◌, append_assoc, false, IsTrue, Some, All}
 use Rattle.std.specs.List.{AllByRecursion}
 use Rattle.std.specs.Map.{lookup, keys_of}
 use Rattle.std.specs.Ordering.{nat_cmp, is_eq}
@@ -20,7 +21,7 @@ use Rattle.mseed_record.specs.declared.view.RecordView.{RecordView}
 use Rattle.mseed_steim.specs.Reading.{count_of}
 use Rattle.mseed_audit.specs.Channels.{Added, Placed, added_from, records_of, same_key, sample_count, views_in}
 use Rattle.mseed_audit.specs.Follows.{IsContinuous}
-use Rattle.mseed_audit.specs.Verdict.{AreVerdicts, IsExactAt, IsVerdict, IsVerdictAt, says_continuous}
+use Rattle.mseed_audit.specs.Verdict.{AreVerdicts, IsVerdict, says_continuous}
 use Rattle.mseed_audit.specs.declared.finding.Finding.{Finding}
 use Rattle.mseed_audit.specs.declared.verdict.Verdict.{Verdict}
 use Rattle.mseed_audit.specs.declared.verdict.Verdict.TheVariants.{Continuous, Broken}
@@ -57,11 +58,7 @@ found (x ∷ xs) s = (
 -- each verdict says that its channel is continuous exactly where it is
 pub exact_each : (added : List Added) (cs : List Channel) → AreVerdicts added cs
     → All (λ (c : Channel). IsTrue (says_continuous c.1) ↔ IsContinuous (views_in (records_of c.0 added))) cs
-exact_each added cs are =
-    All-weaker (λ (c : Channel). lookup (same_key c.0) cs ≡ Some c.1) (λ (c : Channel). IsTrue (says_continuous c.1)
-    ↔ IsContinuous (views_in (records_of c.0 added)))
-    (λ c e. subst (λ (o : Option Verdict). IsExactAt o (records_of c.0 added)) e (are.exact c.0)) cs
-    (All-from_recursion (λ (c : Channel). lookup (same_key c.0) cs ≡ Some c.1) cs (found cs are.ascending))
+exact_each added cs h = grind (arith, All-weaker, All-from_recursion, found)
 
 -- a list about one of its members
 pub cut_at : (cs : List Channel) (i : ℕ) (d : Channel) → i < length cs
@@ -71,8 +68,7 @@ cut_at cs i d lt = sym (take-append-drop (suc i) cs)
     ∙ append_assoc (take i cs) (get_or cs i d ∷ []) (drop (suc i) cs)
 
 pub first_at : (Before At : List ℕ → Type 0) (cs : List Channel) (i : ℕ) (d : Channel) → i < length cs
-    → All (λ (c : Channel). Before c.0) (take i cs) → At (get_or cs i d).0
-    → IsFirst Before At (get_or cs i d).0 cs
+    → All (λ (c : Channel). Before c.0) (take i cs) → At (get_or cs i d).0 → IsFirst Before At (get_or cs i d).0 cs
 first_at Before At cs i d lt before is = record {
   prefix = take i cs;
   verdict = (get_or cs i d).1;
@@ -86,9 +82,7 @@ first_at Before At cs i d lt before is = record {
 behind : (offset : ℕ) (vs : List View) (v : View)
     → added_from offset (vs ++ v ∷ []) ≡ added_from offset vs ++ record { view = v; offset = end_of offset vs } ∷ []
 behind offset [] v = refl
-behind offset (w ∷ vs) v =
-    let here : Added = record { view = w; offset = offset } in
-    ap (λ (xs : List Added). here ∷ xs) (behind (offset + length w.bytes) vs v)
+behind offset (w ∷ vs) v = grind (arith, behind (offset + length w.bytes) vs v)
 
 -- an audit of the records that a loop has passed takes in the next one
 pub audit_next : (rs : List RecordView) (n : ℕ) (r : RecordView) (offset : ℕ) (old new : Held) → n < length rs
@@ -99,8 +93,7 @@ pub audit_next : (rs : List RecordView) (n : ℕ) (r : RecordView) (offset : ℕ
     → IsAuditOf new (added_from 0 (map view_of (take (n + 1) rs)))
 audit_next rs n r offset old new lt is at before step =
     let vs : List View = map view_of (take n rs) in
-    let passed : map view_of (take (n + 1) rs) ≡ vs ++ view_of r ∷ [] = map_more view_of rs n r lt
-    ∙ ap (λ (s : RecordView). vs ++ view_of s ∷ []) (sym is) in
+    let passed = map_more view_of rs n r lt ∙ ap (λ (s : RecordView). vs ++ view_of s ∷ []) (sym is) in
     let all : added_from 0 (map view_of (take (n + 1) rs)) ≡ added_from 0 vs ++ record {
       view = view_of r;
       offset = offset;
@@ -123,23 +116,14 @@ counted (Broken first findings) ps count is says = absurd says
 -- the verdict on a channel is one on its records
 verdict_said : (views : List View) (cs : List Channel) (i : ℕ) (c : Channel) → AreVerdicts (added_from 0 views) cs
     → i < length cs → c ≡ get_or cs i c → IsVerdict c.1 (records_of c.0 (added_from 0 views))
-verdict_said views cs i c are lt is =
-    let added = added_from 0 views in
-    let verdicts : All (λ (d : Channel). IsVerdict d.1 (records_of d.0 added)) cs =
-    All-weaker (λ (d : Channel). lookup (same_key d.0) cs ≡ Some d.1)
-    (λ (d : Channel). IsVerdict d.1 (records_of d.0 added))
-    (λ d e. subst (λ (o : Option Verdict). IsVerdictAt o (records_of d.0 added)) e (are.each d.0)) cs
-    (All-from_recursion (λ (d : Channel). lookup (same_key d.0) cs ≡ Some d.1) cs (found cs are.ascending)) in
-    subst (λ (d : Channel). IsVerdict d.1 (records_of d.0 added)) (sym is)
-    (All-get_or (λ (d : Channel). IsVerdict d.1 (records_of d.0 added)) cs i c lt verdicts)
+verdict_said views cs i c h h2 h3 = grind (arith, All-weaker, All-from_recursion, found, All-get_or)
 
 -- and has the first finding of a channel that is broken
 pub first_said : (views : List View) (cs : List Channel) (i : ℕ) (c : Channel) (first : Finding) (count : ℕ)
     → AreVerdicts (added_from 0 views) cs → i < length cs → c ≡ get_or cs i c → c.1 ≡ Broken first count
     → IsFirstFinding (records_of c.0 (added_from 0 views)) first
 first_said views cs i c first count are lt is e =
-    let broken = subst (λ (v : Verdict). IsVerdict v (records_of c.0 (added_from 0 views))) e
-    (verdict_said views cs i c are lt is) in
+    let broken = rw e at (verdict_said views cs i c are lt is) in
     (broken.0, broken.1.0)
 
 pub count_said : (views : List View) (cs : List Channel) (i : ℕ) (c : Channel) (count : ℕ) (vs : List View)
@@ -153,10 +137,7 @@ count_said views cs i c count vs are lt is says of =
 pub says_of : (views : List View) (cs : List Channel) (i : ℕ) (c : Channel) (b : Bool)
     → AreVerdicts (added_from 0 views) cs → i < length cs → c ≡ get_or cs i c → b ≡ says_continuous c.1
     → IsTrue b ↔ IsContinuous (records_in views (get_or cs i c).0)
-says_of views cs i c b are lt is of =
-    let same : says_continuous (get_or cs i c).1 ≡ b = sym (of ∙ ap (λ (d : Channel). says_continuous d.1) is) in
-    subst (λ (a : Bool). IsTrue a ↔ IsContinuous (records_in views (get_or cs i c).0)) same
-    (exact_each (added_from 0 views) cs are i c lt)
+says_of views cs i c b h h2 h3 h4 = grind (arith, exact_each)
 
 pub continuous_next : (views : List View) (cs : List Channel) (i : ℕ) (c : Channel) (b : Bool)
     → AreVerdicts (added_from 0 views) cs → i < length cs → c ≡ get_or cs i c → b ≡ says_continuous c.1
@@ -169,12 +150,7 @@ pub broken_at : (views : List View) (cs : List Channel) (i : ℕ) (c : Channel) 
     → AreVerdicts (added_from 0 views) cs → i < length cs → c ≡ get_or cs i c → b ≡ says_continuous c.1
     → b ≡ false → AreContinuous views (take i cs)
     → IsFirst (λ k. IsContinuous (records_in views k)) (λ k. ¬ (IsContinuous (records_in views k))) c.0 cs
-broken_at views cs i c b are lt is of e before =
-    let C : List ℕ → Type 0 = λ k. IsContinuous (records_in views k) in
-    let N : List ℕ → Type 0 = λ k. ¬ (IsContinuous (records_in views k)) in
-    let denied : N (get_or cs i c).0 = λ h. false≢true (sym e ∙ (says_of views cs i c b are lt is of).1 h) in
-    subst (λ (key : List ℕ). IsFirst C N key cs) (sym (ap (λ (d : Channel). d.0) is))
-    (first_at C N cs i c lt before denied)
+broken_at views cs i c b h h2 h3 h4 h5 h6 = grind (arith, false≢true, says_of, first_at)
 
 -- a loop has passed all channels
 pub all_passed : (P : Channel → Type 0) (cs : List Channel) (i : ℕ) → length cs ≤ i → All P (take i cs) → All P cs

@@ -1,22 +1,21 @@
 -- Records that are known to be sound by what the audit finds of them.
-use Rattle.std.proofs.Common.{◌≡◌, ℕ, ◌+◌, ◌<◌, ◌&&◌, Bool, true, false, if◌then◌else◌, List, [], ◌∷◌, ◌++◌, length}
+use Rattle.std.proofs.Common.{arith}
+use Rattle.std.proofs.Common.{◌≡◌, ℕ, ◌+◌, ◌<◌, false, List, [], ◌∷◌, ◌++◌, length}
 use Rattle.std.proofs.Common.{map}
-use Rattle.std.proofs.Common.{take, get_or, sym, ap, refl, subst, ◌∙◌, nat_lt, Option, None, IsSome}
+use Rattle.std.proofs.Common.{take, get_or, sym, ap, refl, subst, ◌∙◌, Option, IsSome}
 use Rattle.std.specs.List.{AllByRecursion}
 use Rattle.std.proofs.lemmas.Bool.{false≢true, ltb-true}
 use Rattle.std.proofs.lemmas.List.{map_more}
 use Rattle.std.proofs.ByRecursion.{All-push}
 use Rattle.mseed_time.specs.Rate.{Ratio}
-use Rattle.mseed_record.specs.Header.{key_at}
 use Rattle.mseed_record.specs.View.{View}
 use Rattle.mseed_record.specs.Viewing.{view_of}
 use Rattle.mseed_record.specs.declared.view.RecordView.{RecordView}
 use Rattle.mseed_steim.specs.Reading.{count_of}
-use Rattle.mseed_audit.specs.Channels.{Placed, same_key}
+use Rattle.mseed_audit.specs.Channels.{Placed}
 use Rattle.mseed_audit.specs.Follows.{IsSound}
 use Rattle.mseed_audit.specs.Judging.{IsFound, time, rate, read, after}
-use Rattle.mseed_audit.specs.Reported.{IsFoundAfter, last_of}
-use Rattle.mseed_audit.specs.Reported.{channel_in as channel_in_placed}
+use Rattle.mseed_audit.specs.Reported.{IsFoundAfter}
 use Rattle.mseed_audit.specs.declared.finding.Why.{Why}
 use Rattle.mseed_audit.proofs.Continuity.{HaveOneReading}
 use Rattle.mseed_repack.specs.private.Archives.{AreAlone, is_own}
@@ -38,21 +37,13 @@ sound_found single before v _ (after next known samples whole) none = record {
 -- one with samples, of which no finding of its own is found
 pub sound_by_finding : HaveOneReading → (v : View) (earlier : List Placed) (why : Option Why)
     → IsFoundAfter earlier v why → is_own why ≡ false → 0 < count_of v → IsSound v
-sound_by_finding single v earlier why found none some =
-    sound_found single (last_of None (channel_in_placed (key_at v.bytes) earlier)) v why (found.judged some) none
+sound_by_finding h v earlier why h2 h3 h4 = grind (arith, sound_found)
 
 -- such is each of a channel, where each with samples is
 pub alone_in : (Such : View → Type 0) (key : List ℕ) (vs : List View) → AreAlone Such vs
     → AllByRecursion Such (channel_in key vs)
 alone_in Such key [] all = tt
-alone_in Such key (v ∷ vs) all =
-    by (nat_lt 0 (count_of v)) refl (same_key key (key_at v.bytes)) (alone_in Such key vs all.1)
-  where
-    by : (some : Bool) → nat_lt 0 (count_of v) ≡ some → (same : Bool) → AllByRecursion Such (channel_in key vs)
-        → AllByRecursion Such (if some && same then v ∷ channel_in key vs else channel_in key vs)
-    by true some true rest = (all.0 (ltb-true 0 (count_of v) some), rest)
-    by true some false rest = rest
-    by false none same rest = rest
+alone_in Such key (v ∷ vs) all = grind (arith, ltb-true, alone_in Such key vs all.1)
 
 -- and such are those that a loop has passed, with one more
 pub alone_next : (Such : View → Type 0) (rs : List RecordView) (n : ℕ) (r : RecordView) → n < length rs
@@ -61,5 +52,4 @@ pub alone_next : (Such : View → Type 0) (rs : List RecordView) (n : ℕ) (r : 
 alone_next Such rs n r lt is before here =
     let next : map view_of (take (n + 1) rs) ≡ map view_of (take n rs) ++ view_of r ∷ [] =
     map_more view_of rs n r lt ∙ ap (λ (q : RecordView). map view_of (take n rs) ++ view_of q ∷ []) (sym is) in
-    subst (AreAlone Such) (sym next)
-    (All-push (λ (v : View). 0 < count_of v → Such v) (map view_of (take n rs)) (view_of r) before here)
+    rw next (All-push (λ (v : View). 0 < count_of v → Such v) (map view_of (take n rs)) (view_of r) before here)

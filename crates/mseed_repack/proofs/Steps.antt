@@ -1,12 +1,12 @@
 -- What is kept of a stretch, with one more record.
-use Rattle.std.proofs.Common.{◌≡◌, ◌↔◌, ℕ, ◌+◌, List, [], ◌∷◌, ◌++◌, false, IsTrue}
+use Rattle.std.proofs.Common.{◌≡◌, ◌↔◌, ◌+◌, List, [], ◌∷◌, ◌++◌, false, IsTrue}
 use Rattle.std.proofs.Common.{Some, ℤ, ◌+ℤ◌, arith, sym, ap, subst, ◌∙◌}
 use Rattle.std.proofs.lemmas.Bool.{false≢true}
 use Rattle.std.proofs.lemmas.Int.{ints}
 use Rattle.std.proofs.lemmas.List.{length-append}
 use Rattle.std.proofs.lemmas.Option.{same_Some}
 use Rattle.mseed_time.specs.Join.{step_of}
-use Rattle.mseed_time.specs.Rate.{Ratio, SameRate}
+use Rattle.mseed_time.specs.Rate.{Ratio}
 use Rattle.mseed_time.specs.declared.rate.Rate.{Rate}
 use Rattle.mseed_time.specs.Ratios.{ratio_of}
 use Rattle.mseed_record.specs.declared.leap.Leap.TheVariants.{Both}
@@ -14,7 +14,7 @@ use Rattle.mseed_record.specs.View.{View, leap_of, start_of, step_in}
 use Rattle.mseed_steim.specs.Reading.{count_of}
 use Rattle.mseed_audit.specs.Judging.{known_rate}
 use Rattle.mseed_repack.specs.Clocks.{IsStretchOf}
-use Rattle.mseed_repack.specs.Stretches.{GoesOn, IsOnTime, added_by, last_of, samples_of}
+use Rattle.mseed_repack.specs.Stretches.{GoesOn, added_by, last_of}
 use Rattle.mseed_repack.specs.private.Nexts.{IsNext}
 use Rattle.mseed_repack.specs.declared.stretch.Stretch.{Stretch}
 use Rattle.mseed_repack.proofs.Runs.{added_append, last_snoc, samples_append}
@@ -31,10 +31,7 @@ pub record IsOneMore (s new : Stretch) (v : View) : Type 0 where
 
 added_last : (vs : List View) (v : View) (a z : ℤ) → a ≡ added_by vs
     → z ≡ a +ℤ step_of (step_in (leap_of v.bytes)) → z ≡ added_by (vs ++ v ∷ [])
-added_last vs v a z h k =
-    let one : added_by (v ∷ []) ≡ step_of (step_in (leap_of v.bytes)) = omega (arith, ints) in
-    k ∙ ap (λ (y : ℤ). y +ℤ step_of (step_in (leap_of v.bytes))) h ∙ ap (λ (y : ℤ). added_by vs +ℤ y) (sym one)
-    ∙ sym (added_append vs (v ∷ []))
+added_last vs v a z h h2 = grind (arith, ints, added_append)
 
 pub stretch_more : (s new : Stretch) (vs : List View) (v : View) → IsStretchOf s vs → IsOneMore s new v
     → IsStretchOf new (vs ++ v ∷ [])
@@ -59,43 +56,8 @@ stretch_more s new (first ∷ rest) v is more =
 
 pub next_goes : (s : Stretch) (vs : List View) (v : View) (next : Ratio) (start : ℤ) → s.closed ≡ false
     → known_rate v ≡ Some next → start ≡ start_of v → IsStretchOf s vs → IsNext s next start → GoesOn vs v
-next_goes s [] v next start unclosed known at is h = is
-next_goes s (first ∷ rest) v next start unclosed known at is h =
-    let own : Ratio = ratio_of s.rate in
-    let count : ℕ = samples_of (first ∷ rest) in
-    let added : ℤ = added_by (first ∷ rest) in (
-      own,
-      (
-        next,
-        record {
-          rate_is = is.rate_is;
-          next_is = known;
-          same = h.same;
-          one_step = λ both. false≢true (sym unclosed ∙ is.closed_is.1 both);
-          on_time =
-              subst (λ (z : ℤ). IsOnTime (start_of first) count own added z) at
-              (subst (λ (z : ℤ). IsOnTime (start_of first) count own z start) is.added_is
-              (subst (λ (n : ℕ). IsOnTime (start_of first) n own s.added start) is.samples_is
-              (subst (λ (z : ℤ). IsOnTime z s.samples own s.added start) is.start_is h.on_time)));
-        },
-      ),
-    )
+next_goes s vs v next start h h2 h3 h4 h5 = grind (arith, false≢true)
 
 pub goes_next : (s : Stretch) (vs : List View) (v : View) (next : Ratio) (start : ℤ)
     → known_rate v ≡ Some next → start ≡ start_of v → IsStretchOf s vs → GoesOn vs v → IsNext s next start
-goes_next s [] v next start known at is go = absurd go
-goes_next s (first ∷ rest) v next start known at is (rate, (other, go)) =
-    let own : rate ≡ ratio_of s.rate = same_Some rate (ratio_of s.rate) (sym go.rate_is ∙ is.rate_is) in
-    let its : other ≡ next = same_Some other next (sym go.next_is ∙ known) in
-    record {
-      same = subst (λ (r : Ratio). SameRate r next) own (subst (λ (r : Ratio). SameRate rate r) its go.same);
-      on_time =
-          subst (λ (z : ℤ). IsOnTime z s.samples (ratio_of s.rate) s.added start) (sym is.start_is)
-          (subst (λ (n : ℕ). IsOnTime (start_of first) n (ratio_of s.rate) s.added start) (sym is.samples_is)
-          (subst (λ (z : ℤ). IsOnTime (start_of first) (samples_of (first ∷ rest)) (ratio_of s.rate) z start)
-          (sym is.added_is)
-          (subst (λ (z : ℤ). IsOnTime (start_of first) (samples_of (first ∷ rest)) (ratio_of s.rate)
-          (added_by (first ∷ rest)) z) (sym at)
-          (subst (λ (r : Ratio). IsOnTime (start_of first) (samples_of (first ∷ rest)) r (added_by (first ∷ rest))
-          (start_of v)) own go.on_time))));
-    }
+goes_next s vs v next start h h2 h3 h4 = grind (arith, same_Some)

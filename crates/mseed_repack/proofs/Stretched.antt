@@ -1,13 +1,12 @@
 -- The series of a stretch, and whether it fits.
 use Rattle.std.proofs.Common.{◌≡◌, ℕ, ◌+◌, ◌%◌, ◌<◌, ℤ, List, [], ◌∷◌, length}
-use Rattle.std.proofs.Common.{sym, subst, ap, ◌∙◌, refl, arith, All}
+use Rattle.std.proofs.Common.{refl, arith, All}
 use Rattle.mseed_time.specs.declared.outcome.LeapStep.{LeapStep}
 use Rattle.mseed_record.specs.View.{View}
 use Rattle.mseed_audit.specs.Series.{AreSteps, Trace, IsSeriesOf}
 use Rattle.mseed_repack.specs.declared.stretch.Stretch.{Stretch}
 use Rattle.mseed_pack.specs.Stretches.{differences}
 use Rattle.mseed_pack.specs.Fitting.{Fits, IsDifferenceOf, IsMisfit, IsSampleOf}
-use Rattle.mseed_steim.specs.declared.encoding.Encoding.{Encoding}
 use Rattle.mseed_pack.specs.declared.fault.PackFault.{PackFault}
 use Rattle.mseed_pack.specs.Traces.{headed}
 use Rattle.mseed_pack.specs.declared.options.Options.{Options}
@@ -49,13 +48,11 @@ pub series_held : (o : Options) (vs : List View) (head : SeriesHead) (xs : List 
     → ((samples : List ℤ) (options : Options) → length samples ≡ head.count
     → All (IsSampleOf options.encoding) samples → All (IsDifferenceOf options.encoding) (differences samples)
     → Fits (headed head samples) options) → StretchFits o vs
-series_held o vs head xs series size held fits =
-    series_fits o vs (headed head xs) series (fits xs o size held.0 held.1)
+series_held o vs head xs h h2 h3 h4 = search (arith, series_fits)
 
 -- the leap seconds of its samples
 pub head_places : (m n : ℕ) (ss ts : List (ℕ × LeapStep)) → m ≡ n → ts ≡ ss → AreSteps n ss → AreSteps m ts
-head_places m n ss ts e f h =
-    subst (λ (us : List (ℕ × LeapStep)). AreSteps m us) (sym f) (subst (λ (k : ℕ). AreSteps k ss) (sym e) h)
+head_places m n ss ts h h2 h3 = grind (arith)
 
 -- what fits doesn't depend on the sequence number
 pub fits_on : (o next : Options) (n : ℕ) (vs : List View) → IsNumberedOn o n next → StretchFits o vs
@@ -63,14 +60,7 @@ pub fits_on : (o next : Options) (n : ℕ) (vs : List View) → IsNumberedOn o n
 fits_on o next n vs on h = record {
   trace = h.trace;
   series = h.series;
-  fits = record {
-    some = h.fits.some;
-    slow = h.fits.slow;
-    timed = h.fits.timed;
-    samples = subst (λ (e : Encoding). All (IsSampleOf e) h.trace.samples) (sym on.encoding_is) h.fits.samples;
-    differences_fit = subst (λ (e : Encoding). All (IsDifferenceOf e) (differences h.trace.samples))
-        (sym on.encoding_is) h.fits.differences_fit;
-  };
+  fits = grind (arith, h.fits, on.encoding_is);
 }
 
 -- sequence numbers run on
@@ -86,9 +76,4 @@ on_none o few = record { exponent_is = refl; encoding_is = refl; sequence_is = k
 
 pub on_more : (o next further : Options) (n c : ℕ) → IsNumberedOn o n next → IsNumberedOn next c further
     → IsNumberedOn o (n + c) further
-on_more o next further n c first then = record {
-  exponent_is = then.exponent_is ∙ first.exponent_is;
-  encoding_is = then.encoding_is ∙ first.encoding_is;
-  sequence_is = then.sequence_is ∙ ap (λ (m : ℕ). (m + c) % 1_000_000) first.sequence_is
-      ∙ wraps o.first_sequence n c;
-}
+on_more o next further n c h h2 = grind (arith, wraps)

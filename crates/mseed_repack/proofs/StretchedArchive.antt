@@ -1,8 +1,9 @@
 -- What was written of an archive by stretches is an archive, channel after channel.
+use Rattle.std.proofs.Common.{arith}
 use Rattle.std.specs.Prelude.{⊤}
-use Rattle.std.proofs.Common.{◌≡◌, ◌≢◌, ℕ, List, [], ◌∷◌, ◌++◌, Bool, true, false, IsTrue, refl, sym, ap, subst}
+use Rattle.std.proofs.Common.{◌≡◌, ◌≢◌, ℕ, List, [], ◌∷◌, ◌++◌, IsTrue, refl, sym, ap, subst}
 use Rattle.std.proofs.Common.{◌∙◌}
-use Rattle.std.proofs.Common.{append_assoc, append-nil, cond}
+use Rattle.std.proofs.Common.{append_assoc, append-nil}
 use Rattle.std.specs.List.{AllByRecursion, concat, filter}
 use Rattle.std.specs.Map.{keys_of}
 use Rattle.std.specs.Ordering.{nat_cmp}
@@ -11,10 +12,12 @@ use Rattle.std.specs.List.Sorted.{IsStrictlySortedBy}
 use Rattle.std.proofs.lemmas.List.{map-append}
 use Rattle.std.proofs.lemmas.List.Elements.{filter-append}
 use Rattle.std.proofs.lemmas.List.Folds.{concat-append}
-use Rattle.std.proofs.ByRecursion.{All-append}
 use Rattle.mseed_record.specs.Header.{key_at}
 use Rattle.mseed_record.specs.View.{View, IsView}
-use Rattle.mseed_stream.specs.Device.{BytesRead}
+use Rattle.mseed_steim.specs.Reading.{HasOneReading}
+use Rattle.mseed_audit.specs.Series.{Trace, IsSeriesOf}
+use Rattle.mseed_pack.proofs.ReadBack.{HaveOneViews}
+use Rattle.mseed_pack.proofs.Viewed.{HeadersReadBack, PackedSpells}
 use Rattle.mseed_stream.specs.Walk.{bytes_in}
 use Rattle.mseed_audit.specs.Channels.{is_of_channel}
 use Rattle.mseed_audit.proofs.Following.{views_are}
@@ -23,76 +26,26 @@ use Rattle.mseed_pack.proofs.Archived.{all_kept, key_of}
 use Rattle.mseed_pack.proofs.Traced.{kept_views}
 use Rattle.mseed_repack.specs.Borders.{IsArchiveKept, IsStretchedArchive, KeepsBorders}
 use Rattle.mseed_repack.specs.ByStretches.{AreStretched, EachRestretching, kept_of}
-use Rattle.mseed_repack.specs.Repack.{Channel, IsArchiveOf, records_in}
+use Rattle.mseed_repack.specs.Repack.{Channel, records_in}
 use Rattle.mseed_repack.specs.Restretch.{ChannelFits}
 use Rattle.mseed_repack.specs.declared.packability.Packability.{Packability}
 use Rattle.mseed_repack.specs.declared.packability.Packability.TheVariants.{Fit, Broken, Misfit}
-use Rattle.mseed_repack.proofs.Bordered.{Layers, own_of}
+use Rattle.mseed_repack.proofs.Bordered.{own_of}
+use Rattle.mseed_repack.proofs.Each.{AreMade, each_made}
 use Rattle.mseed_repack.proofs.ChannelReadBack.{each_restretching}
 use Rattle.mseed_repack.proofs.ReadBack.{all_records, none_further, others_by}
 
--- The views of what was written of each channel, one channel's after another's.
-
+-- the views of what was written of a channel
 record IsOf (views : List View) (c : Channel) (own : List View) : Type 0 where
   each : AllByRecursion IsView own
   of_key : AllByRecursion (λ (v : View). IsTrue (is_of_channel c.0 v)) own
   borders : KeepsBorders (records_in views c.0) own
 
-abbrev AreOf : List View → List Channel → List View → Type 0
-AreOf views [] ws = ws ≡ []
-AreOf views (c ∷ cs) ws =
-    (own : List View) × ((rest : List View) × ((ws ≡ own ++ rest) × IsOf views c own × AreOf views cs rest))
-
 -- the records of a channel have its key
 kept_keys : (key : List ℕ) (vs : List View)
     → AllByRecursion (λ (v : View). key_at v.bytes ≡ key) (filter (is_of_channel key) vs)
 kept_keys key [] = tt
-kept_keys key (v ∷ vs) = by (is_of_channel key v) refl (kept_keys key vs)
-  where
-    by : (b : Bool) → is_of_channel key v ≡ b → AllByRecursion (λ (u : View). key_at u.bytes ≡ key) (filter
-        (is_of_channel key) vs)
-        → AllByRecursion (λ (u : View). key_at u.bytes ≡ key)
-        (cond b (v ∷ filter (is_of_channel key) vs) (filter (is_of_channel key) vs))
-    by true e rest = (sym (key_of key v e), rest)
-    by false e rest = rest
-
-all_of : Layers → (o : Options) (views : List View) (cs : List Channel) (text : List ℕ) → AllByRecursion IsView views
-    → AllByRecursion (λ (c : Channel). ChannelFits o (records_in views c.0)) cs → AreStretched o views cs text
-    → (ws : List View) × (AreOf views cs ws × (concat (bytes_in ws) ≡ text))
-all_of laws o views [] text each fit none = ([], (refl, sym none))
-all_of laws o views (c ∷ cs) text each fit (its, (rest, written)) =
-    let here = written.1 in
-    let behind = all_of laws o views cs rest each fit.1 written.2 in
-    let mine : records_in views c.0 ≡ filter (is_of_channel c.0) views = views_are c.0 views in
-    let own_views : AllByRecursion IsView (records_in views c.0) =
-    subst (λ (vs : List View). AllByRecursion IsView vs) (sym mine) (kept_views c.0 views each) in
-    let keys : AllByRecursion (λ (v : View). key_at v.bytes ≡ c.0) (records_in views c.0) =
-    subst (λ (vs : List View). AllByRecursion (λ (v : View). key_at v.bytes ≡ c.0) vs) (sym mine)
-    (kept_keys c.0 views) in
-    let is = own_of laws o (records_in views c.0) c.0 here.records own_views keys fit.0 here.packed in (
-      is.views ++ behind.0,
-      (
-        (
-          is.views,
-          (
-            behind.0,
-            (refl, record { each = is.each; of_key = is.of_key; borders = is.borders }, behind.1.0),
-          ),
-        ),
-        ap (λ (rs : List (List ℕ)). concat rs) (map-append (λ (v : View). v.bytes) is.views behind.0)
-            ∙ concat-append (bytes_in is.views) (bytes_in behind.0)
-            ∙ (λ i. concat (is.bytes i) ++ behind.1.1 i) ∙ ap (λ (xs : List ℕ). xs ++ rest) (sym here.text_is)
-            ∙ sym written.0,
-      ),
-    )
-
--- They are views.
-
-each_view : (views : List View) (cs : List Channel) (ws : List View) → AreOf views cs ws → AllByRecursion IsView ws
-each_view views [] ws e = subst (λ (us : List View). AllByRecursion IsView us) (sym e) tt
-each_view views (c ∷ cs) ws (own, (rest, (parts, here, more))) =
-    subst (λ (us : List View). AllByRecursion IsView us) (sym parts)
-    (All-append IsView own rest here.each (each_view views cs rest more))
+kept_keys key (v ∷ vs) = grind (arith, key_of, kept_keys key vs)
 
 -- The keys of channels rise, so that no two are the same.
 
@@ -128,19 +81,13 @@ distinct_kept (c ∷ cs) (Misfit n f ∷ ss) h = distinct_kept cs ss h.1
 none_of : (key other : List ℕ) (vs : List View) → key ≢ other
     → AllByRecursion (λ (v : View). IsTrue (is_of_channel key v)) vs → filter (is_of_channel other) vs ≡ []
 none_of key other [] apart h = refl
-none_of key other (v ∷ vs) apart h = by (is_of_channel other v) refl (none_of key other vs apart h.1)
-  where
-    by : (b : Bool) → is_of_channel other v ≡ b → filter (is_of_channel other) vs ≡ []
-        → cond b (v ∷ filter (is_of_channel other) vs) (filter (is_of_channel other) vs) ≡ []
-    by true e rest = absurd (apart (key_of key v h.0 ∙ sym (key_of other v e)))
-    by false e rest = rest
+none_of key other (v ∷ vs) apart h = grind (arith, key_of, none_of key other vs apart h.1)
 
 filter_parts : (key : List ℕ) (ws own rest : List View) → ws ≡ own ++ rest
     → filter (is_of_channel key) ws ≡ filter (is_of_channel key) own ++ filter (is_of_channel key) rest
-filter_parts key ws own rest e =
-    ap (λ (us : List View). filter (is_of_channel key) us) e ∙ filter-append (is_of_channel key) own rest
+filter_parts key ws own rest h = grind (arith, filter-append)
 
-none_among : (views : List View) (key : List ℕ) (cs : List Channel) (ws : List View) → AreOf views cs ws
+none_among : (views : List View) (key : List ℕ) (cs : List Channel) (ws : List View) → AreMade (IsOf views) cs ws
     → AreOthers key cs → filter (is_of_channel key) ws ≡ []
 none_among views key [] ws e others = ap (λ (us : List View). filter (is_of_channel key) us) e
 none_among views key (c ∷ cs) ws (own, (rest, (parts, here, more))) others =
@@ -161,13 +108,10 @@ none_still : (key : List ℕ) (before own : List View) (cs : List Channel)
     → NoneBefore (before ++ own) cs
 none_still key before own [] of_key others none = tt
 none_still key before own (c ∷ cs) of_key others none =
-    let first : filter (is_of_channel c.0) before ≡ [] = none.0 in
-    let mine : filter (is_of_channel c.0) own ≡ [] = none_of key c.0 own (λ e. others.0 (sym e)) of_key in (
-      filter-append (is_of_channel c.0) before own ∙ (λ i. first i ++ mine i),
-      none_still key before own cs of_key others.1 none.1,
-    )
+    grind (arith, none_of, filter-append, none_still key before own cs of_key others.1 none.1)
 
-each_keeps : (views : List View) (cs : List Channel) (before ws : List View) → AreOf views cs ws → AreDistinct cs
+each_keeps : (views : List View) (cs : List Channel) (before ws : List View) → AreMade (IsOf views) cs ws → AreDistinct
+    cs
     → NoneBefore before cs
     → AllByRecursion (λ (c : Channel). KeepsBorders (records_in views c.0) (filter (is_of_channel c.0) (before ++ ws)))
     cs
@@ -176,52 +120,73 @@ each_keeps views (c ∷ cs) before ws (own, (rest, (parts, here, more))) apart n
     let first : filter (is_of_channel c.0) before ≡ [] = none.0 in
     let mine : filter (is_of_channel c.0) own ≡ own = all_kept c.0 own here.of_key in
     let theirs : filter (is_of_channel c.0) rest ≡ [] = none_among views c.0 cs rest more apart.0 in
-    let same : filter (is_of_channel c.0) (before ++ ws) ≡ own =
-    filter-append (is_of_channel c.0) before ws ∙ (λ i. first i ++ filter (is_of_channel c.0) ws) ∙
-    filter_parts c.0 ws own rest parts
-    ∙ (λ i. mine i ++ theirs i) ∙ append-nil own in
+    let same = filter-append (is_of_channel c.0) before ws ∙ (λ i. first i ++ filter (is_of_channel c.0) ws) ∙
+    filter_parts c.0 ws own rest parts ∙ (λ i. mine i ++ theirs i) ∙ append-nil own in
     let further = each_keeps views cs (before ++ own) rest more apart.1
     (none_still c.0 before own cs here.of_key apart.0 none.1) in
-    let all : (before ++ own) ++ rest ≡ before ++ ws =
-    append_assoc before own rest ∙ ap (λ (us : List View). before ++ us) (sym parts) in (
+    let all = append_assoc before own rest ∙ ap (λ (us : List View). before ++ us) (sym parts) in (
       subst (λ (us : List View). KeepsBorders (records_in views c.0) us) (sym same) here.borders,
-      subst (λ (us : List View). AllByRecursion
-          (λ (d : Channel). KeepsBorders (records_in views d.0) (filter (is_of_channel d.0) us)) cs) all further,
+      rw all at further,
     )
 
 in_records : (views written : List View) (cs : List Channel)
     → AllByRecursion (λ (c : Channel). KeepsBorders (records_in views c.0) (filter (is_of_channel c.0) written)) cs
     → AllByRecursion (λ (c : Channel). KeepsBorders (records_in views c.0) (records_in written c.0)) cs
 in_records views written [] h = tt
-in_records views written (c ∷ cs) h = (
-  subst (λ (us : List View). KeepsBorders (records_in views c.0) us) (sym (views_are c.0 written)) h.0,
-  in_records views written cs h.1,
-)
+in_records views written (c ∷ cs) h = grind (arith, views_are, in_records views written cs h.1)
 
-archive_kept : Layers → (o : Options) (h : BytesRead) (views : List View) (channels : List Channel)
-    (ss : List Packability) (text : List ℕ) → IsArchiveOf h views channels
-    → AllByRecursion (λ (c : Channel). ChannelFits o (records_in views c.0)) (kept_of channels ss)
-    → AreStretched o views (kept_of channels ss) text → IsArchiveKept views (kept_of channels ss) text
-archive_kept laws o h views channels ss text archive fit stretched =
-    let kept : List Channel = kept_of channels ss in
-    let all = all_of laws o views kept text archive.whole.each fit stretched in
-    let written : List View = all.0 in
-    let each : AllByRecursion IsView written = each_view views kept written all.1.0 in
-    let apart : AreDistinct kept = distinct_kept channels ss (distinct channels archive.verdicts.ascending) in
-    record {
-      written = written;
-      read = record {
-        joined = sym all.1.1 ∙ sym (append-nil (concat (bytes_in written)));
-        each = all_records written each;
-        no_further = none_further;
-      };
-      each = each;
-      others = λ key others. views_are key written ∙ none_among views key kept written all.1.0 others;
-      borders = in_records views written kept (each_keeps views kept [] written all.1.0 apart (none_yet kept));
-    }
+module _ (headers : HeadersReadBack) (spells : PackedSpells) (single : (v : View) → HasOneReading v)
+    (once : HaveOneViews) (series : (s t : Trace) (vs : List View) → IsSeriesOf s vs → IsSeriesOf t vs → s ≡ t) where
+  all_of : (o : Options) (views : List View) (cs : List Channel) (text : List ℕ) → AllByRecursion IsView views
+      → AllByRecursion (λ (c : Channel). ChannelFits o (records_in views c.0)) cs → AreStretched o views cs text
+      → (ws : List View) × (AreMade (IsOf views) cs ws × (concat (bytes_in ws) ≡ text))
+  all_of o views [] text each fit none = ([], (refl, sym none))
+  all_of o views (c ∷ cs) text each fit (its, (rest, written)) =
+      let here = written.1 in
+      let behind = all_of o views cs rest each fit.1 written.2 in
+      let mine = views_are c.0 views in
+      let is = own_of headers spells single once series o (records_in views c.0) here.records
+      (rw mine (kept_views c.0 views each)) fit.0 here.packed in (
+        is.views ++ behind.0,
+        (
+          (
+            is.views,
+            (
+              behind.0,
+              (
+                refl,
+                record {
+                  each = is.are.each;
+                  of_key = is.of_key c.0 (rw mine (kept_keys c.0 views));
+                  borders = is.borders;
+                },
+                behind.1.0,
+              ),
+            ),
+          ),
+          ap (λ (rs : List (List ℕ)). concat rs) (map-append (λ (v : View). v.bytes) is.views behind.0)
+              ∙ concat-append (bytes_in is.views) (bytes_in behind.0)
+              ∙ (λ i. concat (is.are.bytes i) ++ behind.1.1 i) ∙ ap (λ (xs : List ℕ). xs ++ rest) (sym here.text_is)
+              ∙ sym written.0,
+        ),
+      )
 
-pub stretched_archive : Layers → EachRestretching IsStretchedArchive
-stretched_archive laws =
-    each_restretching (λ views kept text. IsArchiveKept views kept text)
-    (λ o h views channels ss text archive fit stretched.
-    archive_kept laws o h views channels ss text archive fit stretched)
+  pub stretched_archive : EachRestretching IsStretchedArchive
+  stretched_archive = each_restretching (λ views kept text. IsArchiveKept views kept text)
+      (λ o h views channels ss text archive fit stretched.
+      let kept : List Channel = kept_of channels ss in
+      let all = all_of o views kept text archive.whole.each fit stretched in
+      let written : List View = all.0 in
+      let each = each_made (IsOf views) IsView (λ c own is. is.each) kept written all.1.0 in
+      let apart = distinct_kept channels ss (distinct channels archive.verdicts.ascending) in
+      record {
+        written = written;
+        read = record {
+          joined = sym all.1.1 ∙ sym (append-nil (concat (bytes_in written)));
+          each = all_records written each;
+          no_further = none_further;
+        };
+        each = each;
+        others = λ key others. views_are key written ∙ none_among views key kept written all.1.0 others;
+        borders = in_records views written kept (each_keeps views kept [] written all.1.0 apart (none_yet kept));
+      })

@@ -1,6 +1,6 @@
 -- No sample of a stretch stands further than a quarter of its period from where its record has it.
 use Rattle.std.proofs.Common.{◌≡◌, ℕ, ◌+◌, ◌*◌, ◌^◌, ◌≤◌, List, [], ◌∷◌, ◌++◌, ℤ, pos, ◌+ℤ◌, ◌-ℤ◌, ◌*ℤ◌, unsigned_abs}
-use Rattle.std.proofs.Common.{arith, Some, refl, sym, ap, subst, ◌∙◌, append_assoc, append-nil}
+use Rattle.std.proofs.Common.{arith, Some, refl, ap, subst, ◌∙◌, append_assoc, append-nil}
 use Rattle.std.proofs.lemmas.Int.{ints}
 use Rattle.mseed_time.specs.Rate.{Ratio}
 use Rattle.mseed_record.specs.View.{View, start_of}
@@ -12,14 +12,10 @@ use Rattle.mseed_repack.proofs.Joining.{IsPackability, going, stands_first, stan
 
 -- each record of a stretch is on time
 pub stands_at : (rate : Ratio) (first : View) (rest before : List View) (b : View) (vs leading back : List View)
-    (v : View) → known_rate first ≡ Some rate → first ∷ rest ≡ before ++ b ∷ [] → IsPackability rate (start_of first)
-    before b
-    → AllGoOn (first ∷ rest) vs → b ∷ vs ≡ leading ++ v ∷ back → IsPackability rate (start_of first)
-    (before ++ leading) v
-stands_at rate first rest before b vs [] back v known e stands more at =
-    let same : b ≡ v = cc in
-    subst (λ (w : View). IsPackability rate (start_of first) (before ++ []) w) same
-    (subst (λ (us : List View). IsPackability rate (start_of first) us b) (sym (append-nil before)) stands)
+    (v : View) → known_rate first ≡ Some rate → first ∷ rest ≡ before ++ b ∷ []
+    → IsPackability rate (start_of first) before b → AllGoOn (first ∷ rest) vs → b ∷ vs ≡ leading ++ v ∷ back
+    → IsPackability rate (start_of first) (before ++ leading) v
+stands_at rate first rest before b vs [] back v known e stands more at = grind (arith, append-nil)
 stands_at rate first rest before b [] (w ∷ []) back v known e stands more at = cc
 stands_at rate first rest before b [] (w ∷ (u ∷ us)) back v known e stands more at = cc
 stands_at rate first rest before b (x ∷ vs) (w ∷ leading) back v known e stands more at =
@@ -28,8 +24,7 @@ stands_at rate first rest before b (x ∷ vs) (w ∷ leading) back v known e sta
     let next = going rate first rest x known more.0 in
     let later = stands_at rate first (rest ++ x ∷ []) (before ++ b ∷ []) x vs leading back v known
     (ap (λ (us : List View). us ++ x ∷ []) e) (stands_next rate next.0 first rest before b x e next.1) more.1 after in
-    let all : (before ++ b ∷ []) ++ leading ≡ before ++ w ∷ leading =
-    append_assoc before (b ∷ []) leading ∙ ap (λ (u : View). before ++ u ∷ leading) here in
+    let all = append_assoc before (b ∷ []) leading ∙ ap (λ (u : View). before ++ u ∷ leading) here in
     subst (λ (us : List View). IsPackability rate (start_of first) us v) all later
 
 -- what a sample's two instants differ by is what its record begins beside the clock
@@ -51,21 +46,18 @@ beside s t added n m rate =
     let num : ℕ = rate.num in
     let whole : ℤ = s *ℤ pos num -ℤ added *ℤ pos num in
     let clock : (s -ℤ added) *ℤ pos num ≡ whole = times_sub (s -ℤ added) s added num refl in
-    let way : (t -ℤ s +ℤ added) *ℤ pos num ≡ t *ℤ pos num -ℤ (s -ℤ added) *ℤ pos num =
-    times_sub (t -ℤ s +ℤ added) t (s -ℤ added) num (parted t s added) in
+    let way = times_sub (t -ℤ s +ℤ added) t (s -ℤ added) num (parted t s added) in
     let due : (n + m) * rate.den * 10 ^ 6 ≡ n * rate.den * 10 ^ 6 + m * rate.den * 10 ^ 6 = sum_is n m rate.den in
     let nothing : pos 0 *ℤ pos num ≡ pos 0 = omega (arith, ints) in
     ap (λ (z : ℤ). (t *ℤ pos num +ℤ pos (m * rate.den * 10 ^ 6) -ℤ z)
     -ℤ (s *ℤ pos num +ℤ pos ((n + m) * rate.den * 10 ^ 6) -ℤ added *ℤ pos num)) nothing
     ∙ ap (λ (z : ℤ). (t *ℤ pos num +ℤ pos (m * rate.den * 10 ^ 6) -ℤ pos 0) -ℤ z)
     (less_added (s *ℤ pos num) (added *ℤ pos num) ((s -ℤ added) *ℤ pos num) ((n + m) * rate.den * 10 ^ 6) clock)
-    ∙ moved ((t -ℤ s +ℤ added) *ℤ pos num) (t *ℤ pos num) ((s -ℤ added) *ℤ pos num) ((n + m) * rate.den * 10 ^ 6)
-    (n * rate.den * 10 ^ 6) (m * rate.den * 10 ^ 6) way due
+    ∙ moved _ _ _ _ _ _ way due
 
 near_by : (s t added : ℤ) (n m : ℕ) (rate : Ratio) → IsOnTime s n rate added t
     → 4 * unsigned_abs (instant_times t m rate (pos 0) -ℤ instant_times s (n + m) rate added) ≤ rate.den * 10 ^ 6
-near_by s t added n m rate h =
-    subst (λ (z : ℤ). 4 * unsigned_abs z ≤ rate.den * 10 ^ 6) (sym (beside s t added n m rate)) h
+near_by s t added n m rate h = grind (arith, beside)
 
 pub stay_near : (first : View) (rest : List View) (rate : Ratio) → IsStretch (first ∷ rest)
     → known_rate first ≡ Some rate → AllStayNear first rate (first ∷ rest)

@@ -1,5 +1,5 @@
 -- Records that a walk has gone over.
-use Rattle.std.proofs.Common.{◌≡◌, ℕ, ◌+◌, ◌≤◌, ℤ, List, [], ◌∷◌, ◌++◌, refl, sym, ap, subst, ◌∙◌, arith}
+use Rattle.std.proofs.Common.{◌≡◌, ℕ, ◌+◌, ◌≤◌, ℤ, List, [], ◌∷◌, ◌++◌, refl, sym, ap, ◌∙◌, arith}
 use Rattle.std.proofs.Common.{append_assoc, append-nil, drop, length, length-append, ◌-◌, ◌*◌, ◌<◌, Bool, true}
 use Rattle.std.specs.List.{AllByRecursion}
 use Rattle.std.proofs.lemmas.List.{drop-drop, drop_all}
@@ -10,7 +10,8 @@ use Rattle.mseed_repack.specs.private.Reading.{samples_of, step_count, steps_of}
 use Rattle.mseed_repack.specs.private.Supplying.{IsUnpackable}
 use Rattle.mseed_repack.specs.declared.outline.Nearness.{Nearness}
 use Rattle.mseed_repack.proofs.Outlines.{IsOutlined}
-use Rattle.mseed_repack.proofs.ReadChannels.{IsRead, samples_append, steps_append}
+use Rattle.mseed_repack.proofs.ReadChannels.{IsRead, steps_append}
+use Rattle.mseed_repack.proofs.Runs.{samples_append}
 
 -- something holds of the records before those that are left
 pub record IsGone (P : List View → Type 0) (all left : List View) : Type 0 where
@@ -29,31 +30,21 @@ gone_none h = record { gone = []; parts = refl; holds = h }
 
 pub next_gone : {P : List View → Type 0} {all left rest : List View} {v : View} → IsGone P all left → left ≡ v ∷ rest
     → IsNext P all v rest
-next_gone h e = record {
-  gone = h.gone;
-  parts = h.parts ∙ ap (λ (vs : List View). h.gone ++ vs) e;
-  holds = h.holds;
-}
+next_gone h h2 = grind (arith)
 
 -- one more record
 pub gone_more : {P Q : List View → Type 0} {all rest : List View} {v : View} → (h : IsNext P all v rest)
     → Q (h.gone ++ v ∷ []) → IsGone Q all rest
-gone_more {rest = rest} {v = v} h next = record {
-  gone = h.gone ++ v ∷ [];
-  parts = h.parts ∙ sym (append_assoc h.gone (v ∷ []) rest);
-  holds = next;
-}
+gone_more h h' = grind (arith, append_assoc)
 
 -- none is left
 pub gone_all : {P : List View → Type 0} {all left : List View} → IsGone P all left → left ≡ [] → P all
-gone_all {P = P} h e =
-    subst P (sym (h.parts ∙ ap (λ (vs : List View). h.gone ++ vs) e ∙ append-nil h.gone)) h.holds
+gone_all h h2 = grind (arith, append-nil)
 
 -- what holds of each holds of the next one
 pub next_of : {P : List View → Type 0} {all rest : List View} {v : View} (Q : View → Type 0) → IsNext P all v rest
     → AllByRecursion Q all → Q v
-next_of {rest = rest} {v = v} Q h every =
-    behind h.gone (subst (λ (vs : List View). AllByRecursion Q vs) h.parts every)
+next_of {rest = rest} {v = v} Q h every = behind h.gone (rw h.parts at every)
   where
     behind : (us : List View) → AllByRecursion Q (us ++ v ∷ rest) → Q v
     behind [] each = each.0
@@ -61,8 +52,7 @@ next_of {rest = rest} {v = v} Q h every =
 
 -- what adds up over records adds up over those before it, and it with those after
 so_far : {P : List View → Type 0} {all rest : List View} {v : View} (f : List View → ℕ)
-    → ((us vs : List View) → f (us ++ vs) ≡ f us + f vs) → (h : IsNext P all v rest)
-    → f all ≡ f h.gone + f (v ∷ rest)
+    → ((us vs : List View) → f (us ++ vs) ≡ f us + f vs) → (h : IsNext P all v rest) → f all ≡ f h.gone + f (v ∷ rest)
 so_far {rest = rest} {v = v} f adds h = ap f h.parts ∙ adds h.gone (v ∷ rest)
 
 -- those before it and itself have no more samples, and bear no more leap seconds, than all have
@@ -86,10 +76,7 @@ AreOutlinedSo m k nearness unpackable steps vs =
 -- there are no more records before one that is left than there are in all
 pub few_so_far : {P : List View → Type 0} {all rest : List View} {v : View} → (h : IsNext P all v rest)
     → length h.gone + 1 ≤ length all
-few_so_far {rest = rest} {v = v} h =
-    let size = length-append h.gone (v ∷ rest) in
-    let whole : length _ ≡ length (h.gone ++ v ∷ rest) = ap (λ (vs : List View). length vs) h.parts in
-    omega (arith, size, whole)
+few_so_far h = grind (arith, length-append)
 
 -- what is left after so many records
 pub dropped_more : (t : ℕ) (vs rest : List View) (v : View) → drop t vs ≡ v ∷ rest → rest ≡ drop (t + 1) vs

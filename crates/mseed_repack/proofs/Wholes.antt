@@ -1,5 +1,5 @@
 -- A whole archive that was read.
-use Rattle.std.proofs.Common.{◌≡◌, ℕ, ◌<◌, ◌^◌, List, [], ◌∷◌, length, map, refl, sym, ap, subst, arith}
+use Rattle.std.proofs.Common.{◌≡◌, ℕ, ◌<◌, ◌^◌, List, [], ◌∷◌, length, map, refl, ap, subst, arith}
 use Rattle.std.specs.List.{AllByRecursion}
 use Rattle.std.proofs.lemmas.List.{length-map}
 use Rattle.mseed_record.specs.View.{View, IsView}
@@ -35,18 +35,9 @@ all_of rs {bytes = bytes} archive each = record {
 -- where they are what was read, it is an archive
 pub whole_read : (rs : List RecordView) {h : BytesRead} {bytes : List ℕ} → IsReadOf bytes h
     → AreAllOf bytes (map view_of rs) → length rs < 2 ^ 40 → IsWhole h (map view_of rs)
-whole_read rs read all few = record {
-  archive = subst (λ (bs : List ℕ). IsArchive bs (bytes_in (map view_of rs)) []) (sym read.bytes) all.archive;
-  each = all.each;
-  few = omega (arith, few, length-map rs view_of);
-  ended = read.ended;
-  fine = read.fine;
-}
+whole_read rs h' h2 h3 = grind (arith, length-map)
 
 -- and with the verdicts on its records it is an archive of these channels
 pub archive_of : {h : BytesRead} {views : List View} {cs ds : List Channel} → IsWhole h views
     → AreVerdicts (added_from 0 views) ds → cs ≡ ds → IsArchiveOf h views cs
-archive_of {views = views} whole verdicts same = record {
-  whole = whole;
-  verdicts = subst (AreVerdicts (added_from 0 views)) (sym same) verdicts;
-}
+archive_of h' h2 h3 = grind (arith)

@@ -1,6 +1,7 @@
 -- The channels of what was written when an archive was packed anew.
+use Rattle.std.proofs.Common.{arith}
 use Rattle.std.proofs.Common.{◌≡◌, ◌≢◌, ◌↔◌, ◌⊎◌, inl, inr, ℕ, List, [], ◌∷◌, length, map, Bool, true, false, Option}
-use Rattle.std.proofs.Common.{ℤ, Some, None, IsTrue, IsSome, unwrap_or, refl, sym, ap, subst, ◌∙◌}
+use Rattle.std.proofs.Common.{Some, None, IsTrue, IsSome, unwrap_or, refl, sym, ap, subst, ◌∙◌}
 use Rattle.std.specs.List.{AllByRecursion}
 use Rattle.std.specs.Map.{lookup, keys_of}
 use Rattle.std.specs.Ordering.{nat_cmp}
@@ -10,16 +11,15 @@ use Rattle.std.proofs.lemmas.Bool.{false≢true}
 use Rattle.std.proofs.lemmas.Map.Entries.{lookup_head, lookup_tail}
 use Rattle.mseed_time.specs.declared.fault.TimeFault.{TimeFault}
 use Rattle.mseed_time.specs.declared.rate.Rate.{Rate}
-use Rattle.mseed_time.specs.Rate.{Ratio, rate_of}
+use Rattle.mseed_time.specs.Rate.{Ratio}
 use Rattle.mseed_time.specs.Ratios.{ratio_of}
 use Rattle.mseed_record.specs.Header.{factor_at, multiplier_at}
 use Rattle.mseed_record.specs.View.{View, start_of}
-use Rattle.mseed_audit.specs.declared.finding.Why.{Why}
 use Rattle.mseed_audit.specs.declared.verdict.Verdict.{Verdict}
 use Rattle.mseed_audit.specs.declared.verdict.Verdict.TheVariants.{Continuous}
 use Rattle.mseed_audit.specs.Channels.{Added, Placed, added_from, records_of, sample_count, same_key, views_in}
 use Rattle.mseed_audit.specs.Follows.{AllNeighbours, Follows, IsContinuous, IsSound}
-use Rattle.mseed_audit.specs.Judging.{known_rate, rate_in, rate_unless, time_fault_of, why_after, why_from, IsFound}
+use Rattle.mseed_audit.specs.Judging.{known_rate, rate_unless, why_after, why_from, IsFound}
 use Rattle.mseed_audit.specs.Judging.{after as by_after}
 use Rattle.mseed_audit.specs.Series.{Trace, IsSeriesOf}
 use Rattle.mseed_audit.specs.Verdict.{AreFindings, AreVerdicts, IsExactAt, IsVerdict, IsVerdictAt, none, one}
@@ -27,6 +27,7 @@ use Rattle.mseed_audit.specs.Verdict.{says_continuous}
 use Rattle.mseed_audit.proofs.Between.{between_none}
 use Rattle.mseed_audit.proofs.Maps.{same_is, same_itself}
 use Rattle.mseed_pack.specs.ReadBack.{Packed}
+use Rattle.mseed_repack.proofs.Joining.{rate_there}
 use Rattle.mseed_repack.specs.Repack.{Channel, records_in}
 
 -- Nothing is found of a continuous channel.
@@ -36,16 +37,10 @@ after_none : (b v : View) → (h : Follows b v) → why_after (Some b) v h.1.0 �
 after_none b v h = ap (λ (r : Option Ratio). why_from b r v h.1.0) h.1.1.before_is ∙ between_none b v h.0 h.1.0 h.1.1
 
 found_after : (b v : View) → IsSound v → Follows b v → IsFound (Some b) v None
-found_after b v sound h =
-    subst (λ (w : Option Why). IsFound (Some b) v w) (after_none b v h)
-    (by_after h.1.0 h.1.1.next_is sound.samples sound.whole)
-
-rate_of_first : (o : Option Ratio) → IsSome o → (r : Ratio) × (o ≡ Some r)
-rate_of_first None some = absurd (false≢true some)
-rate_of_first (Some r) some = (r, refl)
+found_after b v sound h = rw (sym (after_none b v h)) (by_after h.1.0 h.1.1.next_is sound.samples sound.whole)
 
 found_first : (v : View) → IsSound v → IsFound None v None
-found_first v sound = let rate = rate_of_first (known_rate v) sound.timed in
+found_first v sound = let rate = rate_there (known_rate v) sound.timed in
     by_after rate.0 rate.1 sound.samples sound.whole
 
 none_after : (b : View) (ps : List Placed) → AllByRecursion IsSound (views_in ps)
@@ -57,18 +52,11 @@ none_after b (p ∷ ps) each follow =
 -- a rate that is known is the one that the factor and the multiplier give
 known_as : (fault : Option TimeFault) (rate : Option Ratio) (other : Ratio) → IsSome (rate_unless fault rate)
     → rate_unless fault rate ≡ Some (unwrap_or rate other)
-known_as None None other some = absurd (false≢true some)
-known_as None (Some rate) other some = refl
-known_as (Some fault) rate other some = absurd (false≢true some)
+known_as fault rate other h = grind (arith, false≢true)
 
 pub rate_as : (v : View) (rate : Rate) → IsSound v → rate.factor ≡ factor_at v.order v.bytes
     → rate.multiplier ≡ multiplier_at v.order v.bytes → known_rate v ≡ Some (ratio_of rate)
-rate_as v rate sound factor multiplier =
-    let other : Ratio = record { num = 0; den = 0 } in
-    known_as (time_fault_of v) (rate_in v) other sound.timed
-    ∙ ap (λ (o : Option Ratio). Some (unwrap_or o other))
-    (ap (λ (f : ℤ). rate_of f (multiplier_at v.order v.bytes)) (sym factor)
-    ∙ ap (λ (m : ℤ). rate_of rate.factor m) (sym multiplier))
+rate_as v rate h h2 h3 = grind (arith, known_as)
 
 -- the verdict on a continuous channel, by its series
 verdict_of : (s : Trace) (ps : List Placed) → IsContinuous (views_in ps) → IsSeriesOf s (views_in ps)
@@ -146,8 +134,7 @@ verdict_at written key (p ∷ ps) each gone =
     added : List Added
     added = added_from 0 written
 
-    by : (b : Bool) → same_key key p.series.codes ≡ b
-        → ((Others key ps → records_of key added ≡ [])
+    by : (b : Bool) → same_key key p.series.codes ≡ b → ((Others key ps → records_of key added ≡ [])
         → IsVerdictAt (lookup (same_key key) (entries written ps)) (records_of key added))
         → IsVerdictAt (lookup (same_key key) (entry written p ∷ entries written ps)) (records_of key added)
     by true e later =
@@ -155,10 +142,8 @@ verdict_at written key (p ∷ ps) each gone =
         verdict_of p.series (records_of p.series.codes added) each.0.continuous each.0.series in
         subst (λ (o : Option Verdict). IsVerdictAt o (records_of key added))
         (sym (lookup_head (same_key key) (entry written p) (entries written ps) e))
-        (subst (λ (k : List ℕ). IsVerdict (entry written p).1 (records_of k added))
-        (sym (same_is key p.series.codes e)) own)
-    by false e later =
-        subst (λ (o : Option Verdict). IsVerdictAt o (records_of key added))
+        (rw (same_is key p.series.codes e) own)
+    by false e later = subst (λ (o : Option Verdict). IsVerdictAt o (records_of key added))
         (sym (lookup_tail (same_key key) (entry written p) (entries written ps) e))
         (later (λ rest. gone (other_key key p.series.codes e, rest)))
 
@@ -168,28 +153,13 @@ ExactVerdicts = (verdict : Verdict) (ps : List Placed) → IsVerdict verdict ps
     → (IsTrue (says_continuous verdict) ↔ IsContinuous (views_in ps))
 
 exact_at : ExactVerdicts → (o : Option Verdict) (ps : List Placed) → IsVerdictAt o ps → IsExactAt o ps
-exact_at exact None ps is = tt
-exact_at exact (Some verdict) ps is = exact verdict ps is
+exact_at h o ps h2 = grind (arith)
 
 pub are_verdicts : ExactVerdicts → (written : List View) (packed : List Packed)
     → IsStrictlySortedBy (slice_cmp nat_cmp) (codes_of packed) → AllByRecursion (IsWritten written) packed
     → HasNoOthers written packed
     → AreVerdicts (added_from 0 written) (entries written packed)
-are_verdicts exact written packed sorted each gone =
-    let at : (key : List ℕ) → IsVerdictAt (lookup (same_key key) (entries written packed))
-    (records_of key (added_from 0 written)) = λ key. verdict_at written key packed each (gone key) in
-    record {
-      ascending = subst (λ (ks : List (List ℕ)). IsStrictlySortedBy (slice_cmp nat_cmp) ks)
-          (sym (entry_keys written packed)) sorted;
-      each = at;
-      exact = λ key. exact_at exact (lookup (same_key key) (entries written packed))
-          (records_of key (added_from 0 written)) (at key);
-    }
-
-pub each_says : (written : List View) (packed : List Packed)
-    → AllByRecursion (λ (c : Channel). IsTrue (says_continuous c.1)) (entries written packed)
-each_says written [] = tt
-each_says written (p ∷ ps) = (refl, each_says written ps)
+are_verdicts h written packed h2 h3 h4 = grind (arith, verdict_at, entry_keys, exact_at)
 
 -- of a key, either a channel has it or none has
 pub either_key : (key : List ℕ) (packed : List Packed) (P : Packed → Type 0) → AllByRecursion P packed

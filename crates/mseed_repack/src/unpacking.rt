@@ -52,7 +52,7 @@ pub(crate) struct Unpacking<'r, 'a, R> {
 
 impl<'r, 'a, R: Walk<'a>> Supply for Unpacking<'r, 'a, R> {
     ghost supplies = { λ s samples given.
-        IsSupplied R.leads R.left s.rest s.last s.room.now s.at s.end samples given };
+        R.leads s.rest × IsSupplied (R.left s.rest) s.last s.room.now s.at s.end samples given };
 
     fn fill(&mut self, out: &mut [i32]) -> usize {
         let (at, end, last) = (self.at, self.end, self.last);

@@ -19,24 +19,28 @@ IsLast last [] [] = ⊤
 IsLast last [] (y ∷ behind) = y ≡ last
 IsLast last (x ∷ unpacked) behind = last_after x unpacked ≡ last
 
--- Of samples that are near one another so many differences were given. A walk leads to the records that weren't
--- unpacked yet; of those that were, a room holds the differences that weren't given.
-pub record IsSupplied {S : Type 0} (leads : S → Type 0) (left : S → List View) (rest : S) (last : ℤ) (room : List ℤ)
-    (at end : ℕ) (samples : List ℤ) (given : ℕ) : Type 0 where
-  pub led : leads rest
-  pub sound : AllByRecursion IsSound (left rest)
-  pub steim : AllByRecursion IsSteim (left rest)
-  pub fits : AllByRecursion (λ v. count_of v ≤ length room) (left rest)
-  pub unpacked : List ℤ
-  pub behind : List ℤ
+-- Of samples that are near one another some were unpacked; those behind them are the samples of sound records of Steim
+-- frames, each with so many at most.
+pub record AreCut (vs : List View) (most : ℕ) (last : ℤ) (samples unpacked behind : List ℤ) : Type 0 where
+  pub sound : AllByRecursion IsSound vs
+  pub steim : AllByRecursion IsSteim vs
+  pub fits : AllByRecursion (λ v. count_of v ≤ most) vs
   pub parts : samples ≡ unpacked ++ behind
-  pub joined : AreJoined (left rest) behind
+  pub joined : AreJoined vs behind
   pub near : AreNear samples
   pub last_is : IsLast last unpacked behind
-  pub order : at ≤ end
-  pub inside : end ≤ length room
-  pub given_is : given + (end - at) ≡ length unpacked
-  pub held : take (end - at) (drop at room) ≡ take (end - at) (drop given (differences samples))
+
+-- Of the samples so many differences were given. These records weren't unpacked yet; of those that were, a room holds
+-- the differences that weren't given.
+pub record IsSupplied (vs : List View) (last : ℤ) (room : List ℤ) (at end : ℕ) (samples : List ℤ) (given : ℕ) : Type 0
+  where
+    pub unpacked : List ℤ
+    pub behind : List ℤ
+    pub cut : AreCut vs (length room) last samples unpacked behind
+    pub order : at ≤ end
+    pub inside : end ≤ length room
+    pub given_is : given + (end - at) ≡ length unpacked
+    pub held : take (end - at) (drop at room) ≡ take (end - at) (drop given (differences samples))
 
 -- a record is of Steim frames, and has no more differences than there is room for
 abbrev pub IsUnpackable : View → Type 0

@@ -50,8 +50,7 @@ pack_channels-requires g c = record {
     c.archive-archive.ensures.channels,
     c.deref-4.ensures.value,
     c.deref-5.ensures.value,
-  )
-      c.in_ok-planned.ensures.ready;
+  ) c.in_ok-planned.ensures.ready;
 }
 
 pub returns-in-Ok : goal.returns-in-Ok
@@ -64,9 +63,8 @@ returns-in-Ok g c = λ read place whole at.
       fit = rw c.deref.ensures.value at c.in_default-refusal_unless.ensures.fit;
     } in
     rw (c.left_out_of-left.ensures, c.deref-2.ensures.value)
-    (packed place c.args.options.now c.args.leave c.args.without_time read (map view_of c.args.views.now)
-    c.as_slice-channels.result.now c.args.cutting _ (g.W.Sink.written c.args.output.now)
-    (g.W.Sink.written c.pack_channels.new.output) (g.E.Sink.written c.args.errors.now)
+    (packed _ _ _ _ _ _ _ c.args.cutting _ (g.W.Sink.written c.args.output.now) (g.W.Sink.written
+    c.pack_channels.new.output) (g.E.Sink.written c.args.errors.now)
     (g.E.Sink.written c.report_if_left.new.errors) (g.E.Sink.written c.report_left_out.new.errors) judged
     (rw (c.left_out_of-left.ensures, c.deref-2.ensures.value) at c.report_if_left.ensures)
     (rw c.deref-3.ensures.value at c.report_left_out.ensures)
@@ -82,9 +80,8 @@ returns g c = λ read place whole at.
       found = packabilities_of c.as_slice-channels.result.now _ _ c.in_ok-planned.ensures.ready;
       fit = rw c.deref.ensures.value at c.in_default-refusal_unless.ensures.fit;
     } in
-    packed_in_part place c.args.options.now c.args.leave c.args.without_time read (map view_of c.args.views.now)
-    c.as_slice-channels.result.now c.args.cutting _ (g.W.Sink.written c.args.output.now)
-    (g.W.Sink.written c.pack_channels.new.output) (g.E.Sink.written c.args.errors.now)
+    packed_in_part _ _ _ _ _ _ _ c.args.cutting _ (g.W.Sink.written c.args.output.now) (g.W.Sink.written
+    c.pack_channels.new.output) (g.E.Sink.written c.args.errors.now)
     (g.E.Sink.written c.report_if_left.new.errors) (g.E.Sink.written c.report_left_out.new.errors) judged
     (rw (c.left_out_of-left.ensures, c.deref-2.ensures.value) at c.report_if_left.ensures)
     (rw c.deref-3.ensures.value at c.report_left_out.ensures)

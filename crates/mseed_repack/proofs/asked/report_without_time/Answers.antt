@@ -11,7 +11,4 @@ returns-then-count-gt0 g c =
     let a1 = rw c.new-line.ensures at c.put.ensures.text in
     let a2 = rw a1 at c.put_count.ensures.text in
     let a3 = rw a2 at c.put-then-count-gt0.ensures.text in
-    some_lack c.args.count (g.E.Sink.written c.args.errors.now) (g.E.Sink.written c.report.new.errors)
-    c.if-count-gt0.true
-    (subst (λ line. WritesLine line (g.E.Sink.written c.args.errors.now) (g.E.Sink.written c.report.new.errors))
-    (c.as_slice.ensures ∙ a3) c.report.ensures)
+    some_lack _ _ _ c.if-count-gt0.true (rw (c.as_slice.ensures ∙ a3) at c.report.ensures)

@@ -9,28 +9,22 @@ use Rattle.mseed_repack.proofs.broken.first_broken.Goals as goal
 
 pub returns-in-Some-clause-some : goal.returns-in-Some-clause-some
 returns-in-Some-clause-some c =
-    broken_at (map view_of c.args.views.now) c.args.channels.now c.loop-channel.channel-index c.channel-item.result
-    false c.requires c.loop-channel-test.true c.channel-item.is (sym (ap says_continuous c.in-Some.ensures.some.1)) refl
-    c.loop-channel.invariant
+    broken_at _ _ _ _ _ c.requires c.loop-channel-test.true c.channel-item.is (sym (ap says_continuous
+    c.in-Some.ensures.some.1)) refl c.loop-channel.invariant
 
 pub returns-in-Some-clause-first : goal.returns-in-Some-clause-first
 returns-in-Some-clause-first c =
-    first_said (map view_of c.args.views.now) c.args.channels.now c.loop-channel.channel-index c.channel-item.result
-    c.in-Some.first c.in-Some.ensures.some.0 c.requires c.loop-channel-test.true c.channel-item.is
-    c.in-Some.ensures.some.1
+    first_said _ _ _ _ _ _ c.requires c.loop-channel-test.true c.channel-item.is c.in-Some.ensures.some.1
 
 pub returns-in-Some-clause-number : goal.returns-in-Some-clause-number
 returns-in-Some-clause-number c =
     first_number c.channel-item.result.0 (map view_of c.args.views.now) c.in-Some.first
-    (first_said (map view_of c.args.views.now) c.args.channels.now c.loop-channel.channel-index c.channel-item.result
-    c.in-Some.first c.in-Some.ensures.some.0 c.requires c.loop-channel-test.true c.channel-item.is
-    c.in-Some.ensures.some.1)
+    (first_said _ _ _ _ _ _ c.requires c.loop-channel-test.true c.channel-item.is c.in-Some.ensures.some.1)
 
 pub loop-channel-preserved : goal.loop-channel-preserved
 loop-channel-preserved c =
-    continuous_next (map view_of c.args.views.now) c.args.channels.now c.loop-channel.channel-index
-    c.channel-item.result true c.requires c.loop-channel-test.true c.channel-item.is
-    (sym c.in_default.ensures.none) refl c.loop-channel.invariant
+    continuous_next _ _ _ _ _ c.requires c.loop-channel-test.true c.channel-item.is (sym c.in_default.ensures.none) refl
+    c.loop-channel.invariant
 
 pub returns-clause-none : goal.returns-clause-none
 returns-clause-none c =

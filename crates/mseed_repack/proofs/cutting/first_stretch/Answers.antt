@@ -8,9 +8,8 @@ pub returns-then-not-goes_on-clause-first : goal.returns-then-not-goes_on-clause
 returns-then-not-goes_on-clause-first c =
     let l = c.loop-index in
     let vs = map view_of (take l.index c.args.views.now) in
-    cut_before c.args.views.now l.index c.index-views-index.result l.stretch c.loop-index-test.true
-    c.index-views-index.is l.invariant.passed
-    (λ go. false≢true (sym c.if-not-goes_on.true ∙ (c.goes_on.ensures vs l.invariant.passed.kept).1 go))
+    cut_before _ _ _ _ c.loop-index-test.true c.index-views-index.is l.invariant.passed (λ go. false≢true (sym
+    c.if-not-goes_on.true ∙ (c.goes_on.ensures vs l.invariant.passed.kept).1 go))
 
 pub loop-index-preserved : goal.loop-index-preserved
 loop-index-preserved c =
@@ -18,9 +17,8 @@ loop-index-preserved c =
     let vs = map view_of (take l.index c.args.views.now) in
     let more : l.index < length c.args.views.now = c.loop-index-test.true in
     record {
-      passed = passed_more c.args.views.now l.index c.index-views-index.result l.stretch c.with-stretch.result more
-          c.index-views-index.is l.invariant.passed
-          ((c.goes_on.ensures vs l.invariant.passed.kept).0 c.if-not-goes_on.false)
-          (c.with-stretch.ensures.stretch vs l.invariant.passed.kept) c.with-stretch.ensures.more;
+      passed = passed_more _ _ _ _ _ more c.index-views-index.is l.invariant.passed ((c.goes_on.ensures vs
+          l.invariant.passed.kept).0 c.if-not-goes_on.false) (c.with-stretch.ensures.stretch vs l.invariant.passed.kept)
+          c.with-stretch.ensures.more;
       inside = omega (arith, more);
     }

@@ -22,10 +22,8 @@ loop-index-preserved g c =
     let below = c.loop-index-test.true in
     let earlier = added_from 0 (map view_of (take n rs)) in
     let few : length c.bytes.result.now ≤ 2 ^ 20 =
-    subst (λ (bytes : List ℕ). length bytes ≤ 2 ^ 20) (sym c.bytes.ensures.value)
-    (few_bytes (view_of r) c.bytes.ensures.view) in (
-      audit_next rs n r offset c.loop-index.audit c.add_judged.new.self below c.index-views-index.is inv.2 inv.0
-          c.in-Ok.ensures.adds,
+    rw (sym c.bytes.ensures.value) at (few_bytes (view_of r) c.bytes.ensures.view) in (
+      audit_next _ _ _ _ _ _ below c.index-views-index.is inv.2 inv.0 c.in-Ok.ensures.adds,
       c.in-Ok.ensures.number ∙ ap (λ (k : ℕ). k + 1) inv.1,
       ap (λ (bytes : List ℕ). offset + length bytes) c.bytes.ensures.value
           ∙ end_next rs n r offset below c.index-views-index.is inv.2,

@@ -1,25 +1,23 @@
-use Rattle.mseed_repack.proofs.Bordered.{Layers, gap_written, overlap_written, written_on}
+use Rattle.mseed_repack.proofs.Bordered.{read_as}
 use Rattle.mseed_repack.proofs.StretchedArchive.{stretched_archive}
 use Rattle.mseed_repack.proofs.law.borders_are_kept.Goals as goal
 
-layers : goal.After-one_list_of_stretches → Layers
-layers c = record {
-  headers = c.header_reads_back.ensures;
-  spells = c.packed_spells.ensures.spelled;
-  single = c.one_reading.ensures;
-  once = c.one_input.ensures.views;
-  series = c.one_series.ensures.series;
-  cut = c.one_list_of_stretches.ensures.all;
-}
-
 pub returns-clause-continuous : goal.returns-clause-continuous
-returns-clause-continuous c = written_on (layers c)
+returns-clause-continuous c = λ o vs records views fits packed some close.
+    read_as c.header_reads_back.ensures c.packed_spells.ensures.spelled c.one_reading.ensures c.one_input.ensures.views
+    c.one_series.ensures.series o vs records _ views fits packed (λ ws keeps. keeps.continuous some close)
 
 pub returns-clause-gap : goal.returns-clause-gap
-returns-clause-gap c = gap_written (layers c)
+returns-clause-gap c = λ o vs records leading b v back views fits packed e gap.
+    read_as c.header_reads_back.ensures c.packed_spells.ensures.spelled c.one_reading.ensures c.one_input.ensures.views
+    c.one_series.ensures.series o vs records _ views fits packed (λ ws keeps. keeps.gap leading b v back e gap)
 
 pub returns-clause-overlap : goal.returns-clause-overlap
-returns-clause-overlap c = overlap_written (layers c)
+returns-clause-overlap c = λ o vs records leading b v back views fits packed e overlap.
+    read_as c.header_reads_back.ensures c.packed_spells.ensures.spelled c.one_reading.ensures c.one_input.ensures.views
+    c.one_series.ensures.series o vs records _ views fits packed (λ ws keeps. keeps.overlap leading b v back e overlap)
 
 pub returns-clause-archive : goal.returns-clause-archive
-returns-clause-archive c = stretched_archive (layers c)
+returns-clause-archive c =
+    stretched_archive c.header_reads_back.ensures c.packed_spells.ensures.spelled c.one_reading.ensures
+    c.one_input.ensures.views c.one_series.ensures.series

@@ -10,16 +10,13 @@ use Rattle.mseed_repack.proofs.links.link_record.Goals as goal
 pub returns-then-samples-eq0 : goal.returns-then-samples-eq0
 returns-then-samples-eq0 c =
     let none : count_of (view_of c.args.view.now) ≡ 0 = omega (arith, c.samples.ensures, c.if-samples-eq0.true) in
-    λ rs lt is h. links_silent rs c.args.channels.now c.args.index c.args.firsts.now c.args.nexts.now c.args.view.now
-    none lt is h
+    λ rs lt is h. links_silent _ _ _ _ _ _ none lt is h
 
 pub returns-in-Some : goal.returns-in-Some
 returns-in-Some c =
     let found : (d : Channel)
     → same_key (get_or c.args.channels.now c.in-Some.number d).0 (key_at (view_of c.args.view.now).bytes) ≡ true =
-    λ d.
-    subst (λ (key : List ℕ). same_key (get_or c.args.channels.now c.in-Some.number d).0 key ≡ true) c.codes.ensures
-    (c.in-Some.ensures.some d) in
+    λ d. rw c.codes.ensures at (c.in-Some.ensures.some d) in
     let some : 0 < count_of (view_of c.args.view.now) =
     omega (arith, c.samples.ensures, c.if-samples-eq0.false) in
     λ rs lt is h.
@@ -29,8 +26,5 @@ returns-in-Some c =
 pub returns-in_default : goal.returns-in_default
 returns-in_default c =
     let none : All (λ (d : Channel). same_key d.0 (key_at (view_of c.args.view.now).bytes) ≡ false)
-    c.args.channels.now =
-    subst (λ (key : List ℕ). All (λ (d : Channel). same_key d.0 key ≡ false) c.args.channels.now) c.codes.ensures
-    c.in_default.ensures.none in
-    λ rs lt is h. links_foreign rs c.args.channels.now c.args.index c.args.firsts.now c.args.nexts.now c.args.view.now
-    none lt is h
+    c.args.channels.now = rw c.codes.ensures at c.in_default.ensures.none in
+    λ rs lt is h. links_foreign _ _ _ _ _ _ none lt is h

@@ -5,8 +5,7 @@ use Rattle.mseed_repack.proofs.links.link_records.Goals as goal
 
 pub loop-turn-init : goal.loop-turn-init
 loop-turn-init c = record {
-  links = links_none c.args.views.now c.args.channels.now c.args.firsts.now c.args.nexts.now
-      (length c.args.views.now - 0) (omega arith) c.requires.firsts c.requires.none;
+  links = links_none _ _ _ _ _ (omega arith) c.requires.firsts c.requires.none;
   firsts = c.requires.firsts;
   nexts = c.requires.nexts;
 }
@@ -19,13 +18,9 @@ loop-turn-preserved c =
     let before : n - turn ≡ index + 1 = omega (arith, c.loop-turn-test.true) in
     let after : index ≡ n - (turn + 1) = omega (arith, c.loop-turn-test.true) in
     let inside : index < n = omega (arith, c.loop-turn-test.true) in
-    let so_far = subst (λ (m : ℕ). AreLinksFrom m c.args.views.now c.args.channels.now c.loop-turn.firsts
-    c.loop-turn.nexts) before c.loop-turn.invariant.links in
+    let so_far = rw before at c.loop-turn.invariant.links in
     record {
-      links =
-          subst (λ (m : ℕ). AreLinksFrom m c.args.views.now c.args.channels.now c.link_record.new.firsts
-          c.link_record.new.nexts) after
-          (c.link_record.ensures c.args.views.now inside c.index-views-index.is so_far);
+      links = rw after at (c.link_record.ensures c.args.views.now inside c.index-views-index.is so_far);
       firsts = omega (arith, c.link_record.auto.firsts, c.loop-turn.invariant.firsts);
       nexts = omega (arith, c.link_record.auto.nexts, c.loop-turn.invariant.nexts);
     }
@@ -33,5 +28,4 @@ loop-turn-preserved c =
 pub returns : goal.returns
 returns c =
     let none : length c.args.views.now - c.loop-turn.turn ≡ 0 = omega (arith, c.loop-turn-test.false) in
-    subst (λ (m : ℕ). AreLinksFrom m c.args.views.now c.args.channels.now c.loop-turn.firsts c.loop-turn.nexts) none
-    c.loop-turn.invariant.links
+    rw none at c.loop-turn.invariant.links

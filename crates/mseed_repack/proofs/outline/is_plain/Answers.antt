@@ -20,8 +20,7 @@ returns c =
       unpackable = c.is_unpackable.ensures.0 c.if-not-is_unpackable.false;
       bounded = λ s whole.
           let found = c.in-Some.ensures.ends s whole in
-          bounded_by ends s found.0 (near_by s found.1)
-          (subst (λ (z : ℤ). IsWithin 29 z) first (c.is_short.ensures.0 c.if-not-is_short.false))
-          (subst (λ (z : ℤ). IsWithin 29 z) last (c.is_short-2.ensures.0 short));
+          bounded_by _ _ found.0 (near_by s found.1) (subst (λ (z : ℤ). IsWithin 29 z) first (c.is_short.ensures.0
+          c.if-not-is_short.false)) (subst (λ (z : ℤ). IsWithin 29 z) last (c.is_short-2.ensures.0 short));
     } in
     OnTrue_from c.is_short-2.result (IsPlain (view_of c.args.view.now)) plain

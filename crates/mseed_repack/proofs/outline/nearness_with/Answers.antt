@@ -20,8 +20,7 @@ returns-in-Empty c = λ xs s known whole.
     let ends = c.in-Some.ends in
     let found = c.in-Some.ensures.ends s whole in
     as_kept ends.last (xs ++ s) (to_z-of_z w32 _ (search rules))
-    (known_first ends xs s (subst (λ (n : Nearness). IsKnown n xs) c.in-Empty.is known) found.0
-    (near_by s found.1))
+    (known_first _ _ _ (subst (λ (n : Nearness). IsKnown n xs) c.in-Empty.is known) found.0 (near_by s found.1))
 
 pub returns-then-is_near : goal.returns-then-is_near
 returns-then-is_near c = λ xs s known whole.
@@ -30,8 +29,6 @@ returns-then-is_near c = λ xs s known whole.
     let before = subst (λ (n : Nearness). IsKnown n xs) c.in-Near.is known in
     let first : to_z w32 (of_z w32 ends.first) ≡ ends.first = to_z-of_z w32 _ (search rules) in
     let last : to_z w32 (of_z w32 c.in-Near.last) ≡ c.in-Near.last = to_z-of_z w32 _ (search rules) in
-    let step : IsWithin 30 (ends.first -ℤ c.in-Near.last) =
-    subst (λ (z : ℤ). IsWithin 30 (z -ℤ c.in-Near.last)) first
-    (subst (λ (z : ℤ). IsWithin 30 (to_z w32 (of_z w32 ends.first) -ℤ z)) last (c.if-is_near.ensures.0 refl)) in
+    let step : IsWithin 30 (ends.first -ℤ c.in-Near.last) = rw first at (rw last at (c.if-is_near.ensures.0 refl)) in
     as_kept ends.last (xs ++ s) (to_z-of_z w32 _ (search rules))
     (known_more ends c.in-Near.last xs s before found.0 (near_by s found.1) step)

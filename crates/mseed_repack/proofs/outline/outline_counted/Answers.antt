@@ -12,6 +12,5 @@ returns-then-is_empty-clause-outline g c = λ key.
     let ss = c.args.steps.now in
     let empty : length ss ≡ 0 = eqb-true (length ss) 0 (sym c.is_empty.ensures ∙ c.if-is_empty.true) in
     let none : steps_of vs ≡ 0 = omega (arith, empty, c.requires.read.steps_fit) in
-    subst (λ (n : ℕ). IsOutline key vs n 0 Unknown ss) (sym c.requires.count)
-    (outline_is key vs (samples_of vs) 0 Unknown ss
+    rw (sym c.requires.count) at (outline_is key vs (samples_of vs) 0 Unknown ss
     (outlined_on key [] vs ss (outlined_none key Unknown ss tt) c.requires.read.walks.sound none))

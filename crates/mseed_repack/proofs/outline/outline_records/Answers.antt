@@ -43,9 +43,8 @@ loop-view-preserved g c =
       gone_more {Q = AreOutlinedSo o.samples o.steps o.nearness o.unpackable c.outline_record-outline.new.steps} h (
         omega (arith, most, size, e.most),
         λ key.
-            outlined_more key h.gone (view_of c.in-Some.view) l.outline.samples l.outline.steps o.samples o.steps
-            l.outline.nearness o.nearness sound.samples l.steps c.outline_record-outline.new.steps (h.holds.1 key)
-            sound.whole e.samples e.steps e.steps_count e.nearness,
+            outlined_more _ _ _ _ _ _ _ _ _ _ _ _ (h.holds.1 key) sound.whole e.samples e.steps e.steps_count
+            e.nearness,
         λ so.
             All-push IsUnpackable h.gone (view_of c.in-Some.view) (h.holds.2 (e.unpackable so).0) (e.unpackable so).1,
       ),
@@ -55,8 +54,7 @@ pub returns-clause-outline : goal.returns-clause-outline
 returns-clause-outline g c =
     let l = c.loop-view in
     let whole = gone_all l.invariant.1 c.in_default-next.ensures.next.0 in
-    λ key. outline_is key (g.R.Walk.left c.args.records) l.outline.samples l.outline.steps l.outline.nearness l.steps
-    (whole.1 key)
+    λ key. outline_is _ _ _ _ _ _ (whole.1 key)
 
 pub returns-clause-samples : goal.returns-clause-samples
 returns-clause-samples g c =

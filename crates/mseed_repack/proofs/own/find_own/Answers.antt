@@ -52,13 +52,11 @@ loop-index-preserved c =
     c.bytes-in-loop-index.ensures.value in
     let sound : AllByRecursion IsSound (channel_in key (map view_of (take (n + 1) rs)))
     = elim c.if-is_of_channel.branch [
-      | then-is_of_channel+in_default w ↦ sound_next key rs n r c.is_of_channel.result c.loop-index-test.true
-          c.index-views-index.is
+      | then-is_of_channel+in_default w ↦ sound_next _ _ _ _ _ c.loop-index-test.true c.index-views-index.is
+          c.is_of_channel.ensures c.loop-index.invariant.0 (λ _. sound_found c.one_reading.ensures _ (view_of r) _
+          w.in_default.ensures refl)
+      | else-is_of_channel w ↦ sound_next _ _ _ _ _ c.loop-index-test.true c.index-views-index.is
           c.is_of_channel.ensures c.loop-index.invariant.0
-          (λ _. sound_found c.one_reading.ensures _ (view_of r) _ w.in_default.ensures refl)
-      | else-is_of_channel w ↦ sound_next key rs n r c.is_of_channel.result c.loop-index-test.true
-          c.index-views-index.is
-          c.is_of_channel.ensures c.loop-index.invariant.0 (λ yes. absurd (false≢true (sym w.if-is_of_channel.false ∙
-          yes)))
+          (λ yes. absurd (false≢true (sym w.if-is_of_channel.false ∙ yes)))
     ] in
     (sound, next.0, next.1)

@@ -8,9 +8,7 @@ use Rattle.mseed_repack.proofs.packability.plan_channel.Goals as goal
 
 pub returns-then-not-are_all_sound-clause-ready : goal.returns-then-not-are_all_sound-clause-ready
 returns-then-not-are_all_sound-clause-ready g c =
-    broken_as c.args.cutting c.args.options.now (length c.args.samples.now.items) (length c.args.steps.now)
-    c.args.plans.now.items (g.R.Walk.left c.args.records)
-    (λ sound. false≢true (sym c.if-not-are_all_sound.true ∙ c.are_all_sound.ensures.1 sound))
+    broken_as _ _ _ _ _ _ (λ sound. false≢true (sym c.if-not-are_all_sound.true ∙ c.are_all_sound.ensures.1 sound))
 
 pub fit_stretches-requires : goal.fit_stretches-requires
 fit_stretches-requires g c κs = (
@@ -67,8 +65,6 @@ returns-in-Misfits-clause-ready g c =
     let o = c.args.options.now in
     let vs = g.R.Walk.left c.args.records in
     let room : ℕ = length c.fit_series.new.samples.items in
-    let misfits = subst (λ (f : Fitting). IsFitting o room vs f) c.in-Misfits.is
-    c.in_ok-way-in-Whole.ensures.fitting in
+    let misfits = rw c.in-Misfits.is at c.in_ok-way-in-Whole.ensures.fitting in
     rw c.in-Whole.is
-    (whole_misfits o room (length c.fit_series.new.steps) c.args.plans.now.items vs c.in-Misfits.fault
-    (c.are_all_sound.ensures.0 c.if-not-are_all_sound.false) misfits)
+    (whole_misfits _ _ _ _ _ _ (c.are_all_sound.ensures.0 c.if-not-are_all_sound.false) misfits)

@@ -1,5 +1,5 @@
 use Rattle.std.proofs.Common.{◌≡◌, ◌+◌, ◌++◌, ◌∙◌, List, [], ◌∷◌, ap, arith, length, map, refl, subst, sym, take}
-use Rattle.std.proofs.Common.{⊎_elim, ℕ}
+use Rattle.std.proofs.Common.{⊎_elim}
 use Rattle.std.specs.List.{AllByRecursion}
 use Rattle.std.proofs.lemmas.List.{map-append, take_all, take_more}
 use Rattle.std.proofs.lemmas.Option.{IfSome_then}
@@ -10,10 +10,9 @@ use Rattle.mseed_audit.specs.Verdict.{says_continuous}
 use Rattle.mseed_audit.proofs.Following.{views_are}
 use Rattle.mseed_repack.specs.Repack.{Channel, records_in}
 use Rattle.mseed_repack.specs.private.Archives.{records_on}
-use Rattle.mseed_repack.specs.private.Planning.{AreReady, IsReady, ready_none}
+use Rattle.mseed_repack.specs.private.Planning.{ready_none}
 use Rattle.mseed_repack.specs.private.Supplying.{IsPlain}
 use Rattle.mseed_repack.specs.declared.plan.Plan.{Plan}
-use Rattle.mseed_repack.specs.declared.packability.Packability.{Packability}
 use Rattle.mseed_repack.proofs.Archives.{few_trail, of_channel, some_on}
 use Rattle.mseed_repack.proofs.Planning.{ready_more}
 use Rattle.mseed_repack.proofs.Repacks.{count_said}
@@ -36,12 +35,9 @@ plan_channel-requires g c κs =
         (
           few_trail a l.number t c.channel_walk.ensures.channel_walk c.requires.places.audited,
           (
-            λ whole. some_on a l.number t c.loop-number-test.true c.channel_walk.ensures.channel_walk
-                (c.requires.whole whole),
+            λ whole. some_on _ _ _ c.loop-number-test.true c.channel_walk.ensures.channel_walk (c.requires.whole whole),
             (
-              λ known. ⊎_elim
-                  (λ sound. subst (AllByRecursion IsSound) (sym own)
-                  (alone_in IsSound d.0 views (c.requires.sound sound)))
+              λ known. ⊎_elim (λ sound. rw (sym own) at (alone_in IsSound d.0 views (c.requires.sound sound)))
                   (λ continuous. sound_by views a.channels.now l.number d (says_continuous d.1) (records_on t)
                   c.requires.places.audited.verdicts c.loop-number-test.true c.channel-item.is refl own continuous)
                   (c.is_known_sound-sound.ensures known),
@@ -69,42 +65,21 @@ loop-number-init g c = rw (c.new-packabilities.ensures.items, c.requires.none) r
 
 pub loop-number-preserved : goal.loop-number-preserved
 loop-number-preserved g c =
-    let cutting = c.args.cutting in
-    let o = c.args.options.now in
     let l = c.loop-number in
     let views : List View = map view_of c.args.archive.now.views.now in
     let cs : List Channel = c.args.archive.now.channels.now in
     let d : Channel = c.channel-item.result in
-    let room : ℕ = length c.plan_channel.new.samples.items in
-    let places : ℕ = length c.plan_channel.new.steps in
     let before : List (List Plan) = map (λ own. own.items) l.plans.items in
     let own : List Plan = c.plan_channel.new.plans.items in
-    let found : List Packability = l.packabilities.items ++ c.in_ok-packability.packability ∷ [] in
-    let all = ap (λ ls. map (λ own. own.items) ls) c.in_ok-push-2.ensures.items in
-    let parts = map-append (λ own. own.items) l.plans.items (_ ∷ []) in
-    let same : records_on c.channel_walk.result ≡ records_in views d.0 =
-    of_channel c.args.archive.now l.number c.channel_walk.result d c.loop-number-test.true c.channel-item.is
-    c.channel_walk.ensures.channel_walk
-    ∙ sym (views_are d.0 views) in
-    let next : take l.number cs ++ d ∷ [] ≡ take (l.number + 1) cs =
-    ap (λ (e : Channel). take l.number cs ++ e ∷ []) c.channel-item.is
-    ∙ sym (take_more cs l.number d c.loop-number-test.true) in
-    subst (λ (ls : List (List Plan)). AreReady cutting o room places views (take (l.number + 1) cs)
-    c.push.new.self.items ls)
-    (sym (all ∙ parts))
-    (subst (λ (ss : List Packability). AreReady cutting o room places views (take (l.number + 1) cs) ss
-    (before ++ own ∷ []))
-    (sym c.in_ok-push.ensures.items)
-    (subst (λ (ds : List Channel). AreReady cutting o room places views ds found (before ++ own ∷ [])) next
-    (ready_more cutting o (length l.samples.items) room (length l.steps) places views (take l.number cs)
-    l.packabilities.items
-    before d c.in_ok-packability.packability own c.in_ok-packability.ensures.grown (omega (
-      arith,
-      c.plan_channel.auto.steps,
-    ))
-    l.invariant
-    (subst (λ (vs : List View). IsReady cutting o room places vs c.in_ok-packability.packability own) same
-    c.in_ok-packability.ensures.ready))))
+    let same = of_channel c.args.archive.now l.number c.channel_walk.result d c.loop-number-test.true c.channel-item.is
+    c.channel_walk.ensures.channel_walk ∙ sym (views_are d.0 views) in
+    let next = take_more cs l.number d c.loop-number-test.true ∙ ap (λ (e : Channel). take l.number cs ++ e ∷ []) (sym
+    c.channel-item.is) in
+    let all = ap (λ ls. map (λ own. own.items) ls) c.in_ok-push-2.ensures.items
+    ∙ map-append (λ own. own.items) l.plans.items (_ ∷ []) in
+    rw (all, c.in_ok-push.ensures.items, next)
+    (ready_more _ _ _ _ _ _ _ c.in_ok-packability.ensures.grown (rw c.plan_channel.auto.steps l.invariant) (rw same at
+    c.in_ok-packability.ensures.ready))
 
 pub returns : goal.returns
 returns g c =

@@ -13,8 +13,7 @@ none_left = record { records = 0; way = Frames 0 }
 pub loop-plan-init : goal.loop-plan-init
 loop-plan-init g c = (
   c.requires.led,
-  packed_none c.args.options.now (length c.args.samples.now) (length c.args.steps.now) c.args.plans.now
-      (g.R.Walk.left c.args.records) (g.W.Sink.written c.args.output.now) c.args.options.now.numbered c.requires.ready,
+  packed_none _ _ _ _ _ _ c.args.options.now.numbered c.requires.ready,
 )
 
 pub pack_series-requires : goal.pack_series-requires

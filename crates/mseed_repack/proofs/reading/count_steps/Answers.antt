@@ -4,8 +4,7 @@ use Rattle.mseed_repack.proofs.reading.count_steps.Goals as goal
 
 pub loop-view-preserved : goal.loop-view-preserved
 loop-view-preserved c =
-    let next = steps_next c.args.views.now c.loop-view.view-index c.view-item.result c.loop-view-test.true
-    c.view-item.is in
+    let next = steps_next _ _ _ c.loop-view-test.true c.view-item.is in
     let inv = c.loop-view.invariant in (
       omega (arith, next, inv.0, c.step_count-count.ensures.value),
       omega (arith, inv.1, c.step_count-count.ensures.bound),

@@ -34,9 +34,8 @@ loop-view-preserved g c =
     let new = c.read_record-read.new in (
       c.in-Some.ensures.leads,
       gone_more {Q = AreReadSo o.samples o.steps new.samples new.steps} h (λ key.
-          read_more key h.gone (view_of c.in-Some.view) l.read.samples l.read.steps o.samples o.steps l.samples
-          new.samples e.samples.0 l.steps new.steps inside (h.holds key) e.samples.1.0 e.samples.1.1 e.steps
-          e.samples_count e.steps_count),
+          read_more _ _ _ _ _ _ _ _ _ _ _ _ inside (h.holds key) e.samples.1.0 e.samples.1.1 e.steps e.samples_count
+          e.steps_count),
     )
 
 pub returns-clause-read : goal.returns-clause-read

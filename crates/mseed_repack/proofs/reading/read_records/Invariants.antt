@@ -3,8 +3,7 @@ use Rattle.mseed_repack.proofs.Walks.{AreReadSo, IsGone}
 use Rattle.mseed_repack.proofs.reading.read_records.Given as goal
 
 abbrev pub invariant-loop-view : goal.invariant-loop-view
-invariant-loop-view g l =
-    g.R.Walk.leads l.rest
+invariant-loop-view g l = g.R.Walk.leads l.rest
     × IsGone (AreReadSo l.read.samples l.read.steps l.samples l.steps) (g.R.Walk.left l.fn.records)
     (g.R.Walk.left l.rest)
 

@@ -17,10 +17,8 @@ first_own-first-requires g c =
     let inside : c.in-Some.number < length c.args.archive.now.channels.now =
     omega (arith, c.in-Some.ensures.inside, c.requires.each) in
     record {
-      few = subst (λ (rs : List RecordView). length rs ≤ 2 ^ 40) (sym c.channel_walk.ensures.views)
-          c.requires.audited.few;
-      all = all_on c.args.archive.now c.in-Some.number c.channel_walk.result c.channel_walk.ensures.channel_walk
-          c.channel_walk.ensures.views;
+      few = rw (sym c.channel_walk.ensures.views) at c.requires.audited.few;
+      all = all_on _ _ _ c.channel_walk.ensures.channel_walk c.channel_walk.ensures.views;
       broken = unsound_on c.args.archive.now c.args.packabilities.now c.in-Some.number c.channel_walk.result
           c.channel_walk.ensures.channel_walk c.requires.unsound inside c.requires.each c.in-Some.ensures.some;
     }
@@ -54,6 +52,5 @@ returns-in-Some-first_misfit-clause-some g c = λ cutting o ps _ all.
     found.ensures.inside c.requires.each at.is found.ensures.some c.in_default.ensures.none found.ensures.before all)
 
 pub returns-in-None-clause-fit : goal.returns-in-None-clause-fit
-returns-in-None-clause-fit g c = λ _.
-    recursion_from_All IsFit c.args.packabilities.now
+returns-in-None-clause-fit g c = λ _. recursion_from_All IsFit c.args.packabilities.now
     (all_fit c.args.packabilities.now c.in_default.ensures.none c.in-None.ensures.none)

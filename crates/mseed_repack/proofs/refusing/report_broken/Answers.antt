@@ -5,5 +5,4 @@ use Rattle.mseed_repack.proofs.refusing.report_broken.Goals as goal
 pub returns : goal.returns
 returns g c =
     let both = rw c.put_broken.ensures.text at c.put_finding.ensures in
-    subst (λ line. WritesLine line (g.E.Sink.written c.args.errors.now) (g.E.Sink.written c.report.new.errors))
-    (c.as_slice.ensures ∙ both) c.report.ensures
+    rw (c.as_slice.ensures ∙ both) at c.report.ensures

@@ -13,8 +13,7 @@ loop-number-preserved g c =
     let packability = c.index-packabilities-number.result in
     let old = g.E.Sink.written c.loop-number.errors in
     let new = g.E.Sink.written c.report_packability.new.errors in
-    let reported = subst (λ (s : Packability). (lines : List (List ℕ)) × (IsReportOf c.args.encoding channel.0 s lines
-    × ReportsEach lines old new)) c.index-packabilities-number.is c.report_packability.ensures in
+    let reported = rw c.index-packabilities-number.is at c.report_packability.ensures in
     tells_next c.args.encoding c.args.channels.now c.args.packabilities.now c.loop-number.number channel packability
     (g.E.Sink.written c.args.errors.now) old new c.loop-number-test.true c.requires c.index-channels-number.is
     c.loop-number.invariant reported

@@ -5,5 +5,4 @@ use Rattle.mseed_repack.proofs.refusing.report_misfit.Goals as goal
 pub returns : goal.returns
 returns g c =
     let both = rw c.put_misfit.ensures.text at c.put_misfit_more.ensures in
-    subst (λ line. WritesLine line (g.E.Sink.written c.args.errors.now) (g.E.Sink.written c.report.new.errors))
-    (c.as_slice.ensures ∙ both) c.report.ensures
+    rw (c.as_slice.ensures ∙ both) at c.report.ensures

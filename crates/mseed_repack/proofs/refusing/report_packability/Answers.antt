@@ -10,13 +10,11 @@ returns-in-Fit g c = rw c.in-Fit.is ([], (refl, silent (g.E.Sink.written c.args.
 pub returns-in-Broken : goal.returns-in-Broken
 returns-in-Broken g c =
     let line = broken_line c.args.channel.now in
-    let reported = tells_one line (g.E.Sink.written c.args.errors.now)
-    (g.E.Sink.written c.report_left_broken.new.errors) c.report_left_broken.ensures in
+    let reported = tells_one _ _ _ c.report_left_broken.ensures in
     rw c.in-Broken.is (line ∷ [], (refl, reported))
 
 pub returns-in-Misfit : goal.returns-in-Misfit
 returns-in-Misfit g c =
     let line = misfit_text c.args.encoding c.args.channel.now (Some c.in-Misfit.stretch) c.in-Misfit.fault in
-    let reported = tells_one line (g.E.Sink.written c.args.errors.now) (g.E.Sink.written c.report_misfit.new.errors)
-    c.report_misfit.ensures in
+    let reported = tells_one _ _ _ c.report_misfit.ensures in
     rw c.in-Misfit.is (line ∷ [], (refl, reported))

@@ -3,5 +3,4 @@ use Rattle.mseed_repack.proofs.restretching.repack_stretches.Goals as goal
 
 pub returns-clause-repacked : goal.returns-clause-repacked
 returns-clause-repacked g c =
-    all_restretched c.args.options.now c.args.leave c.repack_selected_stretches.result _ _ _ _ _
-    c.repack_selected_stretches.ensures.repacked
+    all_restretched _ _ _ _ _ _ _ _ c.repack_selected_stretches.ensures.repacked

@@ -12,9 +12,7 @@ begin-requires g c =
     each.0.timed
 
 pub returns : goal.returns
-returns g c =
-    begun c.begin.result (g.R.Walk.left c.args.records) (g.R.Walk.left c.next.new.self)
-    (view_of c.in-Some.first) c.in-Some.ensures.next c.begin.ensures.stretch
+returns g c = begun _ _ _ _ c.in-Some.ensures.next c.begin.ensures.stretch
 
 pub unreachable-requires : goal.unreachable-requires
 unreachable-requires g c = c.requires.some c.in-None.ensures.next.0

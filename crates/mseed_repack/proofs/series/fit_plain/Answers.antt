@@ -32,6 +32,5 @@ returns-clause-misfits g c =
     let head = c.head_of-head.result in
     let h = c.outline_counted-outline.ensures.outline head.codes in
     IfErr-weaker c.fit_head.result _ _ (λ fault is.
-    series_misfits c.args.options.now (g.R.Walk.left c.args.records) (headed head h.samples) fault
-    (c.head_of-head.ensures.series h.samples h.are)
-    (is h.samples c.args.options.now (sym (c.head_of-head.ensures.count ∙ h.count_is)))) c.fit_head.ensures.fault
+    series_misfits _ _ _ _ (c.head_of-head.ensures.series h.samples h.are) (is h.samples c.args.options.now (sym
+    (c.head_of-head.ensures.count ∙ h.count_is)))) c.fit_head.ensures.fault

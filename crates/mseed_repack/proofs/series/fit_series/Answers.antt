@@ -34,9 +34,8 @@ pub returns-in-Err-fit_head-clause-fitting : goal.returns-in-Err-fit_head-clause
 returns-in-Err-fit_head-clause-fitting g c =
     let head = c.head_of-head.result in
     let h = c.outline_records-outline.ensures.outline head.codes in
-    series_misfits c.args.options.now (g.R.Walk.left c.args.records) (headed head h.samples) c.in-Err-fit_head.fault
-    (c.head_of-head.ensures.series h.samples h.are)
-    (c.in-Err-fit_head.ensures.fault h.samples c.args.options.now (sym (c.head_of-head.ensures.count ∙ h.count_is)))
+    series_misfits _ _ _ _ (c.head_of-head.ensures.series h.samples h.are) (c.in-Err-fit_head.ensures.fault h.samples
+    c.args.options.now (sym (c.head_of-head.ensures.count ∙ h.count_is)))
 
 pub returns-in-Some-Frames-clause-fitting : goal.returns-in-Some-Frames-clause-fitting
 returns-in-Some-Frames-clause-fitting g c =
@@ -44,9 +43,7 @@ returns-in-Some-Frames-clause-fitting g c =
     let encoding = c.args.options.now.encoding in
     let near = c.outline_records-outline.result.nearness in
     let h = c.outline_records-outline.ensures.outline head.codes in
-    let is : c.held_way-held.result ≡ Some (Frames c.in-Some-Frames.count) =
-    c.in-Some-Frames.is
-    ∙ ap (λ (w : Way). Some w) (rw c.in-Some-Frames.is at c.in-Some-Frames.field-0-is) in
+    let is = c.in-Some-Frames.is ∙ ap (λ (w : Way). Some w) (rw c.in-Some-Frames.is at c.in-Some-Frames.field-0-is) in
     let goes = c.held_way-held.ensures.frames c.in-Some-Frames.count is in
     let held = subst (λ (r : Option Way). IfSome r (λ _. (xs : List ℤ) → All (IsWithin 32) xs → IsKnown near xs
     → AreHeld encoding xs)) is c.held_way-held.ensures.held in (
@@ -81,8 +78,7 @@ returns-in-None-clause-fitting g c =
     let same : length c.deref_mut.result.now ≡ length xs = search rules in
     -- the list is written back whole
     let whole = take_at xs (drop (length xs) c.make_room-2.new.samples.items) c.make_room-2.new.samples.len size in
-    subst (λ (ys : List ℤ). IsFitting o (length ys) vs c.fit_read.result) (sym whole)
-    (subst (λ (n : ℕ). IsFitting o n vs c.fit_read.result) same c.fit_read.ensures.fitting)
+    rw (sym whole) at (subst (λ (n : ℕ). IsFitting o n vs c.fit_read.result) same c.fit_read.ensures.fitting)
 
 pub returns-in-Some-held-clause-exact : goal.returns-in-Some-held-clause-exact
 returns-in-Some-held-clause-exact g c = λ grew.

@@ -17,8 +17,7 @@ difference_of-requires c =
     ≡ get_or c.unpack_differences-last.new.out 0 (pos 0) = to_z-of_z w32 _ (search rules) in
     let last : to_z w32 (of_z w32 c.args.before) ≡ c.args.before = to_z-of_z w32 _ (search rules) in
     rw (first, last)
-    (first_near c.args.before c.unpack_differences-last.new.out s some (c.unpack_differences-last.ensures.steps s whole)
-    (c.requires.near s whole))
+    (first_near _ _ _ some (c.unpack_differences-last.ensures.steps s whole) (c.requires.near s whole))
 
 pub returns-clause-differences : goal.returns-clause-differences
 returns-clause-differences c = λ s whole.
@@ -27,9 +26,8 @@ returns-clause-differences c = λ s whole.
     ≡ get_or c.unpack_differences-last.new.out 0 (pos 0) = to_z-of_z w32 _ (search rules) in
     let last : to_z w32 (of_z w32 c.args.before) ≡ c.args.before = to_z-of_z w32 _ (search rules) in
     ap (λ z. set c.unpack_differences-last.new.out 0 z) (to_z-of_z w32 c.difference_of.result (search rules))
-    ∙ first_set c.args.before c.difference_of.result c.unpack_differences-last.new.out s some
-    (c.unpack_differences-last.ensures.steps s whole)
-    (rw (first, last) at c.difference_of.ensures)
+    ∙ first_set _ _ _ _ some (c.unpack_differences-last.ensures.steps s whole) (rw (first, last) at
+    c.difference_of.ensures)
 
 pub returns-clause-last : goal.returns-clause-last
 returns-clause-last c = λ s whole.

@@ -7,8 +7,7 @@ pub returns-in-None-clause-left : goal.returns-in-None-clause-left
 returns-in-None-clause-left g c =
     let l = c.loop-turn in
     c.in-None.ensures.next.1
-    ∙ sym (dropped_all l.turn c.args.count (g.R.Walk.left c.args.records) c.loop-turn-test.true
-    (sym l.invariant.1 ∙ c.in-None.ensures.next.0))
+    ∙ sym (dropped_all _ _ _ c.loop-turn-test.true (sym l.invariant.1 ∙ c.in-None.ensures.next.0))
 
 pub loop-turn-preserved : goal.loop-turn-preserved
 loop-turn-preserved g c =

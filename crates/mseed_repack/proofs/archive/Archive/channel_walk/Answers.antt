@@ -11,9 +11,7 @@ returns-clause-channel_walk c =
     let laid = c.requires.audited.laid in
     let rs = a.views.now in
     let first = get_or a.firsts.now c.args.number 0 in
-    let channel_walk = trail_at rs a.channels.now a.firsts.now a.nexts.now c.args.number channel laid.links
-    c.requires.inside
-    c.index-channels-number.is in
+    let channel_walk = trail_at _ _ _ _ _ _ laid.links c.requires.inside c.index-channels-number.is in
     record {
       channel = channel;
       at = c.index-channels-number.is;

@@ -4,5 +4,4 @@ use Rattle.mseed_repack.proofs.archive.ChannelWalkWalk.next.Goals as goal
 pub returns-clause-next : goal.returns-clause-next
 returns-clause-next c =
     let t = c.args.self.now in
-    next_on t.codes.now t.views.now t.index t.nexts.now c.index-self-self.result c.if-self.false
-    c.index-self-self.is c.requires.of c.requires.nexts_are
+    next_on _ _ _ _ _ c.if-self.false c.index-self-self.is c.requires.of c.requires.nexts_are

@@ -7,8 +7,7 @@ use Rattle.mseed_repack.proofs.stretch.Stretch.begin.Goals as goal
 
 pub returns-clause-stretch : goal.returns-clause-stretch
 returns-clause-stretch c =
-    let step : c.step_micros.result ≡ step_of (step_in (leap_of (view_of c.args.view.now).bytes)) =
-    c.step_micros.ensures.value ∙ ap step_of (c.step.ensures ∙ ap step_in c.leap.ensures) in
+    let step = c.step_micros.ensures.value ∙ ap step_of (c.step.ensures ∙ ap step_in c.leap.ensures) in
     record {
       codes_is = c.codes.ensures;
       start_is = search rules;

@@ -29,8 +29,7 @@ returns c =
     let kept : to_z w64 (of_z w64 s.added) ≡ s.added = to_z-of_z w64 s.added fits in (
       λ on. record {
         same = c.if-not-is_one_rate.ensures.0 refl;
-        on_time = subst (λ (z : ℤ). P (ratio_of s.rate) z) kept
-            (subst (λ (r : Ratio). P r (to_z w64 (of_z w64 s.added))) c.ratio-own.ensures (c.is_on_time.ensures.0 on));
+        on_time = subst (λ (z : ℤ). P (ratio_of s.rate) z) kept (rw c.ratio-own.ensures at (c.is_on_time.ensures.0 on));
       },
       λ is. c.is_on_time.ensures.1 (subst (λ (r : Ratio). P r (to_z w64 (of_z w64 s.added))) (sym c.ratio-own.ensures)
           (subst (λ (z : ℤ). P (ratio_of s.rate) z) (sym kept) is.on_time)),

@@ -9,8 +9,7 @@ use Rattle.mseed_repack.proofs.stretch.Stretch.with.Goals as goal
 pub returns-clause-stretch : goal.returns-clause-stretch
 returns-clause-stretch c =
     let s = c.args.self.now in
-    let step : c.step_micros.result ≡ step_of (step_in (leap_of (view_of c.args.view.now).bytes)) =
-    c.step_micros.ensures.value ∙ ap step_of (c.step.ensures ∙ ap step_in c.leap.ensures) in
+    let step = c.step_micros.ensures.value ∙ ap step_of (c.step.ensures ∙ ap step_in c.leap.ensures) in
     λ vs is. stretch_more s _ vs (view_of c.args.view.now) is (record {
       codes_is = refl;
       start_is = refl;
