@@ -1,11 +1,11 @@
 -- A session that is closed, and one that is open.
-use Rattle.std.proofs.Common.{◌≡◌, ℕ, ◌⊎◌, inl, inr, refl, sym, ap, subst, ◌∙◌, Bool, List, ◌++◌, append-nil}
+use Rattle.std.proofs.Common.{◌≡◌, ℕ, ◌⊎◌, inl, inr, refl, sym, ap, ◌∙◌, Bool, List, ◌++◌, append-nil}
 use Rattle.slink_wire.specs.declared.reply.Reply.{Reply}
 use Rattle.slink_wire.specs.declared.reply.Reply.TheVariants as replies
 use Rattle.slink_wire.specs.Lines.{Held, IsHeld}
 use Rattle.slink_wire.specs.Reply.{reply_bytes}
 use Rattle.slink_feed.specs.declared.session.Phase.{Phase}
-use Rattle.slink_feed.specs.declared.session.Phase.TheVariants.{Fresh, Chosen, Granted, Streaming, Closed}
+use Rattle.slink_feed.specs.declared.session.Phase.TheVariants.{Closed}
 use Rattle.slink_feed.specs.Serving.{Serves, SessionState, none_served, piece_served}
 use Rattle.slink_feed.specs.Session.{State}
 use Rattle.slink_feed.specs.Window.{Window}
@@ -15,11 +15,8 @@ abbrev pub Open : Phase → Type 0
 Open phase = ¬ (phase ≡ Closed)
 
 pub open_or : (p : Phase) → (p ≡ Closed) ⊎ Open p
-open_or Fresh = inr (λ e. let bad : Fresh ≡ Closed = e in cc bad)
-open_or (Chosen k) = inr (λ e. let bad : Chosen k ≡ Closed = e in cc bad)
-open_or (Granted k) = inr (λ e. let bad : Granted k ≡ Closed = e in cc bad)
-open_or Streaming = inr (λ e. let bad : Streaming ≡ Closed = e in cc bad)
 open_or Closed = inl refl
+open_or phase = inr (λ e. cc e)
 
 pub nothing_after : (way : List ℕ) (reply : Reply) → reply ≡ replies.Nothing → way ++ reply_bytes reply ≡ way
 nothing_after way reply none = ap (λ r. way ++ reply_bytes r) none ∙ append-nil way
@@ -33,7 +30,7 @@ module _ (feed : List Window) where
       let same : (reply ≡ replies.Nothing) × (now ≡ u) = takes.closed shut in
       let after : (v ≡ now) × (sent ≡ w ++ reply_bytes reply) =
       shut_on now others (w ++ reply_bytes reply) v sent more
-      (subst (λ (x : SessionState). x.state.phase ≡ Closed) (sym same.1) shut) in
+      (rw same.1 shut) in
       (after.0 ∙ same.1, after.1 ∙ nothing_after w reply same.0)
 
 -- what a session comes to is one

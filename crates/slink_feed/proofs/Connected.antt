@@ -1,19 +1,15 @@
 -- What the link of one session takes in its steps is what it was requested.
-use Rattle.std.proofs.Common.{◌≡◌, ℕ, ◌+◌, ◌<◌, ◌==◌, inl, inr, refl, sym, ap, subst, ◌∙◌, arith, Bool, true, false}
-use Rattle.std.proofs.Common.{if◌then◌else◌, List, [], ◌∷◌, ◌++◌, append_assoc, append-nil, length, take, drop}
-use Rattle.std.proofs.Common.{take-append-drop, Option, Some, None, slice_get}
-use Rattle.std.proofs.lemmas.Bool.Decides.{eqb_tells}
+use Rattle.std.proofs.Common.{◌≡◌, ℕ, ◌<◌, inl, inr, refl, sym, ap, ◌∙◌, arith}
+use Rattle.std.proofs.Common.{List, [], ◌∷◌, ◌++◌, append_assoc, append-nil, length, take, drop}
+use Rattle.std.proofs.Common.{take-append-drop, Some, None, slice_get}
 use Rattle.mseed_stream.specs.Device.{BytesRead, IsPrefixOf}
 use Rattle.slink_wire.specs.declared.command.Command.{Command}
-use Rattle.slink_wire.specs.declared.command.Command.TheVariants.{Hello, Station, SelectAll, Data, Fetch, End, Bye}
-use Rattle.slink_wire.specs.declared.command.Command.TheVariants.{Other}
+use Rattle.slink_wire.specs.declared.command.Command.TheVariants.{Bye}
 use Rattle.slink_wire.specs.declared.lines.What.{What}
 use Rattle.slink_wire.specs.declared.lines.What.TheVariants.{More, Line, TooLong}
 use Rattle.slink_wire.specs.declared.reply.Reply.{Reply}
 use Rattle.slink_wire.specs.declared.reply.Reply.TheVariants as written
-use Rattle.slink_wire.specs.Lines.{IsHeld}
 use Rattle.slink_wire.specs.Reply.{reply_bytes}
-use Rattle.slink_feed.specs.declared.grant.Grant.{Grant}
 use Rattle.slink_feed.specs.declared.session.Phase.{Phase}
 use Rattle.slink_feed.specs.declared.session.Phase.TheVariants.{Streaming, Closed}
 use Rattle.slink_feed.specs.declared.session.Sent.{Sent}
@@ -26,44 +22,19 @@ use Rattle.slink_feed.specs.Connection.{FailsInTurn, SendsSlices, ShowPushed, Ta
 use Rattle.slink_feed.specs.Connection.{fails_now, no_turn, turn_taken}
 use Rattle.slink_feed.specs.Rounds.{Attending, Gives, SendsAll, all_sent, place_after}
 use Rattle.slink_feed.specs.Running.{HasStream, Stands, StandsFor}
-use Rattle.slink_feed.specs.Sending.{AreCalled, AreShown, Called, IsReadFrom, packet_in, packets_of}
+use Rattle.slink_feed.specs.Sending.{AreCalled, AreShown, Called, IsReadFrom, packets_of}
 use Rattle.slink_feed.specs.Serving.{Answers, IsAnswer, Serves, SessionState, Takes, none_served, piece_served}
-use Rattle.slink_feed.specs.Session.{IsBefore, State, has_sent_all, answered_in, at_next, grant_at, answer_streaming}
-use Rattle.slink_feed.specs.Session.{packet_at, reply_at_next, sent, sent_bytes, sent_in, sent_of}
-use Rattle.slink_feed.specs.Window.{Shows, Window, record_at}
+use Rattle.slink_feed.specs.Session.{IsBefore, State, answered_in, grant_at, answer_streaming}
+use Rattle.slink_feed.specs.Session.{reply_at_next, sent, sent_bytes, sent_in}
+use Rattle.slink_feed.specs.Window.{Shows, Window}
 use Rattle.slink_feed.proofs.Closing.{Open, open_or}
-use Rattle.slink_feed.proofs.Sendings.{IsOn, answer_read, read_grants, read_on, none_either, set_other, slice_sent}
-
--- A session streams on, or is closed, once it was called.
-on_packet : (t : State) (place : ℕ) (h : Grant) (o : Option (List ℕ)) → t.phase ≡ Streaming
-    → IsOn (packet_at t place h o).0.phase
-on_packet t place h None on = inr refl
-on_packet t place h (Some bytes) on = inl on
-
-on_next : (t : State) (done : Bool) → t.phase ≡ Streaming → IsOn (at_next done t).0.phase
-on_next t true on = inr refl
-on_next t false on = inl on
-
-on_from : (feed : List Window) (t : State) (place : ℕ) (h : Grant) (w : Window) (b : Bool) → t.phase ≡ Streaming
-    → IsOn (if b then at_next (has_sent_all feed t.grants) t else packet_at t place h (record_at w h.position)).0.phase
-on_from feed t place h w true on = on_next t (has_sent_all feed t.grants) on
-on_from feed t place h w false on = on_packet t place h (record_at w h.position) on
-
-on_of : (feed : List Window) (t : State) (place : ℕ) (o : Option Grant) (r : Option Window) → t.phase ≡ Streaming
-    → IsOn (sent_of feed t place o r).0.phase
-on_of feed t place None r on = inl on
-on_of feed t place (Some h) None on = inl on
-on_of feed t place (Some h) (Some w) on = on_from feed t place h w (h.position == w.next) on
-
-pub on_sent : (feed : List Window) (t : State) (place : ℕ) → IsOn t.phase → IsOn (sent feed t place).0.phase
-on_sent feed t place (inl on) =
-    subst (λ (p : Phase). IsOn (sent_in p feed t place).0.phase) (sym on)
-    (on_of feed t place (grant_at t.grants place) (slice_get feed place) on)
-on_sent feed t place (inr shut) = subst (λ (p : Phase). IsOn (sent_in p feed t place).0.phase) (sym shut) (inr shut)
+use Rattle.slink_feed.proofs.Calls.{IsOn, shut_sent}
+use Rattle.slink_feed.proofs.Sendings.{answer_read, quiet, read_grants, read_on, slice_sent, stepped, went}
+pub use Rattle.slink_feed.proofs.Calls.{on_sent}
 
 on_given : (feed : List Window) (k last : ℕ) (s u : State) (given : List Sent) → Gives feed k s given last u
     → IsOn s.phase → IsOn u.phase
-on_given feed k last s u [] gives on = subst (λ (t : State). IsOn t.phase) (sym gives.1) on
+on_given feed k last s u [] gives on = rw gives.1 on
 on_given feed k last s u (a ∷ more) gives on =
     on_given feed (place_after feed k) last (sent feed s k).0 u more gives.1 (on_sent feed s k on)
 
@@ -72,67 +43,25 @@ pub shut_given : (feed : List Window) (k last : ℕ) (s u : State) (given : List
     → s.phase ≡ Closed → u ≡ s
 shut_given feed k last s u [] gives shut = gives.1
 shut_given feed k last s u (a ∷ more) gives shut =
-    let same : (sent feed s k).0 ≡ s = ap (λ (p : Phase). (sent_in p feed s k).0) shut in
-    shut_given feed (place_after feed k) last (sent feed s k).0 u more gives.1 (ap (λ (t : State). t.phase) same
-    ∙ shut) ∙ same
+    let same : (sent feed s k).0 ≡ s = ap (λ (x : State × Sent). x.0) (shut_sent feed s k shut) in
+    shut_given feed (place_after feed k) last (sent feed s k).0 u more gives.1 (rw same shut) ∙ same
 
--- No packet of a station without a grant is sent, and it has none afterwards.
-record Bare (k : ℕ) (place : ℕ) (x : State × Sent) : Type 0 where
-  none : (if place == k then packet_in x.1 else []) ≡ []
-  stays : grant_at x.0.grants k ≡ None
-
-bare_packet : (k place : ℕ) (h : Grant) (t : State) (o : Option (List ℕ)) → grant_at t.grants k ≡ None
-    → grant_at t.grants place ≡ Some h → Bare k place (packet_at t place h o)
-bare_packet k place h t None at_k at_place = record { none = none_either (place == k); stays = at_k }
-bare_packet k place h t (Some bytes) at_k at_place = elim (eqb_tells place k) [
-  | inl same ↦ absurd (let bad : Some h ≡ None = sym at_place ∙ (ap (grant_at t.grants) same.1 ∙ at_k) in cc bad)
-  | inr other ↦ record {
-    none = ap (λ b. if b then packet_in (packet_at t place h (Some bytes)).1 else []) other.0;
-    stays = set_other t.grants place k (Some (record { mode = h.mode; position = h.position + 1 })) other.1 ∙ at_k;
-  }
-]
-
-bare_next : (k place : ℕ) (t : State) (done : Bool) → grant_at t.grants k ≡ None → Bare k place (at_next done t)
-bare_next k place t true at_k = record { none = none_either (place == k); stays = at_k }
-bare_next k place t false at_k = record { none = none_either (place == k); stays = at_k }
-
-bare_from : (k place : ℕ) (feed : List Window) (h : Grant) (t : State) (w : Window) (b : Bool)
-    → grant_at t.grants k ≡ None → grant_at t.grants place ≡ Some h
-    → Bare k place (if b then at_next (has_sent_all feed t.grants) t else packet_at t place h (record_at w h.position))
-bare_from k place feed h t w true at_k at_place = bare_next k place t (has_sent_all feed t.grants) at_k
-bare_from k place feed h t w false at_k at_place = bare_packet k place h t (record_at w h.position) at_k at_place
-
-bare_of : (k place : ℕ) (feed : List Window) (t : State) (o : Option Grant) (r : Option Window)
-    → grant_at t.grants k ≡ None → grant_at t.grants place ≡ o → Bare k place (sent_of feed t place o r)
-bare_of k place feed t None r at_k at_place = record { none = none_either (place == k); stays = at_k }
-bare_of k place feed t (Some h) None at_k at_place = record { none = none_either (place == k); stays = at_k }
-bare_of k place feed t (Some h) (Some w) at_k at_place =
-    bare_from k place feed h t w (h.position == w.next) at_k at_place
-
-bare_sent : (k place : ℕ) (feed : List Window) (t : State) → grant_at t.grants k ≡ None → IsOn t.phase
-    → Bare k place (sent feed t place)
-bare_sent k place feed t at_k (inl on) =
-    subst (λ (p : Phase). Bare k place (sent_in p feed t place)) (sym on)
-    (bare_of k place feed t (grant_at t.grants place) (slice_get feed place) at_k refl)
-bare_sent k place feed t at_k (inr shut) =
-    subst (λ (p : Phase). Bare k place (sent_in p feed t place)) (sym shut)
-    (record { none = none_either (place == k); stays = at_k })
-
-none_sent : (k : ℕ) (called : List Called) (s : State) → IsOn s.phase → grant_at s.grants k ≡ None → AreCalled s called
+-- No packet of a station without a grant is sent.
+none_sent : (k : ℕ) (called : List Called) (s : State) → grant_at s.grants k ≡ None → AreCalled s called
     → packets_of k called ≡ []
-none_sent k [] s on at_k are = refl
-none_sent k (a ∷ more) s on at_k are =
+none_sent k [] s none are = refl
+none_sent k (a ∷ more) s none are =
     let t : State = are.0 in
-    let bare : Bare k a.place (sent a.feed t a.place) =
-    bare_sent _ _ a.feed t (ap (λ gs. grant_at gs k) (read_grants _ _ are.1) ∙ at_k) (read_on _ _ are.1 on) in
-    let one : (if a.place == k then packet_in a.answer else []) ≡ [] =
-    ap (λ x. if a.place == k then packet_in x else []) (sym are.2) ∙ bare.none in
-    ap (λ ps. ps ++ packets_of k more) one
-    ∙ none_sent k more (sent a.feed t a.place).0 (on_sent a.feed t a.place (read_on s t are.1 on)) bare.stays are.3
+    let at_k : grant_at t.grants k ≡ None = ap (λ gs. grant_at gs k) (read_grants s t are.1) ∙ none in
+    elim (stepped k a.feed a.place t) [
+      | quiet empty stays ↦ rw (← are.2, empty) (none_sent k more (sent a.feed t a.place).0 (stays ∙ at_k) are.3)
+      | went g w bytes same is granted here read next ↦
+          absurd (let bad : Some g ≡ None = sym granted ∙ at_k in cc bad)
+    ]
 
 -- lines, one after another
 pub read_further : (s t u : State) → IsReadFrom s t → IsReadFrom t u → IsReadFrom s u
-read_further s t u (inl same) more = subst (λ (x : State). IsReadFrom x u) same more
+read_further s t u (inl same) more = rw same at more
 read_further s t u (inr shut) (inl same) = inr (same ∙ shut)
 read_further s t u (inr shut) (inr again) =
     inr (again ∙ ap (λ gs. record { phase = Closed; grants = gs }) (ap (λ (x : State). x.grants) shut))
@@ -172,9 +101,6 @@ record Wrote (feeds : List (List Window)) (s : State) (bytes : List ℕ) : Type 
   bytes_are : bytes ≡ bytes_sent called
   shown : (k first : ℕ) (pushed : List (List ℕ)) → ShowPushed k first pushed feeds → AreShown k first pushed called
 
-nothing_wrote : (s : State) → Wrote [] s []
-nothing_wrote s = record { called = []; are_called = tt; bytes_are = refl; shown = λ k first pushed shown. tt }
-
 slices : (feeds : List (List Window)) (s : State) (bytes : List ℕ) → IsOn s.phase → Wrote feeds s bytes
     → SendsSlices feeds s bytes
 slices feeds s bytes on w = record {
@@ -182,19 +108,13 @@ slices feeds s bytes on w = record {
   are_called = w.are_called;
   bytes_are = w.bytes_are;
   slice = λ k first pushed g at_k shown. slice_sent _ _ _ _ _ g on at_k w.are_called (w.shown k first pushed shown);
-  none = λ k at_k. none_sent k w.called s on at_k w.are_called;
+  none = λ k at_k. none_sent k w.called s at_k w.are_called;
 }
 
 -- what a session that streams replies: nothing
 quiet_line : (s : State) (c : Command) → (answer_streaming s c).1 ≡ written.Nothing
 quiet_line s Bye = refl
-quiet_line s Hello = refl
-quiet_line s (Station sta net) = refl
-quiet_line s SelectAll = refl
-quiet_line s (Data number) = refl
-quiet_line s (Fetch number) = refl
-quiet_line s End = refl
-quiet_line s Other = refl
+quiet_line s command = refl
 
 pub reply_none : (feed : List Window) (s new : State) (what : What) (reply : Reply) → s.phase ≡ Streaming
     → IsAnswer feed s what new reply → reply ≡ written.Nothing
@@ -222,7 +142,7 @@ module _ (feed : List Window) where
         record {
           read = inl (ap (λ (x : SessionState). x.state) same.1);
           quiet = ap reply_bytes same.0;
-          stream = subst HasStream (sym same.1) stream;
+          stream = rw same.1 stream;
         }
     | inr awake ↦
         let answer : Answers feed u.state stream.0 (stream.0 ++ piece) now.state reply =
@@ -264,10 +184,8 @@ module _ (feed : List Window) where
   given_stream : (a now : Attending) → SendsAll feed a now → HasStream a.session → HasStream now.session
   given_stream a now sends stream = (
     stream.0,
-    λ awake. subst (λ h. IsHeld h stream.0) (sym sends.held)
-        (stream.1 (λ shut. awake
-        (ap (λ (x : State). x.phase) (shut_given feed 0 sends.place a.session.state now.session.state sends.given
-        sends.gives shut) ∙ shut))),
+    λ awake. rw sends.held (stream.1 (λ shut. awake (rw (shut_given feed 0 sends.place a.session.state
+        now.session.state sends.given sends.gives shut) shut))),
   )
 
   sends_on : (a now : Attending) → SendsAll feed a now → IsOn a.session.state.phase → HasStream a.session → TurnOn a now
@@ -321,7 +239,11 @@ AllWrote feeds a b = (bytes : List ℕ) × (b.written.bytes ≡ a.written.bytes 
 
 turns_wrote : (feeds : List (List Window)) (a b : Attending) → TakesTurns a feeds b → IsOn a.session.state.phase
     → HasStream a.session → AllWrote feeds a b
-turns_wrote feeds a b (no_turn x) on stream = ([], sym (append-nil x.written.bytes), nothing_wrote x.session.state)
+turns_wrote feeds a b (no_turn x) on stream = (
+  [],
+  sym (append-nil x.written.bytes),
+  record { called = []; are_called = tt; bytes_are = refl; shown = λ k first pushed shown. tt },
+)
 turns_wrote feeds a b (turn_taken x now y feed more before after turn one rest) on stream =
     let t : TurnOn feed x now = turn_on feed x now before after turn one on stream in
     let w : AllWrote more now y = turns_wrote more now y rest t.on t.stream in (
@@ -422,7 +344,7 @@ before_given feed k last s u (a ∷ more) is gives =
     let same : (sent feed s k).0 ≡ s = ap (λ (x : State × Sent). x.0) one in
     let waits : a ≡ sents.Wait = sym gives.0 ∙ ap (λ (x : State × Sent). x.1) one in
     let rest = before_given feed (place_after feed k) last s u more is
-    (subst (λ (t : State). Gives feed (place_after feed k) t more last u) same gives.1) in
+    (rw same at gives.1) in
     (rest.0, ap (λ b. sent_bytes b ++ all_sent more) waits ∙ rest.1)
 
 pub before_sent : (feed : List Window) (old new : Attending) → IsBefore old.session.state.phase → SendsAll feed old new

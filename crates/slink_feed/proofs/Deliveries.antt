@@ -1,7 +1,8 @@
 -- What a client reported the bytes that it accepted so far, event by event.
-use Rattle.std.proofs.Common.{◌≡◌, ◌≢◌, ℕ, ◌+◌, ◌-◌, ◌*◌, ◌≤◌, ◌<◌, zero, suc, refl, sym, ap, subst, ◌∙◌, arith, List}
+use Rattle.std.proofs.Common.{◌≡◌, ◌≢◌, ℕ, ◌+◌, ◌-◌, ◌*◌, ◌≤◌, ◌<◌, refl, sym, ap, subst, ◌∙◌, arith, List}
 use Rattle.std.proofs.Common.{[], ◌∷◌, ◌++◌, append_assoc, append-nil, length, length-append, length-drop, take}
-use Rattle.std.proofs.Common.{take_all, drop}
+use Rattle.std.proofs.Common.{take-add, take-append-drop, take_all, drop, length-take, ◌⊎◌, inl, inr}
+use Rattle.std.proofs.Math.Seq.{take-append-add}
 use Rattle.std.proofs.lemmas.List.{take_rest}
 use Rattle.mseed_stream.specs.Device.{BytesRead, IsPrefixOf, BytesWritten}
 use Rattle.slink_feed.specs.declared.dialogue.Event.{Event}
@@ -17,9 +18,10 @@ use Rattle.slink_feed.specs.private.Delivery.{ComesTo, FailsAtEvent, IsDelivered
 use Rattle.slink_feed.specs.Fetching.{Delivers, FailsAt, FailsAtLast, Fetches, Fetching, ReadsOn, Takes, bytes_reported}
 use Rattle.slink_feed.specs.Fetching.{IsFetchFault, joined_by, line_written, lines_written, record_reported, turn_after}
 use Rattle.slink_feed.specs.Fetching.{turn_at}
-use Rattle.slink_feed.specs.Listening.{Brings, IsLinked, Listening, Reads, event_if_any}
+use Rattle.slink_feed.specs.Listening.{Brings, IsLinked, Listening, event_if_any}
 use Rattle.slink_feed.specs.Turns.{Emitted, EmittedPrefix, reported_once}
-use Rattle.slink_feed.proofs.Goings.{lines_on, still_linked, reports_on}
+use Rattle.slink_feed.proofs.Goings.{goes_on, still_linked}
+use Rattle.slink_feed.proofs.Outcomes.{ended_quietly}
 use Rattle.slink_feed.proofs.Received.{reads_more}
 
 pub record SoFar (old now : Fetching) (bytes : List ℕ) (offset written_count output_count_is : ℕ) : Type 0 where
@@ -41,8 +43,8 @@ on_none c start stream before reads = rw (← (append-nil stream)) at (rw (← (
 pub on_both : (a b c : Listening) (xs ys : List ℕ) (es fs : List Event) → ReadsOn a xs es b → ReadsOn b ys fs c
     → ReadsOn a (xs ++ ys) (es ++ fs) c
 on_both a b c xs ys es fs one more start stream before reads =
-    subst (λ (s : List ℕ). Reads start s (before ++ (es ++ fs)) c) (append_assoc stream xs ys)
-    (rw (append_assoc before es fs) at (more start (stream ++ xs) (before ++ es) (one start stream before reads)))
+    rw (← (append_assoc stream xs ys), ← (append_assoc before es fs))
+    (more start (stream ++ xs) (before ++ es) (one start stream before reads))
 
 pub emitted_none : (s : BytesWritten) → Emitted s s []
 emitted_none s = record { bytes = sym (append-nil s.bytes); failures = refl }
@@ -54,20 +56,19 @@ emitted_further a b c xs ys all e one more = record {
   failures = more.failures ∙ one.failures;
 }
 
-pub take_past : (xs ys : List ℕ) (n : ℕ) → take (length xs + n) (xs ++ ys) ≡ xs ++ take n ys
-take_past [] ys n = let none : 0 + n ≡ n = omega arith in ap (λ m. take m ys) none
-take_past (x ∷ xs) ys n = let one : suc (length xs) + n ≡ suc (length xs + n) = omega arith in
-    ap (λ m. take m (x ∷ (xs ++ ys))) one ∙ ap (λ s. x ∷ s) (take_past xs ys n)
-
 pub prefix_further : (a b c : BytesWritten) (xs ys all : List ℕ) (count n : ℕ) → all ≡ xs ++ ys → count ≡ length xs + n
     → Emitted a b xs → EmittedPrefix b c ys n → EmittedPrefix a c all count
 prefix_further a b c xs ys all count n e is one more = record {
-  bytes = more.bytes ∙ (ap (λ s. s ++ take n ys) one.bytes ∙ (append_assoc a.bytes xs (take n ys)
-      ∙ ap (λ s. a.bytes ++ s) (sym (take_past xs ys n)
-      ∙ (ap (λ m. take m (xs ++ ys)) (sym is) ∙ ap (λ s. take count s) (sym e)))));
+  bytes = rw (e, is, take-append-add xs ys n)
+      (more.bytes ∙ (ap (λ s. s ++ take n ys) one.bytes ∙ append_assoc a.bytes xs (take n ys)));
   part = omega (arith, is, more.part, ap length e, length-append xs ys);
   failures = more.failures ∙ ap (λ m. m + 1) one.failures;
 }
+
+pub prefix_length : (a b : BytesWritten) (xs : List ℕ) (n : ℕ) → EmittedPrefix a b xs n
+    → length b.bytes ≡ length a.bytes + n
+prefix_length a b xs n p =
+    omega (arith, ap length p.bytes, length-append a.bytes (take n xs), length-take n xs, p.part)
 
 -- what events give, one after another
 joined_more : (given : Event → List ℕ) (es fs : List Event)
@@ -79,13 +80,7 @@ joined_more given (e ∷ es) fs = ap (λ s. given e ++ s) (joined_more given es 
 joined_event : (given : Event → List ℕ) (e : Event) → given events.None ≡ []
     → joined_by given (event_if_any e) ≡ given e
 joined_event given events.None none = sym none
-joined_event given (events.Say line) none = append-nil (given (events.Say line))
-joined_event given (events.Record k n r) none = append-nil (given (events.Record k n r))
-joined_event given events.End none = append-nil (given events.End)
-joined_event given (events.Refused k) none = append-nil (given (events.Refused k))
-joined_event given (events.Gap k want got) none = append-nil (given (events.Gap k want got))
-joined_event given events.Garbage none = append-nil (given events.Garbage)
-joined_event given events.Foreign none = append-nil (given events.Foreign)
+joined_event given event none = append-nil (given event)
 
 joined_once : (given : Event → List ℕ) (es : List Event) (e : Event) → given events.None ≡ []
     → joined_by given (es ++ event_if_any e) ≡ joined_by given es ++ given e
@@ -125,17 +120,12 @@ pub comes_to : (old mid new : Listening) (bytes : List ℕ) (used : ℕ) (event 
     → (IsLinked mid.talk.stage → Brings mid.talk (mid.kept ++ take used bytes) new event)
     → (IsLinked mid.talk.stage → 0 < length bytes → 0 < used) → used ≤ length bytes → ComesTo event used bytes old new
 comes_to old mid new bytes used event same linked some brings takes bound =
-    let still : IsLinked mid.talk.stage = subst (λ (l : Listening). IsLinked l.talk.stage) (sym same) linked in
-    let comes : ComesTo event used bytes mid new =
-    record { brings = brings still; some = takes still some; bound = bound } in
-    subst (λ (l : Listening). ComesTo event used bytes l new) same comes
+    let still : IsLinked mid.talk.stage = rw same linked in
+    rw same at (let comes : ComesTo event used bytes mid new =
+    record { brings = brings still; some = takes still some; bound = bound } in comes)
 
 pub take_prefix : (bytes : List ℕ) (n m : ℕ) → take (n + m) bytes ≡ take n bytes ++ take m (drop n bytes)
-take_prefix bytes zero m = let none : zero + m ≡ m = omega arith in ap (λ k. take k bytes) none
-take_prefix [] (suc n) zero = let one : suc n + zero ≡ suc (n + zero) = omega arith in ap (λ k. take k []) one
-take_prefix [] (suc n) (suc m) = let one : suc n + suc m ≡ suc (n + suc m) = omega arith in ap (λ k. take k []) one
-take_prefix (b ∷ bs) (suc n) m = let one : suc n + m ≡ suc (n + m) = omega arith in ap (λ k. take k (b ∷ bs)) one
-    ∙ ap (λ s. b ∷ s) (take_prefix bs n m)
+take_prefix bytes n m = take-add n m bytes
 
 pub piece_is : (bytes : List ℕ) (offset used : ℕ)
     → take offset bytes ++ take used (take (length bytes - offset) (drop offset bytes)) ≡ take (offset + used) bytes
@@ -147,9 +137,7 @@ pub piece_length : (bytes : List ℕ) (offset : ℕ)
 piece_length bytes offset = ap length (take_rest bytes offset) ∙ length-drop offset bytes
 
 is_prefix : (bytes : List ℕ) (n : ℕ) → IsPrefixOf (take n bytes) bytes
-is_prefix bytes zero = (bytes, refl)
-is_prefix [] (suc n) = ([], refl)
-is_prefix (b ∷ bs) (suc n) = let more : IsPrefixOf (take n bs) bs = is_prefix bs n in (more.0, ap (λ s. b ∷ s) more.1)
+is_prefix bytes n = (drop n bytes, sym (take-append-drop n bytes))
 
 pub nothing_so_far : (s : Fetching) (bytes : List ℕ) → SoFar s s bytes 0 0 0
 nothing_so_far s bytes = record {
@@ -169,8 +157,7 @@ module _ (old now new : Fetching) (bytes : List ℕ) (offset used : ℕ) (event 
     (so_far : SoFar old now bytes offset before.written before.output)
     (piece : IsPiece now.client new.client bytes offset used event) where
   further : ReadsOn old.client (take (offset + used) bytes) (so_far.reported ++ event_if_any event) new.client
-  further = subst (λ (s : List ℕ). ReadsOn old.client s (so_far.reported ++ event_if_any event) new.client)
-      (piece_is bytes offset used)
+  further = rw (← (piece_is bytes offset used))
       (on_both old.client now.client new.client (take offset bytes)
       (take used (take (length bytes - offset) (drop offset bytes))) so_far.reported (event_if_any event) so_far.reads
       piece.reads)
@@ -212,7 +199,7 @@ module _ (old now new : Fetching) (bytes : List ℕ) (offset used : ℕ) (event 
   fails_within : (given others : Event → List ℕ) (f g h o p q : BytesWritten) (count_before count : ℕ)
       → given events.None ≡ [] → count_before ≡ length (joined_by given so_far.reported)
       → Emitted f g (joined_by given so_far.reported) → Emitted o p (joined_by others so_far.reported)
-      → (0 < length (given event) → IsLinked new.client.talk.stage)
+      → IsLinked new.client.talk.stage ⊎ (given event ≡ [])
       → FailsAtEvent given event count_before count g h p q
       → FailsAtLast given others old.client new.client bytes count f h o q
   fails_within given others f g h o p q count_before count none counted emitted other linked cut =
@@ -226,11 +213,11 @@ module _ (old now new : Fetching) (bytes : List ℕ) (offset used : ℕ) (event 
         reported = so_far.reported;
         last = event;
         takes = takes_last one;
-        linked = linked some;
+        linked = elim linked [ inl on ↦ on | inr quiet ↦ absurd (omega (arith, some, ap length quiet)) ];
         failing = prefix_further f g h (joined_by given so_far.reported) (given event)
             (joined_by given (so_far.reported ++ event ∷ [])) count cut.more joined total emitted cut.failing;
         beyond = omega (arith, total);
-        other = subst (λ (w : BytesWritten). Emitted o w (joined_by others so_far.reported)) (sym cut.other) other;
+        other = rw cut.other other;
       }
 
   pub fails_here : (fault : LinkFault) → IsUndelivered fault event before now.written new.written now.output new.output
@@ -239,13 +226,11 @@ module _ (old now new : Fetching) (bytes : List ℕ) (offset used : ℕ) (event 
   fails_here (faults.Write count) cut =
       fails_within line_written record_reported old.written now.written new.written old.output now.output new.output
       before.written count refl so_far.written_counted so_far.written so_far.output
-      (lines_on now.client.talk (now.client.kept ++ take used (take (length bytes - offset) (drop offset bytes)))
-      new.client event piece.brings) cut
+      (goes_on line_written refl (λ e. (ended_quietly e).0) now.client.talk _ new.client event piece.brings) cut
   fails_here (faults.Output count) cut =
       fails_within record_reported line_written old.output now.output new.output old.written now.written new.written
       before.output count refl so_far.output_counted so_far.output so_far.written
-      (reports_on now.client.talk (now.client.kept ++ take used (take (length bytes - offset) (drop offset bytes)))
-      new.client event piece.brings) cut
+      (goes_on record_reported refl (λ e. (ended_quietly e).1) now.client.talk _ new.client event piece.brings) cut
 
 -- nothing is left, or the client takes no more
 pub all_delivered : (old now : Fetching) (bytes : List ℕ) (offset written_count output_count_is : ℕ)
@@ -270,7 +255,7 @@ closed_turn old new before after same read = record {
   bytes = [];
   read = read;
   most = omega arith;
-  delivers = subst (λ (f : Fetching). Delivers old f []) (sym same) (nothing_delivered old);
+  delivers = rw same (nothing_delivered old);
   nothing = λ none. same;
   turn_is = refl;
 }
@@ -288,22 +273,12 @@ module _ (old now new : Fetching) (before after : BytesRead) (bytes : List ℕ) 
     bytes = bytes;
     read = read;
     most = most;
-    delivers = subst (λ (f : Fetching). Delivers f new bytes) same delivers;
+    delivers = rw same at delivers;
     nothing = λ none. absurd (omega (arith, some, ap length none));
     turn_is = is ∙ at_some bytes new.client.talk.stage some;
   }
 
   pub cut_turn : (fault : LinkFault) → FailsAt fault now new bytes → IsFetchFault fault old new before after
   cut_turn faults.Read fails = absurd fails
-  cut_turn (faults.Write count) fails = record {
-    bytes = bytes;
-    read = read;
-    most = most;
-    fails = subst (λ (f : Fetching). FailsAt (faults.Write count) f new bytes) same fails;
-  }
-  cut_turn (faults.Output count) fails = record {
-    bytes = bytes;
-    read = read;
-    most = most;
-    fails = subst (λ (f : Fetching). FailsAt (faults.Output count) f new bytes) same fails;
-  }
+  cut_turn (faults.Write count) fails = record { bytes = bytes; read = read; most = most; fails = rw same at fails }
+  cut_turn (faults.Output count) fails = record { bytes = bytes; read = read; most = most; fails = rw same at fails }

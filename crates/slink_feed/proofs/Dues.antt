@@ -1,18 +1,17 @@
 -- How much is due at most: a session that gives something has less to give.
-use Rattle.std.proofs.Common.{◌≡◌, ◌≢◌, ℕ, ◌+◌, ◌-◌, ◌*◌, ◌≤◌, ◌<◌, zero, suc, min, refl, sym, ap, subst, ◌∙◌, arith}
-use Rattle.std.proofs.Common.{inl, inr, Bool, true, false, if◌then◌else◌, List, [], ◌∷◌, length, set, Option, Some}
+use Rattle.std.proofs.Common.{◌≡◌, ◌≢◌, ℕ, ◌+◌, ◌-◌, ◌*◌, ◌≤◌, ◌<◌, zero, suc, min, refl, ap, arith}
+use Rattle.std.proofs.Common.{List, [], ◌∷◌, length, set, Option, Some}
 use Rattle.std.proofs.Common.{None, slice_get}
-use Rattle.std.proofs.lemmas.Bool.Decides.{eqb_tells}
 use Rattle.slink_feed.specs.declared.grant.Grant.{Grant}
 use Rattle.slink_feed.specs.declared.session.Phase.{Phase}
 use Rattle.slink_feed.specs.declared.session.Phase.TheVariants.{Streaming, Closed}
 use Rattle.slink_feed.specs.declared.session.Sent.{Sent}
 use Rattle.slink_feed.specs.declared.session.Sent.TheVariants as sents
-use Rattle.slink_feed.specs.Session.{AreReached, Grants, State, has_sent_all, at_next, grant_at, packet_at, sent}
-use Rattle.slink_feed.specs.Session.{sent_from, sent_in, sent_of}
-use Rattle.slink_feed.specs.Window.{Window, oldest_of, record_at}
+use Rattle.slink_feed.specs.Session.{AreReached, Grants, State, grant_at, sent}
+use Rattle.slink_feed.specs.Window.{Window}
 use Rattle.slink_feed.proofs.Reached.{position_reached}
-use Rattle.slink_feed.proofs.Sendings.{read_at}
+use Rattle.slink_feed.proofs.Calls.{Sends, is_done, is_overrun, is_packet, is_shut, is_waiting, sends}
+use Rattle.slink_feed.proofs.Items.{read_at}
 
 -- of one station: a ring keeps at most so many records
 abbrev left_at : Window → Option Grant → ℕ
@@ -38,8 +37,7 @@ left_few w (Some g) = omega arith
 all_few : (ws : List Window) (gs : Grants) → left_of ws gs ≤ 1000000 * length ws
 all_few [] gs = omega arith
 all_few (w ∷ ws) [] = omega arith
-all_few (w ∷ ws) (o ∷ gs) = let one : left_at w o ≤ 1000000 = left_few w o in
-    let more : left_of ws gs ≤ 1000000 * length ws = all_few ws gs in omega (arith, one, more)
+all_few (w ∷ ws) (o ∷ gs) = omega (arith, left_few w o, all_few ws gs)
 
 few_in : (p : Phase) (feed : List Window) (gs : Grants) → due_in p feed gs ≤ 1 + 1000000 * length feed
 few_in Closed feed gs = omega arith
@@ -54,14 +52,10 @@ left_set : (ws : List Window) (gs : Grants) (k : ℕ) (w : Window) (g h : Grant)
 left_set [] gs k w g h here at one = absurd (let bad : None ≡ Some w = here in cc bad)
 left_set (v ∷ ws) [] k w g h here at one = absurd (let bad : None ≡ Some g = at in cc bad)
 left_set (v ∷ ws) (o ∷ gs) zero w g h here at one =
-    let both : Some v ≡ Some w = here in
-    let same : v ≡ w = cc both in
-    let less : left_at v (Some h) + 1 ≡ left_at v o = ap (λ x. left_at x (Some h) + 1) same
-    ∙ (one ∙ (ap (λ x. left_at x (Some g)) (sym same) ∙ ap (left_at v) (sym at))) in
+    let both : (v ≡ w) × (o ≡ Some g) = (cc here, at) in
+    let less : left_at v (Some h) + 1 ≡ left_at v o = rw (both.0, both.1) one in
     omega (arith, less)
-left_set (v ∷ ws) (o ∷ gs) (suc k) w g h here at one =
-    let more : left_of ws (set gs k (Some h)) + 1 ≡ left_of ws gs = left_set ws gs k w g h here at one in
-    omega (arith, more)
+left_set (v ∷ ws) (o ∷ gs) (suc k) w g h here at one = omega (arith, left_set ws gs k w g h here at one)
 
 -- Nothing is given, and all stays; or less is due than before.
 pub data Moves (feed : List Window) (s : State) (x : State × Sent) : Type 0 where
@@ -71,69 +65,31 @@ pub data Moves (feed : List Window) (s : State) (x : State × Sent) : Type 0 whe
 due_streaming : (feed : List Window) (s : State) → s.phase ≡ Streaming → due feed s ≡ suc (left_of feed s.grants)
 due_streaming feed s is = ap (λ (p : Phase). due_in p feed s.grants) is
 
-moved_next : (feed : List Window) (s : State) (done : Bool) → s.phase ≡ Streaming → Moves feed s (at_next done s)
-moved_next feed s true is =
-    moves (λ e. cc e) (let d : due feed s ≡ suc (left_of feed s.grants) = due_streaming feed s is in omega (arith, d))
-moved_next feed s false is = waits refl refl
-
 one_less : (next p : ℕ) → p < next → next ≤ p + 1000000 → min 1000000 (next - (p + 1)) + 1 ≡ min 1000000 (next - p)
 one_less next p lt near = omega (arith, lt, near)
 
-moved_packet : (feed : List Window) (s : State) (k : ℕ) (g : Grant) (w : Window) (o : Option (List ℕ))
-    → s.phase ≡ Streaming → grant_at s.grants k ≡ Some g → slice_get feed k ≡ Some w → g.position < w.next
-    → record_at w g.position ≡ o
-    → ((bytes : List ℕ) → (packet_at s k g o).1 ≡ sents.Packet bytes → length w.records ≤ 1000000)
-    → Moves feed s (packet_at s k g o)
-moved_packet feed s k g w None is at here before read few =
-    moves (λ e. cc e) (let d : due feed s ≡ suc (left_of feed s.grants) = due_streaming feed s is in omega (arith, d))
-moved_packet feed s k g w (Some bytes) is at here before read few =
+moved_by : (feed : List Window) (s : State) (k : ℕ) (x : State × Sent) → Sends feed s k x → s.phase ≢ Closed
+    → AreReached feed s.grants
+    → ((bytes : List ℕ) (w : Window) → x.1 ≡ sents.Packet bytes → slice_get feed k ≡ Some w
+    → length w.records ≤ 1000000) → Moves feed s x
+moved_by feed s k x (is_waiting h) open_still reached few = waits refl refl
+moved_by feed s k x (is_done on done) open_still reached few =
+    moves (λ e. cc e) (omega (arith, due_streaming feed s on))
+moved_by feed s k x (is_overrun g on off) open_still reached few =
+    moves (λ e. cc e) (omega (arith, due_streaming feed s on))
+moved_by feed s k x (is_packet g w bytes on granted here off read) open_still reached few =
     let h : Grant = record { mode = g.mode; position = g.position + 1 } in
-    let short : length w.records ≤ 1000000 = few _ refl in
-    let above : oldest_of w ≤ g.position = (read_at w g.position bytes read).0 in
-    let near : w.next ≤ g.position + 1000000 = omega (arith, short, above) in
+    let within : g.position ≤ w.next =
+    position_reached feed s.grants k g w (grant_at s.grants k) reached refl granted here in
+    let near : w.next ≤ g.position + 1000000 = omega (arith, few _ w refl here, (read_at w g.position bytes read).0) in
     let less : left_of feed (set s.grants k (Some h)) + 1 ≡ left_of feed s.grants =
-    left_set feed s.grants k w g h here at (one_less w.next g.position before near) in
-    let old : due feed s ≡ suc (left_of feed s.grants) = due_streaming feed s is in
+    left_set feed s.grants k w g h here granted (one_less w.next g.position (omega (arith, within, off)) near) in
     let new : due_in s.phase feed (set s.grants k (Some h)) ≡ suc (left_of feed (set s.grants k (Some h))) =
-    ap (λ (p : Phase). due_in p feed (set s.grants k (Some h))) is in
-    moves (λ e. cc e) (omega (arith, less, old, new))
-
-moved_from : (feed : List Window) (s : State) (k : ℕ) (g : Grant) (w : Window) → s.phase ≡ Streaming
-    → grant_at s.grants k ≡ Some g → slice_get feed k ≡ Some w → g.position ≤ w.next
-    → ((bytes : List ℕ) → (sent_from feed s k g w).1 ≡ sents.Packet bytes → length w.records ≤ 1000000)
-    → Moves feed s (sent_from feed s k g w)
-moved_from feed s k g w is at here within few = elim (eqb_tells g.position w.next) [
-  | inl same ↦
-      let e : sent_from feed s k g w ≡ at_next (has_sent_all feed s.grants) s =
-      ap (λ b. if b then at_next (has_sent_all feed s.grants) s else packet_at s k g (record_at w g.position)) same.0 in
-      subst (Moves feed s) (sym e) (moved_next feed s (has_sent_all feed s.grants) is)
-  | inr other ↦
-      let e : sent_from feed s k g w ≡ packet_at s k g (record_at w g.position) =
-      ap (λ b. if b then at_next (has_sent_all feed s.grants) s else packet_at s k g (record_at w g.position))
-      other.0 in
-      subst (Moves feed s) (sym e) (moved_packet feed s k g w (record_at w g.position) is at here
-      (omega (arith, within, other.1)) refl (λ bytes p. few bytes (ap (λ (x : State × Sent). x.1) e ∙ p)))
-]
-
-moved_of : (feed : List Window) (s : State) (k : ℕ) (o : Option Grant) (ring : Option Window) → s.phase ≡ Streaming
-    → AreReached feed s.grants → grant_at s.grants k ≡ o → slice_get feed k ≡ ring
-    → ((bytes : List ℕ) (w : Window) → (sent_of feed s k o ring).1 ≡ sents.Packet bytes → ring ≡ Some w
-    → length w.records ≤ 1000000) → Moves feed s (sent_of feed s k o ring)
-moved_of feed s k None ring is reached at here few = waits refl refl
-moved_of feed s k (Some g) None is reached at here few = waits refl refl
-moved_of feed s k (Some g) (Some w) is reached at here few =
-    moved_from feed s k g w is at here (position_reached feed s.grants k g w (grant_at s.grants k) reached refl at
-    here) (λ bytes p. few bytes w p refl)
-
-moved_in : (feed : List Window) (s : State) (k : ℕ) (p : Phase) → s.phase ≡ p → AreReached feed s.grants
-    → ((bytes : List ℕ) (w : Window) → (sent_in p feed s k).1 ≡ sents.Packet bytes → slice_get feed k ≡ Some w
-    → length w.records ≤ 1000000) → p ≢ Closed → Moves feed s (sent_in p feed s k)
-moved_in feed s k Streaming is reached few open_still =
-    moved_of feed s k (grant_at s.grants k) (slice_get feed k) is reached refl refl few
-moved_in feed s k Closed is reached few open_still = absurd (open_still refl)
-moved_in feed s k phase is reached few open_still = waits refl refl
+    rw on refl in
+    moves (λ e. cc e) (omega (arith, less, due_streaming feed s on, new))
+moved_by feed s k x (is_shut shut) open_still reached few = absurd (open_still shut)
 
 pub moved : (feed : List Window) (s : State) (k : ℕ) → s.phase ≢ Closed → AreReached feed s.grants
     → ((bytes : List ℕ) (w : Window) → (sent feed s k).1 ≡ sents.Packet bytes → slice_get feed k ≡ Some w
     → length w.records ≤ 1000000) → Moves feed s (sent feed s k)
-moved feed s k open_still reached few = moved_in feed s k s.phase refl reached few open_still
+moved feed s k open_still reached few = moved_by feed s k (sent feed s k) (sends feed s k) open_still reached few

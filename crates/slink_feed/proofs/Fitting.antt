@@ -1,8 +1,8 @@
 -- A session can be served from its feed after each command.
-use Rattle.std.proofs.Common.{◌≡◌, ℕ, ◌+◌, ◌-◌, ◌<◌, ◌≤◌, inl, inr, zero, suc, refl, sym, ap, subst, ◌∙◌, arith, Bool}
-use Rattle.std.proofs.Common.{true, false, List, [], ◌∷◌, length, length-set, replicate, set, Option, Some, None}
-use Rattle.std.proofs.Common.{slice_get, if◌then◌else◌}
-use Rattle.std.proofs.lemmas.Bool.Decides.{leb_tells}
+use Rattle.std.proofs.Common.{◌≡◌, ℕ, ◌+◌, ◌-◌, ◌<◌, ◌≤◌, inl, inr, zero, suc, refl, sym, subst, ◌∙◌, arith, Bool}
+use Rattle.std.proofs.Common.{List, [], ◌∷◌, length, length-set, replicate, set, Option, Some, None}
+use Rattle.std.proofs.Common.{slice_get, leb}
+use Rattle.std.proofs.lemmas.Bool.{cases_cond, leb-true}
 use Rattle.std.specs.List.{position_from}
 use Rattle.std.specs.Option.{option_and_then}
 use Rattle.slink_wire.specs.declared.command.Command.{Command}
@@ -17,35 +17,28 @@ use Rattle.slink_feed.specs.Session.{Fits, IsReached, State, IsChosenOf, at, gra
 use Rattle.slink_feed.specs.Session.{chosen, granted, answer_chosen, answer_fresh, answer_granted, answer_streaming}
 use Rattle.slink_feed.specs.Window.{Window, ahead_of, oldest_of, resolve_of, with_record}
 use Rattle.slink_feed.proofs.Reached.{reached_with, reached_without}
-use Rattle.std.proofs.lemmas.Option.{same_Some}
-
-within_by : (p : Window → Bool) (i k : ℕ) (w : Window) (ws : List Window) (t : Bool)
-    → (position_from p (i + 1) ws ≡ Some k → k < (i + 1) + length ws)
-    → (if t then Some i else position_from p (i + 1) ws) ≡ Some k → k < i + length (w ∷ ws)
-within_by p i k w ws true more e = let at : i ≡ k = same_Some i k e in omega (arith, at)
-within_by p i k w ws false more e = let lt : k < (i + 1) + length ws = more e in omega (arith, lt)
+use Rattle.std.proofs.lemmas.Option.{cond_some, none-some, same_Some}
+use Rattle.slink_feed.proofs.Items.{none_but}
 
 -- the first station that passes is a station of the list
 first_within : (p : Window → Bool) (i k : ℕ) (ws : List Window) → position_from p i ws ≡ Some k → k < i + length ws
-first_within p i k [] e = absurd (let bad : None ≡ Some k = e in cc bad)
-first_within p i k (w ∷ ws) e = within_by p i k w ws (p w) (first_within p (i + 1) k ws) e
+first_within p i k [] e = absurd (none-some k e)
+first_within p i k (w ∷ ws) e = elim (cases_cond (p w) (Some i) (position_from p (i + 1) ws) (Some k) (sym e)) [
+  | inl here ↦ omega (arith, same_Some k i here)
+  | inr there ↦ omega (arith, first_within p (i + 1) k ws (sym there))
+]
 
 -- a grant begins within the ring
 resolved_at : (w : Window) (seq p : ℕ) → resolve_of w seq ≡ Some p → (oldest_of w ≤ p) × (p ≤ w.next)
-resolved_at w seq p e = elim (leb_tells (ahead_of w seq) (w.next - oldest_of w)) [
-  | inl passes ↦ let at : oldest_of w + ahead_of w seq ≡ p =
-      same_Some (oldest_of w + ahead_of w seq) p
-      (sym (ap (λ t. if t then Some (oldest_of w + ahead_of w seq) else None) passes.0) ∙ e) in
-      (omega (arith, at), omega (arith, at, passes.1))
-  | inr fails ↦ absurd (let bad : None ≡ Some p = sym
-      (ap (λ t. if t then Some (oldest_of w + ahead_of w seq) else None) fails.0) ∙ e in cc bad)
-]
+resolved_at w seq p e =
+    let parts = cond_some (leb (ahead_of w seq) (w.next - oldest_of w)) (oldest_of w + ahead_of w seq) p e in
+    (omega (arith, parts.1), omega (arith, parts.1, leb-true (ahead_of w seq) (w.next - oldest_of w) parts.0))
 
 pub granted_at : (mode : Mode) (number : Option ℕ) (w : Window) (p : ℕ) → grant_of mode number w ≡ Some p
     → (oldest_of w ≤ p) × (p ≤ w.next)
-granted_at Modes.Data None w p e = let at : w.next ≡ p = same_Some w.next p e in (omega (arith, at), omega (arith, at))
-granted_at Modes.Fetch None w p e = let at : oldest_of w ≡ p = same_Some (oldest_of w) p e in
-    (omega (arith, at), omega (arith, at))
+granted_at Modes.Data None w p e = (omega (arith, same_Some w.next p e), omega (arith, same_Some w.next p e))
+granted_at Modes.Fetch None w p e =
+    (omega (arith, same_Some (oldest_of w) p e), omega (arith, same_Some (oldest_of w) p e))
 granted_at Modes.Data (Some seq) w p e = resolved_at w seq p e
 granted_at Modes.Fetch (Some seq) w p e = resolved_at w seq p e
 
@@ -57,8 +50,7 @@ fits_chosen feed s (Some k) within f = (within k refl, reached_without feed s.gr
 fits_station : (feed : List Window) (s : State) (sta : List ℕ) (net : Option (List ℕ)) → Fits feed s
     → Fits feed (chosen (station_at feed sta net) s).0
 fits_station feed s sta net f =
-    fits_chosen feed s (station_at feed sta net) (λ k e. let lt : k < 0 + length feed = first_within _ 0 k feed e in
-    omega (arith, lt)) f
+    fits_chosen feed s (station_at feed sta net) (λ k e. omega (arith, first_within _ 0 k feed e)) f
 
 fits_granted : (feed : List Window) (s : State) (mode : Mode) (k : ℕ) (w : Window) (o : Option ℕ)
     → slice_get feed k ≡ Some w → k < length feed → ((p : ℕ) → o ≡ Some p → p ≤ w.next) → Fits feed s
@@ -83,17 +75,19 @@ fits_fresh feed s (Station sta net) f = fits_station feed s sta net f
 fits_fresh feed s Bye f = (tt, f.1)
 fits_fresh feed s command f = f
 
--- where a station is chosen, with a grant or without
-fits_when_chosen : (feed : List Window) (k : ℕ) (s : State) (c : Command) → k < length feed → Fits feed s
-    → Fits feed (answer_chosen feed k s c).0 × Fits feed (answer_granted feed k s c).0
-fits_when_chosen feed k s (Station sta net) lt f = (fits_station feed s sta net f, fits_station feed s sta net f)
-fits_when_chosen feed k s (Data number) lt f =
-    (fits_called feed s Modes.Data k number lt f, fits_called feed s Modes.Data k number lt f)
-fits_when_chosen feed k s (Fetch number) lt f =
-    (fits_called feed s Modes.Fetch k number lt f, fits_called feed s Modes.Fetch k number lt f)
-fits_when_chosen feed k s End lt f = (f, (tt, f.1))
-fits_when_chosen feed k s Bye lt f = ((tt, f.1), (tt, f.1))
-fits_when_chosen feed k s command lt f = (f, f)
+fits_chosen_at : (feed : List Window) (k : ℕ) (s : State) (c : Command) → k < length feed → Fits feed s
+    → Fits feed (answer_chosen feed k s c).0
+fits_chosen_at feed k s (Station sta net) lt f = fits_station feed s sta net f
+fits_chosen_at feed k s (Data number) lt f = fits_called feed s Modes.Data k number lt f
+fits_chosen_at feed k s (Fetch number) lt f = fits_called feed s Modes.Fetch k number lt f
+fits_chosen_at feed k s Bye lt f = (tt, f.1)
+fits_chosen_at feed k s command lt f = f
+
+-- with a grant, END alone is answered otherwise
+fits_granted_at : (feed : List Window) (k : ℕ) (s : State) (c : Command) → k < length feed → Fits feed s
+    → Fits feed (answer_granted feed k s c).0
+fits_granted_at feed k s End lt f = (tt, f.1)
+fits_granted_at feed k s command lt f = fits_chosen_at feed k s command lt f
 
 fits_streaming : (feed : List Window) (s : State) (c : Command) → Fits feed s → Fits feed (answer_streaming s c).0
 fits_streaming feed s Bye f = (tt, f.1)
@@ -102,8 +96,8 @@ fits_streaming feed s command f = f
 fits_in : (phase : Phase) (feed : List Window) (s : State) (c : Command) → s.phase ≡ phase → Fits feed s
     → Fits feed (answered_in phase feed s c).0
 fits_in Fresh feed s c e f = fits_fresh feed s c f
-fits_in (Chosen k) feed s c e f = (fits_when_chosen feed k s c (subst (IsChosenOf feed) e f.0) f).0
-fits_in (Granted k) feed s c e f = (fits_when_chosen feed k s c (subst (IsChosenOf feed) e f.0) f).1
+fits_in (Chosen k) feed s c e f = fits_chosen_at feed k s c (rw e at f.0) f
+fits_in (Granted k) feed s c e f = fits_granted_at feed k s c (rw e at f.0) f
 fits_in Streaming feed s c e f = fits_streaming feed s c f
 fits_in Closed feed s c e f = f
 
@@ -113,29 +107,20 @@ fits_answered feed s new c f e = subst (Fits feed) e (fits_in s.phase feed s c r
 
 -- a new session has no grant
 pub none_at : (n k : ℕ) → grant_at (replicate n None) k ≡ None
-none_at zero k = refl
-none_at (suc n) zero = refl
-none_at (suc n) (suc k) = none_at n k
+none_at n k = none_but n k None
 
 pub fits_new : (feed : List Window) (s : State) → s ≡ at Fresh (replicate 16 None) → Fits feed s
-fits_new feed s e = subst (Fits feed) (sym e) (
-  tt,
-  λ k g is. absurd (let bad : None ≡ Some g = sym (none_at 16 k)
-      ∙ is in cc bad),
-)
+fits_new feed s e = rw e (tt, λ k g is. absurd (none-some g (sym (none_at 16 k) ∙ is)))
 
 -- once a record was pushed
 reached_pushed : (ws : List Window) (k : ℕ) (w : Window) (bytes : List ℕ) (j p : ℕ) → slice_get ws k ≡ Some w
     → IsReached ws j p → IsReached (set ws k (with_record w bytes)) j p
-reached_pushed [] k w bytes j p here reached = absurd (let bad : None ≡ Some w = here in cc bad)
-reached_pushed (v ∷ ws) zero w bytes zero p here reached =
-    let both : Some reached.0 ≡ Some w = sym reached.1 ∙ here in
-    let one : reached.0 ≡ w = cc both in (
-      with_record w bytes,
-      refl,
-      let le : p ≤ w.next = subst (λ (x : Window). p ≤ x.next) one reached.2 in
-          omega (arith, le),
-    )
+reached_pushed [] k w bytes j p here reached = absurd (none-some w here)
+reached_pushed (v ∷ ws) zero w bytes zero p here reached = (
+  with_record w bytes,
+  refl,
+  let le : p ≤ w.next = rw (same_Some reached.0 w (sym reached.1 ∙ here)) at reached.2 in omega (arith, le),
+)
 reached_pushed (v ∷ ws) zero w bytes (suc j) p here reached = reached
 reached_pushed (v ∷ ws) (suc k) w bytes zero p here reached = reached
 reached_pushed (v ∷ ws) (suc k) w bytes (suc j) p here reached = reached_pushed ws k w bytes j p here reached
@@ -149,7 +134,7 @@ chosen_pushed phase ws k v h = tt
 pub fits_pushed : (feed new : List Window) (k : ℕ) (w : Window) (bytes : List ℕ) (s : State)
     → slice_get feed k ≡ Some w → new ≡ set feed k (with_record w bytes) → Fits feed s → Fits new s
 fits_pushed feed new k w bytes s here e f =
-    subst (λ ws. Fits ws s) (sym e) (
+    rw e (
       chosen_pushed s.phase feed k (with_record w bytes) f.0,
       λ j g is. reached_pushed feed k w bytes j g.position here (f.1 j g is),
     )

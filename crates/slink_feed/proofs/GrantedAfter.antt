@@ -1,7 +1,7 @@
 -- What a client is granted that holds the records up to a number.
-use Rattle.std.proofs.Common.{◌≡◌, ℕ, ◌+◌, ◌-◌, ◌%◌, ◌^◌, ◌<◌, ◌≤◌, inl, inr, ap, ◌∙◌, arith, if◌then◌else◌, length}
-use Rattle.std.proofs.Common.{Some, None}
-use Rattle.std.proofs.lemmas.Bool.Decides.{leb_tells}
+use Rattle.std.proofs.Common.{◌≡◌, ℕ, ◌+◌, ◌-◌, ◌%◌, ◌^◌, ◌<◌, ◌≤◌, arith, length}
+use Rattle.std.proofs.Common.{Some, None, refl}
+use Rattle.std.proofs.lemmas.Bool.{le-leb, lt-leb}
 use Rattle.slink_feed.specs.declared.grant.Mode.{Mode}
 use Rattle.slink_feed.specs.declared.grant.Mode.TheVariants as modes
 use Rattle.slink_feed.specs.Grant.{grant_of}
@@ -18,19 +18,13 @@ resolved_there : (w : Window) (n : ℕ) → length w.records ≤ 1000000 → n �
     → resolve_of w (n % 2 ^ 24) ≡ Some n
 resolved_there w n few at_most there =
     let ahead = ahead_there (oldest_of w) n there (omega (arith, few, at_most)) in
-    elim (leb_tells (ahead_of w (n % 2 ^ 24)) (w.next - oldest_of w)) [
-      | inl passes ↦ ap (λ t. if t then Some (oldest_of w + ahead_of w (n % 2 ^ 24)) else None) passes.0
-          ∙ ap (λ m. Some m) (let e : oldest_of w + ahead_of w (n % 2 ^ 24) ≡ n = omega (arith, ahead, there) in e)
-      | inr fails ↦ absurd (omega (arith, ahead, fails.1, at_most, there))
-    ]
+    let same : oldest_of w + ahead_of w (n % 2 ^ 24) ≡ n = omega (arith, ahead, there) in
+    rw (le-leb (ahead_of w (n % 2 ^ 24)) (w.next - oldest_of w) (omega (arith, ahead, at_most, there)), same) refl
 
 resolved_lost : (w : Window) (n : ℕ) → w.next < n + 2 ^ 24 → n < oldest_of w → resolve_of w (n % 2 ^ 24) ≡ None
 resolved_lost w n near lost =
     let ahead = ahead_lost (oldest_of w) n lost (omega (arith, near)) in
-    elim (leb_tells (ahead_of w (n % 2 ^ 24)) (w.next - oldest_of w)) [
-      | inl passes ↦ absurd (omega (arith, ahead, passes.1, near, lost))
-      | inr fails ↦ ap (λ t. if t then Some (oldest_of w + ahead_of w (n % 2 ^ 24)) else None) fails.0
-    ]
+    rw (lt-leb (ahead_of w (n % 2 ^ 24)) (w.next - oldest_of w) (omega (arith, ahead, near, lost))) refl
 
 pub granted_there : (mode : Mode) (w : Window) (n : ℕ) → length w.records ≤ 1000000 → n ≤ w.next → oldest_of w ≤ n
     → grant_of mode (Some (n % 2 ^ 24)) w ≡ Some n

@@ -1,9 +1,8 @@
 -- The first bytes of packets.
-use Rattle.std.proofs.Common.{List, Some, ap, arith, drop, inl, inr, length, length-append, length-drop, subst, sym}
-use Rattle.std.proofs.Common.{take, ℕ, ◌++◌, ◌+◌, ◌∙◌, ◌≡◌, ◌≤◌}
+use Rattle.std.proofs.Common.{List, Some, arith, drop, inl, inr, length, length-append, length-drop, sym}
+use Rattle.std.proofs.Common.{ℕ, ◌++◌, ◌+◌, ◌∙◌, ◌≡◌, ◌≤◌}
 use Rattle.std.proofs.lemmas.Bool.{cases_lt}
 use Rattle.std.proofs.lemmas.List.{take-append-le, drop-append-le}
-use Rattle.slink_wire.specs.Hexadecimal.{SpellsNumber}
 use Rattle.slink_wire.specs.Packet.{HasHead}
 use Rattle.slink_feed.specs.Cutting.{Begins, IsNoPacket, IsPacketBegun, no_head, nothing, end_begun, head_begun}
 use Rattle.slink_feed.specs.Cutting.{record_begun}
@@ -14,15 +13,19 @@ use Rattle.slink_feed.proofs.Prefixes.{get_left}
 pub head_same : (xs ys : List ℕ) (n : ℕ) → 8 ≤ length xs → HasHead xs n → HasHead (xs ++ ys) n
 head_same xs ys n long has = (
   take-append-le 2 xs ys (omega (arith, long)) ∙ has.0,
-  subst (λ ds. SpellsNumber ds n) (sym (ap (take 6) (drop-append-le 2 xs ys (omega (arith, long)))
-      ∙ take-append-le 6 (drop 2 xs) ys (omega (arith, long, length-drop 2 xs)))) has.1,
+  rw (
+    drop-append-le 2 xs ys (omega (arith, long)),
+    take-append-le 6 (drop 2 xs) ys (omega (arith, long, length-drop 2 xs)),
+  ) has.1,
 )
 
 pub head_before : (xs ys : List ℕ) (n : ℕ) → 8 ≤ length xs → HasHead (xs ++ ys) n → HasHead xs n
 head_before xs ys n long has = (
   sym (take-append-le 2 xs ys (omega (arith, long))) ∙ has.0,
-  subst (λ ds. SpellsNumber ds n) (ap (take 6) (drop-append-le 2 xs ys (omega (arith, long)))
-      ∙ take-append-le 6 (drop 2 xs) ys (omega (arith, long, length-drop 2 xs))) has.1,
+  rw (
+    drop-append-le 2 xs ys (omega (arith, long)),
+    take-append-le 6 (drop 2 xs) ys (omega (arith, long, length-drop 2 xs)),
+  ) at has.1,
 )
 
 pub one_begins : (xs : List ℕ) (a b : ℕ) → Begins xs a → Begins xs b → a ≡ b

@@ -1,10 +1,13 @@
 -- The elements of a list, by their indices, and what a window shows.
 use Rattle.std.proofs.Common.{◌≡◌, ◌≢◌, ℕ, ◌+◌, ◌-◌, ◌<◌, ◌≤◌, ◌⊎◌, inl, inr, zero, suc, refl, sym, ap, ◌∙◌, arith}
-use Rattle.std.proofs.Common.{Bool, true, false, List, [], ◌∷◌, ◌++◌, length, length-append, length-drop, drop, map}
-use Rattle.std.proofs.Common.{set, get_or, Option, Some, None, option_map, slice_get, if◌then◌else◌, nat_lt, unwrap_or}
-use Rattle.std.proofs.lemmas.Bool.Decides.{eqb_tells, nat_tests}
-use Rattle.std.proofs.lemmas.Option.{slice_get-map, unwrap_or-slice_get}
-use Rattle.std.proofs.lemmas.List.{get_or-set_other, get_or-set_same}
+use Rattle.std.proofs.Common.{false, List, [], ◌∷◌, ◌++◌, length, length-append, length-drop, drop, map}
+use Rattle.std.proofs.Common.{set, get_or, Option, Some, None, option_map, slice_get, nat_lt, unwrap_or}
+use Rattle.std.proofs.Common.{replicate}
+use Rattle.std.proofs.lemmas.Bool.Decides.{eqb_tells, leb_tells, nat_tests}
+use Rattle.std.proofs.lemmas.Option.{get_or_from_slice_get, slice_get-get_or, slice_get-map, slice_get_within}
+use Rattle.std.proofs.lemmas.Option.{unwrap_or-slice_get}
+use Rattle.std.proofs.lemmas.List.{drop-append-le, drop-drop, drop_more, get_or-set_other, get_or-set_same}
+use Rattle.std.proofs.lemmas.List.{length-set}
 use Rattle.slink_feed.specs.Window.{Shows, Window, oldest_of, record_at, window, with_record}
 
 -- what is set at an index, and elsewhere
@@ -24,9 +27,8 @@ module _ {X : Type 0} where
       ∙ (get_or-set_other xs k j x d ne ∙ sym (unwrap_or-slice_get xs j d))
 
   pub get_here : (xs : List X) (k : ℕ) (x : X) → k < length xs → slice_get (set xs k x) k ≡ Some x
-  get_here [] k x lt = absurd (omega (arith, lt))
-  get_here (y ∷ xs) zero x lt = refl
-  get_here (y ∷ xs) (suc k) x lt = get_here xs k x (omega (arith, lt))
+  get_here xs k x lt = slice_get-get_or (set xs k x) k x (rw (length-set xs k x) lt)
+      ∙ ap (λ y. Some y) (get_or-set_same xs k x x lt)
 
   pub get_there : (xs : List X) (k j : ℕ) (x : X) → j ≢ k → slice_get (set xs k x) j ≡ slice_get xs j
   get_there [] k j x ne = refl
@@ -35,13 +37,29 @@ module _ {X : Type 0} where
   get_there (y ∷ xs) (suc k) zero x ne = refl
   get_there (y ∷ xs) (suc k) (suc j) x ne = get_there xs k j x (λ e. ne (ap suc e))
 
+  pub no_value : (x : X) → Some x ≡ None → ⊥
+  no_value x e = let bad : Some x ≡ None = e in cc bad
+
+  -- what is set where something stood
+  pub wrote_here : (xs : List (Option X)) (k : ℕ) (o : Option X) (x : X) → unwrap_or (slice_get xs k) None ≡ Some x
+      → unwrap_or (slice_get (set xs k o) k) None ≡ o
+  wrote_here [] k o x h = absurd (no_value x (sym h))
+  wrote_here (y ∷ xs) zero o x h = refl
+  wrote_here (y ∷ xs) (suc k) o x h = wrote_here xs k o x h
+
+  pub none_but : (n k : ℕ) (d : X) → unwrap_or (slice_get (replicate n d) k) d ≡ d
+  none_but zero k d = refl
+  none_but (suc n) zero d = refl
+  none_but (suc n) (suc k) d = none_but n k d
+
+  pub drop_at : (xs : List X) (k : ℕ) (x : X) → slice_get xs k ≡ Some x → drop k xs ≡ x ∷ drop (k + 1) xs
+  drop_at xs k x here = drop_more xs k x (slice_get_within xs k x here)
+      ∙ ap (λ y. y ∷ drop (k + 1) xs) (get_or_from_slice_get xs k x x here)
+
   pub within_is : (xs : List X) (k : ℕ) → k < length xs → (x : X) × (slice_get xs k ≡ Some x)
   within_is [] k lt = absurd (omega (arith, lt))
   within_is (y ∷ xs) zero lt = (y, refl)
   within_is (y ∷ xs) (suc k) lt = within_is xs k (omega (arith, lt))
-
-  pub no_value : (x : X) → Some x ≡ None → ⊥
-  no_value x e = let bad : Some x ≡ None = e in cc bad
 
   pub one_value : (o : Option X) (x y : X) → o ≡ Some x → o ≡ Some y → x ≡ y
   one_value o x y p q = let both : Some x ≡ Some y = sym p ∙ q in cc both
@@ -67,10 +85,6 @@ pub oldest_is : (w : Window) (first : ℕ) (F : List (List ℕ)) → Shows w fir
     → oldest_of w ≡ first + (length F - w.capacity)
 oldest_is w first F h = omega (arith, h.next, ap length h.records, length-drop (length F - w.capacity) F)
 
-got_past : (t : Bool) (o : Option (List ℕ)) (r : List ℕ) → (if t then None else o) ≡ Some r → (t ≡ false) × (o ≡ Some r)
-got_past true o r h = absurd (let bad : None ≡ Some r = h in cc bad)
-got_past false o r h = (refl, h)
-
 pub lt_false : (m n : ℕ) → nat_lt m n ≡ false → n ≤ m
 lt_false m n h = grind (arith, nat_tests)
 
@@ -81,40 +95,37 @@ get_drop (suc d) (x ∷ xs) i = get_drop d xs i ∙ sym (let e : suc d + i ≡ s
     ap (slice_get (x ∷ xs)) e)
 
 -- a record of the window is that of the list
+pub read_at : (w : Window) (p : ℕ) (x : List ℕ) → record_at w p ≡ Some x
+    → (oldest_of w ≤ p) × (slice_get w.records (p - oldest_of w) ≡ Some x)
+read_at w p x h = elim (leb_tells (suc p) (oldest_of w)) [
+  | inl below ↦ absurd (no_value x (sym (rw below.0 at h)))
+  | inr above ↦ (omega (arith, above.1), rw above.0 at h)
+]
+
+pub number_from : (w : Window) (first : ℕ) (F : List (List ℕ)) (p : ℕ) (r : List ℕ) → Shows w first F
+    → record_at w p ≡ Some r → first ≤ p
+number_from w first F p r h e = omega (arith, oldest_is w first F h, (read_at w p r e).0)
+
 pub at_number : (w : Window) (first : ℕ) (F : List (List ℕ)) (p : ℕ) (r : List ℕ) → Shows w first F
     → record_at w p ≡ Some r → slice_get F (p - first) ≡ Some r
 at_number w first F p r h e =
     let d : ℕ = length F - w.capacity in
-    let got = got_past (nat_lt p (oldest_of w)) (slice_get w.records (p - oldest_of w)) r e in
-    let from : oldest_of w ≤ p = lt_false p (oldest_of w) got.0 in
-    let o : oldest_of w ≡ first + d = oldest_is w first F h in
-    let at : d + (p - oldest_of w) ≡ p - first = omega (arith, o, from) in
+    let got = read_at w p r e in
+    let at : d + (p - oldest_of w) ≡ p - first = omega (arith, oldest_is w first F h, got.0) in
     ap (slice_get F) (sym at)
     ∙ (sym (get_drop d F (p - oldest_of w)) ∙ (ap (λ xs. slice_get xs (p - oldest_of w)) (sym h.records) ∙ got.1))
-
-drop_prefix : (d : ℕ) (xs ys : List (List ℕ)) → d ≤ length xs → drop d (xs ++ ys) ≡ drop d xs ++ ys
-drop_prefix zero xs ys le = refl
-drop_prefix (suc d) [] ys le = absurd (omega (arith, le))
-drop_prefix (suc d) (x ∷ xs) ys le = drop_prefix d xs ys (omega (arith, le))
 
 pub drop_none : (n : ℕ) → ◌≡◌ {A = List (List ℕ)} (drop n []) []
 drop_none zero = refl
 drop_none (suc n) = refl
 
-drop_twice : (m d : ℕ) (xs : List (List ℕ)) → drop m (drop d xs) ≡ drop (d + m) xs
-drop_twice m zero xs = ap (λ k. drop k xs) (let e : m ≡ 0 + m = omega arith in e)
-drop_twice m (suc d) [] = drop_none m ∙ sym (drop_none (suc d + m))
-drop_twice m (suc d) (x ∷ xs) = drop_twice m d xs ∙ sym (let e : suc d + m ≡ suc (d + m) = omega arith in
-    ap (λ k. drop k (x ∷ xs)) e)
-
 pub keep_more : (n : ℕ) (xs : List (List ℕ)) (r : List ℕ) → window n (window n xs ++ r ∷ []) ≡ window n (xs ++ r ∷ [])
 keep_more n xs r =
     let d : ℕ = length xs - n in
-    let prefix : drop d xs ++ r ∷ [] ≡ drop d (xs ++ r ∷ []) = sym (drop_prefix d xs (r ∷ []) (omega arith)) in
     let long : d + (length (drop d xs ++ r ∷ []) - n) ≡ length (xs ++ r ∷ []) - n =
     omega (arith, length-append (drop d xs) (r ∷ []), length-append xs (r ∷ []), length-drop d xs) in
-    ap (λ l. drop (length (drop d xs ++ r ∷ []) - n) l) prefix
-    ∙ (drop_twice (length (drop d xs ++ r ∷ []) - n) d (xs ++ r ∷ []) ∙ ap (λ k. drop k (xs ++ r ∷ [])) long)
+    ap (drop (length (drop d xs ++ r ∷ []) - n)) (sym (drop-append-le d xs (r ∷ []) (omega arith)))
+    ∙ (drop-drop (length (drop d xs ++ r ∷ []) - n) d (xs ++ r ∷ []) ∙ ap (λ k. drop k (xs ++ r ∷ [])) long)
 
 -- the ring shows one record more
 pub shows_more : (w : Window) (first : ℕ) (F : List (List ℕ)) (r : List ℕ) → Shows w first F

@@ -1,5 +1,5 @@
-pub mod Answered
 pub mod Attended
+pub mod Calls
 pub mod GrantedAfter
 pub mod Connected
 pub mod Deliveries
@@ -9,6 +9,8 @@ pub mod Fitting
 pub mod Prefixed
 pub mod Prefixes
 pub mod Goings
+pub mod Outcomes
+pub mod Taken
 pub mod Heads
 pub mod Quiet
 pub mod Received

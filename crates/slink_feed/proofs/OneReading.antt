@@ -16,8 +16,7 @@ no_further : (stage : Stage) (a z b : List ℕ) (w v : Whole) → IsWhole stage 
 no_further stage a [] b w v p q e = e ∙ append-nil a
 no_further stage a (x ∷ z) b w v p q e =
     absurd (begun_no_whole stage a [] w
-    (subst (IsBegun stage) (sym (append-nil a))
-    (prefix_begun stage a (x ∷ z) v (omega arith) (subst (λ (bytes : List ℕ). IsWhole stage bytes v) e q))) p)
+    (rw (append-nil a) (prefix_begun stage a (x ∷ z) v (omega arith) (rw e at q))) p)
 
 pub one_prefix : (stage : Stage) (a b x y : List ℕ) (w v : Whole) → IsWhole stage a w → IsWhole stage b v
     → a ++ x ≡ b ++ y → a ≡ b
@@ -58,12 +57,12 @@ one_brought t (b ∷ bs) (c ∷ cs) k m p q e f g =
     append_cancel_left c.bytes (bytes_of bs ++ k) (bytes_of cs ++ m)
     (ap (λ xs. xs ++ (bytes_of bs ++ k)) (sym prefix) ∙ both) in
     let whole : b.whole ≡ c.whole =
-    one_whole _ _ _ _ (subst (λ (bytes : List ℕ). IsWhole t.stage bytes b.whole) prefix p.0) q.0 in
+    one_whole _ _ _ _ (rw prefix at p.0) q.0 in
     let talk : (read t b.whole).0 ≡ (read t c.whole).0 = ap (λ w. (read t w).0) whole in
-    let more = one_brought (read t c.whole).0 bs cs k m (subst (λ u. AreBrought u bs) talk p.1) q.1 rest
+    let more = one_brought (read t c.whole).0 bs cs k m (rw talk at p.1) q.1 rest
     (subst (λ u. IsRest (talk_after u bs).stage k) talk f) g in
     let one : b ≡ c = brought_same b c prefix whole in
-    (ap (λ h. h ∷ bs) one ∙ ap (λ t. c ∷ t) more.0, more.1)
+    (cc (one, more.0), more.1)
 
 pub seen_same : (m n : Listening) → m.talk ≡ n.talk → m.kept ≡ n.kept → m ≡ n
 seen_same m n p q = ap (λ (t : Talk). record { talk = t; kept = m.kept }) p
@@ -74,8 +73,7 @@ pub one_reading : (start : Talk) (stream : List ℕ) (a b : List Event) (m n : L
 one_reading start stream a b m n p q =
     let one : (p.brought ≡ q.brought) × (m.kept ≡ n.kept) =
     one_brought start p.brought q.brought m.kept n.kept p.are_brought q.are_brought (sym p.bytes ∙ q.bytes)
-    (λ _. subst (λ (t : Talk). IsBegun t.stage m.kept) p.talk p.is_begun)
-    (λ _. subst (λ (t : Talk). IsBegun t.stage n.kept) q.talk q.is_begun) in (
+    (λ _. rw p.talk at p.is_begun) (λ _. rw q.talk at q.is_begun) in (
       p.events_are ∙ (ap (events_of start) one.0 ∙ sym q.events_are),
       seen_same m n (p.talk ∙ (ap (talk_after start) one.0 ∙ sym q.talk)) one.1,
     )

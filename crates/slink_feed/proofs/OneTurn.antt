@@ -1,12 +1,11 @@
 -- A step of a session comes to one thing.
-use Rattle.std.proofs.Common.{◌≡◌, ℕ, ◌+◌, ◌≤◌, ◌<◌, ◌⊎◌, ◌==◌, zero, suc, inl, inr, refl, sym, ap, subst, ◌∙◌, arith}
-use Rattle.std.proofs.Common.{Bool, true, false, if◌then◌else◌, List, [], ◌∷◌, ◌++◌, append_assoc, append-nil, length}
-use Rattle.std.proofs.Common.{length-append, replicate, take, Option, Some, None, slice_get}
-use Rattle.std.proofs.lemmas.Bool.Decides.{eqb_tells, leb_tells}
+use Rattle.std.proofs.Common.{◌≡◌, ℕ, ◌+◌, ◌≤◌, ◌<◌, ◌⊎◌, zero, suc, inl, inr, refl, sym, ap, ◌∙◌, arith}
+use Rattle.std.proofs.Common.{◌-◌, List, [], ◌∷◌, ◌++◌, append-nil}
+use Rattle.std.proofs.Common.{length}
+use Rattle.std.proofs.Common.{length-append, replicate, take, Option, Some, None}
+use Rattle.std.proofs.lemmas.Bool.Decides.{leb_tells, nat_tests}
 use Rattle.std.proofs.lemmas.List.{append_cancel_left}
 use Rattle.mseed_stream.specs.Device.{BytesRead}
-use Rattle.slink_wire.specs.Lines.{IsHeld, lines_of}
-use Rattle.slink_wire.specs.Reply.{reply_bytes}
 use Rattle.slink_feed.specs.declared.grant.Grant.{Grant}
 use Rattle.slink_feed.specs.declared.session.Phase.{Phase}
 use Rattle.slink_feed.specs.declared.session.Phase.TheVariants.{Streaming, Closed}
@@ -15,58 +14,29 @@ use Rattle.slink_feed.specs.declared.session.Sent.TheVariants as sents
 use Rattle.slink_feed.specs.declared.turn.LinkFault.{LinkFault}
 use Rattle.slink_feed.specs.declared.turn.LinkFault.TheVariants as faults
 use Rattle.slink_feed.specs.declared.turn.Turn.{Turn}
-use Rattle.slink_feed.specs.Attending.{Attends, FailsToReply, GoesOn, IsServeFault, RepliesToAll, at_read, at_reply}
+use Rattle.slink_feed.specs.Attending.{Attends, GoesOn, IsServeFault, at_read, at_reply}
 use Rattle.slink_feed.specs.Attending.{at_send, is_at_end, is_closed, replies}
 use Rattle.slink_feed.specs.Connection.{AreAlike, EmittedAlike}
 use Rattle.slink_feed.specs.Rounds.{Attending, FailsToSend, Gives, HasWaited, SendsAll, all_sent, place_after}
 use Rattle.slink_feed.specs.Running.{Stands, StandsFor}
-use Rattle.slink_feed.specs.Serving.{Serves, SessionState}
-use Rattle.slink_feed.specs.Session.{State, has_sent_all, at_next, grant_at, packet_at, sent, sent_bytes, sent_in}
+use Rattle.slink_feed.specs.Session.{State, grant_at, sent, sent_bytes, sent_in}
 use Rattle.slink_feed.specs.Session.{sent_of}
 use Rattle.slink_feed.specs.Turns.{reported_once}
-use Rattle.slink_feed.specs.Window.{Window, record_at}
-use Rattle.slink_feed.proofs.Closing.{Open, states_same}
+use Rattle.slink_feed.specs.Window.{Window}
+use Rattle.slink_feed.proofs.Calls.{idle, shut_sent}
 use Rattle.slink_feed.proofs.Connected.{shut_given}
-use Rattle.slink_feed.proofs.OneReply.{Same, cut_in_once, served_once}
-use Rattle.slink_feed.proofs.Sendoffs.{place_within}
-
--- Where a session gives nothing, it stays as it is.
-abbrev Idle : State → State × Sent → Type 0
-Idle s x = x.1 ≡ sents.Wait → x.0 ≡ s
-
-idle_next : (s : State) (done : Bool) → Idle s (at_next done s)
-idle_next s true = λ e. absurd (let bad : sents.Done ≡ sents.Wait = e in cc bad)
-idle_next s false = λ e. refl
-
-idle_packet : (s : State) (k : ℕ) (g : Grant) (o : Option (List ℕ)) → Idle s (packet_at s k g o)
-idle_packet s k g None = λ e. absurd (let bad : sents.Overrun ≡ sents.Wait = e in cc bad)
-idle_packet s k g (Some bytes) = λ e. cc e
-
-idle_from : (feed : List Window) (s : State) (k : ℕ) (g : Grant) (w : Window) (b : Bool)
-    → Idle s (if b then at_next (has_sent_all feed s.grants) s else packet_at s k g (record_at w g.position))
-idle_from feed s k g w true = idle_next s (has_sent_all feed s.grants)
-idle_from feed s k g w false = idle_packet s k g (record_at w g.position)
-
-idle_of : (feed : List Window) (s : State) (k : ℕ) (o : Option Grant) (r : Option Window)
-    → Idle s (sent_of feed s k o r)
-idle_of feed s k None r = λ e. refl
-idle_of feed s k (Some g) None = λ e. refl
-idle_of feed s k (Some g) (Some w) = idle_from feed s k g w (g.position == w.next)
-
-idle_in : (p : Phase) (feed : List Window) (s : State) (k : ℕ) → Idle s (sent_in p feed s k)
-idle_in Streaming feed s k = idle_of feed s k (grant_at s.grants k) (slice_get feed k)
-idle_in phase feed s k = λ e. refl
+use Rattle.slink_feed.proofs.OneReply.{cut_alike, replied_once}
+use Rattle.slink_feed.proofs.Sendoffs.{all_joined, place_within}
 
 -- A call for a packet leaves a session as it is, and gives no bytes.
 abbrev Still : List Window → State → ℕ → Type 0
 Still feed s k = ((sent feed s k).0 ≡ s) × (sent_bytes (sent feed s k).1 ≡ [])
 
 still_waits : (feed : List Window) (s : State) (k : ℕ) → (sent feed s k).1 ≡ sents.Wait → Still feed s k
-still_waits feed s k waits = (idle_in s.phase feed s k waits, ap sent_bytes waits)
+still_waits feed s k waits = ((idle feed s k waits).0, ap sent_bytes waits)
 
 still_closed : (feed : List Window) (s : State) (k : ℕ) → s.phase ≡ Closed → Still feed s k
-still_closed feed s k shut =
-    (ap (λ (p : Phase). (sent_in p feed s k).0) shut, ap (λ (p : Phase). sent_bytes (sent_in p feed s k).1) shut)
+still_closed feed s k shut = rw (shut_sent feed s k shut) (refl, refl)
 
 -- Without stations there is nothing to give.
 still_of : (s : State) (k : ℕ) (o : Option Grant) → ((sent_of [] s k o None).0 ≡ s)
@@ -86,8 +56,7 @@ module _ (feed : List Window) (s : State) (P : ℕ → Type 0) (next : (k : ℕ)
   still_given k last u [] p gives = (gives.1, refl)
   still_given k last u (a ∷ more) p gives =
       let rest : (u ≡ s) × (all_sent more ≡ []) =
-      still_given (place_after feed k) last u more (next k p)
-      (subst (λ (t : State). Gives feed (place_after feed k) t more last u) (still k p).0 gives.1) in
+      still_given (place_after feed k) last u more (next k p) (rw (still k p).0 at gives.1) in
       (rest.0, ap (λ b. b ++ all_sent more) (ap sent_bytes (sym gives.0) ∙ (still k p).1) ∙ rest.1)
 
 gives_split : (feed : List Window) (k last : ℕ) (s v : State) (some more : List Sent)
@@ -108,50 +77,35 @@ within_given feed k last s u (a ∷ more) lt gives =
 module _ (feed : List Window) where
   waits_next : (m p last : ℕ) (u v : State) → Gives feed p u (replicate (suc m) sents.Wait) last v
       → Gives feed (place_after feed p) u (replicate m sents.Wait) last v
-  waits_next m p last u v gives =
-      subst (λ (t : State). Gives feed (place_after feed p) t (replicate m sents.Wait) last v)
-      (idle_in u.phase feed u p gives.0) gives.1
+  waits_next m p last u v gives = rw (idle feed u p gives.0).0 at gives.1
 
   waits_stay : (m p last : ℕ) (u v : State) → Gives feed p u (replicate m sents.Wait) last v → v ≡ u
   waits_stay zero p last u v gives = gives.1
   waits_stay (suc m) p last u v gives = waits_stay m (place_after feed p) last u v (waits_next m p last u v gives)
 
-  after_is : (p : ℕ) → p + 1 < length feed → place_after feed p ≡ p + 1
-  after_is p lt = elim (eqb_tells (p + 1) (length feed)) [
-    | inl same ↦ absurd (omega (arith, lt, same.1))
-    | inr other ↦ ap (λ b. if b then 0 else p + 1) other.0
-  ]
+  -- a station comes so many after another
+  abbrev IsAfter : ℕ → ℕ → ℕ → Type 0
+  IsAfter p d k = (p + d ≡ k) ⊎ (p + d ≡ k + length feed)
 
-  waits_above : (m p last k : ℕ) (u v : State) → Gives feed p u (replicate m sents.Wait) last v → p ≤ k
-      → k < length feed → k < p + m → (sent feed u k).1 ≡ sents.Wait
-  waits_above zero p last k u v gives above lt far = absurd (omega (arith, above, far))
-  waits_above (suc m) p last k u v gives above lt far = elim (eqb_tells p k) [
-    | inl same ↦ ap (λ j. (sent feed u j).1) (sym same.1) ∙ gives.0
-    | inr other ↦
-        let less : p + 1 ≤ k = omega (arith, above, other.1) in
-        waits_above m (p + 1) last k u v (subst (λ j. Gives feed j u (replicate m sents.Wait) last v)
-        (after_is p (omega (arith, less, lt))) (waits_next m p last u v gives)) less lt (omega (arith, far))
-  ]
+  after_next : (p d k : ℕ) → p < length feed → k < length feed → IsAfter p (suc d) k → IsAfter (place_after feed p) d k
+  after_next p d k within lt far = grind (arith, nat_tests)
 
-  waits_below : (m p last k : ℕ) (u v : State) → Gives feed p u (replicate m sents.Wait) last v → k < p
-      → p < length feed → k + length feed < p + m → (sent feed u k).1 ≡ sents.Wait
-  waits_below zero p last k u v gives below lt far = absurd (omega (arith, below, lt, far))
-  waits_below (suc m) p last k u v gives below lt far = elim (eqb_tells (p + 1) (length feed)) [
-    | inl same ↦
-        let first : place_after feed p ≡ 0 = ap (λ b. if b then 0 else p + 1) same.0 in
-        waits_above m 0 last k u v (subst (λ j. Gives feed j u (replicate m sents.Wait) last v) first
-        (waits_next m p last u v gives)) (omega arith) (omega (arith, below, lt)) (omega (arith, far, same.1))
-    | inr other ↦
-        let less : p + 1 < length feed = omega (arith, lt, other.1) in
-        waits_below m (p + 1) last k u v (subst (λ j. Gives feed j u (replicate m sents.Wait) last v)
-        (after_is p less) (waits_next m p last u v gives)) (omega (arith, below)) less (omega (arith, far))
-  ]
+  waits_at : (m d p last k : ℕ) (u v : State) → Gives feed p u (replicate m sents.Wait) last v → p < length feed
+      → k < length feed → d < m → IsAfter p d k → (sent feed u k).1 ≡ sents.Wait
+  waits_at zero d p last k u v gives within lt few far = absurd (omega (arith, few))
+  waits_at (suc m) zero p last k u v gives within lt few far =
+      let same : p ≡ k = omega (arith, far, within) in rw same at gives.0
+  waits_at (suc m) (suc d) p last k u v gives within lt few far =
+      waits_at m d (place_after feed p) last k u v (waits_next m p last u v gives) (place_within feed p within) lt
+      (omega (arith, few)) (after_next p d k within lt far)
 
   waits_all : (p last k : ℕ) (u v : State) → Gives feed p u (replicate (length feed) sents.Wait) last v
       → p < length feed → k < length feed → (sent feed u k).1 ≡ sents.Wait
   waits_all p last k u v gives within lt = elim (leb_tells p k) [
-    | inl above ↦ waits_above (length feed) p last k u v gives above.1 lt (omega (arith, lt))
-    | inr below ↦ waits_below (length feed) p last k u v gives (omega (arith, below.1)) within (omega (arith, below.1))
+    | inl above ↦ waits_at (length feed) (k - p) p last k u v gives within lt (omega (arith, lt))
+        (inl (omega (arith, above.1)))
+    | inr below ↦ waits_at (length feed) (k + length feed - p) p last k u v gives within lt (omega (arith, below.1))
+        (inr (omega (arith, within)))
   ]
 
 -- What comes once nothing was given in a round.
@@ -162,7 +116,7 @@ round_over [] s v w p last given rest waited gives more =
 round_over (ring ∷ rings) s v w p last given rest waited gives more =
     let feed : List Window = ring ∷ rings in
     let parts = gives_split feed 0 p s v waited.0 (replicate (length feed) sents.Wait)
-    (subst (λ xs. Gives feed 0 s xs p v) waited.1 gives) in
+    (rw waited.1 at gives) in
     let some : 0 < length feed = omega arith in
     let within : parts.0 < length feed = within_given feed 0 parts.0 s parts.1 waited.0 some parts.2 in
     let same : v ≡ parts.1 = waits_stay feed (length feed) parts.0 p parts.1 v parts.3 in
@@ -190,29 +144,13 @@ GoesFurther feed some p u more q v = (rest : List Sent) × (more ≡ some ++ res
 
 one_run : (feed : List Window) (k p q : ℕ) (s u v : State) (a b : List Sent) → Gives feed k s a p u
     → Gives feed k s b q v → GoesFurther feed a p u b q v ⊎ GoesFurther feed b q v a p u
-one_run feed k p q s u v [] b x y =
-    inl (
-      b,
-      refl,
-      rw (← x.0) at (subst (λ (t : State). Gives feed k t b q v) (sym x.1) y),
-    )
-one_run feed k p q s u v (a ∷ more) [] x y =
-    inr (
-      a ∷ more,
-      refl,
-      rw (← y.0) at (subst (λ (t : State). Gives feed k t (a ∷ more) p u) (sym y.1) x),
-    )
+one_run feed k p q s u v [] b x y = inl (b, refl, rw (x.0, x.1) y)
+one_run feed k p q s u v (a ∷ more) [] x y = inr (a ∷ more, refl, rw (y.0, y.1) x)
 one_run feed k p q s u v (a ∷ more) (b ∷ others) x y =
-    let first : a ≡ b = sym x.0 ∙ y.0 in
     elim (one_run feed (place_after feed k) p q (sent feed s k).0 u v more others x.1 y.1) [
-      | inl far ↦ inl (far.0, ap (λ z. z ∷ others) (sym first) ∙ ap (λ zs. a ∷ zs) far.1, far.2)
-      | inr far ↦ inr (far.0, ap (λ z. z ∷ more) first ∙ ap (λ zs. b ∷ zs) far.1, far.2)
+      | inl far ↦ inl (far.0, cc (far.1, x.0, y.0), far.2)
+      | inr far ↦ inr (far.0, cc (far.1, x.0, y.0), far.2)
     ]
-
-all_joined : (some more : List Sent) → all_sent (some ++ more) ≡ all_sent some ++ all_sent more
-all_joined [] more = refl
-all_joined (a ∷ some) more = ap (λ b. sent_bytes a ++ b) (all_joined some more)
-    ∙ sym (append_assoc (sent_bytes a) (all_sent some) (all_sent more))
 
 ended_alike : (feed : List Window) (p q : ℕ) (u v : State) (a b : List Sent) → NothingMore feed p u
     → GoesFurther feed a p u b q v → (v ≡ u) × (all_sent b ≡ all_sent a)
@@ -296,47 +234,13 @@ nothing_reported before bytes some e = let none : 0 ≡ length bytes = ap length
     omega (arith, some, none)
 
 -- Two sessions that began alike, once each has sent what it had to send, and goes on to read.
-record SentAlike (old m n : Attending) : Type 0 where
-  alike : AreAlike m n
-  session : n.session ≡ m.session
-  stream : List ℕ
-  held : IsHeld m.session.held stream
-  fits : (lines_of stream).is_too_long ≡ false
-
 sent_alike : (feed : List Window) (old m n : Attending) → Stands old.session → GoesOn feed old m → GoesOn feed old n
-    → SentAlike old m n
+    → AreAlike m n × ((stream : List ℕ) × StandsFor m.session stream)
 sent_alike feed old m n stands g h =
-    let mid : AreAlike m n = sent_once feed old m n g.sends h.sends in
-    let awake : Open old.session.state.phase =
-    λ shut. g.open_still (ap (λ (s : State). s.phase)
-    (shut_given feed 0 g.sends.place old.session.state m.session.state g.sends.given g.sends.gives shut) ∙ shut) in
-    let some : (stream : List ℕ) × StandsFor old.session stream = stands awake in record {
-      alike = mid;
-      session = sym (states_same m.session n.session mid.state (mid.held g.open_still));
-      stream = some.0;
-      held = subst (λ h. IsHeld h some.0) (sym g.sends.held) some.1.0;
-      fits = sym some.1.0.1 ∙ some.1.1;
-    }
-
-replied_alike : (feed : List Window) (old m n a b : Attending) (bytes more : List ℕ) → Stands old.session
-    → GoesOn feed old m → GoesOn feed old n → more ≡ bytes → RepliesToAll feed m a bytes → RepliesToAll feed n b more
-    → AreAlike a b
-replied_alike feed old m n a b bytes more stands g h same p q =
-    let beyond : SentAlike old m n = sent_alike feed old m n stands g h in
-    let other : Serves feed m.session bytes m.written.bytes b.session b.written.bytes =
-    subst (λ (s : SessionState). Serves feed s bytes m.written.bytes b.session b.written.bytes) beyond.session
-    (subst (λ w. Serves feed n.session bytes w b.session b.written.bytes) (sym beyond.alike.bytes)
-    (subst (λ bs. Serves feed n.session bs n.written.bytes b.session b.written.bytes) same q.serves)) in
-    let one : Same feed a.session b.session a.written.bytes b.written.bytes =
-    served_once feed m.session a.session b.session beyond.stream bytes m.written.bytes a.written.bytes b.written.bytes
-    (λ _. beyond.held) beyond.fits p.serves other in
-    record {
-      state = one.state;
-      held = one.held;
-      bytes = one.out;
-      failures = p.failures
-          ∙ (beyond.alike.failures ∙ sym q.failures);
-    }
+    let some : (stream : List ℕ) × StandsFor old.session stream =
+    stands (λ shut. g.open_still (rw (shut_given feed 0 g.sends.place old.session.state m.session.state g.sends.given
+    g.sends.gives shut) shut)) in
+    (sent_once feed old m n g.sends h.sends, (some.0, rw g.sends.held some.1))
 
 pub turned_once : (feed : List Window) (old a b : Attending) (before after : BytesRead) (t u : Turn)
     → Stands old.session
@@ -358,44 +262,15 @@ turned_once feed old a b before after t u stands (replies m bytes g e some few p
 turned_once feed old a b before after t u stands (replies m bytes g e some few p) (is_at_end h f) =
     absurd (nothing_reported before bytes some (sym f ∙ e))
 turned_once feed old a b before after t u stands (replies m bytes g e some few p) (replies n more h f much short q) =
-    (refl, replied_alike feed old m n a b bytes more stands g h (reported_same before more bytes (sym f ∙ e)) p q)
+    let both = sent_alike feed old m n stands g h in (
+      refl,
+      replied_once feed m n a b both.1.0 bytes both.0 g.open_still both.1.1 p
+          (rw (reported_same before more bytes (sym f ∙ e)) at q),
+    )
 
 -- A link that failed in a step.
 emitted_alike : (a b : Attending) → AreAlike a b → EmittedAlike a b
 emitted_alike a b same = record { state = same.state; bytes = same.bytes; failures = same.failures }
-
--- it failed in a reply
-cut_alike : (feed : List Window) (old m n a b : Attending) (bytes more : List ℕ) (count : ℕ) → Stands old.session
-    → GoesOn feed old m → GoesOn feed old n → more ≡ bytes → FailsToReply feed m a bytes → FailsToReply feed n b more
-    → length a.written.bytes ≡ length old.written.bytes + count
-    → length b.written.bytes ≡ length old.written.bytes + count
-    → EmittedAlike a b
-cut_alike feed old m n a b bytes more count stands g h same p q long short =
-    let beyond : SentAlike old m n = sent_alike feed old m n stands g h in
-    let other : Serves feed m.session q.prefix m.written.bytes q.before.session q.before.written.bytes =
-    rw beyond.session at
-    (rw (← beyond.alike.bytes) at q.replies.serves) in
-    let total : length (p.before.written.bytes ++ take p.count (reply_bytes p.reply))
-    ≡ length (q.before.written.bytes ++ take q.count (reply_bytes q.reply)) =
-    ap length (sym p.written.bytes) ∙ (long ∙ (sym short ∙ ap length q.written.bytes)) in
-    let one : (a.session.state ≡ b.session.state)
-    × (p.before.written.bytes ++ take p.count (reply_bytes p.reply) ≡ q.before.written.bytes ++ take q.count
-    (reply_bytes q.reply)) =
-    cut_in_once feed m.session p.before.session q.before.session a.session b.session beyond.stream bytes p.prefix
-    p.piece p.rest q.prefix q.piece q.rest m.written.bytes p.before.written.bytes q.before.written.bytes p.reply q.reply
-    p.count
-    q.count
-    (λ _. beyond.held) beyond.fits (p.bytes_are ∙ append_assoc p.prefix p.piece p.rest) p.replies.serves
-    p.takes p.written.part (sym same ∙ (q.bytes_are ∙ append_assoc q.prefix q.piece q.rest)) other q.takes
-    q.written.part
-    total in
-    record {
-      state = one.0;
-      bytes = p.written.bytes ∙ (one.1 ∙ sym q.written.bytes);
-      failures = p.written.failures ∙ (ap (λ n. n + 1) (p.replies.failures ∙ (beyond.alike.failures
-          ∙ sym q.replies.failures))
-          ∙ sym q.written.failures);
-    }
 
 pub cut_once : (feed : List Window) (old a b : Attending) (before after : BytesRead) (fault : LinkFault)
     → Stands old.session → IsServeFault feed old a before after fault → IsServeFault feed old b before after fault
@@ -410,5 +285,7 @@ cut_once feed old a b before after (faults.Write count) stands (at_reply m mid b
     absurd (still_unread before bytes (sym e ∙ f))
 cut_once feed old a b before after (faults.Write count) stands (at_reply n mid bytes g e few p long)
     (at_reply m other more h f short q total) =
-    cut_alike _ _ _ _ _ _ _ _ count stands g h (reported_same before _ _ (sym f ∙ e)) p q long total
+    let both = sent_alike feed old mid other stands g h in
+    cut_alike feed mid other a b both.1.0 bytes both.0 g.open_still both.1.1 p
+    (rw (reported_same before more bytes (sym f ∙ e)) at q) (long ∙ sym total)
 cut_once feed old a b before after (faults.Output count) stands p q = elim p [ ]

@@ -1,46 +1,38 @@
 -- Of the packets of a link that is cut off, the whole ones are reported.
-use Rattle.std.proofs.Common.{◌≡◌, ℕ, ◌+◌, ◌-◌, ◌/◌, ◌^◌, ◌<◌, ◌≤◌, inl, inr, suc, refl, sym, ap, subst, ◌∙◌, arith}
-use Rattle.std.proofs.Common.{◌&&◌, ◌||◌, if◌then◌else◌, List, [], ◌∷◌, ◌++◌, append_assoc, length, length-append, take}
-use Rattle.std.proofs.Common.{drop, take-append-drop, Option, Some, None, IfSome, codes}
+use Rattle.std.proofs.Common.{◌≡◌, ℕ, ◌+◌, ◌-◌, ◌/◌, ◌^◌, ◌<◌, ◌≤◌, inl, inr, suc, refl, sym, ap, ◌∙◌, arith}
+use Rattle.std.proofs.Common.{List, [], ◌∷◌, ◌++◌, append_assoc, length, length-append, take}
+use Rattle.std.proofs.Common.{drop, take-append-drop, Option, Some, None, IfSome}
 use Rattle.std.proofs.lemmas.Bool.{cases_lt, eq-eqb}
 use Rattle.std.proofs.lemmas.List.{length-drop, take-append-le}
-use Rattle.slink_wire.specs.Hexadecimal.{hexadecimal}
 use Rattle.slink_wire.specs.Packet.{packet_bytes}
-use Rattle.slink_wire.proofs.Digits.{length-hexadecimal}
-use Rattle.slink_wire.proofs.Packets.{read_back}
-use Rattle.slink_feed.specs.declared.dialogue.Ending.TheVariants as endings
+use Rattle.slink_wire.proofs.Packets.{packet_length, read_back}
 use Rattle.slink_feed.specs.declared.dialogue.Event.{Event}
 use Rattle.slink_feed.specs.declared.dialogue.Event.TheVariants as events
 use Rattle.slink_feed.specs.declared.dialogue.Stage.{Stage}
 use Rattle.slink_feed.specs.declared.dialogue.Stage.TheVariants.{Packets}
-use Rattle.slink_feed.specs.Cutting.{IsWhole}
+use Rattle.slink_feed.specs.Cutting.{IsBegun, IsWhole}
 use Rattle.slink_feed.specs.Delivered.{AreWanted, Numbered, all_packets, record_events}
-use Rattle.slink_feed.specs.Dialogue.{Talk, Whole, Packet, at_packet, place_of, ended, is_ahead, read, read_at}
+use Rattle.slink_feed.specs.Dialogue.{Talk, Whole, Packet, place_of, read, read_at}
 use Rattle.slink_feed.specs.Dialogue.{heard, if_wanted, next_at, reported}
-use Rattle.slink_feed.specs.Listening.{AreBrought, Brought, Listening, Reads, bytes_of, events_of, talk_after}
+use Rattle.slink_feed.specs.Listening.{Brought, Listening, Reads, bytes_of, events_of, talk_after}
 use Rattle.slink_feed.specs.Listening.{event_if_any}
 use Rattle.slink_feed.proofs.Received.{begun_none}
 use Rattle.slink_feed.proofs.Wholes.{prefix_begun}
-use Rattle.slink_feed.proofs.Deliveries.{take_past}
+use Rattle.std.proofs.Math.Seq.{take-append-add}
 
 pub packet_long : (n : ℕ) (bytes : List ℕ) → length bytes ≡ 512 → length (packet_bytes n bytes) ≡ 520
 packet_long n bytes long =
-    let prefix : length (codes "SL" ++ hexadecimal 6 n) ≡ 8 = length-append (codes "SL") (hexadecimal 6 n)
-    ∙ omega (arith, length-hexadecimal 6 n) in
-    length-append (codes "SL" ++ hexadecimal 6 n) bytes ∙ omega (arith, prefix, long)
+    omega (arith, packet_length n bytes, long)
 
 packet_whole : (t : Talk) (r : Numbered) → t.stage ≡ Packets → length r.bytes ≡ 512 → r.number < 2 ^ 24
     → IsWhole t.stage (packet_bytes r.number r.bytes) (Packet r.number r.bytes)
 packet_whole t r at long small =
-    subst (λ (s : Stage). IsWhole s (packet_bytes r.number r.bytes) (Packet r.number r.bytes)) (sym at)
-    (read_back r.number r.bytes small, packet_long r.number r.bytes long)
+    rw at (read_back r.number r.bytes small, packet_long r.number r.bytes long)
 
 pub wanted_reported : (o : Option ℕ) (k n : ℕ) (bytes : List ℕ) (t : Talk) → IfSome o (λ want. n ≡ want)
     → if_wanted o k n bytes t ≡ reported k n bytes t
 wanted_reported None k n bytes t is = refl
-wanted_reported (Some want) k n bytes t is =
-    ap (λ b. if b || (t.holes && is_ahead want n) then reported k n bytes t else ended (endings.Gap k want n) t)
-    (eq-eqb n want is)
+wanted_reported (Some want) k n bytes t is = rw (eq-eqb n want is) refl
 
 packet_read : (t : Talk) (r : Numbered) → t.stage ≡ Packets → place_of t.wants r.bytes ≡ Some r.place
     → IfSome (next_at t.wants r.place) (λ want. r.number ≡ want)
@@ -48,25 +40,16 @@ packet_read : (t : Talk) (r : Numbered) → t.stage ≡ Packets → place_of t.w
 packet_read t r at bears wanted =
     let u : Talk = heard (Packet r.number r.bytes) t in
     ap (λ (s : Stage). read_at s u (Packet r.number r.bytes)) at
-    ∙ (ap (λ o. at_packet o r.number r.bytes u) bears
-    ∙ wanted_reported (next_at t.wants r.place) r.place r.number r.bytes u wanted)
+    ∙ rw bears (wanted_reported (next_at t.wants r.place) r.place r.number r.bytes u wanted)
 
 -- so many bytes of the packets were delivered: what is reported of them, and what the client comes to
 abbrev Prefixed : Talk → List Numbered → ℕ → Type 0
 Prefixed t items d = (now : Listening) × Reads t (take d (all_packets items)) (record_events (take (d / 520) items)) now
 
-none_prefixed : (t : Talk) → Prefixed t [] 0
-none_prefixed t = (
-  record { talk = t; kept = [] },
-  record {
-    brought = [];
-    are_brought = tt;
-    bytes = refl;
-    events_are = refl;
-    talk = refl;
-    is_begun = begun_none t.stage;
-  },
-)
+-- what is begun reads as nothing yet
+reads_begun : (t : Talk) (kept : List ℕ) → IsBegun t.stage kept → Reads t kept [] (record { talk = t; kept = kept })
+reads_begun t kept begun =
+    record { brought = []; are_brought = tt; bytes = refl; events_are = refl; talk = refl; is_begun = begun }
 
 -- the first packet isn't whole
 part_prefixed : (t : Talk) (r : Numbered) (rs : List Numbered) (d : ℕ) → t.stage ≡ Packets → length r.bytes ≡ 512
@@ -81,9 +64,7 @@ part_prefixed t r rs d at long small lt =
     (omega (arith, length-drop d p, all, lt)) (rw (← (take-append-drop d p)) at (packet_whole t r at long small)) in
     let now : Listening = record { talk = t; kept = take d p } in (
       now,
-      subst (λ (xs : List ℕ). Reads t xs (record_events (take (d / 520) (r ∷ rs))) now) (sym stream)
-          (subst (λ n. Reads t (take d p) (record_events (take n (r ∷ rs))) now) (sym none)
-          (record { brought = []; are_brought = tt; bytes = refl; events_are = refl; talk = refl; is_begun = begun })),
+      rw (stream, none) (reads_begun t (take d p) begun),
     )
 
 -- the first packet is reported
@@ -97,15 +78,15 @@ whole_prefixed t r rs d at are ge more =
     let h : read t w ≡ reported r.place r.number r.bytes (heard w t) = packet_read t r at are.2 are.3 in
     let all : length p ≡ 520 = packet_long r.number r.bytes are.0 in
     let stream : take d (p ++ all_packets rs) ≡ p ++ take (d - 520) (all_packets rs) =
-    ap (λ n. take n (p ++ all_packets rs)) (let e : d ≡ length p + (d - 520) = omega (arith, all, ge) in e)
-    ∙ take_past p (all_packets rs) (d - 520) in
+    (let e : d ≡ length p + (d - 520) = omega (arith, all, ge) in ap (λ n. take n (p ++ all_packets rs)) e)
+    ∙ take-append-add p (all_packets rs) (d - 520) in
     let count : d / 520 ≡ suc ((d - 520) / 520) = omega (arith, ge) in
     let reading : Reads t (p ++ take (d - 520) (all_packets rs))
     (events.Record r.place r.number r.bytes ∷ record_events (take ((d - 520) / 520) rs)) more.0 = record {
       brought = record { bytes = p; whole = w } ∷ bs;
       are_brought = (
         packet_whole t r at are.0 are.1,
-        subst (λ (x : Talk × Event). AreBrought x.0 bs) (sym h) more.1.are_brought,
+        rw h more.1.are_brought,
       );
       bytes = ap (λ xs. p ++ xs) more.1.bytes ∙ sym (append_assoc p (bytes_of bs) more.0.kept);
       events_are = ap (λ es. events.Record r.place r.number r.bytes ∷ es) more.1.events_are
@@ -114,24 +95,18 @@ whole_prefixed t r rs d at are ge more =
       is_begun = more.1.is_begun;
     } in (
       more.0,
-      subst (λ (xs : List ℕ). Reads t xs (record_events (take (d / 520) (r ∷ rs))) more.0) (sym stream)
-          (subst (λ n. Reads t (p ++ take (d - 520) (all_packets rs)) (record_events (take n (r ∷ rs))) more.0)
-          (sym count) reading),
+      rw (stream, count) reading,
     )
 
 pub prefixes_reported : (items : List Numbered) (t : Talk) (d : ℕ) → t.stage ≡ Packets → AreWanted t items
     → d ≤ length (all_packets items) → Prefixed t items d
 prefixes_reported [] t d at are within = let none : d ≡ 0 = omega (arith, within) in
-    subst (λ n. Prefixed t [] n) (sym none) (none_prefixed t)
+    rw none (record { talk = t; kept = [] }, reads_begun t [] (begun_none t.stage))
 prefixes_reported (r ∷ rs) t d at are within = elim (cases_lt d 520) [
   | inl lt ↦ part_prefixed t r rs d at are.0 are.1 lt
-  | inr ge ↦ whole_prefixed t r rs d at are ge
+  | inr ge ↦
+      let long = length-append (packet_bytes r.number r.bytes) (all_packets rs) in
+      whole_prefixed t r rs d at are ge
       (prefixes_reported rs (reported r.place r.number r.bytes (heard (Packet r.number r.bytes) t)).0 (d - 520) at are.4
-      (omega (
-        arith,
-        within,
-        ge,
-        length-append (packet_bytes r.number r.bytes) (all_packets rs),
-        packet_long r.number r.bytes are.0,
-      )))
+      (omega (arith, within, ge, long, packet_long r.number r.bytes are.0)))
 ]

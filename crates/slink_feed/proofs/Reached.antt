@@ -1,13 +1,12 @@
 -- Grants that the rings of a feed reach.
-use Rattle.std.proofs.Common.{◌≡◌, ◌≢◌, ℕ, ◌+◌, ◌<◌, ◌≤◌, ◌⊎◌, inl, inr, zero, suc, refl, sym, ap, subst, ◌∙◌, arith}
-use Rattle.std.proofs.Common.{List, [], ◌∷◌, set, Option, Some, None, slice_get, if◌then◌else◌}
-use Rattle.std.proofs.lemmas.Bool.Decides.{eqb_tells}
+use Rattle.std.proofs.Common.{◌≡◌, ◌≢◌, ℕ, ◌+◌, ◌<◌, ◌≤◌, ◌⊎◌, inl, inr, zero, suc, refl, sym, ap, ◌∙◌, arith}
+use Rattle.std.proofs.Common.{List, [], ◌∷◌, set, Option, Some, None, slice_get}
+use Rattle.std.proofs.lemmas.Bool.{eq-eqb, ne_eqb}
+use Rattle.std.proofs.lemmas.Option.{same_Some}
 use Rattle.slink_feed.specs.declared.grant.Grant.{Grant}
-use Rattle.slink_feed.specs.declared.session.Phase.{Phase}
 use Rattle.slink_feed.specs.declared.session.Phase.TheVariants.{Streaming}
-use Rattle.slink_feed.specs.declared.session.Sent.{Sent}
 use Rattle.slink_feed.specs.Session.{AreReached, Grants, IsReached, State, has_sent_all, at_next, grant_at, packet_at}
-use Rattle.slink_feed.specs.Session.{sent, sent_from, sent_in, sent_of}
+use Rattle.slink_feed.specs.Session.{sent}
 use Rattle.slink_feed.specs.Window.{Window, record_at}
 
 -- a grant once another was written
@@ -24,9 +23,7 @@ grant_set (x ∷ gs) (suc k) (suc j) o =
 pub reached_with : (feed : List Window) (gs : Grants) (k : ℕ) (g : Grant) → IsReached feed k g.position
     → AreReached feed gs → AreReached feed (set gs k (Some g))
 reached_with feed gs k g reached before j h is = elim (grant_set gs k j (Some g)) [
-  | inl here ↦ let same : Some g ≡ Some h = sym here.1 ∙ is in
-      let one : g ≡ h = cc same in
-      rw one at (subst (λ i. IsReached feed i g.position) (sym here.0) reached)
+  | inl here ↦ rw (same_Some g h (sym here.1 ∙ is)) at (rw (← here.0) at reached)
   | inr there ↦ before j h (sym there ∙ is)
 ]
 
@@ -42,41 +39,23 @@ pub position_reached : (feed : List Window) (gs : Grants) (k : ℕ) (g : Grant) 
     → AreReached feed gs → o ≡ grant_at gs k → o ≡ Some g → slice_get feed k ≡ Some w → g.position ≤ w.next
 position_reached feed gs k g w o before read is here =
     let reached : IsReached feed k g.position = before k g (sym read ∙ is) in
-    let both : Some reached.0 ≡ Some w = sym reached.1 ∙ here in
-    let one : reached.0 ≡ w = cc both in
-    subst (λ (x : Window). g.position ≤ x.next) one reached.2
+    rw (same_Some reached.0 w (sym reached.1 ∙ here)) at reached.2
 
 -- a position that goes on to the next record
 pub reached_next : (feed : List Window) (k : ℕ) (w : Window) (p : ℕ) → slice_get feed k ≡ Some w → p < w.next
     → IsReached feed k (p + 1)
 reached_next feed k w p here lt = (w, here, omega (arith, lt))
 
--- what is sent, by the grant and the ring
-pub sent_is : (feed : List Window) (s : State) (k : ℕ) (g : Grant) (w : Window) (o : Option Grant) (x : State × Sent)
-    → s.phase ≡ Streaming → o ≡ grant_at s.grants k → o ≡ Some g → slice_get feed k ≡ Some w
-    → sent_from feed s k g w ≡ x → sent feed s k ≡ x
-sent_is feed s k g w o x phase read is here e =
-    ap (λ (p : Phase). sent_in p feed s k) phase
-    ∙ (ap (λ (h : Option Grant). sent_of feed s k h (slice_get feed k)) (sym read ∙ is)
-    ∙ (ap (λ (r : Option Window). sent_of feed s k (Some g) r) here ∙ e))
-
 -- what is sent at the ring's next record
 pub sent_at_next : (feed : List Window) (s : State) (k : ℕ) (g : Grant) (w : Window) (n : ℕ) → s.phase ≡ Streaming
     → grant_at s.grants k ≡ Some g → slice_get feed k ≡ Some w → n ≡ w.next → g.position ≡ n
     → sent feed s k ≡ at_next (has_sent_all feed s.grants) s
-sent_at_next feed s k g w n is granted here next at = elim (eqb_tells g.position w.next) [
-  | inl same ↦ sent_is feed s k g w (Some g) (at_next (has_sent_all feed s.grants) s) is (sym granted) refl here
-      (ap (λ b. if b then at_next (has_sent_all feed s.grants) s else packet_at s k g (record_at w g.position)) same.0)
-  | inr other ↦ absurd (other.1 (at ∙ next))
-]
+sent_at_next feed s k g w n is granted here next at =
+    rw (is, granted, here, eq-eqb g.position w.next (at ∙ next)) refl
 
 -- what is sent elsewhere, by the record at the grant's position
 pub sent_by_record : (feed : List Window) (s : State) (k : ℕ) (g : Grant) (w : Window) (o : Option (List ℕ))
     → s.phase ≡ Streaming → grant_at s.grants k ≡ Some g → slice_get feed k ≡ Some w → o ≡ record_at w g.position
     → g.position ≢ w.next → sent feed s k ≡ packet_at s k g o
-sent_by_record feed s k g w o is granted here read off = elim (eqb_tells g.position w.next) [
-  | inl same ↦ absurd (off same.1)
-  | inr other ↦ sent_is feed s k g w (Some g) (packet_at s k g o) is (sym granted) refl here
-      (ap (λ b. if b then at_next (has_sent_all feed s.grants) s else packet_at s k g (record_at w g.position)) other.0
-      ∙ ap (packet_at s k g) (sym read))
-]
+sent_by_record feed s k g w o is granted here read off =
+    rw (read, is, granted, here, ne_eqb g.position w.next off) refl

@@ -1,18 +1,14 @@
 -- What a client reads, and what it goes on to stand for.
-use Rattle.std.proofs.Common.{◌≡◌, ℕ, ◌<◌, ◌≤◌, ◌^◌, refl, sym, ap, subst, ◌∙◌, arith, List, [], ◌∷◌, ◌++◌}
+use Rattle.std.proofs.Common.{◌≡◌, ℕ, ◌<◌, ◌^◌, refl, sym, ap, subst, ◌∙◌, arith, List, [], ◌∷◌, ◌++◌}
 use Rattle.std.proofs.Common.{append_assoc, append-nil, length, length-drop, take, drop, Some, None}
 use Rattle.std.proofs.lemmas.List.{length-take-le, take_all}
-use Rattle.slink_wire.specs.Packet.{HasHead, IsPacket}
-use Rattle.slink_feed.specs.declared.cutting.Part.{Part}
-use Rattle.slink_feed.specs.declared.cutting.Part.TheVariants as parts
-use Rattle.slink_feed.specs.declared.dialogue.Ending.TheVariants as endings
+use Rattle.slink_wire.specs.Packet.{IsPacket}
 use Rattle.slink_feed.specs.declared.dialogue.Event.{Event}
 use Rattle.slink_feed.specs.declared.dialogue.Event.TheVariants as events
 use Rattle.slink_feed.specs.declared.dialogue.Stage.{Stage}
 use Rattle.slink_feed.specs.declared.dialogue.Stage.TheVariants.{Station, Number, Packets}
-use Rattle.slink_feed.specs.Cutting.{IsBegun, IsReply, IsWhole, IsWholePacket, IsWholeReply, nothing}
-use Rattle.slink_feed.specs.private.Parts.{IsPacketPart, IsReplyPart}
-use Rattle.slink_feed.specs.Dialogue.{Talk, Whole, Reply, Packet, End, Garbage, at_packet, place_of, ended, read}
+use Rattle.slink_feed.specs.Cutting.{IsBegun, IsWhole, IsWholePacket, IsWholeReply, nothing}
+use Rattle.slink_feed.specs.Dialogue.{Talk, Whole, read}
 use Rattle.slink_feed.specs.Dialogue.{heard, read_at}
 use Rattle.slink_feed.specs.Listening.{AreBrought, AwaitsReply, Brings, Brought, IsLinked, Listening, Reads, begun}
 use Rattle.slink_feed.specs.Listening.{bytes_of, events_of, talk_after, event_if_any, whole}
@@ -35,72 +31,25 @@ short_packet packet r n long is =
 pub same_packet : (bytes packet : List ℕ) → length bytes ≡ 520 → packet ≡ take 520 bytes → packet ≡ bytes
 same_packet bytes packet long same = same ∙ take_all 520 bytes (omega (arith, long))
 
--- bytes with a packet's head, and as many as it has, are one
-pub has_packet : (bytes packet : List ℕ) (n : ℕ) → packet ≡ bytes → HasHead bytes n → IsPacket packet n (drop 8 packet)
-has_packet bytes packet n same has = subst (λ (b : List ℕ). IsPacket b n (drop 8 b)) (sym same) (has.0, has.1, refl)
-
-paired : (d talk : Talk) (x e : Event) (h : Talk × Event) → h ≡ (talk, e) → d ≡ talk → x ≡ e → h ≡ (d, x)
-paired d talk x e h is same_talk same_event = cc
-
-reply_whole : (stage : Stage) (bytes : List ℕ) (w : Whole) → AwaitsReply stage → IsWholeReply bytes w
+-- bytes are whole where a reply or a packet is awaited
+pub reply_whole : (stage : Stage) (bytes : List ℕ) (w : Whole) → AwaitsReply stage → IsWholeReply bytes w
     → IsWhole stage bytes w
 reply_whole (Station k) bytes w awaits is = is
 reply_whole (Number k) bytes w awaits is = is
 reply_whole stage bytes w awaits is = absurd awaits
 
-pub reply_brings : (t d talk : Talk) (bytes slice line kept : List ℕ) (x e : Event) → AwaitsReply t.stage
-    → slice ≡ bytes → IsReply slice line → read t (Reply line) ≡ (talk, e) → d ≡ talk → x ≡ e → kept ≡ []
+-- what is read of bytes that are whole comes of them
+pub whole_brings : (t d talk : Talk) (bytes kept : List ℕ) (w : Whole) (x e : Event) → IsWhole t.stage bytes w
+    → read t w ≡ (talk, e) → d ≡ talk → x ≡ e → kept ≡ [] → Brings t bytes (record { talk = d; kept = kept }) x
+whole_brings t d talk bytes kept w x e is h same_talk same_event none =
+    rw (same_talk, same_event) (whole w is h none)
+
+pub packet_brings : (t d talk : Talk) (bytes kept : List ℕ) (w : Whole) (x e : Event) → t.stage ≡ Packets
+    → IsWholePacket bytes w → read_at Packets (heard w t) w ≡ (talk, e) → d ≡ talk → x ≡ e → kept ≡ []
     → Brings t bytes (record { talk = d; kept = kept }) x
-reply_brings t d talk bytes slice line kept x e awaits same is h same_talk same_event none =
-    whole (Reply line) (reply_whole t.stage bytes (Reply line) awaits (subst (λ (b : List ℕ). IsReply b line) same is))
-    (paired d talk x e (read t (Reply line)) h same_talk same_event) none
-
-pub no_reply_brings : (t d talk : Talk) (bytes kept : List ℕ) (part : Part) (x e : Event) → AwaitsReply t.stage
-    → IsReplyPart bytes part → part ≡ parts.Garbage → read t Garbage ≡ (talk, e) → d ≡ talk → x ≡ e → kept ≡ []
-    → Brings t bytes (record { talk = d; kept = kept }) x
-no_reply_brings t d talk bytes kept part x e awaits is at h same_talk same_event none =
-    whole Garbage (reply_whole t.stage bytes Garbage awaits (subst (IsReplyPart bytes) at is))
-    (paired d talk x e (read t Garbage) h same_talk same_event) none
-
-packet_whole : (t : Talk) (bytes : List ℕ) (w : Whole) → t.stage ≡ Packets → IsWholePacket bytes w
-    → IsWhole t.stage bytes w
-packet_whole t bytes w at is = subst (λ (s : Stage). IsWhole s bytes w) (sym at) is
-
-pub packet_brings : (t d talk : Talk) (bytes slice kept : List ℕ) (part : Part) (x e : Event) → t.stage ≡ Packets
-    → IsPacketPart bytes part → part ≡ parts.Whole → slice ≡ bytes
-    → ((n : ℕ) × (r : List ℕ) × IsPacket slice n r
-    × (at_packet (place_of t.wants r) n r (heard (Packet n r) t) ≡ (talk, e))) → d ≡ talk → x ≡ e → kept ≡ []
-    → Brings t bytes (record { talk = d; kept = kept }) x
-packet_brings t d talk bytes slice kept part x e at is whole_part same packet same_talk same_event none =
-    let long : (n : ℕ) × HasHead bytes n × (length bytes ≡ 520) = subst (IsPacketPart bytes) whole_part is in
-    let w : Whole = Packet packet.0 packet.1 in
-    whole w (packet_whole t bytes w at (subst (λ (b : List ℕ). IsPacket b packet.0 packet.1) same packet.2, long.2))
-    (paired d talk x e (read t w) (ap (λ (s : Stage). read_at s (heard w t) w) at ∙ packet.3) same_talk same_event) none
-
--- a packet at the start of bytes, whose record is wanted
-pub leading_brings : (t new : Talk) (bytes packet r : List ℕ) (n k : ℕ) → t.stage ≡ Packets → packet ≡ take 520 bytes
-    → 520 ≤ length bytes → IsPacket packet n r
-    → at_packet (place_of t.wants r) n r (heard (Packet n r) t) ≡ (new, events.Record k n r)
-    → Brings t (take 520 bytes) (record { talk = new; kept = [] }) (events.Record k n r)
-leading_brings t new bytes packet r n k at same long is h =
-    let w : Whole = Packet n r in
-    whole w (packet_whole t (take 520 bytes) w at
-    (subst (λ (b : List ℕ). IsPacket b n r) same is, length-take-le 520 bytes long))
-    (ap (λ (s : Stage). read_at s (heard w t) w) at ∙ h) refl
-
-pub end_brings : (t d talk : Talk) (bytes kept : List ℕ) (part : Part) (x e : Event) → t.stage ≡ Packets
-    → IsPacketPart bytes part → part ≡ parts.End → ended endings.End t ≡ (talk, e) → d ≡ talk → x ≡ e → kept ≡ []
-    → Brings t bytes (record { talk = d; kept = kept }) x
-end_brings t d talk bytes kept part x e at is end_part h same_talk same_event none =
-    whole End (packet_whole t bytes End at (subst (IsPacketPart bytes) end_part is))
-    (paired d talk x e (read t End) (ap (λ (s : Stage). read_at s (heard End t) End) at ∙ h) same_talk same_event) none
-
-pub garbage_brings : (t d talk : Talk) (bytes kept : List ℕ) (part : Part) (x e : Event) → t.stage ≡ Packets
-    → IsPacketPart bytes part → part ≡ parts.Garbage → read t Garbage ≡ (talk, e) → d ≡ talk → x ≡ e → kept ≡ []
-    → Brings t bytes (record { talk = d; kept = kept }) x
-garbage_brings t d talk bytes kept part x e at is garbage_part h same_talk same_event none =
-    whole Garbage (packet_whole t bytes Garbage at (subst (IsPacketPart bytes) garbage_part is))
-    (paired d talk x e (read t Garbage) h same_talk same_event) none
+packet_brings t d talk bytes kept w x e at is h same_talk same_event none =
+    whole_brings t d talk bytes kept w x e (rw at is) (ap (λ (s : Stage). read_at s (heard w t) w) at ∙ h) same_talk
+    same_event none
 
 -- before the first byte of a whole
 pub begun_none : (stage : Stage) → IsBegun stage []
@@ -114,14 +63,12 @@ pub brings_seen : (talk : Talk) (kept all more : List ℕ) (now new : Listening)
     → ◌≡◌ {A = Listening} (record { talk = talk; kept = kept }) now → all ≡ kept ++ more → Brings talk all new e
     → Brings now.talk (now.kept ++ more) new e
 brings_seen talk kept all more now new e seen is brings =
-    subst (λ (l : Listening). Brings l.talk (l.kept ++ more) new e) seen
-    (subst (λ (b : List ℕ). Brings talk b new e) is brings)
+    subst (λ (l : Listening). Brings l.talk (l.kept ++ more) new e) seen (rw is at brings)
 
 pub begun_after : (talk : Talk) (bytes : List ℕ) (new : Listening) (e : Event) → Brings talk bytes new e
     → IsBegun new.talk.stage new.kept
-begun_after talk bytes new e (whole w is h none) = subst (IsBegun new.talk.stage) (sym none) (begun_none new.talk.stage)
-begun_after talk bytes new e (begun is same quiet) =
-    subst (λ (l : Listening). IsBegun l.talk.stage l.kept) (sym same) is
+begun_after talk bytes new e (whole w is h none) = rw none (begun_none new.talk.stage)
+begun_after talk bytes new e (begun is same quiet) = rw same is
 
 -- one whole more
 brought_more : (t : Talk) (bs : List Brought) (b : Brought) → AreBrought t bs
@@ -156,7 +103,7 @@ reads_whole start stream more es now new e w is h none reads =
     record {
       brought = reads.brought ++ b ∷ [];
       are_brought = brought_more start reads.brought b reads.are_brought
-          (subst (λ (t : Talk). IsWhole t.stage (now.kept ++ more) w) reads.talk is);
+          (rw reads.talk at is);
       bytes = ap (λ s. s ++ more) reads.bytes ∙ (append_assoc (bytes_of reads.brought) now.kept more
           ∙ (sym (bytes_more reads.brought b) ∙ (sym (append-nil (bytes_of (reads.brought ++ b ∷ [])))
           ∙ ap (λ k. bytes_of (reads.brought ++ b ∷ []) ++ k) (sym none))));
@@ -164,7 +111,7 @@ reads_whole start stream more es now new e w is h none reads =
           ∙ (ap (λ (p : Talk × Event). events_of start reads.brought ++ event_if_any p.1) (sym at)
           ∙ sym (events_more start reads.brought b));
       talk = ap (λ (p : Talk × Event). p.0) (sym at) ∙ sym (talk_more start reads.brought b);
-      is_begun = subst (IsBegun new.talk.stage) (sym none) (begun_none new.talk.stage);
+      is_begun = rw none (begun_none new.talk.stage);
     }
 
 reads_begun : (start : Talk) (stream more : List ℕ) (es : List Event) (now new : Listening) (e : Event)
@@ -172,17 +119,14 @@ reads_begun : (start : Talk) (stream more : List ℕ) (es : List Event) (now new
     → e ≡ events.None
     → Reads start stream es now → Reads start (stream ++ more) (es ++ event_if_any e) new
 reads_begun start stream more es now new e is same quiet reads =
-    let all : es ++ event_if_any e ≡ es = ap (λ x. es ++ event_if_any x) quiet ∙ append-nil es in
-    subst (λ (l : Listening). Reads start (stream ++ more) (es ++ event_if_any e) l) (sym same)
-    (subst (λ xs. Reads start (stream ++ more) xs (record { talk = now.talk; kept = now.kept ++ more })) (sym all)
-    (record {
+    rw (same, quiet, append-nil es) (record {
       brought = reads.brought;
       are_brought = reads.are_brought;
       bytes = ap (λ s. s ++ more) reads.bytes ∙ append_assoc (bytes_of reads.brought) now.kept more;
       events_are = reads.events_are;
       talk = reads.talk;
       is_begun = is;
-    }))
+    })
 
 pub reads_more : (start : Talk) (stream more : List ℕ) (es : List Event) (now new : Listening) (e : Event)
     → Brings now.talk (now.kept ++ more) new e → Reads start stream es now

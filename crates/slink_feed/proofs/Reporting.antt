@@ -1,7 +1,6 @@
 -- What is reported of records and taken by the output, one after another.
-use Rattle.std.proofs.Common.{◌≡◌, ℕ, ◌+◌, ◌<◌, refl, sym, ap, subst, ◌∙◌, arith, List, [], ◌∷◌, ◌++◌, append_assoc}
-use Rattle.std.proofs.Common.{Bool, append-nil, length, length-append, take}
-use Rattle.std.proofs.Math.Seq.{take-append-add}
+use Rattle.std.proofs.Common.{◌≡◌, ℕ, ◌+◌, ◌<◌, refl, sym, ap, ◌∙◌, arith, List, [], ◌∷◌, ◌++◌, append_assoc}
+use Rattle.std.proofs.Common.{append-nil, length, length-append, take}
 use Rattle.mseed_stream.specs.Device.{BytesWritten}
 use Rattle.slink_feed.specs.declared.dialogue.Event.{Event}
 use Rattle.slink_feed.specs.declared.dialogue.Event.TheVariants as events
@@ -9,35 +8,20 @@ use Rattle.slink_feed.specs.declared.fetching.Counts.{Counts}
 use Rattle.slink_feed.specs.declared.turn.LinkFault.{LinkFault}
 use Rattle.slink_feed.specs.declared.turn.LinkFault.TheVariants as faults
 use Rattle.slink_feed.specs.Delivered.{Numbered}
-use Rattle.slink_feed.specs.Dialogue.{Talk, heard, read}
+use Rattle.slink_feed.specs.Dialogue.{Talk, heard}
 use Rattle.slink_feed.specs.Fetching.{Fetching, line_written, record_reported}
-use Rattle.slink_feed.specs.Listening.{Brings, Listening, begun, event_if_any, whole}
+use Rattle.slink_feed.specs.Listening.{Brings, Listening, begun, whole}
 use Rattle.slink_feed.specs.private.Delivery.{FailsToTakeNext, TakesNext, IsDelivered, IsUndelivered}
 use Rattle.slink_feed.specs.Reports.{AreHandedOver, Outputs, Reports, TakesRecords, ReportsRecords, all, but_last}
 use Rattle.slink_feed.specs.Reports.{outputs}
 use Rattle.slink_feed.specs.Reporter.{ReporterState, AreReported, Reporting, lines_at, lines_of, none, one}
 use Rattle.slink_feed.specs.Reporter.{reporting_after, reporting_past}
-use Rattle.slink_feed.specs.Reported.{HasReported, bytes_in, record_in, records_reported}
-use Rattle.slink_feed.specs.Turns.{Emitted, EmittedPrefix}
+use Rattle.slink_feed.specs.Reported.{HasReported, bytes_in, record_in}
+use Rattle.slink_feed.specs.Turns.{Emitted}
 use Rattle.slink_feed.proofs.Noting.{nothing_noted, notes_both}
-use Rattle.slink_feed.proofs.Numbers.{kept_read}
-use Rattle.slink_feed.proofs.ReportedOver.{bytes_both, comes_read, reported_both, reported_none, reported_one}
-use Rattle.slink_feed.proofs.Deliveries.{emitted_none}
-
-pub emitted_both : (a b c : BytesWritten) (xs ys : List ℕ) → Emitted a b xs → Emitted b c ys → Emitted a c (xs ++ ys)
-emitted_both a b c xs ys p q = record {
-  bytes = q.bytes ∙ (ap (λ z. z ++ ys) p.bytes ∙ append_assoc a.bytes xs ys);
-  failures = q.failures ∙ p.failures;
-}
-
-pub emitted_prefix : (a b c : BytesWritten) (xs ys : List ℕ) (n : ℕ) → Emitted a b xs → EmittedPrefix b c ys n
-    → EmittedPrefix a c (xs ++ ys) (length xs + n)
-emitted_prefix a b c xs ys n p q = record {
-  bytes = q.bytes ∙ (ap (λ z. z ++ take n ys) p.bytes
-      ∙ (append_assoc a.bytes xs (take n ys) ∙ ap (λ z. a.bytes ++ z) (sym (take-append-add xs ys n))));
-  part = omega (arith, q.part, length-append xs ys);
-  failures = q.failures ∙ ap (λ f. f + 1) p.failures;
-}
+use Rattle.slink_feed.proofs.Outcomes.{kept_read}
+use Rattle.slink_feed.proofs.ReportedOver.{bytes_both, reported_both, reported_none, reported_read}
+use Rattle.slink_feed.proofs.Deliveries.{emitted_further, emitted_none, prefix_further}
 
 -- What the output takes of records.
 pub takes_none : (old : BytesWritten) → TakesRecords [] old old
@@ -47,13 +31,12 @@ pub takes_both : (a b c : BytesWritten) (some more : List Numbered) → Emitted 
     → TakesRecords more b c
     → TakesRecords (some ++ more) a c
 takes_both a b c some more p q = elim q [
-  | all emitted ↦ all (subst (Emitted a c) (sym (bytes_both some more))
-      (emitted_both a b c (bytes_in some) (bytes_in more) p emitted))
+  | all emitted ↦ all (emitted_further a b c (bytes_in some) (bytes_in more) _ (bytes_both some more) p emitted)
   | but_last prefix last n is beyond emitted ↦
-      but_last (some ++ prefix) last (length (bytes_in some) + n) (ap (λ rs. some ++ rs) is
-      ∙ sym (append_assoc some prefix (last ∷ [])))
+      but_last (some ++ prefix) last (length (bytes_in some) + n)
+      (ap (λ rs. some ++ rs) is ∙ sym (append_assoc some prefix (last ∷ [])))
       (omega (arith, beyond, ap length (bytes_both some prefix), length-append (bytes_in some) (bytes_in prefix)))
-      (rw (← (bytes_both some more)) at (emitted_prefix a b c (bytes_in some) (bytes_in more) n p emitted))
+      (prefix_further a b c (bytes_in some) (bytes_in more) _ _ n (bytes_both some more) refl p emitted)
 ]
 
 -- Where the output didn't fail, it accepted all.
@@ -80,16 +63,6 @@ line_alone event some = refl
 pub record_alone : (e : Event) → 0 < length (record_reported e) → (r : Numbered) × (record_in e ≡ r ∷ [])
 record_alone (events.Record k n bytes) some = (record { place = k; number = n; bytes = bytes }, refl)
 record_alone event some = absurd (omega (arith, some))
-
-event_alone : (e : Event) → records_reported (event_if_any e) ≡ record_in e
-event_alone events.None = refl
-event_alone (events.Say line) = refl
-event_alone (events.Record k n bytes) = refl
-event_alone events.End = refl
-event_alone (events.Refused k) = refl
-event_alone (events.Gap k want got) = refl
-event_alone events.Garbage = refl
-event_alone events.Foreign = refl
 
 -- Lines that are reported, one after another.
 pub lines_both : (xs ys : List (List ℕ)) (a b c : BytesWritten) → AreReported xs a b → AreReported ys b c
@@ -121,8 +94,7 @@ pub handed_over_both : (some more : List Numbered) (a b c : Outputs) → AreHand
 handed_over_both some more a b c p fine q = record {
   emitted = takes_both a.output b.output c.output some more (all_taken some a.output b.output p.emitted fine) q.emitted;
   reporting = q.reporting ∙ (ap (λ t. reporting_after t more) p.reporting ∙ sym (after_more a.reporting some more));
-  lines = subst (λ ls. AreReported ls a.errors c.errors) (sym (lines_more a.reporting some more))
-      (lines_both _ _ _ _ _ p.lines (subst (λ t. AreReported (lines_of t more) b.errors c.errors) p.reporting q.lines));
+  lines = rw (lines_more a.reporting some more) (lines_both _ _ _ _ _ p.lines (rw p.reporting at q.lines));
 }
 
 pub reports_none : (t : Talk) (a : Outputs) → Reports t t a a
@@ -138,7 +110,7 @@ pub reports_both : (old now new : Talk) (a b c : Outputs) → Reports old now a 
 reports_both old now new a b c p fine q = record {
   records = p.records ++ q.records;
   reported = reported_both old.holes old.wants now.wants new.wants p.records q.records p.reported
-      (subst (λ (h : Bool). HasReported h now.wants new.wants q.records) p.holes q.reported);
+      (rw p.holes at q.reported);
   holes = q.holes ∙ p.holes;
   handed_over = handed_over_both p.records q.records a b c p.handed_over fine q.handed_over;
 }
@@ -162,14 +134,8 @@ noted_both old now new r s t a b c d e f p fine q = record {
 -- What an event reports.
 reported_event : (talk : Talk) (bytes : List ℕ) (new : Listening) (event : Event) → Brings talk bytes new event
     → HasReported talk.holes talk.wants new.talk.wants (record_in event)
-reported_event talk bytes new event (whole w is h nothing) =
-    subst (λ rs. HasReported talk.holes talk.wants new.talk.wants rs) (event_alone event)
-    (subst (λ (x : Talk × Event). HasReported talk.holes talk.wants x.0.wants (records_reported (event_if_any x.1))) h
-    (reported_one (heard w talk) (read talk w) (comes_read (heard w talk) talk.stage bytes w is)))
-reported_event talk bytes new event (begun is same quiet) =
-    subst (λ (e : Event). HasReported talk.holes talk.wants new.talk.wants (record_in e)) (sym quiet)
-    (subst (λ (l : Listening). HasReported talk.holes talk.wants l.talk.wants []) (sym same)
-    (reported_none talk.holes talk.wants))
+reported_event talk bytes new event (whole w is h nothing) = rw h at (reported_read talk bytes w is)
+reported_event talk bytes new event (begun is same quiet) = rw (quiet, same) (reported_none talk.holes talk.wants)
 
 -- It doesn't change whether the client goes past holes.
 pub kept_event : (talk : Talk) (bytes : List ℕ) (new : Listening) (event : Event) → Brings talk bytes new event
@@ -181,18 +147,18 @@ kept_event talk bytes new event (begun is same quiet) = ap (λ (l : Listening). 
 -- What the output takes of it.
 pub takes_event : (event : Event) (before after : Counts) (w w' o o' : BytesWritten)
     → IsDelivered event before after w w' o o' → TakesRecords (record_in event) o o'
-takes_event event before after w w' o o' done = all (subst (Emitted o o') (record_bytes event) done.output)
+takes_event event before after w w' o o' done = all (rw (record_bytes event) at done.output)
 
 pub takes_cut : (fault : LinkFault) (event : Event) (before : Counts) (w w' o o' : BytesWritten)
     → IsUndelivered fault event before w w' o o' → TakesRecords (record_in event) o o'
 takes_cut faults.Read event before w w' o o' cut = absurd cut
 takes_cut (faults.Write count) event before w w' o o' cut =
     let quiet : record_in event ≡ [] = line_alone event (omega (arith, cut.failing.part)) in
-    rw (← quiet) at (subst (λ (x : BytesWritten). TakesRecords [] o x) (sym cut.other) (takes_none o))
+    rw (quiet, cut.other) (takes_none o)
 takes_cut (faults.Output count) event before w w' o o' cut =
     let alone = record_alone event (omega (arith, cut.failing.part)) in
     but_last [] alone.0 cut.more alone.1 (omega arith)
-    (subst (λ bytes. EmittedPrefix o o' bytes cut.more) (record_bytes event) cut.failing)
+    (rw (record_bytes event) at cut.failing)
 
 -- one event more
 pub reports_more : (first : Talk) (now new : Listening) (bytes : List ℕ) (event : Event) (a b c : Outputs)
@@ -217,7 +183,7 @@ reports_received first bytes used before after now new a b c from to p fine rece
     let done = takes_event received.event before after now.written new.written now.output new.output received.done in
     reports_more first now.client new.client (now.client.kept ++ take used bytes) received.event a b c p fine
     received.comes.brings
-    (rw from at (subst (λ (o : BytesWritten). TakesRecords (record_in received.event) now.output o) to done))
+    (rw from at (rw to at done))
     received.reported.reporting received.reported.lines
 
 pub reports_cut : (first : Talk) (bytes : List ℕ) (fault : LinkFault) (before : Counts) (now new : Fetching)
@@ -228,5 +194,5 @@ reports_cut first bytes fault before now new a b c from to p fine received =
     let done = takes_cut fault received.event before now.written new.written now.output new.output received.cut in
     reports_more first now.client new.client (now.client.kept ++ take received.used bytes) received.event a b c p fine
     received.comes.brings
-    (rw from at (subst (λ (o : BytesWritten). TakesRecords (record_in received.event) now.output o) to done))
+    (rw from at (rw to at done))
     received.reported.reporting received.reported.lines

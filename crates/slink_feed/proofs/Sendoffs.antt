@@ -1,9 +1,10 @@
 -- What a session gave so far, and which of the bytes it accepted were answered.
-use Rattle.std.proofs.Common.{◌≡◌, ◌≢◌, ℕ, ◌+◌, ◌-◌, ◌*◌, ◌≤◌, ◌<◌, ◌⊎◌, zero, suc, refl, sym, ap, subst, ◌∙◌, arith}
-use Rattle.std.proofs.Common.{inl, inr, if◌then◌else◌, List, [], ◌∷◌, ◌++◌, append_assoc, append-nil, length}
-use Rattle.std.proofs.Common.{length-append, length-take, replicate, take, take-append-drop, drop, Result, Err, IfErr}
+use Rattle.std.proofs.Common.{◌≡◌, ◌≢◌, ℕ, ◌+◌, ◌-◌, ◌*◌, ◌≤◌, ◌<◌, ◌⊎◌, refl, sym, ap, subst, ◌∙◌, arith}
+use Rattle.std.proofs.Common.{inl, inr, List, [], ◌∷◌, ◌++◌, append_assoc, append-nil, length}
+use Rattle.std.proofs.Common.{length-append, replicate, take, take-append-drop, drop, Result, Err, IfErr}
 use Rattle.std.proofs.Common.{IfOk}
-use Rattle.std.proofs.lemmas.Bool.Decides.{eqb_tells}
+use Rattle.std.proofs.lemmas.Bool.Decides.{nat_tests}
+use Rattle.std.proofs.lemmas.List.{replicate_more}
 use Rattle.slink_wire.specs.declared.reply.Reply.{Reply}
 use Rattle.slink_wire.specs.declared.reply.Reply.TheVariants as replies
 use Rattle.slink_wire.specs.Reply.{reply_bytes}
@@ -12,16 +13,13 @@ use Rattle.slink_feed.specs.declared.session.Sent.{Sent}
 use Rattle.slink_feed.specs.declared.session.Sent.TheVariants as sents
 use Rattle.slink_feed.specs.declared.session.Unsent.{Unsent}
 use Rattle.slink_feed.specs.declared.session.Unsent.TheVariants as unsents
-use Rattle.slink_feed.specs.declared.turn.LinkFault.{LinkFault}
-use Rattle.slink_feed.specs.declared.turn.LinkFault.TheVariants as faults
-use Rattle.slink_feed.specs.private.Replying.{HasFailed, HasGiven, HasSent, IsReplyFault, IsWritten, IsWriteFault}
-use Rattle.slink_feed.specs.private.Replying.{IsSendFault, IsUnwritten, waits_after}
+use Rattle.slink_feed.specs.private.Replying.{HasFailed, HasGiven, HasSent, IsUnwritten, IsWritten, waits_after}
 use Rattle.slink_feed.specs.Rounds.{Attending, FailsToSend, Gives, HasWaited, all_sent, place_after}
 use Rattle.slink_feed.specs.Serving.{Serves, SessionState, Takes, none_served, piece_served}
 use Rattle.slink_feed.specs.Session.{AreReached, State, sent, sent_bytes, sent_without}
 use Rattle.slink_feed.specs.Turns.{Emitted}
 use Rattle.slink_feed.specs.Window.{Window}
-use Rattle.slink_feed.proofs.Deliveries.{prefix_further, piece_is, emitted_further, emitted_none}
+use Rattle.slink_feed.proofs.Deliveries.{prefix_further, prefix_length, piece_is, emitted_further, emitted_none}
 use Rattle.slink_feed.proofs.Dues.{Moves, due, few_due, moved, moves, waits}
 
 pub record SentSoFar (feed : List Window) (old now : Attending) (k waits written : ℕ) : Type 0 where
@@ -51,58 +49,39 @@ nothing_sent feed s = record {
 gives_more : (feed : List Window) (k last : ℕ) (s t : State) (given : List Sent) (x : State × Sent)
     → sent feed t last ≡ x → Gives feed k s given last t
     → Gives feed k s (given ++ x.1 ∷ []) (place_after feed last) x.0
-gives_more feed k last s t [] x is gives =
-    let same : sent feed s k ≡ x = ap (λ n. sent feed s n) (sym gives.0)
-    ∙ (ap (λ (u : State). sent feed u last) (sym gives.1) ∙ is) in
+gives_more feed k last s t [] x is gives = let same : sent feed s k ≡ x = rw (gives.0, gives.1) at is in
     (ap (λ (p : State × Sent). p.1) same, (ap (place_after feed) gives.0, ap (λ (p : State × Sent). p.0) (sym same)))
 gives_more feed k last s t (a ∷ more) x is gives =
     (gives.0, gives_more feed (place_after feed k) last (sent feed s k).0 t more x is gives.1)
 
+pub all_joined : (some more : List Sent) → all_sent (some ++ more) ≡ all_sent some ++ all_sent more
+all_joined [] more = refl
+all_joined (a ∷ some) more = ap (λ b. sent_bytes a ++ b) (all_joined some more)
+    ∙ sym (append_assoc (sent_bytes a) (all_sent some) (all_sent more))
+
 all_more : (given : List Sent) (a : Sent) → all_sent (given ++ a ∷ []) ≡ all_sent given ++ sent_bytes a
-all_more [] a = append-nil (sent_bytes a)
-all_more (g ∷ given) a = ap (λ s. sent_bytes g ++ s) (all_more given a)
-    ∙ sym (append_assoc (sent_bytes g) (all_sent given) (sent_bytes a))
-
-wait_last : (n : ℕ) → replicate n sents.Wait ++ sents.Wait ∷ [] ≡ replicate (suc n) sents.Wait
-wait_last zero = refl
-wait_last (suc n) = ap (λ s. sents.Wait ∷ s) (wait_last n)
-
-wait_more : (n : ℕ) → replicate n sents.Wait ++ sents.Wait ∷ [] ≡ replicate (n + 1) sents.Wait
-wait_more n = wait_last n ∙ ap (λ m. replicate m sents.Wait) (let e : suc n ≡ n + 1 = omega arith in e)
+all_more given a = rw (all_joined given (a ∷ []), append-nil (sent_bytes a)) refl
 
 waited_more : (given : List Sent) (a : Sent) (n : ℕ) → HasWaited n given → HasWaited (waits_after a n) (given ++ a ∷ [])
-waited_more given (sents.Packet bytes) n waited =
-    (given ++ sents.Packet bytes ∷ [], sym (append-nil (given ++ sents.Packet bytes ∷ [])))
 waited_more given sents.Wait n waited = (
   waited.0,
-  ap (λ s. s ++ sents.Wait ∷ []) waited.1 ∙ (append_assoc waited.0 (replicate n sents.Wait) (sents.Wait ∷ [])
-      ∙ ap (λ s. waited.0 ++ s) (wait_more n)),
+  rw (waited.1, append_assoc waited.0 (replicate n sents.Wait) (sents.Wait ∷ []), replicate_more n sents.Wait) refl,
 )
-waited_more given sents.Done n waited = (given ++ sents.Done ∷ [], sym (append-nil (given ++ sents.Done ∷ [])))
-waited_more given sents.Overrun n waited = (given ++ sents.Overrun ∷ [], sym (append-nil (given ++ sents.Overrun ∷ [])))
-waited_more given sents.Closed n waited = (given ++ sents.Closed ∷ [], sym (append-nil (given ++ sents.Closed ∷ [])))
+waited_more given a n waited = (given ++ a ∷ [], sym (append-nil (given ++ a ∷ [])))
 
 waits_within : (a : Sent) (n most : ℕ) → n < most → waits_after a n ≤ most
 waits_within sents.Wait n most lt = omega (arith, lt)
 waits_within answer n most lt = omega arith
 
 pub place_within : (feed : List Window) (k : ℕ) → k < length feed → place_after feed k < length feed
-place_within feed k lt = elim (eqb_tells (k + 1) (length feed)) [
-  | inl same ↦ let e : place_after feed k ≡ 0 = ap (λ b. if b then 0 else k + 1) same.0 in omega (arith, e, lt)
-  | inr other ↦ let e : place_after feed k ≡ k + 1 = ap (λ b. if b then 0 else k + 1) other.0 in
-      omega (arith, e, lt, other.1)
-]
+place_within feed k lt = grind (arith, nat_tests)
 
 -- nothing was given, so that nothing was written
 few_more : (feed : List Window) (s : State) (x : State × Sent) (written count all : ℕ) → Moves feed s x → count ≤ 520
     → (x.1 ≡ sents.Wait → count ≡ 0) → written + 520 * due feed s ≤ all → (written + count) + 520 * due feed x.0 ≤ all
 few_more feed s x written count all (waits is same) short none before =
-    let e : due feed x.0 ≡ due feed s = ap (due feed) same in
-    omega (arith, none is, e, before)
+    omega (arith, none is, ap (due feed) same, before)
 few_more feed s x written count all (moves is less) short none before = omega (arith, less, short, before)
-
-none_waits : (a : Sent) → a ≡ sents.Wait → length (sent_bytes a) ≡ 0
-none_waits a is = ap (λ b. length (sent_bytes b)) is
 
 module _ (feed : List Window) (old now new : Attending) (k waits_now written : ℕ)
     (so_far : SentSoFar feed old now k waits_now written) (x : State × Sent) (is : sent feed now.session.state k ≡ x)
@@ -111,8 +90,7 @@ module _ (feed : List Window) (old now new : Attending) (k waits_now written : �
   given = so_far.given ++ x.1 ∷ []
 
   gives : Gives feed 0 old.session.state (so_far.given ++ x.1 ∷ []) (place_after feed k) new.session.state
-  gives = subst (λ (s : State). Gives feed 0 old.session.state (so_far.given ++ x.1 ∷ []) (place_after feed k) s)
-      (sym state) (gives_more feed 0 k old.session.state now.session.state so_far.given x is so_far.gives)
+  gives = rw state (gives_more feed 0 k old.session.state now.session.state so_far.given x is so_far.gives)
 
   pub one_sent : (after : ℕ) → Moves feed now.session.state x → waits_now < length feed → k < length feed
       → length (sent_bytes x.1) ≤ 520 → IsWritten now.written new.written (sent_bytes x.1) written after
@@ -126,16 +104,13 @@ module _ (feed : List Window) (old now new : Attending) (k waits_now written : �
         (all_sent (so_far.given ++ x.1 ∷ [])) (all_more so_far.given x.1) so_far.emitted done.written;
     counted = done.count ∙ (ap (λ n. n + length (sent_bytes x.1)) so_far.counted
         ∙ (sym (length-append (all_sent so_far.given) (sent_bytes x.1)) ∙ ap length (sym (all_more so_far.given x.1))));
-    few =
-        let more = few_more feed now.session.state x written (length (sent_bytes x.1))
-        (520 * due feed old.session.state) moved short (none_waits x.1) so_far.few in
-        let e : due feed new.session.state ≡ due feed x.0 = ap (due feed) state in
-        omega (arith, more, e, done.count);
+    few = rw (state, done.count) (few_more feed now.session.state x written (length (sent_bytes x.1))
+        (520 * due feed old.session.state) moved short (ap (λ b. length (sent_bytes b))) so_far.few);
     within = λ some. place_within feed k within;
     waits_few = waits_within x.1 waits_now (length feed) lt;
   }
 
-  unsent : (after : ℕ) → IsUnwritten now.written new.written (sent_bytes x.1) written after
+  pub unsent : (after : ℕ) → IsUnwritten now.written new.written (sent_bytes x.1) written after
       → FailsToSend feed old new after
   unsent after cut =
       let counted : after ≡ length (all_sent so_far.given) + cut.more =
@@ -152,20 +127,12 @@ module _ (feed : List Window) (old now new : Attending) (k waits_now written : �
         beyond = omega (arith, counted);
       }
 
-  pub not_sent : (fault : LinkFault) → IsWriteFault fault now.written new.written (sent_bytes x.1) written
-      → IsSendFault fault feed old new
-  not_sent (faults.Write after) cut = unsent after cut
-  not_sent fault cut = absurd cut
-
 -- less is due, or one more call gave nothing
 pub less_left : (feed : List Window) (s new : State) (x : State × Sent) (n : ℕ) → Moves feed s x → new ≡ x.0 → n < 16
     → 17 * due feed new + (16 - waits_after x.1 n) < 17 * due feed s + (16 - n)
 less_left feed s new x n (waits is same) e lt =
-    let one : due feed new ≡ due feed s = ap (due feed) (e ∙ same) in
-    let more : waits_after x.1 n ≡ n + 1 = ap (λ a. waits_after a n) is in
-    omega (arith, one, more, lt)
-less_left feed s new x n (moves is less) e lt = let one : due feed new ≡ due feed x.0 = ap (due feed) e in
-    omega (arith, one, less, lt)
+    omega (arith, ap (due feed) (e ∙ same), ap (λ a. waits_after a n) is, lt)
+less_left feed s new x n (moves is less) e lt = omega (arith, ap (due feed) e, less, lt)
 
 pub has_moved : (feed : List Window) (k : ℕ) (now new : Attending) (before after n waited : ℕ)
     → now.session.state.phase ≢ Closed → AreReached feed now.session.state.grants
@@ -186,8 +153,7 @@ has_sent feed old now k n written most ends so_far = record {
     gives = so_far.gives;
     ends = elim ends [
       | inl shut ↦ inl shut
-      | inr all ↦ inr (let same : n ≡ length feed = omega (arith, all, so_far.waits_few) in
-          subst (λ m. HasWaited m so_far.given) same so_far.waited)
+      | inr all ↦ inr (let same : n ≡ length feed = omega (arith, all, so_far.waits_few) in rw same at so_far.waited)
     ];
     held = so_far.held;
     written = so_far.emitted;
@@ -235,15 +201,7 @@ serves_piece feed s now last bytes piece way on reply (piece_served t u v bs pre
 
 pub reply_short : (reply : Reply) → length (reply_bytes reply) ≤ 35
 reply_short replies.Nothing = omega arith
-reply_short replies.Ok = omega arith
-reply_short replies.Error = omega arith
-reply_short replies.Hello = omega arith
-
-split_piece : (bytes : List ℕ) (start used : ℕ)
-    → bytes ≡ (take start bytes ++ take used (take (length bytes - start) (drop start bytes))) ++ drop (start + used)
-    bytes
-split_piece bytes start used = sym (take-append-drop (start + used) bytes)
-    ∙ ap (λ s. s ++ drop (start + used) bytes) (sym (piece_is bytes start used))
+reply_short reply = omega arith
 
 module _ (feed : List Window) (old now new : Attending) (bytes : List ℕ) (start before written used : ℕ) (reply : Reply)
     (so_far : RepliedSoFar feed old now bytes start before written)
@@ -254,13 +212,10 @@ module _ (feed : List Window) (old now new : Attending) (bytes : List ℕ) (star
       → RepliedSoFar feed old new bytes (start + used) before after
   one_replied after some bound done = record {
     within = omega (arith, so_far.within, bound);
-    serves = subst (λ (on : List ℕ). Serves feed old.session (take (start + used) bytes) old.written.bytes new.session
-        on)
-        (sym done.written.bytes)
-        (rw (piece_is bytes start used) at
+    serves = rw (done.written.bytes, ← (piece_is bytes start used))
         (serves_piece feed old.session now.session new.session (take start bytes)
         (take used (take (length bytes - start) (drop start bytes))) old.written.bytes now.written.bytes reply
-        so_far.serves takes));
+        so_far.serves takes);
     failures = done.written.failures ∙ so_far.failures;
     counted = omega (
       arith,
@@ -272,14 +227,14 @@ module _ (feed : List Window) (old now new : Attending) (bytes : List ℕ) (star
     few = omega (arith, done.count, reply_short reply, so_far.few, some);
   }
 
-  unreplied : (after : ℕ) → IsUnwritten now.written new.written (reply_bytes reply) written after
+  pub unreplied : (after : ℕ) → IsUnwritten now.written new.written (reply_bytes reply) written after
       → HasFailed feed old new bytes before after
   unreplied after cut = record {
     fails = record {
       prefix = take start bytes;
       piece = take used (take (length bytes - start) (drop start bytes));
       rest = drop (start + used) bytes;
-      bytes_are = split_piece bytes start used;
+      bytes_are = rw (piece_is bytes start used) (sym (take-append-drop (start + used) bytes));
       before = now;
       replies = record { serves = so_far.serves; failures = so_far.failures };
       reply = reply;
@@ -289,39 +244,27 @@ module _ (feed : List Window) (old now new : Attending) (bytes : List ℕ) (star
     };
     counted = omega (
       arith,
-      ap length cut.written.bytes,
-      length-append now.written.bytes (take cut.more (reply_bytes reply)),
-      length-take cut.more (reply_bytes reply),
-      cut.written.part,
+      prefix_length now.written new.written (reply_bytes reply) cut.more cut.written,
       cut.count,
       so_far.counted,
     );
   }
 
-  pub not_replied : (fault : LinkFault) → IsWriteFault fault now.written new.written (reply_bytes reply) written
-      → IsReplyFault fault feed old new bytes before
-  not_replied (faults.Write after) cut = unreplied after cut
-  not_replied fault cut = absurd cut
-
 -- where no record is sent, no packet is, and few bytes are
 pub no_packet : (unsent : Unsent) (bytes : List ℕ) → sent_without unsent ≢ sents.Packet bytes
 no_packet unsents.Wait bytes e = cc e
-no_packet unsents.Done bytes e = cc e
-no_packet unsents.Overrun bytes e = cc e
-no_packet unsents.Closed bytes e = cc e
+no_packet unsent bytes e = cc e
 
 pub few_without : (unsent : Unsent) → length (sent_bytes (sent_without unsent)) ≤ 520
 few_without unsents.Wait = omega arith
-few_without unsents.Done = omega arith
-few_without unsents.Overrun = omega arith
-few_without unsents.Closed = omega arith
+few_without unsent = omega arith
 
 -- the fault that a `?` passes on
-pub passed_on : {T : Type 0} (r : Result T LinkFault) (fault : LinkFault) (P : LinkFault → Type 0)
-    → ((x : LinkFault) × (r ≡ Err x) × (x ≡ fault)) → P fault → IfErr r P
-passed_on r fault P got fails = subst (λ s. IfErr s P) (sym got.1) (subst P (sym got.2) fails)
+pub passed_on : {T E : Type 0} (r : Result T E) (fault : E) (P : E → Type 0)
+    → ((x : E) × (r ≡ Err x) × (x ≡ fault)) → P fault → IfErr r P
+passed_on r fault P got fails = rw (got.1, got.2) fails
 
 -- where a `?` passes a fault on, nothing is said of a result
-pub not_ok : {T : Type 0} {Q : LinkFault → Type 0} (r : Result T LinkFault) (P : T → Type 0)
-    → ((x : LinkFault) × (r ≡ Err x) × Q x) → IfOk r P
-not_ok r P got = subst (λ s. IfOk s P) (sym got.1) tt
+pub not_ok : {T E : Type 0} {Q : E → Type 0} (r : Result T E) (P : T → Type 0)
+    → ((x : E) × (r ≡ Err x) × Q x) → IfOk r P
+not_ok r P got = rw got.1 tt

@@ -1,6 +1,6 @@
 -- A slice of a station's records, from the number on that it wants, is wanted.
-use Rattle.std.proofs.Common.{◌≡◌, ℕ, ◌+◌, ◌%◌, ◌^◌, zero, suc, refl, sym, ap, subst, ◌∙◌, arith, Bool, not, cond}
-use Rattle.std.proofs.Common.{nat_lt, List, [], ◌∷◌, ◌++◌, length, set, Option, Some, None, IfSome}
+use Rattle.std.proofs.Common.{◌≡◌, ℕ, ◌+◌, ◌%◌, ◌^◌, zero, suc, refl, ap, ◌∙◌, arith, Bool}
+use Rattle.std.proofs.Common.{List, [], ◌∷◌, ◌++◌, set, Option, Some, None, IfSome}
 use Rattle.std.specs.List.{position_or_len}
 use Rattle.std.proofs.lemmas.List.{length-set}
 use Rattle.slink_wire.specs.Packet.{packet_bytes}
@@ -15,20 +15,15 @@ use Rattle.slink_feed.proofs.Numbers.{place_some, next_here}
 first_same : (p : Option Wanted → Bool) (wants : Wants) (k : ℕ) (w : Wanted) (o : Option Wanted)
     → want_at wants k ≡ Some w → p o ≡ p (Some w) → position_or_len p (set wants k o) ≡ position_or_len p wants
 first_same p [] k w o at same = refl
-first_same p (x ∷ xs) zero w o at same = ap (λ t. cond (not t) (1 + position_or_len p xs) 0) (same ∙ ap p (sym at))
-first_same p (x ∷ xs) (suc k) w o at same = ap (λ n. cond (not (p x)) (1 + n) 0) (first_same p xs k w o at same)
+first_same p (x ∷ xs) zero w o at same = rw (at, same) refl
+first_same p (x ∷ xs) (suc k) w o at same = rw (first_same p xs k w o at same) refl
 
 place_set : (wants : Wants) (k n : ℕ) (bytes : List ℕ) (o : Option Wanted) → want_at wants k ≡ o
     → place_of (next_set o wants k n) bytes ≡ place_of wants bytes
 place_set wants k n bytes None at = refl
 place_set wants k n bytes (Some w) at =
     let o : Option Wanted = Some (record { place = w.place; next = Some n }) in
-    let first : position_or_len (is_of_wanted bytes) (set wants k o) ≡ position_or_len (is_of_wanted bytes) wants =
-    first_same (is_of_wanted bytes) wants k w o at refl in
-    ap (λ m. cond (nat_lt m (length (set wants k o))) (Some m) None) first
-    ∙ ap (λ l. cond (nat_lt (position_or_len (is_of_wanted bytes) wants) l) (Some (position_or_len
-    (is_of_wanted bytes) wants))
-    None) (length-set wants k o)
+    rw (first_same (is_of_wanted bytes) wants k w o at refl, length-set wants k o) refl
 
 matched_set : (wants : Wants) (k n : ℕ) (rs : List (List ℕ)) → AreOfPlace wants k rs
     → AreOfPlace (with_next wants k n) k rs
@@ -50,7 +45,7 @@ slice_wanted k g (r ∷ rs) t are wanted =
       wanted,
       slice_wanted k (g + 1) rs (reported k (g % 2 ^ 24) r (heard (Packet (g % 2 ^ 24) r) t)).0
           (matched_set t.wants k n rs are.2)
-          (subst (λ o. IfSome o (λ want. (g + 1) % 2 ^ 24 ≡ want)) (sym next) same),
+          (rw next same),
     )
 
 pub slice_packets : (k g : ℕ) (rs : List (List ℕ)) → all_packets (numbered k g rs) ≡ joined (packets_from g rs)

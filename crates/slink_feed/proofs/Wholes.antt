@@ -1,10 +1,11 @@
 -- No prefix of a whole is another, and bytes are one whole at most.
-use Rattle.std.proofs.Common.{◌≡◌, ℕ, ◌+◌, ◌<◌, inl, inr, refl, sym, ap, subst, ◌∙◌, arith, List, [], ◌∷◌, ◌++◌}
+use Rattle.std.proofs.Common.{◌≡◌, ◌≢◌, ◌≤◌, ℕ, ◌+◌, ◌<◌, inl, inr, refl, sym, ap, ◌∙◌, arith, List, [], ◌∷◌}
+use Rattle.std.proofs.Common.{◌++◌}
 use Rattle.std.proofs.Common.{append_assoc, append-nil, length, length-append, Some, slice_get, codes}
 use Rattle.std.proofs.lemmas.Bool.{cases_lt}
 use Rattle.std.proofs.lemmas.List.{append_cancel_right}
 use Rattle.std.proofs.lemmas.Option.{slice_get_within}
-use Rattle.slink_wire.specs.Packet.{IsPacket}
+use Rattle.slink_wire.specs.Packet.{HasHead, IsPacket}
 use Rattle.slink_wire.specs.Reply.{line_end}
 use Rattle.slink_wire.proofs.Packets.{one_packet}
 use Rattle.slink_feed.specs.declared.dialogue.Stage.{Stage}
@@ -24,7 +25,7 @@ prefix_begins : (a z : List ℕ) (b : ℕ) → 0 < length a → Begins (a ++ z) 
 prefix_begins a z b some is = sym (get_left a z 0 some) ∙ is
 
 not_both : (xs : List ℕ) → Begins xs 69 → Begins xs 83 → ⊥
-not_both xs e s = let bad : 69 ≡ 83 = one_begins xs 69 83 e s in omega (arith, bad)
+not_both xs e s = omega (arith, one_begins xs 69 83 e s)
 
 end_begins : (bytes : List ℕ) → bytes ≡ codes "END" → (Begins bytes 69) × (length bytes ≡ 3)
 end_begins bytes is = (ap (λ (xs : List ℕ). slice_get xs 0) is, ap length is)
@@ -32,8 +33,8 @@ end_begins bytes is = (ap (λ (xs : List ℕ). slice_get xs 0) is, ap length is)
 packet_begins : (bytes r : List ℕ) (n : ℕ) → IsPacket bytes n r → Begins bytes 83
 packet_begins [] r n is = absurd (let bad : [] ≡ codes "SL" = is.0 in cc bad)
 packet_begins (x ∷ []) r n is = absurd (let bad : x ∷ [] ≡ codes "SL" = is.0 in cc bad)
-packet_begins (x ∷ y ∷ xs) r n is = let both : x ∷ y ∷ [] ≡ 83 ∷ 76 ∷ [] = is.0 in let one : x ≡ 83 = cc both in
-    ap (λ z. Some z) one
+packet_begins (x ∷ y ∷ xs) r n is =
+    let both : x ∷ y ∷ [] ≡ 83 ∷ 76 ∷ [] = is.0 in let one : x ≡ 83 = cc both in ap (λ z. Some z) one
 
 -- A CR LF ends the bytes of a reply.
 reply_end : (a z line : List ℕ) → a ≡ line ++ line_end → LacksEnd (a ++ z) → ⊥
@@ -80,57 +81,65 @@ reply_prefix a z Garbage some is = (lacks_prefix a z is.0, omega (arith, is.1, s
 reply_prefix a z whole some is = absurd is
 
 no_more : (a line : List ℕ) → IsReply a line → LacksEnd a → ⊥
-no_more a line is lacks = reply_end a [] line is.0 (subst LacksEnd (sym (append-nil a)) lacks)
+no_more a line is lacks = reply_end a [] line is.0 (rw (append-nil a) lacks)
 
 one_reply : (a : List ℕ) (w v : Whole) → IsWholeReply a w → IsWholeReply a v → w ≡ v
 one_reply a (Reply l) (Reply m) p q = ap (λ x. Reply x) (append_cancel_right l m line_end (sym p.0 ∙ q.0))
 one_reply a (Reply l) Garbage p q = absurd (no_more a l p q.0)
 one_reply a Garbage (Reply m) p q = absurd (no_more a m q p.0)
 one_reply a Garbage Garbage p q = refl
-one_reply a (Reply l) (Packet n r) p q = absurd q
-one_reply a (Reply l) End p q = absurd q
-one_reply a Garbage (Packet n r) p q = absurd q
-one_reply a Garbage End p q = absurd q
+one_reply a (Reply l) v p q = absurd q
+one_reply a Garbage v p q = absurd q
 one_reply a whole v p q = absurd p
 
--- the same of packets
-begun_no_garbage : (a z : List ℕ) → IsPacketBegun (a ++ z) → IsNoPacket a → ⊥
-begun_no_garbage a z (nothing e) (no_first b is s t one) = omega (arith, e, one, length-append a z)
-begun_no_garbage a z (nothing e) (no_end is three other) = omega (arith, e, three, length-append a z)
-begun_no_garbage a z (nothing e) (no_head is eight lacks) = omega (arith, e, eight, length-append a z)
-begun_no_garbage a z (end_begun e short) (no_first b is s t one) =
-    t (one_begins (a ++ z) b 69 (begins_prefix a z b is) e)
-begun_no_garbage a z (end_begun e short) (no_end is three other) = omega (arith, short, three, length-append a z)
-begun_no_garbage a z (end_begun e short) (no_head is eight lacks) = omega (arith, short, eight, length-append a z)
-begun_no_garbage a z (head_begun e short) (no_first b is s t one) =
-    s (one_begins (a ++ z) b 83 (begins_prefix a z b is) e)
-begun_no_garbage a z (head_begun e short) (no_end is three other) = not_both (a ++ z) (begins_prefix a z 69 is) e
-begun_no_garbage a z (head_begun e short) (no_head is eight lacks) = omega (arith, short, eight, length-append a z)
-begun_no_garbage a z (record_begun n e has long short) (no_first b is s t one) =
-    s (one_begins (a ++ z) b 83 (begins_prefix a z b is) e)
-begun_no_garbage a z (record_begun n e has long short) (no_end is three other) =
-    not_both (a ++ z) (begins_prefix a z 69 is) e
-begun_no_garbage a z (record_begun n e has long short) (no_head is eight lacks) =
-    lacks n (head_before a z n (omega (arith, eight)) has)
+-- bytes of a packet that are begun, by the first of them
+record AreBegun (bytes : List ℕ) : Type 0 where
+  short : length bytes < 520
+  first : (b : ℕ) → Begins bytes b → b ≢ 83 → b ≢ 69 → ⊥
+  end : Begins bytes 69 → length bytes < 3
+  head : Begins bytes 83 → 8 ≤ length bytes → (n : ℕ) × HasHead bytes n
 
-begun_no_end : (a z : List ℕ) → IsPacketBegun (a ++ z) → Begins a 69 → length a ≡ 3 → ⊥
-begun_no_end a z (nothing e) is three = omega (arith, e, three, length-append a z)
-begun_no_end a z (end_begun e short) is three = omega (arith, short, three, length-append a z)
-begun_no_end a z (head_begun e short) is three = not_both (a ++ z) (begins_prefix a z 69 is) e
-begun_no_end a z (record_begun n e has long short) is three = not_both (a ++ z) (begins_prefix a z 69 is) e
+are_begun : (bytes : List ℕ) → IsPacketBegun bytes → AreBegun bytes
+are_begun bytes (nothing e) = record {
+  short = omega (arith, e);
+  first = λ b is s t. omega (arith, e, slice_get_within bytes 0 b is);
+  end = λ is. omega (arith, e);
+  head = λ is long. absurd (omega (arith, e, long));
+}
+are_begun bytes (end_begun e few) = record {
+  short = omega (arith, few);
+  first = λ b is s t. t (one_begins bytes b 69 is e);
+  end = λ is. few;
+  head = λ is long. absurd (omega (arith, few, long));
+}
+are_begun bytes (head_begun e few) = record {
+  short = omega (arith, few);
+  first = λ b is s t. s (one_begins bytes b 83 is e);
+  end = λ is. absurd (not_both bytes is e);
+  head = λ is long. absurd (omega (arith, few, long));
+}
+are_begun bytes (record_begun n e has long few) = record {
+  short = few;
+  first = λ b is s t. s (one_begins bytes b 83 is e);
+  end = λ is. absurd (not_both bytes is e);
+  head = λ is _. (n, has);
+}
 
-begun_short : (a : List ℕ) → IsPacketBegun a → length a < 520
-begun_short a (nothing e) = omega (arith, e)
-begun_short a (end_begun e short) = omega (arith, short)
-begun_short a (head_begun e short) = omega (arith, short)
-begun_short a (record_begun n e has long short) = short
+begun_no_garbage : (a z : List ℕ) → AreBegun (a ++ z) → IsNoPacket a → ⊥
+begun_no_garbage a z begun (no_first b is s t one) = begun.first b (begins_prefix a z b is) s t
+begun_no_garbage a z begun (no_end is three other) =
+    omega (arith, begun.end (begins_prefix a z 69 is), three, length-append a z)
+begun_no_garbage a z begun (no_head is eight lacks) =
+    let has = begun.head (begins_prefix a z 83 is) (omega (arith, eight, length-append a z)) in
+    lacks has.0 (head_before a z has.0 (omega (arith, eight)) has.1)
 
 packet_begun_no : (a z : List ℕ) (w : Whole) → IsPacketBegun (a ++ z) → IsWholePacket a w → ⊥
 packet_begun_no a z (Reply line) begun is = is
-packet_begun_no a z (Packet n r) begun is = omega (arith, begun_short (a ++ z) begun, is.1, length-append a z)
-packet_begun_no a z End begun is = let e : (Begins a 69) × (length a ≡ 3) = end_begins a is in
-    begun_no_end a z begun e.0 e.1
-packet_begun_no a z Garbage begun is = begun_no_garbage a z begun is
+packet_begun_no a z (Packet n r) begun is = omega (arith, (are_begun (a ++ z) begun).short, is.1, length-append a z)
+packet_begun_no a z End begun is =
+    let e : (Begins a 69) × (length a ≡ 3) = end_begins a is in
+    omega (arith, (are_begun (a ++ z) begun).end (begins_prefix a z 69 e.0), e.1, length-append a z)
+packet_begun_no a z Garbage begun is = begun_no_garbage a z (are_begun (a ++ z) begun) is
 
 garbage_prefix : (a z : List ℕ) → 0 < length z → IsNoPacket (a ++ z) → IsPacketBegun a
 garbage_prefix a z some (no_first b is s t one) = nothing (omega (arith, one, some, length-append a z))
@@ -178,26 +187,18 @@ end_no_garbage a is (no_first b begins s t one) = omega (arith, (end_begins a is
 end_no_garbage a is (no_end begins three other) = other is
 end_no_garbage a is (no_head begins eight lacks) = omega (arith, (end_begins a is).1, eight)
 
-packets_same : (n m : ℕ) (r s : List ℕ) → n ≡ m → r ≡ s → Packet n r ≡ Packet m s
-packets_same n m r s p q = cc
-
 one_of_packets : (a : List ℕ) (w v : Whole) → IsWholePacket a w → IsWholePacket a v → w ≡ v
-one_of_packets a (Packet n r) (Packet m s) p q = let same : (n ≡ m) × (r ≡ s) = one_packet a n m r s p.0 q.0 in
-    packets_same n m r s same.0 same.1
-one_of_packets a (Packet n r) End p q = absurd (let three : length a ≡ 3 = (end_begins a q).1 in
-    omega (arith, p.1, three))
+one_of_packets a (Packet n r) (Packet m s) p q = let same = one_packet a n m r s p.0 q.0 in cc
+one_of_packets a (Packet n r) End p q = absurd (omega (arith, p.1, (end_begins a q).1))
 one_of_packets a (Packet n r) Garbage p q = absurd (packet_no_garbage a r n p.0 p.1 q)
-one_of_packets a End (Packet m s) p q = absurd (let three : length a ≡ 3 = (end_begins a p).1 in
-    omega (arith, q.1, three))
+one_of_packets a End (Packet m s) p q = absurd (omega (arith, q.1, (end_begins a p).1))
 one_of_packets a End End p q = refl
 one_of_packets a End Garbage p q = absurd (end_no_garbage a p q)
 one_of_packets a Garbage (Packet m s) p q = absurd (packet_no_garbage a s m q.0 q.1 p)
 one_of_packets a Garbage End p q = absurd (end_no_garbage a q p)
 one_of_packets a Garbage Garbage p q = refl
 one_of_packets a (Reply l) v p q = absurd p
-one_of_packets a (Packet n r) (Reply l) p q = absurd q
-one_of_packets a End (Reply l) p q = absurd q
-one_of_packets a Garbage (Reply l) p q = absurd q
+one_of_packets a w (Reply l) p q = absurd q
 
 -- at each stage
 pub begun_no_whole : (stage : Stage) (a z : List ℕ) (w : Whole) → IsBegun stage (a ++ z) → IsWhole stage a w → ⊥

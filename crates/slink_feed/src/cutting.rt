@@ -25,7 +25,8 @@ pub(crate) enum Part {
 /// Puts bytes after others.
 pub(crate) fn put<const N: usize>(kept: &mut ArrayVec<u8, N>, bytes: &[u8])
     requires { length kept.old.items + length bytes.now ≤ N }
-    ensures { kept.new.items ≡ kept.old.items ++ bytes.now }
+    ensures items { kept.new.items ≡ kept.old.items ++ bytes.now }
+    ensures len { length kept.new.items ≡ length kept.old.items + length bytes.now }
 {
     // There is room.
     let _ = kept.try_extend_from_slice(bytes);

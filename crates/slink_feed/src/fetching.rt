@@ -12,6 +12,7 @@ ghost use Rattle.slink_feed.specs.Reported.{record_in};
 
 use crate::client::Client;
 use crate::dialogue::Event;
+use crate::reading::read_once;
 use crate::reporter::Reporter;
 use crate::turn::{LinkFault, Turn};
 use mseed_stream::{Counted, Duplex, Failed, Sink, write_all_of};
@@ -93,7 +94,7 @@ pub fn fetch_turn_in<S: Duplex, W: Sink, E: Sink>(
 {
     client.kept_reads_as_begun();
     let lack = client.lack();
-    let count = match link.pull(&mut room[..lack]) {
+    let count = match read_once(link, &mut room[..lack]) {
         Ok(count) => count,
         Err(Failed) => return Err(LinkFault::Read),
     };

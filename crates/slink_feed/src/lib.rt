@@ -12,6 +12,7 @@ mod grant;
 mod input;
 mod law;
 mod progress;
+mod reading;
 mod reported;
 mod reporter;
 mod ring;

@@ -2,13 +2,14 @@
 ghost use Rattle.std.specs.Prelude.{◌≡◌, ◌≢◌, ◌≤◌, ◌<◌, ◌^◌, IfErr, IfOk, OnOk, length};
 ghost use Rattle.slink_feed.specs.declared.session.Phase.{Phase};
 ghost use Rattle.slink_feed.specs.Attending.{Attends, IsServeFault, RepliesToAll, attending};
-ghost use Rattle.slink_feed.specs.private.Replying.{FailsToGive, HasGiven, HasSent, IsReplyFault, IsWriteFault};
-ghost use Rattle.slink_feed.specs.private.Replying.{IsSendFault, IsWritten, waits_after};
-ghost use Rattle.slink_feed.specs.Rounds.{Attending, place_after};
+ghost use Rattle.slink_feed.specs.private.Replying.{FailsToGive, HasFailed, HasGiven, HasSent, IsUnwritten, IsWritten};
+ghost use Rattle.slink_feed.specs.private.Replying.{waits_after};
+ghost use Rattle.slink_feed.specs.Rounds.{Attending, FailsToSend, place_after};
 ghost use Rattle.slink_feed.specs.Running.{Stands};
 ghost use Rattle.slink_feed.specs.Session.{Fits, sent_without};
 
 use crate::feed::{Feed, STATIONS};
+use crate::reading::read_once;
 use crate::session::{Session, Unsent};
 use crate::turn::{LinkFault, Turn};
 use mseed_stream::{Duplex, Failed, Sink, write_all_of};
@@ -46,7 +47,10 @@ pub fn serve_turn<A: Allocator, S: Duplex>(
     ensures stands { Stands session.new }
 {
     session.has_stream();
-    let written = send_all(session, feed, link, &mut [0; PACKET])?;
+    let written = match send_all(session, feed, link, &mut [0; PACKET]) {
+        Ok(written) => written,
+        Err(count) => return Err(LinkFault::Write(count)),
+    };
     if session.is_closed() {
         return Ok(Turn::Closed);
     }
@@ -75,30 +79,33 @@ fn answer_once<A: Allocator, S: Duplex>(
     ensures stands { Stands session.new }
 {
     let mut room = [0; ROOM];
-    let count = match link.pull(&mut room) {
+    let count = match read_once(link, &mut room) {
         Ok(count) => count,
         Err(Failed) => return Err(LinkFault::Read),
     };
     if count == 0 {
         return Ok(Turn::Closed);
     }
-    reply_to_all(session, feed, &room[..count], link, written)?;
-    Ok(Turn::Goes)
+    match reply_to_all(session, feed, &room[..count], link, written) {
+        Ok(()) => Ok(Turn::Goes),
+        Err(count) => Err(LinkFault::Write(count)),
+    }
 }
 
-/// Writes the due packets, and returns how many bytes they have. Each packet is made in the room.
+/// Writes the due packets, and returns how many bytes they have. Each packet is made in the room. An error has the
+/// number of bytes that the link accepted, here and below.
 fn send_all<A: Allocator, L: Sink>(
     session: &mut Session,
     feed: &Feed<A>,
     link: &mut L,
     room: &mut [u8; PACKET],
-) -> Result<usize, LinkFault>
+) -> Result<usize, usize>
     requires fits { Fits feed.now session.old.state }
     requires stands { Stands session.old }
     ensures ok { IfOk result (λ written. HasSent feed.now (attending session.old (L.written link.old))
         (attending session.new (L.written link.new)) written) }
-    ensures fault { IfErr result (λ fault. IsSendFault fault feed.now (attending session.old (L.written link.old))
-        (attending session.new (L.written link.new))) }
+    ensures fault { IfErr result (λ count. FailsToSend feed.now (attending session.old (L.written link.old))
+        (attending session.new (L.written link.new)) count) }
     ensures fits { Fits feed.now session.new.state }
     ensures stands { Stands session.new }
     ensures beside { L.beside link.new ≡ L.beside link.old }
@@ -134,15 +141,15 @@ fn give<A: Allocator, L: Sink>(
     room: &mut [u8; PACKET],
     before: usize,
     waits: usize,
-) -> Result<Given, LinkFault>
+) -> Result<Given, usize>
     requires in_range { k < length feed.now }
     requires fits { Fits feed.now session.old.state }
     requires room { before ≤ 2 ^ 41 }
     requires waits { waits < STATIONS }
     ensures ok { IfOk result (λ given. HasGiven feed.now k (attending session.old (L.written link.old))
         (attending session.new (L.written link.new)) before given.written waits given.waits) }
-    ensures fault { IfErr result (λ fault. FailsToGive fault feed.now k (attending session.old (L.written link.old))
-        (attending session.new (L.written link.new)) before) }
+    ensures fault { IfErr result (λ after. FailsToGive feed.now k (attending session.old (L.written link.old))
+        (attending session.new (L.written link.new)) before after) }
     ensures fits { Fits feed.now session.new.state }
     ensures stands { Stands session.new }
     ensures beside { L.beside link.new ≡ L.beside link.old }
@@ -190,15 +197,15 @@ fn reply_to_all<A: Allocator, L: Sink>(
     bytes: &[u8],
     link: &mut L,
     before: usize,
-) -> Result<(), LinkFault>
+) -> Result<(), usize>
     requires fits { Fits feed.now session.old.state }
     requires stands { Stands session.old }
     requires few { length bytes.now ≤ ROOM }
     requires room { before ≤ 2 ^ 40 }
     ensures ok { OnOk result (RepliesToAll feed.now (attending session.old (L.written link.old))
         (attending session.new (L.written link.new)) bytes.now) }
-    ensures fault { IfErr result (λ fault. IsReplyFault fault feed.now (attending session.old (L.written link.old))
-        (attending session.new (L.written link.new)) bytes.now before) }
+    ensures fault { IfErr result (λ after. HasFailed feed.now (attending session.old (L.written link.old))
+        (attending session.new (L.written link.new)) bytes.now before after) }
     ensures fits { Fits feed.now session.new.state }
     ensures stands { Stands session.new }
     ensures beside { L.beside link.new ≡ L.beside link.old }
@@ -214,16 +221,16 @@ fn reply_to_all<A: Allocator, L: Sink>(
 }
 
 /// Writes bytes after so many others, and returns how many there are with these.
-fn write_after<L: Sink>(link: &mut L, bytes: &[u8], before: usize) -> Result<usize, LinkFault>
+fn write_after<L: Sink>(link: &mut L, bytes: &[u8], before: usize) -> Result<usize, usize>
     requires room { before ≤ 2 ^ 41 }
     requires few { length bytes.now ≤ PACKET }
     ensures ok { IfOk result (λ after. IsWritten (L.written link.old) (L.written link.new) bytes.now before after) }
     ensures fault { IfErr result
-        (λ fault. IsWriteFault fault (L.written link.old) (L.written link.new) bytes.now before) }
+        (λ after. IsUnwritten (L.written link.old) (L.written link.new) bytes.now before after) }
     ensures beside { L.beside link.new ≡ L.beside link.old }
 {
     match write_all_of(link, bytes) {
         Ok(()) => Ok(before + bytes.len()),
-        Err(count) => Err(LinkFault::Write(before + count)),
+        Err(count) => Err(before + count),
     }
 }

@@ -4,10 +4,8 @@ use Rattle.std.specs.Option.{ForSome}
 use Rattle.mseed_stream.specs.Device.{BytesWritten}
 use Rattle.slink_feed.specs.declared.session.Sent.{Sent}
 use Rattle.slink_feed.specs.declared.session.Sent.TheVariants as sents
-use Rattle.slink_feed.specs.declared.turn.LinkFault.{LinkFault}
-use Rattle.slink_feed.specs.declared.turn.LinkFault.TheVariants as faults
 use Rattle.slink_feed.specs.Attending.{FailsToReply}
-use Rattle.slink_feed.specs.Rounds.{Attending, FailsToSend, SendsAll}
+use Rattle.slink_feed.specs.Rounds.{Attending, SendsAll}
 use Rattle.slink_feed.specs.Session.{sent, sent_bytes}
 use Rattle.slink_feed.specs.Turns.{Emitted, EmittedPrefix}
 use Rattle.slink_feed.specs.Window.{Window}
@@ -22,10 +20,6 @@ pub record IsUnwritten (old new : BytesWritten) (bytes : List ℕ) (before after
   pub more : ℕ
   pub written : EmittedPrefix old new bytes more
   pub count : after ≡ before + more
-
-abbrev pub IsWriteFault : LinkFault → BytesWritten → BytesWritten → List ℕ → ℕ → Type 0
-IsWriteFault (faults.Write after) old new bytes before = IsUnwritten old new bytes before after
-IsWriteFault fault old new bytes before = ⊥
 
 -- how often there was nothing to give, one after another
 abbrev pub waits_after : Sent → ℕ → ℕ
@@ -44,12 +38,11 @@ pub record HasGiven (feed : List Window) (k : ℕ) (old new : Attending) (before
       → ForSome (slice_get feed k) (λ w. length w.records ≤ 1000000)
 
 -- The link failed within that.
-pub record FailsToGive (fault : LinkFault) (feed : List Window) (k : ℕ) (old new : Attending) (before : ℕ) : Type
-    0 where
+pub record FailsToGive (feed : List Window) (k : ℕ) (old new : Attending) (before after : ℕ) : Type 0 where
   pub answer : Sent
   pub is : sent feed old.session.state k ≡ (new.session.state, answer)
   pub held : new.session.held ≡ old.session.held
-  pub cut : IsWriteFault fault old.written new.written (sent_bytes answer) before
+  pub cut : IsUnwritten old.written new.written (sent_bytes answer) before after
 
 -- All that is due was sent, which was so many bytes.
 pub record HasSent (feed : List Window) (old new : Attending) (count : ℕ) : Type 0 where
@@ -57,15 +50,7 @@ pub record HasSent (feed : List Window) (old new : Attending) (count : ℕ) : Ty
   pub counted : length new.written.bytes ≡ length old.written.bytes + count
   pub few : count ≤ 1099511627776
 
-abbrev pub IsSendFault : LinkFault → List Window → Attending → Attending → Type 0
-IsSendFault (faults.Write count) feed old new = FailsToSend feed old new count
-IsSendFault fault feed old new = ⊥
-
 -- The link failed within a reply; with so many before, the bytes that it accepted are counted.
 pub record HasFailed (feed : List Window) (old new : Attending) (bytes : List ℕ) (before after : ℕ) : Type 0 where
   pub fails : FailsToReply feed old new bytes
   pub counted : length new.written.bytes + before ≡ length old.written.bytes + after
-
-abbrev pub IsReplyFault : LinkFault → List Window → Attending → Attending → List ℕ → ℕ → Type 0
-IsReplyFault (faults.Write after) feed old new bytes before = HasFailed feed old new bytes before after
-IsReplyFault fault feed old new bytes before = ⊥

@@ -1,6 +1,5 @@
-use Rattle.std.proofs.Common.{subst, List, ℕ, drop}
-use Rattle.slink_wire.specs.Packet.{IsPacket}
-use Rattle.slink_feed.proofs.Received.{has_packet, packet_short, same_packet}
+use Rattle.std.proofs.Common.{drop, refl}
+use Rattle.slink_feed.proofs.Received.{packet_short, same_packet}
 use Rattle.slink_feed.proofs.client.read_packet.Goals as goal
 
 pub read_packet-requires : goal.read_packet-requires
@@ -10,15 +9,15 @@ read_packet-requires c =
 pub unreachable-requires-in-Err : goal.unreachable-requires-in-Err
 unreachable-requires-in-Err c =
     c.in-Err.ensures.refused c.requires.0 (drop 8 c.in-Some.packet.now)
-    (has_packet _ _ _ (same_packet _ _ c.requires.2 c.in-Some.ensures.cases.same) c.requires.1)
+    (rw (same_packet c.args.bytes.now c.in-Some.packet.now c.requires.2 c.in-Some.ensures.cases.same)
+    (c.requires.1.0, c.requires.1.1, refl))
 
 pub returns-clause-read : goal.returns-clause-read
 returns-clause-read c = (
   c.in-Ok.number,
   c.in-Ok.record.now,
-  subst (λ (b : List ℕ). IsPacket b c.in-Ok.number c.in-Ok.record.now)
-      (same_packet c.args.bytes.now c.in-Some.packet.now c.requires.2 c.in-Some.ensures.cases.same)
-      c.in-Ok.ensures.packet,
+  rw (same_packet c.args.bytes.now c.in-Some.packet.now c.requires.2 c.in-Some.ensures.cases.same)
+      at c.in-Ok.ensures.packet,
   c.read_packet.ensures.read,
 )
 

@@ -1,18 +1,13 @@
-use Rattle.std.proofs.Common.{◌∙◌, ◌++◌, List, ap, arith, length, length-take, subst, sym, take, ℕ}
-use Rattle.slink_feed.specs.Cutting.{IsPacketBegun}
-use Rattle.slink_feed.specs.private.Parts.{IsDue, IsPacketPart}
+use Rattle.std.proofs.Common.{List, ap, arith, length, length-take, take, ℕ}
 use Rattle.slink_feed.proofs.cutting.take_part.Goals as goal
 
 pub due-requires : goal.due-requires
-due-requires c = subst IsPacketBegun (sym c.as_slice.ensures.value) c.requires
+due-requires c = rw c.as_slice.ensures.value c.requires
 
 pub judge-requires : goal.judge-requires
 judge-requires c =
     let more : List ℕ = take c.min-used.result c.args.bytes.now in
-    subst IsDue
-    (sym (c.as_slice-2.ensures.value
-    ∙ (c.put.ensures ∙ ap (λ (xs : List ℕ). xs ++ more) (sym c.as_slice.ensures.value))))
-    (c.due.ensures.due more (omega (
+    rw (c.as_slice-2.ensures.value, c.put.ensures.items, ← c.as_slice.ensures.value) (c.due.ensures.due more (omega (
       arith,
       c.due.ensures.more,
       length-take c.min-used.result c.args.bytes.now,
@@ -23,4 +18,4 @@ judge-requires c =
 
 pub returns-clause-part : goal.returns-clause-part
 returns-clause-part c =
-    subst (λ (xs : List ℕ). IsPacketPart xs c.judge.result) c.as_slice-2.ensures.value c.judge.ensures
+    rw c.as_slice-2.ensures.value at c.judge.ensures

@@ -1,31 +1,22 @@
-use Rattle.std.proofs.Common.{ℕ, ap, sym, subst, ◌∙◌, arith, List}
-use Rattle.slink_feed.specs.Cutting.{IsReply, LacksEnd}
-use Rattle.slink_feed.specs.private.Parts.{ends_reply}
+use Rattle.std.proofs.Common.{arith}
 use Rattle.slink_feed.proofs.Replies.{lacks_more, whole_reply}
 use Rattle.slink_feed.proofs.cutting.take_reply_byte.Goals as goal
 
 pub returns-then-ends-clause-part : goal.returns-then-ends-clause-part
 returns-then-ends-clause-part c =
-    let P : List ℕ → Type 0 = λ xs. (line : List ℕ) × IsReply xs line in
-    subst P (sym c.push.ensures.items)
-    (whole_reply c.args.kept.now.items c.args.byte c.requires
-    (ap (λ (xs : List ℕ). ends_reply xs c.args.byte) (sym c.as_slice.ensures.value)
-    ∙ (sym c.ends_reply-ends.ensures ∙ c.if-ends.true)))
+    rw c.push.ensures.items (whole_reply c.args.kept.now.items c.args.byte c.requires
+    (rw (← c.as_slice.ensures.value, ← c.ends_reply-ends.ensures) c.if-ends.true))
 
 pub returns-then-len-eq-LONGEST_REPLY-clause-part : goal.returns-then-len-eq-LONGEST_REPLY-clause-part
 returns-then-len-eq-LONGEST_REPLY-clause-part c = (
-  subst LacksEnd (sym c.push.ensures.items)
-      (lacks_more c.args.kept.now.items c.args.byte c.requires.0
-      (ap (λ (xs : List ℕ). ends_reply xs c.args.byte) (sym c.as_slice.ensures.value)
-      ∙ (sym c.ends_reply-ends.ensures ∙ c.if-ends.false))),
+  rw c.push.ensures.items (lacks_more c.args.kept.now.items c.args.byte c.requires.0
+      (rw (← c.as_slice.ensures.value, ← c.ends_reply-ends.ensures) c.if-ends.false)),
   omega arith,
 )
 
 pub returns-else-len-eq-LONGEST_REPLY-clause-part : goal.returns-else-len-eq-LONGEST_REPLY-clause-part
 returns-else-len-eq-LONGEST_REPLY-clause-part c = (
-  subst LacksEnd (sym c.push.ensures.items)
-      (lacks_more c.args.kept.now.items c.args.byte c.requires.0
-      (ap (λ (xs : List ℕ). ends_reply xs c.args.byte) (sym c.as_slice.ensures.value)
-      ∙ (sym c.ends_reply-ends.ensures ∙ c.if-ends.false))),
+  rw c.push.ensures.items (lacks_more c.args.kept.now.items c.args.byte c.requires.0
+      (rw (← c.as_slice.ensures.value, ← c.ends_reply-ends.ensures) c.if-ends.false)),
   omega (arith, c.requires.1, c.push.ensures.len, c.len.ensures.value, c.if-len-eq-LONGEST_REPLY.false),
 )

@@ -1,42 +1,31 @@
-use Rattle.std.proofs.Common.{ap}
-use Rattle.slink_feed.specs.Reported.{record_in}
-use Rattle.slink_feed.proofs.ReportLines.{reported_four, reported_quiet, reported_two}
 use Rattle.slink_feed.proofs.Noting.{nothing_noted}
+use Rattle.slink_feed.specs.Reporter.{none}
+use Rattle.slink_feed.proofs.ReportLines.{quiet_four, quiet_two}
 use Rattle.slink_feed.proofs.fetching.deliver.Goals as goal
 
 pub returns-in-Ok-clause-lines : goal.returns-in-Ok-clause-lines
-returns-in-Ok-clause-lines g c =
-    reported_quiet c.args.reporter.now.reporting c.args.event.now (g.E.Sink.written c.args.errors.now)
-    (ap record_in c.in-Say.is)
+returns-in-Ok-clause-lines g c = rw c.in-Say.is (none _)
 
 pub returns-in-Err-clause-lines : goal.returns-in-Err-clause-lines
-returns-in-Err-clause-lines g c =
-    reported_quiet c.args.reporter.now.reporting c.args.event.now (g.E.Sink.written c.args.errors.now)
-    (ap record_in c.in-Say.is)
+returns-in-Err-clause-lines g c = rw c.in-Say.is (none _)
 
 pub returns-in-Garbage-clause-lines : goal.returns-in-Garbage-clause-lines
-returns-in-Garbage-clause-lines g c =
-    reported_two c.args.reporter.now.reporting c.args.event.now (g.E.Sink.written c.args.errors.now) c.in-Garbage.is
+returns-in-Garbage-clause-lines g c = rw (quiet_two _ c.in-Garbage.is) (none _)
 
 pub returns-in-Garbage-2-clause-lines : goal.returns-in-Garbage-2-clause-lines
-returns-in-Garbage-2-clause-lines g c =
-    reported_two c.args.reporter.now.reporting c.args.event.now (g.E.Sink.written c.args.errors.now) c.in-Garbage.is
+returns-in-Garbage-2-clause-lines g c = rw (quiet_two _ c.in-Garbage.is) (none _)
 
 pub returns-in-None-clause-lines : goal.returns-in-None-clause-lines
-returns-in-None-clause-lines g c =
-    reported_four c.args.reporter.now.reporting c.args.event.now (g.E.Sink.written c.args.errors.now) c.in-None.is
+returns-in-None-clause-lines g c = rw (quiet_four _ c.in-None.is) (none _)
 
 pub returns-in-None-2-clause-lines : goal.returns-in-None-2-clause-lines
-returns-in-None-2-clause-lines g c =
-    reported_four c.args.reporter.now.reporting c.args.event.now (g.E.Sink.written c.args.errors.now) c.in-None.is
+returns-in-None-2-clause-lines g c = rw (quiet_four _ c.in-None.is) (none _)
 
 pub returns-in-None-3-clause-lines : goal.returns-in-None-3-clause-lines
-returns-in-None-3-clause-lines g c =
-    reported_four c.args.reporter.now.reporting c.args.event.now (g.E.Sink.written c.args.errors.now) c.in-None.is
+returns-in-None-3-clause-lines g c = rw (quiet_four _ c.in-None.is) (none _)
 
 pub returns-in-None-4-clause-lines : goal.returns-in-None-4-clause-lines
-returns-in-None-4-clause-lines g c =
-    reported_four c.args.reporter.now.reporting c.args.event.now (g.E.Sink.written c.args.errors.now) c.in-None.is
+returns-in-None-4-clause-lines g c = rw (quiet_four _ c.in-None.is) (none _)
 
 pub returns-in-Ok-clause-received : goal.returns-in-Ok-clause-received
 returns-in-Ok-clause-received g c = nothing_noted _ _

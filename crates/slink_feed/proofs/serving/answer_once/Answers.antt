@@ -1,74 +1,57 @@
-use Rattle.std.proofs.Common.{rules, ◌≡◌, ◌<◌, ◌≤◌, ◌∙◌, List, ℕ, arith, [], length, sym, take}
+use Rattle.std.proofs.Common.{◌≡◌, ◌≢◌, ◌∙◌, ℕ, List, ap, arith, length}
 use Rattle.std.proofs.lemmas.List.{length-take-le}
-use Rattle.std.proofs.lemmas.Result.{err_from_is_err_and}
-use Rattle.slink_feed.specs.Attending.{IsServeFault, attending}
+use Rattle.mseed_stream.specs.Device.{BytesWritten}
+use Rattle.slink_feed.specs.Attending.{GoesOn, at_read, at_reply, attending, is_at_end, replies}
 use Rattle.slink_feed.specs.Rounds.{Attending}
-use Rattle.slink_feed.specs.Turns.{reported_once}
-use Rattle.slink_feed.proofs.Attended.{accepts_none, all_answered, answering_failed, failed_is, read_to_its_end}
-use Rattle.slink_feed.proofs.Attended.{reading_failed}
-use Rattle.slink_feed.proofs.Attended.{reported_is, stays}
-use Rattle.slink_feed.proofs.Sendoffs.{passed_on}
+use Rattle.slink_feed.specs.Serving.{SessionState}
+use Rattle.slink_feed.specs.Window.{Window}
+use Rattle.slink_feed.specs.declared.session.Phase.TheVariants.{Closed}
+use Rattle.slink_feed.specs.private.Replying.{HasSent}
+use Rattle.slink_feed.proofs.Attended.{stays}
 use Rattle.slink_feed.proofs.serving.answer_once.Goals as goal
 
--- what was read is no longer than the room for it
-few_read : (n : ℕ) (room : List ℕ) → n ≤ length room → length room ≤ 512 → length (take n room) ≤ 512
-few_read n room bound long = omega (arith, length-take-le n room bound, bound, long)
+-- a read leaves what the link accepted as it was
+goes_on : (feed : List Window) (start : Attending) (session : SessionState) (was is : BytesWritten) (count : ℕ)
+    → is ≡ was → HasSent feed start (attending session was) count → session.state.phase ≢ Closed
+    → GoesOn feed start (attending session is)
+goes_on feed start session was is count same sent awake = rw same (record { sends = sent.sends; open_still = awake })
 
 pub returns-in-Err-clause-fault : goal.returns-in-Err-clause-fault
 returns-in-Err-clause-fault g c start sent =
-    reading_failed c.args.feed.now start (g.S.Source.read c.args.link.now) c.args.session.now
-    (g.S.Sink.written c.args.link.now) (g.S.Sink.written c.pull.new.self) c.args.written sent c.requires.awake
-    (accepts_none (g.met.S.Duplex.reads_apart c.pull.new.self) c.pull.ensures.beside
-    (g.met.S.Duplex.reads_apart c.args.link.now))
-    (g.S.Source.read c.pull.new.self)
-    (c.in-Err.ensures.read ∙ failed_is (g.S.Source.read c.args.link.now) c.in-Err.field-0 c.pull.new.buf)
+    at_read (goes_on _ _ _ _ _ _ c.read_once.ensures.written sent c.requires.awake) c.in-Err.ensures.failed
 
 pub returns-then-count-eq0-clause-ok : goal.returns-then-count-eq0-clause-ok
 returns-then-count-eq0-clause-ok g c start sent =
-    let read : g.S.Source.read c.pull.new.self ≡ reported_once (g.S.Source.read c.args.link.now) [] = search rules in
-    read_to_its_end c.args.feed.now start (g.S.Source.read c.args.link.now) c.args.session.now
-    (g.S.Sink.written c.args.link.now) (g.S.Sink.written c.pull.new.self) c.args.written sent c.requires.awake
-    (accepts_none (g.met.S.Duplex.reads_apart c.pull.new.self) c.pull.ensures.beside
-    (g.met.S.Duplex.reads_apart c.args.link.now))
-    (g.S.Source.read c.pull.new.self) read
+    is_at_end (goes_on _ _ _ _ _ _ c.read_once.ensures.written sent c.requires.awake)
+    (rw c.if-count-eq0.true at c.in-Ok.ensures.read)
 
-pub returns-in_err-reply_to_all-clause-fault : goal.returns-in_err-reply_to_all-clause-fault
-returns-in_err-reply_to_all-clause-fault g c start sent =
-    let new : Attending = attending c.reply_to_all.new.session (g.S.Sink.written c.reply_to_all.new.link) in
-    let some : 0 < c.in-Ok.count = omega (arith, c.if-count-eq0.false) in
-    let few : length (take c.in-Ok.count c.pull.new.buf) ≤ 512 =
-    few_read c.in-Ok.count c.pull.new.buf c.in-Ok.ensures.bound (omega (arith, c.pull.auto.buf)) in
-    passed_on c.from_residual.result c.in_err-reply_to_all.field-0.0
-    (λ fault. IsServeFault c.args.feed.now start new (g.S.Source.read c.args.link.now)
-    (g.S.Source.read c.reply_to_all.new.link) fault)
-    (err_from_is_err_and c.from_residual.result c.from_residual.ensures.1)
-    (answering_failed c.args.feed.now start (g.S.Source.read c.args.link.now) c.args.session.now
-    (g.S.Sink.written c.args.link.now) (g.S.Sink.written c.pull.new.self) c.args.written sent c.requires.awake
-    (accepts_none (g.met.S.Duplex.reads_apart c.pull.new.self) c.pull.ensures.beside
-    (g.met.S.Duplex.reads_apart c.args.link.now))
-    new (g.S.Source.read c.reply_to_all.new.link) (take c.in-Ok.count c.pull.new.buf) c.in_err-reply_to_all.field-0.0
+pub returns-in-Ok-reply_to_all-clause-ok : goal.returns-in-Ok-reply_to_all-clause-ok
+returns-in-Ok-reply_to_all-clause-ok g c start sent =
+    let long = length-take-le c.in-Ok.count c.read_once.new.room c.in-Ok.ensures.within in
+    replies _ _ (goes_on _ _ _ _ _ _ c.read_once.ensures.written sent c.requires.awake)
     (stays (g.met.S.Duplex.writes_apart c.reply_to_all.new.link) c.reply_to_all.ensures.beside
-    (g.met.S.Duplex.writes_apart c.pull.new.self) ∙ (c.in-Ok.ensures.read
-    ∙ reported_is (g.S.Source.read c.args.link.now) c.in-Ok.count c.pull.new.buf some c.in-Ok.ensures.bound))
-    few c.in_err-reply_to_all.ensures.fault)
+    (g.met.S.Duplex.writes_apart c.read_once.new.link) ∙ c.in-Ok.ensures.read)
+    (omega (arith, long, c.if-count-eq0.false)) (omega (arith, long, c.in-Ok.ensures.within, c.read_once.auto.room))
+    c.in-Ok-reply_to_all.ensures.ok
 
-pub returns-clause-ok : goal.returns-clause-ok
-returns-clause-ok g c start sent =
-    let some : 0 < c.in-Ok.count = omega (arith, c.if-count-eq0.false) in
-    let long : length (take c.in-Ok.count c.pull.new.buf) ≡ c.in-Ok.count =
-    length-take-le c.in-Ok.count c.pull.new.buf c.in-Ok.ensures.bound in
-    let few : length (take c.in-Ok.count c.pull.new.buf) ≤ 512 =
-    omega (arith, long, c.in-Ok.ensures.bound, c.pull.auto.buf) in
-    all_answered c.args.feed.now start (g.S.Source.read c.args.link.now) c.args.session.now
-    (g.S.Sink.written c.args.link.now) (g.S.Sink.written c.pull.new.self) c.args.written sent c.requires.awake
-    (accepts_none (g.met.S.Duplex.reads_apart c.pull.new.self) c.pull.ensures.beside
-    (g.met.S.Duplex.reads_apart c.args.link.now))
-    _ (g.S.Source.read c.reply_to_all.new.link) (take c.in-Ok.count c.pull.new.buf)
+pub returns-in-Err-reply_to_all-clause-fault : goal.returns-in-Err-reply_to_all-clause-fault
+returns-in-Err-reply_to_all-clause-fault g c start sent =
+    let long = length-take-le c.in-Ok.count c.read_once.new.room c.in-Ok.ensures.within in
+    let fails = c.in-Err-reply_to_all.ensures.fault in
+    at_reply _ _ _ (goes_on _ _ _ _ _ _ c.read_once.ensures.written sent c.requires.awake)
     (stays (g.met.S.Duplex.writes_apart c.reply_to_all.new.link) c.reply_to_all.ensures.beside
-    (g.met.S.Duplex.writes_apart c.pull.new.self) ∙ (c.in-Ok.ensures.read
-    ∙ reported_is (g.S.Source.read c.args.link.now) c.in-Ok.count c.pull.new.buf some c.in-Ok.ensures.bound))
-    (omega (arith, long, some)) few c.in_ok-reply_to_all.ensures.ok
+    (g.met.S.Duplex.writes_apart c.read_once.new.link) ∙ c.in-Ok.ensures.read)
+    (omega (arith, long, c.in-Ok.ensures.within, c.read_once.auto.room)) fails.fails
+    (omega (arith, fails.counted, sent.counted, ap (λ (w : BytesWritten). length w.bytes) c.read_once.ensures.written))
 
-pub slice_bounds-reply_to_all-end : goal.slice_bounds-reply_to_all-end
-slice_bounds-reply_to_all-end g c =
-    sym (length-take-le c.in-Ok.count c.pull.new.buf c.in-Ok.ensures.bound)
+pub returns-in-Ok-reply_to_all-clause-fits : goal.returns-in-Ok-reply_to_all-clause-fits
+returns-in-Ok-reply_to_all-clause-fits g c = c.reply_to_all.ensures.fits
+
+pub returns-in-Ok-reply_to_all-clause-stands : goal.returns-in-Ok-reply_to_all-clause-stands
+returns-in-Ok-reply_to_all-clause-stands g c = c.reply_to_all.ensures.stands
+
+pub returns-in-Err-reply_to_all-clause-fits : goal.returns-in-Err-reply_to_all-clause-fits
+returns-in-Err-reply_to_all-clause-fits g c = c.reply_to_all.ensures.fits
+
+pub returns-in-Err-reply_to_all-clause-stands : goal.returns-in-Err-reply_to_all-clause-stands
+returns-in-Err-reply_to_all-clause-stands g c = c.reply_to_all.ensures.stands

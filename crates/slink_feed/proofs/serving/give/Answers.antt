@@ -1,38 +1,30 @@
 use Rattle.std.proofs.Common.{◌≤◌, List, ℕ, arith, length, refl, subst}
 use Rattle.std.proofs.lemmas.Result.{err_from_is_err_and}
 use Rattle.slink_wire.specs.Packet.{packet_bytes}
-use Rattle.slink_feed.specs.declared.session.Sent.TheVariants.{Packet}
-use Rattle.slink_feed.specs.Attending.{attending}
-use Rattle.slink_feed.specs.private.Replying.{FailsToGive}
-use Rattle.slink_feed.specs.Rounds.{Attending}
 use Rattle.slink_feed.specs.Session.{sent_without}
+use Rattle.slink_feed.specs.declared.session.Sent.TheVariants.{Packet}
 use Rattle.slink_feed.proofs.Sendoffs.{few_without, no_packet, passed_on}
 use Rattle.slink_feed.proofs.serving.give.Goals as goal
 
 pub returns-in_err-written-in-Ok-clause-fault : goal.returns-in_err-written-in-Ok-clause-fault
 returns-in_err-written-in-Ok-clause-fault g c =
-    let old : Attending = attending c.args.session.now (g.L.Sink.written c.args.link.now) in
-    let new : Attending = attending c.next_record.new.self (g.L.Sink.written c.write_after.new.link) in
-    let fails : FailsToGive c.in_err-written-in-Ok.field-0.0 c.args.feed.now c.args.k old new c.args.before = record {
+    passed_on _ _ _ (err_from_is_err_and c.from_residual.result c.from_residual.ensures.1) (record {
       answer = Packet (packet_bytes c.in-Ok.number c.in-Ok.bytes.now);
       is = c.in-Ok.ensures.sent;
       held = c.next_record.ensures.held;
       cut = rw c.put.ensures.value at c.in_err-written-in-Ok.ensures.fault;
-    } in
-    passed_on _ _ _ (err_from_is_err_and c.from_residual.result c.from_residual.ensures.1) fails
+    })
 
 pub returns-in_err-after-in-Err-clause-fault : goal.returns-in_err-after-in-Err-clause-fault
 returns-in_err-after-in-Err-clause-fault g c =
-    let old : Attending = attending c.args.session.now (g.L.Sink.written c.args.link.now) in
-    let new : Attending = attending c.next_record.new.self (g.L.Sink.written c.write_after-in-Err.new.link) in
-    let fails : FailsToGive c.in_err-after-in-Err.field-0.0 c.args.feed.now c.args.k old new c.args.before = record {
+    passed_on _ _ _
+    (err_from_is_err_and c.from_residual-in_err-after-in-Err.result c.from_residual-in_err-after-in-Err.ensures.1)
+    (record {
       answer = sent_without c.in-Err.unsent;
       is = c.in-Err.ensures.unsent;
       held = c.next_record.ensures.held;
       cut = rw c.bytes.ensures at c.in_err-after-in-Err.ensures.fault;
-    } in
-    passed_on _ _ _
-    (err_from_is_err_and c.from_residual-in_err-after-in-Err.result c.from_residual-in_err-after-in-Err.ensures.1) fails
+    })
 
 pub returns-in_ok-written-in-Ok-clause-ok : goal.returns-in_ok-written-in-Ok-clause-ok
 returns-in_ok-written-in-Ok-clause-ok g c = record {

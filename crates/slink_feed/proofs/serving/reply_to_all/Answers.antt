@@ -1,12 +1,7 @@
-use Rattle.std.proofs.Common.{◌≡◌, ◌≤◌, ◌∙◌, arith, refl, subst, sym, List, ℕ, length, take}
-use Rattle.std.proofs.lemmas.List.{take_all}
+use Rattle.std.proofs.Common.{◌∙◌, arith, refl, take_all}
 use Rattle.std.proofs.lemmas.Result.{err_from_is_err_and}
-use Rattle.slink_wire.specs.Reply.{reply_bytes}
-use Rattle.slink_feed.specs.Attending.{attending}
-use Rattle.slink_feed.specs.private.Replying.{IsReplyFault, IsWritten, IsWriteFault}
-use Rattle.slink_feed.specs.Rounds.{Attending}
 use Rattle.slink_feed.proofs.Deliveries.{piece_length}
-use Rattle.slink_feed.proofs.Sendoffs.{not_replied, nothing_replied, one_replied, passed_on, reply_short}
+use Rattle.slink_feed.proofs.Sendoffs.{nothing_replied, one_replied, passed_on, reply_short, unreplied}
 use Rattle.slink_feed.proofs.serving.reply_to_all.Goals as goal
 
 pub loop-start-init : goal.loop-start-init
@@ -19,51 +14,33 @@ loop-start-init g c = record {
 
 pub loop-start-preserved : goal.loop-start-preserved
 loop-start-preserved g c =
-    let old : Attending = attending c.args.session.now (g.L.Sink.written c.args.link.now) in
-    let now : Attending = attending c.loop-start.session (g.L.Sink.written c.loop-start.link) in
-    let new : Attending = attending c.take-used.new.self (g.L.Sink.written c.write_after.new.link) in
     let long = piece_length c.args.bytes.now c.loop-start.start in
-    let done : IsWritten (g.L.Sink.written c.loop-start.link) (g.L.Sink.written c.write_after.new.link)
-    (reply_bytes c.take-used.result.1) c.loop-start.written c.in_ok-written.written =
-    rw c.bytes.ensures at c.in_ok-written.ensures.ok in
+    let taken = c.take-used.ensures in
     record {
-      so_far = one_replied c.args.feed.now old now new c.args.bytes.now c.loop-start.start c.args.before
-          c.loop-start.written c.take-used.result.0 c.take-used.result.1 c.loop-start.invariant.so_far
+      so_far = one_replied _ _ _ _ _ _ _ _ c.take-used.result.0 c.take-used.result.1 c.loop-start.invariant.so_far
           (record {
-            held = c.take-used.ensures.held;
-            answers = c.take-used.ensures.answers;
-            closed = λ shut. ((c.take-used.ensures.closed shut).1, (c.take-used.ensures.closed shut).2);
+            held = taken.held;
+            answers = taken.answers;
+            closed = λ shut. ((taken.closed shut).1, (taken.closed shut).2);
           })
-          c.in_ok-written.written
-          (c.take-used.ensures.some (omega (arith, long, c.loop-start-test.true)))
-          (omega (arith, long, c.take-used.ensures.bound)) done;
-      fits = c.take-used.ensures.fits;
-      stands = c.take-used.ensures.stands;
+          c.in_ok-written.written (taken.some (omega (arith, long, c.loop-start-test.true)))
+          (omega (arith, long, taken.bound)) (rw c.bytes.ensures at c.in_ok-written.ensures.ok);
+      fits = taken.fits;
+      stands = taken.stands;
       beside = c.write_after.ensures.beside ∙ c.loop-start.invariant.beside;
     }
 
 pub returns-in_err-written-clause-fault : goal.returns-in_err-written-clause-fault
 returns-in_err-written-clause-fault g c =
-    let old : Attending = attending c.args.session.now (g.L.Sink.written c.args.link.now) in
-    let now : Attending = attending c.loop-start.session (g.L.Sink.written c.loop-start.link) in
-    let new : Attending = attending c.take-used.new.self (g.L.Sink.written c.write_after.new.link) in
-    let cut : IsWriteFault c.in_err-written.field-0.0 (g.L.Sink.written c.loop-start.link)
-    (g.L.Sink.written c.write_after.new.link)
-    (reply_bytes c.take-used.result.1) c.loop-start.written =
-    rw c.bytes.ensures at c.in_err-written.ensures.fault in
-    let fails : IsReplyFault c.in_err-written.field-0.0 c.args.feed.now old new c.args.bytes.now c.args.before =
-    not_replied c.args.feed.now old now new c.args.bytes.now c.loop-start.start c.args.before c.loop-start.written
-    c.take-used.result.0 c.take-used.result.1 c.loop-start.invariant.so_far
+    let taken = c.take-used.ensures in
+    passed_on _ _ _ (err_from_is_err_and c.from_residual.result c.from_residual.ensures.1)
+    (unreplied _ _ _ _ _ _ _ _ c.take-used.result.0 c.take-used.result.1 c.loop-start.invariant.so_far
     (record {
-      held = c.take-used.ensures.held;
-      answers = c.take-used.ensures.answers;
-      closed = λ shut. ((c.take-used.ensures.closed shut).1, (c.take-used.ensures.closed shut).2);
+      held = taken.held;
+      answers = taken.answers;
+      closed = λ shut. ((taken.closed shut).1, (taken.closed shut).2);
     })
-    c.in_err-written.field-0.0 cut in
-    passed_on _ _ _ (err_from_is_err_and c.from_residual.result c.from_residual.ensures.1) fails
-
-pub returns-in_err-written-clause-stands : goal.returns-in_err-written-clause-stands
-returns-in_err-written-clause-stands g c = c.take-used.ensures.stands
+    c.in_err-written.field-0.0 (rw c.bytes.ensures at c.in_err-written.ensures.fault))
 
 pub loop-start-smaller : goal.loop-start-smaller
 loop-start-smaller g c =
@@ -78,21 +55,14 @@ write_after-requires-clause-room g c =
 
 pub write_after-requires-clause-few : goal.write_after-requires-clause-few
 write_after-requires-clause-few g c =
-    subst (λ (bytes : List ℕ). length bytes ≤ 520) (sym c.bytes.ensures)
-    (let short = reply_short c.take-used.result.1 in omega (arith, short))
-
-pub returns-in_err-written-clause-fits : goal.returns-in_err-written-clause-fits
-returns-in_err-written-clause-fits g c = c.take-used.ensures.fits
+    rw c.bytes.ensures (omega (arith, reply_short c.take-used.result.1))
 
 pub returns-in_err-written-clause-beside : goal.returns-in_err-written-clause-beside
 returns-in_err-written-clause-beside g c = c.write_after.ensures.beside ∙ c.loop-start.invariant.beside
 
 pub returns-clause-ok : goal.returns-clause-ok
-returns-clause-ok g c =
-    let so_far = c.loop-start.invariant.so_far in
-    let whole : take c.loop-start.start c.args.bytes.now ≡ c.args.bytes.now =
-    take_all c.loop-start.start c.args.bytes.now (omega (arith, c.loop-start-test.false)) in
-    record {
-      serves = rw whole at so_far.serves;
-      failures = so_far.failures;
-    }
+returns-clause-ok g c = record {
+  serves = rw (take_all c.loop-start.start c.args.bytes.now (omega (arith, c.loop-start-test.false)))
+      at c.loop-start.invariant.so_far.serves;
+  failures = c.loop-start.invariant.so_far.failures;
+}

@@ -1,8 +1,7 @@
-use Rattle.std.proofs.Common.{◌≡◌, arith, ap, length, sym, ◌∙◌, subst, ◌<◌, ◌^◌, [], ◌∷◌, ◌++◌, Option, Some, IsSomeAnd}
+use Rattle.std.proofs.Common.{◌≡◌, arith, ap, length, sym, ◌∙◌, Some}
 use Rattle.std.proofs.Common.{slice_get, option_map}
 use borrow.Author.Rules.{scaled_Fits}
-use Rattle.slink_wire.specs.Place.{Bears}
-use Rattle.slink_feed.specs.Window.{Shows, Window, with_record}
+use Rattle.slink_feed.specs.Window.{Window, with_record}
 use Rattle.slink_feed.proofs.Done.{some_at}
 use Rattle.slink_feed.proofs.Fitting.{fits_pushed}
 use Rattle.slink_feed.proofs.Items.{get_here, get_there, shows_more}
@@ -11,21 +10,15 @@ use Rattle.slink_feed.proofs.feed.Feed.push.Goals as goal
 
 pub unreachable-requires : goal.unreachable-requires
 unreachable-requires g c =
-    omega (
-      arith,
-      c.requires.in_range,
-      same_length c.self.inside.rings.items c.args.self.now c.self.invariant
-          c.self.view_is,
-      ap length c.as_mut_slice-slots.ensures.value,
-    )
+    let long = same_length c.self.inside.rings.items c.args.self.now c.self.invariant c.self.view_is in
+    omega (arith, c.requires.in_range, long, ap length c.as_mut_slice-slots.ensures.value)
 
 pub push_slot-requires : goal.push_slot-requires
 push_slot-requires g c =
     let at : (w : Window) × (c.index-slots-k.result ≡ Some w) × (slice_get c.args.self.now c.args.k ≡ Some w) =
     slot_at c.self.inside.rings.items c.as_mut_slice-slots.result.now c.args.self.now c.args.k c.index-slots-k.result
     c.self.invariant c.self.view_is c.as_mut_slice-slots.ensures.value c.index-slots-k.is c.requires.in_range in
-    let P : Option Window → Type 0 = λ o. IsSomeAnd o (λ w. Bears c.args.bytes.now w.place × w.next < 2 ^ 63) in
-    subst P (sym at.1 ∙ c.index-slots-k.is) (c.requires.bears at.0 at.2, c.requires.room at.0 at.2)
+    rw (← c.index-slots-k.is, at.1) (c.requires.bears at.0 at.2, c.requires.room at.0 at.2)
 
 pub invariant_of-self : goal.invariant_of-self
 invariant_of-self g c = (slot_written c.self.inside.rings.items c.as_mut_slice-slots.result.now c.args.self.now
@@ -48,17 +41,17 @@ returns-clause-fits g c s fits =
 pub returns-clause-shows : goal.returns-clause-shows
 returns-clause-shows g c first pushed shows =
     let at = some_at c.args.self.now c.args.k c.requires.in_range in
-    subst (λ ws. IsSomeAnd (slice_get ws c.args.k) (λ w. Shows w first (pushed ++ c.args.bytes.now ∷ [])))
-    (sym (returns-clause-pushed g c at.0 at.1))
-    (subst (λ o. IsSomeAnd o (λ w. Shows w first (pushed ++ c.args.bytes.now ∷ [])))
-    (sym (get_here c.args.self.now c.args.k (with_record at.0 c.args.bytes.now) c.requires.in_range))
-    (shows_more at.0 first pushed c.args.bytes.now (shows at.0 at.1)))
+    rw (
+      returns-clause-pushed g c at.0 at.1,
+      get_here c.args.self.now c.args.k (with_record at.0 c.args.bytes.now) c.requires.in_range,
+    )
+    (shows_more at.0 first pushed c.args.bytes.now (shows at.0 at.1))
 
 pub returns-clause-others : goal.returns-clause-others
 returns-clause-others g c j ne =
     let at = some_at c.args.self.now c.args.k c.requires.in_range in
-    ap (λ ws. slice_get ws j) (returns-clause-pushed g c at.0 at.1)
-    ∙ get_there c.args.self.now c.args.k j (with_record at.0 c.args.bytes.now) ne
+    rw (returns-clause-pushed g c at.0 at.1)
+    (get_there c.args.self.now c.args.k j (with_record at.0 c.args.bytes.now) ne)
 
 pub offset_bounds-slots-k : goal.offset_bounds-slots-k
 offset_bounds-slots-k g c = scaled_Fits _ _ _ c.if-k-slots.false c.as_mut_slice-slots.type_inv.1

@@ -3,13 +3,9 @@ use Rattle.slink_feed.proofs.Intakes.{not_of_feed, of_feed, pushed_is}
 use Rattle.slink_feed.proofs.feed.Feed.take_record.Goals as goal
 
 pub push-requires : goal.push-requires
-push-requires g c = (
-  search rules,
-  (
-    c.in-Some-place_of.ensures.some.within,
-    (c.in-Some-place_of.ensures.some.bears, λ w there. c.requires c.in-Some-place_of.k w there),
-  ),
-)
+push-requires g c =
+    let here = c.in-Some-place_of.ensures.some in
+    (search rules, (here.within, (here.bears, λ w there. c.requires c.in-Some-place_of.k w there)))
 
 pub returns-in-Some-place_of-clause-of : goal.returns-in-Some-place_of-clause-of
 returns-in-Some-place_of-clause-of g c =

@@ -1,6 +1,6 @@
-use Rattle.std.proofs.Common.{ap, subst}
+use Rattle.std.proofs.Common.{sym, ap}
 use Rattle.slink_wire.specs.declared.reply.Reply.{Reply}
-use Rattle.slink_feed.specs.Session.{Fits, State}
+use Rattle.slink_feed.specs.Session.{State}
 use Rattle.slink_feed.proofs.Fitting.{fits_answered}
 use Rattle.slink_feed.proofs.progress.Progress.answer_to.Goals as goal
 
@@ -10,4 +10,4 @@ returns-in-Line-clause-fits g c =
 
 pub returns-in-TooLong-clause-fits : goal.returns-in-TooLong-clause-fits
 returns-in-TooLong-clause-fits g c =
-    subst (Fits c.args.feed.now) (ap (λ (p : State × Reply). p.0) c.end.ensures.answered) (tt, c.requires.1)
+    rw (sym (ap (λ (p : State × Reply). p.0) c.end.ensures.answered)) (tt, c.requires.1)

@@ -1,23 +1,20 @@
-use Rattle.std.proofs.Common.{◌≡◌, ◌∙◌, Option, ap, rules, arith, refl, slice_get, sym, true, false}
-use Rattle.slink_feed.specs.declared.grant.Grant.{Grant}
-use Rattle.slink_feed.specs.declared.session.Phase.{Phase}
-use Rattle.slink_feed.specs.Session.{sent_in, sent_of}
-use Rattle.slink_feed.proofs.Waits.{at_next_more, none_granted, none_more, one_granted, sends_off, waits_unless_done}
+use Rattle.std.proofs.Common.{◌≡◌, ◌∙◌, None, below_more, rules, arith, refl, sym, true, false}
+use Rattle.std.proofs.lemmas.Bool.{both_ways}
+use Rattle.slink_feed.specs.Session.{IsAtNext, grant_at}
+use Rattle.slink_feed.proofs.Waits.{none_granted, one_granted, sends_off, waits_unless_done}
 use Rattle.slink_feed.proofs.progress.Progress.is_up_to_date.Goals as goal
 use Rattle.slink_feed.proofs.progress.Progress.is_up_to_date.Goals.{then-is_some, else-is_some}
 
 pub returns-then-not-is_at_next : goal.returns-then-not-is_at_next
 returns-then-not-is_at_next g c = (
   λ bad. absurd (let no : false ≡ true = bad in cc no),
-  λ waits. absurd (sends_off c.args.feed.now c.args.self.now c.loop-k.k c.requires (omega arith) (λ at.
-      let no : c.is_at_next.result ≡ false = search rules in
-      let bad : false ≡ true = sym no ∙ c.is_at_next.ensures.1 at in
-      cc bad) waits),
+  λ waits. absurd (sends_off c.args.feed.now c.args.self.now c.loop-k.k c.requires (omega arith)
+      (λ at. both_ways c.is_at_next.result (search rules) (c.is_at_next.ensures.1 at)) waits),
 )
 
 pub loop-k-preserved : goal.loop-k-preserved
 loop-k-preserved g c = record {
-  at_next = at_next_more c.args.feed.now c.args.self.now.grants c.loop-k.k c.loop-k.invariant.at_next
+  at_next = below_more (IsAtNext c.args.feed.now c.args.self.now.grants) c.loop-k.k c.loop-k.invariant.at_next
       (c.is_at_next.ensures.0 (search rules));
   some = λ yes. elim c.if-is_some.branch [
     | then-is_some w ↦
@@ -29,7 +26,8 @@ loop-k-preserved g c = record {
   ];
   none = λ no. elim c.if-is_some.branch [
     | then-is_some w ↦ absurd (let bad : true ≡ false = sym w.has_grant-is ∙ no in cc bad)
-    | else-is_some w ↦ none_more c.args.self.now.grants c.loop-k.k (c.loop-k.invariant.none (sym w.has_grant-is ∙ no))
+    | else-is_some w ↦ below_more (λ j. grant_at c.args.self.now.grants j ≡ None) c.loop-k.k
+        (c.loop-k.invariant.none (sym w.has_grant-is ∙ no))
         (sym c.grant_of.ensures ∙ none_granted c.grant_of.result (sym c.is_some.ensures ∙ (w.if-is_some).false))
   ];
 }
@@ -45,7 +43,6 @@ returns-then-not-has_grant g c = (
   λ is k lt.
       let none = c.loop-k.invariant.none c.if-not-has_grant.true k
       (omega (arith, lt, c.len-k-end.ensures.value, c.loop-k-test.false)) in
-      ap (λ (p : Phase). sent_in p c.args.feed.now c.args.self.now k) c.requires
-      ∙ ap (λ (h : Option Grant). sent_of c.args.feed.now c.args.self.now k h (slice_get c.args.feed.now k)) none,
+      rw (c.requires, none) refl,
   λ waits. rw c.if-not-has_grant.true refl,
 )

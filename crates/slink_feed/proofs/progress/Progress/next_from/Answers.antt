@@ -1,5 +1,5 @@
-use Rattle.std.proofs.Common.{◌∙◌, None, ap, inl, inr, subst, sym}
-use Rattle.slink_feed.specs.Session.{AreReached, IsChosenOf, State, packet_at}
+use Rattle.std.proofs.Common.{◌∙◌, None, ap, inl, inr, sym}
+use Rattle.slink_feed.specs.Session.{State, packet_at}
 use Rattle.slink_feed.proofs.Reached.{sent_at_next, sent_by_record}
 use Rattle.slink_feed.proofs.progress.Progress.next_from.Goals as goal
 
@@ -11,11 +11,8 @@ returns-then-grant-next-clause-unsent g c =
 
 pub returns-then-grant-next-clause-fits : goal.returns-then-grant-next-clause-fits
 returns-then-grant-next-clause-fits g c = (
-  elim c.at_next.ensures.phase [
-    | inl same ↦ subst (IsChosenOf c.args.feed.now) (sym (same ∙ c.requires.phase)) tt
-    | inr closed ↦ subst (IsChosenOf c.args.feed.now) (sym closed) tt
-  ],
-  subst (AreReached c.args.feed.now) (sym c.at_next.ensures.grants) c.requires.fits,
+  elim c.at_next.ensures.phase [ inl same ↦ rw (same, c.requires.phase) tt | inr closed ↦ rw closed tt ],
+  rw c.at_next.ensures.grants c.requires.fits,
 )
 
 pub returns-in-Some-clause-sent : goal.returns-in-Some-clause-sent
@@ -41,6 +38,5 @@ returns-in-None-clause-unsent g c =
 pub returns-in-None-clause-fits : goal.returns-in-None-clause-fits
 returns-in-None-clause-fits g c = (
   tt,
-  subst (AreReached c.args.feed.now) (sym (ap (λ (s : State). s.grants) (c.self.view_is ∙ c.in-None.ensures.none)))
-      c.requires.fits,
+  rw (ap (λ (s : State). s.grants) (c.self.view_is ∙ c.in-None.ensures.none)) c.requires.fits,
 )

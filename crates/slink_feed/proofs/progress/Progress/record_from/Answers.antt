@@ -1,7 +1,7 @@
 use Rattle.std.proofs.Common.{◌≡◌, ◌+◌, ap, subst, sym, ◌∙◌, arith, Some}
 use Rattle.std.proofs.lemmas.Option.{same_Some}
 use Rattle.slink_feed.specs.declared.session.Phase.TheVariants.{Streaming}
-use Rattle.slink_feed.specs.Session.{AreReached, IsChosenOf, State, at, grant_at, packet_at, sent}
+use Rattle.slink_feed.specs.Session.{State, at, grant_at, packet_at, sent}
 use Rattle.slink_feed.proofs.Reached.{reached_next, reached_with, sent_by_record}
 use Rattle.slink_feed.proofs.progress.Progress.record_from.Goals as goal
 
@@ -20,13 +20,12 @@ pub returns-in-Some-clause-fits : goal.returns-in-Some-clause-fits
 returns-in-Some-clause-fits g c =
     let streams : c.self.inside.phase ≡ Streaming = ap (λ (s : State). s.phase) c.self.view_is
     ∙ c.requires.phase in (
-      subst (IsChosenOf c.args.feed.now) (sym streams) tt,
+      rw streams tt,
       reached_with c.args.feed.now c.self.inside.grants c.args.k
           (record { mode = c.args.grant.mode; position = c.args.grant.position + 1 })
           (reached_next c.args.feed.now c.args.k c.ring-ring.result.now c.args.grant.position c.ring-ring.ensures.ring
           c.in-Some.ensures.within)
-          (subst (AreReached c.args.feed.now) (sym (ap (λ (s : State). s.grants) c.self.view_is))
-          c.requires.fits),
+          (rw (ap (λ (s : State). s.grants) c.self.view_is) c.requires.fits),
     )
 
 pub returns-in-Some-clause-few : goal.returns-in-Some-clause-few
@@ -34,4 +33,4 @@ returns-in-Some-clause-few g c w there =
     rw (same_Some w c.ring-ring.result.now (sym there ∙ c.ring-ring.ensures.ring)) c.get.ensures.few
 
 pub returns-in-None-clause-fits : goal.returns-in-None-clause-fits
-returns-in-None-clause-fits g c = (subst (IsChosenOf c.args.feed.now) (sym c.requires.phase) tt, c.requires.fits)
+returns-in-None-clause-fits g c = (rw c.requires.phase tt, c.requires.fits)

@@ -1,21 +1,18 @@
-use Rattle.std.proofs.Common.{◌≡◌, ap, rules, subst, sym}
-use Rattle.std.specs.Prelude.{IfErr, IfOk}
+use Rattle.std.proofs.Common.{ap, rules}
 use Rattle.slink_wire.specs.Packet.{packet_bytes}
 use Rattle.slink_feed.specs.Serving.{SessionState}
-use Rattle.slink_feed.specs.Session.{Fits, sent, sent_without}
+use Rattle.slink_feed.specs.Session.{sent_without}
 use Rattle.slink_feed.specs.declared.session.Sent.TheVariants.{Packet}
 use Rattle.slink_feed.proofs.Stands.{open_before_next}
 use Rattle.slink_feed.proofs.session.Session.next_record.Goals as goal
 
 pub returns-clause-sent : goal.returns-clause-sent
 returns-clause-sent g c =
-    subst (λ (s : SessionState). IfOk c.next_record.result (λ r. sent c.args.feed.now s.state c.args.k
-    ≡ (c.next_record.new.self, Packet (packet_bytes r.0 r.1.now)))) c.self.view_is c.next_record.ensures.sent
+    rw (ap (λ (s : SessionState). s.state) c.self.view_is) at c.next_record.ensures.sent
 
 pub returns-clause-unsent : goal.returns-clause-unsent
 returns-clause-unsent g c =
-    subst (λ (s : SessionState). IfErr c.next_record.result (λ e. sent c.args.feed.now s.state c.args.k
-    ≡ (c.next_record.new.self, sent_without e))) c.self.view_is c.next_record.ensures.unsent
+    rw (ap (λ (s : SessionState). s.state) c.self.view_is) at c.next_record.ensures.unsent
 
 pub returns-clause-number : goal.returns-clause-number
 returns-clause-number g c = c.next_record.ensures.number
@@ -38,10 +35,5 @@ pub returns-clause-stands : goal.returns-clause-stands
 returns-clause-stands g c = invariant_of-self g c
 
 pub next_record-requires : goal.next_record-requires
-next_record-requires g c = (
-  search rules,
-  (
-    c.requires.in_range,
-    subst (λ (s : SessionState). Fits c.args.feed.now s.state) (sym c.self.view_is) c.requires.fits,
-  ),
-)
+next_record-requires g c =
+    (search rules, (c.requires.in_range, rw (ap (λ (s : SessionState). s.state) c.self.view_is) c.requires.fits))

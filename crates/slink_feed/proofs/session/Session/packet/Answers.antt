@@ -1,17 +1,11 @@
-use Rattle.std.proofs.Common.{rules, subst, sym}
+use Rattle.std.proofs.Common.{ap, rules}
 use Rattle.slink_feed.specs.Serving.{SessionState}
-use Rattle.slink_feed.specs.Session.{Fits}
 use Rattle.slink_feed.proofs.Stands.{open_before}
 use Rattle.slink_feed.proofs.session.Session.packet.Goals as goal
 
 pub packet-requires : goal.packet-requires
-packet-requires g c = (
-  search rules,
-  (
-    c.requires.in_range,
-    subst (λ (s : SessionState). Fits c.args.feed.now s.state) (sym c.self.view_is) c.requires.fits,
-  ),
-)
+packet-requires g c =
+    (search rules, (c.requires.in_range, rw (ap (λ (s : SessionState). s.state) c.self.view_is) c.requires.fits))
 
 pub invariant_of-self : goal.invariant_of-self
 invariant_of-self g c = λ awake.

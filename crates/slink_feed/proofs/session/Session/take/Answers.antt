@@ -1,9 +1,6 @@
-use Rattle.std.proofs.Common.{◌∙◌, ap, rules, subst, sym, take}
-use Rattle.slink_wire.specs.Lines.{IsHeld}
+use Rattle.std.proofs.Common.{◌∙◌, ap, rules, subst, take}
 use Rattle.slink_feed.specs.Running.{Stands}
 use Rattle.slink_feed.specs.Serving.{SessionState}
-use Rattle.slink_feed.specs.Session.{Fits}
-use Rattle.slink_feed.proofs.Answered.{answer_reported}
 use Rattle.slink_feed.proofs.Stands.{piece_taken, still_stands}
 use Rattle.slink_feed.proofs.session.Session.take.Goals as goal
 
@@ -21,26 +18,26 @@ invariant_of-self g c =
 
 pub returns-clause-held : goal.returns-clause-held
 returns-clause-held g c stream open_still held =
-    c.take-used.ensures.held stream
-    (subst (λ (s : SessionState). IsHeld s.held stream) (sym c.self.view_is) held)
+    c.take-used.ensures.held stream (rw (ap (λ (s : SessionState). s.held) c.self.view_is) held)
 
 pub returns-clause-answers : goal.returns-clause-answers
-returns-clause-answers g c stream open_still held =
-    answer_reported _ _ _ _ _ _ _ _ _ _ (ap (λ (s : SessionState). s.state) c.self.view_is)
-    (ap (λ (s : SessionState). s.held) c.self.view_is) (λ h. c.take-used.ensures.reported stream h)
-    c.answer_to.ensures.answer held
+returns-clause-answers g c stream open_still held = (
+  c.take-used.result.what,
+  c.take-used.ensures.reported stream (rw (ap (λ (s : SessionState). s.held) c.self.view_is) held),
+  rw (ap (λ (s : SessionState). s.state) c.self.view_is) at c.answer_to.ensures.answer,
+)
 
 pub returns-clause-whole : goal.returns-clause-whole
 returns-clause-whole g c stream open_still held = (
   c.take-used.result.what,
-  c.take-used.ensures.reported stream (subst (λ (s : SessionState). IsHeld s.held stream) (sym c.self.view_is) held),
+  c.take-used.ensures.reported stream (rw (ap (λ (s : SessionState). s.held) c.self.view_is) held),
   c.take-used.ensures.whole,
 )
 
 pub returns-clause-some : goal.returns-clause-some
 returns-clause-some g c some =
-    let stands : Stands c.args.self.now = subst Stands c.self.view_is c.self.invariant in
-    piece_taken c.args.self.now c.args.bytes.now c.take-used.result.used some stands (returns-clause-whole g c)
+    piece_taken c.args.self.now c.args.bytes.now c.take-used.result.used some (subst Stands c.self.view_is
+    c.self.invariant) (returns-clause-whole g c)
     (λ shut. absurd (c.if-is_closed.ensures.no (ap (λ (s : SessionState). s.state.phase) c.self.view_is ∙ shut)))
 
 pub returns-clause-stands : goal.returns-clause-stands
@@ -48,9 +45,9 @@ returns-clause-stands g c = invariant_of-self g c
 
 pub answer_to-requires : goal.answer_to-requires
 answer_to-requires g c =
-    (search rules, subst (λ (s : SessionState). Fits c.args.feed.now s.state) (sym c.self.view_is) c.requires)
+    (search rules, rw (ap (λ (s : SessionState). s.state) c.self.view_is) c.requires)
 
 pub returns-clause-first : goal.returns-clause-first
 returns-clause-first g c stream n open_still held less =
     c.take-used.ensures.first stream n
-    (subst (λ (s : SessionState). IsHeld s.held stream) (sym c.self.view_is) held) less
+    (rw (ap (λ (s : SessionState). s.held) c.self.view_is) held) less
