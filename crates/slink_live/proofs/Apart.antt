@@ -1,5 +1,5 @@
 -- What is due to a link is by the rings of the stations that it was granted: a record of others changes nothing of it.
-use Rattle.std.proofs.Common.{◌≡◌, ℕ, suc, ◌⊎◌, ◌==◌, ◌∙◌, ap, ap₂, refl, sym, arith, inl, inr}
+use Rattle.std.proofs.Common.{◌≡◌, ℕ, suc, ◌==◌, ◌∙◌, ap, ap₂, refl, sym, arith, inl, inr}
 use Rattle.std.proofs.Common.{Bool, ◌&&◌, List, [], ◌∷◌, length, Option, Some, None, slice_get, if◌then◌else◌}
 use Rattle.slink_feed.specs.declared.grant.Grant.{Grant}
 use Rattle.slink_feed.specs.declared.session.Phase.{Phase}
@@ -15,25 +15,12 @@ use Rattle.slink_live.specs.Served.{LinkState}
 use Rattle.slink_live.specs.private.Granting.{LeavesOut, StaysBut}
 use Rattle.std.proofs.lemmas.Option.{same_Some}
 
--- The rings of the stations with a grant are the same.
-abbrev pub AreAlike : List Window → List Window → Grants → Type 0
-AreAlike old new gs = (k : ℕ) → (grant_at gs k ≡ None) ⊎ (slice_get new k ≡ slice_get old k)
+one_done : (w v : Window) (o : Option Grant) → ((g : Grant) → o ≡ Some g → Some v ≡ Some w)
+    → has_sent v o ≡ has_sent w o
+one_done w v None same = refl
+one_done w v (Some g) same = ap (λ (x : Window). has_sent x (Some g)) (same_Some v w (same g refl))
 
-granted_or : (o : Option Grant) → (o ≡ None) ⊎ ((g : Grant) × (o ≡ Some g))
-granted_or None = inl refl
-granted_or (Some g) = inr (g, refl)
-
-pub alike_by : (old new : List Window) (gs : Grants) → AreSame gs old new → AreAlike old new gs
-alike_by old new gs same k = elim (granted_or (grant_at gs k)) [
-  | inl none ↦ inl none
-  | inr some ↦ inr (same k some.0 some.1)
-]
-
-one_done : (w v : Window) (o : Option Grant) → (o ≡ None) ⊎ (Some v ≡ Some w) → has_sent v o ≡ has_sent w o
-one_done w v o (inl none) = ap (has_sent v) none ∙ sym (ap (has_sent w) none)
-one_done w v o (inr same) = ap (λ (x : Window). has_sent x o) (same_Some v w same)
-
-done_alike : (ws vs : List Window) (gs : Grants) → length vs ≡ length ws → AreAlike ws vs gs
+done_alike : (ws vs : List Window) (gs : Grants) → length vs ≡ length ws → AreSame gs ws vs
     → has_sent_all vs gs ≡ has_sent_all ws gs
 done_alike [] [] gs long alike = refl
 done_alike [] (v ∷ vs) gs long alike = absurd (omega (arith, long))
@@ -45,19 +32,15 @@ done_alike (w ∷ ws) (v ∷ vs) (o ∷ gs) long alike =
 
 module _ (old new : List Window) (s : State) (done : has_sent_all new s.grants ≡ has_sent_all old s.grants)
     (k : ℕ) where
-  alike_ring : (g : Grant) (r : Option Window) → sent_of new s k (Some g) r ≡ sent_of old s k (Some g) r
-  alike_ring g None = refl
-  alike_ring g (Some w) =
-      ap (λ (b : Bool). if g.position == w.next then at_next b s else packet_at s k g (record_at w g.position)) done
-
-  alike_of : (o : Option Grant) (r q : Option Window) → (o ≡ None) ⊎ (q ≡ r)
+  alike_of : (o : Option Grant) (r q : Option Window) → ((g : Grant) → o ≡ Some g → q ≡ r)
       → sent_of new s k o q ≡ sent_of old s k o r
   alike_of None r q alike = refl
-  alike_of (Some g) r q (inl none) = absurd (let bad : Some g ≡ None = none in cc bad)
-  alike_of (Some g) r q (inr same) = ap (sent_of new s k (Some g)) same ∙ alike_ring g r
+  alike_of (Some g) None q alike = ap (sent_of new s k (Some g)) (alike g refl)
+  alike_of (Some g) (Some w) q alike = ap (sent_of new s k (Some g)) (alike g refl)
+      ∙ ap (λ b. if g.position == w.next then at_next b s else packet_at s k g (record_at w g.position)) done
 
 alike_in : (p : Phase) (old new : List Window) (s : State) → length new ≡ length old
-    → (p ≡ Phases.Streaming → AreAlike old new s.grants) → (k : ℕ) → sent_in p new s k ≡ sent_in p old s k
+    → (p ≡ Phases.Streaming → AreSame s.grants old new) → (k : ℕ) → sent_in p new s k ≡ sent_in p old s k
 alike_in Phases.Streaming old new s long alike k =
     alike_of old new s (done_alike old new s.grants long (alike refl)) k (grant_at s.grants k) (slice_get old k)
     (slice_get new k) (alike refl k)
@@ -65,7 +48,7 @@ alike_in phase old new s long alike k = refl
 
 -- What a link's session gives is the same.
 module _ (old new : List Window) (s : State) (long : length new ≡ length old)
-    (alike : s.phase ≡ Phases.Streaming → AreAlike old new s.grants) where
+    (alike : s.phase ≡ Phases.Streaming → AreSame s.grants old new) where
   pub sent_alike : (k : ℕ) → sent new s k ≡ sent old s k
   sent_alike = alike_in s.phase old new s long alike
 
@@ -75,7 +58,7 @@ module _ (old new : List Window) (s : State) (long : length new ≡ length old)
   waited : IsWaiting new s → IsWaiting old s
   waited waiting k lt = sym (sent_alike k) ∙ waiting k (omega (arith, lt, long))
 
-pub was_lost : (old new : List Window) (s : State) → (s.phase ≡ Phases.Streaming → AreAlike old new s.grants)
+pub was_lost : (old new : List Window) (s : State) → (s.phase ≡ Phases.Streaming → AreSame s.grants old new)
     → IsLost new s → IsLost old s
 was_lost old new s alike lost = record {
   streams = lost.streams;
@@ -83,17 +66,14 @@ was_lost old new s alike lost = record {
   place = record {
     ring = lost.place.ring;
     grant = lost.place.grant;
-    there = elim (alike lost.streams lost.k) [
-      | inl none ↦ absurd (let bad : None ≡ Some lost.place.grant = sym none ∙ lost.place.granted in cc bad)
-      | inr same ↦ sym same ∙ lost.place.there
-    ];
+    there = sym (alike lost.streams lost.k lost.place.grant lost.place.granted) ∙ lost.place.there;
     granted = lost.place.granted;
     left = lost.place.left;
   };
 }
 
 module _ (old new : List Window) (l : LinkState) (long : length new ≡ length old)
-    (alike : l.session.state.phase ≡ Phases.Streaming → AreAlike old new l.session.state.grants) where
+    (alike : l.session.state.phase ≡ Phases.Streaming → AreSame l.session.state.grants old new) where
   was_closable : (has_ended : Bool) → IsClosable new has_ended l → IsClosable old has_ended l
   was_closable has_ended (must_close over) = must_close over
   was_closable has_ended (is_lost lost) = is_lost (was_lost old new l.session.state alike lost)
@@ -125,4 +105,4 @@ pub updated_apart : (old new : List Window) (places : Places) (o : Option LinkSt
     → length new ≡ length old → StaysBut places old new → LeavesOut places o → o ≡ Some l
     → (has_ended : Bool) (w : Interest) → IsUpToDate old has_ended l w → IsUpToDate new has_ended l w
 updated_apart old new places o l long stays out is =
-    updated_on old new l long (λ streams. alike_by _ _ _ (λ k g granted. stays k (out l is streams k g granted)))
+    updated_on old new l long (λ streams k g granted. stays k (out l is streams k g granted))

@@ -1,7 +1,7 @@
 -- The input is cut into records: none is lost, whatever the pieces.
 use Rattle.std.proofs.Common.{◌≡◌, ℕ, ◌+◌, ◌-◌, ◌*◌, ◌<◌, ◌≤◌, ◌∙◌, ap, subst, refl, sym, arith, inl, inr, List, []}
 use Rattle.std.proofs.Common.{◌∷◌, ◌++◌, length, length-append, length-take, append_assoc, append-nil, take, drop}
-use Rattle.std.proofs.Common.{take-append-drop, take_all, slice_get, Some}
+use Rattle.std.proofs.Common.{take-append-drop, take_all}
 use Rattle.std.proofs.lemmas.List.{take-append-le}
 use Rattle.std.proofs.lemmas.List.Folds.{concat-append}
 use Rattle.std.specs.List.{AllByRecursion, concat}
@@ -17,8 +17,8 @@ use Rattle.slink_feed.specs.Session.{Fits, State}
 use Rattle.slink_feed.specs.Window.{Window}
 use Rattle.slink_feed.specs.declared.input.InputFault.{InputFault}
 use Rattle.slink_feed.specs.declared.input.InputFault.TheVariants.{Stream, Foreign}
-use Rattle.slink_feed.specs.Intake.{IsOfFeed, foreign_of, places_of, pushed}
-use Rattle.slink_live.specs.Input.{IsFedTo, IsOf, MayBegin, fed}
+use Rattle.slink_feed.specs.Intake.{IsOfFeed, foreign_of, places_of}
+use Rattle.slink_live.specs.Input.{IsFedTo, IsOf, MayBegin}
 use Rattle.slink_live.specs.Served.{IntakeState, IsBelow}
 use Rattle.slink_live.specs.private.Cutting.{Cuts, CutsOff, IsRefused, LooksOn, waits, pushes}
 use Rattle.slink_feed.proofs.Deliveries.{take_prefix}
@@ -56,85 +56,73 @@ module _ (old new : IntakeState) (bytes rest : List ℕ) (short : length old.kep
     )
 
     pub cut_below : (n : ℕ) → IsBelow n old.feed → IsBelow (n + length bytes) new.feed
-    cut_below n below k w there = omega (
-      arith,
-      cut_few,
-      below_fed n old.feed cuts.records below k w
-          (subst (λ (f : List Window). slice_get f k ≡ Some w) cuts.feed_is there),
-    )
+    cut_below n below k w there =
+        omega (arith, cut_few, below_fed n old.feed cuts.records below k w (rw cuts.feed_is at there))
 
     pub cut_fits : (s : State) → Fits old.feed s → Fits new.feed s
-    cut_fits s fits = subst (λ (f : List Window). Fits f s) (sym cuts.feed_is) (fits_fed old.feed cuts.records s fits)
+    cut_fits s fits = rw cuts.feed_is (fits_fed old.feed cuts.records s fits)
 
 -- bytes are kept, and looked at
 module _ (old now : IntakeState) (bytes chunk : List ℕ) (cuts : Cuts old bytes now now.kept) where
   abbrev with_chunk : IntakeState
-  with_chunk = record { feed = now.feed; kept = now.kept ++ chunk; records = now.records }
+  with_chunk = record now { kept = now.kept ++ chunk }
 
   chunk_joined : old.kept ++ (bytes ++ chunk) ≡ concat cuts.records ++ (now.kept ++ chunk)
-  chunk_joined = sym (append_assoc old.kept bytes chunk) ∙ (ap (λ x. x ++ chunk) cuts.joined
-      ∙ append_assoc (concat cuts.records) now.kept chunk)
-
-  kept_more : Cuts old (bytes ++ chunk) with_chunk (now.kept ++ chunk)
-  kept_more = record {
-    records = cuts.records;
-    joined = chunk_joined;
-    each = cuts.each;
-    feed_is = cuts.feed_is;
-    counted = cuts.counted;
-  }
+  chunk_joined = rw (← (append_assoc old.kept bytes chunk), cuts.joined)
+      (append_assoc (concat cuts.records) now.kept chunk)
 
   same_places : places_of now.feed ≡ places_of old.feed
   same_places = ap places_of cuts.feed_is ∙ places_fed old.feed cuts.records
 
-  pushed_more : IsOf (places_of now.feed) (now.kept ++ chunk)
-      → Cuts old (bytes ++ chunk)
-      (record { feed = pushed now.feed (now.kept ++ chunk); kept = []; records = now.records + 1 }) []
-  pushed_more of = record {
-    records = cuts.records ++ (now.kept ++ chunk) ∷ [];
-    joined = chunk_joined ∙ sym (append-nil (concat (cuts.records ++ (now.kept ++ chunk) ∷ []))
-        ∙ (concat-append cuts.records ((now.kept ++ chunk) ∷ [])
-        ∙ ap (λ x. concat cuts.records ++ x) (append-nil (now.kept ++ chunk))));
-    each = All-append (IsOf (places_of old.feed)) cuts.records ((now.kept ++ chunk) ∷ []) cuts.each
-        (subst (λ ps. IsOf ps (now.kept ++ chunk)) same_places of, tt);
-    feed_is = ap (λ f. pushed f (now.kept ++ chunk)) cuts.feed_is
-        ∙ sym (fed_append old.feed cuts.records ((now.kept ++ chunk) ∷ []));
-    counted = omega (arith, cuts.counted, length-append cuts.records ((now.kept ++ chunk) ∷ []));
-  }
-
-  looked_on : (new : IntakeState) → LooksOn with_chunk new → Cuts old (bytes ++ chunk) new new.kept
-  looked_on new (waits k decides few short same) =
-      subst (λ (s : IntakeState). Cuts old (bytes ++ chunk) s s.kept) (sym same) kept_more
+  looked_on : (new : IntakeState) → LooksOn with_chunk new
+      → Cuts old (bytes ++ chunk) new new.kept × (length new.kept < 512) × MayBegin new.kept
+  looked_on new (waits k decides few short same) = rw same (
+    record {
+      records = cuts.records;
+      joined = chunk_joined;
+      each = cuts.each;
+      feed_is = cuts.feed_is;
+      counted = cuts.counted;
+    },
+    short,
+    inr (k, decides, few),
+  )
   looked_on new (pushes of same) =
-      subst (λ (s : IntakeState). Cuts old (bytes ++ chunk) s s.kept) (sym same) (pushed_more of)
-
-  looked_short : (new : IntakeState) → LooksOn with_chunk new → length new.kept < 512
-  looked_short new (waits k decides few short same) = subst (λ (s : IntakeState). length s.kept < 512) (sym same) short
-  looked_short new (pushes of same) =
-      subst (λ (s : IntakeState). length s.kept < 512) (sym same) (let lt : 0 < 512 = omega arith in lt)
-
-  looked_begins : (new : IntakeState) → LooksOn with_chunk new → MayBegin new.kept
-  looked_begins new (waits k decides few short same) =
-      subst (λ (s : IntakeState). MayBegin s.kept) (sym same) (inr (k, decides, few))
-  looked_begins new (pushes of same) = subst (λ (s : IntakeState). MayBegin s.kept) (sym same) (inl refl)
+      let whole : List (List ℕ) = (now.kept ++ chunk) ∷ [] in
+      let few : 0 < 512 = omega arith in
+      rw same (
+        record {
+          records = cuts.records ++ whole;
+          joined = rw (
+            append-nil (concat (cuts.records ++ whole)),
+            concat-append cuts.records whole,
+            append-nil (now.kept ++ chunk),
+          ) chunk_joined;
+          each = All-append (IsOf (places_of old.feed)) cuts.records whole cuts.each (rw same_places at of, tt);
+          feed_is = rw (fed_append old.feed cuts.records whole, ← cuts.feed_is) refl;
+          counted = omega (arith, cuts.counted, length-append cuts.records whole);
+        },
+        few,
+        inl refl,
+      )
 
   cut_off : (new : IntakeState) (fault : InputFault) (more all : List ℕ) → new ≡ with_chunk
       → IsRefused (places_of now.feed) now.records (now.kept ++ chunk) fault → all ≡ (bytes ++ chunk) ++ more
       → CutsOff old all new fault
-  cut_off new fault more all same refused split = record {
+  cut_off new fault more all same refused split = rw same (record {
     rest = (now.kept ++ chunk) ++ more;
     cuts = record {
       records = cuts.records;
-      joined = ap (λ x. old.kept ++ x) split ∙ (sym (append_assoc old.kept (bytes ++ chunk) more)
-          ∙ (ap (λ x. x ++ more) chunk_joined ∙ append_assoc (concat cuts.records) (now.kept ++ chunk) more));
+      joined = rw (split, ← (append_assoc old.kept (bytes ++ chunk) more), chunk_joined)
+          (append_assoc (concat cuts.records) (now.kept ++ chunk) more);
       each = cuts.each;
-      feed_is = ap (λ (s : IntakeState). s.feed) same ∙ cuts.feed_is;
-      counted = ap (λ (s : IntakeState). s.records) same ∙ cuts.counted;
+      feed_is = cuts.feed_is;
+      counted = cuts.counted;
     };
-    no_further = subst (λ ps. ¬ (IsOf ps (take 512 ((now.kept ++ chunk) ++ more)))) same_places (refused.none more);
-    is_fault = rw (← (ap (λ (s : IntakeState). s.records) same)) at (rw same_places at (refused.is_fault more));
+    no_further = rw same_places at (refused.none more);
+    is_fault = rw same_places at (refused.is_fault more);
     of_bytes = refused.of_bytes;
-  }
+  })
 
 -- why no record of the feed begins
 pub refused_not : (places : List Fields) (n offset : ℕ) (kept : List ℕ) (f : FrameFault) → Decides kept (scans.Not f)
@@ -204,29 +192,19 @@ cuts_on start reported old new bytes rest to cuts none =
       record {
         records = to.records ++ cuts.records;
         input = record {
-          joined = ap (λ x. x ++ bytes) to.input.joined ∙ (append_assoc (concat to.records) old.kept bytes
-              ∙ (ap (λ x. concat to.records ++ x) cuts.joined
-              ∙ (sym (append_assoc (concat to.records) (concat cuts.records) rest)
-              ∙ ap (λ x. x ++ rest) (sym (concat-append to.records cuts.records)))));
-          each = All-append (IsOf (places_of start)) to.records cuts.records to.input.each
-              (subst (λ ps. AllByRecursion (IsOf ps) cuts.records) same cuts.each);
-          no_further = subst (λ ps. ¬ (IsOf ps (take 512 rest))) same none;
+          joined = rw (
+            to.input.joined,
+            append_assoc (concat to.records) old.kept bytes,
+            cuts.joined,
+            concat-append to.records cuts.records,
+            append_assoc (concat to.records) (concat cuts.records) rest,
+          ) refl;
+          each = All-append (IsOf (places_of start)) to.records cuts.records to.input.each (rw same at cuts.each);
+          no_further = rw same at none;
         };
-        feed_is = cuts.feed_is ∙ (ap (λ f. fed f cuts.records) to.feed_is
-            ∙ sym (fed_append start to.records cuts.records));
+        feed_is = rw (cuts.feed_is, to.feed_is, fed_append start to.records cuts.records) refl;
       },
       length-append to.records cuts.records,
-    )
-
--- what a scan of all that is kept says
-pub whole_record : (leading kept : List ℕ) (size : ℕ) → leading ≡ kept → size ≡ 512 → length kept ≤ 512
-    → (size ≤ length leading) × IsRecord (take size leading) → (length kept ≡ 512) × IsRecord kept
-whole_record leading kept size same is most h =
-    let long : length leading ≡ length kept = ap length same in
-    let le : size ≤ length leading = h.0 in
-    let all : take size leading ≡ leading = take_all size leading (omega (arith, long, is, most)) in (
-      omega (arith, long, is, most, le),
-      subst IsRecord (all ∙ same) h.1,
     )
 
 -- the next bytes of a piece
@@ -236,38 +214,22 @@ chunk_of bytes start count = take (start + count - start) (drop start bytes)
 chunk_is : (bytes : List ℕ) (start count : ℕ)
     → take start bytes ++ chunk_of bytes start count ≡ take (start + count) bytes
 chunk_is bytes start count =
-    let same : start + count - start ≡ count = omega arith in
-    ap (λ n. take start bytes ++ take n (drop start bytes)) same ∙ sym (take_prefix bytes start count)
+    let same : start + count - start ≡ count = omega arith in rw same (sym (take_prefix bytes start count))
 
 split_at : (bytes : List ℕ) (start count : ℕ)
     → bytes ≡ (take start bytes ++ chunk_of bytes start count) ++ drop (start + count) bytes
-split_at bytes start count =
-    sym (ap (λ x. x ++ drop (start + count) bytes) (chunk_is bytes start count)
-    ∙ take-append-drop (start + count) bytes)
+split_at bytes start count = rw (chunk_is bytes start count) (sym (take-append-drop (start + count) bytes))
 
 -- they are kept, and looked at
 module _ (old now kept : IntakeState) (bytes : List ℕ) (start count : ℕ)
     (cuts : Cuts old (take start bytes) now now.kept)
     (keeps : kept ≡ record now { kept = now.kept ++ chunk_of bytes start count }) where
-  looks_at : (new : IntakeState) → LooksOn kept new
-      → LooksOn (with_chunk old now (take start bytes) (chunk_of bytes start count) cuts) new
-  looks_at new looks = subst (λ (s : IntakeState). LooksOn s new) keeps looks
-
-  pub look_on : (new : IntakeState) → LooksOn kept new → Cuts old (take (start + count) bytes) new new.kept
-  look_on new looks = subst (λ (b : List ℕ). Cuts old b new new.kept) (chunk_is bytes start count)
-      (looked_on old now (take start bytes) (chunk_of bytes start count) cuts new (looks_at new looks))
-
-  pub look_short : (new : IntakeState) → LooksOn kept new → length new.kept < 512
-  look_short new looks =
-      looked_short old now (take start bytes) (chunk_of bytes start count) cuts new (looks_at new looks)
-
-  pub look_begins : (new : IntakeState) → LooksOn kept new → MayBegin new.kept
-  look_begins new looks =
-      looked_begins old now (take start bytes) (chunk_of bytes start count) cuts new (looks_at new looks)
+  pub look_on : (new : IntakeState) → LooksOn kept new
+      → Cuts old (take (start + count) bytes) new new.kept × (length new.kept < 512) × MayBegin new.kept
+  look_on new looks = rw (← (chunk_is bytes start count))
+      (looked_on old now (take start bytes) (chunk_of bytes start count) cuts new (rw keeps at looks))
 
   pub look_off : (new : IntakeState) (fault : InputFault) → new ≡ kept
       → IsRefused (places_of kept.feed) kept.records kept.kept fault → CutsOff old bytes new fault
   look_off new fault same refused = cut_off old now (take start bytes) (chunk_of bytes start count) cuts new fault
-      (drop (start + count) bytes) bytes (same ∙ keeps)
-      (subst (λ (s : IntakeState). IsRefused (places_of s.feed) s.records s.kept fault) keeps refused)
-      (split_at bytes start count)
+      (drop (start + count) bytes) bytes (same ∙ keeps) (rw keeps at refused) (split_at bytes start count)

@@ -2,7 +2,6 @@
 use Rattle.std.proofs.Common.{◌≡◌, ◌≢◌, ◌↔◌, ◌⊎◌, ℕ, ◌+◌, ◌<◌, ◌∙◌, ap, subst, sym, refl, arith, inl, inr, Bool}
 use Rattle.std.proofs.Common.{true, false, List, length, length-append, Option, Some, None, slice_get}
 use Rattle.std.specs.Bool.{OnFalse, OnTrue}
-use Rattle.std.proofs.lemmas.Bool.Decides.{eqb_tells}
 use Rattle.slink_feed.specs.declared.grant.Grant.{Grant}
 use Rattle.slink_feed.specs.declared.session.Phase.{Phase}
 use Rattle.slink_feed.specs.declared.session.Phase.TheVariants as Phases
@@ -12,6 +11,7 @@ use Rattle.slink_feed.specs.Session.{Grants, IsAtNext, IsWaiting, State, has_sen
 use Rattle.slink_feed.specs.Session.{sent_bytes, sent_in, sent_of}
 use Rattle.slink_feed.specs.Window.{Window}
 use Rattle.slink_feed.proofs.Done.{some_at}
+use Rattle.slink_feed.proofs.Items.{same_or_not}
 use Rattle.slink_feed.proofs.Reached.{sent_at_next}
 use Rattle.slink_feed.proofs.Waits.{sends_here, waits_beside}
 use Rattle.slink_live.specs.declared.places.Places.{Places}
@@ -22,112 +22,84 @@ use Rattle.slink_live.specs.private.Calling.{Gives}
 use Rattle.slink_live.specs.private.Granting.{AreDue, Has}
 use Rattle.slink_live.proofs.Fairness.{leaves, streams_or_closed}
 
--- The first stations were looked at.
-pub record AreDueUpTo (feed : List Window) (s : State) (due : Places) (n : ℕ) : Type 0 where
-  pub within : (j : ℕ) → Has due j → (j < n) × (j < 16)
-  pub ready : (j : ℕ) → Has due j → ¬ (IsAtNext feed s.grants j)
-  pub rest : (j : ℕ) → j < n → ¬ (Has due j) → IsAtNext feed s.grants j
-
 module _ (feed : List Window) (s : State) (due : Places) where
-  pub due_first : ((k : ℕ) → ¬ (Has due k)) → AreDueUpTo feed s due 0
-  due_first none = record {
+  pub due_first : s.phase ≡ Phases.Streaming → ((k : ℕ) → ¬ (Has due k)) → AreDue feed s due 0
+  due_first streams none = record {
+    streams = streams;
     within = λ j has. absurd (none j has);
     ready = λ j has. absurd (none j has);
     rest = λ j lt. absurd (omega (arith, lt));
   }
 
-  pub due_past : (n : ℕ) → AreDueUpTo feed s due n → IsAtNext feed s.grants n → AreDueUpTo feed s due (n + 1)
+  pub due_past : (n : ℕ) → AreDue feed s due n → IsAtNext feed s.grants n → AreDue feed s due (n + 1)
   due_past n d at = record {
+    streams = d.streams;
     within = λ j has. (omega (arith, (d.within j has).0), (d.within j has).1);
     ready = d.ready;
-    rest = λ j lt none. elim (eqb_tells j n) [
-      | inl same ↦ subst (IsAtNext feed s.grants) (sym same.1) at
-      | inr other ↦ d.rest j (omega (arith, lt, other.1)) none
+    rest = λ j lt none. elim (same_or_not j n) [
+      | inl same ↦ rw same at
+      | inr ne ↦ d.rest j (omega (arith, lt, ne)) none
     ];
   }
 
-  pub due_more : (all : Places) (n : ℕ) → AreDueUpTo feed s due n → n < 16 → ¬ (IsAtNext feed s.grants n)
-      → Has all n → ((j : ℕ) → j ≢ n → Has all j ↔ Has due j) → AreDueUpTo feed s all (n + 1)
+  pub due_more : (all : Places) (n : ℕ) → AreDue feed s due n → n < 16 → ¬ (IsAtNext feed s.grants n) → Has all n
+      → ((j : ℕ) → j ≢ n → Has all j ↔ Has due j) → AreDue feed s all (n + 1)
   due_more all n d few off here others = record {
-    within = λ j has. elim (eqb_tells j n) [
-      | inl same ↦ (omega (arith, same.1), omega (arith, same.1, few))
-      | inr other ↦
-          let before = d.within j ((others j other.1).0 has) in (omega (arith, before.0), before.1)
+    streams = d.streams;
+    within = λ j has. elim (same_or_not j n) [
+      | inl same ↦ (omega (arith, same), omega (arith, same, few))
+      | inr ne ↦ let before = d.within j ((others j ne).0 has) in (omega (arith, before.0), before.1)
     ];
-    ready = λ j has. elim (eqb_tells j n) [
-      | inl same ↦ subst (λ i. ¬ (IsAtNext feed s.grants i)) (sym same.1) off
-      | inr other ↦ d.ready j ((others j other.1).0 has)
+    ready = λ j has. elim (same_or_not j n) [ inl same ↦ rw same off | inr ne ↦ d.ready j ((others j ne).0 has) ];
+    rest = λ j lt none. elim (same_or_not j n) [
+      | inl same ↦ absurd (none (rw same here))
+      | inr ne ↦ d.rest j (omega (arith, lt, ne)) (λ has. none ((others j ne).1 has))
     ];
-    rest = λ j lt none. elim (eqb_tells j n) [
-      | inl same ↦ absurd (none (subst (Has all) (sym same.1) here))
-      | inr other ↦ d.rest j (omega (arith, lt, other.1)) (λ has. none ((others j other.1).1 has))
-    ];
-  }
-
-  pub due_all : (n : ℕ) → AreDueUpTo feed s due n → n ≡ length feed → s.phase ≡ Phases.Streaming
-      → AreDue feed s due
-  due_all n d is streams = record {
-    streams = streams;
-    within = λ j has. (omega (arith, (d.within j has).0, is), (d.within j has).1);
-    ready = d.ready;
-    rest = λ j lt. d.rest j (omega (arith, lt, is));
   }
 
   -- It is the turn of the first of them.
-  pub due_turn : (ring k : ℕ) → AreDue feed s due → Has due k
+  pub due_turn : (ring k : ℕ) → AreDue feed s due (length feed) → Has due k
       → ((j : ℕ) → IsEarlier ring j k → ¬ (Has due j)) → IsTurn feed s ring k
-  due_turn ring k d has first = record {
-    within = (d.within k has).0;
-    sends = sends_here feed s k d.streams (d.within k has).0 (d.ready k has);
-    first = λ j lt earlier. waits_beside feed s k j d.streams (d.within k has).0 (d.ready k has) lt
-        (d.rest j lt (first j earlier));
-  }
+  due_turn ring k d has first =
+      let lt : k < length feed = (d.within k has).0 in
+      record {
+        within = lt;
+        sends = sends_here feed s k d.streams lt (d.ready k has);
+        first = λ j within earlier. waits_beside feed s k j d.streams lt (d.ready k has) within
+            (d.rest j within (first j earlier));
+      }
 
 same_next : (feed : List Window) (gs hs : Grants) (j : ℕ) → grant_at hs j ≡ grant_at gs j → IsAtNext feed gs j
     → IsAtNext feed hs j
 same_next feed gs hs j same at g w granted there = at g w (sym same ∙ granted) there
 
--- A station of which one is due was called.
-module _ (feed : List Window) (s t : State) (due : Places) (k : ℕ) (a : Sent) (d : AreDue feed s due) (has : Has due k)
-    (given : sent feed s k ≡ (t, a)) where
-  other_grant : (j : ℕ) → j ≢ k → grant_at t.grants j ≡ grant_at s.grants j
-  other_grant j ne = (leaves feed s t k j a ne given).grant
-
-  pub still_due : ¬ (IsAtNext feed t.grants k) → t.phase ≡ Phases.Streaming → AreDue feed t due
-  still_due off streams = record {
-    streams = streams;
-    within = d.within;
-    ready = λ j there. elim (eqb_tells j k) [
-      | inl same ↦ subst (λ i. ¬ (IsAtNext feed t.grants i)) (sym same.1) off
-      | inr other ↦ λ at. d.ready j there (same_next feed t.grants s.grants j (sym (other_grant j other.1)) at)
-    ];
-    rest = λ j lt none. elim (eqb_tells j k) [
-      | inl same ↦ absurd (none (subst (Has due) (sym same.1) has))
-      | inr other ↦ same_next feed s.grants t.grants j (other_grant j other.1) (d.rest j lt none)
-    ];
-  }
-
-  pub no_more_due : (less : Places) → ((j : ℕ) → Has less j → Has due j × (j ≢ k))
-      → ((j : ℕ) → j < 16 → j ≢ k → Has due j → Has less j) → IsAtNext feed t.grants k
-      → t.phase ≡ Phases.Streaming → AreDue feed t less
-  no_more_due less fewer others at streams = record {
-    streams = streams;
-    within = λ j there. d.within j (fewer j there).0;
-    ready = λ j there here.
-        d.ready j (fewer j there).0 (same_next feed t.grants s.grants j (sym (other_grant j (fewer j there).1)) here);
-    rest = λ j lt none. elim (eqb_tells j k) [
-      | inl same ↦ subst (IsAtNext feed t.grants) (sym same.1) at
-      | inr other ↦ same_next feed s.grants t.grants j (other_grant j other.1)
-          (d.rest j lt (λ there. none (others j (d.within j there).1 other.1 there)))
-    ];
-  }
-
-  pub due_or_closed : (result : Places) → (t.phase ≡ Phases.Streaming → AreDue feed t result)
-      → (t.phase ≡ Phases.Closed) ⊎ AreDue feed t result
-  due_or_closed result on = elim (streams_or_closed feed s t k a d.streams given) [
-    | inl streams ↦ inr (on streams)
-    | inr shut ↦ inl shut
-  ]
+-- A station of which one is due was called: it alone may be no more of those.
+pub due_after : (feed : List Window) (s t : State) (due : Places) (k : ℕ) (a : Sent) → AreDue feed s due (length feed)
+    → Has due k → sent feed s k ≡ (t, a) → (result : Places) → ((j : ℕ) → j ≢ k → Has result j → Has due j)
+    → ((j : ℕ) → j < 16 → j ≢ k → Has due j → Has result j) → (Has result k → ¬ (IsAtNext feed t.grants k))
+    → (t.phase ≡ Phases.Streaming → ¬ (Has result k) → IsAtNext feed t.grants k)
+    → (t.phase ≡ Phases.Closed) ⊎ AreDue feed t result (length feed)
+due_after feed s t due k a d has given result fewer others off at =
+    elim (streams_or_closed feed s t k a d.streams given) [
+      | inr shut ↦ inl shut
+      | inl streams ↦ inr (record {
+        streams = streams;
+        within = λ j there. elim (same_or_not j k) [
+          | inl same ↦ rw same (d.within k has)
+          | inr ne ↦ d.within j (fewer j ne there)
+        ];
+        ready = λ j there. elim (same_or_not j k) [
+          | inl same ↦ rw same (off (rw same at there))
+          | inr ne ↦ λ here. d.ready j (fewer j ne there)
+              (same_next feed t.grants s.grants j (sym (leaves feed s t k j a ne given).grant) here)
+        ];
+        rest = λ j lt none. elim (same_or_not j k) [
+          | inl same ↦ rw same (at streams (rw same at none))
+          | inr ne ↦ same_next feed s.grants t.grants j (leaves feed s t k j a ne given).grant
+              (d.rest j lt (λ there. none (others j (d.within j there).1 ne there)))
+        ];
+      })
+    ]
 
 pub on_true : {P Q : Type 0} → (b : Bool) → OnTrue b P → OnFalse b Q → ¬ Q → P
 on_true true is not_so never = is

@@ -1,14 +1,16 @@
 -- The rings, record after record.
-use Rattle.std.proofs.Common.{◌≡◌, ℕ, zero, suc, ◌+◌, ◌≤◌, ◌⊎◌, ◌∙◌, ap, subst, refl, sym, arith, Bool, true, false}
-use Rattle.std.proofs.Common.{inl, inr, List, [], ◌∷◌, ◌++◌, length, set, Some, None, slice_get, if◌then◌else◌}
+use Rattle.std.proofs.Common.{◌≡◌, ℕ, suc, ◌+◌, ◌≤◌, ◌⊎◌, ◌∙◌, ap, refl, sym, arith, Bool, true, false}
+use Rattle.std.proofs.Common.{inl, inr, List, [], ◌∷◌, ◌++◌, length, set, Some, slice_get, if◌then◌else◌}
 use Rattle.slink_feed.specs.Intake.{is_of_station, places_of, pushed}
 use Rattle.slink_feed.specs.Session.{Fits, State}
 use Rattle.slink_feed.specs.Window.{Window, with_record}
 use Rattle.slink_feed.proofs.Fitting.{fits_pushed}
 use Rattle.slink_feed.proofs.Intakes.{places_pushed}
+use Rattle.slink_feed.proofs.Items.{get_here, get_there}
 use Rattle.slink_live.specs.Input.{fed}
 use Rattle.slink_live.specs.Served.{IsBelow}
-use Rattle.std.proofs.lemmas.Option.{same_Some}
+use Rattle.std.proofs.lemmas.Bool.Decides.{eqb_tells}
+use Rattle.std.proofs.lemmas.Option.{same_Some, slice_get_within}
 
 -- the stations stay
 pub places_fed : (feed : List Window) (records : List (List ℕ)) → places_of (fed feed records) ≡ places_of feed
@@ -25,18 +27,15 @@ below_more m n feed le below k w there = omega (arith, le, below k w there)
 -- numbers go up by one
 set_below : (n : ℕ) (feed : List Window) (k : ℕ) (w : Window) (r : List ℕ) → slice_get feed k ≡ Some w → IsBelow n feed
     → IsBelow (n + 1) (set feed k (with_record w r))
-set_below n [] k w r here below j v there = absurd (let bad : None ≡ Some v = there in cc bad)
-set_below n (x ∷ ws) zero w r here below zero v there =
-    let one : with_record w r ≡ v = same_Some (with_record w r) v there in
-    let number : w.next + 1 ≡ v.next = ap (λ (y : Window). y.next) one in
-    omega (arith, below 0 w here, number)
-set_below n (x ∷ ws) zero w r here below (suc j) v there = omega (arith, below (suc j) v there)
-set_below n (x ∷ ws) (suc k) w r here below zero v there = omega (arith, below 0 v there)
-set_below n (x ∷ ws) (suc k) w r here below (suc j) v there =
-    set_below n ws k w r here (λ i y e. below (suc i) y e) j v there
+set_below n feed k w r here below j v there = elim (eqb_tells j k) [
+  | inl same ↦ let one : with_record w r ≡ v = same_Some _ v (sym (get_here feed k (with_record w r)
+      (slice_get_within feed k w here)) ∙ rw same.1 at there) in
+      omega (arith, below k w here, ap (λ (y : Window). y.next) one)
+  | inr other ↦ omega (arith, below j v (sym (get_there feed k j (with_record w r) other.1) ∙ there))
+]
 
 -- The first ring of its station takes a record, if there is one.
-abbrev PushedOnce : List Window → List Window → List ℕ → Type 0
+abbrev pub PushedOnce : List Window → List Window → List ℕ → Type 0
 PushedOnce feed new r = (new ≡ feed)
     ⊎ ((k : ℕ) × (w : Window) × (slice_get feed k ≡ Some w) × (new ≡ set feed k (with_record w r)))
 
@@ -46,17 +45,17 @@ once_if true v ws xs r o = inr (0, v, refl, refl)
 once_if false v ws xs r (inl e) = inl (ap (λ ys. v ∷ ys) e)
 once_if false v ws xs r (inr e) = inr (suc e.0, e.1, e.2, ap (λ ys. v ∷ ys) e.3)
 
-pushed_once : (feed : List Window) (r : List ℕ) → PushedOnce feed (pushed feed r) r
+pub pushed_once : (feed : List Window) (r : List ℕ) → PushedOnce feed (pushed feed r) r
 pushed_once [] r = inl refl
 pushed_once (v ∷ ws) r = once_if (is_of_station v.place r) v ws (pushed ws r) r (pushed_once ws r)
 
 once_below : (n : ℕ) (feed new : List Window) (r : List ℕ) → PushedOnce feed new r → IsBelow n feed
     → IsBelow (n + 1) new
-once_below n feed new r (inl e) below = subst (IsBelow (n + 1)) (sym e) (below_more n (n + 1) feed (omega arith) below)
-once_below n feed new r (inr e) below = subst (IsBelow (n + 1)) (sym e.3) (set_below n feed e.0 e.1 r e.2 below)
+once_below n feed new r (inl e) below = rw e (below_more n (n + 1) feed (omega arith) below)
+once_below n feed new r (inr e) below = rw e.3 (set_below n feed e.0 e.1 r e.2 below)
 
 once_fits : (feed new : List Window) (r : List ℕ) (s : State) → PushedOnce feed new r → Fits feed s → Fits new s
-once_fits feed new r s (inl e) fits = subst (λ (f : List Window). Fits f s) (sym e) fits
+once_fits feed new r s (inl e) fits = rw e fits
 once_fits feed new r s (inr e) fits = fits_pushed feed new e.0 e.1 r s e.2 e.3 fits
 
 -- each record takes the numbers up by one at most

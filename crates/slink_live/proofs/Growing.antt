@@ -1,45 +1,45 @@
 -- No station of a link is passed over while records come.
-use Rattle.std.proofs.Common.{◌≡◌, ◌≢◌, ℕ, zero, suc, ◌+◌, ◌<◌, ◌≤◌, ◌⊎◌, ◌∙◌, ap, subst, refl, sym, arith, inl, inr}
-use Rattle.std.proofs.Common.{Bool, true, false, List, [], ◌∷◌, ◌++◌, length, Some, None, slice_get}
-use Rattle.std.proofs.Common.{if◌then◌else◌}
+use Rattle.std.proofs.Common.{◌≡◌, ◌≢◌, ℕ, ◌+◌, ◌<◌, ◌≤◌, ◌∙◌, ap, sym, arith, inl, inr}
+use Rattle.std.proofs.Common.{List, [], ◌∷◌, ◌++◌, length, Some, slice_get}
+use Rattle.std.proofs.lemmas.Bool.Decides.{eqb_tells}
 use Rattle.std.proofs.lemmas.Option.{same_Some, slice_get_within}
-use Rattle.slink_wire.specs.declared.command.Command.{Command}
-use Rattle.slink_wire.specs.declared.command.Command.TheVariants.{Bye}
 use Rattle.slink_wire.specs.declared.lines.What.{What}
 use Rattle.slink_wire.specs.declared.lines.What.TheVariants.{More, Line, TooLong}
 use Rattle.slink_wire.specs.declared.reply.Reply.{Reply}
 use Rattle.slink_feed.specs.declared.session.Phase.{Phase}
 use Rattle.slink_feed.specs.declared.session.Phase.TheVariants as Phases
 use Rattle.slink_feed.specs.declared.session.Sent.{Sent}
-use Rattle.slink_feed.specs.Intake.{is_of_station, pushed}
+use Rattle.slink_feed.specs.Intake.{pushed}
 use Rattle.slink_feed.specs.Serving.{IsAnswer}
-use Rattle.slink_feed.specs.Session.{State, answered_in, answer_streaming, sent, sent_in}
+use Rattle.slink_feed.specs.Session.{State, answered_in, sent, sent_in}
 use Rattle.slink_feed.specs.Window.{Window, with_record}
+use Rattle.slink_feed.proofs.Items.{get_here, get_there}
+use Rattle.slink_feed.proofs.Sendings.{answer_read}
 use Rattle.slink_live.specs.Fairness.{HasDue, HasNext, IsAmong, TakesTurns, TakesTurnsOn, called_on, comes, hears}
 use Rattle.slink_live.specs.Fairness.{next_called, no_more, no_more_on}
 use Rattle.slink_live.specs.History.{IsEarlier, IsTurn}
 use Rattle.slink_live.specs.Input.{fed}
-use Rattle.slink_live.proofs.Fairness.{IsAhead, ahead_first, ahead_last, ahead_on, among, due_sends, leaves}
+use Rattle.slink_live.proofs.Fed.{pushed_once}
+use Rattle.slink_live.proofs.Fairness.{ahead_first, ahead_on, among, due_sends, leaves}
 use Rattle.slink_live.proofs.Fairness.{streams_or_closed}
 
 -- a ring of these is this one, or this one with further records
 abbrev IsLater : List Window → ℕ → Window → Type 0
 IsLater feed j w = (v : Window) × (slice_get feed j ≡ Some v) × (w.next ≤ v.next)
 
-later_if : (t : Bool) (x : Window) (ws : List Window) (r : List ℕ) (j : ℕ) (w : Window) → slice_get (x ∷ ws) j ≡ Some w
-    → ((i : ℕ) → slice_get ws i ≡ Some w → IsLater (pushed ws r) i w)
-    → IsLater (if t then with_record x r ∷ ws else x ∷ pushed ws r) j w
-later_if true x ws r zero w e on =
-    let same : x.next ≡ w.next = ap (λ (y : Window). y.next) (same_Some x w e) in
-    (with_record x r, refl, (let le : w.next ≤ x.next + 1 = omega (arith, same) in le))
-later_if true x ws r (suc j) w e on = (w, e, omega arith)
-later_if false x ws r zero w e on = (w, e, omega arith)
-later_if false x ws r (suc j) w e on = on j e
-
 later_pushed : (feed : List Window) (r : List ℕ) (j : ℕ) (w : Window) → slice_get feed j ≡ Some w
     → IsLater (pushed feed r) j w
-later_pushed [] r j w e = absurd (let bad : None ≡ Some w = e in cc bad)
-later_pushed (x ∷ ws) r j w e = later_if (is_of_station x.place r) x ws r j w e (λ i f. later_pushed ws r i w f)
+later_pushed feed r j w e = elim (pushed_once feed r) [
+  | inl same ↦ (w, rw same e, omega arith)
+  | inr p ↦ elim (eqb_tells j p.0) [
+    | inl is ↦ let one : p.1 ≡ w = same_Some p.1 w (sym p.2 ∙ rw is.1 at e) in (
+      with_record p.1 r,
+      rw (p.3, is.1) (get_here feed p.0 (with_record p.1 r) (slice_get_within feed p.0 p.1 p.2)),
+      omega (arith, ap (λ (y : Window). y.next) one),
+    )
+    | inr other ↦ (w, rw p.3 (get_there feed p.0 j (with_record p.1 r) other.1 ∙ e), omega arith)
+  ]
+]
 
 later_fed : (feed : List Window) (rs : List (List ℕ)) (j : ℕ) (w : Window) → slice_get feed j ≡ Some w
     → IsLater (fed feed rs) j w
@@ -72,19 +72,7 @@ next_due feed s j d = record {
   beyond = λ e. omega (arith, e, d.before);
 }
 
--- What its client says leaves a session that streams as it is, or closes it; and a closed one stays closed.
-said : (s : State) (c : Command) (now : State) (reply : Reply) → answer_streaming s c ≡ (now, reply)
-    → (now.phase ≡ Phases.Closed) ⊎ (now ≡ s)
-said s Bye now reply e = inl (sym (ap (λ (x : State × Reply). x.0.phase) e))
-said s c now reply e = inr (sym (ap (λ (x : State × Reply). x.0) e))
-
-heard : (feed : List Window) (s : State) (what : What) (now : State) (reply : Reply) → s.phase ≡ Phases.Streaming
-    → IsAnswer feed s what now reply → (now.phase ≡ Phases.Closed) ⊎ (now ≡ s)
-heard feed s More now reply streams a = inr a.0
-heard feed s (Line line) now reply streams a =
-    said s a.0 now reply (sym (ap (λ (p : Phase). answered_in p feed s a.0) streams) ∙ a.2)
-heard feed s TooLong now reply streams a = inl (sym (ap (λ (x : State × Reply). x.0.phase) a))
-
+-- A closed session stays closed, whatever its client says.
 shut_heard : (feed : List Window) (s : State) (what : What) (now : State) (reply : Reply) → s.phase ≡ Phases.Closed
     → IsAnswer feed s what now reply → now.phase ≡ Phases.Closed
 shut_heard feed s More now reply shut a = ap (λ (x : State). x.phase) a.0 ∙ shut
@@ -98,39 +86,35 @@ shut_sent : (feed : List Window) (s now : State) (k : ℕ) (answer : Sent) → s
 shut_sent feed s now k answer shut e =
     sym (ap (λ (x : State × Sent). x.0.phase) (sym (ap (λ (p : Phase). sent_in p feed s k) shut) ∙ e)) ∙ shut
 
-shut_on : (f : List Window) (s : State) (ring : ℕ) (ks : List ℕ) (g : List Window) (t : State) (turn : ℕ)
+shut_on : {f : List Window} {s : State} {ring : ℕ} {ks : List ℕ} {g : List Window} {t : State} {turn : ℕ}
     → TakesTurnsOn f s ring ks g t turn → s.phase ≡ Phases.Closed → t.phase ≡ Phases.Closed
-shut_on f s ring ks g t turn (no_more_on a b c) shut = shut
-shut_on f s ring ks g t turn (comes a rs b d e p q more on) shut =
-    shut_on (fed a rs) b p more d e q on shut
-shut_on f s ring ks g t turn (hears a b now d e p q more what reply is on) shut =
-    shut_on a now p more d e q on (shut_heard a b what now reply shut is)
-shut_on f s ring ks g t turn (called_on a b now d e p q m answer more first is on) shut =
-    shut_on a now (m + 1) more d e q on (shut_sent a b now m answer shut is)
+shut_on (no_more_on a b c) shut = shut
+shut_on (comes a rs b d e p q more on) shut = shut_on on shut
+shut_on (hears a b now d e p q more what reply is on) shut = shut_on on (shut_heard a b what now reply shut is)
+shut_on (called_on a b now d e p q m answer more first is on) shut = shut_on on (shut_sent a b now m answer shut is)
 
 not_both : (t : State) → t.phase ≡ Phases.Closed → ¬ (t.phase ≡ Phases.Streaming)
 not_both t shut streams = let bad : Phases.Closed ≡ Phases.Streaming = sym shut ∙ streams in cc bad
 
 -- What is there is still there, and hasn't been passed, where the station wasn't called.
-ahead_grown : (k j : ℕ) (f : List Window) (s : State) (ring : ℕ) (ks : List ℕ) (g : List Window) (t : State) (turn : ℕ)
+ahead_grown : (k j : ℕ) {f : List Window} {s : State} {ring : ℕ} {ks : List ℕ} {g : List Window} {t : State} {turn : ℕ}
     → TakesTurnsOn f s ring ks g t turn → t.phase ≡ Phases.Streaming → HasNext f s j → ¬ (IsAmong j ks)
-    → IsAhead k ring j → HasNext g t j × IsAhead k turn j
-ahead_grown k j f s ring ks g t turn (no_more_on a b c) streams d none ahead = (d, ahead)
-ahead_grown k j f s ring ks g t turn (comes a rs b last e p q more on) streams d none ahead =
-    ahead_grown k j (fed a rs) b p more last e q on streams (next_fed a rs b j d) none ahead
-ahead_grown k j f s ring ks g t turn (hears a b now last e p q more what reply is on) streams d none ahead =
-    elim (heard a b what now reply d.streams is) [
-      | inl shut ↦ absurd (not_both e (shut_on a now p more last e q on shut) streams)
-      | inr same ↦ ahead_grown k j a now p more last e q on streams
-          (subst (λ (x : State). HasNext a x j) (sym same) d) none ahead
+    → IsEarlier ring j k → HasNext g t j × IsEarlier turn j k
+ahead_grown k j (no_more_on a b c) streams d none ahead = (d, ahead)
+ahead_grown k j (comes a rs b last e p q more on) streams d none ahead =
+    ahead_grown k j on streams (next_fed a rs b j d) none ahead
+ahead_grown k j (hears a b now last e p q more what reply is on) streams d none ahead =
+    elim (answer_read a b now what reply d.streams is) [
+      | inr shut ↦ absurd (not_both e (shut_on on (ap (λ (x : State). x.phase) shut)) streams)
+      | inl same ↦ ahead_grown k j on streams (rw same d) none ahead
     ]
-ahead_grown k j f s ring ks g t turn (called_on a b now last e p q m answer more first is on) streams d none ahead =
+ahead_grown k j (called_on a b now last e p q m answer more first is on) streams d none ahead =
     let ne : j ≢ m = λ x. none (inl x) in
     let within : j < length a = slice_get_within a j d.ring d.there in
     let never : ¬ (IsEarlier p j m) = λ x. due_sends a b j (next_due a b j d) (first.first j within x) in
     elim (streams_or_closed a b now m answer d.streams is) [
-      | inr shut ↦ absurd (not_both e (shut_on a now (m + 1) more last e q on shut) streams)
-      | inl on_streams ↦ ahead_grown k j a now (m + 1) more last e q on streams (record {
+      | inr shut ↦ absurd (not_both e (shut_on on shut) streams)
+      | inl on_streams ↦ ahead_grown k j on streams (record {
         streams = on_streams;
         grant = d.grant;
         ring = d.ring;
@@ -147,27 +131,25 @@ pub called_between : (f : List Window) (s : State) (k j : ℕ) (mid : List ℕ) 
 called_between f s k j mid g t turn d ne turns streams again = elim (among j mid) [
   | inl is ↦ is
   | inr none ↦
-      let still = ahead_grown k j f s (k + 1) mid g t turn turns streams d none (ahead_first k j ne) in
+      let still = ahead_grown k j turns streams d none (ahead_first k j ne) in
       let within : j < length g = slice_get_within g j still.0.ring still.0.there in
-      absurd (due_sends g t j (next_due g t j still.0) (again.first j within (ahead_last k turn j still.1)))
+      absurd (due_sends g t j (next_due g t j still.0) (again.first j within still.1))
 ]
 
 -- one after another
-pub turns_joined : (f : List Window) (s : State) (ring : ℕ) (ks : List ℕ) (g : List Window) (t : State) (turn : ℕ)
-    (more : List ℕ) (h : List Window) (u : State) (to : ℕ) → TakesTurnsOn f s ring ks g t turn
+pub turns_joined : {f : List Window} {s : State} {ring : ℕ} {ks : List ℕ} {g : List Window} {t : State} {turn : ℕ}
+    {more : List ℕ} {h : List Window} {u : State} {to : ℕ} → TakesTurnsOn f s ring ks g t turn
     → TakesTurnsOn g t turn more h u to → TakesTurnsOn f s ring (ks ++ more) h u to
-turns_joined f s ring ks g t turn more h u to (no_more_on a b c) further = further
-turns_joined f s ring ks g t turn more h u to (comes a rs b last e p q ms on) further =
-    comes a rs b h u p to (ms ++ more) (turns_joined (fed a rs) b p ms last e q more h u to on further)
-turns_joined f s ring ks g t turn more h u to (hears a b now last e p q ms what reply is on) further =
-    hears a b now h u p to (ms ++ more) what reply is (turns_joined a now p ms last e q more h u to on further)
-turns_joined f s ring ks g t turn more h u to (called_on a b now last e p q m answer ms first is on) further =
-    called_on a b now h u p to m answer (ms ++ more) first is
-    (turns_joined a now (m + 1) ms last e q more h u to on further)
+turns_joined (no_more_on a b c) further = further
+turns_joined (comes a rs b last e p q ms on) further = comes a rs b _ _ p _ _ (turns_joined on further)
+turns_joined (hears a b now last e p q ms what reply is on) further =
+    hears a b now _ _ p _ _ what reply is (turns_joined on further)
+turns_joined (called_on a b now last e p q m answer ms first is on) further =
+    called_on a b now _ _ p _ m answer _ first is (turns_joined on further)
 
 -- while nothing comes
-pub turns_still : (feed : List Window) (s : State) (ring : ℕ) (ks : List ℕ) (t : State) (turn : ℕ)
+pub turns_still : {feed : List Window} {s : State} {ring : ℕ} {ks : List ℕ} {t : State} {turn : ℕ}
     → TakesTurns feed s ring ks t turn → TakesTurnsOn feed s ring ks feed t turn
-turns_still feed s ring ks t turn (no_more u p) = no_more_on feed u p
-turns_still feed s ring ks t turn (next_called u now last p q k answer more first is on) =
-    called_on feed u now feed last p q k answer more first is (turns_still feed now (k + 1) more last q on)
+turns_still {feed} (no_more u p) = no_more_on feed u p
+turns_still {feed} (next_called u now last p q k answer more first is on) =
+    called_on feed u now feed last p q k answer more first is (turns_still on)

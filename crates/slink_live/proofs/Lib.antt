@@ -11,7 +11,6 @@ pub mod Growing
 pub mod Losing
 pub mod Reported
 pub mod Apart
-pub mod Moving
 pub mod Granting
 pub mod Firsts
 pub mod Due

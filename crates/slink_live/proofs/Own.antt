@@ -1,9 +1,13 @@
 -- Of a link only what happened in its slot matters, and the input; and each moment has its history.
-use Rattle.std.proofs.Common.{◌≡◌, ℕ, ◌∙◌, ap, subst, refl, sym, inl, inr, ◌⊎◌, Bool, true, false, ◌||◌, List, [], ◌∷◌}
-use Rattle.std.proofs.Common.{◌++◌, append-nil, Option, None, if◌then◌else◌}
+use Rattle.std.proofs.Common.{◌≡◌, ℕ, ◌∙◌, ap, subst, refl, sym, inl, inr, Bool, true, false, ◌||◌, List, [], ◌∷◌}
+use Rattle.std.proofs.Common.{◌++◌, append-nil, Option, None, if◌then◌else◌, arith, length, length-append, take}
+use Rattle.std.proofs.Common.{take_all}
+use Rattle.std.proofs.Math.Seq.{take-append_seam, take-nil}
+use Rattle.std.proofs.lemmas.Bool.Decides.{leb_tells}
+use Rattle.std.proofs.lemmas.List.{take-append-le}
 use Rattle.slink_feed.specs.Window.{Window}
-use Rattle.slink_live.specs.Happening.{Happening, Input, Opened, Received, Emitted, Gone, Next, Missed, Wants}
-use Rattle.slink_live.specs.Happening.{WantsLinks, Left, Handed, input_of, is_at, is_input, piece_of, those_of}
+use Rattle.slink_live.specs.Happening.{Happening, Input, Opened, Received, Emitted, Gone}
+use Rattle.slink_live.specs.Happening.{input_of, is_at, is_input, piece_of, those_of}
 use Rattle.slink_live.specs.Input.{IsFed}
 use Rattle.slink_live.specs.History.{IsServed, History, no_event, elsewhere, opens, receives, asks, takes, goes}
 use Rattle.std.proofs.lemmas.Bool.{eq-eqb}
@@ -21,16 +25,7 @@ those_append k (x ∷ xs) ys =
 
 pub no_piece : (h : Happening) → is_input h ≡ false → piece_of h ≡ []
 no_piece (Input bytes) e = absurd (let bad : true ≡ false = e in cc bad)
-no_piece (Opened k) e = refl
-no_piece (Received k bytes) e = refl
-no_piece (Emitted k bytes) e = refl
-no_piece (Gone k) e = refl
-no_piece (Next event) e = refl
-no_piece (Missed k) e = refl
-no_piece (Wants k interest) e = refl
-no_piece (WantsLinks wanted) e = refl
-no_piece Left e = refl
-no_piece (Handed k bytes) e = refl
+no_piece h e = refl
 
 input_if : (p q : Bool) (h : Happening) (hs : List Happening) → is_input h ≡ p
     → input_of (if p || q then h ∷ hs else hs) ≡ piece_of h ++ input_of hs
@@ -87,62 +82,35 @@ module _ (start : List Window) (k : ℕ) where
       goes (those_of k before) (those_of k now) x (own_history before x s)
       (those_more k before now (Gone k) e (eq-eqb k k refl))
 
--- a prefix of a list that ends in h is the list, or one of what is before h
-same_head : (x y : Happening) (xs ys : List Happening) → x ∷ xs ≡ y ∷ ys → x ≡ y
-same_head x y xs ys e = cc e
-
-same_tail : (x y : Happening) (xs ys : List Happening) → x ∷ xs ≡ y ∷ ys → xs ≡ ys
-same_tail x y xs ys e = cc e
-
-no_leading : (xs ys : List Happening) → [] ≡ xs ++ ys → xs ≡ []
-no_leading [] ys e = refl
-no_leading (x ∷ xs) ys e = absurd (let bad : [] ≡ x ∷ (xs ++ ys) = e in cc bad)
-
-leading_of : (b : List Happening) (h : Happening) (before after : List Happening) → b ++ h ∷ [] ≡ before ++ after
-    → (before ≡ b ++ h ∷ []) ⊎ ((mid : List Happening) × (b ≡ before ++ mid))
-leading_of b h [] after e = inr (b, refl)
-leading_of [] h (x ∷ xs) after e =
-    inl (ap (λ ys. x ∷ ys) (no_leading xs after (same_tail h x [] (xs ++ after) e))
-    ∙ ap (λ y. y ∷ []) (sym (same_head h x [] (xs ++ after) e)))
-leading_of (y ∷ ys) h (x ∷ xs) after e = elim (leading_of ys h xs after
-    (same_tail y x (ys ++ h ∷ []) (xs ++ after) e)) [
-      | inl whole ↦ inl (ap (λ z. z ∷ xs) (sym (same_head y x (ys ++ h ∷ []) (xs ++ after) e))
-          ∙ ap (λ zs. y ∷ zs) whole)
-      | inr part ↦ inr (
-        part.0,
-        ap (λ z. z ∷ ys) (same_head y x (ys ++ h ∷ []) (xs ++ after) e) ∙ ap (λ zs. x ∷ zs) part.1,
-      )
-    ]
-
-module _ (start : List Window) (k : ℕ) where
+-- the history of the first events
+module _ (start : List Window) (k n : ℕ) where
   abbrev HasHistory : List Happening → Type 0
-  HasHistory log = (o : Option History) × IsServed start k log o
+  HasHistory log = (o : Option History) × IsServed start k (take n log) o
 
   -- one thing more
   moment : (b now : List Happening) (h : Happening) (o : Option History) → now ≡ b ++ h ∷ [] → IsServed start k now o
-      → ((before after : List Happening) → b ≡ before ++ after → HasHistory before)
-      → (before after : List Happening) → now ≡ before ++ after → HasHistory before
-  moment b now h o e s on before after split = elim (leading_of b h before after (sym e ∙ split)) [
-    | inl whole ↦ (o, subst (λ l. IsServed start k l o) (e ∙ sym whole) s)
-    | inr part ↦ on before part.0 part.1
+      → HasHistory b → HasHistory now
+  moment b now h o e s before = elim (leb_tells n (length b)) [
+    | inl few ↦ (before.0, rw (e, take-append-le n b (h ∷ []) few.1) before.1)
+    | inr all ↦ (o, rw (take_all {A = Happening} n now (omega (arith, all.1, ap length e, length-append b (h ∷ [])))) s)
   ]
 
-  pub each_moment : (log : List Happening) (o : Option History) → IsServed start k log o
-      → (before after : List Happening) → log ≡ before ++ after → HasHistory before
-  each_moment log o no_event before after split =
-      (None, subst (λ l. IsServed start k l None) (sym (no_leading before after split)) no_event)
-  each_moment log o (elsewhere b now h x s other e) before after split =
-      moment b now h x e (elsewhere b now h x s other e) (each_moment b x s) before after split
-  each_moment log o (opens b now t s fresh e) before after split =
-      moment b now (Opened k) _ e (opens b now t s fresh e) (each_moment b None s) before after split
-  each_moment log o (receives b now feed t new ring bytes produced all emitted s fed serves e) before after split =
+  first_events : (log : List Happening) (o : Option History) → IsServed start k log o → HasHistory log
+  first_events log o no_event = (None, rw (take-nil n) no_event)
+  first_events log o (elsewhere b now h x s other e) =
+      moment b now h _ e (elsewhere b now h x s other e) (first_events b x s)
+  first_events log o (opens b now t s fresh e) =
+      moment b now (Opened k) _ e (opens b now t s fresh e) (first_events b None s)
+  first_events log o (receives b now feed t new ring bytes produced all emitted s fed serves e) =
       moment b now (Received k bytes) _ e (receives b now feed t new ring bytes produced all emitted s fed serves e)
-      (each_moment b _ s) before after split
-  each_moment log o (asks now feed t new ring turn produced all emitted s fed called) before after split =
-      each_moment now _ s before after split
-  each_moment log o (takes b now t ring bytes produced emitted s prefix e) before after split =
-      moment b now (Emitted k bytes) _ e (takes b now t ring bytes produced emitted s prefix e) (each_moment b _ s)
-      before
-      after split
-  each_moment log o (goes b now x s e) before after split =
-      moment b now (Gone k) None e (goes b now x s e) (each_moment b x s) before after split
+      (first_events b _ s)
+  first_events log o (asks now feed t new ring turn produced all emitted s fed called) = first_events now _ s
+  first_events log o (takes b now t ring bytes produced emitted s prefix e) =
+      moment b now (Emitted k bytes) _ e (takes b now t ring bytes produced emitted s prefix e) (first_events b _ s)
+  first_events log o (goes b now x s e) = moment b now (Gone k) _ e (goes b now x s e) (first_events b x s)
+
+pub each_moment : (start : List Window) (k : ℕ) (before after : List Happening) (o : Option History)
+    → IsServed start k (before ++ after) o → (reported : Option History) × IsServed start k before reported
+each_moment start k before after o s =
+    let first = first_events start k (length before) (before ++ after) o s in
+    (first.0, rw (take-append_seam before after) at first.1)

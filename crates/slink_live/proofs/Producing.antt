@@ -1,17 +1,15 @@
 -- What a link is sent, by slink_feed's laws.
-use Rattle.std.proofs.Common.{◌≡◌, ◌≢◌, ℕ, ◌∙◌, ap, subst, refl, sym, inl, inr, List, [], ◌∷◌, ◌++◌, length}
-use Rattle.std.proofs.Common.{append_assoc, append-nil, take, Option, Some, None, slice_get}
+use Rattle.std.proofs.Common.{◌≡◌, ◌≢◌, ◌⊎◌, ℕ, ◌∙◌, ap, subst, refl, sym, inl, inr, List, [], ◌∷◌, ◌++◌, length}
+use Rattle.std.proofs.Common.{append_assoc, append-nil, Option, Some, None, slice_get}
 use Rattle.std.proofs.Math.Seq.{take-append_seam}
 use Rattle.std.proofs.lemmas.List.Elements.{filter-append}
 use Rattle.slink_wire.specs.declared.lines.What.{What}
 use Rattle.slink_wire.specs.declared.reply.Reply.{Reply}
-use Rattle.slink_wire.specs.declared.reply.Reply.TheVariants as Replies
-use Rattle.slink_wire.specs.Lines.{Held, IsHeld}
+use Rattle.slink_wire.specs.Lines.{IsHeld}
 use Rattle.slink_wire.specs.Reply.{reply_bytes}
 use Rattle.slink_feed.specs.declared.session.Phase.{Phase}
 use Rattle.slink_feed.specs.declared.session.Phase.TheVariants.{Fresh, Streaming, Closed}
 use Rattle.slink_feed.specs.declared.session.Sent.{Sent}
-use Rattle.slink_feed.specs.declared.session.Sent.TheVariants as Sents
 use Rattle.slink_feed.specs.Connection.{bytes_sent}
 use Rattle.slink_feed.specs.Running.{HasStream}
 use Rattle.slink_feed.specs.Sending.{AreCalled, AreShown, Called, IsReadFrom}
@@ -20,8 +18,9 @@ use Rattle.slink_feed.specs.Session.{State, sent, sent_bytes, sent_in}
 use Rattle.slink_feed.specs.Window.{Shows, Window}
 use Rattle.slink_feed.proofs.Connected.{on_sent, read_further, reply_none}
 use Rattle.slink_feed.proofs.Sendings.{IsOn, answer_read, read_on, slice_sent}
+use Rattle.slink_feed.proofs.Stands.{closed_or, open_before}
 use Rattle.slink_feed.specs.Intake.{places_of}
-use Rattle.slink_live.specs.Happening.{Happening, Received, Emitted, input_of}
+use Rattle.slink_live.specs.Happening.{Happening, input_of}
 use Rattle.slink_live.specs.Input.{IsFed, IsInput, fed}
 use Rattle.slink_live.specs.History.{Asks, IsServed, History, history, none_called, one_called, no_event, elsewhere}
 use Rattle.slink_live.specs.History.{opens, receives, asks, takes, goes}
@@ -42,38 +41,28 @@ are_called s u (a ∷ more) h = (h.0, h.1, h.2, are_called (sent a.feed h.0 a.pl
 
 called_last : (s u t v : State) (xs : List Called) (a : Called) → CalledTo s xs u → IsReadFrom u t
     → sent a.feed t a.place ≡ (v, a.answer) → CalledTo s (xs ++ a ∷ []) v
-called_last s u t v [] a h read e = (
-  t,
-  subst (λ (x : State). IsReadFrom x t) h read,
-  ap (λ (x : State × Sent). x.1) e,
-  sym (ap (λ (x : State × Sent). x.0) e),
-)
+called_last s u t v [] a h read e =
+    (t, rw h at read, ap (λ (x : State × Sent). x.1) e, sym (ap (λ (x : State × Sent). x.0) e))
 called_last s u t v (x ∷ xs) a h read e = (h.0, h.1, h.2, called_last (sent x.feed h.0 x.place).0 u t v xs a h.3 read e)
 
 bytes_last : (xs : List Called) (a : Called) → bytes_sent (xs ++ a ∷ []) ≡ bytes_sent xs ++ sent_bytes a.answer
 bytes_last [] a = append-nil (sent_bytes a.answer)
-bytes_last (x ∷ xs) a = ap (λ b. sent_bytes x.answer ++ b) (bytes_last xs a)
-    ∙ sym (append_assoc (sent_bytes x.answer) (bytes_sent xs) (sent_bytes a.answer))
+bytes_last (x ∷ xs) a = rw (bytes_last xs a) (sym (append_assoc (sent_bytes x.answer) _ _))
 
 replies_last : (rs : List Reply) (r : Reply) → all_replies (rs ++ r ∷ []) ≡ all_replies rs ++ reply_bytes r
 replies_last [] r = append-nil (reply_bytes r)
-replies_last (x ∷ rs) r = ap (λ b. reply_bytes x ++ b) (replies_last rs r)
-    ∙ sym (append_assoc (reply_bytes x) (all_replies rs) (reply_bytes r))
+replies_last (x ∷ rs) r = rw (replies_last rs r) (sym (append_assoc (reply_bytes x) _ _))
 
--- where a session stands
-data Stage (p : Phase) : Type 0 where
-  is_before : p ≢ Streaming → p ≢ Closed → ((feed : List Window) (s : State) (k : ℕ) → (sent_in p feed s k).0 ≡ s)
-      → ((feed : List Window) (s : State) (k : ℕ) → sent_bytes (sent_in p feed s k).1 ≡ []) → Stage p
-  is_streaming : p ≡ Streaming → Stage p
-  is_closed : p ≡ Closed → Stage p
+-- whether a session streams
+streams_or : (p : Phase) → (p ≡ Streaming) ⊎ (p ≢ Streaming)
+streams_or Streaming = inl refl
+streams_or phase = inr (λ e. cc e)
 
-stage_of : (p : Phase) → Stage p
-stage_of Streaming = is_streaming refl
-stage_of Closed = is_closed refl
-stage_of phase = is_before (λ e. cc e) (λ e. cc e) (λ feed s k. refl) (λ feed s k. refl)
-
-not_streaming : (p : Phase) → p ≡ Closed → p ≢ Streaming
-not_streaming p e on = let bad : Closed ≡ Streaming = sym e ∙ on in cc bad
+-- it sends nothing unless it does
+quiet_in : (p : Phase) (feed : List Window) (s : State) (k : ℕ) → p ≢ Streaming
+    → ((sent_in p feed s k).0 ≡ s) × (sent_bytes (sent_in p feed s k).1 ≡ [])
+quiet_in Streaming feed s k off = absurd (off refl)
+quiet_in phase feed s k off = (refl, refl)
 
 off_on : (p : Phase) → p ≢ Streaming → p ≢ Closed → IsOn p → ⊥
 off_on p off alive (inl on) = off on
@@ -97,122 +86,105 @@ module _ (start : List Window) where
       → AreFrom start now xs
   from_more log now h [] e f = tt
   from_more log now h (a ∷ more) e f = (
-    (f.0.0, f.0.1 ++ h ∷ [], e ∙ (ap (λ l. l ++ h ∷ []) f.0.2 ∙ append_assoc f.0.0 f.0.1 (h ∷ [])), f.0.3),
+    (f.0.0, f.0.1 ++ h ∷ [], rw (e, f.0.2) (append_assoc f.0.0 f.0.1 (h ∷ [])), f.0.3),
     from_more log now h more e f.1,
   )
 
   from_last : (log : List Happening) (xs : List Called) (a : Called) → IsFed start (input_of log) a.feed
-      → AreFrom start log xs
-      → AreFrom start log (xs ++ a ∷ [])
-  from_last log [] a fed f = ((log, [], sym (append-nil log), fed), tt)
-  from_last log (x ∷ xs) a fed f = (f.0, from_last log xs a fed f.1)
+      → AreFrom start log xs → AreFrom start log (xs ++ a ∷ [])
+  from_last log [] a is_fed f = ((log, [], sym (append-nil log), is_fed), tt)
+  from_last log (x ∷ xs) a is_fed f = (f.0, from_last log xs a is_fed f.1)
 
-  produced_more : (log now : List Happening) (h : Happening) (t : State) (produced : List ℕ) → now ≡ log ++ h ∷ []
+  produced_more : {log now : List Happening} (h : Happening) {t : State} {produced : List ℕ} → now ≡ log ++ h ∷ []
       → Produced start log t produced → Produced start now t produced
-  produced_more log now h t produced e (only_replies rs off is) = only_replies rs off is
-  produced_more log now h t produced e (has_streamed rs s u xs begun to read on from is) =
+  produced_more h e (only_replies rs off is) = only_replies rs off is
+  produced_more {log} {now} h e (has_streamed rs s u xs begun to read on from is) =
       has_streamed rs s u xs begun to read on (from_more log now h xs e from) is
 
   -- a reply before it streams
-  replied : (log : List Happening) (new : State) (produced : List ℕ) (rs : List Reply) (r : Reply)
-      → produced ≡ all_replies rs → Stage new.phase → Produced start log new (produced ++ reply_bytes r)
-  replied log new produced rs r is (is_before off alive quiet none) =
-      only_replies (rs ++ r ∷ []) off (ap (λ b. b ++ reply_bytes r) is ∙ sym (replies_last rs r))
-  replied log new produced rs r is (is_closed shut) =
-      only_replies (rs ++ r ∷ []) (not_streaming new.phase shut)
-      (ap (λ b. b ++ reply_bytes r) is ∙ sym (replies_last rs r))
-  replied log new produced rs r is (is_streaming on) =
-      has_streamed (rs ++ r ∷ []) new new [] on refl (inl refl) (inl on) tt
-      (ap (λ b. b ++ reply_bytes r) is ∙ (sym (replies_last rs r) ∙ sym (append-nil (all_replies (rs ++ r ∷ [])))))
+  replied : {log : List Happening} (new : State) {produced : List ℕ} (rs : List Reply) (r : Reply)
+      → produced ≡ all_replies rs → Produced start log new (produced ++ reply_bytes r)
+  replied new {produced} rs r is =
+      let all : produced ++ reply_bytes r ≡ all_replies (rs ++ r ∷ []) = rw is (sym (replies_last rs r)) in
+      elim (streams_or new.phase) [
+        | inl on ↦ has_streamed (rs ++ r ∷ []) new new [] on refl (inl refl) (inl on) tt
+            (all ∙ sym (append-nil (all_replies (rs ++ r ∷ []))))
+        | inr off ↦ only_replies (rs ++ r ∷ []) off all
+      ]
 
-  before_produced : (log : List Happening) (old new : State) (r : Reply) (produced : List ℕ) → old.phase ≢ Streaming
-      → old.phase ≢ Closed → Produced start log old produced → Produced start log new (produced ++ reply_bytes r)
-  before_produced log old new r produced off alive (only_replies rs o eq) =
-      replied log new produced rs r eq (stage_of new.phase)
-  before_produced log old new r produced off alive (has_streamed rs s u xs begun to read on from eq) =
+  before_produced : {log : List Happening} {old : State} (new : State) (r : Reply) {produced : List ℕ}
+      → old.phase ≢ Streaming → old.phase ≢ Closed → Produced start log old produced
+      → Produced start log new (produced ++ reply_bytes r)
+  before_produced new r off alive (only_replies rs o eq) = replied new rs r eq
+  before_produced {old = old} new r off alive (has_streamed rs s u xs begun to read on from eq) =
       absurd (off_on old.phase off alive on)
 
-  streaming_produced : (log : List Happening) (feed : List Window) (old new : State) (what : What) (r : Reply)
-      (produced : List ℕ) → old.phase ≡ Streaming → IsAnswer feed old what new r → Produced start log old produced
+  streaming_produced : {log : List Happening} (feed : List Window) {old new : State} (what : What) (r : Reply)
+      {produced : List ℕ} → old.phase ≡ Streaming → IsAnswer feed old what new r → Produced start log old produced
       → Produced start log new (produced ++ reply_bytes r)
-  streaming_produced log feed old new what r produced on is (only_replies rs off eq) = absurd (off on)
-  streaming_produced log feed old new what r produced on is (has_streamed rs s u xs begun to read o from eq) =
-      let quiet : r ≡ Replies.Nothing = reply_none feed old new what r on is in
+  streaming_produced feed what r on is (only_replies rs off eq) = absurd (off on)
+  streaming_produced feed {old} {new} what r {produced} on is (has_streamed rs s u xs begun to read o from eq) =
       let moved : IsReadFrom old new = answer_read feed old new what r on is in
       has_streamed rs s u xs begun to (read_further u old new read moved) (read_on old new moved o) from
-      (ap (λ x. produced ++ reply_bytes x) quiet ∙ (append-nil produced ∙ eq))
+      (rw (reply_none feed old new what r on is) (append-nil produced ∙ eq))
 
   abbrev ProducedOf : List Happening → SessionState → List ℕ → Type 0
   ProducedOf log t produced = Produced start log t.state produced × HasStream t
 
   -- a line is answered
-  takes_at : (log : List Happening) (feed : List Window) (old new : SessionState) (piece : List ℕ) (r : Reply)
-      (produced : List ℕ) → Stage old.state.phase → Takes feed old piece new r → ProducedOf log old produced
+  takes_at : {log : List Happening} {feed : List Window} {old new : SessionState} {piece : List ℕ} {r : Reply}
+      {produced : List ℕ} → Takes feed old piece new r → ProducedOf log old produced
       → ProducedOf log new (produced ++ reply_bytes r)
-  takes_at log feed old new piece r produced (is_closed shut) t h =
-      let same : (r ≡ Replies.Nothing) × (new ≡ old) = t.closed shut in
-      subst (λ b. ProducedOf log new b) (sym (ap (λ x. produced ++ reply_bytes x) same.0 ∙ append-nil produced))
-      (subst (λ (x : SessionState). ProducedOf log x produced) (sym same.1) h)
-  takes_at log feed old new piece r produced (is_streaming on) t h =
-      let alive : ¬ (old.state.phase ≡ Closed) = λ shut. not_streaming old.state.phase shut on in
-      let held : IsHeld old.held h.1.0 = h.1.1 alive in
-      let is = t.answers h.1.0 alive held in (
-        streaming_produced log feed old.state new.state is.0 r produced on is.2 h.0,
-        (h.1.0 ++ piece, λ x. t.held h.1.0 alive held),
-      )
-  takes_at log feed old new piece r produced (is_before off alive quiet none) t h =
-      let held : IsHeld old.held h.1.0 = h.1.1 alive in (
-        before_produced log old.state new.state r produced off alive h.0,
-        (h.1.0 ++ piece, λ x. t.held h.1.0 alive held),
-      )
+  takes_at {log} {feed} {old} {new} {piece} {r} {produced} t h = elim (closed_or old.state.phase) [
+    | inl shut ↦ rw ((t.closed shut).0, (t.closed shut).1, append-nil produced) h
+    | inr alive ↦
+        let held : IsHeld old.held h.1.0 = h.1.1 alive in
+        let is = t.answers h.1.0 alive held in (
+          elim (streams_or old.state.phase) [
+            | inl on ↦ streaming_produced feed is.0 r on is.2 h.0
+            | inr off ↦ before_produced new.state r off alive h.0
+          ],
+          (h.1.0 ++ piece, λ x. t.held h.1.0 alive held),
+        )
+  ]
 
   -- lines are answered
-  serves_produced : (log : List Happening) (feed : List Window) (s last : SessionState) (bytes produced all : List ℕ)
+  serves_produced : {log : List Happening} {feed : List Window} {s last : SessionState} {bytes produced all : List ℕ}
       → Serves feed s bytes produced last all → ProducedOf log s produced → ProducedOf log last all
-  serves_produced log feed s last bytes produced all (none_served t w) h = h
-  serves_produced log feed s last bytes produced all (piece_served t now u bs piece rest w a r split taking more) h =
-      serves_produced log feed now u rest (w ++ reply_bytes r) a more
-      (takes_at log feed t now piece r w (stage_of t.state.phase) taking h)
+  serves_produced (none_served t w) h = h
+  serves_produced (piece_served t now u bs piece rest w a r split taking more) h =
+      serves_produced more (takes_at taking h)
 
   -- a packet is requested
-  called_at : (log : List Happening) (feed : List Window) (old new : State) (k : ℕ) (answer : Sent) (produced : List ℕ)
-      → Stage old.phase → IsFed start (input_of log) feed → sent feed old k ≡ (new, answer)
-      → Produced start log old produced
-      → Produced start log new (produced ++ sent_bytes answer)
-  called_at log feed old new k answer produced (is_before off alive quiet none) fed e h =
-      let same : new ≡ old = sym (ap (λ (x : State × Sent). x.0) e) ∙ quiet feed old k in
-      let still : sent_bytes answer ≡ [] = sym (ap (λ (x : State × Sent). sent_bytes x.1) e) ∙ none feed old k in
-      subst (λ b. Produced start log new b) (sym (ap (λ b. produced ++ b) still ∙ append-nil produced))
-      (subst (λ (x : State). Produced start log x produced) (sym same) h)
-  called_at log feed old new k answer produced (is_closed shut) fed e h =
-      let shown : sent feed old k ≡ (old, Sents.Closed) = ap (λ (p : Phase). sent_in p feed old k) shut in
-      let same : new ≡ old = sym (ap (λ (x : State × Sent). x.0) e) ∙ ap (λ (x : State × Sent). x.0) shown in
-      let still : sent_bytes answer ≡ [] = sym (ap (λ (x : State × Sent). sent_bytes x.1) e)
-      ∙ ap (λ (x : State × Sent). sent_bytes x.1) shown in
-      subst (λ b. Produced start log new b) (sym (ap (λ b. produced ++ b) still ∙ append-nil produced))
-      (subst (λ (x : State). Produced start log x produced) (sym same) h)
-  called_at log feed old new k answer produced (is_streaming on) fed e (only_replies rs off eq) = absurd (off on)
-  called_at log feed old new k answer produced (is_streaming on) fed e
+  sends_on : {log : List Happening} {feed : List Window} {old new : State} (k : ℕ) {answer : Sent} {produced : List ℕ}
+      → old.phase ≡ Streaming → IsFed start (input_of log) feed → sent feed old k ≡ (new, answer)
+      → Produced start log old produced → Produced start log new (produced ++ sent_bytes answer)
+  sends_on k on fed e (only_replies rs off eq) = absurd (off on)
+  sends_on {log} {feed} {old} {new} k {answer} on fed e
       (has_streamed rs s u xs begun to read o from eq) =
       let a : Called = record { feed = feed; place = k; answer = answer } in
       has_streamed rs s new (xs ++ a ∷ []) begun (called_last s u old new xs a to read e) (inl refl)
-      (subst IsOn (ap (λ (x : State × Sent). x.0.phase) e) (on_sent feed old k (inl on))) (from_last log xs a fed from)
-      (ap (λ b. b ++ sent_bytes answer) eq ∙ (append_assoc (all_replies rs) (bytes_sent xs) (sent_bytes answer)
-      ∙ ap (λ b. all_replies rs ++ b) (sym (bytes_last xs a))))
+      (subst (λ (x : State × Sent). IsOn x.0.phase) e (on_sent feed old k (inl on))) (from_last log xs a fed from)
+      (rw (eq, bytes_last xs a) (append_assoc (all_replies rs) (bytes_sent xs) (sent_bytes answer)))
 
-  asks_produced : (log : List Happening) (feed : List Window) (s : SessionState) (ring : ℕ) (produced : List ℕ)
-      (last : SessionState) (turn : ℕ) (all : List ℕ) → IsFed start (input_of log) feed
+  called_at : {log : List Happening} {feed : List Window} {old new : State} (k : ℕ) {answer : Sent} {produced : List ℕ}
+      → IsFed start (input_of log) feed → sent feed old k ≡ (new, answer) → Produced start log old produced
+      → Produced start log new (produced ++ sent_bytes answer)
+  called_at {log} {feed} {old} k {produced = produced} fed e h = elim (streams_or old.phase) [
+    | inl on ↦ sends_on k on fed e h
+    | inr off ↦ let quiet = quiet_in old.phase feed old k off in
+        subst (λ (x : State × Sent). Produced start log x.0 (produced ++ sent_bytes x.1)) e
+        (rw (quiet.0, quiet.1, append-nil produced) h)
+  ]
+
+  asks_produced : {log : List Happening} {feed : List Window} {s : SessionState} {ring : ℕ} {produced : List ℕ}
+      {last : SessionState} {turn : ℕ} {all : List ℕ} → IsFed start (input_of log) feed
       → Asks feed s ring produced last turn all → ProducedOf log s produced → ProducedOf log last all
-  asks_produced log feed s ring produced last turn all is_fed none_called h = h
-  asks_produced log feed s ring produced last turn all is_fed
-      (one_called now t m k answer on a before first given held is) h =
-      let earlier : ProducedOf log now on = asks_produced log feed s ring produced now m on is_fed before h in
-      let shut_same : t.state.phase ≢ Closed → now.state.phase ≢ Closed =
-      λ alive shut. alive (sym (ap (λ (x : State × Sent). x.0.phase) given)
-      ∙ (ap (λ (p : Phase). (sent_in p feed now.state k).0.phase) shut ∙ shut)) in (
-        subst (λ b. Produced start log t.state b) (sym is)
-            (called_at log feed now.state t.state k answer on (stage_of now.state.phase) is_fed given earlier.0),
-        (earlier.1.0, λ alive. subst (λ (x : Held). IsHeld x earlier.1.0) (sym held) (earlier.1.1 (shut_same alive))),
+  asks_produced is_fed none_called h = h
+  asks_produced {feed = feed} is_fed (one_called now t m k answer on a before first given held is) h =
+      let earlier = asks_produced is_fed before h in (
+        rw is (called_at k is_fed given earlier.0),
+        (earlier.1.0, λ alive. rw held (earlier.1.1 (open_before feed now.state t.state k answer given alive))),
       )
 
   -- the history of a slot
@@ -223,28 +195,23 @@ module _ (start : List Window) where
   history_more : (log now : List Happening) (h : Happening) (o : Option History) → now ≡ log ++ h ∷ [] → Yields log o
       → Yields now o
   history_more log now h None e x = tt
-  history_more log now h (Some t) e x = (produced_more log now h t.session.state t.produced e x.0, x.1)
+  history_more log now h (Some t) e x = (produced_more h e x.0, x.1)
 
-  history_sends : (k : ℕ) (log : List Happening) (o : Option History) → IsServed start k log o → Yields log o
-  history_sends k log o no_event = tt
-  history_sends k log o (elsewhere before now h x s other e) =
-      history_more before now h x e (history_sends k before x s)
-  history_sends k log o (opens before now s served fresh e) = (
+  history_sends : {k : ℕ} {log : List Happening} {o : Option History} → IsServed start k log o → Yields log o
+  history_sends no_event = tt
+  history_sends (elsewhere before now h x s other e) = history_more before now h x e (history_sends s)
+  history_sends (opens before now s served fresh e) = (
     only_replies [] (λ on. let bad : Fresh ≡ Streaming = sym (ap (λ (x : State). x.phase) fresh.state) ∙ on in cc bad)
         refl,
     ([], λ alive. fresh.held),
   )
-  history_sends k log o (receives before now feed s new ring bytes produced all emitted served fed serves e) =
-      history_more before now (Received k bytes) (Some (history new ring all emitted)) e
-      (serves_produced before feed s new bytes produced all serves
-      (history_sends k before (Some (history s ring produced emitted)) served))
-  history_sends k log o (asks now feed s new ring turn produced all emitted served fed called) =
-      asks_produced now feed s ring produced new turn all fed called
-      (history_sends k now (Some (history s ring produced emitted)) served)
-  history_sends k log o (takes before now s ring bytes produced emitted served prefix e) =
-      history_more before now (Emitted k bytes) (Some (history s ring produced (emitted ++ bytes))) e
-      (history_sends k before (Some (history s ring produced emitted)) served)
-  history_sends k log o (goes before now x served e) = tt
+  history_sends (receives before now feed s new ring bytes produced all emitted served fed serves e) =
+      history_more before now _ (Some (history new ring all emitted)) e (serves_produced serves (history_sends served))
+  history_sends (asks now feed s new ring turn produced all emitted served fed called) =
+      asks_produced fed called (history_sends served)
+  history_sends (takes before now s ring bytes produced emitted served prefix e) =
+      history_more before now _ (Some (history s ring produced (emitted ++ bytes))) e (history_sends served)
+  history_sends (goes before now x served e) = tt
 
   -- what each ring showed when it was called
   shown : (log : List Happening) (records : List (List ℕ)) (rest : List ℕ) (k first : ℕ) (w : Window)
@@ -254,23 +221,20 @@ module _ (start : List Window) where
   shown log records rest k first w pushed input here s [] f = tt
   shown log records rest k first w pushed input here s (a ∷ more) f =
       let earlier = f.0.3 in
-      let whole : input_of log ≡ input_of f.0.0 ++ input_of f.0.1 = ap input_of f.0.2 ∙ input_append f.0.0 f.0.1 in
+      let at : List (List ℕ) → List (List ℕ) = records_at k (places_of start) in
       let grown = input_grows (places_of start) (input_of f.0.0) (input_of f.0.1) earlier.1.records records earlier.0
-      rest earlier.1.input (subst (λ b. IsInput (places_of start) b records rest) whole input) in
+      rest earlier.1.input (rw (f.0.2, input_append f.0.0 f.0.1) at input) in
       let ring = shows_fed start earlier.1.records k first w pushed here s in
-      let so_far : List (List ℕ) = pushed ++ records_at k (places_of start) earlier.1.records in
-      let all : pushed ++ records_at k (places_of start) records
-      ≡ so_far ++ records_at k (places_of start) grown.0 =
-      ap (λ rs. pushed ++ records_at k (places_of start) rs) grown.1
+      let so_far : List (List ℕ) = pushed ++ at earlier.1.records in
+      let all : pushed ++ at records ≡ so_far ++ at grown.0 =
+      ap (λ rs. pushed ++ at rs) grown.1
       ∙ (ap (λ rs. pushed ++ rs) (filter-append (is_first k (places_of start)) earlier.1.records grown.0)
-      ∙ sym (append_assoc pushed (records_at k (places_of start) earlier.1.records)
-      (records_at k (places_of start) grown.0))) in (
+      ∙ sym (append_assoc pushed (at earlier.1.records) (at grown.0))) in (
         (
           ring.0,
           length so_far,
-          ap (λ f. slice_get f k) earlier.1.feed_is ∙ ring.1,
-          subst (Shows ring.0 first) (sym (ap (take (length so_far)) all
-              ∙ take-append_seam so_far (records_at k (places_of start) grown.0))) ring.2,
+          rw earlier.1.feed_is ring.1,
+          rw (all, take-append_seam so_far (at grown.0)) ring.2,
         ),
         shown log records rest k first w pushed input here s more f.1,
       )
@@ -289,4 +253,4 @@ module _ (start : List Window) where
       → IsServed start k log (Some t) → IsInput (places_of start) (input_of log) records rest
       → ProducesSlices start records t.produced
   link_sends k log t records rest served input =
-      says log records rest t.session.state t.produced input (history_sends k log (Some t) served).0
+      says log records rest t.session.state t.produced input (history_sends served).0

@@ -1,23 +1,29 @@
 -- An event concerns the input or one slot.
-use Rattle.std.proofs.Common.{◌≡◌, ◌≢◌, ℕ, ◌+◌, ◌<◌, ◌==◌, ◌∙◌, ap, subst, refl, sym, arith, inl, inr, Bool, false}
-use Rattle.std.proofs.Common.{List, [], ◌∷◌, ◌++◌, if◌then◌else◌}
+use Rattle.std.proofs.Common.{◌≡◌, ◌≢◌, ℕ, ◌+◌, ◌<◌, ◌==◌, ◌∙◌, ap, subst, refl, sym, arith, inl, inr, Bool, true}
+use Rattle.std.proofs.Common.{false, List, [], ◌∷◌, ◌++◌, if◌then◌else◌}
 use Rattle.std.proofs.Common.{length, append_assoc, append-nil, get_or, drop, take, set, get_or-set_same}
-use Rattle.std.proofs.Common.{get_or-set_other, length-set, Option, Some, None}
+use Rattle.std.proofs.Common.{get_or-set_other, length-set, IfSome, Option, Some, None}
+use Rattle.std.proofs.ByRecursion.{All-append}
 use Rattle.std.proofs.lemmas.Bool.Decides.{eqb_tells}
+use Rattle.std.proofs.lemmas.Option.{none-some, same_Some}
 use Rattle.std.specs.List.{AllByRecursion}
+use Rattle.std.specs.Option.{is_some}
 use Rattle.slink_feed.specs.Session.{Fits}
 use Rattle.slink_feed.specs.Window.{Window}
 use Rattle.slink_feed.specs.Intake.{places_of}
+use Rattle.slink_live.specs.declared.ready.Interest.{Interest}
+use Rattle.slink_live.specs.Awake.{Goes, IsClosedRightly, further, nothing}
 use Rattle.slink_live.specs.Happening.{Happening, Input, Opened, Received, Emitted, Gone}
-use Rattle.slink_live.specs.Happening.{Left, Handed, input_of, is_at, is_input, piece_of, reads_of}
+use Rattle.slink_live.specs.Happening.{Left, Handed, first_interest, input_of, interest_after, interest_from, is_at}
+use Rattle.slink_live.specs.Happening.{is_input, is_left, last_interest, left_by, left_from, links_by, links_from}
+use Rattle.slink_live.specs.Happening.{piece_of, reads_of, wants_links}
 use Rattle.slink_live.specs.Input.{IsFed, IsInput}
-use Rattle.slink_live.specs.Served.{IsServing, IsSound, IsHistory, LinkState, ServerState, link_state}
+use Rattle.slink_live.specs.Served.{GoesOn, IsServing, IsSound, IsHistory, LinkState, ServerState, link_state}
 use Rattle.slink_live.specs.History.{IsNew, elsewhere}
 use Rattle.slink_live.specs.private.Calling.{HasFilled, HasReceived, HasTaken}
 use Rattle.slink_live.specs.Turns.{Closes, IsReport, Leaves}
 use Rattle.slink_live.specs.private.Keeping.{KeepsServing}
-use Rattle.slink_live.proofs.Histories.{filled_history, gone_history, received_history, opened_history, history_stays}
-use Rattle.slink_live.proofs.Histories.{taken_history}
+use Rattle.slink_live.proofs.Histories.{filled_history, gone_history, received_history, opened_history, taken_history}
 use Rattle.slink_live.proofs.Own.{no_piece}
 
 -- what the input gave
@@ -26,32 +32,27 @@ input_append [] ys = refl
 input_append (x ∷ xs) ys = ap (λ b. piece_of x ++ b) (input_append xs ys)
     ∙ sym (append_assoc (piece_of x) (input_of xs) (input_of ys))
 
+pub input_last : (log : List Happening) (h : Happening) → input_of (log ++ h ∷ []) ≡ input_of log ++ piece_of h
+input_last log h = input_append log (h ∷ []) ∙ ap (λ b. input_of log ++ b) (append-nil (piece_of h))
+
 -- what isn't of the input leaves it
 pub input_quiet : (log : List Happening) (h : Happening) → is_input h ≡ false → input_of (log ++ h ∷ []) ≡ input_of log
-input_quiet log h e = input_append log (h ∷ [])
-    ∙ (ap (λ b. input_of log ++ (b ++ [])) (no_piece h e) ∙ append-nil (input_of log))
+input_quiet log h e = input_last log h ∙ (ap (λ b. input_of log ++ b) (no_piece h e) ∙ append-nil (input_of log))
 
 -- how often it was read
-reads_append : (xs ys : List Happening) → reads_of (xs ++ ys) ≡ reads_of xs + reads_of ys
-reads_append [] ys = omega arith
-reads_append (x ∷ xs) ys = omega (arith, reads_append xs ys)
+pub reads_last : (log : List Happening) (h : Happening)
+    → reads_of (log ++ h ∷ []) ≡ reads_of log + (if is_input h then 1 else 0)
+reads_last [] h = omega arith
+reads_last (x ∷ log) h = omega (arith, reads_last log h)
 
-pub reads_quiet : (log : List Happening) (h : Happening) → is_input h ≡ false → reads_of (log ++ h ∷ []) ≡ reads_of log
+reads_quiet : (log : List Happening) (h : Happening) → is_input h ≡ false → reads_of (log ++ h ∷ []) ≡ reads_of log
 reads_quiet log h e =
-    let same : reads_of log + 0 ≡ reads_of log = omega arith in
-    reads_append log (h ∷ []) ∙ (ap (λ (t : Bool). reads_of log + ((if t then 1 else 0) + 0)) e ∙ same)
-
-pub reads_more : (log last : List Happening) (bytes : List ℕ) → last ≡ log ++ Input bytes ∷ []
-    → reads_of last ≡ reads_of log + 1
-reads_more log last bytes e = ap reads_of e ∙ reads_append log (Input bytes ∷ [])
-
-gone_quiet : (h : Happening) → IsReport h → piece_of h ≡ []
-gone_quiet (Input bytes) g = absurd g
-gone_quiet h g = refl
+    omega (arith, reads_last log h, ap (λ (t : Bool). reads_of log + (if t then 1 else 0)) e)
 
 all_quiet : (gone : List Happening) → AllByRecursion IsReport gone → input_of gone ≡ []
 all_quiet [] g = refl
-all_quiet (h ∷ hs) g = ap (λ b. b ++ input_of hs) (gone_quiet h g.0) ∙ all_quiet hs g.1
+all_quiet (Input bytes ∷ hs) g = absurd g.0
+all_quiet (h ∷ hs) g = all_quiet hs g.1
 
 -- links that are closed leave the input
 pub closes_input : (log last : List Happening) → Closes log last → input_of last ≡ input_of log
@@ -62,90 +63,168 @@ closes_input log last c = ap input_of c.last_is ∙ (input_append log c.gone
 pub leaves_input : (log last : List Happening) → Leaves log last → input_of last ≡ input_of log
 leaves_input log last c = closes_input (log ++ Left ∷ []) last c ∙ input_quiet log Left refl
 
-all_gone : (xs ys : List Happening) → AllByRecursion IsReport xs → AllByRecursion IsReport ys
-    → AllByRecursion IsReport (xs ++ ys)
-all_gone [] ys a b = b
-all_gone (x ∷ xs) ys a b = (a.0, all_gone xs ys a.1 b)
+pub closes_none : {log : List Happening} → Closes log log
+closes_none {log} = record { gone = []; each = tt; last_is = sym (append-nil log) }
 
-pub closes_none : (log last : List Happening) → last ≡ log → Closes log last
-closes_none log last e = record { gone = []; each = tt; last_is = e ∙ sym (append-nil log) }
+pub closes_one : {log : List Happening} (h : Happening) → IsReport h → Closes log (log ++ h ∷ [])
+closes_one {log} h reporting = record { gone = h ∷ []; each = (reporting, tt); last_is = refl }
 
-pub closes_reported : (log last : List Happening) (h : Happening) → IsReport h → last ≡ log ++ h ∷ [] → Closes log last
-closes_reported log last h reporting e = record { gone = h ∷ []; each = (reporting, tt); last_is = e }
-
-pub closes_both : (log now last : List Happening) → Closes log now → Closes now last → Closes log last
-closes_both log now last a b = record {
+pub closes_both : {log now last : List Happening} → Closes log now → Closes now last → Closes log last
+closes_both {log} a b = record {
   gone = a.gone ++ b.gone;
-  each = all_gone a.gone b.gone a.each b.each;
+  each = All-append IsReport a.gone b.gone a.each b.each;
   last_is = b.last_is ∙ (ap (λ x. x ++ b.gone) a.last_is ∙ append_assoc log a.gone b.gone);
 }
+
+pub grows_both : (a b c : List Happening) → GoesOn a b → GoesOn b c → GoesOn a c
+grows_both a b c x y = (x.0 ++ y.0, y.1 ∙ (ap (λ z. z ++ y.0) x.1 ∙ append_assoc a x.0 y.0))
+
+-- further things happened
+pub goes_then : {P : List Happening → Happening → Type 0} {a b c : List Happening} → Goes P a b → Goes P b c → Goes P a
+    c
+goes_then {P} {a} {b} {c} x nothing = x
+goes_then {P} {a} {b} {c} x (further before now h on p e) = further before now h (goes_then x on) p e
+
+pub goes_one : {P : List Happening → Happening → Type 0} {a : List Happening} (h : Happening) → P a h
+    → Goes P a (a ++ h ∷ [])
+goes_one {P} {a} h p = further a (a ++ h ∷ []) h nothing p refl
+
+-- what was reported
+pub interest_last : (k : ℕ) (log : List Happening) (h : Happening) (w : Interest)
+    → interest_from k w (log ++ h ∷ []) ≡ interest_after k (interest_from k w log) h
+interest_last k [] h w = refl
+interest_last k (x ∷ log) h w = interest_last k log h (interest_after k w x)
+
+pub links_last : (log : List Happening) (h : Happening) (b : Bool)
+    → links_from b (log ++ h ∷ []) ≡ links_by (links_from b log) h
+links_last [] h b = refl
+links_last (x ∷ log) h b = links_last log h (links_by b x)
+
+pub left_last : (log : List Happening) (h : Happening) (b : Bool)
+    → left_from b (log ++ h ∷ []) ≡ left_by (left_from b log) h
+left_last [] h b = refl
+left_last (x ∷ log) h b = left_last log h (left_by b x)
 
 pub not_self : (j k : ℕ) → k ≢ j → (j == k) ≡ false
 not_self j k ne = elim (eqb_tells j k) [ inl same ↦ absurd (ne (sym same.1)) | inr other ↦ other.0 ]
 
 -- what happens in another slot
-pub history_elsewhere : (start : List Window) (k : ℕ) (o : Option LinkState) (log last : List Happening) (h : Happening)
-    → is_at k h ≡ false → last ≡ log ++ h ∷ [] → IsHistory start k o log → IsHistory start k o last
-history_elsewhere start k o log last h other now s = record {
+pub history_elsewhere : (start : List Window) (k : ℕ) (o : Option LinkState) (log : List Happening) (h : Happening)
+    → is_at k h ≡ false → IsHistory start k o log → IsHistory start k o (log ++ h ∷ [])
+history_elsewhere start k o log h other s = record {
   reported = s.reported;
-  served = elsewhere log last h s.reported s.served other now;
+  served = elsewhere log (log ++ h ∷ []) h s.reported s.served other refl;
   matches = s.matches;
 }
 
--- what happened in no slot, and is nothing of the input
-pub quiet_serving : (start : List Window) (s : ServerState) (log last : List Happening) (h : Happening)
-    → is_input h ≡ false → ((k : ℕ) → is_at k h ≡ false) → last ≡ log ++ h ∷ [] → IsServing start s log
-    → IsServing start s last
-quiet_serving start s log last h none other now v = record {
+-- Nothing of the input came.
+pub serving_on : (start : List Window) (s : ServerState) (links : List (Option LinkState)) (has_ended : Bool)
+    (log last : List Happening) → input_of last ≡ input_of log → reads_of last ≡ reads_of log
+    → (has_ended ≡ false → s.has_ended ≡ false) → ((k : ℕ) → IsHistory start k (get_or links k None) last)
+    → IsServing start s log → IsServing start (record s { links = links; has_ended = has_ended }) last
+serving_on start s links has_ended log last quiet read on slots v = record {
   rest = v.rest;
   fed = record {
     records = v.fed.records;
-    input = rw (← (ap input_of now ∙ input_quiet log h none)) at v.fed.input;
+    input = subst (λ b. IsInput (places_of start) b v.fed.records v.rest) (sym quiet) v.fed.input;
     feed_is = v.fed.feed_is;
   };
   counted = v.counted;
-  goes_on = v.goes_on;
-  read = v.read ∙ sym (ap reads_of now ∙ reads_quiet log h none);
-  slots = λ k. history_elsewhere start k (get_or s.links k None) log last h (other k) now (v.slots k);
+  goes_on = λ e. v.goes_on (on e);
+  read = v.read ∙ sym read;
+  slots = slots;
 }
 
--- What happened leaves the input, and the histories of all slots but one.
+-- something more happened, in no slot, and it is nothing of the input
+pub keeps_one : {s : ServerState} {log : List Happening} (h : Happening) → is_input h ≡ false
+    → ((k : ℕ) → is_at k h ≡ false) → IsSound s → KeepsServing s s log (log ++ h ∷ [])
+keeps_one {s} {log} h none other sound = record {
+  sound = sound;
+  serving = λ start v. serving_on start s s.links s.has_ended log (log ++ h ∷ []) (input_quiet log h none)
+      (reads_quiet log h none) (λ e. e)
+      (λ k. history_elsewhere start k (get_or s.links k None) log h (other k) (v.slots k)) v;
+  stays = refl;
+  slots = refl;
+  grows = (h ∷ [], refl);
+  quiet = input_quiet log h none;
+}
+
+-- nothing happened
+pub keeps_same : {s : ServerState} {log : List Happening} → IsSound s → KeepsServing s s log log
+keeps_same {s} {log} sound = record {
+  sound = sound;
+  serving = λ start v. v;
+  stays = refl;
+  slots = refl;
+  grows = ([], sym (append-nil log));
+  quiet = refl;
+}
+
+-- one step, and then another
+pub keeps_both : {s t u : ServerState} {a b c : List Happening} → KeepsServing s t a b → KeepsServing t u b c
+    → KeepsServing s u a c
+keeps_both {s} {t} {u} {a} {b} {c} x y = record {
+  sound = y.sound;
+  serving = λ start v. y.serving start (x.serving start v);
+  stays = y.stays ∙ ap (λ (r : ServerState). record r { links = u.links }) x.stays;
+  slots = y.slots ∙ x.slots;
+  grows = grows_both a b c x.grows y.grows;
+  quiet = y.quiet ∙ x.quiet;
+}
+
+-- What happened leaves the input, and what concerns all slots but one: their histories, and what was reported of them.
 pub record IsBeside (j : ℕ) (log last : List Happening) : Type 0 where
+  pub grows : GoesOn log last
   pub quiet : input_of last ≡ input_of log
   pub read : reads_of last ≡ reads_of log
   pub others : (start : List Window) (k : ℕ) → k ≢ j → (o : Option LinkState) → IsHistory start k o log
       → IsHistory start k o last
+  pub of_links : (k : ℕ) → k ≢ j → last_interest k last ≡ last_interest k log
+  pub links : wants_links last ≡ wants_links log
+  pub left : is_left last ≡ is_left log
 
-nothing_beside : (j : ℕ) (log last : List Happening) → last ≡ log → IsBeside j log last
-nothing_beside j log last same = record {
-  quiet = ap input_of same;
-  read = ap reads_of same;
-  others = λ start k ne o s. subst (IsHistory start k o) (sym same) s;
+pub nothing_beside : {j : ℕ} {log : List Happening} → IsBeside j log log
+nothing_beside {j} {log} = record {
+  grows = ([], sym (append-nil log));
+  quiet = refl;
+  read = refl;
+  others = λ start k ne o s. s;
+  of_links = λ k ne. refl;
+  links = refl;
+  left = refl;
 }
 
-one_beside : (j : ℕ) (log last : List Happening) (h : Happening) → is_input h ≡ false
-    → ((k : ℕ) → k ≢ j → is_at k h ≡ false) → last ≡ log ++ h ∷ [] → IsBeside j log last
-one_beside j log last h none other now = record {
-  quiet = ap input_of now ∙ input_quiet log h none;
-  read = ap reads_of now ∙ reads_quiet log h none;
-  others = λ start k ne o s. history_elsewhere start k o log last h (other k ne) now s;
+pub one_beside : {j : ℕ} {log : List Happening} (h : Happening) → is_input h ≡ false
+    → ((k : ℕ) → k ≢ j → is_at k h ≡ false) → ((k : ℕ) → k ≢ j → (w : Interest) → interest_after k w h ≡ w)
+    → ((b : Bool) → links_by b h ≡ b) → ((b : Bool) → left_by b h ≡ b) → IsBeside j log (log ++ h ∷ [])
+one_beside {j} {log} h none other of_links links left = record {
+  grows = (h ∷ [], refl);
+  quiet = input_quiet log h none;
+  read = reads_quiet log h none;
+  others = λ start k ne o s. history_elsewhere start k o log h (other k ne) s;
+  of_links = λ k ne. interest_last k log h first_interest ∙ of_links k ne (last_interest k log);
+  links = links_last log h true ∙ links (wants_links log);
+  left = left_last log h false ∙ left (is_left log);
 }
 
-both_beside : (j : ℕ) (log mid last : List Happening) → IsBeside j log mid → IsBeside j mid last → IsBeside j log last
-both_beside j log mid last a b = record {
+both_beside : {j : ℕ} {log mid last : List Happening} → IsBeside j log mid → IsBeside j mid last → IsBeside j log last
+both_beside {j} {log} {mid} {last} a b = record {
+  grows = grows_both log mid last a.grows b.grows;
   quiet = b.quiet ∙ a.quiet;
   read = b.read ∙ a.read;
   others = λ start k ne o s. b.others start k ne o (a.others start k ne o s);
+  of_links = λ k ne. b.of_links k ne ∙ a.of_links k ne;
+  links = b.links ∙ a.links;
+  left = b.left ∙ a.left;
 }
+
+-- what holds of the link in a slot, of whichever it equals
+pub each_some : (P : LinkState → Type 0) (o : Option LinkState) → IfSome o P → (l : LinkState) → o ≡ Some l → P l
+each_some P None h l e = absurd (none-some l e)
+each_some P (Some m) h l e = subst P (same_Some m l e) h
 
 abbrev FitsIn : List Window → Option LinkState → Type 0
 FitsIn feed o = (l : LinkState) → o ≡ Some l → Fits feed l.session.state
-
-some_fits : (feed : List Window) (new : Option LinkState) (now : LinkState) → new ≡ Some now
-    → Fits feed now.session.state → FitsIn feed new
-some_fits feed new now is fits l e =
-    let both : Some now ≡ Some l = sym is ∙ e in
-    let same : now ≡ l = cc both in subst (λ (x : LinkState). Fits feed x.session.state) same fits
 
 -- What happened in a slot, whose link it may change: its session can be served on, and its history goes on.
 pub record Turns (feed : List Window) (j : ℕ) (o new : Option LinkState) (log last : List Happening) : Type 0 where
@@ -154,97 +233,108 @@ pub record Turns (feed : List Window) (j : ℕ) (o new : Option LinkState) (log 
   pub history : (start : List Window) → IsFed start (input_of log) feed → IsHistory start j o log
       → IsHistory start j new last
 
-turns_nothing : (feed : List Window) (j : ℕ) (o new : Option LinkState) (log last : List Happening) → new ≡ o
-    → last ≡ log → Turns feed j o new log last
-turns_nothing feed j o new log last same now = record {
-  beside = nothing_beside j log last now;
-  fits = λ f l e. f l (sym same ∙ e);
-  history = λ start fed s. history_stays start j log last new o same now s;
+-- The same, where a link stands that stood before, or none, and none is closed.
+pub record Moves (feed : List Window) (j : ℕ) (o new : Option LinkState) (log last : List Happening) : Type 0 where
+  pub turns : Turns feed j o new log last
+  pub some : is_some new ≡ is_some o
+  pub goes : (start : List Window) → Goes (IsClosedRightly start) log last
+
+moves_nothing : {feed : List Window} {j : ℕ} {o : Option LinkState} {log : List Happening} → Moves feed j o o log log
+moves_nothing = record {
+  turns = record { beside = nothing_beside; fits = λ f. f; history = λ start fed s. s };
+  some = refl;
+  goes = λ start. nothing;
 }
 
-pub received_turns : (feed : List Window) (j : ℕ) (o new : Option LinkState) (log last : List Happening)
-    → HasReceived feed j o new log last → Turns feed j o new log last
-received_turns feed j None new log last h = turns_nothing feed j None new log last h.0 h.1
-received_turns feed j (Some l) new log last h = record {
-  beside = one_beside j log last (Received j h.0) refl (not_self j) h.3;
-  fits = λ f. some_fits feed new h.1 h.2 h.5;
-  history = λ start fed s. received_history start j log last new feed l fed h s;
-}
+module _ (feed : List Window) (j : ℕ) where
+  fits_now : {o : Option LinkState} (now : LinkState) → Fits feed now.session.state → FitsIn feed o
+      → FitsIn feed (Some now)
+  fits_now now fits before = each_some (λ (l : LinkState). Fits feed l.session.state) (Some now) fits
 
-pub taken_turns : (feed : List Window) (j : ℕ) (o new : Option LinkState) (log last : List Happening)
-    → HasTaken j o new log last → Turns feed j o new log last
-taken_turns feed j None new log last h = turns_nothing feed j None new log last h.0 h.1
-taken_turns feed j (Some l) new log last h = record {
-  beside = both_beside j log (log ++ Handed j l.pending ∷ []) last
-      (one_beside j log (log ++ Handed j l.pending ∷ []) (Handed j l.pending) refl (λ k ne. refl) refl)
-      (one_beside j (log ++ Handed j l.pending ∷ []) last (Emitted j (take h.0 l.pending)) refl (not_self j) h.2);
-  fits = λ f. some_fits feed new (link_state l.session l.ring (drop h.0 l.pending)) h.1 (f l refl);
-  history = λ start fed s. taken_history start j log last new l h s;
-}
+  pub received_moves : (o new : Option LinkState) (log last : List Happening) → HasReceived feed j o new log last
+      → Moves feed j o new log last
+  received_moves None new log last h = rw (h.0, h.1) moves_nothing
+  received_moves (Some l) new log last h = rw (h.2, h.3) (record {
+    turns = record {
+      beside = one_beside (Received j h.0) refl (not_self j) (λ k ne w. refl) (λ b. refl) (λ b. refl);
+      fits = fits_now h.1 h.5;
+      history = λ start fed. received_history start j log feed l h.1 h.0 fed h.4 h.6;
+    };
+    some = refl;
+    goes = λ start. goes_one (Received j h.0) tt;
+  })
 
-pub filled_turns : (feed : List Window) (j : ℕ) (o new : Option LinkState) (log : List Happening)
-    → HasFilled feed o new → Turns feed j o new log log
-filled_turns feed j None new log h = turns_nothing feed j None new log log h refl
-filled_turns feed j (Some l) new log h = record {
-  beside = nothing_beside j log log refl;
-  fits = λ f. some_fits feed new h.0 h.1 h.3;
-  history = λ start fed s. filled_history start j log new feed l fed h s;
-}
+  pub taken_moves : (o new : Option LinkState) (log last : List Happening) → HasTaken j o new log last
+      → Moves feed j o new log last
+  taken_moves None new log last h = rw (h.0, h.1) moves_nothing
+  taken_moves (Some l) new log last h = rw (h.1, h.2) (record {
+    turns = record {
+      beside = both_beside
+          (one_beside (Handed j l.pending) refl (λ k ne. refl) (λ k ne w. refl) (λ b. refl) (λ b. refl))
+          (one_beside (Emitted j (take h.0 l.pending)) refl (not_self j) (λ k ne w. refl) (λ b. refl) (λ b. refl));
+      fits = λ f. fits_now (link_state l.session l.ring (drop h.0 l.pending)) (f l refl) f;
+      history = λ start fed. taken_history start j log l h.0;
+    };
+    some = refl;
+    goes = λ start. goes_then (goes_one (Handed j l.pending) tt) (goes_one (Emitted j (take h.0 l.pending)) tt);
+  })
 
-pub opened_turns : (feed : List Window) (j : ℕ) (o new : Option LinkState) (l : LinkState) (log last : List Happening)
-    → new ≡ Some l → o ≡ None → IsNew l.session → l.pending ≡ [] → l.ring ≡ 0 → Fits feed l.session.state
-    → last ≡ log ++ Opened j ∷ [] → Turns feed j o new log last
-opened_turns feed j o new l log last is free fresh none begins fits now = record {
-  beside = one_beside j log last (Opened j) refl (not_self j) now;
-  fits = λ f. some_fits feed new l is fits;
-  history = λ start fed s. opened_history start j log last new l fresh none begins is now
-      (subst (λ (x : Option LinkState). IsHistory start j x log) free s);
-}
+  pub filled_moves : (o new : Option LinkState) (log : List Happening) → HasFilled feed o new
+      → Moves feed j o new log log
+  filled_moves None new log h = rw h moves_nothing
+  filled_moves (Some l) new log h = rw h.1 (record {
+    turns = record {
+      beside = nothing_beside;
+      fits = fits_now h.0 h.3;
+      history = λ start fed. filled_history start j log feed l h.0 fed h.2;
+    };
+    some = refl;
+    goes = λ start. nothing;
+  })
 
-pub gone_turns : (feed : List Window) (j : ℕ) (o new : Option LinkState) (log last : List Happening) → new ≡ None
-    → last ≡ log ++ Gone j ∷ [] → Turns feed j o new log last
-gone_turns feed j o new log last is now = record {
-  beside = one_beside j log last (Gone j) refl (not_self j) now;
-  fits = λ f l e. absurd (let bad : None ≡ Some l = sym is ∙ e in cc bad);
-  history = λ start fed s. gone_history start j log last new o is now s;
-}
+  pub opened_turns : (o : Option LinkState) (l : LinkState) (log : List Happening) → o ≡ None → IsNew l.session
+      → l.pending ≡ [] → l.ring ≡ 0 → Fits feed l.session.state → Turns feed j o (Some l) log (log ++ Opened j ∷ [])
+  opened_turns o l log free fresh none begins fits = rw free (record {
+    beside = one_beside (Opened j) refl (not_self j)
+        (λ k ne w. ap (λ (t : Bool). if t then first_interest else w) (not_self j k ne)) (λ b. refl) (λ b. refl);
+    fits = fits_now l fits;
+    history = λ start fed. opened_history start j log l fresh none begins;
+  })
+
+  pub gone_turns : (o : Option LinkState) (log : List Happening) → Turns feed j o None log (log ++ Gone j ∷ [])
+  gone_turns o log = record {
+    beside = one_beside (Gone j) refl (not_self j) (λ k ne w. refl) (λ b. refl) (λ b. refl);
+    fits = λ f l e. absurd (none-some l e);
+    history = λ start fed. gone_history start j log o;
+  }
 
 -- one slot changed
-set_each : (P : ℕ → Option LinkState → Type 0) (links : List (Option LinkState)) (j : ℕ) (new : Option LinkState)
-    → j < length links → P j new → ((k : ℕ) → k ≢ j → P k (get_or links k None)) → (k : ℕ)
-    → P k (get_or (set links j new) k None)
-set_each P links j new lt own others k = elim (eqb_tells j k) [
-  | inl same ↦ subst (λ i. P i (get_or (set links j new) i None)) same.1
-      (subst (P j) (sym (get_or-set_same links j new None lt)) own)
-  | inr other ↦ let ne : k ≢ j = λ e. other.1 (sym e) in
-      subst (P k) (sym (get_or-set_other links j k new None ne)) (others k ne)
+pub at_slot : (P : ℕ → Option LinkState → Type 0) (links : List (Option LinkState)) (j : ℕ) (new : Option LinkState)
+    → j < length links → P j new → (k : ℕ) → (k ≢ j → P k (get_or links k None)) → P k (get_or (set links j new) k None)
+at_slot P links j new lt own k others = elim (eqb_tells k j) [
+  | inl same ↦ rw same.1 (rw (get_or-set_same links j new None lt) own)
+  | inr other ↦ rw (get_or-set_other links j k new None other.1) (others other.1)
 ]
 
 -- what happens in a slot keeps the server serving
-pub turns_keep : (s : ServerState) (j : ℕ) (new : Option LinkState) (log last : List Happening) → j < length s.links
-    → IsSound s → Turns s.intake.feed j (get_or s.links j None) new log last
+pub turns_keep : (s : ServerState) (j : ℕ) (new : Option LinkState) {log last : List Happening} → IsSound s
+    → j < length s.links → Turns s.intake.feed j (get_or s.links j None) new log last
     → KeepsServing s (record s { links = set s.links j new }) log last
-turns_keep s j new log last lt sound t = record {
+turns_keep s j new {log} {last} sound lt t = record {
   sound = record {
     short = sound.short;
     begins = sound.begins;
-    fit = set_each (λ k o. FitsIn s.intake.feed o) s.links j new lt (t.fits (sound.fit j)) (λ k ne. sound.fit k);
+    fit = λ k. at_slot (λ i o. FitsIn s.intake.feed o) s.links j new lt (t.fits (sound.fit j)) k (λ ne. sound.fit k);
     below = sound.below;
     few = sound.few;
     few_reads = sound.few_reads;
   };
-  serving = λ start v. record {
-    rest = v.rest;
-    fed = record {
-      records = v.fed.records;
-      input = subst (λ b. IsInput (places_of start) b v.fed.records v.rest) (sym t.beside.quiet) v.fed.input;
-      feed_is = v.fed.feed_is;
-    };
-    counted = v.counted;
-    goes_on = v.goes_on;
-    read = v.read ∙ sym t.beside.read;
-    slots = set_each (λ k o. IsHistory start k o last) s.links j new lt (t.history start (v.rest, v.fed) (v.slots j))
-        (λ k ne. t.beside.others start k ne (get_or s.links k None) (v.slots k));
-  };
-  stays = record { intake = refl; has_ended = refl; reads = refl; slots = length-set s.links j new };
+  serving = λ start v. serving_on start s (set s.links j new) s.has_ended log last t.beside.quiet t.beside.read
+      (λ e. e)
+      (λ k. at_slot (λ i o. IsHistory start i o last) s.links j new lt (t.history start (v.rest, v.fed) (v.slots j)) k
+      (λ ne. t.beside.others start k ne (get_or s.links k None) (v.slots k))) v;
+  stays = refl;
+  slots = length-set s.links j new;
+  grows = t.beside.grows;
+  quiet = t.beside.quiet;
 }

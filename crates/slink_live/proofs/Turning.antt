@@ -1,5 +1,5 @@
 -- Whose turn it is.
-use Rattle.std.proofs.Common.{◌≡◌, ℕ, ◌≤◌, ◌<◌, subst, sym, arith, inl, inr, List, length}
+use Rattle.std.proofs.Common.{◌≡◌, ℕ, ◌≤◌, ◌<◌, arith, inl, inr, List, length}
 use Rattle.slink_feed.specs.declared.session.Sent.TheVariants as Sents
 use Rattle.slink_feed.specs.Session.{State, sent}
 use Rattle.slink_feed.specs.Window.{Window}
@@ -43,22 +43,5 @@ pub gives_asks : (feed : List Window) (old new : LinkState) (k : ℕ) → Gives 
     → IsTurn feed old.session.state old.ring k
     → Asks feed old.session old.ring old.pending new.session new.ring new.pending
 gives_asks feed old new k g turn =
-    subst (λ (n : ℕ). Asks feed old.session old.ring old.pending new.session n new.pending) (sym g.ring)
-    (one_called old.session new.session old.ring k g.answer old.pending new.pending none_called turn g.given g.held
-    g.pending)
-
-module _ (feed : List Window) (first now new : LinkState) (n k : ℕ) (begins : n ≡ first.ring) (same : now ≡ first)
-    (g : Gives feed k now new) (lt : k < length feed) where
-  given : Gives feed k first new
-  given = subst (λ (x : LinkState). Gives feed k x new) same g
-
-  pub asked_after : n ≤ k → ((j : ℕ) → n ≤ j → j < k → Waits feed first.session.state j)
-      → Asks feed first.session first.ring first.pending new.session new.ring new.pending
-  asked_after beyond waits = gives_asks feed first new k given
-      (rw begins at (turn_then feed first.session.state n k beyond lt waits given.sends))
-
-  pub asked_before : k < n → ((j : ℕ) → n ≤ j → j < length feed → Waits feed first.session.state j)
-      → ((j : ℕ) → j < k → Waits feed first.session.state j)
-      → Asks feed first.session first.ring first.pending new.session new.ring new.pending
-  asked_before before beyond waits = gives_asks feed first new k given
-      (rw begins at (turn_before feed first.session.state n k before lt beyond waits given.sends))
+    rw g.ring (one_called old.session new.session old.ring k g.answer old.pending new.pending none_called turn g.given
+    g.held g.pending)

@@ -272,7 +272,7 @@ impl Link {
     /// The stations of which a record is due.
     fn due(&self, feed: &Feed) -> Places
         requires { self.now.session.state.phase ≡ Phase.Streaming }
-        ensures { AreDue feed.now self.now.session.state result }
+        ensures { AreDue feed.now self.now.session.state result (length feed.now) }
     {
         let mut due = Places::none();
         for k in 0..feed.len() {
@@ -307,11 +307,12 @@ impl Link {
     fn ask_due(&mut self, feed: &Feed, k: usize, due: Places) -> Places
         requires room { length self.old.pending + PACKET ≤ ROOM }
         requires fits { Fits feed.now self.old.session.state }
-        requires due { AreDue feed.now self.old.session.state due }
+        requires due { AreDue feed.now self.old.session.state due (length feed.now) }
         requires turn { Has due k }
         ensures gives { Gives feed.now k self.old self.new }
         ensures fits { Fits feed.now self.new.session.state }
-        ensures due { (self.new.session.state.phase ≡ Phase.Closed) ⊎ AreDue feed.now self.new.session.state result }
+        ensures due { (self.new.session.state.phase ≡ Phase.Closed)
+            ⊎ AreDue feed.now self.new.session.state result (length feed.now) }
     {
         self.ask_at(feed, k);
         if self.is_due(feed, k) {

@@ -6,15 +6,15 @@ ghost use Rattle.std.specs.List.{AllByRecursion};
 ghost use Rattle.mseed_stream.specs.declared.fault.StreamFault.{StreamFault};
 ghost use Rattle.slink_feed.specs.Window.{Window};
 ghost use Rattle.slink_feed.specs.Intake.{places_of};
-ghost use Rattle.slink_live.specs.Awake.{Goes, IsAwake, IsClosedRightly, IsFirstFree, has_free};
+ghost use Rattle.slink_live.specs.Awake.{Goes, IsAwake, IsClosedRightly, IsFirstFree, IsReported, has_free};
 ghost use Rattle.slink_live.specs.Happening.{Happening, Gone, Next, WantsLinks, input_of};
 ghost use Rattle.slink_live.specs.Input.{IsInputFault};
 ghost use Rattle.slink_live.specs.Served.{AreEmpty, GoesOn, IsFinished, IsServing, IsSound, ServerState, StaysUnread};
-ghost use Rattle.slink_live.specs.private.Calling.{IfRested};
+ghost use Rattle.slink_live.specs.private.Calling.{IfRested, IsDone};
 ghost use Rattle.slink_live.specs.Turns.{Closes, Ends, Fails, HasSteps, IsCalled, Leaves, Opens, ReadsFrom, ReadsInput};
 ghost use Rattle.slink_live.specs.Turns.{Removes, WritesTo};
 ghost use Rattle.slink_live.specs.private.Keeping.{AnswersFault, EndsInput, KeepsServing, Updates, KeepsAwake};
-ghost use Rattle.slink_live.specs.private.Keeping.{AwakensAll, AwakensAnew, AwakensThose};
+ghost use Rattle.slink_live.specs.private.Keeping.{AreAwakeBut, Awakens};
 
 use crate::intake::Intake;
 use crate::link::{Link, Update};
@@ -139,6 +139,7 @@ impl Server {
     }
 
     /// Does what can be done next.
+    #[tactic(auto, using(crate::proofs::Steps::answers_links, crate::proofs::Slots::keeps_same))]
     fn step<R: Ready>(&mut self, event: Event, ready: &mut R) -> Result<(), InputFault>
         requires { IsSound self.old }
         ensures answers { AnswersFault self.old self.new (R.log ready.old) (R.log ready.new) result }
@@ -160,6 +161,7 @@ impl Server {
     }
 
     /// Reads once from the input, unless it is read no more. What is wrong with it is the end.
+    #[tactic(auto, using(crate::proofs::Steps::answers_links, crate::proofs::Slots::keeps_same))]
     fn on_input<R: Ready>(&mut self, ready: &mut R) -> Result<(), InputFault>
         requires { IsSound self.old }
         ensures answers { AnswersFault self.old self.new (R.log ready.old) (R.log ready.new) result }
@@ -236,7 +238,7 @@ impl Server {
         ensures keeps { KeepsServing (record self.old { has_ended = true }) self.new (R.log ready.old)
             (R.log ready.new) }
         ensures leaves { Leaves (R.log ready.old) (R.log ready.new) }
-        ensures keeps_awake { AwakensAnew (record self.old { has_ended = true }) self.new (R.log ready.old)
+        ensures keeps_awake { Awakens (Unit {0}) (record self.old { has_ended = true }) self.new (R.log ready.old)
             (R.log ready.new) }
     {
         self.has_ended = true;
@@ -299,6 +301,7 @@ impl Server {
     }
 
     /// Reads from the link in a slot, and has its session answer.
+    #[tactic(auto, using(crate::proofs::Slots::keeps_same))]
     fn on_readable<R: Ready>(&mut self, slot: usize, ready: &mut R)
         requires { IsSound self.old }
         ensures keeps { KeepsServing self.old self.new (R.log ready.old) (R.log ready.new) }
@@ -312,6 +315,7 @@ impl Server {
     }
 
     /// Writes to the link in a slot what its session sent.
+    #[tactic(auto, using(crate::proofs::Slots::keeps_same))]
     fn on_writable<R: Ready>(&mut self, slot: usize, ready: &mut R)
         requires { IsSound self.old }
         ensures keeps { KeepsServing self.old self.new (R.log ready.old) (R.log ready.new) }
@@ -328,6 +332,7 @@ impl Server {
     }
 
     /// Closes the link in a slot, which is gone.
+    #[tactic(auto, using(crate::proofs::Slots::keeps_same))]
     fn on_gone<R: Ready>(&mut self, slot: usize, ready: &mut R)
         requires { IsSound self.old }
         ensures keeps { KeepsServing self.old self.new (R.log ready.old) (R.log ready.new) }
@@ -357,7 +362,8 @@ impl Server {
         requires { IsSound self.old }
         ensures keeps { KeepsServing self.old self.new (R.log ready.old) (R.log ready.new) }
         ensures closes { Closes (R.log ready.old) (R.log ready.new) }
-        ensures keeps_awake { AwakensAll self.old self.new (R.log ready.old) (R.log ready.new) }
+        ensures keeps_awake { Awakens (IsReported self.old (R.log ready.old)) self.old self.new (R.log ready.old)
+            (R.log ready.new) }
     {
         for slot in 0..self.links.len() {
             self.update(slot, ready);
@@ -370,7 +376,8 @@ impl Server {
         requires { IsSound self.old }
         ensures keeps { KeepsServing self.old self.new (R.log ready.old) (R.log ready.new) }
         ensures closes { Closes (R.log ready.old) (R.log ready.new) }
-        ensures keeps_awake { AwakensThose places self.old self.new (R.log ready.old) (R.log ready.new) }
+        ensures keeps_awake { Awakens (AreAwakeBut places self.old (R.log ready.old)) self.old self.new
+            (R.log ready.old) (R.log ready.new) }
     {
         for slot in 0..self.links.len() {
             if self.links.waits_for(slot, places) {
@@ -388,11 +395,8 @@ impl Server {
         ensures closes { Closes (R.log ready.old) (R.log ready.new) }
         ensures updates { Updates slot self.old self.new (R.log ready.old) (R.log ready.new) }
     {
-        match self.links.fill(slot, self.intake.feed(), self.has_ended) {
-            Update::Empty => {}
-            Update::Wants(interest) => ready.wants(slot, interest),
-            Update::Closes => self.close(slot, ready),
-        }
+        let update = self.links.fill(slot, self.intake.feed(), self.has_ended);
+        self.carry_out(update, slot, ready);
     }
 
     /// Reports to the device what is wanted of the link in a slot, or closes it, where nothing more is due to it.
@@ -404,7 +408,16 @@ impl Server {
         ensures updates { IfRested self.old.intake.feed (get_or self.old.links slot None)
             → Updates slot self.old self.new (R.log ready.old) (R.log ready.new) }
     {
-        match self.links.look(slot, self.has_ended) {
+        let update = self.links.look(slot, self.has_ended);
+        self.carry_out(update, slot, ready);
+    }
+
+    /// Does what is to be done with the link in a slot: reports to the device what is wanted of it, or closes it.
+    fn carry_out<R: Ready>(&mut self, update: Update, slot: usize, ready: &mut R)
+        requires { slot < length self.old.links }
+        ensures { IsDone update slot self.old self.new (R.log ready.old) (R.log ready.new) }
+    {
+        match update {
             Update::Empty => {}
             Update::Wants(interest) => ready.wants(slot, interest),
             Update::Closes => self.close(slot, ready),

@@ -1,5 +1,6 @@
 -- What one event does to one slot.
 use Rattle.std.specs.Prelude.{◌≡◌, ℕ, ◌+◌, ◌⊎◌, Bool, List, [], ◌∷◌, ◌++◌, drop, take, length, Option, Some, None}
+use Rattle.std.specs.Prelude.{not, set}
 use Rattle.slink_wire.specs.declared.packet.TheConstants.{PACKET}
 use Rattle.slink_feed.specs.declared.session.Phase.TheVariants.{Closed}
 use Rattle.slink_feed.specs.declared.session.Sent.{Sent}
@@ -11,7 +12,8 @@ use Rattle.slink_live.specs.declared.link.Update.{Update}
 use Rattle.slink_live.specs.declared.link.Update.TheVariants.{Empty, Wants, Closes}
 use Rattle.slink_live.specs.Awake.{IsClosable, IsLost, IsUpToDate}
 use Rattle.slink_live.specs.Happening.{Happening, Received, Emitted, Handed}
-use Rattle.slink_live.specs.Served.{LinkState, link_state}
+use Rattle.slink_live.specs.Happening as happenings
+use Rattle.slink_live.specs.Served.{LinkState, ServerState, link_state}
 use Rattle.slink_live.specs.History.{Asks}
 
 -- The link in a slot was read, and its session answered.
@@ -59,3 +61,11 @@ IsOutcome feed has_ended None Empty = Unit {0}
 IsOutcome feed has_ended (Some l) (Wants interest) = IsUpToDate feed has_ended l interest
 IsOutcome feed has_ended (Some l) Closes = IsClosable feed has_ended l
 IsOutcome feed has_ended o update = ⊥
+
+-- What was to be done with the link in a slot was done: what is wanted of it was reported to the device, or it was
+-- closed.
+abbrev pub IsDone : Update → ℕ → ServerState → ServerState → List Happening → List Happening → Type 0
+IsDone Empty k old new log last = (new ≡ old) × (last ≡ log)
+IsDone (Wants interest) k old new log last = (new ≡ old) × (last ≡ log ++ happenings.Wants k interest ∷ [])
+IsDone Closes k old new log last = (new ≡ record old { links = set old.links k None })
+    × (last ≡ (log ++ happenings.Gone k ∷ []) ++ happenings.WantsLinks (not old.has_ended) ∷ [])

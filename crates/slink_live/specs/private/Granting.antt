@@ -48,9 +48,10 @@ StaysBut places old new = (k : ℕ) → ¬ (Has places k) → slice_get new k �
 abbrev pub StaysBeside : Places → Places → List Window → List Window → Type 0
 StaysBeside places all old new = (k : ℕ) → ¬ (Has all k) → ¬ (Has places k) × (slice_get new k ≡ slice_get old k)
 
--- A session streams, and these are the stations that have a record due, or had one, which left its ring.
-pub record AreDue (feed : List Window) (s : State) (due : Places) : Type 0 where
+-- A session streams, and these are the stations, of the first ones, that have a record due, or had one, which left its
+-- ring.
+pub record AreDue (feed : List Window) (s : State) (due : Places) (n : ℕ) : Type 0 where
   pub streams : s.phase ≡ Streaming
-  pub within : (k : ℕ) → Has due k → (k < length feed) × (k < 16)
+  pub within : (k : ℕ) → Has due k → (k < n) × (k < 16)
   pub ready : (k : ℕ) → Has due k → ¬ (IsAtNext feed s.grants k)
-  pub rest : (k : ℕ) → k < length feed → ¬ (Has due k) → IsAtNext feed s.grants k
+  pub rest : (k : ℕ) → k < n → ¬ (Has due k) → IsAtNext feed s.grants k

@@ -1,6 +1,5 @@
-use Rattle.std.proofs.Common.{◌++◌, refl}
 use Rattle.slink_live.proofs.Own.{each_moment}
 use Rattle.slink_live.proofs.law.each_moment_has_a_history.Goals as goal
 
 pub returns : goal.returns
-returns c start k before after reported served = each_moment start k (before ++ after) reported served before after refl
+returns c start k before after reported served = each_moment start k before after reported served

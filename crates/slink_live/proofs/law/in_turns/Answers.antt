@@ -3,18 +3,16 @@ use Rattle.slink_live.proofs.Growing.{called_between, turns_joined, turns_still}
 use Rattle.slink_live.proofs.law.in_turns.Goals as goal
 
 pub returns-clause-turns : goal.returns-clause-turns
-returns-clause-turns c feed s last ring turn way all asked = asked_turns feed s ring way last turn all asked
+returns-clause-turns c feed s last ring turn way all asked = asked_turns asked
 
 pub returns-clause-between : goal.returns-clause-between
-returns-clause-between c feed s t ring turn k j mid turns again ne due =
-    between feed s ring k mid t turn turns again j ne due
+returns-clause-between c feed s t ring turn k j mid turns again ne due = between j turns again ne due
 
 pub returns-clause-still : goal.returns-clause-still
-returns-clause-still c feed s t ring turn ks turns = turns_still feed s ring ks t turn turns
+returns-clause-still c feed s t ring turn ks turns = turns_still turns
 
 pub returns-clause-joined : goal.returns-clause-joined
-returns-clause-joined c old now last s t u ring turn next ks more before further =
-    turns_joined old s ring ks now t turn more last u next before further
+returns-clause-joined c old now last s t u ring turn next ks more before further = turns_joined before further
 
 pub returns-clause-called : goal.returns-clause-called
 returns-clause-called c feed last s t k j turn mid due ne turns streams again =

@@ -2,7 +2,7 @@ use Rattle.std.proofs.Common.{◌∙◌, ap, refl, arith, List, ℕ, length-take
 use Rattle.std.proofs.lemmas.Result.{err_from_is_err_and}
 use Rattle.slink_live.specs.Served.{IntakeState}
 use Rattle.slink_live.specs.private.Cutting.{Cuts, CutsOff}
-use Rattle.slink_live.proofs.Cuts.{cut_below, cut_few, look_begins, look_off, look_on, look_short, nothing_cut}
+use Rattle.slink_live.proofs.Cuts.{cut_below, cut_few, look_off, look_on, nothing_cut}
 use Rattle.slink_live.proofs.intake.Intake.take.Goals as goal
 
 pub loop-start-init : goal.loop-start-init
@@ -41,19 +41,19 @@ look-requires c =
     }
 
 pub loop-start-preserved : goal.loop-start-preserved
-loop-start-preserved c = record {
-  within = omega (arith, c.wanted-count.ensures.within, c.loop-start-test.true);
-  cuts = look_on c.args.self.now c.loop-start.self c.keep.new.self c.args.bytes.now c.loop-start.start
-      c.wanted-count.result c.loop-start.invariant.cuts c.keep.ensures.kept c.look.new.self c.in_ok-places.ensures.ok;
-  short = look_short c.args.self.now c.loop-start.self c.keep.new.self c.args.bytes.now c.loop-start.start
-      c.wanted-count.result c.loop-start.invariant.cuts c.keep.ensures.kept c.look.new.self c.in_ok-places.ensures.ok;
-  begins = look_begins c.args.self.now c.loop-start.self c.keep.new.self c.args.bytes.now c.loop-start.start
-      c.wanted-count.result c.loop-start.invariant.cuts c.keep.ensures.kept c.look.new.self c.in_ok-places.ensures.ok;
-  stays = λ k none.
-      let beside = c.in_ok-places.ensures.others k none in
-      beside.1 ∙ (ap (λ (s : IntakeState). slice_get s.feed k) c.keep.ensures.kept
-      ∙ c.loop-start.invariant.stays k beside.0);
-}
+loop-start-preserved c =
+    let looked = look_on c.args.self.now c.loop-start.self c.keep.new.self c.args.bytes.now c.loop-start.start
+    c.wanted-count.result c.loop-start.invariant.cuts c.keep.ensures.kept c.look.new.self c.in_ok-places.ensures.ok in
+    record {
+      within = omega (arith, c.wanted-count.ensures.within, c.loop-start-test.true);
+      cuts = looked.0;
+      short = looked.1;
+      begins = looked.2;
+      stays = λ k none.
+          let beside = c.in_ok-places.ensures.others k none in
+          beside.1 ∙ (ap (λ (s : IntakeState). slice_get s.feed k) c.keep.ensures.kept
+          ∙ c.loop-start.invariant.stays k beside.0);
+    }
 
 pub returns-in_err-places-clause-err : goal.returns-in_err-places-clause-err
 returns-in_err-places-clause-err c =

@@ -1,6 +1,7 @@
+use Rattle.std.proofs.Common.{refl}
 use Rattle.slink_feed.proofs.Waits.{sends_here}
 use Rattle.slink_live.specs.private.Calling.{Gives}
-use Rattle.slink_live.proofs.Due.{due_or_closed, no_more_due, on_true, still_due}
+use Rattle.slink_live.proofs.Due.{due_after, on_true}
 use Rattle.slink_live.proofs.link.Link.ask_due.Goals as goal
 
 pub ask_at-requires : goal.ask_at-requires
@@ -29,16 +30,12 @@ returns-else-is_due-clause-gives c =
 pub returns-then-is_due-clause-due : goal.returns-then-is_due-clause-due
 returns-then-is_due-clause-due c =
     let g : Gives c.args.feed.now c.args.k c.args.self.now c.ask_at.new.self = returns-then-is_due-clause-gives c in
-    due_or_closed c.args.feed.now c.args.self.now.session.state c.ask_at.new.self.session.state c.args.due c.args.k
-    g.answer c.requires.due c.requires.turn g.given c.args.due
-    (still_due c.args.feed.now c.args.self.now.session.state c.ask_at.new.self.session.state c.args.due c.args.k
-    g.answer c.requires.due c.requires.turn g.given (c.if-is_due.ensures.yes).1)
+    due_after _ _ _ c.args.due c.args.k g.answer c.requires.due c.requires.turn g.given c.args.due (λ j ne h. h)
+    (λ j lt ne h. h) (λ h. (c.if-is_due.ensures.yes).1) (λ streams none. absurd (none c.requires.turn))
 
 pub returns-else-is_due-clause-due : goal.returns-else-is_due-clause-due
 returns-else-is_due-clause-due c =
     let g : Gives c.args.feed.now c.args.k c.args.self.now c.ask_at.new.self = returns-else-is_due-clause-gives c in
-    due_or_closed c.args.feed.now c.args.self.now.session.state c.ask_at.new.self.session.state c.args.due c.args.k
-    g.answer c.requires.due c.requires.turn g.given c.without.result
-    (λ streams. no_more_due c.args.feed.now c.args.self.now.session.state c.ask_at.new.self.session.state c.args.due
-    c.args.k g.answer c.requires.due c.requires.turn g.given c.without.result c.without.ensures.less
-    c.without.ensures.others (c.if-is_due.ensures.no streams) streams)
+    due_after _ _ _ c.args.due c.args.k g.answer c.requires.due c.requires.turn g.given c.without.result
+    (λ j ne h. (c.without.ensures.less j h).0) c.without.ensures.others
+    (λ h. absurd ((c.without.ensures.less c.args.k h).1 refl)) (λ streams none. c.if-is_due.ensures.no streams)

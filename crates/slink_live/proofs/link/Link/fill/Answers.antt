@@ -39,28 +39,21 @@ end-requires c = record {
 }
 
 pub returns-in-None-clause-asks : goal.returns-in-None-clause-asks
-returns-in-None-clause-asks c = asks_then _ _ _ _ _ _ _ c.loop-ask.invariant.asks _ _ _ c.end.ensures.asks
+returns-in-None-clause-asks c = asks_then c.loop-ask.invariant.asks c.end.ensures.asks
 
 pub returns-then-is_closed-clause-asks : goal.returns-then-is_closed-clause-asks
-returns-then-is_closed-clause-asks c =
-    asks_then c.args.feed.now c.args.self.now.session c.args.self.now.ring c.args.self.now.pending
-    c.loop-ask.self.session c.loop-ask.self.ring c.loop-ask.self.pending c.loop-ask.invariant.asks
-    c.ask_due-due.new.self.session c.ask_due-due.new.self.ring c.ask_due-due.new.self.pending
-    (gives_asks c.args.feed.now c.loop-ask.self c.ask_due-due.new.self c.in-Some.k c.ask_due-due.ensures.gives
-    (due_turn c.args.feed.now c.loop-ask.self.session.state c.loop-ask.due c.loop-ask.self.ring c.in-Some.k
-    c.loop-ask.invariant.due c.in-Some.ensures.some c.in-Some.ensures.first))
+returns-then-is_closed-clause-asks c = asks_then c.loop-ask.invariant.asks
+    (gives_asks _ _ _ c.in-Some.k c.ask_due-due.ensures.gives (due_turn _ _ c.loop-ask.due c.loop-ask.self.ring
+    c.in-Some.k c.loop-ask.invariant.due c.in-Some.ensures.some c.in-Some.ensures.first))
 
 pub returns-then-is_closed-clause-filled : goal.returns-then-is_closed-clause-filled
 returns-then-is_closed-clause-filled c room = inr c.if-is_closed.ensures.yes
 
 pub loop-ask-preserved : goal.loop-ask-preserved
 loop-ask-preserved c = record {
-  asks = asks_then c.args.feed.now c.args.self.now.session c.args.self.now.ring c.args.self.now.pending
-      c.loop-ask.self.session c.loop-ask.self.ring c.loop-ask.self.pending c.loop-ask.invariant.asks
-      c.ask_due-due.new.self.session c.ask_due-due.new.self.ring c.ask_due-due.new.self.pending
-      (gives_asks c.args.feed.now c.loop-ask.self c.ask_due-due.new.self c.in-Some.k c.ask_due-due.ensures.gives
-      (due_turn c.args.feed.now c.loop-ask.self.session.state c.loop-ask.due c.loop-ask.self.ring c.in-Some.k
-      c.loop-ask.invariant.due c.in-Some.ensures.some c.in-Some.ensures.first));
+  asks = asks_then c.loop-ask.invariant.asks (gives_asks _ _ _ c.in-Some.k c.ask_due-due.ensures.gives
+      (due_turn _ _ c.loop-ask.due c.loop-ask.self.ring c.in-Some.k c.loop-ask.invariant.due c.in-Some.ensures.some
+      c.in-Some.ensures.first));
   fits = c.ask_due-due.ensures.fits;
   grown = elim (grown_by _ _ _ _ c.ask_due-due.ensures.gives) [
     | inl shut ↦ inl shut

@@ -10,5 +10,5 @@ invariant-loop-ask l = record {
   asks : Asks l.feed l.fn.self.session l.fn.self.ring l.fn.self.pending l.self.session l.self.ring l.self.pending;
   fits : Fits l.feed l.self.session.state;
   grown : (l.self.session.state.phase ≡ Closed) ⊎ (520 * l.ask ≤ length l.self.pending);
-  due : AreDue l.feed l.self.session.state l.due;
+  due : AreDue l.feed l.self.session.state l.due (length l.feed);
 }

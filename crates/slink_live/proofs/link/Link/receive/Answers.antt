@@ -1,9 +1,6 @@
-use Rattle.std.proofs.Common.{◌≡◌, ◌+◌, ◌≤◌, ◌<◌, ◌∙◌, ◌++◌, arith, rules, ap, refl, subst, sym, List, ℕ, length}
-use Rattle.std.proofs.Common.{length-append, take}
-use Rattle.slink_feed.specs.Serving.{Takes}
-use Rattle.slink_feed.specs.Session.{Fits}
-use Rattle.slink_live.specs.Served.{LinkState}
-use Rattle.slink_live.proofs.Receiving.{Leads, from_length, from_on, leads_first, leads_last, leads_on}
+use Rattle.std.proofs.Common.{arith, rules, refl}
+use Rattle.std.proofs.Common.{length-append}
+use Rattle.slink_live.proofs.Receiving.{from_length, leads_first, leads_last, leads_on}
 use Rattle.slink_live.proofs.link.Link.receive.Goals as goal
 use Rattle.slink_feed.proofs.Sendoffs.{reply_short}
 
@@ -17,22 +14,13 @@ loop-start-init c = record {
 }
 
 pub take-used-requires : goal.take-used-requires
-take-used-requires c = (
-  search rules,
-  subst (λ (x : LinkState). Fits c.args.feed.now x.session.state) (sym c.self.view_is) c.loop-start.invariant.fits,
-)
+take-used-requires c = (search rules, rw (← c.self.view_is) at c.loop-start.invariant.fits)
 
 pub queue-requires : goal.queue-requires
 queue-requires c =
-    let short : length c.bytes.result.now ≤ 35 =
-    subst (λ (x : List ℕ). length x ≤ 35) (sym c.bytes.ensures) (reply_short c.take-used.result.1) in
-    omega (
-      arith,
-      short,
-      ap (λ (x : LinkState). length x.pending) c.self.view_is,
-      c.loop-start.invariant.room,
-      c.loop-start-test.true,
-    )
+    let room = rw (← c.self.view_is) at c.loop-start.invariant.room in
+    let short = rw (← c.bytes.ensures) at (reply_short c.take-used.result.1) in
+    omega (arith, short, room, c.loop-start-test.true)
 
 pub loop-start-smaller : goal.loop-start-smaller
 loop-start-smaller c =
@@ -42,47 +30,23 @@ loop-start-smaller c =
 
 pub loop-start-preserved : goal.loop-start-preserved
 loop-start-preserved c =
-    let feed = c.args.feed.now in
-    let s = c.args.self.now.session in
-    let way = c.args.self.now.pending in
-    let bytes = c.args.bytes.now in
-    let start = c.loop-start.start in
-    let used = c.take-used.result.0 in
-    let reply = c.take-used.result.1 in
-    let long = from_length start bytes in
-    let some : 0 < used = c.take-used.ensures.some (omega (arith, long, c.loop-start-test.true)) in
-    let takes : Takes feed c.self.inside.session (take used (from_on start bytes)) c.take-used.new.self reply =
-    record {
-      held = c.take-used.ensures.held;
-      answers = c.take-used.ensures.answers;
-      closed = λ shut. ((c.take-used.ensures.closed shut).1, (c.take-used.ensures.closed shut).2);
-    } in
-    let before : Leads feed s bytes way start c.self.inside.session c.self.inside.pending.bytes =
-    subst (λ (x : LinkState). Leads feed s bytes way start x.session x.pending) (sym c.self.view_is)
-    c.loop-start.invariant.leads in
-    let after = leads_on feed s c.self.inside.session c.take-used.new.self bytes way c.self.inside.pending.bytes start
-    used reply before takes in
-    let produced : length c.queue.new.self.pending ≡ length c.self.inside.pending.bytes + length c.bytes.result.now =
-    ap (λ (x : LinkState). length x.pending) c.queue.ensures
-    ∙ length-append c.self.inside.pending.bytes c.bytes.result.now in
-    let short : length c.bytes.result.now ≤ 35 =
-    subst (λ (x : List ℕ). length x ≤ 35) (sym c.bytes.ensures) (reply_short reply) in
+    let long = from_length c.loop-start.start c.args.bytes.now in
+    let some = c.take-used.ensures.some (omega (arith, long, c.loop-start-test.true)) in
+    let room = rw (← c.self.view_is) at c.loop-start.invariant.room in
+    let short = rw (← c.bytes.ensures) at (reply_short c.take-used.result.1) in
     record {
       within = omega (arith, long, c.take-used.ensures.bound, c.loop-start-test.true);
-      leads = subst (λ (x : LinkState). Leads feed s bytes way (start + used) x.session x.pending) (sym c.queue.ensures)
-          (subst (λ (b : List ℕ). Leads feed s bytes way (start + used) c.take-used.new.self
-          (c.self.inside.pending.bytes ++ b)) (sym c.bytes.ensures) after);
-      ring = ap (λ (x : LinkState). x.ring) c.queue.ensures
-          ∙ (ap (λ (x : LinkState). x.ring) c.self.view_is ∙ c.loop-start.invariant.ring);
-      fits = subst (λ (x : LinkState). Fits feed x.session.state) (sym c.queue.ensures) c.take-used.ensures.fits;
-      room = omega (
-        arith,
-        produced,
-        short,
-        some,
-        ap (λ (x : LinkState). length x.pending) c.self.view_is,
-        c.loop-start.invariant.room,
-      );
+      leads = rw (c.queue.ensures, c.bytes.ensures) (leads_on c.args.feed.now _ _ c.take-used.new.self c.args.bytes.now
+          _ _ c.loop-start.start c.take-used.result.0 c.take-used.result.1
+          (rw (← c.self.view_is) at c.loop-start.invariant.leads) (record {
+            held = c.take-used.ensures.held;
+            answers = c.take-used.ensures.answers;
+            closed = λ shut. ((c.take-used.ensures.closed shut).1, (c.take-used.ensures.closed shut).2);
+          }));
+      ring = rw c.queue.ensures (rw (← c.self.view_is) at c.loop-start.invariant.ring);
+      fits = rw c.queue.ensures c.take-used.ensures.fits;
+      room = rw c.queue.ensures
+          (omega (arith, length-append c.self.inside.pending.bytes c.bytes.result.now, short, some, room));
     }
 
 pub returns-clause-serves : goal.returns-clause-serves

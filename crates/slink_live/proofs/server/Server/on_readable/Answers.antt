@@ -1,39 +1,41 @@
-use Rattle.std.proofs.Common.{arith, refl}
-use Rattle.slink_live.proofs.Moving.{all_fit, receives_on, reads_on, received_on, still_within}
-use Rattle.slink_live.proofs.Updating.{awake_same}
-use Rattle.slink_live.proofs.Steps.{keeps_both}
+use Rattle.std.proofs.Common.{◌<◌, arith, length, length-set}
+use Rattle.slink_live.proofs.Slots.{keeps_both, received_moves, turns_keep}
+use Rattle.slink_live.proofs.Steps.{reads_from}
+use Rattle.slink_live.proofs.Updating.{awake_same, moves_awake}
 use Rattle.slink_live.proofs.server.Server.on_readable.Goals as goal
 
 pub receive-requires : goal.receive-requires
 receive-requires g c = record {
   within = omega (arith, c.if-slot-len.true, c.len.ensures);
-  fits = all_fit c.self.view_is c.args.slot (omega (arith, c.if-slot-len.true, c.len.ensures)) c.requires
-      c.feed.ensures;
+  fits = rw c.feed.ensures (rw (← c.self.view_is) at c.requires).fit;
 }
 
 pub update-requires : goal.update-requires
-update-requires g c = record {
-  sound = (received_on c.self.view_is c.args.slot (omega (arith, c.if-slot-len.true, c.len.ensures)) c.requires
-      c.feed.ensures c.receive.ensures).sound;
-  within = still_within c.self.view_is c.args.slot (omega (arith, c.if-slot-len.true, c.len.ensures)) c.requires
-      c.receive.ensures;
-}
+update-requires g c =
+    let within : c.args.slot < length c.self.inside.links = omega (arith, c.if-slot-len.true, c.len.ensures) in
+    rw c.receive.ensures.is (record {
+      sound = (turns_keep _ c.args.slot _ (rw (← c.self.view_is) at c.requires) within
+          (received_moves _ c.args.slot _ _ _ _ (rw c.feed.ensures at c.receive.ensures.happened)).turns).sound;
+      within = omega (arith, within, length-set c.self.inside.links c.args.slot c.receive.ensures.link);
+    })
 
 pub returns-then-slot-len-clause-keeps : goal.returns-then-slot-len-clause-keeps
 returns-then-slot-len-clause-keeps g c =
-    keeps_both (received_on c.self.view_is c.args.slot (omega (arith, c.if-slot-len.true, c.len.ensures))
-    c.requires c.feed.ensures c.receive.ensures) c.update.ensures.keeps
+    let within : c.args.slot < length c.self.inside.links = omega (arith, c.if-slot-len.true, c.len.ensures) in
+    rw (← c.self.view_is) (keeps_both (turns_keep _ c.args.slot _ (rw (← c.self.view_is) at c.requires) within
+    (received_moves _ c.args.slot _ _ _ _ (rw c.feed.ensures at c.receive.ensures.happened)).turns)
+    (rw c.receive.ensures.is at c.update.ensures.keeps))
 
 pub returns-then-slot-len-clause-called : goal.returns-then-slot-len-clause-called
-returns-then-slot-len-clause-called g c =
-    reads_on c.self.view_is c.args.slot (omega (arith, c.if-slot-len.true, c.len.ensures)) c.requires c.feed.ensures
-    c.receive.ensures c.update.ensures.closes
+returns-then-slot-len-clause-called g c = rw (← c.self.view_is)
+    (reads_from _ c.args.slot _ _ _ _ _ c.receive.ensures.happened c.update.ensures.closes)
 
 pub returns-then-slot-len-clause-keeps_awake : goal.returns-then-slot-len-clause-keeps_awake
 returns-then-slot-len-clause-keeps_awake g c =
-    receives_on c.self.view_is c.args.slot (omega (arith, c.if-slot-len.true, c.len.ensures)) c.requires c.feed.ensures
-    c.receive.ensures c.update.ensures.updates
+    let within : c.args.slot < length c.self.inside.links = omega (arith, c.if-slot-len.true, c.len.ensures) in
+    rw (← c.self.view_is) (moves_awake _ c.args.slot _ (rw (← c.self.view_is) at c.requires) within
+    (received_moves _ c.args.slot _ _ _ _ (rw c.feed.ensures at c.receive.ensures.happened))
+    (λ a. rw c.receive.ensures.is at c.update.ensures.updates))
 
 pub returns-else-slot-len-clause-keeps_awake : goal.returns-else-slot-len-clause-keeps_awake
-returns-else-slot-len-clause-keeps_awake g c =
-    awake_same c.args.self.now (g.R.Ready.log c.args.ready.now) (g.R.Ready.log c.args.ready.now) refl
+returns-else-slot-len-clause-keeps_awake g c = awake_same

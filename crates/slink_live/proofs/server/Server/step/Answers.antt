@@ -14,11 +14,10 @@ pub returns-in-Gone-clause-keeps_awake : goal.returns-in-Gone-clause-keeps_awake
 returns-in-Gone-clause-keeps_awake g c earlier handled =
     c.on_gone.ensures.keeps_awake earlier (handled ∙ ap (λ (e : Event). earlier ++ Next e ∷ []) c.in-Gone.is)
 
-pub returns-in-Nothing-clause-keeps_awake : goal.returns-in-Nothing-clause-keeps_awake
-returns-in-Nothing-clause-keeps_awake g c earlier handled =
-    awake_same c.args.self.now (g.R.Ready.log c.args.ready.now) (g.R.Ready.log c.args.ready.now) refl
-
 pub returns-in-Dialled-clause-called : goal.returns-in-Dialled-clause-called
 returns-in-Dialled-clause-called g c =
     subst (λ (e : Event). IsCalled e c.args.self.now (g.R.Ready.log c.args.ready.now)
     (g.R.Ready.log c.on_dialled.new.ready) (Ok tt)) (sym c.in-Dialled.is) (c.on_dialled.ensures.called, refl)
+
+pub returns-in-Nothing-clause-keeps_awake : goal.returns-in-Nothing-clause-keeps_awake
+returns-in-Nothing-clause-keeps_awake g c earlier handled = awake_same

@@ -1,65 +1,38 @@
-use Rattle.std.proofs.Common.{◌<◌, length, refl, subst, sym}
-use Rattle.slink_live.specs.Served.{ServerState}
-use Rattle.slink_live.specs.Happening.{Wants}
-use Rattle.slink_live.proofs.Moving.{all_fit, closed_on, closes_on, empty_on, filled_on, wants_on}
-use Rattle.slink_live.proofs.Slots.{closes_none, closes_reported}
-use Rattle.slink_live.proofs.Steps.{closes_gone, keeps_both, keeps_quiet}
+use Rattle.std.proofs.Common.{arith, length-set}
+use Rattle.slink_live.proofs.Reported.{done_closes, done_keeps, done_updates}
+use Rattle.slink_live.proofs.Slots.{filled_moves, keeps_both, turns_keep}
 use Rattle.slink_live.proofs.server.Server.update.Goals as goal
 
-pub fill-requires : goal.fill-requires
-fill-requires g c = record {
-  within = subst (λ (x : ServerState). c.args.slot < length x.links) (sym c.self.view_is) c.requires.within;
-  fits = all_fit c.self.view_is c.args.slot
-      (subst (λ (x : ServerState). c.args.slot < length x.links) (sym c.self.view_is) c.requires.within)
-      c.requires.sound c.feed.ensures;
+pub fill-update-requires : goal.fill-update-requires
+fill-update-requires g c = record {
+  within = rw (← c.self.view_is) at c.requires.within;
+  fits = rw c.feed.ensures (rw (← c.self.view_is) at c.requires.sound).fit;
 }
 
-pub returns-in-Empty-clause-keeps : goal.returns-in-Empty-clause-keeps
-returns-in-Empty-clause-keeps g c =
-    filled_on c.self.view_is c.args.slot
-    (subst (λ (x : ServerState). c.args.slot < length x.links) (sym c.self.view_is) c.requires.within)
-    c.requires.sound _ c.feed.ensures c.in-Empty.ensures
+pub carry_out-requires : goal.carry_out-requires
+carry_out-requires g c = rw c.fill-update.ensures.is (omega (
+  arith,
+  rw (← c.self.view_is) at c.requires.within,
+  length-set c.self.inside.links c.args.slot c.fill-update.ensures.link,
+))
 
-pub returns-in-Empty-clause-closes : goal.returns-in-Empty-clause-closes
-returns-in-Empty-clause-closes g c = closes_none (g.R.Ready.log c.args.ready.now) (g.R.Ready.log c.args.ready.now) refl
+pub returns-clause-keeps : goal.returns-clause-keeps
+returns-clause-keeps g c =
+    let within = rw (← c.self.view_is) at c.requires.within in
+    let filled = turns_keep _ c.args.slot _ (rw (← c.self.view_is) at c.requires.sound) within
+    (filled_moves _ c.args.slot _ _ _ (rw c.feed.ensures at c.fill-update.ensures.happened.0)).turns in
+    rw (← c.self.view_is) (keeps_both filled (done_keeps _ c.args.slot c.fill-update.result filled.sound
+    (omega (arith, within, filled.slots)) (rw c.fill-update.ensures.is at c.carry_out.ensures)))
 
-pub returns-in-Empty-clause-updates : goal.returns-in-Empty-clause-updates
-returns-in-Empty-clause-updates g c =
-    empty_on c.self.view_is c.args.slot
-    (subst (λ (x : ServerState). c.args.slot < length x.links) (sym c.self.view_is) c.requires.within)
-    c.requires.sound c.feed.ensures c.in-Empty.ensures
+pub returns-clause-closes : goal.returns-clause-closes
+returns-clause-closes g c = done_closes _ c.args.slot c.fill-update.result _ c.carry_out.ensures
 
-pub returns-in-Wants-clause-keeps : goal.returns-in-Wants-clause-keeps
-returns-in-Wants-clause-keeps g c =
-    keeps_quiet (Wants c.args.slot c.in-Wants.interest) refl (λ k. refl) c.wants.ensures.log
-    (filled_on c.self.view_is c.args.slot
-    (subst (λ (x : ServerState). c.args.slot < length x.links) (sym c.self.view_is) c.requires.within)
-    c.requires.sound _ c.feed.ensures c.in-Wants.ensures)
-
-pub returns-in-Wants-clause-closes : goal.returns-in-Wants-clause-closes
-returns-in-Wants-clause-closes g c = closes_reported _ _ _ tt c.wants.ensures.log
-
-pub returns-in-Wants-clause-updates : goal.returns-in-Wants-clause-updates
-returns-in-Wants-clause-updates g c =
-    wants_on c.self.view_is c.args.slot
-    (subst (λ (x : ServerState). c.args.slot < length x.links) (sym c.self.view_is) c.requires.within)
-    c.requires.sound c.in-Wants.interest c.feed.ensures c.in-Wants.ensures c.wants.ensures.log
-
-pub returns-in-Closes-clause-keeps : goal.returns-in-Closes-clause-keeps
-returns-in-Closes-clause-keeps g c =
-    keeps_both (filled_on c.self.view_is c.args.slot
-    (subst (λ (x : ServerState). c.args.slot < length x.links) (sym c.self.view_is) c.requires.within)
-    c.requires.sound _ c.feed.ensures c.in-Closes.ensures)
-    (closed_on c.self.view_is c.args.slot
-    (subst (λ (x : ServerState). c.args.slot < length x.links) (sym c.self.view_is) c.requires.within)
-    c.requires.sound c.close.ensures.links c.close.ensures.log c.feed.ensures c.in-Closes.ensures)
-
-pub returns-in-Closes-clause-closes : goal.returns-in-Closes-clause-closes
-returns-in-Closes-clause-closes g c =
-    closes_gone c.args.slot (g.R.Ready.log c.args.ready.now) (g.R.Ready.log c.close.new.ready) _ c.close.ensures.log
-
-pub returns-in-Closes-clause-updates : goal.returns-in-Closes-clause-updates
-returns-in-Closes-clause-updates g c =
-    closes_on c.self.view_is c.args.slot
-    (subst (λ (x : ServerState). c.args.slot < length x.links) (sym c.self.view_is) c.requires.within)
-    c.requires.sound c.close.ensures.links c.close.ensures.log c.feed.ensures c.in-Closes.ensures
+pub returns-clause-updates : goal.returns-clause-updates
+returns-clause-updates g c =
+    let within = rw (← c.self.view_is) at c.requires.within in
+    let filled = filled_moves _ c.args.slot _ _ _ (rw c.feed.ensures at c.fill-update.ensures.happened.0) in
+    rw (← c.self.view_is) (done_updates _ c.args.slot c.fill-update.ensures.link c.fill-update.result _ _ _ _ within
+    filled.some c.fill-update.ensures.is
+    (rw c.feed.ensures at c.fill-update.ensures.happened.1)
+    (turns_keep _ c.args.slot _ (rw (← c.self.view_is) at c.requires.sound) within filled.turns).serving
+    c.carry_out.ensures)

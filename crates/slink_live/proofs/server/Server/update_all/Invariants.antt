@@ -1,11 +1,6 @@
-use Rattle.slink_live.specs.Turns.{Closes}
-use Rattle.slink_live.specs.private.Keeping.{KeepsServing}
 use Rattle.slink_live.proofs.Updating.{HasUpdated}
 use Rattle.slink_live.proofs.server.Server.update_all.Given as goal
 
 abbrev pub invariant-loop-slot : goal.invariant-loop-slot
-invariant-loop-slot g l = record {
-  keeps : KeepsServing l.fn.self l.self (g.R.Ready.log l.fn.ready) (g.R.Ready.log l.ready);
-  closes : Closes (g.R.Ready.log l.fn.ready) (g.R.Ready.log l.ready);
-  up_to_date : HasUpdated (λ k. ⊥) l.fn.self l.self l.slot (g.R.Ready.log l.fn.ready) (g.R.Ready.log l.ready);
-}
+invariant-loop-slot g l =
+    HasUpdated (λ k. ⊥) l.fn.self l.self l.slot (g.R.Ready.log l.fn.ready) (g.R.Ready.log l.ready)
