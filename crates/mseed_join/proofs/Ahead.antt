@@ -1,6 +1,6 @@
 -- What goes on: the next line of parts, and what their joint part says of it.
 use Rattle.std.proofs.Common.{◌≡◌, ℕ, ◌+◌, ◌≤◌, ◌<◌, ◌^◌, List, [], ◌∷◌, ◌++◌, Bool, true, false, Option, Some, None}
-use Rattle.std.proofs.Common.{length, refl, sym, ap, ◌∙◌, subst, arith, append_assoc, inl, inr, ◌⊎◌}
+use Rattle.std.proofs.Common.{length, refl, sym, ap, ◌∙◌, subst, arith, append_assoc}
 use Rattle.std.specs.Prelude.{codes}
 use Rattle.std.proofs.ByRecursion.{All-append}
 use Rattle.std.proofs.lemmas.List.{length-append}
@@ -20,7 +20,7 @@ use Rattle.mseed_join.proofs.Machine.{texts_all, texts_are}
 use Rattle.mseed_join.proofs.Running.{Extends, GoesOn, HaveTexts, all_run, extends, stage_runs, texts_before}
 use Rattle.mseed_join.proofs.Running.{texts_after}
 use Rattle.mseed_join.proofs.Stepping.{LeavesKept, kept_none, leaves_kept}
-use Rattle.mseed_join.proofs.Sums.{HaveOneJoint, IsFirst, IsSplit, first_of, joined_one, some_none, split}
+use Rattle.mseed_join.proofs.Sums.{IsFirst, counted_on, first_of, joined_one, joined_split, some_none}
 use Rattle.mseed_join.proofs.Taken.{IsLast, last_is}
 use Rattle.mseed_audit.proofs.Maps.{same_itself}
 use Rattle.mseed_audit.specs.Channels.{same_key}
@@ -165,25 +165,16 @@ fitting_by false a v k vs (Some x) e j =
       passed_fit = λ g p q. cc (p);
     }
 
-fitting : HaveOneJoint → (past : Bool) (over : List Written) (v : Written) (vs : List Written) (a k : Written)
+fitting : (past : Bool) (over : List Written) (v : Written) (vs : List Written) (a k : Written)
     → IsJointOf past over a → a.end ≡ None → IsJointOf past (over ++ v ∷ vs) k → IsFitting past a v
-fitting only past over v vs a k j n all = by (split past over (v ∷ vs) k all)
-  where
-    by : IsSplit past nothing over (v ∷ vs) k → IsFitting past a v
-    by s = cases s.others
-      where
-        same : s.before ≡ a
-        same = joined_one only nothing (counted past over) s.before a s.joined j
-
-        cases : ((s.before.end ≡ None) × AreJoined s.before (counted past (v ∷ vs)) k)
-            ⊎ ((f : StreamFault) × (s.before.end ≡ Some f) × (s.before ≡ k)) → IsFitting past a v
-        cases (inl c) =
-            fitting_by past a v k vs v.end refl
-            (subst (λ (b : Written). AreJoined b (counted past (v ∷ vs)) k) same c.1)
-        cases (inr c) = absurd (some_none c.0 (sym c.1 ∙ ap (λ (b : Written). b.end) same ∙ n))
+fitting past over v vs a k j n all =
+    let s = joined_split nothing k (counted past over) (counted past (v ∷ vs))
+    (rw (counted_on past over (v ∷ vs) a n j) at all) in
+    fitting_by past a v k vs v.end refl
+    (rw (joined_one nothing (counted past over) s.0 a s.1.0 j) at s.1.1)
 
 -- ---- what is refused for its sum
-module _ (only : HaveOneJoint) (past : Bool) (over : List Written) (h : Written) (free : h.end ≡ None)
+module _ (past : Bool) (over : List Written) (h : Written) (free : h.end ≡ None)
     (parts : List Written) (k : Written) (all : IsJointOf past parts k) where
   -- of a part that has begun, and the parts that go on from it
   grown : (w v : Written) → w.end ≡ None → IsJointOf past (over ++ w ∷ []) h → (g : GoesOn over v parts)
@@ -191,7 +182,7 @@ module _ (only : HaveOneJoint) (past : Bool) (over : List Written) (h : Written)
   grown w v e j g =
       let l : IsLast past over w h = last_is past over w h e free j in (
         l,
-        fitting only past over g.part g.others l.before k l.joined l.goes_on
+        fitting past over g.part g.others l.before k l.joined l.goes_on
             (subst (λ (ws : List Written). IsJointOf past ws k) g.are all),
       )
 
@@ -230,6 +221,6 @@ module _ (only : HaveOneJoint) (past : Bool) (over : List Written) (h : Written)
   passed_fit w f vs p e j is =
       let l : IsLast past over w h = last_is past over w h e free j in
       let fit : IsFitting past l.before (with_end w f) =
-      fitting only past over (with_end w f) vs l.before k l.joined l.goes_on
+      fitting past over (with_end w f) vs l.before k l.joined l.goes_on
       (subst (λ (ws : List Written). IsJointOf past ws k) (is ∙ append_assoc over (with_end w f ∷ []) vs) all) in
       omega (arith, fit.passed_fit f p refl, l.next.faults)

@@ -26,11 +26,11 @@ use Rattle.mseed_join.specs.Headline.{AreParted, EndsByBytes, IsReadOf, SaysAudi
 use Rattle.mseed_join.specs.HeadlineEach.{AreReportedApart, SaysEach, last, more, none as none_apart}
 use Rattle.mseed_join.specs.Joined.{AreJoined, IsJointOf, IsNext, counted, counted_by, moved_fault, nothing}
 use Rattle.mseed_join.specs.Written.{Written}
-use Rattle.mseed_join.proofs.Bordering.{IsFirstOf, first_found, joined_after, none_found}
+use Rattle.mseed_join.proofs.Bordering.{IsFirstOf, first_found, none_found}
 use Rattle.mseed_join.proofs.Cuts.{IsKnown, known, one_known}
 use Rattle.mseed_join.proofs.Pieces.{AddUp, HaveOneVerdicts, HaveVerdicts, IsSoFar, at_first, counted_last, further}
 use Rattle.mseed_join.proofs.Pieces.{joined_more, of_nothing, says}
-use Rattle.mseed_join.proofs.Sums.{HaveOneJoint, joined_one, none_of}
+use Rattle.mseed_join.proofs.Sums.{joined_one, joined_one_more, none_of}
 
 abbrev pub AddFindings : Type 0
 AddFindings = (a b : Held) (xs ys : List View) (first second whole : List Reported) → IsPartOf a xs → IsPartOf b ys
@@ -170,28 +170,28 @@ pub record IsBordered (befores : List Written) (a w : Written) (ws : List Writte
   pub more : AreBorders (befores ++ w ∷ []) ws rest
   pub are : found ≡ borders_with a.part w.part.channels ++ rest
 
-bordered : HaveOneJoint → (befores : List Written) (a w : Written) (ws : List Written) (found : List Border)
+bordered : (befores : List Written) (a w : Written) (ws : List Written) (found : List Border)
     → AreJoined nothing befores a → AreBorders befores (w ∷ ws) found → IsBordered befores a w ws found
-bordered only befores a w ws found joined borders =
+bordered befores a w ws found joined borders =
     let f : IsFirstOf befores w ws found = first_found befores w ws found borders in
-    let same : f.joint ≡ a = joined_one only nothing befores f.joint a f.joined joined in record {
+    let same : f.joint ≡ a = joined_one nothing befores f.joint a f.joined joined in record {
       rest = f.rest;
       more = f.more;
       are = f.are ∙ ap (λ (x : Written). borders_with x.part w.part.channels ++ f.rest) same;
     }
 
 -- ---- all archives
-one_piece : AddUp → AddFindings → HaveOneJoint → (archive before : List ℕ) (befores : List Written)
+one_piece : AddUp → AddFindings → (archive before : List ℕ) (befores : List Written)
     (found : List Border) (a joint : Written) (so : IsSoFar before a) (h : BytesRead) (p : ReportedPart h)
     → IsReadOf archive h → EndsByBytes p.parted.written.end → a.end ≡ None → AreJoined nothing befores a
     → AreJoined a (p.parted.written ∷ []) joint → AreBorders befores (p.parted.written ∷ []) found
     → IsMergedTo before archive (notices_of p.reported) found a joint so
-one_piece add_up add only archive before befores found a joint so h p read by clear joined parts borders =
+one_piece add_up add archive before befores found a joint so h p read by clear joined parts borders =
     let w : Written = p.parted.written in
     let first = joined_more a w joint [] parts in
     let now : IsSoFar (before ++ archive) first.0 =
     further add_up before archive a first.0 h p.parted so clear read by first.1.0 in
-    let b : IsBordered befores a w [] found = bordered only befores a w [] found joined borders in
+    let b : IsBordered befores a w [] found = bordered befores a w [] found joined borders in
     let are : found ≡ borders_with a.part w.part.channels =
     b.are ∙ ap (λ (bs : List Border). borders_with a.part w.part.channels ++ bs)
     (none_found (befores ++ w ∷ []) b.rest b.more)
@@ -249,22 +249,22 @@ more_pieces add_up add archive others before reported found rest a b joint so h 
           (piece add before a so h p known first mid.0 one near) (m.merged mid.0 whole mid.1 all));
     }
 
-merge_all : HaveOneReport → AddUp → AddFindings → HaveOneJoint → (archive before : List ℕ) (ws befores : List Written)
+merge_all : HaveOneReport → AddUp → AddFindings → (archive before : List ℕ) (ws befores : List Written)
     (reported : List Notice) (found : List Border) (a joint : Written) (so : IsSoFar before a)
     → AreReportedApart archive ws reported → a.end ≡ None → AreJoined nothing befores a
     → AreJoined a (counted false ws) joint
     → AreBorders befores (counted false ws) found → IsMergedTo before archive reported found a joint so
-merge_all single add_up add only _ before _ befores _ found a joint so none_apart clear joined parts borders =
+merge_all single add_up add _ before _ befores _ found a joint so none_apart clear joined parts borders =
     subst (λ (bs : List Border). IsMergedTo before [] [] bs a joint so) (sym (none_found befores found borders))
     (ends_here single before a joint so (none_of a joint parts))
-merge_all single add_up add only _ before _ befores _ found a joint so (last archive h p read by) clear joined parts
+merge_all single add_up add _ before _ befores _ found a joint so (last archive h p read by) clear joined parts
     borders =
     let one : counted false (p.parted.written ∷ []) ≡ p.parted.written ∷ [] =
     counted_last p.parted.written p.parted.written.end in
-    one_piece add_up add only archive before befores found a joint so h p read by clear joined
+    one_piece add_up add archive before befores found a joint so h p read by clear joined
     (subst (λ (ws : List Written). AreJoined a ws joint) one parts)
     (subst (λ (ws : List Written). AreBorders befores ws found) one borders)
-merge_all single add_up add only _ before _ befores _ found a joint so
+merge_all single add_up add _ before _ befores _ found a joint so
     (more archive others h p ws reported read end apart)
     clear joined parts borders =
     let w : Written = p.parted.written in
@@ -280,11 +280,11 @@ merge_all single add_up add only _ before _ befores _ found a joint so
     let goes_on : b.end ≡ None = first.1.0.end
     ∙ ap (λ (o : Option StreamFault). option_map (moved_fault a.part.bytes) o) end in
     let c : IsBordered befores a w (counted false ws) found =
-    bordered only befores a w (counted false ws) found joined along in
+    bordered befores a w (counted false ws) found joined along in
     more_pieces add_up add archive others before reported found c.rest a b joint so h p now refl first.1.0 c.are
-    (merge_all single add_up add only others (before ++ archive) ws (befores ++ w ∷ []) reported c.rest b joint now
+    (merge_all single add_up add others (before ++ archive) ws (befores ++ w ∷ []) reported c.rest b joint now
     apart
-    goes_on (joined_after nothing befores a w b joined first.1.0) first.1.1 c.more)
+    goes_on (joined_one_more nothing a b w befores joined first.1.0) first.1.1 c.more)
 
 -- ---- their lines
 pub reported_text : (reported : List Reported) → notice_lines (notices_of reported) ≡ reported_lines reported
@@ -304,13 +304,13 @@ parted_of_reported _ _ _ (last archive h a read by) = AreParted.last archive h a
 parted_of_reported _ _ _ (more archive others h a ws reported read end apart) =
     AreParted.more archive others h a.parted ws read end (parted_of_reported others ws reported apart)
 
-pub each_says : HaveOneReport → AddUp → AddFindings → HaveOneJoint → HaveVerdicts → HaveOneVerdicts
+pub each_says : HaveOneReport → AddUp → AddFindings → HaveVerdicts → HaveOneVerdicts
     → (archive : List ℕ) (ws : List Written) (reported : List Notice) (found : List Border) (joint : Written)
     (h : BytesRead) (a : AuditedEach h) → AreReportedApart archive ws reported → IsJointOf false ws joint
     → AreBordersOf false ws found → IsReadOf archive h → EndsByBytes a.audited.end → SaysEach reported found joint a
-each_says single add_up add only verdicts one archive ws reported found joint h a apart joined borders read by =
+each_says single add_up add verdicts one archive ws reported found joint h a apart joined borders read by =
     let m : IsMergedTo [] archive reported found nothing joint (at_first nothing.part of_nothing) =
-    merge_all single add_up add only archive [] ws [] reported found nothing joint (at_first nothing.part of_nothing)
+    merge_all single add_up add archive [] ws [] reported found nothing joint (at_first nothing.part of_nothing)
     apart
     refl (AreJoined.none nothing) joined borders in
     let both = one_known archive m.all.views a.audited.views joint.end a.audited.end m.all.are_known

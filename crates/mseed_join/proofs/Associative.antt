@@ -48,13 +48,12 @@ module _ (d e f g : ℕ) where
 -- ---- a channel and its further records, both after more
 border_moved : (d e : ℕ) (t : Option Tail) (h : Option Head)
     → border_of t (option_map (moved_head d e) h) ≡ option_map (moved_finding d e) (border_of t h)
-border_moved d e None h = refl
-border_moved d e (Some t) None = refl
 border_moved d e (Some t) (Some h) = by (break_by t h.start h.rate)
   where
     by : (w : Option Why) → found_at (moved_head d e h) w ≡ option_map (moved_finding d e) (found_at h w)
     by None = refl
     by (Some w) = refl
+border_moved d e _ _ = refl
 
 with_moved : (d e : ℕ) (a b : Findings) (border : Option Finding) → moved_findings d e (findings_with a b border)
     ≡ findings_with (moved_findings d e a) (moved_findings d e b) (option_map (moved_finding d e) border)

@@ -11,22 +11,22 @@ use Rattle.mseed_time.specs.Btime.{IsInstant}
 use Rattle.mseed_time.specs.Rate.{Ratio, IsRatio}
 use Rattle.mseed_time.specs.Text.{fault_word}
 use Rattle.mseed_time.specs.declared.fault.TimeFault.{TimeFault}
-use Rattle.mseed_time.specs.declared.fault.TimeFault.TheVariants.{Year, Day, Hour, Minute, Second, Fraction}
+use Rattle.mseed_time.specs.declared.fault.TimeFault.TheVariants.{Year}
 use Rattle.mseed_record.specs.declared.fault.FrameFault.{FrameFault}
 use Rattle.mseed_record.specs.declared.fault.FrameFault.TheVariants.{NotData, Order as NoOrder, Chain, No1000, Length}
 use Rattle.mseed_record.specs.declared.fault.FrameFault.TheVariants.{Outside, Version3}
 use Rattle.mseed_record.specs.declared.leap.Leap.{Leap}
-use Rattle.mseed_record.specs.declared.leap.Leap.TheVariants.{None as NoLeap, Positive, Negative, Both}
+use Rattle.mseed_record.specs.declared.leap.Leap.TheVariants.{None as NoLeap}
 use Rattle.mseed_steim.specs.declared.fault.ReadFault.{ReadFault}
 use Rattle.mseed_steim.specs.declared.fault.ReadFault.TheVariants.{Blockette100, Encoding, LittleSteim, DataOffset}
 use Rattle.mseed_steim.specs.declared.fault.ReadFault.TheVariants.{Short, BadWord, Overflow, LastDiffers}
 use Rattle.mseed_steim.specs.declared.fault.ReadFault.TheVariants.{Memory as NoMemory}
 use Rattle.mseed_stream.specs.declared.fault.StreamFault.{StreamFault}
-use Rattle.mseed_stream.specs.declared.fault.StreamFault.TheVariants.{Frame, Truncated, Read, Turns, Memory}
+use Rattle.mseed_stream.specs.declared.fault.StreamFault.TheVariants.{Frame, Truncated, Memory}
 use Rattle.mseed_audit.specs.declared.finding.Finding.{Finding}
 use Rattle.mseed_audit.specs.declared.finding.Why.{Why}
-use Rattle.mseed_audit.specs.declared.finding.Why.TheVariants.{Time, Rate, Read as ReadFailed, RateChange}
-use Rattle.mseed_audit.specs.declared.finding.Why.TheVariants.{Leap as UnknownLeap, Gap, Overlap}
+use Rattle.mseed_audit.specs.declared.finding.Why.TheVariants.{Time, Read as ReadFailed}
+use Rattle.mseed_audit.specs.declared.finding.Why.TheVariants.{Gap, Overlap}
 use Rattle.mseed_text.specs.Fault.{frame_words, fault_line}
 use Rattle.mseed_audit.specs.Text.{why_text, read_text}
 use Rattle.mseed_audit.specs.declared.channel.Channel.{Channel}
@@ -93,9 +93,7 @@ sample_back z rest w e = integer_back (2 ^ 31) (2 ^ 31 - 1) z rest (omega arith)
 pub leap_back : (l : Leap) (rest : List ℕ) → leap_at (leap_text l ++ rest) ≡ Some (l, rest)
 unfolding leap_at
 leap_back NoLeap rest = refl
-leap_back Positive rest = refl
-leap_back Negative rest = refl
-leap_back Both rest = refl
+leap_back _ rest = refl
 
 -- ---- heads and tails
 -- a first byte that isn't the word's
@@ -169,20 +167,13 @@ tail_back (Some t) rest fits =
 time_back : (f : TimeFault) (rest : List ℕ) → time_at (fault_word f ++ rest) ≡ Some (f, rest)
 unfolding time_at
 time_back Year rest = refl
-time_back Day rest = refl
-time_back Hour rest = refl
-time_back Minute rest = refl
-time_back Second rest = refl
-time_back Fraction rest = refl
+time_back _ rest = refl
 
 read_fault_back : (f : ReadFault) (rest : List ℕ) → HasReadFault f → Ends rest
     → read_fault_at (read_text f ++ rest) ≡ Some (f, rest)
 unfolding read_fault_at
-read_fault_back Blockette100 rest l e = refl
 read_fault_back (Encoding code) rest l e =
     rw (number_back (2 ^ 8 - 1) code rest (omega (arith, l)) (omega (arith, l)) e) refl
-read_fault_back LittleSteim rest l e = refl
-read_fault_back DataOffset rest l e = refl
 read_fault_back (Short found) rest l e = rw (count_back found rest l e) refl
 read_fault_back (BadWord frame word) rest l e =
     ap read_fault_at (bad_word_leading frame word rest) ∙ rw (
@@ -196,11 +187,11 @@ read_fault_back (LastDiffers found constant) rest l e =
       sample_back constant rest l.1 e,
     ) refl
 read_fault_back NoMemory rest l e = absurd l
+read_fault_back _ rest l e = refl
 
 why_back : (w : Why) (rest : List ℕ) → HasWhy w → Ends rest → why_at (why_text w ++ rest) ≡ Some (w, rest)
 unfolding why_at
 why_back (Time f) rest l e = rw (time_back f rest) refl
-why_back Rate rest l e = refl
 why_back (ReadFailed Blockette100) rest l e = rw (read_fault_back Blockette100 rest l e) refl
 why_back (ReadFailed (Encoding code)) rest l e = rw (read_fault_back (Encoding code) rest l e) refl
 why_back (ReadFailed LittleSteim) rest l e = rw (read_fault_back LittleSteim rest l e) refl
@@ -211,10 +202,9 @@ why_back (ReadFailed (Overflow index)) rest l e = rw (read_fault_back (Overflow 
 why_back (ReadFailed (LastDiffers found constant)) rest l e =
     rw (read_fault_back (LastDiffers found constant) rest l e) refl
 why_back (ReadFailed NoMemory) rest l e = absurd l
-why_back RateChange rest l e = refl
-why_back UnknownLeap rest l e = refl
 why_back (Gap us) rest l e = rw (number_back (2 ^ 128 - 1) us rest (omega (arith, l)) (omega (arith, l)) e) refl
 why_back (Overlap us) rest l e = rw (number_back (2 ^ 128 - 1) us rest (omega (arith, l)) (omega (arith, l)) e) refl
+why_back _ rest l e = refl
 
 first_back : (f : Finding) (rest : List ℕ) → HasFinding f → Ends rest → first_at (first_then f rest) ≡ Some (f, rest)
 unfolding first_at
@@ -291,14 +281,9 @@ faults_back (suc n) l =
 frame_fault_back : (f : FrameFault) (rest : List ℕ) → HasFrameFault f → Ends rest
     → frame_fault_at (frame_words f ++ rest) ≡ Some (f, rest)
 unfolding frame_fault_at
-frame_fault_back NotData rest l e = refl
-frame_fault_back NoOrder rest l e = refl
-frame_fault_back Chain rest l e = refl
-frame_fault_back No1000 rest l e = refl
 frame_fault_back (Length exponent) rest l e =
     rw (number_back (2 ^ 8 - 1) exponent rest (omega (arith, l)) (omega (arith, l)) e) refl
-frame_fault_back Outside rest l e = refl
-frame_fault_back Version3 rest l e = refl
+frame_fault_back _ rest l e = refl
 
 -- what fails is read by its words, whatever the offset
 stream_fault_back : (f : StreamFault) (bytes : ℕ) (rest : List ℕ) → IsFaultAfter bytes f → Ends rest
@@ -314,9 +299,8 @@ stream_fault_back (Frame offset Outside) bytes rest l e = rw (frame_fault_back O
 stream_fault_back (Frame offset Version3) bytes rest l e = rw (frame_fault_back Version3 rest l.1 e, l.0) refl
 stream_fault_back (Truncated offset have) bytes rest l e =
     rw (count_back have rest l.1 e, l.0) refl
-stream_fault_back (Read offset) bytes rest l e = rw l refl
-stream_fault_back (Turns offset) bytes rest l e = rw l refl
 stream_fault_back Memory bytes rest l e = absurd l
+stream_fault_back _ bytes rest l e = rw l refl
 
 pub same_number : (n : ℕ) → nat_eq n n ≡ true
 same_number n = grind (arith, nat_tests)

@@ -54,23 +54,19 @@ ends_so (Some (Truncated n have)) offset h rest by is all = record {
   end_is = ap (λ (k : ℕ). Some (Truncated k have)) is.0.0;
 }
 ends_so (Some (Read n)) offset h rest by is all = absurd by
-ends_so (Some (Turns n)) offset h rest by is all = absurd by
-ends_so (Some Memory) offset h rest by is all = absurd by
+ends_so _ offset h rest by is all = absurd by
 
 -- and so it does once it was read to its end
 pub at_end_by : (end : Option StreamFault) (offset : ℕ) (h : BytesRead) → h.is_at_end ≡ true → IsEnd end offset h
     → EndsByBytes end
-at_end_by None offset h done is = tt
-at_end_by (Some (Frame n f)) offset h done is = tt
-at_end_by (Some (Truncated n have)) offset h done is = tt
 at_end_by (Some (Read n)) offset h done is = both_ways h.is_at_end is.0.2 done
 at_end_by (Some (Turns n)) offset h done is = both_ways h.is_at_end is.0.2 done
 at_end_by (Some Memory) offset h done is = is.1 refl
+at_end_by _ offset h done is = tt
 
 moved_ended : (e offset : ℕ) (at : End) → option_map (moved_fault e) (ended offset at) ≡ ended (e + offset) at
 moved_ended e offset clean = refl
-moved_ended e offset (frame f) = refl
-moved_ended e offset (truncated have) = refl
+moved_ended e offset _ = refl
 
 -- after so many more bytes
 ends_moved : (e offset : ℕ) (rest : List ℕ) (end : Option StreamFault) → EndsSo offset rest end
@@ -83,8 +79,7 @@ ends_moved e offset rest end so = record {
 
 nothing_left : (offset : ℕ) (rest : List ℕ) (at : End) → IsEndOf rest at → None ≡ ended offset at → rest ≡ []
 nothing_left offset rest clean (is_clean e) same = e
-nothing_left offset rest (frame f) is same = cc same
-nothing_left offset rest (truncated have) is same = cc same
+nothing_left offset rest _ is same = cc same
 
 -- where there is no fault, nothing is left
 none_left : (offset : ℕ) (rest : List ℕ) (end : Option StreamFault) → EndsSo offset rest end → end ≡ None

@@ -11,23 +11,22 @@ use Rattle.std.proofs.lemmas.List.{length-append}
 use Rattle.mseed_time.specs.Rate.{Ratio, IsRatio}
 use Rattle.mseed_time.specs.Text.{fault_word}
 use Rattle.mseed_time.specs.declared.fault.TimeFault.{TimeFault}
-use Rattle.mseed_time.specs.declared.fault.TimeFault.TheVariants.{Year, Day, Hour, Minute, Second, Fraction}
+use Rattle.mseed_time.specs.declared.fault.TimeFault.TheVariants.{Year}
 use Rattle.mseed_time.specs.Btime.{IsInstant}
 use Rattle.mseed_record.specs.declared.fault.FrameFault.{FrameFault}
-use Rattle.mseed_record.specs.declared.fault.FrameFault.TheVariants.{NotData, Order as NoOrder, Chain, No1000, Length}
-use Rattle.mseed_record.specs.declared.fault.FrameFault.TheVariants.{Outside, Version3}
+use Rattle.mseed_record.specs.declared.fault.FrameFault.TheVariants.{Length}
 use Rattle.mseed_record.specs.declared.leap.Leap.{Leap}
-use Rattle.mseed_record.specs.declared.leap.Leap.TheVariants.{None as NoLeap, Positive, Negative, Both}
+use Rattle.mseed_record.specs.declared.leap.Leap.TheVariants.{None as NoLeap}
 use Rattle.mseed_steim.specs.declared.fault.ReadFault.{ReadFault}
-use Rattle.mseed_steim.specs.declared.fault.ReadFault.TheVariants.{Blockette100, Encoding, LittleSteim, DataOffset}
+use Rattle.mseed_steim.specs.declared.fault.ReadFault.TheVariants.{Encoding}
 use Rattle.mseed_steim.specs.declared.fault.ReadFault.TheVariants.{Short, BadWord, Overflow, LastDiffers}
 use Rattle.mseed_steim.specs.declared.fault.ReadFault.TheVariants.{Memory as NoMemory}
 use Rattle.mseed_stream.specs.declared.fault.StreamFault.{StreamFault}
-use Rattle.mseed_stream.specs.declared.fault.StreamFault.TheVariants.{Frame, Truncated, Read, Turns, Memory}
+use Rattle.mseed_stream.specs.declared.fault.StreamFault.TheVariants.{Frame, Truncated, Memory}
 use Rattle.mseed_audit.specs.declared.finding.Finding.{Finding}
 use Rattle.mseed_audit.specs.declared.finding.Why.{Why}
-use Rattle.mseed_audit.specs.declared.finding.Why.TheVariants.{Time, Rate, Read as ReadFailed, RateChange}
-use Rattle.mseed_audit.specs.declared.finding.Why.TheVariants.{Leap as UnknownLeap, Gap, Overlap}
+use Rattle.mseed_audit.specs.declared.finding.Why.TheVariants.{Time, Read as ReadFailed}
+use Rattle.mseed_audit.specs.declared.finding.Why.TheVariants.{Gap, Overlap}
 use Rattle.mseed_text.specs.Fault.{frame_words}
 use Rattle.mseed_audit.specs.Text.{why_text, read_text}
 use Rattle.mseed_audit.specs.declared.channel.Findings.{Findings}
@@ -127,9 +126,7 @@ ratio r fits = two (two (ten r.num fits.num_bound) (word (codes "/") refl)) (ten
 
 leap : (l : Leap) → IsPiece 8 (leap_text l)
 leap NoLeap = record { is_plain = refl; short = omega arith }
-leap Positive = record { is_plain = refl; short = omega arith }
-leap Negative = record { is_plain = refl; short = omega arith }
-leap Both = record { is_plain = refl; short = omega arith }
+leap _ = record { is_plain = refl; short = omega arith }
 
 head : (h : Head) → HasHead h → IsPiece 79 (head_text h)
 head h fits =
@@ -148,33 +145,25 @@ or_none text Has (Some x) l each fits = each x fits
 
 time : (f : TimeFault) → IsPiece 8 (fault_word f)
 time Year = record { is_plain = refl; short = omega arith }
-time Day = record { is_plain = refl; short = omega arith }
-time Hour = record { is_plain = refl; short = omega arith }
-time Minute = record { is_plain = refl; short = omega arith }
-time Second = record { is_plain = refl; short = omega arith }
-time Fraction = record { is_plain = refl; short = omega arith }
+time _ = record { is_plain = refl; short = omega arith }
 
 read_fault : (f : ReadFault) → HasReadFault f → IsPiece 47 (read_text f)
-read_fault Blockette100 l = record { is_plain = refl; short = omega arith }
 read_fault (Encoding code) l =
     within (two (word (codes "encoding ") refl) (count code (omega (arith, l)))) (omega arith)
-read_fault LittleSteim l = record { is_plain = refl; short = omega arith }
-read_fault DataOffset l = record { is_plain = refl; short = omega arith }
 read_fault (Short found) l = within (two (word (codes "short ") refl) (count found l)) (omega arith)
 read_fault (BadWord frame w) l = spaced (two (word (codes "badword ") refl) (count frame l.0)) (count w l.1)
 read_fault (Overflow index) l = within (two (word (codes "overflow ") refl) (count index l)) (omega arith)
 read_fault (LastDiffers found constant) l =
     within (spaced (two (word (codes "lastdiffers ") refl) (sample found l.0)) (sample constant l.1)) (omega arith)
 read_fault NoMemory l = absurd l
+read_fault _ l = record { is_plain = refl; short = omega arith }
 
 why : (w : Why) → HasWhy w → IsPiece 48 (why_text w)
 why (Time f) l = within (two (word (codes "time ") refl) (time f)) (omega arith)
-why Rate l = record { is_plain = refl; short = omega arith }
 why (ReadFailed f) l = within (read_fault f l) (omega arith)
-why RateChange l = record { is_plain = refl; short = omega arith }
-why UnknownLeap l = record { is_plain = refl; short = omega arith }
 why (Gap us) l = within (two (word (codes "gap ") refl) (micros us l)) (omega arith)
 why (Overlap us) l = within (two (word (codes "overlap ") refl) (micros us l)) (omega arith)
+why _ l = record { is_plain = refl; short = omega arith }
 
 first : (f : Finding) → HasFinding f → IsPiece 94 (first_text f)
 first f fits =
@@ -207,21 +196,15 @@ key (b ∷ bs) =
     record { is_plain = rw (nibble (b / 16), nibble (b % 16)) rest.is_plain; short = omega (arith, rest.short) }
 
 frame_fault : (f : FrameFault) → HasFrameFault f → IsPiece 29 (frame_words f)
-frame_fault NotData l = record { is_plain = refl; short = omega arith }
-frame_fault NoOrder l = record { is_plain = refl; short = omega arith }
-frame_fault Chain l = record { is_plain = refl; short = omega arith }
-frame_fault No1000 l = record { is_plain = refl; short = omega arith }
 frame_fault (Length exponent) l =
     within (two (word (codes "length ") refl) (count exponent (omega (arith, l)))) (omega arith)
-frame_fault Outside l = record { is_plain = refl; short = omega arith }
-frame_fault Version3 l = record { is_plain = refl; short = omega arith }
+frame_fault _ l = record { is_plain = refl; short = omega arith }
 
 stream_fault : (bytes : ℕ) (f : StreamFault) → IsFaultAfter bytes f → IsPiece 29 (fault_words f)
 stream_fault bytes (Frame offset f) l = frame_fault f l.1
 stream_fault bytes (Truncated offset have) l = two (word (codes "truncated ") refl) (count have l.1)
-stream_fault bytes (Read offset) l = record { is_plain = refl; short = omega arith }
-stream_fault bytes (Turns offset) l = record { is_plain = refl; short = omega arith }
 stream_fault bytes Memory l = absurd l
+stream_fault bytes _ l = record { is_plain = refl; short = omega arith }
 
 -- ---- whole lines
 -- up to 511 bytes without an LF, and an LF

@@ -66,8 +66,8 @@ module _ (a now next : Held) (es : Entries) (key : List ℕ) (c : Channel) (befo
       ∙ ap (λ (o : Option Channel). channel_joined (kept_of other a.channels)
       (option_map (moved_channel a.records a.bytes) o)) (sym (else_none (kept_of other es)))
 
-  pub one_more : IsJoint a (channels_alone (es ++ (key, c) ∷ [])) next
-  one_more = record {
+  pub channel_more : IsJoint a (channels_alone (es ++ (key, c) ∷ [])) next
+  channel_more = record {
     records = omega (arith, joint.records, same_records);
     bytes = omega (arith, joint.bytes, same_bytes);
     ascending = joint.ascending;

@@ -10,13 +10,13 @@ use Rattle.std.proofs.lemmas.List.Elements.{recursion_from_All}
 use Rattle.mseed_time.specs.Join.{join_of}
 use Rattle.mseed_time.specs.Rate.{Ratio}
 use Rattle.mseed_time.specs.declared.outcome.Join.{Join}
-use Rattle.mseed_time.specs.declared.outcome.Join.TheVariants.{Meets, Late, Early}
+use Rattle.mseed_time.specs.declared.outcome.Join.TheVariants.{Meets}
 use Rattle.mseed_record.specs.Header.{data_at}
 use Rattle.mseed_record.specs.View.{View, IsView, leap_of, payload_of, start_of}
 use Rattle.mseed_record.specs.declared.leap.Leap.{Leap}
-use Rattle.mseed_record.specs.declared.leap.Leap.TheVariants.{None as NoLeap, Positive, Negative, Both}
+use Rattle.mseed_record.specs.declared.leap.Leap.TheVariants.{Both}
 use Rattle.mseed_steim.specs.Frames.{DataWord, data_word, data_words, is_data, word_count, words_from}
-use Rattle.mseed_steim.specs.Reading.{IsFault, blockette_100, encoding, little_steim, data_offset, in_payload, count_of}
+use Rattle.mseed_steim.specs.Reading.{IsFault, encoding, in_payload, count_of}
 use Rattle.mseed_steim.specs.Samples.{IsSample, IsFrameFault, IsPayloadFault, short, bad_word, overflow, last_differs}
 use Rattle.mseed_steim.specs.declared.scheme.Scheme.{Scheme}
 use Rattle.mseed_steim.specs.declared.form.Form.{Form}
@@ -27,7 +27,7 @@ use Rattle.mseed_stream.proofs.Passed.{record_few}
 use Rattle.mseed_stream.proofs.Records.{view_record}
 use Rattle.mseed_audit.specs.declared.finding.Why.{Why}
 use Rattle.mseed_audit.specs.declared.finding.Why.TheVariants.{RateChange}
-use Rattle.mseed_audit.specs.Judging.{IsFound, time, rate, read, after, known_rate, step_in, why_after, why_by}
+use Rattle.mseed_audit.specs.Judging.{IsFound, read, after, known_rate, step_in, why_after, why_by}
 use Rattle.mseed_audit.specs.Judging.{why_from, why_of}
 use Rattle.mseed_join.specs.Lines.{HasReadFault, HasWhy, IsWord}
 use Rattle.mseed_join.proofs.Ranges.{AreOctets, JoinFits, count_small, join_fits, octets_of, rate_within, start_within}
@@ -95,11 +95,8 @@ payload_fault (Frames scheme) p n f octets small few is = frame_fault scheme p n
 
 -- why samples aren't read
 read_fault : (v : View) (f : ReadFault) → IsView v → IsFault v f → HasReadFault f
-read_fault v _ is (blockette_100 e) = tt
 read_fault v _ is (encoding e none) =
     omega (arith, is.1.1.1.encoding_is, octets_of v is (is.1.0 + 4))
-read_fault v _ is (little_steim e scheme some order) = tt
-read_fault v _ is (data_offset e form some readable none) = tt
 read_fault v f is (in_payload e form some readable has _ why) =
     let at : ℕ = data_at v.order v.bytes in
     let small : length (payload_of v) ≤ 2 ^ 20 =
@@ -107,18 +104,16 @@ read_fault v f is (in_payload e form some readable has _ why) =
     payload_fault form (payload_of v) (count_of v) f
     (λ i. subst (λ (n : ℕ). n < 256) (sym (get_or-drop at v.bytes i 0)) (octets_of v is (at + i))) small
     (count_small v is) why
+read_fault v _ is _ = tt
 
 -- ---- what is found after a record
 of_join : (j : Join) → JoinFits j → IfSome (why_of j) HasWhy
 of_join Meets h = tt
-of_join (Late us) h = h
-of_join (Early us) h = h
+of_join _ h = h
 
 by_leap : (leap : Leap) (j : Join) → JoinFits j → IfSome (why_by leap j) HasWhy
-by_leap NoLeap j h = of_join j h
-by_leap Positive j h = of_join j h
-by_leap Negative j h = of_join j h
 by_leap Both j h = tt
+by_leap _ j h = of_join j h
 
 by_rates : (b : Bool) (leap : Leap) (j : Join) → JoinFits j → IfSome (cond b (why_by leap j) (Some RateChange)) HasWhy
 by_rates true leap j h = by_leap leap j h
@@ -139,7 +134,6 @@ after_one (Some b) v next is at e = from_one b v (known_rate b) next is at refl 
 
 pub found_has : (before : Option View) (v : View) (o : Option Why) → IfSome before IsView → IsView v
     → IsFound before v o → IfSome o HasWhy
-found_has before v _ is at (time fault e) = tt
-found_has before v _ is at (rate e none) = tt
 found_has before v _ is at (read next e fault why) = read_fault v fault at why
 found_has before v _ is at (after next e samples whole) = after_one before v next is at e
+found_has before v _ is at _ = tt

@@ -39,8 +39,8 @@ use Rattle.mseed_join.specs.private.Passing.{past_count, past_findings, past_key
 use Rattle.mseed_join.specs.private.Passing.{past_word}
 use Rattle.mseed_join.proofs.Backwards.{digits_no_word, integer_no_word}
 use Rattle.mseed_join.proofs.Keys.{AreBytes}
-use Rattle.mseed_join.proofs.Spelled.{leading}
-use Rattle.mseed_join.proofs.PassedFields.{after_prefix, key_on, word_on, Passed, IsFew, AreSamples, AreFindings}
+use Rattle.mseed_join.proofs.Spelled.{IsFew, leading}
+use Rattle.mseed_join.proofs.PassedFields.{after_prefix, key_on, word_on, Passed, AreSamples, AreFindings}
 use Rattle.mseed_join.proofs.PassedFields.{IsField, count_field, start_field, rate_field, samples_field, leap_field}
 use Rattle.mseed_join.proofs.PassedFields.{findings_field, key_past, word_past}
 
@@ -202,6 +202,85 @@ module _ (line : List ℕ) (both : Bool) (m : Reached line (to_tail to_tail_leap
         inl (refl, λ g. never g.key g.channel g.has_line g.is),
       ))
 
+-- ---- a head or a tail, or `none` in its place
+-- where a line was reached, such a word stands, and what a channel's findings have
+record Group {X : Type 0} (Fits : X → Type 0) (get : Findings → Option X) (word none : List ℕ)
+    (last : X → List ℕ → List ℕ) : Type 0 where
+  fit : (f : Findings) → HasFindings f → IfSome (get f) Fits
+  spaced : (z : List ℕ) → ends_field (word ++ z) ≡ true
+  splits : (z : List ℕ) → none ++ z ≡ word ++ (codes "none" ++ z)
+  differs : (x : X) (z : List ℕ) → Fits x → past_word none (word ++ last x z) ≡ None
+
+abbrev reached_as : {line : List ℕ} {to : List ℕ → Channel → List ℕ → List ℕ} {Q R : Channel → Type 0}
+    → ((c : Channel) → Q c → R c) → Reached line to Q → Reached line to R
+reached_as also m = record {
+  good = m.good;
+  own = also m.good.channel m.own;
+  only = λ x rest fits ends is. let o = m.only x rest fits ends is in (o.0, also x.1 o.1);
+}
+
+module _ {X : Type 0} {Fits : X → Type 0} {get : Findings → Option X} {word none : List ℕ}
+    {last : X → List ℕ → List ℕ} (g : Group Fits get word none last) {line : List ℕ}
+    {to : List ℕ → Channel → List ℕ → List ℕ} {Q : Channel → Type 0} (m : Reached line to Q) where
+  abbrev To : (X → List ℕ → List ℕ) → List ℕ → Channel → List ℕ → List ℕ
+  To part key c rest = to key c (word ++ or_none part (get c.findings) rest)
+
+  at : (part : X → List ℕ → List ℕ) (x : List ℕ × Channel) (rest : List ℕ) → HasLine x → line ≡ To part x.0 x.1 rest
+      → (word ++ or_none part (get x.1.findings) rest ≡ m.good.rest) × Q x.1
+  at part x rest fits is = m.only x (word ++ or_none part (get x.1.findings) rest) fits (g.spaced _) is
+
+  -- where `none` stands there
+  abbrev reached_none : (r : List ℕ) → past_word none m.good.rest ≡ Some r → (good : BeginsAsChannel (To last) line)
+      → good.rest ≡ r → (is_some (get good.channel.findings) ≡ false) × Q good.channel
+      → Reached line (To last) (λ c. (is_some (get c.findings) ≡ false) × Q c)
+  reached_none r e good same own = record {
+    good = good;
+    own = own;
+    only = λ x rest fits ends is.
+        let a = at last x rest fits is in
+        let u = by (get x.1.findings) rest (g.fit x.1.findings fits.findings) ends a.0 in
+        (u.0 ∙ sym same, (u.1, a.1));
+  }
+    where
+      by : (o : Option X) (rest : List ℕ) → IfSome o Fits → ends_field rest ≡ true
+          → word ++ or_none last o rest ≡ m.good.rest → (rest ≡ r) × (is_some o ≡ false)
+      by None rest fits ends is = (
+        same_Some rest r (sym (word_on rest ends none) ∙ ap (past_word none) (g.splits rest ∙ is) ∙ e),
+        refl,
+      )
+      by (Some x) rest fits ends is = absurd (neither (past_word none m.good.rest) r
+          (ap (past_word none) (sym is) ∙ g.differs x rest fits) e)
+
+  -- and where it doesn't
+  module _ (lacks : past_word none m.good.rest ≡ None) where
+    of_some : (part : X → List ℕ → List ℕ) (o : Option X) (rest : List ℕ) → IfSome o Fits → ends_field rest ≡ true
+        → word ++ or_none part o rest ≡ m.good.rest
+        → (x : X) × ((o ≡ Some x) × (Fits x × (m.good.rest ≡ word ++ part x rest)))
+    of_some part None rest fits ends is = absurd (neither (past_word none m.good.rest) rest lacks
+        (ap (past_word none) (sym (g.splits rest ∙ is)) ∙ word_on rest ends none))
+    of_some part (Some x) rest fits ends is = (x, (refl, (fits, sym is)))
+
+    part_of : (part : X → List ℕ → List ℕ) → BeginsAsChannel (To part) line
+        → Begins Fits m.good.rest (λ x rest. word ++ part x rest)
+    part_of part b =
+        let f : Findings = b.channel.findings in
+        let h = of_some part (get f) b.rest (g.fit f b.has_line.findings) b.ends
+        (at part (b.key, b.channel) b.rest b.has_line b.is).0 in
+        record { x = h.0; fits = h.1.1.0; rest = b.rest; ends = b.ends; is = h.1.1.1 }
+
+    abbrev reached_some : (good : BeginsAsChannel (To last) line)
+        → (is_some (get good.channel.findings) ≡ true) × Q good.channel
+        → Only Fits m.good.rest (λ x rest. word ++ last x rest) good.rest
+        → Reached line (To last) (λ c. (is_some (get c.findings) ≡ true) × Q c)
+    reached_some good own only = record {
+      good = good;
+      own = own;
+      only = λ x rest fits ends is.
+          let a = at last x rest fits is in
+          let u = of_some last (get x.1.findings) rest (g.fit x.1.findings fits.findings) ends a.0 in
+          (only u.0 rest u.1.1.0 ends u.1.1.1, (ap is_some u.1.0, a.1));
+    }
+
 -- ---- the tail
 abbrev one : Ratio
 one = record { num = 1; den = 1 }
@@ -233,6 +312,14 @@ tail_fits start samples rate leap s n r = record { start = s; some = n.0; sample
 samples_one : AreSamples 1
 samples_one = (omega arith, omega arith)
 
+tail_group : Group HasTail tail_in (codes " tail ") (codes " tail none") to_tail_leap
+tail_group = record {
+  fit = λ f h. (ends_fit f h).1;
+  spaced = λ z. refl;
+  splits = λ z. refl;
+  differs = λ t z. tail_differs t _;
+}
+
 module _ (line : List ℕ) (has : Bool) (m : Reached line (to_head to_head_rate) (λ c. has_head c ≡ has))
     (never : (key : List ℕ) (c : Channel) → HasChannelLine key c → line ≢ channel_line key c) where
   abbrev bytes : List ℕ
@@ -253,129 +340,56 @@ module _ (line : List ℕ) (has : Bool) (m : Reached line (to_head to_head_rate)
       (findings_fit t fits) ends
       (m.good.is ∙ ap (λ (z : List ℕ). to_head to_head_rate m.good.key m.good.channel z) is)
 
-  at_tail : (part : Tail → List ℕ → List ℕ) (x : List ℕ × Channel) (rest : List ℕ) → HasLine x
-      → line ≡ to_tail part x.0 x.1 rest
-      → (codes " tail " ++ or_none part (tail_in x.1.findings) rest ≡ bytes) × (has_head x.1 ≡ has)
-  at_tail part x rest fits is = m.only x (codes " tail " ++ or_none part (tail_in x.1.findings) rest) fits refl is
-
-  no_tail : (r : List ℕ) → past_word (codes " tail none") bytes ≡ Some r
-      → IsFirstOf line (from_findings false r) (TailStart ∷ TailSamples ∷ TailRate ∷ TailLeap ∷ InFindings ∷ First ∷ [])
-  no_tail r e =
-      let w = word_past (codes " tail none") bytes r e in
-      let good : (part : Tail → List ℕ → List ℕ) → BeginsAsChannel (to_tail part) line =
-      λ part. good_tail part None tt r w.1 w.0 in
-      inr (
-        good to_tail_start,
-        inr (
-          good to_tail_samples,
-          inr (
-            good to_tail_rate,
-            inr (
-              good to_tail_leap,
-              first_from_findings line false reached never,
-            ),
-          ),
-        ),
-      )
-    where
-      by : (o : Option Tail) (rest : List ℕ) → IfSome o HasTail → ends_field rest ≡ true
-          → codes " tail " ++ or_none to_tail_leap o rest ≡ bytes → (rest ≡ r) × (is_some o ≡ false)
-      by None rest fits ends is = (
-        same_Some rest r (sym (word_on rest ends (codes " tail none"))
-            ∙ ap (λ (z : List ℕ). past_word (codes " tail none") z) is ∙ e),
-        refl,
-      )
-      by (Some t) rest fits ends is =
-          absurd (neither (past_word (codes " tail none") bytes) r
-          (ap (λ (z : List ℕ). past_word (codes " tail none") z) (sym is) ∙ tail_differs t _ fits) e)
-
-      reached : Reached line (to_tail to_tail_leap) (λ c. has_both c ≡ false)
-      reached =
-          let w = word_past (codes " tail none") bytes r e in record {
-            good = good_tail to_tail_leap None tt r w.1 w.0;
-            own = refl;
-            only = λ x rest fits ends is.
-                let there = by (tail_in x.1.findings) rest (ends_fit x.1.findings fits.findings).1 ends
-                (at_tail to_tail_leap x rest fits is).0 in
-                (there.0, ap (λ (b : Bool). b && has_head x.1) there.1);
-          }
-
-  some_tail : past_word (codes " tail none") bytes ≡ None
-      → IsFirstOf line (parts_of_tail has bytes) tail_fields
-  some_tail none =
-      step HasTail line bytes TailStart (TailSamples ∷ TailRate ∷ TailLeap ∷ InFindings ∷ First ∷ []) (λ t rest. rest)
-      bytes _ (start_field (codes " tail ")) (λ t. t.start) (λ t h. h.start) (λ z. refl)
-      (λ t rest fits ends is. sym is) (tail_of to_tail_start) (λ a s only1. (
-        good_tail to_tail_start (Some (tail s.x 1 one NoLeap)) (tail_fits s.x 1 one NoLeap s.fits samples_one rate_one)
-            a
-            s.ends s.is,
-        step HasTail line bytes TailSamples (TailRate ∷ TailLeap ∷ InFindings ∷ First ∷ [])
-            (λ t rest. codes " tail " ++ to_tail_start t rest) a _ samples_field (λ t. t.samples)
-            (λ t h. (h.some, h.samples)) (λ z. refl) only1 (tail_of to_tail_samples) (λ b n only2.
-            let is2 = s.is ∙ ap (λ (z : List ℕ). codes " tail " ++ (signed_decimal s.x ++ z)) n.is in (
-              good_tail to_tail_samples (Some (tail s.x n.x one NoLeap))
-                  (tail_fits s.x n.x one NoLeap s.fits n.fits rate_one) b n.ends is2,
-              step HasTail line bytes TailRate (TailLeap ∷ InFindings ∷ First ∷ [])
-                  (λ t rest. codes " tail " ++ to_tail_samples t rest) b _ rate_field (λ t. t.rate) (λ t h. h.rate)
-                  (λ z. refl) only2 (tail_of to_tail_rate) (λ c q only3.
-                  let is3 = is2 ∙ ap (λ (z : List ℕ). codes " tail " ++ to_tail_samples (tail s.x n.x q.x NoLeap) z)
-                  q.is
-                  in (
-                    good_tail to_tail_rate (Some (tail s.x n.x q.x NoLeap))
-                        (tail_fits s.x n.x q.x NoLeap s.fits n.fits q.fits) c q.ends is3,
-                    step HasTail line bytes TailLeap (InFindings ∷ First ∷ [])
-                        (λ t rest. codes " tail " ++ to_tail_rate t rest) c _ leap_field (λ t. t.leap) (λ t h. tt)
-                        (λ z. refl) only3 (tail_of to_tail_leap) (λ d l only4.
-                        let t : Tail = tail s.x n.x q.x l.x in
-                        let fits : HasTail t = tail_fits s.x n.x q.x l.x s.fits n.fits q.fits in
-                        let is4 = is3 ∙ ap (λ (z : List ℕ). codes " tail " ++ to_tail_rate t z) l.is in (
-                          good_tail to_tail_leap (Some t) fits d l.ends is4,
-                          first_from_findings line has (reached t fits d l.ends is4 only4) never,
-                        )),
-                  )),
-            )),
-      ))
-    where
-      of_some : (part : Tail → List ℕ → List ℕ) (o : Option Tail) (rest : List ℕ) → IfSome o HasTail
-          → ends_field rest ≡ true → codes " tail " ++ or_none part o rest ≡ bytes
-          → (t : Tail) × ((o ≡ Some t) × (HasTail t × (bytes ≡ codes " tail " ++ part t rest)))
-      of_some part None rest fits ends is =
-          absurd (neither (past_word (codes " tail none") bytes) rest none
-          (ap (λ (z : List ℕ). past_word (codes " tail none") z) (sym is) ∙ word_on rest ends (codes " tail none")))
-      of_some part (Some t) rest fits ends is = (t, (refl, (fits, sym is)))
-
-      tail_of : (part : Tail → List ℕ → List ℕ) → BeginsAsChannel (to_tail part) line
-          → Begins HasTail bytes (λ t rest. codes " tail " ++ part t rest)
-      tail_of part g =
-          let c : Channel = g.channel in
-          let t = of_some part (tail_in c.findings) g.rest (ends_fit c.findings g.has_line.findings).1 g.ends
-          (at_tail part (g.key, c) g.rest g.has_line g.is).0 in
-          record { x = t.0; fits = t.1.1.0; rest = g.rest; ends = g.ends; is = t.1.1.1 }
-
-      reached : (t : Tail) → HasTail t → (d : List ℕ) → ends_field d ≡ true
-          → bytes ≡ codes " tail " ++ to_tail_leap t d
-          → Only HasTail bytes (λ t rest. codes " tail " ++ to_tail_leap t rest) d
-          → Reached line (to_tail to_tail_leap) (λ c. has_both c ≡ has)
-      reached t fits d ends is only = record {
-        good = good_tail to_tail_leap (Some t) fits d ends is;
-        own = m.own;
-        only = λ x rest h end same.
-            let there = at_tail to_tail_leap x rest h same in
-            let u = of_some to_tail_leap (tail_in x.1.findings) rest
-            (ends_fit x.1.findings h.findings).1 end there.0 in (
-              only u.0 rest u.1.1.0 end u.1.1.1,
-              ap (λ (o : Option Tail). is_some o && has_head x.1) u.1.0 ∙ there.1,
-            );
-      }
-
   first_from_tail : IsFirstOf line (from_tail has bytes) tail_fields
   unfolding from_tail
   first_from_tail = by (past_word (codes " tail none") bytes) refl
     where
       by : (o : Option (List ℕ)) → past_word (codes " tail none") bytes ≡ o
           → IsFirstOf line (or_else o (from_findings false) (parts_of_tail has bytes)) tail_fields
-      by None e = some_tail e
-      by (Some r) e = no_tail r e
+      by None e =
+          step HasTail line bytes TailStart (TailSamples ∷ TailRate ∷ TailLeap ∷ InFindings ∷ First ∷ []) (λ t rest.
+          rest)
+          bytes _ (start_field (codes " tail ")) (λ t. t.start) (λ t h. h.start) (λ z. refl)
+          (λ t rest fits ends is. sym is) (part_of tail_group m e to_tail_start) (λ a s only1. (
+            good_tail to_tail_start (Some (tail s.x 1 one NoLeap)) (tail_fits s.x 1 one NoLeap s.fits samples_one
+                rate_one)
+                a
+                s.ends s.is,
+            step HasTail line bytes TailSamples (TailRate ∷ TailLeap ∷ InFindings ∷ First ∷ [])
+                (λ t rest. codes " tail " ++ to_tail_start t rest) a _ samples_field (λ t. t.samples)
+                (λ t h. (h.some, h.samples)) (λ z. refl) only1 (part_of tail_group m e to_tail_samples) (λ b n only2.
+                let is2 = s.is ∙ ap (λ (z : List ℕ). codes " tail " ++ (signed_decimal s.x ++ z)) n.is in (
+                  good_tail to_tail_samples (Some (tail s.x n.x one NoLeap))
+                      (tail_fits s.x n.x one NoLeap s.fits n.fits rate_one) b n.ends is2,
+                  step HasTail line bytes TailRate (TailLeap ∷ InFindings ∷ First ∷ [])
+                      (λ t rest. codes " tail " ++ to_tail_samples t rest) b _ rate_field (λ t. t.rate) (λ t h. h.rate)
+                      (λ z. refl) only2 (part_of tail_group m e to_tail_rate) (λ c q only3.
+                      let is3 = is2 ∙ ap (λ (z : List ℕ). codes " tail " ++ to_tail_samples (tail s.x n.x q.x NoLeap) z)
+                      q.is
+                      in (
+                        good_tail to_tail_rate (Some (tail s.x n.x q.x NoLeap))
+                            (tail_fits s.x n.x q.x NoLeap s.fits n.fits q.fits) c q.ends is3,
+                        step HasTail line bytes TailLeap (InFindings ∷ First ∷ [])
+                            (λ t rest. codes " tail " ++ to_tail_rate t rest) c _ leap_field (λ t. t.leap) (λ t h. tt)
+                            (λ z. refl) only3 (part_of tail_group m e to_tail_leap) (λ d l only4.
+                            let t : Tail = tail s.x n.x q.x l.x in
+                            let fits : HasTail t = tail_fits s.x n.x q.x l.x s.fits n.fits q.fits in
+                            let is4 = is3 ∙ ap (λ (z : List ℕ). codes " tail " ++ to_tail_rate t z) l.is in (
+                              good_tail to_tail_leap (Some t) fits d l.ends is4,
+                              first_from_findings line has (reached_as (λ c q i. q.0 i && q.1 i) (reached_some
+                                  tail_group m
+                                  e (good_tail to_tail_leap (Some t) fits d l.ends is4) (refl, m.own) only4)) never,
+                            )),
+                      )),
+                )),
+          ))
+      by (Some r) e =
+          let w = word_past (codes " tail none") bytes r e in
+          let good : (part : Tail → List ℕ → List ℕ) → BeginsAsChannel (to_tail part) line =
+          λ part. good_tail part None tt r w.1 w.0 in
+          let m2 = reached_none tail_group m r e (good to_tail_leap) refl (refl, m.own) in
+          let last = first_from_findings line false (reached_as (λ c q i. q.0 i && q.1 i) m2) never in
+          inr (good to_tail_start, inr (good to_tail_samples, inr (good to_tail_rate, inr (good to_tail_leap, last))))
 
 -- ---- the head
 head_differs : (h : Head) (z : List ℕ) → HasHead h
@@ -398,6 +412,14 @@ few_none = omega arith
 start_none : IsInstant (pos 0)
 start_none = (omega (arith, ints), omega (arith, ints))
 
+head_group : Group HasHead head_in (codes " head ") (codes " head none") to_head_rate
+head_group = record {
+  fit = λ f h. (ends_fit f h).0;
+  spaced = λ z. refl;
+  splits = λ z. refl;
+  differs = λ h z. head_differs h _;
+}
+
 module _ (line : List ℕ) (m : Reached line to_samples (λ c. Unit {0}))
     (never : (key : List ℕ) (c : Channel) → HasChannelLine key c → line ≢ channel_line key c) where
   abbrev left : List ℕ
@@ -417,121 +439,52 @@ module _ (line : List ℕ) (m : Reached line to_samples (λ c. Unit {0}))
       (findings_are h fits) ends
       (m.good.is ∙ ap (λ (z : List ℕ). to_samples m.good.key m.good.channel z) is)
 
-  at_head : (part : Head → List ℕ → List ℕ) (x : List ℕ × Channel) (rest : List ℕ) → HasLine x
-      → line ≡ to_head part x.0 x.1 rest → codes " head " ++ or_none part (head_in x.1.findings) rest ≡ left
-  at_head part x rest fits is =
-      (m.only x (codes " head " ++ or_none part (head_in x.1.findings) rest) fits refl is).0
-
-  no_head : (r : List ℕ) → past_word (codes " head none") left ≡ Some r
-      → IsFirstOf line (from_tail false r) head_fields
-  no_head r e =
-      let w = word_past (codes " head none") left r e in
-      let good : (part : Head → List ℕ → List ℕ) → BeginsAsChannel (to_head part) line =
-      λ part. good_head part None tt r w.1 w.0 in
-      inr (
-        good to_head_number,
-        inr (
-          good to_head_offset,
-          inr (
-            good to_head_start,
-            inr (
-              good to_head_rate,
-              first_from_tail line false reached never,
-            ),
-          ),
-        ),
-      )
-    where
-      by : (o : Option Head) (rest : List ℕ) → IfSome o HasHead → ends_field rest ≡ true
-          → codes " head " ++ or_none to_head_rate o rest ≡ left → (rest ≡ r) × (is_some o ≡ false)
-      by None rest fits ends is = (
-        same_Some rest r (sym (word_on rest ends (codes " head none"))
-            ∙ ap (λ (z : List ℕ). past_word (codes " head none") z) is ∙ e),
-        refl,
-      )
-      by (Some h) rest fits ends is =
-          absurd (neither (past_word (codes " head none") left) r
-          (ap (λ (z : List ℕ). past_word (codes " head none") z) (sym is) ∙ head_differs h _ fits) e)
-
-      reached : Reached line (to_head to_head_rate) (λ c. has_head c ≡ false)
-      reached =
-          let w = word_past (codes " head none") left r e in record {
-            good = good_head to_head_rate None tt r w.1 w.0;
-            own = refl;
-            only = λ x rest fits ends is.
-                by (head_in x.1.findings) rest (ends_fit x.1.findings fits.findings).0 ends
-                (at_head to_head_rate x rest fits is);
-          }
-
-  some_head : past_word (codes " head none") left ≡ None → IsFirstOf line (parts_of_head left) head_fields
-  some_head none =
-      step HasHead line left HeadNumber (HeadOffset ∷ HeadStart ∷ HeadRate ∷ tail_fields) (λ h rest. rest) left _
-      (count_field (codes " head ")) (λ h. h.number) (λ h l. l.number) (λ z. refl) (λ h rest fits ends is. sym is)
-      (head_of to_head_number) (λ a n only1. (
-        good_head to_head_number (Some (head n.x 0 (pos 0) one))
-            (head_fits n.x 0 (pos 0) one n.fits few_none start_none rate_one) a n.ends n.is,
-        step HasHead line left HeadOffset (HeadStart ∷ HeadRate ∷ tail_fields)
-            (λ h rest. codes " head " ++ to_head_number h rest) a _ (count_field (codes " ")) (λ h. h.offset)
-            (λ h l. l.offset) (λ z. refl) only1 (head_of to_head_offset) (λ b o only2.
-            let is2 = n.is ∙ ap (λ (z : List ℕ). codes " head " ++ (decimal n.x ++ z)) o.is in (
-              good_head to_head_offset (Some (head n.x o.x (pos 0) one))
-                  (head_fits n.x o.x (pos 0) one n.fits o.fits start_none rate_one) b o.ends is2,
-              step HasHead line left HeadStart (HeadRate ∷ tail_fields)
-                  (λ h rest. codes " head " ++ to_head_offset h rest) b _ (start_field (codes " ")) (λ h. h.start)
-                  (λ h l. l.start) (λ z. refl) only2 (head_of to_head_start) (λ c s only3.
-                  let is3 = is2 ∙ ap (λ (z : List ℕ). codes " head " ++ to_head_offset (head n.x o.x s.x one) z)
-                  s.is in (
-                    good_head to_head_start (Some (head n.x o.x s.x one))
-                        (head_fits n.x o.x s.x one n.fits o.fits s.fits rate_one) c s.ends is3,
-                    step HasHead line left HeadRate tail_fields (λ h rest. codes " head " ++ to_head_start h rest) c _
-                        rate_field (λ h. h.rate) (λ h l. l.rate) (λ z. refl) only3 (head_of to_head_rate) (λ d q only4.
-                        let h : Head = head n.x o.x s.x q.x in
-                        let fits : HasHead h = head_fits n.x o.x s.x q.x n.fits o.fits s.fits q.fits in
-                        let is4 = is3 ∙ ap (λ (z : List ℕ). codes " head " ++ to_head_start h z) q.is in (
-                          good_head to_head_rate (Some h) fits d q.ends is4,
-                          first_from_tail line true (reached h fits d q.ends is4 only4) never,
-                        )),
-                  )),
-            )),
-      ))
-    where
-      of_some : (part : Head → List ℕ → List ℕ) (o : Option Head) (rest : List ℕ) → IfSome o HasHead
-          → ends_field rest ≡ true → codes " head " ++ or_none part o rest ≡ left
-          → (h : Head) × ((o ≡ Some h) × (HasHead h × (left ≡ codes " head " ++ part h rest)))
-      of_some part None rest fits ends is =
-          absurd (neither (past_word (codes " head none") left) rest none
-          (ap (λ (z : List ℕ). past_word (codes " head none") z) (sym is) ∙ word_on rest ends (codes " head none")))
-      of_some part (Some h) rest fits ends is = (h, (refl, (fits, sym is)))
-
-      head_of : (part : Head → List ℕ → List ℕ) → BeginsAsChannel (to_head part) line
-          → Begins HasHead left (λ h rest. codes " head " ++ part h rest)
-      head_of part g =
-          let c : Channel = g.channel in
-          let h = of_some part (head_in c.findings) g.rest (ends_fit c.findings g.has_line.findings).0 g.ends
-          (at_head part (g.key, c) g.rest g.has_line g.is) in
-          record { x = h.0; fits = h.1.1.0; rest = g.rest; ends = g.ends; is = h.1.1.1 }
-
-      reached : (h : Head) → HasHead h → (d : List ℕ) → ends_field d ≡ true
-          → left ≡ codes " head " ++ to_head_rate h d
-          → Only HasHead left (λ h rest. codes " head " ++ to_head_rate h rest) d
-          → Reached line (to_head to_head_rate) (λ c. has_head c ≡ true)
-      reached h fits d ends is only = record {
-        good = good_head to_head_rate (Some h) fits d ends is;
-        own = refl;
-        only = λ x rest l end same.
-            let u = of_some to_head_rate (head_in x.1.findings) rest (ends_fit x.1.findings l.findings).0 end
-            (at_head to_head_rate x rest l same) in
-            (only u.0 rest u.1.1.0 end u.1.1.1, ap (λ (o : Option Head). is_some o) u.1.0);
-      }
-
   first_from_head : IsFirstOf line (from_head left) head_fields
   unfolding from_head
   first_from_head = by (past_word (codes " head none") left) refl
     where
       by : (o : Option (List ℕ)) → past_word (codes " head none") left ≡ o
           → IsFirstOf line (or_else o (from_tail false) (parts_of_head left)) head_fields
-      by None e = some_head e
-      by (Some r) e = no_head r e
+      by None e =
+          step HasHead line left HeadNumber (HeadOffset ∷ HeadStart ∷ HeadRate ∷ tail_fields) (λ h rest. rest) left _
+          (count_field (codes " head ")) (λ h. h.number) (λ h l. l.number) (λ z. refl) (λ h rest fits ends is. sym is)
+          (part_of head_group m e to_head_number) (λ a n only1. (
+            good_head to_head_number (Some (head n.x 0 (pos 0) one))
+                (head_fits n.x 0 (pos 0) one n.fits few_none start_none rate_one) a n.ends n.is,
+            step HasHead line left HeadOffset (HeadStart ∷ HeadRate ∷ tail_fields)
+                (λ h rest. codes " head " ++ to_head_number h rest) a _ (count_field (codes " ")) (λ h. h.offset)
+                (λ h l. l.offset) (λ z. refl) only1 (part_of head_group m e to_head_offset) (λ b o only2.
+                let is2 = n.is ∙ ap (λ (z : List ℕ). codes " head " ++ (decimal n.x ++ z)) o.is in (
+                  good_head to_head_offset (Some (head n.x o.x (pos 0) one))
+                      (head_fits n.x o.x (pos 0) one n.fits o.fits start_none rate_one) b o.ends is2,
+                  step HasHead line left HeadStart (HeadRate ∷ tail_fields)
+                      (λ h rest. codes " head " ++ to_head_offset h rest) b _ (start_field (codes " ")) (λ h. h.start)
+                      (λ h l. l.start) (λ z. refl) only2 (part_of head_group m e to_head_start) (λ c s only3.
+                      let is3 = is2 ∙ ap (λ (z : List ℕ). codes " head " ++ to_head_offset (head n.x o.x s.x one) z)
+                      s.is in (
+                        good_head to_head_start (Some (head n.x o.x s.x one))
+                            (head_fits n.x o.x s.x one n.fits o.fits s.fits rate_one) c s.ends is3,
+                        step HasHead line left HeadRate tail_fields (λ h rest. codes " head " ++ to_head_start h
+                            rest) c _
+                            rate_field (λ h. h.rate) (λ h l. l.rate) (λ z. refl) only3 (part_of head_group m e
+                            to_head_rate) (λ d q only4.
+                            let h : Head = head n.x o.x s.x q.x in
+                            let fits : HasHead h = head_fits n.x o.x s.x q.x n.fits o.fits s.fits q.fits in
+                            let is4 = is3 ∙ ap (λ (z : List ℕ). codes " head " ++ to_head_start h z) q.is in (
+                              good_head to_head_rate (Some h) fits d q.ends is4,
+                              first_from_tail line true (reached_as (λ c q. q.0) (reached_some head_group m e
+                                  (good_head to_head_rate (Some h) fits d q.ends is4) (refl, tt) only4)) never,
+                            )),
+                      )),
+                )),
+          ))
+      by (Some r) e =
+          let w = word_past (codes " head none") left r e in
+          let good : (part : Head → List ℕ → List ℕ) → BeginsAsChannel (to_head part) line =
+          λ part. good_head part None tt r w.1 w.0 in
+          let m2 = reached_none head_group m r e (good to_head_rate) refl (refl, tt) in
+          let last = first_from_tail line false (reached_as (λ c q. q.0) m2) never in
+          inr (good to_head_number, inr (good to_head_offset, inr (good to_head_start, inr (good to_head_rate, last))))
 
 -- ---- the first bad field
 abbrev pub NoChannel : List ℕ → Type 0

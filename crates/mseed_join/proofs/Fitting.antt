@@ -27,7 +27,7 @@ use Rattle.mseed_join.specs.Headline.{AreParted, EndsByBytes, IsReadOf, last, mo
 use Rattle.mseed_join.specs.Joined.{AreJoined, IsJointOf, IsNext, counted, counted_by, moved_fault, none, nothing, one}
 use Rattle.mseed_join.specs.Written.{Written}
 use Rattle.mseed_join.proofs.Cuts.{IsKnown, known, known_after, known_none, one_known}
-use Rattle.mseed_join.proofs.Merging.{JoinsChannel, JoinsCounts, JoinsNone, joint_of}
+use Rattle.mseed_join.proofs.Merging.{joint_of}
 use Rattle.mseed_join.proofs.Parting.{sizes}
 use Rattle.mseed_join.proofs.Pieces.{AddUp, IsSoFar, at_first, counted_last, further, of_nothing}
 use Rattle.mseed_join.proofs.Readable.{IsOne, count_of_key, has_channel, has_line, ones_of}
@@ -94,8 +94,6 @@ module _ (a w b : Held) (vs xs : List View) (p : IsPartOf a vs) (q : IsPartOf w 
 
   fits_at : (key : List ℕ) (c o : Option Channel) → kept_of key a.channels ≡ c → kept_of key w.channels ≡ o
       → FitsAt a.records a.bytes c o
-  fits_at key None None e f = tt
-  fits_at key (Some c) None e f = tt
   fits_at key None (Some o) e f =
       let line = moved_line key o f in
       let moves = findings_move a.records a.bytes o.findings line.findings in
@@ -108,6 +106,7 @@ module _ (a w b : Held) (vs xs : List View) (p : IsPartOf a vs) (q : IsPartOf w 
         (findings_move a.records a.bytes o.findings line.findings).0,
         counts_of key (channel_then c (moved_channel a.records a.bytes o)) joint,
       )
+  fits_at key _ None e f = tt
 
   fits_of : Fits a w
   fits_of = record {
@@ -123,12 +122,12 @@ views_of _ _ (last archive h p read by) = p.audited.views
 views_of _ _ (more archive others h p ws read end parted) = p.audited.views ++ views_of others ws parted
 
 -- ---- one more part
-module _ (add_up : AddUp) (first : JoinsNone) (joins : JoinsChannel) (counts : JoinsCounts) where
+module _ (add_up : AddUp) where
   next_of : (before : List ℕ) (a : Written) (h : BytesRead) (p : AuditedPart h) (so : IsSoFar before a)
       → length so.views + length p.audited.views < 2 ^ 40 → size_of so.views + size_of p.audited.views < 2 ^ 63
       → (b : Written) × IsNext a p.written b
   next_of before a h p so few small =
-      let joint = joint_of first joins counts a.part p.written.part so.part.ascending p.part.ascending in
+      let joint = joint_of a.part p.written.part so.part.ascending p.part.ascending in
       let whole : IsPartOf joint.0 (so.views ++ p.audited.views) =
       add_up a.part p.written.part joint.0 so.views p.audited.views so.part p.part joint.1 in (
         record {

@@ -40,10 +40,8 @@ own_found before v a why (by_after next known samples whole) h = cc (h)
 -- where nothing is, it is judged by the one before
 sound_found : (before : Option View) (v : View) (a : Option Why) (next : Ratio) → IsFound None v a → a ≡ None
     → known_rate v ≡ Some next → IsFound before v (why_after before v next)
-sound_found before v a next (by_time fault e) h is = cc (h)
-sound_found before v a next (by_rate e r) h is = cc (h)
-sound_found before v a next (by_read other known fault k) h is = cc (h)
 sound_found before v a next (by_after other known samples whole) h is = by_after next is samples whole
+sound_found before v a next _ h is = cc (h)
 
 -- the border says so of the record by which the next is judged
 border_is : (t : Tail) (b : View) (h : Head) (q : Placed) → IsTail t b → IsHead h q

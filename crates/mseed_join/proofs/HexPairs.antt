@@ -115,16 +115,14 @@ none_high (Some m) n done rest p e = absurd (cc e)
 
 none_low : (o : Option ℕ) (n : ℕ) (done rest : List ℕ) (p : Option ℕ) → p ≡ None
     → read_by n done rest o p ≡ None
-none_low None n done rest p e = refl
-none_low (Some m) n done rest None e = refl
 none_low (Some m) n done rest (Some k) e = absurd (cc e)
+none_low _ n done rest _ e = refl
 
 none_later : (o : Option ℕ) (n : ℕ) (done rest : List ℕ) (p : Option ℕ)
     → ((more : List ℕ) → bytes_at n more rest ≡ None)
     → read_by n done rest o p ≡ None
-none_later None n done rest p later = refl
-none_later (Some m) n done rest None later = refl
 none_later (Some m) n done rest (Some k) later = later (done ++ (16 * m + k) ∷ [])
+none_later _ n done rest _ later = refl
 
 pub no_digit : (n : ℕ) (done bytes : List ℕ) (k : ℕ) → k < n + n → k < length bytes
     → nibble_of (get_or bytes k 0) ≡ None → bytes_at n done bytes ≡ None
@@ -140,10 +138,9 @@ no_digit (suc n) done (h ∷ b ∷ rest) (suc (suc k)) l within e =
 -- too few bytes
 pub too_few : (n : ℕ) (done bytes : List ℕ) → length bytes < n + n → bytes_at n done bytes ≡ None
 too_few zero done bytes l = absurd (omega (arith, l))
-too_few (suc n) done [] l = refl
-too_few (suc n) done (h ∷ []) l = refl
 too_few (suc n) done (h ∷ b ∷ rest) l =
     none_later (nibble_of h) n done rest (nibble_of b) (λ more. too_few n more rest (omega (arith, l)))
+too_few (suc n) done _ l = refl
 
 -- ---- a key, four bytes at a time
 -- four more bytes are read

@@ -86,8 +86,6 @@ record IsByte (bytes : List ℕ) (x : ℕ × List ℕ) : Type 0 where
   small : x.0 < 2 ^ 8
 
 byte_spelled : (bytes : List ℕ) (x : ℕ × List ℕ) → byte_at bytes ≡ Some x → IsByte bytes x
-byte_spelled [] x e = absurd (cc e)
-byte_spelled (h ∷ []) x e = absurd (cc e)
 byte_spelled (h ∷ l ∷ rest) x e = by (nibble_of h) refl (nibble_of l) refl e
   where
     by : (a : Option ℕ) → nibble_of h ≡ a → (b : Option ℕ) → nibble_of l ≡ b
@@ -103,6 +101,7 @@ byte_spelled (h ∷ l ∷ rest) x e = by (nibble_of h) refl (nibble_of l) refl e
           is = (λ i. p.is i ∷ q.is i ∷ rest) ∙ (λ i. hex_digit (sym leading i) ∷ hex_digit (sym back i) ∷ rest);
           small = omega (arith, p.small, q.small);
         })
+byte_spelled _ x e = absurd (cc e)
 
 -- so many bytes after those that were there
 record AreMore (n : ℕ) (done bytes : List ℕ) (x : List ℕ × List ℕ) : Type 0 where

@@ -1,9 +1,9 @@
 -- What a reader of lines holds, as it reads more and passes lines.
 use Rattle.std.proofs.Common.{◌≡◌, ℕ, ◌+◌, ◌<◌, ◌≤◌, List, [], ◌++◌, length, take, drop, Bool, true, false, Option, Ok}
 use Rattle.std.proofs.Common.{refl, sym, ap, subst, ◌∙◌, arith, append_assoc, length-append, slice_range}
-use Rattle.std.proofs.Common.{take-append-drop, ⊎_elim, inl, inr, not, ◌&&◌, ◌||◌, ◌==◌, Result, Err}
+use Rattle.std.proofs.Common.{take-append-drop, inl, inr, not, ◌&&◌, ◌||◌, ◌==◌, Result, Err}
 use Rattle.std.specs.Prelude.{IsTrue}
-use Rattle.std.proofs.lemmas.Bool.{cases_lt, false≢true, or_right}
+use Rattle.std.proofs.lemmas.Bool.{false≢true, or_right}
 use Rattle.std.proofs.lemmas.Bool.Decides.{eqb_tells}
 use Rattle.std.proofs.lemmas.List.{append-nil, drop-append-le, drop-drop, length-take-le}
 use Rattle.std.proofs.lemmas.Slice.{between_is}
@@ -11,14 +11,15 @@ use Rattle.std.proofs.Math.Seq.{take-add}
 use Rattle.std.proofs.KnownBytes.{Consumes-nil, Consumes-trans}
 use Rattle.std.specs.Io.KnownBytes.{IsAtEnd}
 use Rattle.mseed_stream.specs.Calls.{ReadsOn}
-use Rattle.mseed_stream.specs.Device.{Beside, BytesRead}
+use Rattle.mseed_stream.specs.Device.{Beside, BytesRead, nothing_read}
 use Rattle.mseed_stream.specs.Fault.{IsStreamFault}
 use Rattle.mseed_stream.specs.declared.fault.StreamFault.{StreamFault}
-use Rattle.mseed_stream.specs.declared.fault.StreamFault.TheVariants.{Frame, Truncated, Read, Turns, Memory}
+use Rattle.mseed_stream.specs.declared.fault.StreamFault.TheVariants.{Frame, Read, Turns}
 use Rattle.mseed_join.specs.declared.line_reader.Ahead.{Ahead}
-use Rattle.mseed_join.specs.declared.line_reader.Ahead.TheVariants.{Line, TooLong, Unended, Nothing}
+use Rattle.mseed_join.specs.declared.line_reader.Ahead.TheVariants.{Unended, Nothing}
 use Rattle.mseed_join.specs.Joined.{AreLines}
-use Rattle.mseed_join.specs.private.LineReading.{LinesRead, Grows, IsReadBy, GoesOn, IfGoesOn, IsLineAhead, IsReadFault}
+use Rattle.mseed_join.specs.private.LineReading.{LinesRead, Grows, GrowsTo, IsReadBy}
+use Rattle.mseed_join.specs.private.LineReading.{GoesOn, IfGoesOn, IsLineAhead, IsReadFault}
 use Rattle.mseed_join.proofs.LineEnds.{lines_more}
 
 -- n bytes more after those that are held
@@ -42,21 +43,6 @@ held_parts items begin size end =
     ∙ (drop-drop size begin (take end items) ∙ sym (between_is items (begin + size) end)) in
     sym (take-append-drop size held) ∙ ap (λ (xs : List ℕ). take size held ++ xs) rest
 
--- what is held grows so where there was other room
-pub grows_after : (old new : BytesRead) (left rest : Option (List ℕ)) (roomy r after : LinesRead) (room : ℕ)
-    → roomy ≡ record r { room = room } → Grows old new left rest roomy after → Grows old new left rest r after
-grows_after old new left rest roomy r after room is grows = record {
-  more = grows.more;
-  called = grows.called;
-  reported = grows.reported;
-  known = grows.known;
-  held = grows.held ∙ ap (λ (s : LinesRead). s.held ++ grows.more) is;
-  lines = grows.lines ∙ ap (λ (s : LinesRead). s.lines) is;
-  bytes = grows.bytes ∙ ap (λ (s : LinesRead). s.bytes + length grows.more) is;
-  calls = grows.calls;
-  reads = grows.reads ∙ ap (λ (s : LinesRead). s.reads + grows.called) is;
-}
-
 pub grows_not : (h : BytesRead) (left : Option (List ℕ)) (r : LinesRead) → Grows h h left left r r
 grows_not h left r = record {
   more = [];
@@ -70,87 +56,54 @@ grows_not h left r = record {
   reads = omega arith;
 }
 
-pub grows_on : (a b c : BytesRead) (x y z : Option (List ℕ)) (r s t : LinesRead) → Grows a b x y r s
-    → Grows b c y z s t → Grows a c x z r t
-grows_on a b c x y z r s t first then = record {
+-- what was read by then, and what is read next
+pub grows_on : {a b c : BytesRead} {x y z : Option (List ℕ)} {p q s : List ℕ} {i j k l m n u v w : ℕ}
+    → GrowsTo a b x y p q i j k l m n → GrowsTo b c y z q s l m n u v w → GrowsTo a c x z p s i j k u v w
+grows_on {a} {b} {c} {x} {y} {z} {p} first then = record {
   more = first.more ++ then.more;
   called = first.called + then.called;
   reported = then.reported ∙ (ap (λ (xs : List ℕ). xs ++ then.more) first.reported
       ∙ append_assoc a.bytes first.more then.more);
   known = Consumes-trans x y z first.more then.more first.known then.known;
-  held = then.held ∙ (ap (λ (xs : List ℕ). xs ++ then.more) first.held ∙ append_assoc r.held first.more then.more);
+  held = then.held ∙ (ap (λ (xs : List ℕ). xs ++ then.more) first.held ∙ append_assoc p first.more then.more);
   lines = then.lines ∙ first.lines;
   bytes = omega (arith, then.bytes, first.bytes, length-append first.more then.more);
   calls = omega (arith, then.calls, first.calls);
   reads = omega (arith, then.reads, first.reads);
 }
 
--- another line is found
-pub grows_seen : (a b : BytesRead) (x y : Option (List ℕ)) (r s t : LinesRead) (n : ℕ) → t ≡ record s { size = n }
-    → Grows a b x y r s → Grows a b x y r t
-grows_seen a b x y r s t n same grows =
-    let seen : LinesRead = record s { size = n } in
-    let it : Grows a b x y r seen = record {
-      more = grows.more;
-      called = grows.called;
-      reported = grows.reported;
-      known = grows.known;
-      held = grows.held;
-      lines = grows.lines;
-      bytes = grows.bytes;
-      calls = grows.calls;
-      reads = grows.reads;
-    } in
-    subst (λ (u : LinesRead). Grows a b x y r u) (sym same) it
-
--- what was read by then, another line found, and what is read next
-pub grows_through : (a b c : BytesRead) (x y z : Option (List ℕ)) (r s t u : LinesRead) (n : ℕ)
-    → t ≡ record s { size = n } → Grows a b x y r s → Grows b c y z t u → Grows a c x z r u
-grows_through a b c x y z r s t u n same first then =
-    grows_on a b c x y z r t u (grows_seen a b x y r s t n same first) then
-
-pub read_by_more : (start old new : BytesRead) (left rest : Option (List ℕ)) (r after : LinesRead)
-    → Grows old new left rest r after → IsReadBy start old r → IsReadBy start new after
-read_by_more start old new left rest r after grows is = record {
+abbrev pub read_by_more : {old new : BytesRead} {left rest : Option (List ℕ)} {r after : LinesRead}
+    → Grows old new left rest r after → IsReadBy old r → IsReadBy new after
+read_by_more {r = r} grows is = record {
   passed = is.passed;
-  reported = grows.reported ∙ (ap (λ (xs : List ℕ). xs ++ grows.more) is.reported
-      ∙ (append_assoc (start.bytes ++ is.passed) r.held grows.more
-      ∙ ap (λ (xs : List ℕ). start.bytes ++ is.passed ++ xs) (sym grows.held)));
+  reported = grows.reported ∙ ap (λ (xs : List ℕ). xs ++ grows.more) is.reported
+      ∙ append_assoc is.passed r.held grows.more ∙ ap (λ (xs : List ℕ). is.passed ++ xs) (sym grows.held);
   lines = subst (λ (n : ℕ). AreLines is.passed n) (sym grows.lines) is.lines;
-  bytes = omega (
-    arith,
-    grows.bytes,
-    is.bytes,
-    ap (λ (xs : List ℕ). length xs) grows.held,
-    length-append r.held grows.more,
-  );
+  bytes = omega (arith, grows.bytes, is.bytes, ap length grows.held, length-append r.held grows.more);
   calls = omega (arith, grows.calls, grows.reads, is.calls);
 }
 
-pub read_by_passed : (start now : BytesRead) (r after : LinesRead) → IsLineAhead r.size r.held
-    → r.held ≡ take r.size r.held ++ after.held → after.lines ≡ r.lines + 1 → after.bytes ≡ r.bytes
-    → after.reads ≡ r.reads → IsReadBy start now r → IsReadBy start now after
-read_by_passed start now r after ahead held lines bytes reads is =
+abbrev pub read_by_passed : {now : BytesRead} {r after : LinesRead} → IsLineAhead r.size r.held
+    → r.held ≡ take r.size r.held ++ after.held → after.lines ≡ r.lines + 1
+    → (after.bytes ≡ r.bytes) × (after.reads ≡ r.reads) → IsReadBy now r → IsReadBy now after
+read_by_passed {r = r} {after = after} ahead held lines counts is =
     let line : List ℕ = take r.size r.held in
-    let body : List ℕ = ahead.line.0 in
     let more : AreLines (is.passed ++ line) (r.lines + 1) =
-    subst (λ (xs : List ℕ). AreLines (is.passed ++ xs) (r.lines + 1)) (sym ahead.line.2)
-    (lines_more body ahead.line.1 is.passed r.lines is.lines) in
+    rw ahead.line.2 (lines_more ahead.line.0 ahead.line.1 is.passed r.lines is.lines) in
     record {
       passed = is.passed ++ line;
-      reported = is.reported ∙ (ap (λ (xs : List ℕ). start.bytes ++ is.passed ++ xs) held
-          ∙ (sym (append_assoc (start.bytes ++ is.passed) line after.held)
-          ∙ ap (λ (xs : List ℕ). xs ++ after.held) (append_assoc start.bytes is.passed line)));
-      lines = subst (λ (n : ℕ). AreLines (is.passed ++ line) n) (sym lines) more;
+      reported = is.reported ∙ ap (λ (xs : List ℕ). is.passed ++ xs) held
+          ∙ sym (append_assoc is.passed line after.held);
+      lines = rw lines more;
       bytes = omega (
         arith,
-        bytes,
+        counts.0,
         is.bytes,
-        ap (λ (xs : List ℕ). length xs) held,
+        ap length held,
         length-append line after.held,
         length-append is.passed line,
       );
-      calls = omega (arith, is.calls, reads);
+      calls = is.calls ∙ sym counts.1;
     }
 
 -- nothing read, where there was room, is the end
@@ -175,83 +128,43 @@ pub failed_before : {E : Type 0} (b : Bool) (e : E) → (IsTrue b → ◌≡◌ 
 failed_before true e silent = absurd (cc (silent refl))
 failed_before false e silent = refl
 
--- what holds of a source that wasn't called holds still, and one that was called gave no end
-pub not_at_end : (old new : BytesRead) (r after : LinesRead) (left rest : Option (List ℕ))
-    → Grows old new left rest r after → (after.reads ≡ r.reads → new ≡ old)
-    → (r.reads < after.reads → new.is_at_end ≡ false) → (0 < r.reads → old.is_at_end ≡ false)
-    → 0 < after.reads → new.is_at_end ≡ false
-not_at_end old new r after left rest grows still going before some =
-    ⊎_elim (λ (called : r.reads < after.reads). going called)
-    (λ (none : after.reads ≤ r.reads).
-    let same : after.reads ≡ r.reads = omega (arith, none, grows.reads) in
-    ap (λ (h : BytesRead). h.is_at_end) (still same) ∙ before (omega (arith, same, some)))
-    (cases_lt r.reads after.reads)
-
-pub no_end_yet : (old new : BytesRead) (r after : LinesRead) (left rest : Option (List ℕ))
-    → Grows old new left rest r after → (after.reads ≡ r.reads → new ≡ old)
-    → (r.reads < after.reads → new.is_at_end ≡ false) → old.is_at_end ≡ false → new.is_at_end ≡ false
-no_end_yet old new r after left rest grows still going before =
-    ⊎_elim (λ (called : r.reads < after.reads). going called)
-    (λ (none : after.reads ≤ r.reads).
-    let same : after.reads ≡ r.reads = omega (arith, none, grows.reads) in
-    ap (λ (h : BytesRead). h.is_at_end) (still same) ∙ before)
-    (cases_lt r.reads after.reads)
-
-pub goes_on_more : (start old new : BytesRead) (r after : LinesRead) (left rest : Option (List ℕ))
-    → Grows old new left rest r after → (after.reads ≡ r.reads → new ≡ old)
-    → (r.reads < after.reads → new.is_at_end ≡ false) → new.failures ≡ old.failures → GoesOn start old r
-    → GoesOn start new after
-goes_on_more start old new r after left rest grows still going fine goes = record {
-  failures = fine ∙ goes.failures;
-  is_at_end = not_at_end old new r after left rest grows still going goes.is_at_end;
-}
-
 -- a read that failed gave no end
 pub no_end_by : (e : StreamFault) (after : LinesRead) (old new : BytesRead) → IsReadFault e after old new
-    → old.is_at_end ≡ false → new.is_at_end ≡ false
-no_end_by (Frame n f) after old new fault before = absurd fault
-no_end_by (Truncated n have) after old new fault before = absurd fault
-no_end_by (Read n) after old new fault before = fault.2
-no_end_by (Turns n) after old new fault before = ap (λ (h : BytesRead). h.is_at_end) fault.2 ∙ before
-no_end_by Memory after old new fault before = absurd fault
+    → GoesOn old → new.is_at_end ≡ false
+no_end_by (Read n) after old new fault goes = fault.2
+no_end_by (Turns n) after old new fault goes = ap (λ (h : BytesRead). h.is_at_end) fault.2 ∙ goes.is_at_end
+no_end_by _ after old new fault goes = absurd fault
 
 -- what the source is known to have left is what was read of it, up to its end
-pub reads_to : (old new : BytesRead) (left rest : Option (List ℕ)) (r after : LinesRead) (x y : Beside)
-    → Grows old new left rest r after → (new.is_at_end ≡ true → IsAtEnd rest) → y ≡ x → ReadsOn old new left rest x y
-reads_to old new left rest r after x y grows known beside =
+pub reads_to : {old new : BytesRead} {left rest : Option (List ℕ)} {p q : List ℕ} {i j k l m n : ℕ} {x y : Beside}
+    → GrowsTo old new left rest p q i j k l m n → (new.is_at_end ≡ true → IsAtEnd rest) → y ≡ x
+    → ReadsOn old new left rest x y
+reads_to grows known beside =
     record { more = (grows.more, grows.reported, grows.known); known = known; beside = beside }
 
 -- or not yet to its end
-pub reads_so_far : (old new : BytesRead) (left rest : Option (List ℕ)) (r after : LinesRead) (x y : Beside)
-    → Grows old new left rest r after → new.is_at_end ≡ false → y ≡ x → ReadsOn old new left rest x y
-reads_so_far old new left rest r after x y grows goes_on beside =
-    reads_to old new left rest r after x y grows (λ end. absurd (false≢true (sym goes_on ∙ end))) beside
+pub reads_so_far : {old new : BytesRead} {left rest : Option (List ℕ)} {p q : List ℕ} {i j k l m n : ℕ} {x y : Beside}
+    → GrowsTo old new left rest p q i j k l m n → new.is_at_end ≡ false → y ≡ x → ReadsOn old new left rest x y
+reads_so_far grows goes_on beside = reads_to grows (λ end. absurd (false≢true (sym goes_on ∙ end))) beside
 
 pub if_it_does : (a : Ahead) (X : Type 0) → X → IfGoesOn (Ok a) X
-if_it_does Line X x = x
-if_it_does TooLong X x = x
 if_it_does Unended X x = tt
 if_it_does Nothing X x = tt
+if_it_does _ X x = x
 
 -- the fault of one read is that of all
-pub fault_since : (e : StreamFault) (start old new : BytesRead) (r after : LinesRead) → IsReadFault e after old new
-    → IsReadBy start new after → old.failures ≡ start.failures → (0 < r.reads → old.is_at_end ≡ false)
-    → (new ≡ old → after.reads ≡ r.reads) → IsStreamFault e start new
-fault_since (Frame n f) start old new r after fault is fine going same = fault
-fault_since (Truncated n have) start old new r after fault is fine going same = fault
-fault_since (Read n) start old new r after fault is fine going same =
-    let reported : length new.bytes ≡ length (start.bytes ++ is.passed) + length after.held =
-    ap (λ (xs : List ℕ). length xs) is.reported ∙ length-append (start.bytes ++ is.passed) after.held in (
-      omega (arith, reported, length-append start.bytes is.passed, is.bytes, fault.0),
-      omega (arith, fault.1, fine),
-      fault.2,
-    )
-fault_since (Turns n) start old new r after fault is fine going same =
-    let reported : length new.bytes ≡ length (start.bytes ++ is.passed) + length after.held =
-    ap (λ (xs : List ℕ). length xs) is.reported ∙ length-append (start.bytes ++ is.passed) after.held in (
-      omega (arith, reported, length-append start.bytes is.passed, is.bytes, fault.0),
-      ap (λ (h : BytesRead). h.failures) fault.2 ∙ fine,
-      omega (arith, is.calls, fault.1),
-      ap (λ (h : BytesRead). h.is_at_end) fault.2 ∙ going (omega (arith, same fault.2, fault.1)),
-    )
-fault_since Memory start old new r after fault is fine going same = absurd fault
+pub fault_since : (e : StreamFault) (old new : BytesRead) (after : LinesRead) → IsReadFault e after old new
+    → IsReadBy new after → GoesOn old → IsStreamFault e nothing_read new
+fault_since (Read n) old new after fault is goes = (
+  omega (arith, ap length is.reported, length-append is.passed after.held, is.bytes, fault.0),
+  omega (arith, fault.1, goes.failures),
+  fault.2,
+)
+fault_since (Turns n) old new after fault is goes = (
+  omega (arith, ap length is.reported, length-append is.passed after.held, is.bytes, fault.0),
+  ap (λ (h : BytesRead). h.failures) fault.2 ∙ goes.failures,
+  omega (arith, is.calls, fault.1),
+  ap (λ (h : BytesRead). h.is_at_end) fault.2 ∙ goes.is_at_end,
+)
+fault_since (Frame n f) old new after fault is goes = absurd fault
+fault_since _ old new after fault is goes = absurd fault

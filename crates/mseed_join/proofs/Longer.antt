@@ -33,10 +33,9 @@ version3_long (x ∷ y ∷ z ∷ rest) e = omega arith
 by_exponent : (low short long wide : Bool) (e k : ℕ) (f : FrameFault)
     → cond low (Not (Length e)) (cond short (Not Outside) (cond long (Need k) (Record k))) ≡ Not f
     → cond low (Not (Length e)) (cond short (Not Outside) (cond wide (Need k) (Record k))) ≡ Not f
-by_exponent true short long wide e k f h = h
-by_exponent false true long wide e k f h = h
 by_exponent false false true wide e k f h = cc h
 by_exponent false false false wide e k f h = cc h
+by_exponent _ _ long wide e k f h = h
 
 at_1000_more : (prefix more : List ℕ) (o : ℕ) (f : FrameFault) → o + 8 ≤ length prefix → at_1000 prefix o ≡ Not f
     → at_1000 (prefix ++ more) o ≡ Not f
@@ -62,12 +61,10 @@ by_offset : (none back four other eight far off wide : Bool) (k n : ℕ) (x y : 
     (cond wide (Some (Need n)) (Some y))))) ≡ Some (Not f)
 by_offset true back four other eight far off wide k n x y f p q r s h = h
 by_offset false true four other eight far off wide k n x y f p q r s h = h
-by_offset false false true other eight far off wide k n x y f p q r s h = cc h
-by_offset false false false true eight far off wide k n x y f p q r s h = cc h
-by_offset false false false false true far off wide k n x y f p q r s h = cc h
 by_offset false false false false false far off wide k n x y f p q r s h =
     (λ i. cond (p refl i) (Some (Need k)) (cond (q refl i) None (cond (r refl i) (Some (Need n)) (Some y))))
     ∙ ap (λ (z : Scan). Some z) (s refl (same_Some x (Not f) h))
+by_offset false false _ _ _ far off wide k n x y f p q r s h = cc h
 
 -- what has so many bytes has them with more after
 still : (n m k : ℕ) → n ≤ m → ltb n k ≡ false → ltb m k ≡ false

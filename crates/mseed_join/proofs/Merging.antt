@@ -12,8 +12,9 @@ use Rattle.mseed_audit.specs.Channels.{same_key}
 use Rattle.mseed_audit.proofs.ByKey.{insert_ascends, kept_insert}
 use Rattle.mseed_audit.proofs.Maps.{same_back, same_itself}
 use Rattle.mseed_join.specs.Joining.{channel_then, moved_channel}
-use Rattle.mseed_join.specs.Parts.{Held, IsAscending, IsJoint, channels_alone, counts_alone, kept_of, one_channel}
+use Rattle.mseed_join.specs.Parts.{Held, IsAscending, IsJoint, channels_alone, kept_of, one_channel}
 use Rattle.mseed_join.proofs.Adding.{Entries, HasAt, held, joined_none, new_joined, there_joined}
+use Rattle.mseed_join.proofs.Extended.{channel_more, none_joined, with_counts}
 use Rattle.mseed_join.proofs.Turns.{past_head}
 
 -- with an entry in its place
@@ -73,39 +74,26 @@ absent (d ∷ done) x rest s =
         (some_in done x rest))
     by false e none = none
 
--- the laws of channels that are joined in turn
-abbrev pub JoinsNone : Type 0
-JoinsNone = (a : Held) → IsAscending a.channels → IsJoint a (channels_alone []) a
-
-abbrev pub JoinsChannel : Type 0
-JoinsChannel = (a now next : Held) (channels : List (List ℕ × Channel)) (key : List ℕ) (c : Channel)
-    → IsJoint a (channels_alone channels) now → kept_of key channels ≡ None → IsJoint now (one_channel key c) next
-    → IsJoint a (channels_alone (channels ++ (key, c) ∷ [])) next
-
-abbrev pub JoinsCounts : Type 0
-JoinsCounts = (a b now h : Held) → IsJoint a (channels_alone b.channels) now
-    → IsJoint now (counts_alone b.records b.bytes) h → IsJoint a b h
-
-all_joined : JoinsChannel → (a now : Held) (done rest : Entries) → IsAscending (done ++ rest)
+all_joined : (a now : Held) (done rest : Entries) → IsAscending (done ++ rest)
     → IsJoint a (channels_alone done) now → (h : Held) × IsJoint a (channels_alone (done ++ rest)) h
-all_joined joins a now done [] s j =
+all_joined a now done [] s j =
     (now, subst (λ (es : Entries). IsJoint a (channels_alone es) now) (sym (append-nil done)) j)
-all_joined joins a now done (x ∷ rest) s j =
+all_joined a now done (x ∷ rest) s j =
     let more = one_more now x.0 x.1 j.ascending in
     let here : IsJoint a (channels_alone (done ++ x ∷ [])) more.next =
-    joins a now more.next done x.0 x.1 j (absent done x rest s) more.joint in
+    channel_more a now more.next done x.0 x.1 j (absent done x rest s) more.joint in
     let same : (done ++ x ∷ []) ++ rest ≡ done ++ x ∷ rest = append_assoc done (x ∷ []) rest in
     subst (λ (es : Entries). (h : Held) × IsJoint a (channels_alone es) h) same
-    (all_joined joins a more.next (done ++ x ∷ []) rest (subst IsAscending (sym same) s) here)
+    (all_joined a more.next (done ++ x ∷ []) rest (subst IsAscending (sym same) s) here)
 
-pub joint_of : JoinsNone → JoinsChannel → JoinsCounts → (a b : Held) → IsAscending a.channels → IsAscending b.channels
+pub joint_of : (a b : Held) → IsAscending a.channels → IsAscending b.channels
     → (h : Held) × IsJoint a b h
-joint_of first joins last a b s t =
-    let all = all_joined joins a a [] b.channels t (first a s) in
+joint_of a b s t =
+    let all = all_joined a a [] b.channels t (none_joined a s) in
     let now : Held = all.0 in
     let h : Held = held now.channels (now.records + b.records) (now.bytes + b.bytes) in (
       h,
-      last a b now h all.1 (record {
+      with_counts a b now h all.1 (record {
         records = refl;
         bytes = refl;
         ascending = all.1.ascending;

@@ -84,8 +84,7 @@ border_in key c (Some o) = border_notices (border_at key (head_in o.findings) (b
 same_start : (key : List ℕ) (d e : ℕ) (h : Option Head) (found : Option Finding)
     → border_at key (option_map (moved_head d e) h) found ≡ border_at key h found
 same_start key d e None found = refl
-same_start key d e (Some h) None = refl
-same_start key d e (Some h) (Some f) = refl
+same_start key d e _ _ = refl
 
 pub border_is_in : (key : List ℕ) (a : Held) (o : Option Channel) (c : Channel) → o ≡ Some c
     → border_in key (kept_of key a.channels) (option_map (moved_channel a.records a.bytes) o)

@@ -22,11 +22,11 @@ use Rattle.mseed_join.proofs.Ended.{plain_from, same_line, within_line}
 
 -- ---- a whole line
 -- it can stand there
-record Stands (last : OpenPart) (line : List ℕ) : Type 0 where
-  x : Line
-  is_line : IsLine x
-  may : May last x
-  text : text_of_line x ≡ line
+pub record Stands (last : OpenPart) (line : List ℕ) : Type 0 where
+  pub x : Line
+  pub is_line : IsLine x
+  pub may : May last x
+  pub text : text_of_line x ≡ line
 
 -- its channel is out of order
 record IsDisordered (channels : List (List ℕ × Channel)) (key line : List ℕ) : Type 0 where
@@ -56,9 +56,8 @@ Told f (begun channels) line =
 Told f (whole w) line = ((f ≡ Ending (begun_as line)) × IsNoEnding w line) ⊎ ((f ≡ Limit) × Stands (whole w) line)
 
 stands_told : (last : OpenPart) (line : List ℕ) → Stands last line → Told Limit last line
-stands_told none line s = inr (refl, s)
 stands_told (begun channels) line s = inr (inr (refl, s))
-stands_told (whole w) line s = inr (refl, s)
+stands_told _ line s = inr (refl, s)
 
 told : (f : Flaw) (last : OpenPart) (line : List ℕ) → IsFlawOf f last line → Told f last line
 told _ _ _ (IsFlawOf.beginning line other) = inl (refl, other)
@@ -99,6 +98,17 @@ no_ending w line e s = by s.x s.is_line (onward (whole w) s.x s.may) s.text
     by _ i (Onward.follows _) t = e.other (sym t)
     by _ i (Onward.passes _ n m) t = e.faults m n i (sym t)
     by _ i (Onward.ends _ l f m) t = e.fault f (subst (λ (n : ℕ). HasFaultLine n f) (sym m) i) (sym t)
+
+pub flaw_stands : (f : Flaw) (last : OpenPart) (line : List ℕ) → IsFlawOf f last line → f ≢ Limit → Stands last line
+    → ⊥
+flaw_stands _ _ _ (IsFlawOf.beginning line other) never s = no_beginning line other s
+flaw_stands _ _ _ (IsFlawOf.row channels line field no_channel no_counts first) never s =
+    no_row channels field line (record { channel = no_channel; counts = no_counts; first = first }) s
+flaw_stands _ _ _ (IsFlawOf.order channels key c line fits is ascends) never s =
+    no_order channels key line (record { c = c; fits = fits; is = is; never = ascends }) s
+flaw_stands _ _ _ (IsFlawOf.ending w line other no_fault no_faults) never s =
+    no_ending w line (record { other = other; fault = no_fault; faults = no_faults }) s
+flaw_stands _ _ _ (IsFlawOf.limit last x line is_line may text) never s = never refl
 
 one_key : (channels : List (List ℕ × Channel)) (key other line : List ℕ) → IsDisordered channels key line
     → IsDisordered channels other line → key ≡ other

@@ -21,22 +21,14 @@ pub data Onward : OpenPart → Line → Type 0 where
   passes : (w : Written) (n : ℕ) → w.faults ≡ 0 → Onward (whole w) (faults n)
   ends : (w : Written) (l : ℕ) (f : StreamFault) → w.part.bytes ≡ l → Onward (whole w) (fault l f)
 
-pub onward : (b : OpenPart) (x : Line) → May b x → Onward b x
+abbrev pub onward : (b : OpenPart) (x : Line) → May b x → Onward b x
 onward none header m = Onward.opens
-onward none (channel key c) m = absurd m
-onward none (counts n l) m = absurd m
-onward none (faults n) m = absurd m
-onward none (fault l f) m = absurd m
-onward (begun cs) header m = absurd m
 onward (begun cs) (channel key c) m = Onward.row cs key c m
 onward (begun cs) (counts n l) m = Onward.sums cs n l
-onward (begun cs) (faults n) m = absurd m
-onward (begun cs) (fault l f) m = absurd m
 onward (whole w) header m = Onward.follows w
-onward (whole w) (channel key c) m = absurd m
-onward (whole w) (counts n l) m = absurd m
 onward (whole w) (faults n) m = Onward.passes w n m
 onward (whole w) (fault l f) m = Onward.ends w l f m
+onward _ _ m = absurd m
 
 -- what a joint part knows of where they are
 pub data Standing : Place → OpenPart → Type 0 where
@@ -48,11 +40,10 @@ pub data Standing : Place → OpenPart → Type 0 where
 
 pub standing : (place : Place) (b : OpenPart) → IsPlace place b → Standing place b
 standing Start none p = Standing.starts
-standing Start (begun cs) p = absurd p
-standing Start (whole w) p = absurd p
-standing (Channels last) none p = absurd p
 standing (Channels last) (begun cs) p = Standing.rows last cs p
-standing (Channels last) (whole w) p = absurd p
-standing (Whole bytes has) none p = absurd p
-standing (Whole bytes has) (begun cs) p = absurd p
 standing (Whole bytes has) (whole w) p = Standing.closes bytes has w p.0 p.1
+standing _ _ p = absurd p
+
+abbrev pub IsNoHeader : Line → Type 0
+IsNoHeader header = ⊥
+IsNoHeader _ = Unit {0}

@@ -45,9 +45,8 @@ nothing_by false = refl
 of_key : (key other : List ℕ) (h : Option Head) (found : Option Finding)
     → with_key key (border_notices (border_at other h found))
     ≡ cond (same_key key other) (border_notices (border_at other h found)) []
-of_key key other None found = sym (nothing_by (same_key key other))
-of_key key other (Some h) None = sym (nothing_by (same_key key other))
 of_key key other (Some h) (Some f) = refl
+of_key key other _ _ = sym (nothing_by (same_key key other))
 
 of_entry : (key : List ℕ) (a : Held) (x : List ℕ × Channel)
     → with_key key (border_notices (border_with a x))

@@ -115,42 +115,20 @@ fault_words Memory = []
 abbrev pub fault_then : ℕ → StreamFault → List ℕ
 fault_then offset f = codes "fault at " ++ (decimal offset ++ (codes " " ++ (fault_words f ++ codes "\n")))
 
-abbrev pub offset_of : StreamFault → ℕ
-offset_of (Frame offset f) = offset
-offset_of (Truncated offset have) = offset
-offset_of (Read offset) = offset
-offset_of (Turns offset) = offset
-offset_of Memory = 0
-
-abbrev pub IsReported : StreamFault → Type 0
-IsReported Memory = ⊥
-IsReported f = Unit {0}
-
-fault_leading : (f : StreamFault) → IsReported f → fault_line f ≡ fault_then (offset_of f) f
-fault_leading (Frame offset f) t = framed (decimal offset) (frame_words f)
+-- after so many bytes
+pub fault_of : (f : StreamFault) (bytes : ℕ) → IsFaultAfter bytes f → fault_line f ≡ fault_then bytes f
+fault_of (Frame offset f) bytes l = rw (← l.0) (framed (decimal offset) (frame_words f))
   where
     framed : (a b : List ℕ) → codes "fault at " ++ a ++ codes " " ++ b ++ codes "\n"
         ≡ codes "fault at " ++ (a ++ (codes " " ++ (b ++ codes "\n")))
     framed a b = simp append_assoc
-fault_leading (Truncated offset have) t = cut (decimal offset) (decimal have)
+fault_of (Truncated offset have) bytes l = rw (← l.0) (cut (decimal offset) (decimal have))
   where
     cut : (a b : List ℕ) → codes "fault at " ++ a ++ codes " truncated " ++ b ++ codes "\n"
         ≡ codes "fault at " ++ (a ++ (codes " " ++ ((codes "truncated " ++ b) ++ codes "\n")))
     cut a b = simp append_assoc
-fault_leading (Read offset) t = simp append_assoc
-fault_leading (Turns offset) t = simp append_assoc
-fault_leading Memory t = absurd t
-
--- after so many bytes
-pub fault_of : (f : StreamFault) (bytes : ℕ) → IsFaultAfter bytes f
-    → fault_line f ≡ codes "fault at " ++ (decimal bytes ++ (codes " " ++ (fault_words f ++ codes "\n")))
-fault_of (Frame offset f) bytes l = fault_leading (Frame offset f) tt
-    ∙ ap (λ (n : ℕ). fault_then n (Frame offset f)) l.0
-fault_of (Truncated offset have) bytes l =
-    fault_leading (Truncated offset have) tt ∙ ap (λ (n : ℕ). fault_then n (Truncated offset have)) l.0
-fault_of (Read offset) bytes l = fault_leading (Read offset) tt ∙ ap (λ (n : ℕ). fault_then n (Read offset)) l
-fault_of (Turns offset) bytes l = fault_leading (Turns offset) tt ∙ ap (λ (n : ℕ). fault_then n (Turns offset)) l
 fault_of Memory bytes l = absurd l
+fault_of _ bytes l = rw (← l) (simp append_assoc)
 
 -- a channel's findings begin with a space
 pub findings_ends : (f : Findings) (rest : List ℕ) → Ends (findings_text f ++ rest)

@@ -74,20 +74,18 @@ part_within : (n : ℕ) → n < 2 ^ 15 → (0 < suc n) × (suc n ≤ 2 ^ 30)
 part_within n h = (omega arith, omega (arith, h))
 
 ratio_one : (f m : ℤ) (r : Ratio) → IsBetween (2 ^ 15) f → IsBetween (2 ^ 15) m → rate_of f m ≡ Some r → IsRatio r
-ratio_one (pos zero) m r h k e = cc e
-ratio_one (pos (suc f)) (pos zero) r h k e = cc e
 ratio_one (pos (suc f)) (pos (suc m)) r h k e =
     ratio_within (suc f * suc m) 1 r
     (product (suc f) (suc m) (omega arith) (omega arith) (omega (arith, h)) (omega (arith, k)))
     (omega arith, omega arith) e
 ratio_one (pos (suc f)) (negsuc m) r h k e =
     ratio_within (suc f) (suc m) r (part_within f (omega (arith, h))) (part_within m (omega (arith, k))) e
-ratio_one (negsuc f) (pos zero) r h k e = cc e
 ratio_one (negsuc f) (pos (suc m)) r h k e =
     ratio_within (suc m) (suc f) r (part_within m (omega (arith, k))) (part_within f (omega (arith, h))) e
 ratio_one (negsuc f) (negsuc m) r h k e =
     ratio_within 1 (suc f * suc m) r (omega arith, omega arith)
     (product (suc f) (suc m) (omega arith) (omega arith) (omega (arith, h)) (omega (arith, k))) e
+ratio_one _ _ r h k e = cc e
 
 unless_some : (o : Option TimeFault) (rate : Option Ratio) (r : Ratio) → rate_unless o rate ≡ Some r
     → (o ≡ None) × (rate ≡ Some r)

@@ -18,7 +18,7 @@ use Rattle.mseed_time.specs.declared.order.Order.{Order}
 use Rattle.mseed_record.specs.Chain.{next_at, type_at}
 use Rattle.mseed_record.specs.Header.{blockette_at, key_at}
 use Rattle.mseed_record.specs.Record.{exponent_at}
-use Rattle.mseed_record.specs.Scan.{Decides, DecidesFrom, at_1000, at_offset, by_chain, no_data, no_order, version3}
+use Rattle.mseed_record.specs.Scan.{Decides, DecidesFrom, at_1000, at_offset, by_chain}
 use Rattle.mseed_record.specs.View.{View, IsView}
 use Rattle.mseed_record.specs.declared.fault.FrameFault.{FrameFault}
 use Rattle.mseed_record.specs.declared.fault.FrameFault.TheVariants.{Chain, Length, No1000, Outside}
@@ -32,7 +32,7 @@ use Rattle.mseed_stream.specs.Cutting.{read_from}
 use Rattle.mseed_stream.specs.Device.{BytesRead}
 use Rattle.mseed_stream.specs.Walk.{IsEnd, bytes_in}
 use Rattle.mseed_stream.specs.declared.fault.StreamFault.{StreamFault}
-use Rattle.mseed_stream.specs.declared.fault.StreamFault.TheVariants.{Frame, Truncated, Read, Turns, Memory}
+use Rattle.mseed_stream.specs.declared.fault.StreamFault.TheVariants.{Frame, Truncated, Memory}
 use Rattle.mseed_stream.proofs.OneInput.{refused_of}
 use Rattle.mseed_stream.proofs.Records.{view_record}
 use Rattle.mseed_audit.specs.declared.channel.Channel.{Channel}
@@ -257,9 +257,8 @@ octets_in (b ∷ bytes) h zero = h.0
 octets_in (b ∷ bytes) h (suc i) = octets_in bytes h.1 i
 
 abbrev AnswerFits : Scan → Type 0
-AnswerFits (Need k) = ⊤
-AnswerFits (Record k) = ⊤
 AnswerFits (Not f) = HasFrameFault f
+AnswerFits _ = ⊤
 
 at_1000_by : (low short long : Bool) (e k : ℕ) → e < 2 ^ 8
     → AnswerFits (cond low (Not (Length e)) (cond short (Not Outside) (cond long (Need k) (Record k))))
@@ -277,12 +276,8 @@ at_1000_fits b o octets =
 at_offset_by : (none back four other eight : Bool) (k n : ℕ) (x : Scan) → AnswerFits x
     → IfSome (cond none (Some (Not No1000)) (cond back (Some (Not Chain)) (cond four (Some (Need k))
     (cond other None (cond eight (Some (Need n)) (Some x)))))) AnswerFits
-at_offset_by true back four other eight k n x h = tt
-at_offset_by false true four other eight k n x h = tt
-at_offset_by false false true other eight k n x h = tt
-at_offset_by false false false true eight k n x h = tt
-at_offset_by false false false false true k n x h = tt
 at_offset_by false false false false false k n x h = h
+at_offset_by _ _ _ _ _ k n x h = tt
 
 at_offset_fits : (order : Order) (b : List ℕ) (below o : ℕ) → AreOctets b
     → IfSome (at_offset order b below o) AnswerFits
@@ -301,10 +296,8 @@ from_fits order b below o [] f octets d =
 from_fits order b below o (p ∷ os) f octets d = from_fits order b (o + 4) (next_at order b o) os f octets d.2
 
 frame_fits : (b : List ℕ) (f : FrameFault) → AreOctets b → Decides b (Not f) → HasFrameFault f
-frame_fits b _ octets (version3 e) = tt
-frame_fits b _ octets (no_data e l k) = tt
-frame_fits b _ octets (no_order e l k m) = tt
 frame_fits b f octets (by_chain order os _ e l k m d) = from_fits order b 48 (blockette_at order b) os f octets d
+frame_fits b _ octets _ = tt
 
 truncated_in : (rest : List ℕ) (have : ℕ) → IsEndOf rest (truncated have) → have ≡ length rest
 truncated_in rest _ (is_truncated k l d) = refl
@@ -327,9 +320,8 @@ has_end (Some (Truncated n have)) offset bytes h fits same small is = record {
     omega (arith, truncated_in (read_from offset h) have is.0.1, length-drop offset h.bytes, fits.size),
   );
 }
-has_end (Some (Read n)) offset bytes h fits same small is = record { bytes_fit = small; is = is.0.0 ∙ same }
-has_end (Some (Turns n)) offset bytes h fits same small is = record { bytes_fit = small; is = is.0.0 ∙ same }
 has_end (Some Memory) offset bytes h fits same small is = absurd (is.1 refl)
+has_end _ offset bytes h fits same small is = record { bytes_fit = small; is = is.0.0 ∙ same }
 
 -- ---- the whole
 pub has_channel : (views : List View) (size : ℕ) (key : List ℕ) (c : Channel) (o : Option Channel)

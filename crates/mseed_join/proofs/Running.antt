@@ -60,9 +60,8 @@ open_by before w (Some f) = record { over = before ++ w ∷ []; last = none }
 
 -- a further part can begin
 abbrev IsReady : OpenPart → Type 0
-IsReady none = Unit {0}
 IsReady (begun channels) = ⊥
-IsReady (whole w) = Unit {0}
+IsReady _ = Unit {0}
 
 ready_by : (before : List Written) (w : Written) (end : Option StreamFault) → IsReady (open_by before w end).last
 ready_by before w None = tt
@@ -83,9 +82,8 @@ ending_run : (before : List Written) (cs : Entries) (records bytes n : ℕ) (end
       end = end;
     }) end)
 ending_run before cs records bytes zero None = refl
-ending_run before cs records bytes zero (Some f) = (refl, refl)
-ending_run before cs records bytes (suc n) None = (refl, refl)
 ending_run before cs records bytes (suc n) (Some f) = (refl, (refl, refl))
+ending_run before cs records bytes _ _ = (refl, refl)
 
 part_run_from : (before : List Written) (w : Written) → IsAscending w.part.channels
     → Runs (record { over = before; last = begun [] })
@@ -161,9 +159,8 @@ header_runs at r = by at.over at.last r
     by over (whole w) q = refl
 
 header_may : (b : OpenPart) → IsReady b → May b header
-header_may none q = tt
 header_may (begun channels) q = absurd q
-header_may (whole w) q = tt
+header_may _ q = tt
 
 -- what was read runs to where it is
 ended_runs : (ws : List Written) (w : Written) (f : StreamFault) → HaveTexts (ws ++ w ∷ []) → w.end ≡ Some f

@@ -2,10 +2,11 @@
 use Rattle.std.proofs.Common.{◌≡◌, ◌+◌, ◌<◌, ◌^◌, List, [], ◌∷◌, ◌++◌, Bool, true, false, Option, Some, None}
 use Rattle.std.proofs.Common.{refl, sym, ap, ◌∙◌, subst, arith, inl, inr, ◌⊎◌}
 use Rattle.std.specs.List.Sorted.{IsStrictlySortedBy}
-use Rattle.std.specs.Option.{option_map}
+use Rattle.std.specs.Option.{is_some, option_map}
 use Rattle.mseed_stream.specs.declared.fault.StreamFault.{StreamFault}
-use Rattle.mseed_join.specs.Parts.{Held, IsAscending, IsJoint}
+use Rattle.mseed_join.specs.Parts.{IsAscending}
 use Rattle.mseed_join.specs.Written.{Written}
+use Rattle.mseed_join.proofs.JoinedParts.{joint_one}
 use Rattle.mseed_join.specs.Joined.{AreJoined, none, one, IsNext, IsJointOf, counted, counted_by, moved_fault, nothing}
 
 -- ---- one part and more
@@ -49,139 +50,158 @@ unfolding IsStrictlySortedBy
 nothing_good = record { ascending = tt; records = omega arith; bytes = omega arith; faults = omega arith }
 
 -- ---- those before, and those after
--- the joint part of those before; it ends with a fault, and is that of all, or the others are joined to it
-pub record IsSplit (past : Bool) (a : Written) (ws vs : List Written) (h : Written) : Type 0 where
-  pub before : Written
-  pub joined : AreJoined a (counted past ws) before
-  pub others : ((before.end ≡ None) × AreJoined before (counted past vs) h)
-      ⊎ ((fault : StreamFault) × (before.end ≡ Some fault) × (before ≡ h))
+joined_append : (a b c : Written) (ws vs : List Written) → AreJoined a ws b → AreJoined b vs c
+    → AreJoined a (ws ++ vs) c
+joined_append a b c [] vs j k = rw (none_of a b j) k
+joined_append a b c (w ∷ ws) vs j k =
+    let f : IsFirst a w ws b = first_of a w b ws j in
+    one a w f.between c (ws ++ vs) f.next (joined_append f.between b c ws vs f.more k)
 
--- by how the first ends
-split_by : (past : Bool) (a w : Written) (ws vs : List Written) (h : Written) (end : Option StreamFault)
-    → w.end ≡ end → a.end ≡ None
-    → ((b : Written) → b.end ≡ None → AreJoined b (counted past (ws ++ vs)) h → IsSplit past b ws vs h)
-    → AreJoined a (counted_by past w end (counted past (ws ++ vs))) h → IsSplit past a (w ∷ ws) vs h
-split_by past a w ws vs h None e n more j =
-    let f : IsFirst a w (counted past (ws ++ vs)) h = first_of a w h (counted past (ws ++ vs)) j in
-    let open_end : f.between.end ≡ None =
-    f.next.end ∙ ap (λ (o : Option StreamFault). option_map (moved_fault a.part.bytes) o) e in
-    let s : IsSplit past f.between ws vs h = more f.between open_end f.more in record {
-      before = s.before;
-      joined = subst (λ (o : Option StreamFault). AreJoined a (counted_by past w o (counted past ws)) s.before) (sym e)
-          (one a w f.between s.before (counted past ws) f.next s.joined);
-      others = s.others;
-    }
-split_by true a w ws vs h (Some x) e n more j =
-    let v : Written = record { part = w.part; faults = w.faults + 1; end = None } in
-    let f : IsFirst a v (counted true (ws ++ vs)) h = first_of a v h (counted true (ws ++ vs)) j in
-    let s : IsSplit true f.between ws vs h = more f.between f.next.end f.more in record {
-      before = s.before;
-      joined = subst (λ (o : Option StreamFault). AreJoined a (counted_by true w o (counted true ws)) s.before) (sym e)
-          (one a v f.between s.before (counted true ws) f.next s.joined);
-      others = s.others;
-    }
-split_by false a w ws vs h (Some x) e n more j =
-    let f : IsFirst a w [] h = first_of a w h [] j in
-    let same : f.between ≡ h = none_of f.between h f.more in
-    let ends : f.between.end ≡ Some (moved_fault a.part.bytes x) =
-    f.next.end ∙ ap (λ (o : Option StreamFault). option_map (moved_fault a.part.bytes) o) e in record {
-      before = f.between;
-      joined = subst (λ (o : Option StreamFault). AreJoined a (counted_by false w o (counted false ws)) f.between)
-          (sym e) (one a w f.between f.between [] f.next (none f.between));
-      others = inr (moved_fault a.part.bytes x, ends, same);
-    }
+pub joined_one_more : (a b c w : Written) (ws : List Written) → AreJoined a ws b → IsNext b w c
+    → AreJoined a (ws ++ w ∷ []) c
+joined_one_more a b c w ws j next = joined_append a b c ws (w ∷ []) j (one b w c c [] next (none c))
 
-split_from : (past : Bool) (a : Written) (ws vs : List Written) (h : Written) → a.end ≡ None
-    → AreJoined a (counted past (ws ++ vs)) h → IsSplit past a ws vs h
-split_from past a [] vs h n j = record { before = a; joined = none a; others = inl (n, j) }
-split_from past a (w ∷ ws) vs h n j =
-    split_by past a w ws vs h w.end refl n (λ b m k. split_from past b ws vs h m k) j
+pub joined_split : (a c : Written) (ws vs : List Written) → AreJoined a (ws ++ vs) c
+    → (b : Written) × (AreJoined a ws b × AreJoined b vs c)
+joined_split a c [] vs j = (a, (none a, j))
+joined_split a c (w ∷ ws) vs j =
+    let f : IsFirst a w (ws ++ vs) c = first_of a w c (ws ++ vs) j in
+    let s = joined_split f.between c ws vs f.more in
+    (s.0, (one a w f.between s.0 ws f.next s.1.0, s.1.1))
 
-pub split : (past : Bool) (ws vs : List Written) (h : Written) → IsJointOf past (ws ++ vs) h
-    → IsSplit past nothing ws vs h
-split past ws vs h j = split_from past nothing ws vs h refl j
+-- ---- which of them count
+-- a fault that isn't passed: no part counts after it
+abbrev closes_by : Bool → Option StreamFault → Bool → Bool
+closes_by past None rest = rest
+closes_by true (Some f) rest = rest
+closes_by false (Some f) rest = true
 
--- ---- those after, joined to those before
--- a part that ends with a fault, and is the last that counts, leaves no joint part without one
-pub never_open : (a w b : Written) (x : StreamFault) → w.end ≡ Some x → b.end ≡ None → AreJoined a (w ∷ []) b → ⊥
-never_open a w b x e n j =
-    let f : IsFirst a w [] b = first_of a w b [] j in
-    let same : f.between ≡ b = none_of f.between b f.more in
-    let ends : b.end ≡ Some (moved_fault a.part.bytes x) =
-    ap (λ (c : Written). c.end) (sym same) ∙ f.next.end
-    ∙ ap (λ (o : Option StreamFault). option_map (moved_fault a.part.bytes) o) e in
-    some_none (moved_fault a.part.bytes x) (sym ends ∙ n)
+abbrev closes : Bool → List Written → Bool
+closes past [] = false
+closes past (w ∷ ws) = closes_by past w.end (closes past ws)
 
-glue_by : (past : Bool) (a w : Written) (ws vs : List Written) (b h : Written) (end : Option StreamFault)
-    → w.end ≡ end → b.end ≡ None
-    → ((c : Written) → AreJoined c (counted past ws) b → AreJoined c (counted past (ws ++ vs)) h)
-    → AreJoined a (counted_by past w end (counted past ws)) b
-    → AreJoined a (counted_by past w end (counted past (ws ++ vs))) h
-glue_by past a w ws vs b h None e n more j =
+on_by : (past : Bool) (w : Written) (end : Option StreamFault) (c : Bool) (xs ys zs : List Written)
+    → closes_by past end c ≡ false → (c ≡ false → xs ≡ ys ++ zs)
+    → counted_by past w end xs ≡ counted_by past w end ys ++ zs
+on_by past w None c xs ys zs e more = ap (λ (ts : List Written). w ∷ ts) (more e)
+on_by true w (Some f) c xs ys zs e more = ap (counted_by true w (Some f)) (more e)
+on_by false w (Some f) c xs ys zs e more = cc e
+
+on : (past : Bool) (ws vs : List Written) → closes past ws ≡ false
+    → counted past (ws ++ vs) ≡ counted past ws ++ counted past vs
+on past [] vs e = refl
+on past (w ∷ ws) vs e =
+    on_by past w w.end (closes past ws) (counted past (ws ++ vs)) (counted past ws) (counted past vs) e (on past ws vs)
+
+stop_by : (past : Bool) (w : Written) (end : Option StreamFault) (c : Bool) (xs ys : List Written)
+    → closes_by past end c ≡ true → (c ≡ true → xs ≡ ys) → counted_by past w end xs ≡ counted_by past w end ys
+stop_by past w None c xs ys e more = ap (λ (ts : List Written). w ∷ ts) (more e)
+stop_by true w (Some f) c xs ys e more = ap (counted_by true w (Some f)) (more e)
+stop_by false w (Some f) c xs ys e more = refl
+
+stops : (past : Bool) (ws vs : List Written) → closes past ws ≡ true → counted past (ws ++ vs) ≡ counted past ws
+stops past [] vs e = cc e
+stops past (w ∷ ws) vs e =
+    stop_by past w w.end (closes past ws) (counted past (ws ++ vs)) (counted past ws) e (stops past ws vs)
+
+-- and with one their joint part ends
+closed_by : (past : Bool) (a w : Written) (ws : List Written) (b : Written) (end : Option StreamFault) → w.end ≡ end
+    → ((c : Written) → c.end ≡ None → AreJoined c (counted past ws) b → closes past ws ≡ is_some b.end)
+    → AreJoined a (counted_by past w end (counted past ws)) b → closes_by past end (closes past ws) ≡ is_some b.end
+closed_by past a w ws b None e more j =
     let f : IsFirst a w (counted past ws) b = first_of a w b (counted past ws) j in
-    one a w f.between h (counted past (ws ++ vs)) f.next (more f.between f.more)
-glue_by true a w ws vs b h (Some x) e n more j =
+    more f.between (f.next.end ∙ ap (option_map (moved_fault a.part.bytes)) e) f.more
+closed_by true a w ws b (Some x) e more j =
     let v : Written = record { part = w.part; faults = w.faults + 1; end = None } in
     let f : IsFirst a v (counted true ws) b = first_of a v b (counted true ws) j in
-    one a v f.between h (counted true (ws ++ vs)) f.next (more f.between f.more)
-glue_by false a w ws vs b h (Some x) e n more j = absurd (never_open a w b x e n j)
+    more f.between f.next.end f.more
+closed_by false a w ws b (Some x) e more j =
+    let f : IsFirst a w [] b = first_of a w b [] j in
+    sym (ap (λ (c : Written). is_some c.end) (sym (none_of f.between b f.more))
+    ∙ ap is_some (f.next.end ∙ ap (option_map (moved_fault a.part.bytes)) e))
 
-glue_from : (past : Bool) (a : Written) (ws vs : List Written) (b h : Written) → b.end ≡ None
-    → AreJoined a (counted past ws) b → AreJoined b (counted past vs) h → AreJoined a (counted past (ws ++ vs)) h
-glue_from past a [] vs b h n j k =
-    subst (λ (c : Written). AreJoined c (counted past vs) h) (sym (none_of a b j)) k
-glue_from past a (w ∷ ws) vs b h n j k =
-    glue_by past a w ws vs b h w.end refl n (λ c i. glue_from past c ws vs b h n i k) j
+closed : (past : Bool) (a : Written) (ws : List Written) (b : Written) → a.end ≡ None → AreJoined a (counted past ws) b
+    → closes past ws ≡ is_some b.end
+closed past a [] b n j = sym (ap (λ (c : Written). is_some c.end) (sym (none_of a b j)) ∙ ap is_some n)
+closed past a (w ∷ ws) b n j = closed_by past a w ws b w.end refl (λ c m k. closed past c ws b m k) j
+
+-- after parts whose joint part ends without a fault
+pub counted_on : (past : Bool) (ws vs : List Written) (b : Written) → b.end ≡ None → IsJointOf past ws b
+    → counted past (ws ++ vs) ≡ counted past ws ++ counted past vs
+counted_on past ws vs b n j = on past ws vs (closed past nothing ws b refl j ∙ ap is_some n)
 
 pub glue : (past : Bool) (ws vs : List Written) (b h : Written) → b.end ≡ None → IsJointOf past ws b
     → AreJoined b (counted past vs) h → IsJointOf past (ws ++ vs) h
-glue past ws vs b h n j k = glue_from past nothing ws vs b h n j k
+glue past ws vs b h n j k =
+    rw (counted_on past ws vs b n j) (joined_append nothing b h (counted past ws) (counted past vs) j k)
 
--- ---- after a part that ends with a fault none counts
-stop_by : (past : Bool) (a w : Written) (ws vs : List Written) (b : Written) (x : StreamFault)
-    (end : Option StreamFault) → w.end ≡ end → a.end ≡ None → b.end ≡ Some x
-    → ((c : Written) → c.end ≡ None → AreJoined c (counted past ws) b → AreJoined c (counted past (ws ++ vs)) b)
-    → AreJoined a (counted_by past w end (counted past ws)) b
-    → AreJoined a (counted_by past w end (counted past (ws ++ vs))) b
-stop_by past a w ws vs b x None e m n more j =
-    let f : IsFirst a w (counted past ws) b = first_of a w b (counted past ws) j in
-    let open_end : f.between.end ≡ None =
-    f.next.end ∙ ap (λ (o : Option StreamFault). option_map (moved_fault a.part.bytes) o) e in
-    one a w f.between b (counted past (ws ++ vs)) f.next (more f.between open_end f.more)
-stop_by true a w ws vs b x (Some y) e m n more j =
-    let v : Written = record { part = w.part; faults = w.faults + 1; end = None } in
-    let f : IsFirst a v (counted true ws) b = first_of a v b (counted true ws) j in
-    one a v f.between b (counted true (ws ++ vs)) f.next (more f.between f.next.end f.more)
-stop_by false a w ws vs b x (Some y) e m n more j = j
-
-stop_from : (past : Bool) (a : Written) (ws vs : List Written) (b : Written) (x : StreamFault) → a.end ≡ None
-    → b.end ≡ Some x → AreJoined a (counted past ws) b → AreJoined a (counted past (ws ++ vs)) b
-stop_from past a [] vs b x m n j =
-    absurd (some_none x (sym n ∙ ap (λ (c : Written). c.end) (sym (none_of a b j)) ∙ m))
-stop_from past a (w ∷ ws) vs b x m n j =
-    stop_by past a w ws vs b x w.end refl m n (λ c k i. stop_from past c ws vs b x k n i) j
+-- or with one
+pub counted_stop : (past : Bool) (ws vs : List Written) (b : Written) (x : StreamFault) → b.end ≡ Some x
+    → IsJointOf past ws b → counted past (ws ++ vs) ≡ counted past ws
+counted_stop past ws vs b x n j = stops past ws vs (closed past nothing ws b refl j ∙ ap is_some n)
 
 pub stop : (past : Bool) (ws vs : List Written) (b : Written) (x : StreamFault) → b.end ≡ Some x
     → IsJointOf past ws b → IsJointOf past (ws ++ vs) b
-stop past ws vs b x n j = stop_from past nothing ws vs b x refl n j
+stop past ws vs b x n j = rw (counted_stop past ws vs b x n j) j
+
+-- where faults are passed no joint part ends with one
+never_closes : (ws : List Written) → closes true ws ≡ false
+never_closes [] = refl
+never_closes (w ∷ ws) = by w.end (never_closes ws)
+  where
+    by : (end : Option StreamFault) → closes true ws ≡ false → closes_by true end (closes true ws) ≡ false
+    by None e = e
+    by (Some f) e = e
+
+pub not_past : (past : Bool) (ws : List Written) (h : Written) (f : StreamFault) → h.end ≡ Some f
+    → IsJointOf past ws h → past ≡ false
+not_past false ws h f n j = refl
+not_past true ws h f n j = cc (never_closes ws, closed true nothing ws h refl j, ap is_some n)
+
+-- the joint part of those before, to which the others are joined; or it ends with a fault, and is that of all
+pub record IsSplit (past : Bool) (ws vs : List Written) (h : Written) : Type 0 where
+  pub before : Written
+  pub joined : IsJointOf past ws before
+  pub others : ((before.end ≡ None) × AreJoined before (counted past vs) h)
+      ⊎ ((fault : StreamFault) × (h.end ≡ Some fault) × (before ≡ h))
+
+pub split : (past : Bool) (ws vs : List Written) (h : Written) → IsJointOf past (ws ++ vs) h → IsSplit past ws vs h
+split past ws vs h j = by (closes past ws) refl
+  where
+    none_if : (o : Option StreamFault) → false ≡ is_some o → o ≡ None
+    none_if None e = refl
+    none_if (Some f) e = cc e
+
+    some_if : (o : Option StreamFault) → true ≡ is_some o → (f : StreamFault) × (o ≡ Some f)
+    some_if None e = absurd (cc e)
+    some_if (Some f) e = (f, refl)
+
+    by : (c : Bool) → closes past ws ≡ c → IsSplit past ws vs h
+    by false e =
+        let s = joined_split nothing h (counted past ws) (counted past vs) (rw (on past ws vs e) at j) in record {
+          before = s.0;
+          joined = s.1.0;
+          others = inl (none_if s.0.end (sym e ∙ closed past nothing ws s.0 refl s.1.0), s.1.1);
+        }
+    by true e =
+        let all : IsJointOf past ws h = rw (stops past ws vs e) at j in
+        let f = some_if h.end (sym e ∙ closed past nothing ws h refl all) in
+        record { before = h; joined = all; others = inr (f.0, f.1, refl) }
 
 -- ---- there is one joint part
-abbrev pub HaveOneJoint : Type 0
-HaveOneJoint = (a b h g : Held) → IsJoint a b h → IsJoint a b g → h ≡ g
-
-next_one : HaveOneJoint → (a w b c : Written) → IsNext a w b → IsNext a w c → b ≡ c
-next_one only a w b c n m =
-    let part : b.part ≡ c.part = only a.part w.part b.part c.part n.part m.part in
+next_one : (a w b c : Written) → IsNext a w b → IsNext a w c → b ≡ c
+next_one a w b c n m =
+    let part : b.part ≡ c.part = joint_one a.part w.part b.part c.part n.part m.part in
     let faults : b.faults ≡ c.faults = n.faults ∙ sym m.faults in
     let end : b.end ≡ c.end = n.end ∙ sym m.end in
     λ i. record { part = part i; faults = faults i; end = end i }
 
-pub joined_one : HaveOneJoint → (a : Written) (ws : List Written) (b c : Written) → AreJoined a ws b → AreJoined a ws c
+pub joined_one : (a : Written) (ws : List Written) (b c : Written) → AreJoined a ws b → AreJoined a ws c
     → b ≡ c
-joined_one only a [] b c j k = sym (none_of a b j) ∙ none_of a c k
-joined_one only a (w ∷ ws) b c j k =
+joined_one a [] b c j k = sym (none_of a b j) ∙ none_of a c k
+joined_one a (w ∷ ws) b c j k =
     let f : IsFirst a w ws b = first_of a w b ws j in
     let g : IsFirst a w ws c = first_of a w c ws k in
-    joined_one only f.between ws b c f.more
+    joined_one f.between ws b c f.more
     (subst (λ (d : Written). AreJoined d ws c)
-    (sym (next_one only a w f.between g.between f.next g.next)) g.more)
+    (sym (next_one a w f.between g.between f.next g.next)) g.more)

@@ -1,6 +1,6 @@
 -- What is read so far, with one more line.
 use Rattle.std.proofs.Common.{◌≡◌, ℕ, ◌+◌, List, [], ◌∷◌, ◌++◌, Bool, true, false, Option, Some, None, length, refl}
-use Rattle.std.proofs.Common.{sym, ap, ◌∙◌, subst, arith, append_assoc, append-nil, inl, inr, ◌⊎◌}
+use Rattle.std.proofs.Common.{sym, ap, ◌∙◌, subst, arith, append_assoc, append-nil, inl, inr}
 use Rattle.std.specs.List.Sorted.{IsStrictlySortedBy}
 use Rattle.std.specs.Option.{option_map}
 use Rattle.std.proofs.ByRecursion.{All-append, All-push}
@@ -8,19 +8,19 @@ use Rattle.std.proofs.lemmas.List.{length-append}
 use Rattle.mseed_stream.specs.declared.fault.StreamFault.{StreamFault}
 use Rattle.mseed_text.specs.Fault.{end_line, fault_line}
 use Rattle.mseed_audit.specs.declared.channel.Channel.{Channel}
-use Rattle.mseed_join.specs.Lines.{Line, fault, text_of_line, IsLine}
+use Rattle.mseed_join.specs.Lines.{Line, header, text_of_line, IsLine}
 use Rattle.mseed_join.specs.Lines.{header_line}
 use Rattle.mseed_join.specs.Lines.{channel_line, counts_line, faults_line, HasChannelLine, HasFaultLine}
 use Rattle.mseed_join.specs.Written.{Written, HasText, channel_lines, part_text, texts}
 use Rattle.mseed_join.specs.Joined.{AreJoined, none as no_more, one, IsNext, IsJointOf, counted, counted_by}
-use Rattle.mseed_join.specs.Joined.{moved_fault, nothing}
+use Rattle.mseed_join.specs.Joined.{moved_fault}
 use Rattle.mseed_join.specs.Reached.{OpenPart, Stage, begun_part, open_part, parts_at, open_text}
 use Rattle.mseed_join.specs.Reached.{IsStage, IsWhere, passed_from, passed_lines, passed_line, passed_of}
-use Rattle.mseed_join.specs.private.Steps.{May, to, goes, counted_part, with_faults, with_end}
-use Rattle.mseed_join.proofs.Onward.{Onward, onward}
+use Rattle.mseed_join.specs.private.Steps.{to, goes, counted_part, with_faults, with_end}
+use Rattle.mseed_join.proofs.Onward.{IsNoHeader, Onward}
 use Rattle.mseed_join.proofs.Machine.{Entries, rows_append}
 use Rattle.mseed_join.proofs.Running.{HaveTexts, texts_before, texts_after}
-use Rattle.mseed_join.proofs.Sums.{IsFirst, IsSplit, first_of, none_of, some_none, split, glue, stop}
+use Rattle.mseed_join.proofs.Sums.{IsFirst, IsSplit, first_of, none_of, split, glue}
 
 -- ---- the text
 pub texts_append : (ws vs : List Written) → texts (ws ++ vs) ≡ texts ws ++ texts vs
@@ -127,21 +127,70 @@ each_more over _ _ l w (Onward.ends v k f m) h =
 
 where_more : (over : List Written) (b : OpenPart) (x : Line) → IsWhere over b → Onward b x
     → IsWhere (goes over b x).over (goes over b x).last
-where_more over _ _ w Onward.opens = tt
-where_more over _ _ w (Onward.row cs k c m) = tt
 where_more over _ _ w (Onward.sums cs n l) = refl
-where_more over _ _ w (Onward.follows v) = tt
 where_more over _ _ w (Onward.passes v n m) = w
 where_more over _ _ w (Onward.ends v l f m) =
     inr (record { parts = over; last = with_end v f; fault = f; are = refl; ends = refl })
+where_more over _ _ w _ = tt
 
-pub stage_more : (lines : List ℕ) (s : Stage) (x : Line) → IsStage lines s → IsLine x → May s.last x
+pub stage_more : (lines : List ℕ) (s : Stage) (x : Line) → IsStage lines s → IsLine x → Onward s.last x
     → IsStage (lines ++ text_of_line x) (to s x)
-stage_more lines s x i l m = record {
-  text = ap (λ (t : List ℕ). t ++ text_of_line x) i.text ∙ text_more s.over s.last x i.is_where (onward s.last x m);
-  each = each_more s.over s.last x l i.is_where (onward s.last x m) i.each;
-  is_where = where_more s.over s.last x i.is_where (onward s.last x m);
+stage_more lines s x i l o = record {
+  text = ap (λ (t : List ℕ). t ++ text_of_line x) i.text ∙ text_more s.over s.last x i.is_where o;
+  each = each_more s.over s.last x l i.is_where o i.each;
+  is_where = where_more s.over s.last x i.is_where o;
 }
+
+-- ---- a line that is no header puts a part in the place of the last one
+pub counts_one : (past : Bool) (w : Written) → w.end ≡ None → counted past (w ∷ []) ≡ w ∷ []
+counts_one past w e = ap (λ (o : Option StreamFault). counted_by past w o []) e
+
+-- what a part that ends with a fault counts as
+abbrev pub ending_part : Bool → Written → StreamFault → Written
+ending_part true w f = record { part = w.part; faults = w.faults + 1; end = None }
+ending_part false w f = with_end w f
+
+pub ending_counts : (past : Bool) (w : Written) (f : StreamFault)
+    → counted past (with_end w f ∷ []) ≡ ending_part past w f ∷ []
+ending_counts true w f = refl
+ending_counts false w f = refl
+
+pub record Replaces (past : Bool) (over : List Written) (b : OpenPart) (x : Line) : Type 0 where
+  pub old : Written
+  pub new : Written
+  pub counts_as : Written
+  pub was : open_part b ≡ old ∷ []
+  pub clear : old.end ≡ None
+  pub are : parts_at (goes over b x) ≡ over ++ new ∷ []
+  pub counts : counted past (new ∷ []) ≡ counts_as ∷ []
+
+abbrev put : {past : Bool} {over : List Written} {b : OpenPart} {x : Line} (w v : Written) → open_part b ≡ w ∷ []
+    → w.end ≡ None → parts_at (goes over b x) ≡ over ++ v ∷ [] → v.end ≡ None → Replaces past over b x
+put {past} w v was clear are e =
+    record { old = w; new = v; counts_as = v; was = was; clear = clear; are = are; counts = counts_one past v e }
+
+abbrev pub replaces : (past : Bool) (over : List Written) (b : OpenPart) (x : Line) → IsWhere over b → Onward b x
+    → IsNoHeader x → Replaces past over b x
+replaces past over _ _ w (Onward.row cs k c m) p =
+    put (begun_part cs) (begun_part (cs ++ (k, c) ∷ [])) refl refl refl refl
+replaces past over _ _ w (Onward.sums cs n l) p = put (begun_part cs) (counted_part cs n l) refl refl refl refl
+replaces past over _ _ w (Onward.passes v n m) p = put v (with_faults v n) refl w refl w
+replaces past over _ _ w (Onward.ends v l f m) p = record {
+  old = v;
+  new = with_end v f;
+  counts_as = ending_part past v f;
+  was = refl;
+  clear = w;
+  are = append-nil (over ++ with_end v f ∷ []);
+  counts = ending_counts past v f;
+}
+replaces past over _ _ w _ p = absurd p
+
+-- and a header begins one after all
+pub header_are : (over : List Written) (b : OpenPart) → Onward b header
+    → parts_at (goes over b header) ≡ (over ++ open_part b) ++ begun_part [] ∷ []
+header_are over _ Onward.opens = ap (λ (ws : List Written). ws ++ begun_part [] ∷ []) (sym (append-nil over))
+header_are over _ (Onward.follows w) = refl
 
 -- ---- the joint part
 -- a part without a fault, the last of those that are joined
@@ -151,75 +200,36 @@ pub record IsLast (past : Bool) (over : List Written) (w h : Written) : Type 0 w
   pub goes_on : before.end ≡ None
   pub next : IsNext before w h
 
-next_same : (a w b h : Written) → b ≡ h → IsNext a w b → IsNext a w h
-next_same a w b h e n = subst (λ (c : Written). IsNext a w c) e n
-
-pub counts_one : (past : Bool) (w : Written) → w.end ≡ None → counted past (w ∷ []) ≡ w ∷ []
-counts_one past w e = ap (λ (o : Option StreamFault). counted_by past w o []) e
-
 one_next : (past : Bool) (a w h : Written) → w.end ≡ None → AreJoined a (counted past (w ∷ [])) h → IsNext a w h
 one_next past a w h e j =
-    let f : IsFirst a w [] h =
-    first_of a w h [] (subst (λ (ws : List Written). AreJoined a ws h) (counts_one past w e) j) in
-    next_same a w f.between h (none_of f.between h f.more) f.next
+    let f : IsFirst a w [] h = first_of a w h [] (rw (counts_one past w e) at j) in
+    rw (none_of f.between h f.more) at f.next
 
 pub last_is : (past : Bool) (over : List Written) (w h : Written) → w.end ≡ None → h.end ≡ None
     → IsJointOf past (over ++ w ∷ []) h → IsLast past over w h
-last_is past over w h e n j = by (split past over (w ∷ []) h j)
-  where
-    by : IsSplit past nothing over (w ∷ []) h → IsLast past over w h
-    by s = cases s.others
-      where
-        cases : ((s.before.end ≡ None) × AreJoined s.before (counted past (w ∷ [])) h)
-            ⊎ ((f : StreamFault) × (s.before.end ≡ Some f) × (s.before ≡ h)) → IsLast past over w h
-        cases (inl k) = record {
-          before = s.before;
-          joined = s.joined;
-          goes_on = k.0;
-          next = one_next past s.before w h e k.1;
-        }
-        cases (inr k) = absurd (some_none k.0 (sym k.1 ∙ ap (λ (c : Written). c.end) k.2 ∙ n))
+last_is past over w h e n j =
+    let s : IsSplit past over (w ∷ []) h = split past over (w ∷ []) h j in
+    elim s.others [
+      | inl k ↦ record { before = s.before; joined = s.joined; goes_on = k.0; next = one_next past s.before w h e k.1 }
+      | inr k ↦ cc (k.1, n)
+    ]
 
 -- after a fault the last doesn't count
 pub before_is : (past : Bool) (over : List Written) (w h : Written) (f : StreamFault) → w.end ≡ None → h.end ≡ Some f
     → IsJointOf past (over ++ w ∷ []) h → IsJointOf past over h
-before_is past over w h f e n j = by (split past over (w ∷ []) h j)
-  where
-    by : IsSplit past nothing over (w ∷ []) h → IsJointOf past over h
-    by s = cases s.others
-      where
-        cases : ((s.before.end ≡ None) × AreJoined s.before (counted past (w ∷ [])) h)
-            ⊎ ((x : StreamFault) × (s.before.end ≡ Some x) × (s.before ≡ h)) → IsJointOf past over h
-        cases (inl k) =
-            let next : IsNext s.before w h = one_next past s.before w h e k.1 in
-            absurd (some_none f (sym n ∙ next.end
-            ∙ ap (λ (o : Option StreamFault). option_map (moved_fault s.before.part.bytes) o) e))
-        cases (inr k) = subst (λ (c : Written). IsJointOf past over c) k.2 s.joined
+before_is past over w h f e n j =
+    let s : IsSplit past over (w ∷ []) h = split past over (w ∷ []) h j in
+    elim s.others [
+      | inl k ↦ let next : IsNext s.before w h = one_next past s.before w h e k.1 in
+          cc (n, next.end, ap (option_map (moved_fault s.before.part.bytes)) e)
+      | inr k ↦ rw k.2 at s.joined
+    ]
 
--- after a fault any parts may stand
-pub stopped : (past : Bool) (over vs : List Written) (w h : Written) (f : StreamFault) → w.end ≡ None
-    → h.end ≡ Some f → IsJointOf past (over ++ w ∷ []) h → IsJointOf past (over ++ vs) h
-stopped past over vs w h f e n j = stop past over vs h f n (before_is past over w h f e n j)
-
--- another part in its place, without a fault
-pub in_place : (past : Bool) (over : List Written) (a v k : Written) → IsJointOf past over a → a.end ≡ None
-    → v.end ≡ None → IsNext a v k → IsJointOf past (over ++ v ∷ []) k
-in_place past over a v k j n e next =
-    glue past over (v ∷ []) a k n j
-    (subst (λ (ws : List Written). AreJoined a ws k) (sym (counts_one past v e)) (one a v k k [] next (no_more k)))
-
--- or with one
-pub ends_in_place : (over : List Written) (a v k : Written) (f : StreamFault) → IsJointOf false over a
-    → a.end ≡ None → IsNext a (with_end v f) k → IsJointOf false (over ++ with_end v f ∷ []) k
-ends_in_place over a v k f j n next =
-    glue false over (with_end v f ∷ []) a k n j (one a (with_end v f) k k [] next (no_more k))
-
-pub passed_in_place : (over : List Written) (a v k : Written) (f : StreamFault) → IsJointOf true over a
-    → a.end ≡ None → IsNext a (record { part = v.part; faults = v.faults + 1; end = None }) k
-    → IsJointOf true (over ++ with_end v f ∷ []) k
-passed_in_place over a v k f j n next =
-    glue true over (with_end v f ∷ []) a k n j
-    (one a (record { part = v.part; faults = v.faults + 1; end = None }) k k [] next (no_more k))
+-- another part in its place
+pub in_place : (past : Bool) (over : List Written) (a v u k : Written) → IsJointOf past over a → a.end ≡ None
+    → counted past (v ∷ []) ≡ u ∷ [] → IsNext a u k → IsJointOf past (over ++ v ∷ []) k
+in_place past over a v u k j n same next =
+    glue past over (v ∷ []) a k n j (rw same (one a u k k [] next (no_more k)))
 
 -- ---- what is reported
 passed_append : (n : ℕ) (ws vs : List Written)
@@ -232,7 +242,7 @@ passed_append n (w ∷ ws) vs =
     ∙ sym (append_assoc (passed_of n w.end) (passed_from (n + 1) ws) (passed_from (n + length (w ∷ ws)) vs))
 
 -- of a part without a fault nothing is reported
-passed_silent : (past : Bool) (ws : List Written) (w : Written) → w.end ≡ None
+pub passed_silent : (past : Bool) (ws : List Written) (w : Written) → w.end ≡ None
     → passed_lines past (ws ++ w ∷ []) ≡ passed_lines past ws
 passed_silent false ws w e = refl
 passed_silent true ws w e =
@@ -240,29 +250,11 @@ passed_silent true ws w e =
     ∙ ap (λ (o : Option StreamFault). passed_from 1 ws ++ (passed_of (1 + length ws) o ++ [])) e
     ∙ append-nil (passed_from 1 ws)
 
-pub passed_same : (past : Bool) (over : List Written) (b : OpenPart) (x : Line) → IsWhere over b → Onward b x
-    → ((bytes : ℕ) (f : StreamFault) → x ≡ fault bytes f → ⊥)
-    → passed_lines past (parts_at (goes over b x)) ≡ passed_lines past (over ++ open_part b) ++ []
-passed_same past over _ _ w Onward.opens o =
-    passed_silent past over (begun_part []) refl
-    ∙ ap (λ (ws : List Written). passed_lines past ws) (sym (append-nil over))
-    ∙ sym (append-nil (passed_lines past (over ++ [])))
-passed_same past over _ _ w (Onward.row cs k c m) o =
-    passed_silent past over (begun_part (cs ++ (k, c) ∷ [])) refl
-    ∙ sym (passed_silent past over (begun_part cs) refl)
-    ∙ sym (append-nil (passed_lines past (over ++ begun_part cs ∷ [])))
-passed_same past over _ _ w (Onward.sums cs n l) o =
-    passed_silent past over (counted_part cs n l) refl
-    ∙ sym (passed_silent past over (begun_part cs) refl)
-    ∙ sym (append-nil (passed_lines past (over ++ begun_part cs ∷ [])))
-passed_same past over _ _ w (Onward.follows v) o =
-    passed_silent past (over ++ v ∷ []) (begun_part []) refl
-    ∙ sym (append-nil (passed_lines past (over ++ v ∷ [])))
-passed_same past over _ _ w (Onward.passes v n m) o =
-    passed_silent past over (with_faults v n) w
-    ∙ sym (passed_silent past over v w)
-    ∙ sym (append-nil (passed_lines past (over ++ v ∷ [])))
-passed_same past over _ _ w (Onward.ends v l f m) o = absurd (o l f refl)
+pub passed_none : (past : Bool) (over : List Written) (b : OpenPart) (x : Line) → (p : Replaces past over b x)
+    → p.new.end ≡ None → passed_lines past (parts_at (goes over b x)) ≡ passed_lines past (over ++ open_part b) ++ []
+passed_none past over b x p e =
+    rw (p.are, p.was) (passed_silent past over p.new e ∙ sym (passed_silent past over p.old p.clear)
+    ∙ sym (append-nil (passed_lines past (over ++ p.old ∷ []))))
 
 pub passed_more : (over : List Written) (v : Written) (f : StreamFault) → v.end ≡ None
     → passed_lines true ((over ++ with_end v f ∷ []) ++ [])

@@ -36,13 +36,12 @@ BorderFits None = ⊤
 BorderFits (Some f) = (0 + f.number < 2 ^ 63) × (0 + f.offset < 2 ^ 63)
 
 border_fits : (t : Option Tail) (h : Option Head) → HeadFits 0 0 h → BorderFits (border_of t h)
-border_fits None h f = tt
-border_fits (Some t) None f = tt
 border_fits (Some t) (Some h) f = by (break_by t h.start h.rate)
   where
     by : (why : Option Why) → BorderFits (found_at h why)
     by None = tt
     by (Some why) = f
+border_fits _ _ f = tt
 
 first_with : (a b : Findings) (border : Option Finding) → FirstFits 0 0 a → FirstFits 0 0 b → BorderFits border
     → FirstFits 0 0 (findings_with a b border)

@@ -16,7 +16,7 @@ ghost use Rattle.mseed_join.specs.HeadlineEach.{AreReportedApart, SaysEach};
 ghost use Rattle.mseed_join.specs.Joined.{IsBadLine, IsJointOf};
 ghost use Rattle.mseed_join.specs.Written.{HasText, Spells, Written, part_text, texts};
 
-use crate::part_law::{findings_add_up, joined_in_turn, joining_laws, one_part, parts_add_up};
+use crate::part_law::{findings_add_up, one_part, parts_add_up};
 use mseed_audit::{channels_have_verdicts, one_list_of_verdicts, one_report};
 
 /// The joint part of archives, of which each but the last ends without a fault, says what the audit of the archives
@@ -65,7 +65,6 @@ pub fn joined_each()
 {
     parts_add_up();
     findings_add_up();
-    joining_laws();
     one_report();
     channels_have_verdicts();
     one_list_of_verdicts();
@@ -105,7 +104,6 @@ pub fn parts_can_be_joined()
         → (joint : Written) × IsJointOf false ws joint }
 {
     parts_add_up();
-    joined_in_turn();
 }
 
 /// The headline over texts: where the texts of the parts of archives stand one after another and the archives one

@@ -7,14 +7,14 @@ ghost use Rattle.mseed_join.specs.Joined.{HasNoEnd};
 ghost use Rattle.mseed_join.specs.Reached.{Stage, start};
 ghost use Rattle.mseed_join.specs.private.Along.{can_end};
 ghost use Rattle.mseed_join.specs.private.Steps.{May};
-ghost use Rattle.mseed_join.specs.private.Taking.{IsAfterKey, IsLineStep, IsReadTo, IsStep, border_by, fault_after};
-ghost use Rattle.mseed_join.specs.private.Taking.{IsFlawed, IsLimit, passed_by};
+ghost use Rattle.mseed_join.specs.private.Taking.{IsAfterKey, IsLimit, IsReadTo, IsStep, Takes, TakesLine, border_by};
+ghost use Rattle.mseed_join.specs.private.Taking.{fault_after, passed_by};
 
 use crate::bad_field::first_bad_field;
 use crate::flaw::{Flaw, begun_as};
 use crate::lines::{read_channel_line, read_counts_line, read_fault_line, read_faults_line};
 use crate::part::{JoinFault, Part};
-use crate::part_law::{joined_in_turn, joining_laws, one_part};
+use crate::part_law::one_part;
 use crate::part_sums::sum;
 use crate::writing::HEADER;
 use mseed_audit::{Channel, Finding};
@@ -120,10 +120,7 @@ impl<A: Allocator + Copy> Joint<A> {
     pub(crate) fn take_line(&mut self, line: &[u8]) -> Result<Reported, LineFault>
         requires parts { self.old.parts < 2 ^ 63 }
         requires ended { (body : List ℕ) × HasNoEnd body × (line.now ≡ body ++ codes "\n") }
-        ensures step { (lines : List ℕ) (s : Stage) → IsReadTo lines s self.old
-            → IsLineStep lines s line.now result self.old self.new }
-        ensures flaw { (lines : List ℕ) (s : Stage) → IsReadTo lines s self.old
-            → IfErr result (λ e. IsFlawed e s.last line.now) }
+        ensures { TakesLine line.now result self.old self.new }
     {
         match self.place {
             Place::Start => self.take_header(Flaw::Beginning, line),
@@ -157,7 +154,6 @@ impl<A: Allocator + Copy> Joint<A> {
         ensures line { OnOk result (line.now ≡ header_line) }
         ensures bad { IfErr result (λ fault. (fault ≡ LineFault.Bad flaw) × (line.now ≢ header_line)) }
     {
-        joined_in_turn();
         if line != HEADER {
             return Err(LineFault::Bad(flaw));
         }
@@ -170,10 +166,7 @@ impl<A: Allocator + Copy> Joint<A> {
     fn take_row(&mut self, last: Option<Codes>, line: &[u8]) -> Result<Reported, LineFault>
         requires place { self.old.place ≡ Place.Channels last }
         requires ended { (body : List ℕ) × HasNoEnd body × (line.now ≡ body ++ codes "\n") }
-        ensures step { (lines : List ℕ) (s : Stage) → IsReadTo lines s self.old
-            → IsLineStep lines s line.now result self.old self.new }
-        ensures flaw { (lines : List ℕ) (s : Stage) → IsReadTo lines s self.old
-            → IfErr result (λ e. IsFlawed e s.last line.now) }
+        ensures { TakesLine line.now result self.old self.new }
     {
         if let Some((codes, channel)) = read_channel_line(line) {
             if !is_after(last, codes) {
@@ -197,10 +190,7 @@ impl<A: Allocator + Copy> Joint<A> {
         requires parts { self.old.parts < 2 ^ 63 }
         requires place { self.old.place ≡ Place.Whole bytes has_faults }
         requires ended { (body : List ℕ) × HasNoEnd body × (line.now ≡ body ++ codes "\n") }
-        ensures step { (lines : List ℕ) (s : Stage) → IsReadTo lines s self.old
-            → IsLineStep lines s line.now result self.old self.new }
-        ensures flaw { (lines : List ℕ) (s : Stage) → IsReadTo lines s self.old
-            → IfErr result (λ e. IsFlawed e s.last line.now) }
+        ensures { TakesLine line.now result self.old self.new }
     {
         if let Some(fault) = read_fault_line(line, bytes) {
             return self.take_fault(fault, bytes);
@@ -217,13 +207,9 @@ impl<A: Allocator + Copy> Joint<A> {
 
     /// Takes a channel that is in order.
     fn take_channel(&mut self, codes: Codes, channel: &Channel) -> Result<Reported, LineFault>
-        ensures step { (lines : List ℕ) (s : Stage) → IsReadTo lines s self.old
-            → IsLine (Line.channel codes channel.now) → May s.last (Line.channel codes channel.now)
-            → IsStep lines s (Line.channel codes channel.now) result self.old self.new }
+        ensures step { Takes (Line.channel codes channel.now) result self.old self.new }
         ensures limit { IfErr result IsLimit }
     {
-        joined_in_turn();
-        joining_laws();
         match self.so_far.end {
             Some(_) => {
                 self.place = Place::Channels(Some(codes));
@@ -243,13 +229,9 @@ impl<A: Allocator + Copy> Joint<A> {
 
     /// Takes the counts.
     fn take_counts(&mut self, records: u64, bytes: u64) -> Result<Reported, LineFault>
-        ensures step { (lines : List ℕ) (s : Stage) → IsReadTo lines s self.old → IsLine (Line.counts records bytes)
-            → May s.last (Line.counts records bytes)
-            → IsStep lines s (Line.counts records bytes) result self.old self.new }
+        ensures step { Takes (Line.counts records bytes) result self.old self.new }
         ensures limit { IfErr result IsLimit }
     {
-        joined_in_turn();
-        joining_laws();
         self.place = Place::Whole {
             bytes,
             has_faults: false,
@@ -266,12 +248,9 @@ impl<A: Allocator + Copy> Joint<A> {
     /// Takes the number of faults passed.
     fn take_faults(&mut self, faults: u64, bytes: u64) -> Result<Reported, LineFault>
         requires { self.old.place ≡ Place.Whole bytes false }
-        ensures step { (lines : List ℕ) (s : Stage) → IsReadTo lines s self.old → IsLine (Line.faults faults)
-            → May s.last (Line.faults faults)
-            → IsStep lines s (Line.faults faults) result self.old self.new }
+        ensures step { Takes (Line.faults faults) result self.old self.new }
         ensures limit { IfErr result IsLimit }
     {
-        joining_laws();
         self.place = Place::Whole {
             bytes,
             has_faults: true,
@@ -290,12 +269,9 @@ impl<A: Allocator + Copy> Joint<A> {
 
     /// Takes the fault with which a part of so many bytes ends.
     fn take_fault(&mut self, fault: StreamFault, bytes: u64) -> Result<Reported, LineFault>
-        ensures step { (lines : List ℕ) (s : Stage) → IsReadTo lines s self.old → IsLine (Line.fault bytes fault)
-            → May s.last (Line.fault bytes fault)
-            → IsStep lines s (Line.fault bytes fault) result self.old self.new }
+        ensures step { Takes (Line.fault bytes fault) result self.old self.new }
         ensures limit { IfErr result IsLimit }
     {
-        joining_laws();
         self.place = Place::Start;
         if let Some(_) = self.so_far.end {
             return Ok(Reported::Nothing);

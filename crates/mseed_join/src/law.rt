@@ -10,7 +10,7 @@ ghost use Rattle.mseed_join.specs.Joined.{IsJointOf};
 ghost use Rattle.mseed_join.specs.Reached.{OpenPart};
 ghost use Rattle.mseed_join.specs.Written.{Written};
 
-use crate::part_law::{joining_laws, one_part};
+use crate::part_law::one_part;
 use mseed_stream::one_input;
 
 /// A line has 512 bytes at most, its LF included.
@@ -38,6 +38,4 @@ pub fn one_list_of_borders()
         → AreBordersOf past ws other → found ≡ other }
     ensures some { (past : Bool) (ws : List Written) (joint : Written) → IsJointOf past ws joint
         → (found : List Border) × AreBordersOf past ws found }
-{
-    joining_laws();
-}
+{}

@@ -4,7 +4,7 @@ ghost use Rattle.std.specs.Prelude.{IfOk, OnOk, IfErr, IfSome, IfNone, IsTrue, O
 ghost use Rattle.std.specs.List.{position_or_len};
 ghost use Rattle.std.specs.Io.KnownBytes.{ReadConsumes};
 ghost use Rattle.mseed_stream.specs.Calls.{ReadsOn};
-ghost use Rattle.mseed_stream.specs.Device.{BytesRead, read_also};
+ghost use Rattle.mseed_stream.specs.Device.{nothing_read, read_also};
 ghost use Rattle.mseed_stream.specs.Fault.{IsStreamFault};
 ghost use Rattle.mseed_join.specs.Joined.{HasNoEnd};
 ghost use Rattle.mseed_join.specs.private.LineReading.{Grows, IsReadBy, GoesOn, IfGoesOn, IsLineAhead, IsOpen};
@@ -91,8 +91,7 @@ impl<A: Allocator> LineReader<A> {
     pub(crate) fn new(alloc: A) -> Result<LineReader<A>, Memory>
         ensures held { IfOk result (λ r. r.held ≡ []) }
         ensures lines { IfOk result (λ r. r.lines ≡ 0) }
-        ensures along { IfOk result (λ r. (start : BytesRead) → IsReadBy start start r) }
-        ensures goes_on { IfOk result (λ r. (start : BytesRead) → GoesOn start start r) }
+        ensures counts { IfOk result (λ r. (r.bytes ≡ 0) × (r.reads ≡ 0)) }
     {
         let mut buffer = Vec::new(alloc);
         if buffer.resize(ROOM, 0).is_err() {
@@ -116,25 +115,24 @@ impl<A: Allocator> LineReader<A> {
     /// `Read` where the source failed, `Turns` where it wasn't at its end after 2^40 reads: each with the number of
     /// bytes that were read in all.
     pub(crate) fn look<R: Source>(&mut self, source: &mut R) -> Result<Ahead, StreamFault>
+        requires along { IsReadBy (R.read source.old) self.old }
+        requires goes_on { GoesOn (R.read source.old) }
         ensures ahead { IfOk result (λ a. LiesAhead a self.new (R.read source.new).is_at_end) }
 
         // What is reported is held after what was held before, and no line is passed.
         ensures more { Grows (R.read source.old) (R.read source.new) (R.remaining source.old) (R.remaining source.new)
             self.old self.new }
-        ensures goes_on { (start : BytesRead) → GoesOn start (R.read source.old) self.old
-            → IfGoesOn result (GoesOn start (R.read source.new) self.new) }
-        ensures fine { OnOk result ((R.read source.new).failures ≡ (R.read source.old).failures) }
+        ensures goes_on { IfGoesOn result (GoesOn (R.read source.new)) }
 
         // A fault is that of all reads since the reader was made.
-        ensures fault { IfErr result (λ e. (start : BytesRead) → IsReadBy start (R.read source.old) self.old
-            → GoesOn start (R.read source.old) self.old → IsStreamFault e start (R.read source.new)) }
+        ensures fault { IfErr result (λ e. IsStreamFault e nothing_read (R.read source.new)) }
 
         // No line lies ahead then, and no more bytes than a line has.
         ensures open { IfErr result (λ e. IsOpen self.new.held) }
 
         // The input's end is that of the bytes that the source is known to have.
-        ensures reads { (R.read source.old).is_at_end ≡ false → ReadsOn (R.read source.old) (R.read source.new)
-            (R.remaining source.old) (R.remaining source.new) (R.beside source.old) (R.beside source.new) }
+        ensures reads { ReadsOn (R.read source.old) (R.read source.new) (R.remaining source.old)
+            (R.remaining source.new) (R.beside source.old) (R.beside source.new) }
     {
         loop {
             if let Some(ahead) = self.see() {
@@ -158,8 +156,7 @@ impl<A: Allocator> LineReader<A> {
         requires { IsLineAhead self.old.size self.old.held }
         ensures held { self.old.held ≡ take self.old.size self.old.held ++ self.new.held }
         ensures lines { self.new.lines ≡ self.old.lines + 1 }
-        ensures along { (start now : BytesRead) → IsReadBy start now self.old → IsReadBy start now self.new }
-        ensures goes_on { (start now : BytesRead) → GoesOn start now self.old → GoesOn start now self.new }
+        ensures counts { (self.new.bytes ≡ self.old.bytes) × (self.new.reads ≡ self.old.reads) }
     {
         self.begin += self.size;
         self.size = 0;

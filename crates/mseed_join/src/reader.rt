@@ -1,7 +1,7 @@
 //! Parts that are read out of a source, line by line.
 ghost use Rattle.std.specs.Prelude.{◌≡◌, ◌≤◌, ◌+◌, ◌^◌, Bool, false, IfOk, OnSome};
 ghost use Rattle.mseed_stream.specs.Calls.{ReadsOn};
-ghost use Rattle.mseed_stream.specs.Device.{BytesRead};
+ghost use Rattle.mseed_stream.specs.Device.{nothing_read};
 ghost use Rattle.mseed_join.specs.Reached.{Stage, start};
 ghost use Rattle.mseed_join.specs.private.Along.{IsAlong, IsFinished, IsNextStep, flaw_of, is_over};
 
@@ -28,7 +28,7 @@ impl<A: Allocator + Copy> Reader<A> {
     ///
     /// Where there is no memory for its buffer.
     pub(crate) fn new(alloc: A, past: bool) -> Result<Reader<A>, Memory>
-        ensures { IfOk result (λ r. (h : BytesRead) → IsAlong past h h (start) r) }
+        ensures { IfOk result (λ r. IsAlong past nothing_read (start) r) }
     {
         let lines = LineReader::new(alloc)?;
         Ok(Reader {
@@ -44,13 +44,13 @@ impl<A: Allocator + Copy> Reader<A> {
     /// `Line` where the next line is bad, `Stream` where the source failed, or wasn't at its end after 2^40 reads, and
     /// `Memory` where there was no room for a channel that is new.
     pub(crate) fn next<R: Source>(&mut self, source: &mut R) -> Result<Option<Reported>, JoinsFault>
-        requires { (past : Bool) × (h : BytesRead) × (s : Stage) × IsAlong past h (R.read source.old) s self.old }
-        ensures step { (past : Bool) (h : BytesRead) (s : Stage) → IsAlong past h (R.read source.old) s self.old
-            → IsNextStep past h s result (R.read source.new) self.new }
+        requires { (past : Bool) × (s : Stage) × IsAlong past (R.read source.old) s self.old }
+        ensures step { (past : Bool) (s : Stage) → IsAlong past (R.read source.old) s self.old
+            → IsNextStep past s result (R.read source.new) self.new }
         ensures line { IfOk result (λ line. OnSome line (self.new.lines.lines ≡ self.old.lines.lines + 1)) }
         ensures few { IfOk result (λ line. OnSome line (self.old.lines.lines ≤ 2 ^ 56)) }
-        ensures reads { (R.read source.old).is_at_end ≡ false → ReadsOn (R.read source.old) (R.read source.new)
-            (R.remaining source.old) (R.remaining source.new) (R.beside source.old) (R.beside source.new) }
+        ensures reads { ReadsOn (R.read source.old) (R.read source.new) (R.remaining source.old)
+            (R.remaining source.new) (R.beside source.old) (R.beside source.new) }
     {
         lines_are_short();
         let ahead = match self.lines.look(source) {

@@ -1,7 +1,7 @@
 -- How reading parts goes along: no public contract is stated by these words.
-use Rattle.std.specs.Prelude.{◌≡◌, ◌≢◌, ◌+◌, ℕ, List, ◌++◌, length, Bool, true, false, Option, Some, None}
-use Rattle.std.specs.Prelude.{Result, Ok, Err}
-use Rattle.mseed_stream.specs.Device.{BytesRead}
+use Rattle.std.specs.Prelude.{◌≡◌, ◌≢◌, ◌+◌, ℕ, length, Bool, true, false, Option, Some, None}
+use Rattle.std.specs.Prelude.{⊤, Result, Ok, Err}
+use Rattle.mseed_stream.specs.Device.{BytesRead, nothing_read}
 use Rattle.mseed_stream.specs.Fault.{IsStreamFault}
 use Rattle.mseed_join.specs.declared.line_reader.Ahead.{Ahead}
 use Rattle.mseed_join.specs.declared.line_reader.Ahead.TheVariants.{Line, TooLong, Unended, Nothing}
@@ -44,47 +44,46 @@ flaw_of Unended = NoEnd
 flaw_of Nothing = Missing
 
 -- the lines that were passed are parts up to this stage, whose joint part is kept
-pub record IsAlong {A : Type 0} (past : Bool) (h now : BytesRead) (s : Stage) (r : Reader A) : Type 0 where
-  pub by : IsReadBy h now r.lines
+pub record IsAlong {A : Type 0} (past : Bool) (now : BytesRead) (s : Stage) (r : Reader A) : Type 0 where
+  pub by : IsReadBy now r.lines
   pub read : IsReadTo by.passed s r.joint
   pub past_is : r.joint.past ≡ past
-  pub goes_on : GoesOn h now r.lines
+  pub goes_on : GoesOn now
 
 -- no line more was passed, of all that was read
-pub record IsStoppedAt (h now : BytesRead) (s : Stage) : Type 0 where
-  pub bytes : List ℕ
-  pub reported : now.bytes ≡ h.bytes ++ bytes
+pub record IsStoppedAt (now : BytesRead) (s : Stage) : Type 0 where
   pub count : ℕ
-  pub before : AreLinesRead bytes count s
+  pub before : AreLinesRead now.bytes count s
 
 -- the input's end: all that was read is the texts of these parts
-pub record HasEnded {A : Type 0} (past : Bool) (h now : BytesRead) (s : Stage) (r : Reader A) : Type 0 where
-  pub stopped : IsStoppedAt h now s
+pub record HasEnded {A : Type 0} (past : Bool) (now : BytesRead) (s : Stage) (j : Joint A) : Type 0 where
+  pub stopped : IsStoppedAt now s
   pub at_end : now.is_at_end ≡ true
-  pub spells : Spells stopped.bytes (parts_at s)
-  pub joint : IsJointOf past (parts_at s) (written_of r.joint.so_far)
-  pub number : r.joint.parts ≡ length (parts_at s)
+  pub spells : Spells now.bytes (parts_at s)
+  pub joint : IsJointOf past (parts_at s) (written_of j.so_far)
+  pub number : j.parts ≡ length (parts_at s)
 
 -- a bad line, after those that were passed
-pub record IsBadAfter (past : Bool) (h now : BytesRead) (s : Stage) (k offset : ℕ) (flaw : Flaw) : Type 0 where
-  pub stopped : IsStoppedAt h now s
-  pub bad : IsBadLine past stopped.bytes now.is_at_end k offset
+pub record IsBadAfter (past : Bool) (now : BytesRead) (s : Stage) (stopped : IsStoppedAt now s) (k offset : ℕ)
+    (flaw : Flaw) : Type 0 where
+  pub bad : IsBadLine past now.bytes now.is_at_end k offset
   pub number : k ≡ stopped.count + 1
   pub flaw_is : IsFlaw flaw s.last stopped.before.rest now.is_at_end
 
--- by what one step answers: where the source failed, no bad line was read before
-abbrev pub IsNextStep : {A : Type 0} → Bool → BytesRead → Stage → Result (Option Reported) JoinsFault → BytesRead
-    → Reader A
+-- why no line more was passed: where the source failed, no bad line was read before
+abbrev pub IsStoppedBy : JoinsFault → Bool → (now : BytesRead) → (s : Stage) → IsStoppedAt now s → Type 0
+IsStoppedBy (BadLine k offset flaw) past now s stopped = IsBadAfter past now s stopped k offset flaw
+IsStoppedBy (Count parts due) past now s stopped = ⊥
+IsStoppedBy (Stream fault) past now s stopped = IsStreamFault fault nothing_read now × HasNoBadLine past now.bytes
+IsStoppedBy Write past now s stopped = ⊥
+IsStoppedBy Memory past now s stopped = ⊤
+
+-- by what one step answers
+abbrev pub IsNextStep : {A : Type 0} → Bool → Stage → Result (Option Reported) JoinsFault → BytesRead → Reader A
     → Type 0
-IsNextStep past h s (Ok (Some reported)) now r =
-    (t : Stage) × (IsAlong past h now t r × IsReportedMore past s t reported × (now.is_at_end ≡ false))
-IsNextStep past h s (Ok None) now r = HasEnded past h now s r
-IsNextStep past h s (Err (BadLine k offset flaw)) now r = IsBadAfter past h now s k offset flaw
-IsNextStep past h s (Err (Count parts due)) now r = ⊥
-IsNextStep past h s (Err (Stream fault)) now r =
-    IsStreamFault fault h now × ((stopped : IsStoppedAt h now s) × HasNoBadLine past stopped.bytes)
-IsNextStep past h s (Err Write) now r = ⊥
-IsNextStep past h s (Err Memory) now r = IsStoppedAt h now s
+IsNextStep past s (Ok (Some reported)) now r = (t : Stage) × (IsAlong past now t r × IsReportedMore past s t reported)
+IsNextStep past s (Ok None) now r = HasEnded past now s r.joint
+IsNextStep past s (Err fault) now r = (stopped : IsStoppedAt now s) × IsStoppedBy fault past now s stopped
 
 -- All parts are read: the joint part, where they are as many as are expected; or their number, and the one that is
 -- expected.

@@ -40,30 +40,35 @@ LiesAhead TooLong r at_end = HasNoEnd (take 512 r.held) × (512 ≤ length r.hel
 LiesAhead Unended r at_end = (at_end ≡ true) × HasNoEnd r.held × (r.held ≢ []) × (length r.held < 512)
 LiesAhead Nothing r at_end = (at_end ≡ true) × (r.held ≡ [])
 
--- what more was read, and is held after what was held before
-pub record Grows (old new : BytesRead) (left rest : Option (List ℕ)) (r after : LinesRead) : Type 0 where
+-- what more was read, and is held after what was held before, and so many lines, bytes and reads
+pub record GrowsTo (old new : BytesRead) (left rest : Option (List ℕ)) (before after : List ℕ)
+    (lines_before bytes_before reads_before lines_after bytes_after reads_after : ℕ) : Type 0 where
   pub more : List ℕ
   pub called : ℕ
   pub reported : new.bytes ≡ old.bytes ++ more
   pub known : Consumes left rest more
-  pub held : after.held ≡ r.held ++ more
-  pub lines : after.lines ≡ r.lines
-  pub bytes : after.bytes ≡ r.bytes + length more
+  pub held : after ≡ before ++ more
+  pub lines : lines_after ≡ lines_before
+  pub bytes : bytes_after ≡ bytes_before + length more
   pub calls : new.calls ≡ old.calls + called
-  pub reads : after.reads ≡ r.reads + called
+  pub reads : reads_after ≡ reads_before + called
 
--- what was read since the reader was made is whole lines that were passed, and what is held
-pub record IsReadBy (start now : BytesRead) (r : LinesRead) : Type 0 where
+abbrev pub Grows : BytesRead → BytesRead → Option (List ℕ) → Option (List ℕ) → LinesRead → LinesRead → Type 0
+Grows old new left rest r after =
+    GrowsTo old new left rest r.held after.held r.lines r.bytes r.reads after.lines after.bytes after.reads
+
+-- what was read, from nothing on, is whole lines that were passed, and what is held
+pub record IsReadBy (now : BytesRead) (r : LinesRead) : Type 0 where
   pub passed : List ℕ
-  pub reported : now.bytes ≡ start.bytes ++ passed ++ r.held
+  pub reported : now.bytes ≡ passed ++ r.held
   pub lines : AreLines passed r.lines
   pub bytes : r.bytes ≡ length passed + length r.held
-  pub calls : now.calls ≡ start.calls + r.reads
+  pub calls : now.calls ≡ r.reads
 
--- no read since then failed, or reported the input's end
-pub record GoesOn (start now : BytesRead) (r : LinesRead) : Type 0 where
-  pub failures : now.failures ≡ start.failures
-  pub is_at_end : 0 < r.reads → now.is_at_end ≡ false
+-- no read failed, or reported the input's end
+pub record GoesOn (now : BytesRead) : Type 0 where
+  pub failures : now.failures ≡ 0
+  pub is_at_end : now.is_at_end ≡ false
 
 -- the answer is neither the input's end nor a fault
 abbrev pub IfGoesOn : Result Ahead StreamFault → Type 0 → Type 0

@@ -1,13 +1,13 @@
 -- A joint part, by the lines of parts that were taken: no public contract is stated by these words.
 use Rattle.std.specs.Prelude.{⊤, ◌≡◌, ◌<◌, ℕ, List, [], ◌∷◌, ◌++◌, length, Bool, true, false, Option, Some, None}
-use Rattle.std.specs.Prelude.{Result, Ok, Err}
+use Rattle.std.specs.Prelude.{IfErr, Result, Ok, Err}
 use Rattle.std.specs.Ordering.{nat_cmp}
 use Rattle.std.specs.Cmp.Lexicographic.{slice_cmp}
 use Rattle.std.specs.declared.cmp.Ordering.TheVariants.{Less}
 use Rattle.mseed_stream.specs.declared.fault.StreamFault.{StreamFault}
 use Rattle.mseed_stream.specs.declared.fault.StreamFault.TheVariants.{Frame, Truncated, Read, Turns, Memory}
 use Rattle.mseed_audit.specs.declared.channel.Channel.{Channel}
-use Rattle.mseed_join.specs.Lines.{Line, text_of_line}
+use Rattle.mseed_join.specs.Lines.{IsLine, Line, text_of_line}
 use Rattle.mseed_join.specs.declared.joint.Joint.{Joint}
 use Rattle.mseed_join.specs.declared.joint.LineFault.{LineFault}
 use Rattle.mseed_join.specs.declared.joint.LineFault.TheVariants.{Bad, Memory as NoMemory}
@@ -17,7 +17,7 @@ use Rattle.mseed_join.specs.declared.joint.Reported.{Reported}
 use Rattle.mseed_join.specs.declared.joint.Reported.TheVariants.{Nothing, Border as AtBorder, Passed}
 use Rattle.mseed_join.specs.Borders.{AreBordersOf, Border}
 use Rattle.mseed_join.specs.declared.flaw.Flaw.TheVariants.{Limit}
-use Rattle.mseed_join.specs.Flaws.{IsFlawOf}
+use Rattle.mseed_join.specs.Flaws.{IsFlawOf, May}
 use Rattle.mseed_join.specs.Joined.{Begins, IsJointOf}
 use Rattle.mseed_join.specs.Reached.{OpenPart, none, begun, whole, Stage, parts_at, IsStage, passed_line, passed_lines}
 use Rattle.mseed_join.specs.ReadParts.{written_of}
@@ -88,6 +88,10 @@ IsStep lines s x (Ok reported) old new = IsTaken lines (text_of_line x) s (to s 
 IsStep lines s x (Err (Bad flaw)) old new = Begins old.past (lines ++ text_of_line x) → ⊥
 IsStep lines s x (Err NoMemory) old new = ⊤
 
+abbrev pub Takes : {A : Type 0} → Line → Result Reported LineFault → Joint A → Joint A → Type 0
+Takes x result old new =
+    (lines : List ℕ) (s : Stage) → IsReadTo lines s old → IsLine x → May s.last x → IsStep lines s x result old new
+
 -- any line
 abbrev pub IsLineStep : {A : Type 0} → List ℕ → Stage → List ℕ → Result Reported LineFault → Joint A → Joint A → Type 0
 IsLineStep lines s line (Ok reported) old new = (t : Stage) × IsTaken lines line s t reported old new
@@ -103,6 +107,12 @@ IsLimit NoMemory = ⊤
 abbrev pub IsFlawed : LineFault → OpenPart → List ℕ → Type 0
 IsFlawed (Bad flaw) last line = IsFlawOf flaw last line
 IsFlawed NoMemory last line = ⊤
+
+-- it is taken, or no parts go on with it, and why
+abbrev pub TakesLine : {A : Type 0} → List ℕ → Result Reported LineFault → Joint A → Joint A → Type 0
+TakesLine line result old new =
+    (lines : List ℕ) (s : Stage) → IsReadTo lines s old
+    → IsLineStep lines s line result old new × IfErr result (λ e. IsFlawed e s.last line)
 
 -- a fault after so many bytes
 abbrev pub fault_after : ℕ → StreamFault → StreamFault

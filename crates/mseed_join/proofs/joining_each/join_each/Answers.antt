@@ -3,7 +3,6 @@ use Rattle.mseed_stream.specs.Device.{BytesWritten}
 use Rattle.mseed_stream.specs.Gathered.{AreGathered}
 use Rattle.mseed_stream.proofs.Calls.{writes_none, writes_on}
 use Rattle.mseed_stream.proofs.Gathered.{gathered_all}
-use Rattle.mseed_join.specs.JoinsEach.{IsJoinEachOutcome}
 use Rattle.mseed_join.proofs.Each.{each_cut_off, each_no_memory, each_unread, each_written}
 use Rattle.mseed_join.proofs.joining_each.join_each.Goals as goal
 
@@ -23,35 +22,18 @@ returns-in_err-part g c =
     let same : c.from_residual.result ≡ Err c.in_err-part.field-0.0 = search rules in
     let unread = each_unread c.in_err-part.field-0.0 c.args.past_faults c.args.expected
     (g.R.Source.read c.read_with.new.source) (g.W.Sink.written c.args.sink.now)
-    (g.W.Sink.written c.read_with.new.output) (g.E.Sink.written c.args.errors.now)
-    (g.E.Sink.written c.read_with.new.errors) _ c.in_err-part.ensures.outcome in
-    record {
-      outcome = subst (λ r. IsJoinEachOutcome c.args.past_faults c.args.expected r
-          (g.R.Source.read c.read_with.new.source) (g.W.Sink.written c.args.sink.now)
-          (g.W.Sink.written c.read_with.new.output) (g.E.Sink.written c.args.errors.now)
-          (g.E.Sink.written c.read_with.new.errors)) (sym same) unread.0;
-      reads = c.in_err-part.ensures.reads;
-      writes = unread.1;
-    }
+    (g.W.Sink.written c.read_with.new.output) _ _ _ c.in_err-part.ensures.outcome in
+    record { outcome = rw same unread.0; reads = c.in_err-part.ensures.reads; writes = unread.1 }
 
 pub returns-in-Err-clause-outcome : goal.returns-in-Err-clause-outcome
-returns-in-Err-clause-outcome g c =
-    each_no_memory c.args.past_faults c.args.expected c.in_ok-part.field-0 (g.R.Source.read c.read_with.new.source)
-    (g.W.Sink.written c.args.sink.now) (g.W.Sink.written c.read_with.new.output) (g.E.Sink.written c.args.errors.now)
-    (g.E.Sink.written c.read_with.new.errors) c.read_with.new.report.items _ c.in_ok-part.ensures.outcome
+returns-in-Err-clause-outcome g c = each_no_memory c.in_ok-part.ensures.outcome
 
 pub returns-in-Ok-write_all_of : goal.returns-in-Ok-write_all_of
 returns-in-Ok-write_all_of g c =
     let write = c.in-Ok-write_all_of.ensures in
     let all = c.in_ok-part.ensures.outcome in
     record {
-      outcome = each_written c.args.past_faults c.args.expected c.in_ok-part.field-0
-          (g.R.Source.read c.read_with.new.source) c.in-Ok.joined (g.W.Sink.written c.args.sink.now)
-          (g.W.Sink.written c.read_with.new.output) (g.W.Sink.written c.write_all_of.new.sink)
-          (g.E.Sink.written c.args.errors.now)
-          (g.E.Sink.written c.read_with.new.errors) c.read_with.new.report.items c.push_joined.new.text.items
-          c.deref.result.now _ all c.in-Ok.ensures.text c.deref.ensures.value c.in-Ok.ensures.answer write.ok
-          write.fine;
+      outcome = each_written all c.in-Ok.ensures.text c.deref.ensures.value c.in-Ok.ensures.answer write.ok write.fine;
       reads = c.in_ok-part.ensures.reads;
       writes = writes_on _ _ _ _ _ _ _ _ _ all.1.1.1 write.writes;
     }
@@ -61,13 +43,8 @@ returns g c =
     let write = c.in-Err-write_all_of.ensures in
     let all = c.in_ok-part.ensures.outcome in
     record {
-      outcome = each_cut_off c.args.past_faults c.args.expected c.in_ok-part.field-0
-          (g.R.Source.read c.read_with.new.source) (g.W.Sink.written c.args.sink.now)
-          (g.W.Sink.written c.read_with.new.output) (g.W.Sink.written c.write_all_of.new.sink)
-          (g.E.Sink.written c.args.errors.now)
-          (g.E.Sink.written c.read_with.new.errors) c.read_with.new.report.items c.push_joined.new.text.items
-          c.deref.result.now c.in-Err-write_all_of.field-0 _ all c.in-Ok.ensures.text c.deref.ensures.value write.err
-          write.within write.failed;
+      outcome = each_cut_off all (g.W.Sink.written c.write_all_of.new.sink) c.in-Ok.ensures.text
+          c.deref.ensures.value write.err write.within write.failed;
       reads = c.in_ok-part.ensures.reads;
       writes = writes_on _ _ _ _ _ _ _ _ _ all.1.1.1 write.writes;
     }

@@ -3,16 +3,18 @@ use Rattle.mseed_audit.specs.Audit.{head_in}
 use Rattle.mseed_audit.specs.declared.finding.Finding.{Finding}
 use Rattle.mseed_join.specs.Borders.{border_at}
 use Rattle.mseed_join.specs.declared.part.JoinFault.{JoinFault}
-use Rattle.mseed_join.proofs.Steps.{channel_added, channel_refused, channel_skipped}
+use Rattle.mseed_join.specs.Lines.{channel}
+use Rattle.mseed_join.proofs.Steps.{channel_added, channel_refused, line_skipped}
 use Rattle.mseed_join.proofs.joint.Joint.take_channel.Goals as goal
 
 pub returns-in-Some-clause-step : goal.returns-in-Some-clause-step
-returns-in-Some-clause-step g c = channel_skipped c.args.self.now _ c.in-Some.is c.args.codes c.args.channel.now
+returns-in-Some-clause-step g c =
+    line_skipped c.args.self.now _ c.in-Some.is _ (channel c.args.codes c.args.channel.now) tt refl
 
 pub returns-in-Ok-clause-step : goal.returns-in-Ok-clause-step
 returns-in-Ok-clause-step g c =
     let found = c.in-Ok.ensures.border in
-    channel_added c.joined_in_turn.ensures.channel c.joining_laws.ensures.one c.args.self.now _ c.reported_of.result
+    channel_added c.args.self.now _ c.reported_of.result
     c.reported_of.ensures.passed c.in-None.is c.args.codes c.args.channel.now
     (c.reported_of.ensures.border
     ∙ ap (λ (o : Option Finding). border_at c.args.codes (head_in c.args.channel.now.findings) o) found)
@@ -20,5 +22,5 @@ returns-in-Ok-clause-step g c =
 
 pub returns-in-Err-Limit-clause-step : goal.returns-in-Err-Limit-clause-step
 returns-in-Err-Limit-clause-step g c =
-    channel_refused c.joining_laws.ensures.one c.args.self.now c.in-None.is c.args.codes c.args.channel.now
+    channel_refused c.args.self.now c.in-None.is c.args.codes c.args.channel.now
     (c.in-Err-Limit.ensures.limit (ap (λ (e : JoinFault). Err e) c.in-Err-Limit.field-0-is))

@@ -1,16 +1,18 @@
 use Rattle.std.proofs.Common.{refl}
-use Rattle.mseed_join.proofs.Steps.{counts_added, counts_refused, counts_skipped}
+use Rattle.mseed_join.specs.Lines.{counts}
+use Rattle.mseed_join.proofs.Steps.{counts_added, counts_refused, line_skipped}
 use Rattle.mseed_join.proofs.joint.Joint.take_counts.Goals as goal
 
 pub returns-in-Some-clause-step : goal.returns-in-Some-clause-step
-returns-in-Some-clause-step g c = counts_skipped c.args.self.now _ c.in-Some.is c.args.records c.args.bytes
+returns-in-Some-clause-step g c =
+    line_skipped c.args.self.now _ c.in-Some.is _ (counts c.args.records c.args.bytes) tt refl
 
 pub returns-in-Ok-clause-step : goal.returns-in-Ok-clause-step
 returns-in-Ok-clause-step g c =
-    counts_added c.joined_in_turn.ensures.counts c.args.self.now _ c.in_default.is c.args.records c.args.bytes
+    counts_added c.args.self.now _ c.in_default.is c.args.records c.args.bytes
     c.in-Ok.ensures.joined c.in-Ok.ensures.fits refl refl
 
 pub returns-in-Err-clause-step : goal.returns-in-Err-clause-step
 returns-in-Err-clause-step g c =
-    counts_refused c.joining_laws.ensures.one c.args.self.now c.in_default.is c.args.records c.args.bytes
+    counts_refused c.args.self.now c.in_default.is c.args.records c.args.bytes
     c.in-Err.ensures.limit

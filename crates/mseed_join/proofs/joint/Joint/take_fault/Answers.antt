@@ -1,10 +1,12 @@
 use Rattle.std.proofs.Common.{refl}
 use Rattle.std.proofs.lemmas.Bool.{false≢true}
-use Rattle.mseed_join.proofs.Steps.{fault_kept, fault_passed, fault_refused, fault_skipped, some_after}
+use Rattle.mseed_join.specs.Lines.{fault}
+use Rattle.mseed_join.proofs.Steps.{fault_kept, fault_passed, fault_refused, line_skipped, some_after}
 use Rattle.mseed_join.proofs.joint.Joint.take_fault.Goals as goal
 
 pub returns-in-Some-clause-step : goal.returns-in-Some-clause-step
-returns-in-Some-clause-step g c = fault_skipped c.args.self.now _ c.in-Some.is c.args.bytes c.args.fault
+returns-in-Some-clause-step g c =
+    line_skipped c.args.self.now _ c.in-Some.is _ (fault c.args.bytes c.args.fault) tt refl
 
 pub returns-then-not-self-clause-step : goal.returns-then-not-self-clause-step
 returns-then-not-self-clause-step g c =
@@ -18,5 +20,5 @@ returns-in-Ok-clause-step g c =
 
 pub returns-in-Err-clause-step : goal.returns-in-Err-clause-step
 returns-in-Err-clause-step g c =
-    fault_refused c.joining_laws.ensures.one c.args.self.now c.if-not-self.false c.in_default.is c.args.fault
+    fault_refused c.args.self.now c.if-not-self.false c.in_default.is c.args.fault
     (λ few. false≢true (c.in-Err.ensures.fits.1 few)) c.args.bytes

@@ -1,11 +1,12 @@
 use Rattle.std.proofs.Common.{refl}
 use Rattle.std.proofs.lemmas.Bool.{false≢true}
-use Rattle.mseed_join.proofs.Steps.{faults_added, faults_refused, faults_skipped}
+use Rattle.mseed_join.specs.Lines.{faults}
+use Rattle.mseed_join.proofs.Steps.{faults_added, faults_refused, line_skipped}
 use Rattle.mseed_join.proofs.joint.Joint.take_faults.Goals as goal
 
 pub returns-in-Some-clause-step : goal.returns-in-Some-clause-step
 returns-in-Some-clause-step g c =
-    faults_skipped c.args.self.now _ c.in-Some.is c.args.bytes c.requires c.args.faults
+    line_skipped c.args.self.now _ c.in-Some.is _ (faults c.args.faults) tt (rw c.requires refl)
 
 pub returns-in-Ok-clause-step : goal.returns-in-Ok-clause-step
 returns-in-Ok-clause-step g c =
@@ -14,5 +15,5 @@ returns-in-Ok-clause-step g c =
 
 pub returns-in-Err-clause-step : goal.returns-in-Err-clause-step
 returns-in-Err-clause-step g c =
-    faults_refused c.joining_laws.ensures.one c.args.self.now c.in_default.is c.args.faults
+    faults_refused c.args.self.now c.in_default.is c.args.faults
     (λ few. false≢true (c.in-Err.ensures.fits.1 few))

@@ -1,4 +1,4 @@
-use Rattle.mseed_join.proofs.LinesAhead.{grows_after, grows_not}
+use Rattle.mseed_join.proofs.LinesAhead.{grows_not}
 use Rattle.mseed_join.proofs.line_reader.LineReader.fill.Goals as goal
 
 pub returns-then-self-eq-TURNS-clause-more : goal.returns-then-self-eq-TURNS-clause-more
@@ -6,5 +6,4 @@ returns-then-self-eq-TURNS-clause-more g c = grows_not (g.R.Source.read c.args.s
     (g.R.Source.remaining c.args.source.now) c.args.self.now
 
 pub returns-clause-more : goal.returns-clause-more
-returns-clause-more g c =
-    grows_after _ _ _ _ c.make_room.new.self c.args.self.now c.read.new.self _ c.make_room.ensures c.read.ensures.more
+returns-clause-more g c = rw c.make_room.ensures at c.read.ensures.more

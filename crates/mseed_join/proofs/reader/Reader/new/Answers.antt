@@ -1,16 +1,19 @@
-use Rattle.std.proofs.Common.{subst, sym, List, ℕ}
-use Rattle.mseed_join.specs.Reached.{start}
-use Rattle.mseed_join.specs.private.Taking.{IsReadTo}
-use Rattle.mseed_join.proofs.Along.{nothing_passed}
+use Rattle.std.proofs.Common.{[], ℕ, arith, ap, length, refl, subst, sym}
+use Rattle.mseed_join.specs.Joined.{AreLines}
 use Rattle.mseed_join.proofs.reader.Reader.new.Goals as goal
 
 pub returns : goal.returns
-returns g c = λ h.
-    let along = c.in_ok-lines.ensures.along h in
+returns g c =
+    let lines = c.in_ok-lines.ensures in
     record {
-      by = along;
-      read = subst (λ (lines : List ℕ). IsReadTo lines start c.new-2.result)
-          (sym (nothing_passed h c.in_ok-lines.lines along)) c.new-2.ensures.read;
+      by = record {
+        passed = [];
+        reported = sym lines.held;
+        lines = subst (λ (n : ℕ). AreLines [] n) (sym lines.lines) AreLines.none;
+        bytes = omega (arith, ap length lines.held, lines.counts.0);
+        calls = sym lines.counts.1;
+      };
+      read = c.new-2.ensures.read;
       past_is = c.new-2.ensures.past;
-      goes_on = c.in_ok-lines.ensures.goes_on h;
+      goes_on = record { failures = refl; is_at_end = refl };
     }
