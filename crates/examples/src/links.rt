@@ -1,14 +1,16 @@
 //! Calls of `slink_links`.
 ghost use Rattle.std.specs.Prelude.{◌≡◌, ◌∷◌, ◌++◌, []};
+ghost use Rattle.std.specs.Net.Text.{ipv4_text};
 ghost use Rattle.slink_links.specs.Out.{AreOut};
 ghost use Rattle.slink_links.specs.Served.{IsServed};
 
 use mseed_stream::Sink;
+use mseed_text::Line;
 use slink_feed::{Client, Feed, LinkFault};
 use slink_links::{
     Accept, Dial, DialFault, EndsHandshake, FetchEnd, FetchPlan, FetchTerms, ListenFault, Loss,
-    NetworkFault, Pause, ServePlan, Server, fetch, fetch_all, fetch_link, fetch_planned, serve,
-    serve_all, serve_link, serve_planned,
+    NetworkFault, Pause, ServePlan, Server, fetch, fetch_all, fetch_link, fetch_planned,
+    put_address, serve, serve_all, serve_link, serve_planned,
 };
 use slink_wire::{Address, Host, Timeout};
 use std::io::Error;
@@ -34,6 +36,15 @@ pub fn serve_one<N: Net + Clock, E: Sink>(
 /// Why a port can't be had, by the error of a call that was to listen there.
 pub fn words_of_refusal(error: &Error) -> &'static str {
     ListenFault::of(error).text()
+}
+
+/// A line with nothing but an address: its octets in decimal digits, with `.` between them.
+pub fn line_of_address(address: Address) -> Line
+    ensures { result ≡ ipv4_text address.octets }
+{
+    let mut line = Line::new();
+    put_address(&mut line, address);
+    line
 }
 
 /// Fetches from port 18000 of this machine, over at most three connections. The exit status.

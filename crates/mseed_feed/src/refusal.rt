@@ -1,7 +1,6 @@
 //! The lines that say why a feed isn't filled, that memory or a link failed, or why a port can't be had. They are built
 //! without the heap: a line is reported whatever memory there is.
 ghost use Rattle.std.specs.Prelude.{◌≡◌, ◌≤◌, ◌+◌, ◌++◌, codes, decimal, length};
-ghost use Rattle.std.specs.Net.Text.{ipv4_text};
 ghost use Rattle.mseed_record.specs.Header.{trimmed};
 ghost use Rattle.slink_feed.specs.Reporter.{AreReported};
 ghost use Rattle.mseed_feed.specs.Plans.{fill_lines, fill_text, more_lines, station_line};
@@ -15,7 +14,7 @@ use mseed_stream::{Sink, StreamFault, report};
 use mseed_text::Line;
 use mseed_words::Endpoint;
 use slink_feed::{ForeignRecord, InputFault};
-use slink_links::{FAULT, ListenFault};
+use slink_links::{FAULT, ListenFault, put_address};
 use slink_wire::Address;
 
 /// Reports why a feed isn't filled further, and what more is to be said of that.
@@ -154,20 +153,4 @@ fn cannot_listen(listener: &Endpoint<Address>, fault: ListenFault) -> Line
     line.put(fault.text().as_bytes());
     line.put(b"\n");
     line
-}
-
-/// Puts an address at the end of a line: its octets in decimal digits, with `.` between them.
-fn put_address(line: &mut Line, address: Address)
-    requires { length line.old ≤ 64 }
-    ensures text { line.new ≡ line.old ++ ipv4_text address.octets }
-    ensures most { length line.new ≤ length line.old + 83 }
-{
-    let [a, b, c, d] = address.octets;
-    line.put_count(u64::from(a));
-    line.put(b".");
-    line.put_count(u64::from(b));
-    line.put(b".");
-    line.put_count(u64::from(c));
-    line.put(b".");
-    line.put_count(u64::from(d));
 }

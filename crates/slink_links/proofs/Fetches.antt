@@ -15,7 +15,7 @@ use Rattle.slink_feed.specs.declared.turn.LinkFault.TheVariants as faults
 use Rattle.slink_feed.specs.declared.turn.Turn.{Turn}
 use Rattle.slink_feed.specs.Delivered.{Numbered}
 use Rattle.slink_feed.specs.Dialogue.{Talk, Wants, requests_place, to_place, want_at}
-use Rattle.slink_feed.specs.Fetching.{Delivers, FailsToWriteLine, FailsToWrite, Fetches, Fetching, IsFetchFault}
+use Rattle.slink_feed.specs.Fetching.{Delivers, FailsToWriteLine, FailsToWrite, Fetches, IsFetchFault}
 use Rattle.slink_feed.specs.Fetching.{ReadsOn, TakesTurn, bytes_reported, fetching, line_written, lines_written}
 use Rattle.slink_feed.specs.Fetching.{record_reported, turn_after, turn_of}
 use Rattle.slink_feed.specs.Listening.{IsLinked, Listening, Reads}
@@ -32,7 +32,7 @@ use Rattle.slink_feed.proofs.ReportedOver.{reported_link, reported_none, wants_w
 use Rattle.slink_links.specs.declared.fetching.FetchEnd.{FetchEnd}
 use Rattle.slink_links.specs.declared.fetching.FetchEnd.TheVariants.{Done, Refused, BadFeed, WriteFailed, LinkFailed}
 use Rattle.slink_links.specs.Fetched.{AreTaken, HasFetched, HasReadEach, HasReadLink, HasReadLinks, HasTurned}
-use Rattle.slink_links.specs.Fetched.{IsTurnBy, WasFetchedOver}
+use Rattle.slink_links.specs.Fetched.{WasFetchedOver}
 use Rattle.slink_links.specs.Fetched.{HaveMoved, IsFetchedOver, IsReading, IsUnended, Reaches, ReachesBy}
 use Rattle.slink_links.specs.Fetched.{FetchesReporting, end_by, failures_by, over_none, over_one_more, over_the_last}
 
@@ -243,22 +243,13 @@ turned_err (faults.Output n) old new s0 s1 w0 w1 h0 h1 f reading linked =
     }
 
 -- what one step comes to
-pub turned : (r : Result Turn LinkFault) (old new : Listening) (s0 s1 w0 w1 : BytesWritten) (h0 h1 : BytesRead)
-    → TakesTurn r (fetching old s0 w0) (fetching new s1 w1) h0 h1 → IsReading old → IsLinked old.talk.stage
-    → HasTurned (end_by r) old new h0 h1 w0 w1
-turned (Ok turn) old new s0 s1 w0 w1 h0 h1 takes reading linked =
-    turned_ok turn old new s0 s1 w0 w1 h0 h1 takes.ok reading linked
-turned (Err e) old new s0 s1 w0 w1 h0 h1 takes reading linked =
-    turned_err e old new s0 s1 w0 w1 h0 h1 takes.fault reading linked
-
--- where the end is known
-pub turned_to : (e f : Option FetchEnd) (old new : Listening) (h0 h1 : BytesRead) (w0 w1 : BytesWritten) → e ≡ f
-    → HasTurned e old new h0 h1 w0 w1 → HasTurned f old new h0 h1 w0 w1
-turned_to e f old new h0 h1 w0 w1 is p = subst (λ end. HasTurned end old new h0 h1 w0 w1) is p
-
-pub turn_to : (e f : Option FetchEnd) (old new : Fetching) (h0 h1 : BytesRead) → e ≡ f → IsTurnBy e old new h0 h1
-    → IsTurnBy f old new h0 h1
-turn_to e f old new h0 h1 is p = subst (λ end. IsTurnBy end old new h0 h1) is p
+pub turned : (r : Result Turn LinkFault) (end : Option FetchEnd) → end ≡ end_by r → (old new : Listening)
+    (s0 s1 w0 w1 : BytesWritten) (h0 h1 : BytesRead) → TakesTurn r (fetching old s0 w0) (fetching new s1 w1) h0 h1
+    → IsReading old → IsLinked old.talk.stage → HasTurned end old new h0 h1 w0 w1
+turned (Ok turn) end is old new s0 s1 w0 w1 h0 h1 takes reading linked =
+    rw is (turned_ok turn old new s0 s1 w0 w1 h0 h1 takes.ok reading linked)
+turned (Err e) end is old new s0 s1 w0 w1 h0 h1 takes reading linked =
+    rw is (turned_err e old new s0 s1 w0 w1 h0 h1 takes.fault reading linked)
 
 -- no step yet
 pub turned_none : (now : Listening) (read : BytesRead) (written : BytesWritten) → IsLinked now.talk.stage

@@ -218,7 +218,7 @@ fn put_host(line: &mut Line, host: &Host)
 }
 
 /// Puts an address at the end of a line: its octets in decimal digits, with `.` between them.
-fn put_address(line: &mut Line, address: Address)
+pub fn put_address(line: &mut Line, address: Address)
     requires { length line.old ≤ 64 }
     ensures text { line.new ≡ line.old ++ ipv4_text address.octets }
     ensures most { length line.new ≤ length line.old + 83 }

@@ -8,7 +8,7 @@ ghost use Rattle.slink_feed.specs.Reports.{ReportsRecords, outputs};
 ghost use Rattle.slink_feed.specs.Reporter.{AreReported, wants_left};
 ghost use Rattle.slink_links.specs.Fetched.{HasDialled, HasFetched, HasReadEach, HasReadLink, HasTakenAll, HasTurned};
 ghost use Rattle.slink_links.specs.Out.{AreOut};
-ghost use Rattle.slink_links.specs.Fetched.{HasPaused, IsFetchedOver, IsReading, IsTurnBy, calls_of};
+ghost use Rattle.slink_links.specs.Fetched.{HasPaused, IsFetchedOver, IsReading, calls_of};
 ghost use Rattle.slink_links.specs.Fetched.{FetchesAll, FetchesReporting, HasCalled, HasTried, IsQuiet};
 ghost use Rattle.slink_links.specs.Fetched.{end_by, fetch_status, is_unwritten, next_lines, stopped_by};
 ghost use Rattle.slink_links.specs.Trouble.{IsOfLastTry};
@@ -258,34 +258,13 @@ fn take_turns<S: EndsHandshake, W: Sink, E: Sink>(
         (W.written output.new) (E.written errors.old) (E.written errors.new) }
 {
     for turn in 0..TURNS {
-        if let Some(end) = take_turn(client, link, output, errors, reporter, room) {
+        let step = fetch_turn_in(client, link, output, errors, reporter, room);
+        end_handshake(client, link);
+        if let Some(end) = end_by(&step) {
             return end;
         }
     }
     FetchEnd::LinkFailed
-}
-
-/// Takes a step with a link, and answers how the fetch ends by it, if it does.
-fn take_turn<S: EndsHandshake, W: Sink, E: Sink>(
-    client: &mut Client,
-    link: &mut S,
-    output: &mut W,
-    errors: &mut E,
-    reporter: &mut Reporter,
-    room: &mut Room,
-) -> Option<FetchEnd>
-    requires reading { IsReading client.old }
-    requires linked { IsLinked client.old.talk.stage }
-    ensures turned { HasTurned result client.old client.new (S.read link.old) (S.read link.new) (W.written output.old)
-        (W.written output.new) }
-    ensures by { IsTurnBy result (fetching client.old (S.written link.old) (W.written output.old))
-        (fetching client.new (S.written link.new) (W.written output.new)) (S.read link.old) (S.read link.new) }
-    ensures noted { ReportsRecords client.old.talk client.new.talk reporter.old reporter.new (W.written output.old)
-        (W.written output.new) (E.written errors.old) (E.written errors.new) }
-{
-    let turn = fetch_turn_in(client, link, output, errors, reporter, room);
-    end_handshake(client, link);
-    end_by(&turn)
 }
 
 /// Informs the link where the handshake is over.

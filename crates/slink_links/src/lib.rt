@@ -38,6 +38,7 @@ mod trouble;
 
 pub use accept::Accept;
 pub use dial::Dial;
+pub use ending::put_address;
 pub use fetching::{FetchEnd, fetch_all, fetch_link};
 pub use handshake::EndsHandshake;
 pub use listen_fault::ListenFault;

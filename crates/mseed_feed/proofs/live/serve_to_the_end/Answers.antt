@@ -2,7 +2,7 @@ use Rattle.std.proofs.Common.{◌∙◌, List, subst, sym}
 use Rattle.slink_live.specs.Awake.{Goes, IsAwake, IsClosedRightly}
 use Rattle.slink_live.specs.Happening.{Happening}
 use Rattle.slink_live.specs.Served.{IsServing}
-use Rattle.slink_live.proofs.Reported.{goes_then}
+use Rattle.slink_live.proofs.Slots.{goes_then}
 use Rattle.mseed_feed.specs.Live.{for_long, input_ended, input_wrong, served}
 use Rattle.mseed_feed.proofs.live.serve_to_the_end.Goals as goal
 
