@@ -1,22 +1,8 @@
 //! Calls of `mseed_files`.
-use mseed_files::{
-    Arguments, Chain, Files, Place, Process, STANDARD_INPUT, System, find_unreadable, words_of,
-};
+use mseed_files::{Chain, Files, Place, STANDARD_INPUT, System, find_unreadable};
 use mseed_stream::Source;
 use std::alloc::{Alloc, AllocError, Global};
-use std::env::Env;
 use std::fs;
-
-/// How many arguments a program was started with, its own name aside.
-pub fn count_words<R: Env>(alloc: Global, rt: &R) -> Result<usize, AllocError> {
-    Ok(words_of(alloc, &Process::new(rt))?.len())
-}
-
-/// How long the first argument of a command line is, where it has no more than 256 bytes.
-pub fn first_length<G: Arguments>(arguments: &G) -> Option<usize> {
-    let mut room = [0; 256];
-    arguments.word(0, &mut room).ok()
-}
 
 /// Whether each of these arguments names a file of the system that can be read.
 pub fn can_be_read<R: fs::Files + Alloc>(rt: &R, words: &[&[u8]]) -> bool {

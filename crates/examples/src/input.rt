@@ -1,26 +1,10 @@
 //! Calls of `mseed_files`: the input that arguments name.
 use mseed_files::{
     Blame, Chain, Files, Reason, TrackedSource, blame_by, blame_of, report_blame, report_fault,
-    report_given, report_no_memory, report_number, report_reason, report_unreadable, texts_of,
-    word_of,
+    report_given, report_no_memory, report_number, report_reason, report_unreadable,
 };
 use mseed_stream::{Sink, Source, StreamFault};
 use std::alloc::{AllocError, Global};
-
-/// How many bytes the texts have that stand for the arguments of a command line.
-pub fn bytes_of_texts(alloc: Global, words: &[Vec<u8>]) -> Result<u64, AllocError> {
-    let mut bytes: u64 = 0;
-    let texts = texts_of(alloc, words)?;
-    for text in &texts {
-        bytes = bytes.saturating_add(text.len() as u64);
-    }
-    Ok(bytes)
-}
-
-/// Whether the argument that a text stands for is one that names standard input.
-pub fn is_standard_input(text: &str, words: &[Vec<u8>]) -> bool {
-    word_of(text, words) == b"-".as_slice()
-}
 
 /// A source of which it is known where its last record is.
 pub fn watched<R: Source>(source: R) -> TrackedSource<R> {

@@ -3,7 +3,7 @@ use Rattle.std.proofs.Common.{◌≡◌, ℕ, List, Option, Some, None, Result, 
 use Rattle.mseed_record.specs.Selection.{Selection}
 use Rattle.mseed_feed.specs.Listened.{Heard}
 use Rattle.mseed_files.specs.Found.{Found}
-use Rattle.mseed_files.specs.Texts.{AreTextsOf}
+use Rattle.mseed_words.specs.Texts.{AreTextsOf}
 use Rattle.mseed_stream.specs.Device.{BytesRead, BytesWritten, nothing_read}
 use Rattle.mseed_words.specs.Words.{AreRefused, AsksFor, AsksForNothing}
 use Rattle.mseed_words.specs.declared.mistake.Mistake.{Mistake}

@@ -12,7 +12,7 @@ use Rattle.mseed_files.specs.ReaderState.{remaining_of, unread}
 use Rattle.mseed_stream.specs.Calls.{ReadsOn}
 use Rattle.mseed_stream.specs.Cutting.{GivesMore}
 use Rattle.mseed_stream.specs.Device.{Beside, BytesRead, BytesWritten, nothing_read}
-use Rattle.mseed_files.specs.Texts.{IsWordOf}
+use Rattle.mseed_words.specs.Texts.{IsWordOf}
 use Rattle.mseed_files.specs.InputFiles.{Names, ReportsBlame, ReportsName, ReportsReason, cannot_read}
 use Rattle.mseed_files.specs.declared.blame.Blame.{Blame}
 use Rattle.mseed_files.specs.Found.{Found}

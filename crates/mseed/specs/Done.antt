@@ -4,7 +4,7 @@ use Rattle.mseed_stream.specs.Device.{BytesWritten}
 use Rattle.mseed_stream.specs.LineWritten.{WritesLine}
 use Rattle.mseed_files.specs.InputFiles.{no_memory}
 use Rattle.mseed_files.specs.Given.{given_line}
-use Rattle.mseed_files.specs.Texts.{StandsForItself}
+use Rattle.mseed_words.specs.Texts.{StandsForItself}
 use Rattle.mseed.specs.Outcome.{ReportsLines}
 use Rattle.mseed_words.specs.Mistakes.{after_text, before_text}
 use Rattle.mseed_words.specs.declared.mistake.Mistake.{Mistake}

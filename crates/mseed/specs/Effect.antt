@@ -8,7 +8,7 @@ use Rattle.mseed_files.specs.Files.{Contents, all_of}
 use Rattle.mseed_files.specs.Found.{Found, bytes_of, contents_of}
 use Rattle.mseed_files.specs.Looked.{MayBeRead, MayBeUnreadable, found_at}
 use Rattle.mseed_files.specs.declared.reason.Reason.{Reason}
-use Rattle.mseed_files.specs.Texts.{IsWordOf}
+use Rattle.mseed_words.specs.Texts.{IsWordOf}
 use Rattle.mseed_files.specs.declared.blame.Blame.{Blame}
 use Rattle.mseed_files.specs.InputFiles.{Names, ReportsBlame, ReportsName, ReportsReason, cannot_read}
 use Rattle.mseed_record.specs.Selection.{Selection}

@@ -1,11 +1,11 @@
 //! The command line: what its arguments request, and what is done with an input.
-ghost use Rattle.std.specs.Prelude.{◌≡◌, ℕ, IfOk, List, map, OnOk, Option, option_map, true};
+ghost use Rattle.std.specs.Prelude.{◌≡◌, ℕ, IfOk, List, OnOk, Option, option_map, true};
 ghost use Rattle.mseed_join.specs.declared.joining.Form.{Form};
 ghost use Rattle.mseed_select.specs.Selecting.{selection_of};
 ghost use Rattle.mseed_record.specs.Selection.{Selection};
 ghost use Rattle.mseed_stream.specs.Calls.{ReadsOn};
 ghost use Rattle.mseed_stream.specs.Device.{nothing_read};
-ghost use Rattle.mseed_stream.specs.LineWritten.{WritesLine};
+ghost use Rattle.mseed_words.specs.Arguments.{texts_in};
 ghost use Rattle.mseed_words.specs.Files.{takes_files};
 ghost use Rattle.mseed_words.specs.Words.{AreRefused, AsksFor, AsksForNothing, CanBeCalled};
 ghost use Rattle.mseed_words.specs.declared.mistake.Mistake.{Mistake};
@@ -23,58 +23,58 @@ use crate::ending::{
 use crate::outcome::Ended;
 use crate::refusal::refuse_memory;
 use mseed_audit::{audit_each_selected, audit_selected};
-use mseed_files::{report_given, word_of};
+use mseed_files::report_given;
 use mseed_join::{Form, audit_part, audit_part_each, join, join_each};
 use mseed_pack::Options;
-use mseed_record::{All, Choice};
+use mseed_record::Choice;
 use mseed_repack::{repack_selected, repack_selected_stretches};
 use mseed_select::{select, show_selected};
 use mseed_stream::{Sink, Source, report};
-use mseed_words::{Command, Joining, Mistake, Packing, Refusal, Request};
+use mseed_words::{
+    Command, CommandLine, Joining, Mistake, Packing, Refusal, Request, read, word_of,
+};
 use slink_links::BAD_COMMAND;
 use std::alloc::{Allocator, Global};
 
-/// Reads the arguments of the command line, and returns the command that they request: what it does, with which
-/// records, and of which files. `words` are the texts that stand for `arguments`, which are as they were given. Where
-/// they request nothing, `errors` takes why. The input and the output are lent so that a contract can say that they are
-/// left alone until the arguments are understood.
+/// Reads the words of a command line, and returns the command that they request: what it does, with which records, and
+/// of which files. Where they request nothing, `errors` takes why. The input and the output are lent so that a contract
+/// can say that they are left alone until the words are understood.
 ///
 /// # Errors
 ///
 /// The exit status, after what `errors` takes: 3 where the arguments aren't those of a command line (the text of the
 /// parser, which is also the help and the version) or request nothing that there is (`bad value`, and a line that says
 /// what is wrong with what was given, and what would be right), and 2 where there was no memory for them.
-#[tactic(auto, using(crate::proofs::Asking::asked_is))]
 pub fn command_of<'a, R: Source, W: Sink, E: Sink>(
     alloc: Global,
-    arguments: &[Vec<u8>],
-    words: &'a [&'a str],
+    line: &'a CommandLine,
     input: &mut R,
     output: &mut W,
     errors: &mut E,
 ) -> Result<Command<'a>, u8>
     ensures called { (request : Request) (asked : Option Selection) (files : List (List ℕ))
-        → AsksFor (map (λ word. word.now) words.entry.now) request asked files
+        → AsksFor (texts_in line.entry.now) request asked files
         → UnlessMemoryLacks (IsAsked request asked files) result (E.written errors.old) (E.written errors.new) }
     ensures bad { (mistake : Mistake) (given : List ℕ)
-        → AsksForNothing (map (λ word. word.now) words.entry.now) mistake given
+        → AsksForNothing (texts_in line.entry.now) mistake given
         → UnlessMemoryLacks (HasRefusedRequest mistake given) result (E.written errors.old) (E.written errors.new) }
-    ensures refused { AreRefused (map (λ word. word.now) words.entry.now)
+    ensures refused { AreRefused (texts_in line.entry.now)
         → UnlessMemoryLacks HasRefusedWords result (E.written errors.old) (E.written errors.new) }
     ensures range { IfOk result (λ command. CanBeCalled command.request) }
     ensures silent { OnOk result (E.written errors.new ≡ E.written errors.old) }
     ensures unread { R.read input.new ≡ R.read input.old }
     ensures unwritten { W.written output.new ≡ W.written output.old }
 {
-    match mseed_words::read(alloc, words) {
+    match read(alloc, &line.texts) {
         Ok(command) => Ok(command),
-        Err(refusal) => Err(refuse(errors, &refusal, arguments)),
+        Err(refusal) => Err(refuse(errors, &refusal, &line.words)),
     }
 }
 
-/// Carries out a command, any but `serve` and `fetch`, with an input of which nothing was read yet, and returns how
-/// that ended. An allocator that refuses can be lent: where memory was refused the status is 2, and `errors` takes a
-/// line that says so.
+/// Carries out a command, any but `serve` and `fetch`, with the records of this choice, which are those that it asks
+/// for, of an input of which nothing was read yet, and returns how that ended. Parts are made and joined of all
+/// records. An allocator that refuses can be lent: where memory was refused the status is 2, and `errors` takes a line
+/// that says so.
 ///
 /// `audit` writes the audit of the records of `input` to `output`: status 0 where every channel is continuous, 1 where
 /// one is broken, and 2 where the input ended with a fault, which the text names, or where the text couldn't be written
@@ -88,33 +88,7 @@ pub fn command_of<'a, R: Source, W: Sink, E: Sink>(
 /// after the number of the records that lack a time, or where they couldn't be written. `repack` packs the archive
 /// anew: status 0, 1 where a channel is broken, and 2 where the input is no whole archive, where a channel can't be
 /// packed, or where the output failed; `errors` takes a line that says so.
-pub fn run<A: Allocator + Copy, R: Source, W: Sink, E: Sink>(
-    alloc: A,
-    command: &Command<'_>,
-    input: &mut R,
-    output: &mut W,
-    errors: &mut E,
-) -> Ended
-    requires unread { R.read input.old ≡ nothing_read }
-    requires called { CanBeCalled command.now.request }
-    requires reads { takes_files command.now.request ≡ true }
-    ensures called { HasCarriedOut command.now.request (option_map selection_of command.now.selector) result
-        (streams (R.read input.old) (W.written output.old) (E.written errors.old))
-        (streams (R.read input.new) (W.written output.new) (E.written errors.new)) }
-
-    // What the input is known to have left is what was read of it, up to its end where it is at its end.
-    ensures reads { ReadsOn (R.read input.old) (R.read input.new) (R.remaining input.old) (R.remaining input.new)
-        (R.beside input.old) (R.beside input.new) }
-{
-    match &command.selector {
-        None => run_over(alloc, command, &All, input, output, errors),
-        Some(selector) => run_over(alloc, command, selector, input, output, errors),
-    }
-}
-
-/// Carries out a command with the records of this choice, which are those that it asks for, and returns how that ended.
-/// Parts are made and joined of all records.
-fn run_over<A: Allocator + Copy, C: Choice, R: Source, W: Sink, E: Sink>(
+pub fn run<A: Allocator + Copy, C: Choice, R: Source, W: Sink, E: Sink>(
     alloc: A,
     command: &Command<'_>,
     choice: &C,
@@ -213,7 +187,10 @@ fn refuse<E: Sink>(errors: &mut E, refusal: &Refusal<'_>, arguments: &[Vec<u8>])
     ensures { EndsRefused refusal.now result (E.written errors.old) (E.written errors.new) }
 {
     match refusal {
-        Refusal::Text(text) => refuse_line(errors, text.as_bytes()),
+        Refusal::Text(text) => {
+            report(errors, text.as_bytes());
+            BAD_COMMAND
+        }
         Refusal::NoRequest(mistake, given) => { refuse_mistake(errors, *mistake, given, arguments) }
         Refusal::Memory => refuse_memory(errors),
     }
@@ -235,14 +212,5 @@ fn refuse_mistake<'a, E: Sink>(
     let head = mistake.before();
     let tail = mistake.after();
     report_given(errors, head.as_bytes(), argument, tail.as_bytes());
-    BAD_COMMAND
-}
-
-/// Reports a bad command line, and returns the exit status.
-fn refuse_line<E: Sink>(errors: &mut E, line: &[u8]) -> u8
-    ensures status { result ≡ 3 }
-    ensures reported { WritesLine line.now (E.written errors.old) (E.written errors.new) }
-{
-    report(errors, line);
     BAD_COMMAND
 }

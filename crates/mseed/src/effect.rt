@@ -1,6 +1,7 @@
 //! From the arguments of the command line to their effect.
-ghost use Rattle.std.specs.Prelude.{◌≡◌, ℕ, IfErr, IfOk, IfSome, List, map, Option, option_map, string_bytes};
-ghost use Rattle.mseed_files.specs.Texts.{AreTextsOf};
+ghost use Rattle.std.specs.Prelude.{◌≡◌, ℕ, IfErr, IfOk, IfSome, List, map, Option, option_map};
+ghost use Rattle.mseed_words.specs.Arguments.{texts_in, words_in};
+ghost use Rattle.mseed_words.specs.Texts.{AreTextsOf};
 ghost use Rattle.mseed_select.specs.Selecting.{selection_of};
 ghost use Rattle.mseed_record.specs.Selection.{Selection};
 ghost use Rattle.mseed_feed.specs.Listened.{NotYet, heard};
@@ -15,10 +16,9 @@ ghost use Rattle.mseed.specs.Streams.{streams};
 use crate::command::command_of;
 use crate::files::{ROOM, run_over_named};
 use mseed_feed::{Listen, fetch, serve, serve_live_at};
-use mseed_files::{Arguments, Chain, Files, STANDARD_INPUT, texts_of, words_of};
+use mseed_files::{Chain, Files, STANDARD_INPUT};
 use mseed_stream::{Counted, Sink};
-use mseed_words::{Command, Request};
-use std::alloc::{AllocError, Global};
+use mseed_words::{Arguments, Command, CommandLine, Request};
 use std::io;
 
 /// Does what the arguments of the command line request, as they are given, and returns the exit status.
@@ -48,31 +48,12 @@ pub fn carry_out_arguments<G: Arguments, F: Files, L: Listen, W: Sink, E: Sink>(
     ensures unreported { IfErr result (λ _. E.written errors.new ≡ E.written errors.old) }
     ensures unserved { IfErr result (λ _. listening.new ≡ listening.old) }
 {
-    let words = words_of(rt.alloc(), arguments)?;
-    let texts = texts_of(rt.alloc(), &words)?;
-    let lent = lend(rt.alloc(), &texts)?;
-    carry_out(rt, files, listening, &words, &lent, output, errors)
+    let line = CommandLine::of(rt.alloc(), arguments)?;
+    carry_out(rt, files, listening, &line, output, errors)
 }
 
-/// The texts, lent.
-///
-/// # Errors
-///
-/// Where there was no room for them.
-fn lend<'a>(alloc: Global, texts: &'a [String]) -> Result<Vec<&'a str>, AllocError>
-    ensures { IfOk result (λ lent. map (λ text. text.now) lent.items
-        ≡ map (λ text. string_bytes text) texts.entry.now) }
-{
-    let mut lent = Vec::new(alloc);
-    for text in texts {
-        lent.push(text.as_str())?;
-    }
-    Ok(lent)
-}
-
-/// Does what the arguments of the command line request, and returns the exit status. `words` are the arguments as
-/// they were given, and `texts` the texts that stand for them. A buffer for an input is made once it is known that one
-/// is read.
+/// Does what the words of a command line request, and returns the exit status. A buffer for an input is made once it is
+/// known that one is read.
 ///
 /// The contract holds over any standard input and any files, as `files` gives them: what was read is a beginning of
 /// their bytes, in the order of the words and each once, and all of them where the input is at its end. Of arguments
@@ -87,42 +68,41 @@ pub fn carry_out<F: Files, L: Listen, W: Sink, E: Sink>(
     rt: &HostRuntime,
     files: &mut F,
     listening: &mut L,
-    words: &[Vec<u8>],
-    texts: &[&str],
+    line: &CommandLine,
     output: &mut W,
     errors: &mut E,
 ) -> io::Result<u8>
     requires { L.came listening.old ≡ NotYet }
     ensures called { (request : Request) (asked : Option Selection) (named : List (List ℕ))
-        → AsksFor (map (λ text. text.now) texts.now) request asked named
+        → AsksFor (texts_in line.now) request asked named
         → IfOk result (λ status. (read : BytesRead) × HasEffect (F.found files.old)
-        (map (λ word. word.items) words.now) request asked named status
+        (words_in line.now) request asked named status
         (streams nothing_read (W.written output.old) (E.written errors.old))
         (streams read (W.written output.new) (E.written errors.new))
         (heard (L.planned listening.old) (L.came listening.old))
         (heard (L.planned listening.new) (L.came listening.new))) }
     ensures bad { (mistake : Mistake) (given : List ℕ)
-        → AsksForNothing (map (λ text. text.now) texts.now) mistake given
+        → AsksForNothing (texts_in line.now) mistake given
         → IfOk result (λ status. IsRefusedBy (UnlessMemoryLacks (HasRefusedRequest mistake given)) status
         (streams nothing_read (W.written output.old) (E.written errors.old))
         (streams nothing_read (W.written output.new) (E.written errors.new))) }
-    ensures refused { AreRefused (map (λ text. text.now) texts.now)
+    ensures refused { AreRefused (texts_in line.now)
         → IfOk result (λ status. IsRefusedBy (UnlessMemoryLacks HasRefusedWords) status
         (streams nothing_read (W.written output.old) (E.written errors.old))
         (streams nothing_read (W.written output.new) (E.written errors.new))) }
     ensures unopened { ((mistake : Mistake) (given : List ℕ)
-        → AsksForNothing (map (λ text. text.now) texts.now) mistake given → files.new ≡ files.old)
-        × (AreRefused (map (λ text. text.now) texts.now) → files.new ≡ files.old) }
+        → AsksForNothing (texts_in line.now) mistake given → files.new ≡ files.old)
+        × (AreRefused (texts_in line.now) → files.new ≡ files.old) }
     ensures unlistened { ((mistake : Mistake) (given : List ℕ)
-        → AsksForNothing (map (λ text. text.now) texts.now) mistake given → listening.new ≡ listening.old)
-        × (AreRefused (map (λ text. text.now) texts.now) → listening.new ≡ listening.old) }
+        → AsksForNothing (texts_in line.now) mistake given → listening.new ≡ listening.old)
+        × (AreRefused (texts_in line.now) → listening.new ≡ listening.old) }
     ensures unwritten { IfErr result (λ _. W.written output.new ≡ W.written output.old) }
     ensures unreported { IfErr result (λ _. E.written errors.new ≡ E.written errors.old) }
     ensures unserved { IfErr result (λ _. listening.new ≡ listening.old) }
 {
     let mut input = Counted::new(rt.reader());
-    match command_of(rt.alloc(), words, texts, &mut input, output, errors) {
-        Ok(command) => execute(rt, files, listening, &command, words, output, errors),
+    match command_of(rt.alloc(), line, &mut input, output, errors) {
+        Ok(command) => execute(rt, files, listening, &command, &line.words, output, errors),
         Err(status) => Ok(status),
     }
 }

@@ -125,26 +125,22 @@ fn ended_at(end: &Option<StreamFault>) -> Ended
     }
 }
 
-/// Reports what of a selection isn't in its records, or why not all of them were written, and returns how it ended.
+/// Reports how many of the records lack a time, and with what fault the input ended, if with one, or why not all of
+/// them were written, and returns how a selection ended.
+#[tactic(auto, using(crate::proofs::Lines::reported_behind))]
 pub fn selected<E: Sink>(outcome: Result<Selected, SelectFault>, errors: &mut E) -> Ended
     ensures { EndsSelect outcome result (E.written errors.old) (E.written errors.new) }
 {
     match outcome {
-        Ok(selected) => selected_to(selected, errors),
+        Ok(selected) => {
+            report_without_time(selected.without_time, errors);
+            let status = report_end(&selected.end, errors);
+            Ended {
+                status,
+                blame: blame_by(&selected.end),
+            }
+        }
         Err(fault) => unwritten(fault, errors),
-    }
-}
-
-/// Reports how many of the records lack a time, and with what fault the input ended, if with one.
-#[tactic(auto, using(crate::proofs::Lines::reported_behind))]
-fn selected_to<E: Sink>(selected: Selected, errors: &mut E) -> Ended
-    ensures { EndsSelect (Ok selected) result (E.written errors.old) (E.written errors.new) }
-{
-    report_without_time(selected.without_time, errors);
-    let status = report_end(&selected.end, errors);
-    Ended {
-        status,
-        blame: blame_by(&selected.end),
     }
 }
 

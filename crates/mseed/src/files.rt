@@ -4,16 +4,18 @@ ghost use Rattle.mseed_select.specs.Selecting.{selection_of};
 ghost use Rattle.mseed_stream.specs.Device.{BytesRead, nothing_read};
 ghost use Rattle.mseed_words.specs.Files.{takes_files};
 ghost use Rattle.mseed_words.specs.Words.{CanBeCalled};
-ghost use Rattle.mseed.specs.Effect.{AreFilesOf, HasRun, HasRunOver};
+ghost use Rattle.mseed.specs.Effect.{AreFilesOf, HasRun, HasRunOver, are_named};
+ghost use Rattle.mseed.specs.Selected.{asked_or_all};
 ghost use Rattle.mseed.specs.Streams.{streams};
 
 use crate::command::run;
 use mseed_files::{
     Chain, Files, STANDARD_INPUT, TrackedSource, find_unreadable, report_blame, report_reason,
-    report_unreadable, word_of,
+    report_unreadable,
 };
+use mseed_record::{All, Choice};
 use mseed_stream::Sink;
-use mseed_words::Command;
+use mseed_words::{Command, word_of};
 use slink_links::FAULT;
 use std::alloc::{AllocError, Global};
 
@@ -47,14 +49,18 @@ pub fn run_over_named<F: Files, W: Sink, E: Sink>(
     ensures unwritten { IfErr result (λ _. W.written output.new ≡ W.written output.old) }
     ensures unreported { IfErr result (λ _. E.written errors.new ≡ E.written errors.old) }
 {
-    let are_named = !command.files.is_empty();
     let names = names_of(alloc, &command.files, words)?;
     match find_unreadable(files, &names) {
         Some((index, reason)) => {
             report_unreadable(alloc, errors, names[index], reason);
             Ok(FAULT)
         }
-        None => run_over_files(alloc, files, command, &names, are_named, output, errors),
+        None => match &command.selector {
+            None => run_over_files(alloc, files, command, &All, &names, output, errors),
+            Some(selector) => {
+                run_over_files(alloc, files, command, selector, &names, output, errors)
+            }
+        },
     }
 }
 
@@ -82,27 +88,28 @@ fn names_of<'a>(
     Ok(names)
 }
 
-/// Carries out a command over files, which can be read as far as is known, and returns the exit status. Where they are
-/// named, what is wrong with the input is reported last, of the file in which it lies; where they aren't, why a read
-/// failed.
+/// Carries out a command with the records of this choice, which are those that it asks for, over files, which can be
+/// read as far as is known, and returns the exit status. Where the command names them, what is wrong with the input is
+/// reported last, of the file in which it lies; where it doesn't, why a read failed.
 ///
 /// # Errors
 ///
 /// Where there is no room for a buffer. Nothing was read or written then.
-fn run_over_files<'a, F: Files, W: Sink, E: Sink>(
+fn run_over_files<'a, F: Files, C: Choice, W: Sink, E: Sink>(
     alloc: Global,
     files: &'a mut F,
     command: &Command<'_>,
+    choice: &C,
     names: &'a [&'a [u8]],
-    are_named: bool,
     output: &mut W,
     errors: &mut E,
 ) -> Result<u8, AllocError>
+    requires asked { C.selection choice.now ≡ asked_or_all (option_map selection_of command.now.selector) }
     requires called { CanBeCalled command.now.request }
     requires reads { takes_files command.now.request ≡ true }
     ensures ok { IfOk result (λ status. (read : BytesRead)
         × HasRunOver (F.found files.old) command.now.request (option_map selection_of command.now.selector)
-        names.entry.now are_named status
+        names.entry.now (are_named (map (λ file. file.now) command.now.files.items)) status
         (streams nothing_read (W.written output.old) (E.written errors.old))
         (streams read (W.written output.new) (E.written errors.new))) }
     ensures unwritten { IfErr result (λ _. W.written output.new ≡ W.written output.old) }
@@ -113,11 +120,11 @@ fn run_over_files<'a, F: Files, W: Sink, E: Sink>(
         Err(error) => return Err(error),
     };
     let mut input = TrackedSource::new(chain);
-    let ended = run(alloc, command, &mut input, output, errors);
-    if are_named {
-        report_blame(alloc, errors, names, &input, ended.blame);
-    } else {
+    let ended = run(alloc, command, choice, &mut input, output, errors);
+    if command.files.is_empty() {
         report_reason(errors, &input, ended.blame);
+    } else {
+        report_blame(alloc, errors, names, &input, ended.blame);
     }
     drop(input);
     Ok(ended.status)

@@ -12,8 +12,9 @@ mod refusal;
 
 use effect::carry_out_arguments;
 use mseed_feed::TcpListening;
-use mseed_files::{Process, System};
+use mseed_files::System;
 use mseed_stream::Counted;
+use mseed_words::Process;
 use refusal::refuse_memory;
 use std::io;
 use std::process::ExitCode;

@@ -2,7 +2,6 @@
 //! reported whatever memory there is.
 ghost use Rattle.std.specs.Prelude.{◌≡◌, ◌≤◌, ◌+◌, ◌++◌, codes, length};
 ghost use Rattle.mseed_files.specs.InputFiles.{no_memory};
-ghost use Rattle.mseed_repack.specs.ByStretches.{broken_text};
 ghost use Rattle.mseed_repack.specs.Misfits.{misfit_text};
 ghost use Rattle.mseed_stream.specs.LineWritten.{WritesLine};
 ghost use Rattle.mseed_text.specs.Fault.{fault_line};
@@ -12,7 +11,6 @@ ghost use Rattle.mseed.specs.Outcome.{write_failed};
 ghost use Rattle.mseed.specs.Repacked.{refusal_status, refusal_text};
 ghost use Rattle.mseed.specs.Restretched.{stretches_text};
 
-use mseed_audit::Finding;
 use mseed_files::{report_fault, report_no_memory};
 use mseed_join::{Closing, Field, Flaw, JoinsFault};
 use mseed_pack::PackFault;
@@ -49,7 +47,10 @@ pub fn refuse_to_repack<E: Sink>(errors: &mut E, encoding: Encoding, fault: &Rep
 {
     match fault {
         RepackFault::Stream(fault) => refuse_input(errors, fault),
-        RepackFault::Broken(channel, first) => refuse_broken(errors, channel, first),
+        RepackFault::Broken(channel, first) => {
+            report_broken(channel, first, errors);
+            BROKEN
+        }
         RepackFault::Misfit(channel, _, fault) => {
             refuse_unfit(errors, encoding, channel, None, fault)
         }
@@ -114,7 +115,7 @@ fn put_flaw(line: &mut Line, flaw: &Flaw)
             line.put_name(codes);
             line.put(b" is out of order; channels ascend by their keys");
         }
-        Flaw::Ending(closing) => put_closing(line, *closing),
+        Flaw::Ending(closing) => line.put(closing_text(*closing).as_bytes()),
         Flaw::Limit => line.put(b"a sum passes 9223372036854775807, the most that a number can be"),
         Flaw::Long => line.put(b"no LF within 512 bytes; no line is longer"),
         Flaw::Unended => line.put(b"no LF at the end of the input; each line ends with one"),
@@ -133,105 +134,93 @@ fn put_field(line: &mut Line, field: Field)
     ensures most { length line.new ≤ length line.old + 128 }
 {
     line.put(b"bad ");
-    put_field_name(line, field);
+    line.put(field_name(field).as_bytes());
     line.put(b" in the ");
-    put_field_place(line, field);
+    line.put(field_place(field).as_bytes());
     line.put(b"; ");
-    put_field_right(line, field);
+    line.put(field_right(field).as_bytes());
 }
 
-/// Puts the name of a field of a line of parts at a line's end.
-fn put_field_name(line: &mut Line, field: Field)
-    requires { length line.old ≤ 128 }
-    ensures text { line.new ≡ line.old ++ field_name field }
-    ensures most { length line.new ≤ length line.old + 8 }
+/// The name of a field of a line of parts.
+fn field_name(field: Field) -> &'static str
+    ensures text { result.now ≡ field_name field }
+    ensures most { length result.now ≤ 8 }
 {
     match field {
-        Field::Key => line.put(b"key"),
-        Field::Records | Field::AllRecords => line.put(b"records"),
-        Field::Samples | Field::TailSamples => line.put(b"samples"),
-        Field::HeadNumber => line.put(b"number"),
-        Field::HeadOffset => line.put(b"offset"),
-        Field::HeadStart | Field::TailStart => line.put(b"start"),
-        Field::HeadRate | Field::TailRate => line.put(b"rate"),
-        Field::TailLeap => line.put(b"leap"),
-        Field::Findings => line.put(b"findings"),
-        Field::First => line.put(b"first"),
-        Field::AllBytes => line.put(b"bytes"),
+        Field::Key => "key",
+        Field::Records | Field::AllRecords => "records",
+        Field::Samples | Field::TailSamples => "samples",
+        Field::HeadNumber => "number",
+        Field::HeadOffset => "offset",
+        Field::HeadStart | Field::TailStart => "start",
+        Field::HeadRate | Field::TailRate => "rate",
+        Field::TailLeap => "leap",
+        Field::Findings => "findings",
+        Field::First => "first",
+        Field::AllBytes => "bytes",
     }
 }
 
-/// Puts where a field of a line of parts stands at a line's end.
-fn put_field_place(line: &mut Line, field: Field)
-    requires { length line.old ≤ 128 }
-    ensures text { line.new ≡ line.old ++ field_place field }
-    ensures most { length line.new ≤ length line.old + 18 }
+/// Where a field of a line of parts stands.
+fn field_place(field: Field) -> &'static str
+    ensures text { result.now ≡ field_place field }
+    ensures most { length result.now ≤ 18 }
 {
     match field {
         Field::HeadNumber | Field::HeadOffset | Field::HeadStart | Field::HeadRate => {
-            line.put(b"head of a channel")
+            "head of a channel"
         }
         Field::TailStart | Field::TailSamples | Field::TailRate | Field::TailLeap => {
-            line.put(b"tail of a channel")
+            "tail of a channel"
         }
-        Field::AllRecords | Field::AllBytes => line.put(b"line of the counts"),
+        Field::AllRecords | Field::AllBytes => "line of the counts",
         Field::Key | Field::Records | Field::Samples | Field::Findings | Field::First => {
-            line.put(b"line of a channel")
+            "line of a channel"
         }
     }
 }
 
-/// Puts what would be right in place of a bad field of a line of parts at a line's end.
-fn put_field_right(line: &mut Line, field: Field)
-    requires { length line.old ≤ 128 }
-    ensures text { line.new ≡ line.old ++ field_right field }
-    ensures most { length line.new ≤ length line.old + 80 }
+/// What would be right in place of a bad field of a line of parts.
+fn field_right(field: Field) -> &'static str
+    ensures text { result.now ≡ field_right field }
+    ensures most { length result.now ≤ 80 }
 {
     match field {
-        Field::Key => {
-            line.put(b"it is 24 digits 0-9A-F, or the counts are as records 2 bytes 256")
-        }
+        Field::Key => "it is 24 digits 0-9A-F, or the counts are as records 2 bytes 256",
         Field::Records | Field::AllRecords => {
-            line.put(b"they are as records 2, from 0 to 9223372036854775807")
+            "they are as records 2, from 0 to 9223372036854775807"
         }
-        Field::Samples => line.put(b"they are as samples 32, from 0 to 9223372036854775807"),
-        Field::HeadNumber => line.put(b"it is as head 1 0 1704067200000000 20/1, or head none"),
-        Field::HeadOffset => line.put(b"it is from 0 to 9223372036854775807"),
+        Field::Samples => "they are as samples 32, from 0 to 9223372036854775807",
+        Field::HeadNumber => "it is as head 1 0 1704067200000000 20/1, or head none",
+        Field::HeadOffset => "it is from 0 to 9223372036854775807",
         Field::HeadStart => {
-            line.put(
-                b"it is as 1704067200000000, microseconds from 1970, of the years 1800 to 2199",
-            )
+            "it is as 1704067200000000, microseconds from 1970, of the years 1800 to 2199"
         }
-        Field::HeadRate | Field::TailRate => {
-            line.put(b"it is as 20/1, each from 1 to 1073741824")
-        }
-        Field::TailStart => line.put(b"it is as tail 1704067200000000 16 20/1 none, or tail none"),
-        Field::TailSamples => line.put(b"they are from 1 to 65535"),
-        Field::TailLeap => line.put(b"it is none, positive, negative or both"),
-        Field::Findings => line.put(b"they are as findings 1, and 0 only with a head and a tail"),
-        Field::First => {
-            line.put(b"where findings are not 0 it ends the line, as first 2 128 gap 25001")
-        }
-        Field::AllBytes => line.put(b"they end it, as bytes 256, from 0 to 9223372036854775807"),
+        Field::HeadRate | Field::TailRate => "it is as 20/1, each from 1 to 1073741824",
+        Field::TailStart => "it is as tail 1704067200000000 16 20/1 none, or tail none",
+        Field::TailSamples => "they are from 1 to 65535",
+        Field::TailLeap => "it is none, positive, negative or both",
+        Field::Findings => "they are as findings 1, and 0 only with a head and a tail",
+        Field::First => "where findings are not 0 it ends the line, as first 2 128 gap 25001",
+        Field::AllBytes => "they end it, as bytes 256, from 0 to 9223372036854775807",
     }
 }
 
-/// Puts what a line after the counts of a part is not at a line's end.
-fn put_closing(line: &mut Line, closing: Closing)
-    requires { length line.old ≤ 64 }
-    ensures text { line.new ≡ line.old ++ closing_text closing }
-    ensures most { length line.new ≤ length line.old + 128 }
+/// What a line after the counts of a part is not.
+fn closing_text(closing: Closing) -> &'static str
+    ensures text { result.now ≡ closing_text closing }
+    ensures most { length result.now ≤ 128 }
 {
     match closing {
-        Closing::Faults => line.put(
-            b"bad faults after the counts; they come once, as faults 2, from 1 to 9223372036854775807",
-        ),
-        Closing::Fault => line.put(
-            b"bad fault at after the counts; it is as fault at 256 notdata, and has the bytes of the counts",
-        ),
-        Closing::Neither => line.put(
-            b"neither faults of this part nor the beginning of the next; that is mseed part 1",
-        ),
+        Closing::Faults => {
+            "bad faults after the counts; they come once, as faults 2, from 1 to 9223372036854775807"
+        }
+        Closing::Fault => {
+            "bad fault at after the counts; it is as fault at 256 notdata, and has the bytes of the counts"
+        }
+        Closing::Neither => {
+            "neither faults of this part nor the beginning of the next; that is mseed part 1"
+        }
     }
 }
 
@@ -259,15 +248,6 @@ pub fn refuse_input<E: Sink>(errors: &mut E, fault: &StreamFault) -> u8
 {
     report_fault(errors, fault);
     FAULT
-}
-
-/// Reports that a channel is broken, and where first and why, and returns the exit status.
-fn refuse_broken<E: Sink>(errors: &mut E, channel: &Codes, first: &Finding) -> u8
-    ensures status { result ≡ 1 }
-    ensures reported { WritesLine (broken_text channel.now first.now) (E.written errors.old) (E.written errors.new) }
-{
-    report_broken(channel, first, errors);
-    BROKEN
 }
 
 /// Reports why a channel can't be packed in an encoding, or a stretch of it by its number, from 1, and returns the exit

@@ -1,4 +1,3 @@
-pub mod Arguments
 pub mod Reason
 pub mod Files
 pub mod Found
@@ -8,6 +7,5 @@ pub mod ChainState
 pub mod Blame
 pub mod InputFiles
 pub mod Given
-pub mod Texts
 pub mod TrackedSource
 pub mod private

@@ -5,14 +5,11 @@
 //! bytes, in the order of the words, one file open at a time, and knows in which of them each byte that it gave lies.
 //! [`find_unreadable`] looks at them before anything is read. [`System`] opens the files of the system.
 //!
-//! The texts that [`texts_of`] makes of the words can be given to a parser, and [`word_of`] finds the word that one
-//! stands for. A [`TrackedSource`] source knows where the last record is that was cut of it. [`report_blame`] reports
-//! what is
-//! wrong with an input, its [`Blame`], of the file in which it lies, and [`report_reason`] why a read of one failed
-//! that has no name.
+//! A [`TrackedSource`] knows where the last record is that was cut of it. [`report_blame`] reports what is wrong with
+//! an input, its [`Blame`], of the file in which it lies, and [`report_reason`] why a read of one failed that has no
+//! name.
 #![tactic(auto)]
 
-mod arguments;
 mod blame;
 mod chain;
 mod files;
@@ -25,10 +22,8 @@ mod place;
 mod reader;
 mod reason;
 mod system;
-mod texts;
 mod tracked_source;
 
-pub use arguments::{Arguments, Process, words_of};
 pub use blame::{Blame, blame_by, blame_of};
 pub use chain::Chain;
 pub use files::Files;
@@ -40,5 +35,4 @@ pub use naming::{report_blame, report_reason, report_unreadable};
 pub use place::Place;
 pub use reason::Reason;
 pub use system::{Input, STANDARD_INPUT, System};
-pub use texts::{texts_of, word_of};
 pub use tracked_source::TrackedSource;

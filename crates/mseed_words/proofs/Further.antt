@@ -1,44 +1,24 @@
--- The further words behind a command, and the first word of a command line.
-use Rattle.std.proofs.Common.{◌≡◌, ◌∙◌, ◌<◌, ◌≤◌, ◌∷◌, [], ℕ, zero, suc, List, None, Option, Some, Bool, true, arith}
-use Rattle.std.proofs.Common.{drop}
-use Rattle.std.proofs.Common.{ap, get_or, length, map, option_map, refl, slice_get, sym, take, unwrap_or}
+-- The further words behind a command.
+use Rattle.std.proofs.Common.{◌≡◌, ◌∙◌, ◌∷◌, [], ℕ, zero, suc, List, None, Option, Some, Bool, true}
+use Rattle.std.proofs.Common.{ap, length, map, option_map, refl, slice_get, subst, sym, unwrap_or}
 use Rattle.std.specs.Borrow.{Bor}
+use Rattle.std.specs.Option.{UnwrapsOrElse, option_copied}
+use Rattle.std.specs.Slice.{IsItemAt}
+use Rattle.std.proofs.lemmas.Option.{slice_get_past, slice_get_read}
 use Rattle.clap.specs.Walk.{Row, Text}
 use Rattle.mseed_words.specs.Files.{file_mistake, files_by, files_of, named_by, takes_files, unless_mistaken}
 use Rattle.mseed_words.specs.Found.{further_in}
 use Rattle.mseed_words.specs.declared.mistake.Mistake.{Mistake}
 use Rattle.mseed_words.specs.declared.request.Request.{Request}
-use Rattle.mseed_words.specs.Names.{name_of}
-use Rattle.mseed_words.specs.Words.{reading_alone, reading_of, reading_of_first}
 
 abbrev pub texts_of : Bor (List (Bor Text)) → List Text
 texts_of words = map (λ (word : Bor Text). word.now) words.now
 
 -- the further places, where any are given
-pub further_is : (found : Option (Bor (List (Bor Text)))) (none : Bor (List (Bor Text))) → texts_of none ≡ []
-    → texts_of (unwrap_or found none) ≡ unwrap_or (option_map texts_of found) []
-further_is None none e = e
-further_is (Some words) none e = refl
-
--- a command line by its first word, and those behind it
-pub by_first : (words : List (Bor Text)) (d : Bor Text) → 0 < length words
-    → reading_of (map (λ (w : Bor Text). w.now) words)
-    ≡ reading_of_first (name_of (get_or words 0 d).now) (get_or words 0 d).now
-    (map (λ (w : Bor Text). w.now) (drop 1 words))
-by_first [] d less = absurd (omega (arith, less))
-by_first (w ∷ ws) d less = refl
-
--- no word at all
-pub by_none : (words : List (Bor Text)) → length words ≡ 0
-    → reading_of (map (λ (w : Bor Text). w.now) words) ≡ reading_alone (map (λ (w : Bor Text). w.now) words)
-by_none [] none = refl
-by_none (w ∷ ws) none = absurd (omega (arith, none))
-
--- the first word alone
-pub first_alone : (words : List (Bor Text)) (d : Bor Text) → 0 < length words
-    → map (λ (w : Bor Text). w.now) (take 1 words) ≡ (get_or words 0 d).now ∷ []
-first_alone [] d less = absurd (omega (arith, less))
-first_alone (w ∷ ws) d less = refl
+pub further_is : (found : Option (Bor (List (Bor Text)))) (words : Bor (List (Bor Text)))
+    → UnwrapsOrElse found (λ none. none.now ≡ []) words → texts_of words ≡ unwrap_or (option_map texts_of found) []
+further_is None words none = ap (map (λ (word : Bor Text). word.now)) none
+further_is (Some found) words is = ap texts_of is
 
 -- the further words, where they are to be files
 pub all_files : (request : Request) (rows : List Row) (takes : Bool) (found : Option Mistake) (words : List Text)
@@ -48,15 +28,24 @@ all_files request rows takes found words is holds further judged =
     ap (λ (b : Bool). files_by (named_by b rows)) (sym is ∙ holds)
     ∙ (ap files_by (sym further) ∙ ap (λ (o : Option Mistake). unless_mistaken o words) (sym judged))
 
--- the word of a number, and that there is none
-pub word_there : (words : List (Bor Text)) (i : ℕ) (d : Bor Text) → i < length words
-    → (get_or words i d).now ≡ unwrap_or (slice_get (map (λ (w : Bor Text). w.now) words) i) []
-word_there [] i d less = absurd (omega (arith, less))
-word_there (w ∷ ws) zero d less = refl
-word_there (w ∷ ws) (suc i) d less = word_there ws i d (omega (arith, less))
+-- what is lent of a list is the word of that number
+item : (words : List (Bor Text)) (i : ℕ) (lent : Option (Bor (Bor Text))) → IsItemAt words i lent
+    → option_copied lent ≡ slice_get words i
+item words i None is = sym (slice_get_past words i is.3)
+item words i (Some word) is = sym (slice_get_read words (length words) i word.now refl is.3.0 is.1)
 
-pub no_word_there : (words : List (Bor Text)) (i : ℕ) → length words ≤ i
-    → unwrap_or (slice_get (map (λ (w : Bor Text). w.now) words) i) [] ≡ []
-no_word_there [] i less = refl
-no_word_there (w ∷ ws) zero less = absurd (omega (arith, less))
-no_word_there (w ∷ ws) (suc i) less = no_word_there ws i (omega (arith, less))
+text_there : (words : List (Bor Text)) (i : ℕ) (word : Bor Text)
+    → UnwrapsOrElse (slice_get words i) (λ none. none.now ≡ []) word
+    → word.now ≡ unwrap_or (slice_get (map (λ (w : Bor Text). w.now) words) i) []
+text_there [] i word is = is
+text_there (w ∷ ws) zero word is = ap (λ (b : Bor Text). b.now) is
+text_there (w ∷ ws) (suc i) word is = text_there ws i word is
+
+-- the word of a number, and an empty one where there are fewer
+pub word_there : (words : List (Bor Text)) (i : ℕ) (lent : Option (Bor (Bor Text))) (found : Option (Bor Text))
+    (word : Bor Text) → IsItemAt words i lent → found ≡ option_copied lent
+    → UnwrapsOrElse found (λ none. none.now ≡ []) word
+    → word.now ≡ unwrap_or (slice_get (map (λ (w : Bor Text). w.now) words) i) []
+word_there words i lent found word is same given =
+    text_there words i word (subst (λ (o : Option (Bor Text)). UnwrapsOrElse o (λ none. none.now ≡ []) word)
+    (same ∙ item words i lent is) given)

@@ -4,3 +4,5 @@ pub mod Digits
 pub mod PlaceWords
 pub mod Different
 pub mod Further
+pub mod GivenWords
+pub mod WordTexts

@@ -1,3 +1,5 @@
+pub mod Arguments
+pub mod Texts
 pub mod Names
 pub mod Options
 pub mod Files

@@ -5,14 +5,12 @@ ghost use Rattle.std.specs.List.{list_all};
 ghost use Rattle.clap.specs.Matches.{found_of};
 ghost use Rattle.clap.specs.Walk.{rows_of};
 ghost use Rattle.mseed_words.specs.Places.{ArePlaces};
-ghost use Rattle.mseed_words.specs.FeedWords.{CanFetch, CanServe, CanServeLive, IsCount, IsEndpoint, IsPort};
-ghost use Rattle.mseed_words.specs.FeedWords.{address_of, called_in, called_with, capacity_in, capacity_of};
-ghost use Rattle.mseed_words.specs.FeedWords.{code_mistake, count_of, endpoint_of, fetching_of, first_place, gathered};
-ghost use Rattle.mseed_words.specs.FeedWords.{host_of, is_code, live_serving_of, number_of};
-ghost use Rattle.mseed_words.specs.FeedWords.{place_in, place_of, places_in, port_of, serving_in, serving_of};
-ghost use Rattle.mseed_words.specs.FeedWords.{timeout_of, unnamed};
+ghost use Rattle.mseed_words.specs.FeedWords.{CanFetch, CanServe, CanServeLive, IsCount, IsEndpoint, called_in};
+ghost use Rattle.mseed_words.specs.FeedWords.{capacity_of, code_mistake, count_of, endpoint_of, fetching_of};
+ghost use Rattle.mseed_words.specs.FeedWords.{first_place, gathered, is_code, live_serving_of, number_of, place_in};
+ghost use Rattle.mseed_words.specs.FeedWords.{place_of, places_in, serving_in, serving_of, unnamed};
 
-use crate::found::{is_given, is_set, text_of, text_or};
+use crate::found::{further_in, is_given, is_set, text_of, text_or};
 use crate::host_words::{address_in, host_in, timeout_in};
 use crate::mistake::{Mistake, PlaceFault, Valued, Wanted};
 use crate::numbers::{counted_in, hexadecimal_in, number_in};
@@ -58,7 +56,10 @@ fn serving_in(matches: &ArgMatches<'_>) -> Result<Serving, Mistake>
     ensures value { result ≡ serving_in (rows_of (found_of matches.now)) }
     ensures range { IfOk result CanServe }
 {
-    let address = address_of(matches)?;
+    let address = address_in(text_or(matches, "address", HERE)).ok_or(Mistake::Value(
+        Valued::Address,
+        Wanted::Address,
+    ))?;
     let listener = endpoint_of(address, matches)?;
     let connections = count_of(Valued::Connections, 1_000_000, "1", matches)?;
     let capacity = capacity_of(matches)?;
@@ -91,7 +92,7 @@ pub(crate) fn live_serving_of(matches: &ArgMatches<'_>) -> Result<LiveServing, M
     Ok(LiveServing { serving, clients })
 }
 
-/// A machine, with the port and the time-out that the options give.
+/// A machine, with the port and the time-out that the options give: ten minutes where no time-out is given.
 ///
 /// # Errors
 ///
@@ -100,13 +101,15 @@ fn endpoint_of<H: Copy>(host: H, matches: &ArgMatches<'_>) -> Result<Endpoint<H>
     ensures value { result ≡ endpoint_of host (rows_of (found_of matches.now)) }
     ensures range { IfOk result IsEndpoint }
 {
-    let port = port_of(matches)?;
-    let timeout = timeout_of(matches)?;
-    Ok(Endpoint {
-        host,
-        port,
-        timeout,
-    })
+    let port = count_of(Valued::Port, 65_535, "", matches)? as u16;
+    match timeout_in(text_or(matches, "timeout", "600")) {
+        Some(timeout) => Ok(Endpoint {
+            host,
+            port,
+            timeout,
+        }),
+        None => Err(Mistake::Value(Valued::Timeout, Wanted::Seconds)),
+    }
 }
 
 /// What is requested of fetching, by its options and places: of one try where no number is given.
@@ -118,7 +121,10 @@ pub(crate) fn fetching_of(matches: &ArgMatches<'_>) -> Result<Fetching, Mistake>
     ensures value { result ≡ fetching_of (rows_of (found_of matches.now)) }
     ensures range { IfOk result CanFetch }
 {
-    let host = host_of(matches)?;
+    let host = host_in(text_or(matches, "address", HERE)).ok_or(Mistake::Value(
+        Valued::Address,
+        Wanted::Host,
+    ))?;
     let server = endpoint_of(host, matches)?;
     let tries = count_of(Valued::Tries, 1_000_000, "1", matches)?;
     let places = places_in(Naming::Numbered, text_of(matches, "from"), matches)?;
@@ -129,59 +135,6 @@ pub(crate) fn fetching_of(matches: &ArgMatches<'_>) -> Result<Fetching, Mistake>
         report_next: is_set(matches, "tell-next"),
         holes: is_set(matches, "holes"),
     })
-}
-
-/// The address to listen at.
-///
-/// # Errors
-///
-/// Where it is none.
-fn address_of(matches: &ArgMatches<'_>) -> Result<Address, Mistake>
-    ensures { result ≡ address_of (rows_of (found_of matches.now)) }
-{
-    address_in(text_or(matches, "address", HERE)).ok_or(Mistake::Value(
-        Valued::Address,
-        Wanted::Address,
-    ))
-}
-
-/// The host to ask.
-///
-/// # Errors
-///
-/// Where it is none.
-fn host_of(matches: &ArgMatches<'_>) -> Result<Host, Mistake>
-    ensures { result ≡ host_of (rows_of (found_of matches.now)) }
-{
-    host_in(text_or(matches, "address", HERE)).ok_or(Mistake::Value(Valued::Address, Wanted::Host))
-}
-
-/// The port.
-///
-/// # Errors
-///
-/// Where there is no such port.
-fn port_of(matches: &ArgMatches<'_>) -> Result<u16, Mistake>
-    ensures value { result ≡ port_of (rows_of (found_of matches.now)) }
-    ensures range { IfOk result IsPort }
-{
-    let port = count_of(Valued::Port, 65_535, "", matches)?;
-    Ok(port as u16)
-}
-
-/// How long a link may be silent: ten minutes where nothing is given.
-///
-/// # Errors
-///
-/// Where it is no such time.
-fn timeout_of(matches: &ArgMatches<'_>) -> Result<Timeout, Mistake>
-    ensures value { result ≡ timeout_of (rows_of (found_of matches.now)) }
-    ensures range { IfOk result (λ timeout. timeout.seconds ≤ 86400) }
-{
-    match timeout_in(text_or(matches, "timeout", "600")) {
-        Some(timeout) => Ok(timeout),
-        None => Err(Mistake::Value(Valued::Timeout, Wanted::Seconds)),
-    }
 }
 
 /// The number from 1 to `most` that an option gives, or that this text says where none is given.
@@ -204,7 +157,7 @@ fn count_of(
     }
 }
 
-/// How many records a ring keeps: a thousand where nothing is given.
+/// How many records a ring keeps, from one to a million: a thousand where nothing is given.
 ///
 /// # Errors
 ///
@@ -213,22 +166,9 @@ fn capacity_of(matches: &ArgMatches<'_>) -> Result<u32, Mistake>
     ensures value { result ≡ capacity_of (rows_of (found_of matches.now)) }
     ensures range { IfOk result IsCount }
 {
-    match capacity_in(text_or(matches, "capacity", "1000")) {
-        Some(capacity) => Ok(capacity),
-        None => Err(Mistake::Value(Valued::Capacity, Wanted::Capacity)),
-    }
-}
-
-/// How many records a ring keeps: from one to a million.
-fn capacity_in(text: &str) -> Option<u32>
-    ensures value { result ≡ capacity_in text.now }
-    ensures range { IfSome result IsCount }
-{
-    let number = number_in(text)?;
-    if 1 <= number && number <= 1_000_000 {
-        Some(number)
-    } else {
-        None
+    match number_in(text_or(matches, "capacity", "1000")) {
+        Some(capacity) if 1 <= capacity && capacity <= 1_000_000 => Ok(capacity),
+        _ => Err(Mistake::Value(Valued::Capacity, Wanted::Capacity)),
     }
 }
 
@@ -241,10 +181,7 @@ fn number_of(option: Valued, digits: &str) -> Result<u32, Mistake>
     ensures value { result ≡ number_of option digits.now }
     ensures range { IfOk result (λ n. n < 2 ^ 24) }
 {
-    match hexadecimal_in(digits) {
-        Some(number) => Ok(number),
-        None => Err(Mistake::Value(option, Wanted::Hexadecimal)),
-    }
+    hexadecimal_in(digits).ok_or(Mistake::Value(option, Wanted::Hexadecimal))
 }
 
 /// The place of the two options, with the number that is given of it, and the further ones.
@@ -262,7 +199,7 @@ fn places_in(
     ensures range { IfOk result ArePlaces }
 {
     let first = first_place(from, matches)?;
-    gather(naming, first, matches.get_raw("place").unwrap_or(&[]))
+    gather(naming, first, further_in(matches))
 }
 
 /// The place of the two options, with the number that is given of it, if one is.
@@ -368,24 +305,11 @@ fn called_in(naming: Naming, word: &str) -> Option<(Place, Option<u32>)>
     ensures value { result ≡ called_in naming word.now }
     ensures range { IfSome result (λ p. IfSome p.1 (λ n. n < 2 ^ 24)) }
 {
-    match naming {
-        Naming::Plain => called_with(place_in(word), None),
-        Naming::Numbered => match word.split_once(':') {
-            None => called_with(place_in(word), None),
-            Some((place, digits)) => called_with(place_in(place), Some(digits)),
-        },
-    }
-}
-
-/// A place, with the number that is given, if one is.
-fn called_with(place: Option<Place>, digits: Option<&str>) -> Option<(Place, Option<u32>)>
-    ensures value { result ≡ called_with place (option_map (λ t. t.now) digits.entry) }
-    ensures range { IfSome result (λ p. IfSome p.1 (λ n. n < 2 ^ 24)) }
-{
-    let place = place?;
-    match digits {
-        None => Some((place, None)),
-        Some(digits) => Some((place, Some(hexadecimal_in(digits)?))),
+    match (naming, word.split_once(':')) {
+        (Naming::Numbered, Some((place, digits))) => {
+            Some((place_in(place)?, Some(hexadecimal_in(digits)?)))
+        }
+        _ => Some((place_in(word)?, None)),
     }
 }
 

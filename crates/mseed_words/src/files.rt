@@ -35,16 +35,9 @@ pub(crate) fn file_mistake(words: &[&str]) -> Option<Mistake>
 fn unfit(word: &str, rest: &[&str]) -> Option<Mistake>
     ensures { result ≡ unfit word.now (map (λ w. w.now) rest.now) }
 {
-    if word == "-" {
-        return if is_among("-", rest) {
-            Some(Mistake::InputAgain)
-        } else {
-            None
-        };
-    }
-    if word == "" {
-        Some(Mistake::EmptyFile)
-    } else {
-        None
+    match word {
+        "-" if is_among("-", rest) => Some(Mistake::InputAgain),
+        "" => Some(Mistake::EmptyFile),
+        _ => None,
     }
 }

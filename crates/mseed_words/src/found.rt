@@ -1,10 +1,10 @@
 //! What `clap` found among the words behind a command.
-ghost use Rattle.std.specs.Prelude.{◌≡◌, is_some, option_map};
+ghost use Rattle.std.specs.Prelude.{◌≡◌, is_some, map, option_map};
 ghost use Rattle.std.specs.List.{list_any};
 ghost use Rattle.std.specs.Str.{bytes_eq};
 ghost use Rattle.clap.specs.Matches.{found_of};
 ghost use Rattle.clap.specs.Walk.{first_of, rows_of};
-ghost use Rattle.mseed_words.specs.Found.{is_set, text_or};
+ghost use Rattle.mseed_words.specs.Found.{further_in, is_set, text_or};
 
 use clap::ArgMatches;
 
@@ -19,10 +19,7 @@ pub(crate) fn text_of<'a>(matches: &ArgMatches<'a>, name: &str) -> Option<&'a st
 pub(crate) fn text_or<'a>(matches: &ArgMatches<'a>, name: &str, default: &'a str) -> &'a str
     ensures { result.now ≡ text_or name.now default.now (rows_of (found_of matches.now)) }
 {
-    match text_of(matches, name) {
-        Some(text) => text,
-        None => default,
-    }
+    text_of(matches, name).unwrap_or(default)
 }
 
 /// Whether an option is given.
@@ -36,10 +33,14 @@ pub(crate) fn is_given(matches: &ArgMatches<'_>, name: &str) -> bool
 pub(crate) fn is_set(matches: &ArgMatches<'_>, name: &str) -> bool
     ensures { result ≡ is_set name.now (rows_of (found_of matches.now)) }
 {
-    match text_of(matches, name) {
-        Some(text) => text == "true",
-        None => false,
-    }
+    text_of(matches, name) == Some("true")
+}
+
+/// The further words, in their order.
+pub(crate) fn further_in<'m, 'a: 'm>(matches: &'m ArgMatches<'a>) -> &'m [&'a str]
+    ensures { map (λ word. word.now) result.now ≡ further_in (rows_of (found_of matches.entry.now)) }
+{
+    matches.get_raw("place").unwrap_or_default()
 }
 
 /// Whether a name is one of these.

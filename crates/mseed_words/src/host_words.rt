@@ -1,10 +1,11 @@
 //! Where a feed leads, and how long a link may be silent, as the arguments of the command line say.
-ghost use Rattle.std.specs.Prelude.{◌≡◌, ◌==◌, IfSome};
-ghost use Rattle.std.specs.List.{after_first, before_first, list_all, list_any};
+ghost use Rattle.std.specs.Prelude.{◌≡◌, IfSome};
+ghost use Rattle.std.specs.List.{list_all, list_any};
 ghost use Rattle.std.specs.Char.{is_ascii_alphabetic};
 ghost use Rattle.mseed_words.specs.Addresses.{IsTimeout, address_in, digits_in, host_in, is_in_name, is_name, name_in};
 ghost use Rattle.mseed_words.specs.Addresses.{octet_in, timeout_in};
 
+use crate::halves::cut;
 use crate::numbers::number_in;
 use slink_wire::{Address, Host, Name, Timeout};
 
@@ -13,14 +14,9 @@ pub(crate) fn timeout_in(text: &str) -> Option<Timeout>
     ensures value { result ≡ timeout_in text.now }
     ensures range { IfSome result IsTimeout }
 {
-    if text.len() > 5 {
-        return None;
-    }
-    let seconds = number_in(text)?;
-    if seconds <= 86_400 {
-        Some(Timeout { seconds })
-    } else {
-        None
+    match number_in(text) {
+        Some(seconds) if text.len() <= 5 && seconds <= 86_400 => Some(Timeout { seconds }),
+        _ => None,
     }
 }
 
@@ -77,9 +73,9 @@ fn is_in_name(byte: u8) -> bool
 pub(crate) fn address_in(text: &str) -> Option<Address>
     ensures { result ≡ address_in text.now }
 {
-    let (first, rest) = cut(text);
-    let (second, rest) = cut(rest);
-    let (third, fourth) = cut(rest);
+    let (first, rest) = cut(text, '.');
+    let (second, rest) = cut(rest, '.');
+    let (third, fourth) = cut(rest, '.');
     Some(Address {
         octets: [
             octet_in(first)?,
@@ -90,26 +86,13 @@ pub(crate) fn address_in(text: &str) -> Option<Address>
     })
 }
 
-/// What stands before the first dot, and what stands after it.
-fn cut(text: &str) -> (&str, &str)
-    ensures before { result.0.now ≡ before_first (λ c. c == 46) text.now }
-    ensures after { result.1.now ≡ after_first (λ c. c == 46) text.now }
-{
-    match text.split_once('.') {
-        Some((before, after)) => (before, after),
-        None => (text, ""),
-    }
-}
-
 /// A number of an address.
 fn octet_in(text: &str) -> Option<u8>
     ensures { result ≡ octet_in text.now }
 {
-    let number = number_in(text)?;
-    if number <= 255 && text.len() == digits_in(number) {
-        Some(number as u8)
-    } else {
-        None
+    match number_in(text) {
+        Some(number) if number <= 255 && text.len() == digits_in(number) => Some(number as u8),
+        _ => None,
     }
 }
 

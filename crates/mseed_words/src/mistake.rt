@@ -122,24 +122,8 @@ impl Valued {
     pub(crate) fn name(self) -> &'static str
         ensures { result.now ≡ name_text self }
     {
-        match self {
-            Valued::Channels => "channels",
-            Valued::From => "from",
-            Valued::Until => "until",
-            Valued::Length => "length",
-            Valued::Encoding => "encoding",
-            Valued::Expect => "expect",
-            Valued::Port => "port",
-            Valued::Station => "station",
-            Valued::Network => "network",
-            Valued::Address => "address",
-            Valued::Timeout => "timeout",
-            Valued::Capacity => "capacity",
-            Valued::First => "first",
-            Valued::Connections => "connections",
-            Valued::Clients => "clients",
-            Valued::Tries => "tries",
-        }
+        let option = self.before();
+        &option[2..option.len() - 1]
     }
 
     /// The option as it stands before its value.
@@ -220,29 +204,24 @@ impl PlaceFault {
 fn near_text(near: Option<CommandName>) -> &'static str
     ensures { result.now ≡ near_text near }
 {
+    macro_rules! text {
+        ($near:literal) => {
+            concat!(
+                ": no command",
+                $near,
+                "; there are audit, join, show, select, repack, serve and fetch"
+            )
+        };
+    }
     match near {
-        None => { ": no command; there are audit, join, show, select, repack, serve and fetch" }
-        Some(CommandName::Audit) => {
-            ": no command, but audit is one; there are audit, join, show, select, repack, serve and fetch"
-        }
-        Some(CommandName::Join) => {
-            ": no command, but join is one; there are audit, join, show, select, repack, serve and fetch"
-        }
-        Some(CommandName::Show) => {
-            ": no command, but show is one; there are audit, join, show, select, repack, serve and fetch"
-        }
-        Some(CommandName::Select) => {
-            ": no command, but select is one; there are audit, join, show, select, repack, serve and fetch"
-        }
-        Some(CommandName::Repack) => {
-            ": no command, but repack is one; there are audit, join, show, select, repack, serve and fetch"
-        }
-        Some(CommandName::Serve) => {
-            ": no command, but serve is one; there are audit, join, show, select, repack, serve and fetch"
-        }
-        Some(CommandName::Fetch) => {
-            ": no command, but fetch is one; there are audit, join, show, select, repack, serve and fetch"
-        }
+        None => text!(""),
+        Some(CommandName::Audit) => text!(", but audit is one"),
+        Some(CommandName::Join) => text!(", but join is one"),
+        Some(CommandName::Show) => text!(", but show is one"),
+        Some(CommandName::Select) => text!(", but select is one"),
+        Some(CommandName::Repack) => text!(", but repack is one"),
+        Some(CommandName::Serve) => text!(", but serve is one"),
+        Some(CommandName::Fetch) => text!(", but fetch is one"),
     }
 }
 

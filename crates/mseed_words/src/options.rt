@@ -32,43 +32,43 @@ struct Named {
     help: &'static str,
 }
 
-const CHANNELS: Named = Named {
-    name: "channels",
-    kind: Kind::Text("LIST"),
-    is_needed: false,
-    help: "only channels as NET_STA_LOC_CHA, with commas between\n\
-           several; * is any characters, ? one, -- no location",
-};
+/// An option that the command can do without.
+macro_rules! optional {
+    ($name:literal, $kind:expr => $help:literal) => {
+        Named {
+            name: $name,
+            kind: $kind,
+            is_needed: false,
+            help: $help,
+        }
+    };
+}
 
-const FROM: Named = Named {
-    name: "from",
-    kind: Kind::Text("TIME"),
-    is_needed: false,
-    help: "only records that end at this time or after it; as\n\
-           2024-05-14, 2024-135 or 2024-05-14T03:20:00.5",
-};
+/// One that it can't do without.
+macro_rules! needed {
+    ($name:literal, $kind:expr => $help:literal) => {
+        Named {
+            is_needed: true,
+            ..optional!($name, $kind => $help)
+        }
+    };
+}
 
-const UNTIL: Named = Named {
-    name: "until",
-    kind: Kind::Text("TIME"),
-    is_needed: false,
-    help: "only records that begin before this time",
-};
+const CHANNELS: Named = optional!("channels", Kind::Text("LIST") =>
+    "only channels as NET_STA_LOC_CHA, with commas between\n\
+     several; * is any characters, ? one, -- no location");
+
+const FROM: Named = optional!("from", Kind::Text("TIME") =>
+    "only records that end at this time or after it; as\n\
+     2024-05-14, 2024-135 or 2024-05-14T03:20:00.5");
+
+const UNTIL: Named = optional!("until", Kind::Text("TIME") =>
+    "only records that begin before this time");
 
 /// What `audit` takes.
 static AUDIT: [Named; 5] = [
-    Named {
-        name: "each",
-        kind: Kind::Flag,
-        is_needed: false,
-        help: "before the audit a line for each record with a finding",
-    },
-    Named {
-        name: "part",
-        kind: Kind::Flag,
-        is_needed: false,
-        help: "instead of the audit a part, which join reads",
-    },
+    optional!("each", Kind::Flag => "before the audit a line for each record with a finding"),
+    optional!("part", Kind::Flag => "instead of the audit a part, which join reads"),
     CHANNELS,
     FROM,
     UNTIL,
@@ -76,31 +76,12 @@ static AUDIT: [Named; 5] = [
 
 /// What `join` takes.
 static JOIN: [Named; 4] = [
-    Named {
-        name: "each",
-        kind: Kind::Flag,
-        is_needed: false,
-        help: "before the audit a line for each border with a finding",
-    },
-    Named {
-        name: "part",
-        kind: Kind::Flag,
-        is_needed: false,
-        help: "instead of the audit the joint part; not with --each",
-    },
-    Named {
-        name: "past-faults",
-        kind: Kind::Flag,
-        is_needed: false,
-        help: "go on after a part that ends with a fault, report each\n\
-               fault and count it: status 2",
-    },
-    Named {
-        name: "expect",
-        kind: Kind::Text("PARTS"),
-        is_needed: false,
-        help: "how many parts there have to be, 1 to 999999999",
-    },
+    optional!("each", Kind::Flag => "before the audit a line for each border with a finding"),
+    optional!("part", Kind::Flag => "instead of the audit the joint part; not with --each"),
+    optional!("past-faults", Kind::Flag =>
+        "go on after a part that ends with a fault, report each\n\
+         fault and count it: status 2"),
+    optional!("expect", Kind::Text("PARTS") => "how many parts there have to be, 1 to 999999999"),
 ];
 
 /// What `show` and `select` take.
@@ -108,112 +89,54 @@ static SELECTING: [Named; 3] = [CHANNELS, FROM, UNTIL];
 
 /// What `repack` takes.
 static REPACK: [Named; 7] = [
-    Named {
-        name: "length",
-        kind: Kind::Text("BYTES"),
-        is_needed: false,
-        help: "128, 256, 512, 1024, 2048 or 4096; by default 512",
-    },
-    Named {
-        name: "encoding",
-        kind: Kind::Text("NAME"),
-        is_needed: false,
-        help: "int16, int32, steim1 or steim2; by default steim2",
-    },
-    Named {
-        name: "stretches",
-        kind: Kind::Flag,
-        is_needed: false,
-        help: "pack each channel in stretches, each from its own\n\
-               start, so that it may have gaps and its clock may drift",
-    },
-    Named {
-        name: "leave",
-        kind: Kind::Flag,
-        is_needed: false,
-        help: "with --stretches: leave out, and report, the channels\n\
-               that can't be packed: status 1 or 2",
-    },
+    optional!("length", Kind::Text("BYTES") => "128, 256, 512, 1024, 2048 or 4096; by default 512"),
+    optional!("encoding", Kind::Text("NAME") =>
+        "int16, int32, steim1 or steim2; by default steim2"),
+    optional!("stretches", Kind::Flag =>
+        "pack each channel in stretches, each from its own\n\
+         start, so that it may have gaps and its clock may drift"),
+    optional!("leave", Kind::Flag =>
+        "with --stretches: leave out, and report, the channels\n\
+         that can't be packed: status 1 or 2"),
     CHANNELS,
     FROM,
     UNTIL,
 ];
 
-const PORT: Named = Named {
-    name: "port",
-    kind: Kind::Number("PORT", 65_535),
-    is_needed: true,
-    help: "1 to 65535",
-};
+const PORT: Named = needed!("port", Kind::Number("PORT", 65_535) => "1 to 65535");
 
-const STATION: Named = Named {
-    name: "station",
-    kind: Kind::Text("STATION"),
-    is_needed: true,
-    help: "the first station, 1 to 5 letters or digits",
-};
+const STATION: Named = needed!("station", Kind::Text("STATION") =>
+    "the first station, 1 to 5 letters or digits");
 
-const NETWORK: Named = Named {
-    name: "network",
-    kind: Kind::Text("NETWORK"),
-    is_needed: true,
-    help: "its network, 1 or 2 letters or digits",
-};
+const NETWORK: Named = needed!("network", Kind::Text("NETWORK") =>
+    "its network, 1 or 2 letters or digits");
 
-const TIMEOUT: Named = Named {
-    name: "timeout",
-    kind: Kind::Text("SECONDS"),
-    is_needed: false,
-    help: "how long to wait, 0 to 86400, 0 for ever;\n\
-           by default 600",
-};
+const TIMEOUT: Named = optional!("timeout", Kind::Text("SECONDS") =>
+    "how long to wait, 0 to 86400, 0 for ever;\n\
+     by default 600");
 
 /// What `serve` takes.
 static SERVE: [Named; 10] = [
     PORT,
     STATION,
     NETWORK,
-    Named {
-        name: "address",
-        kind: Kind::Text("ADDRESS"),
-        is_needed: false,
-        help: "the IPv4 address to listen at; by default 127.0.0.1",
-    },
+    optional!("address", Kind::Text("ADDRESS") =>
+        "the IPv4 address to listen at; by default 127.0.0.1"),
     TIMEOUT,
-    Named {
-        name: "capacity",
-        kind: Kind::Text("RECORDS"),
-        is_needed: false,
-        help: "how many to keep of each station, 1 to 1000000; by\n\
-               default 1000",
-    },
-    Named {
-        name: "first",
-        kind: Kind::Text("HEX"),
-        is_needed: false,
-        help: "the number of each first record, 0 to FFFFFF;\n\
-               by default 0",
-    },
-    Named {
-        name: "connections",
-        kind: Kind::Number("COUNT", 1_000_000),
-        is_needed: false,
-        help: "how many to serve, 1 to 1000000; by default 1",
-    },
-    Named {
-        name: "live",
-        kind: Kind::Flag,
-        is_needed: false,
-        help: "read the input while many clients are served at\n\
-               once; not with --connections",
-    },
-    Named {
-        name: "clients",
-        kind: Kind::Number("COUNT", 1_024),
-        is_needed: false,
-        help: "with --live: how many at once, 1 to 1024;\n\
-               by default 64",
-    },
+    optional!("capacity", Kind::Text("RECORDS") =>
+        "how many to keep of each station, 1 to 1000000; by\n\
+         default 1000"),
+    optional!("first", Kind::Text("HEX") =>
+        "the number of each first record, 0 to FFFFFF;\n\
+         by default 0"),
+    optional!("connections", Kind::Number("COUNT", 1_000_000) =>
+        "how many to serve, 1 to 1000000; by default 1"),
+    optional!("live", Kind::Flag =>
+        "read the input while many clients are served at\n\
+         once; not with --connections"),
+    optional!("clients", Kind::Number("COUNT", 1_024) =>
+        "with --live: how many at once, 1 to 1024;\n\
+         by default 64"),
 ];
 
 /// What `fetch` takes.
@@ -221,41 +144,21 @@ static FETCH: [Named; 9] = [
     PORT,
     STATION,
     NETWORK,
-    Named {
-        name: "address",
-        kind: Kind::Text("HOST"),
-        is_needed: false,
-        help: "the IPv4 address of the server, or its name;\n\
-               by default 127.0.0.1",
-    },
+    optional!("address", Kind::Text("HOST") =>
+        "the IPv4 address of the server, or its name;\n\
+         by default 127.0.0.1"),
     TIMEOUT,
-    Named {
-        name: "from",
-        kind: Kind::Text("HEX"),
-        is_needed: false,
-        help: "the number to begin with at the first station, 0 to\n\
-               FFFFFF; by default the oldest that the server has",
-    },
-    Named {
-        name: "tries",
-        kind: Kind::Number("COUNT", 1_000_000),
-        is_needed: false,
-        help: "how many times to connect, 1 to 1000000; by default 1",
-    },
-    Named {
-        name: "tell-next",
-        kind: Kind::Flag,
-        is_needed: false,
-        help: "report each first number and, at the end, how to\n\
-               go on",
-    },
-    Named {
-        name: "holes",
-        kind: Kind::Flag,
-        is_needed: false,
-        help: "take records whose numbers are ahead, and report each\n\
-               hole before them",
-    },
+    optional!("from", Kind::Text("HEX") =>
+        "the number to begin with at the first station, 0 to\n\
+         FFFFFF; by default the oldest that the server has"),
+    optional!("tries", Kind::Number("COUNT", 1_000_000) =>
+        "how many times to connect, 1 to 1000000; by default 1"),
+    optional!("tell-next", Kind::Flag =>
+        "report each first number and, at the end, how to\n\
+         go on"),
+    optional!("holes", Kind::Flag =>
+        "take records whose numbers are ahead, and report each\n\
+         hole before them"),
 ];
 
 /// The program without a command.

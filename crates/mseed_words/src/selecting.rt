@@ -1,15 +1,14 @@
 //! Which records the words of a command line ask for.
-ghost use Rattle.std.specs.Prelude.{◌≡◌, ◌==◌, ◌≤◌, option_map};
-ghost use Rattle.std.specs.List.{after_first, before_first};
+ghost use Rattle.std.specs.Prelude.{◌≡◌, ◌≤◌, Some, option_map};
 ghost use Rattle.clap.specs.Matches.{found_of};
 ghost use Rattle.clap.specs.Walk.{rows_of};
 ghost use Rattle.mseed_select.specs.Selecting.{selection_of, text_of};
 ghost use Rattle.mseed_words.specs.Mistakes.{mapped};
 ghost use Rattle.mseed_words.specs.Selecting.{asked_of, channels_of, instant_of, is_dated, is_month_and_day};
-ghost use Rattle.mseed_words.specs.Selecting.{is_number_of};
-ghost use Rattle.mseed_words.specs.Selecting.{option_given, selection_by, selection_in, takes_selection, wanted_time};
+ghost use Rattle.mseed_words.specs.Selecting.{is_number_of, option_given, selection_by, takes_selection, wanted_time};
 
 use crate::found::{is_given, text_of};
+use crate::halves::cut;
 use crate::mistake::{Mistake, Valued, Wanted};
 use crate::numbers::number_within;
 use crate::request::Request;
@@ -32,10 +31,13 @@ pub(crate) fn asked_of<'a>(
     if !takes_selection(request) || option_given(matches).is_none() {
         return Ok(None);
     }
-    match selector_in(matches) {
-        Ok(selector) => Ok(Some(selector)),
-        Err(mistake) => Err(mistake),
-    }
+    let channels = match channels_of(matches) {
+        Ok(channels) => channels,
+        Err(mistake) => return Err(mistake),
+    };
+    let from = instant_of(Valued::From, matches)?;
+    let until = instant_of(Valued::Until, matches)?;
+    selector_by(channels, from, until)
 }
 
 /// Whether a request can be met with some of the records alone.
@@ -68,24 +70,6 @@ pub(crate) fn option_given(matches: &ArgMatches<'_>) -> Option<Valued>
     }
 }
 
-/// What the three options ask for.
-///
-/// # Errors
-///
-/// What is wrong with the first of them with which something is wrong.
-fn selector_in<'a>(matches: &ArgMatches<'a>) -> Result<Selector<'a>, Mistake>
-    ensures { mapped selection_of result ≡ selection_in (rows_of (found_of matches.now)) }
-{
-    match channels_of(matches) {
-        Ok(channels) => {
-            let from = instant_of(Valued::From, matches)?;
-            let until = instant_of(Valued::Until, matches)?;
-            selector_by(channels, from, until)
-        }
-        Err(mistake) => Err(mistake),
-    }
-}
-
 /// What asks for some channels and a window.
 ///
 /// # Errors
@@ -95,11 +79,12 @@ fn selector_by<'a>(
     channels: Option<Patterns<'a>>,
     from: Option<Micros>,
     until: Option<Micros>,
-) -> Result<Selector<'a>, Mistake>
-    ensures { mapped selection_of result ≡ selection_by (text_of channels.entry) from until }
+) -> Result<Option<Selector<'a>>, Mistake>
+    ensures { mapped (λ asked. option_map selection_of asked) result
+        ≡ mapped Some (selection_by (text_of channels.entry) from until) }
 {
     match Selector::new(channels, from, until) {
-        Ok(selector) => Ok(selector),
+        Ok(selector) => Ok(Some(selector)),
         Err(_) => Err(Mistake::Value(Valued::Until, Wanted::Later)),
     }
 }
@@ -142,7 +127,7 @@ fn instant_of(option: Valued, matches: &ArgMatches<'_>) -> Result<Option<Micros>
 fn wanted_time(word: &str) -> Wanted
     ensures { result ≡ wanted_time word.now }
 {
-    let date = date_in(word);
+    let (date, _) = cut(word, 'T');
     if read_time(date.as_bytes()).is_ok() {
         Wanted::Clock
     } else if is_dated(date) {
@@ -152,21 +137,11 @@ fn wanted_time(word: &str) -> Wanted
     }
 }
 
-/// What stands before the first `T`.
-fn date_in(word: &str) -> &str
-    ensures { result.now ≡ before_first (λ c. c == 84) word.now }
-{
-    match word.split_once('T') {
-        Some((date, _)) => date,
-        None => word,
-    }
-}
-
 /// Whether a text has the form of a date: a year, and a month and its day, or a day of the year.
 fn is_dated(date: &str) -> bool
     ensures { result ≡ is_dated date.now }
 {
-    let (year, day) = cut(date);
+    let (year, day) = cut(date, '-');
     is_number_of(4, year) && (is_number_of(3, day) || is_month_and_day(day))
 }
 
@@ -174,7 +149,7 @@ fn is_dated(date: &str) -> bool
 fn is_month_and_day(text: &str) -> bool
     ensures { result ≡ is_month_and_day text.now }
 {
-    let (month, day) = cut(text);
+    let (month, day) = cut(text, '-');
     is_number_of(2, month) && is_number_of(2, day)
 }
 
@@ -184,15 +159,4 @@ fn is_number_of(digits: usize, text: &str) -> bool
     ensures { result ≡ is_number_of digits text.now }
 {
     text.len() == digits && number_within(digits, text).is_some()
-}
-
-/// What stands before the first hyphen, and what stands after it.
-fn cut(text: &str) -> (&str, &str)
-    ensures before { result.0.now ≡ before_first (λ c. c == 45) text.now }
-    ensures after { result.1.now ≡ after_first (λ c. c == 45) text.now }
-{
-    match text.split_once('-') {
-        Some((before, after)) => (before, after),
-        None => (text, ""),
-    }
 }

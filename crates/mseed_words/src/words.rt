@@ -1,6 +1,5 @@
 //! What the words of a command line ask for.
-ghost use Rattle.std.specs.Prelude.{◌≡◌, ◌≤◌, [], ◌∷◌, IfErr, IfOk, IfSome, None, Ok, OnOk, map, option_map};
-ghost use Rattle.std.specs.Prelude.{slice_get, unwrap_or};
+ghost use Rattle.std.specs.Prelude.{◌≡◌, ◌≤◌, [], IfErr, IfOk, None, Ok, OnOk, map, option_map, string_bytes};
 ghost use Rattle.clap.specs.Faults.{fault_of};
 ghost use Rattle.clap.specs.Kinds.{HasKind, Kinds};
 ghost use Rattle.clap.specs.Matches.{found_of};
@@ -9,18 +8,16 @@ ghost use Rattle.clap.specs.Walk.{rows_of};
 ghost use Rattle.mseed_select.specs.Selecting.{selection_of};
 ghost use Rattle.mseed_words.specs.Files.{files_of};
 ghost use Rattle.mseed_words.specs.Options.{the_command};
-ghost use Rattle.mseed_words.specs.Words.{AsksFor, CanBeCalled, IsRefusal, Reading, asks_for, auditing_by, auditing_of};
-ghost use Rattle.mseed_words.specs.Words.{command_of, encoding_named, encoding_of, expected_in, exponent_in};
-ghost use Rattle.mseed_words.specs.Words.{exponent_of, given_of, is_option, joining_by, joining_of, packing_by};
+ghost use Rattle.mseed_words.specs.Words.{AsksFor, CanBeCalled, IsRefusal, Reading, asks_for, auditing_of, command_of};
+ghost use Rattle.mseed_words.specs.Words.{encoding_of, expected_in, exponent_of, given_of, is_option, joining_of};
 ghost use Rattle.mseed_words.specs.Words.{packing_of, reading_alone, reading_behind, reading_of, request_of};
-ghost use Rattle.mseed_words.specs.Words.{reading_of_first};
-ghost use Rattle.mseed_words.specs.Words.{requested, serving_by, unless_refused};
+ghost use Rattle.mseed_words.specs.Words.{reading_of_first, requested, unless_refused};
 ghost use Rattle.mseed_words.specs.private.Refused.{IsMistakenAs, IsRefusedAs};
 
 use crate::command_name::{CommandName, name_of, nearest};
 use crate::feed_words::{fetching_of, live_serving_of, serving_of};
 use crate::files::{file_mistake, takes_files};
-use crate::found::{is_set, text_of, text_or};
+use crate::found::{further_in, is_set, text_of, text_or};
 use crate::mistake::{Mistake, Valued, Wanted};
 use crate::numbers::{number_in, number_within};
 use crate::options::{command, program};
@@ -31,6 +28,7 @@ use clap::error::ErrorKind;
 use clap::{ArgMatches, Error};
 use mseed_steim::Encoding;
 use std::alloc::Global;
+use std::slice::from_ref;
 
 /// Reads the arguments of a command line, those after the program's name, and returns the command that they request:
 /// what is done, with which records, and of which files. The first argument is the command. Where an argument isn't
@@ -40,19 +38,18 @@ use std::alloc::Global;
 ///
 /// `Refusal::Text` where they aren't those of a command line, or ask for the help or the version; `Refusal::NoRequest`
 /// where they are, but request nothing that there is; `Refusal::Memory` where an allocation was refused.
-#[tactic(auto, using(crate::proofs::Further::by_none, crate::proofs::Further::first_alone))]
-pub fn read<'a>(alloc: Global, words: &'a [&'a str]) -> Result<Command<'a>, Refusal<'a>>
-    ensures request { IfOk result (λ command. AsksFor (map (λ word. word.now) words.entry.now) command.request
+pub fn read<'a>(alloc: Global, words: &'a [String]) -> Result<Command<'a>, Refusal<'a>>
+    ensures request { IfOk result (λ command. AsksFor (map string_bytes words.entry.now) command.request
         (option_map selection_of command.selector) (map (λ file. file.now) command.files.items)) }
     ensures range { IfOk result (λ command. CanBeCalled command.request) }
-    ensures refused { IfErr result (IsRefusal (reading_of (map (λ word. word.now) words.entry.now))) }
+    ensures refused { IfErr result (IsRefusal (reading_of (map string_bytes words.entry.now))) }
 {
-    if words.is_empty() {
+    let Some((first, rest)) = words.split_first() else {
         return Err(answer_alone(alloc, words));
-    }
-    match name_of(words[0]) {
-        Some(name) => read_behind(alloc, name, &words[1..]),
-        None => Err(refuse_first(alloc, words[0], &words[..1])),
+    };
+    match name_of(first) {
+        Some(name) => read_behind(alloc, name, rest),
+        None => Err(refuse_first(alloc, first)),
     }
 }
 
@@ -64,13 +61,13 @@ pub fn read<'a>(alloc: Global, words: &'a [&'a str]) -> Result<Command<'a>, Refu
 fn read_behind<'a>(
     alloc: Global,
     name: CommandName,
-    words: &'a [&'a str],
+    words: &'a [String],
 ) -> Result<Command<'a>, Refusal<'a>>
-    ensures request { IfOk result (λ command. reading_behind name (map (λ word. word.now) words.entry.now)
+    ensures request { IfOk result (λ command. reading_behind name (map string_bytes words.entry.now)
         ≡ asks_for (requested command.request (option_map selection_of command.selector)
         (map (λ file. file.now) command.files.items))) }
     ensures range { IfOk result (λ command. CanBeCalled command.request) }
-    ensures refused { IfErr result (IsRefusal (reading_behind name (map (λ word. word.now) words.entry.now))) }
+    ensures refused { IfErr result (IsRefusal (reading_behind name (map string_bytes words.entry.now))) }
 {
     match matches_of(alloc, name, words) {
         Ok(matches) => command_of(alloc, name, &matches),
@@ -78,13 +75,12 @@ fn read_behind<'a>(
     }
 }
 
-/// Why a first word is refused that names no command. `words` are that word.
-fn refuse_first<'a>(alloc: Global, first: &'a str, words: &'a [&'a str]) -> Refusal<'a>
-    requires { map (λ word. word.now) words.now ≡ first.now ∷ [] }
-    ensures { IsRefusal (reading_of_first None first.entry.now []) result }
+/// Why a first word is refused that names no command.
+fn refuse_first<'a>(alloc: Global, first: &'a String) -> Refusal<'a>
+    ensures { IsRefusal (reading_of_first None (string_bytes first.entry.now) []) result }
 {
     if is_option(first) {
-        return answer_alone(alloc, words);
+        return answer_alone(alloc, from_ref(first));
     }
     match nearest(alloc, first) {
         Ok(near) => Refusal::NoRequest(Mistake::Command(near), first),
@@ -102,8 +98,8 @@ fn is_option(word: &str) -> bool
 
 /// What is answered where no command stands first: no word, or an option, which asks for the help or the version, or is
 /// none.
-fn answer_alone<'a>(alloc: Global, words: &'a [&'a str]) -> Refusal<'a>
-    ensures { IsRefusal (reading_alone (map (λ word. word.now) words.entry.now)) result }
+fn answer_alone<'a>(alloc: Global, words: &'a [String]) -> Refusal<'a>
+    ensures { IsRefusal (reading_alone (map string_bytes words.entry.now)) result }
 {
     match program(alloc).try_get_matches_from(words) {
         Ok(_) => Refusal::NoRequest(Mistake::Command(None), ""),
@@ -163,7 +159,7 @@ fn files_of<'a>(
     if !takes_files(request) {
         return Ok(files);
     }
-    let words = matches.get_raw("place").unwrap_or(&[]);
+    let words = further_in(matches);
     if let Some(mistake) = file_mistake(words) {
         return Err(mistaken(mistake, matches));
     }
@@ -186,20 +182,8 @@ fn given_of<'a>(mistake: Mistake, matches: &ArgMatches<'a>) -> &'a str
 {
     match mistake {
         Mistake::Value(option, _) => text_or(matches, option.name(), ""),
-        Mistake::Place(index, _) => word_at(matches.get_raw("place").unwrap_or(&[]), index),
+        Mistake::Place(index, _) => further_in(matches).get(index).copied().unwrap_or_default(),
         _ => "",
-    }
-}
-
-/// The word of this number, from 0; an empty one where there are fewer.
-#[tactic(auto, using(crate::proofs::Further::word_there, crate::proofs::Further::no_word_there))]
-fn word_at<'a>(words: &[&'a str], index: usize) -> &'a str
-    ensures { result.now ≡ unwrap_or (slice_get (map (λ word. word.now) words.now) index) [] }
-{
-    if index < words.len() {
-        words[index]
-    } else {
-        ""
     }
 }
 
@@ -211,12 +195,12 @@ fn word_at<'a>(words: &[&'a str], index: usize) -> &'a str
 fn matches_of<'a>(
     alloc: Global,
     name: CommandName,
-    words: &'a [&'a str],
+    words: &'a [String],
 ) -> Result<ArgMatches<'a>, Error>
-    ensures taken { OnOk result (fault_of (the_command name) (map (λ word. word.now) words.entry.now) ≡ []) }
+    ensures taken { OnOk result (fault_of (the_command name) (map string_bytes words.entry.now) ≡ []) }
     ensures found { IfOk result (λ matches. rows_of (found_of matches)
-        ≡ matches_of (the_command name) (map (λ word. word.now) words.entry.now)) }
-    ensures refused { IfErr result (HasKind (fault_of (the_command name) (map (λ word. word.now) words.entry.now))) }
+        ≡ matches_of (the_command name) (map string_bytes words.entry.now)) }
+    ensures refused { IfErr result (HasKind (fault_of (the_command name) (map string_bytes words.entry.now))) }
 {
     command(alloc, name)?.try_get_matches_from(words)
 }
@@ -250,28 +234,15 @@ fn request_of(name: CommandName, matches: &ArgMatches<'_>) -> Result<Request, Mi
         CommandName::Show => Ok(Request::Show),
         CommandName::Select => Ok(Request::Select),
         CommandName::Repack => packing_of(matches),
-        CommandName::Serve => serving_by(is_set(matches, "live"), matches),
+        CommandName::Serve if is_set(matches, "live") => {
+            Ok(Request::Live(live_serving_of(matches)?))
+        }
+        CommandName::Serve => Ok(Request::Serve(serving_of(matches)?)),
         CommandName::Fetch => Ok(Request::Fetch(fetching_of(matches)?)),
     }
 }
 
-/// What is requested of serving: all of the input first, or while it comes.
-///
-/// # Errors
-///
-/// What is wrong first.
-fn serving_by(live: bool, matches: &ArgMatches<'_>) -> Result<Request, Mistake>
-    ensures value { result ≡ serving_by live (rows_of (found_of matches.now)) }
-    ensures range { IfOk result CanBeCalled }
-{
-    if live {
-        Ok(Request::Live(live_serving_of(matches)?))
-    } else {
-        Ok(Request::Serve(serving_of(matches)?))
-    }
-}
-
-/// What is requested of auditing.
+/// What is requested of auditing: with a line for each finding or without, the text of the audit or its part.
 ///
 /// # Errors
 ///
@@ -280,27 +251,18 @@ fn auditing_of(matches: &ArgMatches<'_>) -> Result<Request, Mistake>
     ensures value { result ≡ auditing_of (rows_of (found_of matches.now)) }
     ensures range { IfOk result CanBeCalled }
 {
+    let each = is_set(matches, "each");
     let part = is_set(matches, "part");
-    match option_given(matches) {
-        Some(option) if part => Err(Mistake::Value(option, Wanted::AllOfPart)),
-        _ => Ok(auditing_by(is_set(matches, "each"), part)),
+    match (option_given(matches), each, part) {
+        (Some(option), _, true) => Err(Mistake::Value(option, Wanted::AllOfPart)),
+        (_, false, false) => Ok(Request::Audit),
+        (_, true, false) => Ok(Request::AuditEach),
+        (None, false, true) => Ok(Request::AuditPart),
+        (None, true, true) => Ok(Request::AuditPartEach),
     }
 }
 
-/// What an audit writes: with a line for each finding or without, the text of the audit or its part.
-fn auditing_by(each: bool, part: bool) -> Request
-    ensures value { result ≡ auditing_by each part }
-    ensures range { CanBeCalled result }
-{
-    match (each, part) {
-        (false, false) => Request::Audit,
-        (true, false) => Request::AuditEach,
-        (false, true) => Request::AuditPart,
-        (true, true) => Request::AuditPartEach,
-    }
-}
-
-/// What is requested of joining, by its options.
+/// What is requested of joining: the text of an audit or a part, and a line for each border before the text alone.
 ///
 /// # Errors
 ///
@@ -314,19 +276,7 @@ fn joining_of(matches: &ArgMatches<'_>) -> Result<Request, Mistake>
         past_faults: is_set(matches, "past-faults"),
         expected,
     };
-    joining_by(is_set(matches, "each"), is_set(matches, "part"), joining)
-}
-
-/// What is requested of joining: the text of an audit or a part, and a line for each border before the text alone.
-///
-/// # Errors
-///
-/// Where lines and a part are requested.
-fn joining_by(each: bool, part: bool, joining: Joining) -> Result<Request, Mistake>
-    ensures value { result ≡ joining_by each part joining }
-    ensures range { IfOk result CanBeCalled }
-{
-    match (each, part) {
+    match (is_set(matches, "each"), is_set(matches, "part")) {
         (false, false) => Ok(Request::Join(joining)),
         (true, false) => Ok(Request::JoinEach(joining)),
         (false, true) => Ok(Request::JoinPart(joining)),
@@ -351,7 +301,7 @@ fn expected_in(text: Option<&str>) -> Result<Option<u64>, Mistake>
     }
 }
 
-/// What is requested of the command that packs anew, by its options.
+/// What is requested of the command that packs anew: as it is, or by stretches, which alone can leave channels out.
 ///
 /// # Errors
 ///
@@ -363,24 +313,7 @@ fn packing_of(matches: &ArgMatches<'_>) -> Result<Request, Mistake>
     let exponent = exponent_of(matches)?;
     let encoding = encoding_of(matches)?;
     let packing = Packing { exponent, encoding };
-    packing_by(
-        is_set(matches, "stretches"),
-        is_set(matches, "leave"),
-        packing,
-    )
-}
-
-/// Packing anew, as it is, or by stretches.
-///
-/// # Errors
-///
-/// Where channels are to be left out, but not by stretches.
-fn packing_by(stretches: bool, leave: bool, packing: Packing) -> Result<Request, Mistake>
-    requires { (7 ≤ packing.exponent) × (packing.exponent ≤ 12) }
-    ensures value { result ≡ packing_by stretches leave packing }
-    ensures range { IfOk result CanBeCalled }
-{
-    match (stretches, leave) {
+    match (is_set(matches, "stretches"), is_set(matches, "leave")) {
         (true, leave) => Ok(Request::RepackStretches { packing, leave }),
         (false, false) => Ok(Request::Repack(packing)),
         (false, true) => Err(Mistake::Leave),
@@ -396,25 +329,14 @@ fn exponent_of(matches: &ArgMatches<'_>) -> Result<u8, Mistake>
     ensures value { result ≡ exponent_of (rows_of (found_of matches.now)) }
     ensures range { IfOk result (λ e. (7 ≤ e) × (e ≤ 12)) }
 {
-    match exponent_in(text_or(matches, "length", "512")) {
-        Some(exponent) => Ok(exponent),
-        None => Err(Mistake::Value(Valued::Length, Wanted::Length)),
-    }
-}
-
-/// The power of two that a length of 128 to 4096 bytes is.
-fn exponent_in(length: &str) -> Option<u8>
-    ensures value { result ≡ exponent_in length.now }
-    ensures range { IfSome result (λ e. (7 ≤ e) × (e ≤ 12)) }
-{
-    match number_in(length)? {
-        128 => Some(7),
-        256 => Some(8),
-        512 => Some(9),
-        1024 => Some(10),
-        2048 => Some(11),
-        4096 => Some(12),
-        _ => None,
+    match number_in(text_or(matches, "length", "512")) {
+        Some(128) => Ok(7),
+        Some(256) => Ok(8),
+        Some(512) => Ok(9),
+        Some(1024) => Ok(10),
+        Some(2048) => Ok(11),
+        Some(4096) => Ok(12),
+        _ => Err(Mistake::Value(Valued::Length, Wanted::Length)),
     }
 }
 
@@ -426,21 +348,11 @@ fn exponent_in(length: &str) -> Option<u8>
 fn encoding_of(matches: &ArgMatches<'_>) -> Result<Encoding, Mistake>
     ensures { result ≡ encoding_of (rows_of (found_of matches.now)) }
 {
-    match encoding_named(text_or(matches, "encoding", "steim2")) {
-        Some(encoding) => Ok(encoding),
-        None => Err(Mistake::Value(Valued::Encoding, Wanted::Encoding)),
-    }
-}
-
-/// The encoding that a word names.
-fn encoding_named(word: &str) -> Option<Encoding>
-    ensures { result ≡ encoding_named word.now }
-{
-    match word {
-        "int16" => Some(Encoding::Int16),
-        "int32" => Some(Encoding::Int32),
-        "steim1" => Some(Encoding::Steim1),
-        "steim2" => Some(Encoding::Steim2),
-        _ => None,
+    match text_or(matches, "encoding", "steim2") {
+        "int16" => Ok(Encoding::Int16),
+        "int32" => Ok(Encoding::Int32),
+        "steim1" => Ok(Encoding::Steim1),
+        "steim2" => Ok(Encoding::Steim2),
+        _ => Err(Mistake::Value(Valued::Encoding, Wanted::Encoding)),
     }
 }

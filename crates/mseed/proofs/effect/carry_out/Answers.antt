@@ -13,7 +13,8 @@ returns-in-Ok-clause-called g c request asked files asks =
     (g.E.Sink.written c.execute.new.errors)
     (heard (g.L.Listen.planned c.args.listening.now) (g.L.Listen.came c.args.listening.now))
     (heard (g.L.Listen.planned c.execute.new.listening) (g.L.Listen.came c.execute.new.listening))
-    c.command_of.ensures.unwritten (c.in-Ok.ensures.called request asked files asks) c.execute.ensures.done
+    c.command_of.ensures.unwritten (c.in-Ok.ensures.called request asked files asks)
+    (rw c.deref.ensures.value at c.execute.ensures.done)
 
 pub returns-in-Ok-clause-bad : goal.returns-in-Ok-clause-bad
 returns-in-Ok-clause-bad g c mistake given nothing = elim (c.in-Ok.ensures.bad mistake given nothing) [

@@ -1,9 +1,9 @@
-use Rattle.std.proofs.Common.{◌≡◌, ◌∙◌, ap, refl}
+use Rattle.std.proofs.Common.{◌≡◌, ◌∙◌, arith, ap, not, refl, sym}
 use Rattle.mseed_files.specs.ChainState.{ChainState}
 use Rattle.mseed_files.specs.Found.{contents_of}
 use Rattle.mseed_stream.specs.Device.{nothing_read}
-use Rattle.mseed.proofs.ReadFiles.{named_reported, read_files, unnamed_reported}
-use Rattle.mseed.proofs.files.run_over_files.Goals.{then-are_named, else-are_named}
+use Rattle.mseed.proofs.ReadFiles.{named_is, named_reported, read_files, unnamed_reported}
+use Rattle.mseed.proofs.files.run_over_files.Goals.{then-is_empty, else-is_empty}
 use Rattle.mseed.proofs.files.run_over_files.Goals as goal
 
 pub returns-clause-ok : goal.returns-clause-ok
@@ -16,8 +16,10 @@ returns-clause-ok g c =
     let run = rw none at c.run-ended.ensures.called in
     let read = read_files (contents_of found c.args.names.now) (g.F.Files.failures c.args.files.now) old new unread
     c.run-ended.ensures.reads in
-    elim c.if-are_named.branch [
-      | then-are_named w ↦ (
+    let named = named_is c.args.command.now.files.items _ c.is_empty.result c.is_empty.ensures
+    (omega (arith, c.args.command.now.files.ok)) in
+    elim c.if-is_empty.branch [
+      | then-is_empty w ↦ (
         new.read,
         record {
           ended = c.run-ended.result;
@@ -26,11 +28,11 @@ returns-clause-ok g c =
           carried_out = run;
           status_is = refl;
           read = read;
-          blames = named_reported c.args.are_named _ _ _ _ _ _ w.if-are_named.true
-              (ap (λ e. g.E.Sink.written e) w.errors-is) w.report_blame.ensures;
+          blames = unnamed_reported _ _ _ _ _ _ _ (sym named ∙ ap not w.if-is_empty.true)
+              (ap (λ e. g.E.Sink.written e) w.errors-is) w.report_reason.ensures;
         },
       )
-      | else-are_named w ↦ (
+      | else-is_empty w ↦ (
         new.read,
         record {
           ended = c.run-ended.result;
@@ -39,8 +41,8 @@ returns-clause-ok g c =
           carried_out = run;
           status_is = refl;
           read = read;
-          blames = unnamed_reported c.args.are_named _ _ _ _ _ _ w.if-are_named.false
-              (ap (λ e. g.E.Sink.written e) w.errors-is) w.report_reason.ensures;
+          blames = named_reported _ _ _ _ _ _ _ (sym named ∙ ap not w.if-is_empty.false)
+              (ap (λ e. g.E.Sink.written e) w.errors-is) w.report_blame.ensures;
         },
       )
     ]

@@ -1,4 +1,4 @@
-use Rattle.std.proofs.Common.{◌≡◌, ◌==◌, ℕ, false, ◌+◌, ◌-◌, ◌<◌, ◌^◌, ◌∷◌, [], ◌++◌, Some, Option, List}
+use Rattle.std.proofs.Common.{◌≡◌, ◌==◌, ℕ, false, ◌+◌, ◌<◌, ◌^◌, ◌∷◌, [], ◌++◌, Some, Option, List}
 use Rattle.std.proofs.Common.{map, drop}
 use Rattle.std.proofs.Common.{get_or, length, ap, sym, refl, subst, ◌∙◌, arith, IfSome, length-append, Bool, Result}
 use Rattle.std.proofs.Common.{Ok}

@@ -1,4 +1,4 @@
-use Rattle.std.proofs.Common.{List, [], None, map, subst}
+use Rattle.std.proofs.Common.{List, [], None, map, string_bytes, subst}
 use Rattle.clap.specs.Faults.{fault_of}
 use Rattle.clap.specs.Kinds.{FailsBy, HasKind}
 use Rattle.clap.specs.Simple.{app_of}
@@ -11,7 +11,7 @@ use Rattle.mseed_words.proofs.words.answer_alone.Goals as goal
 
 pub returns : goal.returns
 returns c =
-    let words : List Text = map (λ word. word.now) c.args.words.now in
+    let words : List Text = map string_bytes c.args.words.now in
     let fails : HasKind (fault_of the_program words) c.in-Err.error =
     subst (λ r. FailsBy (fault_of the_program words) r) c.in-Err.is
     (program_fails (app_of c.program.result) words c.try_get_matches_from.result c.program.ensures

@@ -1,16 +1,14 @@
-use Rattle.std.proofs.Common.{◌≡◌, [], true, List, Option, Ok, Err, Result, ap, codes}
-use Rattle.std.proofs.Common.{map, refl, rules, sym, unwrap_or, ◌∙◌}
+use Rattle.std.proofs.Common.{◌≡◌, true, List, Ok, Err, Result, ap}
+use Rattle.std.proofs.Common.{map, rules, sym, ◌∙◌}
 use Rattle.std.specs.Borrow.{Bor}
-use Rattle.clap.proofs.WalkLemmas.{raw_values-rows}
 use Rattle.clap.specs.Matches.{found_of}
 use Rattle.clap.specs.Walk.{Row, Text, rows_of}
-use Rattle.mseed_words.specs.Found.{further_in}
 use Rattle.mseed_words.specs.Words.{given_of}
 use Rattle.mseed_words.specs.declared.mistake.Mistake.{Mistake}
 use Rattle.mseed_words.specs.declared.refusal.Refusal.{Refusal}
 use Rattle.mseed_words.specs.declared.refusal.Refusal.TheVariants as refusal
 use Rattle.mseed_words.specs.private.Refused.{IsMistakenAs, IsRefusedAs}
-use Rattle.mseed_words.proofs.Further.{all_files, further_is, texts_of}
+use Rattle.mseed_words.proofs.Further.{all_files, texts_of}
 use Rattle.mseed_words.proofs.words.files_of.Goals as goal
 
 -- something is wrong with the files
@@ -24,23 +22,16 @@ is_refused asked m rows refusal.Memory is said = tt
 pub returns-in-Some-clause-refused : goal.returns-in-Some-clause-refused
 returns-in-Some-clause-refused c =
     let rows : List Row = rows_of (found_of c.args.matches.now) in
-    let found = ap (λ (o : Option (List Text)). unwrap_or o [])
-    (c.get_raw.ensures ∙ raw_values-rows (found_of c.args.matches.now) (codes "place")) in
-    let further : texts_of c.unwrap_or-words.result ≡ further_in rows =
-    ap texts_of c.unwrap_or-words.ensures ∙ (further_is c.get_raw.result _ refl ∙ found) in
     let takes : c.takes_files.result ≡ true = search rules in
     is_refused _ _ rows c.mistaken.result (all_files c.args.request.now rows c.takes_files.result _
-    (texts_of c.unwrap_or-words.result) c.takes_files.ensures takes further c.in-Some.ensures) c.mistaken.ensures
+    (texts_of c.further_in-words.result) c.takes_files.ensures takes c.further_in-words.ensures c.in-Some.ensures)
+    c.mistaken.ensures
 
 pub returns-in-Ok-clause-files : goal.returns-in-Ok-clause-files
 returns-in-Ok-clause-files c =
     let rows : List Row = rows_of (found_of c.args.matches.now) in
-    let found = ap (λ (o : Option (List Text)). unwrap_or o [])
-    (c.get_raw.ensures ∙ raw_values-rows (found_of c.args.matches.now) (codes "place")) in
-    let further : texts_of c.unwrap_or-words.result ≡ further_in rows =
-    ap texts_of c.unwrap_or-words.ensures ∙ (further_is c.get_raw.result _ refl ∙ found) in
     let takes : c.takes_files.result ≡ true = search rules in
-    let items : c.extend_from_slice.new.self.items ≡ c.unwrap_or-words.result.now = search rules in
-    all_files c.args.request.now rows c.takes_files.result _ (texts_of c.unwrap_or-words.result)
-    c.takes_files.ensures takes further c.in_default.ensures
+    let items : c.extend_from_slice.new.self.items ≡ c.further_in-words.result.now = search rules in
+    all_files c.args.request.now rows c.takes_files.result _ (texts_of c.further_in-words.result)
+    c.takes_files.ensures takes c.further_in-words.ensures c.in_default.ensures
     ∙ ap (λ (ws : List (Bor Text)). Ok (map (λ (w : Bor Text). w.now) ws)) (sym items)

@@ -1,6 +1,6 @@
 //! The words of a command line as texts.
 ghost use Rattle.std.specs.Prelude.{◌≡◌, ◌<◌, ◌^◌, ℕ, IfOk, map, string_bytes};
-ghost use Rattle.mseed_files.specs.Texts.{AreTextsOf, IsTextOf, IsWordOf, ends_options, stand_in};
+ghost use Rattle.mseed_words.specs.Texts.{IsTextOf, IsWordOf, ends_options, stand_in};
 
 use std::alloc::{AllocError, Global};
 use std::str::from_utf8;
@@ -8,33 +8,17 @@ use std::str::from_utf8;
 /// What begins the stand-in of a word that isn't text. No word has it.
 const STAND_IN: &str = "\0";
 
-/// The words of a command line as texts, in their order. What stands for a word that isn't UTF-8 is its number after a
-/// NUL, which no word has; for one that begins as an option, an empty text, which names nothing, unless it stands
-/// after `--`.
-///
-/// # Errors
-///
-/// Where there is no memory for them.
-pub fn texts_of(alloc: Global, words: &[Vec<u8>]) -> Result<Vec<String>, AllocError>
-    ensures { IfOk result (λ texts. AreTextsOf (map (λ word. word.items) words.now)
-        (map (λ text. string_bytes text) texts.items)) }
-{
-    let mut texts = Vec::new(alloc);
-    let mut have_ended = false;
-    for index in 0..words.len() {
-        let word = words[index].as_slice();
-        texts.push(text_of(alloc, word, index, have_ended)?)?;
-        have_ended |= ends_options(word);
-    }
-    Ok(texts)
-}
-
 /// The text for the word of this number, where options have ended before it, or not.
 ///
 /// # Errors
 ///
 /// Where there is no memory for it.
-fn text_of(alloc: Global, word: &[u8], index: usize, have_ended: bool) -> Result<String, AllocError>
+pub(crate) fn text_of(
+    alloc: Global,
+    word: &[u8],
+    index: usize,
+    have_ended: bool,
+) -> Result<String, AllocError>
     ensures { IfOk result (λ text. IsTextOf word.now index have_ended (string_bytes text)) }
 {
     match from_utf8(word) {
@@ -45,7 +29,7 @@ fn text_of(alloc: Global, word: &[u8], index: usize, have_ended: bool) -> Result
 }
 
 /// Whether the options end with this word: what comes after it names files.
-fn ends_options(word: &[u8]) -> bool
+pub(crate) fn ends_options(word: &[u8]) -> bool
     ensures { result ≡ ends_options word.now }
 {
     word == b"--".as_slice()

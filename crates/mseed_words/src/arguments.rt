@@ -1,7 +1,9 @@
-//! The words of a command line as bytes.
-ghost use Rattle.std.specs.Prelude.{◌≡◌, ◌≤◌, ℕ, List, Option, None, IfOk, IfSome, length, map, option_map};
-ghost use Rattle.mseed_files.specs.Arguments.{IsWordAt, IsWordOrEnd};
+//! The words of a command line, as they are given, and as the texts that stand for them.
+ghost use Rattle.std.specs.Prelude.{◌≡◌, ◌≤◌, ℕ, List, Option, None, IfOk, IfSome, length, option_map};
+ghost use Rattle.mseed_words.specs.Arguments.{IsWordAt, IsWordOrEnd, texts_in, words_in};
+ghost use Rattle.mseed_words.specs.Texts.{AreTextsOf};
 
+use crate::texts::{ends_options, text_of};
 use std::alloc::{AllocError, Global};
 use std::env::{Env, FillError};
 
@@ -47,23 +49,40 @@ impl<'a, R: Env> Arguments for Process<'a, R> {
     }
 }
 
-/// The words of a command line, in their order.
-///
-/// # Errors
-///
-/// Where there is no memory for them.
-pub fn words_of<G: Arguments>(alloc: Global, arguments: &G) -> Result<Vec<Vec<u8>>, AllocError>
-    ensures { IfOk result (λ words. IfSome (G.given arguments.now)
-        (λ given. map (λ word. word.items) words.items ≡ given)) }
-{
-    let mut words = Vec::new(alloc);
-    for index in 0..usize::MAX {
-        match word_at(alloc, arguments, index)? {
-            Some(word) => words.push(word)?,
-            None => return Ok(words),
+/// The words of a command line, in their order, and the texts that stand for them.
+#[derive(Drop)]
+pub struct CommandLine {
+    /// The words as they were given.
+    pub words: Vec<Vec<u8>>,
+    /// The text that stands for each word.
+    pub texts: Vec<String>,
+}
+
+impl CommandLine {
+    /// The words that are given, with their texts. A word that is UTF-8 stands for itself. What stands for another is
+    /// its number after a NUL, which no word has; for one that begins as an option, an empty text, which names nothing,
+    /// unless it stands after `--`.
+    ///
+    /// # Errors
+    ///
+    /// Where there is no memory for them.
+    pub fn of<G: Arguments>(alloc: Global, arguments: &G) -> Result<CommandLine, AllocError>
+        ensures words { IfOk result (λ line. IfSome (G.given arguments.now) (λ given. words_in line ≡ given)) }
+        ensures texts { IfOk result (λ line. AreTextsOf (words_in line) (texts_in line)) }
+    {
+        let mut words = Vec::new(alloc);
+        let mut texts = Vec::new(alloc);
+        let mut have_ended = false;
+        for index in 0..usize::MAX {
+            let Some(word) = word_at(alloc, arguments, index)? else {
+                return Ok(CommandLine { words, texts });
+            };
+            texts.push(text_of(alloc, &word, index, have_ended)?)?;
+            have_ended |= ends_options(&word);
+            words.push(word)?;
         }
+        Err(AllocError)
     }
-    Err(AllocError)
 }
 
 /// The word of this number, from 0, where there is one.

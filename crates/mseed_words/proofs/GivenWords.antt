@@ -2,7 +2,7 @@
 use Rattle.std.proofs.Common.{◌≡◌, ◌+◌, ◌++◌, ◌∙◌, ℕ, List, [], ◌∷◌, Option, Some, None, IfSome, ap}
 use Rattle.std.proofs.Common.{map, sym, take}
 use Rattle.std.proofs.lemmas.List.{map_push, take_all, take_more}
-use Rattle.mseed_files.specs.Arguments.{IsWordOrEnd}
+use Rattle.mseed_words.specs.Arguments.{IsWordOrEnd}
 
 -- these are the words before the one of this number, where they are known
 abbrev pub AreBefore : Option (List (List ℕ)) → ℕ → List (List ℕ) → Type 0

@@ -1,8 +1,8 @@
 -- The texts for words, with one more.
-use Rattle.std.proofs.Common.{◌≡◌, ◌||◌, ◌+◌, ◌<◌, ◌++◌, ◌∙◌, Bool, false, ℕ, List, [], ◌∷◌, map, take, length, get_or}
+use Rattle.std.proofs.Common.{◌≡◌, ◌||◌, ◌+◌, ◌++◌, ◌∙◌, Bool, false, ℕ, List, [], ◌∷◌, map, length}
 use Rattle.std.proofs.Common.{ap, arith, refl, subst, sym}
-use Rattle.std.proofs.lemmas.List.{length-map, length-take-le, map_push, take_more}
-use Rattle.mseed_files.specs.Texts.{AreTextsFrom, AreTextsOf, IsTextOf, ends_options}
+use Rattle.std.proofs.lemmas.List.{length-map, map_push}
+use Rattle.mseed_words.specs.Texts.{AreTextsFrom, AreTextsOf, IsTextOf, ends_options}
 
 -- whether the options have ended before some words or by one of them
 abbrev pub has_ended : Bool → List (List ℕ) → Bool
@@ -48,17 +48,12 @@ texts_pushed words texts word text index ended ends are at is one =
     }
 
 -- by how words and texts are kept
-pub texts_on : {W T : Type 0} (f : W → List ℕ) (h : T → List ℕ) (words : List W) (old new : List T) (index : ℕ)
-    (default word : W) (text : T) (ended ends : Bool) → index < length words → word ≡ get_or words index default
-    → new ≡ old ++ text ∷ [] → AreTexts (map f (take index words)) (map h old) ended → ends ≡ ends_options (f word)
-    → IsTextOf (f word) index ended (h text)
-    → AreTexts (map f (take (index + 1) words)) (map h new) (ended || ends)
-texts_on f h words old new index default word text ended ends less there pushed are is one =
-    let before : map f (take (index + 1) words) ≡ map f (take index words) ++ f word ∷ [] =
-    ap (map f) (take_more words index default less) ∙ (map_push f (take index words) (get_or words index default)
-    ∙ ap (λ w. map f (take index words) ++ f w ∷ []) (sym there)) in
-    let after : map h new ≡ map h old ++ h text ∷ [] = ap (map h) pushed ∙ map_push h old text in
-    let count : index ≡ length (map f (take index words)) =
-    sym (length-map (take index words) f ∙ length-take-le index words (omega (arith, less))) in
-    rw (before, after) (texts_pushed (map f (take index words)) (map h old) (f word) (h text) index ended ends are
-    count is one)
+pub texts_on : {W T : Type 0} (f : W → List ℕ) (h : T → List ℕ) (words words' : List W) (texts texts' : List T)
+    (index : ℕ) (word : W) (text : T) (ended ends : Bool) → index ≡ length words → words' ≡ words ++ word ∷ []
+    → texts' ≡ texts ++ text ∷ [] → AreTexts (map f words) (map h texts) ended → ends ≡ ends_options (f word)
+    → IsTextOf (f word) index ended (h text) → AreTexts (map f words') (map h texts') (ended || ends)
+texts_on f h words words' texts texts' index word text ended ends at pushed also are is one =
+    let before : map f words' ≡ map f words ++ f word ∷ [] = ap (map f) pushed ∙ map_push f words word in
+    let after : map h texts' ≡ map h texts ++ h text ∷ [] = ap (map h) also ∙ map_push h texts text in
+    rw (before, after) (texts_pushed (map f words) (map h texts) (f word) (h text) index ended ends are
+    (at ∙ sym (length-map words f)) is one)

@@ -1,4 +1,4 @@
-use Rattle.mseed.proofs.command.run_over.Goals as goal
+use Rattle.mseed.proofs.command.run.Goals as goal
 
 pub returns-in-Audit-clause-called : goal.returns-in-Audit-clause-called
 returns-in-Audit-clause-called g c =

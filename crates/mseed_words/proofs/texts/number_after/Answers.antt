@@ -1,7 +1,7 @@
 use Rattle.std.proofs.Common.{◌≡◌, ◌∙◌, ℕ, List, ap, drop}
 use Rattle.std.proofs.lemmas.Fmt.{parse-decimal}
 use Rattle.std.specs.Prelude.{decimal}
-use Rattle.mseed_files.proofs.texts.number_after.Goals as goal
+use Rattle.mseed_words.proofs.texts.number_after.Goals as goal
 
 pub returns-in-Some : goal.returns-in-Some
 returns-in-Some c = λ index few is.
