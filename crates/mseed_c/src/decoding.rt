@@ -14,6 +14,7 @@ use mseed_steim::fill_samples;
 /// # Errors
 ///
 /// `Not` with the reason why they begin none, or `Short` with how many bytes are needed before that is known.
+#[inline(always)]
 pub(crate) fn view_at(bytes: &[u8]) -> Result<RecordView<'_>, Stop>
     ensures first { IfOk result (λ view. IsFirst bytes.now (view_of view)) }
     ensures stop { IfErr result (λ stop. IsStopAt bytes.now stop) }
@@ -31,6 +32,7 @@ pub(crate) fn view_at(bytes: &[u8]) -> Result<RecordView<'_>, Stop>
 ///
 /// `Stop` with [`Stop::Room`] where there are fewer places than samples: then nothing is written. `Read` where the
 /// samples can't be read: then as many places as it has samples may have been written to.
+#[inline(always)]
 pub(crate) fn fill(view: &RecordView<'_>, out: &mut [i32]) -> Result<usize, SampleFault>
     ensures { IsTaken (view_of view.now) out.old out.new result }
 {

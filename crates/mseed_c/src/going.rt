@@ -54,6 +54,7 @@ pub(crate) trait Places {
 /// # Errors
 ///
 /// Why there is no next record, or how many places its samples need: then `progress` stays.
+#[inline(always)]
 fn row_next<P: Places>(
     bytes: &[u8],
     rows: &mut [Row],

@@ -14,6 +14,7 @@ impl Places for Unread {
 
     ghost room = { λ places. 2 ^ 64 - 1 };
 
+    #[inline(always)]
     fn take(view: &RecordView<'_>, out: &mut [i32], filled: usize) -> Result<(usize, u32), usize> {
         let samples = usize::from(view.samples());
         match filled.checked_add(samples) {

@@ -18,6 +18,7 @@ impl Places for Written {
 
     ghost room = { λ places. places };
 
+    #[inline(always)]
     fn take(view: &RecordView<'_>, out: &mut [i32], filled: usize) -> Result<(usize, u32), usize> {
         match fill_row(view, out, filled) {
             Ok((samples, code)) => Ok((filled + samples, code)),
@@ -32,6 +33,7 @@ impl Places for Written {
 /// # Errors
 ///
 /// How many samples the record has, where there is room for fewer: then nothing is written.
+#[inline(always)]
 fn fill_row(view: &RecordView<'_>, out: &mut [i32], index: usize) -> Result<(usize, u32), usize>
     requires { index ≤ length out.old }
     ensures prefix { take index out.new ≡ take index out.old }

@@ -55,6 +55,7 @@ pub(crate) struct RowRate {
 }
 
 /// Returns a record's rate, as a row has it; all fields are 0 where it has none.
+#[inline(always)]
 fn rate(view: &RecordView<'_>) -> RowRate
     ensures { HasRate result (view_of view.now) }
 {
@@ -79,6 +80,7 @@ fn rate(view: &RecordView<'_>) -> RowRate
 
 /// Returns a record's start in microseconds from 1970-01-01T00:00:00, and 0; or 0, and the number of the first field of
 /// it that is out of its range.
+#[inline(always)]
 fn start(view: &RecordView<'_>) -> (i64, u8)
     ensures time { result.1 ≡ time_number (first_fault (time_at (view_of view.now).order (view_of view.now).bytes)) }
     ensures start { result.1 ≡ 0 → result.0 ≡ start_of (view_of view.now) }
@@ -91,6 +93,7 @@ fn start(view: &RecordView<'_>) -> (i64, u8)
 }
 
 /// Returns the number of a field of a BTIME, from 1, the year, to 6, the fraction.
+#[inline(always)]
 fn time_number(fault: TimeFault) -> u8
     ensures value { result ≡ time_number (Some fault) }
     ensures some { result ≢ 0 }
@@ -106,6 +109,7 @@ fn time_number(fault: TimeFault) -> u8
 }
 
 /// Returns the number of a record's leap seconds: 0 for none, 1 positive, 2 negative, 3 for both flags.
+#[inline(always)]
 fn leap_number(leap: Leap) -> u8
     ensures { result ≡ leap_number leap }
 {
@@ -119,6 +123,7 @@ fn leap_number(leap: Leap) -> u8
 
 /// Returns the row of a record that begins at this offset (in bytes), whose first sample has this index, and whose
 /// samples were read with this code.
+#[inline(always)]
 pub(crate) fn row_of(view: &RecordView<'_>, offset: usize, first: usize, code: u32) -> Row
     ensures describes { Describes result (view_of view.now) }
     ensures offset { result.offset ≡ offset }
