@@ -135,6 +135,7 @@ interop: build
 bench: build lib
 	@python3 bench/bench.py $(MSEED) --write
 	@python3 bench/library.py --write
+	@python3 bench/reading.py --write
 	@python3 bench/parts.py $(MSEED) --write
 
 feed-bench: build

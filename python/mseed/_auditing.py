@@ -2,13 +2,15 @@
 
 import ctypes
 from dataclasses import dataclass
-from typing import List, Optional, Tuple
+from typing import List, Tuple
 
 from mseed._library import LIBRARY, NO_MEMORY, Totals
 from mseed._memory import Archive, address_of, bytes_of
 
 # What is found of the border between a record and the one before it; all else is found of the record itself.
 BORDERS = ("ratechange", "leap", "gap", "overlap")
+# The room for a text at first, and for the line of a channel, which is shorter.
+ROOM, LINE = 1 << 16, 200
 
 
 @dataclass(frozen=True)
@@ -59,18 +61,17 @@ class Audit:
         return self.status == 0
 
 
-def audited(call: str, data: bytes, size: Optional[int] = None) -> Tuple[str, int, Totals]:
-    """The text that a call writes about an archive, its status and its totals; of its first `size` bytes, if given."""
+def audited(call: str, data: bytes, room: int = ROOM) -> Tuple[str, int, Totals]:
+    """The text that a call writes about an archive, its status and its totals. Where the text needs more room than is
+    given to it at first, the archive is audited twice."""
     totals = Totals()
-    room = 1 << 16
     while True:
         text = ctypes.create_string_buffer(room)
-        size = len(data) if size is None else size
-        status = getattr(LIBRARY, call)(address_of(data), size, text, room, ctypes.byref(totals))
+        status = getattr(LIBRARY, call)(address_of(data), len(data), text, room, ctypes.byref(totals))
         if status == NO_MEMORY:
             raise MemoryError(f"{call} had no memory")
         if totals.length <= room:
-            return text.raw[: totals.length].decode("ascii"), status, totals
+            return ctypes.string_at(text, totals.length).decode("ascii"), status, totals
         room = totals.length
 
 
@@ -104,9 +105,9 @@ def findings(archive: Archive) -> List[Finding]:
     return found
 
 
-def findings_in(data: bytes, size: int) -> List[Finding]:
-    """Each record with a finding, of so many bytes of an archive."""
-    return _findings_of(audited("mseed_audit_each", data, size)[0])
+def findings_in(data: bytes, channels: int) -> List[Finding]:
+    """Each record with a finding, of an archive of so many channels."""
+    return _findings_of(audited("mseed_audit_each", data, ROOM + channels * LINE)[0])
 
 
 def _findings_of(text: str) -> List[Finding]:

@@ -7,7 +7,7 @@ import operator
 import os
 from array import array
 from contextlib import contextmanager
-from typing import TYPE_CHECKING, Any, BinaryIO, Iterable, Iterator, Sequence, Union, cast
+from typing import TYPE_CHECKING, Any, BinaryIO, Iterator, Sequence, Union, cast
 
 try:
     import numpy as numpy
@@ -26,6 +26,9 @@ else:
     Samples = memoryview if numpy is None else numpy.ndarray
 
 LIMIT = 1 << 31
+
+# Samples that grow are copied up to so many bytes of them; the system moves more.
+FEW = 1 << 16
 
 # Memory that no file is behind, and that no other process shares.
 _OWN = mmap.MAP_PRIVATE | mmap.MAP_ANONYMOUS
@@ -127,7 +130,7 @@ def room_for(count: int) -> Samples:
     """Places for so many samples, of which nothing is known yet."""
     if numpy is not None:
         return numpy.empty(max(count, 1), numpy.int32)
-    return memoryview(array("i", bytes(4 * max(count, 1))))
+    return memoryview(bytearray(4 * max(count, 1))).cast("i")
 
 
 def address_in(samples: Samples, index: int) -> int:
@@ -141,7 +144,12 @@ def joined(parts: Sequence[Samples]) -> Samples:
     """Samples one after another, at a place of their own."""
     if numpy is not None:
         return numpy.concatenate(parts)
-    return memoryview(array("i", b"".join(parts)))
+    return memoryview(bytearray().join(parts)).cast("i")
+
+
+def zeros(size: int) -> mmap.mmap:
+    """So many bytes that are 0, of which no page is in memory until something is written to it."""
+    return mmap.mmap(-1, size, _OWN)
 
 
 class Grown:
@@ -149,21 +157,33 @@ class Grown:
 
     def __init__(self) -> None:
         """None yet."""
-        self._room, self._size = mmap.mmap(-1, mmap.PAGESIZE, _OWN), 0
+        self._room: Union[bytearray, mmap.mmap] = bytearray()
+        self._count = 0
 
-    def add(self, part: Any) -> None:
-        """Puts those that lie in some memory after them."""
-        end = self._size + part.nbytes
-        if end > len(self._room):
+    def place_for(self, count: int) -> int:
+        """The address of room for some samples more, after those that are there. It is theirs until others come."""
+        at, self._count = 4 * self._count, self._count + count
+        if 4 * self._count > len(self._room):
+            self._grow(4 * self._count)
+        return ctypes.addressof(ctypes.c_char.from_buffer(self._room, at))
+
+    def _grow(self, size: int) -> None:
+        """Makes room for so many bytes."""
+        pages = -(-(size + size // 8) // mmap.PAGESIZE) * mmap.PAGESIZE
+        if isinstance(self._room, mmap.mmap):
             # The system moves pages to where there are more of them, and copies none.
-            self._room.resize(-(-(end + end // 8) // mmap.PAGESIZE) * mmap.PAGESIZE)
-        self._room[self._size : end] = part
-        self._size = end
+            self._room.resize(pages)
+        elif size <= FEW:
+            self._room.extend(bytes(size - len(self._room)))
+        else:
+            few, self._room = self._room, zeros(pages)
+            self._room[: len(few)] = few
 
     def samples(self) -> Samples:
         """All of them."""
-        view = memoryview(self._room)[: self._size]
-        return view.cast("i") if numpy is None else numpy.frombuffer(view, numpy.int32)
+        if numpy is not None:
+            return numpy.frombuffer(self._room, numpy.int32, self._count)
+        return memoryview(self._room)[: 4 * self._count].cast("i")
 
 
 def samples_from(given: Any) -> Samples:

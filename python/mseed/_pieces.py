@@ -2,10 +2,12 @@
 
 from bisect import bisect_right
 from dataclasses import dataclass
-from typing import Any, Dict, Generator, Iterator, List, Optional, Sequence
+from itertools import accumulate
+from operator import attrgetter, itemgetter
+from typing import Any, Dict, Generator, Iterator, List, Optional, Sequence, Tuple
 
 from mseed._memory import Archive, Samples, joined, whole
-from mseed._records import RecordError, Runs, Window, codes_of
+from mseed._records import RecordError, Stretch, Window, codes_of
 from mseed._selecting import Asked, Channels, Time
 from mseed._trace import Trace
 from mseed._windows import Windows, asked_for
@@ -48,33 +50,50 @@ class Pieces(Iterator[Piece]):
 
 
 class _Firsts(Sequence[int]):
-    """The indexes of the rows' first samples."""
+    """The indexes of rows' first samples, as they are counted in the rows."""
 
-    def __init__(self, window: Window) -> None:
-        self._window = window
+    def __init__(self, rows: Any) -> None:
+        self._rows = rows
 
     def __len__(self) -> int:
-        return self._window.count
+        return len(self._rows)
 
     def __getitem__(self, index: Any) -> Any:
-        return int(self._window.rows[index].first)
+        return int(self._rows[index].first)
 
 
 class _Open:
-    """A trace that is being read: what it has of its next piece."""
+    """A trace that is being read: what it has of its next piece, and the number of the record in which it began."""
 
     def __init__(self, key: bytes) -> None:
         self.key, self.index, self.size = key, 0, 0
         self.parts: List[Samples] = []
         self.views: List[Samples] = []
-        self.start_ns = self.factor = self.multiplier = self.first_record = 0
+        self.start_ns = self.factor = self.multiplier = self.first_record = self.begun = 0
 
-    def begin(self, window: Window, at: int) -> None:
-        """Begins a piece with the sample at an index."""
-        index = bisect_right(_Firsts(window), at, 0, window.count) - 1
+    def add(self, window: Window, stretch: Stretch, samples: Samples, most: int) -> Iterator[Tuple[int, Piece]]:
+        """Adds the samples of a stretch. The pieces of so many that are whole, each with the first row of the run in
+        which its trace goes on."""
+        places, at = [0, *accumulate(window.runs.sizes[stretch.runs.start : stretch.runs.stop])], 0
+        while at < stretch.size:
+            index = bisect_right(places, at) - 1
+            if self.size == most:
+                yield window.runs.firsts[stretch.runs[index]], self.piece(True)
+            if self.size == 0:
+                self._begin(window, stretch.runs[index], at - places[index])
+            taken = min(most - self.size, stretch.size - at)
+            self.views.append(samples[at : at + taken])
+            self.size, at = self.size + taken, at + taken
+
+    def _begin(self, window: Window, run: int, at: int) -> None:
+        """Begins a piece with the sample at an index of a run."""
+        rows = window.runs.rows(run)
+        at += window.rows[rows.start].first
+        index = bisect_right(_Firsts(window.rows), at, rows.start, rows.stop) - 1
         row = window.rows[index]
         self.start_ns = row.start * 1000 + (at - row.first) * row.den * 10**9 // row.num
         self.factor, self.multiplier, self.first_record = row.factor, row.multiplier, window.before + index + 1
+        self.begun = self.begun or self.first_record
 
     def keep(self) -> None:
         """Keeps at a place of its own what it has of samples that go."""
@@ -111,31 +130,24 @@ def iterate(archive: Archive, *, samples: int = 1 << 14, skip: bool = False, cha
 def _pieces(windows: Windows, samples: int) -> Generator[Piece, None, None]:
     """The pieces."""
     going: Dict[bytes, _Open] = {}
-    for window, runs, read in windows:
-        yield from _whole_pieces(window, runs, read, samples, going)
+    for window in windows:
+        yield from _whole_pieces(window, samples, going)
         for trace in going.values():
             trace.keep()
-    for trace in going.values():
+    for trace in sorted(going.values(), key=attrgetter("begun")):
         yield trace.piece(False)
 
 
-def _whole_pieces(window: Window, runs: Runs, read: Samples, samples: int,
-                  going: Dict[bytes, _Open]) -> Iterator[Piece]:
-    """The pieces that are whole once the runs of some records are added to the traces that go on."""
-    for first, at, size, key in zip(runs.firsts, runs.places, runs.sizes, runs.keys):
-        if first in window.found and key in going:
-            yield going.pop(key).piece(False)
-        if size == 0 or window.is_left_out(first):
-            continue
-        trace = going.get(key)
-        if trace is None:
-            trace = going[key] = _Open(key)
-        end = at + size
-        while at < end:
-            if trace.size == samples:
-                yield trace.piece(True)
-            if trace.size == 0:
-                trace.begin(window, at)
-            size = min(samples - trace.size, end - at)
-            trace.views.append(read[at : at + size])
-            trace.size, at = trace.size + size, at + size
+def _whole_pieces(window: Window, samples: int, going: Dict[bytes, _Open]) -> List[Piece]:
+    """The pieces that are whole once some records are added to the traces that go on, in the order of the runs after
+    which they are."""
+    read, place = window.read(), 0
+    made: List[Tuple[int, Piece]] = []
+    for stretch in window.stretches():
+        if stretch.is_found and stretch.key in going:
+            made.append((window.runs.firsts[stretch.runs.start], going.pop(stretch.key).piece(False)))
+        if stretch.size:
+            trace = going.setdefault(stretch.key, _Open(stretch.key))
+            made += trace.add(window, stretch, read[place : place + stretch.size], samples)
+            place += stretch.size
+    return [piece for _, piece in sorted(made, key=itemgetter(0))]

@@ -1,9 +1,9 @@
 """The traces of an archive."""
 
-from typing import Any, Dict, List, Optional, Sequence, Tuple, cast
+from typing import Dict, List, Optional, Sequence
 
-from mseed._memory import Archive, Grown, Samples
-from mseed._records import RecordError, Runs, Window, codes_of
+from mseed._memory import Archive, Grown
+from mseed._records import RecordError, Stretch, Window, codes_of
 from mseed._selecting import Channels, Time
 from mseed._trace import Trace
 from mseed._windows import Windows, asked_for
@@ -36,19 +36,27 @@ def read(archive: Archive, *, skip: bool = False, channels: Channels = None, sta
     windows = Windows(archive, skip, asked_for(channels, start, end))
     going: Dict[bytes, _Growing] = {}
     begun: List[_Growing] = []
-    for window, runs, samples in windows:
-        _add(window, runs, samples, going, begun)
+    for window in windows:
+        for stretch in window.stretches():
+            if stretch.is_found:
+                going.pop(stretch.key, None)
+            if stretch.size:
+                if stretch.key not in going:
+                    going[stretch.key] = _Growing(window, stretch)
+                    begun.append(going[stretch.key])
+                window.read_to(going[stretch.key].samples.place_for(stretch.size), stretch)
     windows.warn(2)
-    return Traces([trace.whole() for trace in begun], windows.skipped)
+    return Traces(sorted((trace.whole() for trace in begun), key=lambda trace: trace.first_record), windows.skipped)
 
 
 class _Growing:
     """A trace that is being read: how it begins, and its samples so far."""
 
-    def __init__(self, window: Window, index: int, key: bytes) -> None:
-        """Without samples yet, of a channel, from a row on."""
+    def __init__(self, window: Window, stretch: Stretch) -> None:
+        """Without samples yet, from a stretch on."""
+        index = window.first_with_samples(stretch)
         row = window.rows[index]
-        self._key, self._first_record = key, window.before + index + 1
+        self._key, self._first_record = stretch.key, window.before + index + 1
         self._start_ns, self._factor, self._multiplier = row.start * 1000, row.factor, row.multiplier
         self.samples = Grown()
 
@@ -56,18 +64,3 @@ class _Growing:
         """The trace, once it has all its samples."""
         return Trace(*codes_of(self._key), self._start_ns, self._factor, self._multiplier, self.samples.samples(),
                      self._first_record, self._key)
-
-
-def _add(window: Window, runs: Runs, samples: Samples, going: Dict[bytes, _Growing], begun: List[_Growing]) -> None:
-    """Adds the runs of some records to the traces that go on, and begins others with them."""
-    view = memoryview(cast(Any, samples))
-    for first, end, place, size, key in zip(runs.firsts, runs.ends, runs.places, runs.sizes, runs.keys):
-        if first in window.found:
-            going.pop(key, None)
-        if size == 0 or window.is_left_out(first):
-            continue
-        trace = going.get(key)
-        if trace is None:
-            trace = going[key] = _Growing(window, window.with_samples(range(first, end)), key)
-            begun.append(trace)
-        trace.samples.add(view[place : place + size])

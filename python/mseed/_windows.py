@@ -1,15 +1,13 @@
-"""The records of an archive, as many at once as are read at once, with what is found of them and their samples."""
+"""The records of an archive, as many at once as are read at once, with what is found of them."""
 
-from typing import BinaryIO, Dict, Generator, Iterator, List, Optional, Tuple, cast
+from typing import BinaryIO, Dict, Generator, Iterator, List, Optional, cast
 
-from mseed._memory import Archive, Samples, opened, read_from
-from mseed._records import Cutter, RecordError, Runs, Window
+from mseed._memory import Archive, opened, read_from
+from mseed._records import Cutter, RecordError, Window
 from mseed._selecting import Asked, Channels, Selection, Time
 
 # How much of an archive is in memory at once, besides the rest of its last record, which is at most 1 MiB.
 AT_ONCE = 1 << 21
-
-Found = Tuple[Window, Runs, Samples]
 
 
 def asked_for(channels: Channels, start: Optional[Time], end: Optional[Time]) -> Optional[Asked]:
@@ -17,9 +15,8 @@ def asked_for(channels: Channels, start: Optional[Time], end: Optional[Time]) ->
     return None if channels is None and start is None and end is None else Asked(channels, start, end)
 
 
-class Windows(Iterator[Found]):
-    """Some records of an archive after others, each time with their runs and samples. Once all are taken, or `close`
-    was called, a path's file is closed."""
+class Windows(Iterator[Window]):
+    """Some records of an archive after others. Once all are taken, or `close` was called, a path's file is closed."""
 
     def __init__(self, archive: Archive, skip: bool, asked: Optional[Asked]) -> None:
         """Of the records alone that are asked for, where some are. Without `skip` the first record that can't be read,
@@ -33,8 +30,8 @@ class Windows(Iterator[Found]):
         # So that what can't be opened is refused at once.
         next(self._found)
 
-    def __next__(self) -> Found:
-        """The next records."""
+    def __next__(self) -> Window:
+        """The next records, until those after them are taken."""
         found = next(self._found)
         assert found is not None
         return found
@@ -50,9 +47,8 @@ class Windows(Iterator[Found]):
             self._selection.warn(level + 1)
             self._selection = None
 
-    def _all(self, archive: Archive) -> Generator[Optional[Found], None, None]:
+    def _all(self, archive: Archive) -> Generator[Optional[Window], None, None]:
         """Nothing, once the archive is open, and then all of them."""
-        tails: Dict[bytes, bytes] = {}
         with opened(archive) as file:
             yield None
             source, size = file, AT_ONCE
@@ -61,19 +57,18 @@ class Windows(Iterator[Found]):
                 self._selection = Selection(file, self._asked, self._skip)
                 source, size = cast(BinaryIO, self._selection), AT_ONCE // 4
             for window in self._cut(source, size):
-                window.find([tails[key] for key in window.keys() if key in tails])
                 self._leave_out(window)
-                samples, runs = window.read(), window.runs()
-                yield window, runs, samples
-                tails.update(window.tails(runs))
+                yield window
 
     def _cut(self, file: BinaryIO, size: int) -> Iterator[Window]:
         """The records of a file, as many at once as are read at once: so many bytes."""
         rest, chunk = b"", b"-"
+        tails: Dict[bytes, bytes] = {}
         while chunk:
             chunk = read_from(file, size)
             data, begin = rest + chunk, self._cutter.offset
-            window = Window(data, self._cutter.cut(data, not chunk))
+            window = Window(data, self._cutter.cut(data, not chunk), tails)
+            tails.update(window.tails)
             rest = data[self._cutter.offset - begin :]
             yield window
 

@@ -101,9 +101,9 @@ def left_out_of(errors: List[mseed.RecordError]) -> List[Tuple[int, int, str, in
 
 
 def compare_pieces(archive: bytes, source: Random) -> None:
-    """Compares the pieces of the traces, of each channel in their order; as if memory were small, too."""
+    """Compares the pieces of the traces, of each channel in their order."""
     traces, skipped = expected_traces(archive)
-    most, mseed._pieces.AT_ONCE = source.choice([1, 3, 100, 10**6]), source.choice([64, 200, 1000, 1 << 21])
+    most = source.choice([1, 3, 100, 10**6])
     expected: Dict[bytes, List[Tuple]] = {}
     for trace in traces:
         size = len(trace.values)
@@ -185,6 +185,8 @@ def main() -> None:
     with Batch() as batch:
         for _ in range(archives):
             archive = damaged(source)
+            # As if memory were small, too.
+            mseed._windows.AT_ONCE = source.choice([64, 200, 1000, 1 << 21])
             traces += compare(archive, batch)
             compare_pieces(archive, source)
     for _ in range(series):

@@ -83,8 +83,7 @@ def reads_as(archive: bytes, asked: Selection, source: Random) -> bool:
     records, holes = cut_on(archive)
     whole, before = b"".join(record.bytes for _, record in records), select(archive, asked)[0]
     wanted, begun = (mseed.read(some, skip=True) for some in (select(whole, asked)[0], before))
-    mseed._pieces.AT_ONCE = mseed._selecting.AT_ONCE = source.choice([64, 200, 1000, 1 << 21])
-    mseed._reading.PIECE = source.choice([1, 3, 100, 1 << 16])
+    mseed._windows.AT_ONCE = mseed._selecting.AT_ONCE = source.choice([64, 200, 1000, 1 << 21])
     came = quiet(mseed.read, archive, asked=asked, skip=True)
     left_out = sorted([*((*hole[:3], "") for hole in holes), *map(place_of, wanted.skipped)])
     is_same = (shown(came), sorted(map(place_of, came.skipped))) == (shown(wanted), left_out)
