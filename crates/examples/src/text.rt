@@ -12,8 +12,7 @@ use std::alloc::{AllocError, Global};
 pub fn push_records(text: &mut Vec<u8>, codes: &Codes, records: u64) -> Result<(), AllocError> {
     let mut line = Line::new();
     line.put_name(codes);
-    line.put(b" has ");
-    line.put_count(records);
+    line.put_labelled(b" has ", records);
     line.put(b" records\n");
     push_line(text, line.as_slice())
 }

@@ -93,8 +93,7 @@ fn refuse_line<E: Sink>(errors: &mut E, number: u64, flaw: &Flaw) -> u8
     ensures reported { WritesLine (bad_line_text number flaw.now) (E.written errors.old) (E.written errors.new) }
 {
     let mut line = Line::new();
-    line.put(b"mseed: bad part at line ");
-    line.put_count(number);
+    line.put_labelled(b"mseed: bad part at line ", number);
     line.put(b"\nmseed: ");
     put_flaw(&mut line, flaw);
     line.put(b"\n");
@@ -231,10 +230,8 @@ fn refuse_count<E: Sink>(errors: &mut E, parts: u64, expected: u64) -> u8
         (E.written errors.new) }
 {
     let mut line = Line::new();
-    line.put(b"mseed: ");
-    line.put_count(parts);
-    line.put(b" parts, not ");
-    line.put_count(expected);
+    line.put_labelled(b"mseed: ", parts);
+    line.put_labelled(b" parts, not ", expected);
     line.put(b"\n");
     report(errors, line.as_slice());
     FAULT

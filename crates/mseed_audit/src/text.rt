@@ -95,10 +95,8 @@ fn put_continuous(line: &mut Line, start: Micros, rate: Ratio, records: u64, sam
     line.put(&show_time(start));
     line.put(b" rate ");
     line.put_ratio(rate);
-    line.put(b" records ");
-    line.put_count(records);
-    line.put(b" samples ");
-    line.put_count(samples);
+    line.put_labelled(b" records ", records);
+    line.put_labelled(b" samples ", samples);
     line.put(b"\n");
 }
 
@@ -108,12 +106,9 @@ fn put_broken(line: &mut Line, first: &Finding, count: u64)
     requires { length line.old + 154 ≤ LONGEST_LINE }
     ensures { line.new ≡ line.old ++ broken_words first.now count }
 {
-    line.put(b" broken findings ");
-    line.put_count(count);
-    line.put(b" first record ");
-    line.put_count(first.number);
-    line.put(b" offset ");
-    line.put_count(first.offset);
+    line.put_labelled(b" broken findings ", count);
+    line.put_labelled(b" first record ", first.number);
+    line.put_labelled(b" offset ", first.offset);
     line.put(b" ");
     put_why(line, &first.why);
     line.put(b"\n");
@@ -139,8 +134,7 @@ pub(crate) fn push_reported_line<A: Allocator>(
     line.put_count(finding.offset);
     line.put(b" ");
     line.put_name(&view.codes());
-    line.put(b" record ");
-    line.put_count(finding.number);
+    line.put_labelled(b" record ", finding.number);
     line.put(b" start ");
     line.put_start(view);
     line.put(b" ");
@@ -164,10 +158,8 @@ pub fn push_total_line<A: Allocator>(
     ensures prefix { IsPrefixOf text.old.items text.new.items }
 {
     let mut line = Line::new();
-    line.put(b"records ");
-    line.put_count(records);
-    line.put(b" channels ");
-    line.put_count(channels);
+    line.put_labelled(b"records ", records);
+    line.put_labelled(b" channels ", channels);
     line.put(b"\n");
     push_line(text, line.as_slice())
 }
@@ -207,24 +199,19 @@ fn put_read_fault(line: &mut Line, fault: &ReadFault)
     match fault {
         ReadFault::Blockette100 => line.put(b"blockette100"),
         ReadFault::Encoding(code) => {
-            line.put(b"encoding ");
-            line.put_count(u64::from(*code));
+            line.put_labelled(b"encoding ", u64::from(*code));
         }
         ReadFault::LittleSteim => line.put(b"littlesteim"),
         ReadFault::DataOffset => line.put(b"dataoffset"),
         ReadFault::Short(found) => {
-            line.put(b"short ");
-            line.put_count(*found as u64);
+            line.put_labelled(b"short ", *found as u64);
         }
         ReadFault::BadWord(frame, word) => {
-            line.put(b"badword ");
-            line.put_count(*frame as u64);
-            line.put(b" ");
-            line.put_count(*word as u64);
+            line.put_labelled(b"badword ", *frame as u64);
+            line.put_labelled(b" ", *word as u64);
         }
         ReadFault::Overflow(index) => {
-            line.put(b"overflow ");
-            line.put_count(*index as u64);
+            line.put_labelled(b"overflow ", *index as u64);
         }
         ReadFault::LastDiffers(found, constant) => put_last_differs(line, *found, *constant),
         ReadFault::Memory => {}

@@ -39,10 +39,8 @@ fn keeps_line(place: Place, capacity: u32, came: u64) -> Line
     let mut line = Line::new();
     line.put(b"mseed: ");
     line.put(place.label().as_slice());
-    line.put(b" keeps the last ");
-    line.put_count(u64::from(capacity));
-    line.put(b" of ");
-    line.put_count(came);
+    line.put_labelled(b" keeps the last ", u64::from(capacity));
+    line.put_labelled(b" of ", came);
     line.put(b" records\n");
     line
 }

@@ -71,8 +71,7 @@ fn before_station(number: u64) -> Line
     ensures most { length result ≤ 34 }
 {
     let mut line = Line::new();
-    line.put(b"record ");
-    line.put_count(number);
+    line.put_labelled(b"record ", number);
     line.put(b" is of ");
     line
 }
@@ -103,8 +102,7 @@ fn after_station(size: usize) -> Line
     ensures most { length result ≤ 36 }
 {
     let mut line = Line::new();
-    line.put(b", and has ");
-    line.put_count(size as u64);
+    line.put_labelled(b", and has ", size as u64);
     line.put(b" bytes");
     line
 }
@@ -147,8 +145,7 @@ fn cannot_listen(listener: &Endpoint<Address>, fault: ListenFault) -> Line
     let mut line = Line::new();
     line.put(b"mseed: cannot listen at ");
     put_address(&mut line, listener.host);
-    line.put(b":");
-    line.put_count(u64::from(listener.port));
+    line.put_labelled(b":", u64::from(listener.port));
     line.put(b": ");
     line.put(fault.text().as_bytes());
     line.put(b"\n");

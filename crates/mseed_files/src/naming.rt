@@ -147,8 +147,7 @@ fn report_fault_in<E: Sink>(alloc: Global, errors: &mut E, word: &[u8], offset: 
     ensures { ReportsName (fault_in offset word.now) (E.written errors.old) (E.written errors.new) }
 {
     let mut after = Line::new();
-    after.put(b" at ");
-    after.put_count(offset);
+    after.put_labelled(b" at ", offset);
     after.put(b"\n");
     report_named(alloc, errors, b"mseed: fault in ", word, after.as_slice());
 }

@@ -45,8 +45,7 @@ fn push_border_line<A: Allocator>(
     line.put_count(finding.offset);
     line.put(b" ");
     line.put_name(codes);
-    line.put(b" record ");
-    line.put_count(finding.number);
+    line.put_labelled(b" record ", finding.number);
     line.put(b" start ");
     line.put(&show_time(start));
     line.put(b" ");

@@ -104,8 +104,7 @@ fn report_passed<E: Sink>(errors: &mut E, reported: &Reported)
     match reported {
         Reported::Passed { part, fault } => {
             let mut line = Line::new();
-            line.put(b"mseed: part ");
-            line.put_count(*part);
+            line.put_labelled(b"mseed: part ", *part);
             line.put(b" ");
             line.put_fault_line(fault);
             report(errors, line.as_slice());

@@ -54,10 +54,8 @@ pub fn push_counts_line<A: Allocator>(
     ensures prefix { IsPrefixOf text.old.items text.new.items }
 {
     let mut line = Line::new();
-    line.put(b"records ");
-    line.put_count(records);
-    line.put(b" bytes ");
-    line.put_count(bytes);
+    line.put_labelled(b"records ", records);
+    line.put_labelled(b" bytes ", bytes);
     line.put(b"\n");
     push_line(text, line.as_slice())
 }
@@ -76,8 +74,7 @@ pub fn push_faults_line<A: Allocator>(text: &mut Vec<u8, A>, faults: u64) -> Res
         return Ok(());
     }
     let mut line = Line::new();
-    line.put(b"faults ");
-    line.put_count(faults);
+    line.put_labelled(b"faults ", faults);
     line.put(b"\n");
     push_line(text, line.as_slice())
 }
@@ -90,10 +87,8 @@ fn put_counts(line: &mut Line, key: &[u8; 12], channel: &Channel)
     ensures most { length line.new ≤ length line.old + 82 }
 {
     put_key(line, key);
-    line.put(b" records ");
-    line.put_count(channel.records);
-    line.put(b" samples ");
-    line.put_count(channel.samples);
+    line.put_labelled(b" records ", channel.records);
+    line.put_labelled(b" samples ", channel.samples);
 }
 
 /// Puts the digits of a key.
@@ -116,8 +111,7 @@ fn put_found(line: &mut Line, findings: &Findings)
     match findings {
         Findings::Nothing { .. } => line.put(b" findings 0"),
         Findings::Counted { count, first, .. } => {
-            line.put(b" findings ");
-            line.put_count(*count);
+            line.put_labelled(b" findings ", *count);
             line.put(b" ");
             put_first(line, first);
         }
@@ -130,10 +124,8 @@ fn put_first(line: &mut Line, first: &Finding)
     ensures text { line.new ≡ line.old ++ first_text first.now }
     ensures most { length line.new ≤ length line.old + 101 }
 {
-    line.put(b"first ");
-    line.put_count(first.number);
-    line.put(b" ");
-    line.put_count(first.offset);
+    line.put_labelled(b"first ", first.number);
+    line.put_labelled(b" ", first.offset);
     line.put(b" ");
     put_why(line, &first.why);
 }
@@ -155,8 +147,7 @@ impl HeadOrTail for Head {
 
     fn put_to(&self, line: &mut Line) {
         line.put_count(self.number);
-        line.put(b" ");
-        line.put_count(self.offset);
+        line.put_labelled(b" ", self.offset);
         line.put(b" ");
         line.put_signed(self.start.get());
         line.put(b" ");
@@ -169,8 +160,7 @@ impl HeadOrTail for Tail {
 
     fn put_to(&self, line: &mut Line) {
         line.put_signed(self.start.get());
-        line.put(b" ");
-        line.put_count(u64::from(self.samples));
+        line.put_labelled(b" ", u64::from(self.samples));
         line.put(b" ");
         line.put_ratio(self.rate);
         line.put(b" ");

@@ -125,8 +125,7 @@ pub fn report_without_time<E: Sink>(count: u64, errors: &mut E)
 {
     if count > 0 {
         let mut line = Line::new();
-        line.put(b"mseed: ");
-        line.put_count(count);
+        line.put_labelled(b"mseed: ", count);
         line.put(b" records without a time\n");
         report(errors, line.as_slice());
     }

@@ -132,10 +132,8 @@ fn put_range(line: &mut Line, bits: u32)
     ensures most { length line.new ≤ length line.old + 45 }
 {
     let half = 1_u64 << (bits - 1);
-    line.put(b"-");
-    line.put_count(half);
-    line.put(b" to ");
-    line.put_count(half - 1);
+    line.put_labelled(b"-", half);
+    line.put_labelled(b" to ", half - 1);
 }
 
 /// Returns the name that requests an encoding.

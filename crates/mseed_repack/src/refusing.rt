@@ -181,10 +181,8 @@ fn put_finding(line: &mut Line, finding: &Finding)
     requires { length line.old + 118 ≤ LONGEST_LINE }
     ensures { line.new ≡ line.old ++ finding_line finding.now }
 {
-    line.put(b"mseed: record ");
-    line.put_count(finding.number);
-    line.put(b" offset ");
-    line.put_count(finding.offset);
+    line.put_labelled(b"mseed: record ", finding.number);
+    line.put_labelled(b" offset ", finding.offset);
     line.put(b" ");
     put_why(line, &finding.why);
     line.put(b"\n");
@@ -239,8 +237,7 @@ fn put_stretch(line: &mut Line, stretch: Option<u64>)
     ensures most { length line.new ≤ length line.old + 29 }
 {
     if let Some(number) = stretch {
-        line.put(b" stretch ");
-        line.put_count(number);
+        line.put_labelled(b" stretch ", number);
     }
 }
 

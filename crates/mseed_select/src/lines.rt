@@ -40,8 +40,7 @@ pub fn push_count_line<A: Allocator>(text: &mut Vec<u8, A>, records: u64) -> Res
     ensures unchanged { OnErr result (text.new.items ≡ text.old.items) }
 {
     let mut line = Line::new();
-    line.put(b"records ");
-    line.put_count(records);
+    line.put_labelled(b"records ", records);
     line.put(b"\n");
     push_line(text, line.as_slice())
 }
@@ -66,10 +65,8 @@ fn put_size(line: &mut Line, view: &RecordView)
     ensures most { length line.new ≤ length line.old + 59 }
 {
     line.put(&[b' ', view.quality()]);
-    line.put(b" length ");
-    line.put_count(view.bytes().len() as u64);
-    line.put(b" samples ");
-    line.put_count(u64::from(view.samples()));
+    line.put_labelled(b" length ", view.bytes().len() as u64);
+    line.put_labelled(b" samples ", u64::from(view.samples()));
 }
 
 /// Puts a record's start and sample rate at a line's end.
@@ -104,8 +101,7 @@ fn put_payload(line: &mut Line, view: &RecordView)
     requires { length line.old + 51 ≤ LONGEST_LINE }
     ensures { line.new ≡ line.old ++ payload_words (view_of view.now) }
 {
-    line.put(b" encoding ");
-    line.put_count(u64::from(view.encoding()));
+    line.put_labelled(b" encoding ", u64::from(view.encoding()));
     put_last(line, view.payload_order(), view.has_rate_blockette());
 }
 

@@ -22,6 +22,17 @@ impl Line {
         }
     }
 
+    /// Puts a label at its end, and after it the decimal digits of a number: at most 20 bytes.
+    #[inline(always)]
+    pub fn put_labelled(&mut self, label: &[u8], count: u64)
+        requires room { length self.old + length label.now + 20 ≤ LONGEST_LINE }
+        ensures text { self.new ≡ self.old ++ label.now ++ decimal count }
+        ensures most { length self.new ≤ length self.old + length label.now + 20 }
+    {
+        self.put(label);
+        self.put_count(count);
+    }
+
     /// Puts the decimal digits of a number of up to 128 bits at its end: at most 39 bytes.
     pub fn put_wide(&mut self, count: u128)
         requires room { length self.old + 39 ≤ LONGEST_LINE }

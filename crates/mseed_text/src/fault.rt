@@ -24,8 +24,7 @@ impl Line {
             }
             StreamFault::Truncated(offset, have) => {
                 self.put_offset(*offset);
-                self.put(b" truncated ");
-                self.put_count(*have as u64);
+                self.put_labelled(b" truncated ", *have as u64);
                 self.put(b"\n");
             }
             StreamFault::Read(offset) => {
@@ -46,8 +45,7 @@ impl Line {
         ensures text { self.new ≡ self.old ++ (codes "fault at " ++ decimal offset) }
         ensures most { length self.new ≤ length self.old + 29 }
     {
-        self.put(b"fault at ");
-        self.put_count(offset);
+        self.put_labelled(b"fault at ", offset);
     }
 
     /// Puts why bytes begin no record at its end: at most 27 bytes.
@@ -62,8 +60,7 @@ impl Line {
             FrameFault::Chain => self.put(b"chain"),
             FrameFault::No1000 => self.put(b"no1000"),
             FrameFault::Length(exponent) => {
-                self.put(b"length ");
-                self.put_count(u64::from(*exponent));
+                self.put_labelled(b"length ", u64::from(*exponent));
             }
             FrameFault::Outside => self.put(b"outside"),
             FrameFault::Version3 => self.put(b"version3"),

@@ -43,7 +43,6 @@ impl Line {
         ensures most { length self.new ≤ length self.old + 41 }
     {
         self.put_count(u64::from(rate.num()));
-        self.put(b"/");
-        self.put_count(u64::from(rate.den()));
+        self.put_labelled(b"/", u64::from(rate.den()));
     }
 }

@@ -124,8 +124,7 @@ fn garbage_line(packets: u64) -> Line
     ensures { result ≡ garbage_line packets }
 {
     let mut line = Line::new();
-    line.put(b"mseed: bytes came that are neither a packet nor the end, after ");
-    line.put_count(packets);
+    line.put_labelled(b"mseed: bytes came that are neither a packet nor the end, after ", packets);
     if packets == 1 {
         line.put(b" packet\n");
     } else {
@@ -197,8 +196,7 @@ fn line_of_server(before: &[u8], server: &Server, words: &[u8]) -> Line
     let mut line = Line::new();
     line.put(before);
     put_host(&mut line, &server.host);
-    line.put(b":");
-    line.put_count(u64::from(server.port));
+    line.put_labelled(b":", u64::from(server.port));
     line.put(b": ");
     line.put(words);
     line.put(b"\n");
@@ -225,10 +223,7 @@ pub fn put_address(line: &mut Line, address: Address)
 {
     let [a, b, c, d] = address.octets;
     line.put_count(u64::from(a));
-    line.put(b".");
-    line.put_count(u64::from(b));
-    line.put(b".");
-    line.put_count(u64::from(c));
-    line.put(b".");
-    line.put_count(u64::from(d));
+    line.put_labelled(b".", u64::from(b));
+    line.put_labelled(b".", u64::from(c));
+    line.put_labelled(b".", u64::from(d));
 }

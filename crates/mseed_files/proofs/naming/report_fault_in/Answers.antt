@@ -8,8 +8,7 @@ pub returns : goal.returns
 returns g c =
     let old : BytesWritten = g.E.Sink.written c.args.errors.now in
     let new : BytesWritten = g.E.Sink.written c.report_named.new.errors in
-    let a1 = rw c.new-after.ensures at c.put.ensures.text in
-    let a2 = rw a1 at c.put_count.ensures.text in
-    let a3 = rw a2 at c.put-2.ensures.text in
+    let a1 = rw c.new-after.ensures at c.put_labelled.ensures.text in
+    let a2 = rw a1 at c.put.ensures.text in
     subst (λ (after : List ℕ). ReportsName (codes "mseed: fault in " ++ map printed_byte c.args.word.now ++ after) old
-    new) (c.as_slice.ensures ∙ a3) c.report_named.ensures
+    new) (c.as_slice.ensures ∙ a2) c.report_named.ensures

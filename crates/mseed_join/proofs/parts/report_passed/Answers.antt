@@ -13,12 +13,11 @@ pub returns-in-Passed : goal.returns-in-Passed
 returns-in-Passed g c =
     let old : BytesWritten = g.E.Sink.written c.args.errors.now in
     let new : BytesWritten = g.E.Sink.written c.report.new.errors in
-    let a1 = rw c.new-line.ensures at c.put.ensures.text in
-    let a2 = rw a1 at c.put_count.ensures.text in
-    let a3 = rw a2 at c.put-in-Passed.ensures.text in
-    let a4 = rw a3 at c.put_fault_line.ensures.text in
+    let a1 = rw c.new-line.ensures at c.put_labelled.ensures.text in
+    let a2 = rw a1 at c.put.ensures.text in
+    let a3 = rw a2 at c.put_fault_line.ensures.text in
     let wrote : WritesLine (passed_line c.in-Passed.part c.in-Passed.fault) old new =
-    subst (λ (line : List ℕ). WritesLine line old new) (c.as_slice.ensures ∙ a4
+    subst (λ (line : List ℕ). WritesLine line old new) (c.as_slice.ensures ∙ a3
     ∙ joined (codes "mseed: part ") (decimal c.in-Passed.part) (codes " ") (fault_line c.in-Passed.fault))
     c.report.ensures in
     rw c.in-Passed.is (AreReported.one _ [] _ _ _ wrote (AreReported.none _))

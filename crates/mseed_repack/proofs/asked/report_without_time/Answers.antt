@@ -8,7 +8,6 @@ returns-else-count-gt0 g c = none_lacks c.args.count (g.E.Sink.written c.args.er
 
 pub returns-then-count-gt0 : goal.returns-then-count-gt0
 returns-then-count-gt0 g c =
-    let a1 = rw c.new-line.ensures at c.put.ensures.text in
-    let a2 = rw a1 at c.put_count.ensures.text in
-    let a3 = rw a2 at c.put-then-count-gt0.ensures.text in
-    some_lack _ _ _ c.if-count-gt0.true (rw (c.as_slice.ensures ∙ a3) at c.report.ensures)
+    let a1 = rw c.new-line.ensures at c.put_labelled.ensures.text in
+    let a2 = rw a1 at c.put.ensures.text in
+    some_lack _ _ _ c.if-count-gt0.true (rw (c.as_slice.ensures ∙ a2) at c.report.ensures)
