@@ -13,6 +13,7 @@ ghost use Rattle.slink_feed.specs.Session.{chosen, ended, grant_at, answer_chose
 ghost use Rattle.slink_feed.specs.Session.{answer_streaming};
 ghost use Rattle.slink_feed.specs.Session.{has_sent, sent, IsAtNext, IsWaiting, sent_without};
 ghost use Rattle.slink_feed.specs.Window.{record_at};
+ghost use Rattle.slink_feed.specs.private.Replying.{SendsRecord};
 
 use crate::feed::{Feed, STATIONS};
 use crate::grant::{Grant, Mode, first_granted};
@@ -89,12 +90,9 @@ impl Progress {
     ) -> Result<(u32, &'f [u8; 512]), Unsent>
         requires in_range { k < length feed.now }
         requires fits { Fits feed.now self.old }
-        ensures sent { IfOk result (λ r. sent feed.now self.old k
-            ≡ (self.new, Sent.Packet (packet_bytes r.0 r.1.now))) }
+        ensures sends { IfOk result (λ r. SendsRecord feed.now k self.old self.new r.0 r.1.now) }
         ensures unsent { IfErr result (λ e. sent feed.now self.old k ≡ (self.new, sent_without e)) }
-        ensures number { IfOk result (λ r. r.0 < SPAN) }
         ensures fits { Fits feed.now self.new }
-        ensures few { IfOk result (λ _. ForSome (slice_get feed.now k) (λ w. length w.records ≤ MOST_RECORDS)) }
     {
         match self.phase {
             Phase::Fresh | Phase::Chosen(_) | Phase::Granted(_) => Err(Unsent::Wait),
@@ -117,12 +115,9 @@ impl Progress {
         requires phase { self.old.phase ≡ Phase.Streaming }
         requires granted { grant_at self.old.grants k ≡ Some grant }
         requires fits { AreReached feed.now self.old.grants }
-        ensures sent { IfOk result (λ r. sent feed.now self.old k
-            ≡ (self.new, Sent.Packet (packet_bytes r.0 r.1.now))) }
+        ensures sends { IfOk result (λ r. SendsRecord feed.now k self.old self.new r.0 r.1.now) }
         ensures unsent { IfErr result (λ e. sent feed.now self.old k ≡ (self.new, sent_without e)) }
-        ensures number { IfOk result (λ r. r.0 < SPAN) }
         ensures fits { Fits feed.now self.new }
-        ensures few { IfOk result (λ _. ForSome (slice_get feed.now k) (λ w. length w.records ≤ MOST_RECORDS)) }
     {
         if grant.position == feed.ring(k).next() {
             return Err(self.at_next(feed));
@@ -147,13 +142,10 @@ impl Progress {
         requires phase { self.old.phase ≡ Phase.Streaming }
         requires granted { grant_at self.old.grants k ≡ Some grant }
         requires fits { AreReached feed.now self.old.grants }
-        ensures sent { IfSome result (λ r. sent feed.now self.old k
-            ≡ (self.new, Sent.Packet (packet_bytes r.0 r.1.now))) }
-        ensures number { IfSome result (λ r. r.0 < SPAN) }
+        ensures sends { IfSome result (λ r. SendsRecord feed.now k self.old self.new r.0 r.1.now) }
         ensures none { IfNone result (self.new ≡ self.old) }
         ensures gone { IfNone result (ForSome (slice_get feed.now k) (λ w. record_at w grant.position ≡ None)) }
         ensures fits { Fits feed.now self.new }
-        ensures few { IfSome result (λ _. ForSome (slice_get feed.now k) (λ w. length w.records ≤ MOST_RECORDS)) }
     {
         let ring = feed.ring(k);
         match ring.get(grant.position) {

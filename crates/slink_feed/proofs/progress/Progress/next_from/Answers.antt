@@ -15,18 +15,6 @@ returns-then-grant-next-clause-fits g c = (
   rw c.at_next.ensures.grants c.requires.fits,
 )
 
-pub returns-in-Some-clause-sent : goal.returns-in-Some-clause-sent
-returns-in-Some-clause-sent g c = c.in-Some.ensures.sent
-
-pub returns-in-Some-clause-number : goal.returns-in-Some-clause-number
-returns-in-Some-clause-number g c = c.in-Some.ensures.number
-
-pub returns-in-Some-clause-fits : goal.returns-in-Some-clause-fits
-returns-in-Some-clause-fits g c = c.in-Some.ensures.fits
-
-pub returns-in-Some-clause-few : goal.returns-in-Some-clause-few
-returns-in-Some-clause-few g c = c.in-Some.ensures.few
-
 pub returns-in-None-clause-unsent : goal.returns-in-None-clause-unsent
 returns-in-None-clause-unsent g c =
     sent_by_record c.args.feed.now c.args.self.now c.args.k c.args.grant c.ring.result.now None c.requires.phase

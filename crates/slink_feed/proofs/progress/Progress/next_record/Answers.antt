@@ -11,24 +11,10 @@ next_from-requires g c =
 
 pub returns-in-Fresh : goal.returns-in-Fresh
 returns-in-Fresh g c = record {
-  sent = tt;
+  sends = tt;
   unsent = waits_before _ _ _ c.self.view_is c.in-Fresh.is c.args.k;
-  number = tt;
   fits = c.requires.fits;
-  few = tt;
 }
 
-pub returns-in-Some-clause-sent : goal.returns-in-Some-clause-sent
-returns-in-Some-clause-sent g c = c.next_from.ensures.sent
-
-pub returns-in-Some-clause-unsent : goal.returns-in-Some-clause-unsent
-returns-in-Some-clause-unsent g c = c.next_from.ensures.unsent
-
-pub returns-in-Some-clause-number : goal.returns-in-Some-clause-number
-returns-in-Some-clause-number g c = c.next_from.ensures.number
-
-pub returns-in-Some-clause-fits : goal.returns-in-Some-clause-fits
-returns-in-Some-clause-fits g c = c.next_from.ensures.fits
-
-pub returns-in-Some-clause-few : goal.returns-in-Some-clause-few
-returns-in-Some-clause-few g c = c.next_from.ensures.few
+pub returns-in-Some : goal.returns-in-Some
+returns-in-Some g c = c.next_from.ensures
