@@ -11,7 +11,7 @@ use Rattle.mseed_steim.specs.declared.scheme.Scheme.{Scheme}
 use Rattle.mseed_steim.specs.Spelling.{IsWithin}
 use Rattle.mseed_steim.proofs.Greatest.{max_is}
 use Rattle.mseed_steim.proofs.Widths.{within_wider}
-use Rattle.mseed_steim_pack.specs.declared.row.Row.{Row}
+use Rattle.mseed_steim_pack.specs.declared.row.WordFormat.{WordFormat}
 use Rattle.mseed_steim_pack.specs.Packing.{CanSpell}
 use Rattle.mseed_steim_pack.specs.private.Rows.{row_for, size_limit, IsBestRow, IsWide}
 use Rattle.mseed_steim_pack.proofs.Rows.{FitsRow, pair_wider, spelled_fits, row_is}
@@ -57,7 +57,7 @@ first_fits ds i size p h known =
 
 -- a prefix that a word spells fits the row of its length
 pub prefix_fits : (s : Scheme) (ds : List ℤ) (k : ℕ) → 0 < k → k ≤ length ds → CanSpell s (take k ds)
-    → (r : Row) × ((row_for s k ≡ Some r) × All (IsWithin r.width) (take k ds))
+    → (r : WordFormat) × ((row_for s k ≡ Some r) × All (IsWithin r.width) (take k ds))
 prefix_fits s ds k p in' can =
     let long : length (take k ds) ≡ k = length-take-le k ds in' in
     let fits : FitsRow s (take k ds) = spelled_fits s (take k ds) (omega (arith, long, p)) can in
@@ -72,7 +72,7 @@ not_spelled s ds k size p in' known wide can =
     let limit : size_limit (row_for s k) ≡ 2 ^ (fits.0.width - 1) = ap size_limit fits.1.0 in
     omega (arith, enough, limit, wide)
 
-pub best_extends : (s : Scheme) (ds : List ℤ) (i high : ℕ) (o : Option Row) → i ≤ high
+pub best_extends : (s : Scheme) (ds : List ℤ) (i high : ℕ) (o : Option WordFormat) → i ≤ high
     → ((k : ℕ) → i < k → k ≤ high → ¬ (CanSpell s (take k ds))) → IsBestRow s ds i o → IsBestRow s ds high o
 best_extends s ds i high None le none best =
     λ k h l. ⊎_elim (λ (m : k < i + 1). best k h (omega (arith, m))) (λ (m : i + 1 ≤ k). none k (omega (arith, m)) l)
@@ -85,7 +85,7 @@ best_extends s ds i high (Some r) le none best = (
       (λ (m : i + 1 ≤ k). none k (omega (arith, m)) l) (cases_lt k (i + 1)),
 )
 
-best_found : (s : Scheme) (ds : List ℤ) (k size : ℕ) (r : Row) → Sized ds k size → row_for s k ≡ Some r
+best_found : (s : Scheme) (ds : List ℤ) (k size : ℕ) (r : WordFormat) → Sized ds k size → row_for s k ≡ Some r
     → size < 2 ^ (r.width - 1) → IsBestRow s ds k (Some r)
 best_found s ds k size r known found fits =
     let is = row_is s k r found in (
@@ -95,7 +95,7 @@ best_found s ds k size r known found fits =
       λ k h l. absurd (omega (arith, is.1, h, l)),
     )
 
-best_at : (s : Scheme) (ds : List ℤ) (k size : ℕ) (o : Option Row) → row_for s k ≡ o → Sized ds k size
+best_at : (s : Scheme) (ds : List ℤ) (k size : ℕ) (o : Option WordFormat) → row_for s k ≡ o → Sized ds k size
     → size < size_limit o → IsBestRow s ds k o
 best_at s ds k size o e known less = search (arith, best_found)
 
@@ -105,7 +105,7 @@ pub best_more : (s : Scheme) (ds : List ℤ) (k size : ℕ) → Sized ds k size 
 best_more s ds k size known less = best_at s ds k size (row_for s k) refl known less
 
 -- so many aren't
-pub best_same : (s : Scheme) (ds : List ℤ) (i size : ℕ) (o : Option Row) → i < length ds → Sized ds (i + 1) size
+pub best_same : (s : Scheme) (ds : List ℤ) (i size : ℕ) (o : Option WordFormat) → i < length ds → Sized ds (i + 1) size
     → size_limit (row_for s (i + 1)) ≤ size → IsBestRow s ds i o → IsBestRow s ds (i + 1) o
 best_same s ds i size o less known wide best =
     best_extends s ds i (i + 1) o (omega arith)
@@ -117,7 +117,7 @@ pub best_none : (s : Scheme) (ds : List ℤ) → IsBestRow s ds 0 (row_for s 0)
 best_none s ds = search (arith)
 
 -- no row has more than seven
-pub best_all : (s : Scheme) (ds : List ℤ) (i : ℕ) (o : Option Row) → min (length ds) 7 ≤ i → i ≤ length ds
+pub best_all : (s : Scheme) (ds : List ℤ) (i : ℕ) (o : Option WordFormat) → min (length ds) 7 ≤ i → i ≤ length ds
     → IsBestRow s ds i o → IsBestRow s ds (length ds) o
 best_all s ds i o over less best =
     best_extends s ds i (length ds) o less

@@ -13,7 +13,7 @@ use Rattle.mseed_steim.specs.Spelling.{IsWithin}
 use Rattle.mseed_steim.proofs.Below.{eight}
 use Rattle.mseed_steim_pack.proofs.Bits.{within_by}
 use Rattle.mseed_steim_pack.specs.private.Ahead.{size_of}
-use Rattle.mseed_steim_pack.specs.declared.row.Row.{Row}
+use Rattle.mseed_steim_pack.specs.declared.row.WordFormat.{WordFormat}
 use Rattle.mseed_steim_pack.specs.Packing.{CanSpell, IsFullest}
 use Rattle.mseed_steim_pack.specs.private.Rows.{row_with, row_for, IsBestRow, NoneSpelled}
 use Rattle.mseed_steim_pack.specs.private.Ahead.{near, near_size, raised, most_one, most_two, most_with, IsMost}
@@ -67,13 +67,14 @@ near_small s z = search (arith, cut_off)
 
 -- A difference fits the row of so many differences, two or more, where the word that holds it has room for as many.
 abbrev pub Fits_row : Scheme → ℤ → ℕ → Type 0
-Fits_row s z k = (r : Row) → row_for s k ≡ Some r → IsWithin r.width z ↔ (k ≤ most_with s (near_size s z))
+Fits_row s z k = (r : WordFormat) → row_for s k ≡ Some r → IsWithin r.width z ↔ (k ≤ most_with s (near_size s z))
 
-by_row : (s : Scheme) (z : ℤ) (k : ℕ) (row : Row) → row_for s k ≡ Some row → IsWithin row.width z
+by_row : (s : Scheme) (z : ℤ) (k : ℕ) (row : WordFormat) → row_for s k ≡ Some row → IsWithin row.width z
     ↔ (k ≤ most_with s (near_size s z)) → Fits_row s z k
 by_row s z k row found h r e = search (arith)
 
-two_fits : (z : ℤ) (k : ℕ) (row : Row) → 2 ≤ k → k ≤ 7 → row_for Two k ≡ Some row → 2 ^ (row.width - 1) ≡ limits_two k
+two_fits : (z : ℤ) (k : ℕ) (row : WordFormat) → 2 ≤ k → k ≤ 7 → row_for Two k ≡ Some row
+    → 2 ^ (row.width - 1) ≡ limits_two k
     → limits_two k ≤ 32767 → Fits_row Two z k
 two_fits z k row some few found same far =
     by_row Two z k row found (both _ _ _ (back _ _ (within_by z (size_of z) refl row.width))
@@ -82,7 +83,7 @@ two_fits z k row some few found same far =
 halved : (n limit : ℕ) → (n < 2 * limit) ↔ (n / 2 < limit)
 halved n limit = (λ h. omega (arith, h), λ h. omega (arith, h))
 
-one_fits : (z : ℤ) (k : ℕ) (row : Row) → 2 ≤ k → k ≤ 4 → row_for One k ≡ Some row
+one_fits : (z : ℤ) (k : ℕ) (row : WordFormat) → 2 ≤ k → k ≤ 4 → row_for One k ≡ Some row
     → 2 ^ (row.width - 1) ≡ 2 * limits_one k → limits_one k ≤ 32767 → Fits_row One z k
 one_fits z k row some few found same far =
     grind (arith, nat_tests, back, both, by_row, counts_one, halved, near_below, within_by)
@@ -108,13 +109,13 @@ fits_row Two z k some r e =
 
 -- how many are taken: a row of the table has as many, and none of more of them that are held
 pub record Takes (s : Scheme) (most : ℕ) : Type 0 where
-  pub row : Row
+  pub row : WordFormat
   pub found : row_for s (taken s most) ≡ Some row
   pub some : 2 ≤ taken s most
   pub less : taken s most ≤ most
-  pub all : (k : ℕ) (r : Row) → k ≤ most → row_for s k ≡ Some r → k ≤ taken s most
+  pub all : (k : ℕ) (r : WordFormat) → k ≤ most → row_for s k ≡ Some r → k ≤ taken s most
 
-plain : (s : Scheme) (m : ℕ) (r : Row) → taken s m ≡ m → row_for s m ≡ Some r → 2 ≤ m → Takes s m
+plain : (s : Scheme) (m : ℕ) (r : WordFormat) → taken s m ≡ m → row_for s m ≡ Some r → 2 ≤ m → Takes s m
 plain s m r same e h = record {
   row = r;
   found = rw same e;
@@ -131,7 +132,7 @@ takes One most some few =
     (λ h _. plain One 4 _ refl refl h) (λ _ h. absurd (omega (arith, h))) (λ _ h. absurd (omega (arith, h)))
     (λ _ h. absurd (omega (arith, h))) most (omega (arith, few)) some few
   where
-    three : (k : ℕ) (r : Row) → k ≤ 3 → row_for One k ≡ Some r → k ≤ 2
+    three : (k : ℕ) (r : WordFormat) → k ≤ 3 → row_for One k ≡ Some r → k ≤ 2
     three k r h e = ⊎_elim (λ (l : k < 3). omega (arith, l)) (λ (m : 3 ≤ k). let same : k ≡ 3 = omega (arith, h, m) in
         cc) (cases_lt k 3)
 takes Two most some few =
@@ -209,7 +210,7 @@ taken_some s most some few = search (arith, eight)
 
 -- the row of the word that is known ahead
 pub row_ahead : (s : Scheme) (ds : List ℤ) (most : ℕ) → 2 ≤ most → IsAhead s ds most
-    → (row : Row) × ((row_for s (taken s most) ≡ Some row) × IsBestRow s ds (length ds) (Some row))
+    → (row : WordFormat) × ((row_for s (taken s most) ≡ Some row) × IsBestRow s ds (length ds) (Some row))
 row_ahead s ds most some ahead =
     let known = ahead some in
     let least = taken_some s most some known.0 in
@@ -225,14 +226,14 @@ row_ahead s ds most some ahead =
     )
 
 -- a row that is the one of which is known ahead
-pub best_ahead : (s : Scheme) (ds : List ℤ) (most : ℕ) (row : Row) → 2 ≤ most → IsAhead s ds most
-    → ((r : Row) → row_for s (taken s most) ≡ Some r → row ≡ r)
+pub best_ahead : (s : Scheme) (ds : List ℤ) (most : ℕ) (row : WordFormat) → 2 ≤ most → IsAhead s ds most
+    → ((r : WordFormat) → row_for s (taken s most) ≡ Some r → row ≡ r)
     → IsBestRow s ds (length ds) (Some row) × (row.count ≡ taken s most)
 best_ahead s ds most row some ahead same =
     let known = row_ahead s ds most some ahead in
     let reported : row ≡ known.0 = same known.0 known.1.0 in (
-      subst (λ (r : Row). IsBestRow s ds (length ds) (Some r)) (sym reported) known.1.1,
-      ap (λ (r : Row). r.count) reported ∙ (row_is s (taken s most) known.0 known.1.0).1,
+      subst (λ (r : WordFormat). IsBestRow s ds (length ds) (Some r)) (sym reported) known.1.1,
+      ap (λ (r : WordFormat). r.count) reported ∙ (row_is s (taken s most) known.0 known.1.0).1,
     )
 
 shorter : (w : ℕ) (z : ℤ) → w ≤ 15 → IsWithin w z → IsWithin 16 z

@@ -3,7 +3,7 @@ use Rattle.std.proofs.Common.{◌≡◌, ℕ, ◌<◌, ◌≤◌, get_or, Some, 
 use Rattle.std.proofs.lemmas.Bool.Decides.{nat_tests}
 use Rattle.mseed_steim.specs.declared.scheme.Scheme.TheVariants.{One, Two}
 use Rattle.mseed_steim.proofs.Below.{eight}
-use Rattle.mseed_steim_pack.specs.declared.row.Row.{Row}
+use Rattle.mseed_steim_pack.specs.declared.row.WordFormat.{WordFormat}
 use Rattle.mseed_steim_pack.specs.declared.layout.LayoutOne.{LayoutOne}
 use Rattle.mseed_steim_pack.specs.declared.layout.LayoutTwo.{LayoutTwo}
 use Rattle.mseed_steim_pack.specs.declared.layout.TheConstants.{LAYOUTS_ONE, LAYOUTS_TWO}
@@ -13,7 +13,7 @@ use Rattle.mseed_steim_pack.specs.Lookahead.{taken}
 
 abbrev InTwo : LayoutTwo → ℕ → Type 0
 InTwo none k = 2 ≤ k → IsLayoutTwo (get_or LAYOUTS_TWO k none)
-    × ((r : Row) → row_for Two k ≡ Some r → (get_or LAYOUTS_TWO k none).row ≡ r)
+    × ((r : WordFormat) → row_for Two k ≡ Some r → (get_or LAYOUTS_TWO k none).row ≡ r)
 
 pub layouts_two : (none : LayoutTwo) (k : ℕ) → k < 8 → InTwo none k
 layouts_two none = eight (InTwo none) (λ h. absurd (omega (arith, h))) (λ h. absurd (omega (arith, h)))
@@ -21,7 +21,7 @@ layouts_two none = eight (InTwo none) (λ h. absurd (omega (arith, h))) (λ h. a
     (λ _. (assumption, λ r e. cc)) (λ _. (assumption, λ r e. cc)) (λ _. (assumption, λ r e. cc))
 
 abbrev InOne : LayoutOne → ℕ → Type 0
-InOne none k = (r : Row) → row_for One (taken One k) ≡ Some r → ((get_or LAYOUTS_ONE k none).row ≡ r)
+InOne none k = (r : WordFormat) → row_for One (taken One k) ≡ Some r → ((get_or LAYOUTS_ONE k none).row ≡ r)
     × IsLayoutOne (get_or LAYOUTS_ONE k none)
 
 pub layouts_one : (none : LayoutOne) (k : ℕ) → k < 8 → InOne none k

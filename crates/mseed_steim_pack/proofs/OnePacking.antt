@@ -7,7 +7,7 @@ use Rattle.mseed_steim.specs.declared.scheme.Scheme.{Scheme}
 use Rattle.mseed_steim.specs.declared.scheme.Scheme.TheVariants.{Two}
 use Rattle.mseed_steim.specs.Spelling.{Spells, positional}
 use Rattle.mseed_steim.specs.Frames.{DataWord}
-use Rattle.mseed_steim_pack.specs.declared.row.Row.{Row}
+use Rattle.mseed_steim_pack.specs.declared.row.WordFormat.{WordFormat}
 use Rattle.mseed_steim_pack.specs.Packing.{IsFullest, PacksRun, contents}
 use Rattle.mseed_steim_pack.proofs.Rows.{plain_word}
 
@@ -25,9 +25,9 @@ same_word s xs c w d v h a b p q =
     let one = plain_word s c w xs h a p in
     let two = plain_word s d v xs h b q in
     let row : one.0 ≡ two.0 = cc (one.1.0, two.1.0) in (
-      one.1.1 ∙ ap (λ (r : Row). r.code) row ∙ sym two.1.1,
+      one.1.1 ∙ ap (λ (r : WordFormat). r.code) row ∙ sym two.1.1,
       one.1.2
-          ∙ ap (λ (r : Row). r.dnib * 2 ^ 30 + positional r.width xs) row ∙ sym two.1.2,
+          ∙ ap (λ (r : WordFormat). r.dnib * 2 ^ 30 + positional r.width xs) row ∙ sym two.1.2,
     )
 
 -- one word takes the largest number

@@ -14,18 +14,19 @@ use Rattle.mseed_steim.specs.Frames.{DataWord}
 use Rattle.mseed_steim.specs.Runs.{SpellsRun}
 use Rattle.mseed_steim.proofs.Words.{positional_lt}
 use Rattle.mseed_steim.proofs.Widths.{within_wider}
-use Rattle.mseed_steim_pack.specs.declared.row.Row.{Row}
+use Rattle.mseed_steim_pack.specs.declared.row.WordFormat.{WordFormat}
 use Rattle.mseed_steim_pack.specs.declared.pack.TooLargeAt.{TooLargeAt}
 use Rattle.mseed_steim_pack.specs.Packing.{CanSpell, IsFullest, PacksRun, IsTooLargeAt, IsFirstTooLarge, LeavesRoom}
 use Rattle.mseed_steim_pack.specs.private.Rows.{row_with, row_for, NoneSpelled, IsBestRow}
 use Rattle.mseed_steim_pack.proofs.Rows.{FitsRow, row_is, row_spells, fits_spelled, spelled_fits, narrower_by}
 
 -- the word of the best row
-seven_plain : (r : Row) (ds : List ℤ) → row_for Two 7 ≡ Some r → length ds ≡ 7
+seven_plain : (r : WordFormat) (ds : List ℤ) → row_for Two 7 ≡ Some r → length ds ≡ 7
     → (r.dnib * 2 ^ 30 + positional r.width ds) / 2 ^ 28 % 4 ≡ 0
 seven_plain r ds e long = search (arith, positional_lt)
 
-pub is_fullest : (s : Scheme) (ds : List ℤ) (r : Row) (word : ℕ) → row_for s r.count ≡ Some r → r.count ≤ length ds
+pub is_fullest : (s : Scheme) (ds : List ℤ) (r : WordFormat) (word : ℕ) → row_for s r.count ≡ Some r
+    → r.count ≤ length ds
     → All (IsWithin r.width) (take r.count ds) → NoneSpelled s ds r.count (length ds)
     → word ≡ r.dnib * 2 ^ 30 + positional r.width (take r.count ds) → IsFullest s ds r.code word r.count
 is_fullest s ds r word found in' range none e =
@@ -60,7 +61,7 @@ fullest_not_large s ds code word used k full h large =
     large.2 (taken_thirty ds code word used k (subst (λ (x : Scheme). IsFullest x ds code word used) large.1 full) h)
 
 -- where no word spells the first difference, it's too large for Steim-2
-one_row : (s : Scheme) (ds : List ℤ) (r : Row) → row_for s 1 ≡ Some r → 0 < length ds
+one_row : (s : Scheme) (ds : List ℤ) (r : WordFormat) → row_for s 1 ≡ Some r → 0 < length ds
     → IsWithin r.width (get_or ds 0 (pos 0)) → CanSpell s (take 1 ds)
 one_row s ds r e h fit =
     let long : length (take 1 ds) ≡ 1 = length-take-le 1 ds h in
@@ -168,7 +169,7 @@ pub one_first_large : (s : Scheme) (ds : List ℤ) (i j : ℕ) → IsFirstTooLar
 one_first_large s ds i j a b = search (arith)
 
 -- one more word of Steim-2, by the best row
-pub least_more : (ds : List ℤ) (used words : ℕ) (r : Row)
+pub least_more : (ds : List ℤ) (used words : ℕ) (r : WordFormat)
     → (ws : List DataWord) × ((length ws ≡ words) × PacksRun Two ws ds (drop used ds))
     → IsBestRow Two (drop used ds) (length (drop used ds)) (Some r)
     → (ws : List DataWord) × ((length ws ≡ words + 1) × PacksRun Two ws ds (drop (used + r.count) ds))

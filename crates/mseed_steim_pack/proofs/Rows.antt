@@ -17,23 +17,24 @@ use Rattle.mseed_steim.specs.Spelling.{Spells, empty, IsWithin, positional}
 use Rattle.mseed_steim.proofs.Below.{all_below, every_below}
 use Rattle.mseed_steim.proofs.Words.{positional_lt}
 use Rattle.mseed_steim.proofs.Widths.{all_wider}
-use Rattle.mseed_steim_pack.specs.declared.row.Row.{Row}
+use Rattle.mseed_steim_pack.specs.declared.row.WordFormat.{WordFormat}
 use Rattle.mseed_steim_pack.specs.Packing.{CanSpell}
 use Rattle.mseed_steim_pack.specs.private.Rows.{row_with, row_in, rows_of, row_for}
 
 -- what a test says of each row of a table it says of the one of a count, which has that count
-pub found_by : (p : Row → Bool) (rows : List Row) → T (list_all p rows) → (k : ℕ) (r : Row) → row_in rows k ≡ Some r
+pub found_by : (p : WordFormat → Bool) (rows : List WordFormat) → T (list_all p rows) → (k : ℕ) (r : WordFormat)
+    → row_in rows k ≡ Some r
     → T (p r) × (r.count ≡ k)
 found_by p [] h k r e = cc
 found_by p (q ∷ rows) h k r e =
     let both = and_both (p q) (list_all p rows) h in
     ⊎_elim
     (λ (same : k ≡ q.count). let one : q ≡ r = cc (rw (eq-eqb k q.count same) at e) in
-    (subst (λ (x : Row). T (p x)) one both.0, ap (λ (x : Row). x.count) (sym one) ∙ sym same))
+    (subst (λ (x : WordFormat). T (p x)) one both.0, ap (λ (x : WordFormat). x.count) (sym one) ∙ sym same))
     (λ (other : k ≢ q.count). found_by p rows both.1 k r (rw (ne_eqb k q.count other) at e)) (cases_eq k q.count)
 
 -- what the numbers of a row are
-pub record IsRow (r : Row) : Type 0 where
+pub record IsRow (r : WordFormat) : Type 0 where
   pub code : r.code < 4
   pub dnib : r.dnib < 4
   pub some : 0 < r.count
@@ -43,20 +44,20 @@ pub record IsRow (r : Row) : Type 0 where
   pub room : r.width * r.count ≤ 32
   pub apart : 0 < r.dnib → r.width * r.count ≤ 30
 
-abbrev is_sized : Row → Bool
+abbrev is_sized : WordFormat → Bool
 is_sized r =
     ltb r.code 4 && (ltb r.dnib 4 && (ltb 0 r.count && (ltb r.count 8 && (ltb 0 r.width && (ltb r.width 33
     && ltb (r.width * r.count) (cond (eqb r.dnib 0) 33 31))))))
 
-sized : (r : Row) → T (is_sized r) → IsRow r
+sized : (r : WordFormat) → T (is_sized r) → IsRow r
 sized r h = grind (arith, nat_tests)
 
 -- what stands in the table by count is a row of the table
-pub row_is : (s : Scheme) (k : ℕ) (r : Row) → row_for s k ≡ Some r → IsRow r × (r.count ≡ k)
+pub row_is : (s : Scheme) (k : ℕ) (r : WordFormat) → row_for s k ≡ Some r → IsRow r × (r.count ≡ k)
 row_is s k r e = search (arith, found_by, sized)
 
 -- a word of Steim-1 has four differences at the most
-pub four_at_most : (k : ℕ) (r : Row) → row_for One k ≡ Some r → k ≤ 4
+pub four_at_most : (k : ℕ) (r : WordFormat) → row_for One k ≡ Some r → k ≤ 4
 four_at_most k r e = search (arith, found_by)
 
 -- Each group of the table has a row of its count and width, with its code, and with its dnib where one is marked.
@@ -69,7 +70,7 @@ has_row s c d g e = grind (arith, nat_tests)
 
 -- The differences fit the row of their count.
 pub record FitsRow (s : Scheme) (ds : List ℤ) : Type 0 where
-  pub row : Row
+  pub row : WordFormat
   pub found : row_for s (length ds) ≡ Some row
   pub range : All (IsWithin row.width) ds
 
@@ -90,7 +91,8 @@ top_of b d = search (arith)
 
 pub plain_word : (s : Scheme) (c word : ℕ) (ds : List ℤ) → 0 < length ds → Spells s c word ds
     → (s ≡ Two → length ds ≡ 7 → word / 2 ^ 28 % 4 ≡ 0)
-    → (r : Row) × ((row_for s (length ds) ≡ Some r) × (c ≡ r.code) × (word ≡ r.dnib * 2 ^ 30 + positional r.width ds))
+    → (r : WordFormat) × ((row_for s (length ds) ≡ Some r) × (c ≡ r.code)
+    × (word ≡ r.dnib * 2 ^ 30 + positional r.width ds))
 plain_word s c word ds h (empty e q) plain = absurd (omega (arith, ap length q))
 plain_word s c word ds h (Spells.row g d e p) plain =
     let found = has_row s c d g e in
@@ -109,7 +111,7 @@ plain_word s c word ds h (Spells.row g d e p) plain =
     )
 
 -- a word of a row spells differences that fit it
-abbrev group_by : Row → Group
+abbrev group_by : WordFormat → Group
 group_by r = record {
   marked = not (eqb (r.width * r.count) 32);
   spare = cond (eqb r.count 7) 4 1;
@@ -117,14 +119,15 @@ group_by r = record {
   width = r.width;
 }
 
-has_group : (s : Scheme) (k : ℕ) (r : Row) → row_for s k ≡ Some r → (group_of s r.code r.dnib ≡ Some (group_by r))
+has_group : (s : Scheme) (k : ℕ) (r : WordFormat) → row_for s k ≡ Some r
+    → (group_of s r.code r.dnib ≡ Some (group_by r))
     × (cond (group_by r).marked (r.dnib * 2 ^ 30) 0 ≡ r.dnib * 2 ^ 30)
 has_group s k r e = search (arith)
 
 spare_some : (b : Bool) → 0 < cond b 4 1
 spare_some b = search (arith)
 
-pub row_spells : (s : Scheme) (k : ℕ) (r : Row) (ds : List ℤ) → row_for s k ≡ Some r → length ds ≡ k
+pub row_spells : (s : Scheme) (k : ℕ) (r : WordFormat) (ds : List ℤ) → row_for s k ≡ Some r → length ds ≡ k
     → All (IsWithin r.width) ds → Spells s r.code (r.dnib * 2 ^ 30 + positional r.width ds) ds
 row_spells s k r ds found long range =
     let is = has_group s k r found in
@@ -138,22 +141,23 @@ pub fits_spelled : (s : Scheme) (ds : List ℤ) → FitsRow s ds → CanSpell s 
 fits_spelled s ds f = (_, (_, row_spells s (length ds) f.row ds f.found refl f.range))
 
 -- a row of no more bits for a difference
-abbrev wider : Option Row → Option Row → Bool
+abbrev wider : Option WordFormat → Option WordFormat → Bool
 wider (Some w) (Some r) = leb r.width w.width
 wider None (Some r) = false
 wider o None = true
 
-found_wider : (o : Option Row) (r : Row) → T (wider o (Some r)) → (w : Row) × ((o ≡ Some w) × (r.width ≤ w.width))
+found_wider : (o : Option WordFormat) (r : WordFormat) → T (wider o (Some r))
+    → (w : WordFormat) × ((o ≡ Some w) × (r.width ≤ w.width))
 found_wider o r h = search (arith, leb→le)
 
 -- In Steim-2 the rows of fewer differences are wider.
-pub narrower_by : (k j : ℕ) (r : Row) → 0 < j → j ≤ k → row_for Two k ≡ Some r
-    → (w : Row) × ((row_for Two j ≡ Some w) × (r.width ≤ w.width))
+pub narrower_by : (k j : ℕ) (r : WordFormat) → 0 < j → j ≤ k → row_for Two k ≡ Some r
+    → (w : WordFormat) × ((row_for Two j ≡ Some w) × (r.width ≤ w.width))
 narrower_by k j r some less e = search (arith, all_below, every_below, found_wider, row_is)
 
 -- a row of two differences or more has no more bits for each than that of two
-pub pair_wider : (s : Scheme) (k : ℕ) (r : Row) → 1 < k → row_for s k ≡ Some r
-    → (w : Row) × ((row_for s 2 ≡ Some w) × (r.width ≤ w.width))
+pub pair_wider : (s : Scheme) (k : ℕ) (r : WordFormat) → 1 < k → row_for s k ≡ Some r
+    → (w : WordFormat) × ((row_for s 2 ≡ Some w) × (r.width ≤ w.width))
 pair_wider One k r some e =
     let found = found_by (λ r. ltb r.count 2 || ltb r.width 17) (rows_of One) tt k r e in
     (row_with 2 0 2 16, (refl, grind (arith, nat_tests, found.0, found.1)))

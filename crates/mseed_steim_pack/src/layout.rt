@@ -10,10 +10,10 @@ ghost use Rattle.mseed_steim_pack.specs.Packing.{IsFullest};
 ghost use Rattle.mseed_steim_pack.specs.private.Rows.{row_for};
 ghost use Rattle.std.specs.Simd.Lanes.{Each1, sum_l};
 ghost use Rattle.mseed_steim.specs.declared.scheme.Scheme.TheVariants.{One, Two};
-ghost use Rattle.mseed_steim_pack.specs.declared.row.Row.{Row};
+ghost use Rattle.mseed_steim_pack.specs.declared.row.WordFormat.{WordFormat};
 
 use crate::pending::{Pending, put_wrapped};
-use crate::row::Row;
+use crate::row::WordFormat;
 use mseed_steim::Scheme;
 use std::simd::prelude::*;
 
@@ -29,7 +29,7 @@ pub(crate) struct LayoutOne {
     masks: [u32; LANES],
     /// What each difference counts for; nothing after the last.
     places: [u32; LANES],
-    row: Row,
+    row: WordFormat,
     /// Makes it 128 bytes, so that a row is found by a shift, and begins it at a multiple of 16, so that the lanes are
     /// read where they are used.
     spare: [u128; 2],
@@ -45,7 +45,7 @@ struct LayoutTwo {
     counts: [u32; LANES / 2],
     /// The dnib where it stands in a word, beside the first pair.
     heads: [u32; LANES / 2],
-    row: Row,
+    row: WordFormat,
     /// The code, as wide as those of a frame.
     code: u32,
     /// As in the other.
@@ -58,7 +58,7 @@ macro_rules! layout_one {
         LayoutOne {
             masks: [$mask; LANES],
             places: $places,
-            row: Row {
+            row: WordFormat {
                 code: $code,
                 dnib: 0,
                 count: $count,
@@ -78,7 +78,7 @@ macro_rules! layout_two {
             weights: $weights,
             counts: $counts,
             heads: [$head, 0, 0, 0],
-            row: Row {
+            row: WordFormat {
                 code: $code,
                 dnib: $dnib,
                 count: $count,
@@ -127,7 +127,7 @@ static LAYOUTS_ONE: [LayoutOne; LANES] = [
 #[inline(always)]
 fn layout_one(most: usize) -> &'static LayoutOne
     requires { most < 8 }
-    ensures { (r : Row) → row_for One (taken One most) ≡ Some r → (result.now.row ≡ r) × IsLayoutOne result.now }
+    ensures { (r : WordFormat) → row_for One (taken One most) ≡ Some r → (result.now.row ≡ r) × IsLayoutOne result.now }
 {
     &LAYOUTS_ONE[most]
 }
@@ -138,7 +138,7 @@ fn layout_two(most: usize) -> &'static LayoutTwo
     requires some { 2 ≤ most }
     requires few { most < 8 }
     ensures layout { IsLayoutTwo result.now }
-    ensures row { (r : Row) → row_for Two most ≡ Some r → result.now.row ≡ r }
+    ensures row { (r : WordFormat) → row_for Two most ≡ Some r → result.now.row ≡ r }
 {
     &LAYOUTS_TWO[most]
 }

@@ -10,9 +10,10 @@ use mseed_steim::Scheme;
 /// The most differences that a word holds.
 pub(crate) const MOST: usize = 7;
 
-/// A row of the table: its code and dnib, how many differences its words hold, and of how many bits each is.
+/// How words are laid out, by a row of the table: its code and dnib, how many differences they hold, and of how many
+/// bits each is.
 #[derive(Clone, Copy, Debug, PartialEq, Eq)]
-pub(crate) struct Row {
+pub(crate) struct WordFormat {
     pub(crate) code: u8,
     pub(crate) dnib: u32,
     pub(crate) count: usize,
@@ -20,10 +21,10 @@ pub(crate) struct Row {
 }
 
 /// The row of these parts.
-fn row_with(code: u8, dnib: u32, count: usize, width: u32) -> Row
+fn row_with(code: u8, dnib: u32, count: usize, width: u32) -> WordFormat
     ensures { result ≡ row_with code dnib count width }
 {
-    Row {
+    WordFormat {
         code,
         dnib,
         count,
@@ -32,7 +33,7 @@ fn row_with(code: u8, dnib: u32, count: usize, width: u32) -> Row
 }
 
 /// The row of so many differences.
-fn row_of(scheme: Scheme, count: usize) -> Option<Row>
+fn row_of(scheme: Scheme, count: usize) -> Option<WordFormat>
     ensures { result ≡ row_for scheme count }
 {
     match scheme {
@@ -120,7 +121,7 @@ fn most_of_seven(scheme: Scheme, diffs: &[i32]) -> usize
 
 /// The row that takes the largest number of the differences; none where no word spells the first.
 #[inline(always)]
-pub(crate) fn fullest_row(scheme: Scheme, diffs: &[i32]) -> Option<Row>
+pub(crate) fn fullest_row(scheme: Scheme, diffs: &[i32]) -> Option<WordFormat>
     ensures best { IsBestRow scheme diffs.now (length diffs.now) result }
     ensures fits { 0 < length diffs.now → IsWithin 32 (slice_index_or diffs.now 0 (pos 0)) }
 {
@@ -153,7 +154,7 @@ fn join_digits(diffs: &[i32], width: u32) -> u32
 
 /// The word of a row with the first of these differences.
 #[inline(always)]
-pub(crate) fn word_of(row: Row, diffs: &[i32]) -> u32
+pub(crate) fn word_of(row: WordFormat, diffs: &[i32]) -> u32
     requires inside { row.count ≤ length diffs.now }
     requires room { row.width * row.count ≤ 32 }
     requires positive { 0 < row.width }

@@ -4,11 +4,11 @@ use Rattle.std.proofs.lemmas.Int.{to_z-of_z}
 use Rattle.mseed_steim.specs.declared.scheme.Scheme.{Scheme}
 use Rattle.mseed_steim.specs.declared.scheme.Scheme.TheVariants.{One, Two}
 use Rattle.mseed_steim.specs.Spelling.{IsWithin}
-use Rattle.mseed_steim_pack.specs.declared.row.Row.{Row}
+use Rattle.mseed_steim_pack.specs.declared.row.WordFormat.{WordFormat}
 use Rattle.mseed_steim_pack.specs.private.Rows.{row_with, row_for, size_limit, IsWide}
 use Rattle.mseed_steim_pack.proofs.row.is_wide.Goals as goal
 
-by_row : (s : Scheme) (d : ℤ) (size : ℕ) (pair : Row) → row_for s 2 ≡ Some pair
+by_row : (s : Scheme) (d : ℤ) (size : ℕ) (pair : WordFormat) → row_for s 2 ≡ Some pair
     → ((size < 2 ^ (pair.width - 1)) ↔ IsWithin pair.width d) → (2 ^ (pair.width - 1) ≤ size) ↔ IsWide s d
 by_row s d size pair found by = search (arith)
 
