@@ -220,7 +220,7 @@ impl<'a, N: Net + Clock> Listening<'a, N> {
     /// # Errors
     ///
     /// Where there is none.
-    fn next_patient(&self) -> io::Result<TimeLimited<'a, N, N::Stream>> {
+    fn next_limited(&self) -> io::Result<TimeLimited<'a, N, N::Stream>> {
         // A client that has sent all may be silent for as long as it likes.
         let limits = Limits {
             all: self.timeout.limit(),
@@ -255,7 +255,7 @@ impl<'a, N: Net + Clock> Accept for Listening<'a, N> {
     ghost given_back = { λ l. l.given_back.all };
 
     fn accept(&mut self) -> Option<Counted<PacketBuffer<'a, TimeLimited<'a, N, N::Stream>>>> {
-        let link = match self.next_patient() {
+        let link = match self.next_limited() {
             Ok(stream) => gathering_of(stream, &mut self.room),
             Err(_) => None,
         };
@@ -352,7 +352,7 @@ impl<'a, N: Net + Clock> Dialler<'a, N> {
     /// # Errors
     ///
     /// Why there is none.
-    fn next_patient(&self) -> Result<TimeLimited<'a, N, N::Stream>, DialFault> {
+    fn next_limited(&self) -> Result<TimeLimited<'a, N, N::Stream>, DialFault> {
         let limit = self.timeout.limit();
         let limits = Limits {
             all: limit,
@@ -378,7 +378,7 @@ impl<'a, N: Net + Clock> Dial for Dialler<'a, N> {
     ghost trouble = { λ d. d.trouble };
 
     fn dial(&mut self) -> Result<Counted<ReadAhead<'a, TimeLimited<'a, N, N::Stream>>>, DialFault> {
-        let dialled = match self.next_patient() {
+        let dialled = match self.next_limited() {
             Ok(stream) => ahead_of(stream, &mut self.room),
             Err(fault) => Err(fault),
         };
