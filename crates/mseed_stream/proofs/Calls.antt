@@ -1,10 +1,10 @@
 -- What a device gave or accepted by two calls, and what it is then known to have left or to hold.
-use Rattle.std.proofs.Common.{◌≡◌, ◌<◌, ◌++◌, [], ◌∙◌, ◌==◌, ◌&&◌, ◌||◌, not, ℕ, zero, suc, List, length, take, ap, sym}
-use Rattle.std.proofs.Common.{refl, append_assoc, Bool, true, false, IsTrue, None, Option, Result, Ok, Err}
-use Rattle.std.proofs.Common.{append-nil}
+use Rattle.std.proofs.Common.{◌≡◌, ◌<◌, ◌++◌, [], ◌∙◌, ℕ, List, length, take, sym}
+use Rattle.std.proofs.Common.{refl, true, false, IsTrue, None, Option, Result, Ok, Err}
+use Rattle.std.proofs.Common.{append-nil, arith}
 use Rattle.std.proofs.KnownBytes.{Appends-nil, Appends-trans, Consumes-kept, Consumes-nil, Consumes-trans}
-use Rattle.std.proofs.Math.Dec.{eqb-suc-zero}
-use Rattle.std.proofs.lemmas.Bool.{false≢true}
+use Rattle.std.proofs.lemmas.Bool.Decides.{nat_tests}
+use Rattle.std.proofs.lemmas.Grind.{common_steps}
 use Rattle.std.proofs.lemmas.List.{append_cancel_left}
 use Rattle.std.specs.Io.KnownBytes.{Appends, Consumes, IsAtEnd, ReadConsumes}
 use Rattle.mseed_stream.specs.Calls.{ReadsOn, TakesMore, WritesOn}
@@ -16,20 +16,14 @@ use Rattle.mseed_stream.specs.declared.fault.StreamFault.{StreamFault}
 
 -- what was read by two calls
 pub tells_on : (a b c : BytesRead) (p q r : Option (List ℕ)) → GivesMore a b p q → GivesMore b c q r → GivesMore a c p r
-tells_on a b c p q r one two = (
-  one.0 ++ two.0,
-  two.1 ∙ (ap (λ (xs : List ℕ). xs ++ two.0) one.1 ∙ append_assoc a.bytes one.0 two.0),
-  Consumes-trans _ _ _ _ _ one.2 two.2,
-)
+tells_on a b c p q r one two =
+    (one.0 ++ two.0, grind (arith, common_steps), Consumes-trans _ _ _ _ _ one.2 two.2)
 
 -- what a sink accepted by two calls
 pub takes_on : (a b c : BytesWritten) (p q r : Option (List ℕ)) → TakesMore a b p q → TakesMore b c q r
     → TakesMore a c p r
-takes_on a b c p q r one two = (
-  one.0 ++ two.0,
-  two.1 ∙ (ap (λ (xs : List ℕ). xs ++ two.0) one.1 ∙ append_assoc a.bytes one.0 two.0),
-  Appends-trans _ _ _ _ _ one.2 two.2,
-)
+takes_on a b c p q r one two =
+    (one.0 ++ two.0, grind (arith, common_steps), Appends-trans _ _ _ _ _ one.2 two.2)
 
 -- and by none
 pub takes_none : (s : BytesWritten) (p : Option (List ℕ)) → TakesMore s s p p
@@ -47,21 +41,14 @@ reads_on a b c p q r x y z more beside one = record {
 -- and one that doesn't read
 pub reads_none : (h : BytesRead) (left : Option (List ℕ)) (x : Beside) → h.is_at_end ≡ false
     → ReadsOn h h left left x x
-reads_none h left x goes_on = record {
-  more = ([], sym (append-nil h.bytes), Consumes-nil left);
-  known = λ e. absurd (false≢true (sym goes_on ∙ e));
-  beside = refl;
-}
+reads_none h left x goes_on =
+    record { more = ([], sym (append-nil h.bytes), Consumes-nil left); known = λ e. cc; beside = refl }
 
 -- a call by which a source gave a record that it held whole
 pub reads_whole : (old new : BytesRead) (bytes : List ℕ) (left rest : Option (List ℕ)) (x y : Beside)
     → new ≡ lent_whole old bytes → Consumes left rest bytes → y ≡ x → old.is_at_end ≡ false
     → ReadsOn old new left rest x y
-reads_whole old new bytes left rest x y e consumes beside goes_on = record {
-  more = (bytes, ap (λ (h : BytesRead). h.bytes) e, consumes);
-  known = λ end. absurd (false≢true (sym (ap (λ (h : BytesRead). h.is_at_end) e ∙ goes_on) ∙ end));
-  beside = beside;
-}
+reads_whole old new bytes left rest x y e consumes beside goes_on = grind (arith, common_steps)
 
 -- and one by which a cutter answered
 pub reads_next : (result : Result (Option RecordView) StreamFault) (c : CutterState) (old new : BytesRead)
@@ -76,30 +63,14 @@ reads_next result c old new left rest apart later is beside goes_on = record {
 -- what one read gave
 pub gives_pull : {E : Type 0} (h new : BytesRead) (left rest : Option (List ℕ)) (r : Result ℕ E) (buf : List ℕ)
     → new ≡ read_also h r buf → ReadConsumes left rest r buf → GivesMore h new left rest
-gives_pull h new left rest (Ok n) buf e consumes = (take n buf, ap (λ (k : BytesRead). k.bytes) e, consumes.0)
-gives_pull h new left rest (Err x) buf e keeps = (
-  [],
-  ap (λ (k : BytesRead). k.bytes) e,
-  Consumes-kept left left rest [] (Consumes-nil left) keeps,
-)
-
-either : (b c : Bool) → (b || c) ≡ true → c ≡ false → b ≡ true
-either true c e none = refl
-either false c e none = absurd (false≢true (sym none ∙ e))
-
-no_end : (n room : ℕ) → ((suc n == 0) && not (room == 0)) ≡ false
-no_end n room = ap (λ (b : Bool). b && not (room == 0)) (eqb-suc-zero n)
+gives_pull h new left rest (Ok n) buf e consumes = (take n buf, cc, consumes.0)
+gives_pull h new left rest (Err x) buf e keeps = ([], cc, Consumes-kept left left rest [] (Consumes-nil left) keeps)
 
 -- nothing is left where it found the end
 pub ends_pull : {E : Type 0} (h new : BytesRead) (left rest : Option (List ℕ)) (r : Result ℕ E) (buf : List ℕ)
     → new ≡ read_also h r buf → (IsTrue h.is_at_end → r ≡ Ok 0) → ReadConsumes left rest r buf → 0 < length buf
     → new.is_at_end ≡ true → IsAtEnd rest
-ends_pull h new left rest (Ok zero) buf e silent consumes some end = consumes.1 refl some
-ends_pull h new left rest (Ok (suc n)) buf e silent consumes some end =
-    absurd (cc (silent (either h.is_at_end _ (sym (ap (λ (k : BytesRead). k.is_at_end) e) ∙ end)
-    (no_end n (length buf)))))
-ends_pull h new left rest (Err x) buf e silent keeps some end =
-    absurd (cc (silent (either h.is_at_end false (sym (ap (λ (k : BytesRead). k.is_at_end) e) ∙ end) refl)))
+ends_pull h new left rest r buf e silent consumes some end = grind (arith, nat_tests)
 
 -- a read after what was read before
 pub reads_pull : {E : Type 0} (a b c : BytesRead) (p q r : Option (List ℕ)) (x y z : Beside) (result : Result ℕ E)

@@ -1,10 +1,10 @@
 -- The records that a cutter handed out, and the archive that they are.
 use Rattle.std.proofs.Common.{◌≡◌, ℕ, ◌+◌, ◌≤◌, ◌++◌, List, [], ◌∷◌, length, take, drop, Option, Some, None, Result, Ok}
-use Rattle.std.proofs.Common.{Err, IfErr, IfOk, IfSome, refl, sym, ap, subst, ◌∙◌, arith, length-take}
+use Rattle.std.proofs.Common.{Err, IfErr, IfOk, IfSome, refl, sym, ap, ◌∙◌, arith, length-take}
+use Rattle.std.proofs.lemmas.Grind.{common_steps}
 use Rattle.std.proofs.lemmas.List.{append-nil, take-append-le, take-append-drop}
 use Rattle.std.proofs.lemmas.List.Folds.{concat-append}
 use Rattle.std.proofs.Math.Seq.{take-add, take-length}
-use Rattle.std.specs.List.{concat, AllByRecursion}
 use Rattle.std.proofs.ByRecursion.{All-push}
 use Rattle.mseed_record.specs.Record.{IsRecord}
 use Rattle.mseed_record.proofs.Answered.{answered}
@@ -28,11 +28,10 @@ no_further rest _ (is_clean empty) k l r =
 no_further rest _ (is_frame f d) k l r = cc (answered rest k _ d l r)
 no_further rest _ (is_truncated n some d) k l r = cc (answered rest k _ d l r)
 
--- what holds of each holds with one more
 -- what was handed out stays where more is read
 same_prefix : (old new more : List ℕ) (offset : ℕ) → offset ≤ length old → new ≡ old ++ more
     → take offset new ≡ take offset old
-same_prefix old new more offset l e = ap (λ (xs : List ℕ). take offset xs) e ∙ take-append-le offset old more l
+same_prefix old new more offset l e = grind (arith, take-append-le)
 
 -- views stay so while more is read
 pub views_stay : (old new more : List ℕ) (offset : ℕ) (views : List View) → offset ≤ length old → new ≡ old ++ more
@@ -46,21 +45,14 @@ views_stay old new more offset views l e are = record {
 pub records_stay : (old new more : List ℕ) (offset : ℕ) (records : List (List ℕ)) → offset ≤ length old
     → new ≡ old ++ more → HasRecords old offset records → HasRecords new (offset + 0) (records ++ [])
 records_stay old new more offset records l e has =
-    let same : offset + 0 ≡ offset = omega arith in
-    let list : records ++ [] ≡ records = append-nil records in
-    record {
-      joined = ap (λ (n : ℕ). take n new) same
-          ∙ (same_prefix old new more offset l e ∙ (has.joined ∙ ap (λ (xs : List (List ℕ)). concat xs) (sym list)));
-      each = subst (λ (xs : List (List ℕ)). AllByRecursion IsRecord xs) (sym list) has.each;
-    }
+    rw (append-nil records) (record { joined = grind (arith, common_steps, take-append-le); each = has.each })
 
 -- what the bytes after the records begin with is one more
 pub records_next : (bytes : List ℕ) (offset : ℕ) (records : List (List ℕ)) (b : List ℕ)
     → HasRecords bytes offset records → IsRecord b → b ≡ take (length b) (drop offset bytes)
     → HasRecords bytes (offset + length b) (records ++ b ∷ [])
 records_next bytes offset records b has is prefix = record {
-  joined = take-add offset (length b) bytes ∙ (λ i. has.joined i ++ sym prefix i)
-      ∙ ap (λ (xs : List ℕ). concat records ++ xs) (sym (append-nil b)) ∙ sym (concat-append records (b ∷ []));
+  joined = grind (arith, common_steps, take-add, concat-append);
   each = All-push IsRecord records b has.each is;
 }
 

@@ -1,6 +1,7 @@
 -- An archive's records are the only ones.
 use Rattle.std.proofs.Common.{◌≡◌, ℕ, ◌≤◌, ◌++◌, List, [], ◌∷◌, length, take, refl, sym, ap, subst, ◌∙◌, arith}
-use Rattle.std.proofs.Common.{append_assoc, length-append, length-take}
+use Rattle.std.proofs.Common.{append_assoc, length-append}
+use Rattle.std.proofs.lemmas.Grind.{common_steps}
 use Rattle.std.specs.List.{concat}
 use Rattle.mseed_record.specs.Record.{IsRecord}
 use Rattle.mseed_record.specs.View.{View, IsView}
@@ -38,4 +39,4 @@ pub view_record : (v : View) → IsView v → IsRecord v.bytes
 view_record v is = (v.order, (is.0, (is.1.0, is.1.1.1.record_is)))
 
 pub prefix_within : (b xs : List ℕ) → xs ≡ take (length xs) b → length xs ≤ length b
-prefix_within b xs e = omega (arith, ap (λ (ys : List ℕ). length ys) e, length-take (length xs) b)
+prefix_within b xs e = grind (arith, common_steps)
