@@ -1,185 +1,152 @@
 -- A cutter stays along what its source gave, whatever it answers.
-use Rattle.std.proofs.Common.{◌≡◌, ◌≢◌, ℕ, ◌+◌, ◌≤◌, Bool, true, false, List, [], ◌∷◌, length, Option, Some}
-use Rattle.std.proofs.Common.{None, Result, Ok, Err, IfOk, IfErr, IfSome, refl, sym, ap, subst, ◌∙◌, arith}
-use Rattle.std.proofs.lemmas.List.{drop_all}
-use Rattle.mseed_record.specs.Record.{IsRecord}
-use Rattle.mseed_record.specs.Scan.{Decides, short}
-use Rattle.mseed_record.specs.declared.framer.Scan.TheVariants.{Need}
-use Rattle.mseed_stream.specs.Archive.{IsEndOf, clean, frame, truncated, is_clean}
-use Rattle.mseed_stream.specs.Device.{BytesRead}
+use Rattle.std.proofs.Common.{◌≡◌, ◌≢◌, ℕ, ◌+◌, ◌≤◌, Bool, true, false, List, [], length, Option, Some}
+use Rattle.std.proofs.Common.{None, Result, Ok, Err, IfErr, IfSome, refl, sym, ◌∙◌, arith}
+use Rattle.std.proofs.KnownBytes.{Consumes-nil}
+use Rattle.std.proofs.lemmas.List.{append-nil, drop_all}
+use Rattle.mseed_record.specs.Scan.{short}
+use Rattle.mseed_stream.specs.Archive.{clean, is_clean}
+use Rattle.mseed_stream.specs.Calls.{ReadsOn}
+use Rattle.mseed_stream.specs.Device.{Beside, BytesRead}
 use Rattle.mseed_stream.specs.CutterState.{CutterState}
-use Rattle.mseed_stream.specs.Cutting.{IsStop, at_start, read_from, IsRead, IsAlong, IsEnding, FallsShort, IsReadTo}
-use Rattle.mseed_stream.specs.Cutting.{is_short, IsCutFault, IsCleanEnd, answer_of, asks_of}
-use Rattle.mseed_stream.specs.private.Steps.{IsCuttingFault, lent_of, after_found}
+use Rattle.mseed_stream.specs.Cutting.{at_start, IsRead, IsAlong, IsEnding, IsNextAnswer}
+use Rattle.mseed_stream.specs.Cutting.{IsCutFault, IsCleanEnd, answer_of, asks_of}
+use Rattle.mseed_stream.specs.private.Steps.{HoldsMore, IsCut, forgot, lent_of, after_found}
 use Rattle.mseed_stream.specs.declared.cutter.Ending.{Ending}
 use Rattle.mseed_stream.specs.declared.cutter.Ending.TheVariants.{Clean, Fault}
 use Rattle.mseed_stream.specs.declared.fault.StreamFault.{StreamFault}
 use Rattle.mseed_stream.specs.declared.fault.StreamFault.TheVariants.{Frame, Truncated, Read, Turns, Memory}
+use Rattle.mseed_stream.proofs.Cuts.{reported}
 use Rattle.mseed_stream.proofs.Filled.{held_is}
-
--- what is read from the offset on is what is held
-pub reported_is : (h : BytesRead) (c : CutterState) → IsRead h c → c.is_lent ≡ false → read_from c.offset h ≡ c.prefix
-reported_is h c is lent = is.held ∙ held_is c lent
-
-reported_size : (h : BytesRead) (c : CutterState) → IsRead h c → c.is_lent ≡ false
-    → length h.bytes ≡ c.offset + length c.prefix
-reported_size h c is lent = is.reported ∙ ap (λ (xs : List ℕ). c.offset + length xs) (held_is c lent)
+use Rattle.mseed_stream.proofs.Handed.{records_more, records_stay, archive_by, archive_at}
 
 pub nothing_ended : (answer : Option Ending) (P : Ending → Type 0) → answer ≡ None → IfSome answer P
-nothing_ended answer P e = subst (λ (o : Option Ending). IfSome o P) (sym e) tt
-
--- a record was lent
-lent_read : (h : BytesRead) (c : CutterState) → IsRead h c → c.is_lent ≡ false → IsRead h (after_found c (Ok true))
-lent_read h c is lent =
-    let size = reported_size h c is lent in
-    record {
-      reported = omega arith;
-      held = drop_all (c.offset + length c.prefix) h.bytes (omega arith);
-      reads = is.reads;
-      few_reads = is.few_reads;
-      few_bytes = is.few_bytes;
-      within = is.within;
-      small = is.small;
-    }
+nothing_ended answer P e = rw e tt
 
 -- the answer is kept
-kept_read : (h : BytesRead) (c : CutterState) (answer : Option Ending) → IsRead h c
-    → IsRead h (record c { answer = answer })
-kept_read h c answer is = record {
-  reported = is.reported;
-  held = is.held;
-  reads = is.reads;
-  few_reads = is.few_reads;
-  few_bytes = is.few_bytes;
-  within = is.within;
-  small = is.small;
-}
-
 ended_along : (h : BytesRead) (c : CutterState) (e : Ending) → IsRead h c → IsEnding e c.offset h
     → IsAlong h (record c { answer = Some e })
-ended_along h c e is ending = record {
-  read = kept_read h c (Some e) is;
-  stop = λ other. cc;
-  asks = λ other. absurd cc;
-  going_on = λ other. cc;
-  ended = ending;
-}
+ended_along h c e is ending = grind arith
 
-pub along_record : (h : BytesRead) (c : CutterState) → IsRead h c → c.is_lent ≡ false → c.answer ≡ None
-    → h.is_at_end ≡ false
-    → IsAlong h (after_found c (Ok true))
-along_record h c is lent goes going_on = record {
-  read = lent_read h c is lent;
-  stop = λ same. at_start;
-  asks = λ same. (48, short refl (omega arith));
-  going_on = λ same. going_on;
-  ended = nothing_ended c.answer (λ e. IsEnding e (c.offset + length c.prefix) h) goes;
-}
-
-pub clean_end : (h : BytesRead) (c : CutterState) → IsRead h c → c.is_lent ≡ false → c.prefix ≡ []
-    → IsEndOf (read_from c.offset h) clean
-clean_end h c is lent empty = is_clean (reported_is h c is lent ∙ empty)
-
-along_fault : (h : BytesRead) (c : CutterState) (e : StreamFault) → IsRead h c → e ≢ Memory → IsCutFault e c.offset h
-    → IsAlong h (record c { answer = Some (Fault e) })
-along_fault h c e is other fault = ended_along h c (Fault e) is (fault, other)
-
-along_memory : (h : BytesRead) (c : CutterState) → IsRead h c → c.is_lent ≡ false → c.answer ≡ None
-    → IsStop c.prefix (length c.prefix) → h.is_at_end ≡ false → (n : ℕ) → Decides c.prefix (Need n) → IsAlong h c
-along_memory h c is lent goes stop going_on n asks =
-    record {
-      read = is;
-      stop = λ same. subst (λ (xs : List ℕ). IsStop xs (length xs)) (sym (held_is c lent)) stop;
-      asks = λ same. (n, subst (λ (xs : List ℕ). Decides xs (Need n)) (sym (held_is c lent)) asks);
-      going_on = λ same. going_on;
-      ended = nothing_ended c.answer (λ e. IsEnding e c.offset h) goes;
-    }
-
--- what a fault of the reads for one record says of the offset
-pub cut_fault : (e : StreamFault) (c after : CutterState) (old new : BytesRead) → IsRead new after
-    → after.is_lent ≡ false → after.offset ≡ c.offset → IsCuttingFault e c after old new → IsCutFault e after.offset new
-cut_fault (Frame n f) c after old new is lent offset it =
-    let reported = sym (reported_is new after is lent) in (
-      it.0 ∙ sym offset,
-      subst (λ (xs : List ℕ). IsEndOf xs (frame f)) reported it.2,
-      subst (λ (xs : List ℕ). IsReadTo xs new.is_at_end) reported it.3,
-    )
-cut_fault (Truncated n have) c after old new is lent offset it = (
-  it.0 ∙ sym offset,
-  subst (λ (xs : List ℕ). IsEndOf xs (truncated have)) (sym (reported_is new after is lent)) it.2,
-  it.3,
-)
-cut_fault (Read n) c after old new is lent offset it =
-    let one = it.1 in (
-      it.0 ∙ sym offset,
-      omega arith,
-      it.2,
-      rw (← (reported_is new after is lent)) at it.3,
-    )
-cut_fault (Turns n) c after old new is lent offset it =
-    (it.0 ∙ sym offset, it.2, it.3, subst (λ (xs : List ℕ). FallsShort xs) (sym (reported_is new after is lent)) it.4)
-cut_fault Memory c after old new is lent offset it = tt
+along_fault : (e : StreamFault) (c after : CutterState) (old new : BytesRead) → HoldsMore c after old new
+    → e ≢ Memory → IsCutFault e c.offset new → IsAlong new (record after { answer = Some (Fault e) })
+along_fault e c after old new is other fault = ended_along new after (Fault e) is.read (rw is.offset fault, other)
 
 -- by each answer
-pub along_found : (found : Result Bool StreamFault) (c after : CutterState) (old new : BytesRead) → IsRead new after
-    → after.is_lent ≡ false → after.answer ≡ None → after.offset ≡ c.offset
-    → (found ≡ Ok true → IsRecord after.prefix × (new.is_at_end ≡ false))
-    → (found ≡ Ok false → (after.prefix ≡ []) × (new.is_at_end ≡ true))
-    → IsReadTo after.prefix (is_short found new.is_at_end)
-    → IfErr found (λ e. IsCuttingFault e c after old new) → IsAlong new (after_found after found)
-along_found (Ok true) c after old new is lent goes offset one ended read fault =
-    along_record new after is lent goes (one refl).1
-along_found (Ok false) c after old new is lent goes offset one ended read fault =
-    let end = ended refl in
-    ended_along new after Clean is (clean_end new after is lent end.0, end.1)
-along_found (Err Memory) c after old new is lent goes offset one ended read fault =
-    along_memory new after is lent goes read fault.1 fault.2.0 fault.2.2
-along_found (Err (Frame n f)) c after old new is lent goes offset one ended read fault =
-    along_fault new after (Frame n f) is (λ e. cc) (cut_fault (Frame n f) c after old new is lent offset fault)
-along_found (Err (Truncated n have)) c after old new is lent goes offset one ended read fault =
-    along_fault new after (Truncated n have) is (λ e. cc)
-    (cut_fault (Truncated n have) c after old new is lent offset fault)
-along_found (Err (Read n)) c after old new is lent goes offset one ended read fault =
-    along_fault new after (Read n) is (λ e. cc) (cut_fault (Read n) c after old new is lent offset fault)
-along_found (Err (Turns n)) c after old new is lent goes offset one ended read fault =
-    along_fault new after (Turns n) is (λ e. cc) (cut_fault (Turns n) c after old new is lent offset fault)
+pub along_found : (found : Result Bool StreamFault) (c after : CutterState) (old new : BytesRead) → c.answer ≡ None
+    → IsCut found c after old new → IsAlong new (after_found after found)
+along_found (Ok true) c after old new goes is =
+    let read = is.holds.read in
+    record {
+      read = grind (arith, drop_all, held_is after is.holds.not_lent);
+      stop = λ same. at_start;
+      asks = λ same. (48, short refl (omega arith));
+      going_on = λ same. is.found.1;
+      ended = nothing_ended after.answer (λ e. IsEnding e (after.offset + length after.prefix) new)
+          (is.holds.answer ∙ goes);
+    }
+along_found (Ok false) c after old new goes is =
+    let read = is.holds.read in
+    ended_along new after Clean read (is_clean (read.held ∙ held_is after is.holds.not_lent ∙ is.found.0), is.found.1)
+along_found (Err Memory) c after old new goes is =
+    let memory = is.found.2 refl in
+    record {
+      read = is.holds.read;
+      stop = λ same. rw is.holds.not_lent is.stop;
+      asks = λ same. rw is.holds.not_lent (memory.0.0, memory.0.2);
+      going_on = λ same. memory.1;
+      ended = nothing_ended after.answer (λ e. IsEnding e after.offset new) (is.holds.answer ∙ goes);
+    }
+along_found (Err (Frame n f)) c after old new goes is =
+    along_fault (Frame n f) c after old new is.holds (λ e. cc) is.found.0
+along_found (Err (Truncated n have)) c after old new goes is =
+    along_fault (Truncated n have) c after old new is.holds (λ e. cc) is.found.0
+along_found (Err (Read n)) c after old new goes is =
+    along_fault (Read n) c after old new is.holds (λ e. cc) is.found.0
+along_found (Err (Turns n)) c after old new goes is =
+    along_fault (Turns n) c after old new is.holds (λ e. cc) is.found.0
 
-pub nothing_found : (found : Result Bool StreamFault) (n : ℕ) → lent_of n found ≡ Ok None → found ≡ Ok false
-nothing_found (Ok true) n e = cc
-nothing_found (Ok false) n e = refl
-nothing_found (Err f) n e = cc
+-- what was found is what became of the input
+pub next_answer : (found : Result Bool StreamFault) (n : ℕ) (c after : CutterState) (old new : BytesRead)
+    (left rest : Option (List ℕ)) (apart later : Beside) → IsRead old c → c.answer ≡ None
+    → IsCut found (forgot c) after old new → ReadsOn old new left rest apart later
+    → IsNextAnswer (lent_of n found) c old new left rest
+next_answer (Ok true) n c after old new left rest apart later read goes is reads =
+    let all = reported (forgot c) after old new is.holds in
+    record {
+      more = reads.more;
+      known = λ same. reads.known;
+      end = λ e. cc;
+      fault = tt;
+      records = λ records has. records_more old.bytes new.bytes reads.more.0 c.offset records
+          (omega (arith, read.reported)) reads.more.1 (rw all is.found.0) has;
+      archive = λ records has. tt;
+      memory = λ e. cc;
+      read_to = λ same. rw all is.stop;
+      failed = λ same. omega (arith, is.found.2);
+      repeats = nothing_ended c.answer _ goes;
+      most = grind arith;
+    }
+next_answer (Ok false) n c after old new left rest apart later read goes is reads =
+    let all = reported (forgot c) after old new is.holds in
+    let within : c.offset ≤ length old.bytes = omega (arith, read.reported) in
+    let end : IsCleanEnd c.offset new = (is_clean (all ∙ is.found.0), is.found.1) in
+    record {
+      more = reads.more;
+      known = λ same. reads.known;
+      end = λ e. end;
+      fault = tt;
+      records = λ records has. records_stay old.bytes new.bytes reads.more.0 c.offset records within reads.more.1 has;
+      archive = λ records has. archive_by old.bytes new.bytes reads.more.0 c.offset records clean within reads.more.1
+          has end.0;
+      memory = λ e. cc;
+      read_to = λ same. rw all is.stop;
+      failed = λ same. omega (arith, is.found.2);
+      repeats = nothing_ended c.answer _ goes;
+      most = grind arith;
+    }
+next_answer (Err e) n c after old new left rest apart later read goes is reads =
+    let all = reported (forgot c) after old new is.holds in
+    let within : c.offset ≤ length old.bytes = omega (arith, read.reported) in
+    record {
+      more = reads.more;
+      known = λ same. reads.known;
+      end = λ other. cc;
+      fault = is.found.0;
+      records = λ records has. records_stay old.bytes new.bytes reads.more.0 c.offset records within reads.more.1 has;
+      archive = λ records has. archive_at (Err e) old new reads.more.0 c.offset records within reads.more.1 has
+          (λ other. cc) is.found.0;
+      memory = λ same. rw all (is.found.2 cc).0;
+      read_to = λ same. grind (arith, all, is.stop);
+      failed = λ same. is.found.1;
+      repeats = nothing_ended c.answer _ goes;
+      most = grind arith;
+    }
 
-pub record_found : (found : Result Bool StreamFault) (n : ℕ) (prefix : List ℕ) (is_at_end : Bool)
-    → (found ≡ Ok true → IsRecord prefix × (is_at_end ≡ false))
-    → IfOk (lent_of n found) (λ o. IfSome o (λ m. IsRecord prefix))
-record_found (Ok true) n prefix is_at_end one = (one refl).0
-record_found (Ok false) n prefix is_at_end one = tt
-record_found (Err f) n prefix is_at_end one = tt
-
-pub fault_found : (found : Result Bool StreamFault) (n : ℕ) (c after : CutterState) (old new : BytesRead)
-    → IsRead new after
-    → after.is_lent ≡ false → after.offset ≡ c.offset → IfErr found (λ e. IsCuttingFault e c after old new)
-    → IfErr (lent_of n found) (λ e. IsCutFault e after.offset new)
-fault_found (Ok true) n c after old new is lent offset fault = tt
-fault_found (Ok false) n c after old new is lent offset fault = tt
-fault_found (Err e) n c after old new is lent offset fault = cut_fault e c after old new is lent offset fault
-
-pub fault_again : (result : Result (Option ℕ) StreamFault) (answer : Option Ending) (e : Ending) (offset : ℕ)
-    (h : BytesRead) → answer ≡ Some e → result ≡ answer_of e → IfSome answer (λ x. IsEnding x offset h)
-    → IfErr result (λ f. IsCutFault f offset h)
-fault_again result answer Clean offset h same is ending = rw is tt
-fault_again result answer (Fault f) offset h same is ending =
-    let it : IsEnding (Fault f) offset h =
-    subst (λ (o : Option Ending). IfSome o (λ x. IsEnding x offset h)) same ending in
-    subst (λ (r : Result (Option ℕ) StreamFault). IfErr r (λ x. IsCutFault x offset h)) (sym is) it.0
-
-pub end_again : (result : Result (Option ℕ) StreamFault) (answer : Option Ending) (e : Ending) (offset : ℕ)
-    (h : BytesRead)
-    → answer ≡ Some e → result ≡ answer_of e → IfSome answer (λ x. IsEnding x offset h) → result ≡ Ok None
-    → IsCleanEnd offset h
-end_again result answer Clean offset h same is ending none = rw same at ending
-end_again result answer (Fault f) offset h same is ending none = cc
+-- the answer that was kept is given again
+pub same_answer : (e : Ending) (c : CutterState) (h : BytesRead) (left : Option (List ℕ)) → IsAlong h c
+    → c.answer ≡ Some e → IsNextAnswer {X = ℕ} (answer_of e) c h h left left
+same_answer e c h left is same =
+    let within : c.offset ≤ length h.bytes = omega (arith, is.read.reported) in
+    let ending : IsEnding e c.offset h = rw same at is.ended in
+    let end : answer_of {X = ℕ} e ≡ Ok None → IsCleanEnd c.offset h = grind arith in
+    let fault : IfErr (answer_of {X = ℕ} e) (λ f. IsCutFault f c.offset h) = grind arith in
+    record {
+      more = ([], sym (append-nil h.bytes), Consumes-nil left);
+      known = λ goes. cc;
+      end = end;
+      fault = fault;
+      records = λ records has. grind (
+        arith,
+        records_stay h.bytes h.bytes [] c.offset records within (sym (append-nil h.bytes)) has,
+      );
+      archive = λ records has. archive_at (answer_of e) h h [] c.offset records within (sym (append-nil h.bytes)) has
+          end fault;
+      memory = grind arith;
+      read_to = λ goes. cc;
+      failed = λ goes. cc;
+      repeats = rw same (refl, refl);
+      most = grind arith;
+    }
 
 pub few_asks : (held : List ℕ) → asks_of held ≤ 1
-few_asks [] = omega arith
-few_asks (x ∷ xs) = omega arith
+few_asks held = grind arith

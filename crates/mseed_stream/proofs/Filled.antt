@@ -1,13 +1,14 @@
 -- What one more read adds to what a cutter holds.
-use Rattle.std.proofs.Common.{◌≡◌, ℕ, ◌+◌, ◌-◌, ◌^◌, ◌<◌, ◌≤◌, ◌++◌, List, length, take, drop, false, sym, ap}
+use Rattle.std.proofs.Common.{◌≡◌, ℕ, ◌+◌, ◌-◌, ◌^◌, ◌<◌, ◌≤◌, ◌++◌, List, length, take, drop, false, Result, sym, ap}
 use Rattle.std.proofs.Common.{◌∙◌, arith}
 use Rattle.std.proofs.lemmas.Grind.{common_steps}
 use Rattle.std.proofs.lemmas.List.{drop-append-le}
 use Rattle.std.proofs.Math.Seq.{take-add, take-append_seam}
 use Rattle.std.specs.Prelude.{slice_range}
-use Rattle.mseed_stream.specs.Device.{BytesRead}
+use Rattle.mseed_stream.specs.Device.{BytesRead, passed, read_also}
 use Rattle.mseed_stream.specs.CutterState.{CutterState}
-use Rattle.mseed_stream.specs.Cutting.{held_of, IsRead}
+use Rattle.mseed_stream.specs.Cutting.{held_of}
+use Rattle.mseed_stream.specs.private.Steps.{HoldsMore}
 
 -- a write back of as many bytes is all of them
 pub written_back : (held items : List ℕ) (n : ℕ) → length held ≡ n → take n (held ++ drop (length held) items) ≡ held
@@ -22,24 +23,13 @@ prefix_more held now have n needed same fits = grind (arith, common_steps, take-
 pub held_is : (c : CutterState) → c.is_lent ≡ false → held_of c ≡ c.prefix
 held_is c e = rw e
 
-pub read_more : (h now : BytesRead) (c after : CutterState) (more : List ℕ) → IsRead h c → c.is_lent ≡ false
-    → after.is_lent ≡ false → after.offset ≡ c.offset → after.prefix ≡ c.prefix ++ more
-    → now.bytes ≡ h.bytes ++ more → now.calls ≡ h.calls + 1 → after.reads ≡ c.reads + 1 → c.reads < 2 ^ 40
-    → length after.prefix ≤ after.room → after.room ≤ 2 ^ 20 → IsRead now after
-read_more h now c after more is lent lent_after offset prefix bytes calls reads few within small =
-    grind (arith, common_steps, drop-append-le)
+-- one read more, of some bytes or none
+pub holds_pull : {E : Type 0} (a c : CutterState) (h old new : BytesRead) (r : Result ℕ E) (buf prefix : List ℕ)
+    → HoldsMore a c h old → new ≡ read_also old r buf → c.reads < 2 ^ 40 → prefix ≡ c.prefix ++ passed r buf
+    → length prefix ≤ c.room → HoldsMore a (record c { prefix = prefix; reads = c.reads + 1 }) h new
+holds_pull a c h old new r buf prefix is read few more within =
+    grind (arith, common_steps, drop-append-le, held_is c is.not_lent)
 
 -- the header, and then the rest, are all of them
 pub two_parts : (bytes : List ℕ) (m n : ℕ) → m ≤ n → take n bytes ≡ take m bytes ++ take (n - m) (drop m bytes)
 two_parts bytes m n l = grind (arith, take-add m (n - m) bytes)
-
--- what is held grows by what is read
-pub held_grows : (h now : BytesRead) (c after : CutterState) (more : List ℕ) → IsRead h c → IsRead now after
-    → c.is_lent ≡ false → after.is_lent ≡ false → after.offset ≡ c.offset → now.bytes ≡ h.bytes ++ more
-    → after.prefix ≡ c.prefix ++ more
-held_grows h now c after more is then lent lent_after offset bytes = grind (arith, common_steps, drop-append-le)
-
--- and stays where nothing is read
-pub held_stays : (h now : BytesRead) (c after : CutterState) → IsRead h c → IsRead now after → c.is_lent ≡ false
-    → after.is_lent ≡ false → after.offset ≡ c.offset → now ≡ h → after.prefix ≡ c.prefix
-held_stays h now c after is then lent lent_after offset same = grind arith

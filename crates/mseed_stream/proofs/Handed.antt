@@ -1,6 +1,6 @@
 -- The records that a cutter handed out, and the archive that they are.
 use Rattle.std.proofs.Common.{◌≡◌, ℕ, ◌+◌, ◌≤◌, ◌++◌, List, [], ◌∷◌, length, take, drop, Option, Some, None, Result, Ok}
-use Rattle.std.proofs.Common.{Err, IfErr, IfOk, IfSome, refl, sym, ap, ◌∙◌, arith, length-take}
+use Rattle.std.proofs.Common.{Err, IfErr, refl, sym, ap, ◌∙◌, arith, length-take}
 use Rattle.std.proofs.lemmas.Grind.{common_steps}
 use Rattle.std.proofs.lemmas.List.{append-nil, take-append-le, take-append-drop}
 use Rattle.std.proofs.lemmas.List.Folds.{concat-append}
@@ -11,7 +11,7 @@ use Rattle.mseed_record.proofs.Answered.{answered}
 use Rattle.mseed_stream.specs.Archive.{HasNoFurther, IsArchive, HasRecords, End, IsEndOf, clean, frame, truncated}
 use Rattle.mseed_stream.specs.Archive.{is_clean, is_frame, is_truncated}
 use Rattle.mseed_stream.specs.Device.{BytesRead}
-use Rattle.mseed_stream.specs.Cutting.{read_from, moves_by, handed_by, IfEnds, IsCutFault, IsCleanEnd}
+use Rattle.mseed_stream.specs.Cutting.{read_from, IfEnds, IsCutFault, IsCleanEnd}
 use Rattle.mseed_record.specs.View.{View}
 use Rattle.mseed_stream.specs.Walk.{AreViews}
 use Rattle.mseed_stream.specs.declared.fault.StreamFault.{StreamFault}
@@ -63,18 +63,6 @@ records_more old new more offset records l e is has =
     records_next new offset records (drop offset new)
     (record { joined = same_prefix old new more offset l e ∙ has.joined; each = has.each }) is
     (sym (take-length (drop offset new)))
-
-pub records_after : (result : Result (Option ℕ) StreamFault) (old new : BytesRead) (more : List ℕ) (offset : ℕ)
-    (records : List (List ℕ)) → offset ≤ length old.bytes → new.bytes ≡ old.bytes ++ more
-    → IfOk result (λ o. IfSome o (λ n. IsRecord (read_from offset new))) → HasRecords old.bytes offset records
-    → HasRecords new.bytes (offset + moves_by result (read_from offset new))
-    (records ++ handed_by result (read_from offset new))
-records_after (Ok (Some n)) old new more offset records l e is has =
-    records_more old.bytes new.bytes more offset records l e is has
-records_after (Ok None) old new more offset records l e is has =
-    records_stay old.bytes new.bytes more offset records l e has
-records_after (Err f) old new more offset records l e is has =
-    records_stay old.bytes new.bytes more offset records l e has
 
 -- the bytes read are those records and then the rest
 archive_of : (old new more : List ℕ) (offset : ℕ) (records : List (List ℕ)) → offset ≤ length old → new ≡ old ++ more

@@ -1,8 +1,9 @@
 -- A record's end is a stop: the framing steps ask for its bytes up to there, and no further.
 use Rattle.std.proofs.Common.{◌≡◌, ℕ, ◌+◌, ◌^◌, ◌<◌, ◌≤◌, List, [], ◌∷◌, ◌++◌, length, take, drop, Some, refl, sym}
-use Rattle.std.proofs.Common.{◌∙◌, ap, subst, arith, false, true, Ok, zero, suc, ⊎_elim, length-append}
+use Rattle.std.proofs.Common.{◌∙◌, subst, arith, false, true, Ok, zero, suc, ⊎_elim}
 use Rattle.std.proofs.lemmas.Bool.{cases_lt}
 use Rattle.std.proofs.lemmas.Bool.Decides.{nat_tests}
+use Rattle.std.proofs.lemmas.Grind.{common_steps}
 use Rattle.std.proofs.lemmas.List.{drop-append-le, get_or-take, length-take-le, take-append-drop, take_all}
 use Rattle.mseed_time.specs.declared.order.Order.{Order}
 use Rattle.mseed_record.specs.declared.framer.Scan.TheVariants.{Need}
@@ -13,11 +14,10 @@ use Rattle.mseed_record.specs.Scan.{at_offset, DecidesFrom, Decides, short, by_c
 use Rattle.mseed_record.proofs.Answered.{none_at, no_version3}
 use Rattle.mseed_record.proofs.Called.{called, record_long}
 use Rattle.mseed_record.proofs.Framed.{number_prefix, fixed_prefix, order_prefix}
-use Rattle.mseed_stream.specs.Cutting.{IsRead, IsStop, at_start, called_for, held_of, lent_whole}
+use Rattle.mseed_stream.specs.Cutting.{IsRead, IsStop, at_start, called_for, lent_whole}
 use Rattle.mseed_stream.specs.CutterState.{CutterState}
 use Rattle.mseed_stream.specs.Device.{BytesRead}
 use Rattle.mseed_stream.specs.private.Steps.{IsCut}
-use Rattle.mseed_stream.proofs.Filled.{held_is}
 use Rattle.mseed_stream.proofs.Passed.{record_few}
 
 -- more than the first m bytes of a record are asked for, from a place of its chain on
@@ -118,9 +118,7 @@ record_stop b is =
 -- what was read then, by the view of what begins the bytes that are lent
 pub lent_read : (old new : BytesRead) (lent view bytes : List ℕ) → view ≡ bytes → bytes ≡ take (length bytes) lent
     → new ≡ lent_whole old (take (length view) lent) → new ≡ lent_whole old bytes
-lent_read old new lent view bytes same prefix read =
-    read ∙ (ap (λ (xs : List ℕ). lent_whole old (take (length xs) lent)) same
-    ∙ ap (λ (xs : List ℕ). lent_whole old xs) (sym prefix))
+lent_read old new lent view bytes same prefix read = cc
 
 -- a record that the source holds whole is read at once
 pub lent_cut : (c after : CutterState) (old new : BytesRead) (bytes : List ℕ) → IsRead old c → c.is_lent ≡ false
@@ -128,28 +126,9 @@ pub lent_cut : (c after : CutterState) (old new : BytesRead) (bytes : List ℕ) 
     → after ≡ record c { prefix = bytes; reads = c.reads + 2 } → c.reads + 2 ≤ 2 ^ 40 → length bytes ≤ c.room
     → IsCut (Ok true) c after old new
 lent_cut c after old new bytes is lent none going_on one read stands few within =
-    let held : held_of c ≡ [] = held_is c lent ∙ none in
-    let size : length old.bytes ≡ c.offset + 0 = is.reported ∙ ap (λ (xs : List ℕ). c.offset + length xs) held in
-    let there : IsRead (lent_whole old bytes) (record c { prefix = bytes; reads = c.reads + 2 }) =
-    record {
-      reported = rw lent (omega (arith, size, length-append old.bytes bytes));
-      held = rw lent (drop-append-le c.offset old.bytes bytes (omega (arith, size))
-          ∙ ap (λ (xs : List ℕ). xs ++ bytes) (is.held ∙ held));
-      reads = ap (λ (n : ℕ). n + 2) is.reads;
-      few_reads = few;
-      few_bytes = omega (arith, is.few_bytes, length-append old.bytes bytes, record_few bytes one);
-      within = within;
-      small = is.small;
-    } in
+    let small = record_few bytes one in
     rw (read, stands) (record {
-      read = there;
-      stays = (refl, lent, refl);
-      room = omega arith;
+      holds = grind (arith, common_steps, drop-append-le);
       stop = rw going_on (record_stop bytes one);
-      found = λ same. (one, going_on);
-      called = λ same. omega arith;
-      quiet = (λ less. absurd (omega (arith, less)), omega arith);
-      ended = λ other. cc;
-      fine = refl;
-      fault = tt;
+      found = (one, going_on, refl, omega arith);
     })

@@ -3,7 +3,7 @@ ghost use Rattle.std.specs.Prelude.{◌≡◌, ◌↔◌, ◌+◌, ◌*◌, ◌^
 ghost use Rattle.std.specs.Prelude.{IfErr, OnErr, OnOk, IsTrue, Ok, slice_range, [], ℕ, IfNone, IfSome, Some, None};
 ghost use Rattle.std.specs.Prelude.{Err, ⊤, List, ◌∷◌, ◌++◌};
 ghost use Rattle.std.specs.Bool.{OnTrue};
-ghost use Rattle.std.specs.Io.KnownBytes.{IsAtEnd, Consumes, ReadConsumes};
+ghost use Rattle.std.specs.Io.KnownBytes.{Consumes, ReadConsumes};
 ghost use Rattle.mseed_record.specs.Record.{IsRecord};
 ghost use Rattle.mseed_record.specs.Scan.{Decides};
 ghost use Rattle.mseed_record.specs.View.{View, IsView};
@@ -11,11 +11,13 @@ ghost use Rattle.mseed_record.specs.Viewing.{view_of};
 ghost use Rattle.mseed_record.specs.declared.framer.Scan.TheVariants.{Need, Record};
 ghost use Rattle.mseed_stream.specs.Device.{read_also, nothing_read};
 ghost use Rattle.mseed_stream.specs.Archive.{HasRecords};
-ghost use Rattle.mseed_stream.specs.Cutting.{IsRead, IsAlong, GivesMore, IsNextAnswer, asks_of, count_of};
+ghost use Rattle.mseed_stream.specs.Cutting.{IsRead, IsAlong, IsNextAnswer, asks_of, count_of};
 ghost use Rattle.mseed_stream.specs.Cutting.{held_of, read_from, moves_by, answer_of, kept_of, IfEnds, IsAhead};
 ghost use Rattle.mseed_stream.specs.Cutting.{lent_whole};
 ghost use Rattle.mseed_stream.specs.Walk.{HasHandedOut, AreAllViews, IfGoesOn, end_of};
-ghost use Rattle.mseed_stream.specs.private.Steps.{IsFillFault, IsAnswerAtEnd, IsCut, MayCut, lent_of, after_found};
+ghost use Rattle.mseed_stream.specs.Calls.{ReadsOn};
+ghost use Rattle.mseed_stream.specs.private.Steps.{IsAnswerAtEnd, IsCut, MayCut, HoldsMore, IsFilled, lent_of};
+ghost use Rattle.mseed_stream.specs.private.Steps.{after_found, forgot};
 
 use crate::device::{Failed, READS, Source};
 use crate::fault::StreamFault;
@@ -280,7 +282,7 @@ impl<A: Allocator> Cutter<A> {
 
     /// Drops the record that was lent from the buffer.
     fn forget(&mut self)
-        ensures { self.new ≡ record self.old { prefix = held_of self.old; is_lent = false } }
+        ensures { self.new ≡ forgot self.old }
     {
         if self.is_lent {
             self.have = 0;
@@ -326,10 +328,8 @@ impl<A: Allocator> Cutter<A> {
     fn cut<R: Source>(&mut self, source: &mut R) -> Result<bool, StreamFault>
         requires { MayCut (R.read source.old) self.old }
         ensures cut { IsCut result self.old self.new (R.read source.old) (R.read source.new) }
-        ensures more { GivesMore (R.read source.old) (R.read source.new) (R.remaining source.old)
-            (R.remaining source.new) }
-        ensures known { (R.read source.new).is_at_end ≡ true → IsAtEnd (R.remaining source.new) }
-        ensures beside { R.beside source.new ≡ R.beside source.old }
+        ensures reads { ReadsOn (R.read source.old) (R.read source.new) (R.remaining source.old)
+            (R.remaining source.new) (R.beside source.old) (R.beside source.new) }
     {
         if self.take_lent(source) {
             return Ok(true);
@@ -354,9 +354,8 @@ impl<A: Allocator> Cutter<A> {
     fn take_lent<R: Source>(&mut self, source: &mut R) -> bool
         requires { MayCut (R.read source.old) self.old }
         ensures cut { OnTrue result (IsCut (Ok true) self.old self.new (R.read source.old) (R.read source.new)) }
-        ensures more { OnTrue result (GivesMore (R.read source.old) (R.read source.new) (R.remaining source.old)
-            (R.remaining source.new)) }
-        ensures beside { R.beside source.new ≡ R.beside source.old }
+        ensures reads { OnTrue result (ReadsOn (R.read source.old) (R.read source.new) (R.remaining source.old)
+            (R.remaining source.new) (R.beside source.old) (R.beside source.new)) }
         ensures unchanged { result ≡ false → (self.new ≡ self.old) × (source.new ≡ source.old) }
     {
         let lent = source.lend();
@@ -458,25 +457,10 @@ impl<A: Allocator> Cutter<A> {
         requires more { length self.old.prefix < needed }
         requires most { needed ≤ LONGEST_RECORD }
         requires going_on { (R.read source.old).is_at_end ≡ false }
-        ensures read { IsRead (R.read source.new) self.new }
-        ensures more { GivesMore (R.read source.old) (R.read source.new) (R.remaining source.old)
-            (R.remaining source.new) }
-        ensures stays { (self.new.offset ≡ self.old.offset) × (self.new.is_lent ≡ false)
-            × (self.new.answer ≡ self.old.answer) }
-        ensures room { self.old.room ≤ self.new.room }
-        ensures whole { result ≡ Ok false → (length self.new.prefix ≡ needed)
-            × ((R.read source.new).is_at_end ≡ false) }
-        ensures ended { result ≡ Ok true → (length self.new.prefix < needed)
-            × ((R.read source.new).is_at_end ≡ true) × IsAtEnd (R.remaining source.new) }
-        ensures fine { OnOk result ((R.read source.new).failures ≡ (R.read source.old).failures) }
-        ensures fault { IfErr result (λ e. IsFillFault e self.old.offset self.old.room needed (R.read source.old)
-            (R.read source.new)) }
-        ensures short { OnErr result (length self.new.prefix < needed) }
-        ensures called { OnOk result ((R.read source.old).calls < (R.read source.new).calls) }
-        ensures calls { (R.read source.old).calls ≤ (R.read source.new).calls }
-        ensures quiet { length self.old.prefix < length self.new.prefix
-            → (R.read source.old).calls < (R.read source.new).calls }
-        ensures beside { R.beside source.new ≡ R.beside source.old }
+        ensures holds { HoldsMore self.old self.new (R.read source.old) (R.read source.new) }
+        ensures reads { ReadsOn (R.read source.old) (R.read source.new) (R.remaining source.old)
+            (R.remaining source.new) (R.beside source.old) (R.beside source.new) }
+        ensures filled { IsFilled result needed self.old self.new (R.read source.old) (R.read source.new) }
     {
         self.make_room(needed)?;
         while self.have < needed {

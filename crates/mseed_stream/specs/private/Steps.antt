@@ -1,39 +1,59 @@
 -- What the single steps of a cutter do: the reads for one stop, those for one record, and the answer by what was found.
 use Rattle.std.specs.Prelude.{◌≡◌, Bool, true, false, ℕ, ◌+◌, ◌^◌, ◌<◌, ◌≤◌, List, [], length, Option, Some, None}
-use Rattle.std.specs.Prelude.{Result, Ok, Err, OnOk, IfErr}
+use Rattle.std.specs.Prelude.{Result, Ok, Err, take, vec_len}
 use Rattle.mseed_record.specs.declared.framer.Scan.TheVariants.{Need}
 use Rattle.mseed_record.specs.Record.{IsRecord}
 use Rattle.mseed_record.specs.Scan.{Decides}
 use Rattle.mseed_stream.specs.Device.{BytesRead}
 use Rattle.mseed_stream.specs.CutterState.{CutterState}
-use Rattle.mseed_stream.specs.Archive.{IsEndOf, frame, truncated}
-use Rattle.mseed_stream.specs.Cutting.{FallsShort, IsRead, IsReadTo, IsStop, asks_of, is_short}
+use Rattle.mseed_stream.specs.Cutting.{IsCutFault, IsRead, IsReadTo, IsStop, NeedsRoom, asks_of, failed_reads}
+use Rattle.mseed_stream.specs.Cutting.{held_of, is_short}
+use Rattle.mseed_stream.specs.declared.cutter.Cutter.TheInside.{Inside}
 use Rattle.mseed_stream.specs.declared.cutter.Ending.TheVariants.{Clean, Fault}
 use Rattle.mseed_stream.specs.declared.fault.StreamFault.{StreamFault}
 use Rattle.mseed_stream.specs.declared.fault.StreamFault.TheVariants.{Frame, Truncated, Read, Turns, Memory}
 
--- what a fault means of the reads for one stop, and of the room that there was for so many bytes before them
-abbrev pub IsFillFault : StreamFault → ℕ → ℕ → ℕ → BytesRead → BytesRead → Type 0
-IsFillFault (Frame n f) offset room needed old new = ⊥
-IsFillFault (Truncated n have) offset room needed old new = ⊥
-IsFillFault (Read n) offset room needed old new = (n ≡ offset) × (new.failures ≡ old.failures + 1)
-    × (new.is_at_end ≡ false)
-IsFillFault (Turns n) offset room needed old new = (n ≡ offset) × (new.failures ≡ old.failures) × (new.calls ≡ 2 ^ 40)
-    × (new.is_at_end ≡ false)
-IsFillFault Memory offset room needed old new = (room < needed) × (new ≡ old)
+-- a cutter, by what it has
+abbrev pub state_of : {A : Type 0} → Inside A → CutterState
+state_of c = record {
+  offset = c.offset;
+  prefix = take c.have c.held.items;
+  is_lent = c.is_lent;
+  room = vec_len c.held;
+  reads = c.reads;
+  answer = c.ending;
+}
 
--- what a fault means of the reads for one record
-abbrev pub IsCuttingFault : StreamFault → CutterState → CutterState → BytesRead → BytesRead → Type 0
-IsCuttingFault (Frame n f) c after old new = (n ≡ c.offset) × (new.failures ≡ old.failures)
-    × IsEndOf after.prefix (frame f) × IsReadTo after.prefix new.is_at_end
-IsCuttingFault (Truncated n have) c after old new = (n ≡ c.offset) × (new.failures ≡ old.failures)
-    × IsEndOf after.prefix (truncated have) × (new.is_at_end ≡ true)
-IsCuttingFault (Read n) c after old new = (n ≡ c.offset) × (new.failures ≡ old.failures + 1) × (new.is_at_end ≡ false)
-    × FallsShort after.prefix
-IsCuttingFault (Turns n) c after old new = (n ≡ c.offset) × (new.failures ≡ old.failures) × (new.calls ≡ 2 ^ 40)
-    × (new.is_at_end ≡ false) × FallsShort after.prefix
-IsCuttingFault Memory c after old new = (new.failures ≡ old.failures) × (new.is_at_end ≡ false)
-    × ((n : ℕ) × (c.room < n) × Decides after.prefix (Need n))
+-- once it has dropped the record that was lent
+abbrev pub forgot : CutterState → CutterState
+forgot c = record c { prefix = held_of c; is_lent = false }
+
+-- some reads more, or none: what was read is held, and the rest of the cutter stays
+pub record HoldsMore (c after : CutterState) (old new : BytesRead) : Type 0 where
+  pub read : IsRead new after
+  pub not_lent : after.is_lent ≡ false
+  pub offset : after.offset ≡ c.offset
+  pub answer : after.answer ≡ c.answer
+  pub room : c.room ≤ after.room
+  pub calls : old.calls ≤ new.calls
+  pub quiet : new.calls ≤ old.calls → after.prefix ≡ c.prefix
+
+-- what a fault means of the reads for one stop, and of the room that there was for so many bytes before them
+abbrev pub IsFillFault : StreamFault → ℕ → CutterState → BytesRead → BytesRead → Type 0
+IsFillFault (Frame n f) needed c old new = ⊥
+IsFillFault (Truncated n have) needed c old new = ⊥
+IsFillFault (Read n) needed c old new = (n ≡ c.offset) × (new.failures ≡ old.failures + 1) × (new.is_at_end ≡ false)
+IsFillFault (Turns n) needed c old new = (n ≡ c.offset) × (new.failures ≡ old.failures) × (new.calls ≡ 2 ^ 40)
+    × (new.is_at_end ≡ false)
+IsFillFault Memory needed c old new = (c.room < needed) × (new ≡ old)
+
+-- what the reads for one stop come to: all that was requested is held; or less, at the input's end or by a fault
+abbrev pub IsFilled : Result Bool StreamFault → ℕ → CutterState → CutterState → BytesRead → BytesRead → Type 0
+IsFilled (Ok false) needed c after old new = (length after.prefix ≡ needed) × (new.is_at_end ≡ false)
+    × (new.failures ≡ old.failures) × (old.calls < new.calls)
+IsFilled (Ok true) needed c after old new = (length after.prefix < needed) × (new.is_at_end ≡ true)
+    × (new.failures ≡ old.failures) × (old.calls < new.calls)
+IsFilled (Err e) needed c after old new = (length after.prefix < needed) × IsFillFault e needed c old new
 
 -- the reads for a record may begin: the framing steps are to be taken next, of what is held
 pub record MayCut (h : BytesRead) (c : CutterState) : Type 0 where
@@ -43,19 +63,27 @@ pub record MayCut (h : BytesRead) (c : CutterState) : Type 0 where
   pub asks : (k : ℕ) × Decides c.prefix (Need k)
   pub going_on : h.is_at_end ≡ false
 
--- what the reads for one record come to: what was read is held up to a stop, and is a record, nothing at the input's
--- end, or the bytes of a fault
+-- they have come to a stop, or to the input's end before it
+pub record IsCutting (c after : CutterState) (is_at_end : Bool) (old new : BytesRead) : Type 0 where
+  pub holds : HoldsMore c after old new
+  pub stop : IsReadTo after.prefix is_at_end
+  pub end : new.is_at_end ≡ is_at_end
+  pub header : c.prefix ≡ [] → new.calls ≤ old.calls + 1 → length after.prefix ≤ 48
+  pub failures : new.failures ≡ old.failures
+
+-- what was found at a stop: a record, nothing at the input's end, or a fault
+abbrev pub IsFound : Result Bool StreamFault → CutterState → CutterState → BytesRead → BytesRead → Type 0
+IsFound (Ok true) c after old new = IsRecord after.prefix × (new.is_at_end ≡ false)
+    × (new.failures ≡ old.failures) × (old.calls + 2 ≤ new.calls + asks_of c.prefix)
+IsFound (Ok false) c after old new = (after.prefix ≡ []) × (new.is_at_end ≡ true) × (new.failures ≡ old.failures)
+IsFound (Err e) c after old new = IsCutFault e c.offset new × (new.failures ≡ old.failures + failed_reads e)
+    × (e ≡ Memory → NeedsRoom c.room after.prefix × (new.is_at_end ≡ false))
+
+-- what the reads for one record come to: what was read is held up to a stop, and what was found there
 pub record IsCut (answer : Result Bool StreamFault) (c after : CutterState) (old new : BytesRead) : Type 0 where
-  pub read : IsRead new after
-  pub stays : (after.offset ≡ c.offset) × (after.is_lent ≡ false) × (after.answer ≡ c.answer)
-  pub room : c.room ≤ after.room
+  pub holds : HoldsMore c after old new
   pub stop : IsReadTo after.prefix (is_short answer new.is_at_end)
-  pub found : answer ≡ Ok true → IsRecord after.prefix × (new.is_at_end ≡ false)
-  pub called : answer ≡ Ok true → old.calls + 2 ≤ new.calls + asks_of c.prefix
-  pub quiet : (new.calls ≤ old.calls → after.prefix ≡ c.prefix) × (old.calls ≤ new.calls)
-  pub ended : answer ≡ Ok false → (after.prefix ≡ []) × (new.is_at_end ≡ true)
-  pub fine : OnOk answer (new.failures ≡ old.failures)
-  pub fault : IfErr answer (λ e. IsCuttingFault e c after old new)
+  pub found : IsFound answer c after old new
 
 -- at the input's end: nothing is left, or so many bytes of what might have been a record
 abbrev pub IsAnswerAtEnd : Result Bool StreamFault → ℕ → List ℕ → Type 0
