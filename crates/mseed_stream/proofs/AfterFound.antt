@@ -1,15 +1,18 @@
 -- A cutter stays along what its source gave, whatever it answers.
 use Rattle.std.proofs.Common.{◌≡◌, ◌≢◌, ℕ, ◌+◌, ◌≤◌, Bool, true, false, List, [], length, Option, Some}
+use Rattle.std.proofs.Common.{◌++◌}
+use Rattle.std.proofs.Common.{IfOk}
 use Rattle.std.proofs.Common.{None, Result, Ok, Err, IfErr, IfSome, refl, sym, ◌∙◌, arith}
 use Rattle.std.proofs.KnownBytes.{Consumes-nil}
 use Rattle.std.proofs.lemmas.List.{append-nil, drop_all}
+use Rattle.mseed_record.specs.Record.{IsRecord}
 use Rattle.mseed_record.specs.Scan.{short}
-use Rattle.mseed_stream.specs.Archive.{clean, is_clean}
+use Rattle.mseed_stream.specs.Archive.{is_clean}
 use Rattle.mseed_stream.specs.Calls.{ReadsOn}
 use Rattle.mseed_stream.specs.Device.{Beside, BytesRead}
 use Rattle.mseed_stream.specs.CutterState.{CutterState}
 use Rattle.mseed_stream.specs.Cutting.{at_start, IsRead, IsAlong, IsEnding, IsNextAnswer}
-use Rattle.mseed_stream.specs.Cutting.{IsCutFault, IsCleanEnd, answer_of, asks_of}
+use Rattle.mseed_stream.specs.Cutting.{IsCutFault, IsCleanEnd, answer_of, asks_of, read_from}
 use Rattle.mseed_stream.specs.private.Steps.{HoldsMore, IsCut, forgot, lent_of, after_found}
 use Rattle.mseed_stream.specs.declared.cutter.Ending.{Ending}
 use Rattle.mseed_stream.specs.declared.cutter.Ending.TheVariants.{Clean, Fault}
@@ -17,7 +20,7 @@ use Rattle.mseed_stream.specs.declared.fault.StreamFault.{StreamFault}
 use Rattle.mseed_stream.specs.declared.fault.StreamFault.TheVariants.{Frame, Truncated, Read, Turns, Memory}
 use Rattle.mseed_stream.proofs.Cuts.{reported}
 use Rattle.mseed_stream.proofs.Filled.{held_is}
-use Rattle.mseed_stream.proofs.Handed.{records_more, records_stay, archive_by, archive_at}
+use Rattle.mseed_stream.proofs.Handed.{records_after, archive_at}
 
 pub nothing_ended : (answer : Option Ending) (P : Ending → Type 0) → answer ≡ None → IfSome answer P
 nothing_ended answer P e = rw e tt
@@ -70,55 +73,25 @@ pub next_answer : (found : Result Bool StreamFault) (n : ℕ) (c after : CutterS
     (left rest : Option (List ℕ)) (apart later : Beside) → IsRead old c → c.answer ≡ None
     → IsCut found (forgot c) after old new → ReadsOn old new left rest apart later
     → IsNextAnswer (lent_of n found) c old new left rest
-next_answer (Ok true) n c after old new left rest apart later read goes is reads =
-    let all = reported (forgot c) after old new is.holds in
-    record {
-      more = reads.more;
-      known = λ same. reads.known;
-      end = λ e. cc;
-      fault = tt;
-      records = λ records has. records_more old.bytes new.bytes reads.more.0 c.offset records
-          (omega (arith, read.reported)) reads.more.1 (rw all is.found.0) has;
-      archive = λ records has. tt;
-      memory = λ e. cc;
-      read_to = λ same. rw all is.stop;
-      failed = λ same. omega (arith, is.found.2);
-      repeats = nothing_ended c.answer _ goes;
-      most = grind arith;
-    }
-next_answer (Ok false) n c after old new left rest apart later read goes is reads =
+next_answer found n c after old new left rest apart later read goes is reads =
     let all = reported (forgot c) after old new is.holds in
     let within : c.offset ≤ length old.bytes = omega (arith, read.reported) in
-    let end : IsCleanEnd c.offset new = (is_clean (all ∙ is.found.0), is.found.1) in
+    let end : lent_of n found ≡ Ok None → IsCleanEnd c.offset new = grind (arith, is_clean) in
+    let fault : IfErr (lent_of n found) (λ e. IsCutFault e c.offset new) = grind arith in
+    let one : IfOk (lent_of n found) (λ o. IfSome o (λ m. IsRecord (read_from c.offset new))) = grind arith in
     record {
       more = reads.more;
       known = λ same. reads.known;
-      end = λ e. end;
-      fault = tt;
-      records = λ records has. records_stay old.bytes new.bytes reads.more.0 c.offset records within reads.more.1 has;
-      archive = λ records has. archive_by old.bytes new.bytes reads.more.0 c.offset records clean within reads.more.1
-          has end.0;
-      memory = λ e. cc;
-      read_to = λ same. rw all is.stop;
-      failed = λ same. omega (arith, is.found.2);
-      repeats = nothing_ended c.answer _ goes;
-      most = grind arith;
-    }
-next_answer (Err e) n c after old new left rest apart later read goes is reads =
-    let all = reported (forgot c) after old new is.holds in
-    let within : c.offset ≤ length old.bytes = omega (arith, read.reported) in
-    record {
-      more = reads.more;
-      known = λ same. reads.known;
-      end = λ other. cc;
-      fault = is.found.0;
-      records = λ records has. records_stay old.bytes new.bytes reads.more.0 c.offset records within reads.more.1 has;
-      archive = λ records has. archive_at (Err e) old new reads.more.0 c.offset records within reads.more.1 has
-          (λ other. cc) is.found.0;
-      memory = λ same. rw all (is.found.2 cc).0;
-      read_to = λ same. grind (arith, all, is.stop);
-      failed = λ same. is.found.1;
-      repeats = nothing_ended c.answer _ goes;
+      end = end;
+      fault = fault;
+      records = λ records has. records_after (lent_of n found) old new reads.more.0 c.offset records within reads.more.1
+          one has;
+      archive = λ records has. archive_at (lent_of n found) old new reads.more.0 c.offset records within reads.more.1
+          has end fault;
+      memory = grind arith;
+      read_to = grind arith;
+      failed = grind arith;
+      repeats = rw goes tt;
       most = grind arith;
     }
 
@@ -127,20 +100,18 @@ pub same_answer : (e : Ending) (c : CutterState) (h : BytesRead) (left : Option 
     → c.answer ≡ Some e → IsNextAnswer {X = ℕ} (answer_of e) c h h left left
 same_answer e c h left is same =
     let within : c.offset ≤ length h.bytes = omega (arith, is.read.reported) in
+    let none : h.bytes ≡ h.bytes ++ [] = sym (append-nil h.bytes) in
     let ending : IsEnding e c.offset h = rw same at is.ended in
     let end : answer_of {X = ℕ} e ≡ Ok None → IsCleanEnd c.offset h = grind arith in
     let fault : IfErr (answer_of {X = ℕ} e) (λ f. IsCutFault f c.offset h) = grind arith in
+    let one : IfOk (answer_of {X = ℕ} e) (λ o. IfSome o (λ m. IsRecord (read_from c.offset h))) = grind arith in
     record {
-      more = ([], sym (append-nil h.bytes), Consumes-nil left);
+      more = ([], none, Consumes-nil left);
       known = λ goes. cc;
       end = end;
       fault = fault;
-      records = λ records has. grind (
-        arith,
-        records_stay h.bytes h.bytes [] c.offset records within (sym (append-nil h.bytes)) has,
-      );
-      archive = λ records has. archive_at (answer_of e) h h [] c.offset records within (sym (append-nil h.bytes)) has
-          end fault;
+      records = λ records has. records_after (answer_of e) h h [] c.offset records within none one has;
+      archive = λ records has. archive_at (answer_of e) h h [] c.offset records within none has end fault;
       memory = grind arith;
       read_to = λ goes. cc;
       failed = λ goes. cc;

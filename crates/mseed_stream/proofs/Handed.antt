@@ -1,5 +1,9 @@
 -- The records that a cutter handed out, and the archive that they are.
 use Rattle.std.proofs.Common.{◌≡◌, ℕ, ◌+◌, ◌≤◌, ◌++◌, List, [], ◌∷◌, length, take, drop, Option, Some, None, Result, Ok}
+use Rattle.mseed_stream.specs.Cutting.{handed_by}
+use Rattle.mseed_stream.specs.Cutting.{moves_by}
+use Rattle.std.proofs.Common.{IfSome}
+use Rattle.std.proofs.Common.{IfOk}
 use Rattle.std.proofs.Common.{Err, IfErr, refl, sym, ap, ◌∙◌, arith, length-take}
 use Rattle.std.proofs.lemmas.Grind.{common_steps}
 use Rattle.std.proofs.lemmas.List.{append-nil, take-append-le, take-append-drop}
@@ -64,6 +68,15 @@ records_more old new more offset records l e is has =
     (record { joined = same_prefix old new more offset l e ∙ has.joined; each = has.each }) is
     (sym (take-length (drop offset new)))
 
+pub records_after : (result : Result (Option ℕ) StreamFault) (old new : BytesRead) (more : List ℕ) (offset : ℕ)
+    (records : List (List ℕ)) → offset ≤ length old.bytes → new.bytes ≡ old.bytes ++ more
+    → IfOk result (λ o. IfSome o (λ n. IsRecord (read_from offset new))) → HasRecords old.bytes offset records
+    → HasRecords new.bytes (offset + moves_by result (read_from offset new))
+    (records ++ handed_by result (read_from offset new))
+records_after (Ok (Some n)) old new more offset records l e is has = records_more _ _ more offset records l e is has
+records_after (Ok None) old new more offset records l e is has = records_stay _ _ more offset records l e has
+records_after (Err f) old new more offset records l e is has = records_stay _ _ more offset records l e has
+
 -- the bytes read are those records and then the rest
 archive_of : (old new more : List ℕ) (offset : ℕ) (records : List (List ℕ)) → offset ≤ length old → new ≡ old ++ more
     → HasRecords old offset records → HasNoFurther (drop offset new) → IsArchive new records (drop offset new)
@@ -87,13 +100,13 @@ pub archive_at : (result : Result (Option ℕ) StreamFault) (old new : BytesRead
     → IfEnds result (IsArchive new.bytes records (read_from offset new))
 archive_at (Ok (Some n)) old new more offset records l e has end fault = tt
 archive_at (Ok None) old new more offset records l e has end fault =
-    archive_by old.bytes new.bytes more offset records clean l e has (end refl).0
+    archive_by _ _ more offset records clean l e has (end refl).0
 archive_at (Err (Frame n f)) old new more offset records l e has end fault =
-    archive_by old.bytes new.bytes more offset records (frame f) l e has fault.1
+    archive_by _ _ more offset records (frame f) l e has fault.1
 archive_at (Err (Truncated n have)) old new more offset records l e has end fault =
-    archive_by old.bytes new.bytes more offset records (truncated have) l e has fault.1
+    archive_by _ _ more offset records (truncated have) l e has fault.1
 archive_at (Err (Read n)) old new more offset records l e has end fault =
-    archive_of old.bytes new.bytes more offset records l e has (none_short (read_from offset new) fault.3)
+    archive_of _ _ more offset records l e has (none_short (read_from offset new) fault.3)
 archive_at (Err (Turns n)) old new more offset records l e has end fault =
-    archive_of old.bytes new.bytes more offset records l e has (none_short (read_from offset new) fault.3)
+    archive_of _ _ more offset records l e has (none_short (read_from offset new) fault.3)
 archive_at (Err Memory) old new more offset records l e has end fault = tt

@@ -1,6 +1,7 @@
 -- What was read of an input has one list of records, and one end after them.
-use Rattle.std.proofs.Common.{◌≡◌, ℕ, suc, ◌<◌, ◌≤◌, ◌++◌, Bool, false, List, [], ◌∷◌, length, take, drop, Option}
-use Rattle.std.proofs.Common.{Some, None, refl, sym, ap, subst, ◌∙◌, arith, ⊎_elim, append-nil, length-take}
+use Rattle.std.proofs.Common.{◌≡◌, ℕ, suc, ◌<◌, ◌≤◌, false, List, [], ◌∷◌, length, take, drop, Option}
+use Rattle.std.proofs.Common.{◌⊎◌}
+use Rattle.std.proofs.Common.{zero, inl, inr, Some, None, refl, sym, ap, ◌∙◌, arith, ⊎_elim, append-nil, length-take}
 use Rattle.std.proofs.lemmas.Bool.{both_ways, cases_lt}
 use Rattle.std.proofs.lemmas.List.{take-append-drop}
 use Rattle.std.proofs.Math.Seq.{take-length}
@@ -14,7 +15,7 @@ use Rattle.mseed_record.proofs.OneAnswer.{one_answer}
 use Rattle.mseed_record.proofs.Viewed.{view_once}
 use Rattle.mseed_stream.specs.Device.{BytesRead}
 use Rattle.mseed_stream.specs.Archive.{HasNoFurther, IsArchive, End, clean, frame, truncated, IsEndOf, is_frame}
-use Rattle.mseed_stream.specs.Cutting.{IsStop, at_start, called_for, FallsShort, IsReadTo, read_from}
+use Rattle.mseed_stream.specs.Cutting.{IsStop, at_start, called_for, FallsShort, read_from}
 use Rattle.mseed_stream.specs.Walk.{bytes_in, AreViews, IsEnd, AreAllViews}
 use Rattle.mseed_stream.specs.declared.fault.StreamFault.{StreamFault}
 use Rattle.mseed_stream.specs.declared.fault.StreamFault.TheVariants.{Frame, Truncated, Read, Turns, Memory}
@@ -34,15 +35,11 @@ same_stop b _ m at_start (called_for k _ t l d) e = absurd (omega arith)
 same_stop b n _ (called_for k _ s l d) at_start e = absurd (omega arith)
 same_stop b n m (called_for k _ s l d) (called_for j _ t w c) e =
     let before : k ≡ j = same_stop b k j s t (omega arith) in
-    let asks : Decides (take k b) (Need m) = subst (λ (i : ℕ). Decides (take i b) (Need m)) (sym before) c in
-    let same : Need n ≡ Need m = one_answer (take k b) (Need n) (Need m) d asks in
-    cc
+    cc (one_answer (take k b) (Need n) (Need m) d (rw before c))
 
 -- a stop before another is within the bytes, and more is requested there
-record Earlier (b : List ℕ) (n : ℕ) : Type 0 where
-  within : n ≤ length b
-  next : ℕ
-  asks : Decides (take n b) (Need next)
+abbrev Earlier : List ℕ → ℕ → Type 0
+Earlier b n = (n ≤ length b) × ((next : ℕ) × Decides (take n b) (Need next))
 
 earlier : (b : List ℕ) (n m : ℕ) (s : IsStop b n) (t : IsStop b m) → index b n s < index b m t → Earlier b n
 earlier b n _ s at_start less = absurd (omega arith)
@@ -50,38 +47,31 @@ earlier b n m s (called_for k _ t l d) less = ⊎_elim
     (λ (more : index b n s < index b k t). earlier b n k s t more)
     (λ (last : index b k t ≤ index b n s).
     let same : n ≡ k = same_stop b n k s t (omega (arith, less, last)) in
-    record {
-      within = omega (arith, same, l);
-      next = m;
-      asks = subst (λ (i : ℕ). Decides (take i b) (Need m)) (sym same) d;
-    })
+    rw same (l, (m, d)))
     (cases_lt (index b n s) (index b k t))
+
+-- two stops are one, or one of them is before the other
+apart : (b : List ℕ) (n m : ℕ) → IsStop b n → IsStop b m → (n ≡ m) ⊎ (Earlier b n ⊎ Earlier b m)
+apart b n m s t = ⊎_elim
+    (λ (less : index b n s < index b m t). inr (inl (earlier b n m s t less)))
+    (λ (other : index b m t ≤ index b n s). ⊎_elim
+    (λ (less : index b m t < index b n s). inr (inr (earlier b m n t s less)))
+    (λ (last : index b n s ≤ index b m t). inl (same_stop b n m s t (omega (arith, other, last))))
+    (cases_lt (index b m t) (index b n s)))
+    (cases_lt (index b n s) (index b m t))
 
 -- bytes fall short of one stop
 pub one_stop : (b : List ℕ) (n m : ℕ) → IsStop b n → IsStop b m → length b < n → length b < m → n ≡ m
-one_stop b n m s t past over = ⊎_elim
-    (λ (less : index b n s < index b m t). let it = earlier b n m s t less in absurd (omega (arith, it.within)))
-    (λ (other : index b m t ≤ index b n s). ⊎_elim
-    (λ (less : index b m t < index b n s). let it = earlier b m n t s less in absurd (omega (arith, it.within)))
-    (λ (last : index b n s ≤ index b m t). same_stop b n m s t (omega (arith, other, last)))
-    (cases_lt (index b m t) (index b n s)))
-    (cases_lt (index b n s) (index b m t))
+one_stop b n m s t past over = grind (arith, apart b n m s t)
 
 -- what is refused at a stop falls short of none
 refused_whole : (b : List ℕ) (f : FrameFault) → IsStop b (length b) → Decides b (Not f) → FallsShort b → ⊥
 refused_whole b f s d (n, (t, past)) = ⊎_elim
-    (λ (less : index b (length b) s < index b n t).
-    let it = earlier b (length b) n s t less in
-    let asks : Decides b (Need it.next) = subst (λ (xs : List ℕ). Decides xs (Need it.next)) (take-length b) it.asks in
-    cc (one_answer b (Not f) (Need it.next) d asks))
-    (λ (other : index b n t ≤ index b (length b) s). ⊎_elim
-    (λ (less : index b n t < index b (length b) s). let it = earlier b n (length b) t s less in
-    omega (arith, it.within))
-    (λ (last : index b (length b) s ≤ index b n t).
-    let same : n ≡ length b = same_stop b n (length b) t s (omega (arith, other, last)) in
-    omega arith)
-    (cases_lt (index b n t) (index b (length b) s)))
-    (cases_lt (index b (length b) s) (index b n t))
+    (λ (same : length b ≡ n). omega (arith, past))
+    (λ others. ⊎_elim
+    (λ (one : Earlier b (length b)). cc (one_answer b (Not f) (Need one.1.0) d (rw (take-length b) at one.1.1)))
+    (λ (other : Earlier b n). omega (arith, other.0, past)) others)
+    (apart b (length b) n s t)
 
 -- records of the same bytes have the same views
 pub same_views : (vs ws : List View) → AllByRecursion IsView vs → AllByRecursion IsView ws → bytes_in vs ≡ bytes_in ws
@@ -89,12 +79,7 @@ pub same_views : (vs ws : List View) → AllByRecursion IsView vs → AllByRecur
 same_views [] [] h k e = refl
 same_views [] (w ∷ ws) h k e = cc
 same_views (v ∷ vs) [] h k e = cc
-same_views (v ∷ vs) (w ∷ ws) h k e =
-    let bytes : v.bytes ≡ w.bytes = cc in
-    let more : bytes_in vs ≡ bytes_in ws = cc in
-    let here : v ≡ w = view_once w v k.0 h.0 bytes in
-    let others : vs ≡ ws = same_views vs ws h.1 k.1 more in
-    λ i. here i ∷ others i
+same_views (v ∷ vs) (w ∷ ws) h k e = cc (view_once w v k.0 h.0 (cc), same_views vs ws h.1 k.1 (cc))
 
 none_in : HasNoFurther []
 none_in k within r = omega (arith, record_long (take k []) r, length-take {A = ℕ} k [])
@@ -111,26 +96,7 @@ archive_to bytes offset views are = record {
 pub one_views : (bytes : List ℕ) (offset : ℕ) (vs ws : List View) → AreViews bytes offset vs → AreViews bytes offset ws
     → vs ≡ ws
 one_views bytes offset vs ws a b =
-    let both = one_archive _ _ _ _ _ (archive_to _ _ _ a) (archive_to _ _ _ b) in
-    same_views vs ws a.each b.each both.0
-
--- no record begins after the last
-nothing_further : (end : Option StreamFault) (offset : ℕ) (h : BytesRead) → IsEnd end offset h
-    → HasNoFurther (read_from offset h)
-nothing_further None offset h is = no_further (read_from offset h) clean is.0.0
-nothing_further (Some (Frame n f)) offset h is = no_further (read_from offset h) (frame f) is.0.1
-nothing_further (Some (Truncated n have)) offset h is = no_further (read_from offset h) (truncated have) is.0.1
-nothing_further (Some (Read n)) offset h is = none_short (read_from offset h) is.0.3
-nothing_further (Some (Turns n)) offset h is = none_short (read_from offset h) is.0.3
-nothing_further (Some Memory) offset h is = absurd (is.1 refl)
-
-pub archive_is : (offset : ℕ) (views : List View) (end : Option StreamFault) (h : BytesRead)
-    → AreViews h.bytes offset views → IsEnd end offset h → IsArchive h.bytes (bytes_in views) (drop offset h.bytes)
-archive_is offset views end h are is = record {
-  joined = sym (take-append-drop offset h.bytes) ∙ ap (λ (xs : List ℕ). xs ++ drop offset h.bytes) are.records.joined;
-  each = are.records.each;
-  no_further = nothing_further end offset h is;
-}
+    same_views vs ws a.each b.each (one_archive _ _ _ _ _ (archive_to _ _ _ a) (archive_to _ _ _ b)).0
 
 -- how the input ends, by how its bytes end
 abbrev pub ended : ℕ → End → Option StreamFault
@@ -138,54 +104,51 @@ ended offset clean = None
 ended offset (frame f) = Some (Frame offset f)
 ended offset (truncated have) = Some (Truncated offset have)
 
--- bytes that are refused at a stop
-abbrev RefusedAtStop : List ℕ → Type 0
-RefusedAtStop bytes = (f : FrameFault) × (IsStop bytes (length bytes) × Decides bytes (Not f))
+-- and where the source stopped before: at the last read, or as reads failed
+abbrev stopped : ℕ → ℕ → StreamFault
+stopped offset zero = Turns offset
+stopped offset (suc n) = Read offset
 
 data Ended (offset : ℕ) (h : BytesRead) (end : Option StreamFault) : Type 0 where
-  by_bytes : (e : End) → IsEndOf (read_from offset h) e → h.failures ≡ 0
-      → (h.is_at_end ≡ false → RefusedAtStop (read_from offset h)) → end ≡ ended offset e → Ended offset h end
-  by_failure : h.failures ≡ 1 → end ≡ Some (Read offset) → Ended offset h end
-  by_turns : h.failures ≡ 0 → h.is_at_end ≡ false → FallsShort (read_from offset h) → end ≡ Some (Turns offset)
+  by_bytes : (e : End) → IsEndOf (read_from offset h) e → (h.is_at_end ≡ false → ¬ (FallsShort (read_from offset h)))
+      → end ≡ ended offset e → Ended offset h end
+  by_source : h.is_at_end ≡ false → FallsShort (read_from offset h) → end ≡ Some (stopped offset h.failures)
       → Ended offset h end
 
 pub refused_of : (bytes : List ℕ) (f : FrameFault) → IsEndOf bytes (frame f) → Decides bytes (Not f)
 refused_of bytes f (is_frame _ d) = d
 
 ends : (end : Option StreamFault) (offset : ℕ) (h : BytesRead) → IsEnd end offset h → Ended offset h end
-ends None offset h is = by_bytes clean is.0.0 is.1 (λ going. absurd (both_ways h.is_at_end going is.0.1)) refl
+ends None offset h is = by_bytes clean is.0.0 (λ going. absurd (both_ways h.is_at_end going is.0.1)) refl
 ends (Some (Frame n f)) offset h is =
-    let reported : List ℕ = read_from offset h in
-    by_bytes (frame f) is.0.1 is.2
-    (λ going. (f, (subst (λ (b : Bool). IsReadTo reported b) going is.0.2, refused_of reported f is.0.1)))
-    (ap (λ (k : ℕ). Some (Frame k f)) is.0.0)
+    let decides = refused_of (read_from offset h) f is.0.1 in
+    by_bytes (frame f) is.0.1 (λ going. refused_whole (read_from offset h) f (rw going at is.0.2) decides) (rw is.0.0)
 ends (Some (Truncated n have)) offset h is =
-    by_bytes (truncated have) is.0.1 is.2 (λ going. absurd (both_ways h.is_at_end going is.0.2))
-    (ap (λ (k : ℕ). Some (Truncated k have)) is.0.0)
-ends (Some (Read n)) offset h is = by_failure is.2 (ap (λ (k : ℕ). Some (Read k)) is.0.0)
-ends (Some (Turns n)) offset h is = by_turns is.2 is.0.2 is.0.3 (ap (λ (k : ℕ). Some (Turns k)) is.0.0)
+    by_bytes (truncated have) is.0.1 (λ going. absurd (both_ways h.is_at_end going is.0.2)) (rw is.0.0)
+ends (Some (Read n)) offset h is = by_source is.0.2 is.0.3 (rw (is.0.0, is.2))
+ends (Some (Turns n)) offset h is = by_source is.0.2 is.0.3 (rw (is.0.0, is.2))
 ends (Some Memory) offset h is = absurd (is.1 refl)
 
--- bytes that end an input don't fall short of more while it goes on
-never_both : (offset : ℕ) (h : BytesRead) → (h.is_at_end ≡ false → RefusedAtStop (read_from offset h))
-    → h.is_at_end ≡ false → FallsShort (read_from offset h) → ⊥
-never_both offset h refused going short =
-    let it = refused going in
-    refused_whole (read_from offset h) it.0 it.1.0 it.1.1 short
+-- no record begins after the last
+nothing_further : (end : Option StreamFault) (offset : ℕ) (h : BytesRead) → Ended offset h end
+    → HasNoFurther (read_from offset h)
+nothing_further end offset h (by_bytes e is never at) = no_further (read_from offset h) e is
+nothing_further end offset h (by_source going short at) = none_short (read_from offset h) short
+
+pub archive_is : (offset : ℕ) (views : List View) (end : Option StreamFault) (h : BytesRead)
+    → AreViews h.bytes offset views → IsEnd end offset h → IsArchive h.bytes (bytes_in views) (drop offset h.bytes)
+archive_is offset views end h are is = record {
+  joined = rw (← are.records.joined) (sym (take-append-drop offset h.bytes));
+  each = are.records.each;
+  no_further = nothing_further end offset h (ends end offset h is);
+}
 
 same_end : (offset : ℕ) (h : BytesRead) (a b : Option StreamFault) → Ended offset h a → Ended offset h b → a ≡ b
-same_end offset h a b (by_bytes e is none going at) (by_bytes d are nor wide to) =
+same_end offset h a b (by_bytes e is never at) (by_bytes d are nor to) =
     at ∙ ap (ended offset) (one_end (read_from offset h) e d is are) ∙ sym to
-same_end offset h a b (by_bytes e is none going at) (by_failure failed to) = absurd (omega (arith, none, failed))
-same_end offset h a b (by_bytes e is none going at) (by_turns nor goes short to) =
-    absurd (never_both offset h going goes short)
-same_end offset h a b (by_failure failed at) (by_bytes e is none going to) = absurd (omega (arith, none, failed))
-same_end offset h a b (by_failure failed at) (by_failure fails to) = at ∙ sym to
-same_end offset h a b (by_failure failed at) (by_turns none goes short to) = absurd (omega (arith, none, failed))
-same_end offset h a b (by_turns none goes short at) (by_bytes e is nor going to) =
-    absurd (never_both offset h going goes short)
-same_end offset h a b (by_turns none goes short at) (by_failure failed to) = absurd (omega (arith, none, failed))
-same_end offset h a b (by_turns none goes short at) (by_turns nor runs less to) = at ∙ sym to
+same_end offset h a b (by_bytes e is never at) (by_source going short to) = absurd (never going short)
+same_end offset h a b (by_source going short at) (by_bytes e is never to) = absurd (never going short)
+same_end offset h a b (by_source going short at) (by_source goes less to) = at ∙ sym to
 
 -- all records of what was read, and its end, are the only ones
 pub one_input : (h : BytesRead) (vs ws : List View) (a b : Option StreamFault) → AreAllViews h vs a → AreAllViews h ws b
@@ -194,7 +157,5 @@ one_input h vs ws a b p q =
     let both = one_archive h.bytes (bytes_in vs) (bytes_in ws) (drop p.offset h.bytes) (drop q.offset h.bytes)
     (archive_is p.offset vs a h p.records p.ends) (archive_is q.offset ws b h q.records q.ends) in
     let views : vs ≡ ws = same_views vs ws p.records.each q.records.each both.0 in
-    let offset : p.offset ≡ q.offset = sym p.records.offset_is
-    ∙ ap (λ (xs : List View). length (concat (bytes_in xs))) views ∙ q.records.offset_is in
-    let ending : IsEnd a q.offset h = subst (λ (n : ℕ). IsEnd a n h) offset p.ends in
-    (views, same_end q.offset h a b (ends a q.offset h ending) (ends b q.offset h q.ends))
+    let offset : p.offset ≡ q.offset = rw (← p.records.offset_is, ← q.records.offset_is, views) in
+    (views, same_end q.offset h a b (ends a q.offset h (rw offset at p.ends)) (ends b q.offset h q.ends))

@@ -2,24 +2,21 @@
 use Rattle.std.proofs.Common.{◌≡◌, ℕ, ◌+◌, ◌≤◌, ◌++◌, List, [], ◌∷◌, length, None}
 use Rattle.std.proofs.Common.{sym, ap, subst, ◌∙◌, arith, length-append}
 use Rattle.std.proofs.lemmas.List.{map-append, length_push}
+use Rattle.std.proofs.Common.{refl, append-nil}
+use Rattle.std.proofs.lemmas.List.Folds.{concat-append}
 use Rattle.std.specs.List.{concat}
 use Rattle.std.proofs.ByRecursion.{All-push}
 use Rattle.mseed_record.specs.View.{View, IsView}
 use Rattle.mseed_stream.specs.Device.{BytesRead}
 use Rattle.mseed_stream.specs.CutterState.{CutterState}
 use Rattle.mseed_stream.specs.Archive.{HasRecords}
-use Rattle.mseed_stream.specs.Cutting.{read_from, held_of, asks_of, IsAlong}
+use Rattle.mseed_stream.specs.Cutting.{held_of, asks_of, IsAlong}
 use Rattle.mseed_stream.specs.Walk.{bytes_in, AreViews, HasHandedOut}
 
 -- how many bytes the records have, with one more
 size_more : (views : List View) (v : View)
     → length (concat (bytes_in (views ++ v ∷ []))) ≡ length (concat (bytes_in views)) + length v.bytes
-size_more [] v = length-append v.bytes [] ∙ omega arith
-size_more (w ∷ views) v =
-    let rest : List ℕ = concat (bytes_in views) in
-    let more : List ℕ = concat (bytes_in (views ++ v ∷ [])) in
-    let later : length more ≡ length rest + length v.bytes = size_more views v in
-    omega (arith, later, length-append w.bytes more, length-append w.bytes rest)
+size_more views v = simp (map-append, concat-append, length-append, append-nil)
 
 -- one more record
 pub views_more : (old new : List ℕ) (offset : ℕ) (views : List View) (v : View) (reported : List ℕ)
@@ -37,17 +34,13 @@ views_more old new offset views v reported before is same has = record {
 
 -- a record was handed out
 pub handed_record : (h now : BytesRead) (c after : CutterState) (views : List View) (v : View) → HasHandedOut h c views
-    → IsView v → v.bytes ≡ read_from c.offset now
-    → HasRecords now.bytes (c.offset + length (read_from c.offset now)) (bytes_in views ++ read_from c.offset now ∷ [])
-    → IsAlong now after → after.offset ≡ c.offset + length (read_from c.offset now) → after.answer ≡ None
-    → now.failures ≡ h.failures → h.calls + 2 + asks_of (held_of after) ≤ now.calls + asks_of (held_of c)
-    → HasHandedOut now after (views ++ v ∷ [])
-handed_record h now c after views v before is same has along offset goes fine called =
-    let more = views_more h.bytes now.bytes c.offset views v (read_from c.offset now) before.records is same has in
-    record {
-      along = along;
-      goes_on = goes;
-      fine = fine ∙ before.fine;
-      records = subst (λ (n : ℕ). AreViews now.bytes n (views ++ v ∷ [])) (sym offset) more;
-      called = omega (arith, before.called, called, length_push views v);
-    }
+    → IsView v → HasRecords now.bytes after.offset (bytes_in views ++ v.bytes ∷ []) → IsAlong now after
+    → after.offset ≡ c.offset + length v.bytes → after.answer ≡ None → now.failures ≡ h.failures
+    → h.calls + 2 + asks_of (held_of after) ≤ now.calls + asks_of (held_of c) → HasHandedOut now after (views ++ v ∷ [])
+handed_record h now c after views v before is has along offset goes fine called = record {
+  along = along;
+  goes_on = goes;
+  fine = fine ∙ before.fine;
+  records = rw offset (views_more h.bytes now.bytes c.offset views v v.bytes before.records is refl (rw offset at has));
+  called = omega (arith, before.called, called, length_push views v);
+}

@@ -26,8 +26,8 @@ loop-self-preserved g c =
     ∙ prefix_more i.held.items now have n c.args.needed same c.in-Ok.ensures.bound in
     let few : i.reads < 2 ^ 40 = omega (arith, inv.holds.read.few_reads, c.if-self-eq-READS.false) in
     record {
-      holds = holds_pull {E = Failed} _ (state_of i) _ _ _ (Ok n) _ (take (have + n) all) inv.holds c.in-Ok.ensures.read few prefix
-          (omega (arith, length-take (have + n) all, inv.fits, c.in-Ok.ensures.bound));
+      holds = holds_pull {E = Failed} _ (state_of i) _ _ _ (Ok n) _ (take (have + n) all) inv.holds
+          c.in-Ok.ensures.read few prefix (omega (arith, length-take (have + n) all, inv.fits, c.in-Ok.ensures.bound));
       reads = reads_pull {E = Failed} _ _ _ _ _ _ _ _ _ (Ok n) (slice_range now have c.args.needed) inv.reads.more
           inv.reads.beside c.in-Ok.ensures.read c.in-Ok.ensures.known (λ end. cc) (grind (arith, common_steps))
           c.in-Ok.ensures.beside;
