@@ -1,6 +1,8 @@
 -- What a buffered reader lends is the prefix of what it is known to have left.
 use Rattle.std.proofs.Common.{◌≡◌, ℕ, ◌==◌, ◌++◌, Bool, true, false, if◌then◌else◌, List, [], take, drop, Option, Some}
-use Rattle.std.proofs.Common.{None, sym, ap, ◌∙◌, append_assoc, refl, zero, suc}
+use Rattle.std.proofs.Common.{None, sym, ap, ◌∙◌, append_assoc}
+use Rattle.std.proofs.Common.{arith}
+use Rattle.std.proofs.lemmas.Grind.{common_steps}
 use Rattle.std.proofs.lemmas.List.{take-append-drop}
 use Rattle.std.specs.Io.KnownBytes.{Consumes, prepend_known}
 use Rattle.std.specs.Io.Buffered.{reader_buffer, reader_capacity, reader_inner, reader_remaining}
@@ -26,10 +28,6 @@ reader_taken remaining old new n capacity inner buffer =
     rw (capacity, inner, buffer) (where_known (reader_capacity old == 0) (remaining (reader_inner old))
     (reader_buffer old) n)
 
-none_taken : (n : ℕ) (xs : List ℕ) → xs ≡ [] → xs ≡ take n xs ++ []
-none_taken zero xs e = e
-none_taken (suc n) xs e = rw e refl
-
 -- once it is at its end, nothing is taken of nothing
 pub lent_taken : {T A : Type 0} (is_at_end : Bool) (remaining : T → Option (List ℕ)) (old new : BufReader T A) (n : ℕ)
     → reader_capacity new ≡ reader_capacity old → reader_inner new ≡ reader_inner old
@@ -37,5 +35,5 @@ pub lent_taken : {T A : Type 0} (is_at_end : Bool) (remaining : T → Option (Li
     → Consumes (if is_at_end then Some [] else reader_remaining remaining old)
     (if is_at_end then Some [] else reader_remaining remaining new)
     (take n (if is_at_end then [] else reader_buffer old))
-lent_taken true remaining old new n capacity inner buffer = none_taken n [] refl
+lent_taken true remaining old new n capacity inner buffer = grind (arith, common_steps)
 lent_taken false remaining old new n capacity inner buffer = reader_taken remaining old new n capacity inner buffer

@@ -1,5 +1,5 @@
 -- A record's end is a stop: the framing steps ask for its bytes up to there, and no further.
-use Rattle.std.proofs.Common.{◌≡◌, ℕ, ◌+◌, ◌^◌, ◌<◌, ◌≤◌, List, [], ◌∷◌, ◌++◌, length, take, drop, Some, refl, sym}
+use Rattle.std.proofs.Common.{◌≡◌, ℕ, ◌+◌, ◌^◌, ◌<◌, ◌≤◌, List, [], ◌∷◌, length, take, drop, Some, refl, sym}
 use Rattle.std.proofs.Common.{◌∙◌, subst, arith, false, true, Ok, zero, suc, ⊎_elim}
 use Rattle.std.proofs.lemmas.Bool.{cases_lt}
 use Rattle.std.proofs.lemmas.Bool.Decides.{nat_tests}
@@ -38,38 +38,32 @@ asks_last : (order : Order) (b : List ℕ) (m low o : ℕ) (os : List ℕ) → l
 asks_last order b m low o os h z w l r =
     let size : length (take m b) ≡ m = length-take-le m b (omega (arith, w)) in
     let type : type_at order (take m b) o ≡ 1000 = number_prefix order b o m (omega (arith, l)) ∙ r.chain.found in
-    let eight : m < o + 8 → AsksFrom order b m low o = λ less.
-    let asked : at_offset order (take m b) low o ≡ Some (Need (o + 8)) = grind (arith, nat_tests, size, type) in
-    ([], (o + 8, (less, asked))) in
-    let rest : o + 8 ≤ m → AsksFrom order b m low o = λ more.
+    ⊎_elim
+    (λ (less : m < o + 8). ([], (o + 8, (less, grind (arith, nat_tests, size, type)))))
+    (λ (more : o + 8 ≤ m).
     let exponent : exponent_at (take m b) o ≡ exponent_at b o = get_or-take m b (o + 6) 0 (omega (arith, more)) in
     let low_e : 7 ≤ exponent_at (take m b) o = rw exponent r.exponent_low in
     let high_e : exponent_at (take m b) o ≤ 20 = rw exponent r.exponent_high in
     let inside : o + 8 ≤ 2 ^ exponent_at (take m b) o = rw exponent r.inside in
     let further : m < 2 ^ exponent_at (take m b) o = rw exponent (omega (arith, w, r.size)) in
-    let asked : at_offset order (take m b) low o ≡ Some (Need (2 ^ exponent_at (take m b) o)) =
-    grind (arith, nat_tests, size, type, low_e, high_e, inside, further) in
-    ([], (2 ^ exponent_at (take m b) o, (further, asked))) in
-    ⊎_elim eight rest (cases_lt m (o + 8))
+    ([], (_, (further, grind (arith, nat_tests, size, type, low_e, high_e, inside, further)))))
+    (cases_lt m (o + 8))
 
 asks_from : (order : Order) (b : List ℕ) (m low o : ℕ) (os : List ℕ) (last : ℕ) (all : List ℕ) → low ≤ o → 0 < low
     → m < length b → Passes order b o os last → IsRecordBy order all last b → AsksFrom order b m low o
 asks_from order b m low o [] last all h z w p r =
-    let here : IsRecordBy order all o b = subst (λ (k : ℕ). IsRecordBy order all k b) (sym p) r in
     ⊎_elim (λ (l : m < o + 4). asks_four order b m low o h z (omega (arith, w)) l)
-    (λ (l : o + 4 ≤ m). asks_last order b m low o all h z w l here) (cases_lt m (o + 4))
+    (λ (l : o + 4 ≤ m). asks_last order b m low o all h z w l (rw p r)) (cases_lt m (o + 4))
 asks_from order b m low o (q ∷ os) last all h z w p r =
-    let on : o + 4 ≤ m → AsksFrom order b m low o = λ l.
+    ⊎_elim (λ (l : m < o + 4). asks_four order b m low o h z (omega (arith, w)) l)
+    (λ (l : o + 4 ≤ m).
     let size : length (take m b) ≡ m = length-take-le m b (omega (arith, w)) in
     let type : type_at order (take m b) o ≡ type_at order b o = number_prefix order b o m (omega (arith, l)) in
-    let next : next_at order (take m b) o ≡ next_at order b o =
-    number_prefix order b (o + 2) m (omega (arith, l)) in
+    let next : next_at order (take m b) o ≡ next_at order b o = number_prefix order b (o + 2) m (omega (arith, l)) in
     let none = none_at order (take m b) low o h z (omega (arith, size, l)) (λ t. p.1 (sym type ∙ t)) in
     let later = asks_from order b m (o + 4) (next_at order b o) os last all p.2 (omega arith) w p.3 r in
-    let steps = subst (λ (k : ℕ). DecidesFrom order (take m b) (o + 4) k later.0 (Need later.1.0)) (sym next)
-    later.1.1.1 in
-    (o ∷ later.0, (later.1.0, (later.1.1.0, (refl, none, steps)))) in
-    ⊎_elim (λ (l : m < o + 4). asks_four order b m low o h z (omega (arith, w)) l) on (cases_lt m (o + 4))
+    (o ∷ later.0, (later.1.0, (later.1.1.0, (refl, none, rw next later.1.1.1)))))
+    (cases_lt m (o + 4))
 
 -- after its header, a record's beginning asks for more
 asks_more : (b : List ℕ) (m : ℕ) → IsRecord b → 48 ≤ m → m < length b
@@ -82,32 +76,25 @@ asks_more b m is long w =
     let begins = number_prefix order b 46 m (omega (arith, long)) in
     let from = asks_from order b m 48 (blockette_at order b) is.1.0 is.1.1.0 is.1.0 r.chain.low (omega arith) w
     r.chain.others r in
-    let steps = subst (λ (k : ℕ). DecidesFrom order (take m b) 48 k from.0 (Need from.1.0)) (sym begins) from.1.1.1 in (
-      from.1.0,
-      (
-        from.1.1.0,
-        by_chain order from.0 (Need from.1.0) (no_version3 (take m b) fixed) (omega (arith, size, long)) fixed
-            (order_prefix b m long ∙ r.order_is) steps,
-      ),
-    )
+    let steps = subst (λ (k : ℕ). DecidesFrom order (take m b) 48 k from.0 (Need from.1.0)) (sym begins) from.1.1.1 in
+    let decides = by_chain order from.0 (Need from.1.0) (no_version3 (take m b) fixed) (omega (arith, size, long)) fixed
+    (order_prefix b m long ∙ r.order_is) steps in
+    (from.1.0, (from.1.1.0, decides))
 
 stops_on : (fuel : ℕ) (b : List ℕ) (m : ℕ) → IsRecord b → 48 ≤ m → m ≤ length b → length b ≤ m + fuel → IsStop b m
     → IsStop b (length b)
 stops_on zero b m is long w f stop = subst (λ (n : ℕ). IsStop b n) (omega (arith, w, f)) stop
-stops_on (suc fuel) b m is long w f stop =
-    let further : m < length b → IsStop b (length b) = λ less.
+stops_on (suc fuel) b m is long w f stop = ⊎_elim
+    (λ (less : m < length b).
     let asked = asks_more b m is long less in
     let n : ℕ = asked.0 in
     let all : take (length b) b ≡ b = take_all (length b) b (omega arith) in
-    let whole : IsRecord (take (length b) (take m b ++ drop m b)) =
-    rw (take-append-drop m b, all) is in
     let fits : n ≤ length b = rw (take-append-drop m b, all) at
-    (called (take m b) (drop m b) n (length b) asked.1.1 whole) in
+    (called (take m b) (drop m b) n (length b) asked.1.1 (rw (take-append-drop m b, all) is)) in
     stops_on fuel b n is (omega (arith, long, asked.1.0)) fits (omega (arith, f, asked.1.0))
-    (called_for m n stop w asked.1.1) in
-    let there : length b ≤ m → IsStop b (length b) = λ more.
-    subst (λ (n : ℕ). IsStop b n) (omega (arith, w, more)) stop in
-    ⊎_elim further there (cases_lt m (length b))
+    (called_for m n stop w asked.1.1))
+    (λ (more : length b ≤ m). subst (λ (n : ℕ). IsStop b n) (omega (arith, w, more)) stop)
+    (cases_lt m (length b))
 
 pub record_stop : (b : List ℕ) → IsRecord b → IsStop b (length b)
 record_stop b is =

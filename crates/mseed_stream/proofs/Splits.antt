@@ -1,6 +1,6 @@
 -- The records of a slice, one after another.
 use Rattle.std.proofs.Common.{◌≡◌, ℕ, ◌+◌, ◌-◌, ◌<◌, ◌≤◌, ◌^◌, ◌++◌, List, [], ◌∷◌, length, take, drop, sym, ap}
-use Rattle.std.proofs.Common.{subst, ◌∙◌, arith, length-drop, Err}
+use Rattle.std.proofs.Common.{◌∙◌, arith, length-drop, Err}
 use Rattle.std.proofs.lemmas.List.{append-nil, length-map, length-take-le, map-append}
 use Rattle.mseed_record.specs.declared.fault.ViewFault.{ViewFault}
 use Rattle.mseed_record.specs.declared.fault.ViewFault.TheVariants.{Not as Refused, Short}
@@ -31,9 +31,8 @@ split_fault bytes offset records (Refused f) within has few d =
     (records, ends_after bytes offset records (frame f) (omega arith) has few (is_frame f d))
 split_fault bytes offset records (Short k) within has few d =
     let size : length (drop offset bytes) ≡ length bytes - offset = length-drop offset bytes in
-    let some : 0 < length (drop offset bytes) = omega (arith, size) in
     let end : IsEndOf (drop offset bytes) (truncated (length bytes - offset)) =
-    subst (λ (n : ℕ). IsEndOf (drop offset bytes) (truncated n)) size (is_truncated k some d) in
+    rw (← size) (is_truncated k (omega (arith, size)) d) in
     (records, ends_after bytes offset records (truncated (length bytes - offset)) (omega arith) has few end)
 
 -- one more record
@@ -53,5 +52,3 @@ split_within bytes offset b within prefix =
 
 pub size_of_each : (views : List RecordView) (n : ℕ) → length views ≡ n → length (bytes_of_each views) ≡ n
 size_of_each views n e = length-map views (λ (v : RecordView). (view_of v).bytes) ∙ e
-
--- a slice from a offset to its end is all that is left

@@ -13,15 +13,12 @@ use Rattle.mseed_stream.specs.Cutting.{IsStop, at_start, called_for, FallsShort}
 -- stops stay where more is read
 pub stop_grows : (b more : List ℕ) (n : ℕ) → IsStop b n → IsStop (b ++ more) n
 stop_grows b more _ at_start = at_start
-stop_grows b more n (called_for m _ s l d) =
-    let same : take m (b ++ more) ≡ take m b = take-append-le m b more l in
-    called_for m n (stop_grows b more m s) (omega (arith, length-append b more))
-    (subst (λ (xs : List ℕ). Decides xs (Need n)) (sym same) d)
+stop_grows b more n (called_for m _ s l d) = called_for m n (stop_grows b more m s)
+    (omega (arith, length-append b more)) (rw (take-append-le m b more l) d)
 
 -- the next stop, where all that was requested is there
 pub stop_next : (b : List ℕ) (n : ℕ) → IsStop b (length b) → Decides b (Need n) → IsStop b n
-stop_next b n s d = called_for (length b) n s (omega arith)
-    (subst (λ (xs : List ℕ). Decides xs (Need n)) (sym (take-length b)) d)
+stop_next b n s d = called_for (length b) n s (omega arith) (rw (take-length b) d)
 
 -- no record ends before a stop
 pub stop_record : (b : List ℕ) (n k : ℕ) → IsStop b n → IsRecord (take k b) → n ≤ length (take k b)
@@ -33,9 +30,7 @@ stop_record b n k (called_for m _ s l d) r =
 -- short of a stop there's no record
 pub none_short : (b : List ℕ) → FallsShort b → HasNoFurther b
 none_short b short k within r =
-    let far : short.0 ≤ length (take k b) = stop_record b short.0 k short.1.0 r in
-    let less = short.1.1 in
-    omega (arith, length-take k b)
+    omega (arith, stop_record b short.0 k short.1.0 r, short.1.1, length-take k b)
 
 -- at a stop, what begins with a record is one
 pub record_whole : (b : List ℕ) (n k : ℕ) → IsStop b n → length b ≤ n → k ≤ length b → IsRecord (take k b)

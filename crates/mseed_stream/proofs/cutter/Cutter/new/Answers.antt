@@ -5,15 +5,7 @@ use Rattle.mseed_stream.proofs.cutter.Cutter.new.Goals as goal
 
 pub returns-clause-along : goal.returns-clause-along
 returns-clause-along g c = record {
-  read = record {
-    reported = refl;
-    held = refl;
-    reads = refl;
-    few_reads = omega arith;
-    few_bytes = omega arith;
-    within = omega arith;
-    small = omega (arith, c.new.ensures.len);
-  };
+  read = grind (arith, c.new.ensures.len);
   stop = λ same. at_start;
   asks = λ same. (48, short refl (omega arith));
   going_on = λ same. refl;
