@@ -66,12 +66,6 @@ pub gives_pull : {E : Type 0} (h new : BytesRead) (left rest : Option (List ℕ)
 gives_pull h new left rest (Ok n) buf e consumes = (take n buf, cc, consumes.0)
 gives_pull h new left rest (Err x) buf e keeps = ([], cc, Consumes-kept left left rest [] (Consumes-nil left) keeps)
 
--- nothing is left where it found the end
-pub ends_pull : {E : Type 0} (h new : BytesRead) (left rest : Option (List ℕ)) (r : Result ℕ E) (buf : List ℕ)
-    → new ≡ read_also h r buf → (IsTrue h.is_at_end → r ≡ Ok 0) → ReadConsumes left rest r buf → 0 < length buf
-    → new.is_at_end ≡ true → IsAtEnd rest
-ends_pull h new left rest r buf e silent consumes some end = grind (arith, nat_tests)
-
 -- a read after what was read before
 pub reads_pull : {E : Type 0} (a b c : BytesRead) (p q r : Option (List ℕ)) (x y z : Beside) (result : Result ℕ E)
     (buf : List ℕ) → GivesMore a b p q → y ≡ x → c ≡ read_also b result buf → ReadConsumes q r result buf
@@ -79,7 +73,7 @@ pub reads_pull : {E : Type 0} (a b c : BytesRead) (p q r : Option (List ℕ)) (x
 reads_pull a b c p q r x y z result buf more same e consumes silent some beside =
     reads_on a b c p q r x y z more same (record {
       more = gives_pull b c q r result buf e consumes;
-      known = ends_pull b c q r result buf e silent consumes some;
+      known = grind (arith, nat_tests);
       beside = beside;
     })
 

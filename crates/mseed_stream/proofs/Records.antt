@@ -13,7 +13,7 @@ none_left : (bytes : List ℕ) (r tail rest : List ℕ) → IsRecord r → bytes
 none_left bytes r tail rest is e same no_further =
     let whole : rest ≡ r ++ tail = sym same ∙ e in
     let fits : length r ≤ length rest = omega (arith, ap (λ (xs : List ℕ). length xs) whole, length-append r tail) in
-    no_further (length r) fits (subst (λ (xs : List ℕ). IsRecord xs) (sym (prefix_is r tail rest whole)) is)
+    no_further (length r) fits (rw (prefix_is r tail rest whole) is)
 
 -- the records of an archive and what is left after them are the only ones
 pub one_archive : (bytes : List ℕ) (records others : List (List ℕ)) (rest left : List ℕ) → IsArchive bytes records rest

@@ -45,10 +45,5 @@ split_more bytes offset views r has is prefix =
     rw (← (map-append (λ (v : RecordView). (view_of v).bytes) views (r ∷ []))) at
     (records_next bytes offset (bytes_of_each views) b has (view_record (view_of r) is) prefix)
 
-pub split_within : (bytes : List ℕ) (offset : ℕ) (b : List ℕ) → offset < length bytes
-    → b ≡ take (length b) (drop offset bytes) → offset + length b ≤ length bytes
-split_within bytes offset b within prefix =
-    omega (arith, prefix_within (drop offset bytes) b prefix, length-drop offset bytes)
-
 pub size_of_each : (views : List RecordView) (n : ℕ) → length views ≡ n → length (bytes_of_each views) ≡ n
 size_of_each views n e = length-map views (λ (v : RecordView). (view_of v).bytes) ∙ e

@@ -3,7 +3,9 @@ use Rattle.std.proofs.KnownBytes.{Consumes-trans}
 use Rattle.mseed_stream.specs.Device.{BytesRead, lent_also}
 use Rattle.mseed_stream.specs.Cutting.{lent_whole}
 use Rattle.mseed_stream.proofs.Filled.{two_parts}
-use Rattle.mseed_stream.proofs.Noted.{lent_noted}
+use Rattle.std.proofs.Common.{length-append}
+use Rattle.std.proofs.lemmas.List.{length-take-le, take-take}
+use Rattle.std.proofs.Math.Seq.{drop-append_seam}
 use Rattle.mseed_stream.proofs.Passed.{lent_twice, rest_twice}
 use Rattle.mseed_stream.proofs.cutter.pass_whole.Goals as goal
 
@@ -20,8 +22,14 @@ whole_read old lent later size between new header rest first second =
 
 pub note_record-requires : goal.note_record-requires
 note_record-requires g c =
-    lent_noted _ _ _ _ _ (whole_read _ _ _ _ _ _ c.requires.header c.consume.ensures.rest c.consume.ensures.read
-    c.consume-2.ensures.read) c.requires.whole c.requires.offset c.requires.is_record
+    let size : ℕ = c.args.size in
+    let long = length-take-le size (g.R.Source.lent c.args.source.now) c.requires.whole in
+    let read = whole_read _ _ _ _ _ _ c.requires.header c.consume.ensures.rest c.consume.ensures.read
+    c.consume-2.ensures.read in
+    rw (read, c.requires.offset) (record {
+      inside = rw length-append (omega (arith, long));
+      is_record = rw (drop-append_seam, take-take size size _ (omega arith)) c.requires.is_record;
+    })
 
 pub returns-clause-reported : goal.returns-clause-reported
 returns-clause-reported g c =

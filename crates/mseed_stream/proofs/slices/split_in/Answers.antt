@@ -6,7 +6,9 @@ use Rattle.mseed_record.specs.View.{IsView}
 use Rattle.std.proofs.ByRecursion.{All-push}
 use Rattle.std.proofs.lemmas.List.{take_rest}
 use Rattle.mseed_stream.specs.Split.{bytes_of_each}
-use Rattle.mseed_stream.proofs.Splits.{split_fault, split_more, split_within, size_of_each}
+use Rattle.mseed_stream.proofs.Splits.{split_fault, split_more, size_of_each}
+use Rattle.mseed_stream.proofs.Records.{prefix_within}
+use Rattle.std.proofs.Common.{length-drop}
 use Rattle.mseed_stream.proofs.slices.split_in.Goals as goal
 
 pub returns-in-Err-clause-fault : goal.returns-in-Err-clause-fault
@@ -38,7 +40,7 @@ loop-offset-preserved g c =
       records = rw (items, size) (split_more bytes _ views r inv.records c.in-Ok.ensures.view prefix);
       views = rw items (All-push (λ (v : RecordView). IsView (view_of v)) views r inv.views c.in-Ok.ensures.view);
       few = rw items (omega (arith, inv.few, length-append views (r ∷ [])));
-      within = omega (arith, size, split_within bytes _ b c.loop-offset-test.true prefix);
+      within = omega (arith, size, prefix_within _ b prefix, length-drop {A = ℕ}, c.loop-offset-test.true);
     }
 
 pub returns-then-is_err-clause-fault : goal.returns-then-is_err-clause-fault

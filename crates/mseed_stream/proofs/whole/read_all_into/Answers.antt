@@ -1,6 +1,5 @@
 use Rattle.std.proofs.lemmas.Grind.{common_steps}
 use Rattle.std.proofs.Common.{arith}
-use Rattle.mseed_stream.proofs.Calls.{reads_pull}
 use Rattle.mseed_stream.proofs.whole.read_all_into.Goals as goal
 
 pub returns-in-Err-extend_from_slice-clause-all : goal.returns-in-Err-extend_from_slice-clause-all
@@ -16,22 +15,10 @@ pub returns-clause-all : goal.returns-clause-all
 returns-clause-all g c = grind (arith, common_steps)
 
 pub returns-in-Ok-eq0-clause-reads : goal.returns-in-Ok-eq0-clause-reads
-returns-in-Ok-eq0-clause-reads g c =
-    let so_far = c.loop-reads.invariant in
-    reads_pull _ _ _ _ _ _ _ _ _ c.pull.result c.pull.new.buf (c.loop-reads.bytes.items, so_far.bytes, so_far.known)
-    so_far.beside c.pull.ensures.read c.pull.ensures.known c.pull.ensures.silent (omega (arith, c.pull.auto.buf))
-    c.pull.ensures.beside
+returns-in-Ok-eq0-clause-reads g c = grind (arith, common_steps)
 
 pub returns-in-Err-extend_from_slice-clause-reads : goal.returns-in-Err-extend_from_slice-clause-reads
-returns-in-Err-extend_from_slice-clause-reads g c =
-    let so_far = c.loop-reads.invariant in
-    reads_pull _ _ _ _ _ _ _ _ _ c.pull.result c.pull.new.buf (c.loop-reads.bytes.items, so_far.bytes, so_far.known)
-    so_far.beside c.pull.ensures.read c.pull.ensures.known c.pull.ensures.silent (omega (arith, c.pull.auto.buf))
-    c.pull.ensures.beside
+returns-in-Err-extend_from_slice-clause-reads g c = grind (arith, common_steps)
 
 pub returns-in-Err-clause-reads : goal.returns-in-Err-clause-reads
-returns-in-Err-clause-reads g c =
-    let so_far = c.loop-reads.invariant in
-    reads_pull _ _ _ _ _ _ _ _ _ c.pull.result c.pull.new.buf (c.loop-reads.bytes.items, so_far.bytes, so_far.known)
-    so_far.beside c.pull.ensures.read c.pull.ensures.known c.pull.ensures.silent (omega (arith, c.pull.auto.buf))
-    c.pull.ensures.beside
+returns-in-Err-clause-reads g c = grind (arith, common_steps)

@@ -1,9 +1,15 @@
-use Rattle.std.proofs.Common.{ap}
+use Rattle.std.proofs.Common.{ap, arith, length, ℕ, List}
+use Rattle.std.proofs.lemmas.Grind.{common_steps}
 use Rattle.mseed_stream.specs.CutterState.{CutterState}
-use Rattle.mseed_stream.proofs.Noted.{held_noted}
+use Rattle.mseed_stream.proofs.Filled.{held_is}
 use Rattle.mseed_stream.proofs.cutter.Cutter.note_held.Goals as goal
 
 pub note_record-requires : goal.note_record-requires
 note_record-requires g c =
-    held_noted (g.R.Source.read c.args.source.now) c.args.self.now c.self.inside.offset c.args.size c.requires.read
-    c.requires.not_lent (ap (λ (s : CutterState). s.offset) c.self.view_is) c.requires.inside c.requires.is_record
+    let held = held_is c.args.self.now c.requires.not_lent in
+    let at = ap (λ (s : CutterState). s.offset) c.self.view_is in
+    let size = ap (λ (xs : List ℕ). length xs) held in
+    record {
+      inside = omega (arith, at, size, c.requires.read.reported, c.requires.inside);
+      is_record = rw (at, c.requires.read.held, held) c.requires.is_record;
+    }
