@@ -1,12 +1,12 @@
 -- What a device gave or accepted by two calls, and what it is then known to have left or to hold.
 use Rattle.std.proofs.Common.{◌≡◌, ◌<◌, ◌++◌, [], ◌∙◌, ℕ, List, length, take, sym}
-use Rattle.std.proofs.Common.{refl, true, false, IsTrue, None, Option, Result, Ok, Err}
+use Rattle.std.proofs.Common.{refl, false, IsTrue, None, Option, Result, Ok, Err}
 use Rattle.std.proofs.Common.{append-nil, arith}
 use Rattle.std.proofs.KnownBytes.{Appends-nil, Appends-trans, Consumes-kept, Consumes-nil, Consumes-trans}
 use Rattle.std.proofs.lemmas.Bool.Decides.{nat_tests}
 use Rattle.std.proofs.lemmas.Grind.{common_steps}
 use Rattle.std.proofs.lemmas.List.{append_cancel_left}
-use Rattle.std.specs.Io.KnownBytes.{Appends, Consumes, IsAtEnd, ReadConsumes}
+use Rattle.std.specs.Io.KnownBytes.{Appends, Consumes, ReadConsumes}
 use Rattle.mseed_stream.specs.Calls.{ReadsOn, TakesMore, WritesOn}
 use Rattle.mseed_record.specs.declared.view.RecordView.{RecordView}
 use Rattle.mseed_stream.specs.CutterState.{CutterState}

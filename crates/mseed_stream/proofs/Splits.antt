@@ -11,7 +11,7 @@ use Rattle.mseed_record.specs.Scan.{Decides}
 use Rattle.mseed_stream.specs.Archive.{HasRecords, End, IsEndOf, frame, truncated, is_frame, is_truncated}
 use Rattle.mseed_stream.specs.Split.{bytes_of_each, fault_at, EndsAfter, IsSplitFault}
 use Rattle.mseed_stream.proofs.Handed.{archive_by, records_next}
-use Rattle.mseed_stream.proofs.Records.{view_record, prefix_within}
+use Rattle.mseed_stream.proofs.Records.{view_record}
 
 ends_after : (bytes : List ℕ) (offset : ℕ) (records : List (List ℕ)) (end : End) → offset ≤ length bytes
     → HasRecords bytes offset records → length records < 2 ^ 40 → IsEndOf (drop offset bytes) end

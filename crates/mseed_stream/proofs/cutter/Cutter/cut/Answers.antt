@@ -40,3 +40,8 @@ stops-preserved g c =
           (rw c.in-Need.is at c.look.ensures.decides) ok.holds ok.reads.more.1 ok.filled;
       reads = reads_on _ _ _ _ _ _ _ _ _ inv.reads.more inv.reads.beside ok.reads;
     }
+
+pub returns-in_err-is_at_end-in-Need-2-clause-reads : goal.returns-in_err-is_at_end-in-Need-2-clause-reads
+returns-in_err-is_at_end-in-Need-2-clause-reads g c =
+    let so_far = c.stops.invariant.reads in
+    reads_on _ _ _ _ _ _ _ _ _ so_far.more so_far.beside c.in_err-is_at_end-in-Need-2.ensures.reads

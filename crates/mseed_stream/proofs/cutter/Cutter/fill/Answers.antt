@@ -37,3 +37,27 @@ loop-self-preserved g c =
       going_on = grind (arith, common_steps, c.in-Ok.ensures.read);
       failures = grind (arith, common_steps, c.in-Ok.ensures.read);
     }
+
+pub invariant_of-self-in-Ok-eq0 : goal.invariant_of-self-in-Ok-eq0
+invariant_of-self-in-Ok-eq0 g c = grind (arith, common_steps)
+
+pub returns-in-Ok-eq0-clause-holds : goal.returns-in-Ok-eq0-clause-holds
+returns-in-Ok-eq0-clause-holds g c = grind (arith, common_steps)
+
+pub returns-in-Ok-eq0-clause-reads : goal.returns-in-Ok-eq0-clause-reads
+returns-in-Ok-eq0-clause-reads g c = grind (arith, common_steps)
+
+pub returns-in-Ok-eq0-clause-filled : goal.returns-in-Ok-eq0-clause-filled
+returns-in-Ok-eq0-clause-filled g c = grind (arith, common_steps)
+
+pub invariant_of-self-in-Err : goal.invariant_of-self-in-Err
+invariant_of-self-in-Err g c = grind (arith, common_steps)
+
+pub returns-in-Err-clause-holds : goal.returns-in-Err-clause-holds
+returns-in-Err-clause-holds g c = grind (arith, common_steps)
+
+pub returns-in-Err-clause-reads : goal.returns-in-Err-clause-reads
+returns-in-Err-clause-reads g c = grind (arith, common_steps)
+
+pub returns-in-Err-clause-filled : goal.returns-in-Err-clause-filled
+returns-in-Err-clause-filled g c = grind (arith, common_steps)

@@ -1,5 +1,4 @@
 use Rattle.std.proofs.Common.{ap, arith, length, ℕ, List}
-use Rattle.std.proofs.lemmas.Grind.{common_steps}
 use Rattle.mseed_stream.specs.CutterState.{CutterState}
 use Rattle.mseed_stream.proofs.Filled.{held_is}
 use Rattle.mseed_stream.proofs.cutter.Cutter.note_held.Goals as goal
