@@ -35,7 +35,8 @@ along_fault : (e : StreamFault) (c after : CutterState) (old new : BytesRead) �
 along_fault e c after old new is other fault = ended_along new after (Fault e) is.read (rw is.offset fault, other)
 
 -- by each answer
-pub along_found : (found : Result Bool StreamFault) (c after : CutterState) (old new : BytesRead) → c.answer ≡ None
+pub along_found : (found : Result Bool StreamFault) (c after : CutterState) (old new : BytesRead)
+    → c.answer ≡ None
     → IsCut found c after old new → IsAlong new (after_found after found)
 along_found (Ok true) c after old new goes is =
     let read = is.holds.read in

@@ -15,7 +15,8 @@ use Rattle.mseed_stream.specs.Device.{Beside, BytesRead, BytesWritten, read_also
 use Rattle.mseed_stream.specs.declared.fault.StreamFault.{StreamFault}
 
 -- what was read by two calls
-pub tells_on : (a b c : BytesRead) (p q r : Option (List ℕ)) → GivesMore a b p q → GivesMore b c q r → GivesMore a c p r
+pub tells_on : (a b c : BytesRead) (p q r : Option (List ℕ)) → GivesMore a b p q → GivesMore b c q r
+    → GivesMore a c p r
 tells_on a b c p q r one two =
     (one.0 ++ two.0, grind (arith, common_steps), Consumes-trans _ _ _ _ _ one.2 two.2)
 

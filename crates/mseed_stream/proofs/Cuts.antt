@@ -37,7 +37,8 @@ found b true k less within r = absurd (none_short b less k within r)
 found b false k stop within r = ((record_whole b (length b) k stop (omega arith) within r).0, refl)
 
 -- the source was called once for the header of a record, and for the rest
-called_twice : (held prefix : List ℕ) (old new : ℕ) → old < new → (held ≡ [] → new ≤ old + 1 → length prefix ≤ 48)
+called_twice : (held prefix : List ℕ) (old new : ℕ) → old < new
+    → (held ≡ [] → new ≤ old + 1 → length prefix ≤ 48)
     → IsRecord prefix → old + 2 ≤ new + asks_of held
 called_twice held prefix old new more few r = grind (arith, record_more prefix r)
 
@@ -135,7 +136,8 @@ filled_err Memory c now after needed old middle new is d holds all less it =
 
 pub fill_cut : (e : StreamFault) (c now after : CutterState) (needed : ℕ) (old middle new : BytesRead) (more : List ℕ)
     → IsCutting c now false old middle → Decides now.prefix (Need needed) → HoldsMore now after middle new
-    → new.bytes ≡ middle.bytes ++ more → IsFilled (Err e) needed now after middle new → IsCut (Err e) c after old new
+    → new.bytes ≡ middle.bytes ++ more → IsFilled (Err e) needed now after middle new
+    → IsCut (Err e) c after old new
 fill_cut e c now after needed old middle new more is d holds bytes it =
     let stop = next_stop now after needed middle new more is.holds.read is.holds.not_lent is.stop d holds bytes in
     filled_err e c now after needed old middle new is d holds (holds_on c now after old middle new is.holds holds)
@@ -155,7 +157,8 @@ filled false now after needed middle new it stop = (rw it.0 stop, it.1, omega ar
 
 pub cutting_on : (b : Bool) (c now after : CutterState) (needed : ℕ) (old middle new : BytesRead) (more : List ℕ)
     → IsCutting c now false old middle → Decides now.prefix (Need needed) → HoldsMore now after middle new
-    → new.bytes ≡ middle.bytes ++ more → IsFilled (Ok b) needed now after middle new → IsCutting c after b old new
+    → new.bytes ≡ middle.bytes ++ more → IsFilled (Ok b) needed now after middle new
+    → IsCutting c after b old new
 cutting_on b c now after needed old middle new more is d holds bytes it =
     let stop = next_stop now after needed middle new more is.holds.read is.holds.not_lent is.stop d holds bytes in
     let so_far = filled b now after needed middle new it stop in

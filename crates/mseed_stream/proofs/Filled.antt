@@ -11,7 +11,8 @@ use Rattle.mseed_stream.specs.Cutting.{held_of}
 use Rattle.mseed_stream.specs.private.Steps.{HoldsMore}
 
 -- a write back of as many bytes is all of them
-pub written_back : (held items : List ℕ) (n : ℕ) → length held ≡ n → take n (held ++ drop (length held) items) ≡ held
+pub written_back : (held items : List ℕ) (n : ℕ) → length held ≡ n
+    → take n (held ++ drop (length held) items) ≡ held
 written_back held items n e = ap (λ (k : ℕ). take k (held ++ drop (length held) items)) (sym e)
     ∙ take-append_seam held (drop (length held) items)
 

@@ -26,7 +26,8 @@ gathered_more first old new text next lines line before after = record {
 }
 
 -- what is gathered was written
-pub gathered_written : (first old new : BytesWritten) (text rest lines : List ℕ) → AreGathered first old text lines
+pub gathered_written : (first old new : BytesWritten) (text rest lines : List ℕ)
+    → AreGathered first old text lines
     → new.bytes ≡ old.bytes ++ text → rest ≡ [] → AreGathered first new rest lines
 gathered_written first old new text rest lines before written none = record {
   taken = before.taken ++ text;

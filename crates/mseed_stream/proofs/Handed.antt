@@ -24,7 +24,8 @@ use Rattle.mseed_record.proofs.Called.{record_long}
 use Rattle.mseed_stream.proofs.Stops.{none_short}
 
 -- no prefix of a rest with an end is a record
-pub no_further : (rest : List ℕ) (e : End) → IsEndOf rest e → (k : ℕ) → k ≤ length rest → IsRecord (take k rest) → ⊥
+pub no_further : (rest : List ℕ) (e : End) → IsEndOf rest e → (k : ℕ) → k ≤ length rest
+    → IsRecord (take k rest) → ⊥
 no_further rest _ (is_clean empty) k l r =
     let long : 48 ≤ length (take k rest) = record_long (take k rest) r in
     let none : length rest ≡ 0 = ap (λ (xs : List ℕ). length xs) empty in
@@ -38,7 +39,8 @@ same_prefix : (old new more : List ℕ) (offset : ℕ) → offset ≤ length old
 same_prefix old new more offset l e = grind (arith, take-append-le)
 
 -- views stay so while more is read
-pub views_stay : (old new more : List ℕ) (offset : ℕ) (views : List View) → offset ≤ length old → new ≡ old ++ more
+pub views_stay : (old new more : List ℕ) (offset : ℕ) (views : List View) → offset ≤ length old
+    → new ≡ old ++ more
     → AreViews old offset views → AreViews new offset views
 views_stay old new more offset views l e are = record {
   each = are.each;
@@ -78,7 +80,8 @@ records_after (Ok None) old new more offset records l e is has = records_stay _ 
 records_after (Err f) old new more offset records l e is has = records_stay _ _ more offset records l e has
 
 -- the bytes read are those records and then the rest
-archive_of : (old new more : List ℕ) (offset : ℕ) (records : List (List ℕ)) → offset ≤ length old → new ≡ old ++ more
+archive_of : (old new more : List ℕ) (offset : ℕ) (records : List (List ℕ)) → offset ≤ length old
+    → new ≡ old ++ more
     → HasRecords old offset records → HasNoFurther (drop offset new) → IsArchive new records (drop offset new)
 archive_of old new more offset records l e has none = record {
   joined = sym (take-append-drop offset new)
@@ -87,7 +90,8 @@ archive_of old new more offset records l e has none = record {
   no_further = none;
 }
 
-pub archive_by : (old new more : List ℕ) (offset : ℕ) (records : List (List ℕ)) (end : End) → offset ≤ length old
+pub archive_by : (old new more : List ℕ) (offset : ℕ) (records : List (List ℕ)) (end : End)
+    → offset ≤ length old
     → new ≡ old ++ more → HasRecords old offset records → IsEndOf (drop offset new) end
     → IsArchive new records (drop offset new)
 archive_by old new more offset records end l e has is =

@@ -74,7 +74,8 @@ refused_whole b f s d (n, (t, past)) = ⊎_elim
     (apart b (length b) n s t)
 
 -- records of the same bytes have the same views
-pub same_views : (vs ws : List View) → AllByRecursion IsView vs → AllByRecursion IsView ws → bytes_in vs ≡ bytes_in ws
+pub same_views : (vs ws : List View) → AllByRecursion IsView vs → AllByRecursion IsView ws
+    → bytes_in vs ≡ bytes_in ws
     → vs ≡ ws
 same_views [] [] h k e = refl
 same_views [] (w ∷ ws) h k e = cc
@@ -93,7 +94,8 @@ archive_to bytes offset views are = record {
 }
 
 -- the bytes up to an offset are those of one list of views
-pub one_views : (bytes : List ℕ) (offset : ℕ) (vs ws : List View) → AreViews bytes offset vs → AreViews bytes offset ws
+pub one_views : (bytes : List ℕ) (offset : ℕ) (vs ws : List View) → AreViews bytes offset vs
+    → AreViews bytes offset ws
     → vs ≡ ws
 one_views bytes offset vs ws a b =
     same_views vs ws a.each b.each (one_archive _ _ _ _ _ (archive_to _ _ _ a) (archive_to _ _ _ b)).0
@@ -110,7 +112,8 @@ stopped offset zero = Turns offset
 stopped offset (suc n) = Read offset
 
 data Ended (offset : ℕ) (h : BytesRead) (end : Option StreamFault) : Type 0 where
-  by_bytes : (e : End) → IsEndOf (read_from offset h) e → (h.is_at_end ≡ false → ¬ (FallsShort (read_from offset h)))
+  by_bytes : (e : End) → IsEndOf (read_from offset h) e
+      → (h.is_at_end ≡ false → ¬ (FallsShort (read_from offset h)))
       → end ≡ ended offset e → Ended offset h end
   by_source : h.is_at_end ≡ false → FallsShort (read_from offset h) → end ≡ Some (stopped offset h.failures)
       → Ended offset h end
@@ -136,7 +139,8 @@ nothing_further end offset h (by_bytes e is never at) = no_further (read_from of
 nothing_further end offset h (by_source going short at) = none_short (read_from offset h) short
 
 pub archive_is : (offset : ℕ) (views : List View) (end : Option StreamFault) (h : BytesRead)
-    → AreViews h.bytes offset views → IsEnd end offset h → IsArchive h.bytes (bytes_in views) (drop offset h.bytes)
+    → AreViews h.bytes offset views → IsEnd end offset h
+    → IsArchive h.bytes (bytes_in views) (drop offset h.bytes)
 archive_is offset views end h are is = record {
   joined = rw (← are.records.joined) (sym (take-append-drop offset h.bytes));
   each = are.records.each;
@@ -151,7 +155,8 @@ same_end offset h a b (by_source going short at) (by_bytes e is never to) = absu
 same_end offset h a b (by_source going short at) (by_source goes less to) = at ∙ sym to
 
 -- all records of what was read, and its end, are the only ones
-pub one_input : (h : BytesRead) (vs ws : List View) (a b : Option StreamFault) → AreAllViews h vs a → AreAllViews h ws b
+pub one_input : (h : BytesRead) (vs ws : List View) (a b : Option StreamFault) → AreAllViews h vs a
+    → AreAllViews h ws b
     → (vs ≡ ws) × (a ≡ b)
 one_input h vs ws a b p q =
     let both = one_archive h.bytes (bytes_in vs) (bytes_in ws) (drop p.offset h.bytes) (drop q.offset h.bytes)

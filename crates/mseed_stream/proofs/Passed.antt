@@ -28,7 +28,8 @@ lent_twice h xs ys = grind (arith, common_steps)
 
 pub rest_twice : (size : ℕ) (lent middle after : List ℕ) → 48 ≤ size → middle ≡ drop 48 lent
     → after ≡ drop (size - 48) middle → after ≡ drop size lent
-rest_twice size lent middle after l first second = rw (second, first, drop-drop) (ap (λ (n : ℕ). drop n lent) (omega arith))
+rest_twice size lent middle after l first second =
+    rw (second, first, drop-drop) (ap (λ (n : ℕ). drop n lent) (omega arith))
 
 -- how the cutter stands then
 abbrev pub passed : CutterState → ℕ → CutterState
@@ -39,7 +40,8 @@ pub stands_after : (here old : CutterState) (size : ℕ) → here ≡ forgot old
     → record here { offset = here.offset + size; reads = here.reads + 2 } ≡ passed old size
 stands_after here old size is none = rw (is, none) refl
 
-pub passed_along : (h : BytesRead) (c : CutterState) (size : ℕ) (lent : List ℕ) → IsAlong h c → IsAhead size c lent
+pub passed_along : (h : BytesRead) (c : CutterState) (size : ℕ) (lent : List ℕ) → IsAlong h c
+    → IsAhead size c lent
     → IsAlong (lent_whole h (take size lent)) (passed c size)
 passed_along h c size lent is ahead =
     let few = record_few (take size lent) ahead.is_record in

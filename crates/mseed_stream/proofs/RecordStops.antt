@@ -33,7 +33,8 @@ asks_four order b m low o h z w l =
     ([], (o + 4, (l, asked)))
 
 -- at the first 1000, the rest of its eight bytes, and then of the record
-asks_last : (order : Order) (b : List ℕ) (m low o : ℕ) (os : List ℕ) → low ≤ o → 0 < low → m < length b → o + 4 ≤ m
+asks_last : (order : Order) (b : List ℕ) (m low o : ℕ) (os : List ℕ) → low ≤ o → 0 < low
+    → m < length b → o + 4 ≤ m
     → IsRecordBy order os o b → AsksFrom order b m low o
 asks_last order b m low o os h z w l r =
     let size : length (take m b) ≡ m = length-take-le m b (omega (arith, w)) in
@@ -49,7 +50,8 @@ asks_last order b m low o os h z w l r =
     ([], (_, (further, grind (arith, nat_tests, size, type, low_e, high_e, inside, further)))))
     (cases_lt m (o + 8))
 
-asks_from : (order : Order) (b : List ℕ) (m low o : ℕ) (os : List ℕ) (last : ℕ) (all : List ℕ) → low ≤ o → 0 < low
+asks_from : (order : Order) (b : List ℕ) (m low o : ℕ) (os : List ℕ) (last : ℕ) (all : List ℕ)
+    → low ≤ o → 0 < low
     → m < length b → Passes order b o os last → IsRecordBy order all last b → AsksFrom order b m low o
 asks_from order b m low o [] last all h z w p r =
     ⊎_elim (λ (l : m < o + 4). asks_four order b m low o h z (omega (arith, w)) l)
@@ -81,7 +83,8 @@ asks_more b m is long w =
     (order_prefix b m long ∙ r.order_is) steps in
     (from.1.0, (from.1.1.0, decides))
 
-stops_on : (fuel : ℕ) (b : List ℕ) (m : ℕ) → IsRecord b → 48 ≤ m → m ≤ length b → length b ≤ m + fuel → IsStop b m
+stops_on : (fuel : ℕ) (b : List ℕ) (m : ℕ) → IsRecord b → 48 ≤ m → m ≤ length b
+    → length b ≤ m + fuel → IsStop b m
     → IsStop b (length b)
 stops_on zero b m is long w f stop = subst (λ (n : ℕ). IsStop b n) (omega (arith, w, f)) stop
 stops_on (suc fuel) b m is long w f stop = ⊎_elim
@@ -103,7 +106,8 @@ record_stop b is =
     (called_for 0 48 at_start (omega arith) (short refl (omega arith)))
 
 -- what was read then, by the view of what begins the bytes that are lent
-pub lent_read : (old new : BytesRead) (lent view bytes : List ℕ) → view ≡ bytes → bytes ≡ take (length bytes) lent
+pub lent_read : (old new : BytesRead) (lent view bytes : List ℕ) → view ≡ bytes
+    → bytes ≡ take (length bytes) lent
     → new ≡ lent_whole old (take (length view) lent) → new ≡ lent_whole old bytes
 lent_read old new lent view bytes same prefix read = cc
 

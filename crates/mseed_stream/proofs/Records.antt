@@ -16,7 +16,8 @@ none_left bytes r tail rest is e same no_further =
     no_further (length r) fits (rw (prefix_is r tail rest whole) is)
 
 -- the records of an archive and what is left after them are the only ones
-pub one_archive : (bytes : List ℕ) (records others : List (List ℕ)) (rest left : List ℕ) → IsArchive bytes records rest
+pub one_archive : (bytes : List ℕ) (records others : List (List ℕ)) (rest left : List ℕ)
+    → IsArchive bytes records rest
     → IsArchive bytes others left → (records ≡ others) × (rest ≡ left)
 one_archive bytes [] [] rest left a b = (refl, sym a.joined ∙ b.joined)
 one_archive bytes [] (s ∷ others) rest left a b =

@@ -24,7 +24,8 @@ ends_after bytes offset records end within has few is = record {
 }
 
 -- where no record begins after the records, the bytes end
-pub split_fault : (bytes : List ℕ) (offset : ℕ) (records : List (List ℕ)) (e : ViewFault) → offset < length bytes
+pub split_fault : (bytes : List ℕ) (offset : ℕ) (records : List (List ℕ)) (e : ViewFault)
+    → offset < length bytes
     → HasRecords bytes offset records → length records < 2 ^ 40 → Decides (drop offset bytes) (scan_of (Err e))
     → IsSplitFault (fault_at (length bytes) offset e) bytes
 split_fault bytes offset records (Refused f) within has few d =

@@ -33,10 +33,12 @@ views_more old new offset views v reported before is same has = record {
 }
 
 -- a record was handed out
-pub handed_record : (h now : BytesRead) (c after : CutterState) (views : List View) (v : View) → HasHandedOut h c views
+pub handed_record : (h now : BytesRead) (c after : CutterState) (views : List View) (v : View)
+    → HasHandedOut h c views
     → IsView v → HasRecords now.bytes after.offset (bytes_in views ++ v.bytes ∷ []) → IsAlong now after
     → after.offset ≡ c.offset + length v.bytes → after.answer ≡ None → now.failures ≡ h.failures
-    → h.calls + 2 + asks_of (held_of after) ≤ now.calls + asks_of (held_of c) → HasHandedOut now after (views ++ v ∷ [])
+    → h.calls + 2 + asks_of (held_of after) ≤ now.calls + asks_of (held_of c)
+    → HasHandedOut now after (views ++ v ∷ [])
 handed_record h now c after views v before is has along offset goes fine called = record {
   along = along;
   goes_on = goes;

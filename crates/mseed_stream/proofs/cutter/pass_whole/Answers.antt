@@ -15,7 +15,8 @@ consume-requires-2 g c =
 
 -- the two calls give the record
 whole_read : (old : BytesRead) (lent later : List ℕ) (size : ℕ) (between new : BytesRead) → 48 ≤ size
-    → later ≡ drop 48 lent → between ≡ lent_also old (take 48 lent) → new ≡ lent_also between (take (size - 48) later)
+    → later ≡ drop 48 lent → between ≡ lent_also old (take 48 lent)
+    → new ≡ lent_also between (take (size - 48) later)
     → new ≡ lent_whole old (take size lent)
 whole_read old lent later size between new header rest first second =
     rw (second, first, rest, two_parts lent 48 size header) (lent_twice old _ _)

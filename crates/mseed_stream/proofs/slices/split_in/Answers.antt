@@ -46,4 +46,5 @@ loop-offset-preserved g c =
 pub returns-then-is_err-clause-fault : goal.returns-then-is_err-clause-fault
 returns-then-is_err-clause-fault g c =
     let there = rw take_rest at (c.in-Ok.ensures.ok.0 refl) in
-    (_, (bytes_of_each c.loop-offset.records.items, record { before = c.loop-offset.invariant.records; further = there }))
+    let views = bytes_of_each c.loop-offset.records.items in
+    (_, (views, record { before = c.loop-offset.invariant.records; further = there }))

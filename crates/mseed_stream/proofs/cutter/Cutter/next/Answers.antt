@@ -14,7 +14,8 @@ use Rattle.mseed_stream.proofs.Walks.{handed_record}
 use Rattle.mseed_stream.proofs.cutter.Cutter.next.Goals as goal
 
 -- as many bytes as the prefix has are the prefix
-taken : (items prefix : List ℕ) (have n : ℕ) → take have items ≡ prefix → n ≡ length prefix → have ≤ length items
+taken : (items prefix : List ℕ) (have n : ℕ) → take have items ≡ prefix → n ≡ length prefix
+    → have ≤ length items
     → take n items ≡ prefix
 taken items prefix have n is size within = grind (arith, common_steps)
 

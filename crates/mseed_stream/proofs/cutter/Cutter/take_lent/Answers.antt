@@ -12,7 +12,8 @@ returns-clause-cut g c =
     let bytes : List ℕ = c.in-Ok.view.bytes.now in
     let is : IsRecord bytes = view_record (view_of c.in-Ok.view) c.in-Ok.ensures.view in
     let nothing : c.self.inside.have ≡ 0 = omega (arith, c.if-self-gt0.false) in
-    let none : c.args.self.now.prefix ≡ [] = sym (ap (λ (s : CutterState). s.prefix) c.self.view_is) ∙ rw nothing refl in
+    let none : c.args.self.now.prefix ≡ [] =
+    sym (ap (λ (s : CutterState). s.prefix) c.self.view_is) ∙ rw nothing refl in
     let prefix = rw c.lend-lent.ensures.bytes at c.in-Ok.ensures.prefix in
     let read = lent_read _ _ _ _ _ c.bytes-size.ensures.value prefix c.pass_whole.ensures.reported in
     let reads = ap (λ (s : CutterState). s.reads) c.self.view_is in
