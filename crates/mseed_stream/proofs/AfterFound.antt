@@ -32,7 +32,8 @@ ended_along h c e is ending = grind arith
 
 along_fault : (e : StreamFault) (c after : CutterState) (old new : BytesRead) → HoldsMore c after old new
     → e ≢ Memory → IsCutFault e c.offset new → IsAlong new (record after { answer = Some (Fault e) })
-along_fault e c after old new is other fault = ended_along new after (Fault e) is.read (rw is.offset fault, other)
+along_fault e c after old new is other fault =
+    ended_along new after (Fault e) is.read (rw is.offset fault, other)
 
 -- by each answer
 pub along_found : (found : Result Bool StreamFault) (c after : CutterState) (old new : BytesRead)
@@ -79,7 +80,8 @@ next_answer found n c after old new left rest apart later read goes is reads =
     let within : c.offset ≤ length old.bytes = omega (arith, read.reported) in
     let end : lent_of n found ≡ Ok None → IsCleanEnd c.offset new = grind (arith, is_clean) in
     let fault : IfErr (lent_of n found) (λ e. IsCutFault e c.offset new) = grind arith in
-    let one : IfOk (lent_of n found) (λ o. IfSome o (λ m. IsRecord (read_from c.offset new))) = grind arith in
+    let one : IfOk (lent_of n found) (λ o. IfSome o (λ m. IsRecord (read_from c.offset new))) =
+    grind arith in
     record {
       more = reads.more;
       known = λ same. reads.known;
@@ -105,7 +107,8 @@ same_answer e c h left is same =
     let ending : IsEnding e c.offset h = rw same at is.ended in
     let end : answer_of {X = ℕ} e ≡ Ok None → IsCleanEnd c.offset h = grind arith in
     let fault : IfErr (answer_of {X = ℕ} e) (λ f. IsCutFault f c.offset h) = grind arith in
-    let one : IfOk (answer_of {X = ℕ} e) (λ o. IfSome o (λ m. IsRecord (read_from c.offset h))) = grind arith in
+    let one : IfOk (answer_of {X = ℕ} e) (λ o. IfSome o (λ m. IsRecord (read_from c.offset h))) =
+    grind arith in
     record {
       more = ([], none, Consumes-nil left);
       known = λ goes. cc;

@@ -65,7 +65,8 @@ reads_next result c old new left rest apart later is beside goes_on = record {
 pub gives_pull : {E : Type 0} (h new : BytesRead) (left rest : Option (List ℕ)) (r : Result ℕ E) (buf : List ℕ)
     → new ≡ read_also h r buf → ReadConsumes left rest r buf → GivesMore h new left rest
 gives_pull h new left rest (Ok n) buf e consumes = (take n buf, cc, consumes.0)
-gives_pull h new left rest (Err x) buf e keeps = ([], cc, Consumes-kept left left rest [] (Consumes-nil left) keeps)
+gives_pull h new left rest (Err x) buf e keeps =
+    ([], cc, Consumes-kept left left rest [] (Consumes-nil left) keeps)
 
 -- a read after what was read before
 pub reads_pull : {E : Type 0} (a b c : BytesRead) (p q r : Option (List ℕ)) (x y z : Beside) (result : Result ℕ E)

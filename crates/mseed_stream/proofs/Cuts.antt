@@ -49,7 +49,8 @@ record_cut c now is_at_end k n old new is asks within r =
     let it = found now.prefix is_at_end k is.stop within r in
     let more : new.calls ≤ old.calls → ⊥ = λ none.
     cc (answered now.prefix k (Need n) (rw (is.holds.quiet none) asks) within r) in
-    let called = called_twice c.prefix now.prefix old.calls new.calls (omega (arith, more)) is.header it.0 in
+    let called =
+    called_twice c.prefix now.prefix old.calls new.calls (omega (arith, more)) is.header it.0 in
     record { holds = is.holds; stop = rw is.end is.stop; found = (it.0, is.end ∙ it.1, is.failures, called) }
 
 -- the framing steps refuse what is held
@@ -126,7 +127,8 @@ filled_err (Turns n) c now after needed old middle new is d holds all less it =
       );
     }
 filled_err Memory c now after needed old middle new is d holds all less it =
-    let same : after.prefix ≡ now.prefix = holds.quiet (omega (arith, ap (λ (h : BytesRead). h.calls) it.1)) in
+    let same : after.prefix ≡ now.prefix =
+    holds.quiet (omega (arith, ap (λ (h : BytesRead). h.calls) it.1)) in
     let room : c.room < needed = omega (arith, is.holds.room, it.0) in
     record {
       holds = all;
@@ -139,7 +141,8 @@ pub fill_cut : (e : StreamFault) (c now after : CutterState) (needed : ℕ) (old
     → new.bytes ≡ middle.bytes ++ more → IsFilled (Err e) needed now after middle new
     → IsCut (Err e) c after old new
 fill_cut e c now after needed old middle new more is d holds bytes it =
-    let stop = next_stop now after needed middle new more is.holds.read is.holds.not_lent is.stop d holds bytes in
+    let stop =
+    next_stop now after needed middle new more is.holds.read is.holds.not_lent is.stop d holds bytes in
     filled_err e c now after needed old middle new is d holds (holds_on c now after old middle new is.holds holds)
     (needed, (stop, it.0)) it.1
 
@@ -160,7 +163,8 @@ pub cutting_on : (b : Bool) (c now after : CutterState) (needed : ℕ) (old midd
     → new.bytes ≡ middle.bytes ++ more → IsFilled (Ok b) needed now after middle new
     → IsCutting c after b old new
 cutting_on b c now after needed old middle new more is d holds bytes it =
-    let stop = next_stop now after needed middle new more is.holds.read is.holds.not_lent is.stop d holds bytes in
+    let stop =
+    next_stop now after needed middle new more is.holds.read is.holds.not_lent is.stop d holds bytes in
     let so_far = filled b now after needed middle new it stop in
     record {
       holds = holds_on c now after old middle new is.holds holds;

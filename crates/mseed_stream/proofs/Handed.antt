@@ -75,7 +75,8 @@ pub records_after : (result : Result (Option ℕ) StreamFault) (old new : BytesR
     → IfOk result (λ o. IfSome o (λ n. IsRecord (read_from offset new))) → HasRecords old.bytes offset records
     → HasRecords new.bytes (offset + moves_by result (read_from offset new))
     (records ++ handed_by result (read_from offset new))
-records_after (Ok (Some n)) old new more offset records l e is has = records_more _ _ more offset records l e is has
+records_after (Ok (Some n)) old new more offset records l e is has =
+    records_more _ _ more offset records l e is has
 records_after (Ok None) old new more offset records l e is has = records_stay _ _ more offset records l e has
 records_after (Err f) old new more offset records l e is has = records_stay _ _ more offset records l e has
 

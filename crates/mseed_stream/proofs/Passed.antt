@@ -72,7 +72,8 @@ pub passed_handed : (h : BytesRead) (c : CutterState) (size : ℕ) (lent : List 
     → HasHandedOut (lent_whole h (take size lent)) (passed c size) (views ++ v ∷ [])
 passed_handed h c size lent views v ahead before is same =
     let long = length-take-le size lent ahead.whole in
-    let has = passed_records h c size lent (bytes_in views) before.along.read ahead before.records.records in
+    let has =
+    passed_records h c size lent (bytes_in views) before.along.read ahead before.records.records in
     handed_record h _ c (passed c size) views v before is (rw same has)
     (passed_along h c size lent before.along ahead) (rw (same, long)) ahead.goes_on refl
     (grind (arith, ahead.none))

@@ -29,7 +29,8 @@ asks_four : (order : Order) (b : List ℕ) (m low o : ℕ) → low ≤ o → 0 <
     → AsksFrom order b m low o
 asks_four order b m low o h z w l =
     let size : length (take m b) ≡ m = length-take-le m b w in
-    let asked : at_offset order (take m b) low o ≡ Some (Need (o + 4)) = grind (arith, nat_tests, size) in
+    let asked : at_offset order (take m b) low o ≡ Some (Need (o + 4)) =
+    grind (arith, nat_tests, size) in
     ([], (o + 4, (l, asked)))
 
 -- at the first 1000, the rest of its eight bytes, and then of the record
@@ -38,11 +39,13 @@ asks_last : (order : Order) (b : List ℕ) (m low o : ℕ) (os : List ℕ) → l
     → IsRecordBy order os o b → AsksFrom order b m low o
 asks_last order b m low o os h z w l r =
     let size : length (take m b) ≡ m = length-take-le m b (omega (arith, w)) in
-    let type : type_at order (take m b) o ≡ 1000 = number_prefix order b o m (omega (arith, l)) ∙ r.chain.found in
+    let type : type_at order (take m b) o ≡ 1000 =
+    number_prefix order b o m (omega (arith, l)) ∙ r.chain.found in
     ⊎_elim
     (λ (less : m < o + 8). ([], (o + 8, (less, grind (arith, nat_tests, size, type)))))
     (λ (more : o + 8 ≤ m).
-    let exponent : exponent_at (take m b) o ≡ exponent_at b o = get_or-take m b (o + 6) 0 (omega (arith, more)) in
+    let exponent : exponent_at (take m b) o ≡ exponent_at b o =
+    get_or-take m b (o + 6) 0 (omega (arith, more)) in
     let low_e : 7 ≤ exponent_at (take m b) o = rw exponent r.exponent_low in
     let high_e : exponent_at (take m b) o ≤ 20 = rw exponent r.exponent_high in
     let inside : o + 8 ≤ 2 ^ exponent_at (take m b) o = rw exponent r.inside in
@@ -60,8 +63,10 @@ asks_from order b m low o (q ∷ os) last all h z w p r =
     ⊎_elim (λ (l : m < o + 4). asks_four order b m low o h z (omega (arith, w)) l)
     (λ (l : o + 4 ≤ m).
     let size : length (take m b) ≡ m = length-take-le m b (omega (arith, w)) in
-    let type : type_at order (take m b) o ≡ type_at order b o = number_prefix order b o m (omega (arith, l)) in
-    let next : next_at order (take m b) o ≡ next_at order b o = number_prefix order b (o + 2) m (omega (arith, l)) in
+    let type : type_at order (take m b) o ≡ type_at order b o =
+    number_prefix order b o m (omega (arith, l)) in
+    let next : next_at order (take m b) o ≡ next_at order b o =
+    number_prefix order b (o + 2) m (omega (arith, l)) in
     let none = none_at order (take m b) low o h z (omega (arith, size, l)) (λ t. p.1 (sym type ∙ t)) in
     let later = asks_from order b m (o + 4) (next_at order b o) os last all p.2 (omega arith) w p.3 r in
     (o ∷ later.0, (later.1.0, (later.1.1.0, (refl, none, rw next later.1.1.1)))))
@@ -78,7 +83,8 @@ asks_more b m is long w =
     let begins = number_prefix order b 46 m (omega (arith, long)) in
     let from = asks_from order b m 48 (blockette_at order b) is.1.0 is.1.1.0 is.1.0 r.chain.low (omega arith) w
     r.chain.others r in
-    let steps = subst (λ (k : ℕ). DecidesFrom order (take m b) 48 k from.0 (Need from.1.0)) (sym begins) from.1.1.1 in
+    let steps =
+    subst (λ (k : ℕ). DecidesFrom order (take m b) 48 k from.0 (Need from.1.0)) (sym begins) from.1.1.1 in
     let decides = by_chain order from.0 (Need from.1.0) (no_version3 (take m b) fixed) (omega (arith, size, long)) fixed
     (order_prefix b m long ∙ r.order_is) steps in
     (from.1.0, (from.1.1.0, decides))

@@ -12,7 +12,8 @@ none_left : (bytes : List ℕ) (r tail rest : List ℕ) → IsRecord r → bytes
     → ((k : ℕ) → k ≤ length rest → IsRecord (take k rest) → ⊥) → ⊥
 none_left bytes r tail rest is e same no_further =
     let whole : rest ≡ r ++ tail = sym same ∙ e in
-    let fits : length r ≤ length rest = omega (arith, ap (λ (xs : List ℕ). length xs) whole, length-append r tail) in
+    let fits : length r ≤ length rest =
+    omega (arith, ap (λ (xs : List ℕ). length xs) whole, length-append r tail) in
     no_further (length r) fits (rw (prefix_is r tail rest whole) is)
 
 -- the records of an archive and what is left after them are the only ones
@@ -29,7 +30,8 @@ one_archive bytes (r ∷ records) [] rest left a b =
 one_archive bytes (r ∷ records) (s ∷ others) rest left a b =
     let one : bytes ≡ r ++ (concat records ++ rest) = a.joined ∙ append_assoc r (concat records) rest in
     let two : bytes ≡ s ++ (concat others ++ left) = b.joined ∙ append_assoc s (concat others) left in
-    let first = one_first bytes r s (concat records ++ rest) (concat others ++ left) a.each.0 b.each.0 one two in
+    let first =
+    one_first bytes r s (concat records ++ rest) (concat others ++ left) a.each.0 b.each.0 one two in
     let later = one_archive (concat records ++ rest) records others rest left
     (record { joined = refl; each = a.each.1; no_further = a.no_further })
     (record { joined = first.1; each = b.each.1; no_further = b.no_further }) in

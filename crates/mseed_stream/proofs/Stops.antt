@@ -1,5 +1,5 @@
 -- Where the bytes of a record are looked at: no record ends before the framing steps have what they ask for.
-use Rattle.std.proofs.Common.{◌≡◌, ℕ, ◌≤◌, ◌++◌, List, length, take, drop, sym, subst, arith, length-append}
+use Rattle.std.proofs.Common.{◌≡◌, ℕ, ◌≤◌, ◌++◌, List, length, take, drop, subst, arith, length-append}
 use Rattle.std.proofs.Common.{length-take}
 use Rattle.std.proofs.lemmas.List.{take-append-le, take-append-drop, length-take-le, take_all}
 use Rattle.std.proofs.Math.Seq.{take-length}
@@ -24,8 +24,8 @@ stop_next b n s d = called_for (length b) n s (omega arith) (rw (take-length b) 
 pub stop_record : (b : List ℕ) (n k : ℕ) → IsStop b n → IsRecord (take k b) → n ≤ length (take k b)
 stop_record b _ k at_start r = omega (arith, record_long (take k b) r)
 stop_record b n k (called_for m _ s l d) r =
-    let whole_is : take m b ++ drop m b ≡ b = take-append-drop m b in
-    rw whole_is at (called (take m b) (drop m b) n k d (subst (λ (xs : List ℕ). IsRecord (take k xs)) (sym whole_is) r))
+    let whole_is = take-append-drop m b in
+    rw whole_is at (called (take m b) (drop m b) n k d (rw whole_is r))
 
 -- short of a stop there's no record
 pub none_short : (b : List ℕ) → FallsShort b → HasNoFurther b

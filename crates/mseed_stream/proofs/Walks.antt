@@ -28,8 +28,7 @@ views_more old new offset views v reported before is same has = record {
   records = subst (λ (xs : List (List ℕ)). HasRecords new (offset + length reported) xs)
       (ap (λ (xs : List ℕ). bytes_in views ++ xs ∷ []) (sym same)
       ∙ sym (map-append (λ (w : View). w.bytes) views (v ∷ []))) has;
-  offset_is = size_more views v
-      ∙ (ap (λ (n : ℕ). n + length v.bytes) before.offset_is ∙ ap (λ (xs : List ℕ). offset + length xs) same);
+  offset_is = rw (size_more views v, before.offset_is, same);
 }
 
 -- a record was handed out

@@ -9,7 +9,8 @@ reported : {U : Type 0} (r : Result U ℕ) (line : List ℕ) (old new : BytesWri
     → OnOk r (new.failures ≡ old.failures)
     → IfErr r (λ n. new.bytes ≡ old.bytes ++ take n line) → IfErr r (λ n. n < length line)
     → OnErr r (new.failures ≡ old.failures + 1) → WritesLine line old new
-reported (Ok u) line old new all fine prefix part failed = record { either = inl (record { text = all; fine = fine }) }
+reported (Ok u) line old new all fine prefix part failed =
+    record { either = inl (record { text = all; fine = fine }) }
 reported (Err n) line old new all fine prefix part failed =
     record { either = inr (record { prefix = (n, (part, prefix)); failed = failed }) }
 

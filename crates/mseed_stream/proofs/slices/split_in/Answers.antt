@@ -20,7 +20,8 @@ returns-in-Err-clause-fault g c =
 pub returns-then-len-eq-MOST-clause-fault : goal.returns-then-len-eq-MOST-clause-fault
 returns-then-len-eq-MOST-clause-fault g c =
     let views : List RecordView = c.loop-offset.records.items in
-    let size = size_of_each views c.len.result (omega (arith, c.loop-offset.records.ok, c.len.ensures)) in
+    let size =
+    size_of_each views c.len.result (omega (arith, c.loop-offset.records.ok, c.len.ensures)) in
     let there = rw take_rest at (c.in-Ok.ensures.ok.0 refl) in
     (bytes_of_each views, record { before = c.loop-offset.invariant.records; further = there }, omega arith)
 
@@ -32,8 +33,10 @@ loop-offset-preserved g c =
     let r : RecordView = c.in-Ok.record in
     let b : List ℕ = (view_of r).bytes in
     let items : c.push.new.self.items ≡ views ++ r ∷ [] = search rules in
-    let prefix : b ≡ take (length b) (drop c.loop-offset.offset bytes) = rw take_rest at c.in-Ok.ensures.prefix in
-    let size : length c.bytes.result.now ≡ length b = ap (λ (xs : List ℕ). length xs) c.bytes.ensures.value in
+    let prefix : b ≡ take (length b) (drop c.loop-offset.offset bytes) =
+    rw take_rest at c.in-Ok.ensures.prefix in
+    let size : length c.bytes.result.now ≡ length b =
+    ap (λ (xs : List ℕ). length xs) c.bytes.ensures.value in
     let count : length views ≡ c.len.result = omega (arith, c.loop-offset.records.ok, c.len.ensures) in
     let other = c.if-len-eq-MOST.false in
     record {

@@ -37,7 +37,8 @@ lent_taken : {T A : Type 0} (is_at_end : Bool) (remaining : T â†’ Option (List â
     (if is_at_end then Some [] else reader_remaining remaining new)
     (take n (if is_at_end then [] else reader_buffer old))
 lent_taken true remaining old new n capacity inner buffer = grind (arith, common_steps)
-lent_taken false remaining old new n capacity inner buffer = reader_taken remaining old new n capacity inner buffer
+lent_taken false remaining old new n capacity inner buffer =
+    reader_taken remaining old new n capacity inner buffer
 
 pub returns-clause-known : goal.returns-clause-known
 returns-clause-known g c =

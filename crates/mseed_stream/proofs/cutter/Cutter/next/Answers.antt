@@ -32,13 +32,17 @@ returns-in-Some g c =
     let new : BytesRead = g.R.Source.read c.advance.new.source in
     let view : View = view_of c.of_record.result in
     let items : List ℕ = c.self.inside.held.items in
-    let prefix : take c.self.inside.have items ≡ after.prefix = ap (λ (s : CutterState). s.prefix) c.self.view_is in
-    let size : length items ≡ length c.deref.result.now = ap (λ (xs : List ℕ). length xs) (sym c.deref.ensures.value) in
-    let within : c.self.inside.have ≤ length items = omega (arith, size, c.deref.ensures.len, c.self.invariant.0) in
+    let prefix : take c.self.inside.have items ≡ after.prefix =
+    ap (λ (s : CutterState). s.prefix) c.self.view_is in
+    let size : length items ≡ length c.deref.result.now =
+    ap (λ (xs : List ℕ). length xs) (sym c.deref.ensures.value) in
+    let within : c.self.inside.have ≤ length items =
+    omega (arith, size, c.deref.ensures.len, c.self.invariant.0) in
     let bytes : view.bytes ≡ read_from before.offset new = c.of_record.ensures.bytes
     ∙ (ap (λ (xs : List ℕ). take c.in-Some.length xs) c.deref.ensures.value
     ∙ (taken items after.prefix c.self.inside.have c.in-Some.length prefix it.record.0 within ∙ it.record.2)) in
-    let moved : after.offset ≡ before.offset + length view.bytes = rw (bytes, ← it.record.2) it.offset in
+    let moved : after.offset ≡ before.offset + length view.bytes =
+    rw (bytes, ← it.record.2) it.offset in
     let handed = λ (views : List View) (h : HasHandedOut (g.R.Source.read c.args.source.now) before views).
     handed_record _ new before after views view h c.of_record.ensures.view
     (rw (moved, bytes) (it.answer.records (bytes_in views) h.records.records)) it.along moved it.kept
