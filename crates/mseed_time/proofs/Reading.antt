@@ -1,11 +1,11 @@
 -- Numbers and fields read from bytes.
-use Rattle.std.proofs.Common.{◌≡◌, ℕ, zero, suc, ◌+◌, ◌*◌, ◌^◌, ◌<◌, ◌≤◌, List, slice_index, take, drop, refl, ap, ◌∙◌}
+use Rattle.std.proofs.Common.{◌≡◌, ℕ, zero, suc, ◌+◌, ◌*◌, ◌<◌, ◌≤◌, List, slice_index, take, drop, refl, ap, ◌∙◌}
 use Rattle.std.proofs.Common.{arith}
 use Rattle.std.proofs.lemmas.Bool.Decides.{nat_tests}
 use Rattle.std.proofs.lemmas.List.{get_or-drop}
 use Rattle.std.specs.Prelude.{None}
-use Rattle.byteorder.specs.Endian.{big_from, little_from}
-use Rattle.byteorder.specs.Numbers.{big_from-take, little_from-take}
+use Rattle.byteorder.specs.Endian.{little_from}
+use Rattle.byteorder.specs.Numbers.{little_from-take}
 use Rattle.mseed_time.specs.declared.order.Order.{Order}
 use Rattle.mseed_time.specs.declared.order.Order.TheVariants.{Big, Little}
 use Rattle.mseed_time.specs.Fields.{number_at}
@@ -40,21 +40,6 @@ number_there place n m xs h =
     let here : place + 0 ≡ place = omega arith in
     little_from-take 0 n m (drop place xs) (omega (arith, h)) ∙ from_place place 0 n xs
     ∙ ap (λ (k : ℕ). little_from k n xs) here
-
-big_place : (place i n : ℕ) (xs : List ℕ) → big_from i n (drop place xs) ≡ big_from (place + i) n xs
-big_place place i zero xs = refl
-big_place place i (suc n) xs =
-    let next : place + suc i ≡ suc (place + i) = omega arith in
-    ap (λ (b : ℕ). b * 256 ^ n + big_from (suc i) n (drop place xs)) (get_or-drop place xs i 0)
-    ∙ ap (λ (r : ℕ). slice_index xs (place + i) * 256 ^ n + r)
-    (big_place place (suc i) n xs ∙ ap (λ (k : ℕ). big_from k n xs) next)
-
-pub big_there : (place n m : ℕ) (xs : List ℕ) → n ≤ m
-    → big_from 0 n (take m (drop place xs)) ≡ number_at Big n place xs
-big_there place n m xs h =
-    let here : place + 0 ≡ place = omega arith in
-    big_from-take 0 n m (drop place xs) (omega (arith, h)) ∙ big_place place 0 n xs
-    ∙ ap (λ (k : ℕ). big_from k n xs) here
 
 -- a time has no fault
 pub first_fault-none : (t : Parts) → IsTime t → first_fault t ≡ None
