@@ -1,60 +1,60 @@
--- What is read from within a prefix of bytes is read alike from any bytes that begin with it.
-use Rattle.std.proofs.Common.{◌≡◌, ℕ, ◌+◌, ◌<◌, ◌≤◌, ◌++◌, List, length, take, get_or, sym, ap, ◌∙◌, arith}
-use Rattle.std.proofs.lemmas.List.{take-take, take-append-le, get_or-take, length-take}
-use Rattle.byteorder.specs.Endian.{big_from, little_from}
+-- What is read from within a prefix of bytes is read alike of any bytes that begin with it.
+use Rattle.std.proofs.Common.{◌≡◌, ℕ, ◌+◌, ◌<◌, ◌≤◌, ◌++◌, List, [], ◌∷◌, length, take, get_or, refl, sym, arith, lit<}
+use Rattle.std.proofs.Common.{zero, suc}
+use Rattle.std.proofs.lemmas.List.{get_or-take, take-take}
+use Rattle.std.proofs.Math.Seq.{take-append_seam}
 use Rattle.byteorder.specs.Numbers.{big_from-take, little_from-take}
 use Rattle.mseed_time.specs.declared.order.Order.{Order}
 use Rattle.mseed_time.specs.declared.order.Order.TheVariants.{Big, Little}
 use Rattle.mseed_time.specs.Fields.{number_at}
 use Rattle.mseed_record.specs.Header.{has_fixed_bytes}
-use Rattle.mseed_record.specs.Order.{order_of}
+use Rattle.mseed_record.specs.Order.{is_dated, order_of}
+use Rattle.mseed_record.specs.Scan.{is_version3}
 
--- as far as both go, their bytes are the same
-abbrev pub Alike : List ℕ → List ℕ → Type 0
-Alike b prefix = (m : ℕ) → m ≤ length b → m ≤ length prefix → take m b ≡ take m prefix
+-- a prefix and its first k bytes spell the same
+pub number_prefix : (order : Order) (b : List ℕ) (o k : ℕ) → o + 2 ≤ k
+    → number_at order 2 o (take k b) ≡ number_at order 2 o b
+number_prefix Big b o k h = big_from-take o 2 k b h
+number_prefix Little b o k h = little_from-take o 2 k b h
 
--- a cut of a prefix with more after it
-pub alike_cut : (prefix more : List ℕ) (k : ℕ) → Alike (take k (prefix ++ more)) prefix
-alike_cut prefix more k m there here =
-    let cut : m ≤ k = omega (arith, length-take k (prefix ++ more)) in
-    take-take m k (prefix ++ more) cut ∙ take-append-le m prefix more here
+pub fixed_prefix : (b : List ℕ) (k : ℕ) → 48 ≤ k → has_fixed_bytes (take k b) ≡ has_fixed_bytes b
+fixed_prefix b k h =
+    rw (take-take 6 k b (omega arith), get_or-take k b 6 0 (omega arith), get_or-take k b 7 0 (omega arith)) refl
 
-pub byte_alike : (b prefix : List ℕ) (i : ℕ) → Alike b prefix → i < length b → i < length prefix
-    → get_or b i 0 ≡ get_or prefix i 0
-byte_alike b prefix i alike there here =
-    let within : i < i + 1 = omega arith in
-    sym (get_or-take (i + 1) b i 0 within)
-    ∙ ap (λ (bytes : List ℕ). get_or bytes i 0) (alike (i + 1) (omega arith) (omega arith))
-    ∙ get_or-take (i + 1) prefix i 0 within
+dated_prefix : (order : Order) (b : List ℕ) (k : ℕ) → 48 ≤ k → is_dated order (take k b) ≡ is_dated order b
+dated_prefix order b k h =
+    rw (number_prefix order b 20 k (omega arith), number_prefix order b 22 k (omega arith)) refl
 
-pub number_alike : (order : Order) (n o : ℕ) (b prefix : List ℕ) → Alike b prefix → o + n ≤ length b
-    → o + n ≤ length prefix → number_at order n o b ≡ number_at order n o prefix
-number_alike Big n o b prefix alike there here =
-    sym (big_from-take o n (o + n) b (omega arith))
-    ∙ ap (λ (bytes : List ℕ). big_from o n bytes) (alike (o + n) there here)
-    ∙ big_from-take o n (o + n) prefix (omega arith)
-number_alike Little n o b prefix alike there here =
-    sym (little_from-take o n (o + n) b (omega arith))
-    ∙ ap (λ (bytes : List ℕ). little_from o n bytes) (alike (o + n) there here)
-    ∙ little_from-take o n (o + n) prefix (omega arith)
+pub order_prefix : (b : List ℕ) (k : ℕ) → 48 ≤ k → order_of (take k b) ≡ order_of b
+order_prefix b k h = rw (dated_prefix Big b k h, dated_prefix Little b k h) refl
 
-pub fixed_alike : (b prefix : List ℕ) → Alike b prefix → 48 ≤ length b → 48 ≤ length prefix
-    → has_fixed_bytes b ≡ has_fixed_bytes prefix
-fixed_alike b prefix alike there here =
-    let sequence : take 6 b ≡ take 6 prefix = alike 6 (omega arith) (omega arith) in
-    let quality : get_or b 6 0 ≡ get_or prefix 6 0 = byte_alike b prefix 6 alike (omega arith) (omega arith) in
-    let blank : get_or b 7 0 ≡ get_or prefix 7 0 = byte_alike b prefix 7 alike (omega arith) (omega arith) in
-    rw (sequence, quality, blank)
+-- lists of bytes
+abbrev pub Octets : List ℕ → Type 0
+Octets b = (i : ℕ) → get_or b i 0 < 256
 
-pub order_alike : (b prefix : List ℕ) → Alike b prefix → 48 ≤ length b → 48 ≤ length prefix
-    → order_of b ≡ order_of prefix
-order_alike b prefix alike there here =
-    let big_year : number_at Big 2 20 b ≡ number_at Big 2 20 prefix =
-    number_alike Big 2 20 b prefix alike (omega arith) (omega arith) in
-    let big_day : number_at Big 2 22 b ≡ number_at Big 2 22 prefix =
-    number_alike Big 2 22 b prefix alike (omega arith) (omega arith) in
-    let little_year : number_at Little 2 20 b ≡ number_at Little 2 20 prefix =
-    number_alike Little 2 20 b prefix alike (omega arith) (omega arith) in
-    let little_day : number_at Little 2 22 b ≡ number_at Little 2 22 prefix =
-    number_alike Little 2 22 b prefix alike (omega arith) (omega arith) in
-    rw (big_year, big_day, little_year, little_day)
+pub octets_prefix : (k : ℕ) (b : List ℕ) → Octets b → Octets (take k b)
+octets_prefix zero b octets i = lit< tt
+octets_prefix (suc k) [] octets i = lit< tt
+octets_prefix (suc k) (x ∷ xs) octets zero = octets 0
+octets_prefix (suc k) (x ∷ xs) octets (suc i) = octets_prefix k xs (λ j. octets (suc j)) i
+
+-- what a header says stays where bytes follow it
+pub number_more : (order : Order) (prefix more : List ℕ) (o : ℕ) → o + 2 ≤ length prefix
+    → number_at order 2 o (prefix ++ more) ≡ number_at order 2 o prefix
+number_more order prefix more o h =
+    sym (rw (take-append_seam prefix more) at (number_prefix order (prefix ++ more) o (length prefix) h))
+
+pub fixed_more : (prefix more : List ℕ) → 48 ≤ length prefix
+    → has_fixed_bytes (prefix ++ more) ≡ has_fixed_bytes prefix
+fixed_more prefix more h =
+    sym (rw (take-append_seam prefix more) at (fixed_prefix (prefix ++ more) (length prefix) h))
+
+pub order_more : (prefix more : List ℕ) → 48 ≤ length prefix → order_of (prefix ++ more) ≡ order_of prefix
+order_more prefix more h =
+    sym (rw (take-append_seam prefix more) at (order_prefix (prefix ++ more) (length prefix) h))
+
+pub version3_more : (prefix more : List ℕ) → 3 ≤ length prefix → is_version3 (prefix ++ more) ≡ is_version3 prefix
+version3_more [] more h = absurd (omega arith)
+version3_more (a ∷ []) more h = absurd (omega arith)
+version3_more (a ∷ b ∷ []) more h = absurd (omega arith)
+version3_more (a ∷ b ∷ c ∷ rest) more h = refl

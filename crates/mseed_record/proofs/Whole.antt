@@ -1,156 +1,117 @@
 -- Along the whole chain of a record.
-use Rattle.std.proofs.Common.{◌≡◌, ◌≢◌, ℕ, ◌+◌, ◌≤◌, ◌++◌, ◌==◌, ◌||◌, if◌then◌else◌, Bool, List, [], ◌∷◌, length, true}
-use Rattle.std.proofs.Common.{false, Some, None, Option, IfSome, refl, sym, ap, ◌∙◌, subst, arith}
+use Rattle.std.proofs.Common.{◌≡◌, ◌≢◌, ℕ, zero, suc, ◌+◌, ◌≤◌, ◌++◌, ◌==◌, ◌||◌, if◌then◌else◌, Bool, List, [], ◌∷◌}
+use Rattle.std.proofs.Common.{length, true, false, Some, None, Option, refl, ap, ◌∙◌, arith}
 use Rattle.std.proofs.lemmas.Bool.Decides.{nat_tests}
-use Rattle.std.proofs.lemmas.Bool.{false≢true}
-use Rattle.std.proofs.lemmas.List.Folds.{find-append, list_any-append}
+use Rattle.std.proofs.Math.Bool.{or_assoc, or-false}
 use Rattle.std.specs.Option.{option_or}
 use Rattle.mseed_time.specs.declared.order.Order.{Order}
-use Rattle.mseed_record.specs.Chain.{type_at, next_at, head_of, goes_on, Passes, Rest, first_of, has_type}
+use Rattle.mseed_record.specs.Chain.{type_at, next_at, head_of, goes_on, Passes, Rest, IsWholeChain, first_of, has_type}
 use Rattle.mseed_record.specs.declared.chain.Blockettes.{Blockettes}
 use Rattle.mseed_record.specs.Header.{blockette_at}
 use Rattle.mseed_record.specs.Record.{IsRecordBy}
 use Rattle.mseed_record.specs.private.Blockettes.{AreBlockettes}
-use Rattle.mseed_record.proofs.Framed.{passes_above, record_room}
+use Rattle.mseed_record.proofs.Passing.{passes_above, record_room}
 
--- the chain goes on from o through these blockettes to p
-abbrev pub Visits : Order → List ℕ → ℕ → List ℕ → ℕ → Type 0
-Visits order b o [] p = o ≡ p
-Visits order b o (q ∷ vs) p = (q ≡ o) × (goes_on order b o ≡ true) × Visits order b (next_at order b o) vs p
+pub goes_on_within : (order : Order) (b : List ℕ) (o : ℕ) → goes_on order b o ≡ true → (o + 4 ≤ next_at order b o)
+    × (next_at order b o + 4 ≤ length b)
+    × (next_at order b o + head_of (type_at order b (next_at order b o)) ≤ length b)
+goes_on_within order b o e = (grind (arith, nat_tests, e), grind (arith, nat_tests, e), grind (arith, nat_tests, e))
 
-pub goes_on_within : (order : Order) (b : List ℕ) (o : ℕ) → goes_on order b o ≡ true
-    → (o + 4 ≤ next_at order b o) × (next_at order b o + head_of (type_at order b (next_at order b o)) ≤ length b)
-goes_on_within order b o e = (grind (arith, nat_tests, e), grind (arith, nat_tests, e))
+-- from each blockette on the chain has a rest
+rest_from : (order : Order) (b : List ℕ) (n o : ℕ) (goes : Bool) → goes_on order b o ≡ goes → length b ≤ n + o
+    → (rest : List ℕ) × Rest order b o rest
+rest_from order b n o false e h = ([], e)
+rest_from order b zero o true e h = absurd (omega (arith, goes_on_within order b o e))
+rest_from order b (suc n) o true e h =
+    let next : ℕ = next_at order b o in
+    let later = rest_from order b n next (goes_on order b next) refl (omega (arith, goes_on_within order b o e)) in
+    (next ∷ later.0, (e, refl, later.1))
 
-pub visits_more : (order : Order) (b : List ℕ) (o : ℕ) (vs : List ℕ) (p : ℕ) → Visits order b o vs p
-    → goes_on order b p ≡ true → Visits order b o (vs ++ p ∷ []) (next_at order b p)
-visits_more order b o [] p h e =
-    (sym h, subst (λ (n : ℕ). goes_on order b n ≡ true) (sym h) e, ap (λ (n : ℕ). next_at order b n) h)
-visits_more order b o (q ∷ vs) p h e = (h.0, h.1, visits_more order b (next_at order b o) vs p h.2 e)
+-- the blockettes before the first 1000 go on to it, and to the rest after it
+passes_rest : (order : Order) (b : List ℕ) (o : ℕ) (os : List ℕ) (last : ℕ) (rest : List ℕ) → last + 8 ≤ length b
+    → Passes order b o os last → Rest order b last rest
+    → (ps : List ℕ) × ((o ∷ ps ≡ os ++ last ∷ rest) × Rest order b o ps)
+passes_rest order b o [] last rest w h r = (rest, (rw h refl, rw h r))
+passes_rest order b o (q ∷ os) last rest w h r =
+    let later = passes_rest order b (next_at order b o) os last rest w h.3 r in
+    let goes : goes_on order b o ≡ true =
+    grind (arith, nat_tests, passes_above order b (next_at order b o) os last h.3, h.2, w) in
+    (next_at order b o ∷ later.0, (cc (h.0, later.1.0), (goes, refl, later.1.1)))
 
-pub head_small : (kind : ℕ) → head_of kind ≤ 8
-head_small kind = grind (arith, nat_tests)
+-- what counts of the blockettes that were found and of those from o on is what counts of all
+pub record AreLeft (order : Order) (b all : List ℕ) (found : Blockettes) (o : ℕ) (ps : List ℕ) : Type 0 where
+  rest_is : Rest order b o ps
+  first_1001 : option_or found.first_1001 (first_of order 1001 b (o ∷ ps)) ≡ first_of order 1001 b all
+  has_100 : (found.has_100 || has_type order 100 b (o ∷ ps)) ≡ has_type order 100 b all
 
-pub head_long : (kind o n : ℕ) → o + head_of kind ≤ n → (o + 2 ≤ n) × (o + 4 ≤ n)
-head_long kind o n within = (grind (arith, nat_tests), grind (arith, nat_tests))
+-- the whole chain of the record, and which of its blockettes are left
+abbrev pub Left : Order → List ℕ → Blockettes → ℕ → Type 0
+Left order b found o = (os : List ℕ) (last : ℕ) → IsRecordBy order os last b
+    → (rest : List ℕ) × (IsWholeChain order b os last rest
+    × ((ps : List ℕ) × AreLeft order b (os ++ last ∷ rest) found o ps))
 
--- the chain goes on through the blockettes before the first 1000
-pub passes_visits : (order : Order) (b : List ℕ) (o : ℕ) (os : List ℕ) (last : ℕ) → last + 8 ≤ length b
-    → Passes order b o os last → Visits order b o os last
-passes_visits order b o [] last w h = h
-passes_visits order b o (q ∷ os) last w h =
-    let above : next_at order b o ≤ last = passes_above order b (next_at order b o) os last h.3 in
-    let head = head_small (type_at order b (next_at order b o)) in
-    let goes : goes_on order b o ≡ true = grind (arith, nat_tests, above, head, h.2, w) in
-    (h.0, goes, passes_visits order b (next_at order b o) os last w h.3)
+pub left_first : (order : Order) (b : List ℕ)
+    → Left order b (record { first_1001 = None; has_100 = false }) (blockette_at order b)
+left_first order b os last r =
+    let rest = rest_from order b (length b) last (goes_on order b last) refl (omega arith) in
+    let ps = passes_rest order b (blockette_at order b) os last rest.0 (record_room order os last b r).1 r.chain.others
+    rest.1 in
+    let counts : AreLeft order b (os ++ last ∷ rest.0) _ (blockette_at order b) ps.0 = record {
+      rest_is = ps.1.1;
+      first_1001 = ap (first_of order 1001 b) ps.1.0;
+      has_100 = ap (has_type order 100 b) ps.1.0;
+    } in
+    (rest.0, (record { chain = r.chain; others = rest.1 }, (ps.0, counts)))
 
--- the rest of the chain from o on, where it doesn't go on from p
-visits_rest : (order : Order) (b : List ℕ) (o : ℕ) (vs : List ℕ) (p : ℕ) → Visits order b o vs p
-    → goes_on order b p ≡ false → (rest : List ℕ) × ((vs ++ p ∷ [] ≡ o ∷ rest) × Rest order b o rest)
-visits_rest order b o [] p h e =
-    ([], (ap (λ (n : ℕ). n ∷ []) (sym h), subst (λ (n : ℕ). goes_on order b n ≡ false) (sym h) e))
-visits_rest order b o (q ∷ vs) p h e =
-    let later = visits_rest order b (next_at order b o) vs p h.2 e in
-    (next_at order b o ∷ later.0, (cc (h.0, later.1.0), (h.1, refl, later.1.1)))
+or_next : (t : Bool) (f : Option ℕ) (o : ℕ) (x : Option ℕ)
+    → option_or (option_or f (if t then Some o else None)) x ≡ option_or f (if t then Some o else x)
+or_next t (Some q) o x = refl
+or_next true None o x = refl
+or_next false None o x = refl
 
--- the whole chain has the first 1000 and the rest after it
-pub visits_whole : (order : Order) (b : List ℕ) (o : ℕ) (os : List ℕ) (last : ℕ) (vs : List ℕ) (p : ℕ)
-    → Visits order b o os last → Visits order b o vs p → goes_on order b p ≡ false
-    → (rest : List ℕ) × ((vs ++ p ∷ [] ≡ os ++ last ∷ rest) × Rest order b last rest)
-visits_whole order b o [] last vs p f h e =
-    subst (λ (n : ℕ). (rest : List ℕ) × ((vs ++ p ∷ [] ≡ n ∷ rest) × Rest order b n rest)) f
-    (visits_rest order b o vs p h e)
-visits_whole order b o (q ∷ os) last [] p f h e =
-    absurd (false≢true (sym (subst (λ (n : ℕ). goes_on order b n ≡ false) (sym h) e) ∙ f.1))
-visits_whole order b o (q ∷ os) last (r ∷ vs) p f h e =
-    let later = visits_whole order b (next_at order b o) os last vs p f.2 h.2 e in
-    (later.0, (cc (f.0, h.0, later.1.0), later.1.1))
+-- with one more blockette
+module _ (order : Order) (b all : List ℕ) (found : Blockettes) (o kind : ℕ) (more : Blockettes)
+    (kind_is : kind ≡ type_at order b o)
+    (first : more.first_1001 ≡ option_or found.first_1001 (if kind == 1001 then Some o else None))
+    (rate : more.has_100 ≡ (found.has_100 || (kind == 100))) where
+  pub left_next : (ps : List ℕ) (next : ℕ) → AreLeft order b all found o ps → goes_on order b o ≡ true
+      → next ≡ next_at order b o → (qs : List ℕ) × AreLeft order b all more next qs
+  left_next [] next it goes is = cc (it.rest_is, goes)
+  left_next (p ∷ ps) next it goes is =
+      let same : p ≡ next = cc (it.rest_is.1, is) in
+      let count = or_next (type_at order b o == 1001) found.first_1001 o (first_of order 1001 b (p ∷ ps)) in
+      let any = or_assoc found.has_100 (type_at order b o == 100) (has_type order 100 b (p ∷ ps)) in
+      let left : AreLeft order b all more p ps = record {
+        rest_is = it.rest_is.2;
+        first_1001 = rw (first, kind_is) (count ∙ it.first_1001);
+        has_100 = rw (rate, kind_is) (any ∙ it.has_100);
+      } in
+      (ps, rw same at left)
 
--- from a blockette that isn't the first 1000 the chain goes on to it
-passes_next : (order : Order) (b : List ℕ) (o : ℕ) (os : List ℕ) (last : ℕ) → Passes order b o os last
-    → type_at order b last ≡ 1000 → type_at order b o ≢ 1000
-    → (ps : List ℕ) × ((o + 4 ≤ next_at order b o) × Passes order b (next_at order b o) ps last)
-passes_next order b o [] last h t n = absurd (n (subst (λ (m : ℕ). type_at order b m ≡ 1000) (sym h) t))
-passes_next order b o (q ∷ os) last h t n = (os, (h.2, h.3))
-
-passes_here : (order : Order) (b : List ℕ) (o : ℕ) (os : List ℕ) (last : ℕ) → Passes order b o os last
-    → type_at order b o ≡ 1000 → o ≡ last
-passes_here order b o [] last h t = h
-passes_here order b o (q ∷ os) last h t = absurd (h.1 t)
+  pub left_last : (ps : List ℕ) → AreLeft order b all found o ps → goes_on order b o ≡ false
+      → AreBlockettes order b all more
+  left_last [] it ends = record {
+    first_1001 = rw (first, kind_is) it.first_1001;
+    has_100 = rw (rate, kind_is) (rw or-false at it.has_100);
+  }
+  left_last (p ∷ ps) it ends = cc (it.rest_is.0, ends)
 
 -- the chain of a record goes on from o to its first 1000
 abbrev pub IsAhead : Order → List ℕ → ℕ → Type 0
-IsAhead order b o = (os : List ℕ) × ((last : ℕ) × ((rest : List ℕ) × (IsRecordBy order os last b
-    × Passes order b o rest last)))
+IsAhead order b o = (o + 8 ≤ length b) × ((os : List ℕ) × ((last : ℕ) × ((ps : List ℕ)
+    × (IsRecordBy order os last b × Passes order b o ps last))))
 
-pub ahead_within : (order : Order) (b : List ℕ) (o : ℕ) → IsAhead order b o → o + 8 ≤ length b
-ahead_within order b o (os, (last, (rest, (r, p)))) =
-    omega (arith, passes_above order b o rest last p, record_room order os last b r)
+pub ahead : (order : Order) (b : List ℕ) (o : ℕ) (os : List ℕ) (last : ℕ) (ps : List ℕ) → IsRecordBy order os last b
+    → Passes order b o ps last → IsAhead order b o
+ahead order b o os last ps r p =
+    (omega (arith, passes_above order b o ps last p, record_room order os last b r), (os, (last, (ps, (r, p)))))
 
 pub ahead_next : (order : Order) (b : List ℕ) (o : ℕ) → IsAhead order b o → type_at order b o ≢ 1000
     → (o + 4 ≤ next_at order b o) × IsAhead order b (next_at order b o)
-ahead_next order b o (os, (last, (rest, (r, p)))) n =
-    let it = passes_next order b o rest last p r.chain.found n in
-    (it.1.0, (os, (last, (it.0, (r, it.1.1)))))
+ahead_next order b o (w, (os, (last, ([], (r, p))))) n = absurd (n (rw p r.chain.found))
+ahead_next order b o (w, (os, (last, (q ∷ ps, (r, p))))) n = (p.2, ahead order b (next_at order b o) os last ps r p.3)
 
 pub ahead_here : (order : Order) (b : List ℕ) (o : ℕ) → IsAhead order b o → type_at order b o ≡ 1000
     → (os : List ℕ) × IsRecordBy order os o b
-ahead_here order b o (os, (last, (rest, (r, p)))) t =
-    (os, subst (λ (n : ℕ). IsRecordBy order os n b) (sym (passes_here order b o rest last p t)) r)
-
--- one more blockette
-first_of_more : (order : Order) (kind : ℕ) (b : List ℕ) (vs : List ℕ) (o : ℕ)
-    → option_or (first_of order kind b vs) (if type_at order b o == kind then Some o else None) ≡ first_of order kind b
-    (vs ++ o ∷ [])
-first_of_more order kind b vs o = sym (find-append (λ p. type_at order b p == kind) vs (o ∷ []))
-
-or_false : (x : Bool) → (x || false) ≡ x
-or_false true = refl
-or_false false = refl
-
-has_type_more : (order : Order) (kind : ℕ) (b : List ℕ) (vs : List ℕ) (o : ℕ)
-    → (has_type order kind b vs || (type_at order b o == kind)) ≡ has_type order kind b (vs ++ o ∷ [])
-has_type_more order kind b vs o =
-    ap (λ (x : Bool). has_type order kind b vs || x) (sym (or_false (type_at order b o == kind)))
-    ∙ sym (list_any-append (λ p. type_at order b p == kind) vs (o ∷ []))
-
--- what counts, with one more blockette
-pub found_more : (order : Order) (b : List ℕ) (vs : List ℕ) (o : ℕ) (kind : ℕ) (found more : Blockettes)
-    → AreBlockettes order b vs found → kind ≡ type_at order b o
-    → more.first_1001 ≡ option_or found.first_1001 (if kind == 1001 then Some o else None)
-    → more.has_100 ≡ (found.has_100 || (kind == 100)) → AreBlockettes order b (vs ++ o ∷ []) more
-found_more order b vs o kind found more h k second third = record {
-  first_1001 = second ∙ cc (h.first_1001, k) ∙ first_of_more order 1001 b vs o;
-  has_100 = third ∙ cc (h.has_100, k) ∙ has_type_more order 100 b vs o;
-}
-
--- a record's chain begins within it, with its head
-pub begins_within : (order : Order) (b : List ℕ) (os : List ℕ) (last : ℕ) → IsRecordBy order os last b
-    → (48 ≤ length b) × (blockette_at order b + 8 ≤ length b)
-begins_within order b os last h =
-    let above = passes_above order b (blockette_at order b) os last h.chain.others in
-    let inside : last + 8 ≤ length b = subst (λ (n : ℕ). last + 8 ≤ n) (sym h.size) h.inside in
-    (omega (arith, h.chain.low), omega arith)
-
--- which way an answer went that is there where a test holds
-pub if_some : (g : Bool) (n m : ℕ) (r : Option ℕ) → r ≡ (if g then Some n else None) → r ≡ Some m → (g ≡ true) × (m ≡ n)
-if_some true n m r e f = (refl, cc (e, f))
-if_some false n m r e f = absurd (cc (e, f))
-
-pub if_none : (g : Bool) (n : ℕ) (r : Option ℕ) → r ≡ (if g then Some n else None) → r ≡ None → g ≡ false
-if_none true n r e f = absurd (cc (e, f))
-if_none false n r e f = refl
-
-first_within : (len o : ℕ) (is_first : Bool) (m : Option ℕ) → m ≡ (if is_first then Some o else None)
-    → (is_first ≡ true → o + 8 ≤ len) → IfSome m (λ p. p + 8 ≤ len)
-first_within len o true m e h = subst (λ (r : Option ℕ). IfSome r (λ p. p + 8 ≤ len)) (sym e) (h refl)
-first_within len o false m e h = subst (λ (r : Option ℕ). IfSome r (λ p. p + 8 ≤ len)) (sym e) tt
-
--- the first 1001 lies in the record, with one more blockette too
-pub within_more : (len o kind : ℕ) (found more : Option ℕ)
-    → more ≡ option_or found (if kind == 1001 then Some o else None) → IfSome found (λ p. p + 8 ≤ len)
-    → o + head_of kind ≤ len → IfSome more (λ p. p + 8 ≤ len)
-within_more len o kind (Some q) more e h w = subst (λ (r : Option ℕ). IfSome r (λ p. p + 8 ≤ len)) (sym e) h
-within_more len o kind None more e h w =
-    first_within len o (kind == 1001) more e
-    (λ (t : (kind == 1001) ≡ true). subst (λ (x : Bool). o + (if x then 8 else 4) ≤ len) t w)
+ahead_here order b o (w, (os, (last, ([], (r, p))))) t = (os, rw p r)
+ahead_here order b o (w, (os, (last, (q ∷ ps, (r, p))))) t = absurd (p.1 t)

@@ -1,6 +1,6 @@
 //! The chain of blockettes of a record (SEED manual, chapter 8, "Data record blockettes").
 ghost use Rattle.std.specs.Prelude.{◌≡◌, ◌≤◌, ◌+◌, ◌==◌, ◌||◌, ℕ, List, ◌∷◌, ◌++◌, length, IfSome, Option, Some, None};
-ghost use Rattle.std.specs.Prelude.{if◌then◌else◌};
+ghost use Rattle.std.specs.Prelude.{if◌then◌else◌, MatchOption, true, false};
 ghost use Rattle.std.specs.Option.{option_or};
 ghost use Rattle.mseed_record.specs.Header.{blockette_at};
 ghost use Rattle.mseed_record.specs.Chain.{IsWholeChain, type_at, next_at, head_of, goes_on, first_of, has_type};
@@ -19,6 +19,7 @@ pub(crate) struct Blockettes {
 }
 
 /// Returns the offset of a record's first blockette 1000, in bytes from the record's beginning.
+#[tactic(auto, using(crate::proofs::Whole::ahead, crate::proofs::Whole::ahead_next, crate::proofs::Whole::ahead_here, crate::proofs::Passing::record_room))]
 pub(crate) fn first_1000_of(bytes: &[u8], order: Order) -> usize
     requires { (os : List ℕ) × ((last : ℕ) × IsRecordBy order os last bytes.now) }
     ensures { (os : List ℕ) × IsRecordBy order os result bytes.now }
@@ -93,7 +94,8 @@ impl Blockettes {
 /// where the chain doesn't go on: the next has to begin at least 4 bytes further on, and its head to lie in the record.
 fn next_of(bytes: &[u8], order: Order, offset: usize) -> Option<usize>
     requires { offset + 4 ≤ length bytes.now }
-    ensures { result ≡ (if goes_on order bytes.now offset then Some (next_at order bytes.now offset) else None) }
+    ensures { MatchOption result (goes_on order bytes.now offset ≡ false)
+        (λ next. (goes_on order bytes.now offset ≡ true) × (next ≡ next_at order bytes.now offset)) }
 {
     let next = usize::from(order.u16_at(bytes, offset + 2));
     if next < offset + 4 || bytes.len() < next + 4 {

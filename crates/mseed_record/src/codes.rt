@@ -1,9 +1,9 @@
 //! The codes of a channel.
-ghost use Rattle.std.specs.Prelude.{◌≡◌, ◌≤◌, ◌<◌, ℕ, Some, drop, length, refl, slice_index_or, slice_range, take};
+ghost use Rattle.std.specs.Prelude.{◌≡◌, ◌≤◌, Some, length, refl, slice_range};
 ghost use Rattle.std.specs.Cmp.Lexicographic.{nat_list_cmp_total, slice_cmp, texts_po, texts_ties};
 ghost use Rattle.std.specs.Ordering.{nat_cmp};
-ghost use Rattle.std.specs.Slice.Scan.{big_endian};
 ghost use Rattle.mseed_record.specs.Header.{key_at};
+ghost use Rattle.mseed_record.specs.private.Words.{AreWords};
 
 use std::cmp::Ordering;
 use std::marker::Model;
@@ -101,9 +101,7 @@ impl Codes {
 
 /// Returns a key as two numbers, of its first eight bytes and of its last four. They compare as keys do.
 fn words_of(key: [u8; 12]) -> (u64, u32)
-    ensures front { result.0 ≡ big_endian 0 (take 8 key) }
-    ensures back { result.1 ≡ big_endian 0 (drop 8 key) }
-    ensures octets { (i : ℕ) → slice_index_or key i 0 < 256 }
+    ensures { AreWords key result.0 result.1 }
 {
     let [a, b, c, d, e, f, g, h, i, j, k, l] = key;
     (

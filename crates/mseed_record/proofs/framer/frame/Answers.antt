@@ -1,14 +1,9 @@
-use Rattle.std.proofs.Common.{Some, ap, subst, ◌∙◌}
+use Rattle.std.proofs.Common.{Some, ap, ◌∙◌}
 use Rattle.mseed_record.specs.declared.framer.Scan.{Scan}
-use Rattle.mseed_record.specs.Scan.{Decides}
-use Rattle.mseed_record.proofs.Reached.{reached_record}
+use Rattle.mseed_record.proofs.Framed.{reached_record}
 use Rattle.mseed_record.proofs.framer.frame.Goals as goal
 
 pub returns-in-Record-clause-ok : goal.returns-in-Record-clause-ok
 returns-in-Record-clause-ok c =
     reached_record c.go_along-answer.result.0 c.args.prefix.now c.in-Record.size (λ i. (c.type_inv.prefix i).fits)
     c.go_along-answer.ensures.reached (c.go_along-answer.ensures.stands ∙ ap (λ (s : Scan). Some s) c.in-Record.is)
-
-pub returns-in-Record-clause-decides : goal.returns-in-Record-clause-decides
-returns-in-Record-clause-decides c =
-    subst (λ (s : Scan). Decides c.args.prefix.now s) c.in-Record.is c.go_along-answer.ensures.decides

@@ -1,5 +1,5 @@
-use Rattle.std.proofs.Common.{◌≡◌, ℕ, List, suc, ◌-◌, ◌<◌, ◌≤◌, take, drop, get_or, true, false, sym, ap, refl}
-use Rattle.std.proofs.Common.{drop-cons, ◌∙◌, arith}
+use Rattle.std.proofs.Common.{◌≡◌, ℕ, suc, ◌-◌, ◌<◌, ◌≤◌, take, drop, get_or, true, false, sym, ap}
+use Rattle.std.proofs.Common.{◌∙◌, arith}
 use Rattle.std.specs.List.{list_all}
 use Rattle.mseed_record.specs.Header.{is_blank}
 use Rattle.mseed_record.proofs.Trims.{trimmed_none, trimmed_is}
@@ -8,23 +8,8 @@ use Rattle.mseed_record.proofs.header.trimmed.Goals as goal
 one_less : (n : ℕ) → 0 < n → suc (n - 1) ≡ n
 one_less n some = omega arith
 
-lt_le : {n m : ℕ} → n < m → n ≤ m
-lt_le less = omega arith
-
 below : (n m : ℕ) → 0 < n → n ≤ m → n - 1 < m
 below n m some within = omega arith
-
-pub loop-end-preserved : goal.loop-end-preserved
-loop-end-preserved c =
-    let code : List ℕ = c.args.code.now in
-    let end = c.loop-end.end in
-    let inside = below end _ c.loop-end-test.true c.loop-end.invariant.0 in
-    let last : suc (end - 1) ≡ end = one_less end c.loop-end-test.true in
-    let blank : is_blank (get_or code (end - 1) 0) ≡ true = sym c.is_blank.ensures ∙ c.if-not-is_blank.false in
-    let blanks : list_all is_blank (drop (suc (end - 1)) code) ≡ true = rw last c.loop-end.invariant.1 in (
-      lt_le inside,
-      ap (list_all is_blank) (drop-cons code (end - 1) 0 inside) ∙ (rw (blank, blanks) refl),
-    )
 
 pub returns-then-not-is_blank : goal.returns-then-not-is_blank
 returns-then-not-is_blank c =

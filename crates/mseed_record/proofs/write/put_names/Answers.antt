@@ -1,19 +1,14 @@
 use Rattle.std.proofs.Common.{◌≡◌, ◌+◌, ◌++◌, List, ℕ, [], length, drop, slice_range, codes, refl, ◌∙◌, arith, ap}
-use Rattle.std.proofs.Common.{length-drop, length-take, rules, sym}
+use Rattle.std.proofs.Common.{length-drop, length-take, rules}
 use Rattle.mseed_record.proofs.Puts.{put_next}
 use Rattle.mseed_record.proofs.write.put_names.Goals as goal
-
-pub returns-clause-key : goal.returns-clause-key
-returns-clause-key c =
-    let long : length c.key-key.result.now ≡ 12 = search rules in
-    ap (λ (xs : List ℕ). length xs) (sym c.key-key.ensures) ∙ long
 
 pub returns-clause-bytes : goal.returns-clause-bytes
 returns-clause-bytes c =
     let old : List ℕ = c.args.out.now in
     let number = c.sequence_digits.ensures in
     let key = c.key-key.ensures in
-    let long = ap (λ (xs : List ℕ). length xs) key ∙ returns-clause-key c in
+    let long : length c.key-key.result.now ≡ 12 = search rules in
     let six : 0 + length c.sequence_digits.result ≡ 6 = omega (arith, ap (λ (xs : List ℕ). length xs) number) in
     let one = put_next old old c.put.new.out [] c.sequence_digits.result 0 6 six (record { bytes = refl; size = refl })
     c.put.ensures in

@@ -1,5 +1,4 @@
-use Rattle.std.proofs.Common.{◌≡◌, ℕ, List, [], ◌∷◌, ◌++◌, length, get_or, true, None, refl, ◌∙◌, rules}
-use Rattle.mseed_record.specs.Written.{first_bad_code, is_code}
+use Rattle.std.proofs.Common.{◌≡◌, ℕ, List, [], ◌∷◌, ◌++◌, length, get_or, ◌∙◌, rules}
 use Rattle.mseed_record.proofs.Puts.{each_byte}
 use Rattle.mseed_record.proofs.codes.Codes.new.Goals as goal
 
@@ -12,19 +11,6 @@ joined n s l c hn hs hl hc =
     let el = each_byte l 2 hl in
     let ec = each_byte c 3 hc in
     λ i. en i ++ es i ++ el i ++ ec i
-
--- four codes that fit leave no bad one
-none_bad : (n s l c : List ℕ) → is_code 2 n ≡ true → is_code 5 s ≡ true → is_code 2 l ≡ true → is_code 3 c ≡ true
-    → first_bad_code n s l c ≡ None
-none_bad n s l c hn hs hl hc = rw (hn, hs, hl, hc) refl
-
-pub returns-clause-ok : goal.returns-clause-ok
-returns-clause-ok c = (
-  λ _. none_bad c.args.network.now c.args.station.now c.args.location.now c.args.channel.now
-      (c.in_ok-n.ensures.ok.0 refl) (c.in_ok-s.ensures.ok.0 refl) (c.in_ok-l.ensures.ok.0 refl)
-      (c.in_ok-c.ensures.ok.0 refl),
-  λ _. refl,
-)
 
 pub returns-clause-key : goal.returns-clause-key
 returns-clause-key c =

@@ -6,10 +6,6 @@ use Rattle.mseed_record.proofs.Scanned.{scanned}
 use Rattle.mseed_record.proofs.framer.Framer.look.Goals as goal
 use Rattle.mseed_record.proofs.framer.Framer.look.Goals.{in-Some, in-None+in-Ok}
 
-pub returns-in-Err-clause-record : goal.returns-in-Err-clause-record
-returns-in-Err-clause-record c k e =
-    ((scanned c.args.prefix.now c.in-Err.answer (λ i. (c.type_inv.prefix i).fits) c.in-Err.ensures.err).record_is k).0 e
-
 pub returns-in-Err-clause-bound : goal.returns-in-Err-clause-bound
 returns-in-Err-clause-bound c =
     (scanned c.args.prefix.now c.in-Err.answer (λ i. (c.type_inv.prefix i).fits) c.in-Err.ensures.err).bound
@@ -35,6 +31,3 @@ pub returns-clause-bound : goal.returns-clause-bound
 returns-clause-bound c =
     (scanned c.args.prefix.now c.go_along-answer.result.1 (λ i. (c.type_inv.prefix i).fits)
     c.go_along-answer.ensures.decides).bound
-
-pub returns-in-Err-clause-goes_on : goal.returns-in-Err-clause-goes_on
-returns-in-Err-clause-goes_on c more = rw c.in-None.is tt
