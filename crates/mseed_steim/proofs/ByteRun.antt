@@ -71,10 +71,7 @@ first_bytes p frame k m h = search (arith)
 -- the run of these words, and whatever is after them
 pub run_words : (p : List ℕ) (frame m k n : ℕ) → AreBytes p frame k m → run_in frame (words_from p (k + m) n) ≡ []
     → run_in frame (words_from p k (m + n)) ≡ words_from p k m
-run_words p frame zero k n h stop =
-    let none : k + 0 ≡ k = omega arith in
-    let all : 0 + n ≡ n = omega arith in
-    rw (words_none p k, all) (rw none at stop)
+run_words p frame zero k n h stop = grind (arith, words_none)
 run_words p frame (suc m) k n h stop =
     let one = first_bytes p frame k m h in
     let more : suc m + n ≡ suc (m + n) = omega arith in
@@ -94,20 +91,13 @@ neither false x y = refl
 
 other_frame : (p : List ℕ) (frame k n : ℕ) → k % 16 ≡ 0 → frame < k / 16 → run_in frame (words_from p (k + 1) n) ≡ []
 other_frame p frame k zero e h = rw (words_none p (k + 1)) refl
-other_frame p frame k (suc n) e h =
-    let data_place : (k + 1) % 16 ≢ 0 = λ z. omega arith in
-    let differs : (k + 1) / 16 ≢ frame = λ z. omega arith in
-    rw (words_step p (k + 1) n data_place, ne_eqb ((k + 1) / 16) frame differs) refl
+other_frame p frame k (suc n) e h = grind (arith, ne_eqb, words_step)
 
 -- where a run stops: at another code, or at the frame's end
 pub run_stops : (p : List ℕ) (frame k n : ℕ) → (k % 16 ≢ 0 → code_at p k ≢ 1) → (k % 16 ≡ 0 → frame < k / 16)
     → run_in frame (words_from p k n) ≡ []
 run_stops p frame k zero other past = rw (words_none p k) refl
-run_stops p frame k (suc n) other past = ⊎_elim
-    (λ (head : k % 16 ≡ 0). rw (words_skip p k n head) (other_frame p frame k n head (past head)))
-    (λ (data_place : k % 16 ≢ 0). rw (words_step p k n data_place, ne_eqb (code_at p k) 1 (other data_place))
-    (neither (eqb (k / 16) frame) _ _))
-    (is_head k)
+run_stops p frame k (suc n) other past = grind (arith, is_head, ne_eqb, neither, other_frame, words_skip, words_step)
 
 -- the bytes of a word, and those of the words after it
 bytes_cut : (p : List ℕ) (k m : ℕ) → take (4 * suc m) (drop (4 * k) p) ≡ take 4 (drop (4 * k) p) ++ take (4 * m)

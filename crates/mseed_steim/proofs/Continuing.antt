@@ -30,19 +30,13 @@ pub walks_on : {keep : Option (ℤ → ℤ → ℤ)} {n : ℕ} {s t next : Sum} 
     {items later others behind : List (Result ℤ BadWordAt)} → Continues keep n s before items later between t
     → later ≡ others → same ≡ between → Continues keep n t same others behind after next
     → Continues keep n s before items behind after next
-walks_on {n = n} {t = t} c e f d = record {
-  folded = c.folded ∙ ap (fold n t) e ∙ d.folded;
-  kept = d.kept ∙ rw (f, ← e) c.kept;
-  met = d.met;
-  places = d.places;
-}
+walks_on {n = n} {t = t} c e f d = grind arith
 
 -- over the same items
 pub walks_over : (keep : Option (ℤ → ℤ → ℤ)) (n : ℕ) (s : Sum) (before after : List ℤ)
     (items others behind : List (Result ℤ BadWordAt)) (r : Result Sum ReadFault) → items ≡ others
     → Walks keep n s before others behind after r → Walks keep n s before items behind after r
-walks_over keep n s before after items others behind r e w =
-    subst (λ (xs : List (Result ℤ BadWordAt)). Walks keep n s before xs behind after r) (sym e) w
+walks_over keep n s before after items others behind r e w = grind arith
 
 -- no more is needed, whatever stands after
 kept_done : (keep : Option (ℤ → ℤ → ℤ)) (n : ℕ) (s : Sum) (out : List ℤ) (items later : List (Result ℤ BadWordAt))
@@ -53,12 +47,8 @@ pub continues_done : {keep : Option (ℤ → ℤ → ℤ)} {n : ℕ} {s next : S
     {items behind : List (Result ℤ BadWordAt)} (later : List (Result ℤ BadWordAt))
     → Continues keep n s before items behind after next → next.met ≡ n
     → Continues keep n s before items later after next
-continues_done {keep} {n} {next = next} {after = after} {behind = behind} later c e = record {
-  folded = c.folded ∙ fold_done n next behind later e;
-  kept = kept_done keep n next after later behind e ∙ c.kept;
-  met = c.met;
-  places = c.places;
-}
+continues_done {keep} {n} {next = next} {after = after} {behind = behind} later c e =
+    grind (arith, fold_done, kept_done)
 
 -- all places are filled, or a sample lacks
 pub ends_kept : (keep : Option (ℤ → ℤ → ℤ)) (n : ℕ) (s : Sum) (out : List ℤ) (items : List (Result ℤ BadWordAt))
@@ -92,12 +82,8 @@ pub continues_near : {keep : Option (ℤ → ℤ → ℤ)} {n : ℕ} {before aft
     → next.met ≡ s.met + length ds → next.last ≡ s.last +ℤ total ds
     → Puts keep s.met (λ k. kept_along k s.met s.last ds) before after → length after ≡ places_for keep n
     → Continues keep n s before (map Ok ds ++ more) more after next
-continues_near {keep} {n} {before} {after} ds s next more counted room near met last puts places = record {
-  folded = let far = goes_far n ds s more counted room near in rw (← met, ← last) at far;
-  kept = search (arith, nat_tests, keeps_far, length-kept_along, puts_kept);
-  met = omega (arith, met, room);
-  places = places;
-}
+continues_near {keep} {n} {before} {after} ds s next more counted room near met last puts places =
+    grind (arith, goes_far, keeps_far, length-kept_along, puts_kept)
 
 -- the first sample's difference isn't used
 pub first_counted : (m : ℕ) (ds : List ℤ) → IsCounted m (with_first m (pos 0) ds)
@@ -128,12 +114,7 @@ pub continues_unused : {keep : Option (ℤ → ℤ → ℤ)} {n : ℕ} {s next :
     (ds : List ℤ) (more : List (Result ℤ BadWordAt)) → 0 < n
     → Continues keep n s before (map Ok (with_first s.met z ds) ++ more) more after next
     → Continues keep n s before (map Ok ds ++ more) more after next
-continues_unused {keep} {n} {s} {before = before} z ds more some c = record {
-  folded = fold_unused n s z ds more some ∙ c.folded;
-  kept = c.kept ∙ sym (kept_unused keep n s z before ds more some);
-  met = c.met;
-  places = c.places;
-}
+continues_unused {keep} {n} {s} {before = before} z ds more some c = grind (arith, fold_unused, kept_unused)
 
 -- where nothing is kept, the sum alone goes on
 pub nothing_kept : (keep : Option (ℤ → ℤ → ℤ)) (task : Task) (p : List ℕ) (i : ℕ) (s : Sum) (out : List ℤ)

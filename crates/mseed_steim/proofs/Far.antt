@@ -44,10 +44,7 @@ met_near keep n s d more less counts fit = search (arith, met_add, met_first, sa
 pub goes_far : (n : ℕ) (ds : List ℤ) (s : Sum) (more : List (Result ℤ BadWordAt)) → IsCounted s.met ds
     → s.met + length ds ≤ n → nat_abs s.last + span ds < 2 ^ 31
     → fold n s (map Ok ds ++ more) ≡ fold n (record { met = s.met + length ds; last = s.last +ℤ total ds }) more
-goes_far n [] s more counted room far =
-    let met : s.met + 0 ≡ s.met = omega arith in
-    let last : s.last +ℤ pos 0 ≡ s.last = omega (arith, ints) in
-    rw (met, last) refl
+goes_far n [] s more counted room far = grind (arith, ints)
 goes_far n (d ∷ ds) s more counted room far =
     let near = abs_sum s.last d in
     let met : s.met + 1 + length ds ≡ s.met + length (d ∷ ds) = omega arith in
@@ -62,10 +59,7 @@ pub keeps_far : (keep : ℤ → ℤ → ℤ) (n : ℕ) (ds : List ℤ) (s : Sum)
     → IsCounted s.met ds → s.met + length ds ≤ n → nat_abs s.last + span ds < 2 ^ 31
     → met_in keep n s (map Ok ds ++ more) ≡ kept_along keep s.met s.last ds
     ++ met_in keep n (record { met = s.met + length ds; last = s.last +ℤ total ds }) more
-keeps_far keep n [] s more counted room far =
-    let met : s.met + 0 ≡ s.met = omega arith in
-    let last : s.last +ℤ pos 0 ≡ s.last = omega (arith, ints) in
-    rw (met, last) refl
+keeps_far keep n [] s more counted room far = grind (arith, ints)
 keeps_far keep n (d ∷ ds) s more counted room far =
     let near = abs_sum s.last d in
     let met : s.met + 1 + length ds ≡ s.met + length (d ∷ ds) = omega arith in
@@ -82,15 +76,11 @@ sample_kept m d s = search (arith)
 
 pub sums_kept : (m : ℕ) (l : ℤ) (ds : List ℤ) → kept_along the_sample m l ds ≡ sums l ds
 sums_kept m l [] = refl
-sums_kept m l (d ∷ ds) =
-    ap (λ (z : ℤ). z ∷ kept_along the_sample (m + 1) (l +ℤ d) ds) (sample_kept m d (l +ℤ d))
-    ∙ ap (λ (zs : List ℤ). (l +ℤ d) ∷ zs) (sums_kept (m + 1) (l +ℤ d) ds)
+sums_kept m l (d ∷ ds) = grind (arith, sample_kept, sums_kept (m + 1) (l +ℤ d) ds)
 
 steps_later : (m : ℕ) (l : ℤ) (ds : List ℤ) → 0 < m → kept_along the_difference m l ds ≡ ds
 steps_later m l [] some = refl
-steps_later m l (d ∷ ds) some =
-    rw (ne_eqb m 0 (λ (e : m ≡ 0). omega (arith, e, some)))
-    (ap (λ (zs : List ℤ). d ∷ zs) (steps_later (m + 1) (l +ℤ d) ds (omega arith)))
+steps_later m l (d ∷ ds) some = grind (arith, ne_eqb, steps_later (m + 1) (l +ℤ d) ds (omega arith))
 
 pub steps_kept : (m : ℕ) (l : ℤ) (ds : List ℤ) → IsCounted m ds → kept_along the_difference m l ds ≡ with_first m l ds
 steps_kept m l ds counted = search (arith, same_last, steps_later)

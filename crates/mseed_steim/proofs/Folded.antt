@@ -102,8 +102,7 @@ both_empty keep l xs ys e h = e ∙ sym (ap (kept_from keep l) h)
 pub kept_later : (keep : ℤ → ℤ → ℤ) (n : ℕ) (s : Sum) (items : List (Result ℤ BadWordAt)) → 0 < s.met → s.met ≤ n
     → met_in keep n s items ≡ kept_from keep s.last (met_in the_sample n s items)
 kept_later keep n s [] p h = both_empty keep s.last _ _ (met_none keep n s) (met_none the_sample n s)
-kept_later keep n s (Err at ∷ more) p h =
-    both_empty keep s.last _ _ (met_bad keep n s at more) (met_bad the_sample n s at more)
+kept_later keep n s (Err at ∷ more) p h = grind (arith, both_empty, met_bad)
 kept_later keep n s (Ok d ∷ more) p h = ⊎_elim
     (λ (less : s.met < n). (elim (fits (s.last +ℤ d)) as (λ b. fits (s.last +ℤ d) ≡ b
     → met_in keep n s (Ok d ∷ more) ≡ kept_from keep s.last (met_in the_sample n s (Ok d ∷ more))) [
@@ -250,9 +249,7 @@ lacks n m (Ok d ∷ more) h = ⊎_elim
 pub lack_group : (n m : ℕ) (ds : List ℤ) (more : List (Result ℤ BadWordAt)) → m + length ds < n
     → lack n m (map Ok ds ++ more) ≡ lack n (m + length ds) more
 lack_group n m [] more h = ap (λ (k : ℕ). lack n k more) (omega arith)
-lack_group n m (d ∷ ds) more h =
-    lack_more n m d (map Ok ds ++ more) (omega arith) ∙ lack_group n (m + 1) ds more (omega arith)
-    ∙ ap (λ (k : ℕ). lack n k more) (omega arith)
+lack_group n m (d ∷ ds) more h = grind (arith, lack_more, lack_group n (m + 1) ds more (omega arith))
 
 -- the differences are enough
 pub lack_none : (n m : ℕ) (ds : List ℤ) (more : List (Result ℤ BadWordAt)) → m < n → n ≤ m + length ds

@@ -37,16 +37,8 @@ use Rattle.mseed_steim.proofs.FrameSums.{row_small}
 pub unpacked_more : (s : Scheme) (f : List ℕ) (from j n : ℕ)
     → unpacked s f from j (n + 1) ≡ unpacked s f from j n ++ differences_at s f from (j + n)
 unfolding unpacked
-unpacked_more s f from j zero =
-    let at : j + 0 ≡ j = omega arith in
-    rw (at, append-nil) refl
-unpacked_more s f from j (suc n) =
-    let at : j + 1 + n ≡ j + suc n = omega arith in
-    let later = rw at at (unpacked_more s f from (j + 1) n) in
-    let bigger : suc n + 1 ≡ suc (n + 1) = omega arith in
-    rw bigger (ap (λ (xs : List ℤ). differences_at s f from j ++ xs) later
-    ∙ sym (append_assoc (differences_at s f from j) (unpacked s f from (j + 1) n)
-    (differences_at s f from (j + suc n))))
+unpacked_more s f from j zero = grind (arith, append-nil)
+unpacked_more s f from j (suc n) = grind (arith, append_assoc, unpacked_more s f from (j + 1) n)
 
 -- what the words from one on spell
 spelled : (s : Scheme) (p f : List ℕ) (k from : ℕ) → Reads s p f k from
@@ -94,8 +86,7 @@ all_spelled : (s : Scheme) (p f begin : List ℕ) (k from : ℕ) → Begins begi
     → ((i : ℕ) → get_or f i 0 < 256) → AreGood s f from
     → (rest : List DataWord) → items_of s (words_from p (16 * k + from) (16 - from) ++ rest)
     ≡ map Ok (unpacked s f from 1 15) ++ items_of s rest
-all_spelled s p f begin k from (inl h) e octets =
-    rw h.0 (λ good. spelled s p f k 1 (reads_all s p f k 1 e octets) good 15 1 (omega arith) (omega arith) refl)
+all_spelled s p f begin k from (inl h) e octets = grind (arith, reads_all, spelled)
 all_spelled s p f begin k from (inr (inl h)) e octets = rw h.0 (λ good.
     let reads = reads_all s p f k 4 e octets in
     rw (after_4 s p f k reads) (spelled s p f k 4 reads good 12 4 (omega arith) (omega arith) refl))
@@ -108,9 +99,7 @@ span_unpacked : (s : Scheme) (f : List ℕ) (from n j : ℕ)
     → span (unpacked s f from j n) ≡ sum_l (map (λ w. span (differences_at s f from w)) (range_with_len j n))
 unfolding unpacked
 span_unpacked s f from zero j = refl
-span_unpacked s f from (suc n) j =
-    span-append (differences_at s f from j) (unpacked s f from (j + 1) n)
-    ∙ ap (λ (m : ℕ). span (differences_at s f from j) + m) (span_unpacked s f from n (j + 1))
+span_unpacked s f from (suc n) j = grind (arith, span-append, span_unpacked s f from n (j + 1))
 
 near_sum : (s : Scheme) (f : List ℕ) (from : ℕ) → sum_l (map (λ w. span (differences_at s f from w)) words) ≤ 1048576
     → span (unpacked s f from 1 15) ≤ 2 ^ 20
@@ -196,10 +185,7 @@ up_to w s begin f ds count octets some inside few same = record {
 unpacked_cut : (s : Scheme) (f : List ℕ) (from n m j : ℕ)
     → unpacked s f from j (n + m) ≡ unpacked s f from j n ++ unpacked s f from (j + n) m
 unfolding unpacked
-unpacked_cut s f from zero m j =
-    let none : 0 + m ≡ m = omega arith in
-    let at : j + 0 ≡ j = omega arith in
-    rw (none, at) refl
+unpacked_cut s f from zero m j = grind arith
 unpacked_cut s f from (suc n) m j =
     let more : suc n + m ≡ suc (n + m) = omega arith in
     let at : j + 1 + n ≡ j + suc n = omega arith in
@@ -220,19 +206,13 @@ length_unpacked : (s : Scheme) (f : List ℕ) (from n j : ℕ) → length (unpac
     ≡ sum_l (map (λ w. get_or (all_counts s) (row_at f from w) 0) (range_with_len j n))
 unfolding unpacked
 length_unpacked s f from zero j = refl
-length_unpacked s f from (suc n) j =
-    let long = length-digits (get_or (all_widths s) (row_at f from j) 0) (lanes_word_at f j)
-    (get_or (all_counts s) (row_at f from j) 0) in
-    let later = length_unpacked s f from n (j + 1) in
-    length-append (differences_at s f from j) (unpacked s f from (j + 1) n) ∙ omega (arith, long, later)
+length_unpacked s f from (suc n) j = grind (arith, length-append, length-digits, length_unpacked s f from n (j + 1))
 
 total_unpacked : (s : Scheme) (f : List ℕ) (from n j : ℕ)
     → total (unpacked s f from j n) ≡ sum_z (map (λ w. total (differences_at s f from w)) (range_with_len j n))
 unfolding unpacked
 total_unpacked s f from zero j = refl
-total_unpacked s f from (suc n) j =
-    total-append (differences_at s f from j) (unpacked s f from (j + 1) n)
-    ∙ ap (λ (z : ℤ). total (differences_at s f from j) +ℤ z) (total_unpacked s f from n (j + 1))
+total_unpacked s f from (suc n) j = grind (arith, total-append, total_unpacked s f from n (j + 1))
 
 -- the first word, which has the codes, counts for nothing
 past_codes : (g : ℕ → ℕ) → g 0 ≡ 0 → sum_l (map g words) ≡ sum_l (map g (range_with_len 1 15))
@@ -247,10 +227,7 @@ past_codes_z g e = omega (arith, ints, e)
 same_words : {A : Type 0} (count : ℕ → ℕ) (g h : ℕ → A) → ((w : ℕ) → count w < 128 → g w ≡ h w) → (ws : List ℕ)
     → sum_l (map count ws) < 128 → map g ws ≡ map h ws
 same_words count g h same [] few = refl
-same_words count g h same (w ∷ ws) few =
-    let one = same w (omega (arith, few)) in
-    let later = same_words count g h same ws (omega (arith, few)) in
-    cc (one, later)
+same_words count g h same (w ∷ ws) few = grind (arith, same_words count g h same ws (omega (arith, few)))
 
 pub told_by : (s : Scheme) (p f begin : List ℕ) (k from : ℕ) (lanes : MovedLanes) → Begins begin from
     → f ≡ take 64 (drop (64 * k) p) → ((i : ℕ) → get_or f i 0 < 256) → Adds s f from lanes

@@ -111,11 +111,7 @@ given_items s ws items h (broken before bad after ds cut run fails e) =
 data_small : (p : List ℕ) → ((i : ℕ) → get_or p i 0 < 256) → (k n : ℕ)
     → AllByRecursion IsWord (map (data_word p) (filter is_data (range_with_len k n)))
 data_small p octets k zero = tt
-data_small p octets k (suc n) = cond_both (not (eqb (k % 16) 0)) (k ∷ filter is_data (range_with_len (k + 1) n))
-    (filter is_data (range_with_len (k + 1) n))
-    (λ (ks : List ℕ). AllByRecursion IsWord (map (data_word p) ks))
-    (λ _. (word_small p k octets, data_small p octets (k + 1) n))
-    (λ _. data_small p octets (k + 1) n)
+data_small p octets k (suc n) = grind (arith, cond_both, word_small, data_small p octets (k + 1) n)
 
 pub words_small : (p : List ℕ) → ((i : ℕ) → get_or p i 0 < 256) → (k n : ℕ) → AllByRecursion IsWord (words_from p k n)
 unfolding words_from

@@ -46,8 +46,7 @@ unfolding integers
 get-integers order w p place zero k h = absurd (omega arith)
 get-integers order w p place (suc n) zero h = let same : place + w * 0 ≡ place = omega arith in rw same refl
 get-integers order w p place (suc n) (suc k) h =
-    let same : place + w + w * k ≡ place + w * suc k = omega (arith, mul-suc w k) in
-    rw (← same) (get-integers order w p (place + w) n k (omega arith))
+    grind (arith, mul-suc, get-integers order w p (place + w) n k (omega arith))
 
 begins_by : (order : Order) (w : ℕ) (p : List ℕ) (place n : ℕ) → 0 < w → 256 ^ w ≡ 2 ^ (8 * w)
     → ((i : ℕ) → get_or p i 0 < 256) → place + w * n ≤ length p
@@ -99,10 +98,7 @@ pub integers_step : (order : Order) (w : ℕ) (p : List ℕ) (n i : ℕ) → i <
     → integers order w p (w * i) (n - i) ≡ twos_complement w (number_at order w (w * i) p) ∷ integers order w p
     (w * (i + 1)) (n - (i + 1))
 unfolding integers
-integers_step order w p n i h =
-    let more : n - i ≡ suc (n - (i + 1)) = omega arith in
-    let place : w * i + w ≡ w * (i + 1) = omega (arith, mul-suc w i) in
-    rw (more, place) refl
+integers_step order w p n i h = grind (arith, mul-suc)
 
 pub integers_over : (order : Order) (w : ℕ) (p : List ℕ) (n i : ℕ) → n ≤ i → integers order w p (w * i) (n - i) ≡ []
 unfolding integers

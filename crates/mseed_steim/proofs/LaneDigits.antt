@@ -22,13 +22,11 @@ next_lane out prefix at lane count w word z inside value so_far =
 -- a table's number of a word
 pub at_word : (f : ℕ → ℕ) (w : ℕ) → w < 16 → get_or (map f words) w 0 ≡ f w
 unfolding words
-at_word f = sixteen (λ w. get_or (map f words) w 0 ≡ f w) refl refl refl refl refl refl refl refl refl refl refl refl
-    refl refl refl refl
+at_word f = grind (arith, sixteen)
 
 pub place_at : (w : ℕ) → w < 16 → get_or words w 0 ≡ w
 unfolding words
-place_at = sixteen (λ w. get_or words w 0 ≡ w) refl refl refl refl refl refl refl refl refl refl refl refl refl refl
-    refl refl
+place_at = grind (arith, sixteen)
 
 -- no number of a list is more than their sum
 pub one_of_sum : (xs : List ℕ) (i : ℕ) → get_or xs i 0 ≤ sum_l xs

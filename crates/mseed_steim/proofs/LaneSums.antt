@@ -22,26 +22,18 @@ pub minus_sum : (xs ys : List ℕ) → length xs ≡ length ys → Each1 (Fits w
 minus_sum [] [] e h = refl
 minus_sum [] (y ∷ ys) e h = absurd (omega arith)
 minus_sum (x ∷ xs) [] e h = absurd (omega arith)
-minus_sum (x ∷ xs) (y ∷ ys) e h =
-    let ih = minus_sum xs ys (omega arith) h.1 in
-    let small : y < 4294967296 = h.0.fits in
-    omega (arith, ih, small)
+minus_sum (x ∷ xs) (y ∷ ys) e h = grind (arith, minus_sum xs ys (omega arith) h.1)
 
 pub shl_sum : (k n : ℕ) (xs : List ℕ) → length xs ≡ n
     → sum_l (zip2 (λ a b. a * 2 ^ b % 4294967296) xs (replicate n k)) % 4294967296 ≡ 2 ^ k * sum_l xs % 4294967296
 shl_sum k n [] e = omega arith
 shl_sum k zero (x ∷ xs) e = absurd (omega arith)
-shl_sum k (suc n) (x ∷ xs) e =
-    let ih = shl_sum k n xs (omega arith) in
-    let more : 2 ^ k * (x + sum_l xs) ≡ x * 2 ^ k + 2 ^ k * sum_l xs = omega arith in
-    omega (arith, ih, more)
+shl_sum k (suc n) (x ∷ xs) e = grind (arith, sum_l, shl_sum k n xs (omega arith))
 
 pub fold_sum : (a : ℕ) (xs : List ℕ)
     → fold_l (λ s x. (s + x) % 4294967296) (a % 4294967296) xs ≡ (a + sum_l xs) % 4294967296
 fold_sum a [] = omega arith
-fold_sum a (x ∷ xs) =
-    let ih = fold_sum (a % 4294967296 + x) xs in
-    ih ∙ omega arith
+fold_sum a (x ∷ xs) = grind (arith, fold_sum (a % 4294967296 + x) xs)
 
 pub fold_sum_0 : (xs : List ℕ) → fold_l (λ s x. (s + x) % 4294967296) 0 xs ≡ sum_l xs % 4294967296
 fold_sum_0 xs = fold_sum 0 xs ∙ omega arith
@@ -95,8 +87,7 @@ sums_plus f g (w ∷ ws) = let ih = sums_plus f g ws in omega (arith, ih)
 pub two_sums : (f g : ℕ → ℕ) (ws : List ℕ) (s t u : ℕ) → s ≡ sum_l (map f ws) → t ≡ sum_l (map g ws)
     → u % 4294967296 ≡ (s + t) % 4294967296
     → u % 4294967296 ≡ sum_l (map (λ w. f w + g w) ws) % 4294967296
-two_sums f g ws s t u d e h = h ∙ ap (λ n. n % 4294967296) (ap (λ n. n + t) d ∙ ap (λ n. sum_l (map f ws) + n) e
-    ∙ sym (sums_plus f g ws))
+two_sums f g ws s t u d e h = grind (arith, sum_l, sums_plus)
 
 pub more_sums : (f g : ℕ → ℕ) (ws : List ℕ) (s t u : ℕ) → s % 4294967296 ≡ sum_l (map f ws) % 4294967296
     → t ≡ sum_l (map g ws) → u % 4294967296 ≡ (s + t) % 4294967296
@@ -114,8 +105,7 @@ four_sums f g h k ws a b c d s t u p q r v e m n =
 pub table_words : (t rows : List ℕ) (table : List ℕ) (row : ℕ → ℕ) (ws : List ℕ) → t ≡ map (λ r. get_or table r 0) rows
     → rows ≡ map row ws
     → t ≡ map (λ w. get_or table (row w) 0) ws
-table_words t rows table row ws e g = e ∙ ap (λ z. map (λ r. get_or table r 0) z) g
-    ∙ map-map (λ r. get_or table r 0) row ws
+table_words t rows table row ws e g = grind (arith, map-map)
 
 -- a plane and what a table says of its rows, word by word
 pub planes_by : (by : ℕ → ℕ → ℕ) (p t rows : List ℕ) (table : List ℕ) (byte row : ℕ → ℕ) (ws : List ℕ)

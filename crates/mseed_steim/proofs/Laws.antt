@@ -32,17 +32,12 @@ begins_one order w p place [] [] some l h k = refl
 begins_one order w p place [] (t ∷ ts) some l h k = absurd (omega arith)
 begins_one order w p place (s ∷ ss) [] some l h k = absurd (omega arith)
 begins_one order w p place (s ∷ ss) (t ∷ ts) some l h k =
-    let positive : 0 < 8 * w = omega arith in
-    let first : s ≡ t = residue_one (8 * w) s t positive h.1 k.1 (sym h.2 ∙ k.2) in
-    let later : ss ≡ ts = begins_one order w p (place + w) ss ts some (omega arith) h.3 k.3 in
-    cc
+    grind (arith, residue_one, begins_one order w p (place + w) ss ts some (omega arith) h.3 k.3)
 
 begins_long : (order : Order) (w : ℕ) (p : List ℕ) (place : ℕ) (ss : List ℤ) → place ≤ length p
     → BeginsWith order w p place ss → place + w * length ss ≤ length p
 begins_long order w p place [] within h = omega arith
-begins_long order w p place (s ∷ ss) within h =
-    let later = begins_long order w p (place + w) ss h.0 h.3 in
-    omega (arith, later, mul-suc w (length ss))
+begins_long order w p place (s ∷ ss) within h = grind (arith, mul-suc, begins_long order w p (place + w) ss h.0 h.3)
 
 payload_one : (form : Form) (order : Order) (p : List ℕ) (n : ℕ) (ss ts : List ℤ) → IsPayloadReading form order p n ss
     → IsPayloadReading form order p n ts → ss ≡ ts
@@ -83,25 +78,19 @@ record_fault_one v f g (encoding a d) (in_payload b form e r p fault h) = cc (d,
 record_fault_one v f g (little_steim a s d l) (blockette_100 b) = cc (a, b)
 record_fault_one v f g (little_steim a s d l) (encoding b e) = cc (d, e)
 record_fault_one v f g (little_steim a s d l) (little_steim b t e m) = refl
-record_fault_one v f g (little_steim a s d l) (data_offset b form e r p) =
-    absurd (not_readable form v.payload_order s (cc (d, e)) l r)
-record_fault_one v f g (little_steim a s d l) (in_payload b form e r p fault h) =
-    absurd (not_readable form v.payload_order s (cc (d, e)) l r)
+record_fault_one v f g (little_steim a s d l) (data_offset b form e r p) = grind (arith, not_readable)
+record_fault_one v f g (little_steim a s d l) (in_payload b form e r p fault h) = grind (arith, not_readable)
 record_fault_one v f g (data_offset a form d r p) (blockette_100 b) = cc (a, b)
 record_fault_one v f g (data_offset a form d r p) (encoding b e) = cc (d, e)
-record_fault_one v f g (data_offset a form d r p) (little_steim b s e l) =
-    absurd (not_readable form v.payload_order s (cc (d, e)) l r)
+record_fault_one v f g (data_offset a form d r p) (little_steim b s e l) = grind (arith, not_readable)
 record_fault_one v f g (data_offset a form d r p) (data_offset b form' e r' p') = refl
 record_fault_one v f g (data_offset a form d r p) (in_payload b form' e r' p' fault h) = absurd (p p')
 record_fault_one v f g (in_payload a form d r p fault h) (blockette_100 b) = cc (a, b)
 record_fault_one v f g (in_payload a form d r p fault h) (encoding b e) = cc (d, e)
-record_fault_one v f g (in_payload a form d r p fault h) (little_steim b s e l) =
-    absurd (not_readable form v.payload_order s (cc (d, e)) l r)
+record_fault_one v f g (in_payload a form d r p fault h) (little_steim b s e l) = grind (arith, not_readable)
 record_fault_one v f g (in_payload a form d r p fault h) (data_offset b form' e r' p') = absurd (p' p)
 record_fault_one v f g (in_payload a form d r p fault h) (in_payload b form' e r' p' fault' h') =
-    let same : form ≡ form' = cc (d, e) in
-    payload_fault_one form' (payload_of v) (count_of v) f g
-    (subst (λ (x : Form). IsPayloadFault x (payload_of v) (count_of v) f) same h) h'
+    grind (arith, payload_fault_one)
 
 -- two forms of one encoding
 pub same_payload : (v : View) (form : Form) (s : List ℤ) → form_of v.encoding ≡ Some form → IsReading v s

@@ -83,22 +83,11 @@ one_near : (dnib bits : ℕ) (ds : List ℤ) → bits < 2 ^ 32
     → IsGroup (record { marked = false; spare = 1; count = 1; width = 32 }) dnib bits ds
     → IsWithin 30 (twos_complement 4 bits) → All (IsWithin 30) ds
 one_near dnib bits [] small p narrow = All-nil (IsWithin 30)
-one_near dnib bits (d ∷ e ∷ ds) small p narrow = let one : length (d ∷ e ∷ ds) ≡ 1 = p.count in
-    absurd (omega (arith, one))
-one_near dnib bits (d ∷ []) small p narrow =
-    let none : p.sum.0 ≡ 0 = omega (arith, p.sum.1) in
-    let sum : bits ≡ 0 + p.sum.0 * 2 ^ 28 + (residue (2 ^ 32) d * 1 + 0) = p.sum.2 in
-    let is : bits ≡ residue (2 ^ 32) d = omega (arith, sum, none) in
-    let range : IsWithin 32 d = p.range 0 d (omega arith) in
-    All-from_recursion (IsWithin 30) (d ∷ []) (
-      subst (λ (z : ℤ). IsWithin 30 z) (sym (value_is bits d small range is))
-          narrow,
-      tt,
-    )
+one_near dnib bits (d ∷ e ∷ ds) small p narrow = grind arith
+one_near dnib bits (d ∷ []) small p narrow = grind (arith, value_is)
 
 near_one : (p : List ℕ) (k : ℕ) → ((i : ℕ) → get_or p i 0 < 256) → IsNarrowAt p k → IsNearWord Steim1 (data_word p k)
-near_one p k octets narrow ds (empty e q) =
-    subst (λ (xs : List ℤ). All (IsWithin 30) xs) (sym q) (All-nil (IsWithin 30))
+near_one p k octets narrow ds (empty e q) = grind arith
 near_one p k octets narrow ds (Spells.row g dnib e is) =
     by_group (code_at p k) dnib g ds e is.range (λ three same.
     one_near dnib (word_at p k) ds (word_small p k octets)
@@ -133,9 +122,7 @@ run_near s (w ∷ ws) ds near h =
 adds_near : (before : ℤ) (ds ss : List ℤ) → Adds before ds ss → AllByRecursion (IsWithin 30) ds → AreNearFrom before ss
 adds_near before ds [] h all = tt
 adds_near before [] (s ∷ ss) h all = absurd h
-adds_near before (d ∷ ds) (s ∷ ss) h all =
-    let is : s -ℤ before ≡ d = omega (arith, ints, h.0) in
-    (subst (λ (z : ℤ). IsWithin 30 z) (sym is) all.0, adds_near s ds ss h.1 all.1)
+adds_near before (d ∷ ds) (s ∷ ss) h all = grind (arith, ints, adds_near s ds ss h.1 all.1)
 
 starts_near : (first : ℤ) (ds ss : List ℤ) → StartsAndAdds first ds ss → AllByRecursion (IsWithin 30) ds → AreNear ss
 starts_near first ds ss h all = search (arith, adds_near)
@@ -151,8 +138,7 @@ sums_near s p n ss sums near =
 -- integers
 short_from : (before : ℤ) (ss : List ℤ) → IsWithin 29 before → AllByRecursion (IsWithin 29) ss → AreNearFrom before ss
 short_from before [] b all = tt
-short_from before (s ∷ ss) b all =
-    ((omega (arith, ints, b, all.0), omega (arith, ints, b, all.0)), short_from s ss all.0 all.1)
+short_from before (s ∷ ss) b all = grind (arith, ints, short_from s ss all.0 all.1)
 
 short_near : (ss : List ℤ) → AllByRecursion (IsWithin 29) ss → AreNear ss
 short_near [] all = tt
@@ -215,8 +201,7 @@ no_code_3 codes j none some less three =
 -- a word's bits in two's complement
 pub word_value : (p : List ℕ) (k : ℕ) → ((i : ℕ) → get_or p i 0 < 256)
     → twos_complement 4 (word_at p k) ≡ to_z w32 (word_at p k)
-word_value p k octets = let small = word_small p k octets in signed_is 4 (word_at p k) small
-    ∙ signed_32 (word_at p k) small
+word_value p k octets = grind (arith, signed_32, signed_is, word_small)
 
 -- the code of a frame's word
 pub code_is : (p : List ℕ) (codes frame place : ℕ) → place < 16 → codes ≡ word_at p (16 * frame)

@@ -136,11 +136,7 @@ starts_steps : (x : ℤ) (ds es : List ℤ) (a b : List (Result ℤ BadWordAt)) 
 starts_steps x ds es a b [] e l some h = absurd (omega arith)
 starts_steps x ds [] a b (s ∷ ss) e l some h = absurd (omega arith)
 starts_steps x [] (z ∷ es) a b (s ∷ ss) e l some h = absurd h
-starts_steps x (d ∷ ds) (z ∷ es) a b (s ∷ ss) e l some h =
-    let rest : map Ok ds ++ a ≡ map Ok es ++ b = cc in
-    let first : s ≡ x = h.0 in
-    let later : es ≡ differences_from x ss = adds_steps x ds es a b ss rest (omega arith) h.1 in
-    rw first (ap (λ (ys : List ℤ). x ∷ ys) later)
+starts_steps x (d ∷ ds) (z ∷ es) a b (s ∷ ss) e l some h = grind (arith, adds_steps)
 
 -- where as many differences are unpacked as there are samples, these samples' steps are they, after the constant
 pub payload_steps : (s : Scheme) (p : List ℕ) (out : List ℤ) (first : ℤ) (more : List (Result ℤ BadWordAt))

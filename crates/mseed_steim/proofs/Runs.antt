@@ -72,8 +72,7 @@ Stops s (bad ∷ after) = SpellsNone s bad.code bad.bits
 -- no prefix of words spells more than all of them do, nor goes past a bad one
 bounds : (s : Scheme) (fa ra fb rb : List DataWord) (ds es : List ℤ) → fa ++ ra ≡ fb ++ rb → SpellsRun s fa ds
     → Stops s ra → SpellsRun s fb es → length es ≤ length ds
-bounds s fa ra [] rb ds es e h stops k = let nil : length es ≡ 0 = ap (λ (xs : List ℤ). length xs) k in
-    omega (arith, nil)
+bounds s fa ra [] rb ds es e h stops k = grind arith
 bounds s [] [] (v ∷ fb) rb ds es e h stops k = cc
 bounds s [] (bad ∷ after) (v ∷ fb) rb ds es e h none k =
     let same : v ≡ bad = cc in

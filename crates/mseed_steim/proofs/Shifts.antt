@@ -59,8 +59,7 @@ fitting : (w q : ℕ) → 0 < w → w ≤ 32 → q < 2 ^ w → FitsSigned w32 (s
 fitting w q p n h = search (arith, pow-le-pow_right, twice_half)
 
 pub digit_fits : (w place word : ℕ) → 0 < w → w ≤ 32 → FitsSigned w32 (digit_at w word place)
-digit_fits w place word p n =
-    fitting w (digit_of w place word) p n (mod_below (word / 2 ^ (w * place)) (2 ^ w) (pow_pos w))
+digit_fits w place word p n = grind (arith, fitting, mod_below, pow_pos)
 
 -- a digit within a word has no more bits than the word
 pub narrow : (w place : ℕ) → w * (place + 1) ≤ 32 → w ≤ 32

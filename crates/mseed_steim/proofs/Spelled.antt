@@ -30,19 +30,13 @@ length-digits w word (suc k) = ap suc (length-digits w word k)
 digits_within : (w word k : ℕ) → 0 < w → All (IsWithin w) (digits w word k)
 unfolding digits
 digits_within w word zero p = All-nil (IsWithin w)
-digits_within w word (suc k) p =
-    All-cons (IsWithin w) (digit_at w word k) (digits w word k)
-    (signed_within w (word / 2 ^ (w * k) % 2 ^ w) p (mod-lt (word / 2 ^ (w * k)) (pow_pos w)))
-    (digits_within w word k p)
+digits_within w word (suc k) p = grind (arith, mod-lt, pow_pos, signed_within, digits_within w word k p)
 
 digits_positional : (w word k : ℕ) → 0 < w → positional w (digits w word k) ≡ word % 2 ^ (w * k)
 unfolding digits
 digits_positional w word zero p = rw mul-zero (sym (mod-one word))
 digits_positional w word (suc k) p =
-    let digit : residue (2 ^ w) (digit_at w word k) ≡ word / 2 ^ (w * k) % 2 ^ w =
-    signed_residue w (word / 2 ^ (w * k) % 2 ^ w) p (mod-lt (word / 2 ^ (w * k)) (pow_pos w)) in
-    let long : w * suc k ≡ w + w * k = omega (arith, mul-suc w k) in
-    rw (digit, length-digits w word k, digits_positional w word k p, long) (sym (mod-pow-add word w (w * k)))
+    grind (arith, length-digits, mod-lt, mod-pow-add, mul-suc, pow_pos, signed_residue, digits_positional w word k p)
 
 -- the digits are the word's differences, whatever of the word stands above them
 group_by : (g : Group) (word spare : ℕ) → 0 < g.width → spare < g.spare
@@ -95,10 +89,7 @@ spelled_differences s c word ds small (row g d e p) =
 pub digits_step : (w word count i : ℕ) → i < count
     → digits w word (count - i) ≡ digit_at w word (count - 1 - i) ∷ digits w word (count - (i + 1))
 unfolding digits
-digits_step w word count i h =
-    let more : count - i ≡ suc (count - 1 - i) = omega arith in
-    let less : count - (i + 1) ≡ count - 1 - i = omega arith in
-    rw (more, less) refl
+digits_step w word count i h = grind arith
 
 -- the one digit of 32 bits
 pub signed_32 : (n : ℕ) → n < 2 ^ 32 → signed 32 n ≡ to_z w32 n
@@ -118,8 +109,7 @@ pub by_row : (s : Scheme) (c word : ℕ) (m : Bool) (j k w : ℕ) (ds : List ℤ
     → group_of s c (word / 2 ^ 30) ≡ Some (record { marked = m; spare = j; count = k; width = w })
     → ds ≡ digits w word k → differences_of s c word ≡ Some ds
 unfolding differences_of
-by_row s c word m j k w ds p e q = let some : eqb c 0 ≡ false = ne_eqb c 0 (λ (z : c ≡ 0). omega arith) in
-    rw (some, e, q) refl
+by_row s c word m j k w ds p e q = grind (arith, ne_eqb)
 
 -- code 1 is one row in both schemes
 pub bytes_row : (s : Scheme) (d : ℕ) → group_of s 1 d ≡ plain 4 8

@@ -63,13 +63,8 @@ held_in t h e near = h.is ∙ ap (int_wrap w32) e ∙ int_wrap_fits w32 t (near_
 
 -- sums of more differences
 pub sums_more : (l : ℤ) (xs ys : List ℤ) → sums l (xs ++ ys) ≡ sums l xs ++ sums (l +ℤ total xs) ys
-sums_more l [] ys =
-    let none : l +ℤ pos 0 ≡ l = omega (arith, ints) in
-    rw none refl
-sums_more l (x ∷ xs) ys =
-    let next : l +ℤ (x +ℤ total xs) ≡ (l +ℤ x) +ℤ total xs = omega (arith, ints) in
-    ap (λ (zs : List ℤ). (l +ℤ x) ∷ zs) (sums_more (l +ℤ x) xs ys
-    ∙ ap (λ (z : ℤ). sums (l +ℤ x) xs ++ sums z ys) (sym next))
+sums_more l [] ys = grind (arith, ints)
+sums_more l (x ∷ xs) ys = grind (arith, ints, sums_more (l +ℤ x) xs ys)
 
 pub length-sums : (l : ℤ) (xs : List ℤ) → length (sums l xs) ≡ length xs
 length-sums l [] = refl
@@ -78,9 +73,7 @@ length-sums l (x ∷ xs) = ap suc (length-sums (l +ℤ x) xs)
 -- numbers that are held in 32 bits
 pub all_held : (xs : List ℤ) → span xs < 2 ^ 31 → map (to_z w32) (map (of_z w32) xs) ≡ xs
 all_held [] near = refl
-all_held (x ∷ xs) near =
-    let fits : FitsSigned w32 x = near_signed x (omega (arith, near)) in
-    rw to_z-of_z (ap (λ (zs : List ℤ). x ∷ zs) (all_held xs (omega (arith, near))))
+all_held (x ∷ xs) near = grind (arith, near_signed, to_z-of_z, all_held xs (omega (arith, near)))
 
 pub sums_held : (l : ℤ) (xs : List ℤ) → nat_abs l + span xs < 2 ^ 31
     → map (to_z w32) (map (of_z w32) (sums l xs)) ≡ sums l xs

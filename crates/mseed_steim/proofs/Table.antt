@@ -114,14 +114,7 @@ same_row s c d e g m h = search (arith, cond_holds, first_or_marked, narrow_mark
 -- what a row spells at some dnib it spells at the word's top two bits
 pub at_top : (s : Scheme) (c d word : ℕ) (g : Group) (ds : List ℤ) → Kind g → group_of s c d ≡ Some g
     → IsGroup g d word ds → (group_of s c (word / 2 ^ 30) ≡ Some g) × IsGroup g (word / 2 ^ 30) word ds
-at_top s c d word g ds (whole m j l) h a = (
-  same_row s c d (word / 2 ^ 30) g m h,
-  record {
-    count = a.count;
-    range = a.range;
-    sum = (0, omega (arith, j), rw m (omega (arith, sum_whole g d word ds m j a)));
-  },
-)
+at_top s c d word g ds (whole m j l) h a = grind (arith, same_row, sum_whole)
 at_top s c d word g ds (full m j l) h a = let e : word / 2 ^ 30 ≡ d = top_is g d word ds (full m j l) m a in
     (rw e h, rw e a)
 at_top s c d word g ds (short m j l) h a = let e : word / 2 ^ 30 ≡ d = top_is g d word ds (short m j l) m a in

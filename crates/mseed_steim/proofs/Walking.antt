@@ -43,25 +43,16 @@ unfolding items_of
 no_items s before e = rw e refl
 
 pub is_head : (k : ℕ) → (k % 16 ≡ 0) ⊎ (k % 16 ≢ 0)
-is_head k = ⊎_elim (λ (some : 0 < k % 16). inr (λ e. omega arith)) (λ (none : k % 16 ≤ 0). inl (omega arith))
-    (cases_lt 0 (k % 16))
+is_head k = grind (arith, cases_lt)
 
 -- how many data words there are: all but the first of each frame
 pub length-words_from : (p : List ℕ) (k n : ℕ) → length (words_from p k n) + (k + n + 15) / 16 ≡ n + (k + 15) / 16
 length-words_from p k zero = rw (words_none p k) (omega arith)
-length-words_from p k (suc n) = ⊎_elim
-    (λ (head : k % 16 ≡ 0). let later = length-words_from p (k + 1) n in
-    rw (words_skip p k n head) (omega (arith, later)))
-    (λ (data_word : k % 16 ≢ 0). let later = length-words_from p (k + 1) n in
-    rw (words_step p k n data_word) (omega (arith, later)))
-    (is_head k)
+length-words_from p k (suc n) = grind (arith, is_head, words_skip, words_step, length-words_from p (k + 1) n)
 
 -- words that are cut in two
 pub words_cut : (p : List ℕ) (k n m : ℕ) → words_from p k (n + m) ≡ words_from p k n ++ words_from p (k + n) m
-words_cut p k zero m =
-    let none : k + 0 ≡ k = omega arith in
-    let all : 0 + m ≡ m = omega arith in
-    rw (none, all, words_none p k) refl
+words_cut p k zero m = grind (arith, words_none)
 words_cut p k (suc n) m =
     let next : k + 1 + n ≡ k + suc n = omega arith in
     let more : suc n + m ≡ suc (n + m) = omega arith in
@@ -102,9 +93,7 @@ first_behind p w framed e =
 
 skip_codes : (p : List ℕ) (k n : ℕ) → k % 16 ≡ 0 → words_from p k n ≡ words_from p (k + 1) (n - 1)
 skip_codes p k zero e = words_none p k ∙ sym (words_none p (k + 1))
-skip_codes p k (suc n) e =
-    let less : suc n - 1 ≡ n = omega arith in
-    rw less (words_skip p k n e)
+skip_codes p k (suc n) e = grind (arith, words_skip)
 
 -- the data words of some frames that aren't taken yet, and those of the later ones
 pub data_few : (met i : ℕ) → data_in met i ≤ 4

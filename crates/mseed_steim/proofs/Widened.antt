@@ -17,10 +17,7 @@ widened lt sub cast lane zero [] long small = refl
 widened lt sub cast lane zero (x ∷ v) long small = absurd (omega arith)
 widened lt sub cast lane (suc n) [] long small = absurd (omega arith)
 widened lt sub cast lane (suc n) (x ∷ v) long small =
-    let later = widened lt sub cast lane n v (omega arith) small.1 in
-    ap (λ (z : ℤ). z ∷ map (to_z w32) (sel_l (map (top 31) (zip2 lt (replicate n 127) (map cast v)))
-    (zip2 sub (map cast v) (replicate n 256)) (map cast v))) (lane x small.0)
-    ∙ ap (λ (zs : List ℤ). twos_complement 1 x ∷ zs) later
+    grind (arith, replicate, sel_l, top, zip2, widened lt sub cast lane n v (omega arith) small.1)
 
 -- sixteen places more
 pub stored : (i m : ℕ) (bytes : List ℕ) (out w : List ℤ) → m ≡ i + 16 → m ≤ length out → length out ≡ length bytes

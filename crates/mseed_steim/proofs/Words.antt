@@ -34,10 +34,8 @@ residue_one_half : (m h : ℕ) (d e : ℤ) → m ≡ 2 * h → (neg_ℤ (pos h) 
     → e <ℤ pos h → residue m d ≡ residue m e → d ≡ e
 residue_one_half m h (pos a) (pos b) s d1 d2 e1 e2 r =
     ap pos (omega (arith, r, small_mod m h a s (omega (arith, ints)), small_mod m h b s (omega (arith, ints))))
-residue_one_half m h (pos a) (negsuc b) s d1 d2 e1 e2 r =
-    differ m h a b s (omega (arith, ints)) (omega (arith, ints)) r
-residue_one_half m h (negsuc a) (pos b) s d1 d2 e1 e2 r =
-    differ m h b a s (omega (arith, ints)) (omega (arith, ints)) (sym r)
+residue_one_half m h (pos a) (negsuc b) s d1 d2 e1 e2 r = grind (arith, differ, ints)
+residue_one_half m h (negsuc a) (pos b) s d1 d2 e1 e2 r = grind (arith, differ, ints)
 residue_one_half m h (negsuc a) (negsuc b) s d1 d2 e1 e2 r =
     let al : a < h = omega (arith, ints) in
     let bl : b < h = omega (arith, ints) in

@@ -25,9 +25,7 @@ loop-turn-init c =
     }
 
 pub put_four-half-requires-clause-window : goal.put_four-half-requires-clause-window
-put_four-half-requires-clause-window c =
-    let cut = span_cut c.args.differences.now (4 + 8 * c.loop-turn.turn) 4 in
-    window_less _ _ _ _ _ (omega (arith, cut)) c.loop-turn.invariant.window
+put_four-half-requires-clause-window c = grind (arith, span_cut, window_less)
 
 pub put_four-whole-requires-clause-window : goal.put_four-whole-requires-clause-window
 put_four-whole-requires-clause-window c =

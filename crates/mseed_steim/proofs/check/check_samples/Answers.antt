@@ -1,3 +1,4 @@
+use Rattle.std.proofs.Common.{arith}
 use Rattle.std.proofs.lemmas.Result.{MatchResult-weaker}
 use Rattle.mseed_record.specs.Viewing.{view_of}
 use Rattle.mseed_steim.specs.Samples.{AreEnds}
@@ -5,8 +6,7 @@ use Rattle.mseed_steim.proofs.Laws.{answers_only, answers_fault, answers_denies}
 use Rattle.mseed_steim.proofs.check.check_samples.Goals as goal
 
 pub returns-clause-ends : goal.returns-clause-ends
-returns-clause-ends c = MatchResult-weaker c.check_record.result c.check_record.ensures
-    (λ ends h. (h.0, (h.1.0.0, h.1.0.1, h.1.1))) (λ fault h. tt)
+returns-clause-ends c = grind arith
 
 pub returns-clause-only : goal.returns-clause-only
 returns-clause-only c = λ s reading ends.
@@ -14,9 +14,7 @@ returns-clause-only c = λ s reading ends.
     (reading, ends)
 
 pub returns-clause-fault : goal.returns-clause-fault
-returns-clause-fault c =
-    answers_fault (view_of c.args.view.now) AreEnds c.check_record.result c.requires c.check_record.ensures
+returns-clause-fault c = grind (arith, answers_fault)
 
 pub returns-clause-denied : goal.returns-clause-denied
-returns-clause-denied c =
-    answers_denies (view_of c.args.view.now) AreEnds c.check_record.result c.requires c.check_record.ensures
+returns-clause-denied c = grind (arith, answers_denies)

@@ -11,10 +11,7 @@ pub returns-in-Ok-2-clause-fault : goal.returns-in-Ok-2-clause-fault
 returns-in-Ok-2-clause-fault c = search (arith, ends_differ, to_z-of_z)
 
 pub returns-in-Some-clause-fault : goal.returns-in-Some-clause-fault
-returns-in-Some-clause-fault c = lacking_fault c.args.scheme c.args.payload.now c.args.samples c.in-Some.earlier
-    (λ i. (c.type_inv.payload i).fits) (sym c.in-Some.is ∙ c.find_lack.ensures)
+returns-in-Some-clause-fault c = grind (arith, lacking_fault)
 
 pub returns-in-None-clause-fault : goal.returns-in-None-clause-fault
-returns-in-None-clause-fault c =
-    walk_fault c.args.scheme c.args.payload.now c.args.samples c.in-Err.fault c.requires.some
-    (λ i. (c.type_inv.payload i).fits) (sym c.in-Err.is ∙ c.requires.walked) (sym c.in-None.is ∙ c.find_lack.ensures)
+returns-in-None-clause-fault c = grind (arith, walk_fault)

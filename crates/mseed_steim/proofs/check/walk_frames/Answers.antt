@@ -1,12 +1,11 @@
+use Rattle.std.proofs.Common.{arith}
 use Rattle.std.proofs.Common.{rules, w32, FitsSigned}
 use Rattle.std.proofs.lemmas.Int.{to_z-of_z}
 use Rattle.mseed_steim.proofs.Ended.{walk_kept}
 use Rattle.mseed_steim.proofs.check.walk_frames.Goals as goal
 
 pub ends_of_walk-requires-clause-walked : goal.ends_of_walk-requires-clause-walked
-ends_of_walk-requires-clause-walked g c =
-    let fits : FitsSigned w32 c.in-Some.constants.first = search rules in
-    rw (to_z-of_z, c.in-Some.ensures.first) at c.walk-walked.ensures.folded
+ends_of_walk-requires-clause-walked g c = grind (arith, to_z-of_z)
 
 pub returns : goal.returns
 returns g c =

@@ -1,3 +1,4 @@
+use Rattle.std.proofs.Common.{arith}
 use Rattle.std.proofs.Common.{◌≡◌, ◌∙◌, List, ℕ, ℤ, subst}
 use Rattle.mseed_time.specs.declared.order.Order.{Order}
 use Rattle.mseed_record.specs.View.{View}
@@ -16,9 +17,7 @@ use Rattle.mseed_steim.proofs.ends.near_ends.Goals as goal
 -- the samples of a record are near one another, where its payload shows it
 near : (v : View) (form : Form) (o : Order) (p : List ℕ) (n : ℕ) → HoldsIn v form p → n ≡ count_of v
     → o ≡ v.payload_order → AreOctets p → IsSurelyNear form o p n → (s : List ℤ) → IsWhole v s → AreNear s
-near v form o p n held count order octets surely = near_whole v form p n held count
-    (subst (λ (q : Order). (s : List ℤ) → IsPayloadReading form q p n s → AreNear s) order
-    (λ s read. shown_near form o p n s octets surely read))
+near v form o p n held count order octets surely = grind (arith, near_whole, shown_near)
 
 pub unreachable-requires : goal.unreachable-requires
 unreachable-requires c =

@@ -9,6 +9,4 @@ chosen : (met i r c : ℕ) (three four one : List ℕ) → r ≡ min i 1 → c �
 chosen met i r c three four one e g h k l = search (arith)
 
 pub returns : goal.returns
-returns c =
-    chosen c.args.met c.args.frame c.min-row.result c.min-column.result _ _ _ c.min-row.ensures c.min-column.ensures
-    (inr (inr (refl, refl))) (inr (inl (refl, refl))) (inl (refl, refl))
+returns c = grind (arith, chosen)

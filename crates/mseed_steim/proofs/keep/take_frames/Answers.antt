@@ -12,9 +12,7 @@ pub keep_needed-requires-clause-near : goal.keep_needed-requires-clause-near
 keep_needed-requires-clause-near g c = search (arith, to_z-of_z)
 
 pub returns-then-keeps_nothing-clause-taken : goal.returns-then-keeps_nothing-clause-taken
-returns-then-keeps_nothing-clause-taken g c =
-    nothing_kept g.K.Keeper.kept c.args.task c.args.payload.now c.args.index c.args.sum c.args.out.now
-    c.add_frames.result (c.keeps_nothing.ensures c.if-keeps_nothing.true) c.requires.places c.add_frames.ensures
+returns-then-keeps_nothing-clause-taken g c = grind (arith, nothing_kept)
 
 pub returns-clause-taken : goal.returns-clause-taken
 returns-clause-taken g c =

@@ -4,8 +4,7 @@ use Rattle.mseed_steim.proofs.FirstRun.{found_run, moved_run}
 use Rattle.mseed_steim.proofs.keep.unused_in.Goals as goal
 
 pub returns-then-sum-gt0 : goal.returns-then-sum-gt0
-returns-then-sum-gt0 c =
-    moved_run c.args.task.scheme c.args.payload.now c.args.task.samples c.args.index c.args.sum (omega arith)
+returns-then-sum-gt0 c = grind (arith, moved_run)
 
 pub returns : goal.returns
 returns c =

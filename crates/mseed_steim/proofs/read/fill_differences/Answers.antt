@@ -1,3 +1,4 @@
+use Rattle.std.proofs.Common.{arith}
 use Rattle.mseed_record.specs.Viewing.{view_of}
 use Rattle.mseed_steim.proofs.Laws.{answers_denies, answers_done, answers_fault, answers_only}
 use Rattle.mseed_steim.proofs.read.fill_differences.Goals as goal
@@ -7,9 +8,7 @@ returns-clause-only c = λ s whole. answers_done c.fill_steps.result _ (answers_
     c.fill_steps.result c.requires.some c.fill_steps.ensures s whole)
 
 pub returns-clause-fault : goal.returns-clause-fault
-returns-clause-fault c =
-    answers_fault (view_of c.args.view.now) _ c.fill_steps.result c.requires.some c.fill_steps.ensures
+returns-clause-fault c = grind (arith, answers_fault)
 
 pub returns-clause-denied : goal.returns-clause-denied
-returns-clause-denied c =
-    answers_denies (view_of c.args.view.now) _ c.fill_steps.result c.requires.some c.fill_steps.ensures
+returns-clause-denied c = grind (arith, answers_denies)

@@ -1,3 +1,4 @@
+use Rattle.std.proofs.Common.{arith}
 use Rattle.std.proofs.lemmas.Result.{IfErr-weaker}
 use Rattle.mseed_record.specs.Viewing.{view_of}
 use Rattle.mseed_steim.proofs.Laws.{read_only, read_fault, refused_denies}
@@ -12,6 +13,4 @@ returns-clause-fault g c = read_fault (view_of c.args.view.now) (λ samples. sam
     c.requires c.read_record.ensures.reading c.read_record.ensures.refused
 
 pub returns-clause-denied : goal.returns-clause-denied
-returns-clause-denied g c =
-    IfErr-weaker c.read_record.result _ _ (λ fault. refused_denies (view_of c.args.view.now) fault c.requires)
-    c.read_record.ensures.refused
+returns-clause-denied g c = grind (arith, refused_denies)

@@ -5,9 +5,7 @@ use Rattle.mseed_steim.proofs.sum.add_near.Goals as goal
 
 wrapped : (a b : ℤ) → FitsSigned w32 a → FitsSigned w32 b → nat_abs a + nat_abs b < 2 ^ 31
     → to_z w32 ((of_z w32 a + of_z w32 b) % 2 ^ 32) ≡ a +ℤ b
-wrapped a b f g near =
-    let sum = abs_sum a b in
-    wrapping_add_is w32 a b f g ∙ int_wrap_fits w32 (a +ℤ b) (near_signed (a +ℤ b) (omega (arith, near, sum)))
+wrapped a b f g near = grind (arith, abs_sum, int_wrap_fits, near_signed, wrapping_add_is)
 
 pub returns : goal.returns
 returns c = wrapped c.args.last c.args.difference (search rules) (search rules) c.requires

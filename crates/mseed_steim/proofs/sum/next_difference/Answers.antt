@@ -5,8 +5,7 @@ use Rattle.mseed_steim.proofs.Spelled.{digits_step}
 use Rattle.mseed_steim.proofs.sum.next_difference.Goals as goal
 
 pub read_digit-requires-clause-room : goal.read_digit-requires-clause-room
-read_digit-requires-clause-room c =
-    room_at c.args.group.width c.args.group.count c.args.index c.requires c.args.group.fits
+read_digit-requires-clause-room c = grind (arith, room_at)
 
 pub returns : goal.returns
 returns c = search (arith, digits_step, to_z-of_z)

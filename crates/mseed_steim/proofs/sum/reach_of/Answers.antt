@@ -8,9 +8,7 @@ use Rattle.mseed_steim.proofs.sum.reach_of.Goals as goal
 
 -- one more
 more : (i m n d all later : ℕ) → all ≤ i * m + (d + later) → d ≤ n → i * m ≤ i * n → all ≤ (i + 1) * n + later
-more i m n d all later h high many =
-    let next : (i + 1) * n ≡ i * n + n = omega arith in
-    omega (arith, h, high, many, next)
+more i m n d all later h high many = grind arith
 
 pub loop-i-preserved : goal.loop-i-preserved
 loop-i-preserved c =
@@ -27,9 +25,7 @@ loop-i-preserved c =
     }
 
 pub overflow_mul-result : goal.overflow_mul-result
-overflow_mul-result c =
-    let many = mul-le-mul_right c.from.result c.requires in
-    record { fits = omega (arith, many, c.from.ensures, c.loop-i.invariant.most) }
+overflow_mul-result c = grind (arith, mul-le-mul_right)
 
 pub returns : goal.returns
 returns c = search (arith, drop_of_length-le)

@@ -11,8 +11,7 @@ use Rattle.mseed_steim.proofs.unpack.unpack_words.Goals as goal
 -- the rows in their two halves
 in_halves : (frame rows : List ℕ) (from word : ℕ) → Each1 (λ r. r < 16) rows → rows ≡ map (row_at frame from) words
     → word < 16 → row_of (digits_l 18446744073709551616 2 (number_l 256 rows)) word ≡ row_at frame from word
-in_halves frame rows from word small e less =
-    halves rows word small less ∙ rw e (at_word (row_at frame from) word less)
+in_halves frame rows from word small e less = grind (arith, at_word, halves)
 
 pub returns-then-has_no_code_3-clause-unpacked : goal.returns-then-has_no_code_3-clause-unpacked
 unfolding words
@@ -24,6 +23,4 @@ returns-then-has_no_code_3-clause-unpacked c = λ from some rows good.
     (no_more_than_4 c.args.scheme c.args.frame.now from c.fits-frame some other good)
 
 pub returns-clause-unpacked : goal.returns-clause-unpacked
-returns-clause-unpacked c = λ from some rows good.
-    c.unpack_all-2.ensures.unpacked c.args.frame.now from c.words_of-bits.ensures
-    (λ word less. in_halves c.args.frame.now c.args.rows from word c.requires.rows rows less) good (inl (omega arith))
+returns-clause-unpacked c = grind (arith, in_halves)

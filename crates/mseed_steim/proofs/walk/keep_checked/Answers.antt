@@ -13,6 +13,4 @@ pub loop-i-preserved : goal.loop-i-preserved
 loop-i-preserved g c = search (arith, drop_step, to_z-of_z, walks_on)
 
 pub returns-clause-walks : goal.returns-clause-walks
-returns-clause-walks g c =
-    let none = drop_of_length-le c.args.differences.now c.loop-i-test.false in
-    rw none at c.loop-i.invariant.walked
+returns-clause-walks g c = grind (arith, drop_of_length-le)

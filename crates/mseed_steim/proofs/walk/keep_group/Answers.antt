@@ -16,6 +16,4 @@ pub loop-i-preserved : goal.loop-i-preserved
 loop-i-preserved g c = search (arith, to_z-of_z, walks_on)
 
 pub returns : goal.returns
-returns g c = λ more.
-    let none = digits_over c.args.group.width c.args.word c.args.group.count c.loop-i.i c.loop-i-test.false in
-    (rw none at c.loop-i.invariant.walked) more
+returns g c = grind (arith, digits_over)

@@ -14,5 +14,4 @@ returns-in-Some g c = word_walks g.K.Keeper.kept c.args.samples c.args.scheme (a
     c.args.out.now c.keep_group.new.out c.keep_group.result c.in-Some.ensures c.keep_group.ensures
 
 pub returns-in-None : goal.returns-in-None
-returns-in-None g c = bad_word c.args.samples c.args.scheme (as_data c.args.word) c.args.sum c.in-None.ensures
-    (omega arith)
+returns-in-None g c = grind (arith, bad_word)

@@ -21,6 +21,4 @@ pub returns-clause-few : goal.returns-clause-few
 returns-clause-few c = search (arith, few_of, length-words_from)
 
 pub returns-clause-bounded : goal.returns-clause-bounded
-returns-clause-bounded c =
-    let count = length-words_from c.args.payload.now 3 (word_count c.args.payload.now - 3) in
-    rw (c.new.ensures, c.of.ensures) (omega (arith, count))
+returns-clause-bounded c = grind (arith, length-words_from)

@@ -10,9 +10,7 @@ rest : (c : In-None) → c.args.self.now.items ≡ items_of c.self.inside.scheme
 rest c = search (arith)
 
 pub returns-in-None-clause-steps : goal.returns-in-None-clause-steps
-returns-in-None-clause-steps c =
-    stepped c.self.inside.scheme c.args.self.now c.self.inside.words c.unpack_next.new.words c.unpack_next.new.ready
-    c.unpack_next.result (rest (goal.at.returns-in-None-clause-steps c).In-None) c.unpack_next.ensures.step
+returns-in-None-clause-steps c = grind (arith, rest, stepped)
 
 pub returns-in-None-clause-goes : goal.returns-in-None-clause-goes
 returns-in-None-clause-goes c =
