@@ -11,16 +11,13 @@ use Rattle.mseed_steim.specs.declared.fault.ReadFault.TheVariants.{Short}
 use Rattle.mseed_steim.specs.Frames.{first_constant, last_constant}
 use Rattle.mseed_steim.specs.Reading.{HoldsIn, IsFault, IsWhole, count_of, in_payload}
 use Rattle.mseed_steim.specs.Samples.{AreEnds, IsFrameFault, StartsAndAdds}
-use Rattle.mseed_steim.proofs.Ended.{no_frame}
+use Rattle.mseed_steim.proofs.Ended.{first_is, no_frame}
 use Rattle.mseed_steim.proofs.Laws.{denied, fault_denies, reading_one, same_payload}
 
 -- the ends of a reading are those of any
 pub one_ends : (v : View) (ends : Ends) → (s : List ℤ) × (IsWhole v s × AreEnds ends s) → (s : List ℤ) → IsWhole v s
     → AreEnds ends s
 one_ends v ends h s whole = subst (λ (xs : List ℤ). AreEnds ends xs) (reading_one v h.0 s h.1.0.0 whole.0) h.1.1
-
-first_is : (first : ℤ) (ds s : List ℤ) → 0 < length s → StartsAndAdds first ds s → slice_get s 0 ≡ Some first
-first_is first ds s some h = search (arith)
 
 -- those of Steim frames are their constants
 pub constants_end : (v : View) (scheme : Scheme) (p : List ℕ) (ends : Ends) → HoldsIn v (Frames scheme) p

@@ -3,13 +3,13 @@ use Rattle.std.proofs.Common.{◌≡◌, ℕ, ◌+◌, ◌<◌, ◌≤◌, ◌^�
 use Rattle.std.proofs.Common.{negsuc, ◌+ℤ◌, nat_abs, w32, FitsSigned, arith, refl, ap, ◌∙◌, true, Ok, Result}
 use Rattle.std.proofs.lemmas.Int.{ints}
 use Rattle.std.proofs.lemmas.Bool.{lt-ltb, ne_eqb}
-use Rattle.mseed_steim.specs.declared.differences.BadWordAt.{BadWordAt}
+use Rattle.mseed_steim.specs.private.Items.{Items}
 use Rattle.mseed_steim.specs.declared.sum.Sum.{Sum}
 use Rattle.mseed_steim.specs.private.Lanes.{total, span}
-use Rattle.mseed_steim.specs.private.Sums.{IsCounted, fits, fold, kept_along, kept_at, met_in, one_more, sums}
-use Rattle.mseed_steim.specs.private.Sums.{the_difference, the_sample, with_first}
-use Rattle.mseed_steim.proofs.Folds.{fold_add, fold_first}
-use Rattle.mseed_steim.proofs.Folded.{met_add, met_first, next_cut}
+use Rattle.mseed_steim.specs.private.Sums.{IsCounted, fits, fold, kept_along, kept_at, kept_on, met_in, one_more}
+use Rattle.mseed_steim.specs.private.Sums.{sums, the_difference, the_sample, used, with_first}
+use Rattle.mseed_steim.proofs.Folds.{fold_add, met_add}
+use Rattle.mseed_steim.proofs.Folded.{kept_one, next_cut, with_first_later}
 
 pub abs_sum : (a b : ℤ) → nat_abs (a +ℤ b) ≤ nat_abs a + nat_abs b
 abs_sum a b = search (arith)
@@ -27,48 +27,47 @@ pub counted_later : (m : ℕ) (ds : List ℤ) → 0 < m → IsCounted m ds
 counted_later m [] h = tt
 counted_later m (d ∷ ds) h = λ e. absurd (omega (arith, e, h))
 
+used_counted : (m : ℕ) (l d : ℤ) → (m ≡ 0 → d ≡ pos 0) → l +ℤ d ≡ l +ℤ used m d
+used_counted m l d counts = search (arith)
+
 same_last : (m : ℕ) (l d : ℤ) → (m ≡ 0 → d ≡ pos 0) → m ≡ 0 → l ≡ l +ℤ d
 same_last m l d counts e = let none : d ≡ pos 0 = counts e in omega (arith, ints, none)
 
-fold_near : (n : ℕ) (s : Sum) (d : ℤ) (more : List (Result ℤ BadWordAt)) → s.met < n → (s.met ≡ 0 → d ≡ pos 0)
-    → fits (s.last +ℤ d) ≡ true → fold n s (Ok d ∷ more) ≡ fold n (one_more s (s.last +ℤ d)) more
-fold_near n s d more less counts fit = search (arith, fold_add, fold_first, same_last)
+-- the sum after some differences
+abbrev pub sum_after : Sum → List ℤ → Sum
+sum_after s ds =
+    record { met = s.met + length ds; last = s.last +ℤ total (with_first s.met (pos 0) ds) }
 
-met_near : (keep : ℤ → ℤ → ℤ) (n : ℕ) (s : Sum) (d : ℤ) (more : List (Result ℤ BadWordAt)) → s.met < n
-    → (s.met ≡ 0 → d ≡ pos 0) → fits (s.last +ℤ d) ≡ true
-    → met_in keep n s (Ok d ∷ more)
-    ≡ kept_at keep s.met d (s.last +ℤ d) ∷ met_in keep n (one_more s (s.last +ℤ d)) more
-met_near keep n s d more less counts fit = search (arith, met_add, met_first, same_last)
-
--- while the limits of 32 bits are out of reach, a walk goes on from the sum of the differences
-pub goes_far : (n : ℕ) (ds : List ℤ) (s : Sum) (more : List (Result ℤ BadWordAt)) → IsCounted s.met ds
-    → s.met + length ds ≤ n → nat_abs s.last + span ds < 2 ^ 31
-    → fold n s (map Ok ds ++ more) ≡ fold n (record { met = s.met + length ds; last = s.last +ℤ total ds }) more
-goes_far n [] s more counted room far = grind (arith, ints)
-goes_far n (d ∷ ds) s more counted room far =
-    let near = abs_sum s.last d in
+-- while the limits of 32 bits are out of reach, a walk goes on from the sum of the differences, and meets their sums
+pub goes_far : (n : ℕ) (ds : List ℤ) (s : Sum) (more : Items) → s.met + length ds ≤ n
+    → nat_abs s.last + span (with_first s.met (pos 0) ds) < 2 ^ 31
+    → (fold n s (map Ok ds ++ more) ≡ fold n (sum_after s ds) more)
+    × (met_in n s (map Ok ds ++ more) ≡ sums s.last (with_first s.met (pos 0) ds) ++ met_in n (sum_after s ds) more)
+goes_far n [] s more room far = grind (arith, ints)
+goes_far n (d ∷ ds) s more room far =
+    let next : ℤ = s.last +ℤ used s.met d in
+    let near = abs_sum s.last (used s.met d) in
     let met : s.met + 1 + length ds ≡ s.met + length (d ∷ ds) = omega arith in
-    let last : (s.last +ℤ d) +ℤ total ds ≡ s.last +ℤ total (d ∷ ds) = omega (arith, ints) in
-    let within = near_fits (s.last +ℤ d) (omega (arith, near)) in
-    let later = rw (met, last) at (goes_far n ds (one_more s (s.last +ℤ d)) more
-    (counted_later (s.met + 1) ds (omega arith)) (omega arith) (omega (arith, near))) in
-    fold_near n s d (map Ok ds ++ more) (omega arith) counted within ∙ later
+    let last : next +ℤ total ds ≡ s.last +ℤ (used s.met d +ℤ total ds) = omega (arith, ints) in
+    let within = near_fits next (omega (arith, near, far)) in
+    let behind = with_first_later (s.met + 1) (pos 0) ds (omega arith) in
+    let later = rw (behind, met, last) at (goes_far n ds (one_more s next) more (omega arith)
+    (rw behind (omega (arith, near, far)))) in (
+      fold_add n s d (map Ok ds ++ more) (omega arith) within ∙ later.0,
+      met_add n s d (map Ok ds ++ more) (omega arith) within ∙ ap (λ (zs : List ℤ). next ∷ zs) later.1,
+    )
 
--- and keeps what is kept of each
-pub keeps_far : (keep : ℤ → ℤ → ℤ) (n : ℕ) (ds : List ℤ) (s : Sum) (more : List (Result ℤ BadWordAt))
-    → IsCounted s.met ds → s.met + length ds ≤ n → nat_abs s.last + span ds < 2 ^ 31
-    → met_in keep n s (map Ok ds ++ more) ≡ kept_along keep s.met s.last ds
-    ++ met_in keep n (record { met = s.met + length ds; last = s.last +ℤ total ds }) more
-keeps_far keep n [] s more counted room far = grind (arith, ints)
-keeps_far keep n (d ∷ ds) s more counted room far =
-    let near = abs_sum s.last d in
-    let met : s.met + 1 + length ds ≡ s.met + length (d ∷ ds) = omega arith in
-    let last : (s.last +ℤ d) +ℤ total ds ≡ s.last +ℤ total (d ∷ ds) = omega (arith, ints) in
-    let within = near_fits (s.last +ℤ d) (omega (arith, near)) in
-    let later = rw (met, last) at (keeps_far keep n ds (one_more s (s.last +ℤ d)) more
-    (counted_later (s.met + 1) ds (omega arith)) (omega arith) (omega (arith, near))) in
-    met_near keep n s d (map Ok ds ++ more) (omega arith) counted within
-    ∙ ap (λ (zs : List ℤ). kept_at keep s.met d (s.last +ℤ d) ∷ zs) later
+-- what is kept of sums and the samples after them
+pub sums_kept_on : (keep : ℤ → ℤ → ℤ) (m : ℕ) (l : ℤ) (ds xs : List ℤ) → IsCounted m ds
+    → kept_on keep m l (sums l ds ++ xs)
+    ≡ kept_along keep m l ds ++ kept_on keep (m + length ds) (l +ℤ total ds) xs
+sums_kept_on keep m l [] xs counted = grind (arith, ints)
+sums_kept_on keep m l (d ∷ ds) xs counted =
+    let met : m + 1 + length ds ≡ m + length (d ∷ ds) = omega arith in
+    let last : (l +ℤ d) +ℤ total ds ≡ l +ℤ (d +ℤ total ds) = omega (arith, ints) in
+    let later = rw (met, last) at (sums_kept_on keep (m + 1) (l +ℤ d) ds xs (counted_later (m + 1) ds (omega arith))) in
+    kept_one keep m l d (l +ℤ d) _ (used_counted m l d counted)
+    ∙ ap (λ (zs : List ℤ). kept_at keep m d (l +ℤ d) ∷ zs) later
 
 -- what is kept of some differences, where that is each sample, and where it is each difference
 sample_kept : (m : ℕ) (d s : ℤ) → kept_at the_sample m d s ≡ s

@@ -10,24 +10,23 @@ use Rattle.std.specs.Simd.{first_chunks}
 use Rattle.std.proofs.lemmas.Bool.{cases_eq, eq-eqb, ne_eqb}
 use Rattle.std.proofs.lemmas.List.{get_or-drop, get_or-take}
 use Rattle.mseed_steim.specs.declared.scheme.Scheme.{Scheme}
-use Rattle.mseed_steim.specs.declared.differences.BadWordAt.{BadWordAt}
 use Rattle.mseed_steim.specs.Frames.{DataWord, words_from}
 use Rattle.mseed_steim.specs.private.Digits.{differences_of, digit_at, digits}
-use Rattle.mseed_steim.specs.private.Items.{items_of}
+use Rattle.mseed_steim.specs.private.Items.{Items, items_of}
 use Rattle.mseed_steim.specs.private.Moves.{AreFrames, IsRun, Moves, MovesBy}
 use Rattle.mseed_steim.specs.declared.frame.Run.{Run}
 use Rattle.mseed_steim.specs.declared.frame.TheConstants.{REACH}
 use Rattle.mseed_steim.specs.declared.sum.Sum.{Sum}
 use Rattle.mseed_steim.specs.private.Lanes.{Begins}
-use Rattle.mseed_steim.specs.private.Sums.{AddsRun, fold}
+use Rattle.mseed_steim.specs.private.Sums.{AddsRun, fold, with_first}
 use Rattle.mseed_steim.specs.private.Unpacked.{data_in, left_from}
-use Rattle.mseed_steim.proofs.Far.{counted_later, goes_far, near_signed, total_near}
-use Rattle.mseed_steim.proofs.Folds.{fold_first}
+use Rattle.mseed_steim.proofs.Far.{goes_far, near_signed, total_near}
+use Rattle.mseed_steim.proofs.Folded.{length-with_first, with_first_later}
 use Rattle.mseed_steim.proofs.Spelled.{digits_over, digits_step}
 use Rattle.mseed_steim.proofs.Walking.{frame_at, frames_cut, items_group, length-first_chunks, no_items, take_most}
 use Rattle.mseed_steim.proofs.Walking.{words_cut}
 
-begins_with : (ds : List ℤ) (d : ℤ) (more : List (Result ℤ BadWordAt)) → map Ok ds ++ [] ≡ Ok d ∷ more
+begins_with : (ds : List ℤ) (d : ℤ) (more : Items) → map Ok ds ++ [] ≡ Ok d ∷ more
     → (es : List ℤ) × (ds ≡ d ∷ es)
 begins_with [] d more e = let long = ap length e in absurd (omega (arith, long))
 begins_with (x ∷ xs) d more e = let same : x ≡ d = cc in (xs, ap (λ z. z ∷ xs) same)
@@ -35,7 +34,7 @@ begins_with (x ∷ xs) d more e = let same : x ≡ d = cc in (xs, ap (λ z. z �
 -- what the words from word 3 on have, the first of which is this
 found : (s : Scheme) (p : List ℕ) (n count reach : ℕ) (by d : ℤ) (w : DataWord)
     → words_from p 3 13 ≡ w ∷ words_from p 4 12
-    → ((ws : List DataWord) → (more : List (Result ℤ BadWordAt)) × (items_of s (w ∷ ws) ≡ Ok d ∷ more))
+    → ((ws : List DataWord) → (more : Items) × (items_of s (w ∷ ws) ≡ Ok d ∷ more))
     → 0 < n → MovesBy s (words_from p 3 (16 * n - 3)) count by reach
     → (es : List ℤ) × (Moves count by reach (d ∷ es) × ((rest : List DataWord)
     → items_of s (words_from p 3 (16 * n - 3) ++ rest) ≡ Ok d ∷ (map Ok es ++ items_of s rest)))
@@ -58,40 +57,36 @@ found s p n count reach by d w cut first some moves =
 others : (c reach : ℕ) (b d : ℤ) (es : List ℤ) → Moves c b reach (d ∷ es) → Moves c (b -ℤ d) reach (pos 0 ∷ es)
 others c reach b d es m = search (arith)
 
-found_one : (s : Scheme) (p : List ℕ) (n i : ℕ) (sum : Sum) (d : ℤ) (w : DataWord) → i ≡ 0 → sum.met ≡ 0 → 0 < n
+found_one : (s : Scheme) (p : List ℕ) (i : ℕ) (sum : Sum) (d : ℤ) (w : DataWord) → i ≡ 0 → sum.met ≡ 0
     → words_from p 3 13 ≡ w ∷ words_from p 4 12
-    → ((ws : List DataWord) → (more : List (Result ℤ BadWordAt)) × (items_of s (w ∷ ws) ≡ Ok d ∷ more))
-    → AddsRun s p n i sum d
-found_one s p n i sum d w e none some cut first k count reach by more inside moves =
-    let less : sum.met < n = omega (arith, none, some) in
+    → ((ws : List DataWord) → (more : Items) × (items_of s (w ∷ ws) ≡ Ok d ∷ more)) → AddsRun s p i sum d
+found_one s p i sum d w e none cut first k count reach by more inside moves =
     let from : data_in sum.met i ≡ 3 = ap (λ (m : ℕ). data_in m i) none ∙ ap (data_in 0) e in
     let place : 16 * i + 3 ≡ 3 = omega (arith, e) in
     let words : words_from p (16 * i + data_in sum.met i) (16 * k - data_in sum.met i) ≡ words_from p 3 (16 * k - 3) =
     rw (from, place) refl in
     let all = found s p k count reach by d w cut first more
-    (subst (λ (ws : List DataWord). MovesBy s ws count by reach) words moves) in (
-      pos 0 ∷ all.0,
+    (subst (λ (ws : List DataWord). MovesBy s ws count by reach) words moves) in
+    let begins : with_first sum.met (pos 0) (d ∷ all.0) ≡ pos 0 ∷ all.0 = rw (eq-eqb sum.met 0 none) refl in (
+      d ∷ all.0,
       (
-        others count reach by d all.0 all.1.0,
-        λ z. refl,
-        λ later. let behind = map Ok all.0 ++ items_of s (left_from p later (i + k)) in
-            ap (λ (ws : List DataWord). fold n sum (items_of s ws)) (frames_cut p sum.met later i k more inside)
-            ∙ ap (λ (ws : List DataWord). fold n sum (items_of s (ws ++ left_from p later (i + k)))) words
-            ∙ ap (λ (items : List (Result ℤ BadWordAt)). fold n sum items) (all.1.1 (left_from p later (i + k)))
-            ∙ fold_first n sum d behind less none ∙ sym (fold_first n sum (pos 0) behind less none),
+        subst (λ (ds : List ℤ). Moves count (by -ℤ d) reach ds) (sym begins) (others count reach by d all.0 all.1.0),
+        λ later. ap (items_of s) (frames_cut p sum.met later i k more inside)
+            ∙ ap (λ (ws : List DataWord). items_of s (ws ++ left_from p later (i + k))) words
+            ∙ all.1.1 (left_from p later (i + k)),
       ),
     )
 
-pub found_run : (s : Scheme) (p : List ℕ) (n i : ℕ) (sum : Sum) (w : DataWord) (o : Option ℤ) → i ≡ 0 → sum.met ≡ 0
-    → 0 < n → words_from p 3 13 ≡ w ∷ words_from p 4 12
-    → IfSome o (λ d. (ws : List DataWord) → (more : List (Result ℤ BadWordAt)) × (items_of s (w ∷ ws) ≡ Ok d ∷ more))
-    → IfSome o (λ unused. AddsRun s p n i sum unused)
-found_run s p n i sum w None e none some cut first = tt
-found_run s p n i sum w (Some d) e none some cut first = found_one s p n i sum d w e none some cut first
+pub found_run : (s : Scheme) (p : List ℕ) (i : ℕ) (sum : Sum) (w : DataWord) (o : Option ℤ) → i ≡ 0 → sum.met ≡ 0
+    → words_from p 3 13 ≡ w ∷ words_from p 4 12
+    → IfSome o (λ d. (ws : List DataWord) → (more : Items) × (items_of s (w ∷ ws) ≡ Ok d ∷ more))
+    → IfSome o (λ unused. AddsRun s p i sum unused)
+found_run s p i sum w None e none cut first = tt
+found_run s p i sum w (Some d) e none cut first = found_one s p i sum d w e none cut first
 
 -- after the first sample each difference counts
-pub moved_run : (s : Scheme) (p : List ℕ) (n i : ℕ) (sum : Sum) → 0 < sum.met → AddsRun s p n i sum (pos 0)
-moved_run s p n i sum some k count reach by more inside moves = search (arith, counted_later, frames_cut)
+pub moved_run : (s : Scheme) (p : List ℕ) (i : ℕ) (sum : Sum) → 0 < sum.met → AddsRun s p i sum (pos 0)
+moved_run s p i sum some k count reach by more inside moves = search (arith, frames_cut, with_first_later)
 
 -- what a run adds up, while the limits of 32 bits are out of its reach
 pub record RunAdds (s : Scheme) (p : List ℕ) (n i k count : ℕ) (by : ℤ) (sum : Sum) : Type 0 where
@@ -101,14 +96,14 @@ pub record RunAdds (s : Scheme) (p : List ℕ) (n i k count : ℕ) (by : ℤ) (s
       ≡ fold n (record { met = sum.met + count; last = sum.last +ℤ by }) (items_of s (left_from p later (i + k)))
 
 pub run_adds : (s : Scheme) (p : List ℕ) (n i k count reach : ℕ) (by unused : ℤ) (sum : Sum)
-    → AddsRun s p n i sum unused → 0 < k → i + k ≤ length p / 64
+    → AddsRun s p i sum unused → 0 < k → i + k ≤ length p / 64
     → MovesBy s (words_from p (16 * i + data_in sum.met i) (16 * k - data_in sum.met i)) count by reach
     → sum.met + count ≤ n → nat_abs sum.last + reach < 2 ^ 31 → RunAdds s p n i k count (by -ℤ unused) sum
 run_adds s p n i k count reach by unused sum adds some inside moves room near =
     let found = adds k count reach by some inside moves in
-    let ds : List ℤ = found.0 in
     let m = found.1.0 in
-    let all = total_near ds in
+    let all = total_near (with_first sum.met (pos 0) found.0) in
+    let long = length-with_first sum.met (pos 0) found.0 in
     let less : nat_abs (by -ℤ unused) ≤ reach = rw (← m.by_is) (omega (arith, all, m.near)) in
     record {
       fits = near_signed (by -ℤ unused) (omega (arith, less, near));
@@ -122,7 +117,7 @@ frames_from n k m p inside i less = search (arith, frame_at, get_or-drop, get_or
 
 -- what a run adds up of the frames from one on, as many of them as are taken at once
 pub taken_run : {s : Scheme} {begin : List ℕ} {frames : List (List ℕ)} {m most : ℕ} {run : Run}
-    (p : List ℕ) (n i : ℕ) (sum : Sum) (unused : ℤ) → AddsRun s p n i sum unused → Begins begin (data_in sum.met i)
+    (p : List ℕ) (n i : ℕ) (sum : Sum) (unused : ℤ) → AddsRun s p i sum unused → Begins begin (data_in sum.met i)
     → frames ≡ first_chunks 64 (length p / 64) p → m ≡ min (length frames) (i + most)
     → (0 < most → nat_abs sum.last + REACH * most < 2 ^ 31)
     → IsRun s (take (m - i) (drop i frames)) begin (n - sum.met) run → i < length p / 64 → sum.met < n → 0 < run.frames

@@ -23,7 +23,7 @@ use Rattle.mseed_steim.specs.Reading.{count_of, IsReading, EndsOnConstants, HasO
 use Rattle.mseed_steim.specs.Reading.{blockette_100, encoding, little_steim, data_offset, in_payload, Denies, HoldsIn}
 use Rattle.mseed_steim.specs.Reading.{AnswersRecord, is_little_steim, IsWhole, IsRefusal}
 use Rattle.mseed_steim.proofs.Words.{residue_one}
-use Rattle.mseed_steim.proofs.Runs.{sums_one, fault_one, not_short, not_bad, not_in}
+use Rattle.mseed_steim.proofs.Runs.{Reason, differs, fault_one, lacks, not_ending, not_in, over, reason, sums_one}
 use Rattle.mseed_steim.proofs.Ended.{get_pushed}
 
 begins_one : (order : Order) (w : ℕ) (p : List ℕ) (place : ℕ) (ss ts : List ℤ) → 0 < w → length ss ≡ length ts
@@ -98,11 +98,11 @@ pub same_payload : (v : View) (form : Form) (s : List ℤ) → form_of v.encodin
 same_payload v form s e a = search (arith)
 
 -- what a fault of frames denies
-differs : (v : View) (scheme : Scheme) (prefix : List ℤ) (last : ℤ) → 0 < count_of v → v.has_rate_blockette ≡ false
+last_denies : (v : View) (scheme : Scheme) (prefix : List ℤ) (last : ℤ) → 0 < count_of v → v.has_rate_blockette ≡ false
     → form_of v.encoding ≡ Some (Frames scheme) → v.payload_order ≡ Big → HasPayload v
     → IsPayloadReading (Frames scheme) v.payload_order (payload_of v) (count_of v) (prefix ++ last ∷ [])
     → last ≢ last_constant (payload_of v) → Denies v (LastDiffers last (last_constant (payload_of v)))
-differs v scheme prefix last some a e big p h not =
+last_denies v scheme prefix last some a e big p h not =
     let whole : IsReading v (prefix ++ last ∷ []) = search (arith, nat_tests) in (
       prefix ++ last ∷ [],
       (
@@ -122,18 +122,17 @@ differs v scheme prefix last some a e big p h not =
 
 frames_deny : (v : View) (scheme : Scheme) (f : ReadFault) → 0 < count_of v → v.has_rate_blockette ≡ false
     → form_of v.encoding ≡ Some (Frames scheme) → v.payload_order ≡ Big → HasPayload v
-    → IsFrameFault scheme (payload_of v) (count_of v) f → Denies v f
-frames_deny v scheme f some a e big p (short ds h less) = λ s r.
-    let q = same_payload v (Frames scheme) s e r in not_short scheme (payload_of v) (count_of v) s ds q.1 h less
-frames_deny v scheme f some a e big p (bad_word before bad after ds cut h less none) = λ s r.
-    let q = same_payload v (Frames scheme) s e r in
-    not_bad scheme (payload_of v) (count_of v) s before bad after ds q.1 cut h less none
-frames_deny v scheme f some a e big p (overflow prefix sum rest sums all not) = λ s r.
+    → Reason scheme (payload_of v) (count_of v) f → Denies v f
+frames_deny v scheme f some a e big p (lacks ds [] h less) = λ s r. not_ending scheme (payload_of v) (count_of v) s ds []
+    (same_payload v (Frames scheme) s e r).1 h less
+frames_deny v scheme f some a e big p (lacks ds (bad ∷ after) h less) = λ s r.
+    not_ending scheme (payload_of v) (count_of v) s ds (bad ∷ after) (same_payload v (Frames scheme) s e r).1 h less
+frames_deny v scheme f some a e big p (over prefix sum rest sums all not) = λ s r.
     let q = same_payload v (Frames scheme) s e r in
     not_in prefix sum rest (subst (λ (xs : List ℤ). All IsSample xs)
     (sums_one scheme (payload_of v) (count_of v) s (prefix ++ sum ∷ rest) q.1 sums) q.2) not
-frames_deny v scheme f some a e big p (last_differs prefix last sums all not) =
-    differs v scheme prefix last some a e big p (big, sums, all) not
+frames_deny v scheme f some a e big p (differs prefix last sums all not) =
+    last_denies v scheme prefix last some a e big p (big, sums, all) not
 
 -- What a fault says of readings.
 pub fault_denies : (v : View) (f : ReadFault) → 0 < count_of v → IsFault v f → Denies v f
@@ -144,7 +143,8 @@ fault_denies v f some (data_offset a form d readable p) = λ s r. p r.payload
 fault_denies v f some (in_payload a (Integers width) d readable p fault h) =
     subst (λ (x : ReadFault). Denies v x) (sym h.1) (λ s r. integers_fit width v.payload_order (payload_of v)
     (count_of v) s (same_payload v (Integers width) s d r) h.0)
-fault_denies v f some (in_payload a (Frames scheme) d readable p fault h) = frames_deny v scheme f some a d readable p h
+fault_denies v f some (in_payload a (Frames scheme) d readable p fault h) =
+    frames_deny v scheme f some a d readable p (reason scheme (payload_of v) (count_of v) f h)
 
 -- So a record with a fault has no reading that ends on its constants.
 pub denied : (v : View) (f : ReadFault) (s : List ℤ) → Denies v f → IsReading v s → EndsOnConstants v s → ⊥

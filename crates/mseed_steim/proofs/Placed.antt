@@ -1,7 +1,7 @@
 -- Differences of frames that are unpacked in their places, and the steps that they are.
 use Rattle.std.proofs.Common.{◌≡◌, ℕ, ◌+◌, ◌*◌, ◌/◌, ◌<◌, ◌≤◌, List, [], ◌∷◌, ◌++◌, map, take, drop, length}
 use Rattle.std.proofs.lemmas.Bool.Decides.{nat_tests}
-use Rattle.std.proofs.Common.{ℤ, ◌+ℤ◌, ◌-ℤ◌, arith, refl, ap, sym, ◌∙◌, subst, append_assoc, Result, Ok}
+use Rattle.std.proofs.Common.{zero, suc, pos, ℤ, ◌+ℤ◌, ◌-ℤ◌, arith, refl, ap, sym, ◌∙◌, subst, append_assoc, Result, Ok}
 use Rattle.std.proofs.Common.{Bool, eqb, Option, Some, None, IfSome, get_or, min, ⊎_elim}
 use Rattle.std.specs.Prelude.{IfOk}
 use Rattle.std.specs.Bool.{OnTrue}
@@ -11,23 +11,22 @@ use Rattle.std.proofs.lemmas.Bool.{cases_eq, eq-eqb, ne_eqb}
 use Rattle.std.proofs.lemmas.Int.{ints}
 use Rattle.std.proofs.lemmas.List.{length-take-le, map-append, take-append-drop, take-take}
 use borrow.Rule.Slice.PartMut.{put_mid}
-use Rattle.mseed_steim.specs.declared.differences.BadWordAt.{BadWordAt}
 use Rattle.mseed_steim.specs.declared.fault.ReadFault.{ReadFault}
 use Rattle.mseed_steim.specs.declared.scheme.Scheme.{Scheme}
 use Rattle.mseed_steim.specs.declared.unpack.Widest.{Widest}
 use Rattle.mseed_steim.specs.declared.sum.Sum.{Sum}
 use Rattle.mseed_steim.specs.Frames.{DataWord, data_words, first_constant}
 use Rattle.mseed_steim.specs.Samples.{Adds, AreSums, StartsAndAdds, differences_from, steps_of}
-use Rattle.mseed_steim.specs.private.Items.{items_of}
+use Rattle.mseed_steim.specs.private.Items.{Items, items_of}
 use Rattle.mseed_steim.specs.private.Lanes.{Begins}
-use Rattle.mseed_steim.specs.private.Sums.{Continues, met_in, the_difference, the_sample}
+use Rattle.mseed_steim.specs.private.Sums.{Continues, kept_from, kept_on, met_in, the_difference}
 use Rattle.mseed_steim.specs.private.Unpacked.{AreUnpacked, AreUpTo, data_in, left_from}
-use Rattle.mseed_steim.proofs.Folded.{Folds, done as done_folds, short as short_folds, bad as bad_folds}
-use Rattle.mseed_steim.proofs.Folded.{all_kept, folds, kept_later, over as over_folds, steps_from}
+use Rattle.mseed_steim.proofs.Folded.{Folds, all_kept, done as done_folds, ended as ended_folds, first_items, folds}
+use Rattle.mseed_steim.proofs.Folded.{items_on, joined, over as over_folds, steps_from, with_first_later}
 use Rattle.mseed_steim.proofs.Folds.{fold_enough}
 use Rattle.mseed_steim.proofs.Given.{IsWord, all_after, prefix_words, words_small}
 use Rattle.mseed_steim.proofs.Summed.{put_next}
-use Rattle.mseed_steim.proofs.Walking.{frames_cut}
+use Rattle.mseed_steim.proofs.Walking.{frame_items}
 use Rattle.std.specs.List.{AllByRecursion}
 
 -- the first of a frame's differences stand there, as many as there are places
@@ -56,26 +55,10 @@ pub next_items : (s : Scheme) (p begin frame : List ℕ) (i count : ℕ) (done d
     → items_of s (data_words p) ≡ map Ok done ++ items_of s (left_from p 0 i)
     → items_of s (data_words p) ≡ map Ok (done ++ ds) ++ items_of s (left_from p 0 (i + 1))
 next_items s p begin frame i count done ds inside begins e unpacked same =
-    let rest : List (Result ℤ BadWordAt) = items_of s (left_from p 0 (i + 1)) in
-    same ∙ ap (λ (ws : List DataWord). map Ok done ++ items_of s ws)
-    (frames_cut p 0 0 i 1 (omega arith) (omega (arith, inside)))
-    ∙ ap (λ (items : List (Result ℤ BadWordAt)). map Ok done ++ items)
-    (unpacked.items p i (data_in 0 i) (left_from p 0 (i + 1)) begins e)
-    ∙ sym (append_assoc (map Ok done) (map Ok ds) rest)
-    ∙ ap (λ (items : List (Result ℤ BadWordAt)). items ++ rest) (sym (map-append Ok done ds))
-
--- the first of some differences
-pub first_items : (items rest : List (Result ℤ BadWordAt)) (done ds : List ℤ) (k : ℕ)
-    → items ≡ map Ok (done ++ ds) ++ rest → items ≡ map Ok (done ++ take k ds) ++ (map Ok (drop k ds) ++ rest)
-first_items items rest done ds k e =
-    let cut : done ++ ds ≡ (done ++ take k ds) ++ drop k ds =
-    search (arith, nat_tests, append_assoc, take-append-drop) in
-    e ∙ ap (λ (ys : List ℤ). map Ok ys ++ rest) cut
-    ∙ ap (λ (ys : List (Result ℤ BadWordAt)). ys ++ rest) (map-append Ok (done ++ take k ds) (drop k ds))
-    ∙ append_assoc (map Ok (done ++ take k ds)) (map Ok (drop k ds)) rest
+    items_on _ _ _ done ds same (frame_items s p begin frame 0 0 i count ds inside begins unpacked e)
 
 -- samples that differences add up to are that far apart
-adds_steps : (x : ℤ) (ds es : List ℤ) (a b : List (Result ℤ BadWordAt)) (ss : List ℤ) → map Ok ds ++ a ≡ map Ok es ++ b
+adds_steps : (x : ℤ) (ds es : List ℤ) (a b : Items) (ss : List ℤ) → map Ok ds ++ a ≡ map Ok es ++ b
     → length es ≡ length ss → Adds x ds ss → es ≡ differences_from x ss
 adds_steps x ds [] a b [] e l h = refl
 adds_steps x ds [] a b (s ∷ ss) e l h = absurd (omega arith)
@@ -90,47 +73,48 @@ adds_steps x (d ∷ ds) (z ∷ es) a b (s ∷ ss) e l h =
     cc
 
 -- where a walk from a later sample on fills the places, it fills them with the differences
-walked_items : (n m : ℕ) (l : ℤ) (items : List (Result ℤ BadWordAt)) (mets : List ℤ) (r : Result Sum ReadFault)
-    → Folds n m l items mets r
-    → IfOk r (λ _. (more : List (Result ℤ BadWordAt)) × (items ≡ map Ok (differences_from l mets) ++ more))
-walked_items n m l items mets r (done_folds next ds ss more e count same adds all met last kept) =
-    let steps : ds ≡ differences_from l ss = adds_steps l ds ds more more ss refl (sym same) adds in
-    (more, e ∙ ap (λ (xs : List ℤ). map Ok xs ++ more) (steps ∙ ap (λ (xs : List ℤ). differences_from l xs) (sym kept)))
-walked_items n m l items mets r (short_folds k ds e count less) = tt
-walked_items n m l items mets r (bad_folds ds at more e less) = tt
-walked_items n m l items mets r (over_folds k ds d ss more e count less same adds all not) = tt
+walked_items : (n m : ℕ) (l : ℤ) (items : Items) (mets : List ℤ) (r : Result Sum ReadFault) → 0 < m
+    → Folds n m l items mets r → IfOk r (λ _. (more : Items) × (items ≡ map Ok (differences_from l mets) ++ more))
+walked_items n m l items mets r some (done_folds next ds more e count same adds all met last) =
+    let plain = rw (with_first_later m (pos 0) ds some) at adds in
+    (more, e ∙ ap (λ (xs : List ℤ). map Ok xs ++ more) (adds_steps l ds ds more more mets refl (sym same) plain))
+walked_items n m l items mets r some (ended_folds k ds rest e end count less) = tt
+walked_items n m l items mets r some (over_folds k ds d more e count less same adds all not) = tt
 
-pub walked_rest : (n : ℕ) (s next : Sum) (before after : List ℤ) (items behind : List (Result ℤ BadWordAt)) → 0 < s.met
+steps_later : (m : ℕ) (l : ℤ) (xs : List ℤ) → 0 < m → kept_on the_difference m l xs ≡ kept_from the_difference l xs
+steps_later zero l xs some = absurd (omega (arith, some))
+steps_later (suc m) l xs some = refl
+
+pub walked_rest : (n : ℕ) (s next : Sum) (before after : List ℤ) (items behind : Items) → 0 < s.met
     → s.met ≤ n → Continues (Some the_difference) n s before items behind after next
-    → OnTrue (eqb next.met n) ((more : List (Result ℤ BadWordAt))
+    → OnTrue (eqb next.met n) ((more : Items)
     × (map Ok (take s.met before) ++ items ≡ map Ok after ++ more))
 walked_rest n s next before after items behind some less c = ⊎_elim
     (λ (e : next.met ≡ n).
-    let mets : List ℤ = met_in the_sample n s items in
+    let mets : List ℤ = met_in n s items in
     let first : List ℤ = take s.met before in
     let steps : List ℤ = differences_from s.last mets in
-    let found = subst (λ (r : Result Sum ReadFault). IfOk r (λ _. (more : List (Result ℤ BadWordAt))
+    let found = subst (λ (r : Result Sum ReadFault). IfOk r (λ _. (more : Items)
     × (items ≡ map Ok steps ++ more))) (c.folded ∙ fold_enough n next behind e)
-    (walked_items n s.met s.last items mets _ (folds n s items some less)) in
-    let kept : after ≡ first ++ steps = search (arith, nat_tests, all_kept, kept_later, steps_from) in
+    (walked_items n s.met s.last items mets _ some (folds n s items less)) in
+    let kept : after ≡ first ++ steps = search (arith, nat_tests, all_kept, steps_later, steps_from) in
     rw (eq-eqb next.met n e) (
       found.0,
-      ap (λ (xs : List (Result ℤ BadWordAt)). map Ok first ++ xs) found.1
-          ∙ sym (append_assoc (map Ok first) (map Ok steps) found.0)
-          ∙ ap (λ (xs : List (Result ℤ BadWordAt)). xs ++ found.0) (sym (map-append Ok first steps))
+      ap (λ (xs : Items). map Ok first ++ xs) found.1
+          ∙ joined first steps found.0
           ∙ ap (λ (xs : List ℤ). map Ok xs ++ found.0) (sym kept),
     ))
     (λ (other : next.met ≡ n → ⊥). rw (ne_eqb next.met n other) tt)
     (cases_eq next.met n)
 
 -- what fills the places after those before it
-pub rest_put : (r : Bool) (items left : List (Result ℤ BadWordAt)) (first before after : List ℤ) → before ≡ first
+pub rest_put : (r : Bool) (items left : Items) (first before after : List ℤ) → before ≡ first
     → items ≡ map Ok first ++ left
-    → OnTrue r ((more : List (Result ℤ BadWordAt)) × (map Ok before ++ left ≡ map Ok after ++ more))
-    → OnTrue r ((more : List (Result ℤ BadWordAt)) × (items ≡ map Ok after ++ more))
+    → OnTrue r ((more : Items) × (map Ok before ++ left ≡ map Ok after ++ more))
+    → OnTrue r ((more : Items) × (items ≡ map Ok after ++ more))
 rest_put r items left first before after e same h = search (arith)
 
-starts_steps : (x : ℤ) (ds es : List ℤ) (a b : List (Result ℤ BadWordAt)) (ss : List ℤ)
+starts_steps : (x : ℤ) (ds es : List ℤ) (a b : Items) (ss : List ℤ)
     → map Ok ds ++ a ≡ map Ok es ++ b → length es ≡ length ss → 0 < length ss → StartsAndAdds x ds ss
     → set es 0 x ≡ steps_of ss
 starts_steps x ds es a b [] e l some h = absurd (omega arith)
@@ -139,7 +123,7 @@ starts_steps x [] (z ∷ es) a b (s ∷ ss) e l some h = absurd h
 starts_steps x (d ∷ ds) (z ∷ es) a b (s ∷ ss) e l some h = grind (arith, adds_steps)
 
 -- where as many differences are unpacked as there are samples, these samples' steps are they, after the constant
-pub payload_steps : (s : Scheme) (p : List ℕ) (out : List ℤ) (first : ℤ) (more : List (Result ℤ BadWordAt))
+pub payload_steps : (s : Scheme) (p : List ℕ) (out : List ℤ) (first : ℤ) (more : Items)
     (ss : List ℤ) → ((i : ℕ) → get_or p i 0 < 256) → 0 < length out → first ≡ first_constant p
     → items_of s (data_words p) ≡ map Ok out ++ more → AreSums s p (length out) ss → set out 0 first ≡ steps_of ss
 payload_steps s p out first more ss octets some constant unpacked sums =
@@ -156,11 +140,11 @@ pub put_on : (s : Scheme) (p begin frame : List ℕ) (i met rest count places : 
     → i < length p / 64 → Begins begin (data_in 0 i) → frame ≡ take 64 (drop (64 * i) p)
     → Put s begin frame places after count → length after ≡ places → met + places ≡ length out
     → items_of s (data_words p) ≡ map Ok (take met out) ++ items_of s (left_from p 0 i)
-    → (more : List (Result ℤ BadWordAt))
+    → (more : Items)
     × (items_of s (data_words p) ≡ map Ok (take (met + count) (put_mid met rest out after)) ++ more)
 put_on s p begin frame i met rest count places out after inside begins e put all room same =
     let ds : List ℤ = put.0 in
-    let behind : List (Result ℤ BadWordAt) = items_of s (left_from p 0 (i + 1)) in
+    let behind : Items = items_of s (left_from p 0 (i + 1)) in
     let least : count ≤ places = omega (arith, put.1.1) in
     let there : take (met + count) (put_mid met rest out after) ≡ take met out ++ take count ds =
     search (arith, nat_tests, put_next) in

@@ -1,16 +1,18 @@
 -- What two runs over the same words have in common.
-use Rattle.std.proofs.Common.{◌≡◌, ℕ, suc, ◌+◌, ◌<◌, ◌≤◌, List, [], ◌∷◌, ◌++◌, length, ℤ, ◌+ℤ◌, arith, refl, ap}
+use Rattle.std.proofs.Common.{◌≡◌, ◌≢◌, ℕ, suc, ◌+◌, ◌<◌, ◌≤◌, List, [], ◌∷◌, ◌++◌, length, ℤ, ◌+ℤ◌, arith, refl, ap}
 use Rattle.std.proofs.lemmas.Bool.Decides.{nat_tests}
 use Rattle.std.proofs.Common.{append-nil, sym, ◌∙◌, subst, length-append, All}
 use Rattle.std.proofs.lemmas.List.Elements.{All-head, All-tail}
 use Rattle.mseed_steim.specs.declared.scheme.Scheme.{Scheme}
 use Rattle.mseed_steim.specs.declared.fault.ReadFault.{ReadFault}
-use Rattle.mseed_steim.specs.declared.fault.ReadFault.TheVariants.{Short, BadWord, Overflow, LastDiffers}
+use Rattle.mseed_steim.specs.declared.fault.ReadFault.TheVariants.{Overflow, LastDiffers}
 use Rattle.mseed_steim.specs.Spelling.{Spells, SpellsNone}
 use Rattle.mseed_steim.specs.Frames.{DataWord, data_words, first_constant, last_constant}
 use Rattle.mseed_steim.specs.Runs.{SpellsRun}
 use Rattle.mseed_steim.specs.Samples.{IsSample, Adds, StartsAndAdds, AreSums, IsFrameFault, short, bad_word, overflow}
 use Rattle.mseed_steim.specs.Samples.{last_differs}
+use Rattle.mseed_steim.specs.private.Sums.{lack_at}
+use Rattle.mseed_steim.proofs.Prefixes.{Ending, Stops, last_item}
 use Rattle.mseed_steim.proofs.Table.{spells_one}
 
 -- as far as both go, two lists are the same
@@ -64,15 +66,13 @@ sums_one s p n ss ts a b =
     (runs_agree s a.prefix a.rest b.prefix b.rest a.differences b.differences (sym a.cut ∙ b.cut) a.spelled b.spelled)
     (a.count ∙ sym b.count) a.sums b.sums
 
--- words end, or go on with a bad one
-abbrev Stops : Scheme → List DataWord → Type 0
-Stops s [] = Unit {0}
-Stops s (bad ∷ after) = SpellsNone s bad.code bad.bits
-
--- no prefix of words spells more than all of them do, nor goes past a bad one
+-- no prefix of words spells more than those before their end or a bad one do, nor goes past it
 bounds : (s : Scheme) (fa ra fb rb : List DataWord) (ds es : List ℤ) → fa ++ ra ≡ fb ++ rb → SpellsRun s fa ds
-    → Stops s ra → SpellsRun s fb es → length es ≤ length ds
-bounds s fa ra [] rb ds es e h stops k = grind arith
+    → Stops s ra → SpellsRun s fb es → (length es ≤ length ds) × (length ra ≤ length rb)
+bounds s fa ra [] rb ds es e h stops k =
+    let nil : length es ≡ 0 = ap (λ (xs : List ℤ). length xs) k in
+    let long = ap (λ (ws : List DataWord). length ws) (sym e) ∙ length-append fa ra in
+    (omega (arith, nil), omega (arith, long))
 bounds s [] [] (v ∷ fb) rb ds es e h stops k = cc
 bounds s [] (bad ∷ after) (v ∷ fb) rb ds es e h none k =
     let same : v ≡ bad = cc in
@@ -82,29 +82,29 @@ bounds s (w ∷ fa) ra (v ∷ fb) rb ds es e h stops k =
     let rest : fa ++ ra ≡ fb ++ rb = cc in
     let one : h.0 ≡ k.0 = spells_one s v.code v.bits h.0 k.0
     (subst (λ (u : DataWord). Spells s u.code u.bits h.0) same h.1.1.1.0) k.1.1.1.0 in
-    let later : length k.1.0 ≤ length h.1.0 = bounds s fa ra fb rb h.1.0 k.1.0 rest h.1.1.1.1 stops k.1.1.1.1 in
+    let later = bounds s fa ra fb rb h.1.0 k.1.0 rest h.1.1.1.1 stops k.1.1.1.1 in
     let left : length ds ≡ length k.0 + length h.1.0 = search (arith, nat_tests, length-append) in
     let right : length es ≡ length k.0 + length k.1.0 = search (arith, nat_tests, length-append) in
-    omega (arith, later, left, right)
+    (omega (arith, later.0, left, right), later.1)
 
-not_spelled : (s : Scheme) (before : List DataWord) (bad : DataWord) (after : List DataWord) (ds : List ℤ)
-    → SpellsRun s (before ++ bad ∷ after) ds → SpellsNone s bad.code bad.bits → ⊥
-not_spelled s [] bad after ds h none = none h.0 h.1.1.1.0
-not_spelled s (w ∷ before) bad after ds h none = not_spelled s before bad after h.1.0 h.1.1.1.1 none
+-- what stands at the end of a list, by how much it is
+same_behind : (fa ra fb rb : List DataWord) → fa ++ ra ≡ fb ++ rb → length ra ≡ length rb → ra ≡ rb
+same_behind [] ra [] rb e long = e
+same_behind [] ra (v ∷ fb) rb e long =
+    let more = ap (λ (ws : List DataWord). length ws) e ∙ length-append (v ∷ fb) rb in absurd (omega (arith, more, long))
+same_behind (w ∷ fa) ra [] rb e long =
+    let more = ap (λ (ws : List DataWord). length ws) (sym e) ∙ length-append (w ∷ fa) ra in
+    absurd (omega (arith, more, long))
+same_behind (w ∷ fa) ra (v ∷ fb) rb e long = same_behind fa ra fb rb (cc) long
 
-first_bad : (s : Scheme) (ba : List DataWord) (a : DataWord) (aa bb : List DataWord) (b : DataWord)
-    (ab : List DataWord) (ds es : List ℤ) → ba ++ a ∷ aa ≡ bb ++ b ∷ ab → SpellsRun s ba ds → SpellsRun s bb es
-    → SpellsNone s a.code a.bits → SpellsNone s b.code b.bits → a ≡ b
-first_bad s [] a aa [] b ab ds es e h k na nb = cc
-first_bad s [] a aa (v ∷ bb) b ab ds es e h k na nb =
-    let same : v ≡ a = cc in
-    absurd (na k.0 (subst (λ (u : DataWord). Spells s u.code u.bits k.0) same k.1.1.1.0))
-first_bad s (w ∷ ba) a aa [] b ab ds es e h k na nb =
-    let same : w ≡ b = cc in
-    absurd (nb h.0 (subst (λ (u : DataWord). Spells s u.code u.bits h.0) same h.1.1.1.0))
-first_bad s (w ∷ ba) a aa (v ∷ bb) b ab ds es e h k na nb =
-    let rest : ba ++ a ∷ aa ≡ bb ++ b ∷ ab = cc in
-    first_bad s ba a aa bb b ab h.1.0 k.1.0 rest h.1.1.1.1 k.1.1.1.1 na nb
+-- so words stop in one way
+one_ending : {s : Scheme} {words : List DataWord} {ds es : List ℤ} {rest more : List DataWord}
+    → Ending s words ds rest → Ending s words es more → (length ds ≡ length es) × (rest ≡ more)
+one_ending {s} {ds = ds} {es} {rest} {more} a b =
+    let one = bounds s a.before rest b.before more ds es (sym a.cut ∙ b.cut) a.spelled a.stops b.spelled in
+    let other = bounds s b.before more a.before rest es ds (sym b.cut ∙ a.cut) b.spelled b.stops a.spelled in
+    let same = same_behind a.before rest b.before more (sym a.cut ∙ b.cut) (omega (arith, one.1, other.1)) in
+    (omega (arith, one.0, other.0), same)
 
 -- words spell one list at most
 pub run_one : (s : Scheme) (ws : List DataWord) (ds es : List ℤ) → SpellsRun s ws ds → SpellsRun s ws es → ds ≡ es
@@ -139,58 +139,54 @@ last_one (x ∷ z ∷ fa) a [] b e = cc
 last_one (x ∷ fa) a (y ∷ fb) b e = let rest : fa ++ a ∷ [] ≡ fb ++ b ∷ [] = cc in last_one fa a fb b rest
 
 -- sums leave no room for a fault of the words
-pub not_short : (s : Scheme) (p : List ℕ) (n : ℕ) (ss ds : List ℤ) → AreSums s p n ss → SpellsRun s (data_words p) ds
-    → length ds < n → ⊥
-not_short s p n ss ds a h less =
-    let most = bounds s (data_words p) [] a.prefix a.rest ds a.differences
-    (append-nil (data_words p) ∙ a.cut) h tt a.spelled in
-    omega (arith, most, a.enough)
+pub not_ending : (s : Scheme) (p : List ℕ) (n : ℕ) (ss ds : List ℤ) (rest : List DataWord) → AreSums s p n ss
+    → Ending s (data_words p) ds rest → length ds < n → ⊥
+not_ending s p n ss ds rest a e less =
+    let most = bounds s e.before rest a.prefix a.rest ds a.differences (sym e.cut ∙ a.cut) e.spelled e.stops a.spelled in
+    omega (arith, most.0, a.enough)
 
-pub not_bad : (s : Scheme) (p : List ℕ) (n : ℕ) (ss : List ℤ) (before : List DataWord) (bad : DataWord)
-    (after : List DataWord) (ds : List ℤ) → AreSums s p n ss → data_words p ≡ before ++ bad ∷ after
-    → SpellsRun s before ds → length ds < n → SpellsNone s bad.code bad.bits → ⊥
-not_bad s p n ss before bad after ds a cut h less none = search (arith, bounds)
+-- why there are no samples: the words stop before, or a sum isn't what it has to be
+pub data Reason (s : Scheme) (p : List ℕ) (n : ℕ) : ReadFault → Type 0 where
+  lacks : (ds : List ℤ) (rest : List DataWord) → Ending s (data_words p) ds rest → length ds < n
+      → Reason s p n (lack_at (length ds) (last_item rest))
+  over : (prefix : List ℤ) (sum : ℤ) (rest : List ℤ) → AreSums s p n (prefix ++ sum ∷ rest) → All IsSample prefix
+      → ¬ (IsSample sum) → Reason s p n (Overflow (length prefix))
+  differs : (prefix : List ℤ) (last : ℤ) → AreSums s p n (prefix ++ last ∷ []) → All IsSample (prefix ++ last ∷ [])
+      → last ≢ last_constant p → Reason s p n (LastDiffers last (last_constant p))
+
+pub reason : (s : Scheme) (p : List ℕ) (n : ℕ) (f : ReadFault) → IsFrameFault s p n f → Reason s p n f
+reason s p n f (short ds h less) =
+    lacks ds [] (record { before = data_words p; cut = sym (append-nil (data_words p)); spelled = h; stops = tt }) less
+reason s p n f (bad_word before bad after ds cut h less none) =
+    lacks ds (bad ∷ after) (record { before = before; cut = cut; spelled = h; stops = none }) less
+reason s p n f (overflow prefix sum rest a all not) = over prefix sum rest a all not
+reason s p n f (last_differs prefix last a all not) = differs prefix last a all not
+
+reason_one : (s : Scheme) (p : List ℕ) (n : ℕ) (f g : ReadFault) → Reason s p n f → Reason s p n g → f ≡ g
+reason_one s p n f g (lacks ds rest e less) (lacks es more k less') = let same = one_ending e k in
+    rw (same.0, same.1) refl
+reason_one s p n f g (lacks ds rest e less) (over prefix sum others a all not) =
+    absurd (not_ending s p n (prefix ++ sum ∷ others) ds rest a e less)
+reason_one s p n f g (lacks ds rest e less) (differs prefix last a all not) =
+    absurd (not_ending s p n (prefix ++ last ∷ []) ds rest a e less)
+reason_one s p n f g (over prefix sum others a all not) (lacks ds rest e less) =
+    absurd (not_ending s p n (prefix ++ sum ∷ others) ds rest a e less)
+reason_one s p n f g (over prefix sum others a all not) (over prefix' sum' others' b all' not') =
+    ap Overflow (first_over prefix sum others prefix' sum' others'
+    (sums_one s p n (prefix ++ sum ∷ others) (prefix' ++ sum' ∷ others') a b) all all' not not')
+reason_one s p n f g (over prefix sum others a all not) (differs prefix' last b all' not') =
+    absurd (not_in prefix sum others (subst (λ (xs : List ℤ). All IsSample xs)
+    (sums_one s p n (prefix' ++ last ∷ []) (prefix ++ sum ∷ others) b a) all') not)
+reason_one s p n f g (differs prefix last a all not) (lacks ds rest e less) =
+    absurd (not_ending s p n (prefix ++ last ∷ []) ds rest a e less)
+reason_one s p n f g (differs prefix' last b all' not') (over prefix sum others a all not) =
+    absurd (not_in prefix sum others (subst (λ (xs : List ℤ). All IsSample xs)
+    (sums_one s p n (prefix' ++ last ∷ []) (prefix ++ sum ∷ others) b a) all') not)
+reason_one s p n f g (differs prefix last a all not) (differs prefix' last' b all' not') =
+    ap (λ (z : ℤ). LastDiffers z (last_constant p))
+    (last_one prefix last prefix' last' (sums_one s p n (prefix ++ last ∷ []) (prefix' ++ last' ∷ []) a b))
 
 -- Frames have one fault at most.
 pub fault_one : (s : Scheme) (p : List ℕ) (n : ℕ) (f g : ReadFault) → IsFrameFault s p n f → IsFrameFault s p n g
     → f ≡ g
-fault_one s p n f g (short ds h less) (short es k less') =
-    ap (λ (xs : List ℤ). Short (length xs)) (run_one s (data_words p) ds es h k)
-fault_one s p n f g (short ds h less) (bad_word before bad after es cut k less' none) =
-    absurd (not_spelled s before bad after ds (subst (λ (ws : List DataWord). SpellsRun s ws ds) cut h) none)
-fault_one s p n f g (short ds h less) (overflow prefix sum rest a all not) =
-    absurd (not_short s p n (prefix ++ sum ∷ rest) ds a h less)
-fault_one s p n f g (short ds h less) (last_differs prefix last a all not) =
-    absurd (not_short s p n (prefix ++ last ∷ []) ds a h less)
-fault_one s p n f g (bad_word before bad after es cut k less' none) (short ds h less) =
-    absurd (not_spelled s before bad after ds (subst (λ (ws : List DataWord). SpellsRun s ws ds) cut h) none)
-fault_one s p n f g (bad_word before bad after es cut k less none)
-    (bad_word before' bad' after' es' cut' k' less' none') =
-    ap (λ (w : DataWord). BadWord w.frame w.place) (first_bad s before bad after before' bad' after' es es' (sym cut
-    ∙ cut') k k' none none')
-fault_one s p n f g (bad_word before bad after es cut k less none) (overflow prefix sum rest a all not) =
-    absurd (not_bad s p n (prefix ++ sum ∷ rest) before bad after es a cut k less none)
-fault_one s p n f g (bad_word before bad after es cut k less none) (last_differs prefix last a all not) =
-    absurd (not_bad s p n (prefix ++ last ∷ []) before bad after es a cut k less none)
-fault_one s p n f g (overflow prefix sum rest a all not) (short ds h less) =
-    absurd (not_short s p n (prefix ++ sum ∷ rest) ds a h less)
-fault_one s p n f g (overflow prefix sum rest a all not) (bad_word before bad after es cut k less none) =
-    absurd (not_bad s p n (prefix ++ sum ∷ rest) before bad after es a cut k less none)
-fault_one s p n f g (overflow prefix sum rest a all not) (overflow prefix' sum' rest' b all' not') =
-    ap Overflow (first_over prefix sum rest prefix' sum' rest'
-    (sums_one s p n (prefix ++ sum ∷ rest) (prefix' ++ sum' ∷ rest') a b) all all' not not')
-fault_one s p n f g (overflow prefix sum rest a all not) (last_differs prefix' last b all' not') =
-    absurd (not_in prefix sum rest
-    (subst (λ (xs : List ℤ). All IsSample xs) (sums_one s p n (prefix' ++ last ∷ []) (prefix ++ sum ∷ rest) b a)
-    all') not)
-fault_one s p n f g (last_differs prefix last a all not) (short ds h less) =
-    absurd (not_short s p n (prefix ++ last ∷ []) ds a h less)
-fault_one s p n f g (last_differs prefix last a all not) (bad_word before bad after es cut k less none) =
-    absurd (not_bad s p n (prefix ++ last ∷ []) before bad after es a cut k less none)
-fault_one s p n f g (last_differs prefix' last b all' not') (overflow prefix sum rest a all not) =
-    absurd (not_in prefix sum rest
-    (subst (λ (xs : List ℤ). All IsSample xs) (sums_one s p n (prefix' ++ last ∷ []) (prefix ++ sum ∷ rest) b a)
-    all') not)
-fault_one s p n f g (last_differs prefix last a all not) (last_differs prefix' last' b all' not') =
-    ap (λ (z : ℤ). LastDiffers z (last_constant p))
-    (last_one prefix last prefix' last' (sums_one s p n (prefix ++ last ∷ []) (prefix' ++ last' ∷ []) a b))
+fault_one s p n f g h k = reason_one s p n f g (reason s p n f h) (reason s p n g k)

@@ -198,7 +198,7 @@ fn first_difference(scheme: Scheme, word: Word) -> Option<i32>
 fn unused_in(task: Task, payload: &[u8], index: usize, sum: Sum) -> Option<i32>
     requires inside { index < length payload.now / 64 }
     requires left { sum.met < task.samples }
-    ensures { IfSome result (λ unused. AddsRun task.scheme payload.now task.samples index sum unused) }
+    ensures { IfSome result (λ unused. AddsRun task.scheme payload.now index sum unused) }
 {
     if sum.met > 0 {
         return Some(0);

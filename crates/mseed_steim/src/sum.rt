@@ -2,10 +2,10 @@
 
 ghost use Rattle.std.specs.Prelude.{◌≡◌, ◌+◌, ◌-◌, ◌^◌, ◌≤◌, ◌<◌, List, [], ◌∷◌, ℤ, ◌+ℤ◌, nat_abs, Result};
 ghost use Rattle.std.specs.Prelude.{Ok, Err, IfOk, MatchResult, length};
-ghost use Rattle.mseed_steim.specs.declared.differences.BadWordAt.{BadWordAt};
 ghost use Rattle.mseed_steim.specs.private.Digits.{digits};
 ghost use Rattle.mseed_steim.specs.private.Lanes.{span, total};
-ghost use Rattle.mseed_steim.specs.private.Sums.{fold, kept_at, met_in};
+ghost use Rattle.mseed_steim.specs.private.Items.{Items};
+ghost use Rattle.mseed_steim.specs.private.Sums.{fold, met_in, used};
 
 use crate::fault::ReadFault;
 use crate::group::Group;
@@ -24,13 +24,13 @@ pub(crate) type Walked = Result<Sum, ReadFault>;
 /// One difference more. That of the first sample isn't used.
 pub(crate) fn add_difference(difference: i32, samples: usize, sum: Sum) -> Walked
     requires { sum.met < samples }
-    ensures goes_on { (more : List (Result ℤ BadWordAt)) → MatchResult result
+    ensures goes_on { (more : Items) → MatchResult result
         (λ next. fold samples sum (Ok difference ∷ more) ≡ fold samples next more)
         (λ fault. fold samples sum (Ok difference ∷ more) ≡ Err fault) }
     ensures met { IfOk result (λ next. next.met ≡ sum.met + 1) }
-    ensures kept { IfOk result (λ next. (keep : ℤ → ℤ → ℤ) (more : List (Result ℤ BadWordAt))
-        → met_in keep samples sum (Ok difference ∷ more)
-        ≡ kept_at keep sum.met difference next.last ∷ met_in keep samples next more) }
+    ensures last { IfOk result (λ next. next.last ≡ sum.last +ℤ used sum.met difference) }
+    ensures samples { IfOk result (λ next. (more : Items)
+        → met_in samples sum (Ok difference ∷ more) ≡ next.last ∷ met_in samples next more) }
 {
     if sum.met == 0 {
         return Ok(Sum { met: 1, ..sum });

@@ -3,13 +3,12 @@
 ghost use Rattle.std.specs.Prelude.{◌≡◌, ◌≤◌, ◌<◌, ◌+◌, ◌-◌, ◌*◌, ◌/◌, ℕ, List, ◌∷◌, ◌++◌, ℤ, Result, Ok, IfOk, OnOk};
 ghost use Rattle.std.specs.Prelude.{length, take};
 ghost use Rattle.std.specs.Bool.{OnTrue};
-ghost use Rattle.mseed_steim.specs.declared.differences.BadWordAt.{BadWordAt};
 ghost use Rattle.mseed_steim.specs.Frames.{DataWord, data_words};
 ghost use Rattle.mseed_steim.specs.private.Digits.{digits};
-ghost use Rattle.mseed_steim.specs.private.Items.{items_of};
+ghost use Rattle.mseed_steim.specs.private.Items.{Items, items_of};
 ghost use Rattle.mseed_steim.specs.private.Reads.{as_data};
-ghost use Rattle.mseed_steim.specs.private.Sums.{CanTake, Continues, Walks, WalksOver, fold, in_places};
-ghost use Rattle.mseed_steim.specs.private.Sums.{items_left, kept_in, lack, places_for};
+ghost use Rattle.mseed_steim.specs.private.Sums.{CanKeep, CanTake, Continues, Lacks, Walks, WalksFrame, WalksOver};
+ghost use Rattle.mseed_steim.specs.private.Sums.{fold, in_places, kept_in, places_for};
 ghost use Rattle.mseed_steim.specs.private.Unpacked.{left_from};
 
 use crate::data_words::{FRAME, Word, Words, first_word};
@@ -26,7 +25,7 @@ use crate::unpack::{FEW, PLACES, Room, Widest, unpack_frame};
 fn keep_difference<K: Keeper>(difference: i32, samples: usize, sum: Sum, out: &mut [i32]) -> Walked
     requires left { sum.met < samples }
     requires places { length out.old ≡ places_for K.kept samples }
-    ensures walks { (more : List (Result ℤ BadWordAt))
+    ensures walks { (more : Items)
         → Walks K.kept samples sum out.old (Ok difference ∷ more) more out.new result }
     ensures met { IfOk result (λ next. next.met ≡ sum.met + 1) }
     ensures places { length out.new ≡ places_for K.kept samples }
@@ -45,8 +44,7 @@ fn keep_group<K: Keeper>(
     sum: Sum,
     out: &mut [i32],
 ) -> Walked
-    requires met { sum.met ≤ samples }
-    requires places { length out.old ≡ places_for K.kept samples }
+    requires { CanKeep K.kept samples sum out.old }
     ensures { WalksOver K.kept samples sum out.old (digits group.width word group.count) out.new result }
 {
     let mut sum = sum;
@@ -68,8 +66,7 @@ fn keep_word<K: Keeper>(
     sum: Sum,
     out: &mut [i32],
 ) -> Walked
-    requires met { sum.met ≤ samples }
-    requires places { length out.old ≡ places_for K.kept samples }
+    requires { CanKeep K.kept samples sum out.old }
     ensures { (rest : List DataWord) → Walks K.kept samples sum out.old (items_of scheme (as_data word ∷ rest))
         (items_of scheme rest) out.new result }
 {
@@ -91,8 +88,7 @@ fn keep_words<K: Keeper>(
     sum: Sum,
     out: &mut [i32],
 ) -> Walked
-    requires met { sum.met ≤ samples }
-    requires places { length out.old ≡ places_for K.kept samples }
+    requires { CanKeep K.kept samples sum out.old }
     ensures { (rest : List DataWord) → Walks K.kept samples sum out.old (items_of scheme (words.entry ++ rest))
         (items_of scheme rest) out.new result }
 {
@@ -149,8 +145,7 @@ pub(crate) fn keep_in_room<K: Keeper>(
     out: &mut [i32],
 ) -> Walked
     requires { CanTake K.kept task payload.now index sum out.old }
-    ensures { (met : ℕ) → Walks K.kept task.samples sum out.old (items_left task payload.now sum.met index)
-        (items_left task payload.now met (index + 1)) out.new result }
+    ensures { WalksFrame K.kept task payload.now index sum out.old out.new result }
 {
     let (frames, _) = payload.as_chunks::<64>();
     if task.samples - sum.met >= FEW {
@@ -181,8 +176,7 @@ fn keep_other<K: Keeper>(
     out: &mut [i32],
 ) -> Walked
     requires { CanTake K.kept task payload.now index sum out.old }
-    ensures { (met : ℕ) → Walks K.kept task.samples sum out.old (items_left task payload.now sum.met index)
-        (items_left task payload.now met (index + 1)) out.new result }
+    ensures { WalksFrame K.kept task payload.now index sum out.old out.new result }
 {
     match room.as_mut_array::<PLACES>() {
         Some(room) => keep_in_room::<K>(task, payload, index, sum, room, out),
@@ -268,7 +262,7 @@ pub(crate) fn walk<K: Keeper>(
 /// What comes first in place of one of so many differences, where any does, whatever they add up to.
 pub(crate) fn find_lack(payload: &[u8], scheme: Scheme, samples: usize) -> Option<ReadFault>
     requires { 0 < samples }
-    ensures { result ≡ lack samples 0 (items_of scheme (data_words payload.now)) }
+    ensures { Lacks samples (items_of scheme (data_words payload.now)) result }
 {
     let mut met = 0;
     for word in Words::of(payload) {

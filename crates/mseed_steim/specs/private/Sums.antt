@@ -1,8 +1,7 @@
 -- A walk over items that adds them up. What it answers is stated in Samples.
-use Rattle.std.specs.Prelude.{◌≡◌, ⊤, ℕ, ◌+◌, ◌-◌, ◌*◌, ◌/◌, ◌^◌, ◌<◌, ◌≤◌, ◌==◌, nat_lt, Bool, if◌then◌else◌, List}
+use Rattle.std.specs.Prelude.{◌≡◌, ⊤, ℕ, zero, suc, ◌+◌, ◌-◌, ◌*◌, ◌/◌, ◌^◌, ◌<◌, ◌≤◌, ◌==◌, nat_lt, Bool, if◌then◌else◌, List}
 use Rattle.std.specs.Prelude.{[], ◌∷◌, ◌++◌, map, take, length, ℤ, pos, negsuc, ◌+ℤ◌, ◌-ℤ◌, nat_abs, Option, Some, None}
 use Rattle.std.specs.Prelude.{Result, Ok, Err}
-use Rattle.mseed_steim.specs.declared.differences.BadWordAt.{BadWordAt}
 use Rattle.mseed_steim.specs.declared.fault.ReadFault.{ReadFault}
 use Rattle.mseed_steim.specs.declared.fault.ReadFault.TheVariants.{Short, BadWord, Overflow}
 use Rattle.mseed_steim.specs.declared.keep.Taken.{Taken}
@@ -14,7 +13,7 @@ use Rattle.mseed_steim.specs.Frames.{data_words, first_constant, words_from}
 use Rattle.mseed_time.specs.declared.order.Order.{Order}
 use Rattle.mseed_steim.specs.declared.form.Form.{Form}
 use Rattle.mseed_steim.specs.Samples.{AnswersPayload, AreEnds}
-use Rattle.mseed_steim.specs.private.Items.{items_of}
+use Rattle.mseed_steim.specs.private.Items.{Items, items_of}
 use Rattle.mseed_steim.specs.private.Moves.{Moves, MovesBy}
 use Rattle.mseed_steim.specs.private.Unpacked.{data_in, left_from}
 
@@ -27,14 +26,17 @@ fits (negsuc n) = nat_lt n (2 ^ 31)
 abbrev pub one_more : Sum → ℤ → Sum
 one_more sum last = record { met = sum.met + 1; last = last }
 
+-- what is added of a difference: nothing for the first sample
+abbrev pub used : ℕ → ℤ → ℤ
+used met d = if met == 0 then pos 0 else d
+
 -- the sum once n samples have been met, or what comes first in place of one
-unfoldable pub fold : ℕ → Sum → List (Result ℤ BadWordAt) → Result Sum ReadFault
+unfoldable pub fold : ℕ → Sum → Items → Result Sum ReadFault
 fold n sum [] = if sum.met == n then Ok sum else Err (Short sum.met)
 fold n sum (Err at ∷ more) = if sum.met == n then Ok sum else Err (BadWord at.frame at.word)
 fold n sum (Ok d ∷ more) =
     if sum.met == n then Ok sum
-    else if sum.met == 0 then fold n (one_more sum sum.last) more
-    else if fits (sum.last +ℤ d) then fold n (one_more sum (sum.last +ℤ d)) more
+    else if fits (sum.last +ℤ used sum.met d) then fold n (one_more sum (sum.last +ℤ used sum.met d)) more
     else Err (Overflow sum.met)
 
 -- the walk over a payload's words, from its first constant on
@@ -49,14 +51,14 @@ the_sample d s = s
 abbrev pub the_difference : ℤ → ℤ → ℤ
 the_difference d s = d
 
--- what is kept of the samples that the walk meets: of the first, which no difference comes to, itself
-unfoldable pub met_in : (ℤ → ℤ → ℤ) → ℕ → Sum → List (Result ℤ BadWordAt) → List ℤ
-met_in keep n sum [] = []
-met_in keep n sum (Err at ∷ more) = []
-met_in keep n sum (Ok d ∷ more) =
+-- the samples that the walk meets
+unfoldable pub met_in : ℕ → Sum → Items → List ℤ
+met_in n sum [] = []
+met_in n sum (Err at ∷ more) = []
+met_in n sum (Ok d ∷ more) =
     if sum.met == n then []
-    else if sum.met == 0 then sum.last ∷ met_in keep n (one_more sum sum.last) more
-    else if fits (sum.last +ℤ d) then keep d (sum.last +ℤ d) ∷ met_in keep n (one_more sum (sum.last +ℤ d)) more
+    else if fits (sum.last +ℤ used sum.met d)
+    then (sum.last +ℤ used sum.met d) ∷ met_in n (one_more sum (sum.last +ℤ used sum.met d)) more
     else []
 
 -- what is kept of one sample, before which so many have been met
@@ -87,6 +89,11 @@ abbrev pub kept_of : (ℤ → ℤ → ℤ) → List ℤ → List ℤ
 kept_of keep [] = []
 kept_of keep (x ∷ xs) = x ∷ kept_from keep x xs
 
+-- what is kept of the samples after so many, of which this is the last
+abbrev pub kept_on : (ℤ → ℤ → ℤ) → ℕ → ℤ → List ℤ → List ℤ
+kept_on keep zero before xs = kept_of keep xs
+kept_on keep (suc met) before xs = kept_from keep before xs
+
 -- where something is kept, it is what is kept of the samples
 abbrev pub AreKept : Option (ℤ → ℤ → ℤ) → List ℤ → List ℤ → Type 0
 AreKept None samples out = ⊤
@@ -115,11 +122,24 @@ pub record IsWindow (reach : ℕ) (last : ℤ) (four pairs : List ℤ) : Type 0 
   pub pairs_are : pairs ≡ one ∷ other ∷ (third +ℤ second) ∷ (last +ℤ third) ∷ []
   pub near : nat_abs first + (nat_abs second + (nat_abs third + nat_abs last)) + reach < 2 ^ 31
 
--- what comes first in place of one of n differences, where any does
-unfoldable pub lack : ℕ → ℕ → List (Result ℤ BadWordAt) → Option ReadFault
-lack n met [] = if met == n then None else Some (Short met)
-lack n met (Err at ∷ more) = if met == n then None else Some (BadWord at.frame at.word)
-lack n met (Ok d ∷ more) = if met == n then None else lack n (met + 1) more
+-- items that end, or go on with the place of a bad word
+abbrev pub IsEnd : Items → Type 0
+IsEnd [] = ⊤
+IsEnd (Ok d ∷ more) = ⊥
+IsEnd (Err at ∷ more) = ⊤
+
+-- what such items are in place of one difference more, once so many have been met
+abbrev pub lack_at : ℕ → Items → ReadFault
+lack_at met [] = Short met
+lack_at met (Ok d ∷ more) = Short met
+lack_at met (Err at ∷ more) = BadWord at.frame at.word
+
+-- the items begin with n differences; or with fewer, and this is what comes in place of one more
+abbrev pub Lacks : ℕ → Items → Option ReadFault → Type 0
+Lacks n items None = (ds : List ℤ) × ((more : Items) × ((items ≡ map Ok ds ++ more) × (length ds ≡ n)))
+Lacks n items (Some fault) =
+    (ds : List ℤ) × ((rest : Items)
+    × ((items ≡ map Ok ds ++ rest) × IsEnd rest × (length ds < n) × (fault ≡ lack_at (length ds) rest)))
 
 -- how many places there are for n samples: one for each, where something is kept of them
 abbrev pub places_for : Option (ℤ → ℤ → ℤ) → ℕ → ℕ
@@ -132,9 +152,9 @@ Puts None met put before after = ⊤
 Puts (Some keep) met put before after = take (met + length (put keep)) after ≡ take met before ++ put keep
 
 -- all that a walk keeps: what stands in the first places, and after it what is kept of the samples to come
-abbrev pub kept_in : Option (ℤ → ℤ → ℤ) → ℕ → Sum → List ℤ → List (Result ℤ BadWordAt) → List ℤ
+abbrev pub kept_in : Option (ℤ → ℤ → ℤ) → ℕ → Sum → List ℤ → Items → List ℤ
 kept_in None n sum out items = []
-kept_in (Some keep) n sum out items = take sum.met out ++ met_in keep n sum items
+kept_in (Some keep) n sum out items = take sum.met out ++ kept_on keep sum.met sum.last (met_in n sum items)
 
 -- what stands in all places, where something is kept
 abbrev pub in_places : Option (ℤ → ℤ → ℤ) → List ℤ → List ℤ
@@ -143,26 +163,36 @@ in_places (Some keep) out = out
 
 -- A walk over these items answers the same, and keeps the same in all, as one from the next sum on over those after.
 pub record Continues (keep : Option (ℤ → ℤ → ℤ)) (n : ℕ) (sum : Sum) (before : List ℤ)
-    (items behind : List (Result ℤ BadWordAt)) (after : List ℤ) (next : Sum) : Type 0 where
+    (items behind : Items) (after : List ℤ) (next : Sum) : Type 0 where
   pub folded : fold n sum items ≡ fold n next behind
   pub kept : kept_in keep n next after behind ≡ kept_in keep n sum before items
   pub met : next.met ≤ n
   pub places : length after ≡ places_for keep n
 
 -- it goes on so from the answer, or ends with the answer's fault
-abbrev pub Walks : Option (ℤ → ℤ → ℤ) → ℕ → Sum → List ℤ → List (Result ℤ BadWordAt) → List (Result ℤ BadWordAt)
-    → List ℤ → Result Sum ReadFault → Type 0
+abbrev pub Walks : Option (ℤ → ℤ → ℤ) → ℕ → Sum → List ℤ → Items → Items → List ℤ → Result Sum ReadFault → Type 0
 Walks keep n sum before items behind after (Ok next) = Continues keep n sum before items behind after next
 Walks keep n sum before items behind after (Err fault) = fold n sum items ≡ Err fault
 
 -- over these differences, whatever stands after them
 abbrev pub WalksOver : Option (ℤ → ℤ → ℤ) → ℕ → Sum → List ℤ → List ℤ → List ℤ → Result Sum ReadFault → Type 0
 WalksOver keep n sum before ds after result =
-    (more : List (Result ℤ BadWordAt)) → Walks keep n sum before (map Ok ds ++ more) more after result
+    (more : Items) → Walks keep n sum before (map Ok ds ++ more) more after result
 
 -- the items of the words that aren't taken yet, from a frame on
-abbrev pub items_left : Task → List ℕ → ℕ → ℕ → List (Result ℤ BadWordAt)
+abbrev pub items_left : Task → List ℕ → ℕ → ℕ → Items
 items_left task payload met frame = items_of task.scheme (left_from payload met frame)
+
+-- over the first of the frames from one on
+abbrev pub WalksFrame : Option (ℤ → ℤ → ℤ) → Task → List ℕ → ℕ → Sum → List ℤ → List ℤ → Result Sum ReadFault → Type 0
+WalksFrame keep task payload frame sum before after result =
+    (met : ℕ) → Walks keep task.samples sum before (items_left task payload sum.met frame)
+    (items_left task payload met (frame + 1)) after result
+
+-- No more samples are met than are needed, and they have their places.
+pub record CanKeep (keep : Option (ℤ → ℤ → ℤ)) (samples : ℕ) (sum : Sum) (out : List ℤ) : Type 0 where
+  pub met : sum.met ≤ samples
+  pub places : length out ≡ places_for keep samples
 
 -- The frame is one of the payload's, samples are needed of it, and they have their places.
 pub record CanTake (keep : Option (ℤ → ℤ → ℤ)) (task : Task) (payload : List ℕ) (frame : ℕ) (sum : Sum) (out : List ℤ)
@@ -180,11 +210,11 @@ pub record Takes (keep : Option (ℤ → ℤ → ℤ)) (task : Task) (payload : 
       (items_left task payload taken.sum.met (frame + taken.frames)) after taken.sum
 
 -- Whatever a run of frames moves a sum by, but for a number that isn't used, is what the walk adds up over them.
-abbrev pub AddsRun : Scheme → List ℕ → ℕ → ℕ → Sum → ℤ → Type 0
-AddsRun scheme payload n index sum unused =
+abbrev pub AddsRun : Scheme → List ℕ → ℕ → Sum → ℤ → Type 0
+AddsRun scheme payload index sum unused =
     (k count reach : ℕ) (by : ℤ) → 0 < k → index + k ≤ length payload / 64
     → MovesBy scheme (words_from payload (16 * index + data_in sum.met index) (16 * k - data_in sum.met index)) count by
     reach
-    → (ds : List ℤ) × (Moves count (by -ℤ unused) reach ds × IsCounted sum.met ds × ((met : ℕ)
-    → fold n sum (items_of scheme (left_from payload sum.met index))
-    ≡ fold n sum (map Ok ds ++ items_of scheme (left_from payload met (index + k)))))
+    → (ds : List ℤ) × (Moves count (by -ℤ unused) reach (with_first sum.met (pos 0) ds) × ((met : ℕ)
+    → items_of scheme (left_from payload sum.met index)
+    ≡ map Ok ds ++ items_of scheme (left_from payload met (index + k))))

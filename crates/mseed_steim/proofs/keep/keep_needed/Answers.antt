@@ -5,8 +5,8 @@ use Rattle.std.proofs.lemmas.List.{length-take-le}
 use Rattle.mseed_steim.specs.declared.sum.Sum.{Sum}
 use Rattle.mseed_steim.specs.private.Lanes.{span}
 use Rattle.mseed_steim.specs.private.Sums.{with_first}
-use Rattle.mseed_steim.proofs.Continuing.{continues_near, continues_unused, first_counted, first_span}
-use Rattle.mseed_steim.proofs.Continuing.{length-with_first, span_needed, walks_needed}
+use Rattle.mseed_steim.proofs.Continuing.{continues_near, first_counted, first_span}
+use Rattle.mseed_steim.proofs.Continuing.{span_needed, walks_needed}
 use Rattle.mseed_steim.proofs.keep.keep_needed.Goals as goal
 
 pub keep_near-requires-clause-near : goal.keep_near-requires-clause-near
@@ -20,19 +20,14 @@ returns g c = λ more.
     let all : length ds ≡ 128 = search rules in
     let needed : k ≤ c.args.count = omega (arith, c.min-needed.ensures) in
     let long : length (take k ds) ≡ k = length-take-le k ds (omega (arith, all, needed, c.requires.few)) in
-    let counted : List ℤ = with_first sum.met (pos 0) (take k ds) in
-    let same : length counted ≡ k = length-with_first sum.met (pos 0) (take k ds) ∙ long in
     let first = first_span sum.met (take k ds) in
     let some = span_needed ds k c.args.count needed in
-    let near : nat_abs sum.last + span counted < 2 ^ 31 = omega (arith, first, some, c.requires.near) in
     let fits_last : FitsSigned w32 c.keep_near.result = search rules in
     let next : Sum = record { met = sum.met + k; last = c.keep_near.result } in
     let put = c.put_first.ensures k in
+    let last = rw put at c.keep_near.ensures.last in
     rw (to_z-of_z w32 c.keep_near.result fits_last) (walks_needed g.K.Keeper.kept c.args.samples sum ds c.args.count k
     c.args.out.now c.keep_near.new.out more (Ok next) c.requires.met c.min-needed.ensures
-    (λ rest. continues_unused (pos 0) (take k ds) rest c.requires.some (continues_near counted sum next rest
-    (first_counted sum.met (take k ds))
-    (omega (arith, same, c.min-needed.ensures, c.requires.met)) near (ap (λ (i : ℕ). sum.met + i) (rw same refl))
-    (rw put at c.keep_near.ensures.last)
-    (rw put at c.keep_near.ensures.put)
-    (c.keep_near.ensures.places ∙ c.requires.places))) refl)
+    (λ rest. continues_near (take k ds) sum next rest (omega (arith, long, c.min-needed.ensures, c.requires.met))
+    (omega (arith, first, some, c.requires.near)) (rw (long, ← last) refl) (rw put at c.keep_near.ensures.put)
+    (c.keep_near.ensures.places ∙ c.requires.places)) refl)

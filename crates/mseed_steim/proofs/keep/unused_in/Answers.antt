@@ -8,6 +8,6 @@ returns-then-sum-gt0 c = grind (arith, moved_run)
 
 pub returns : goal.returns
 returns c =
-    found_run c.args.task.scheme c.args.payload.now c.args.task.samples c.args.index c.args.sum
-    (as_data c.first_word.result) c.first_difference.result (omega arith) (omega arith) (omega arith)
+    found_run c.args.task.scheme c.args.payload.now c.args.index c.args.sum
+    (as_data c.first_word.result) c.first_difference.result (omega arith) (omega arith)
     c.first_word.ensures c.first_difference.ensures

@@ -1,50 +1,74 @@
-use Rattle.std.proofs.Common.{◌≤◌, ◌<◌, ◌+◌, ◌∙◌, [], List, ℤ, Result, arith, ap, sym, length}
-use Rattle.mseed_steim.specs.declared.differences.BadWordAt.{BadWordAt}
+use Rattle.std.proofs.Common.{◌≡◌, ◌-◌, ◌≤◌, ◌<◌, ◌+◌, ◌++◌, ◌∷◌, ◌∙◌, ℕ, [], List, ℤ, arith, ap, length, length-append}
+use Rattle.std.proofs.Common.{Err, Ok, map, refl, rules, take}
+use Rattle.std.proofs.lemmas.List.{length-take-le}
 use Rattle.mseed_steim.specs.private.Digits.{digits}
-use Rattle.mseed_steim.specs.private.Items.{items_of}
+use Rattle.mseed_steim.specs.private.Items.{Items, items_of}
 use Rattle.mseed_steim.specs.private.Reads.{as_data}
 use Rattle.mseed_steim.specs.Runs.{place_of}
-use Rattle.mseed_steim.specs.private.Sums.{lack}
 use Rattle.mseed_steim.proofs.Spelled.{length-digits}
 use Rattle.mseed_steim.proofs.Walking.{items_group, items_bad, no_items}
-use Rattle.mseed_steim.proofs.Folded.{lack_group, lack_none, lack_bad, lack_short}
+use Rattle.mseed_steim.proofs.Folded.{first_items, items_on}
 use Rattle.mseed_steim.proofs.walk.find_lack.Goals as goal
+
+pub loop-word-init : goal.loop-word-init
+loop-word-init c = record { met = c.requires; same = ([], (search rules, refl)) }
 
 pub returns-in_default : goal.returns-in_default
 returns-in_default c =
+    let done = c.loop-word.invariant.same in
     let bad = items_bad c.args.scheme c.loop-word.word-iterator c.next.new.self (as_data c.in-Some.word)
-    c.in-Some.ensures.steps c.in_default.ensures in
-    sym (c.loop-word.invariant.same
-    ∙ ap (λ (items : List (Result ℤ BadWordAt)). lack c.args.samples c.loop-word.met items) bad
-    ∙ lack_bad c.args.samples c.loop-word.met (place_of (as_data c.in-Some.word)) [] c.loop-word.invariant.met)
+    c.in-Some.ensures.steps c.in_default.ensures in (
+      done.0,
+      (
+        Err (place_of (as_data c.in-Some.word)) ∷ [],
+        (
+          done.1.0 ∙ ap (λ (xs : Items). map Ok done.0 ++ xs) bad,
+          tt,
+          omega (arith, done.1.1, c.loop-word.invariant.met),
+          refl,
+        ),
+      ),
+    )
 
 pub returns-then-samples-met : goal.returns-then-samples-met
 returns-then-samples-met c =
+    let done = c.loop-word.invariant.same in
     let group = c.in-Some-group_of.group in
     let ds = digits group.width c.in-Some.word.bits group.count in
     let step = items_group c.args.scheme c.loop-word.word-iterator c.next.new.self (as_data c.in-Some.word) ds
     c.in-Some.ensures.steps c.in-Some-group_of.ensures in
     let count = length-digits group.width c.in-Some.word.bits group.count in
-    let most : c.args.samples ≤ c.loop-word.met + length ds = omega (arith, count) in
-    sym (c.loop-word.invariant.same
-    ∙ ap (λ (items : List (Result ℤ BadWordAt)). lack c.args.samples c.loop-word.met items) step
-    ∙ lack_none c.args.samples c.loop-word.met ds (items_of c.args.scheme c.next.new.self) c.loop-word.invariant.met
-    most)
+    let k : ℕ = c.args.samples - c.loop-word.met in
+    let long : length (take k ds) ≡ k = length-take-le k ds (omega (arith, count)) in
+    let met = c.loop-word.invariant.met in (
+      done.0 ++ take k ds,
+      (
+        _,
+        (
+          first_items _ _ done.0 ds k (items_on _ _ _ done.0 ds done.1.0 step),
+          length-append done.0 (take k ds) ∙ omega (arith, long, done.1.1, met),
+        ),
+      ),
+    )
 
 pub loop-word-preserved : goal.loop-word-preserved
 loop-word-preserved c =
+    let done = c.loop-word.invariant.same in
     let group = c.in-Some-group_of.group in
     let ds = digits group.width c.in-Some.word.bits group.count in
     let step = items_group c.args.scheme c.loop-word.word-iterator c.next.new.self (as_data c.in-Some.word) ds
     c.in-Some.ensures.steps c.in-Some-group_of.ensures in
     let count = length-digits group.width c.in-Some.word.bits group.count in
-    let less : c.loop-word.met + length ds < c.args.samples = omega (arith, count) in
     record {
       met = omega arith;
-      same = rw (← count) (c.loop-word.invariant.same
-          ∙ ap (λ (items : List (Result ℤ BadWordAt)). lack c.args.samples c.loop-word.met items) step
-          ∙ lack_group c.args.samples c.loop-word.met ds (items_of c.args.scheme c.next.new.self) less);
+      same = (
+        done.0 ++ ds,
+        (items_on _ _ _ done.0 ds done.1.0 step, length-append done.0 ds ∙ omega (arith, count, done.1.1)),
+      );
     }
 
 pub returns : goal.returns
-returns c = search (arith, lack_short, no_items)
+returns c =
+    let done = c.loop-word.invariant.same in
+    let none : items_of c.args.scheme c.loop-word.word-iterator ≡ [] = search (arith, no_items) in
+    (done.0, ([], (done.1.0 ∙ ap (λ (xs : Items). map Ok done.0 ++ xs) none, tt, omega (arith, done.1.1), rw done.1.1 refl)))
