@@ -1,4 +1,5 @@
 -- Words of code 01: their differences are their bytes.
+use Rattle.mseed_steim.specs.Frames.{AreOctets}
 use Rattle.std.proofs.Common.{◌≡◌, ◌≢◌, ℕ, zero, suc, ◌+◌, ◌-◌, ◌*◌, ◌/◌, ◌%◌, ◌^◌, ◌<◌, ◌≤◌, List, [], ◌∷◌, ◌++◌}
 use Rattle.std.proofs.lemmas.Bool.Decides.{nat_tests}
 use Rattle.std.proofs.Common.{length, map, take, drop, get_or, length-drop, ℤ, refl, sym, ap, ◌∙◌, append_assoc, arith}
@@ -12,7 +13,7 @@ use Rattle.mseed_steim.specs.declared.differences.BadWordAt.{BadWordAt}
 use Rattle.mseed_steim.specs.ByteRuns.{run_in, byte_run}
 use Rattle.mseed_steim.specs.private.Digits.{signed, digits, differences_of}
 use Rattle.mseed_steim.specs.Frames.{DataWord, data_word, word_at, code_at, words_from}
-use Rattle.mseed_steim.specs.private.Items.{items_of}
+use Rattle.mseed_steim.specs.private.Items.{Items, items_of}
 use Rattle.mseed_steim.specs.Runs.{SpellsRun}
 use Rattle.mseed_steim.proofs.Given.{word_small}
 use Rattle.mseed_steim.proofs.Spelled.{by_row, bytes_row, differences_spelled}
@@ -26,13 +27,8 @@ byte_signed : (x : ℕ) → x < 256 → signed 8 x ≡ twos_complement 1 x
 byte_signed x h = search (arith)
 
 -- the digits of four bytes
-byte_digits : (xs : List ℕ) → 4 ≤ length xs → ((i : ℕ) → get_or xs i 0 < 256)
-    → widened (take 4 xs) ≡ digits 8 (big_number 4 xs) 4
+byte_digits : (xs : List ℕ) → 4 ≤ length xs → AreOctets xs → widened (take 4 xs) ≡ digits 8 (big_number 4 xs) 4
 unfolding digits
-byte_digits [] h small = absurd (omega arith)
-byte_digits (a ∷ []) h small = absurd (omega arith)
-byte_digits (a ∷ b ∷ []) h small = absurd (omega arith)
-byte_digits (a ∷ b ∷ c ∷ []) h small = absurd (omega arith)
 byte_digits (a ∷ b ∷ c ∷ d ∷ xs) h small =
     let la : a < 256 = small 0 in
     let lb : b < 256 = small 1 in
@@ -44,9 +40,10 @@ byte_digits (a ∷ b ∷ c ∷ d ∷ xs) h small =
     let third : w / 2 ^ 8 % 2 ^ 8 ≡ c = omega arith in
     let fourth : w / 2 ^ 0 % 2 ^ 8 ≡ d = omega arith in
     rw (first, second, third, fourth, byte_signed a la, byte_signed b lb, byte_signed c lc, byte_signed d ld) refl
+byte_digits _ h small = absurd (omega arith)
 
 -- a word of code 01
-pub word_bytes : (s : Scheme) (p : List ℕ) → ((i : ℕ) → get_or p i 0 < 256) → (k : ℕ) → code_at p k ≡ 1
+pub word_bytes : (s : Scheme) (p : List ℕ) → AreOctets p → (k : ℕ) → code_at p k ≡ 1
     → 4 * (k + 1) ≤ length p → differences_of s (code_at p k) (word_at p k) ≡ Some (widened (take 4 (drop (4 * k) p)))
 word_bytes s p octets k e h =
     let long : 4 ≤ length (drop (4 * k) p) = rw length-drop (omega (arith, h)) in
@@ -77,13 +74,7 @@ run_words p frame (suc m) k n h stop =
     let more : suc m + n ≡ suc (m + n) = omega arith in
     let next : k + suc m ≡ k + 1 + m = omega arith in
     let later = run_words p frame m (k + 1) n (next_bytes p frame k m h) (rw next at stop) in
-    rw (
-      more,
-      words_step p k (m + n) one.1,
-      words_step p k m one.1,
-      eq-eqb (k / 16) frame one.0,
-      eq-eqb (code_at p k) 1 one.2,
-    ) (ap (λ (ws : List DataWord). data_word p k ∷ ws) later)
+    grind (arith, eq-eqb, words_step)
 
 neither : {X : Type 0} (b : Bool) (x y : X) → cond (cond b false false) x y ≡ y
 neither true x y = refl
@@ -116,7 +107,7 @@ widened_cut p k m = ap widened (bytes_cut p k m)
     ∙ map-append (λ byte. twos_complement 1 byte) (take 4 (drop (4 * k) p)) (take (4 * m) (drop (4 * (k + 1)) p))
 
 -- what the run spells
-pub run_spelled : (s : Scheme) (p : List ℕ) → ((i : ℕ) → get_or p i 0 < 256) → (frame m k : ℕ) → AreBytes p frame k m
+pub run_spelled : (s : Scheme) (p : List ℕ) → AreOctets p → (frame m k : ℕ) → AreBytes p frame k m
     → 4 * (k + m) ≤ length p → SpellsRun s (words_from p k m) (widened (take (4 * m) (drop (4 * k) p)))
 run_spelled s p octets frame zero k h inside = rw (words_none p k) refl
 run_spelled s p octets frame (suc m) k h inside =
@@ -129,7 +120,7 @@ run_spelled s p octets frame (suc m) k h inside =
       (widened (take (4 * m) (drop (4 * (k + 1)) p)), (widened_cut p k m, (word, later))),
     )
 
-pub run_items : (s : Scheme) (p : List ℕ) → ((i : ℕ) → get_or p i 0 < 256) → (frame m k n : ℕ) → AreBytes p frame k m
+pub run_items : (s : Scheme) (p : List ℕ) → AreOctets p → (frame m k n : ℕ) → AreBytes p frame k m
     → 4 * (k + m) ≤ length p → items_of s (words_from p k (m + n)) ≡ map Ok (widened (take (4 * m) (drop (4 * k) p)))
     ++ items_of s (words_from p (k + m) n)
 run_items s p octets frame zero k n h inside =
@@ -142,16 +133,12 @@ run_items s p octets frame (suc m) k n h inside =
     let next : k + 1 + m ≡ k + suc m = omega arith in
     let first : List ℤ = widened (take 4 (drop (4 * k) p)) in
     let others : List ℤ = widened (take (4 * m) (drop (4 * (k + 1)) p)) in
-    let behind : List (Result ℤ BadWordAt) = items_of s (words_from p (k + suc m) n) in
+    let behind : Items = items_of s (words_from p (k + suc m) n) in
     let step = items_group s (words_from p k (suc (m + n))) (words_from p (k + 1) (m + n)) (data_word p k) first
     (words_step p k (m + n) one.1) (word_bytes s p octets k one.2 (omega (arith, inside))) in
     let later : items_of s (words_from p (k + 1) (m + n)) ≡ map Ok others ++ behind =
     rw next at (run_items s p octets frame m (k + 1) n (next_bytes p frame k m h) (omega (arith, inside))) in
-    let joined : map Ok (widened (take (4 * suc m) (drop (4 * k) p))) ≡ map Ok first ++ map Ok others =
-    search (arith, nat_tests, map-append, widened_cut) in
-    rw more (step ∙ ap (λ (zs : List (Result ℤ BadWordAt)). map Ok first ++ zs) later
-    ∙ sym (append_assoc (map Ok first) (map Ok others) behind)
-    ∙ ap (λ (zs : List (Result ℤ BadWordAt)). zs ++ behind) (sym joined))
+    grind (arith, append_assoc, map-append, widened_cut)
 
 -- how many words there are
 pub run_count : (p : List ℕ) (frame m k : ℕ) → AreBytes p frame k m → length (words_from p k m) ≡ m
@@ -194,12 +181,7 @@ stops_at : (p : List ℕ) (codes from to end : ℕ) → from ≤ to → to ≤ (
 stops_at p codes from to end low high inside known stop = ⊎_elim
     (λ (less : to < end).
     let at = known (omega (arith, low)) in
-    let data_place = at.0 in
-    run_stops p (from / 16) to (end - to)
-    (λ place.
-    let frame : to / 16 ≡ from / 16 = omega (arith, place, low, high) in
-    rw (frame, ← at.1) (stop (omega (arith, place, high)) less))
-    (λ head. let positive : 0 < from % 16 = omega (arith, data_place) in omega (arith, head, low, positive)))
+    grind (arith, run_stops))
     (λ (most : end ≤ to). let over : end - to ≡ 0 = omega (arith, most) in rw (over, words_none p to) refl)
     (cases_lt to end)
 
@@ -214,7 +196,7 @@ pub record Taken (p : List ℕ) (from to end : ℕ) : Type 0 where
   pub count : length (take (4 * to - 4 * from) (drop (4 * from) p)) ≡ 4 * length
       (byte_run (words_from p from (end - from)))
 
-pub taken : (p : List ℕ) (codes from to end : ℕ) → ((i : ℕ) → get_or p i 0 < 256) → 4 * end ≤ length p → from ≤ to
+pub taken : (p : List ℕ) (codes from to end : ℕ) → AreOctets p → 4 * end ≤ length p → from ≤ to
     → to ≤ (from / 16 + 1) * 16 → to ≤ end → IsAt p codes from end
     → ((k : ℕ) → from ≤ k → k < to → is_code codes k ≡ 1)
     → (to < (from / 16 + 1) * 16 → to < end → is_code codes to ≢ 1) → Taken p from to end

@@ -17,7 +17,7 @@ use Rattle.mseed_steim.proofs.Laws.{denied, fault_denies, reading_one, same_payl
 -- the ends of a reading are those of any
 pub one_ends : (v : View) (ends : Ends) → (s : List ℤ) × (IsWhole v s × AreEnds ends s) → (s : List ℤ) → IsWhole v s
     → AreEnds ends s
-one_ends v ends h s whole = subst (λ (xs : List ℤ). AreEnds ends xs) (reading_one v h.0 s h.1.0.0 whole.0) h.1.1
+one_ends v ends h s whole = subst (AreEnds ends) (reading_one v h.0 s h.1.0.0 whole.0) h.1.1
 
 -- those of Steim frames are their constants
 pub constants_end : (v : View) (scheme : Scheme) (p : List ℕ) (ends : Ends) → HoldsIn v (Frames scheme) p
@@ -27,9 +27,9 @@ constants_end v scheme p ends held first last s whole =
     let end : slice_get s (length s - 1) ≡ Some (last_constant (payload_of v)) = whole.1 (Frames scheme) held.1 in
     let same : p ≡ payload_of v = held.4 in
     let begin : slice_get s 0 ≡ Some (first_constant (payload_of v)) = search (arith, nat_tests, first_is) in (
-      begin ∙ ap (λ (q : List ℕ). Some (first_constant q)) (sym same) ∙ ap (λ (z : ℤ). Some z) (sym first),
+      begin ∙ ap (λ (q : List ℕ). Some (first_constant q)) (sym same) ∙ ap Some (sym first),
       end
-          ∙ ap (λ (q : List ℕ). Some (last_constant q)) (sym same) ∙ ap (λ (z : ℤ). Some z) (sym last),
+          ∙ ap (λ (q : List ℕ). Some (last_constant q)) (sym same) ∙ ap Some (sym last),
     )
 
 pub frameless : (v : View) (scheme : Scheme) (p : List ℕ) → 0 < count_of v → HoldsIn v (Frames scheme) p

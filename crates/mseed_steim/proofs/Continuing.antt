@@ -121,9 +121,7 @@ parts k count ds less =
 
 cut : (k count : ℕ) (ds : List ℤ) (rest : Items) → k ≤ count
     → map Ok (take count ds) ++ rest ≡ map Ok (take k ds) ++ (map Ok (drop k (take count ds)) ++ rest)
-cut k count ds rest less =
-    ap (λ (xs : List ℤ). map Ok xs ++ rest) (parts k count ds less)
-    ∙ sym (joined (take k ds) (drop k (take count ds)) rest)
+cut k count ds rest less = grind (arith, joined, parts)
 
 -- all are taken, or as many as are needed
 all_or_enough : (count left k : ℕ) → k ≡ min count left → (k ≡ count) ⊎ ((k ≡ left) × (k ≤ count))
@@ -138,8 +136,7 @@ enough keep n s ds count k before after rest (Ok next) less all walks met =
     continues_done rest
     (walks_over keep n s before after (map Ok (take count ds) ++ rest) (map Ok (take k ds) ++ behind) behind (Ok next)
     (cut k count ds rest less) (walks behind)) (met ∙ all)
-enough keep n s ds count k before after rest (Err fault) less all walks met =
-    ap (λ (items : Items). fold n s items) (cut k count ds rest less)
+enough keep n s ds count k before after rest (Err fault) less all walks met = ap (fold n s) (cut k count ds rest less)
     ∙ walks (map Ok (drop k (take count ds)) ++ rest)
 
 -- a walk over the first of them, as far as they are needed, is one over all

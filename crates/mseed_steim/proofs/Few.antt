@@ -1,4 +1,5 @@
 -- How many differences words have: seven each at the most.
+use Rattle.mseed_steim.specs.private.Items.{Items}
 use Rattle.std.proofs.Common.{◌+◌, ◌*◌, ◌/◌, ◌^◌, ◌≤◌, List, [], ◌∷◌, length, ℤ, arith, refl, length-append, eqb}
 use Rattle.std.proofs.Common.{Option, Some, None, Result}
 use Rattle.std.proofs.lemmas.Bool.{cond_both}
@@ -12,14 +13,14 @@ use Rattle.mseed_steim.specs.private.Items.{with_items, items_of}
 use Rattle.mseed_steim.proofs.Table.{AllSized, group_sized}
 use Rattle.mseed_steim.proofs.Spelled.{length-digits}
 
-few_in : (w : DataWord) (o : Option Group) (more : List (Result ℤ BadWordAt)) → AllSized o
+few_in : (w : DataWord) (o : Option Group) (more : Items) → AllSized o
     → length (with_items w (differences_in w.bits o) more) ≤ 7 + length more
 few_in w None more sized = omega arith
 few_in w (Some g) more sized =
     let few : g.count ≤ 7 = (sized g refl).few in
     simp (length-append, length-map, length-digits) (omega arith)
 
-few_items : (s : Scheme) (w : DataWord) (more : List (Result ℤ BadWordAt))
+few_items : (s : Scheme) (w : DataWord) (more : Items)
     → length (with_items w (differences_of s w.code w.bits) more) ≤ 7 + length more
 unfolding differences_of
 few_items s w more = cond_both (eqb w.code 0) (Some []) (differences_in w.bits (group_of s w.code (w.bits / 2 ^ 30)))

@@ -48,7 +48,7 @@ found s p n count reach by d w cut first some moves =
     let es = begins_with moves.0 d one.0 begins in (
       es.0,
       (
-        subst (λ (ds : List ℤ). Moves count by reach ds) es.1 moves.1.0,
+        subst (Moves count by reach) es.1 moves.1.0,
         λ rest. moves.1.1 rest ∙ ap (λ (ds : List ℤ). map Ok ds ++ items_of s rest) es.1,
       ),
     )
@@ -70,7 +70,7 @@ found_one s p i sum d w e none cut first k count reach by more inside moves =
     let begins : with_first sum.met (pos 0) (d ∷ all.0) ≡ pos 0 ∷ all.0 = rw (eq-eqb sum.met 0 none) refl in (
       d ∷ all.0,
       (
-        subst (λ (ds : List ℤ). Moves count (by -ℤ d) reach ds) (sym begins) (others count reach by d all.0 all.1.0),
+        subst (Moves count (by -ℤ d) reach) (sym begins) (others count reach by d all.0 all.1.0),
         λ later. ap (items_of s) (frames_cut p sum.met later i k more inside)
             ∙ ap (λ (ws : List DataWord). items_of s (ws ++ left_from p later (i + k))) words
             ∙ all.1.1 (left_from p later (i + k)),

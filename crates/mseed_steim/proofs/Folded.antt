@@ -1,7 +1,8 @@
 -- What a walk over items answers, in the words of lists.
+use Rattle.std.proofs.Common.{zero, suc}
 use Rattle.std.proofs.Math.Seq.{drop-cons, take-suc-set, take-length}
 use Rattle.std.proofs.Math.ListN.{set}
-use Rattle.std.proofs.Common.{take, drop, get_or, append_assoc, append-nil, ◌≡◌, ℕ, zero, suc, ◌+◌, ◌<◌, ◌≤◌, ◌^◌, List, [], ◌∷◌}
+use Rattle.std.proofs.Common.{take, drop, get_or, append_assoc, append-nil, ◌≡◌, ℕ, ◌+◌, ◌<◌, ◌≤◌, ◌^◌, List, [], ◌∷◌}
 use Rattle.std.proofs.Common.{◌++◌, map, length, ℤ, pos, negsuc, ◌+ℤ◌, ◌-ℤ◌, arith, refl, ap, sym, ◌∙◌, subst, false}
 use Rattle.std.proofs.Common.{true}
 use Rattle.std.proofs.Common.{Option, Some, None, Result, Ok, Err, All, ⊎_elim}
@@ -77,12 +78,7 @@ kept_none keep (suc m) l = refl
 pub kept_one : (keep : ℤ → ℤ → ℤ) (m : ℕ) (l d x : ℤ) (xs : List ℤ) → x ≡ l +ℤ used m d
     → kept_on keep m l (x ∷ xs) ≡ kept_at keep m d x ∷ kept_on keep (m + 1) x xs
 kept_one keep zero l d x xs e = refl
-kept_one keep (suc m) l d x xs e =
-    let later = some_met (suc m) (omega arith) in
-    let sum = rw later at e in
-    let back : x -ℤ l ≡ d = omega (arith, ints, sum) in
-    let more : suc m + 1 ≡ suc (suc m) = omega arith in
-    rw (later, more, back) refl
+kept_one keep (suc m) l d x xs e = grind (arith, ints, some_met)
 
 -- of samples themselves, and of their differences
 samples_from : (l : ℤ) (ss : List ℤ) → kept_from the_sample l ss ≡ ss
@@ -135,8 +131,7 @@ folds n s (Ok d ∷ more) h = ⊎_elim
 
 -- differences after others
 pub joined : (ds es : List ℤ) (rest : Items) → map Ok ds ++ (map Ok es ++ rest) ≡ map Ok (ds ++ es) ++ rest
-joined ds es rest =
-    sym (append_assoc (map Ok ds) (map Ok es) rest) ∙ ap (λ (xs : Items). xs ++ rest) (sym (map-append Ok ds es))
+joined ds es rest = grind (arith, append_assoc, map-append)
 
 -- differences after those before them, all or the first of them
 pub items_on : (items left after : Items) (past ds : List ℤ) → items ≡ map Ok past ++ left → left ≡ map Ok ds ++ after
@@ -145,10 +140,7 @@ items_on items left after past ds e f = e ∙ ap (λ (xs : Items). map Ok past +
 
 pub first_items : (items rest : Items) (past ds : List ℤ) (k : ℕ) → items ≡ map Ok (past ++ ds) ++ rest
     → items ≡ map Ok (past ++ take k ds) ++ (map Ok (drop k ds) ++ rest)
-first_items items rest past ds k e =
-    let cut : past ++ ds ≡ (past ++ take k ds) ++ drop k ds =
-    search (arith, nat_tests, append_assoc, take-append-drop) in
-    e ∙ ap (λ (ys : List ℤ). map Ok ys ++ rest) cut ∙ sym (joined (past ++ take k ds) (drop k ds) rest)
+first_items items rest past ds k e = grind (arith, append_assoc, joined, take-append-drop)
 
 -- the next of some differences, and those after it
 pub next_cut : (ds : List ℤ) (i : ℕ) (z : ℤ) → i < length ds → drop i ds ≡ get_or ds i z ∷ drop (i + 1) ds

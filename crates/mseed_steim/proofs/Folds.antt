@@ -47,16 +47,14 @@ fold_over n s d more h e = rw (not_met s.met n h, e) refl
 -- at the end of the items, or at a bad word
 pub fold_ended : (n : ℕ) (s : Sum) (rest : Items) → IsEnd rest → s.met ≢ n → fold n s rest ≡ Err (lack_at s.met rest)
 unfolding fold
-fold_ended n s [] end h = rw (ne_eqb s.met n h) refl
 fold_ended n s (Ok d ∷ more) end h = absurd end
-fold_ended n s (Err at ∷ more) end h = rw (ne_eqb s.met n h) refl
+fold_ended n s _ end h = rw (ne_eqb s.met n h) refl
 
 -- the samples that are met
 pub met_enough : (n : ℕ) (s : Sum) (items : Items) → s.met ≡ n → met_in n s items ≡ []
 unfolding met_in
-met_enough n s [] e = refl
 met_enough n s (Ok d ∷ more) e = rw (eq-eqb s.met n e) refl
-met_enough n s (Err at ∷ more) e = refl
+met_enough n s _ e = refl
 
 pub met_add : (n : ℕ) (s : Sum) (d : ℤ) (more : Items) → s.met < n → fits (s.last +ℤ used s.met d) ≡ true
     → met_in n s (Ok d ∷ more) ≡ (s.last +ℤ used s.met d) ∷ met_in n (one_more s (s.last +ℤ used s.met d)) more
@@ -70,9 +68,8 @@ met_over n s d more h e = rw (not_met s.met n h, e) refl
 
 pub met_ended : (n : ℕ) (s : Sum) (rest : Items) → IsEnd rest → met_in n s rest ≡ []
 unfolding met_in
-met_ended n s [] end = refl
 met_ended n s (Ok d ∷ more) end = absurd end
-met_ended n s (Err at ∷ more) end = refl
+met_ended n s _ end = refl
 
 -- the test of 32 bits
 pub fits_true : (z : ℤ) → FitsSigned w32 z → fits z ≡ true
@@ -98,6 +95,5 @@ word_walks keep n s w ds a before after r e h rest =
 
 pub bad_word : (n : ℕ) (s : Scheme) (w : DataWord) (a : Sum) → differences_of s w.code w.bits ≡ None → a.met < n
     → (rest : List DataWord) → fold n a (items_of s (w ∷ rest)) ≡ Err (BadWord w.frame w.place)
-bad_word n s w a e less rest =
-    ap (λ (items : Items). fold n a items) (items_bad s (w ∷ rest) rest w refl e)
+bad_word n s w a e less rest = ap (fold n a) (items_bad s (w ∷ rest) rest w refl e)
     ∙ fold_ended n a (Err (place_of w) ∷ []) tt (λ z. omega (arith, z, less))

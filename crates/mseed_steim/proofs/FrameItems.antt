@@ -1,4 +1,5 @@
 -- A frame's words in lanes are the payload's data words, and a row of lanes is the group of the word.
+use Rattle.mseed_steim.specs.Frames.{AreOctets}
 use Rattle.std.proofs.Common.{◌≡◌, ℕ, ◌+◌, ◌-◌, ◌*◌, ◌/◌, ◌%◌, ◌^◌, ◌<◌, ◌≤◌, List, [], ◌∷◌, ◌++◌}
 use Rattle.std.proofs.Common.{take, drop, get_or, ℤ, ◌+ℤ◌, refl}
 use Rattle.std.proofs.Common.{arith, Some}
@@ -77,7 +78,7 @@ pub none_at : (s : Scheme) (f : List ℕ) (from w : ℕ) → get_or (all_counts 
 unfolding digits
 none_at s f from w e = rw e refl
 
-word_small : (f : List ℕ) (w : ℕ) → ((i : ℕ) → get_or f i 0 < 256) → lanes_word_at f w < 2 ^ 32
+word_small : (f : List ℕ) (w : ℕ) → AreOctets f → lanes_word_at f w < 2 ^ 32
 word_small f w h = omega (arith, h (4 * w + 0), h (4 * w + 1), h (4 * w + 2), h (4 * w + 3))
 
 zeros : (s : Scheme) (r : ℕ) → r < 4 → get_or (all_counts s) r 0 ≡ 0
@@ -86,5 +87,5 @@ zeros One = four (λ r. get_or all_counts_one r 0 ≡ 0) refl refl refl refl
 zeros Two = four (λ r. get_or all_counts_two r 0 ≡ 0) refl refl refl refl
 
 pub reads_all : (s : Scheme) (p f : List ℕ) (k from : ℕ) → f ≡ take 64 (drop (64 * k) p)
-    → ((i : ℕ) → get_or f i 0 < 256) → Reads s p f k from
+    → AreOctets f → Reads s p f k from
 reads_all s p f k from e h = search (arith, code_is, rows, word_is, word_small, zeros)

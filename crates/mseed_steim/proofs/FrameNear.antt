@@ -1,4 +1,5 @@
 -- How far a frame's differences go.
+use Rattle.mseed_steim.specs.Frames.{AreOctets}
 use Rattle.std.proofs.Common.{◌≡◌, ℕ, zero, suc, ◌+◌, ◌-◌, ◌*◌, ◌/◌, ◌%◌, ◌^◌, ◌<◌}
 use Rattle.std.proofs.Common.{◌≤◌, List, [], ◌∷◌, length, map}
 use Rattle.std.proofs.Common.{get_or, arith, pos, negsuc, nat_abs}
@@ -40,12 +41,7 @@ unfolding digits
 spans width word zero = omega arith
 spans width word (suc count) =
     let later = spans width word count in
-    let x : ℕ = word / 2 ^ (width * count) % 2 ^ width in
-    let small : x < 2 ^ width = mod_below (word / 2 ^ (width * count)) (2 ^ width) (pow_pos width) in
-    let one = signed_near width x small in
-    let more : 2 ^ (width - 1) * suc count ≡ 2 ^ (width - 1) * count + 2 ^ (width - 1) =
-    mul-suc (2 ^ (width - 1)) count in
-    omega (arith, later, one, more)
+    grind (arith, mod_below, mul-suc, pow_pos, signed_near)
 
 -- so are a row's, by their width and how many they are
 abbrev is_near : Scheme → ℕ → Bool
@@ -93,11 +89,11 @@ alike s row less few =
     let test = every_below (is_alike s) 16 (alike_test s) row less in
     (grind (arith, nat_tests), grind (arith, nat_tests))
 
-near_at : (s : Scheme) (f : List ℕ) (from : ℕ) → ((k : ℕ) → get_or f k 0 < 256) → (w : ℕ)
+near_at : (s : Scheme) (f : List ℕ) (from : ℕ) → AreOctets f → (w : ℕ)
     → get_or (counts_of s) (row_at f from w) 0 < 128 → span (differences_at s f from w) ≤ 65536
 near_at s f from h w few = search (arith, alike, near_row, row_small)
 
-pub unpacked_near : (s : Scheme) (f : List ℕ) (from : ℕ) → ((k : ℕ) → get_or f k 0 < 256)
+pub unpacked_near : (s : Scheme) (f : List ℕ) (from : ℕ) → AreOctets f
     → ((w : ℕ) → w < 16 → get_or (counts_of s) (row_at f from w) 0 < 128)
     → sum_l (map (λ w. span (differences_at s f from w)) words) ≤ 1048576
 unpacked_near s f from h few = search (arith, all_near, long_words, near_at, place_at)

@@ -1,4 +1,5 @@
 -- Steim-1: what a word's parts add up to, by its row, and a frame's words.
+use Rattle.mseed_steim.specs.Frames.{AreOctets}
 use Rattle.std.proofs.Common.{◌≡◌, ℕ, ◌+◌, ◌*◌, ◌%◌, ◌<◌, List, [], ◌∷◌}
 use Rattle.std.proofs.Common.{map, get_or, refl, sym, arith}
 use lib.Lanes.{sum_l}
@@ -65,24 +66,24 @@ sums_512 l (w ∷ ws) = let ih = sums_512 l ws in omega (arith, ih)
 abbrev whole_at_one : List ℕ → ℕ → ℕ → ℕ
 whole_at_one f from w = whole_one (row_at f from w) (byte_at f 0 w) (byte_at f 1 w) (byte_at f 2 w) (byte_at f 3 w)
 
-reported_one : (f : List ℕ) (from : ℕ) → ((k : ℕ) → get_or f k 0 < 256) → (w : ℕ)
+reported_one : (f : List ℕ) (from : ℕ) → AreOctets f → (w : ℕ)
     → Reported (λ w. get_or counts_one (row_at f from w) 0) (λ w. 128 * whole_at_one f from w)
     (λ w. 512 * least_one (row_at f from w)) (moved One f from) w
 reported_one f from h w few =
     all_tell (row_at f from w) (row_small f from h w) (byte_at f 0 w) (byte_at f 1 w) (byte_at f 2 w) (byte_at f 3 w)
     (h _) (h _) (h _) (h _) few
 
-pub frame_raised_one : (f : List ℕ) (from : ℕ) → ((k : ℕ) → get_or f k 0 < 256) → (x le LO HI : ℕ)
-    → (x + 128 * (512 * le)) % 4294967296 ≡ 128 * (LO + 256 * HI) % 4294967296
-    → LO ≡ sum_l (map (part_at low_one flipped flipped_low flipped flipped_low f from) words)
-    → HI ≡ sum_l (map (part_at high_one flipped flipped_low flipped flipped_low f from) words)
+abbrev parts_one : (ℕ → ℕ → ℕ → ℕ → ℕ → ℕ) → List ℕ → ℕ → ℕ → ℕ
+parts_one part = part_at part flipped flipped_low flipped flipped_low
+
+pub frame_raised_one : (f : List ℕ) (from : ℕ) → AreOctets f → (x le : ℕ)
+    → (x + 128 * (512 * le)) % 4294967296 ≡ 128 * (sum_l (map (parts_one low_one f from) words)
+    + 256 * sum_l (map (parts_one high_one f from) words)) % 4294967296
     → le ≡ sum_l (map (λ w. least_one (row_at f from w)) words)
     → sum_l (map (λ w. get_or counts_one (row_at f from w) 0) words) < 128
     → Raises x (sum_z (map (moved One f from) words))
-frame_raised_one f from h x le LO HI come lo hi l few =
+frame_raised_one f from h x le come l few =
     raises_by (λ w. get_or counts_one (row_at f from w) 0) (λ w. 128 * whole_at_one f from w)
-    (λ w. 512 * least_one (row_at f from w)) (moved One f from) (reported_one f from h) x (128 * (LO + 256 * HI))
-    (512 * le) come
-    (rw (lo, hi) (sym (sums_256 (part_at low_one flipped flipped_low flipped flipped_low f from)
-    (part_at high_one flipped flipped_low flipped flipped_low f from) words)))
+    (λ w. 512 * least_one (row_at f from w)) (moved One f from) (reported_one f from h) x _ (512 * le) come
+    (sym (sums_256 (parts_one low_one f from) (parts_one high_one f from) words))
     (rw l (sym (sums_512 (λ w. least_one (row_at f from w)) words))) few

@@ -1,4 +1,5 @@
 -- The rows of a frame's words.
+use Rattle.mseed_steim.specs.Frames.{AreOctets}
 use Rattle.std.proofs.Common.{◌≡◌, ℕ, ◌+◌, ◌*◌, ◌/◌, ◌%◌, ◌<◌, List, [], ◌∷◌, map, get_or, bit_and, bit_or, refl, sym}
 use Rattle.std.proofs.Common.{ap, ◌∙◌, arith}
 use Rattle.mseed_steim.proofs.Below.{same_below}
@@ -50,15 +51,19 @@ cons : {x y : ℕ} {xs ys : List ℕ} → x ≡ y → xs ≡ ys → x ∷ xs ≡
 cons {x} {y} {xs} {ys} e f = ap (λ z. z ∷ xs) e ∙ ap (λ zs. y ∷ zs) f
 
 -- the first byte of a word has its top bits
-top : (f : List ℕ) → ((k : ℕ) → get_or f k 0 < 256) → (w : ℕ) → word_at f w / 1073741824 ≡ byte_at f 0 w / 64
+top : (f : List ℕ) → AreOctets f → (w : ℕ) → word_at f w / 1073741824 ≡ byte_at f 0 w / 64
 top f h w = omega (arith, h (4 * w + 0), h (4 * w + 1), h (4 * w + 2), h (4 * w + 3))
 
+-- the lane of a word, whose code stands in a byte
+lane_of : (f : List ℕ) → AreOctets f → (mask q w c code : ℕ) → code_lane mask (get_or f q 0) ≡ 4 * c → c < 4 → code ≡ c
+    → lane mask (get_or f q 0) (byte_at f 0 w) ≡ 4 * code + word_at f w / 1073741824
+lane_of f h mask q w c code e small same =
+    lane_is mask (get_or f q 0) (byte_at f 0 w) c e small (h (4 * w + 0)) code (word_at f w) same (top f h w)
+
 -- a word whose code doesn't count
-no_code : (f : List ℕ) → ((k : ℕ) → get_or f k 0 < 256) → (w : ℕ)
+no_code : (f : List ℕ) → AreOctets f → (w : ℕ)
     → lane 0 (get_or f 0 0) (byte_at f 0 w) ≡ 4 * 0 + word_at f w / 1073741824
-no_code f h w =
-    lane_is 0 (get_or f 0 0) (byte_at f 0 w) 0 (code_none (get_or f 0 0) (h 0)) (omega arith) (h (4 * w + 0)) 0
-    (word_at f w) refl (top f h w)
+no_code f h w = lane_of f h 0 0 w 0 0 (code_none (get_or f 0 0) (h 0)) (omega arith) refl
 
 -- the four words whose codes stand in one byte
 abbrev pub four_lanes : List ℕ → ℕ → List ℕ → List ℕ
@@ -66,27 +71,21 @@ four_lanes f q lanes =
     lane 192 (get_or f q 0) (byte_at f 0 (4 * q)) ∷ lane 48 (get_or f q 0) (byte_at f 0 (4 * q + 1))
     ∷ lane 12 (get_or f q 0) (byte_at f 0 (4 * q + 2)) ∷ lane 3 (get_or f q 0) (byte_at f 0 (4 * q + 3)) ∷ lanes
 
-four_is : (f : List ℕ) → ((k : ℕ) → get_or f k 0 < 256) → (q : ℕ) (lanes rows : List ℕ) (ka kb kc kd : ℕ)
-    → ka ≡ get_or f q 0 / 64 % 4 → kb ≡ get_or f q 0 / 16 % 4 → kc ≡ get_or f q 0 / 4 % 4 → kd ≡ get_or f q 0 % 4
-    → lanes ≡ rows
-    → four_lanes f q lanes
-    ≡ (4 * ka + word_at f (4 * q) / 1073741824) ∷ (4 * kb + word_at f (4 * q + 1) / 1073741824)
-    ∷ (4 * kc + word_at f (4 * q + 2) / 1073741824) ∷ (4 * kd + word_at f (4 * q + 3) / 1073741824) ∷ rows
+four_is : (f : List ℕ) → AreOctets f → (q : ℕ) (lanes rows : List ℕ) (ka kb kc kd : ℕ) → ka ≡ get_or f q 0 / 64 % 4
+    → kb ≡ get_or f q 0 / 16 % 4 → kc ≡ get_or f q 0 / 4 % 4 → kd ≡ get_or f q 0 % 4 → lanes ≡ rows
+    → four_lanes f q lanes ≡ (4 * ka + word_at f (4 * q) / 1073741824) ∷
+    (4 * kb + word_at f (4 * q + 1) / 1073741824) ∷ (4 * kc + word_at f (4 * q + 2) / 1073741824) ∷
+    (4 * kd + word_at f (4 * q + 3) / 1073741824) ∷ rows
 four_is f h q lanes rows ka kb kc kd a b c d e =
     let x = get_or f q 0 in
-    cons (lane_is 192 x (byte_at f 0 (4 * q)) (x / 64 % 4) (code_0 x (h q)) (omega arith) (h (4 * (4 * q) + 0)) ka
-    (word_at f (4 * q)) a (top f h (4 * q)))
-    (cons (lane_is 48 x (byte_at f 0 (4 * q + 1)) (x / 16 % 4) (code_1 x (h q)) (omega arith)
-    (h (4 * (4 * q + 1) + 0)) kb (word_at f (4 * q + 1)) b (top f h (4 * q + 1)))
-    (cons (lane_is 12 x (byte_at f 0 (4 * q + 2)) (x / 4 % 4) (code_2 x (h q)) (omega arith)
-    (h (4 * (4 * q + 2) + 0)) kc (word_at f (4 * q + 2)) c (top f h (4 * q + 2)))
-    (cons (lane_is 3 x (byte_at f 0 (4 * q + 3)) (x % 4) (code_3 x (h q)) (omega arith)
-    (h (4 * (4 * q + 3) + 0)) kd (word_at f (4 * q + 3)) d (top f h (4 * q + 3))) e)))
+    cons (lane_of f h 192 q (4 * q) (x / 64 % 4) ka (code_0 x (h q)) (omega arith) a)
+    (cons (lane_of f h 48 q (4 * q + 1) (x / 16 % 4) kb (code_1 x (h q)) (omega arith) b)
+    (cons (lane_of f h 12 q (4 * q + 2) (x / 4 % 4) kc (code_2 x (h q)) (omega arith) c)
+    (cons (lane_of f h 3 q (4 * q + 3) (x % 4) kd (code_3 x (h q)) (omega arith) d) e)))
 
 -- the words from word 4 on
-behind : (f : List ℕ) → ((k : ℕ) → get_or f k 0 < 256)
-    → four_lanes f 1 (four_lanes f 2 (four_lanes f 3 []))
-    ≡ map (row_at f 1) (4 ∷ 5 ∷ 6 ∷ 7 ∷ 8 ∷ 9 ∷ 10 ∷ 11 ∷ 12 ∷ 13 ∷ 14 ∷ 15 ∷ [])
+behind : (f : List ℕ) → AreOctets f → four_lanes f 1 (four_lanes f 2 (four_lanes f 3 [])) ≡ map (row_at f 1)
+    (4 ∷ 5 ∷ 6 ∷ 7 ∷ 8 ∷ 9 ∷ 10 ∷ 11 ∷ 12 ∷ 13 ∷ 14 ∷ 15 ∷ [])
 behind f h =
     let w = word_at f 0 in
     four_is f h 1 _ _ (w / 4194304 % 4) (w / 1048576 % 4) (w / 262144 % 4) (w / 65536 % 4) (omega arith) (omega arith)
@@ -96,7 +95,7 @@ behind f h =
     (four_is f h 3 _ _ (w / 64 % 4) (w / 16 % 4) (w / 4 % 4) (w / 1 % 4) (omega arith) (omega arith) (omega arith)
     (omega arith) refl))
 
-pub rows_later : (f : List ℕ) → ((k : ℕ) → get_or f k 0 < 256)
+pub rows_later : (f : List ℕ) → AreOctets f
     → (lane 0 (get_or f 0 0) (get_or f 0 0) ∷ lane 48 (get_or f 0 0) (get_or f 4 0) ∷ lane 12 (get_or f 0 0)
     (get_or f 8 0) ∷ lane 3 (get_or f 0 0) (get_or f 12 0) ∷ four_lanes f 1 (four_lanes f 2 (four_lanes f 3 [])))
     ≡ map (row_at f 1) words
@@ -108,21 +107,19 @@ rows_later f h =
     let third = h 2 in
     let fourth = h 3 in
     cons (no_code f h 0)
-    (cons (lane_is 48 x (get_or f 4 0) (x / 16 % 4) (code_1 x (h 0)) (omega arith) (h 4) (word_at f 0 / 268435456 % 4)
-    (word_at f 1) (omega arith) (top f h 1))
-    (cons (lane_is 12 x (get_or f 8 0) (x / 4 % 4) (code_2 x (h 0)) (omega arith) (h 8) (word_at f 0 / 67108864 % 4)
-    (word_at f 2) (omega arith) (top f h 2))
-    (cons (lane_is 3 x (get_or f 12 0) (x % 4) (code_3 x (h 0)) (omega arith) (h 12) (word_at f 0 / 16777216 % 4)
-    (word_at f 3) (omega arith) (top f h 3)) (behind f h))))
+    (cons (lane_of f h 48 0 1 (x / 16 % 4) (word_at f 0 / 268435456 % 4) (code_1 x (h 0)) (omega arith) (omega arith))
+    (cons (lane_of f h 12 0 2 (x / 4 % 4) (word_at f 0 / 67108864 % 4) (code_2 x (h 0)) (omega arith) (omega arith))
+    (cons (lane_of f h 3 0 3 (x % 4) (word_at f 0 / 16777216 % 4) (code_3 x (h 0)) (omega arith) (omega arith))
+    (behind f h))))
 
-pub rows_first : (f : List ℕ) → ((k : ℕ) → get_or f k 0 < 256)
+pub rows_first : (f : List ℕ) → AreOctets f
     → (lane 0 (get_or f 0 0) (get_or f 0 0) ∷ lane 0 (get_or f 0 0) (get_or f 4 0) ∷ lane 0 (get_or f 0 0)
     (get_or f 8 0) ∷ lane 0 (get_or f 0 0) (get_or f 12 0) ∷ four_lanes f 1 (four_lanes f 2 (four_lanes f 3 [])))
     ≡ map (row_at f 4) words
 unfolding words
 rows_first f h = cons (no_code f h 0) (cons (no_code f h 1) (cons (no_code f h 2) (cons (no_code f h 3) (behind f h))))
 
-pub rows_third : (f : List ℕ) → ((k : ℕ) → get_or f k 0 < 256)
+pub rows_third : (f : List ℕ) → AreOctets f
     → (lane 0 (get_or f 0 0) (get_or f 0 0) ∷ lane 0 (get_or f 0 0) (get_or f 4 0) ∷ lane 0 (get_or f 0 0)
     (get_or f 8 0) ∷ lane 3 (get_or f 0 0) (get_or f 12 0) ∷ four_lanes f 1 (four_lanes f 2 (four_lanes f 3 [])))
     ≡ map (row_at f 3) words
@@ -134,5 +131,5 @@ rows_third f h =
     let third = h 2 in
     let fourth = h 3 in
     cons (no_code f h 0) (cons (no_code f h 1) (cons (no_code f h 2)
-    (cons (lane_is 3 x (get_or f 12 0) (x % 4) (code_3 x (h 0)) (omega arith) (h 12) (word_at f 0 / 16777216 % 4)
-    (word_at f 3) (omega arith) (top f h 3)) (behind f h))))
+    (cons (lane_of f h 3 0 3 (x % 4) (word_at f 0 / 16777216 % 4) (code_3 x (h 0)) (omega arith) (omega arith))
+    (behind f h))))

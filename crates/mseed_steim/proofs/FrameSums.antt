@@ -1,4 +1,5 @@
 -- What a frame's words add up to.
+use Rattle.mseed_steim.specs.Frames.{AreOctets}
 use Rattle.std.proofs.Common.{◌≡◌, Bool, true, false, if◌then◌else◌, ℕ, ◌+◌}
 use Rattle.std.proofs.Common.{◌*◌, ◌/◌, ◌%◌, ◌<◌, List, [], ◌∷◌, map, get_or, refl, sym, ap, ◌∙◌}
 use Rattle.std.proofs.Common.{arith, ℤ, pos, ◌+ℤ◌}
@@ -25,11 +26,7 @@ reported_all : (count whole least : ℕ → ℕ) (moved : ℕ → ℤ) → ((w :
 reported_all count whole least moved h [] lt = (refl, refl)
 reported_all count whole least moved h (w ∷ ws) lt =
     let a = h w (omega (arith, lt)) in
-    let b = reported_all count whole least moved h ws (omega (arith, lt)) in (
-      omega (arith, a.0, b.0),
-      step (whole w) (sum_l (map whole ws)) (least w) (sum_l (map least ws)) (moved w) (sum_z (map moved ws)) a.0 a.1
-          b.0 b.1,
-    )
+    grind (arith, least, step, sum_l, whole, reported_all count whole least moved h ws (omega (arith, lt)))
 
 -- lanes that come to what the words report tell what these move by
 pub raises_by : (count whole least : ℕ → ℕ) (moved : ℕ → ℤ) → ((w : ℕ) → Reported count whole least moved w)
@@ -69,7 +66,7 @@ code_small false x = omega arith
 top_small : (a b c d : ℕ) → a < 256 → b < 256 → c < 256 → d < 256 → word_of a b c d / 1073741824 < 4
 top_small a b c d A B C D = omega arith
 
-pub row_small : (f : List ℕ) (from : ℕ) → ((k : ℕ) → get_or f k 0 < 256) → (w : ℕ) → row_at f from w < 16
+pub row_small : (f : List ℕ) (from : ℕ) → AreOctets f → (w : ℕ) → row_at f from w < 16
 row_small f from h w = search (arith, code_small, top_small)
 
 abbrev pub whole_at : List ℕ → ℕ → ℕ → ℕ
@@ -82,25 +79,24 @@ part_at part a b c d f from w =
     part (row_at f from w) (a (row_at f from w) (byte_at f 0 w)) (b (row_at f from w) (byte_at f 1 w))
     (c (row_at f from w) (byte_at f 2 w)) (d (row_at f from w) (byte_at f 3 w))
 
-reported : (f : List ℕ) (from : ℕ) → ((k : ℕ) → get_or f k 0 < 256) → (w : ℕ)
+reported : (f : List ℕ) (from : ℕ) → AreOctets f → (w : ℕ)
     → Reported (λ w. get_or counts_two (row_at f from w) 0) (whole_at f from) (λ w. least (row_at f from w))
     (moved Two f from) w
 reported f from h w = search (arith, row_small, tells)
 
-pub frame_raised : (f : List ℕ) (from : ℕ) → ((k : ℕ) → get_or f k 0 < 256) → (x le far ON FI CO : ℕ)
-    → (x + 128 * (8 * le + 256 * far)) % 4294967296 ≡ (128 * ON + FI + 32768 * CO) % 4294967296
-    → ON ≡ sum_l (map (part_at ones_two turned_a turned_b turned_c turned_d f from) words)
-    → FI ≡ sum_l (map (part_at fine_two turned_a turned_b turned_c turned_d f from) words)
-    → CO ≡ sum_l (map (part_at coarse_two turned_a turned_b turned_c turned_d f from) words)
-    → le ≡ sum_l (map (λ w. least_two (row_at f from w)) words)
+abbrev parts_two : (ℕ → ℕ → ℕ → ℕ → ℕ → ℕ) → List ℕ → ℕ → ℕ → ℕ
+parts_two part = part_at part turned_a turned_b turned_c turned_d
+
+pub frame_raised : (f : List ℕ) (from : ℕ) → AreOctets f → (x le far : ℕ)
+    → (x + 128 * (8 * le + 256 * far)) % 4294967296 ≡ (128 * sum_l (map (parts_two ones_two f from) words)
+    + sum_l (map (parts_two fine_two f from) words) + 32768 * sum_l (map (parts_two coarse_two f from) words))
+    % 4294967296 → le ≡ sum_l (map (λ w. least_two (row_at f from w)) words)
     → far ≡ sum_l (map (λ w. least_coarse_two (row_at f from w)) words)
     → sum_l (map (λ w. get_or counts_two (row_at f from w) 0) words) < 128
     → Raises x (sum_z (map (moved Two f from) words))
-frame_raised f from h x le far ON FI CO come on fi co l c few =
+frame_raised f from h x le far come l c few =
     raises_by (λ w. get_or counts_two (row_at f from w) 0) (whole_at f from) (λ w. least (row_at f from w))
-    (moved Two f from) (reported f from h) x (128 * ON + FI + 32768 * CO) (8 * le + 256 * far) come
-    (rw (on, fi, co) (sym (three_sums (part_at ones_two turned_a turned_b turned_c turned_d f from)
-    (part_at fine_two turned_a turned_b turned_c turned_d f from)
-    (part_at coarse_two turned_a turned_b turned_c turned_d f from) words)))
+    (moved Two f from) (reported f from h) x _ (8 * le + 256 * far) come
+    (sym (three_sums (parts_two ones_two f from) (parts_two fine_two f from) (parts_two coarse_two f from) words))
     (rw (l, c) (sym (least_sums (λ w. least_two (row_at f from w)) (λ w. least_coarse_two (row_at f from w)) words)))
     few

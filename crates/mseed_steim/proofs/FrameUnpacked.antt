@@ -1,4 +1,5 @@
 -- A frame's words, unpacked one after another, spell what they say.
+use Rattle.mseed_steim.specs.Frames.{AreOctets}
 use Rattle.std.proofs.Common.{◌≡◌, ◌≢◌, ℕ, zero, suc, ◌+◌, ◌-◌, ◌*◌, ◌%◌, ◌^◌, ◌<◌, ◌≤◌, List, ◌∷◌, ◌++◌, map}
 use Rattle.std.proofs.Common.{take, drop, get_or, ℤ, refl, sym, ap, subst, ◌∙◌, append_assoc, append-nil, arith, inl}
 use Rattle.std.proofs.Common.{inr, Some, Ok, Result, ◌/◌, [], ◌+ℤ◌, length, length-append, pos}
@@ -16,7 +17,7 @@ use Rattle.mseed_steim.specs.declared.frame.MovedLanes.{MovedLanes}
 use Rattle.mseed_steim.specs.private.Digits.{differences_of}
 use Rattle.mseed_steim.specs.private.Moves.{Adds, Tells}
 use Rattle.mseed_steim.specs.Frames.{DataWord, data_word, word_at, code_at, words_from}
-use Rattle.mseed_steim.specs.private.Items.{items_of}
+use Rattle.mseed_steim.specs.private.Items.{Items, items_of}
 use Rattle.mseed_steim.specs.private.Lanes.{moved, span, sum_z, total, words, row_at, Begins, code_from}
 use Rattle.mseed_steim.specs.private.Lanes.{all_counts_one, all_counts_two}
 use Rattle.mseed_steim.specs.private.Lanes.{word_at as lanes_word_at}
@@ -59,40 +60,34 @@ spelled s p f k from reads good (suc n) j some behind end rest =
     reads.word j (omega arith) behind (good j (omega arith)) in
     items_group s (words_from p (16 * k + j) (suc n) ++ rest) (words_from p (16 * k + (j + 1)) n ++ rest)
     (data_word p (16 * k + j)) group (ap (λ (ws : List DataWord). ws ++ rest) cut) one
-    ∙ ap (λ (xs : List (Result ℤ BadWordAt)). map Ok group ++ xs) later
+    ∙ ap (λ (xs : Items). map Ok group ++ xs) later
     ∙ sym (append_assoc (map Ok group) (map Ok others) (items_of s rest))
-    ∙ ap (λ (xs : List (Result ℤ BadWordAt)). xs ++ items_of s rest) (sym (map-append Ok group others))
+    ∙ ap (λ (xs : Items). xs ++ items_of s rest) (sym (map-append Ok group others))
 
 -- no word before the first has any
-after_4 : (s : Scheme) (p f : List ℕ) (k : ℕ) → Reads s p f k 4
-    → unpacked s f 4 1 15 ≡ unpacked s f 4 4 12
+skipped : (s : Scheme) (p f : List ℕ) (k from : ℕ) → Reads s p f k from → (n m j : ℕ) → j + n ≡ from
+    → unpacked s f from j (n + m) ≡ unpacked s f from from m
 unfolding unpacked
-after_4 s p f k reads =
-    let n1 = none_at s f 4 1 (reads.empty 1 (omega arith)) in
-    let n2 = none_at s f 4 2 (reads.empty 2 (omega arith)) in
-    let n3 = none_at s f 4 3 (reads.empty 3 (omega arith)) in
-    rw (n1, n2, n3) refl
-
-after_3 : (s : Scheme) (p f : List ℕ) (k : ℕ) → Reads s p f k 3
-    → unpacked s f 3 1 15 ≡ unpacked s f 3 3 13
-unfolding unpacked
-after_3 s p f k reads =
-    let n1 = none_at s f 3 1 (reads.empty 1 (omega arith)) in
-    let n2 = none_at s f 3 2 (reads.empty 2 (omega arith)) in
-    rw (n1, n2) refl
+skipped s p f k from reads zero m j e =
+    let none : 0 + m ≡ m = omega arith in
+    let same : j ≡ from = omega (arith, e) in
+    rw (none, same) refl
+skipped s p f k from reads (suc n) m j e =
+    let none = none_at s f from j (reads.empty j (omega arith)) in
+    let more : suc n + m ≡ suc (n + m) = omega arith in
+    rw (more, none) (skipped s p f k from reads n m (j + 1) (omega arith))
 
 -- what the words of the frame spell
 all_spelled : (s : Scheme) (p f begin : List ℕ) (k from : ℕ) → Begins begin from → f ≡ take 64 (drop (64 * k) p)
-    → ((i : ℕ) → get_or f i 0 < 256) → AreGood s f from
+    → AreOctets f → AreGood s f from
     → (rest : List DataWord) → items_of s (words_from p (16 * k + from) (16 - from) ++ rest)
     ≡ map Ok (unpacked s f from 1 15) ++ items_of s rest
-all_spelled s p f begin k from (inl h) e octets = grind (arith, reads_all, spelled)
-all_spelled s p f begin k from (inr (inl h)) e octets = rw h.0 (λ good.
-    let reads = reads_all s p f k 4 e octets in
-    rw (after_4 s p f k reads) (spelled s p f k 4 reads good 12 4 (omega arith) (omega arith) refl))
-all_spelled s p f begin k from (inr (inr h)) e octets = rw h.0 (λ good.
-    let reads = reads_all s p f k 3 e octets in
-    rw (after_3 s p f k reads) (spelled s p f k 3 reads good 13 3 (omega arith) (omega arith) refl))
+all_spelled s p f begin k from begins e octets good rest =
+    let reads = reads_all s p f k from e octets in
+    let low = begins_low begin from begins in
+    let whole : from - 1 + (16 - from) ≡ 15 = omega (arith, low.0, low.1) in
+    let all = rw whole at (skipped s p f k from reads (from - 1) (16 - from) 1 (omega (arith, low.0))) in
+    rw all (spelled s p f k from reads good (16 - from) from low.0 (omega arith) (omega (arith, low.1)) rest)
 
 -- how far they go in all
 span_unpacked : (s : Scheme) (f : List ℕ) (from n j : ℕ)
@@ -106,7 +101,7 @@ near_sum : (s : Scheme) (f : List ℕ) (from : ℕ) → sum_l (map (λ w. span (
 unfolding words
 near_sum s f from most = let all = span_unpacked s f from 15 1 in omega (arith, all, most)
 
-all_near : (s : Scheme) (f : List ℕ) (from : ℕ) → ((i : ℕ) → get_or f i 0 < 256)
+all_near : (s : Scheme) (f : List ℕ) (from : ℕ) → AreOctets f
     → ((w : ℕ) → w < 16 → get_or (counts_of s) (row_at f from w) 0 < 128) → span (unpacked s f from 1 15) ≤ 2 ^ 20
 all_near s f from octets few = near_sum s f from (unpacked_near s f from octets few)
 
@@ -140,7 +135,7 @@ no_3 : (f : List ℕ) (from word : ℕ) → 0 < from
     → ((j : ℕ) → 0 < j → j < 16 → lanes_word_at f 0 / 2 ^ (30 - 2 * j) % 4 ≢ 3) → word < 16 → code_from f from word < 3
 no_3 f from word some other less = search (arith)
 
-pub no_more_than_4 : (s : Scheme) (f : List ℕ) (from : ℕ) → ((i : ℕ) → get_or f i 0 < 256) → 0 < from
+pub no_more_than_4 : (s : Scheme) (f : List ℕ) (from : ℕ) → AreOctets f → 0 < from
     → ((j : ℕ) → 0 < j → j < 16 → lanes_word_at f 0 / 2 ^ (30 - 2 * j) % 4 ≢ 3) → AreGood s f from → FitIn s f from 4
 no_more_than_4 s f from octets some other good = search (arith, few_by_row, no_3, row_small)
 
@@ -152,20 +147,19 @@ each_few count few word less =
     omega (arith, one, at, few)
 
 -- where none is bad or has a difference of 30 or 32 bits, none is bad
-narrow_good : (s : Scheme) (f : List ℕ) (from : ℕ) → ((i : ℕ) → get_or f i 0 < 256)
+narrow_good : (s : Scheme) (f : List ℕ) (from : ℕ) → AreOctets f
     → ((w : ℕ) → w < 16 → get_or (counts_of s) (row_at f from w) 0 < 128) → AreGood s f from
 narrow_good s f from octets few word less = search (arith, alike, row_small)
 
-good_up_to : (w : Widest) (s : Scheme) (f : List ℕ) (from : ℕ) → ((i : ℕ) → get_or f i 0 < 256)
+good_up_to : (w : Widest) (s : Scheme) (f : List ℕ) (from : ℕ) → AreOctets f
     → ((x : ℕ) → x < 16 → get_or (counts_up_to w s) (row_at f from x) 0 < 128) → AreGood s f from
 good_up_to Bits16 s f from octets few = narrow_good s f from octets few
 good_up_to Bits32 s f from octets few = few
 
 -- what the words of a frame are unpacked to
-pub up_to : (w : Widest) (s : Scheme) (begin f : List ℕ) (ds : List ℤ) (count : ℕ) → ((i : ℕ) → get_or f i 0 < 256)
-    → (from : ℕ) × Begins begin from → count ≤ 120
-    → ((from : ℕ) → Begins begin from
-    → (x : ℕ) → x < 16 → get_or (counts_up_to w s) (row_at f from x) 0 < 128)
+pub up_to : (w : Widest) (s : Scheme) (begin f : List ℕ) (ds : List ℤ) (count : ℕ) → AreOctets f
+    → (from : ℕ) × Begins begin from → count ≤ 120 → ((from : ℕ) → Begins begin from → (x : ℕ) → x < 16
+    → get_or (counts_up_to w s) (row_at f from x) 0 < 128)
     → ((from : ℕ) → Begins begin from → AreGood s f from → take count ds ≡ unpacked s f from 1 15)
     → AreUpTo w s begin f ds count
 up_to w s begin f ds count octets some inside few same = record {
@@ -188,11 +182,7 @@ unfolding unpacked
 unpacked_cut s f from zero m j = grind arith
 unpacked_cut s f from (suc n) m j =
     let more : suc n + m ≡ suc (n + m) = omega arith in
-    let at : j + 1 + n ≡ j + suc n = omega arith in
-    let later = rw at at (unpacked_cut s f from n m (j + 1)) in
-    rw more (ap (λ (xs : List ℤ). differences_at s f from j ++ xs) later
-    ∙ sym (append_assoc (differences_at s f from j) (unpacked s f from (j + 1) n)
-    (unpacked s f from (j + suc n) m)))
+    grind (arith, append_assoc, unpacked_cut s f from n m (j + 1))
 
 -- a frame's words, five by five
 pub unpacked_fives : (s : Scheme) (f : List ℕ) (from : ℕ)
@@ -230,7 +220,7 @@ same_words count g h same [] few = refl
 same_words count g h same (w ∷ ws) few = grind (arith, same_words count g h same ws (omega (arith, few)))
 
 pub told_by : (s : Scheme) (p f begin : List ℕ) (k from : ℕ) (lanes : MovedLanes) → Begins begin from
-    → f ≡ take 64 (drop (64 * k) p) → ((i : ℕ) → get_or f i 0 < 256) → Adds s f from lanes
+    → f ≡ take 64 (drop (64 * k) p) → AreOctets f → Adds s f from lanes
     → Tells s (words_from p (16 * k + from) (16 - from)) lanes
 told_by s p f begin k from lanes begins e h a = λ few.
     let narrow = subst (λ (n : ℕ). n < 128) a.count few in

@@ -27,9 +27,7 @@ adds_longer x (d ∷ ds) (s ∷ ss) t h = (h.0, adds_longer s ds ss t h.1)
 starts : (x : ℤ) (ds ss t : List ℤ) → Adds x (with_first 0 (pos 0) ds) ss → StartsAndAdds x (ds ++ t) ss
 starts x ds [] t h = tt
 starts x [] (s ∷ ss) t h = absurd h
-starts x (d ∷ ds) (s ∷ ss) t h =
-    let same : s ≡ x = omega (arith, ints, h.0) in
-    (same, subst (λ (z : ℤ). Adds z (ds ++ t) ss) same (adds_longer s ds ss t h.1))
+starts x (d ∷ ds) (s ∷ ss) t h = grind (arith, adds_longer, ints)
 
 -- the sums over a prefix of the words
 sums_of : (s : Scheme) (p : List ℕ) (n : ℕ) (items more : Items) (ds ss : List ℤ) → Gives s (data_words p) items
@@ -38,7 +36,7 @@ sums_of : (s : Scheme) (p : List ℕ) (n : ℕ) (items more : Items) (ds ss : Li
 sums_of s p n items more ds ss g e count same adds =
     let all = giving s (data_words p) items g in
     let longer = begin_items ds all.ds more (last_item all.rest) (last_ends all.rest) (sym all.is ∙ e) in
-    let long = ap (λ (xs : List ℤ). length xs) longer.1 ∙ length-append ds longer.0 in
+    let long = ap length longer.1 ∙ length-append ds longer.0 in
     record {
       count = omega (arith, count, same);
       prefix = all.ending.before;
@@ -86,30 +84,25 @@ sums_add x (d ∷ ds) = (refl, sums_add (x +ℤ d) ds)
 adds_past : (x : ℤ) (ds ss es ts : List ℤ) → length ss ≡ length ds → Adds x ds ss → Adds (last_of x ss) es ts
     → Adds x (ds ++ es) (ss ++ ts)
 adds_past x [] [] es ts l h k = k
-adds_past x [] (s ∷ ss) es ts l h k = absurd (omega arith)
-adds_past x (d ∷ ds) [] es ts l h k = absurd (omega arith)
 adds_past x (d ∷ ds) (s ∷ ss) es ts l h k = (h.0, adds_past s ds ss es ts (omega arith) h.1 k)
+adds_past x _ _ es ts l h k = absurd (omega arith)
 
 adds_on : (x : ℤ) (ds ss : List ℤ) (d : ℤ) (t : List ℤ) → length ss ≡ length ds
     → Adds x (with_first 0 (pos 0) ds) ss → Adds x (with_first 0 (pos 0) (ds ++ d ∷ t))
     (ss ++ (last_of x ss +ℤ used (length ds) d) ∷ sums (last_of x ss +ℤ used (length ds) d) t)
 adds_on x [] [] d t l h = (refl, sums_add (x +ℤ pos 0) t)
-adds_on x [] (s ∷ ss) d t l h = absurd (omega arith)
-adds_on x (c ∷ ds) [] d t l h = absurd (omega arith)
-adds_on x (c ∷ ds) (s ∷ ss) d t l h =
-    rw (some_met (length (c ∷ ds)) (omega arith))
-    (h.0, adds_past s ds ss (d ∷ t) _ (omega arith) h.1 (refl, sums_add (last_of s ss +ℤ d) t))
+adds_on x (c ∷ ds) (s ∷ ss) d t l h = grind (arith, adds_past, last_of, some_met, sums_add)
+adds_on x _ _ d t l h = absurd (omega arith)
 
 -- the first n differences, where the words have as many
 agreed : (ds es : List ℤ) (d : ℤ) (more later : Items) → length ds < length es
     → map Ok ds ++ Ok d ∷ more ≡ map Ok es ++ later → (t : List ℤ) × (es ≡ ds ++ d ∷ t)
-agreed [] [] d more later h e = absurd (omega arith)
 agreed [] (x ∷ es) d more later h e = (es, cc)
-agreed (y ∷ ds) [] d more later h e = absurd (omega arith)
 agreed (y ∷ ds) (x ∷ es) d more later h e =
     let rest : map Ok ds ++ Ok d ∷ more ≡ map Ok es ++ later = cc in
     let found = agreed ds es d more later (omega arith) rest in
     (found.0, cc (found.1))
+agreed _ _ d more later h e = absurd (omega arith)
 
 is_over : (s : Scheme) (p : List ℕ) (n k : ℕ) (items more later : Items) (ds ss es : List ℤ) (d : ℤ)
     → Gives s (data_words p) items → items ≡ map Ok es ++ later → length es ≡ n → items ≡ map Ok ds ++ Ok d ∷ more

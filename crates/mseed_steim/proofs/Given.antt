@@ -1,4 +1,6 @@
 -- What the digits of words give is what the words spell.
+use Rattle.mseed_steim.specs.private.Items.{Items}
+use Rattle.mseed_steim.specs.Frames.{AreOctets}
 use Rattle.std.proofs.Common.{◌≡◌, ℕ, zero, suc, ◌+◌, ◌*◌, ◌%◌, ◌^◌, ◌<◌, not, eqb, drop, List, [], ◌∷◌, ◌++◌, map, ℤ}
 use Rattle.std.proofs.lemmas.Bool.Decides.{nat_tests}
 use Rattle.std.proofs.Common.{arith}
@@ -22,15 +24,14 @@ use Rattle.mseed_steim.proofs.Spelled.{differences_spelled, spelled_differences}
 abbrev pub IsWord : DataWord → Type 0
 IsWord w = w.bits < 2 ^ 32
 
-pub word_small : (p : List ℕ) (k : ℕ) → ((i : ℕ) → get_or p i 0 < 256) → word_at p k < 2 ^ 32
+pub word_small : (p : List ℕ) (k : ℕ) → AreOctets p → word_at p k < 2 ^ 32
 word_small p k octets = big_from-lt 0 4 (drop (4 * k) p) (λ i. rw (get_or-drop (4 * k) p i 0) (octets (4 * k + i)))
 
 -- a word before it, with what it spells
-more_given : (s : Scheme) (w : DataWord) (ws : List DataWord) (ds : List ℤ) (items : List (Result ℤ BadWordAt))
+more_given : (s : Scheme) (w : DataWord) (ws : List DataWord) (ds : List ℤ) (items : Items)
     → Spells s w.code w.bits ds → Gives s ws items → Gives s (w ∷ ws) (map Ok ds ++ items)
 more_given s w ws ds items p (all es run e) =
-    all (ds ++ es) (ds, (es, (refl, (p, run)))) (ap (λ (xs : List (Result ℤ BadWordAt)). map Ok ds ++ xs) e
-    ∙ sym (map-append Ok ds es))
+    all (ds ++ es) (ds, (es, (refl, (p, run)))) (ap (λ (xs : Items). map Ok ds ++ xs) e ∙ sym (map-append Ok ds es))
 more_given s w ws ds items p (broken before bad after es cut run none e) =
     let joined : map Ok ds ++ items ≡ map Ok (ds ++ es) ++ Err (place_of bad) ∷ [] =
     search (arith, nat_tests, append_assoc, map-append) in
@@ -94,25 +95,25 @@ unfolding items_of
 none_of s = refl
 
 -- Words give nothing else.
-pub given_items : (s : Scheme) (ws : List DataWord) (items : List (Result ℤ BadWordAt)) → AllByRecursion IsWord ws
+pub given_items : (s : Scheme) (ws : List DataWord) (items : Items) → AllByRecursion IsWord ws
     → Gives s ws items → items ≡ items_of s ws
 given_items s ws items h (all ds run e) =
     let whole : items_of s (ws ++ []) ≡ map Ok ds ++ items_of s [] = all_after s ws ds h run [] in
-    e ∙ sym (append-nil (map Ok ds)) ∙ ap (λ (xs : List (Result ℤ BadWordAt)). map Ok ds ++ xs) (sym (none_of s))
-    ∙ sym whole ∙ ap (λ (xs : List DataWord). items_of s xs) (append-nil ws)
+    e ∙ sym (append-nil (map Ok ds)) ∙ ap (λ (xs : Items). map Ok ds ++ xs) (sym (none_of s))
+    ∙ sym whole ∙ ap (items_of s) (append-nil ws)
 given_items s ws items h (broken before bad after ds cut run fails e) =
     let there : AllByRecursion IsWord (before ++ bad ∷ after) = search (arith, nat_tests) in
     let prefix : items_of s (before ++ bad ∷ after) ≡ map Ok ds ++ items_of s (bad ∷ after) =
     search (arith, nat_tests, all_after, prefix_words) in
     let last : items_of s (bad ∷ after) ≡ Err (place_of bad) ∷ [] = search (arith, nat_tests, bad_items, word_after) in
-    rw cut (e ∙ sym (prefix ∙ ap (λ (xs : List (Result ℤ BadWordAt)). map Ok ds ++ xs) last))
+    rw cut (e ∙ sym (prefix ∙ ap (λ (xs : Items). map Ok ds ++ xs) last))
 
 -- the words of a payload have 32 bits
-data_small : (p : List ℕ) → ((i : ℕ) → get_or p i 0 < 256) → (k n : ℕ)
+data_small : (p : List ℕ) → AreOctets p → (k n : ℕ)
     → AllByRecursion IsWord (map (data_word p) (filter is_data (range_with_len k n)))
 data_small p octets k zero = tt
 data_small p octets k (suc n) = grind (arith, cond_both, word_small, data_small p octets (k + 1) n)
 
-pub words_small : (p : List ℕ) → ((i : ℕ) → get_or p i 0 < 256) → (k n : ℕ) → AllByRecursion IsWord (words_from p k n)
+pub words_small : (p : List ℕ) → AreOctets p → (k n : ℕ) → AllByRecursion IsWord (words_from p k n)
 unfolding words_from
 words_small p octets k n = data_small p octets k n

@@ -1,4 +1,5 @@
 -- A payload of integers.
+use Rattle.mseed_steim.specs.Frames.{AreOctets}
 use Rattle.std.proofs.Common.{◌≡◌, ℕ, zero, suc, ◌+◌, ◌-◌, ◌*◌, ◌/◌, ◌<◌, ◌≤◌, ◌^◌, List, [], ◌∷◌, length, get_or, ℤ}
 use Rattle.std.proofs.Common.{pos, negsuc, ◌+ℤ◌, ◌-ℤ◌, arith, refl, ap, sym, ◌∙◌, subst, slice_get, Some, Ok}
 use Rattle.std.proofs.Math.Nat.{mul-suc}
@@ -16,8 +17,7 @@ use Rattle.mseed_steim.specs.private.Digits.{signed}
 use Rattle.mseed_steim.specs.Samples.{AnswersPayload, AreEnds, BeginsWith, IsPayloadReading, bytes_of}
 use Rattle.mseed_steim.proofs.Spelled.{signed_within, signed_residue}
 
-pub number_lt : (order : Order) (w place : ℕ) (p : List ℕ) → ((i : ℕ) → get_or p i 0 < 256)
-    → number_at order w place p < 256 ^ w
+pub number_lt : (order : Order) (w place : ℕ) (p : List ℕ) → AreOctets p → number_at order w place p < 256 ^ w
 number_lt Big w place p octets = big_from-lt place w p octets
 number_lt Little w place p octets = little_from-lt place w p octets
 
@@ -50,9 +50,8 @@ get-integers order w p place (suc n) zero h = let same : place + w * 0 ≡ place
 get-integers order w p place (suc n) (suc k) h =
     grind (arith, mul-suc, get-integers order w p (place + w) n k (omega arith))
 
-begins_by : (order : Order) (w : ℕ) (p : List ℕ) (place n : ℕ) → 0 < w → 256 ^ w ≡ 2 ^ (8 * w)
-    → ((i : ℕ) → get_or p i 0 < 256) → place + w * n ≤ length p
-    → BeginsWith order w p place (integers order w p place n)
+begins_by : (order : Order) (w : ℕ) (p : List ℕ) (place n : ℕ) → 0 < w → 256 ^ w ≡ 2 ^ (8 * w) → AreOctets p
+    → place + w * n ≤ length p → BeginsWith order w p place (integers order w p place n)
 unfolding integers
 begins_by order w p place zero some e octets h = tt
 begins_by order w p place (suc n) some e octets h =
@@ -60,36 +59,22 @@ begins_by order w p place (suc n) some e octets h =
     let small : x < 2 ^ (8 * w) = rw e at (number_lt order w place p octets) in
     let positive : 0 < 8 * w = omega arith in
     let same : twos_complement w x ≡ signed (8 * w) x = signed_is w x small in
-    let long : w * suc n ≡ w + w * n = omega (arith, mul-suc w n) in (
-      omega (arith, long),
-      subst (λ (z : ℤ). IsWithin (8 * w) z) (sym same) (signed_within (8 * w) x positive small),
-      rw same (sym (signed_residue (8 * w) x positive small)),
-      begins_by order w p (place + w) n some e octets (omega (arith, long)),
-    )
+    let long : w * suc n ≡ w + w * n = omega (arith, mul-suc w n) in
+    grind (arith, signed_residue, signed_within, begins_by order w p (place + w) n some e octets (omega (arith, long)))
 
-pub begins : (order : Order) (width : Width) (p : List ℕ) (n : ℕ) → ((i : ℕ) → get_or p i 0 < 256)
+pub begins : (order : Order) (width : Width) (p : List ℕ) (n : ℕ) → AreOctets p
     → bytes_of width * n ≤ length p → BeginsWith order (bytes_of width) p 0 (integers order (bytes_of width) p 0 n)
 begins order Two p n octets h = begins_by order 2 p 0 n (omega arith) refl octets (omega arith)
 begins order Four p n octets h = begins_by order 4 p 0 n (omega arith) refl octets (omega arith)
 
 pub integers_checked : (order : Order) (width : Width) (p : List ℕ) (n : ℕ) (ends : Ends) → 0 < n
-    → ((i : ℕ) → get_or p i 0 < 256) → bytes_of width * n ≤ length p
+    → AreOctets p → bytes_of width * n ≤ length p
     → ends.first ≡ twos_complement (bytes_of width) (number_at order (bytes_of width) 0 p)
     → ends.last ≡ twos_complement (bytes_of width) (number_at order (bytes_of width) (bytes_of width * (n - 1)) p)
     → AnswersPayload (Integers width) order p n AreEnds (Ok ends)
 integers_checked order width p n ends h octets long first last =
     let count = length-integers order (bytes_of width) p 0 n in
-    let zeroth : 0 + bytes_of width * 0 ≡ 0 = omega arith in
-    let at_first = rw zeroth at (get-integers order (bytes_of width) p 0 n 0 h) in
-    let plain : 0 + bytes_of width * (n - 1) ≡ bytes_of width * (n - 1) = omega arith in
-    let at_last = rw plain at (get-integers order (bytes_of width) p 0 n (n - 1) (omega arith)) in (
-      integers order (bytes_of width) p 0 n,
-      (
-        (count, begins order width p n octets long),
-        tt,
-        (at_first ∙ ap (λ (z : ℤ). Some z) (sym first), rw count (at_last ∙ ap (λ (z : ℤ). Some z) (sym last))),
-      ),
-    )
+    grind (arith, begins, get-integers)
 
 pub whole_count : (width : Width) (n long : ℕ) → n ≤ long / bytes_of width → bytes_of width * n ≤ long
 whole_count Two n long h = omega arith
@@ -106,7 +91,7 @@ pub integers_over : (order : Order) (w : ℕ) (p : List ℕ) (n i : ℕ) → n �
 unfolding integers
 integers_over order w p n i h = let none : n - i ≡ 0 = omega arith in rw none refl
 
-pub filled : (order : Order) (width : Width) (p : List ℕ) (n : ℕ) (out : List ℤ) → ((i : ℕ) → get_or p i 0 < 256)
+pub filled : (order : Order) (width : Width) (p : List ℕ) (n : ℕ) (out : List ℤ) → AreOctets p
     → bytes_of width * n ≤ length p → out ≡ integers order (bytes_of width) p 0 n
     → IsPayloadReading (Integers width) order p n out
 filled order width p n out octets long e = search (arith, begins, length-integers)

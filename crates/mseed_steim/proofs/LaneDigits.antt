@@ -30,6 +30,5 @@ place_at = grind (arith, sixteen)
 
 -- no number of a list is more than their sum
 pub one_of_sum : (xs : List ℕ) (i : ℕ) → get_or xs i 0 ≤ sum_l xs
-one_of_sum [] i = omega arith
-one_of_sum (x ∷ xs) zero = omega arith
 one_of_sum (x ∷ xs) (suc i) = let later = one_of_sum xs i in omega (arith, later)
+one_of_sum _ _ = omega arith

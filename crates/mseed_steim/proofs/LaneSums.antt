@@ -13,16 +13,14 @@ use Rattle.mseed_steim.proofs.LaneTables.{each_of_all}
 pub plus_sum : (xs ys : List ℕ) → length xs ≡ length ys → sum_l (zip2 (λ a b. (a + b) % 4294967296) xs ys) % 4294967296
     ≡ (sum_l xs + sum_l ys) % 4294967296
 plus_sum [] [] e = refl
-plus_sum [] (y ∷ ys) e = absurd (omega arith)
-plus_sum (x ∷ xs) [] e = absurd (omega arith)
 plus_sum (x ∷ xs) (y ∷ ys) e = let ih = plus_sum xs ys (omega arith) in omega (arith, ih)
+plus_sum _ _ e = absurd (omega arith)
 
 pub minus_sum : (xs ys : List ℕ) → length xs ≡ length ys → Each1 (Fits w32) ys
     → (sum_l (zip2 (λ a b. (a + (4294967296 - b)) % 4294967296) xs ys) + sum_l ys) % 4294967296 ≡ sum_l xs % 4294967296
 minus_sum [] [] e h = refl
-minus_sum [] (y ∷ ys) e h = absurd (omega arith)
-minus_sum (x ∷ xs) [] e h = absurd (omega arith)
 minus_sum (x ∷ xs) (y ∷ ys) e h = grind (arith, minus_sum xs ys (omega arith) h.1)
+minus_sum _ _ e h = absurd (omega arith)
 
 pub shl_sum : (k n : ℕ) (xs : List ℕ) → length xs ≡ n
     → sum_l (zip2 (λ a b. a * 2 ^ b % 4294967296) xs (replicate n k)) % 4294967296 ≡ 2 ^ k * sum_l xs % 4294967296
@@ -74,7 +72,7 @@ sums_of_four a b c d x y e f g h i j =
     let one : Sums a (spelled b) (spelled c) (spelled d) = search (arith, nat_tests, spelled, spelled_four) in
     let two : Sums a b (spelled c) (spelled d) = search (arith, nat_tests, spelled, spelled_four) in
     let three : Sums a b c (spelled d) = search (arith, nat_tests, spelled, spelled_four) in
-    let four : Sums a b c d = subst (λ (l : List ℕ). Sums a b c l) (sym (spelled_four d h)) three in
+    let four : Sums a b c d = subst (Sums a b c) (sym (spelled_four d h)) three in
     ap (λ (l : List ℕ). map (λ n. n % 4294967296) (pair_sums (l ++ y))) i
     ∙ ap (λ (l : List ℕ). map (λ n. n % 4294967296) (pair_sums (map (λ n. n % 4294967296) (pair_sums (a ++ b)) ++ l))) j
     ∙ four

@@ -29,10 +29,9 @@ use Rattle.mseed_steim.proofs.Ended.{get_pushed}
 begins_one : (order : Order) (w : ℕ) (p : List ℕ) (place : ℕ) (ss ts : List ℤ) → 0 < w → length ss ≡ length ts
     → BeginsWith order w p place ss → BeginsWith order w p place ts → ss ≡ ts
 begins_one order w p place [] [] some l h k = refl
-begins_one order w p place [] (t ∷ ts) some l h k = absurd (omega arith)
-begins_one order w p place (s ∷ ss) [] some l h k = absurd (omega arith)
 begins_one order w p place (s ∷ ss) (t ∷ ts) some l h k =
     grind (arith, residue_one, begins_one order w p (place + w) ss ts some (omega arith) h.3 k.3)
+begins_one order w p place _ _ some l h k = absurd (omega arith)
 
 begins_long : (order : Order) (w : ℕ) (p : List ℕ) (place : ℕ) (ss : List ℤ) → place ≤ length p
     → BeginsWith order w p place ss → place + w * length ss ≤ length p
@@ -129,7 +128,7 @@ frames_deny v scheme f some a e big p (lacks ds (bad ∷ after) h less) = λ s r
     not_ending scheme (payload_of v) (count_of v) s ds (bad ∷ after) (same_payload v (Frames scheme) s e r).1 h less
 frames_deny v scheme f some a e big p (over prefix sum rest sums all not) = λ s r.
     let q = same_payload v (Frames scheme) s e r in
-    not_in prefix sum rest (subst (λ (xs : List ℤ). All IsSample xs)
+    not_in prefix sum rest (subst (All IsSample)
     (sums_one scheme (payload_of v) (count_of v) s (prefix ++ sum ∷ rest) q.1 sums) q.2) not
 frames_deny v scheme f some a e big p (differs prefix last sums all not) =
     last_denies v scheme prefix last some a e big p (big, sums, all) not
@@ -148,20 +147,13 @@ fault_denies v f some (in_payload a (Frames scheme) d readable p fault h) =
 
 -- So a record with a fault has no reading that ends on its constants.
 pub denied : (v : View) (f : ReadFault) (s : List ℤ) → Denies v f → IsReading v s → EndsOnConstants v s → ⊥
-denied v Blockette100 s h r e = h s r
-denied v (Encoding code) s h r e = h s r
-denied v LittleSteim s h r e = h s r
-denied v DataOffset s h r e = h s r
-denied v (Short found) s h r e = h s r
-denied v (BadWord frame word) s h r e = h s r
-denied v (Overflow index) s h r e = h s r
 denied v (LastDiffers found constant) s h r e = (h.1.1 s r).1 e
-denied v Memory s h r e = h s r
+denied v _ s h r e = h s r
 
 -- What an answer means: there is no other reading, and no other fault.
 pub answers_only : {X : Type 0} (v : View) (told : X → List ℤ → Type 0) (r : Result X ReadFault) → 0 < count_of v
     → AnswersRecord v told r → (s : List ℤ) → IsWhole v s → IsOkAnd r (λ x. told x s)
-answers_only v told (Ok x) some h s w = subst (λ (xs : List ℤ). told x xs) (reading_one v h.0 s h.1.0.0 w.0) h.1.1
+answers_only v told (Ok x) some h s w = subst (told x) (reading_one v h.0 s h.1.0.0 w.0) h.1.1
 answers_only v told (Err f) some h s w = absurd (denied v f s (fault_denies v f some h) w.0 w.1)
 
 pub answers_fault : {X : Type 0} (v : View) (told : X → List ℤ → Type 0) (r : Result X ReadFault) → 0 < count_of v
@@ -169,7 +161,7 @@ pub answers_fault : {X : Type 0} (v : View) (told : X → List ℤ → Type 0) (
 answers_fault v told (Ok x) some h f =
     ((λ e. cc), (λ q. absurd (denied v f h.0 (fault_denies v f some q) h.1.0.0 h.1.0.1)))
 answers_fault v told (Err g) some h f = (
-  (λ e. let same : g ≡ f = cc in subst (λ (x : ReadFault). IsFault v x) same h),
+  (λ e. let same : g ≡ f = cc in subst (IsFault v) same h),
   (λ q. ap Err (record_fault_one v g f h q)),
 )
 
@@ -205,9 +197,8 @@ payload_answers v form p n order told more r some holds count ordered tells h =
 
 little_in : (v : View) (form : Form) (order : Order) → v.has_rate_blockette ≡ false → form_of v.encoding ≡ Some form
     → v.payload_order ≡ order → is_little_steim form order ≡ true → IsFault v LittleSteim
-little_in v (Integers width) order a e l h = cc
-little_in v (Frames scheme) Big a e l h = cc
 little_in v (Frames scheme) Little a e l h = little_steim a scheme e l
+little_in v _ _ a e l h = cc
 
 -- what the test of little-endian frames tells
 pub little_fault : (v : View) (form : Form) → v.has_rate_blockette ≡ false → form_of v.encoding ≡ Some form

@@ -1,4 +1,5 @@
 -- Samples that are near one another, by the words or integers that say them.
+use Rattle.mseed_steim.specs.Frames.{AreOctets}
 use Rattle.std.proofs.Common.{◌≡◌, ◌≢◌, ℕ, zero, suc, ◌+◌, ◌-◌, ◌*◌, ◌/◌, ◌%◌, ◌^◌, ◌<◌, ◌≤◌, List, [], ◌∷◌}
 use Rattle.std.proofs.lemmas.Bool.Decides.{nat_tests}
 use Rattle.std.proofs.Common.{length, map, not, eqb, get_or, refl, sym, ap, ◌∙◌, subst, arith, ℤ, ◌-ℤ◌, Option, Some}
@@ -66,7 +67,7 @@ two_narrow code dnib = search (arith, narrow_either, narrow_group_narrow, narrow
 
 -- Steim-2
 near_two : (w : DataWord) → IsNearWord Steim2 w
-near_two w ds (empty e q) = subst (λ (xs : List ℤ). All (IsWithin 30) xs) (sym q) (All-nil (IsWithin 30))
+near_two w ds (empty e q) = subst (All (IsWithin 30)) (sym q) (All-nil (IsWithin 30))
 near_two w ds (Spells.row g dnib e p) = all_wider g.width 30 ds (two_narrow w.code dnib g e) p.range
 
 all_near_two : (ws : List DataWord) → AllByRecursion (IsNearWord Steim2) ws
@@ -86,15 +87,14 @@ one_near dnib bits [] small p narrow = All-nil (IsWithin 30)
 one_near dnib bits (d ∷ e ∷ ds) small p narrow = grind arith
 one_near dnib bits (d ∷ []) small p narrow = grind (arith, value_is)
 
-near_one : (p : List ℕ) (k : ℕ) → ((i : ℕ) → get_or p i 0 < 256) → IsNarrowAt p k → IsNearWord Steim1 (data_word p k)
+near_one : (p : List ℕ) (k : ℕ) → AreOctets p → IsNarrowAt p k → IsNearWord Steim1 (data_word p k)
 near_one p k octets narrow ds (empty e q) = grind arith
 near_one p k octets narrow ds (Spells.row g dnib e is) =
     by_group (code_at p k) dnib g ds e is.range (λ three same.
     one_near dnib (word_at p k) ds (word_small p k octets)
     (subst (λ (x : Group). IsGroup x dnib (word_at p k) ds) same is) (narrow three))
 
-all_near_one : (p : List ℕ) → ((i : ℕ) → get_or p i 0 < 256) → (k n : ℕ)
-    → ((j : ℕ) → k ≤ j → j < k + n → j % 16 ≢ 0 → IsNarrowAt p j)
+all_near_one : (p : List ℕ) → AreOctets p → (k n : ℕ) → ((j : ℕ) → k ≤ j → j < k + n → j % 16 ≢ 0 → IsNarrowAt p j)
     → AllByRecursion (IsNearWord Steim1) (map (data_word p) (filter is_data (range_with_len k n)))
 all_near_one p octets k zero narrow = tt
 all_near_one p octets k (suc n) narrow =
@@ -106,17 +106,15 @@ all_near_one p octets k (suc n) narrow =
     (λ other. (near_one p k octets (narrow k (omega arith) (omega arith) (λ e. false≢true (rw e at other))), later))
     (λ _. later)
 
-words_near_one : (p : List ℕ) → ((i : ℕ) → get_or p i 0 < 256) → (k n : ℕ)
-    → ((j : ℕ) → k ≤ j → j < k + n → j % 16 ≢ 0 → IsNarrowAt p j)
+words_near_one : (p : List ℕ) → AreOctets p → (k n : ℕ) → ((j : ℕ) → k ≤ j → j < k + n → j % 16 ≢ 0 → IsNarrowAt p j)
     → AllByRecursion (IsNearWord Steim1) (words_from p k n)
 unfolding words_from
 words_near_one p octets k n narrow = all_near_one p octets k n narrow
 
 run_near : (s : Scheme) (ws : List DataWord) (ds : List ℤ) → AllByRecursion (IsNearWord s) ws → SpellsRun s ws ds
     → All (IsWithin 30) ds
-run_near s [] ds near e = subst (λ (xs : List ℤ). All (IsWithin 30) xs) (sym e) (All-nil (IsWithin 30))
-run_near s (w ∷ ws) ds near h =
-    subst (λ (xs : List ℤ). All (IsWithin 30) xs) (sym h.1.1.0)
+run_near s [] ds near e = subst (All (IsWithin 30)) (sym e) (All-nil (IsWithin 30))
+run_near s (w ∷ ws) ds near h = subst (All (IsWithin 30)) (sym h.1.1.0)
     (All-append (IsWithin 30) h.0 h.1.0 (near.0 h.0 h.1.1.1.0) (run_near s ws h.1.0 near.1 h.1.1.1.1))
 
 adds_near : (before : ℤ) (ds ss : List ℤ) → Adds before ds ss → AllByRecursion (IsWithin 30) ds → AreNearFrom before ss
@@ -131,7 +129,7 @@ sums_near : (s : Scheme) (p : List ℕ) (n : ℕ) (ss : List ℤ) → AreSums s 
     → AllByRecursion (IsNearWord s) (data_words p) → AreNear ss
 sums_near s p n ss sums near =
     let prefix = prefix_words (IsNearWord s) sums.prefix sums.rest
-    (subst (λ (ws : List DataWord). AllByRecursion (IsNearWord s) ws) sums.cut near) in
+    (subst (AllByRecursion (IsNearWord s)) sums.cut near) in
     starts_near (first_constant p) sums.differences ss sums.sums
     (recursion_from_All (IsWithin 30) sums.differences (run_near s sums.prefix sums.differences prefix sums.spelled))
 
@@ -149,8 +147,7 @@ two_short : (order : Order) (p : List ℕ) (place : ℕ) (ss : List ℤ) → Beg
 two_short order p place [] h = tt
 two_short order p place (s ∷ ss) h = (within_wider 16 29 s (omega arith) h.1, two_short order p (place + 2) ss h.3)
 
-four_short : (order : Order) (p : List ℕ) (place : ℕ) (ss : List ℤ) → ((i : ℕ) → get_or p i 0 < 256)
-    → BeginsWith order 4 p place ss
+four_short : (order : Order) (p : List ℕ) (place : ℕ) (ss : List ℤ) → AreOctets p → BeginsWith order 4 p place ss
     → ((i : ℕ) → i < length ss → IsWithin 29 (twos_complement 4 (number_at order 4 (place + 4 * i) p)))
     → AllByRecursion (IsWithin 29) ss
 four_short order p place [] octets h short = tt
@@ -158,14 +155,14 @@ four_short order p place (s ∷ ss) octets h short =
     let x : ℕ = number_at order 4 place p in
     let here : place + 4 * 0 ≡ place = omega arith in
     let first : IsWithin 29 (twos_complement 4 x) = rw here at (short 0 (omega arith)) in (
-      subst (λ (z : ℤ). IsWithin 29 z) (sym (value_is x s (number_lt order 4 place p octets) h.1 h.2)) first,
+      subst (IsWithin 29) (sym (value_is x s (number_lt order 4 place p octets) h.1 h.2)) first,
       four_short order p (place + 4) ss octets h.3
           (λ i less. let next : place + 4 * (i + 1) ≡ place + 4 + 4 * i = omega arith in
           rw next at (short (i + 1) (omega (arith, less)))),
     )
 
 -- samples whose words or integers show it are near one another
-pub shown_near : (form : Form) (order : Order) (p : List ℕ) (n : ℕ) (ss : List ℤ) → ((i : ℕ) → get_or p i 0 < 256)
+pub shown_near : (form : Form) (order : Order) (p : List ℕ) (n : ℕ) (ss : List ℤ) → AreOctets p
     → IsSurelyNear form order p n → IsPayloadReading form order p n ss → AreNear ss
 shown_near (Integers Two) order p n ss octets shows h = short_near ss (two_short order p 0 ss h.1)
 shown_near (Integers Four) order p n ss octets shows h =
@@ -199,8 +196,7 @@ no_code_3 codes j none some less three =
     omega (arith, all, zeroth)
 
 -- a word's bits in two's complement
-pub word_value : (p : List ℕ) (k : ℕ) → ((i : ℕ) → get_or p i 0 < 256)
-    → twos_complement 4 (word_at p k) ≡ to_z w32 (word_at p k)
+pub word_value : (p : List ℕ) (k : ℕ) → AreOctets p → twos_complement 4 (word_at p k) ≡ to_z w32 (word_at p k)
 word_value p k octets = grind (arith, signed_32, signed_is, word_small)
 
 -- the code of a frame's word

@@ -1,4 +1,5 @@
 -- Differences of frames that are unpacked in their places, and the steps that they are.
+use Rattle.mseed_steim.specs.Frames.{AreOctets}
 use Rattle.std.proofs.Common.{◌≡◌, ℕ, ◌+◌, ◌*◌, ◌/◌, ◌<◌, ◌≤◌, List, [], ◌∷◌, ◌++◌, map, take, drop, length}
 use Rattle.std.proofs.lemmas.Bool.Decides.{nat_tests}
 use Rattle.std.proofs.Common.{zero, suc, pos, ℤ, ◌+ℤ◌, ◌-ℤ◌, arith, refl, ap, sym, ◌∙◌, subst, append_assoc, Result, Ok}
@@ -61,8 +62,6 @@ next_items s p begin frame i count done ds inside begins e unpacked same =
 adds_steps : (x : ℤ) (ds es : List ℤ) (a b : Items) (ss : List ℤ) → map Ok ds ++ a ≡ map Ok es ++ b
     → length es ≡ length ss → Adds x ds ss → es ≡ differences_from x ss
 adds_steps x ds [] a b [] e l h = refl
-adds_steps x ds [] a b (s ∷ ss) e l h = absurd (omega arith)
-adds_steps x ds (z ∷ es) a b [] e l h = absurd (omega arith)
 adds_steps x [] (z ∷ es) a b (s ∷ ss) e l h = absurd h
 adds_steps x (d ∷ ds) (z ∷ es) a b (s ∷ ss) e l h =
     let one : d ≡ z = cc in
@@ -71,6 +70,7 @@ adds_steps x (d ∷ ds) (z ∷ es) a b (s ∷ ss) e l h =
     let step : z ≡ s -ℤ x = omega (arith, ints, sum, one) in
     let later : es ≡ differences_from s ss = adds_steps s ds es a b ss rest (omega arith) h.1 in
     cc
+adds_steps x ds _ a b _ e l h = absurd (omega arith)
 
 -- where a walk from a later sample on fills the places, it fills them with the differences
 walked_items : (n m : ℕ) (l : ℤ) (items : Items) (mets : List ℤ) (r : Result Sum ReadFault) → 0 < m
@@ -78,8 +78,7 @@ walked_items : (n m : ℕ) (l : ℤ) (items : Items) (mets : List ℤ) (r : Resu
 walked_items n m l items mets r some (done_folds next ds more e count same adds all met last) =
     let plain = rw (with_first_later m (pos 0) ds some) at adds in
     (more, e ∙ ap (λ (xs : List ℤ). map Ok xs ++ more) (adds_steps l ds ds more more mets refl (sym same) plain))
-walked_items n m l items mets r some (ended_folds k ds rest e end count less) = tt
-walked_items n m l items mets r some (over_folds k ds d more e count less same adds all not) = tt
+walked_items n m l items mets r some _ = tt
 
 steps_later : (m : ℕ) (l : ℤ) (xs : List ℤ) → 0 < m → kept_on the_difference m l xs ≡ kept_from the_difference l xs
 steps_later zero l xs some = absurd (omega (arith, some))
@@ -117,20 +116,19 @@ rest_put r items left first before after e same h = search (arith)
 starts_steps : (x : ℤ) (ds es : List ℤ) (a b : Items) (ss : List ℤ)
     → map Ok ds ++ a ≡ map Ok es ++ b → length es ≡ length ss → 0 < length ss → StartsAndAdds x ds ss
     → set es 0 x ≡ steps_of ss
-starts_steps x ds es a b [] e l some h = absurd (omega arith)
-starts_steps x ds [] a b (s ∷ ss) e l some h = absurd (omega arith)
 starts_steps x [] (z ∷ es) a b (s ∷ ss) e l some h = absurd h
 starts_steps x (d ∷ ds) (z ∷ es) a b (s ∷ ss) e l some h = grind (arith, adds_steps)
+starts_steps x ds _ a b _ e l some h = absurd (omega arith)
 
 -- where as many differences are unpacked as there are samples, these samples' steps are they, after the constant
 pub payload_steps : (s : Scheme) (p : List ℕ) (out : List ℤ) (first : ℤ) (more : Items)
-    (ss : List ℤ) → ((i : ℕ) → get_or p i 0 < 256) → 0 < length out → first ≡ first_constant p
+    (ss : List ℤ) → AreOctets p → 0 < length out → first ≡ first_constant p
     → items_of s (data_words p) ≡ map Ok out ++ more → AreSums s p (length out) ss → set out 0 first ≡ steps_of ss
 payload_steps s p out first more ss octets some constant unpacked sums =
     let small : AllByRecursion IsWord (sums.prefix ++ sums.rest) = search (arith, nat_tests, words_small) in
     let spelled = all_after s sums.prefix sums.differences (prefix_words IsWord sums.prefix sums.rest small)
     sums.spelled sums.rest in
-    let same = sym spelled ∙ ap (λ (ws : List DataWord). items_of s ws) (sym sums.cut) ∙ unpacked in
+    let same = sym spelled ∙ ap (items_of s) (sym sums.cut) ∙ unpacked in
     let long : length ss ≡ length out = sums.count in
     starts_steps first sums.differences out (items_of s sums.rest) more ss same (sym long) (omega (arith, long, some))
     (subst (λ (x : ℤ). StartsAndAdds x sums.differences ss) (sym constant) sums.sums)

@@ -37,18 +37,8 @@ pub record Giving (s : Scheme) (words : List DataWord) (items : Items) : Type 0 
   pub is : items ≡ map Ok ds ++ last_item rest
 
 pub giving : (s : Scheme) (words : List DataWord) (items : Items) → Gives s words items → Giving s words items
-giving s words items (all ds run e) = record {
-  ds = ds;
-  rest = [];
-  ending = record { before = words; cut = sym (append-nil words); spelled = run; stops = tt };
-  is = e ∙ sym (append-nil (map Ok ds));
-}
-giving s words items (broken before bad after ds cut run none e) = record {
-  ds = ds;
-  rest = bad ∷ after;
-  ending = record { before = before; cut = cut; spelled = run; stops = none };
-  is = e;
-}
+giving s words items (all ds run e) = grind (arith, append-nil)
+giving s words items (broken before bad after ds cut run none e) = grind arith
 
 -- items that end so begin with no more differences
 pub begin_items : (ds es : List ℤ) (a b : Items) → IsEnd b → map Ok es ++ b ≡ map Ok ds ++ a

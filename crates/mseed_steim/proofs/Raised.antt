@@ -6,7 +6,7 @@ use Rattle.std.proofs.lemmas.List.{map-append}
 use Rattle.mseed_steim.specs.declared.scheme.Scheme.{Scheme}
 use Rattle.mseed_steim.specs.declared.differences.BadWordAt.{BadWordAt}
 use Rattle.mseed_steim.specs.Frames.{DataWord}
-use Rattle.mseed_steim.specs.private.Items.{items_of}
+use Rattle.mseed_steim.specs.private.Items.{Items, items_of}
 use Rattle.mseed_steim.specs.private.Moves.{MovesBy, Raises}
 use Rattle.mseed_steim.proofs.FrameItems.{span-append, total-append}
 
@@ -34,10 +34,9 @@ moves_more s before behind c d by more far near a b = (
       near = let both = span-append a.0 b.0 in omega (arith, both, a.1.0.near, b.1.0.near);
     },
     λ rest.
-        ap (λ (ws : List DataWord). items_of s ws) (append_assoc before behind rest)
-        ∙ a.1.1 (behind ++ rest)
-        ∙ ap (λ (items : List (Result ℤ BadWordAt)). map Ok a.0 ++ items) (b.1.1 rest)
+        ap (items_of s) (append_assoc before behind rest) ∙ a.1.1 (behind ++ rest)
+        ∙ ap (λ (items : Items). map Ok a.0 ++ items) (b.1.1 rest)
         ∙ sym (append_assoc (map Ok a.0) (map Ok b.0) (items_of s rest))
-        ∙ ap (λ (items : List (Result ℤ BadWordAt)). items ++ items_of s rest) (sym (map-append Ok a.0 b.0)),
+        ∙ ap (λ (items : Items). items ++ items_of s rest) (sym (map-append Ok a.0 b.0)),
   ),
 )

@@ -32,7 +32,7 @@ agree_append (x ∷ xs) ds es h = (refl, agree_append xs ds es h)
 runs_agree : (s : Scheme) (fa ra fb rb : List DataWord) (ds es : List ℤ) → fa ++ ra ≡ fb ++ rb → SpellsRun s fa ds
     → SpellsRun s fb es → Agree ds es
 runs_agree s [] ra fb rb ds es e h k = subst (λ (xs : List ℤ). Agree xs es) (sym h) tt
-runs_agree s (w ∷ fa) ra [] rb ds es e h k = subst (λ (xs : List ℤ). Agree ds xs) (sym k) (agree_nil ds)
+runs_agree s (w ∷ fa) ra [] rb ds es e h k = subst (Agree ds) (sym k) (agree_nil ds)
 runs_agree s (w ∷ fa) ra (v ∷ fb) rb ds es e h k =
     let same : w ≡ v = cc in
     let rest : fa ++ ra ≡ fb ++ rb = cc in
@@ -41,19 +41,17 @@ runs_agree s (w ∷ fa) ra (v ∷ fb) rb ds es e h k =
     let later : Agree h.1.0 k.1.0 = runs_agree s fa ra fb rb h.1.0 k.1.0 rest h.1.1.1.1 k.1.1.1.1 in
     let both : Agree (k.0 ++ h.1.0) (k.0 ++ k.1.0) = agree_append k.0 h.1.0 k.1.0 later in
     let left : ds ≡ k.0 ++ h.1.0 = h.1.1.0 ∙ ap (λ (xs : List ℤ). xs ++ h.1.0) one in
-    subst (λ (xs : List ℤ). Agree ds xs) (sym k.1.1.0)
-    (subst (λ (xs : List ℤ). Agree xs (k.0 ++ k.1.0)) (sym left) both)
+    subst (Agree ds) (sym k.1.1.0) (subst (λ (xs : List ℤ). Agree xs (k.0 ++ k.1.0)) (sym left) both)
 
 adds_one : (x : ℤ) (ds es ss ts : List ℤ) → Agree ds es → length ss ≡ length ts → Adds x ds ss → Adds x es ts → ss ≡ ts
 adds_one x ds es [] [] g l h k = refl
-adds_one x ds es [] (t ∷ ts) g l h k = absurd (omega arith)
-adds_one x ds es (s ∷ ss) [] g l h k = absurd (omega arith)
 adds_one x [] es (s ∷ ss) (t ∷ ts) g l h k = absurd h
 adds_one x (d ∷ ds) [] (s ∷ ss) (t ∷ ts) g l h k = absurd k
 adds_one x (d ∷ ds) (e ∷ es) (s ∷ ss) (t ∷ ts) g l h k =
     let first : s ≡ t = h.0 ∙ ap (λ (z : ℤ). x +ℤ z) g.0 ∙ sym k.0 in
     let later : ss ≡ ts = adds_one t ds es ss ts g.1 (omega arith) (subst (λ (z : ℤ). Adds z ds ss) first h.1) k.1 in
     cc
+adds_one x ds es _ _ g l h k = absurd (omega arith)
 
 starts_one : (x : ℤ) (ds es ss ts : List ℤ) → Agree ds es → length ss ≡ length ts → StartsAndAdds x ds ss
     → StartsAndAdds x es ts → ss ≡ ts
@@ -69,10 +67,7 @@ sums_one s p n ss ts a b =
 -- no prefix of words spells more than those before their end or a bad one do, nor goes past it
 bounds : (s : Scheme) (fa ra fb rb : List DataWord) (ds es : List ℤ) → fa ++ ra ≡ fb ++ rb → SpellsRun s fa ds
     → Stops s ra → SpellsRun s fb es → (length es ≤ length ds) × (length ra ≤ length rb)
-bounds s fa ra [] rb ds es e h stops k =
-    let nil : length es ≡ 0 = ap (λ (xs : List ℤ). length xs) k in
-    let long = ap (λ (ws : List DataWord). length ws) (sym e) ∙ length-append fa ra in
-    (omega (arith, nil), omega (arith, long))
+bounds s fa ra [] rb ds es e h stops k = grind (arith, length-append)
 bounds s [] [] (v ∷ fb) rb ds es e h stops k = cc
 bounds s [] (bad ∷ after) (v ∷ fb) rb ds es e h none k =
     let same : v ≡ bad = cc in
@@ -90,12 +85,8 @@ bounds s (w ∷ fa) ra (v ∷ fb) rb ds es e h stops k =
 -- what stands at the end of a list, by how much it is
 same_behind : (fa ra fb rb : List DataWord) → fa ++ ra ≡ fb ++ rb → length ra ≡ length rb → ra ≡ rb
 same_behind [] ra [] rb e long = e
-same_behind [] ra (v ∷ fb) rb e long =
-    let more = ap (λ (ws : List DataWord). length ws) e ∙ length-append (v ∷ fb) rb in absurd (omega (arith, more, long))
-same_behind (w ∷ fa) ra [] rb e long =
-    let more = ap (λ (ws : List DataWord). length ws) (sym e) ∙ length-append (w ∷ fa) ra in
-    absurd (omega (arith, more, long))
 same_behind (w ∷ fa) ra (v ∷ fb) rb e long = same_behind fa ra fb rb (cc) long
+same_behind _ ra _ rb e long = grind (arith, length-append)
 
 -- so words stop in one way
 one_ending : {s : Scheme} {words : List DataWord} {ds es : List ℤ} {rest more : List DataWord}
@@ -142,7 +133,8 @@ last_one (x ∷ fa) a (y ∷ fb) b e = let rest : fa ++ a ∷ [] ≡ fb ++ b ∷
 pub not_ending : (s : Scheme) (p : List ℕ) (n : ℕ) (ss ds : List ℤ) (rest : List DataWord) → AreSums s p n ss
     → Ending s (data_words p) ds rest → length ds < n → ⊥
 not_ending s p n ss ds rest a e less =
-    let most = bounds s e.before rest a.prefix a.rest ds a.differences (sym e.cut ∙ a.cut) e.spelled e.stops a.spelled in
+    let most = bounds s e.before rest a.prefix a.rest ds a.differences (sym e.cut ∙ a.cut) e.spelled e.stops
+    a.spelled in
     omega (arith, most.0, a.enough)
 
 -- why there are no samples: the words stop before, or a sum isn't what it has to be
@@ -175,12 +167,12 @@ reason_one s p n f g (over prefix sum others a all not) (over prefix' sum' other
     ap Overflow (first_over prefix sum others prefix' sum' others'
     (sums_one s p n (prefix ++ sum ∷ others) (prefix' ++ sum' ∷ others') a b) all all' not not')
 reason_one s p n f g (over prefix sum others a all not) (differs prefix' last b all' not') =
-    absurd (not_in prefix sum others (subst (λ (xs : List ℤ). All IsSample xs)
+    absurd (not_in prefix sum others (subst (All IsSample)
     (sums_one s p n (prefix' ++ last ∷ []) (prefix ++ sum ∷ others) b a) all') not)
 reason_one s p n f g (differs prefix last a all not) (lacks ds rest e less) =
     absurd (not_ending s p n (prefix ++ last ∷ []) ds rest a e less)
 reason_one s p n f g (differs prefix' last b all' not') (over prefix sum others a all not) =
-    absurd (not_in prefix sum others (subst (λ (xs : List ℤ). All IsSample xs)
+    absurd (not_in prefix sum others (subst (All IsSample)
     (sums_one s p n (prefix' ++ last ∷ []) (prefix ++ sum ∷ others) b a) all') not)
 reason_one s p n f g (differs prefix last a all not) (differs prefix' last' b all' not') =
     ap (λ (z : ℤ). LastDiffers z (last_constant p))

@@ -21,11 +21,7 @@ at_top : (w place k word : ℕ) → w ≤ 32 → k + w * place ≡ 32 - w
     → (word * 2 ^ k) % 2 ^ 32 ≡ digit_of w place word * 2 ^ (32 - w) + below_top w k word
 at_top w place k word n e =
     let whole : w + (32 - w) ≡ 32 = omega arith in
-    let up : (word * 2 ^ k) / 2 ^ (32 - w) ≡ word / 2 ^ (w * place) =
-    ap (λ (i : ℕ). (word * 2 ^ k) / 2 ^ i) (sym e) ∙ sym (shr-shr (word * 2 ^ k) k (w * place))
-    ∙ ap (λ (i : ℕ). i / 2 ^ (w * place)) (shl-shr word k) in
-    ap (λ (i : ℕ). (word * 2 ^ k) % 2 ^ i) (sym whole) ∙ mod-pow-add (word * 2 ^ k) w (32 - w)
-    ∙ ap (λ (i : ℕ). i % 2 ^ w * 2 ^ (32 - w) + below_top w k word) up
+    grind (arith, mod-pow-add, shl-shr, shr-shr)
 
 -- its shift down
 down : (w q r x : ℕ) → 0 < w → w ≤ 32 → q < 2 ^ w → r < 2 ^ (32 - w) → x < 2 ^ 32 → x ≡ q * 2 ^ (32 - w) + r

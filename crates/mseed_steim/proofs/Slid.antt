@@ -123,16 +123,7 @@ pub window_first : (r : ℕ) (last : ℤ) → nat_abs last + r < 2 ^ 31
     → IsWindow r (pos 0) (last ∷ last ∷ last ∷ last ∷ []) (pos 0 ∷ pos 0 ∷ pos 0 ∷ pos 0 ∷ [])
 window_first r last near =
     let none : last +ℤ pos 0 ≡ last = omega (arith, ints) in
-    record {
-      first = last;
-      second = pos 0;
-      third = pos 0;
-      sums_are = rw (none, none, none) refl;
-      one = pos 0;
-      other = pos 0;
-      pairs_are = refl;
-      near = omega (arith, near);
-    }
+    grind arith
 
 -- four differences, and the ones before each of them, as they are held in 32 bits
 pub four_held : (ds : List ℤ) (at : ℕ) (d : ℤ) (s p : List ℤ) → IsWindow (span (take 4 (drop at ds))) d s p

@@ -58,7 +58,7 @@ from_group s c word None ds small e h = cc
 from_group s c word (Some g) ds small e h =
     let z : Sized g = group_sized s c (word / 2 ^ 30) g e in
     let same : digits g.width word g.count ≡ ds = cc in
-    subst (λ (xs : List ℤ). Spells s c word xs) same (row g (word / 2 ^ 30) e (is_group g word small z.wide z.kind))
+    subst (Spells s c word) same (row g (word / 2 ^ 30) e (is_group g word small z.wide z.kind))
 
 by_code : (s : Scheme) (c word : ℕ) (b : Bool) (ds : List ℤ) → word < 2 ^ 32 → eqb c 0 ≡ b
     → cond b (Some []) (differences_in word (group_of s c (word / 2 ^ 30))) ≡ Some ds → Spells s c word ds

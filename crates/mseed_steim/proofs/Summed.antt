@@ -27,11 +27,7 @@ pub record IsFour (xs : List ℤ) : Type 0 where
 
 pub four_of : (xs : List ℤ) → length xs ≡ 4 → IsFour xs
 four_of (a ∷ b ∷ c ∷ d ∷ []) h = record { a = a; b = b; c = c; d = d; same = refl }
-four_of [] h = absurd (omega (arith, h))
-four_of (a ∷ []) h = absurd (omega (arith, h))
-four_of (a ∷ b ∷ []) h = absurd (omega (arith, h))
-four_of (a ∷ b ∷ c ∷ []) h = absurd (omega (arith, h))
-four_of (a ∷ b ∷ c ∷ d ∷ e ∷ more) h = absurd (omega (arith, h))
+four_of _ h = absurd (omega (arith, h))
 
 -- the last lane of four, held in 32 bits
 pub top_held : (xs : List ℤ) → length xs ≡ 4 → nat_abs (get_or xs 3 (pos 0)) < 2 ^ 31

@@ -30,7 +30,7 @@ passed None before after h e = let none : false ≡ true = rw h.0 at e in absurd
 passed (Some w) before after h e =
     let code = rw h at e in
     let zeroth : w.code ≡ 0 = eqb-true w.code 0 code in
-    let cut = ap (λ (ws : List DataWord). length ws) h in (
+    let cut = ap length h in (
       rw (h, code) refl,
       (λ s. items_group s before after (as_data w) [] h
           (no_differences s w.code w.bits [] zeroth refl)),
@@ -87,6 +87,5 @@ pub progressed : (s : Scheme) (old : Left) (words after : List DataWord) (ready 
     (record { items = map Ok ready ++ items_of s after; ready = ready; words = after })
 progressed s old words after ready None e h = record { on = λ _. tt; keeps = tt; rests = λ _. tt }
 progressed s old words after ready (Some item) e h =
-    let cut = ap (λ (items : List (Result ℤ BadWordAt)). length items)
-    (stepped s old words after ready (Some item) e h) in
+    let cut = ap length (stepped s old words after ready (Some item) e h) in
     record { on = λ _. (tt, tt, omega (arith, cut)); keeps = tt; rests = λ _. tt }

@@ -74,9 +74,8 @@ frame_at (suc n) p (suc i) h =
     later ∙ (rw (drop-drop, place) refl)
 
 pub take_most : {A : Type 0} (m : ℕ) (xs : List A) → length (take m xs) ≤ m
-take_most zero xs = omega arith
-take_most (suc m) [] = omega arith
 take_most (suc m) (x ∷ xs) = let later = take_most m xs in omega (arith, later)
+take_most _ _ = omega arith
 
 pub length-first_chunks : (n : ℕ) (p : List ℕ) → length (first_chunks 64 n p) ≡ n
 length-first_chunks zero p = refl
@@ -131,5 +130,5 @@ pub frame_items : (s : Scheme) (p begin frame : List ℕ) (met later i count : �
     → Begins begin (data_in met i) → AreUnpacked s begin frame ds count → frame ≡ take 64 (drop (64 * i) p)
     → items_of s (left_from p met i) ≡ map Ok ds ++ items_of s (left_from p later (i + 1))
 frame_items s p begin frame met later i count ds inside begins unpacked e =
-    ap (λ (ws : List DataWord). items_of s ws) (frames_cut p met later i 1 (omega arith) (omega (arith, inside)))
+    ap (items_of s) (frames_cut p met later i 1 (omega arith) (omega (arith, inside)))
     ∙ unpacked.items p i (data_in met i) (left_from p later (i + 1)) begins e

@@ -14,10 +14,9 @@ pub widened : (lt sub : ℕ → ℕ → ℕ) (cast : ℕ → ℕ)
     → map (to_z w32) (sel_l (map (top 31) (zip2 lt (replicate n 127) (map cast v)))
     (zip2 sub (map cast v) (replicate n 256)) (map cast v)) ≡ map (λ byte. twos_complement 1 byte) v
 widened lt sub cast lane zero [] long small = refl
-widened lt sub cast lane zero (x ∷ v) long small = absurd (omega arith)
-widened lt sub cast lane (suc n) [] long small = absurd (omega arith)
 widened lt sub cast lane (suc n) (x ∷ v) long small =
     grind (arith, replicate, sel_l, top, zip2, widened lt sub cast lane n v (omega arith) small.1)
+widened lt sub cast lane _ _ long small = absurd (omega arith)
 
 -- sixteen places more
 pub stored : (i m : ℕ) (bytes : List ℕ) (out w : List ℤ) → m ≡ i + 16 → m ≤ length out → length out ≡ length bytes
@@ -25,8 +24,6 @@ pub stored : (i m : ℕ) (bytes : List ℕ) (out w : List ℤ) → m ≡ i + 16 
     → w ≡ map (λ byte. twos_complement 1 byte) (chunk i 16 bytes)
     → take m (put_chunk i out w) ≡ map (λ byte. twos_complement 1 byte) (take m bytes)
 stored i m bytes out w at inside room so_far is =
-    let long : length w ≡ 16 = ap (λ (zs : List ℤ). length zs) is
+    let long : length w ≡ 16 = ap length is
     ∙ length-map (chunk i 16 bytes) (λ byte. twos_complement 1 byte) ∙ length-chunk i 16 bytes (omega arith) in
-    let cut : take m bytes ≡ take i bytes ++ chunk i 16 bytes = rw at (take-add i 16 bytes) in
-    take_more_put_chunk i out w m (omega arith) inside
-    ∙ (rw (so_far, is, cut) (sym (map-append (λ byte. twos_complement 1 byte) (take i bytes) (chunk i 16 bytes))))
+    grind (arith, chunk, map-append, take-add, take_more_put_chunk)

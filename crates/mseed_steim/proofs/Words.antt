@@ -12,9 +12,7 @@ use Rattle.mseed_steim.specs.Spelling.{IsWithin, residue, positional}
 pub twice_half : (w : ℕ) → 0 < w → 2 ^ w ≡ 2 * 2 ^ (w - 1)
 twice_half w p =
     let e : w ≡ suc (w - 1) = omega arith in
-    let f : 2 ^ suc (w - 1) ≡ 2 ^ (w - 1) + 2 ^ (w - 1) = two-pow-succ (w - 1) in
-    let g : 2 ^ w ≡ 2 ^ suc (w - 1) = ap (λ n. 2 ^ n) e in
-    omega (arith, f, g)
+    grind (arith, two-pow-succ)
 
 -- a residue is below its modulus
 pub residue_lt : (m : ℕ) (d : ℤ) → 0 < m → residue m d < m
@@ -34,12 +32,11 @@ residue_one_half : (m h : ℕ) (d e : ℤ) → m ≡ 2 * h → (neg_ℤ (pos h) 
     → e <ℤ pos h → residue m d ≡ residue m e → d ≡ e
 residue_one_half m h (pos a) (pos b) s d1 d2 e1 e2 r =
     ap pos (omega (arith, r, small_mod m h a s (omega (arith, ints)), small_mod m h b s (omega (arith, ints))))
-residue_one_half m h (pos a) (negsuc b) s d1 d2 e1 e2 r = grind (arith, differ, ints)
-residue_one_half m h (negsuc a) (pos b) s d1 d2 e1 e2 r = grind (arith, differ, ints)
 residue_one_half m h (negsuc a) (negsuc b) s d1 d2 e1 e2 r =
     let al : a < h = omega (arith, ints) in
     let bl : b < h = omega (arith, ints) in
     ap negsuc (omega (arith, r, small_mod m h a s al, small_mod m h b s bl))
+residue_one_half m h _ _ s d1 d2 e1 e2 r = grind (arith, differ, ints)
 
 pub residue_one : (w : ℕ) (d e : ℤ) → 0 < w → IsWithin w d → IsWithin w e → residue (2 ^ w) d ≡ residue (2 ^ w) e
     → d ≡ e
@@ -58,8 +55,6 @@ positional_lt w (d ∷ ds) =
 pub positional_one : (w : ℕ) (ds es : List ℤ) → 0 < w → length ds ≡ length es → All (IsWithin w) ds
     → All (IsWithin w) es → positional w ds ≡ positional w es → ds ≡ es
 positional_one w [] [] p l h k s = refl
-positional_one w [] (e ∷ es) p l h k s = absurd (omega arith)
-positional_one w (d ∷ ds) [] p l h k s = absurd (omega arith)
 positional_one w (d ∷ ds) (e ∷ es) p l h k s =
     let same : length ds ≡ length es = omega arith in
     let below : positional w ds < 2 ^ (w * length es) = rw same at (positional_lt w ds) in
@@ -72,3 +67,4 @@ positional_one w (d ∷ ds) (e ∷ es) p l h k s =
     let rest : ds ≡ es = positional_one w ds es p same (All-tail (IsWithin w) d ds h) (All-tail (IsWithin w) e es k)
     parts.1 in
     cc
+positional_one w _ _ p l h k s = absurd (omega arith)

@@ -25,7 +25,7 @@ loop-i-preserved c =
     let last : FitsSigned w32 c.add_near-sum.result = search rules in
     let sum : next ≡ past +ℤ d = rw to_z-of_z at c.add_near-sum.ensures in
     let inside : i < length out = omega arith in
-    let one : take 1 (drop i ds) ≡ d ∷ [] = ap (λ (xs : List ℤ). take 1 xs) (next_cut ds i (pos 0) c.loop-i-test.true)
+    let one : take 1 (drop i ds) ≡ d ∷ [] = ap (take 1) (next_cut ds i (pos 0) c.loop-i-test.true)
     in
     let put : take (i + 1) (set out i next) ≡ take i out ++ sums past (take 1 (drop i ds)) =
     rw (one, ← sum) (sym (append-nil (take (i + 1) (set out i next))) ∙ take_put out i (i + 1) next [] inside refl) in

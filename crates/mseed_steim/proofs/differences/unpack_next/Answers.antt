@@ -34,7 +34,7 @@ returns-in_err-next-in-Some-clause-step c =
     ∙ c.in_ok-word.ensures.steps in
     let other = rw prefix at (past_begins c.args.words.now) in
     let some = some_of c.args.scheme word.code word.bits ds other c.in-Some.ensures in
-    let none : length ds ≡ 0 = ap (λ (zs : List ℤ). length zs) (sym c.set_group.ensures ∙ drawn.0) in
+    let none : length ds ≡ 0 = ap length (sym c.set_group.ensures ∙ drawn.0) in
     absurd (omega (arith, some, none))
 
 pub returns-in_ok-next-in-Some-clause-step : goal.returns-in_ok-next-in-Some-clause-step
@@ -49,12 +49,12 @@ returns-in_ok-next-in-Some-clause-step c =
     let step = items_group c.args.scheme c.take_bytes-bytes.new.self c.next-2.new.self (as_data word) ds
     c.in_ok-word.ensures.steps c.in-Some.ensures in
     let size = length-digits group.width word.bits group.count in
-    let count = ap (λ (zs : List ℤ). length zs) all in
-    let words = ap (λ (ws : List DataWord). length ws) (same ∙ c.in_ok-word.ensures.steps) in
+    let count = ap length all in
+    let words = ap length (same ∙ c.in_ok-word.ensures.steps) in
     let few = group.few in
     let fewer = c.pass_empty.ensures.fewer in
     rw to_z-of_z (
-      c.pass_empty.ensures.items c.args.scheme ∙ ap (λ (ws : List DataWord). items_of c.args.scheme ws) same ∙ step
+      c.pass_empty.ensures.items c.args.scheme ∙ ap (items_of c.args.scheme) same ∙ step
           ∙ ap (λ (zs : List ℤ). map Ok zs ++ items_of c.args.scheme c.next-2.new.self) all,
       omega (arith, size, count, words, few, fewer),
     )
@@ -64,9 +64,9 @@ returns-in-None-clause-step c =
     let same = none_taken (goal.at.returns-in-None-clause-step c).After-is_empty c.if-not-is_empty.false in
     let bad = items_bad c.args.scheme c.take_bytes-bytes.new.self c.next-2.new.self (as_data c.in_ok-word.word)
     c.in_ok-word.ensures.steps c.in-None.ensures in
-    let words = ap (λ (ws : List DataWord). length ws) (same ∙ c.in_ok-word.ensures.steps) in
+    let words = ap length (same ∙ c.in_ok-word.ensures.steps) in
     let fewer = c.pass_empty.ensures.fewer in (
-      c.pass_empty.ensures.items c.args.scheme ∙ ap (λ (ws : List DataWord). items_of c.args.scheme ws) same ∙ bad,
+      c.pass_empty.ensures.items c.args.scheme ∙ ap (items_of c.args.scheme) same ∙ bad,
       c.pass_all.ensures,
       c.requires,
       omega (arith, words, fewer),

@@ -14,6 +14,6 @@ returns c = λ from begins.
     record {
       count = count;
       by = λ few.
-          frame_raised_one c.args.frame.now from c.fits-frame _ _ _ _ come refl refl
+          frame_raised_one c.args.frame.now from c.fits-frame _ _ come
           (c.tally-least.ensures _ lanes.rows_are) (subst (λ n. n < 128) count few);
     }

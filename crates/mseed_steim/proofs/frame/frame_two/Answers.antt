@@ -16,7 +16,7 @@ returns c = λ from begins.
     record {
       count = count;
       by = λ few.
-          frame_raised c.args.frame.now from c.fits-frame _ _ _ _ _ _ come refl refl refl
+          frame_raised c.args.frame.now from c.fits-frame _ _ _ come
           (c.tally-least.ensures _ lanes.rows_are) (c.tally-least_coarse.ensures _ lanes.rows_are)
           (subst (λ n. n < 128) count few);
     }

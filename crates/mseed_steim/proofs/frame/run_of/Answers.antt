@@ -26,10 +26,7 @@ one_more : (p : List ℕ) (k from i : ℕ) → 0 < i → from ≤ 16 → words_f
     ≡ words_from p (16 * k + from) (16 * i - from) ++ words_from p (16 * (k + i) + 1) 15
 one_more p k from i some low =
     let count : 16 * i - from + 16 ≡ 16 * (i + 1) - from = omega (arith, some, low) in
-    let place : 16 * k + from + (16 * i - from) ≡ 16 * (k + i) = omega (arith, some, low) in
-    let cut = rw (count, place) at (words_cut p (16 * k + from) (16 * i - from) 16) in
-    cut ∙ ap (λ (ws : List DataWord). words_from p (16 * k + from) (16 * i - from) ++ ws)
-    (words_skip p (16 * (k + i)) 15 (omega arith))
+    grind (arith, words_cut, words_skip)
 
 first_more : (p : List ℕ) (k from i : ℕ) → i ≡ 0 → words_from p (16 * k + from) (16 * (i + 1) - from)
     ≡ words_from p (16 * k + from) (16 * i - from) ++ words_from p (16 * (k + i) + from) (16 - from)

@@ -7,4 +7,5 @@ use Rattle.mseed_steim.proofs.Walking.{first_behind}
 use Rattle.mseed_steim.proofs.walk.begin.Goals as goal
 
 pub returns-then-is_single : goal.returns-then-is_single
-returns-then-is_single g c = search (arith, adds_first, first_behind, fits_true, fold_add, kept_one, met_add, puts_kept, to_z-of_z)
+returns-then-is_single g c =
+    search (arith, adds_first, first_behind, fits_true, fold_add, kept_one, met_add, puts_kept, to_z-of_z)

@@ -68,7 +68,4 @@ loop-word-preserved c =
     }
 
 pub returns : goal.returns
-returns c =
-    let done = c.loop-word.invariant.same in
-    let none : items_of c.args.scheme c.loop-word.word-iterator ≡ [] = search (arith, no_items) in
-    (done.0, ([], (done.1.0 ∙ ap (λ (xs : Items). map Ok done.0 ++ xs) none, tt, omega (arith, done.1.1), rw done.1.1 refl)))
+returns c = grind (arith, no_items)

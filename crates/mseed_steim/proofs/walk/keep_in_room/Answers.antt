@@ -25,7 +25,6 @@ returns g c = λ met.
     let count : 16 * (index + 1) - (16 * index + from) ≡ 16 - from = omega (arith, few) in
     let words = rw (c.data_in.ensures, count) at c.between-words.ensures in
     walks_over g.K.Keeper.kept c.args.task.samples c.args.sum c.args.out.now c.keep_words.new.out _ _ _
-    c.keep_words.result
-    (ap (λ (ws : List DataWord). items_of c.args.task.scheme ws)
+    c.keep_words.result (ap (items_of c.args.task.scheme)
     (frames_cut p c.args.sum.met met index 1 (omega arith) (omega (arith, c.requires.inside))))
     (rw words at (c.keep_words.ensures (left_from p met (index + 1))))

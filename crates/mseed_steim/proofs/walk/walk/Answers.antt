@@ -19,11 +19,7 @@ returns-in_err-sum-in-None-clause-folded g c =
 pub loop-next-preserved : goal.loop-next-preserved
 loop-next-preserved g c =
     let step = c.in_ok-sum-in-None.ensures c.in_ok-sum-in-None.sum.met in
-    record {
-      places = step.places;
-      met = step.met;
-      walked = walks_on c.loop-next.invariant.walked refl c.in-None.ensures.none step;
-    }
+    grind (arith, walks_on)
 
 pub returns : goal.returns
 returns g c = search (arith, all_ends, no_items, none_left, to_z-of_z)

@@ -23,11 +23,5 @@ loop-i-preserved c =
     let long = length-chunk (16 * c.loop-i.i) 16 c.args.bytes.now inside in
     record {
       room = search rules;
-      so_far = stored (16 * c.loop-i.i) (16 * (c.loop-i.i + 1)) c.args.bytes.now c.loop-i.out _ (omega arith)
-          (omega arith) c.loop-i.invariant.room c.loop-i.invariant.so_far
-          (widened (act2 (mask (lt signed)) (s_int w32) (s_int w32) (s_int w32))
-          (act2 wrap_sub (s_int w32) (s_int w32) (s_int w32))
-          (act1 (cast unsigned signed w32) (s_int w8) (s_int w32)) lane 16
-          (chunk (16 * c.loop-i.i) 16 c.args.bytes.now) long
-          (below_from_Fits w8 _ (chunk-fits w8 (16 * c.loop-i.i) 16 c.args.bytes.now c.type_inv.bytes)));
+      so_far = grind (arith, below_from_Fits, chunk-fits, lane, stored, widened, wrap_sub);
     }

@@ -8,9 +8,7 @@ use Rattle.mseed_steim.proofs.data_words.WordsIterator.next.Goals as goal
 pub returns-then-self-clause-steps : goal.returns-then-self-clause-steps
 returns-then-self-clause-steps c =
     let over : c.self.inside.end - c.self.inside.next ≡ 0 = omega arith in
-    let none : c.args.self.now ≡ [] = sym c.self.view_is
-    ∙ (rw over (words_none c.self.inside.payload.now c.self.inside.next)) in
-    (none, none)
+    grind (arith, words_none)
 
 -- the frame's codes are at hand, and a data word is next
 at_word : (c : After-read_word-bits) → let i = c.if-self-eq0.self-inside in

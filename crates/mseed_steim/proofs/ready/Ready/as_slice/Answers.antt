@@ -5,6 +5,4 @@ use Rattle.mseed_steim.proofs.ready.Ready.as_slice.Goals as goal
 pub returns : goal.returns
 returns c =
     let all : c.self.inside.given + (c.self.inside.count - c.self.inside.given) ≡ c.self.inside.count = omega arith in
-    let cut = rw all at (drop-take c.self.inside.given (c.self.inside.count - c.self.inside.given)
-    c.self.inside.unpacked) in
-    sym cut ∙ c.self.view_is
+    grind (arith, drop-take)
