@@ -66,11 +66,6 @@ pub met_over : (n : ℕ) (s : Sum) (d : ℤ) (more : Items) → s.met < n → fi
 unfolding met_in
 met_over n s d more h e = rw (not_met s.met n h, e) refl
 
-pub met_ended : (n : ℕ) (s : Sum) (rest : Items) → IsEnd rest → met_in n s rest ≡ []
-unfolding met_in
-met_ended n s (Ok d ∷ more) end = absurd end
-met_ended n s _ end = refl
-
 -- the test of 32 bits
 pub fits_true : (z : ℤ) → FitsSigned w32 z → fits z ≡ true
 fits_true (pos n) h = lt-ltb n (2 ^ 31) h.sfits

@@ -43,3 +43,4 @@ pub mod Summed
 pub mod Slid
 pub mod Continuing
 pub mod Placed
+pub mod Rules

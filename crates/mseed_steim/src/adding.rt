@@ -104,6 +104,7 @@ fn put_turns(differences: &[i32], last: i32, out: &mut [i32]) -> i32
 
 /// Differences added up one by one, and the sums put in their places.
 #[inline(always)]
+#[tactic(auto, using(crate::proofs::Rules::put_each))]
 fn put_each(differences: &[i32], last: i32, out: &mut [i32]) -> i32
     requires places { length differences.now ≤ length out.old }
     requires near { nat_abs last + span differences.now < 2 ^ 31 }

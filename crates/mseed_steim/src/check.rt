@@ -156,6 +156,7 @@ pub(crate) fn payload_of<'a>(view: &RecordView<'a>) -> Result<(Form, &'a [u8]), 
 
 /// The ends of a record's samples: one relation, from which the clauses of [`check_samples`] follow.
 #[inline(always)]
+#[tactic(auto, using(crate::proofs::Laws::payload_answers))]
 fn check_record(view: &RecordView<'_>) -> Result<Ends, ReadFault>
     requires { 0 < count_of (view_of view.now) }
     ensures { AnswersRecord (view_of view.now) AreEnds result }
@@ -175,6 +176,7 @@ fn check_record(view: &RecordView<'_>) -> Result<Ends, ReadFault>
 ///
 /// The first reason, in the order of [`ReadFault`], why the record has no such reading.
 #[inline(always)]
+#[tactic(auto, using(crate::proofs::Laws::answers_denies, crate::proofs::Laws::answers_fault))]
 pub fn check_samples(view: &RecordView<'_>) -> Result<Ends, ReadFault>
     requires { 0 < count_of (view_of view.now) }
     // What is answered are the ends of a reading.

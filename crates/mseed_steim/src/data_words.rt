@@ -67,6 +67,7 @@ pub(crate) fn code_in(codes: u32, index: usize) -> u8
 
 /// The first data word of a payload.
 #[inline]
+#[tactic(auto, using(crate::proofs::Walking::words_step))]
 pub(crate) fn first_word(payload: &[u8]) -> Word
     requires { 64 ≤ length payload.now }
     ensures { words_from payload.now 3 13 ≡ as_data result ∷ words_from payload.now 4 12 }
@@ -81,6 +82,7 @@ pub(crate) fn first_word(payload: &[u8]) -> Word
 
 /// The first data word from a word on, up to a frame's end, and its frame's codes; these are known unless the word
 /// is the frame's first.
+#[tactic(auto, using(crate::proofs::ByteRun::past_head))]
 fn prefix_of(payload: &[u8], from: usize, end: usize, codes: u32) -> (usize, u32)
     requires order { from ≤ end }
     requires whole { end % 16 ≡ 0 }
@@ -143,6 +145,7 @@ impl<'a> Words<'a> {
     }
 
     /// The number of words that are left.
+    #[tactic(auto, using(crate::proofs::Rules::words_counted))]
     pub(crate) fn count_left(&self) -> usize
         ensures value { result ≡ length self.now }
         ensures low { result < 2 ^ 61 }
@@ -159,6 +162,7 @@ impl<'a> Words<'a> {
     }
 
     /// Whether a word of code 00 is next.
+    #[tactic(auto, using(crate::proofs::ByteRun::prefix))]
     pub(crate) fn begins_empty(&self) -> bool
         ensures { result ≡ begins_empty self.now }
     {

@@ -53,6 +53,7 @@ impl<'a> Model for Differences<'a> {
 }
 
 /// Passes over the words of code 00 that are next.
+#[tactic(auto, using(crate::proofs::Unpacking::passed))]
 fn pass_empty(words: &mut Words<'_>)
     ensures past { words.new ≡ past_empty words.old }
     ensures items { (scheme : Scheme) → items_of scheme words.old ≡ items_of scheme words.new }
@@ -67,6 +68,7 @@ fn pass_empty(words: &mut Words<'_>)
 
 /// The first difference of what comes next among data words, which is unpacked at once: a run of words of code
 /// 01 in one frame, or another word; or the place of a bad word.
+#[tactic(auto, using(crate::proofs::Rules::unpack_next))]
 fn unpack_next(
     words: &mut Words<'_>,
     scheme: Scheme,
@@ -101,6 +103,7 @@ fn unpack_next(
 
 impl<'a> Differences<'a> {
     /// Those of a payload, by its scheme. Bytes after the last whole frame aren't read.
+    #[tactic(auto, using(crate::proofs::Rules::words_counted))]
     pub fn over(payload: &'a [u8], scheme: Scheme) -> Self
         // What is handed out is what the words spell, or those before the first bad word, and its place, and nothing
         // else.
@@ -158,6 +161,7 @@ impl<'a> Iterator for Differences<'a> {
     }
 
     /// The differences that are unpacked, and seven more for each word that isn't at the most.
+    #[tactic(auto, using(crate::proofs::Rules::words_counted))]
     fn size_hint(&self) -> (usize, Option<usize>)
         // The items left lie between the bounds.
         ensures lower { IsWithinCount result.0 (at_most (length self.now.items)) }

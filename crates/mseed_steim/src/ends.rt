@@ -34,6 +34,7 @@ pub fn ends_of(view: &RecordView<'_>) -> Ends
 }
 
 /// The ends of the record's reading, or why there is none.
+#[tactic(auto, using(crate::proofs::Constants::frameless))]
 fn find_ends(view: &RecordView<'_>) -> Result<Ends, ReadFault>
     requires { 0 < count_of (view_of view.now) }
     ensures ends { IfOk result (λ ends. (s : List ℤ) → IsWhole (view_of view.now) s → AreEnds ends s) }
@@ -53,6 +54,7 @@ fn find_ends(view: &RecordView<'_>) -> Result<Ends, ReadFault>
 /// Whether it shows, before a record's samples are read, that each is the one before it plus a difference of 30 bits:
 /// always in Steim-2, and of 16-bit integers; in Steim-1 where no word holds a wider difference; of 32-bit integers
 /// where each has 29 bits at the most.
+#[tactic(auto, using(crate::proofs::Nearness::near_whole, crate::proofs::Nearness::shown_near))]
 pub fn is_surely_near(view: &RecordView<'_>) -> bool
     // The words or integers show it.
     ensures shown { IsTrue result ↔ ShowsNear (view_of view.now) }
@@ -115,6 +117,7 @@ fn shows_near(form: Form, order: Order, payload: &[u8], samples: usize) -> bool
 }
 
 /// Whether so many 32-bit integers are there, and have 29 bits at the most.
+#[tactic(auto, using(crate::proofs::Rules::are_short))]
 fn are_short(payload: &[u8], order: Order, samples: usize) -> bool
     ensures { IsTrue result ↔ AreShort order payload.now samples }
 {
@@ -132,6 +135,7 @@ fn are_short(payload: &[u8], order: Order, samples: usize) -> bool
 /// How far a number lies above the least of 29 bits, modulo 2^32: less than 2^29 where it has 29 bits at the most, and
 /// nowhere else.
 #[inline(always)]
+#[tactic(auto, using(crate::proofs::Rules::above_least))]
 fn above_least(number: i32) -> u32
     ensures { (result < 2 ^ 29) ↔ IsWithin 29 number }
 {
@@ -160,6 +164,7 @@ fn is_frame_narrow(payload: &[u8], frame: usize) -> bool
 }
 
 /// Whether no word of a frame has the code 3, both bits of which are set.
+#[tactic(auto, using(crate::proofs::Nearness::no_code_3))]
 pub(crate) fn has_no_code_3(codes: u32) -> bool
     ensures { OnTrue result ((j : ℕ) → 0 < j → j < 16 → codes / 2 ^ (30 - 2 * j) % 4 ≢ 3) }
 {
@@ -168,6 +173,7 @@ pub(crate) fn has_no_code_3(codes: u32) -> bool
 
 /// Whether each word of a frame is narrow, looked at one by one.
 #[cold]
+#[tactic(auto, using(crate::proofs::Rules::are_words_narrow))]
 fn are_words_narrow(payload: &[u8], frame: usize, codes: u32) -> bool
     requires inside { 64 * (frame + 1) ≤ length payload.now }
     requires codes { codes ≡ word_at payload.now (16 * frame) }

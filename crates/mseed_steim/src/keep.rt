@@ -145,6 +145,7 @@ fn put_first(met: usize, number: i32, differences: &mut Room)
 
 /// Keeps the first of some differences, as far as they are needed, while the limits of 32 bits are out of reach.
 #[inline(always)]
+#[tactic(auto, using(crate::proofs::Continuing::first_span, crate::proofs::Continuing::span_needed))]
 pub(crate) fn keep_needed<K: Keeper>(
     differences: &mut Room,
     count: usize,
@@ -195,6 +196,7 @@ fn first_difference(scheme: Scheme, word: Word) -> Option<i32>
 /// What isn't used of that which the frames from one on add up to: the first sample's difference, where none was met
 /// before. None where it doesn't stand in the first word, or has more than 16 bits.
 #[inline(always)]
+#[tactic(auto, using(crate::proofs::FirstRun::moved_run))]
 fn unused_in(task: Task, payload: &[u8], index: usize, sum: Sum) -> Option<i32>
     requires inside { index < length payload.now / 64 }
     requires left { sum.met < task.samples }
@@ -239,6 +241,7 @@ fn add_frames(task: Task, payload: &[u8], index: usize, sum: Sum) -> Option<Take
 /// differences, as far as these are needed. None where the first has to be looked at: where a word of it is bad or has
 /// a wide difference, or the limits of 32 bits are within its reach. Nothing is kept then.
 #[inline(always)]
+#[tactic(auto, using(crate::proofs::Rules::take_frames))]
 pub(crate) fn take_frames<K: Keeper>(
     task: Task,
     payload: &[u8],

@@ -29,6 +29,7 @@ use mseed_record::RecordView;
 /// The differences of a frame, put in their places, as far as there are places: how many were put. None where a word is
 /// bad.
 #[inline(always)]
+#[tactic(auto, using(crate::proofs::Rules::unpack_some))]
 fn unpack_some(
     scheme: Scheme,
     frame: &[u8; 64],
@@ -79,6 +80,7 @@ fn unpack_rest(
 
 /// Unpacks the first differences of a payload's frames, as many as there are places. False where a bad word comes
 /// before that, or in the first of these frames, or there are too few.
+#[tactic(auto, using(crate::proofs::Summed::put_front, crate::proofs::Placed::rest_put))]
 fn unpack_frames(scheme: Scheme, payload: &[u8], out: &mut [i32]) -> bool
     requires some { 0 < length out.old }
     ensures places { length out.new ≡ length out.old }
@@ -108,6 +110,7 @@ fn unpack_frames(scheme: Scheme, payload: &[u8], out: &mut [i32]) -> bool
 /// Fills in the steps of as many samples as there are places, where no bad word comes before, and answers the constants
 /// for the first and the last of them.
 #[inline(always)]
+#[tactic(auto, using(crate::proofs::Rules::fill_payload))]
 fn fill_payload(scheme: Scheme, payload: &[u8], out: &mut [i32]) -> Option<Ends>
     requires some { 0 < length out.old }
     ensures places { length out.new ≡ length out.old }

@@ -19,6 +19,7 @@ pub(crate) type Rows = [u8; 16];
 const CODES: Rows = [0, 4, 8, 12, 4, 0, 0, 0, 8, 0, 0, 0, 12, 0, 0, 0];
 
 #[inline(always)]
+#[tactic(auto, using(crate::proofs::LaneTables::looked_up, crate::proofs::LaneTables::looked_up_below))]
 pub(crate) fn look_up(table: Rows, rows: u8x16) -> u8x16
     requires { Each1 (λ r. r < 16) rows }
     ensures value { result ≡ map (λ r. slice_index table r) rows }
@@ -61,6 +62,7 @@ pub(crate) fn turn(plane: u8x16, rows: u8x16, table: Rows) -> u8x16
 
 /// The weighted sum of a part of a plane of bytes.
 #[inline(always)]
+#[tactic(auto, using(crate::proofs::LaneTables::and_fits, std::proofs::lemmas::Simd::dot4_Fits, crate::proofs::LaneTables::more_below))]
 pub(crate) fn part(plane: u8x16, rows: u8x16, mask: Rows, weight: Rows) -> u32x4
     requires rows { Each1 (λ r. r < 16) rows }
     requires long { length weight ≡ 16 }
@@ -74,6 +76,7 @@ pub(crate) fn part(plane: u8x16, rows: u8x16, mask: Rows, weight: Rows) -> u32x4
 
 /// The weighted sum of a part of a plane of bytes, where all rows have one weight.
 #[inline(always)]
+#[tactic(auto, using(crate::proofs::Rules::part_by))]
 pub(crate) fn part_by(plane: u8x16, rows: u8x16, mask: Rows, weight: u8) -> u32x4
     requires rows { Each1 (λ r. r < 16) rows }
     requires weight { weight ≤ 64 }
@@ -86,6 +89,7 @@ pub(crate) fn part_by(plane: u8x16, rows: u8x16, mask: Rows, weight: u8) -> u32x
 
 /// What a table says of all the rows.
 #[inline(always)]
+#[tactic(auto, using(std::proofs::lemmas::Simd::dot4_Fits))]
 pub(crate) fn tally(rows: u8x16, table: Rows) -> u32x4
     requires { Each1 (λ r. r < 16) rows }
     ensures { (row : ℕ → ℕ) → rows ≡ map row words → sum_l result ≡ sum_l (map (λ w. slice_index table (row w)) words) }

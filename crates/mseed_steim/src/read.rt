@@ -62,6 +62,7 @@ fn fill_integers(
 
 /// Fills in a record's samples.
 #[inline(always)]
+#[tactic(auto, using(crate::proofs::Laws::payload_answers, crate::proofs::Folded::samples_are))]
 fn fill_record(view: &RecordView<'_>, out: &mut [i32]) -> Result<(), ReadFault>
     requires some { 0 < count_of (view_of view.now) }
     requires room { length out.old ≡ count_of (view_of view.now) }
@@ -84,6 +85,7 @@ fn fill_record(view: &RecordView<'_>, out: &mut [i32]) -> Result<(), ReadFault>
 /// then open.
 // Within its caller, the loop over frames would lack registers.
 #[inline(never)]
+#[tactic(auto, using(crate::proofs::Laws::answers_denies, crate::proofs::Laws::answers_fault))]
 pub fn fill_samples(view: &RecordView<'_>, out: &mut [i32]) -> Result<(), ReadFault>
     requires some { 0 < count_of (view_of view.now) }
     requires places { length out.old ≡ count_of (view_of view.now) }
@@ -108,6 +110,7 @@ pub fn is_steim(view: &RecordView<'_>) -> bool
 
 /// Fills in the steps of the samples of a record of Steim frames.
 #[inline(always)]
+#[tactic(auto, using(crate::proofs::Laws::payload_answers, crate::proofs::Folded::steps_are))]
 fn fill_steps(view: &RecordView<'_>, out: &mut [i32]) -> Result<(), ReadFault>
     requires some { 0 < count_of (view_of view.now) }
     requires steim { IsSteim (view_of view.now) }
@@ -132,6 +135,7 @@ fn fill_steps(view: &RecordView<'_>, out: &mut [i32]) -> Result<(), ReadFault>
 /// Those of [`fill_samples`]: the first reason, in the order of [`ReadFault`], why the record has no such reading.
 /// What the places hold is then open.
 #[inline(never)]
+#[tactic(auto, using(crate::proofs::Laws::answers_denies, crate::proofs::Laws::answers_fault))]
 pub fn fill_differences(view: &RecordView<'_>, out: &mut [i32]) -> Result<(), ReadFault>
     requires some { 0 < count_of (view_of view.now) }
     requires steim { IsSteim (view_of view.now) }
@@ -183,6 +187,7 @@ fn read_record<A: Allocator + Drop>(
 ///
 /// The first reason, in the order of [`ReadFault`], why the record has no such reading. Where it has one,
 /// `Memory` where there is no memory for it.
+#[tactic(auto, using(crate::proofs::Laws::refused_denies))]
 pub fn read_samples<A: Allocator + Drop>(
     alloc: A,
     view: &RecordView<'_>,

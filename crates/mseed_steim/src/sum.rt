@@ -22,6 +22,7 @@ pub(crate) struct Sum {
 pub(crate) type Walked = Result<Sum, ReadFault>;
 
 /// One difference more. That of the first sample isn't used.
+#[tactic(auto, using(crate::proofs::Rules::add_difference))]
 pub(crate) fn add_difference(difference: i32, samples: usize, sum: Sum) -> Walked
     requires { sum.met < samples }
     ensures goes_on { (more : Items) → MatchResult result
@@ -55,6 +56,7 @@ pub(crate) fn add_near(last: i32, difference: i32) -> i32
 
 /// The sum of a sample and the differences after it, while the limits of 32 bits are out of reach.
 #[inline(always)]
+#[tactic(auto, using(crate::proofs::Rules::add_all))]
 pub(crate) fn add_all(differences: &[i32], last: i32) -> i32
     requires { nat_abs last + span differences.now < 2 ^ 31 }
     ensures { result ≡ last +ℤ total differences.now }
@@ -69,6 +71,7 @@ pub(crate) fn add_all(differences: &[i32], last: i32) -> i32
 /// What no sum of differences is further from 0 than: as many times the greatest of them, whatever their signs, as
 /// there are.
 #[inline(always)]
+#[tactic(auto, using(crate::proofs::Rules::reach_of))]
 pub(crate) fn reach_of(differences: &[i32]) -> u64
     requires { length differences.now ≤ 120 }
     ensures { span differences.now ≤ result }
@@ -82,6 +85,7 @@ pub(crate) fn reach_of(differences: &[i32]) -> u64
 
 /// The next difference of a group in the low bits of a word.
 #[inline(always)]
+#[tactic(auto, using(crate::proofs::Rules::next_difference))]
 pub(crate) fn next_difference(word: u32, group: Group, index: u32) -> i32
     requires { index < group.count }
     ensures { digits group.width word (group.count - index)
@@ -92,6 +96,7 @@ pub(crate) fn next_difference(word: u32, group: Group, index: u32) -> i32
 
 /// The sum where no difference is left: short, unless all samples have been met.
 #[inline]
+#[tactic(auto, using(crate::proofs::Folds::fold_ended, crate::proofs::Folds::fold_enough))]
 pub(crate) fn all_met(samples: usize, sum: Sum) -> Walked
     ensures { result ≡ fold samples sum [] }
 {

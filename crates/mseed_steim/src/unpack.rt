@@ -172,6 +172,7 @@ pub(crate) fn lanes_of(scheme: Scheme) -> usize
 
 /// A difference that is lifted to the top of 32 bits, and let down.
 #[inline(always)]
+#[tactic(auto, using(crate::proofs::Rules::digit_shifted))]
 fn digit_by(word: u32, lift: u32, fall: u32) -> i32
     requires { fall < 32 }
     ensures { (width place : ℕ) → 0 < width → width * (place + 1) ≤ 32 → lift ≡ 2 ^ (32 - width * (place + 1))
@@ -182,6 +183,7 @@ fn digit_by(word: u32, lift: u32, fall: u32) -> i32
 
 /// The differences of a word, from a place on.
 #[inline(always)]
+#[tactic(auto, using(crate::proofs::Rules::spread))]
 fn spread(word: u32, by: &Unpacking, lanes: usize, at: usize, differences: &mut [i32])
     requires low { by.now.fall < 32 }
     requires few { lanes ≤ 8 }
@@ -231,6 +233,7 @@ fn words_of(frame: &[u8; 64]) -> [u32; 16]
 
 /// The differences of five words of these rows, put after those that there are: how many there are then.
 #[inline(always)]
+#[tactic(auto, using(crate::proofs::Rules::unpack_five))]
 fn unpack_five(
     scheme: Scheme,
     lanes: usize,
@@ -260,6 +263,7 @@ fn unpack_five(
 
 /// The differences of the words of these rows, in their order, with so many lanes for each: how many there are.
 #[inline(always)]
+#[tactic(auto, using(crate::proofs::FrameUnpacked::unpacked_fives))]
 fn unpack_all(
     scheme: Scheme,
     lanes: usize,

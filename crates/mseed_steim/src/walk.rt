@@ -22,6 +22,7 @@ use crate::unpack::{FEW, PLACES, Room, Widest, unpack_frame};
 
 /// Keeps one sample more, by its difference; that of the first sample isn't used.
 #[inline(always)]
+#[tactic(auto, using(crate::proofs::Rules::keep_difference))]
 fn keep_difference<K: Keeper>(difference: i32, samples: usize, sum: Sum, out: &mut [i32]) -> Walked
     requires left { sum.met < samples }
     requires places { length out.old ≡ places_for K.kept samples }
@@ -37,6 +38,7 @@ fn keep_difference<K: Keeper>(difference: i32, samples: usize, sum: Sum, out: &m
 
 /// Keeps the differences of a group in the low bits of a word, as far as they are needed.
 #[inline(always)]
+#[tactic(auto, using(crate::proofs::Rules::keep_group))]
 fn keep_group<K: Keeper>(
     word: u32,
     group: Group,
@@ -59,6 +61,7 @@ fn keep_group<K: Keeper>(
 
 /// Keeps the differences of a word, as far as they are needed.
 #[inline(always)]
+#[tactic(auto, using(crate::proofs::Folds::bad_word))]
 fn keep_word<K: Keeper>(
     scheme: Scheme,
     word: Word,
@@ -81,6 +84,7 @@ fn keep_word<K: Keeper>(
 
 /// Keeps the differences of some words, as far as they are needed.
 #[cold]
+#[tactic(auto, using(std::proofs::lemmas::Result::err_from_is_err_and))]
 fn keep_words<K: Keeper>(
     scheme: Scheme,
     words: Words<'_>,
@@ -101,6 +105,7 @@ fn keep_words<K: Keeper>(
 
 /// Keeps differences that are all needed, as far as no sum leaves 32 bits.
 #[inline(always)]
+#[tactic(auto, using(crate::proofs::Rules::keep_checked))]
 fn keep_checked<K: Keeper>(differences: &[i32], samples: usize, sum: Sum, out: &mut [i32]) -> Walked
     requires left { sum.met + length differences.now ≤ samples }
     requires places { length out.old ≡ places_for K.kept samples }
@@ -222,6 +227,7 @@ fn begin<K: Keeper>(task: Task, payload: &[u8], first: i32, out: &mut [i32]) -> 
 /// first in place of one. Frames are taken at once, where that can't go wrong; else difference by difference, and where
 /// a word is bad or few are needed, word by word.
 #[inline(always)]
+#[tactic(auto, using(crate::proofs::Rules::walk))]
 pub(crate) fn walk<K: Keeper>(
     task: Task,
     payload: &[u8],
@@ -260,6 +266,7 @@ pub(crate) fn walk<K: Keeper>(
 }
 
 /// What comes first in place of one of so many differences, where any does, whatever they add up to.
+#[tactic(auto, using(crate::proofs::Walking::no_items))]
 pub(crate) fn find_lack(payload: &[u8], scheme: Scheme, samples: usize) -> Option<ReadFault>
     requires { 0 < samples }
     ensures { Lacks samples (items_of scheme (data_words payload.now)) result }

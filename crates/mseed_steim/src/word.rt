@@ -15,6 +15,7 @@ pub struct BadWord;
 /// The digit of `width` bits at a place of a word, counted from its last, in two's complement: shifted up
 /// to the word's top, and down again.
 #[inline(always)]
+#[tactic(auto, using(crate::proofs::Rules::digit_shifted))]
 pub(crate) fn read_digit(word: u32, width: u32, place: u32) -> i32
     requires positive { 0 < width }
     requires room { width * (place + 1) ≤ 32 }
@@ -24,6 +25,7 @@ pub(crate) fn read_digit(word: u32, width: u32, place: u32) -> i32
 }
 
 /// The differences of a group that stand in the low bits of a word.
+#[tactic(auto, using(crate::proofs::Rules::differences_in))]
 pub(crate) fn differences_in(word: u32, group: Group) -> ArrayVec<i32, 7>
     ensures { result.items ≡ digits group.width word group.count }
 {

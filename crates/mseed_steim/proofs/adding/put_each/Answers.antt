@@ -9,9 +9,6 @@ use Rattle.mseed_steim.proofs.Folded.{next_cut, take_put}
 use Rattle.mseed_steim.proofs.Summed.{next_some}
 use Rattle.mseed_steim.proofs.adding.put_each.Goals as goal
 
-pub add_near-sum-requires : goal.add_near-sum-requires
-add_near-sum-requires c = search (arith, span_step, to_z-of_z)
-
 pub loop-i-preserved : goal.loop-i-preserved
 loop-i-preserved c =
     let ds = c.args.differences.now in

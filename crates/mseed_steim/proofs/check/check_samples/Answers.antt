@@ -5,16 +5,7 @@ use Rattle.mseed_steim.specs.Samples.{AreEnds}
 use Rattle.mseed_steim.proofs.Laws.{answers_only, answers_fault, answers_denies}
 use Rattle.mseed_steim.proofs.check.check_samples.Goals as goal
 
-pub returns-clause-ends : goal.returns-clause-ends
-returns-clause-ends c = grind arith
-
 pub returns-clause-only : goal.returns-clause-only
 returns-clause-only c = λ s reading ends.
     answers_only (view_of c.args.view.now) AreEnds c.check_record.result c.requires c.check_record.ensures s
     (reading, ends)
-
-pub returns-clause-fault : goal.returns-clause-fault
-returns-clause-fault c = grind (arith, answers_fault)
-
-pub returns-clause-denied : goal.returns-clause-denied
-returns-clause-denied c = grind (arith, answers_denies)

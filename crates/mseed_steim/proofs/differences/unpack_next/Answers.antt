@@ -14,9 +14,6 @@ use Rattle.mseed_steim.proofs.ByteRun.{widened}
 use Rattle.mseed_steim.proofs.Runs.{run_one}
 use Rattle.mseed_steim.proofs.differences.unpack_next.Goals as goal
 
-pub returns-then-not-is_empty-clause-run : goal.returns-then-not-is_empty-clause-run
-returns-then-not-is_empty-clause-run c = search (arith, run_one, to_z-of_z, widened)
-
 -- no run comes next
 none_taken : (c : After-is_empty) → c.is_empty.result ≡ true → c.pass_empty.new.words ≡ c.take_bytes-bytes.new.self
 none_taken c e = search (arith, nothing_taken)

@@ -5,8 +5,5 @@ use Rattle.mseed_steim.proofs.ends.are_words_narrow.Goals.{else-code_in-eq3-via-
 use Rattle.mseed_steim.proofs.ends.are_words_narrow.Goals.{else-code_in-eq3-via-else-code_in-eq3}
 use Rattle.mseed_steim.proofs.ends.are_words_narrow.Goals as goal
 
-pub returns-then-not-is_narrow : goal.returns-then-not-is_narrow
-returns-then-not-is_narrow c = search (arith, code_is, to_z-of_z, word_value)
-
 pub loop-place-preserved : goal.loop-place-preserved
 loop-place-preserved c = search (arith, code_is, else-code_in-eq3-via-else-code_in-eq3, to_z-of_z, word_value)

@@ -28,6 +28,3 @@ returns-in-Some-clause-ends c =
     rw c.in-Frames.is at c.in_ok-form.ensures.held in
     constants_end (view_of c.args.view.now) c.in-Frames.field-0 c.in_ok-form.payload.now c.in-Some.ends held
     c.in-Some.ensures.first c.in-Some.ensures.last
-
-pub returns-in-None-clause-fault : goal.returns-in-None-clause-fault
-returns-in-None-clause-fault c = search (arith, frameless)

@@ -9,9 +9,6 @@ use Rattle.mseed_steim.proofs.Continuing.{continues_near, first_counted, first_s
 use Rattle.mseed_steim.proofs.Continuing.{span_needed, walks_needed}
 use Rattle.mseed_steim.proofs.keep.keep_needed.Goals as goal
 
-pub keep_near-requires-clause-near : goal.keep_near-requires-clause-near
-keep_near-requires-clause-near g c = search (arith, first_span, span_needed)
-
 pub returns : goal.returns
 returns g c = λ more.
     let ds = c.args.differences.now in

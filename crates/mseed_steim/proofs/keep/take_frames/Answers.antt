@@ -8,12 +8,6 @@ use Rattle.mseed_steim.proofs.keep.take_frames.Goals as goal
 pub unpack_frame-requires-clause-begins : goal.unpack_frame-requires-clause-begins
 unpack_frame-requires-clause-begins g c = (data_in c.args.sum.met c.args.index, c.begin_in-begin.ensures)
 
-pub keep_needed-requires-clause-near : goal.keep_needed-requires-clause-near
-keep_needed-requires-clause-near g c = search (arith, to_z-of_z)
-
-pub returns-then-keeps_nothing-clause-taken : goal.returns-then-keeps_nothing-clause-taken
-returns-then-keeps_nothing-clause-taken g c = grind (arith, nothing_kept)
-
 pub returns-clause-taken : goal.returns-clause-taken
 returns-clause-taken g c =
     let p = c.args.payload.now in

@@ -3,9 +3,6 @@ use Rattle.mseed_steim.specs.private.Reads.{as_data}
 use Rattle.mseed_steim.proofs.FirstRun.{found_run, moved_run}
 use Rattle.mseed_steim.proofs.keep.unused_in.Goals as goal
 
-pub returns-then-sum-gt0 : goal.returns-then-sum-gt0
-returns-then-sum-gt0 c = grind (arith, moved_run)
-
 pub returns : goal.returns
 returns c =
     found_run c.args.task.scheme c.args.payload.now c.args.index c.args.sum

@@ -46,6 +46,3 @@ loop-index-preserved c =
           c.in-Some.ensures.unpacked c.unpack_some.ensures.places (omega (arith, room)) (omega (arith, room, left))
           c.loop-index.invariant.same;
     }
-
-pub returns-in_default-clause-unpacked : goal.returns-in_default-clause-unpacked
-returns-in_default-clause-unpacked c = search (arith, put_front, rest_put)

@@ -7,6 +7,3 @@ pub returns-then-out-ge-PLACES-clause-unpacked : goal.returns-then-out-ge-PLACES
 returns-then-out-ge-PLACES-clause-unpacked c =
     put_in_place _ c.args.scheme c.args.begin c.args.frame.now c.unpack_frame.result c.unpack_frame.new.differences
     (length c.args.out.now) c.unpack_frame.auto.differences (omega arith) c.unpack_frame.ensures
-
-pub returns-clause-unpacked : goal.returns-clause-unpacked
-returns-clause-unpacked c = search (arith, length-take-le, put_of, take-take, take_at)

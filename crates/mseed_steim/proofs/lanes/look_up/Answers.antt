@@ -4,6 +4,3 @@ use Rattle.mseed_steim.proofs.lanes.look_up.Goals as goal
 
 pub swizzle : goal.swizzle
 swizzle c = swizzle_ok c.args.rows c.fits-rows.0 c.requires
-
-pub returns : goal.returns
-returns c = search (arith, looked_up, looked_up_below)

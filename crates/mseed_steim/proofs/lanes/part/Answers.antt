@@ -6,9 +6,6 @@ use Rattle.mseed_steim.proofs.LaneTables.{more_below, and_fits, length_of_table}
 use Rattle.mseed_steim.proofs.LaneSums.{planes_by, table_words, weighed_words}
 use Rattle.mseed_steim.proofs.lanes.part.Goals as goal
 
-pub dot4 : goal.dot4
-dot4 c = search (arith, and_fits, dot4_Fits, more_below)
-
 pub returns : goal.returns
 returns c = λ byte row e f.
     let l = ap length c.look_up.ensures.value

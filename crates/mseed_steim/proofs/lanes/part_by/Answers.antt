@@ -7,9 +7,6 @@ use Rattle.mseed_steim.proofs.LaneTables.{all_of_each, more_below, and_fits, len
 use Rattle.mseed_steim.proofs.LaneSums.{planes_by, weighed_words, long_words}
 use Rattle.mseed_steim.proofs.lanes.part_by.Goals as goal
 
-pub dot4 : goal.dot4
-dot4 c = search (arith, all_of_each, and_fits, dot4_Fits, more_below)
-
 pub returns : goal.returns
 returns c = λ byte row e f.
     let l = ap length c.look_up.ensures.value

@@ -7,9 +7,6 @@ use Rattle.mseed_steim.proofs.LaneSums.{table_words}
 use Rattle.mseed_steim.proofs.LaneTables.{length_of_table, sum_of_bytes}
 use Rattle.mseed_steim.proofs.lanes.tally.Goals as goal
 
-pub dot4 : goal.dot4
-dot4 c = search (arith, dot4_Fits)
-
 pub returns : goal.returns
 returns c = λ row f.
     let long = ap length c.look_up.ensures.value

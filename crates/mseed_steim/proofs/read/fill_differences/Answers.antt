@@ -6,9 +6,3 @@ use Rattle.mseed_steim.proofs.read.fill_differences.Goals as goal
 pub returns-clause-only : goal.returns-clause-only
 returns-clause-only c = λ s whole. answers_done c.fill_steps.result _ (answers_only (view_of c.args.view.now) _
     c.fill_steps.result c.requires.some c.fill_steps.ensures s whole)
-
-pub returns-clause-fault : goal.returns-clause-fault
-returns-clause-fault c = grind (arith, answers_fault)
-
-pub returns-clause-denied : goal.returns-clause-denied
-returns-clause-denied c = grind (arith, answers_denies)

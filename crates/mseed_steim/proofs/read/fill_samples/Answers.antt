@@ -4,15 +4,6 @@ use Rattle.mseed_record.specs.Viewing.{view_of}
 use Rattle.mseed_steim.proofs.Laws.{answers_denies, answers_done, answers_fault, answers_only}
 use Rattle.mseed_steim.proofs.read.fill_samples.Goals as goal
 
-pub returns-clause-reading : goal.returns-clause-reading
-returns-clause-reading c = grind arith
-
 pub returns-clause-only : goal.returns-clause-only
 returns-clause-only c = λ s whole. answers_done c.fill_record.result _ (answers_only (view_of c.args.view.now) _
     c.fill_record.result c.requires.some c.fill_record.ensures s whole)
-
-pub returns-clause-fault : goal.returns-clause-fault
-returns-clause-fault c = grind (arith, answers_fault)
-
-pub returns-clause-denied : goal.returns-clause-denied
-returns-clause-denied c = grind (arith, answers_denies)

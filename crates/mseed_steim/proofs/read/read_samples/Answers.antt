@@ -11,6 +11,3 @@ returns-clause-only g c = read_only (view_of c.args.view.now) (λ samples. sampl
 pub returns-clause-fault : goal.returns-clause-fault
 returns-clause-fault g c = read_fault (view_of c.args.view.now) (λ samples. samples.items) c.read_record.result
     c.requires c.read_record.ensures.reading c.read_record.ensures.refused
-
-pub returns-clause-denied : goal.returns-clause-denied
-returns-clause-denied g c = grind (arith, refused_denies)

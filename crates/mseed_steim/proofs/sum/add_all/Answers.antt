@@ -4,9 +4,6 @@ use Rattle.std.proofs.Math.ListN.{drop_of_length-le}
 use Rattle.mseed_steim.proofs.Far.{abs_sum, span_step, total_step}
 use Rattle.mseed_steim.proofs.sum.add_all.Goals as goal
 
-pub add_near-sum-requires : goal.add_near-sum-requires
-add_near-sum-requires c = search (arith, span_step, to_z-of_z)
-
 pub loop-i-preserved : goal.loop-i-preserved
 loop-i-preserved c =
     let ds = c.args.differences.now in
@@ -23,6 +20,3 @@ loop-i-preserved c =
       moved = rw (to_z-of_z w32 c.add_near-sum.result last, next)
           (omega (arith, ints, totals, c.loop-i.invariant.moved));
     }
-
-pub returns : goal.returns
-returns c = search (arith, drop_of_length-le)

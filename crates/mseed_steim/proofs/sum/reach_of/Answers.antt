@@ -23,9 +23,3 @@ loop-i-preserved c =
       so_far = more i c.loop-i.most c.max-most.result (nat_abs d) _ _ (omega (arith, c.loop-i.invariant.so_far, step))
           (omega (arith, size, most.1)) (mul-le-mul_left i most.0);
     }
-
-pub overflow_mul-result : goal.overflow_mul-result
-overflow_mul-result c = grind (arith, mul-le-mul_right)
-
-pub returns : goal.returns
-returns c = search (arith, drop_of_length-le)

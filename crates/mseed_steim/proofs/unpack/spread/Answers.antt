@@ -24,6 +24,3 @@ loop-lane-preserved c =
           rw to_z-of_z (next_lane c.loop-lane.differences _ c.args.at lane count width c.args.word c.digit_by.result
           inside value (c.loop-lane.invariant.so_far width u));
     }
-
-pub returns : goal.returns
-returns c = search (arith, append-nil, digits_over, min-eq_right)

@@ -8,9 +8,3 @@ use Rattle.mseed_steim.proofs.unpack.unpack_five.Goals as goal
 pub loop-index-init : goal.loop-index-init
 unfolding unpacked
 loop-index-init c = grind (arith, append-nil)
-
-pub loop-index-preserved : goal.loop-index-preserved
-loop-index-preserved c = search (arith, append_assoc, at_word, by_own_count, lanes_enough, lanes_few, unpacked_more)
-
-pub returns-clause-unpacked : goal.returns-clause-unpacked
-returns-clause-unpacked c = grind arith

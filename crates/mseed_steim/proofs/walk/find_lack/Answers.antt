@@ -66,6 +66,3 @@ loop-word-preserved c =
         (items_on _ _ _ done.0 ds done.1.0 step, length-append done.0 ds ∙ omega (arith, count, done.1.1)),
       );
     }
-
-pub returns : goal.returns
-returns c = grind (arith, no_items)

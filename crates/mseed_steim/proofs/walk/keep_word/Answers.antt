@@ -12,6 +12,3 @@ returns-then-samples-sum g c = λ rest.
 pub returns-in-Some : goal.returns-in-Some
 returns-in-Some g c = word_walks g.K.Keeper.kept c.args.samples c.args.scheme (as_data c.args.word) _ c.args.sum
     c.args.out.now c.keep_group.new.out c.keep_group.result c.in-Some.ensures c.keep_group.ensures
-
-pub returns-in-None : goal.returns-in-None
-returns-in-None g c = grind (arith, bad_word)

@@ -6,9 +6,6 @@ use Rattle.mseed_steim.specs.private.Items.{items_of}
 use Rattle.mseed_steim.proofs.Continuing.{walks_on}
 use Rattle.mseed_steim.proofs.walk.keep_words.Goals as goal
 
-pub returns-in_err-sum : goal.returns-in_err-sum
-returns-in_err-sum g c = search (arith, err_from_is_err_and)
-
 pub loop-word-preserved : goal.loop-word-preserved
 loop-word-preserved g c =
     let walked = λ (rest : List DataWord). walks_on (c.loop-word.invariant.walked rest)

@@ -6,9 +6,6 @@ use Rattle.mseed_steim.proofs.Folds.{fold_enough}
 use Rattle.mseed_steim.proofs.Walking.{no_items, none_left}
 use Rattle.mseed_steim.proofs.walk.walk.Goals as goal
 
-pub returns-then-sum-task : goal.returns-then-sum-task
-returns-then-sum-task g c = search (arith, ends_kept, fold_enough, to_z-of_z)
-
 pub returns-in_err-sum-in-None-clause-folded : goal.returns-in_err-sum-in-None-clause-folded
 returns-in_err-sum-in-None-clause-folded g c =
     let first : FitsSigned w32 c.args.first = c.ranges.first in
@@ -20,6 +17,3 @@ pub loop-next-preserved : goal.loop-next-preserved
 loop-next-preserved g c =
     let step = c.in_ok-sum-in-None.ensures c.in_ok-sum-in-None.sum.met in
     grind (arith, walks_on)
-
-pub returns : goal.returns
-returns g c = search (arith, all_ends, no_items, none_left, to_z-of_z)

@@ -4,9 +4,6 @@ use Rattle.mseed_steim.proofs.Walking.{words_none}
 use Rattle.mseed_steim.proofs.ByteRun.{prefix}
 use Rattle.mseed_steim.proofs.data_words.Words.begins_empty.Goals as goal
 
-pub returns-then-next-self : goal.returns-then-next-self
-returns-then-next-self c = search (arith, prefix)
-
 pub returns-else-next-self : goal.returns-else-next-self
 returns-else-next-self c =
     let next = c.prefix_of-next.result.0 in

@@ -16,9 +16,3 @@ returns-clause-only c = λ items given.
     rw (c.new.ensures, c.of.ensures)
     (given_items c.args.scheme (data_words c.args.payload.now) items
     (words_small c.args.payload.now (λ i. (c.type_inv.payload i).fits) 3 (word_count c.args.payload.now - 3)) given)
-
-pub returns-clause-few : goal.returns-clause-few
-returns-clause-few c = search (arith, few_of, length-words_from)
-
-pub returns-clause-bounded : goal.returns-clause-bounded
-returns-clause-bounded c = grind (arith, length-words_from)
