@@ -122,8 +122,8 @@ last_denies v scheme prefix last some a e big p h not =
 frames_deny : (v : View) (scheme : Scheme) (f : ReadFault) → 0 < count_of v → v.has_rate_blockette ≡ false
     → form_of v.encoding ≡ Some (Frames scheme) → v.payload_order ≡ Big → HasPayload v
     → Reason scheme (payload_of v) (count_of v) f → Denies v f
-frames_deny v scheme f some a e big p (lacks ds [] h less) = λ s r. not_ending scheme (payload_of v) (count_of v) s ds []
-    (same_payload v (Frames scheme) s e r).1 h less
+frames_deny v scheme f some a e big p (lacks ds [] h less) = λ s r.
+    not_ending scheme (payload_of v) (count_of v) s ds [] (same_payload v (Frames scheme) s e r).1 h less
 frames_deny v scheme f some a e big p (lacks ds (bad ∷ after) h less) = λ s r.
     not_ending scheme (payload_of v) (count_of v) s ds (bad ∷ after) (same_payload v (Frames scheme) s e r).1 h less
 frames_deny v scheme f some a e big p (over prefix sum rest sums all not) = λ s r.
