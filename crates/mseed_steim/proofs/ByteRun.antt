@@ -2,17 +2,16 @@
 use Rattle.mseed_steim.specs.Frames.{AreOctets}
 use Rattle.std.proofs.Common.{◌≡◌, ◌≢◌, ℕ, zero, suc, ◌+◌, ◌-◌, ◌*◌, ◌/◌, ◌%◌, ◌^◌, ◌<◌, ◌≤◌, List, [], ◌∷◌, ◌++◌}
 use Rattle.std.proofs.lemmas.Bool.Decides.{nat_tests}
-use Rattle.std.proofs.Common.{length, map, take, drop, get_or, length-drop, ℤ, refl, sym, ap, ◌∙◌, append_assoc, arith}
-use Rattle.std.proofs.Common.{eqb, cond, true, false, Bool, Some, Ok, Result, ⊎_elim}
+use Rattle.std.proofs.Common.{length, map, take, drop, length-drop, ℤ, refl, sym, ap, ◌∙◌, append_assoc, arith}
+use Rattle.std.proofs.Common.{cond, true, false, Bool, Some, Ok, ⊎_elim}
 use Rattle.std.proofs.lemmas.Bool.{ne_eqb, eq-eqb, cases_lt}
 use Rattle.std.proofs.lemmas.List.{map-append, drop-drop, get_or-drop, length-take-le}
 use Rattle.std.proofs.Math.Seq.{take-add}
 use Rattle.byteorder.specs.Endian.{twos_complement, big_number}
 use Rattle.mseed_steim.specs.declared.scheme.Scheme.{Scheme}
-use Rattle.mseed_steim.specs.declared.differences.BadWordAt.{BadWordAt}
 use Rattle.mseed_steim.specs.ByteRuns.{run_in, byte_run}
 use Rattle.mseed_steim.specs.private.Digits.{signed, digits, differences_of}
-use Rattle.mseed_steim.specs.Frames.{DataWord, data_word, word_at, code_at, words_from}
+use Rattle.mseed_steim.specs.Frames.{data_word, word_at, code_at, words_from}
 use Rattle.mseed_steim.specs.private.Items.{Items, items_of}
 use Rattle.mseed_steim.specs.Runs.{SpellsRun}
 use Rattle.mseed_steim.proofs.Given.{word_small}
@@ -24,7 +23,7 @@ abbrev pub widened : List ℕ → List ℤ
 widened bytes = map (λ byte. twos_complement 1 byte) bytes
 
 byte_signed : (x : ℕ) → x < 256 → signed 8 x ≡ twos_complement 1 x
-byte_signed x h = search (arith)
+byte_signed x h = search arith
 
 -- the digits of four bytes
 byte_digits : (xs : List ℕ) → 4 ≤ length xs → AreOctets xs → widened (take 4 xs) ≡ digits 8 (big_number 4 xs) 4
@@ -63,7 +62,7 @@ next_bytes p frame k m h i less =
 
 first_bytes : (p : List ℕ) (frame k m : ℕ) → AreBytes p frame k (suc m)
     → ((k / 16 ≡ frame) × (k % 16 ≢ 0) × (code_at p k ≡ 1))
-first_bytes p frame k m h = search (arith)
+first_bytes p frame k m h = search arith
 
 -- the run of these words, and whatever is after them
 pub run_words : (p : List ℕ) (frame m k n : ℕ) → AreBytes p frame k m → run_in frame (words_from p (k + m) n) ≡ []
@@ -168,7 +167,7 @@ is_code codes k = codes / 2 ^ (30 - 2 * (k % 16)) % 4
 
 bytes_to : (p : List ℕ) (codes from to end : ℕ) → to ≤ (from / 16 + 1) * 16 → to ≤ end → IsAt p codes from end
     → ((k : ℕ) → from ≤ k → k < to → is_code codes k ≡ 1) → AreBytes p (from / 16) from (to - from)
-bytes_to p codes from to end h inside known run i less = search (arith)
+bytes_to p codes from to end h inside known run i less = search arith
 
 run_from : (p : List ℕ) (from n : ℕ) → (0 < n → from % 16 ≢ 0)
     → byte_run (words_from p from n) ≡ run_in (from / 16) (words_from p from n)

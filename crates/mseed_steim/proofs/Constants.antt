@@ -10,7 +10,7 @@ use Rattle.mseed_steim.specs.declared.fault.ReadFault.{ReadFault}
 use Rattle.mseed_steim.specs.declared.fault.ReadFault.TheVariants.{Short}
 use Rattle.mseed_steim.specs.Frames.{first_constant, last_constant}
 use Rattle.mseed_steim.specs.Reading.{HoldsIn, IsFault, IsWhole, count_of, in_payload}
-use Rattle.mseed_steim.specs.Samples.{AreEnds, IsFrameFault, StartsAndAdds}
+use Rattle.mseed_steim.specs.Samples.{AreEnds, IsFrameFault}
 use Rattle.mseed_steim.proofs.Ended.{first_is, no_frame}
 use Rattle.mseed_steim.proofs.Laws.{denied, fault_denies, reading_one, same_payload}
 

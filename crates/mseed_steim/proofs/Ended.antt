@@ -1,8 +1,8 @@
 -- The ends of samples.
+use Rattle.mseed_steim.specs.private.Sums.{Keep}
 use Rattle.mseed_steim.specs.Frames.{AreOctets}
-use Rattle.std.proofs.Common.{suc, length-append}
-use Rattle.std.proofs.Common.{◌≡◌, ◌≢◌, ℕ, ◌-◌, ◌<◌, List, [], ◌∷◌, ◌++◌, length, get_or, ℤ, arith, refl, ap, sym, ◌∙◌}
-use Rattle.std.proofs.lemmas.Bool.Decides.{nat_tests}
+use Rattle.std.proofs.Common.{length-append}
+use Rattle.std.proofs.Common.{◌≡◌, ◌≢◌, ℕ, ◌-◌, ◌<◌, List, [], ◌∷◌, ◌++◌, length, ℤ, arith, refl, ap, sym, ◌∙◌}
 use Rattle.std.proofs.Common.{subst, slice_get, Option, Some, None, Result, Ok, Err, All, IfOk, IfErr, OnOk, IsOkAnd}
 use Rattle.mseed_time.specs.declared.order.Order.TheVariants.{Big}
 use Rattle.mseed_steim.specs.declared.scheme.Scheme.{Scheme}
@@ -88,17 +88,17 @@ no_frame s p n small some =
     short [] (rw none refl) some
 
 pub first_is : (first : ℤ) (ds s : List ℤ) → 0 < length s → StartsAndAdds first ds s → slice_get s 0 ≡ Some first
-first_is first ds s some h = search (arith)
+first_is first ds s some h = search arith
 
 -- what the tail of a walk answers, and what is kept
-ends_kept : (keep : Option (ℤ → ℤ → ℤ)) (s : Scheme) (p : List ℕ) (n : ℕ) (out before : List ℤ)
+ends_kept : (keep : Option Keep) (s : Scheme) (p : List ℕ) (n : ℕ) (out before : List ℤ)
     → in_places keep out
     ≡ kept_in keep n (record { met = 0; last = first_constant p }) before (items_of s (data_words p))
     → AreKept keep (mets_of s p n) out
 ends_kept None s p n out before e = tt
 ends_kept (Some keep) s p n out before e = e
 
-pub walk_kept : (keep : Option (ℤ → ℤ → ℤ)) (s : Scheme) (p : List ℕ) (n : ℕ) (constants : Ends)
+pub walk_kept : (keep : Option Keep) (s : Scheme) (p : List ℕ) (n : ℕ) (constants : Ends)
     (walked : Result Sum ReadFault) (out before : List ℤ) (r : Result Ends ReadFault) → 0 < n → AreOctets p
     → walked ≡ walk s p n → OnOk walked (in_places keep out
     ≡ kept_in keep n (record { met = 0; last = first_constant p }) before (items_of s (data_words p)))

@@ -1,6 +1,7 @@
 -- Differences that are added up at once, while the limits of 32 bits are out of reach.
+use Rattle.mseed_steim.specs.private.Sums.{Keep}
 use Rattle.std.proofs.Common.{◌≡◌, ℕ, ◌+◌, ◌<◌, ◌≤◌, ◌^◌, List, [], ◌∷◌, ◌++◌, map, drop, get_or, length, ℤ, pos}
-use Rattle.std.proofs.Common.{negsuc, ◌+ℤ◌, nat_abs, w32, FitsSigned, arith, refl, ap, ◌∙◌, true, Ok, Result}
+use Rattle.std.proofs.Common.{negsuc, ◌+ℤ◌, nat_abs, w32, FitsSigned, arith, refl, ap, ◌∙◌, true, Ok}
 use Rattle.std.proofs.lemmas.Int.{ints}
 use Rattle.std.proofs.lemmas.Bool.{lt-ltb, ne_eqb}
 use Rattle.mseed_steim.specs.private.Items.{Items}
@@ -12,7 +13,7 @@ use Rattle.mseed_steim.proofs.Folds.{fold_add, met_add}
 use Rattle.mseed_steim.proofs.Folded.{kept_one, next_cut, with_first_later}
 
 pub abs_sum : (a b : ℤ) → nat_abs (a +ℤ b) ≤ nat_abs a + nat_abs b
-abs_sum a b = search (arith)
+abs_sum a b = search arith
 
 pub near_fits : (z : ℤ) → nat_abs z < 2 ^ 31 → fits z ≡ true
 near_fits (pos n) h = lt-ltb n (2 ^ 31) (omega (arith, h))
@@ -28,7 +29,7 @@ counted_later m [] h = tt
 counted_later m (d ∷ ds) h = λ e. absurd (omega (arith, e, h))
 
 used_counted : (m : ℕ) (l d : ℤ) → (m ≡ 0 → d ≡ pos 0) → l +ℤ d ≡ l +ℤ used m d
-used_counted m l d counts = search (arith)
+used_counted m l d counts = search arith
 
 same_last : (m : ℕ) (l d : ℤ) → (m ≡ 0 → d ≡ pos 0) → m ≡ 0 → l ≡ l +ℤ d
 same_last m l d counts e = let none : d ≡ pos 0 = counts e in omega (arith, ints, none)
@@ -58,7 +59,7 @@ goes_far n (d ∷ ds) s more room far =
     )
 
 -- what is kept of sums and the samples after them
-pub sums_kept_on : (keep : ℤ → ℤ → ℤ) (m : ℕ) (l : ℤ) (ds xs : List ℤ) → IsCounted m ds
+pub sums_kept_on : (keep : Keep) (m : ℕ) (l : ℤ) (ds xs : List ℤ) → IsCounted m ds
     → kept_on keep m l (sums l ds ++ xs)
     ≡ kept_along keep m l ds ++ kept_on keep (m + length ds) (l +ℤ total ds) xs
 sums_kept_on keep m l [] xs counted = grind (arith, ints)
@@ -71,7 +72,7 @@ sums_kept_on keep m l (d ∷ ds) xs counted =
 
 -- what is kept of some differences, where that is each sample, and where it is each difference
 sample_kept : (m : ℕ) (d s : ℤ) → kept_at the_sample m d s ≡ s
-sample_kept m d s = search (arith)
+sample_kept m d s = search arith
 
 pub sums_kept : (m : ℕ) (l : ℤ) (ds : List ℤ) → kept_along the_sample m l ds ≡ sums l ds
 sums_kept m l [] = refl

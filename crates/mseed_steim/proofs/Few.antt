@@ -1,11 +1,10 @@
 -- How many differences words have: seven each at the most.
 use Rattle.mseed_steim.specs.private.Items.{Items}
 use Rattle.std.proofs.Common.{◌+◌, ◌*◌, ◌/◌, ◌^◌, ◌≤◌, List, [], ◌∷◌, length, ℤ, arith, refl, length-append, eqb}
-use Rattle.std.proofs.Common.{Option, Some, None, Result}
+use Rattle.std.proofs.Common.{Option, Some, None}
 use Rattle.std.proofs.lemmas.Bool.{cond_both}
 use Rattle.std.proofs.lemmas.List.{length-map}
 use Rattle.mseed_steim.specs.declared.scheme.Scheme.{Scheme}
-use Rattle.mseed_steim.specs.declared.differences.BadWordAt.{BadWordAt}
 use Rattle.mseed_steim.specs.Groups.{Group, group_of}
 use Rattle.mseed_steim.specs.private.Digits.{differences_in, differences_of}
 use Rattle.mseed_steim.specs.Frames.{DataWord}

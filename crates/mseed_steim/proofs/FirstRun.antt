@@ -1,7 +1,7 @@
 -- Frames at once: what their words have, but for the first sample's difference.
 use Rattle.std.proofs.Common.{◌≡◌, ℕ, ◌+◌, ◌-◌, ◌*◌, ◌<◌, ◌≤◌, List, [], ◌∷◌, ◌++◌, map, length, ℤ, ◌-ℤ◌, pos}
 use Rattle.std.proofs.lemmas.Bool.Decides.{nat_tests}
-use Rattle.std.proofs.Common.{take, drop, eqb, refl, sym, ap, ◌∙◌, subst, arith, Ok, Result, Option, Some, None}
+use Rattle.std.proofs.Common.{take, drop, eqb, refl, sym, ap, ◌∙◌, subst, arith, Ok, Option, Some, None}
 use Rattle.std.proofs.Common.{IfSome, ⊎_elim}
 use Rattle.std.proofs.Common.{◌+ℤ◌, ◌/◌, ◌^◌, nat_abs, w32, FitsSigned}
 use Rattle.std.specs.Bool.{OnTrue}
@@ -55,7 +55,7 @@ found s p n count reach by d w cut first some moves =
 
 -- the first of these differences counts for nothing
 others : (c reach : ℕ) (b d : ℤ) (es : List ℤ) → Moves c b reach (d ∷ es) → Moves c (b -ℤ d) reach (pos 0 ∷ es)
-others c reach b d es m = search (arith)
+others c reach b d es m = search arith
 
 found_one : (s : Scheme) (p : List ℕ) (i : ℕ) (sum : Sum) (d : ℤ) (w : DataWord) → i ≡ 0 → sum.met ≡ 0
     → words_from p 3 13 ≡ w ∷ words_from p 4 12

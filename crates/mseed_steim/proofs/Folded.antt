@@ -1,13 +1,14 @@
 -- What a walk over items answers, in the words of lists.
+use Rattle.mseed_steim.specs.private.Sums.{Keep}
 use Rattle.std.proofs.Common.{zero, suc}
 use Rattle.std.proofs.Math.Seq.{drop-cons, take-suc-set, take-length}
 use Rattle.std.proofs.Math.ListN.{set}
 use Rattle.std.proofs.Common.{take, drop, get_or, append_assoc, append-nil, ◌≡◌, ℕ, ◌+◌, ◌<◌, ◌≤◌, ◌^◌, List, [], ◌∷◌}
-use Rattle.std.proofs.Common.{◌++◌, map, length, ℤ, pos, negsuc, ◌+ℤ◌, ◌-ℤ◌, arith, refl, ap, sym, ◌∙◌, subst, false}
+use Rattle.std.proofs.Common.{◌++◌, map, length, ℤ, pos, negsuc, ◌+ℤ◌, ◌-ℤ◌, arith, refl, ap, ◌∙◌, false}
 use Rattle.std.proofs.Common.{true}
-use Rattle.std.proofs.Common.{Option, Some, None, Result, Ok, Err, All, ⊎_elim}
+use Rattle.std.proofs.Common.{Result, Ok, Err, All, ⊎_elim}
 use Rattle.std.proofs.lemmas.Int.{ints}
-use Rattle.std.proofs.lemmas.Bool.{eq-eqb, cases_lt}
+use Rattle.std.proofs.lemmas.Bool.{cases_lt}
 use Rattle.std.proofs.lemmas.Bool.Decides.{nat_tests}
 use Rattle.std.proofs.lemmas.List.{map-append, take-append-drop}
 use Rattle.std.proofs.lemmas.List.Elements.{All-cons, All-nil}
@@ -71,11 +72,11 @@ more_folded n m l d items mets r fit (over k ds x more e count less same adds al
     (All-cons IsSample (l +ℤ used m d) mets fit all) not
 
 -- what is kept of no samples, and of one and those after it
-pub kept_none : (keep : ℤ → ℤ → ℤ) (m : ℕ) (l : ℤ) → kept_on keep m l [] ≡ []
+pub kept_none : (keep : Keep) (m : ℕ) (l : ℤ) → kept_on keep m l [] ≡ []
 kept_none keep zero l = refl
 kept_none keep (suc m) l = refl
 
-pub kept_one : (keep : ℤ → ℤ → ℤ) (m : ℕ) (l d x : ℤ) (xs : List ℤ) → x ≡ l +ℤ used m d
+pub kept_one : (keep : Keep) (m : ℕ) (l d x : ℤ) (xs : List ℤ) → x ≡ l +ℤ used m d
     → kept_on keep m l (x ∷ xs) ≡ kept_at keep m d x ∷ kept_on keep (m + 1) x xs
 kept_one keep zero l d x xs e = refl
 kept_one keep (suc m) l d x xs e = grind (arith, ints, some_met)
@@ -156,6 +157,6 @@ pub take_put : (out : List ℤ) (i k : ℕ) (z : ℤ) (xs : List ℤ) → i < le
 take_put out i k z xs h e = search (arith, append_assoc, set, take-suc-set)
 
 -- all places are filled
-pub all_kept : (keep : ℤ → ℤ → ℤ) (n : ℕ) (s : Sum) (out : List ℤ) (items : Items) → length out ≡ n → s.met ≡ n
+pub all_kept : (keep : Keep) (n : ℕ) (s : Sum) (out : List ℤ) (items : Items) → length out ≡ n → s.met ≡ n
     → out ≡ take s.met out ++ kept_on keep s.met s.last (met_in n s items)
 all_kept keep n s out items room e = search (arith, append-nil, kept_none, met_enough, take-length)

@@ -1,4 +1,5 @@
 -- One item after another: how a walk goes on.
+use Rattle.mseed_steim.specs.private.Sums.{Keep}
 use Rattle.std.proofs.Common.{◌≡◌, ◌≢◌, ℕ, ◌<◌, ◌^◌, List, [], ◌∷◌, ◌++◌, map, ◌∙◌, ℤ, pos, negsuc, ◌+ℤ◌}
 use Rattle.std.proofs.Common.{arith, refl, sym, ap, subst, eqb, false, true, Option, Some, None, Result, Ok}
 use Rattle.std.proofs.Common.{Err, w32}
@@ -80,7 +81,7 @@ pub fold_done : (n : ℕ) (s : Sum) (items later : Items) → s.met ≡ n → fo
 fold_done n s items later e = fold_enough n s items e ∙ sym (fold_enough n s later e)
 
 -- a word's differences, or that it is bad
-pub word_walks : (keep : Option (ℤ → ℤ → ℤ)) (n : ℕ) (s : Scheme) (w : DataWord) (ds : List ℤ) (a : Sum)
+pub word_walks : (keep : Option Keep) (n : ℕ) (s : Scheme) (w : DataWord) (ds : List ℤ) (a : Sum)
     (before after : List ℤ) (r : Result Sum ReadFault) → differences_of s w.code w.bits ≡ Some ds
     → ((more : Items) → Walks keep n a before (map Ok ds ++ more) more after r)
     → (rest : List DataWord) → Walks keep n a before (items_of s (w ∷ rest)) (items_of s rest) after r

@@ -21,7 +21,7 @@ agree_at f g x = eqb (f x 0 0 0) (g x 0 0 0)
     && (eqb (f 0 x 0 0) (g 0 x 0 0) && (eqb (f 0 0 x 0) (g 0 0 x 0) && eqb (f 0 0 0 x) (g 0 0 0 x)))
 
 all_four : (p q r s : Bool) → T (p && (q && (r && s))) → T p × T q × T r × T s
-all_four p q r s h = search (arith)
+all_four p q r s h = search arith
 
 -- so they are one
 pub by_bytes : (f g : ℕ → ℕ → ℕ → ℕ → ℕ) → Separate f → Separate g → T (all_below (agree_at f g) 256)
@@ -79,19 +79,19 @@ raised_total w word some (suc n) =
 -- 4 differences of 8 bits
 pub four_is : (a b c d : ℕ) → a < 256 → b < 256 → c < 256 → d < 256
     → raised_sum 8 (word_of a b c d) 4 ≡ (a + 128) % 256 + (b + 128) % 256 + (c + 128) % 256 + (d + 128) % 256
-four_is a b c d A B C D = search (arith)
+four_is a b c d A B C D = search arith
 
 -- 2 differences of 15 bits
 pub two_is : (a b c d : ℕ) → a < 256 → b < 256 → c < 256 → d < 256
     → raised_sum 15 (word_of a b c d) 2 ≡ 512 * ((a + 32) % 64) + 2 * b + c / 128 + 256 * ((c + 64) % 128) + d
-two_is a b c d A B C D = search (arith)
+two_is a b c d A B C D = search arith
 
 -- 3 differences of 10 bits
 pub three_is : (a b c d : ℕ) → a < 256 → b < 256 → c < 256 → d < 256
     → raised_sum 10 (word_of a b c d) 3 ≡ 16 * ((a + 32) % 64) + b / 16 + 64 * ((b + 8) % 16) + c / 4 + 256 * ((c + 2) %
     4)
     + d
-three_is a b c d A B C D = search (arith)
+three_is a b c d A B C D = search arith
 
 -- 5 differences of 6 bits
 pub five_is : (a b c d : ℕ) → a < 256 → b < 256 → c < 256 → d < 256
@@ -121,7 +121,7 @@ seven_is a b c d A B C D =
 -- 2 differences of 16 bits
 pub wide_is : (a b c d : ℕ) → a < 256 → b < 256 → c < 256 → d < 256
     → raised_sum 16 (word_of a b c d) 2 ≡ 256 * ((a + 128) % 256) + b + 256 * ((c + 128) % 256) + d
-wide_is a b c d A B C D = search (arith)
+wide_is a b c d A B C D = search arith
 
 -- By a row, what the parts of a word count for tells what its differences come to: it is 128-fold, and more by `least`.
 abbrev pub Tells : List ℕ → List ℕ → (ℕ → ℕ → ℕ → ℕ → ℕ → ℕ) → (ℕ → ℕ) → ℕ → Type 0

@@ -64,7 +64,7 @@ span-append (x ∷ xs) ys = let later = span-append xs ys in omega (arith, later
 
 -- ---- the words of a frame
 pub begins_low : (begin : List ℕ) (from : ℕ) → Begins begin from → (0 < from) × (from ≤ 16)
-begins_low begin from begins = search (arith)
+begins_low begin from begins = search arith
 
 -- each word is read by its row
 pub record Reads (s : Scheme) (p f : List ℕ) (k from : ℕ) : Type 0 where

@@ -1,6 +1,6 @@
 -- How far a frame's differences go.
 use Rattle.mseed_steim.specs.Frames.{AreOctets}
-use Rattle.std.proofs.Common.{◌≡◌, ℕ, zero, suc, ◌+◌, ◌-◌, ◌*◌, ◌/◌, ◌%◌, ◌^◌, ◌<◌}
+use Rattle.std.proofs.Common.{◌≡◌, ℕ, zero, suc, ◌-◌, ◌*◌, ◌^◌, ◌<◌}
 use Rattle.std.proofs.Common.{◌≤◌, List, [], ◌∷◌, length, map}
 use Rattle.std.proofs.Common.{get_or, arith, pos, negsuc, nat_abs}
 use Rattle.std.proofs.Common.{if◌then◌else◌, nat_lt}
@@ -26,7 +26,7 @@ use Rattle.mseed_steim.proofs.Words.{twice_half}
 use Rattle.mseed_steim.proofs.FrameSums.{row_small}
 
 near : (p q x : ℕ) → q ≤ 2 * p → x < q → nat_abs (if nat_lt x p then pos x else negsuc (q - 1 - x)) ≤ p
-near p q x e lt = search (arith)
+near p q x e lt = search arith
 
 twice : (width : ℕ) → 2 ^ width ≤ 2 * 2 ^ (width - 1)
 twice zero = omega arith

@@ -18,7 +18,7 @@ Reported count whole least moved w = count w < 128 → (whole w % 128 ≡ 0)
 
 step : (x X l L : ℕ) (m M : ℤ) → x % 128 ≡ 0 → pos (x / 128) ≡ m +ℤ pos l → X % 128 ≡ 0 → pos (X / 128) ≡ M +ℤ pos L
     → pos ((x + X) / 128) ≡ (m +ℤ M) +ℤ pos (l + L)
-step x X l L m M e f g h = search (arith)
+step x X l L m M e f g h = search arith
 
 reported_all : (count whole least : ℕ → ℕ) (moved : ℕ → ℤ) → ((w : ℕ) → Reported count whole least moved w)
     → (ws : List ℕ) → sum_l (map count ws) < 128 → (sum_l (map whole ws) % 128 ≡ 0)
@@ -26,7 +26,7 @@ reported_all : (count whole least : ℕ → ℕ) (moved : ℕ → ℤ) → ((w :
 reported_all count whole least moved h [] lt = (refl, refl)
 reported_all count whole least moved h (w ∷ ws) lt =
     let a = h w (omega (arith, lt)) in
-    grind (arith, least, step, sum_l, whole, reported_all count whole least moved h ws (omega (arith, lt)))
+    grind (arith, least, step, whole, reported_all count whole least moved h ws (omega (arith, lt)))
 
 -- lanes that come to what the words report tell what these move by
 pub raises_by : (count whole least : ℕ → ℕ) (moved : ℕ → ℤ) → ((w : ℕ) → Reported count whole least moved w)

@@ -2,14 +2,13 @@
 use Rattle.mseed_steim.specs.Frames.{AreOctets}
 use Rattle.std.proofs.Common.{◌≡◌, ◌≢◌, ℕ, zero, suc, ◌+◌, ◌-◌, ◌*◌, ◌%◌, ◌^◌, ◌<◌, ◌≤◌, List, ◌∷◌, ◌++◌, map}
 use Rattle.std.proofs.Common.{take, drop, get_or, ℤ, refl, sym, ap, subst, ◌∙◌, append_assoc, append-nil, arith, inl}
-use Rattle.std.proofs.Common.{inr, Some, Ok, Result, ◌/◌, [], ◌+ℤ◌, length, length-append, pos}
+use Rattle.std.proofs.Common.{inr, Some, Ok, ◌/◌, [], length, length-append, pos}
 use Rattle.std.proofs.lemmas.Int.{ints}
 use Rattle.std.specs.List.{range_with_len}
 use Rattle.std.proofs.lemmas.List.{map-append}
 use lib.Lanes.{sum_l}
 use Rattle.mseed_steim.specs.declared.scheme.Scheme.{Scheme}
 use Rattle.mseed_steim.specs.declared.scheme.Scheme.TheVariants.{One, Two}
-use Rattle.mseed_steim.specs.declared.differences.BadWordAt.{BadWordAt}
 use Rattle.mseed_steim.specs.declared.unpack.Unpacking.{Unpacking}
 use Rattle.mseed_steim.specs.declared.unpack.Widest.{Widest}
 use Rattle.mseed_steim.specs.declared.unpack.Widest.TheVariants.{Bits16, Bits32}
@@ -21,7 +20,7 @@ use Rattle.mseed_steim.specs.private.Items.{Items, items_of}
 use Rattle.mseed_steim.specs.private.Lanes.{moved, span, sum_z, total, words, row_at, Begins, code_from}
 use Rattle.mseed_steim.specs.private.Lanes.{all_counts_one, all_counts_two}
 use Rattle.mseed_steim.specs.private.Lanes.{word_at as lanes_word_at}
-use Rattle.mseed_steim.specs.private.Lanes.{counts_of, all_counts, all_widths}
+use Rattle.mseed_steim.specs.private.Lanes.{counts_of, all_counts}
 use Rattle.mseed_steim.specs.private.Unpacked.{AreGood, AreUpTo, FitIn, Unpacks, counts_up_to}
 use Rattle.mseed_steim.specs.private.Unpacked.{differences_at, lanes_of, unpacked}
 use Rattle.std.proofs.Common.{Bool, T, ◌||◌, not, ltb}
@@ -133,7 +132,7 @@ few_by_row s row less few = let test = every_below (has_few s) 12 (few_test s) r
 
 no_3 : (f : List ℕ) (from word : ℕ) → 0 < from
     → ((j : ℕ) → 0 < j → j < 16 → lanes_word_at f 0 / 2 ^ (30 - 2 * j) % 4 ≢ 3) → word < 16 → code_from f from word < 3
-no_3 f from word some other less = search (arith)
+no_3 f from word some other less = search arith
 
 pub no_more_than_4 : (s : Scheme) (f : List ℕ) (from : ℕ) → AreOctets f → 0 < from
     → ((j : ℕ) → 0 < j → j < 16 → lanes_word_at f 0 / 2 ^ (30 - 2 * j) % 4 ≢ 3) → AreGood s f from → FitIn s f from 4

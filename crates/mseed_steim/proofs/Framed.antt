@@ -1,7 +1,7 @@
 -- What a walk over a payload's frames answers is what its words say.
-use Rattle.std.proofs.Common.{◌≡◌, ℕ, suc, ◌+◌, ◌-◌, ◌<◌, ◌^◌, List, [], ◌∷◌, ◌++◌, map, length, ℤ, pos}
+use Rattle.std.proofs.Common.{◌≡◌, ℕ, ◌<◌, List, [], ◌∷◌, ◌++◌, map, length, ℤ, pos}
 use Rattle.std.proofs.lemmas.Bool.Decides.{nat_tests}
-use Rattle.std.proofs.Common.{◌+ℤ◌, arith, refl, ap, sym, ◌∙◌, subst, length-append, Some, None, Result, Ok}
+use Rattle.std.proofs.Common.{◌+ℤ◌, arith, refl, ap, sym, ◌∙◌, subst, length-append, None, Ok}
 use Rattle.std.proofs.Common.{Err, All, append-nil}
 use Rattle.std.proofs.lemmas.Int.{ints}
 use Rattle.mseed_steim.specs.declared.scheme.Scheme.{Scheme}
@@ -91,7 +91,7 @@ adds_on : (x : ℤ) (ds ss : List ℤ) (d : ℤ) (t : List ℤ) → length ss �
     → Adds x (with_first 0 (pos 0) ds) ss → Adds x (with_first 0 (pos 0) (ds ++ d ∷ t))
     (ss ++ (last_of x ss +ℤ used (length ds) d) ∷ sums (last_of x ss +ℤ used (length ds) d) t)
 adds_on x [] [] d t l h = (refl, sums_add (x +ℤ pos 0) t)
-adds_on x (c ∷ ds) (s ∷ ss) d t l h = grind (arith, adds_past, last_of, some_met, sums_add)
+adds_on x (c ∷ ds) (s ∷ ss) d t l h = grind (arith, adds_past, some_met, sums_add)
 adds_on x _ _ d t l h = absurd (omega arith)
 
 -- the first n differences, where the words have as many

@@ -1,10 +1,10 @@
 -- What the digits of words give is what the words spell.
 use Rattle.mseed_steim.specs.private.Items.{Items}
 use Rattle.mseed_steim.specs.Frames.{AreOctets}
-use Rattle.std.proofs.Common.{◌≡◌, ℕ, zero, suc, ◌+◌, ◌*◌, ◌%◌, ◌^◌, ◌<◌, not, eqb, drop, List, [], ◌∷◌, ◌++◌, map, ℤ}
+use Rattle.std.proofs.Common.{◌≡◌, ℕ, zero, suc, ◌+◌, ◌*◌, ◌^◌, ◌<◌, drop, List, [], ◌∷◌, ◌++◌, map, ℤ}
 use Rattle.std.proofs.lemmas.Bool.Decides.{nat_tests}
 use Rattle.std.proofs.Common.{arith}
-use Rattle.std.proofs.Common.{refl, ap, sym, append-nil, ◌∙◌, append_assoc, get_or, Option, Some, None, Result}
+use Rattle.std.proofs.Common.{refl, ap, sym, append-nil, ◌∙◌, append_assoc, Option, Some, None, Result}
 use Rattle.std.proofs.Common.{Ok, Err}
 use Rattle.std.proofs.lemmas.List.{map-append}
 use Rattle.std.specs.List.{AllByRecursion, filter, range_with_len}

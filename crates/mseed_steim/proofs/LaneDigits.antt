@@ -1,6 +1,6 @@
 -- A word's differences, lane by lane.
-use Rattle.std.proofs.Common.{◌≡◌, ℕ, zero, suc, ◌+◌, ◌-◌, ◌<◌, ◌≤◌, [], ◌++◌, ◌∷◌, List, ℤ, take, set, map}
-use Rattle.std.proofs.Common.{get_or, length, refl, arith}
+use Rattle.std.proofs.Common.{◌≡◌, ℕ, suc, ◌+◌, ◌-◌, ◌<◌, ◌≤◌, ◌++◌, ◌∷◌, List, ℤ, take, set, map}
+use Rattle.std.proofs.Common.{get_or, length, arith}
 use lib.Lanes.{sum_l}
 use Rattle.std.specs.Prelude.{min}
 use Rattle.std.proofs.Math.Nat.{min-eq_left, min-eq_right}

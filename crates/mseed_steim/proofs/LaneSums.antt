@@ -26,7 +26,7 @@ pub shl_sum : (k n : ℕ) (xs : List ℕ) → length xs ≡ n
     → sum_l (zip2 (λ a b. a * 2 ^ b % 4294967296) xs (replicate n k)) % 4294967296 ≡ 2 ^ k * sum_l xs % 4294967296
 shl_sum k n [] e = omega arith
 shl_sum k zero (x ∷ xs) e = absurd (omega arith)
-shl_sum k (suc n) (x ∷ xs) e = grind (arith, sum_l, shl_sum k n xs (omega arith))
+shl_sum k (suc n) (x ∷ xs) e = grind (arith, shl_sum k n xs (omega arith))
 
 pub fold_sum : (a : ℕ) (xs : List ℕ)
     → fold_l (λ s x. (s + x) % 4294967296) (a % 4294967296) xs ≡ (a + sum_l xs) % 4294967296
@@ -85,7 +85,7 @@ sums_plus f g (w ∷ ws) = let ih = sums_plus f g ws in omega (arith, ih)
 pub two_sums : (f g : ℕ → ℕ) (ws : List ℕ) (s t u : ℕ) → s ≡ sum_l (map f ws) → t ≡ sum_l (map g ws)
     → u % 4294967296 ≡ (s + t) % 4294967296
     → u % 4294967296 ≡ sum_l (map (λ w. f w + g w) ws) % 4294967296
-two_sums f g ws s t u d e h = grind (arith, sum_l, sums_plus)
+two_sums f g ws s t u d e h = grind (arith, sums_plus)
 
 pub more_sums : (f g : ℕ → ℕ) (ws : List ℕ) (s t u : ℕ) → s % 4294967296 ≡ sum_l (map f ws) % 4294967296
     → t ≡ sum_l (map g ws) → u % 4294967296 ≡ (s + t) % 4294967296

@@ -13,11 +13,11 @@ use Rattle.mseed_steim.specs.declared.form.Width.TheVariants.{Two, Four}
 use Rattle.mseed_steim.specs.declared.form.Form.{Form}
 use Rattle.mseed_steim.specs.declared.form.Form.TheVariants.{Integers, Frames}
 use Rattle.mseed_steim.specs.declared.fault.ReadFault.{ReadFault}
-use Rattle.mseed_steim.specs.declared.fault.ReadFault.TheVariants.{Blockette100, Encoding, LittleSteim, DataOffset}
-use Rattle.mseed_steim.specs.declared.fault.ReadFault.TheVariants.{Short, BadWord, Overflow, LastDiffers, Memory}
+use Rattle.mseed_steim.specs.declared.fault.ReadFault.TheVariants.{LittleSteim}
+use Rattle.mseed_steim.specs.declared.fault.ReadFault.TheVariants.{LastDiffers, Memory}
 use Rattle.mseed_steim.specs.Frames.{last_constant}
 use Rattle.mseed_steim.specs.Samples.{bytes_of, form_of, BeginsWith, IsPayloadReading, EndsOnConstant, IsPayloadFault}
-use Rattle.mseed_steim.specs.Samples.{IsSample, short, bad_word, overflow, last_differs, IsFrameFault}
+use Rattle.mseed_steim.specs.Samples.{IsSample}
 use Rattle.mseed_steim.specs.Samples.{AnswersPayload}
 use Rattle.mseed_steim.specs.Reading.{count_of, IsReading, EndsOnConstants, HasOneReading, IsReadable, IsFault}
 use Rattle.mseed_steim.specs.Reading.{blockette_100, encoding, little_steim, data_offset, in_payload, Denies, HoldsIn}
@@ -94,7 +94,7 @@ record_fault_one v f g (in_payload a form d r p fault h) (in_payload b form' e r
 -- two forms of one encoding
 pub same_payload : (v : View) (form : Form) (s : List ℤ) → form_of v.encoding ≡ Some form → IsReading v s
     → IsPayloadReading form v.payload_order (payload_of v) (count_of v) s
-same_payload v form s e a = search (arith)
+same_payload v form s e a = search arith
 
 -- what a fault of frames denies
 last_denies : (v : View) (scheme : Scheme) (prefix : List ℤ) (last : ℤ) → 0 < count_of v → v.has_rate_blockette ≡ false
@@ -140,7 +140,7 @@ fault_denies v f some (encoding a d) = λ s r. cc (d, r.encoding)
 fault_denies v f some (little_steim a scheme d l) = λ s r. let q = same_payload v (Frames scheme) s d r in cc (q.0, l)
 fault_denies v f some (data_offset a form d readable p) = λ s r. p r.payload
 fault_denies v f some (in_payload a (Integers width) d readable p fault h) =
-    subst (λ (x : ReadFault). Denies v x) (sym h.1) (λ s r. integers_fit width v.payload_order (payload_of v)
+    subst (Denies v) (sym h.1) (λ s r. integers_fit width v.payload_order (payload_of v)
     (count_of v) s (same_payload v (Integers width) s d r) h.0)
 fault_denies v f some (in_payload a (Frames scheme) d readable p fault h) =
     frames_deny v scheme f some a d readable p (reason scheme (payload_of v) (count_of v) f h)
@@ -178,7 +178,7 @@ answers_done (Err f) P h = absurd h
 payload_read : (v : View) (form : Form) (p : List ℕ) (n : ℕ) (order : Order) (s : List ℤ) → 0 < count_of v
     → HoldsIn v form p → n ≡ count_of v → order ≡ v.payload_order → IsPayloadReading form order p n s
     → EndsOnConstant form p s → IsWhole v s
-payload_read v form p n order s some holds count ordered read end = search (arith)
+payload_read v form p n order s some holds count ordered read end = search arith
 
 payload_lacks : (v : View) (form : Form) (p : List ℕ) (n : ℕ) (f : ReadFault) → HoldsIn v form p → n ≡ count_of v
     → IsPayloadFault form p n f → IsFault v f
@@ -206,7 +206,7 @@ pub little_fault : (v : View) (form : Form) → v.has_rate_blockette ≡ false �
 little_fault v form a e h = little_in v form v.payload_order a e refl h
 
 pub readable_else : (form : Form) (order : Order) → is_little_steim form order ≡ false → IsReadable form order
-readable_else form order h = search (arith)
+readable_else form order h = search arith
 
 -- what the answer of a read means
 pub read_only : {X : Type 0} (v : View) (items : X → List ℤ) (r : Result X ReadFault) → 0 < count_of v

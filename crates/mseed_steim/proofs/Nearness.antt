@@ -2,7 +2,7 @@
 use Rattle.mseed_steim.specs.Frames.{AreOctets}
 use Rattle.std.proofs.Common.{◌≡◌, ◌≢◌, ℕ, zero, suc, ◌+◌, ◌-◌, ◌*◌, ◌/◌, ◌%◌, ◌^◌, ◌<◌, ◌≤◌, List, [], ◌∷◌}
 use Rattle.std.proofs.lemmas.Bool.Decides.{nat_tests}
-use Rattle.std.proofs.Common.{length, map, not, eqb, get_or, refl, sym, ap, ◌∙◌, subst, arith, ℤ, ◌-ℤ◌, Option, Some}
+use Rattle.std.proofs.Common.{length, map, not, eqb, refl, sym, ap, ◌∙◌, subst, arith, ℤ, Option, Some}
 use Rattle.std.proofs.Common.{All, Bool, true, false, cond, of_z, to_z, w32, FitsSigned, bit_and}
 use Rattle.std.specs.Int.{bit_at}
 use Rattle.std.specs.List.{AllByRecursion, filter, range_with_len}
@@ -11,7 +11,7 @@ use Rattle.std.proofs.lemmas.Bool.{cond_both, false≢true}
 use Rattle.std.proofs.Math.Nat.{div-div-eq-div-mul, mul_comm}
 use Rattle.std.proofs.lemmas.Int.{ints}
 use Rattle.std.proofs.lemmas.Nat.Bits.{bit_at-zero, bit_at_and}
-use Rattle.std.proofs.lemmas.List.Elements.{All-append, All-nil, All-from_recursion, recursion_from_All}
+use Rattle.std.proofs.lemmas.List.Elements.{All-append, All-nil, recursion_from_All}
 use Rattle.byteorder.specs.Endian.{twos_complement}
 use Rattle.mseed_time.specs.declared.order.Order.{Order}
 use Rattle.mseed_time.specs.Fields.{number_at}
@@ -202,7 +202,7 @@ word_value p k octets = grind (arith, signed_32, signed_is, word_small)
 -- the code of a frame's word
 pub code_is : (p : List ℕ) (codes frame place : ℕ) → place < 16 → codes ≡ word_at p (16 * frame)
     → codes / 2 ^ (30 - 2 * ((16 * frame + place) % 16)) % 4 ≡ code_at p (16 * frame + place)
-code_is p codes frame place less e = search (arith)
+code_is p codes frame place less e = search arith
 
 -- a record whose payload shows it
 pub near_whole : (v : View) (form : Form) (p : List ℕ) (n : ℕ) → HoldsIn v form p → n ≡ count_of v
@@ -211,9 +211,9 @@ near_whole v form p n held count near s whole = near s (rw (held.4, count) (same
 
 -- a number with 2^28 added, modulo 2^32, is less than 2^29 where the number has 29 bits at the most
 pub above_is : (z : ℤ) → FitsSigned w32 z → ((of_z w32 z + 268435456) % 4294967296 < 536870912) ↔ IsWithin 29 z
-above_is z f = search (arith)
+above_is z f = search arith
 
 -- what holds of all places up to one more, by the greatest of what they have
 pub all_below_next : (P : ℕ → Type 0) (a b most n limit : ℕ) → most ≡ max a b
     → (a < limit) ↔ ((i : ℕ) → i < n → P i) → (b < limit) ↔ P n → (most < limit) ↔ ((i : ℕ) → i < n + 1 → P i)
-all_below_next P a b most n limit e all next = search (arith)
+all_below_next P a b most n limit e all next = search arith

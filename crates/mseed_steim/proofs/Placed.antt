@@ -2,28 +2,28 @@
 use Rattle.mseed_steim.specs.Frames.{AreOctets}
 use Rattle.std.proofs.Common.{◌≡◌, ℕ, ◌+◌, ◌*◌, ◌/◌, ◌<◌, ◌≤◌, List, [], ◌∷◌, ◌++◌, map, take, drop, length}
 use Rattle.std.proofs.lemmas.Bool.Decides.{nat_tests}
-use Rattle.std.proofs.Common.{zero, suc, pos, ℤ, ◌+ℤ◌, ◌-ℤ◌, arith, refl, ap, sym, ◌∙◌, subst, append_assoc, Result, Ok}
-use Rattle.std.proofs.Common.{Bool, eqb, Option, Some, None, IfSome, get_or, min, ⊎_elim}
+use Rattle.std.proofs.Common.{zero, suc, pos, ℤ, ◌+ℤ◌, ◌-ℤ◌, arith, refl, ap, sym, ◌∙◌, subst, Result, Ok}
+use Rattle.std.proofs.Common.{Bool, eqb, Option, Some, None, IfSome, min, ⊎_elim}
 use Rattle.std.specs.Prelude.{IfOk}
 use Rattle.std.specs.Bool.{OnTrue}
 use Rattle.std.proofs.Math.ListN.{set}
 use Rattle.std.proofs.Math.Seq.{take-length}
 use Rattle.std.proofs.lemmas.Bool.{cases_eq, eq-eqb, ne_eqb}
 use Rattle.std.proofs.lemmas.Int.{ints}
-use Rattle.std.proofs.lemmas.List.{length-take-le, map-append, take-append-drop, take-take}
+use Rattle.std.proofs.lemmas.List.{length-take-le, take-take}
 use borrow.Rule.Slice.PartMut.{put_mid}
 use Rattle.mseed_steim.specs.declared.fault.ReadFault.{ReadFault}
 use Rattle.mseed_steim.specs.declared.scheme.Scheme.{Scheme}
 use Rattle.mseed_steim.specs.declared.unpack.Widest.{Widest}
 use Rattle.mseed_steim.specs.declared.sum.Sum.{Sum}
-use Rattle.mseed_steim.specs.Frames.{DataWord, data_words, first_constant}
+use Rattle.mseed_steim.specs.Frames.{data_words, first_constant}
 use Rattle.mseed_steim.specs.Samples.{Adds, AreSums, StartsAndAdds, differences_from, steps_of}
 use Rattle.mseed_steim.specs.private.Items.{Items, items_of}
 use Rattle.mseed_steim.specs.private.Lanes.{Begins}
 use Rattle.mseed_steim.specs.private.Sums.{Continues, kept_from, kept_on, met_in, the_difference}
 use Rattle.mseed_steim.specs.private.Unpacked.{AreUnpacked, AreUpTo, data_in, left_from}
-use Rattle.mseed_steim.proofs.Folded.{Folds, all_kept, done as done_folds, ended as ended_folds, first_items, folds}
-use Rattle.mseed_steim.proofs.Folded.{items_on, joined, over as over_folds, steps_from, with_first_later}
+use Rattle.mseed_steim.proofs.Folded.{Folds, all_kept, done as done_folds, first_items, folds}
+use Rattle.mseed_steim.proofs.Folded.{items_on, joined, steps_from, with_first_later}
 use Rattle.mseed_steim.proofs.Folds.{fold_enough}
 use Rattle.mseed_steim.proofs.Given.{IsWord, all_after, prefix_words, words_small}
 use Rattle.mseed_steim.proofs.Summed.{put_next}
@@ -111,7 +111,7 @@ pub rest_put : (r : Bool) (items left : Items) (first before after : List ℤ) �
     → items ≡ map Ok first ++ left
     → OnTrue r ((more : Items) × (map Ok before ++ left ≡ map Ok after ++ more))
     → OnTrue r ((more : Items) × (items ≡ map Ok after ++ more))
-rest_put r items left first before after e same h = search (arith)
+rest_put r items left first before after e same h = search arith
 
 starts_steps : (x : ℤ) (ds es : List ℤ) (a b : Items) (ss : List ℤ)
     → map Ok ds ++ a ≡ map Ok es ++ b → length es ≡ length ss → 0 < length ss → StartsAndAdds x ds ss

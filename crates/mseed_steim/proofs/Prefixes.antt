@@ -1,5 +1,5 @@
 -- What the items of a payload's words are, in the words of runs; and what two runs have in common.
-use Rattle.std.proofs.Common.{◌≡◌, List, [], ◌∷◌, ◌++◌, map, ℤ, refl, sym, ◌∙◌, append-nil, Result, Ok, Err}
+use Rattle.std.proofs.Common.{◌≡◌, List, [], ◌∷◌, ◌++◌, map, ℤ, refl, sym, append-nil, Ok, Err}
 use Rattle.std.proofs.Common.{arith, subst}
 use Rattle.mseed_steim.specs.declared.scheme.Scheme.{Scheme}
 use Rattle.mseed_steim.specs.Spelling.{SpellsNone}

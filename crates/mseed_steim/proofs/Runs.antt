@@ -6,7 +6,7 @@ use Rattle.std.proofs.lemmas.List.Elements.{All-head, All-tail}
 use Rattle.mseed_steim.specs.declared.scheme.Scheme.{Scheme}
 use Rattle.mseed_steim.specs.declared.fault.ReadFault.{ReadFault}
 use Rattle.mseed_steim.specs.declared.fault.ReadFault.TheVariants.{Overflow, LastDiffers}
-use Rattle.mseed_steim.specs.Spelling.{Spells, SpellsNone}
+use Rattle.mseed_steim.specs.Spelling.{Spells}
 use Rattle.mseed_steim.specs.Frames.{DataWord, data_words, first_constant, last_constant}
 use Rattle.mseed_steim.specs.Runs.{SpellsRun}
 use Rattle.mseed_steim.specs.Samples.{IsSample, Adds, StartsAndAdds, AreSums, IsFrameFault, short, bad_word, overflow}

@@ -82,7 +82,7 @@ window_long r d s p w = rw w.sums_are refl
 
 -- it is one for fewer differences
 pub window_less : (r n : ℕ) (d : ℤ) (s p : List ℤ) → n ≤ r → IsWindow r d s p → IsWindow n d s p
-window_less r n d s p less w = search (arith)
+window_less r n d s p less w = search arith
 
 -- and as it is held in 32 bits
 pub window_held : (r : ℕ) (d : ℤ) (s p : List ℤ) → IsWindow r d s p
@@ -116,7 +116,7 @@ pub before_four : (ds : List ℤ) (at : ℕ) → 0 < at → at + 4 ≤ length ds
 before_four ds at later some = search (arith, next_cut)
 
 pub three_near : (d : ℤ) (xs : List ℤ) → span (d ∷ take 3 xs) ≤ nat_abs d + span xs
-three_near d xs = search (arith)
+three_near d xs = search arith
 
 -- before the first difference there is one sum alone
 pub window_first : (r : ℕ) (last : ℤ) → nat_abs last + r < 2 ^ 31

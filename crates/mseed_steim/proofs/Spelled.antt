@@ -6,7 +6,7 @@ use Rattle.std.proofs.Common.{None, w16, w32, to_z}
 use Rattle.std.proofs.lemmas.Nat.{pow_pos, mod-pow-add}
 use Rattle.std.proofs.lemmas.Bool.{ne_eqb, eqb-true}
 use Rattle.std.proofs.Math.Nat.{mod-eq_of_lt, mod-lt, mul-suc, mul-zero, mod-one}
-use Rattle.std.proofs.lemmas.List.Elements.{All-cons, All-nil}
+use Rattle.std.proofs.lemmas.List.Elements.{All-nil}
 use Rattle.mseed_steim.specs.declared.scheme.Scheme.{Scheme}
 use Rattle.mseed_steim.specs.declared.scheme.Scheme.TheVariants.{One, Two}
 use Rattle.mseed_steim.specs.Groups.{Group, group_of, plain}
@@ -93,11 +93,11 @@ digits_step w word count i h = grind arith
 
 -- the one digit of 32 bits
 pub signed_32 : (n : ℕ) → n < 2 ^ 32 → signed 32 n ≡ to_z w32 n
-signed_32 n h = search (arith)
+signed_32 n h = search arith
 
 -- and of 16
 pub signed_16 : (n : ℕ) → n < 2 ^ 16 → signed 16 n ≡ to_z w16 n
-signed_16 n h = search (arith)
+signed_16 n h = search arith
 
 -- after the last digit there's none
 pub digits_over : (w word count i : ℕ) → count ≤ i → digits w word (count - i) ≡ []

@@ -65,7 +65,7 @@ sum_short g d word ds m j l a = search (arith, positional_lt)
 
 sum_whole : (g : Group) (d word : ℕ) (ds : List ℤ) → g.marked ≡ false → g.spare ≡ 1 → IsGroup g d word ds
     → word ≡ positional g.width ds
-sum_whole g d word ds m j a = search (arith)
+sum_whole g d word ds m j a = search arith
 
 -- a row with a dnib is found by the word's top two bits
 top_is : (g : Group) (d word : ℕ) (ds : List ℤ) → Kind g → g.marked ≡ true → IsGroup g d word ds → word / 2 ^ 30 ≡ d

@@ -1,6 +1,6 @@
 -- One word after another: what the words from a place on give.
 use Rattle.std.specs.Simd.{first_chunks}
-use Rattle.std.proofs.Common.{◌≡◌, ◌≢◌, ◌⊎◌, ⊎_elim, take, drop, get_or, ◌*◌, ◌∙◌, inl, inr, ℕ, zero, suc, ◌+◌, ◌%◌}
+use Rattle.std.proofs.Common.{◌≡◌, ◌≢◌, ◌⊎◌, ⊎_elim, take, drop, get_or, ◌*◌, ◌∙◌, ℕ, zero, suc, ◌+◌, ◌%◌}
 use Rattle.std.proofs.Common.{◌-◌, ◌/◌, ◌<◌, ◌≤◌, List, [], ◌∷◌, ◌++◌, map, length, ℤ, arith, refl, ap}
 use Rattle.std.proofs.Common.{sym, Option, Some, None, Ok, Err}
 use Rattle.std.proofs.lemmas.Bool.{ne_eqb, cases_lt}
@@ -102,7 +102,7 @@ data_few zero (suc i) = omega arith
 data_few (suc met) (suc i) = omega arith
 
 later_in : (met i : ℕ) → 0 < i → data_in met i ≡ 1
-later_in met i h = search (arith)
+later_in met i h = search arith
 
 pub left_later : (p : List ℕ) (met later i : ℕ) → 0 < i → left_from p met i ≡ left_from p later i
 left_later p met later i h = rw (later_in met i h, later_in later i h) refl

@@ -1,6 +1,6 @@
 -- Bytes that are widened in lanes.
-use Rattle.std.proofs.Common.{◌≡◌, ℕ, zero, suc, ◌+◌, ◌<◌, ◌≤◌, List, [], ◌∷◌, ◌++◌, map, length, take, ℤ, arith, refl}
-use Rattle.std.proofs.Common.{ap, sym, ◌∙◌, w32, to_z, cond}
+use Rattle.std.proofs.Common.{◌≡◌, ℕ, zero, suc, ◌+◌, ◌<◌, ◌≤◌, List, [], ◌∷◌, map, length, take, ℤ, arith, refl}
+use Rattle.std.proofs.Common.{ap, ◌∙◌, w32, to_z, cond}
 use Rattle.byteorder.specs.Endian.{twos_complement}
 use Rattle.std.proofs.lemmas.List.{length-map, map-append}
 use Rattle.std.proofs.lemmas.Simd.{length-chunk, take_more_put_chunk}
@@ -26,4 +26,4 @@ pub stored : (i m : ℕ) (bytes : List ℕ) (out w : List ℤ) → m ≡ i + 16 
 stored i m bytes out w at inside room so_far is =
     let long : length w ≡ 16 = ap length is
     ∙ length-map (chunk i 16 bytes) (λ byte. twos_complement 1 byte) ∙ length-chunk i 16 bytes (omega arith) in
-    grind (arith, chunk, map-append, take-add, take_more_put_chunk)
+    grind (arith, map-append, take-add, take_more_put_chunk)

@@ -1,7 +1,7 @@
 -- Words as sums of signed digits.
 use Rattle.std.proofs.Common.{◌≡◌, ℕ, suc, ◌+◌, ◌-◌, ◌*◌, ◌%◌, ◌^◌, ◌<◌, ◌≤ℤ◌, ◌<ℤ◌, List, [], ◌∷◌, length, ℤ, pos}
 use Rattle.std.proofs.Common.{negsuc}
-use Rattle.std.proofs.Common.{neg_ℤ, arith, ap, sym, refl, All}
+use Rattle.std.proofs.Common.{neg_ℤ, arith, ap, refl, All}
 use Rattle.std.proofs.lemmas.Nat.{pow_pos, pow-add, same_from_place, mul-add-lt}
 use Rattle.std.proofs.lemmas.Int.{ints}
 use Rattle.std.proofs.lemmas.List.Elements.{All-head, All-tail}

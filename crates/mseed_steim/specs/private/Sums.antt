@@ -45,11 +45,15 @@ abbrev pub walk : Scheme → List ℕ → ℕ → Result Sum ReadFault
 walk scheme payload n =
     fold n (record { met = 0; last = first_constant payload }) (items_of scheme (data_words payload))
 
--- of a difference and the sample that it comes to, the sample, or the difference
-abbrev pub the_sample : ℤ → ℤ → ℤ
+-- what is kept of a difference and the sample that it comes to
+abbrev pub Keep : Type 0
+Keep = ℤ → ℤ → ℤ
+
+-- the sample, or the difference
+abbrev pub the_sample : Keep
 the_sample d s = s
 
-abbrev pub the_difference : ℤ → ℤ → ℤ
+abbrev pub the_difference : Keep
 the_difference d s = d
 
 -- the samples that the walk meets
@@ -63,11 +67,11 @@ met_in n sum (Ok d ∷ more) =
     else []
 
 -- what is kept of one sample, before which so many have been met
-abbrev pub kept_at : (ℤ → ℤ → ℤ) → ℕ → ℤ → ℤ → ℤ
+abbrev pub kept_at : Keep → ℕ → ℤ → ℤ → ℤ
 kept_at keep met d s = if met == 0 then s else keep d s
 
 -- what is kept of some differences and their sums, each with those before it, once so many samples have been met
-abbrev pub kept_along : (ℤ → ℤ → ℤ) → ℕ → ℤ → List ℤ → List ℤ
+abbrev pub kept_along : Keep → ℕ → ℤ → List ℤ → List ℤ
 kept_along keep met last [] = []
 kept_along keep met last (d ∷ ds) = kept_at keep met d (last +ℤ d) ∷ kept_along keep (met + 1) (last +ℤ d) ds
 
@@ -82,26 +86,26 @@ IsCounted met [] = ⊤
 IsCounted met (d ∷ ds) = met ≡ 0 → d ≡ pos 0
 
 -- what is kept of some samples after one, of each by its difference from the one before it, and of all samples
-abbrev pub kept_from : (ℤ → ℤ → ℤ) → ℤ → List ℤ → List ℤ
+abbrev pub kept_from : Keep → ℤ → List ℤ → List ℤ
 kept_from keep before [] = []
 kept_from keep before (x ∷ xs) = keep (x -ℤ before) x ∷ kept_from keep x xs
 
-abbrev pub kept_of : (ℤ → ℤ → ℤ) → List ℤ → List ℤ
+abbrev pub kept_of : Keep → List ℤ → List ℤ
 kept_of keep [] = []
 kept_of keep (x ∷ xs) = x ∷ kept_from keep x xs
 
 -- what is kept of the samples after so many, of which this is the last
-abbrev pub kept_on : (ℤ → ℤ → ℤ) → ℕ → ℤ → List ℤ → List ℤ
+abbrev pub kept_on : Keep → ℕ → ℤ → List ℤ → List ℤ
 kept_on keep zero before xs = kept_of keep xs
 kept_on keep (suc met) before xs = kept_from keep before xs
 
 -- where something is kept, it is what is kept of the samples
-abbrev pub AreKept : Option (ℤ → ℤ → ℤ) → List ℤ → List ℤ → Type 0
+abbrev pub AreKept : Option Keep → List ℤ → List ℤ → Type 0
 AreKept None samples out = ⊤
 AreKept (Some keep) samples out = out ≡ kept_of keep samples
 
 -- the ends of samples that are a reading and end on their constant, with what is kept of them; or why there are none
-abbrev pub IsKept : Option (ℤ → ℤ → ℤ) → Form → Order → List ℕ → ℕ → List ℤ → Result Ends ReadFault → Type 0
+abbrev pub IsKept : Option Keep → Form → Order → List ℕ → ℕ → List ℤ → Result Ends ReadFault → Type 0
 IsKept keep form order payload n out r =
     AnswersPayload form order payload n (λ ends samples. AreEnds ends samples × AreKept keep samples out) r
 
@@ -143,27 +147,27 @@ Lacks n items (Some fault) =
     × ((items ≡ map Ok ds ++ rest) × IsEnd rest × (length ds < n) × (fault ≡ lack_at (length ds) rest)))
 
 -- how many places there are for n samples: one for each, where something is kept of them
-abbrev pub places_for : Option (ℤ → ℤ → ℤ) → ℕ → ℕ
+abbrev pub places_for : Option Keep → ℕ → ℕ
 places_for None n = 0
 places_for (Some keep) n = n
 
 -- where something is kept, it is put into the next places; those before are as they were
-abbrev pub Puts : Option (ℤ → ℤ → ℤ) → ℕ → ((ℤ → ℤ → ℤ) → List ℤ) → List ℤ → List ℤ → Type 0
+abbrev pub Puts : Option Keep → ℕ → (Keep → List ℤ) → List ℤ → List ℤ → Type 0
 Puts None met put before after = ⊤
 Puts (Some keep) met put before after = take (met + length (put keep)) after ≡ take met before ++ put keep
 
 -- all that a walk keeps: what stands in the first places, and after it what is kept of the samples to come
-abbrev pub kept_in : Option (ℤ → ℤ → ℤ) → ℕ → Sum → List ℤ → Items → List ℤ
+abbrev pub kept_in : Option Keep → ℕ → Sum → List ℤ → Items → List ℤ
 kept_in None n sum out items = []
 kept_in (Some keep) n sum out items = take sum.met out ++ kept_on keep sum.met sum.last (met_in n sum items)
 
 -- what stands in all places, where something is kept
-abbrev pub in_places : Option (ℤ → ℤ → ℤ) → List ℤ → List ℤ
+abbrev pub in_places : Option Keep → List ℤ → List ℤ
 in_places None out = []
 in_places (Some keep) out = out
 
 -- A walk over these items answers the same, and keeps the same in all, as one from the next sum on over those after.
-pub record Continues (keep : Option (ℤ → ℤ → ℤ)) (n : ℕ) (sum : Sum) (before : List ℤ)
+pub record Continues (keep : Option Keep) (n : ℕ) (sum : Sum) (before : List ℤ)
     (items behind : Items) (after : List ℤ) (next : Sum) : Type 0 where
   pub folded : fold n sum items ≡ fold n next behind
   pub kept : kept_in keep n next after behind ≡ kept_in keep n sum before items
@@ -171,12 +175,12 @@ pub record Continues (keep : Option (ℤ → ℤ → ℤ)) (n : ℕ) (sum : Sum)
   pub places : length after ≡ places_for keep n
 
 -- it goes on so from the answer, or ends with the answer's fault
-abbrev pub Walks : Option (ℤ → ℤ → ℤ) → ℕ → Sum → List ℤ → Items → Items → List ℤ → Result Sum ReadFault → Type 0
+abbrev pub Walks : Option Keep → ℕ → Sum → List ℤ → Items → Items → List ℤ → Result Sum ReadFault → Type 0
 Walks keep n sum before items behind after (Ok next) = Continues keep n sum before items behind after next
 Walks keep n sum before items behind after (Err fault) = fold n sum items ≡ Err fault
 
 -- over these differences, whatever stands after them
-abbrev pub WalksOver : Option (ℤ → ℤ → ℤ) → ℕ → Sum → List ℤ → List ℤ → List ℤ → Result Sum ReadFault → Type 0
+abbrev pub WalksOver : Option Keep → ℕ → Sum → List ℤ → List ℤ → List ℤ → Result Sum ReadFault → Type 0
 WalksOver keep n sum before ds after result =
     (more : Items) → Walks keep n sum before (map Ok ds ++ more) more after result
 
@@ -185,25 +189,25 @@ abbrev pub items_left : Task → List ℕ → ℕ → ℕ → Items
 items_left task payload met frame = items_of task.scheme (left_from payload met frame)
 
 -- over the first of the frames from one on
-abbrev pub WalksFrame : Option (ℤ → ℤ → ℤ) → Task → List ℕ → ℕ → Sum → List ℤ → List ℤ → Result Sum ReadFault → Type 0
+abbrev pub WalksFrame : Option Keep → Task → List ℕ → ℕ → Sum → List ℤ → List ℤ → Result Sum ReadFault → Type 0
 WalksFrame keep task payload frame sum before after result =
     (met : ℕ) → Walks keep task.samples sum before (items_left task payload sum.met frame)
     (items_left task payload met (frame + 1)) after result
 
 -- No more samples are met than are needed, and they have their places.
-pub record CanKeep (keep : Option (ℤ → ℤ → ℤ)) (samples : ℕ) (sum : Sum) (out : List ℤ) : Type 0 where
+pub record CanKeep (keep : Option Keep) (samples : ℕ) (sum : Sum) (out : List ℤ) : Type 0 where
   pub met : sum.met ≤ samples
   pub places : length out ≡ places_for keep samples
 
 -- The frame is one of the payload's, samples are needed of it, and they have their places.
-pub record CanTake (keep : Option (ℤ → ℤ → ℤ)) (task : Task) (payload : List ℕ) (frame : ℕ) (sum : Sum) (out : List ℤ)
+pub record CanTake (keep : Option Keep) (task : Task) (payload : List ℕ) (frame : ℕ) (sum : Sum) (out : List ℤ)
     : Type 0 where
   pub inside : frame < length payload / 64
   pub left : sum.met < task.samples
   pub places : length out ≡ places_for keep task.samples
 
 -- The walk goes on after so many frames.
-pub record Takes (keep : Option (ℤ → ℤ → ℤ)) (task : Task) (payload : List ℕ) (frame : ℕ) (sum : Sum)
+pub record Takes (keep : Option Keep) (task : Task) (payload : List ℕ) (frame : ℕ) (sum : Sum)
     (before after : List ℤ) (taken : Taken) : Type 0 where
   pub some : 0 < taken.frames
   pub inside : frame + taken.frames ≤ length payload / 64

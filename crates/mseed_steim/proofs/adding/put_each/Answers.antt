@@ -1,10 +1,9 @@
-use Rattle.std.proofs.Common.{◌≡◌, ◌<◌, ◌+◌, [], ◌∷◌, ◌++◌, ◌∙◌, ℤ, List, ◌+ℤ◌, length, take, drop, set, get_or}
+use Rattle.std.proofs.Common.{◌≡◌, ◌<◌, ◌+◌, [], ◌∷◌, ◌++◌, ◌∙◌, ℤ, ◌+ℤ◌, length, take, drop, set, get_or}
 use Rattle.std.proofs.Common.{pos, to_z}
 use Rattle.std.proofs.Common.{append-nil, ap, arith, refl, rules, sym, w32, FitsSigned}
 use Rattle.std.proofs.lemmas.Int.{ints, to_z-of_z}
 use Rattle.mseed_steim.specs.private.Lanes.{total}
 use Rattle.mseed_steim.specs.private.Sums.{sums}
-use Rattle.mseed_steim.proofs.Far.{span_step}
 use Rattle.mseed_steim.proofs.Folded.{next_cut, take_put}
 use Rattle.mseed_steim.proofs.Summed.{next_some}
 use Rattle.mseed_steim.proofs.adding.put_each.Goals as goal

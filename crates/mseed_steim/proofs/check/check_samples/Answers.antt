@@ -1,8 +1,6 @@
-use Rattle.std.proofs.Common.{arith}
-use Rattle.std.proofs.lemmas.Result.{MatchResult-weaker}
 use Rattle.mseed_record.specs.Viewing.{view_of}
 use Rattle.mseed_steim.specs.Samples.{AreEnds}
-use Rattle.mseed_steim.proofs.Laws.{answers_only, answers_fault, answers_denies}
+use Rattle.mseed_steim.proofs.Laws.{answers_only}
 use Rattle.mseed_steim.proofs.check.check_samples.Goals as goal
 
 pub returns-clause-only : goal.returns-clause-only

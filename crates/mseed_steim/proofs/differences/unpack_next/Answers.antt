@@ -2,7 +2,6 @@ use Rattle.std.proofs.Common.{◌≡◌, ◌∙◌, ◌++◌, ◌∷◌, List, �
 use Rattle.std.proofs.Common.{arith}
 use Rattle.std.proofs.lemmas.Int.{to_z-of_z}
 use Rattle.mseed_steim.specs.private.Digits.{digits}
-use Rattle.mseed_steim.specs.Frames.{DataWord}
 use Rattle.mseed_steim.specs.private.Items.{items_of}
 use Rattle.mseed_steim.specs.private.Reads.{as_data}
 use Rattle.mseed_steim.proofs.Spelled.{length-digits}
@@ -10,8 +9,6 @@ use Rattle.mseed_steim.proofs.Unpacking.{nothing_taken, past_begins, some_of}
 use Rattle.mseed_steim.proofs.Walking.{items_group, items_bad, no_items}
 use Rattle.mseed_steim.proofs.differences.unpack_next.Goals.{After-is_empty}
 use Rattle.mseed_steim.specs.ByteRuns.{past_empty}
-use Rattle.mseed_steim.proofs.ByteRun.{widened}
-use Rattle.mseed_steim.proofs.Runs.{run_one}
 use Rattle.mseed_steim.proofs.differences.unpack_next.Goals as goal
 
 -- no run comes next

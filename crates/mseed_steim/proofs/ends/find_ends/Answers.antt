@@ -1,11 +1,10 @@
 use Rattle.std.proofs.Common.{◌∙◌}
-use Rattle.std.proofs.Common.{arith}
 use Rattle.std.proofs.lemmas.Result.{MatchResult-weaker}
 use Rattle.mseed_record.specs.Viewing.{view_of}
 use Rattle.mseed_steim.specs.declared.form.Form.TheVariants.{Integers, Frames}
 use Rattle.mseed_steim.specs.Reading.{AnswersRecord, HoldsIn}
 use Rattle.mseed_steim.specs.Samples.{AreEnds}
-use Rattle.mseed_steim.proofs.Constants.{constants_end, frameless, one_ends}
+use Rattle.mseed_steim.proofs.Constants.{constants_end, one_ends}
 use Rattle.mseed_steim.proofs.Laws.{payload_answers}
 use Rattle.mseed_steim.proofs.ends.find_ends.Goals as goal
 

@@ -1,5 +1,5 @@
 use Rattle.std.proofs.Common.{arith}
-use Rattle.std.proofs.Common.{◌≡◌, ◌∙◌, List, ℕ, ℤ, subst}
+use Rattle.std.proofs.Common.{◌≡◌, ◌∙◌, List, ℕ, ℤ}
 use Rattle.mseed_time.specs.declared.order.Order.{Order}
 use Rattle.mseed_record.specs.View.{View}
 use Rattle.mseed_record.specs.Viewing.{view_of}
@@ -8,7 +8,7 @@ use Rattle.mseed_steim.specs.declared.form.Form.TheVariants.{Integers, Frames}
 use Rattle.mseed_steim.specs.Frames.{AreOctets}
 use Rattle.mseed_steim.specs.Nearness.{AreNear, IsSurelyNear}
 use Rattle.mseed_steim.specs.Reading.{AnswersRecord, HoldsIn, IsWhole, count_of}
-use Rattle.mseed_steim.specs.Samples.{AreEnds, IsPayloadReading}
+use Rattle.mseed_steim.specs.Samples.{AreEnds}
 use Rattle.mseed_steim.proofs.Constants.{constants_end, frameless, one_ends, whole_fault}
 use Rattle.mseed_steim.proofs.Laws.{payload_answers}
 use Rattle.mseed_steim.proofs.Nearness.{near_whole, shown_near}

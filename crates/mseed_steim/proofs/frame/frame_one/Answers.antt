@@ -1,4 +1,4 @@
-use Rattle.std.proofs.Common.{refl, ◌<◌, subst}
+use Rattle.std.proofs.Common.{◌<◌, subst}
 use Rattle.mseed_steim.specs.private.Lanes.{counts_one}
 use Rattle.mseed_steim.proofs.FrameOne.{flipped, flipped_low, frame_raised_one, lanes_come_one, least_one}
 use Rattle.mseed_steim.proofs.frame.frame_one.Goals as goal

@@ -1,4 +1,4 @@
-use Rattle.std.proofs.Common.{refl, ◌<◌, subst}
+use Rattle.std.proofs.Common.{◌<◌, subst}
 use Rattle.mseed_steim.specs.private.Lanes.{counts_two}
 use Rattle.mseed_steim.proofs.FrameSums.{lanes_come, frame_raised}
 use Rattle.mseed_steim.proofs.FrameWords.{least_coarse_two, least_two, turned_a, turned_b, turned_c, turned_d}

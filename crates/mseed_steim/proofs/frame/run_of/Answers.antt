@@ -1,8 +1,8 @@
-use Rattle.std.proofs.Common.{◌≡◌, ◌<◌, ◌≤◌, ◌+◌, ◌-◌, ◌*◌, ◌^◌, ◌++◌, ◌∙◌, ◌+ℤ◌, ℕ, List, pos, nat_abs}
-use Rattle.std.proofs.Common.{arith, rules, ap, sym, subst, refl, w32, FitsSigned, ⊎_elim}
+use Rattle.std.proofs.Common.{◌≡◌, ◌<◌, ◌≤◌, ◌+◌, ◌-◌, ◌*◌, ◌^◌, ◌++◌, ◌+ℤ◌, ℕ, List, pos, nat_abs}
+use Rattle.std.proofs.Common.{arith, rules, sym, subst, refl, w32, FitsSigned, ⊎_elim}
 use Rattle.std.proofs.lemmas.Int.{to_z-of_z}
 use Rattle.std.proofs.lemmas.Bool.{cases_lt}
-use Rattle.mseed_steim.specs.Frames.{DataWord, words_from}
+use Rattle.mseed_steim.specs.Frames.{words_from}
 use Rattle.mseed_steim.specs.private.Lanes.{Begins}
 use Rattle.mseed_steim.proofs.Far.{total_near}
 use Rattle.mseed_steim.proofs.FrameItems.{begins_low}

@@ -1,11 +1,9 @@
-use Rattle.std.proofs.Common.{◌≡◌, ◌+◌, ◌≤◌, ◌<◌, ◌^◌, ℕ, List, ℤ, pos, take, length, ap, arith, refl, rules, Ok, w32}
-use Rattle.std.proofs.Common.{FitsSigned, ◌∙◌, nat_abs}
+use Rattle.std.proofs.Common.{◌≡◌, ◌+◌, ◌≤◌, ℕ, take, length, arith, refl, rules, Ok, w32}
+use Rattle.std.proofs.Common.{FitsSigned, ◌∙◌}
 use Rattle.std.proofs.lemmas.Int.{to_z-of_z}
 use Rattle.std.proofs.lemmas.List.{length-take-le}
 use Rattle.mseed_steim.specs.declared.sum.Sum.{Sum}
-use Rattle.mseed_steim.specs.private.Lanes.{span}
-use Rattle.mseed_steim.specs.private.Sums.{with_first}
-use Rattle.mseed_steim.proofs.Continuing.{continues_near, first_counted, first_span}
+use Rattle.mseed_steim.proofs.Continuing.{continues_near, first_span}
 use Rattle.mseed_steim.proofs.Continuing.{span_needed, walks_needed}
 use Rattle.mseed_steim.proofs.keep.keep_needed.Goals as goal
 

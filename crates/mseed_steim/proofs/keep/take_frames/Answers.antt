@@ -1,7 +1,6 @@
-use Rattle.std.proofs.Common.{◌/◌, length, arith, Ok, rules}
-use Rattle.std.proofs.lemmas.Int.{to_z-of_z}
+use Rattle.std.proofs.Common.{◌/◌, length, Ok, rules}
 use Rattle.mseed_steim.specs.private.Unpacked.{data_in}
-use Rattle.mseed_steim.proofs.Continuing.{nothing_kept, walks_over}
+use Rattle.mseed_steim.proofs.Continuing.{walks_over}
 use Rattle.mseed_steim.proofs.Walking.{frame_at, frame_items}
 use Rattle.mseed_steim.proofs.keep.take_frames.Goals as goal
 

@@ -1,6 +1,6 @@
 use Rattle.std.proofs.Common.{arith}
 use Rattle.mseed_steim.specs.private.Reads.{as_data}
-use Rattle.mseed_steim.proofs.FirstRun.{found_run, moved_run}
+use Rattle.mseed_steim.proofs.FirstRun.{found_run}
 use Rattle.mseed_steim.proofs.keep.unused_in.Goals as goal
 
 pub returns : goal.returns

@@ -4,8 +4,7 @@ use Rattle.std.proofs.Math.Seq.{take-length}
 use Rattle.std.proofs.lemmas.Simd.{length-chunk}
 use borrow.Rule.Slice.PartMut.{put_mid}
 use Rattle.mseed_steim.specs.declared.differences.BadWordAt.{BadWordAt}
-use Rattle.mseed_steim.proofs.Placed.{goes_on, put_on, rest_put}
-use Rattle.mseed_steim.proofs.Summed.{put_front}
+use Rattle.mseed_steim.proofs.Placed.{goes_on, put_on}
 use Rattle.mseed_steim.proofs.Walking.{frame_at}
 use Rattle.mseed_steim.proofs.known.unpack_frames.Goals as goal
 

@@ -1,6 +1,5 @@
-use Rattle.std.proofs.Common.{◌≡◌, ◌++◌, eqb, List, ℤ, Result, Ok, map, take, arith, length, subst}
+use Rattle.std.proofs.Common.{◌≡◌, ◌++◌, eqb, List, Ok, map, take, arith, length, subst}
 use Rattle.std.specs.Bool.{OnTrue}
-use Rattle.mseed_steim.specs.declared.differences.BadWordAt.{BadWordAt}
 use Rattle.mseed_steim.specs.Frames.{DataWord}
 use Rattle.mseed_steim.specs.private.Items.{Items, items_of}
 use Rattle.mseed_steim.proofs.Placed.{walked_rest}

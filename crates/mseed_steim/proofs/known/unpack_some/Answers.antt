@@ -1,6 +1,5 @@
 use Rattle.std.proofs.Common.{length, arith}
-use Rattle.std.proofs.lemmas.List.{length-take-le, take_at, take-take}
-use Rattle.mseed_steim.proofs.Placed.{put_in_place, put_of}
+use Rattle.mseed_steim.proofs.Placed.{put_in_place}
 use Rattle.mseed_steim.proofs.known.unpack_some.Goals as goal
 
 pub returns-then-out-ge-PLACES-clause-unpacked : goal.returns-then-out-ge-PLACES-clause-unpacked

@@ -1,5 +1,4 @@
-use Rattle.mseed_steim.proofs.LaneTables.{swizzle_ok, looked_up, looked_up_below}
-use Rattle.std.proofs.Common.{arith}
+use Rattle.mseed_steim.proofs.LaneTables.{swizzle_ok}
 use Rattle.mseed_steim.proofs.lanes.look_up.Goals as goal
 
 pub swizzle : goal.swizzle

@@ -1,8 +1,8 @@
 use Rattle.std.proofs.Common.{◌∙◌, ap, length, arith, get_or}
-use Rattle.std.proofs.lemmas.Simd.{dot4_Fits, length-zip2}
+use Rattle.std.proofs.lemmas.Simd.{length-zip2}
 use Rattle.std.specs.Int.Bits.{bit_and}
 use Rattle.mseed_steim.specs.private.Lanes.{words}
-use Rattle.mseed_steim.proofs.LaneTables.{more_below, and_fits, length_of_table}
+use Rattle.mseed_steim.proofs.LaneTables.{length_of_table}
 use Rattle.mseed_steim.proofs.LaneSums.{planes_by, table_words, weighed_words}
 use Rattle.mseed_steim.proofs.lanes.part.Goals as goal
 

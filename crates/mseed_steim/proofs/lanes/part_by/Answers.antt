@@ -1,9 +1,9 @@
 use Rattle.std.proofs.Common.{◌∙◌, ap, refl, length, arith, get_or}
-use Rattle.std.proofs.lemmas.Simd.{dot4_Fits, length-zip2, splat_is_map}
+use Rattle.std.proofs.lemmas.Simd.{length-zip2, splat_is_map}
 use Rattle.std.specs.Int.Bits.{bit_and}
 use lib.ListN.{replicate}
 use Rattle.mseed_steim.specs.private.Lanes.{words}
-use Rattle.mseed_steim.proofs.LaneTables.{all_of_each, more_below, and_fits, length_of_table}
+use Rattle.mseed_steim.proofs.LaneTables.{length_of_table}
 use Rattle.mseed_steim.proofs.LaneSums.{planes_by, weighed_words, long_words}
 use Rattle.mseed_steim.proofs.lanes.part_by.Goals as goal
 

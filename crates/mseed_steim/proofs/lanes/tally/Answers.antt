@@ -1,6 +1,4 @@
 use Rattle.std.proofs.Common.{◌∙◌, ap, get_or, length}
-use Rattle.std.proofs.Common.{arith}
-use Rattle.std.proofs.lemmas.Simd.{dot4_Fits}
 use lib.Lanes.{sum_l}
 use Rattle.mseed_steim.specs.private.Lanes.{words}
 use Rattle.mseed_steim.proofs.LaneSums.{table_words}

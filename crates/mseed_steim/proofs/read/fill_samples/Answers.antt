@@ -1,7 +1,5 @@
-use Rattle.std.proofs.Common.{arith}
-use Rattle.std.proofs.lemmas.Result.{MatchResult-weaker}
 use Rattle.mseed_record.specs.Viewing.{view_of}
-use Rattle.mseed_steim.proofs.Laws.{answers_denies, answers_done, answers_fault, answers_only}
+use Rattle.mseed_steim.proofs.Laws.{answers_done, answers_only}
 use Rattle.mseed_steim.proofs.read.fill_samples.Goals as goal
 
 pub returns-clause-only : goal.returns-clause-only

@@ -1,7 +1,5 @@
-use Rattle.std.proofs.Common.{arith}
-use Rattle.std.proofs.lemmas.Result.{IfErr-weaker}
 use Rattle.mseed_record.specs.Viewing.{view_of}
-use Rattle.mseed_steim.proofs.Laws.{read_only, read_fault, refused_denies}
+use Rattle.mseed_steim.proofs.Laws.{read_only, read_fault}
 use Rattle.mseed_steim.proofs.read.read_samples.Goals as goal
 
 pub returns-clause-only : goal.returns-clause-only

@@ -1,6 +1,5 @@
 use Rattle.std.proofs.Common.{◌≡◌, ℤ, ◌+ℤ◌, get_or, pos, to_z, arith, rules, w32, FitsSigned}
 use Rattle.std.proofs.lemmas.Int.{ints, to_z-of_z}
-use Rattle.std.proofs.Math.ListN.{drop_of_length-le}
 use Rattle.mseed_steim.proofs.Far.{abs_sum, span_step, total_step}
 use Rattle.mseed_steim.proofs.sum.add_all.Goals as goal
 

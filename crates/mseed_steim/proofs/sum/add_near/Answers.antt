@@ -1,4 +1,4 @@
-use Rattle.std.proofs.Common.{◌≡◌, ◌<◌, ◌+◌, ◌%◌, ◌^◌, ◌+ℤ◌, nat_abs, ◌∙◌, ℤ, arith, rules, w32, to_z, of_z, FitsSigned}
+use Rattle.std.proofs.Common.{◌≡◌, ◌<◌, ◌+◌, ◌%◌, ◌^◌, ◌+ℤ◌, nat_abs, ℤ, arith, rules, w32, to_z, of_z, FitsSigned}
 use Rattle.std.proofs.lemmas.Int.{wrapping_add_is, int_wrap_fits}
 use Rattle.mseed_steim.proofs.Far.{abs_sum, near_signed}
 use Rattle.mseed_steim.proofs.sum.add_near.Goals as goal

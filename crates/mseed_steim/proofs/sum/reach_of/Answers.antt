@@ -1,7 +1,6 @@
 use Rattle.std.proofs.Common.{◌≡◌, ◌+◌, ◌*◌, ◌≤◌, ℕ, nat_abs, get_or, arith, pos, rules, w32, FitsSigned}
 use Rattle.std.proofs.lemmas.Int.{to_z-of_z}
-use Rattle.std.proofs.Math.Nat.{mul-le-mul_left, mul-le-mul_right}
-use Rattle.std.proofs.Math.ListN.{drop_of_length-le}
+use Rattle.std.proofs.Math.Nat.{mul-le-mul_left}
 use Rattle.mseed_steim.proofs.Far.{span_step}
 use Rattle.mseed_steim.proofs.Greatest.{max_is}
 use Rattle.mseed_steim.proofs.sum.reach_of.Goals as goal

@@ -1,8 +1,6 @@
-use Rattle.std.proofs.Common.{◌≡◌, ◌<◌, ◌+◌, ◌-◌, length, arith, rules, w32, FitsSigned, append-nil}
+use Rattle.std.proofs.Common.{◌≡◌, ◌<◌, ◌+◌, ◌-◌, length, arith, rules, w32, FitsSigned}
 use Rattle.std.proofs.lemmas.Int.{to_z-of_z}
-use Rattle.std.proofs.Math.Nat.{min-eq_right}
 use Rattle.mseed_steim.proofs.Shifts.{room_at}
-use Rattle.mseed_steim.proofs.Spelled.{digits_over}
 use Rattle.mseed_steim.proofs.LaneDigits.{next_lane}
 use Rattle.mseed_steim.proofs.unpack.spread.Goals as goal
 

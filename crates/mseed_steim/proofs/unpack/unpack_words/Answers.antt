@@ -1,4 +1,4 @@
-use Rattle.std.proofs.Common.{◌≡◌, ◌<◌, ◌∙◌, ℕ, List, inl, arith, map}
+use Rattle.std.proofs.Common.{◌≡◌, ◌<◌, ℕ, List, arith, map}
 use lib.Lanes.{Each1, digits_l, number_l}
 use Rattle.mseed_steim.specs.private.Lanes.{row_at, words}
 use Rattle.mseed_steim.specs.private.Unpacked.{row_of}

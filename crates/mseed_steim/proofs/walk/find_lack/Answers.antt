@@ -1,12 +1,12 @@
-use Rattle.std.proofs.Common.{◌≡◌, ◌-◌, ◌≤◌, ◌<◌, ◌+◌, ◌++◌, ◌∷◌, ◌∙◌, ℕ, [], List, ℤ, arith, ap, length, length-append}
+use Rattle.std.proofs.Common.{◌≡◌, ◌-◌, ◌++◌, ◌∷◌, ◌∙◌, ℕ, [], arith, ap, length, length-append}
 use Rattle.std.proofs.Common.{Err, Ok, map, refl, rules, take}
 use Rattle.std.proofs.lemmas.List.{length-take-le}
 use Rattle.mseed_steim.specs.private.Digits.{digits}
-use Rattle.mseed_steim.specs.private.Items.{Items, items_of}
+use Rattle.mseed_steim.specs.private.Items.{Items}
 use Rattle.mseed_steim.specs.private.Reads.{as_data}
 use Rattle.mseed_steim.specs.Runs.{place_of}
 use Rattle.mseed_steim.proofs.Spelled.{length-digits}
-use Rattle.mseed_steim.proofs.Walking.{items_group, items_bad, no_items}
+use Rattle.mseed_steim.proofs.Walking.{items_group, items_bad}
 use Rattle.mseed_steim.proofs.Folded.{first_items, items_on}
 use Rattle.mseed_steim.proofs.walk.find_lack.Goals as goal
 

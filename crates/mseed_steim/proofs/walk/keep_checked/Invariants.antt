@@ -1,6 +1,5 @@
 use Rattle.mseed_steim.specs.private.Items.{Items}
-use Rattle.std.proofs.Common.{◌≡◌, ◌+◌, ◌++◌, map, drop, length, List, ℤ, Result, Ok}
-use Rattle.mseed_steim.specs.declared.differences.BadWordAt.{BadWordAt}
+use Rattle.std.proofs.Common.{◌≡◌, ◌+◌, ◌++◌, map, drop, length, Ok}
 use Rattle.mseed_steim.specs.private.Sums.{Continues, places_for}
 use Rattle.mseed_steim.proofs.walk.keep_checked.Given as goal
 

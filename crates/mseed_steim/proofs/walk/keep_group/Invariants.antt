@@ -1,6 +1,5 @@
 use Rattle.mseed_steim.specs.private.Items.{Items}
-use Rattle.std.proofs.Common.{◌≡◌, ◌-◌, ◌≤◌, ◌++◌, map, length, List, ℤ, Result, Ok}
-use Rattle.mseed_steim.specs.declared.differences.BadWordAt.{BadWordAt}
+use Rattle.std.proofs.Common.{◌≡◌, ◌-◌, ◌≤◌, ◌++◌, map, length, Ok}
 use Rattle.mseed_steim.specs.private.Digits.{digits}
 use Rattle.mseed_steim.specs.private.Sums.{Continues, places_for}
 use Rattle.mseed_steim.proofs.walk.keep_group.Given as goal

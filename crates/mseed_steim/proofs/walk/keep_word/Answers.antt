@@ -2,7 +2,7 @@ use Rattle.std.proofs.Common.{arith}
 use Rattle.mseed_steim.specs.private.Items.{items_of}
 use Rattle.mseed_steim.specs.private.Reads.{as_data}
 use Rattle.mseed_steim.proofs.Continuing.{continues_done, continues_self}
-use Rattle.mseed_steim.proofs.Folds.{bad_word, word_walks}
+use Rattle.mseed_steim.proofs.Folds.{word_walks}
 use Rattle.mseed_steim.proofs.walk.keep_word.Goals as goal
 
 pub returns-then-samples-sum : goal.returns-then-samples-sum

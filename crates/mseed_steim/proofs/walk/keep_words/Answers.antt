@@ -1,6 +1,4 @@
 use Rattle.std.proofs.Common.{[], ◌++◌, List, ap, refl}
-use Rattle.std.proofs.Common.{arith}
-use Rattle.std.proofs.lemmas.Result.{err_from_is_err_and}
 use Rattle.mseed_steim.specs.Frames.{DataWord}
 use Rattle.mseed_steim.specs.private.Items.{items_of}
 use Rattle.mseed_steim.proofs.Continuing.{walks_on}

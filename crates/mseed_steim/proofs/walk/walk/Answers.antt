@@ -1,9 +1,7 @@
-use Rattle.std.proofs.Common.{◌∙◌, arith, refl, sym, w32, FitsSigned}
+use Rattle.std.proofs.Common.{◌∙◌, arith, sym, w32, FitsSigned}
 use Rattle.std.proofs.lemmas.Int.{to_z-of_z}
 use Rattle.std.proofs.lemmas.Result.{err_from_is_err_and}
-use Rattle.mseed_steim.proofs.Continuing.{all_ends, ends_kept, walks_on}
-use Rattle.mseed_steim.proofs.Folds.{fold_enough}
-use Rattle.mseed_steim.proofs.Walking.{no_items, none_left}
+use Rattle.mseed_steim.proofs.Continuing.{walks_on}
 use Rattle.mseed_steim.proofs.walk.walk.Goals as goal
 
 pub returns-in_err-sum-in-None-clause-folded : goal.returns-in_err-sum-in-None-clause-folded

@@ -1,13 +1,11 @@
 use Rattle.std.proofs.Common.{◌≡◌, ℕ, ◌%◌, pos, cond, to_z, ◌+◌, ◌*◌, ◌<◌, ◌≤◌, length, arith, rules}
-use Rattle.std.proofs.Common.{w8, w32}
-use borrow.Rule.Simd.Lanes.{act1, act2}
-use borrow.Table.Row.{s_int}
-use mir.Syntax.{mask, lt, signed, unsigned, cast, wrap_sub}
+use Rattle.std.proofs.Common.{w32}
+use mir.Syntax.{wrap_sub}
 use Rattle.std.proofs.lemmas.Int.{to_z_pos}
 use lib.Signed.{lt_z}
 use Rattle.std.proofs.lemmas.Simd.{chunk-fits, length-chunk, below_from_Fits}
 use Rattle.byteorder.specs.Endian.{twos_complement}
-use lib.Lanes.{chunk, top}
+use lib.Lanes.{top}
 use Rattle.mseed_steim.proofs.Widened.{widened, stored}
 use Rattle.mseed_steim.proofs.widen.widen_bytes.Goals as goal
 

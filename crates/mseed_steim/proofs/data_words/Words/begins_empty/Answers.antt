@@ -1,7 +1,6 @@
 use Rattle.std.proofs.Common.{◌≡◌, ◌-◌, refl, arith}
 use Rattle.std.proofs.lemmas.Bool.{le-ltb}
 use Rattle.mseed_steim.proofs.Walking.{words_none}
-use Rattle.mseed_steim.proofs.ByteRun.{prefix}
 use Rattle.mseed_steim.proofs.data_words.Words.begins_empty.Goals as goal
 
 pub returns-else-next-self : goal.returns-else-next-self

@@ -1,4 +1,4 @@
-use Rattle.std.proofs.Common.{◌≡◌, ◌≢◌, suc, ◌+◌, ◌-◌, ◌*◌, ◌/◌, ◌%◌, ◌<◌, ◌∙◌, [], ◌^◌, ◌∷◌, arith, sym, rules}
+use Rattle.std.proofs.Common.{◌≡◌, ◌≢◌, suc, ◌+◌, ◌-◌, ◌*◌, ◌/◌, ◌%◌, ◌<◌, ◌∙◌, ◌^◌, ◌∷◌, arith, sym, rules}
 use Rattle.std.proofs.lemmas.Nat.{and_mask}
 use Rattle.mseed_steim.specs.Frames.{data_word, word_at, words_from}
 use Rattle.mseed_steim.proofs.Walking.{words_none, words_skip, words_step}

@@ -1,8 +1,6 @@
-use Rattle.std.proofs.Common.{◌-◌, arith}
+use Rattle.std.proofs.Common.{◌-◌}
 use Rattle.mseed_steim.specs.Frames.{data_words, word_count}
 use Rattle.mseed_steim.proofs.Given.{given_items, items_given, words_small}
-use Rattle.mseed_steim.proofs.Few.{few_of}
-use Rattle.mseed_steim.proofs.Walking.{length-words_from}
 use Rattle.mseed_steim.proofs.differences.Differences.over.Goals as goal
 
 pub returns-clause-items : goal.returns-clause-items

@@ -7,7 +7,7 @@ use Rattle.mseed_steim.proofs.differences.DifferencesIterator.next.Goals as goal
 
 -- what was unpacked is all given, so the words' items are what is left
 rest : (c : In-None) → c.args.self.now.items ≡ items_of c.self.inside.scheme c.self.inside.words
-rest c = search (arith)
+rest c = search arith
 
 pub returns-in-None-clause-steps : goal.returns-in-None-clause-steps
 returns-in-None-clause-steps c = grind (arith, rest, stepped)
