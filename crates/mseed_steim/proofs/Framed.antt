@@ -1,4 +1,8 @@
 -- What a walk over a payload's frames answers is what its words say.
+use Rattle.std.proofs.Common.{◌-◌, ◌^◌, negsuc, suc}
+use Rattle.byteorder.specs.Endian.{twos_complement}
+use Rattle.mseed_steim.specs.Frames.{AreOctets, word_at}
+use Rattle.mseed_steim.proofs.Given.{word_small}
 use Rattle.std.proofs.Common.{◌≡◌, ℕ, ◌<◌, List, [], ◌∷◌, ◌++◌, map, length, ℤ, pos}
 use Rattle.std.proofs.lemmas.Bool.Decides.{nat_tests}
 use Rattle.std.proofs.Common.{◌+ℤ◌, arith, refl, ap, sym, ◌∙◌, subst, length-append, None, Ok}
@@ -17,6 +21,16 @@ use Rattle.mseed_steim.proofs.Folded.{last_of, Folds, done, ended, over as over_
 use Rattle.mseed_steim.proofs.Folds.{some_met}
 use Rattle.mseed_steim.proofs.Summed.{length-sums}
 use Rattle.mseed_steim.proofs.Prefixes.{Ending, begin_items, end_items, giving, last_ends, last_item}
+
+-- the payload's first constant is a sample
+pub minus : (x m : ℕ) → x < suc m → pos x +ℤ negsuc m ≡ negsuc (m - x)
+minus x m h = search arith
+
+number_fits : (x : ℕ) → x < 2 ^ 32 → IsSample (twos_complement 4 x)
+number_fits x small = search (arith, minus)
+
+pub constant_fits : (p : List ℕ) → AreOctets p → (k : ℕ) → IsSample (twos_complement 4 (word_at p k))
+constant_fits p octets k = number_fits (word_at p k) (word_small p k octets)
 
 adds_longer : (x : ℤ) (ds ss t : List ℤ) → Adds x ds ss → Adds x (ds ++ t) ss
 adds_longer x ds [] t h = tt

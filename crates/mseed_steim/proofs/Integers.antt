@@ -1,7 +1,7 @@
 -- A payload of integers.
 use Rattle.mseed_steim.specs.Frames.{AreOctets}
 use Rattle.std.proofs.Common.{◌≡◌, ℕ, zero, suc, ◌+◌, ◌-◌, ◌*◌, ◌/◌, ◌<◌, ◌≤◌, ◌^◌, List, [], ◌∷◌, length, ℤ}
-use Rattle.std.proofs.Common.{pos, negsuc, ◌+ℤ◌, ◌-ℤ◌, arith, refl, ap, ◌∙◌, slice_get, Some, Ok}
+use Rattle.std.proofs.Common.{pos, negsuc, ◌-ℤ◌, arith, refl, ap, ◌∙◌, slice_get, Some, Ok}
 use Rattle.std.proofs.Math.Nat.{mul-suc}
 use Rattle.byteorder.specs.Endian.{twos_complement}
 use Rattle.byteorder.specs.Numbers.{big_from-lt, little_from-lt}
@@ -15,13 +15,11 @@ use Rattle.mseed_steim.specs.declared.fault.Ends.{Ends}
 use Rattle.mseed_steim.specs.private.Digits.{signed}
 use Rattle.mseed_steim.specs.Samples.{AnswersPayload, AreEnds, BeginsWith, IsPayloadReading, bytes_of}
 use Rattle.mseed_steim.proofs.Spelled.{signed_within, signed_residue}
+use Rattle.mseed_steim.proofs.Framed.{minus}
 
 pub number_lt : (order : Order) (w place : ℕ) (p : List ℕ) → AreOctets p → number_at order w place p < 256 ^ w
 number_lt Big w place p octets = big_from-lt place w p octets
 number_lt Little w place p octets = little_from-lt place w p octets
-
-minus : (x m : ℕ) → x < suc m → pos x +ℤ negsuc m ≡ negsuc (m - x)
-minus x m h = search arith
 
 minus_all : (x m : ℕ) → x < m → pos x -ℤ pos m ≡ negsuc (m - 1 - x)
 minus_all x zero h = absurd (omega arith)

@@ -62,7 +62,7 @@ pub(crate) fn turn(plane: u8x16, rows: u8x16, table: Rows) -> u8x16
 
 /// The weighted sum of a part of a plane of bytes.
 #[inline(always)]
-#[tactic(auto, using(crate::proofs::LaneTables::and_fits, std::proofs::lemmas::Simd::dot4_Fits, crate::proofs::LaneTables::more_below))]
+#[tactic(auto, using(crate::proofs::Rules::part_by))]
 pub(crate) fn part(plane: u8x16, rows: u8x16, mask: Rows, weight: Rows) -> u32x4
     requires rows { Each1 (λ r. r < 16) rows }
     requires long { length weight ≡ 16 }
