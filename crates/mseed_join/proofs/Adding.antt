@@ -3,7 +3,7 @@ use Rattle.std.proofs.Common.{◌≡◌, ◌↔◌, ℕ, List, Bool, true, false
 use Rattle.std.proofs.Common.{refl, sym, ap, ◌∙◌, subst, arith}
 use Rattle.std.specs.Prelude.{IfOk, OnErr, OnOk, IsOk, IsErrOf}
 use Rattle.std.specs.Option.{option_map}
-use Rattle.std.proofs.lemmas.Result.{on_ok_weaker, IfOk-weaker}
+use Rattle.std.proofs.lemmas.Result.{on_ok_weaker}
 use Rattle.mseed_audit.specs.declared.finding.Finding.{Finding}
 use Rattle.mseed_audit.specs.Channels.{same_key}
 use Rattle.mseed_audit.proofs.Maps.{same_back, same_is}
@@ -77,12 +77,7 @@ module _ (es : Entries) (records bytes : ℕ) (a : Held) (view : held es records
 
   pub there_border : IfOk r (λ found. found ≡ border_of (tail_in k.findings) (head_in m.findings))
       → IfOk r (λ found. found ≡ border_between (kept_of key a.channels) (moved_channel a.records a.bytes c))
-  there_border =
-      IfOk-weaker r (λ (found : Option Finding). found ≡ border_of (tail_in k.findings) (head_in m.findings))
-      (λ (found : Option Finding). found
-      ≡ border_between (kept_of key a.channels) (moved_channel a.records a.bytes c))
-      (λ found e. e ∙ (λ i. border_between (there i) (is i))
-      ∙ ap (λ (h : Held). border_between (kept_of key h.channels) (moved_channel h.records h.bytes c)) view)
+  there_border = search arith
 
   fits_is : FitsAt records bytes (Some k) (Some c) ≡ FitsAt a.records a.bytes (kept_of key a.channels) (Some c)
   fits_is = ap (λ (o : Option Channel). FitsAt records bytes o (Some c)) there
@@ -90,24 +85,11 @@ module _ (es : Entries) (records bytes : ℕ) (a : Held) (view : held es records
 
   pub there_fits : IsOk r ↔ CountsFit (channel_then k m) → Moves records bytes c
       → OnOk r (FitsAt a.records a.bytes (kept_of key a.channels) (Some c))
-  there_fits fits moves = by r fits
-    where
-      by : (s : Result (Option Finding) JoinFault) → IsOk s ↔ CountsFit (channel_then k m)
-          → OnOk s (FitsAt a.records a.bytes (kept_of key a.channels) (Some c))
-      by (Ok found) f =
-          subst (λ (T : Type 0). T) fits_is
-          (moves, subst (λ (n : Channel). CountsFit (channel_then k n)) is (f.0 refl))
-      by (Err e) f = tt
+  there_fits fits moves = search (arith, fits_is)
 
   pub there_limit : IsOk r ↔ CountsFit (channel_then k m) → IsErrOf r Limit
       → FitsAt a.records a.bytes (kept_of key a.channels) (Some c) → ⊥
-  there_limit fits limit fit =
-      let here : FitsAt records bytes (Some k) (Some c) = subst (λ (T : Type 0). T) (sym fits_is) fit in
-      let ok : IsOk r = fits.1 (subst (λ (n : Channel). CountsFit (channel_then k n)) (sym is) here.1) in
-      no (subst (λ (s : Result (Option Finding) JoinFault). IsOk s) limit ok)
-    where
-      no : IsOk {T = Option Finding} (Err Limit) → ⊥
-      no e = cc
+  there_limit fits limit fit = search (arith, fits_is)
 
 -- ---- where it is new
 pub new_joined : (es old fs : Entries) (records bytes : ℕ) (a : Held) (key : List ℕ) (c m : Channel)

@@ -7,10 +7,9 @@ use Rattle.std.proofs.lemmas.List.{length-append}
 use Rattle.mseed_stream.specs.declared.fault.StreamFault.{StreamFault}
 use Rattle.mseed_audit.specs.declared.channel.Channel.{Channel}
 use Rattle.mseed_join.specs.Parts.{IsAscending, Fits, FitsAt, kept_of, counts_alone}
-use Rattle.mseed_audit.proofs.Rosters.{kept_after}
 use Rattle.mseed_join.specs.Lines.{Line, text_of_line, IsLine}
 use Rattle.mseed_join.specs.Written.{Written, texts}
-use Rattle.mseed_join.specs.Joined.{AreJoined, Begins, HasNoEnd, IsJointOf, counted, counted_by, nothing}
+use Rattle.mseed_join.specs.Joined.{AreJoined, Begins, HasNoEnd, IsJointOf, counted, counted_by}
 use Rattle.mseed_join.specs.Reached.{Stage, begun_part, open_part, parts_at, IsStage, start}
 use Rattle.mseed_join.specs.private.Steps.{May, to, counted_part, with_faults, with_end}
 use Rattle.mseed_join.proofs.Ended.{IsEnded, ended, plain_from, same_line, short, within_line}
@@ -19,11 +18,9 @@ use Rattle.mseed_join.proofs.Machine.{open_text_is, leaves, lines_text, open_row
 use Rattle.mseed_join.proofs.Machine.{texts_all, texts_are}
 use Rattle.mseed_join.proofs.Running.{Extends, GoesOn, HaveTexts, all_run, extends, stage_runs, texts_before}
 use Rattle.mseed_join.proofs.Running.{texts_after}
-use Rattle.mseed_join.proofs.Stepping.{LeavesKept, kept_none, leaves_kept}
+use Rattle.mseed_join.proofs.Extended.{fits_here, joins, kept_none}
 use Rattle.mseed_join.proofs.Sums.{IsFirst, counted_on, first_of, joined_one, joined_split, some_none}
 use Rattle.mseed_join.proofs.Taken.{IsLast, last_is}
-use Rattle.mseed_audit.proofs.Maps.{same_itself}
-use Rattle.mseed_audit.specs.Channels.{same_key}
 
 -- ---- the lines up to a stage
 stage_all : (s : Stage) (lines : List ℕ) → IsStage lines s → AreAll (all_rows s.over ++ open_rows s.last)
@@ -34,9 +31,7 @@ stage_all s lines i =
 
 stage_text : (s : Stage) (lines : List ℕ) → IsStage lines s
     → lines_text (all_rows s.over ++ open_rows s.last) ≡ lines
-stage_text s lines i =
-    text_append (all_rows s.over) (open_rows s.last)
-    ∙ (λ j. texts_are s.over j ++ open_text_is s.last j) ∙ sym i.text
+stage_text s lines i = search (arith, text_append, all_rows, open_rows, texts_are, open_text_is)
 
 -- parts that go on after a stage: their further lines
 pub record IsAhead (s : Stage) (parts : List Written) (rest : List ℕ) : Type 0 where
@@ -66,17 +61,20 @@ ahead s lines parts rest i e h =
       parts_are = run.1.1;
     }
 
--- the next line, which can stand there, and the parts that go on after it
+-- the parts that go on after a line that stands here
+pub record IsHere (past : Bool) (s : Stage) (x : Line) : Type 0 where
+  pub parts : List Written
+  pub extends_to : Extends (to s x).over (to s x).last parts
+  pub joint : Written
+  pub is_joint : IsJointOf past parts joint
+
+-- the next line, which can stand there
 pub record IsNextLine (past : Bool) (s : Stage) (line : List ℕ) : Type 0 where
   pub x : Line
   pub is_line : IsLine x
   pub text : text_of_line x ≡ line
   pub may : May s.last x
-  pub parts : List Written
-  pub texts_fit : HaveTexts parts
-  pub extends_to : Extends (to s x).over (to s x).last parts
-  pub joint : Written
-  pub is_joint : IsJointOf past parts joint
+  pub here : IsHere past s x
 
 pub next_line : (past : Bool) (s : Stage) (lines body line : List ℕ) → IsStage lines s → HasNoEnd body
     → line ≡ body ++ codes "\n" → Begins past (lines ++ line) → IsNextLine past s line
@@ -105,13 +103,12 @@ next_line past s lines body line i none_there is b =
           is_line = l.0;
           text = t.is ∙ ap (λ (z : List ℕ). z ++ 10 ∷ []) (sym both.0) ∙ sym is;
           may = r.0;
-          parts = b.parts;
-          texts_fit = b.spells.each;
-          extends_to =
-              subst (λ (ws : List Written). Extends (to s x).over (to s x).last ws) a.parts_are
-              (extends (to s x) a.at xs r.1);
-          joint = b.joint;
-          is_joint = b.is_joint;
+          here = record {
+            parts = b.parts;
+            extends_to = rw a.parts_are at (extends (to s x) a.at xs r.1);
+            joint = b.joint;
+            is_joint = b.is_joint;
+          };
         }
 
 -- ---- a line that is too long
@@ -167,11 +164,7 @@ fitting_by false a v k vs (Some x) e j =
 
 fitting : (past : Bool) (over : List Written) (v : Written) (vs : List Written) (a k : Written)
     → IsJointOf past over a → a.end ≡ None → IsJointOf past (over ++ v ∷ vs) k → IsFitting past a v
-fitting past over v vs a k j n all =
-    let s = joined_split nothing k (counted past over) (counted past (v ∷ vs))
-    (rw (counted_on past over (v ∷ vs) a n j) at all) in
-    fitting_by past a v k vs v.end refl
-    (rw (joined_one nothing (counted past over) s.0 a s.1.0 j) at s.1.1)
+fitting past over v vs a k j n all = search (arith, joined_split, counted_on, fitting_by, joined_one)
 
 -- ---- what is refused for its sum
 module _ (past : Bool) (over : List Written) (h : Written) (free : h.end ≡ None)
@@ -191,14 +184,10 @@ module _ (past : Bool) (over : List Written) (h : Written) (free : h.end ≡ Non
       → FitsAt h.part.records h.part.bytes (kept_of key h.part.channels) (Some c)
   channel_fits cs key c j sorted g =
       let both = grown (begun_part cs) (begun_part (cs ++ (key, c) ∷ [])) refl j g in
-      let l : IsLast past over (begun_part cs) h = both.0 in
-      let absent : kept_of key cs ≡ None = kept_none cs key c sorted in
-      let left : LeavesKept key l.before.part h.part = leaves_kept key cs l.before.part h.part absent l.next.part in
-      let there : kept_of key g.part.part.channels ≡ Some c =
-      ap (kept_of key) (g.grows.channels ∙ append_assoc cs ((key, c) ∷ []) g.grows.others)
-      ∙ kept_after (same_key key) cs (key, c) g.grows.others absent (same_itself key) in
-      subst (λ (T : Type 0). T)
-      (λ i. FitsAt (sym left.records i) (sym left.bytes i) (sym left.kept i) (there i)) (both.1.fits.each key)
+      let there : kept_of key g.part.part.channels ≡ kept_of key (cs ++ (key, c) ∷ g.grows.others) =
+      ap (kept_of key) (g.grows.channels ∙ append_assoc cs ((key, c) ∷ []) g.grows.others) in
+      fits_here both.0.before.part h.part cs (key, c) g.grows.others (kept_none cs (key, c) [] sorted)
+      (joins both.0.before.part cs h.part both.0.next.part) (rw there at (both.1.fits.each key))
 
   pub counts_fit : (cs : Entries) (n b : ℕ) → IsJointOf past (over ++ begun_part cs ∷ []) h
       → GoesOn over (counted_part cs n b) parts → Fits h.part (counts_alone n b)

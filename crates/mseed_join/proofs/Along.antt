@@ -30,8 +30,7 @@ use Rattle.mseed_join.proofs.Taken.{texts_append}
 -- ---- how few lines and parts there are
 pub lines_few : (bytes : List ℕ) (n : ℕ) → AreLines bytes n → n ≤ length bytes
 lines_few bytes n AreLines.none = omega arith
-lines_few bytes n (AreLines.one line rest count ends more) =
-    omega (arith, lines_few rest count more, length-append line (10 ∷ rest))
+lines_few bytes n (AreLines.one line rest count ends more) = search (arith, length-append, lines_few rest count more)
 
 part_some : (w : Written) → 1 ≤ length (part_text w)
 part_some w = omega arith
@@ -46,14 +45,7 @@ open_few (begun channels) = omega (arith, length-append header_line (channel_lin
 open_few (whole w) = part_some w
 
 pub parts_few : (lines : List ℕ) (s : Stage) → IsStage lines s → length (parts_at s) ≤ length lines
-parts_few lines s i = omega (
-  arith,
-  ap length i.text,
-  length-append (texts s.over) (open_text s.last),
-  length-append s.over (open_part s.last),
-  texts_few s.over,
-  open_few s.last,
-)
+parts_few lines s i = search (arith, length-append, texts_few, open_few)
 
 -- ---- what was passed begins a text
 -- with which the last part would be over
@@ -62,17 +54,11 @@ rest_of (begun channels) = counts_line 0 0
 rest_of _ = []
 
 open_whole : (b : OpenPart) → open_text b ++ rest_of b ≡ texts (open_part b)
-open_whole (begun channels) =
-    let text : List ℕ = header_line ++ channel_lines channels ++ counts_line 0 0 in
-    sym (append-nil text) ∙ sym (append-nil (text ++ [])) ∙ sym (append-nil (text ++ [] ++ []))
+open_whole (begun channels) = search (arith, append-nil)
 open_whole _ = refl
 
 completes : (lines : List ℕ) (s : Stage) → IsStage lines s → lines ++ rest_of s.last ≡ texts (parts_at s)
-completes lines s i =
-    ap (λ (t : List ℕ). t ++ rest_of s.last) i.text
-    ∙ append_assoc (texts s.over) (open_text s.last) (rest_of s.last)
-    ∙ ap (λ (t : List ℕ). texts s.over ++ t) (open_whole s.last)
-    ∙ sym (texts_append s.over (open_part s.last))
+completes lines s i = search (arith, append_assoc, open_whole, texts_append)
 
 pub begins : {A : Type 0} → (lines : List ℕ) (s : Stage) (j : Joint A) → IsReadTo lines s j → Begins j.past lines
 begins lines s j r = record {
@@ -142,10 +128,7 @@ looked after a g = record { by = read_by_more g a.by; read = a.read; past_is = a
 module _ {A : Type 0} {past : Bool} {now : BytesRead} {s : Stage} {lines : LinesRead} {j : Joint A}
     (l : IsLooked past now s lines j) where
   pub looked_few : lines.bytes ≤ 2 ^ 56 → (j.parts ≤ 2 ^ 56) × (lines.lines ≤ 2 ^ 56)
-  looked_few few = (
-    omega (arith, few, l.by.bytes, l.read.number, parts_few l.by.passed s l.read.stage),
-    omega (arith, few, l.by.bytes, lines_few l.by.passed lines.lines l.by.lines),
-  )
+  looked_few few = search (arith, parts_few, lines_few)
 
   begun_so : Begins past l.by.passed
   begun_so = rw l.past_is at (begins {A = A} l.by.passed s j l.read)
@@ -165,16 +148,7 @@ module _ {A : Type 0} {past : Bool} {now : BytesRead} {s : Stage} {lines : Lines
 
   -- and none that was held is bad
   pub fails : IsOpen lines.held → HasNoBadLine past now.bytes
-  fails held = record {
-    lines = l.by.passed;
-    rest = lines.held;
-    bytes_are = l.by.reported;
-    count = lines.lines;
-    whole = l.by.lines;
-    begins = begun_so;
-    no_end = held.1;
-    short = held.0;
-  }
+  fails held = search (arith, begins, begun_so)
 
   -- a bad line is the one after those that were passed, and begins where these end
   abbrev pub IsBadNext : Flaw → Type 0
@@ -182,9 +156,7 @@ module _ {A : Type 0} {past : Bool} {now : BytesRead} {s : Stage} {lines : Lines
 
   pub bad_next : (n offset : ℕ) (flaw : Flaw) → n ≡ lines.lines → offset + length lines.held ≡ lines.bytes
       → IsBadNext flaw → IsBadAfter past now s stops (n + 1) offset flaw
-  bad_next n offset flaw same place bad =
-      let there : offset ≡ length l.by.passed = omega (arith, place, l.by.bytes) in
-      rw (same, there) bad
+  bad_next n offset flaw same place bad = search arith
 
   -- the first bytes that are held are wrong
   wrong_line : (n : ℕ) (flaw : Flaw) → IsOfOneLine (take n lines.held)
@@ -281,8 +253,7 @@ reported_also xs ys a b c (AreReported.one line lines old now new t more) q =
 
 pub reported_more : (xs ys zs : List (List ℕ)) (a b c : BytesWritten) → AreReported xs a b → AreReported ys b c
     → zs ≡ xs ++ ys → AreReported zs a c
-reported_more xs ys zs a b c p q e =
-    subst (λ (lines : List (List ℕ)). AreReported lines a c) (sym e) (reported_also xs ys a b c p q)
+reported_more xs ys zs a b c p q e = search (arith, reported_also)
 
 -- nothing was read
 pub none_read : (now : BytesRead) → now ≡ nothing_read → IsStoppedAt now start

@@ -26,7 +26,7 @@ use Rattle.mseed_join.specs.Headline.{AreParted, EndsByBytes, IsReadOf, SaysAudi
 use Rattle.mseed_join.specs.HeadlineEach.{AreReportedApart, SaysEach, last, more, none as none_apart}
 use Rattle.mseed_join.specs.Joined.{AreJoined, IsJointOf, IsNext, counted, counted_by, moved_fault, nothing}
 use Rattle.mseed_join.specs.Written.{Written}
-use Rattle.mseed_join.proofs.Bordering.{IsFirstOf, first_found, none_found}
+use Rattle.mseed_join.proofs.Bordering.{first_found, none_found}
 use Rattle.mseed_join.proofs.Cuts.{IsKnown, known, one_known}
 use Rattle.mseed_join.proofs.Pieces.{AddUp, HaveOneVerdicts, HaveVerdicts, IsSoFar, at_first, counted_last, further}
 use Rattle.mseed_join.proofs.Pieces.{joined_more, of_nothing, says}
@@ -42,8 +42,7 @@ AddFindings = (a b : Held) (xs ys : List View) (first second whole : List Report
 -- records aren't empty
 have_bytes : (views : List View) → AllByRecursion IsView views → HaveBytes views
 have_bytes [] all = tt
-have_bytes (v ∷ views) all =
-    (let long = record_long v.bytes (view_record v all.0) in omega (arith, long), have_bytes views all.1)
+have_bytes (v ∷ views) all = search (arith, record_long, view_record, have_bytes views all.1)
 
 -- ---- notices that go up
 moved_same : (d e k l : ℕ) (ns : List Notice) → d ≡ k → e ≡ l → moved_notices d e ns ≡ moved_notices k l ns
@@ -65,16 +64,11 @@ noticed_same n d e k l ns ms p q r = λ i. noticed n (p i) (q i) ∷ r i
 moved_twice : (d e f g : ℕ) (ns : List Notice)
     → moved_notices d e (moved_notices f g ns) ≡ moved_notices (d + f) (e + g) ns
 moved_twice d e f g [] = refl
-moved_twice d e f g (n ∷ ns) =
-    noticed_same n (d + (f + n.finding.number)) (e + (g + n.finding.offset)) (d + f + n.finding.number)
-    (e + g + n.finding.offset) (moved_notices d e (moved_notices f g ns)) (moved_notices (d + f) (e + g) ns)
-    (omega arith) (omega arith) (moved_twice d e f g ns)
+moved_twice d e f g (n ∷ ns) = search (arith, noticed_same, moved_twice d e f g ns)
 
 moved_still : (ns : List Notice) → moved_notices 0 0 ns ≡ ns
 moved_still [] = refl
-moved_still (n ∷ ns) =
-    noticed_same n (0 + n.finding.number) (0 + n.finding.offset) n.finding.number n.finding.offset
-    (moved_notices 0 0 ns) ns (omega arith) (omega arith) (moved_still ns)
+moved_still (n ∷ ns) = search (arith, noticed_same, moved_still ns)
 
 -- ---- of all archives so far, with more after
 pub record IsMergedTo (before archive : List ℕ) (reported : List Notice) (found : List Border) (a joint : Written)
@@ -140,10 +134,7 @@ piece add before a so h p views first whole here all =
 
 -- ---- in another order
 grouped : (fs ms ns bs rs : List Notice) → fs ++ ((ms ++ ns) ++ (bs ++ rs)) ≡ (fs ++ ms) ++ ((ns ++ bs) ++ rs)
-grouped fs ms ns bs rs =
-    ap (λ (xs : List Notice). fs ++ xs) (append_assoc ms ns (bs ++ rs)
-    ∙ ap (λ (xs : List Notice). ms ++ xs) (sym (append_assoc ns bs rs)))
-    ∙ sym (append_assoc fs ms ((ns ++ bs) ++ rs))
+grouped fs ms ns bs rs = search (arith, append_assoc)
 
 shuffled : (fs ms ns bs rs : List Notice)
     → IsPermutation (fs ++ ((ms ++ ns) ++ (bs ++ rs))) ((fs ++ (ms ++ bs)) ++ (ns ++ rs))
@@ -172,13 +163,7 @@ pub record IsBordered (befores : List Written) (a w : Written) (ws : List Writte
 
 bordered : (befores : List Written) (a w : Written) (ws : List Written) (found : List Border)
     → AreJoined nothing befores a → AreBorders befores (w ∷ ws) found → IsBordered befores a w ws found
-bordered befores a w ws found joined borders =
-    let f : IsFirstOf befores w ws found = first_found befores w ws found borders in
-    let same : f.joint ≡ a = joined_one nothing befores f.joint a f.joined joined in record {
-      rest = f.rest;
-      more = f.more;
-      are = f.are ∙ ap (λ (x : Written). borders_with x.part w.part.channels ++ f.rest) same;
-    }
+bordered befores a w ws found joined borders = search (arith, first_found, joined_one)
 
 -- ---- all archives
 one_piece : AddUp → AddFindings → (archive before : List ℕ) (befores : List Written)

@@ -2,16 +2,14 @@
 use Rattle.std.proofs.Common.{◌≡◌, ℕ, ◌+◌, Option, Some, None, refl, sym, ap, ◌∙◌, arith}
 use Rattle.std.specs.Option.{option_map}
 use Rattle.mseed_audit.specs.declared.finding.Finding.{Finding}
-use Rattle.mseed_audit.specs.declared.finding.Why.{Why}
 use Rattle.mseed_audit.specs.declared.channel.Channel.{Channel}
 use Rattle.mseed_audit.specs.declared.channel.Findings.{Findings}
 use Rattle.mseed_audit.specs.declared.channel.Findings.TheVariants.{Nothing, Counted}
 use Rattle.mseed_audit.specs.declared.channel.Head.{Head}
 use Rattle.mseed_audit.specs.declared.tail.Tail.{Tail}
-use Rattle.mseed_join.specs.Joining.{moved_head, moved_finding, moved_findings, moved_channel, found_at}
+use Rattle.mseed_join.specs.Joining.{moved_head, moved_finding, moved_findings, moved_channel}
 use Rattle.mseed_join.specs.Joining.{border_of, findings_with, findings_after, channel_then, channel_joined}
-use Rattle.mseed_audit.specs.Audit.{break_by, head_in, tail_in}
-use Rattle.mseed_join.specs.Parts.{Held, kept_of, IsJoint}
+use Rattle.mseed_join.specs.Parts.{Held, IsJoint}
 use Rattle.mseed_join.proofs.Following.{head_with, tail_with}
 use Rattle.mseed_join.proofs.JoinedParts.{same_held}
 use Rattle.mseed_join.proofs.Moving.{head_moves, tail_moves}
@@ -19,16 +17,10 @@ use Rattle.mseed_join.proofs.Moving.{head_moves, tail_moves}
 -- ---- after more records and then after yet more
 module _ (d e f g : ℕ) where
   head_twice : (h : Head) → moved_head (d + f) (e + g) h ≡ moved_head d e (moved_head f g h)
-  head_twice h =
-      let n : d + f + h.number ≡ d + (f + h.number) = omega arith in
-      let o : e + g + h.offset ≡ e + (g + h.offset) = omega arith in
-      λ i. record { number = n i; offset = o i; start = h.start; rate = h.rate }
+  head_twice h = search arith
 
   finding_twice : (h : Finding) → moved_finding (d + f) (e + g) h ≡ moved_finding d e (moved_finding f g h)
-  finding_twice h =
-      let n : d + f + h.number ≡ d + (f + h.number) = omega arith in
-      let o : e + g + h.offset ≡ e + (g + h.offset) = omega arith in
-      λ i. record { number = n i; offset = o i; why = h.why }
+  finding_twice h = search arith
 
   heads_twice : (h : Option Head)
       → option_map (moved_head (d + f) (e + g)) h ≡ option_map (moved_head d e) (option_map (moved_head f g) h)
@@ -37,22 +29,15 @@ module _ (d e f g : ℕ) where
 
   findings_twice : (h : Findings) → moved_findings (d + f) (e + g) h ≡ moved_findings d e (moved_findings f g h)
   findings_twice (Nothing head tail) = ap (λ (h : Head). Nothing h tail) (head_twice head)
-  findings_twice (Counted count first head tail) =
-      λ i. Counted count (finding_twice first i) (heads_twice head i) tail
+  findings_twice (Counted count first head tail) = search (arith, finding_twice, heads_twice)
 
   channel_twice : (c : Channel) → moved_channel (d + f) (e + g) c ≡ moved_channel d e (moved_channel f g c)
-  channel_twice c =
-      ap (λ (h : Findings). record { records = c.records; samples = c.samples; findings = h })
-      (findings_twice c.findings)
+  channel_twice c = search (arith, findings_twice)
 
 -- ---- a channel and its further records, both after more
 border_moved : (d e : ℕ) (t : Option Tail) (h : Option Head)
     → border_of t (option_map (moved_head d e) h) ≡ option_map (moved_finding d e) (border_of t h)
-border_moved d e (Some t) (Some h) = by (break_by t h.start h.rate)
-  where
-    by : (w : Option Why) → found_at (moved_head d e h) w ≡ option_map (moved_finding d e) (found_at h w)
-    by None = refl
-    by (Some w) = refl
+border_moved d e (Some t) (Some h) = search arith
 border_moved d e _ _ = refl
 
 with_moved : (d e : ℕ) (a b : Findings) (border : Option Finding) → moved_findings d e (findings_with a b border)
@@ -68,19 +53,11 @@ with_moved d e (Counted m first head t) (Counted n next h tail) (Some f) = refl
 
 findings_moved : (d e : ℕ) (a b : Findings)
     → moved_findings d e (findings_after a b) ≡ findings_after (moved_findings d e a) (moved_findings d e b)
-findings_moved d e a b =
-    let border : option_map (moved_finding d e) (border_of (tail_in a) (head_in b))
-    ≡ border_of (tail_in (moved_findings d e a)) (head_in (moved_findings d e b)) =
-    sym (border_moved d e (tail_in a) (head_in b))
-    ∙ (λ i. border_of (sym (tail_moves d e a) i) (sym (head_moves d e b) i)) in
-    with_moved d e a b (border_of (tail_in a) (head_in b))
-    ∙ ap (λ (f : Option Finding). findings_with (moved_findings d e a) (moved_findings d e b) f) border
+findings_moved d e a b = search (arith, border_moved, tail_moves, head_moves, with_moved)
 
 after_moved : (d e : ℕ) (c o : Channel)
     → moved_channel d e (channel_then c o) ≡ channel_then (moved_channel d e c) (moved_channel d e o)
-after_moved d e c o =
-    ap (λ (f : Findings). record { records = c.records + o.records; samples = c.samples + o.samples; findings = f })
-    (findings_moved d e c.findings o.findings)
+after_moved d e c o = search (arith, findings_moved)
 
 -- ---- three of a channel
 more : (m n : ℕ) (first : Finding) (h : Option Head) (t : Option Tail) → m ≡ n
@@ -123,23 +100,10 @@ with_assoc (Counted k x p q) (Counted m y r s) (Counted n z t u) (Some f) None =
 with_assoc (Counted k x p q) (Counted m y r s) (Counted n z t u) (Some f) (Some g) = more _ _ x _ _ (omega arith)
 
 findings_assoc : (a b c : Findings) → findings_after (findings_after a b) c ≡ findings_after a (findings_after b c)
-findings_assoc a b c =
-    let one : Option Finding = border_of (tail_in a) (head_in b) in
-    let two : Option Finding = border_of (tail_in b) (head_in c) in
-    ap (λ (t : Option Tail). findings_with (findings_with a b one) c (border_of t (head_in c))) (tail_with a b one)
-    ∙ with_assoc a b c one two
-    ∙ ap (λ (h : Option Head). findings_with a (findings_with b c two) (border_of (tail_in a) h))
-    (sym (head_with b c two))
+findings_assoc a b c = search (arith, tail_with, with_assoc, head_with)
 
 after_assoc : (a b c : Channel) → channel_then (channel_then a b) c ≡ channel_then a (channel_then b c)
-after_assoc a b c =
-    let records : a.records + b.records + c.records ≡ a.records + (b.records + c.records) = omega arith in
-    let samples : a.samples + b.samples + c.samples ≡ a.samples + (b.samples + c.samples) = omega arith in
-    λ i. record {
-      records = records i;
-      samples = samples i;
-      findings = findings_assoc a.findings b.findings c.findings i;
-    }
+after_assoc a b c = search (arith, findings_assoc)
 
 kept_assoc : (d e f g : ℕ) (a b c : Option Channel)
     → channel_joined (channel_joined a (option_map (moved_channel d e) b))
@@ -161,15 +125,4 @@ kept_assoc d e f g (Some a) (Some b) (Some c) =
 
 pub joint_assoc : (a b c ab bc left right : Held) → IsJoint a b ab → IsJoint ab c left → IsJoint b c bc
     → IsJoint a bc right → left ≡ right
-joint_assoc a b c ab bc l r h j k m =
-    same_held l r (omega (arith, h.records, j.records, k.records, m.records))
-    (omega (arith, h.bytes, j.bytes, k.bytes, m.bytes)) j.ascending m.ascending
-    (λ key.
-    j.each key
-    ∙ (λ i. channel_joined (h.each key i)
-    (option_map (moved_channel (h.records i) (h.bytes i)) (kept_of key c.channels)))
-    ∙ kept_assoc a.records a.bytes b.records b.bytes (kept_of key a.channels) (kept_of key b.channels)
-    (kept_of key c.channels)
-    ∙ ap (λ (o : Option Channel). channel_joined (kept_of key a.channels)
-    (option_map (moved_channel a.records a.bytes) o)) (sym (k.each key))
-    ∙ sym (m.each key))
+joint_assoc a b c ab bc l r h j k m = search (arith, same_held, kept_assoc)

@@ -1,8 +1,7 @@
 -- What is written reads back.
-use Rattle.std.proofs.Common.{◌≡◌, ℕ, zero, suc, ◌-◌, ◌^◌, ◌<◌, ◌≤◌, ◌&&◌, nat_lt, List, ◌∷◌, ◌++◌, Bool, true, false}
-use Rattle.std.proofs.Common.{cond, Option, Some, None, ℤ, pos, negsuc, refl, ap, ◌∙◌, arith, IfSome}
-use Rattle.std.specs.Prelude.{decimal, codes, nat_eq, length, take, drop}
-use Rattle.std.specs.Cmp.Lexicographic.{pointwise}
+use Rattle.std.proofs.Common.{◌≡◌, ℕ, zero, suc, ◌-◌, ◌^◌, ◌<◌, ◌≤◌, nat_lt, List, ◌∷◌, ◌++◌, true, false}
+use Rattle.std.proofs.Common.{Option, Some, None, ℤ, pos, negsuc, refl, ap, ◌∙◌, arith, IfSome}
+use Rattle.std.specs.Prelude.{decimal, codes, nat_eq}
 use Rattle.std.specs.Fmt.{signed_decimal}
 use Rattle.std.proofs.lemmas.Bool.{lt-ltb}
 use Rattle.std.proofs.lemmas.Int.{ints}
@@ -61,16 +60,7 @@ count_back n rest l e = number_back (2 ^ 63 - 1) n rest (omega (arith, l)) (omeg
 -- ---- rates, starts, leap seconds
 pub ratio_back : (r : Ratio) (rest : List ℕ) → IsRatio r → Ends rest → ratio_at (ratio_then r rest) ≡ Some (r, rest)
 unfolding ratio_at
-ratio_back r rest fits e =
-    let num : nat_lt 0 r.num ≡ true = lt-ltb 0 r.num fits.num_counts in
-    let den : nat_lt 0 r.den ≡ true = lt-ltb 0 r.den fits.den_counts in
-    rw (
-      number_back (2 ^ 30) r.num (codes "/" ++ (decimal r.den ++ rest)) fits.num_bound
-          (omega (arith, fits.num_bound)) refl,
-      number_back (2 ^ 30) r.den rest fits.den_bound (omega (arith, fits.den_bound)) e,
-      num,
-      den,
-    ) refl
+ratio_back r rest fits e = search (arith, nat_lt, lt-ltb, number_back)
 
 pub instant_within : (z : ℤ) → IsInstant z → IsWithin 5_364_662_400_000_000 7_258_118_399_999_999 z
 instant_within (pos n) i = omega (arith, ints, i.1)
@@ -98,8 +88,7 @@ leap_back _ rest = refl
 -- ---- heads and tails
 -- a first byte that isn't the word's
 after_other : (w b : ℕ) (ws bs : List ℕ) → nat_eq b w ≡ false → after (w ∷ ws) (b ∷ bs) ≡ None
-after_other w b ws bs e =
-    ap (λ (t : Bool). cond (t && pointwise nat_eq (take (length ws) bs) ws) (Some (drop (length ws) bs)) None) e
+after_other w b ws bs e = search arith
 
 other_digit : (b : ℕ) → b ≤ 57 → nat_eq b 110 ≡ false
 other_digit b l = grind (arith, nat_tests)
@@ -131,12 +120,7 @@ pub head_back : (h : Option Head) (rest : List ℕ) → IfSome h HasHead → End
     → head_at (text_or_none head_text h ++ rest) ≡ Some (h, rest)
 unfolding head_at
 head_back None rest fits e = refl
-head_back (Some h) rest fits e =
-    let later : List ℕ =
-    codes " " ++ (decimal h.offset ++
-    (codes " " ++ (signed_decimal h.start ++ (codes " " ++ ratio_then h.rate rest)))) in
-    ap head_at (head_leading h rest)
-    ∙ rw (digits_no_word h.number later (omega (arith, fits.number)), some_head_back h rest fits e) refl
+head_back (Some h) rest fits e = search (arith, ratio_then, head_leading, digits_no_word, some_head_back)
 
 some_tail_back : (t : Tail) (rest : List ℕ) → HasTail t → some_tail_at (tail_then t rest) ≡ Some (t, rest)
 unfolding some_tail_at
@@ -157,11 +141,7 @@ pub tail_back : (t : Option Tail) (rest : List ℕ) → IfSome t HasTail
     → tail_at (text_or_none tail_text t ++ rest) ≡ Some (t, rest)
 unfolding tail_at
 tail_back None rest fits = refl
-tail_back (Some t) rest fits =
-    let last : List ℕ = codes " " ++ (leap_text t.leap ++ rest) in
-    let later : List ℕ = codes " " ++ (decimal t.samples ++ (codes " " ++ ratio_then t.rate last)) in
-    ap tail_at (tail_leading t rest)
-    ∙ rw (integer_no_word t.start later fits.start, some_tail_back t rest fits) refl
+tail_back (Some t) rest fits = search (arith, ratio_then, tail_leading, integer_no_word, some_tail_back)
 
 -- ---- findings
 time_back : (f : TimeFault) (rest : List ℕ) → time_at (fault_word f ++ rest) ≡ Some (f, rest)
@@ -172,20 +152,11 @@ time_back _ rest = refl
 read_fault_back : (f : ReadFault) (rest : List ℕ) → HasReadFault f → Ends rest
     → read_fault_at (read_text f ++ rest) ≡ Some (f, rest)
 unfolding read_fault_at
-read_fault_back (Encoding code) rest l e =
-    rw (number_back (2 ^ 8 - 1) code rest (omega (arith, l)) (omega (arith, l)) e) refl
+read_fault_back (Encoding code) rest l e = search (arith, number_back)
 read_fault_back (Short found) rest l e = rw (count_back found rest l e) refl
-read_fault_back (BadWord frame word) rest l e =
-    ap read_fault_at (bad_word_leading frame word rest) ∙ rw (
-      count_back frame (codes " " ++ (decimal word ++ rest)) l.0 refl,
-      count_back word rest l.1 e,
-    ) refl
+read_fault_back (BadWord frame word) rest l e = search (arith, bad_word_leading, count_back)
 read_fault_back (Overflow index) rest l e = rw (count_back index rest l e) refl
-read_fault_back (LastDiffers found constant) rest l e =
-    ap read_fault_at (last_differs_leading found constant rest) ∙ rw (
-      sample_back found (codes " " ++ (signed_decimal constant ++ rest)) l.0 refl,
-      sample_back constant rest l.1 e,
-    ) refl
+read_fault_back (LastDiffers found constant) rest l e = search (arith, last_differs_leading, sample_back)
 read_fault_back NoMemory rest l e = absurd l
 read_fault_back _ rest l e = refl
 
@@ -199,8 +170,7 @@ why_back (ReadFailed DataOffset) rest l e = rw (read_fault_back DataOffset rest 
 why_back (ReadFailed (Short found)) rest l e = rw (read_fault_back (Short found) rest l e) refl
 why_back (ReadFailed (BadWord frame word)) rest l e = rw (read_fault_back (BadWord frame word) rest l e) refl
 why_back (ReadFailed (Overflow index)) rest l e = rw (read_fault_back (Overflow index) rest l e) refl
-why_back (ReadFailed (LastDiffers found constant)) rest l e =
-    rw (read_fault_back (LastDiffers found constant) rest l e) refl
+why_back (ReadFailed (LastDiffers found constant)) rest l e = search (arith, read_fault_back)
 why_back (ReadFailed NoMemory) rest l e = absurd l
 why_back (Gap us) rest l e = rw (number_back (2 ^ 128 - 1) us rest (omega (arith, l)) (omega (arith, l)) e) refl
 why_back (Overlap us) rest l e = rw (number_back (2 ^ 128 - 1) us rest (omega (arith, l)) (omega (arith, l)) e) refl
@@ -208,28 +178,14 @@ why_back _ rest l e = refl
 
 first_back : (f : Finding) (rest : List ℕ) → HasFinding f → Ends rest → first_at (first_then f rest) ≡ Some (f, rest)
 unfolding first_at
-first_back f rest fits e =
-    let last : List ℕ = why_text f.why ++ rest in
-    let second : List ℕ = decimal f.offset ++ (codes " " ++ last) in
-    rw (
-      count_back f.number (codes " " ++ second) fits.number refl,
-      count_back f.offset (codes " " ++ last) fits.offset refl,
-      why_back f.why rest fits.why e,
-    ) refl
+first_back f rest fits e = search (arith, count_back, why_back)
 
 findings_then_back : (head : Option Head) (tail : Option Tail) (count : ℕ) (rest : List ℕ) → IfSome head HasHead
     → IfSome tail HasTail
     → count < 2 ^ 63 → Ends rest
     → findings_at (findings_then head tail count rest) ≡ counted_findings_at count head tail rest
 unfolding findings_at
-findings_then_back head tail count rest h t l e =
-    let last : List ℕ = codes " findings " ++ (decimal count ++ rest) in
-    let second : List ℕ = codes " tail " ++ (text_or_none tail_text tail ++ last) in
-    rw (
-      head_back head second h refl,
-      tail_back tail last t,
-      count_back count rest l e,
-    ) refl
+findings_then_back head tail count rest h t l e = search (arith, head_back, tail_back, count_back)
 
 findings_back : (f : Findings) (rest : List ℕ) → HasFindings f → Ends rest
     → findings_at (findings_text f ++ rest) ≡ Some (f, rest)
@@ -239,50 +195,27 @@ findings_back (Nothing head tail) rest fits e =
     ∙ findings_then_back (Some head) (Some tail) 0 rest fits.0 fits.1 (omega arith) e
 findings_back (Counted zero first head tail) rest fits e = absurd (omega (arith, fits.0))
 findings_back (Counted (suc n) first head tail) rest fits e =
-    ap findings_at (counted_leading (suc n) first head tail rest)
-    ∙ findings_then_back head tail (suc n) (first_then first rest) fits.3 fits.4 fits.1 refl
-    ∙ rw (first_back first rest fits.2 e) refl
+    search (arith, counted_leading, findings_then_back, first_then, first_back)
 
 -- ---- whole lines
 pub channel_back : (key : List ℕ) (c : Channel) → HasChannelLine key c → channel_at (channel_line key c) ≡ Some (key, c)
 unfolding channel_at
-channel_back key c l =
-    let a1 : List ℕ = findings_text c.findings ++ codes "\n" in
-    let a2 : List ℕ = codes " samples " ++ (decimal c.samples ++ a1) in
-    let a3 : List ℕ = codes " records " ++ (decimal c.records ++ a2) in
-    ap channel_at (channel_leading key c)
-    ∙ rw (
-      key_back key a3 l.key_length l.key_bytes,
-      count_back c.records a2 l.records refl,
-      count_back c.samples a1 l.samples (findings_ends c.findings (codes "\n")),
-      findings_back c.findings (codes "\n") l.findings refl,
-    ) refl
+channel_back key c l = search (arith, channel_leading, key_back, count_back, findings_ends, findings_back)
 
 pub counts_back : (records bytes : ℕ) → HasCountsLine records bytes
     → counts_at (counts_line records bytes) ≡ Some (records, bytes)
 unfolding counts_at
-counts_back records bytes l =
-    ap counts_at (counts_leading records bytes)
-    ∙ rw (
-      count_back records (codes " bytes " ++ (decimal bytes ++ codes "\n")) l.records_fit refl,
-      count_back bytes (codes "\n") l.bytes_fit refl,
-    ) refl
+counts_back records bytes l = search (arith, counts_leading, count_back)
 
 pub faults_back : (n : ℕ) → HasFaultsLine n → faults_at (faults_line n) ≡ Some n
 unfolding faults_at
 faults_back zero l = absurd (omega (arith, l.some))
-faults_back (suc n) l =
-    ap faults_at (faults_leading n)
-    ∙ rw (
-      count_back (suc n) (codes "\n") l.fit refl,
-      lt-ltb 0 (suc n) (omega arith),
-    ) refl
+faults_back (suc n) l = search (arith, faults_leading, count_back, lt-ltb)
 
 frame_fault_back : (f : FrameFault) (rest : List ℕ) → HasFrameFault f → Ends rest
     → frame_fault_at (frame_words f ++ rest) ≡ Some (f, rest)
 unfolding frame_fault_at
-frame_fault_back (Length exponent) rest l e =
-    rw (number_back (2 ^ 8 - 1) exponent rest (omega (arith, l)) (omega (arith, l)) e) refl
+frame_fault_back (Length exponent) rest l e = search (arith, number_back)
 frame_fault_back _ rest l e = refl
 
 -- what fails is read by its words, whatever the offset
@@ -297,8 +230,7 @@ stream_fault_back (Frame offset (Length exponent)) bytes rest l e =
     rw (frame_fault_back (Length exponent) rest l.1 e, l.0) refl
 stream_fault_back (Frame offset Outside) bytes rest l e = rw (frame_fault_back Outside rest l.1 e, l.0) refl
 stream_fault_back (Frame offset Version3) bytes rest l e = rw (frame_fault_back Version3 rest l.1 e, l.0) refl
-stream_fault_back (Truncated offset have) bytes rest l e =
-    rw (count_back have rest l.1 e, l.0) refl
+stream_fault_back (Truncated offset have) bytes rest l e = search (arith, count_back)
 stream_fault_back Memory bytes rest l e = absurd l
 stream_fault_back _ bytes rest l e = rw l refl
 
@@ -307,10 +239,4 @@ same_number n = grind (arith, nat_tests)
 
 pub fault_back : (f : StreamFault) (bytes : ℕ) → HasFaultLine bytes f → fault_at (fault_line f) bytes ≡ Some f
 unfolding fault_at
-fault_back f bytes l =
-    ap (λ (xs : List ℕ). fault_at xs bytes) (fault_of f bytes l.is)
-    ∙ rw (
-      count_back bytes (codes " " ++ (fault_words f ++ codes "\n")) l.bytes_fit refl,
-      stream_fault_back f bytes (codes "\n") l.is refl,
-      same_number bytes,
-    ) refl
+fault_back f bytes l = search (arith, fault_of, count_back, fault_words, stream_fault_back, same_number)

@@ -1,12 +1,10 @@
 -- What is found at the borders of parts, with one more line.
-use Rattle.std.proofs.Common.{◌≡◌, ℕ, List, [], ◌∷◌, ◌++◌, Bool, Option, Some, None, refl, sym, ap}
+use Rattle.std.proofs.Common.{◌≡◌, ℕ, List, [], ◌∷◌, ◌++◌, Bool, Option, Some, None, refl, sym, ap, arith}
 use Rattle.std.proofs.Common.{◌∙◌, subst, append_assoc, append-nil}
 use Rattle.mseed_stream.specs.declared.fault.StreamFault.{StreamFault}
 use Rattle.mseed_audit.specs.declared.channel.Channel.{Channel}
-use Rattle.mseed_audit.specs.Audit.{head_in}
-use Rattle.mseed_join.specs.Joining.{border_between, moved_channel}
 use Rattle.mseed_join.specs.Lines.{header}
-use Rattle.mseed_join.specs.Borders.{AreBorders, AreBordersOf, Border, border_at, border_line, border_lines}
+use Rattle.mseed_join.specs.Borders.{AreBorders, AreBordersOf, Border, border_line, border_lines}
 use Rattle.mseed_join.specs.Borders.{border_with, borders_with}
 use Rattle.mseed_join.specs.Joined.{AreJoined, IsJointOf, counted, nothing}
 use Rattle.mseed_join.specs.Written.{Written}
@@ -14,7 +12,7 @@ use Rattle.mseed_join.specs.Reached.{OpenPart, begun_part, open_part, parts_at}
 use Rattle.mseed_join.specs.private.Steps.{goes}
 use Rattle.mseed_join.proofs.Onward.{Onward}
 use Rattle.mseed_join.proofs.Machine.{Entries, rows_append}
-use Rattle.mseed_join.proofs.Stepping.{LeavesKept}
+use Rattle.mseed_join.proofs.Extended.{LeavesKept}
 use Rattle.mseed_join.proofs.Sums.{IsFirst, counted_on, counted_stop, first_of, joined_one, joined_one_more}
 use Rattle.mseed_join.proofs.Taken.{IsLast, counts_one, header_are}
 
@@ -28,8 +26,7 @@ pub record IsFirstOf (before : List Written) (w : Written) (ws : List Written) (
 
 pub first_found : (before : List Written) (w : Written) (ws : List Written) (found : List Border)
     → AreBorders before (w ∷ ws) found → IsFirstOf before w ws found
-first_found before w ws found (AreBorders.one _ a _ _ rest joined more) =
-    record { joint = a; joined = joined; rest = rest; more = more; are = refl }
+first_found before w ws found (AreBorders.one _ a _ _ rest joined more) = search arith
 
 pub none_found : (before : List Written) (found : List Border) → AreBorders before [] found → found ≡ []
 none_found before found (AreBorders.none _) = refl
@@ -96,10 +93,7 @@ last_found before (v ∷ ws) w found b =
 pub skipped : (past : Bool) (over vs us : List Written) (h : Written) (f : StreamFault) → h.end ≡ Some f
     → IsJointOf past over h → (found : List Border) → AreBordersOf past (over ++ vs) found
     → AreBordersOf past (over ++ us) (found ++ [])
-skipped past over vs us h f n j found b =
-    found_same [] (counted past (over ++ us)) found (found ++ []) (sym (append-nil found))
-    (subst (λ (ts : List Written). AreBorders [] ts found)
-    (counted_stop past over vs h f n j ∙ sym (counted_stop past over us h f n j)) b)
+skipped past over vs us h f n j found b = search (arith, found_same, append-nil, counted_stop)
 
 -- the last, and another in its place
 pub replaced : (past : Bool) (over : List Written) (w v u h : Written) → IsLast past over w h → w.end ≡ None
@@ -108,16 +102,7 @@ pub replaced : (past : Bool) (over : List Written) (w v u h : Written) → IsLas
     → borders_with a.part u.part.channels ≡ borders_with a.part w.part.channels ++ further)
     → AreBordersOf past (over ++ w ∷ []) found → AreBordersOf past (over ++ v ∷ []) (found ++ further)
 replaced past over w v u h l e one further found same b =
-    let k : IsLastOf [] (counted past over) w found =
-    last_found [] (counted past over) w found
-    (rw (counted_on past over (w ∷ []) l.before l.goes_on l.joined, counts_one past w e) at b) in
-    let all : k.rest ++ borders_with k.joint.part u.part.channels ≡ found ++ further =
-    ap (λ (bs : List Border). k.rest ++ bs) (same k.joint k.joined)
-    ∙ sym (append_assoc k.rest (borders_with k.joint.part w.part.channels) further)
-    ∙ ap (λ (bs : List Border). bs ++ further) (sym k.are) in
-    rw (counted_on past over (v ∷ []) l.before l.goes_on l.joined, one)
-    (found_same [] (counted past over ++ u ∷ []) (k.rest ++ borders_with k.joint.part u.part.channels)
-    (found ++ further) all (found_after [] (counted past over) k.joint u k.rest k.those k.joined))
+    search (arith, last_found, counted_on, counts_one, append_assoc, found_same, found_after)
 
 -- ---- a header
 begins : (past : Bool) (ws : List Written) (h : Written) → IsJointOf past ws h → (found : List Border)
@@ -142,16 +127,12 @@ header_borders past over b h o j found c = rw (header_are over b o) (begins past
 pub with_one : (a : Written) (cs : Entries) (e : List ℕ × Channel)
     → borders_with a.part (cs ++ e ∷ []) ≡ borders_with a.part cs ++ border_with a.part e
 with_one a [] e = append-nil (border_with a.part e)
-with_one a (d ∷ cs) e =
-    ap (λ (bs : List Border). border_with a.part d ++ bs) (with_one a cs e)
-    ∙ sym (append_assoc (border_with a.part d) (borders_with a.part cs) (border_with a.part e))
+with_one a (d ∷ cs) e = search (arith, append_assoc, with_one a cs e)
 
 -- what is found after the channels before it is found after the parts before
 pub same_border : (a h : Written) (key : List ℕ) (c : Channel) → LeavesKept key a.part h.part
     → border_with h.part (key, c) ≡ border_with a.part (key, c)
-same_border a h key c left =
-    λ i. border_at key (head_in c.findings)
-    (border_between (left.kept i) (moved_channel (left.records i) (left.bytes i) c))
+same_border a h key c left = search arith
 
 -- ---- their lines
 pub lines_append : (bs ds : List Border) → border_lines (bs ++ ds) ≡ border_lines bs ++ border_lines ds

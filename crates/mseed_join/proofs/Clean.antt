@@ -1,6 +1,6 @@
 -- No line of the texts of parts is bad.
 use Rattle.std.proofs.Common.{◌≡◌, ◌≢◌, ◌⊎◌, ℕ, ◌++◌, List, [], ◌∷◌, Bool, true, inl, inr, refl, sym, ap, ◌∙◌, subst}
-use Rattle.std.proofs.Common.{append_assoc, append-nil, ⊎_elim}
+use Rattle.std.proofs.Common.{append_assoc, append-nil, ⊎_elim, arith}
 use Rattle.mseed_stream.specs.Device.{BytesRead}
 use Rattle.mseed_join.specs.Lines.{Line, IsLine, text_of_line}
 use Rattle.mseed_join.specs.Headline.{IsReadOf}
@@ -32,8 +32,7 @@ lines_closed [] h = inl refl
 lines_closed (x ∷ xs) h = closed_more x (lines_text xs) h.0 (lines_closed xs h.1)
 
 texts_closed : (bytes : List ℕ) (ws : List Written) → Spells bytes ws → IsClosed bytes
-texts_closed bytes ws spells =
-    subst IsClosed (texts_are ws ∙ sym spells.text) (lines_closed (all_rows ws) (texts_all ws spells.each))
+texts_closed bytes ws spells = search (arith, texts_are, lines_closed, all_rows, texts_all)
 
 ends_there : (first : List ℕ) → HasNoEnd (first ++ 10 ∷ []) → ⊥
 ends_there [] h = h.0 refl
@@ -46,34 +45,21 @@ none_after (b ∷ first) rest e = cc e
 -- what is closed doesn't end within a line
 no_rest : (lines line first : List ℕ) → line ≢ [] → HasNoEnd line → lines ++ line ≡ first ++ 10 ∷ [] → ⊥
 no_rest [] line first some plain e = ends_there first (subst HasNoEnd e plain)
-no_rest (b ∷ lines) line [] some plain e =
-    let rest : lines ++ line ≡ [] = cc e in
-    some (none_after lines line rest)
+no_rest (b ∷ lines) line [] some plain e = search (arith, none_after)
 no_rest (b ∷ lines) line (c ∷ first) some plain e =
     let rest : lines ++ line ≡ first ++ 10 ∷ [] = cc e in
     no_rest lines line first some plain rest
 
 not_unended : (bytes lines line : List ℕ) → IsClosed bytes → bytes ≡ lines ++ line → line ≢ [] → HasNoEnd line → ⊥
-not_unended bytes lines line closed is some plain = ⊎_elim
-    (λ (e : bytes ≡ []). some (none_after lines line (sym is ∙ e)))
-    (λ (e : (first : List ℕ) × (bytes ≡ first ++ 10 ∷ [])). no_rest lines line e.0 some plain (sym is ∙ e.1))
-    closed
+not_unended bytes lines line closed is some plain = search (arith, none_after, no_rest)
 
 -- what was read goes on to the texts
 begun : (past : Bool) (text bytes rest first : List ℕ) (left : List ℕ) (ws : List Written) (joint : Written)
     → Spells text ws → IsJointOf past ws joint → text ≡ bytes ++ left → bytes ≡ first ++ rest → Begins past first
-begun past text bytes rest first left ws joint spells joined read is = record {
-  rest = rest ++ left;
-  parts = ws;
-  spells = subst (λ (xs : List ℕ). Spells xs ws)
-      (read ∙ ap (λ (xs : List ℕ). xs ++ left) is ∙ append_assoc first rest left) spells;
-  joint = joint;
-  is_joint = joined;
-}
+begun past text bytes rest first left ws joint spells joined read is = search (arith, append_assoc)
 
 pub all_read : (text : List ℕ) (input : BytesRead) → IsReadOf text input → input.is_at_end ≡ true → text ≡ input.bytes
-all_read text input read done =
-    read.bytes ∙ ap (λ (xs : List ℕ). input.bytes ++ xs) (read.all done) ∙ append-nil input.bytes
+all_read text input read done = search (arith, append-nil)
 
 pub none_bad : (past : Bool) (text : List ℕ) (input : BytesRead) (line offset : ℕ) (ws : List Written)
     (joint : Written) → Spells text ws → IsJointOf past ws joint → IsReadOf text input

@@ -1,6 +1,6 @@
 -- A part without its last line.
 use Rattle.std.proofs.Common.{◌≡◌, ℕ, ◌++◌, List, [], take, None, refl, sym, ap, ◌∙◌, subst, append-nil, append_assoc}
-use Rattle.std.proofs.Common.{length}
+use Rattle.std.proofs.Common.{length, arith}
 use Rattle.std.proofs.Math.Seq.{take-append_seam}
 use Rattle.std.specs.List.{concat}
 use Rattle.mseed_record.specs.View.{View}
@@ -10,10 +10,9 @@ use Rattle.mseed_stream.specs.Device.{BytesRead}
 use Rattle.mseed_stream.specs.Walk.{bytes_in}
 use Rattle.mseed_text.specs.Fault.{end_line}
 use Rattle.mseed_join.specs.Parts.{Held, IsPartOf}
-use Rattle.mseed_join.specs.Lines.{header_line, counts_line, faults_line}
 use Rattle.mseed_join.specs.AuditPart.{AuditedPart}
 use Rattle.mseed_join.specs.Headline.{EndsByBytes, IsReadOf, without_end}
-use Rattle.mseed_join.specs.Written.{Written, channel_lines, part_text}
+use Rattle.mseed_join.specs.Written.{Written, part_text}
 use Rattle.mseed_join.proofs.Cuts.{IsKnown, known, one_known, read_joined}
 use Rattle.mseed_join.proofs.Parting.{sizes}
 
@@ -55,7 +54,4 @@ cut_is only archive h g a b read cut by =
 
 -- the line that is left out
 pub cut_text : (w : Written) → part_text w ≡ part_text (without_end w) ++ end_line w.end
-cut_text w =
-    ap (λ (xs : List ℕ). xs ++ end_line w.end)
-    (sym (append-nil (header_line ++ channel_lines w.part.channels ++ counts_line w.part.records w.part.bytes
-    ++ faults_line w.faults)))
+cut_text w = search (arith, append-nil)

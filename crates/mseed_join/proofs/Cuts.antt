@@ -1,5 +1,5 @@
 -- Bytes that are records and what is left after them.
-use Rattle.std.proofs.Common.{◌≡◌, ℕ, ◌+◌, ◌++◌, List, [], ◌∷◌, drop, Option, Some, None, true, refl, sym}
+use Rattle.std.proofs.Common.{◌≡◌, ℕ, ◌+◌, ◌++◌, List, [], ◌∷◌, Option, Some, None, true, refl, sym, arith}
 use Rattle.std.proofs.Common.{ap, ◌∙◌, subst, append_assoc, append-nil}
 use Rattle.std.proofs.ByRecursion.{All-append}
 use Rattle.std.proofs.lemmas.Bool.{both_ways}
@@ -8,7 +8,7 @@ use Rattle.std.specs.List.{concat, AllByRecursion}
 use Rattle.std.specs.Option.{option_map}
 use Rattle.mseed_record.specs.Record.{IsRecord}
 use Rattle.mseed_record.specs.View.{View, IsView}
-use Rattle.mseed_stream.specs.Archive.{End, IsArchive, IsEndOf, clean, frame, truncated, is_clean, is_frame}
+use Rattle.mseed_stream.specs.Archive.{End, IsArchive, IsEndOf, clean, frame, is_clean, is_frame}
 use Rattle.mseed_stream.specs.Cutting.{read_from}
 use Rattle.mseed_stream.specs.Device.{BytesRead}
 use Rattle.mseed_stream.specs.Walk.{AreAllViews, IsEnd, bytes_in}
@@ -34,25 +34,13 @@ pub record EndsSo (offset : ℕ) (rest : List ℕ) (end : Option StreamFault) : 
 -- what is left of an archive ends so, by what was read of it: no bytes more change why none begin a record
 ends_so : (end : Option StreamFault) (offset : ℕ) (h : BytesRead) (rest : List ℕ) → EndsByBytes end
     → IsEnd end offset h → (h.is_at_end ≡ true → rest ≡ []) → EndsSo offset (read_from offset h ++ rest) end
-ends_so None offset h rest by is all = record {
-  at = clean;
-  is = subst (λ (xs : List ℕ). IsEndOf xs clean)
-      (sym (append-nil (read_from offset h)) ∙ ap (λ (xs : List ℕ). read_from offset h ++ xs) (sym (all is.0.1)))
-      is.0.0;
-  end_is = refl;
-}
+ends_so None offset h rest by is all = search (arith, append-nil)
 ends_so (Some (Frame n f)) offset h rest by is all = record {
   at = frame f;
   is = is_frame f (refused_more (read_from offset h) rest f (refused_of (read_from offset h) f is.0.1));
   end_is = ap (λ (k : ℕ). Some (Frame k f)) is.0.0;
 }
-ends_so (Some (Truncated n have)) offset h rest by is all = record {
-  at = truncated have;
-  is = subst (λ (xs : List ℕ). IsEndOf xs (truncated have))
-      (sym (append-nil (read_from offset h)) ∙ ap (λ (xs : List ℕ). read_from offset h ++ xs) (sym (all is.0.2)))
-      is.0.1;
-  end_is = ap (λ (k : ℕ). Some (Truncated k have)) is.0.0;
-}
+ends_so (Some (Truncated n have)) offset h rest by is all = search (arith, append-nil)
 ends_so (Some (Read n)) offset h rest by is all = absurd by
 ends_so _ offset h rest by is all = absurd by
 
@@ -71,11 +59,7 @@ moved_ended e offset _ = refl
 -- after so many more bytes
 ends_moved : (e offset : ℕ) (rest : List ℕ) (end : Option StreamFault) → EndsSo offset rest end
     → EndsSo (e + offset) rest (option_map (moved_fault e) end)
-ends_moved e offset rest end so = record {
-  at = so.at;
-  is = so.is;
-  end_is = ap (λ (o : Option StreamFault). option_map (moved_fault e) o) so.end_is ∙ moved_ended e offset so.at;
-}
+ends_moved e offset rest end so = search (arith, moved_ended)
 
 nothing_left : (offset : ℕ) (rest : List ℕ) (at : End) → IsEndOf rest at → None ≡ ended offset at → rest ≡ []
 nothing_left offset rest clean (is_clean e) same = e
@@ -94,8 +78,7 @@ pub record IsCut (bytes : List ℕ) (views : List View) (rest : List ℕ) : Type
 -- what was read is the records, and what is left after them
 pub read_joined : (h : BytesRead) (views : List View) (end : Option StreamFault) (all : AreAllViews h views end)
     → h.bytes ≡ concat (bytes_in views) ++ read_from all.offset h
-read_joined h views end all = sym (take-append-drop all.offset h.bytes)
-    ∙ ap (λ (xs : List ℕ). xs ++ drop all.offset h.bytes) all.records.records.joined
+read_joined h views end all = search (arith, take-append-drop)
 
 -- the records have so many bytes
 pub read_size : (h : BytesRead) (views : List View) (end : Option StreamFault) (all : AreAllViews h views end)
@@ -104,8 +87,7 @@ read_size h views end all = sym all.records.offset_is ∙ sizes views
 
 joined_append : (xs ys : List View) → concat (bytes_in (xs ++ ys)) ≡ concat (bytes_in xs) ++ concat (bytes_in ys)
 joined_append [] ys = refl
-joined_append (x ∷ xs) ys = ap (λ (zs : List ℕ). x.bytes ++ zs) (joined_append xs ys)
-    ∙ sym (append_assoc x.bytes (concat (bytes_in xs)) (concat (bytes_in ys)))
+joined_append (x ∷ xs) ys = search (arith, append_assoc, joined_append xs ys)
 
 -- records after records
 cut_after : (first second : List ℕ) (xs ys : List View) (rest : List ℕ) → IsCut first xs [] → IsCut second ys rest
@@ -124,11 +106,7 @@ records_in (v ∷ views) h = (view_record v h.0, records_in views h.1)
 
 archive_of : (bytes : List ℕ) (views : List View) (rest : List ℕ) (at : End) → IsCut bytes views rest → IsEndOf rest at
     → IsArchive bytes (bytes_in views) rest
-archive_of bytes views rest at cut is = record {
-  joined = cut.joined;
-  each = records_in views cut.views_are;
-  no_further = no_further rest at is;
-}
+archive_of bytes views rest at cut is = search (arith, records_in, no_further)
 
 -- bytes are records and a rest in one way, and end in one way
 one_cut : (bytes : List ℕ) (vs ws : List View) (rest left : List ℕ) (a b : Option StreamFault)

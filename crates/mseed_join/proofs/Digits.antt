@@ -53,34 +53,14 @@ record Chosen (n : ℕ) (ds : List ℕ) : Type 0 where
   goes : (rest : List ℕ) → more_at (first - 48) (others ++ rest) ≡ more_at n rest
 
 chosen_one : (n : ℕ) → n < 10 → 0 < n → Chosen n ((48 + n) ∷ [])
-chosen_one n h l = record {
-  first = 48 + n;
-  others = [];
-  is = refl;
-  low = omega (arith, l);
-  high = omega (arith, h);
-  goes = λ rest. let same : 48 + n - 48 ≡ n = omega arith in ap (λ (m : ℕ). more_at m rest) same;
-}
+chosen_one n h l = search arith
 
 one_more : (m b : ℕ) (rest : List ℕ) → is_digit b ≡ true → more_at m (b ∷ rest) ≡ more_at (10 * m + (b - 48)) rest
 one_more m b rest e = ap (λ (t : Bool). cond t (more_at (10 * m + (b - 48)) rest) (m, b ∷ rest)) e
 
 chosen_more : (n : ℕ) (ds : List ℕ) → 10 ≤ n → (0 < n / 10 → Chosen (n / 10) ds) → 0 < n
     → Chosen n (ds ++ (48 + n % 10) ∷ [])
-chosen_more n ds l before some =
-    let c : Chosen (n / 10) ds = before (omega (arith, l)) in
-    let d : ℕ = 48 + n % 10 in
-    let next : 10 * (n / 10) + (d - 48) ≡ n = omega arith in record {
-      first = c.first;
-      others = c.others ++ d ∷ [];
-      is = ap (λ (xs : List ℕ). xs ++ d ∷ []) c.is;
-      low = c.low;
-      high = c.high;
-      goes = λ rest.
-          ap (λ (xs : List ℕ). more_at (c.first - 48) xs) (append_assoc c.others (d ∷ []) rest)
-          ∙ c.goes (d ∷ rest) ∙ one_more (n / 10) d rest (digit_is d (omega arith) (omega arith))
-          ∙ ap (λ (m : ℕ). more_at m rest) next;
-    }
+chosen_more n ds l before some = search (arith, append_assoc, one_more, digit_is)
 
 chosen : (n : ℕ) → 0 < n → n < 10 ^ 64 → Chosen n (decimal n)
 chosen n some few = decimal_by_steps_wide (λ m ds. 0 < m → Chosen m ds) chosen_one chosen_more n few some
@@ -98,10 +78,7 @@ within_is largest n rest l = ap (λ (t : Bool). cond t (Some (n, rest)) None) (l
 number_from : (largest b : ℕ) (bs : List ℕ) → 49 ≤ b → b ≤ 57
     → number_at largest (b ∷ bs) ≡ within largest (more_at (b - 48) bs)
 unfolding number_at
-number_from largest b bs l h =
-    let other : nat_eq b 48 ≡ false = grind (arith, nat_tests) in
-    ap (λ (t : Bool). cond t (Some (0, bs)) (cond (is_digit b) (within largest (more_at (b - 48) bs)) None)) other
-    ∙ ap (λ (t : Bool). cond t (within largest (more_at (b - 48) bs)) None) (digit_is b (omega (arith, l)) h)
+number_from largest b bs l h = search (arith, nat_tests, digit_is)
 
 number_zero : (largest : ℕ) (rest : List ℕ) → number_at largest (48 ∷ rest) ≡ Some (0, rest)
 unfolding number_at
@@ -110,8 +87,7 @@ number_zero largest rest = refl
 -- a number that is written reads back
 pub number_back : (largest n : ℕ) (rest : List ℕ) → n ≤ largest → n < 10 ^ 64 → Ends rest
     → number_at largest (decimal n ++ rest) ≡ Some (n, rest)
-number_back largest zero rest l few e =
-    ap (λ (ds : List ℕ). number_at largest (ds ++ rest)) (decimal_digit 0 (omega arith)) ∙ number_zero largest rest
+number_back largest zero rest l few e = search (arith, decimal_digit, number_zero)
 number_back largest (suc m) rest l few e =
     let n : ℕ = suc m in
     let c : Chosen n (decimal n) = chosen n (omega arith) few in
@@ -122,49 +98,21 @@ number_back largest (suc m) rest l few e =
 -- reading on makes it no smaller
 grows : (n : ℕ) (bs : List ℕ) → n ≤ (more_at n bs).0
 grows n [] = omega arith
-grows n (b ∷ bs) = by (is_digit b) (grows (10 * n + (b - 48)) bs)
-  where
-    by : (t : Bool) → 10 * n + (b - 48) ≤ (more_at (10 * n + (b - 48)) bs).0
-        → n ≤ (cond t (more_at (10 * n + (b - 48)) bs) (n, b ∷ bs)).0
-    by true h = omega (arith, h)
-    by false h = omega arith
+grows n (b ∷ bs) = search (arith, grows (10 * n + (b - 48)) bs)
 
 digit_after : (n b : ℕ) → 0 < n → 48 ≤ b → b ≤ 57 → 10 * n + (b - 48) < 10 ^ 64
     → decimal (10 * n + (b - 48)) ≡ decimal n ++ b ∷ []
-digit_after n b some l h few =
-    let m : ℕ = 10 * n + (b - 48) in
-    let leading : m / 10 ≡ n = omega (arith, l, h) in
-    let last : 48 + m % 10 ≡ b = omega (arith, l, h) in
-    decimal_step_wide m (omega (arith, some)) few ∙ (λ i. decimal (leading i) ++ last i ∷ [])
+digit_after n b some l h few = search (arith, decimal_step_wide)
 
 more_after : (n : ℕ) (bs : List ℕ) → 0 < n → (more_at n bs).0 < 10 ^ 64
     → decimal n ++ bs ≡ decimal (more_at n bs).0 ++ (more_at n bs).1
 more_after n [] some few = refl
-more_after n (b ∷ bs) some few = by (is_digit b) refl (more_after (10 * n + (b - 48)) bs (omega (arith, some))) few
-  where
-    by : (t : Bool) → is_digit b ≡ t → ((more_at (10 * n + (b - 48)) bs).0 < 10 ^ 64
-        → decimal (10 * n + (b - 48)) ++ bs
-        ≡ decimal (more_at (10 * n + (b - 48)) bs).0 ++ (more_at (10 * n + (b - 48)) bs).1)
-        → (cond t (more_at (10 * n + (b - 48)) bs) (n, b ∷ bs)).0 < 10 ^ 64
-        → decimal n ++ b ∷ bs
-        ≡ decimal (cond t (more_at (10 * n + (b - 48)) bs) (n, b ∷ bs)).0 ++
-        (cond t (more_at (10 * n + (b - 48)) bs) (n, b ∷ bs)).1
-    by true e later small =
-        let more : decimal (10 * n + (b - 48)) ≡ decimal n ++ b ∷ [] =
-        digit_after n b some (is_low b e) (is_high b e) (omega (arith, grows (10 * n + (b - 48)) bs, small)) in
-        sym (append_assoc (decimal n) (b ∷ []) bs) ∙ ap (λ (ds : List ℕ). ds ++ bs) (sym more) ∙ later small
-    by false e later small = refl
+more_after n (b ∷ bs) some few =
+    search (arith, digit_after, is_low, is_high, grows, append_assoc, more_after (10 * n + (b - 48)) bs (omega (arith,
+    some)))
 
 within_some : (largest : ℕ) (x y : ℕ × List ℕ) → within largest x ≡ Some y → (x ≡ y) × (x.0 ≤ largest)
-within_some largest x y e = by (nat_le x.0 largest) refl e
-  where
-    by : (t : Bool) → nat_le x.0 largest ≡ t → cond t (Some x) None ≡ Some y → (x ≡ y) × (x.0 ≤ largest)
-    by true k h = (
-      ap (λ (o : Option (ℕ × List ℕ)). elim o as (λ _. ℕ × List ℕ) [ Some z ↦ z | None ↦ x ]) h,
-      grind
-          (arith, nat_tests),
-    )
-    by false k h = absurd (cc h)
+within_some largest x y e = search (arith, nat_le, nat_tests)
 
 -- what is read is what is written
 pub record IsNumber (largest : ℕ) (bytes : List ℕ) (x : ℕ × List ℕ) : Type 0 where
@@ -207,11 +155,7 @@ number_spelled largest (b ∷ bs) x few e = by (nat_eq b 48) refl (is_digit b) r
 pub passes : (n d most : ℕ) (rest all : List ℕ) → 0 < length rest → is_digit (get_or rest 0 0) ≡ true
     → d ≡ get_or rest 0 0 - 48 → most ≤ 10 * n + d → all ≡ rest → most ≤ (more_at n all).0
 passes n d most [] all l e is big same = absurd (omega (arith, l))
-passes n d most (b ∷ bs) all l e is big same =
-    let read : more_at n all ≡ more_at (10 * n + (b - 48)) bs =
-    ap (λ (xs : List ℕ). more_at n xs) same ∙ one_more n b bs e in
-    let first : (more_at n all).0 ≡ (more_at (10 * n + (b - 48)) bs).0 = ap (λ (x : ℕ × List ℕ). x.0) read in
-    omega (arith, first, grows (10 * n + (b - 48)) bs, big, is)
+passes n d most (b ∷ bs) all l e is big same = search (arith, one_more, grows)
 
 -- ---- digits that fit for sure
 pub stays_small : (n count digit : ℕ) → n < 10 ^ (count + 1) → digit < 10
@@ -224,10 +168,7 @@ stays_small n count digit small l =
 
 -- so many digits, and room for one more
 pub has_one : (n count : ℕ) → n < 10 ^ (count + 1) → count + 1 ≤ 16 → n < 10 ^ 16
-has_one n count small l =
-    let some : 0 < 10 = omega arith in
-    let most : 10 ^ (count + 1) ≤ 10 ^ 16 = pow-le-pow_right some l in
-    omega (arith, small, most)
+has_one n count small l = search (arith, pow-le-pow_right)
 
 pub has_two : (n count digit : ℕ) → n < 10 ^ (count + 1) → digit < 10 → count + 2 ≤ 16 → 10 * n + digit < 10 ^ 16
 has_two n count digit small d l =
@@ -240,11 +181,7 @@ pub number_on : (largest n count first : ℕ) (bytes tail : List ℕ) → 1 ≤ 
     → number_at largest bytes ≡ within largest (more_at n (drop (count + 1) bytes))
 number_on largest n count first [] tail some other digit rest_is is more = absurd (omega (arith, some))
 number_on largest n count first (b ∷ bs) tail some other digit rest_is is more =
-    let next : suc count ≡ count + 1 = omega arith in
-    number_from largest b bs (omega (arith, is_low b digit, other)) (is_high b digit)
-    ∙ ap (λ (x : ℕ × List ℕ). within largest x)
-    ((λ i. more_at (sym is i) (sym rest_is i)) ∙ sym more ∙ ap (λ (xs : List ℕ). more_at n (drop count xs)) rest_is
-    ∙ ap (λ (k : ℕ). more_at n (drop k (b ∷ bs))) next)
+    search (arith, number_from, is_low, is_high)
 
 -- the first digit of a number
 pub record Begins (n : ℕ) : Type 0 where
@@ -281,11 +218,7 @@ IsWithin below above (negsuc n) = n < below
 integer_from : (below above b : ℕ) (bs : List ℕ) (x : ℕ × List ℕ) → 48 ≤ b → number_at above (b ∷ bs) ≡ Some x
     → integer_at below above (b ∷ bs) ≡ Some (pos x.0, x.1)
 unfolding integer_at
-integer_from below above b bs x l e =
-    let other : nat_eq b 45 ≡ false = grind (arith, nat_tests) in
-    ap (λ (t : Bool). cond t (number_at below bs >>= negated) (number_at above (b ∷ bs) >>= λ n. Some (pos n.0, n.1)))
-    other
-    ∙ ap (λ (o : Option (ℕ × List ℕ)). o >>= λ n. Some (pos n.0, n.1)) e
+integer_from below above b bs x l e = search (arith, nat_tests)
 
 integer_minus : (below above : ℕ) (bs : List ℕ) → integer_at below above (45 ∷ bs) ≡ (number_at below bs >>= negated)
 unfolding integer_at
@@ -301,10 +234,7 @@ integer_back below above (pos n) rest low high l e =
     ∙ number_back above n rest l (omega (arith, l, high)) e in
     ap (λ (ds : List ℕ). integer_at below above (ds ++ rest)) b.is
     ∙ integer_from below above b.first (b.others ++ rest) (n, rest) b.low read
-integer_back below above (negsuc n) rest low high l e =
-    integer_minus below above (decimal (suc n) ++ rest)
-    ∙ ap (λ (o : Option (ℕ × List ℕ)). o >>= negated)
-    (number_back below (suc n) rest (omega (arith, l)) (omega (arith, l, low)) e)
+integer_back below above (negsuc n) rest low high l e = search (arith, integer_minus, number_back)
 
 -- an integer that was read stands before it
 abbrev pub IsInteger : ℕ → ℕ → List ℕ → ℤ × List ℕ → Type 0

@@ -1,5 +1,5 @@
 -- Parts that are read with a report of their borders, and the lines of borders as they are gathered and written.
-use Rattle.std.proofs.Common.{◌≡◌, ◌+◌, ◌<◌, ℕ, List, [], ◌++◌, Bool, length, take, refl, sym, ap, ◌∙◌}
+use Rattle.std.proofs.Common.{◌≡◌, ◌+◌, ◌<◌, ℕ, List, [], ◌++◌, Bool, length, take, refl, sym, ap, ◌∙◌, arith}
 use Rattle.std.proofs.Common.{◌⊎◌, inl, inr, Option, Some, append-nil, Ok, Err}
 use Rattle.std.specs.Prelude.{Result}
 use Rattle.mseed_stream.specs.Device.{BytesRead, BytesWritten, nothing_read}
@@ -44,14 +44,7 @@ pub on_way : {A : Type 0} {past : Bool} {old now : BytesRead} {before after : Re
     → IsNextStep past u.stage (Ok (Some reported)) now after → AreReported (passed_by reported) at later
     → ((found : List Border) → Before found → After (found ++ border_by reported))
     → IsUnderWay past now after first later After
-on_way reported u step passed on = record {
-  stage = step.0;
-  found = u.found ++ border_by reported;
-  along = step.1.0;
-  reported = reported_more _ _ _ _ _ _ u.reported passed step.1.1.passed;
-  borders = step.1.1.borders u.found u.borders;
-  stands = on u.found u.stands;
-}
+on_way reported u step passed on = search (arith, reported_more)
 
 -- no line was read
 pub none_read_yet : {past : Bool} {expected : Option ℕ} {now : BytesRead} {fault : JoinsFault} {first : BytesWritten}
@@ -71,11 +64,7 @@ none_read_yet {past} {now = now} {first = first} begin ends =
 module _ {A : Type 0} {past : Bool} {old now : BytesRead} {r : Reader A} {first at : BytesWritten}
     {Before : List Border → Type 0} (u : IsUnderWay past old r first at Before) where
   each_to : IsStoppedAt now u.stage → AreEachTo past now u.found first at
-  each_to stop = record {
-    stage = u.stage;
-    lines = record { count = stop.count; before = stop.before; reported = u.reported };
-    borders = u.borders;
-  }
+  each_to stop = search arith
 
   ended_by : (ended : JoinsFault) (expected : Option ℕ) (stop : IsStoppedAt now u.stage)
       → IsStoppedBy ended past now u.stage stop → IsEndedBy ended past expected now u.found first at
@@ -135,20 +124,12 @@ module _ {A : Type 0} {past : Bool} {old now : BytesRead} {r : Reader A} {first 
     -- the next line is bad, or can't be read
     pub stopped_at : (stop : IsStoppedAt now u.stage) × IsStoppedBy ended past now u.stage stop
         → IsUnread fault past expected now first at Cuts Stops
-    stopped_at step = record {
-      found = u.found;
-      to = each_to step.0;
-      by = inr (ended, (ended_by ended expected step.0 step.1, ends u.found u.stands));
-    }
+    stopped_at step = search (arith, each_to, ended_by)
 
     -- another number of parts is expected
     pub miscounted : {j : Joint A} → HasEnded past now u.stage j → IsFinished {A = A} j expected (Err ended)
         → IsUnread fault past expected now first at Cuts Stops
-    miscounted e f = record {
-      found = u.found;
-      to = each_to e.stopped;
-      by = inr (ended, (counted_by e ended expected f, ends u.found u.stands));
-    }
+    miscounted e f = search (arith, each_to, counted_by)
 
 -- the report failed at the last line
 pub cut_off : {A : Type 0} {past : Bool} {expected : Option ℕ} {now : BytesRead} {r : Reader A} {fault : JoinsFault}
@@ -164,8 +145,7 @@ refused_by : (A : Type 0) (fault : JoinsFault) {past : Bool} (expected : Option 
     → IsReadOutcome {A = A} (Err fault) past expected h first at
 refused_by A (Line k offset flaw) expected to by = by.bad
 refused_by A (Count parts due) expected to by = (by.whole, by.miscounted)
-refused_by A (Stream fault) expected to by =
-    (by.0, record { stopped = record { stage = to.stage; lines = to.lines }; none_bad = by.1 })
+refused_by A (Stream fault) expected to by = search arith
 refused_by A Write expected to by = absurd by
 refused_by A Memory expected to by = record { stage = to.stage; lines = to.lines }
 
@@ -188,11 +168,7 @@ module _ {first old : BytesWritten} {text : List ℕ} {found : List Border} (bef
   -- one more line was added, and perhaps written
   pub lined_more : {new : BytesWritten} {whole next : List ℕ} (more : List Border) → whole ≡ text ++ border_lines more
       → AreGathered old new next whole → new.failures ≡ old.failures → AreLined first new next (found ++ more)
-  lined_more {new} {whole} {next} more e written fine = record {
-    lines = gathered_also first old new text next (border_lines found) (border_lines more)
-        (border_lines (found ++ more)) before.lines (rw e at written) (lines_append found more);
-    fine = fine ∙ before.fine;
-  }
+  lined_more {new} {whole} {next} more e written fine = search (arith, gathered_also, lines_append)
 
   -- there was no memory for it
   pub lined_no_more : (more : List Border) → IsCutShort first old (border_lines (found ++ more)) Memory

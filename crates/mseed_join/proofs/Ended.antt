@@ -1,7 +1,7 @@
 -- Lines are short; they end with their LF, and have no other.
 use Rattle.std.proofs.Common.{◌≡◌, ℕ, zero, suc, ◌+◌, ◌*◌, ◌-◌, ◌%◌, ◌/◌, ◌^◌, ◌<◌, ◌≤◌, nat_lt, nat_eq, List, []}
 use Rattle.std.proofs.Common.{◌∷◌, ◌++◌, length, Bool, true, false, cond, Option, Some, None, ℤ, pos, negsuc}
-use Rattle.std.proofs.Common.{IfSome, refl, sym, ap, ◌∙◌, arith, append_assoc}
+use Rattle.std.proofs.Common.{IfSome, refl, sym, ◌∙◌, arith, append_assoc}
 use Rattle.std.specs.Prelude.{decimal, codes}
 use Rattle.std.specs.Fmt.{signed_decimal}
 use Rattle.std.proofs.lemmas.Bool.{false≢true}
@@ -58,9 +58,7 @@ plain_two (x ∷ a) b p q = by (nat_eq x 10) (λ e. plain_two a b e q) p
     by false more e = more e
 
 digit : (n : ℕ) → plain ((48 + n) ∷ []) ≡ true
-digit n =
-    let other : nat_eq (48 + n) 10 ≡ false = grind (arith, nat_tests) in
-    ap (λ (t : Bool). cond t false true) other
+digit n = search (arith, nat_eq, nat_tests)
 
 digits : (n : ℕ) → n < 10 ^ 64 → plain (decimal n) ≡ true
 digits n few =
@@ -183,11 +181,7 @@ findings (Counted n f h t) fits =
     spaced (two (two (ends head_piece tail_piece) (word (codes " findings ") refl)) (count n fits.1)) (first f fits.2)
 
 nibble : (n : ℕ) → nat_eq (hex_digit n) 10 ≡ false
-nibble n = by (nat_lt n 10)
-  where
-    by : (t : Bool) → nat_eq (cond t (48 + n) (55 + n)) 10 ≡ false
-    by true = grind (arith, nat_tests)
-    by false = grind (arith, nat_tests)
+nibble n = search (arith, nat_lt, nat_eq, nat_tests)
 
 key : (bytes : List ℕ) → IsPiece (2 * length bytes) (key_text bytes)
 key [] = record { is_plain = refl; short = omega arith }
@@ -253,31 +247,19 @@ ended (fault bytes f) l = record {
     joined a b w = simp append_assoc
 
 pub short : (x : Line) → IsLine x → length (text_of_line x) ≤ 512
-short x l =
-    let it = ended x l in
-    omega (arith, ap (λ (bytes : List ℕ). length bytes) it.is, length-append it.body (10 ∷ []), it.piece.short)
+short x l = search (arith, ended, length-append)
 
 -- ---- bytes without an LF
 pub plain_from : (bytes : List ℕ) → HasNoEnd bytes → plain bytes ≡ true
 plain_from [] h = refl
-plain_from (b ∷ bs) h = by (nat_eq b 10) refl (plain_from bs h.1)
-  where
-    by : (t : Bool) → nat_eq b 10 ≡ t → plain bs ≡ true → cond t false (plain bs) ≡ true
-    by true e more = absurd (h.0 (grind (arith, nat_tests)))
-    by false e more = more
+plain_from (b ∷ bs) h = search (arith, nat_eq, nat_tests, plain_from bs h.1)
 
 -- an LF isn't plain
 pub no_end_there : (b : ℕ) (bs : List ℕ) → plain (b ∷ bs) ≡ true → b ≡ 10 → ⊥
-no_end_there b bs p e =
-    let yes : nat_eq b 10 ≡ true = grind (arith, nat_tests) in
-    false≢true (ap (λ (t : Bool). cond t false (plain bs)) (sym yes) ∙ p)
+no_end_there b bs p e = search (arith, nat_eq, nat_tests, false≢true)
 
 pub plain_after : (b : ℕ) (bs : List ℕ) → plain (b ∷ bs) ≡ true → plain bs ≡ true
-plain_after b bs p = by (nat_eq b 10) p
-  where
-    by : (t : Bool) → cond t false (plain bs) ≡ true → plain bs ≡ true
-    by true e = absurd (false≢true e)
-    by false e = e
+plain_after b bs p = search (arith, nat_eq, false≢true)
 
 -- two lines that begin the same bytes are the same
 pub same_line : (p q r s : List ℕ) → plain p ≡ true → plain q ≡ true → p ++ 10 ∷ r ≡ q ++ 10 ∷ s → (p ≡ q) × (r ≡ s)

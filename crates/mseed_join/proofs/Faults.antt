@@ -1,22 +1,20 @@
 -- The ranges of what is found of a record.
 use Rattle.std.proofs.Common.{◌≡◌, ℕ, zero, suc, ℤ, pos, negsuc, ◌+◌, ◌-◌, ◌^◌, ◌<◌, ◌≤◌, List, [], ◌∷◌, ◌++◌, length}
-use Rattle.std.proofs.Common.{map, Bool, true, false, cond, Option, Some, None, refl, sym, subst, arith, IfSome}
+use Rattle.std.proofs.Common.{map, Bool, true, false, cond, Option, Some, None, refl, subst, arith, IfSome}
 use Rattle.std.proofs.Common.{length-append}
 use Rattle.std.specs.List.{AllByRecursion, filter, range_with_len}
 use Rattle.std.proofs.Math.Nat.{div-le_self}
 use Rattle.std.proofs.lemmas.Int.{ints}
 use Rattle.std.proofs.lemmas.List.{get_or-drop, length-drop}
 use Rattle.std.proofs.lemmas.List.Elements.{recursion_from_All}
-use Rattle.mseed_time.specs.Join.{join_of}
 use Rattle.mseed_time.specs.Rate.{Ratio}
 use Rattle.mseed_time.specs.declared.outcome.Join.{Join}
 use Rattle.mseed_time.specs.declared.outcome.Join.TheVariants.{Meets}
-use Rattle.mseed_record.specs.Header.{data_at}
-use Rattle.mseed_record.specs.View.{View, IsView, leap_of, payload_of, start_of}
+use Rattle.mseed_record.specs.View.{View, IsView}
 use Rattle.mseed_record.specs.declared.leap.Leap.{Leap}
 use Rattle.mseed_record.specs.declared.leap.Leap.TheVariants.{Both}
 use Rattle.mseed_steim.specs.Frames.{DataWord, data_word, data_words, is_data, word_count, words_from}
-use Rattle.mseed_steim.specs.Reading.{IsFault, encoding, in_payload, count_of}
+use Rattle.mseed_steim.specs.Reading.{IsFault, encoding, in_payload}
 use Rattle.mseed_steim.specs.Samples.{IsSample, IsFrameFault, IsPayloadFault, short, bad_word, overflow, last_differs}
 use Rattle.mseed_steim.specs.declared.scheme.Scheme.{Scheme}
 use Rattle.mseed_steim.specs.declared.form.Form.{Form}
@@ -27,7 +25,7 @@ use Rattle.mseed_stream.proofs.Passed.{record_few}
 use Rattle.mseed_stream.proofs.Records.{view_record}
 use Rattle.mseed_audit.specs.declared.finding.Why.{Why}
 use Rattle.mseed_audit.specs.declared.finding.Why.TheVariants.{RateChange}
-use Rattle.mseed_audit.specs.Judging.{IsFound, read, after, known_rate, step_in, why_after, why_by}
+use Rattle.mseed_audit.specs.Judging.{IsFound, read, after, known_rate, why_after, why_by}
 use Rattle.mseed_audit.specs.Judging.{why_from, why_of}
 use Rattle.mseed_join.specs.Lines.{HasReadFault, HasWhy, IsWord}
 use Rattle.mseed_join.proofs.Ranges.{AreOctets, JoinFits, count_small, join_fits, octets_of, rate_within, start_within}
@@ -49,12 +47,7 @@ below k (suc n) m h = (omega (arith, h), below (k + 1) n m (omega (arith, h)))
 
 kept_below : (m : ℕ) (ks : List ℕ) → AllByRecursion (λ i. i < m) ks → AllByRecursion (λ i. i < m) (filter is_data ks)
 kept_below m [] h = tt
-kept_below m (k ∷ ks) h = by (is_data k) (kept_below m ks h.1)
-  where
-    by : (b : Bool) → AllByRecursion (λ i. i < m) (filter is_data ks)
-        → AllByRecursion (λ i. i < m) (cond b (k ∷ filter is_data ks) (filter is_data ks))
-    by true rest = (h.0, rest)
-    by false rest = rest
+kept_below m (k ∷ ks) h = search (arith, kept_below m ks h.1)
 
 abbrev IsAt : ℕ → DataWord → Type 0
 IsAt m w = (w.frame < m) × (w.place < 16)
@@ -80,30 +73,20 @@ frame_fault scheme p n _ octets small few (bad_word before bad back ds cut run l
     (data_words_at p (2 ^ 30) (omega (arith, small, div-le_self (length p) 64))) in
     let it = middle (IsAt (2 ^ 30)) before bad back all in
     (omega (arith, it.0), omega (arith, it.1))
-frame_fault scheme p n _ octets small few (overflow prefix sum rest sums fit not_fit) =
-    omega (arith, sums.count, length-append prefix (sum ∷ rest), few)
+frame_fault scheme p n _ octets small few (overflow prefix sum rest sums fit not_fit) = search (arith, length-append)
 frame_fault scheme p n _ octets small few (last_differs prefix last sums fit differs) =
-    let all : AllByRecursion IsSample (prefix ++ last ∷ []) =
-    recursion_from_All IsSample (prefix ++ last ∷ []) fit in
-    (sample_word last (middle IsSample prefix last [] all), sample_word _ (constant_fits p octets 2))
+    search (arith, recursion_from_All, sample_word, middle, constant_fits)
 
 payload_fault : (form : Form) (p : List ℕ) (n : ℕ) (f : ReadFault) → AreOctets p → length p ≤ 2 ^ 20 → n < 2 ^ 16
     → IsPayloadFault form p n f → HasReadFault f
-payload_fault (Integers width) p n f octets small few is =
-    subst HasReadFault (sym is.1) (omega (arith, is.0, few))
+payload_fault (Integers width) p n f octets small few is = search arith
 payload_fault (Frames scheme) p n f octets small few is = frame_fault scheme p n f octets small few is
 
 -- why samples aren't read
 read_fault : (v : View) (f : ReadFault) → IsView v → IsFault v f → HasReadFault f
-read_fault v _ is (encoding e none) =
-    omega (arith, is.1.1.1.encoding_is, octets_of v is (is.1.0 + 4))
+read_fault v _ is (encoding e none) = search (arith, octets_of)
 read_fault v f is (in_payload e form some readable has _ why) =
-    let at : ℕ = data_at v.order v.bytes in
-    let small : length (payload_of v) ≤ 2 ^ 20 =
-    omega (arith, length-drop at v.bytes, record_few v.bytes (view_record v is)) in
-    payload_fault form (payload_of v) (count_of v) f
-    (λ i. subst (λ (n : ℕ). n < 256) (sym (get_or-drop at v.bytes i 0)) (octets_of v is (at + i))) small
-    (count_small v is) why
+    search (arith, length-drop, record_few, view_record, payload_fault, get_or-drop, octets_of, count_small)
 read_fault v _ is _ = tt
 
 -- ---- what is found after a record
@@ -122,10 +105,7 @@ by_rates false leap j h = tt
 from_one : (b v : View) (o : Option Ratio) (next : Ratio) → IsView b → IsView v → known_rate b ≡ o
     → known_rate v ≡ Some next → IfSome (why_from b o v next) HasWhy
 from_one b v None next is at e k = tt
-from_one b v (Some r) next is at e k =
-    by_rates _ (leap_of b.bytes) (join_of (start_of b) (count_of b) r (step_in (leap_of b.bytes)) (start_of v))
-    (join_fits (start_of b) (count_of b) r (step_in (leap_of b.bytes)) (start_of v) (start_within b r is e)
-    (count_small b is) (rate_within b r is e) (start_within v next at k))
+from_one b v (Some r) next is at e k = search (arith, by_rates, join_fits, start_within, count_small, rate_within)
 
 after_one : (before : Option View) (v : View) (next : Ratio) → IfSome before IsView → IsView v
     → known_rate v ≡ Some next → IfSome (why_after before v next) HasWhy

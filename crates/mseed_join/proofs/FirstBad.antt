@@ -1,15 +1,13 @@
 -- The first field of a line that isn't by the grammar.
 use Rattle.std.proofs.Common.{◌≡◌, ◌≢◌, ℕ, zero, suc, ◌&&◌, List, [], ◌∷◌, ◌++◌}
-use Rattle.std.proofs.Common.{Bool, true, false, cond, Option, Some, None, IfSome, length, ℤ, pos, refl}
+use Rattle.std.proofs.Common.{Bool, true, false, Option, Some, None, IfSome, ℤ, pos, refl}
 use Rattle.std.proofs.Common.{sym}
 use Rattle.std.proofs.Common.{ap, ◌∙◌, subst, arith, inl, inr}
 use Rattle.std.specs.Prelude.{decimal, codes, is_some, nat_eq}
 use Rattle.std.specs.Fmt.{signed_decimal}
 use Rattle.std.specs.List.{starts_with}
 use Rattle.std.proofs.lemmas.Bool.{lt-ltb}
-use Rattle.std.proofs.lemmas.Int.{ints}
 use Rattle.std.proofs.lemmas.Option.{same_Some}
-use Rattle.mseed_time.specs.Btime.{IsInstant}
 use Rattle.mseed_time.specs.Rate.{Ratio, IsRatio}
 use Rattle.mseed_record.specs.declared.leap.Leap.{Leap}
 use Rattle.mseed_record.specs.declared.leap.Leap.TheVariants.{None as NoLeap}
@@ -26,7 +24,7 @@ use Rattle.mseed_join.specs.Fields.{to_head_number, to_head_offset, to_head_star
 use Rattle.mseed_join.specs.Fields.{to_tail_start, to_tail_samples, to_tail_rate, to_tail_leap}
 use Rattle.mseed_join.specs.Fields.{BeginsAsChannel, IsFirstBad, IsFirstOf, IsGoodTo}
 use Rattle.mseed_join.specs.Fields.{channel_fields, counts_fields, fields_of, head_fields, tail_fields}
-use Rattle.mseed_join.specs.Lines.{channel_line, counts_line, key_text}
+use Rattle.mseed_join.specs.Lines.{channel_line, counts_line}
 use Rattle.mseed_join.specs.Lines.{HasChannelLine, HasCountsLine, HasFinding, HasFindings, HasHead, HasTail}
 use Rattle.mseed_join.specs.declared.bad_field.Field.{Field}
 use Rattle.mseed_join.specs.declared.bad_field.Field.TheVariants.{Key, Records, Samples, HeadNumber, HeadOffset}
@@ -38,9 +36,7 @@ use Rattle.mseed_join.specs.private.Passing.{from_head, from_tail, or_bad, or_el
 use Rattle.mseed_join.specs.private.Passing.{past_count, past_findings, past_key}
 use Rattle.mseed_join.specs.private.Passing.{past_word}
 use Rattle.mseed_join.proofs.Backwards.{digits_no_word, integer_no_word}
-use Rattle.mseed_join.proofs.Keys.{AreBytes}
-use Rattle.mseed_join.proofs.Spelled.{IsFew, leading}
-use Rattle.mseed_join.proofs.PassedFields.{after_prefix, key_on, word_on, Passed, AreSamples, AreFindings}
+use Rattle.mseed_join.proofs.PassedFields.{after_prefix, key_on, word_on, AreFindings}
 use Rattle.mseed_join.proofs.PassedFields.{IsField, count_field, start_field, rate_field, samples_field, leap_field}
 use Rattle.mseed_join.proofs.PassedFields.{findings_field, key_past, word_past}
 
@@ -67,28 +63,53 @@ first_of : {X : Type 0} → (line : List ℕ) (f : Field) (fs : List Field) (o :
 first_of line f fs None others none some = inl (refl, none refl)
 first_of line f fs (Some x) others none some = inr (some x refl)
 
+-- how far bytes are read: as the text of this one, and as no other text
+record Read {X : Type 0} (Fits : X → Type 0) (bytes : List ℕ) (to : X → List ℕ → List ℕ) (left : List ℕ) : Type 0 where
+  x : X
+  fits : Fits x
+  is : bytes ≡ to x left
+  only : Only Fits bytes to left
+
+begin : {X : Type 0} {Fits : X → Type 0} (bytes : List ℕ) (x : X) → Fits x → Read Fits bytes (λ y rest. rest) bytes
+begin bytes x fits = record { x = x; fits = fits; is = refl; only = λ y rest l ends is. sym is }
+
 -- by what is read of the bytes that are left: where some text begins as these bytes do, its next field is there
-step : {X V : Type 0} → (Fits : X → Type 0) (line bytes : List ℕ) (f : Field) (fs : List Field)
-    (to : X → List ℕ → List ℕ) (left : List ℕ) {FitsV : V → Type 0} {text : V → List ℕ} {word : List ℕ}
-    {pass : List ℕ → Option (List ℕ)} (others : List ℕ → Field) → IsField FitsV text word pass → (get : X → V)
-    → ((x : X) → Fits x → FitsV (get x)) → ((z : List ℕ) → ends_field (word ++ z) ≡ true) → Only Fits bytes to left
+step : {X V : Type 0} {Fits : X → Type 0} (line : List ℕ) {bytes left : List ℕ} {to : X → List ℕ → List ℕ}
+    {FitsV : V → Type 0} {text : V → List ℕ} {word : List ℕ} {pass : List ℕ → Option (List ℕ)} (f : Field)
+    (fs : List Field)
+    (others : List ℕ → Field) → Read Fits bytes to left → IsField FitsV text word pass → (get : X → V)
+    (put : X → V → X) → ((x : X) → Fits x → FitsV (get x)) → ((x : X) (v : V) → Fits x → FitsV v → Fits (put x v))
+    → ((z : List ℕ) → ends_field (word ++ z) ≡ true)
+    → ((x : X) (v : V) (rest : List ℕ) → to x (word ++ (text v ++ rest))
+    ≡ to (put x v) (word ++ (text (get (put x v)) ++ rest)))
+    → ((x : X) → Fits x → (rest : List ℕ) → ends_field rest ≡ true
+    → bytes ≡ to x (word ++ (text (get x) ++ rest)) → IsGoodTo f line)
     → (IsGoodTo f line → Begins Fits bytes (λ x rest. to x (word ++ (text (get x) ++ rest))))
-    → ((r : List ℕ) → Passed FitsV text word left r
-    → Only Fits bytes (λ x rest. to x (word ++ (text (get x) ++ rest))) r
-    → IsGoodTo f line × IsFirstOf line (others r) fs)
+    → ((r : List ℕ) → ends_field r ≡ true → Read Fits bytes (λ x rest. to x (word ++ (text (get x) ++ rest))) r
+    → IsFirstOf line (others r) fs)
     → IsFirstOf line (or_bad f (pass left) others) (f ∷ fs)
-step {X} Fits line bytes f fs to left {text = text} {word = word} {pass = pass} others field get fits_get space only of
-    more =
+step {X} {Fits = Fits} line {bytes} {left} {to} {text = text} {word} {pass} f fs others m field get put get_fits
+    put_fits space same good of more =
     first_of line f fs (pass left) others
-    (λ none g. let b = of g in neither (pass left) b.rest none (reads b.x b.rest b.fits b.ends b.is))
-    (λ r some. more r (field.past left r some) (λ x rest fits ends is.
-    same_Some rest r (sym (reads x rest fits ends is) ∙ some)))
+    (λ none g. let b = of g in neither (pass left) b.rest none (reads b.x b.rest b.fits b.ends b.is)) (λ r some.
+    let p = field.past left r some in
+    let fits : Fits (put m.x p.x) = put_fits m.x p.x m.fits p.fits in
+    let is : bytes ≡ to (put m.x p.x) (word ++ (text (get (put m.x p.x)) ++ r)) =
+    m.is ∙ ap (to m.x) p.is ∙ same m.x p.x r in (
+      good (put m.x p.x) fits r p.ends is,
+      more r p.ends (record {
+        x = put m.x p.x;
+        fits = fits;
+        is = is;
+        only = λ x rest fits ends is. same_Some rest r (sym (reads x rest fits ends is) ∙ some);
+      }),
+    ))
   where
     reads : (x : X) (rest : List ℕ) → Fits x → ends_field rest ≡ true
         → bytes ≡ to x (word ++ (text (get x) ++ rest)) → pass left ≡ Some rest
     reads x rest fits ends is =
-        ap pass (sym (only x (word ++ (text (get x) ++ rest)) fits (space (text (get x) ++ rest)) is))
-        ∙ field.on (get x) rest (fits_get x fits) ends
+        ap pass (sym (m.only x (word ++ (text (get x) ++ rest)) fits (space (text (get x) ++ rest)) is))
+        ∙ field.on (get x) rest (get_fits x fits) ends
 
 -- ---- channels
 abbrev HasLine : List ℕ × Channel → Type 0
@@ -97,6 +118,11 @@ HasLine x = HasChannelLine x.0 x.1
 begun : (line : List ℕ) (to : List ℕ → Channel → List ℕ → List ℕ) → BeginsAsChannel to line
     → Begins HasLine line (λ x. to x.0 x.1)
 begun line to g = record { x = (g.key, g.channel); fits = g.has_line; rest = g.rest; ends = g.ends; is = g.is }
+
+abbrev goods : {line : List ℕ} (to : List ℕ → Channel → List ℕ → List ℕ) (x : List ℕ × Channel) → HasLine x
+    → (rest : List ℕ) → ends_field rest ≡ true → line ≡ to x.0 x.1 rest → BeginsAsChannel to line
+goods to x fits rest ends is =
+    record { key = x.0; channel = x.1; has_line = fits; rest = rest; is = is; ends = ends }
 
 -- some finding
 abbrev a_finding : Finding
@@ -111,13 +137,7 @@ with c f = record { records = c.records; samples = c.samples; findings = f }
 
 fits_with : (key : List ℕ) (c : Channel) (f : Findings) → HasChannelLine key c → HasFindings f
     → HasChannelLine key (with c f)
-fits_with key c f h fits = record {
-  key_length = h.key_length;
-  key_bytes = h.key_bytes;
-  records = h.records;
-  samples = h.samples;
-  findings = fits;
-}
+fits_with key c f h fits = search arith
 
 ends_fit : (f : Findings) → HasFindings f → IfSome (head_in f) HasHead × IfSome (tail_in f) HasTail
 ends_fit (Nothing head tail) h = (h.0, h.1)
@@ -256,8 +276,7 @@ module _ {X : Type 0} {Fits : X → Type 0} {get : Findings → Option X} {word 
     of_some : (part : X → List ℕ → List ℕ) (o : Option X) (rest : List ℕ) → IfSome o Fits → ends_field rest ≡ true
         → word ++ or_none part o rest ≡ m.good.rest
         → (x : X) × ((o ≡ Some x) × (Fits x × (m.good.rest ≡ word ++ part x rest)))
-    of_some part None rest fits ends is = absurd (neither (past_word none m.good.rest) rest lacks
-        (ap (past_word none) (sym (g.splits rest ∙ is)) ∙ word_on rest ends none))
+    of_some part None rest fits ends is = search (arith, neither, word_on)
     of_some part (Some x) rest fits ends is = (x, (refl, (fits, sym is)))
 
     part_of : (part : X → List ℕ → List ℕ) → BeginsAsChannel (To part) line
@@ -286,13 +305,7 @@ abbrev one : Ratio
 one = record { num = 1; den = 1 }
 
 rate_one : IsRatio one
-rate_one = record {
-  num_counts = omega arith;
-  num_bound = omega arith;
-  den_counts = omega arith;
-  den_bound = omega
-      arith;
-}
+rate_one = search arith
 
 tail_differs : (t : Tail) (z : List ℕ) → HasTail t
     → past_word (codes " tail none") (codes " tail " ++ (signed_decimal t.start ++ z)) ≡ None
@@ -305,20 +318,11 @@ tail_differs t z fits =
 abbrev tail : ℤ → ℕ → Ratio → Leap → Tail
 tail start samples rate leap = record { start = start; samples = samples; rate = rate; leap = leap }
 
-tail_fits : (start : ℤ) (samples : ℕ) (rate : Ratio) (leap : Leap) → IsInstant start → AreSamples samples
-    → IsRatio rate → HasTail (tail start samples rate leap)
-tail_fits start samples rate leap s n r = record { start = s; some = n.0; samples = n.1; rate = r }
-
-samples_one : AreSamples 1
-samples_one = (omega arith, omega arith)
+a_tail_fits : HasTail (tail (pos 0) 1 one NoLeap)
+a_tail_fits = search (arith, rate_one)
 
 tail_group : Group HasTail tail_in (codes " tail ") (codes " tail none") to_tail_leap
-tail_group = record {
-  fit = λ f h. (ends_fit f h).1;
-  spaced = λ z. refl;
-  splits = λ z. refl;
-  differs = λ t z. tail_differs t _;
-}
+tail_group = search (arith, ends_fit, tail_differs)
 
 module _ (line : List ℕ) (has : Bool) (m : Reached line (to_head to_head_rate) (λ c. has_head c ≡ has))
     (never : (key : List ℕ) (c : Channel) → HasChannelLine key c → line ≢ channel_line key c) where
@@ -330,8 +334,7 @@ module _ (line : List ℕ) (has : Bool) (m : Reached line (to_head to_head_rate)
   findings_to t = Counted 1 a_finding (head_in m.good.channel.findings) t
 
   findings_fit : (t : Option Tail) → IfSome t HasTail → HasFindings (findings_to t)
-  findings_fit t fits =
-      (omega arith, omega arith, a_finding_fits, (ends_fit m.good.channel.findings m.good.has_line.findings).0, fits)
+  findings_fit t fits = search (arith, a_finding_fits, ends_fit)
 
   abbrev good_tail : (part : Tail → List ℕ → List ℕ) (t : Option Tail) → IfSome t HasTail → (rest : List ℕ)
       → ends_field rest ≡ true → bytes ≡ codes " tail " ++ or_none part t rest → BeginsAsChannel (to_tail part) line
@@ -340,6 +343,10 @@ module _ (line : List ℕ) (has : Bool) (m : Reached line (to_head to_head_rate)
       (findings_fit t fits) ends
       (m.good.is ∙ ap (λ (z : List ℕ). to_head to_head_rate m.good.key m.good.channel z) is)
 
+  abbrev good : (part : Tail → List ℕ → List ℕ) (t : Tail) → HasTail t → (rest : List ℕ) → ends_field rest ≡ true
+      → bytes ≡ codes " tail " ++ part t rest → BeginsAsChannel (to_tail part) line
+  good part t = good_tail part (Some t)
+
   first_from_tail : IsFirstOf line (from_tail has bytes) tail_fields
   unfolding from_tail
   first_from_tail = by (past_word (codes " tail none") bytes) refl
@@ -347,42 +354,21 @@ module _ (line : List ℕ) (has : Bool) (m : Reached line (to_head to_head_rate)
       by : (o : Option (List ℕ)) → past_word (codes " tail none") bytes ≡ o
           → IsFirstOf line (or_else o (from_findings false) (parts_of_tail has bytes)) tail_fields
       by None e =
-          step HasTail line bytes TailStart (TailSamples ∷ TailRate ∷ TailLeap ∷ InFindings ∷ First ∷ []) (λ t rest.
-          rest)
-          bytes _ (start_field (codes " tail ")) (λ t. t.start) (λ t h. h.start) (λ z. refl)
-          (λ t rest fits ends is. sym is) (part_of tail_group m e to_tail_start) (λ a s only1. (
-            good_tail to_tail_start (Some (tail s.x 1 one NoLeap)) (tail_fits s.x 1 one NoLeap s.fits samples_one
-                rate_one)
-                a
-                s.ends s.is,
-            step HasTail line bytes TailSamples (TailRate ∷ TailLeap ∷ InFindings ∷ First ∷ [])
-                (λ t rest. codes " tail " ++ to_tail_start t rest) a _ samples_field (λ t. t.samples)
-                (λ t h. (h.some, h.samples)) (λ z. refl) only1 (part_of tail_group m e to_tail_samples) (λ b n only2.
-                let is2 = s.is ∙ ap (λ (z : List ℕ). codes " tail " ++ (signed_decimal s.x ++ z)) n.is in (
-                  good_tail to_tail_samples (Some (tail s.x n.x one NoLeap))
-                      (tail_fits s.x n.x one NoLeap s.fits n.fits rate_one) b n.ends is2,
-                  step HasTail line bytes TailRate (TailLeap ∷ InFindings ∷ First ∷ [])
-                      (λ t rest. codes " tail " ++ to_tail_samples t rest) b _ rate_field (λ t. t.rate) (λ t h. h.rate)
-                      (λ z. refl) only2 (part_of tail_group m e to_tail_rate) (λ c q only3.
-                      let is3 = is2 ∙ ap (λ (z : List ℕ). codes " tail " ++ to_tail_samples (tail s.x n.x q.x NoLeap) z)
-                      q.is
-                      in (
-                        good_tail to_tail_rate (Some (tail s.x n.x q.x NoLeap))
-                            (tail_fits s.x n.x q.x NoLeap s.fits n.fits q.fits) c q.ends is3,
-                        step HasTail line bytes TailLeap (InFindings ∷ First ∷ [])
-                            (λ t rest. codes " tail " ++ to_tail_rate t rest) c _ leap_field (λ t. t.leap) (λ t h. tt)
-                            (λ z. refl) only3 (part_of tail_group m e to_tail_leap) (λ d l only4.
-                            let t : Tail = tail s.x n.x q.x l.x in
-                            let fits : HasTail t = tail_fits s.x n.x q.x l.x s.fits n.fits q.fits in
-                            let is4 = is3 ∙ ap (λ (z : List ℕ). codes " tail " ++ to_tail_rate t z) l.is in (
-                              good_tail to_tail_leap (Some t) fits d l.ends is4,
-                              first_from_findings line has (reached_as (λ c q i. q.0 i && q.1 i) (reached_some
-                                  tail_group m
-                                  e (good_tail to_tail_leap (Some t) fits d l.ends is4) (refl, m.own) only4)) never,
-                            )),
-                      )),
-                )),
-          ))
+          step line TailStart (TailSamples ∷ TailRate ∷ TailLeap ∷ InFindings ∷ First ∷ []) _
+          (begin {Fits = HasTail} bytes (tail (pos 0) 1 one NoLeap) a_tail_fits) (start_field (codes " tail "))
+          (λ t. t.start) (λ t s. tail s t.samples t.rate t.leap) (λ t h. h.start) (λ t s h k. assumption)
+          (λ z. refl) (λ t s rest. refl) (good to_tail_start) (part_of tail_group m e to_tail_start) (λ a ends1 m1.
+          step line TailSamples (TailRate ∷ TailLeap ∷ InFindings ∷ First ∷ []) _ m1 samples_field (λ t. t.samples)
+          (λ t n. tail t.start n t.rate t.leap) (λ t h. (h.some, h.samples)) (λ t n h k. assumption)
+          (λ z. refl) (λ t n rest. refl) (good to_tail_samples) (part_of tail_group m e to_tail_samples) (λ b ends2 m2.
+          step line TailRate (TailLeap ∷ InFindings ∷ First ∷ []) _ m2 rate_field (λ t. t.rate)
+          (λ t q. tail t.start t.samples q t.leap) (λ t h. h.rate) (λ t q h k. assumption)
+          (λ z. refl) (λ t q rest. refl) (good to_tail_rate) (part_of tail_group m e to_tail_rate) (λ c ends3 m3.
+          step line TailLeap (InFindings ∷ First ∷ []) _ m3 leap_field (λ t. t.leap)
+          (λ t l. tail t.start t.samples t.rate l) (λ t h. tt) (λ t l h k. assumption)
+          (λ z. refl) (λ t l rest. refl) (good to_tail_leap) (part_of tail_group m e to_tail_leap) (λ d ends4 m4.
+          first_from_findings line has (reached_as (λ c q i. q.0 i && q.1 i) (reached_some tail_group m e
+          (good to_tail_leap m4.x m4.fits d ends4 m4.is) (refl, m.own) m4.only)) never))))
       by (Some r) e =
           let w = word_past (codes " tail none") bytes r e in
           let good : (part : Tail → List ℕ → List ℕ) → BeginsAsChannel (to_tail part) line =
@@ -402,23 +388,11 @@ head_differs h z fits =
 abbrev head : ℕ → ℕ → ℤ → Ratio → Head
 head number offset start rate = record { number = number; offset = offset; start = start; rate = rate }
 
-head_fits : (number offset : ℕ) (start : ℤ) (rate : Ratio) → IsFew number → IsFew offset → IsInstant start
-    → IsRatio rate → HasHead (head number offset start rate)
-head_fits number offset start rate n o s r = record { number = n; offset = o; start = s; rate = r }
-
-few_none : IsFew 0
-few_none = omega arith
-
-start_none : IsInstant (pos 0)
-start_none = (omega (arith, ints), omega (arith, ints))
+a_head_fits : HasHead (head 0 0 (pos 0) one)
+a_head_fits = search (arith, rate_one)
 
 head_group : Group HasHead head_in (codes " head ") (codes " head none") to_head_rate
-head_group = record {
-  fit = λ f h. (ends_fit f h).0;
-  spaced = λ z. refl;
-  splits = λ z. refl;
-  differs = λ h z. head_differs h _;
-}
+head_group = search (arith, ends_fit, head_differs)
 
 module _ (line : List ℕ) (m : Reached line to_samples (λ c. Unit {0}))
     (never : (key : List ℕ) (c : Channel) → HasChannelLine key c → line ≢ channel_line key c) where
@@ -439,6 +413,10 @@ module _ (line : List ℕ) (m : Reached line to_samples (λ c. Unit {0}))
       (findings_are h fits) ends
       (m.good.is ∙ ap (λ (z : List ℕ). to_samples m.good.key m.good.channel z) is)
 
+  abbrev of_head : (part : Head → List ℕ → List ℕ) (h : Head) → HasHead h → (rest : List ℕ)
+      → ends_field rest ≡ true → left ≡ codes " head " ++ part h rest → BeginsAsChannel (to_head part) line
+  of_head part h = good_head part (Some h)
+
   first_from_head : IsFirstOf line (from_head left) head_fields
   unfolding from_head
   first_from_head = by (past_word (codes " head none") left) refl
@@ -446,38 +424,21 @@ module _ (line : List ℕ) (m : Reached line to_samples (λ c. Unit {0}))
       by : (o : Option (List ℕ)) → past_word (codes " head none") left ≡ o
           → IsFirstOf line (or_else o (from_tail false) (parts_of_head left)) head_fields
       by None e =
-          step HasHead line left HeadNumber (HeadOffset ∷ HeadStart ∷ HeadRate ∷ tail_fields) (λ h rest. rest) left _
-          (count_field (codes " head ")) (λ h. h.number) (λ h l. l.number) (λ z. refl) (λ h rest fits ends is. sym is)
-          (part_of head_group m e to_head_number) (λ a n only1. (
-            good_head to_head_number (Some (head n.x 0 (pos 0) one))
-                (head_fits n.x 0 (pos 0) one n.fits few_none start_none rate_one) a n.ends n.is,
-            step HasHead line left HeadOffset (HeadStart ∷ HeadRate ∷ tail_fields)
-                (λ h rest. codes " head " ++ to_head_number h rest) a _ (count_field (codes " ")) (λ h. h.offset)
-                (λ h l. l.offset) (λ z. refl) only1 (part_of head_group m e to_head_offset) (λ b o only2.
-                let is2 = n.is ∙ ap (λ (z : List ℕ). codes " head " ++ (decimal n.x ++ z)) o.is in (
-                  good_head to_head_offset (Some (head n.x o.x (pos 0) one))
-                      (head_fits n.x o.x (pos 0) one n.fits o.fits start_none rate_one) b o.ends is2,
-                  step HasHead line left HeadStart (HeadRate ∷ tail_fields)
-                      (λ h rest. codes " head " ++ to_head_offset h rest) b _ (start_field (codes " ")) (λ h. h.start)
-                      (λ h l. l.start) (λ z. refl) only2 (part_of head_group m e to_head_start) (λ c s only3.
-                      let is3 = is2 ∙ ap (λ (z : List ℕ). codes " head " ++ to_head_offset (head n.x o.x s.x one) z)
-                      s.is in (
-                        good_head to_head_start (Some (head n.x o.x s.x one))
-                            (head_fits n.x o.x s.x one n.fits o.fits s.fits rate_one) c s.ends is3,
-                        step HasHead line left HeadRate tail_fields (λ h rest. codes " head " ++ to_head_start h
-                            rest) c _
-                            rate_field (λ h. h.rate) (λ h l. l.rate) (λ z. refl) only3 (part_of head_group m e
-                            to_head_rate) (λ d q only4.
-                            let h : Head = head n.x o.x s.x q.x in
-                            let fits : HasHead h = head_fits n.x o.x s.x q.x n.fits o.fits s.fits q.fits in
-                            let is4 = is3 ∙ ap (λ (z : List ℕ). codes " head " ++ to_head_start h z) q.is in (
-                              good_head to_head_rate (Some h) fits d q.ends is4,
-                              first_from_tail line true (reached_as (λ c q. q.0) (reached_some head_group m e
-                                  (good_head to_head_rate (Some h) fits d q.ends is4) (refl, tt) only4)) never,
-                            )),
-                      )),
-                )),
-          ))
+          step line HeadNumber (HeadOffset ∷ HeadStart ∷ HeadRate ∷ tail_fields) _
+          (begin {Fits = HasHead} left (head 0 0 (pos 0) one) a_head_fits) (count_field (codes " head "))
+          (λ h. h.number) (λ h n. head n h.offset h.start h.rate) (λ h l. l.number) (λ h n l k. assumption)
+          (λ z. refl) (λ h n rest. refl) (of_head to_head_number) (part_of head_group m e to_head_number) (λ a ends1 m1.
+          step line HeadOffset (HeadStart ∷ HeadRate ∷ tail_fields) _ m1 (count_field (codes " ")) (λ h. h.offset)
+          (λ h o. head h.number o h.start h.rate) (λ h l. l.offset) (λ h o l k. assumption)
+          (λ z. refl) (λ h o rest. refl) (of_head to_head_offset) (part_of head_group m e to_head_offset) (λ b ends2 m2.
+          step line HeadStart (HeadRate ∷ tail_fields) _ m2 (start_field (codes " ")) (λ h. h.start)
+          (λ h s. head h.number h.offset s h.rate) (λ h l. l.start) (λ h s l k. assumption)
+          (λ z. refl) (λ h s rest. refl) (of_head to_head_start) (part_of head_group m e to_head_start) (λ c ends3 m3.
+          step line HeadRate tail_fields _ m3 rate_field (λ h. h.rate) (λ h q. head h.number h.offset h.start q)
+          (λ h l. l.rate) (λ h q l k. assumption)
+          (λ z. refl) (λ h q rest. refl) (of_head to_head_rate) (part_of head_group m e to_head_rate) (λ d ends4 m4.
+          first_from_tail line true (reached_as (λ c q. q.0) (reached_some head_group m e
+          (of_head to_head_rate m4.x m4.fits d ends4 m4.is) (refl, tt) m4.only)) never))))
       by (Some r) e =
           let w = word_past (codes " head none") left r e in
           let good : (part : Head → List ℕ → List ℕ) → BeginsAsChannel (to_head part) line =
@@ -493,68 +454,38 @@ NoChannel line = (key : List ℕ) (c : Channel) → HasChannelLine key c → lin
 abbrev pub NoCounts : List ℕ → Type 0
 NoCounts line = (records bytes : ℕ) → HasCountsLine records bytes → line ≢ counts_line records bytes
 
--- a channel that has a line, of these numbers
-abbrev plain : ℕ → ℕ → Channel
-plain records samples = record { records = records; samples = samples; findings = Counted 1 a_finding None None }
-
-plain_fits : (key : List ℕ) (records samples : ℕ) → length key ≡ 12 → AreBytes key → IsFew records → IsFew samples
-    → HasChannelLine key (plain records samples)
-plain_fits key records samples long small r s = record {
-  key_length = long;
-  key_bytes = small;
-  records = r;
-  samples = s;
-  findings = (omega arith, omega arith, a_finding_fits, tt, tt);
-}
-
 first_in_channel : (line : List ℕ) → NoChannel line → IsFirstOf line (bad_in_channel line) channel_fields
 unfolding bad_in_channel
 first_in_channel line never =
     first_of line Key (Records ∷ Samples ∷ head_fields) (past_key line) _ (λ none g.
     neither (past_key line) g.rest none (ap past_key g.is
     ∙ key_on g.rest g.ends g.key g.has_line.key_length g.has_line.key_bytes)) (λ a e.
-    let k = key_past line a e in (
-      record {
-        key = k.0;
-        channel = plain 0 0;
-        has_line = plain_fits k.0 0 0 k.1 k.2 (omega arith) (omega arith);
-        rest = a;
-        is = k.3;
-        ends = k.4;
-      },
-      step HasLine line line Records (Samples ∷ head_fields) (λ x. to_key x.0 x.1) a _
-          (count_field (codes " records ")) (λ x. x.1.records) (λ x l. l.records) (λ z. refl)
-          (λ x rest l ends is. same_Some rest a (sym (ap past_key is
-          ∙ key_on rest ends x.0 l.key_length l.key_bytes) ∙ e)) (begun line to_records) (λ b n only2.
-          let is2 = leading (key_text k.0) line a _ k.3 n.is in (
-            record {
-              key = k.0;
-              channel = plain n.x 0;
-              has_line = plain_fits k.0 n.x 0 k.1 k.2 n.fits (omega arith);
-              rest = b;
-              is = is2;
-              ends = n.ends;
-            },
-            step HasLine line line Samples head_fields (λ x. to_records x.0 x.1) b _
-                (count_field (codes " samples ")) (λ x. x.1.samples) (λ x l. l.samples) (λ z. refl) only2
-                (begun line to_samples) (λ c s only3.
-                let has = plain_fits k.0 n.x s.x k.1 k.2 n.fits s.fits in
-                let is3 = is2 ∙ ap (λ (z : List ℕ). to_records k.0 (plain n.x s.x) z) s.is in (
-                  record { key = k.0; channel = plain n.x s.x; has_line = has; rest = c; is = is3; ends = s.ends },
-                  first_from_head line (record {
-                    good = record {
-                      key = k.0;
-                      channel = plain n.x s.x;
-                      has_line = has;
-                      rest = c;
-                      is = is3;
-                      ends = s.ends;
-                    };
-                    own = tt;
-                    only = λ x rest fits ends is. (only3 x rest fits ends is, tt);
-                  }) never,
-                )),
-          )),
+    let k = key_past line a e in
+    let m : Read HasLine line (λ x. to_key x.0 x.1) a = record {
+      x = (k.0, record { records = 0; samples = 0; findings = Counted 1 a_finding None None });
+      fits = record {
+        key_length = k.1;
+        key_bytes = k.2;
+        records = omega arith;
+        samples = omega arith;
+        findings = (omega arith, omega arith, a_finding_fits, tt, tt);
+      };
+      is = k.3;
+      only = λ x rest l ends is. same_Some rest a (sym (ap past_key is
+          ∙ key_on rest ends x.0 l.key_length l.key_bytes) ∙ e);
+    } in (
+      goods to_key m.x m.fits a k.4 m.is,
+      step line Records (Samples ∷ head_fields) _ m (count_field (codes " records ")) (λ x. x.1.records)
+          (λ x n. (x.0, record (x.1) { records = n })) (λ x l. l.records) (λ x n l r. assumption) (λ z. refl)
+          (λ x n rest. refl) (goods to_records) (begun line to_records) (λ b ends1 m1.
+          step line Samples head_fields _ m1 (count_field (codes " samples ")) (λ x. x.1.samples)
+          (λ x n. (x.0, record (x.1) { samples = n })) (λ x l. l.samples) (λ x n l s. assumption) (λ z. refl)
+          (λ x n rest. refl) (goods to_samples) (begun line to_samples) (λ c ends2 m2.
+          first_from_head line (record {
+            good = goods to_samples m2.x m2.fits c ends2 m2.is;
+            own = tt;
+            only = λ x rest fits ends is. (m2.only x rest fits ends is, tt);
+          }) never)),
     ))
 
 first_in_counts : (line : List ℕ) → NoCounts line → IsFirstOf line (bad_in_counts line) counts_fields
@@ -578,17 +509,11 @@ first_in_counts line never =
 
 pub of_counts : (line : List ℕ) (field : Field) → starts_with nat_eq line (codes "records ") ≡ true
     → field ≡ bad_in_counts line → NoCounts line → IsFirstBad field line
-of_counts line field e is never =
-    let first : IsFirstOf line field counts_fields =
-    subst (λ (f : Field). IsFirstOf line f counts_fields) (sym is) (first_in_counts line never) in
-    subst (λ (b : Bool). IsFirstOf line field (cond b counts_fields channel_fields)) (sym e) first
+of_counts line field e is never = search (arith, first_in_counts)
 
 pub of_channel : (line : List ℕ) (field : Field) → starts_with nat_eq line (codes "records ") ≡ false
     → field ≡ bad_in_channel line → NoChannel line → IsFirstBad field line
-of_channel line field e is never =
-    let first : IsFirstOf line field channel_fields =
-    subst (λ (f : Field). IsFirstOf line f channel_fields) (sym is) (first_in_channel line never) in
-    subst (λ (b : Bool). IsFirstOf line field (cond b counts_fields channel_fields)) (sym e) first
+of_channel line field e is never = search (arith, first_in_channel)
 
 -- ---- there is one
 one_of : (line : List ℕ) (f g : Field) (fs : List Field) → IsFirstOf line f fs → IsFirstOf line g fs → f ≡ g

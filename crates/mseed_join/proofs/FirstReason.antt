@@ -1,8 +1,7 @@
 -- Which reason a text spells: the first whose word it begins with.
-use Rattle.std.proofs.Common.{◌≡◌, ◌∙◌, ◌-◌, ◌^◌, ℕ, List, Option, Some, None, ap, codes, sym}
+use Rattle.std.proofs.Common.{◌≡◌, ◌∙◌, ◌-◌, ◌^◌, ℕ, List, Option, Some, None, ap, codes, sym, arith}
 use Rattle.mseed_steim.specs.declared.fault.ReadFault.{ReadFault}
-use Rattle.mseed_steim.specs.declared.fault.ReadFault.TheVariants.{Blockette100, Encoding, LittleSteim, DataOffset}
-use Rattle.mseed_steim.specs.declared.fault.ReadFault.TheVariants.{Short, Overflow}
+use Rattle.mseed_steim.specs.declared.fault.ReadFault.TheVariants.{Blockette100}
 use Rattle.mseed_join.specs.private.Reading.{◌>>=◌, after, bad_word_at, counted_at, else_by, last_differs_at}
 use Rattle.mseed_join.specs.private.Reading.{number_after, read_fault_at, word_at}
 
@@ -18,17 +17,14 @@ no_word word x bytes none = ap (λ (o : Option (List ℕ)). o >>= λ rest. Some 
 
 no_count : {X : Type 0} (word : List ℕ) (largest : ℕ) (made : ℕ → X) (bytes : List ℕ)
     → None ≡ number_after word largest bytes → counted_at word largest made bytes ≡ None
-no_count word largest made bytes none =
-    ap (λ (o : Option (ℕ × List ℕ)). o >>= λ n. Some (made n.0, n.1)) (sym none)
+no_count word largest made bytes none = search arith
 
 module _ (bytes : List ℕ) where
   -- the words that stand for a reason
   pub first_word : (rest : List ℕ) → Some rest ≡ after (codes "blockette100") bytes
       → Some (Blockette100, rest) ≡ read_fault_at bytes
   unfolding read_fault_at
-  first_word rest is =
-      sym (taken_first _ _ (Blockette100, rest)
-      (ap (λ (o : Option (List ℕ)). o >>= λ r. Some (Blockette100, r)) (sym is)))
+  first_word rest is = search (arith, taken_first)
 
   -- after the words and the counts, two reasons of two numbers each
   pub after_counts : None ≡ after (codes "blockette100") bytes → None ≡ after (codes "littlesteim") bytes
@@ -37,13 +33,7 @@ module _ (bytes : List ℕ) where
       → None ≡ number_after (codes "overflow ") (2 ^ 63 - 1) bytes
       → read_fault_at bytes ≡ else_by (bad_word_at bytes) (last_differs_at bytes)
   unfolding read_fault_at
-  after_counts a b c d e f =
-      passed_over _ _ (no_word (codes "blockette100") Blockette100 bytes a)
-      ∙ (passed_over _ _ (no_word (codes "littlesteim") LittleSteim bytes b)
-      ∙ (passed_over _ _ (no_word (codes "dataoffset") DataOffset bytes c)
-      ∙ (passed_over _ _ (no_count (codes "encoding ") (2 ^ 8 - 1) Encoding bytes d)
-      ∙ (passed_over _ _ (no_count (codes "short ") (2 ^ 63 - 1) Short bytes e)
-      ∙ passed_over _ _ (no_count (codes "overflow ") (2 ^ 63 - 1) Overflow bytes f)))))
+  after_counts a b c d e f = search (arith, passed_over, no_word, no_count)
 
   pub bad_word_first : (x : ReadFault × List ℕ)
       → read_fault_at bytes ≡ else_by (bad_word_at bytes) (last_differs_at bytes) → Some x ≡ bad_word_at bytes
@@ -53,5 +43,4 @@ module _ (bytes : List ℕ) where
   pub last_differs_then : (o : Option (ReadFault × List ℕ))
       → read_fault_at bytes ≡ else_by (bad_word_at bytes) (last_differs_at bytes) → None ≡ bad_word_at bytes
       → o ≡ last_differs_at bytes → o ≡ read_fault_at bytes
-  last_differs_then o before none is =
-      is ∙ sym (before ∙ passed_over (bad_word_at bytes) (last_differs_at bytes) (sym none))
+  last_differs_then o before none is = search (arith, passed_over)

@@ -40,8 +40,7 @@ if_head d e (Some head) h = (h.number, h.offset)
 findings_move : (d e : ℕ) (f : Findings) → HasFindings (moved_findings d e f)
     → (HeadFits d e (head_in f) × FirstFits d e f) × CountFits f
 findings_move d e (Nothing head tail) h = (((h.0.number, h.0.offset), tt), tt)
-findings_move d e (Counted count first head tail) h =
-    ((if_head d e head h.3, (h.2.number, h.2.offset)), h.1)
+findings_move d e (Counted count first head tail) h = search (arith, if_head)
 
 findings_count : (f : Findings) → HasFindings f → CountFits f
 findings_count (Nothing head tail) h = tt
@@ -54,18 +53,8 @@ counts_of key c l = (l.records, l.samples, findings_count c.findings l.findings)
 ones_moved : (key : List ℕ) (n size d e all whole : ℕ) (ps : List Placed) → d + n ≤ all → e + size ≤ whole
     → AllByRecursion (IsOne key n size) ps → AllByRecursion (IsOne key all whole) (map (moved d e) ps)
 ones_moved key n size d e all whole [] few small h = tt
-ones_moved key n size d e all whole (p ∷ ps) few small h = (
-  record {
-    placed = record {
-      is_view = h.0.placed.is_view;
-      number = omega (arith, h.0.placed.number, few);
-      offset = omega (arith, h.0.placed.offset, small);
-    };
-    some = h.0.some;
-    key_is = h.0.key_is;
-  },
-  ones_moved key n size d e all whole ps few small h.1,
-)
+ones_moved key n size d e all whole (p ∷ ps) few small h =
+    search (arith, ones_moved key n size d e all whole ps few small h.1)
 
 module _ (a w b : Held) (vs xs : List View) (p : IsPartOf a vs) (q : IsPartOf w xs) (j : IsJoint a w b)
     (whole : IsPartOf b (vs ++ xs)) (first : AllByRecursion IsView vs) (second : AllByRecursion IsView xs)
@@ -109,11 +98,7 @@ module _ (a w b : Held) (vs xs : List View) (p : IsPartOf a vs) (q : IsPartOf w 
   fits_at key _ None e f = tt
 
   fits_of : Fits a w
-  fits_of = record {
-    records = omega (arith, p.records, q.records, few);
-    bytes = omega (arith, p.bytes, q.bytes, small);
-    each = λ key. fits_at key (kept_of key a.channels) (kept_of key w.channels) refl refl;
-  }
+  fits_of = search (arith, fits_at)
 
 -- the records of all
 abbrev pub views_of : (archive : List ℕ) (ws : List Written) → AreParted archive ws → List View

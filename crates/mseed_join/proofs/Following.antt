@@ -1,15 +1,13 @@
 -- What is kept of a channel with further records after.
-use Rattle.std.proofs.Common.{◌≡◌, ◌+◌, ◌*◌, ◌==◌, if◌then◌else◌, List, [], ◌∷◌, ◌++◌, length, Option, Some, None, refl}
+use Rattle.std.proofs.Common.{◌≡◌, ◌+◌, List, [], ◌∷◌, ◌++◌, length, Option, Some, None, refl}
 use Rattle.std.proofs.Common.{sym, ap, ◌∙◌, subst, arith, append_assoc, append-nil, length-append}
 use Rattle.std.specs.Option.{option_to_list}
-use Rattle.mseed_time.specs.Join.{join_of}
 use Rattle.mseed_time.specs.Rate.{Ratio}
-use Rattle.mseed_record.specs.View.{View, step_in}
+use Rattle.mseed_record.specs.View.{View}
 use Rattle.mseed_audit.specs.declared.finding.Finding.{Finding}
 use Rattle.mseed_audit.specs.declared.finding.Why.{Why}
-use Rattle.mseed_audit.specs.declared.finding.Why.TheVariants.{RateChange}
 use Rattle.mseed_audit.specs.Channels.{Placed, sample_count}
-use Rattle.mseed_audit.specs.Judging.{known_rate, why_by, why_from, why_after, IsFound, time as by_time}
+use Rattle.mseed_audit.specs.Judging.{known_rate, why_from, why_after, IsFound, time as by_time}
 use Rattle.mseed_audit.specs.Judging.{rate as by_rate, read as by_read, after as by_after}
 use Rattle.mseed_audit.specs.Reported.{last_of}
 use Rattle.mseed_audit.specs.Verdict.{finding_at, AreFindings, none, one}
@@ -46,18 +44,12 @@ sound_found before v a next _ h is = cc (h)
 -- the border says so of the record by which the next is judged
 border_is : (t : Tail) (b : View) (h : Head) (q : Placed) → IsTail t b → IsHead h q
     → why_after (Some b) q.view h.rate ≡ break_by t h.start h.rate
-border_is t b h q tail head =
-    ap (λ (r : Option Ratio). why_from b r q.view h.rate) tail.rate
-    ∙ (λ i. if t.rate.num * h.rate.den == h.rate.num * t.rate.den
-    then why_by (sym tail.leap i)
-    (join_of (sym tail.start i) (sym tail.samples i) t.rate (step_in (sym tail.leap i)) (sym head.start i))
-    else Some RateChange)
+border_is t b h q tail head = search arith
 
 found_is : (h : Head) (q : Placed) (why : Option Why) → IsHead h q
     → finding_at q why ≡ option_to_list (found_at h why)
 found_is h q None head = refl
-found_is h q (Some why) head =
-    λ i. record { number = sym head.number i; offset = sym head.offset i; why = why } ∷ []
+found_is h q (Some why) head = search arith
 
 -- a record that is judged after another has the border's finding before what is found of it alone
 pub record IsFoundNext (t : Option Tail) (b : View) (h : Option Head) (q : Placed) (why : Option Why) : Type 0 where
@@ -67,9 +59,7 @@ pub record IsFoundNext (t : Option Tail) (b : View) (h : Option Head) (q : Place
 
 own_after : HaveOneFinding → (b : View) (q : Placed) (why : Option Why) (own : Why) → IsFound None q.view (Some own)
     → IsFound None q.view why → IsFound (Some b) q.view why
-own_after only b q why own alone k =
-    let is : why ≡ Some own = only None q.view why (Some own) k alone in
-    subst (λ (x : Option Why). IsFound (Some b) q.view x) (sym is) (own_found (Some b) q.view why own k is)
+own_after only b q why own alone k = search (arith, own_found)
 
 pub found_after : HaveOneFinding → (t : Option Tail) (b : View) (h : Option Head) (q : Placed) (why : Option Why)
     → IsTailOf t b → IsHeadOf h q → IsFound None q.view why → IsFoundNext t b h q why
@@ -146,12 +136,8 @@ none_in fs e = ap (λ (gs : List Finding). length gs) e
 counted_with : (a b : Findings) (border : Option Finding) (fs gs : List Finding) → AreCounted a fs → AreCounted b gs
     → AreCounted (findings_with a b border) (fs ++ (option_to_list border ++ gs))
 counted_with (Nothing head t) (Nothing h tail) None fs gs e k = λ i. e i ++ k i
-counted_with (Nothing head t) (Nothing h tail) (Some f) fs gs e k =
-    let all : fs ++ f ∷ gs ≡ f ∷ [] = λ i. e i ++ f ∷ k i in
-    ([], (all, sym (ap (λ (hs : List Finding). length hs) all)))
-counted_with (Nothing head t) (Counted n first h tail) None fs gs e k =
-    let all : fs ++ gs ≡ gs = ap (λ (hs : List Finding). hs ++ gs) e in
-    (k.0, (all ∙ k.1.0, k.1.1 ∙ sym (ap (λ (hs : List Finding). length hs) all)))
+counted_with (Nothing head t) (Nothing h tail) (Some f) fs gs e k = search arith
+counted_with (Nothing head t) (Counted n first h tail) None fs gs e k = search arith
 counted_with (Nothing head t) (Counted n first h tail) (Some f) fs gs e k =
     let all : fs ++ f ∷ gs ≡ f ∷ gs = ap (λ (hs : List Finding). hs ++ f ∷ gs) e in
     (gs, (all, omega (arith, k.1.1, ap (λ (hs : List Finding). length hs) all)))
@@ -186,26 +172,13 @@ counted_with (Counted m first head t) (Counted n next h tail) (Some f) fs gs e k
 
 samples_append : (ps qs : List Placed) → sample_count (ps ++ qs) ≡ sample_count ps + sample_count qs
 samples_append [] qs = omega arith
-samples_append (p ∷ ps) qs = let later : sample_count (ps ++ qs) ≡ sample_count ps + sample_count qs =
-    samples_append ps qs in omega (arith, later)
+samples_append (p ∷ ps) qs = search (arith, samples_append ps qs)
 
 -- the findings of all records, with the border's between them
 all_found : HaveOneFinding → (c o : Channel) (ps qs : List Placed) (s : Stands c ps) (t : Stands o qs)
     → AreFindings None (ps ++ qs)
     (s.found ++ (option_to_list (border_of (tail_in c.findings) (head_in o.findings)) ++ t.found))
-all_found only c o ps qs s t =
-    let border : Option Finding = border_of (tail_in c.findings) (head_in o.findings) in
-    let alone : AreFindings None (t.first ∷ t.rest) t.found =
-    subst (λ (rs : List Placed). AreFindings None rs t.found) t.begins t.are_found in
-    let after_last : AreFindings (Some s.last.view) (t.first ∷ t.rest) (option_to_list border ++ t.found) =
-    border_found only (tail_in c.findings) s.last.view (head_in o.findings) t.first t.rest t.found s.tail t.head
-    alone in
-    let further : AreFindings (last_of None ps) qs (option_to_list border ++ t.found) =
-    subst (λ (v : Option View). AreFindings v qs (option_to_list border ++ t.found))
-    (sym (last_is ps s.prefix s.last s.ends))
-    (subst (λ (rs : List Placed). AreFindings (Some s.last.view) rs (option_to_list border ++ t.found))
-    (sym t.begins) after_last) in
-    findings_append None ps qs s.found (option_to_list border ++ t.found) s.are_found further
+all_found only c o ps qs s t = search (arith, border_found, last_is, findings_append)
 
 pub stands_after : HaveOneFinding → (c o : Channel) (ps qs : List Placed) → Stands c ps → Stands o qs
     → Stands (channel_then c o) (ps ++ qs)
@@ -229,6 +202,5 @@ stands_after only c o ps qs s t =
 pub stands_joined : HaveOneFinding → (c o : Option Channel) (ps qs : List Placed) → StandsAt c ps → StandsAt o qs
     → StandsAt (channel_joined c o) (ps ++ qs)
 stands_joined only None o ps qs s t = subst (λ (rs : List Placed). StandsAt o (rs ++ qs)) (sym s) t
-stands_joined only (Some c) None ps qs s t =
-    subst (λ (rs : List Placed). Stands c rs) (sym (append-nil ps) ∙ ap (λ (rs : List Placed). ps ++ rs) (sym t)) s
+stands_joined only (Some c) None ps qs s t = search (arith, append-nil)
 stands_joined only (Some c) (Some o) ps qs s t = stands_after only c o ps qs s t

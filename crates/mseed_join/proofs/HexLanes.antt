@@ -63,8 +63,7 @@ module _ (wrong : ℕ → Bool) (value : ℕ → ℕ)
       → (mask_l (map wrong xs) ≡ 0 → map nibble_of xs ≡ map (λ n. Some n) (map value xs))
       → map nibble_of (x ∷ xs) ≡ map (λ n. Some n) (map value (x ∷ xs))
   values_by x xs true e l empty later = absurd (omega (arith, empty))
-  values_by x xs false e l empty later =
-      λ i. value_at x l e i ∷ later (omega (arith, empty)) i
+  values_by x xs false e l empty later = search (arith, value_at)
 
   pub values_of : (xs : List ℕ) → Each1 (Fits w8) xs → mask_l (map wrong xs) ≡ 0
       → map nibble_of xs ≡ map (λ n. Some n) (map value xs)
@@ -115,8 +114,7 @@ module _ (most less more : ℕ → ℕ → ℕ) (bytes : List ℕ) (room : 8 ≤
   letters_are = zip2_splat less digits 8 65 long
 
   compared : (n : ℕ) (f : ℕ → ℕ) → zip2 most (replicate 8 n) (map f digits) ≡ map (λ x. most n (f x)) digits
-  compared n f =
-      zip2_splat_left most n 8 (map f digits) (length-map digits f ∙ long) ∙ map-map (most n) f digits
+  compared n f = search (arith, zip2_splat_left, length-map, long, map-map)
 
   are_other : zip2 most (replicate 8 10) figures ≡ map (λ x. most 10 (less x 48)) digits
   are_other = ap (λ (xs : List ℕ). zip2 most (replicate 8 10) xs) figures_are ∙ compared 10 (λ x. less x 48)
@@ -137,18 +135,11 @@ module _ (most less more : ℕ → ℕ → ℕ) (bytes : List ℕ) (room : 8 ≤
       ∙ mask_l-mod (map wrong digits) 64 (omega (arith, length-map digits wrong, long))
 
   raised_are : zip2 more letters (replicate 8 10) ≡ map (λ x. more (less x 65) 10) digits
-  raised_are =
-      ap (λ (xs : List ℕ). zip2 more xs (replicate 8 10)) letters_are
-      ∙ zip2_splat more (map (λ x. less x 65) digits) 8 10 (length-map digits (λ x. less x 65) ∙ long)
-      ∙ map-map (λ x. more x 10) (λ x. less x 65) digits
+  raised_are = search (arith, letters_are, zip2_splat, length-map, long, map-map)
 
   values_are : sel_l (map (top 7) (zip2 most (replicate 8 10) figures)) (zip2 more letters (replicate 8 10)) figures
       ≡ map value digits
-  values_are =
-      (λ i. sel_l (map (top 7) (are_other i)) (raised_are i) (figures_are i))
-      ∙ ap (λ (ms : List Bool). sel_l ms (map (λ x. more (less x 65) 10) digits) (map (λ x. less x 48) digits))
-      (map-map (top 7) (λ x. most 10 (less x 48)) digits)
-      ∙ sel_of_maps (λ x. top 7 (most 10 (less x 48))) (λ x. more (less x 65) 10) (λ x. less x 48) digits
+  values_are = search (arith, are_other, raised_are, figures_are, map-map, sel_of_maps)
 
   module _ (none : agree_below wrong (λ x. lacks (nibble_of x)) 256 ≡ true)
       (some : agree_below (λ x. wrong x || has (nibble_of x) (value x)) (λ x. true) 256 ≡ true) where

@@ -1,28 +1,11 @@
 -- Bytes that are read four at a time, by eight digits.
-use Rattle.std.proofs.Common.{◌≡◌, ◌∙◌, ◌+◌, ◌-◌, ◌*◌, ◌<◌, ◌≤◌, ◌&&◌, nat_le, ℕ, zero, suc, List, [], ◌∷◌, ◌++◌, Bool}
-use Rattle.std.proofs.Common.{true, false, cond, Option, Some, None, length, map, get_or, take, drop, refl, sym, ap}
+use Rattle.std.proofs.Common.{◌≡◌, ◌∙◌, ◌+◌, ◌-◌, ◌*◌, ◌<◌, ◌≤◌, ℕ, zero, suc, List, [], ◌∷◌, ◌++◌}
+use Rattle.std.proofs.Common.{Option, Some, None, length, map, get_or, take, drop, refl, sym, ap}
 use Rattle.std.proofs.Common.{arith, append_assoc, length-take, mod-eq_of_lt, ◌%◌}
-use Rattle.std.proofs.lemmas.Bool.Decides.{nat_tests}
 use Rattle.std.proofs.lemmas.List.{drop-drop, drop_more, get_or_append_left, get_or-map, get_or-take, length-map}
 use Rattle.std.proofs.lemmas.List.{take_rest}
-use Rattle.std.proofs.lemmas.Option.{same_Some}
-use Rattle.mseed_join.specs.private.Reading.{◌>>=◌, is_digit, nibble_of, bytes_at}
-
--- a digit's value
-nibble_small : (b n : ℕ) → nibble_of b ≡ Some n → n < 16
-nibble_small b n e = by (is_digit b) refl (nat_le 65 b && nat_le b 70) refl e
-  where
-    by : (t : Bool) → is_digit b ≡ t → (u : Bool) → (nat_le 65 b && nat_le b 70) ≡ u
-        → cond t (Some (b - 48)) (cond u (Some (b - 55)) None) ≡ Some n → n < 16
-    by true d u l h =
-        let same : b - 48 ≡ n = same_Some (b - 48) n h in
-        let small : b ≤ 57 = grind (arith, nat_tests) in
-        omega (arith, same, small)
-    by false d true l h =
-        let same : b - 55 ≡ n = same_Some (b - 55) n h in
-        let small : b ≤ 70 = grind (arith, nat_tests) in
-        omega (arith, same, small)
-    by false d false l h = absurd (cc h)
+use Rattle.mseed_join.specs.private.Reading.{◌>>=◌, nibble_of, bytes_at}
+use Rattle.mseed_join.proofs.Keys.{nibble_spelled}
 
 -- a byte of two values, and the bytes after it
 abbrev made : List ℕ → ℕ → ℕ → Option (ℕ × List ℕ)
@@ -35,17 +18,7 @@ read_by n done rest o p = (o >>= λ high. p >>= made rest high) >>= λ b. bytes_
 module _ (bytes values : List ℕ) (room : 8 ≤ length bytes)
     (are : map nibble_of (take 8 bytes) ≡ map (λ n. Some n) values) where
   long : length values ≡ 8
-  long =
-      let size : length (map nibble_of (take 8 bytes)) ≡ length (map (λ n. Some n) values) =
-      ap (λ (os : List (Option ℕ)). length os) are in
-      omega (
-        arith,
-        size,
-        length-map (take 8 bytes) nibble_of,
-        length-map values (λ (n : ℕ). Some n),
-        length-take 8 bytes,
-        room,
-      )
+  long = search (arith, length-map, length-take)
 
   value_at : (k : ℕ) → k < 8 → nibble_of (get_or bytes k 0) ≡ Some (get_or values k 0)
   value_at k l =
@@ -56,7 +29,7 @@ module _ (bytes values : List ℕ) (room : 8 ≤ length bytes)
       ∙ get_or-map (λ (n : ℕ). Some n) values k 0 None (omega (arith, long, l))
 
   pub values_small : (k : ℕ) → k < 8 → get_or values k 0 < 16
-  values_small k l = nibble_small (get_or bytes k 0) (get_or values k 0) (value_at k l)
+  values_small k l = (nibble_spelled (get_or bytes k 0) (get_or values k 0) (value_at k l)).small
 
   pair_at : (k : ℕ) → k + 2 ≤ 8 → (n : ℕ) (done : List ℕ)
       → bytes_at (suc n) done (drop k bytes)
@@ -95,17 +68,7 @@ pub pair_fits : (values : List ℕ) (i : ℕ) → length values ≡ 8 → i + 1 
     → ((k : ℕ) → k < 8 → get_or values k 0 < 16)
     → (16 * get_or (values ++ values) i 0 % 256 + get_or (values ++ values) (i + 1) 0) % 256
     ≡ 16 * get_or values i 0 + get_or values (i + 1) 0
-pair_fits values i size within small =
-    let high : ℕ = get_or values i 0 in
-    let low : ℕ = get_or values (i + 1) 0 in
-    let few : high < 16 = small i (omega (arith, within)) in
-    let few_low : low < 16 = small (i + 1) within in
-    let first : get_or (values ++ values) i 0 ≡ high = get_or_append_left values values 0 i (omega arith) in
-    let second : get_or (values ++ values) (i + 1) 0 ≡ low = get_or_append_left values values 0 (i + 1) (omega arith) in
-    let fits : 16 * high % 256 ≡ 16 * high = mod-eq_of_lt (omega (arith, few)) in
-    ap (λ (n : ℕ). (16 * n % 256 + get_or (values ++ values) (i + 1) 0) % 256) first
-    ∙ (ap (λ (n : ℕ). (16 * high % 256 + n) % 256) second
-    ∙ (ap (λ (n : ℕ). (n + low) % 256) fits ∙ mod-eq_of_lt (omega (arith, few, few_low))))
+pair_fits values i size within small = search (arith, get_or_append_left, mod-eq_of_lt)
 
 -- ---- where a digit is none
 none_high : (o : Option ℕ) (n : ℕ) (done rest : List ℕ) (p : Option ℕ) → o ≡ None

@@ -1,46 +1,29 @@
 -- Keys: their digits.
-use Rattle.std.proofs.Common.{◌≡◌, ℕ, zero, suc, ◌+◌, ◌-◌, ◌*◌, ◌/◌, ◌%◌, ◌^◌, ◌<◌, ◌≤◌, ◌&&◌, nat_le, nat_lt, List, []}
-use Rattle.std.proofs.Common.{◌∷◌, ◌++◌, Bool, true, false, cond, Option, Some, None, length, get_or, take, refl}
+use Rattle.std.proofs.Common.{◌≡◌, ℕ, zero, suc, ◌+◌, ◌-◌, ◌*◌, ◌/◌, ◌%◌, ◌^◌, ◌<◌, nat_le, nat_lt, List, []}
+use Rattle.std.proofs.Common.{◌∷◌, ◌++◌, Option, Some, None, length, get_or, take, refl}
 use Rattle.std.proofs.Common.{sym, ap, ◌∙◌, subst, arith, append_assoc, append-nil}
 use Rattle.std.specs.List.{AllByRecursion}
 use Rattle.std.proofs.lemmas.Bool.Decides.{nat_tests}
 use Rattle.std.proofs.lemmas.List.{take_more}
 use Rattle.std.proofs.lemmas.Option.{same_Some}
 use Rattle.mseed_join.specs.Lines.{hex_digit, key_text}
-use Rattle.mseed_join.specs.private.Reading.{◌>>=◌, is_digit, nibble_of, byte_at, bytes_at, key_at}
+use Rattle.mseed_join.specs.private.Reading.{◌>>=◌, nibble_of, byte_at, bytes_at, key_at}
 
 abbrev pub AreBytes : List ℕ → Type 0
 AreBytes bs = AllByRecursion (λ b. b < 2 ^ 8) bs
 
 nibble_back : (n : ℕ) → n < 16 → nibble_of (hex_digit n) ≡ Some n
-nibble_back n l = by (nat_lt n 10) refl
-  where
-    by : (t : Bool) → nat_lt n 10 ≡ t → nibble_of (cond t (48 + n) (55 + n)) ≡ Some n
-    by true e =
-        let digit : is_digit (48 + n) ≡ true = grind (arith, nat_tests) in
-        let value : 48 + n - 48 ≡ n = omega arith in
-        rw (digit, value) refl
-    by false e =
-        let other : is_digit (55 + n) ≡ false = grind (arith, nat_tests) in
-        let letter : (nat_le 65 (55 + n) && nat_le (55 + n) 70) ≡ true = grind (arith, nat_tests) in
-        let value : 55 + n - 55 ≡ n = omega arith in
-        rw (other, letter, value) refl
+nibble_back n l = search (arith, nat_lt, nat_tests, nat_le)
 
 byte_back : (b : ℕ) (rest : List ℕ) → b < 2 ^ 8
     → byte_at (hex_digit (b / 16) ∷ hex_digit (b % 16) ∷ rest) ≡ Some (b, rest)
-byte_back b rest l =
-    let whole : 16 * (b / 16) + b % 16 ≡ b = omega arith in
-    rw (nibble_back (b / 16) (omega (arith, l)), nibble_back (b % 16) (omega arith))
-    (ap (λ (n : ℕ). Some (n, rest)) whole)
+byte_back b rest l = search (arith, nibble_back)
 
 bytes_back : (done key rest : List ℕ) → AreBytes key
     → bytes_at (length key) done (key_text key ++ rest) ≡ Some (done ++ key, rest)
 bytes_back done [] rest small = ap (λ (xs : List ℕ). Some (xs, rest)) (sym (append-nil done))
 bytes_back done (b ∷ bs) rest small =
-    ap (λ (o : Option (ℕ × List ℕ)). o >>= λ x. bytes_at (length bs) (done ++ x.0 ∷ []) x.1)
-    (byte_back b (key_text bs ++ rest) small.0)
-    ∙ bytes_back (done ++ b ∷ []) bs rest small.1
-    ∙ ap (λ (xs : List ℕ). Some (xs, rest)) (append_assoc done (b ∷ []) bs)
+    search (arith, byte_back, append_assoc, bytes_back (done ++ b ∷ []) bs rest small.1)
 
 -- a key that is written reads back
 pub key_back : (key rest : List ℕ) → length key ≡ 12 → AreBytes key → key_at (key_text key ++ rest) ≡ Some (key, rest)
@@ -48,38 +31,12 @@ key_back key rest long small =
     ap (λ (n : ℕ). bytes_at n [] (key_text key ++ rest)) (sym long) ∙ bytes_back [] key rest small
 
 -- ---- what is read is what is written
-record IsNibble (b n : ℕ) : Type 0 where
-  is : b ≡ hex_digit n
-  small : n < 16
+pub record IsNibble (b n : ℕ) : Type 0 where
+  pub is : b ≡ hex_digit n
+  pub small : n < 16
 
-nibble_spelled : (b n : ℕ) → nibble_of b ≡ Some n → IsNibble b n
-nibble_spelled b n e = by (is_digit b) refl (nat_le 65 b && nat_le b 70) refl e
-  where
-    low : (m : ℕ) → nat_lt m 10 ≡ true → hex_digit m ≡ 48 + m
-    low m k = ap (λ (t : Bool). cond t (48 + m) (55 + m)) k
-
-    high : (m : ℕ) → nat_lt m 10 ≡ false → hex_digit m ≡ 55 + m
-    high m k = ap (λ (t : Bool). cond t (48 + m) (55 + m)) k
-
-    by : (t : Bool) → is_digit b ≡ t → (u : Bool) → (nat_le 65 b && nat_le b 70) ≡ u
-        → cond t (Some (b - 48)) (cond u (Some (b - 55)) None) ≡ Some n → IsNibble b n
-    by true k u h given =
-        let value : b - 48 ≡ n = same_Some (b - 48) n given in
-        let least : 48 ≤ b = grind (arith, nat_tests) in
-        let most : b ≤ 57 = grind (arith, nat_tests) in
-        let few : n < 10 = omega (arith, value, most) in
-        let test : nat_lt n 10 ≡ true = grind (arith, nat_tests) in
-        let same : b ≡ 48 + n = omega (arith, value, least) in
-        record { is = same ∙ sym (low n test); small = omega (arith, few) }
-    by false k true h given =
-        let value : b - 55 ≡ n = same_Some (b - 55) n given in
-        let least : 65 ≤ b = grind (arith, nat_tests) in
-        let most : b ≤ 70 = grind (arith, nat_tests) in
-        let many : 10 ≤ n = omega (arith, value, least) in
-        let test : nat_lt n 10 ≡ false = grind (arith, nat_tests) in
-        let same : b ≡ 55 + n = omega (arith, value, least) in
-        record { is = same ∙ sym (high n test); small = omega (arith, value, most) }
-    by false k false h given = absurd (cc given)
+pub nibble_spelled : (b n : ℕ) → nibble_of b ≡ Some n → IsNibble b n
+nibble_spelled b n e = search (arith, nat_le, nat_lt, same_Some, nat_tests)
 
 record IsByte (bytes : List ℕ) (x : ℕ × List ℕ) : Type 0 where
   is : bytes ≡ hex_digit (x.0 / 16) ∷ hex_digit (x.0 % 16) ∷ x.1
@@ -113,9 +70,7 @@ record AreMore (n : ℕ) (done bytes : List ℕ) (x : List ℕ × List ℕ) : Ty
 
 bytes_spelled : (n : ℕ) (done bytes : List ℕ) (x : List ℕ × List ℕ) → bytes_at n done bytes ≡ Some x
     → AreMore n done bytes x
-bytes_spelled zero done bytes x e =
-    subst (λ (y : List ℕ × List ℕ). AreMore zero done bytes y) (same_Some (done, bytes) x e)
-    (record { key = []; all = sym (append-nil done); long = refl; is = refl; small = tt })
+bytes_spelled zero done bytes x e = search (arith, same_Some, append-nil)
 bytes_spelled (suc n) done bytes x e =
     by (byte_at bytes) refl e (λ b given. bytes_spelled n (done ++ b.0 ∷ []) b.1 x given)
   where

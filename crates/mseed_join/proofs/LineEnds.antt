@@ -1,6 +1,6 @@
 -- Where the first line of some bytes ends, and lines one after another.
 use Rattle.std.proofs.Common.{◌≡◌, ℕ, ◌+◌, ◌<◌, ◌≤◌, min, suc, List, [], ◌∷◌, ◌++◌, length, take, drop, get_or}
-use Rattle.std.proofs.Common.{Some, None, Bool, true, false, not, cond, ◌==◌, sym, ap, subst, ◌∙◌, arith}
+use Rattle.std.proofs.Common.{Some, None, Bool, not, cond, ◌==◌, sym, ap, subst, ◌∙◌, arith}
 use Rattle.std.proofs.Common.{inl, inr, append_assoc, length-take, length-drop, map, replicate, w8, ◌-◌, ◌%◌, ◌≢◌}
 use Rattle.std.specs.List.{position_or_len, position}
 use Rattle.std.proofs.Math.Numerals.{one-add}
@@ -29,13 +29,7 @@ none_before (b ∷ bs) = elim (eqb_tells b 10) [
 
 -- the first is one
 pub end_at : (bytes : List ℕ) → first_end bytes < length bytes → get_or bytes (first_end bytes) 0 ≡ 10
-end_at bytes within =
-    let passes : (get_or bytes (first_end bytes) 0 == 10) ≡ true =
-    passes_at_first (λ b. b == 10) bytes 0 within in
-    elim (eqb_tells (get_or bytes (first_end bytes) 0) 10) [
-      | inl same ↦ same.1
-      | inr other ↦ absurd (let e : true ≡ false = sym passes ∙ other.0 in cc e)
-    ]
+end_at bytes within = search (arith, passes_at_first, eqb_tells)
 
 pub no_end_found : (bytes : List ℕ) → position (λ b. b == 10) bytes ≡ None → HasNoEnd bytes
 no_end_found bytes lacks = elim (leb_tells (suc (first_end bytes)) (length bytes)) [
@@ -46,14 +40,7 @@ no_end_found bytes lacks = elim (leb_tells (suc (first_end bytes)) (length bytes
 
 found_is : (bytes : List ℕ) (k : ℕ) → position (λ b. b == 10) bytes ≡ Some k
     → (first_end bytes ≡ k) × (first_end bytes < length bytes)
-found_is bytes k some = elim (leb_tells (suc (first_end bytes)) (length bytes)) [
-  | inl within ↦
-      let e : Some (first_end bytes) ≡ Some k =
-      ap (λ t. cond t (Some (first_end bytes)) None) (sym within.0) ∙ some in
-      (same_Some (first_end bytes) k e, omega (arith, within.1))
-  | inr farther ↦ absurd (let e : None ≡ Some k =
-      ap (λ t. cond t (Some (first_end bytes)) None) (sym farther.0) ∙ some in cc e)
-]
+found_is bytes k some = search (arith, leb_tells, same_Some)
 
 pub end_found : (bytes : List ℕ) (k : ℕ) → position (λ b. b == 10) bytes ≡ Some k
     → IsWholeLine (take (k + 1) bytes) × (k < length bytes)
@@ -70,12 +57,7 @@ end_found bytes k some =
 -- an LF after bytes that have none
 first_after : (before rest : List ℕ) → HasNoEnd before → first_end (before ++ rest) ≡ length before + first_end rest
 first_after [] rest _ = omega arith
-first_after (b ∷ bs) rest lacks = elim (eqb_tells b 10) [
-  | inl same ↦ absurd (lacks.0 same.1)
-  | inr other ↦
-      ap (λ (t : Bool). cond (not t) (1 + first_end (bs ++ rest)) 0) other.0
-      ∙ omega (arith, first_after bs rest lacks.1)
-]
+first_after (b ∷ bs) rest lacks = search (arith, eqb_tells, first_after bs rest lacks.1)
 
 pub no_end_in_both : (before more : List ℕ) → HasNoEnd before → HasNoEnd more → HasNoEnd (before ++ more)
 no_end_in_both [] more _ lacks = lacks
@@ -107,29 +89,12 @@ first_is_after bytes at within lacks =
 pub found_after : (bytes : List ℕ) (at k : ℕ) → at ≤ length bytes → HasNoEnd (take at bytes)
     → position (λ b. b == 10) (take (length bytes - at) (drop at bytes)) ≡ Some k
     → Some (at + k) ≡ position (λ b. b == 10) bytes
-found_after bytes at k within lacks some =
-    let there = found_is (drop at bytes) k
-    (subst (λ (xs : List ℕ). position (λ b. b == 10) xs ≡ Some k) (take_rest bytes at) some) in
-    let whole : first_end bytes ≡ at + k = omega (arith, first_is_after bytes at within lacks, there.0) in
-    elim (leb_tells (suc (first_end bytes)) (length bytes)) [
-      | inl inside ↦ ap Some (sym whole) ∙ ap (λ t. cond t (Some (first_end bytes)) None) (sym inside.0)
-      | inr past ↦ absurd (omega (arith, past.1, whole, there.1, length-drop at bytes))
-    ]
+found_after bytes at k within lacks some = search (arith, found_is, take_rest, first_is_after, leb_tells, length-drop)
 
 pub nowhere_after : (bytes : List ℕ) (at : ℕ) → at ≤ length bytes → HasNoEnd (take at bytes)
     → position (λ b. b == 10) (take (length bytes - at) (drop at bytes)) ≡ None
     → None ≡ position (λ b. b == 10) bytes
-nowhere_after bytes at within lacks nowhere =
-    elim (leb_tells (suc (first_end bytes)) (length bytes)) [
-      | inl there ↦ elim (leb_tells (suc (first_end (drop at bytes))) (length (drop at bytes))) [
-        | inl inside ↦ absurd (let e : Some (first_end (drop at bytes)) ≡ None =
-            ap (λ t. cond t (Some (first_end (drop at bytes))) None) (sym inside.0)
-            ∙ subst (λ (xs : List ℕ). position (λ b. b == 10) xs ≡ None) (take_rest bytes at) nowhere in cc e)
-        | inr farther ↦ absurd
-            (omega (arith, there.1, farther.1, first_is_after bytes at within lacks, length-drop at bytes))
-      ]
-      | inr past ↦ ap (λ t. cond t (Some (first_end bytes)) None) (sym past.0)
-    ]
+nowhere_after bytes at within lacks nowhere = search (arith, leb_tells, take_rest, first_is_after, length-drop)
 
 -- what a vector's comparison with LF says
 abbrev ends_mask : List ℕ → ℕ
@@ -158,16 +123,7 @@ lanes_with_end bytes at within some =
 -- among the first 512 bytes
 pub line_found : (bytes : List ℕ) (n k : ℕ) → n ≡ min (length bytes) 512
     → position (λ b. b == 10) (take n bytes) ≡ Some k → IsLineAhead (k + 1) bytes
-line_found bytes n k least some =
-    let it = end_found (take n bytes) k some in
-    let size : length (take n bytes) ≡ min n (length bytes) = length-take n bytes in
-    let less : k < length (take n bytes) = it.1 in
-    let within : k + 1 ≤ n = omega (arith, size, less) in
-    record {
-      line = subst (λ (xs : List ℕ). IsWholeLine xs) (take-take (k + 1) n bytes within) it.0;
-      within = omega (arith, size, less);
-      short = omega (arith, within, least);
-    }
+line_found bytes n k least some = search (arith, end_found, length-take, take-take)
 
 pub no_line_found : (bytes : List ℕ) (n : ℕ) → n ≡ min (length bytes) 512
     → position (λ b. b == 10) (take n bytes) ≡ None → HasNoEnd (take 512 bytes)

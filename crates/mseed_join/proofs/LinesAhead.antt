@@ -1,7 +1,7 @@
 -- What a reader of lines holds, as it reads more and passes lines.
 use Rattle.std.proofs.Common.{◌≡◌, ℕ, ◌+◌, ◌<◌, ◌≤◌, List, [], ◌++◌, length, take, drop, Bool, true, false, Option, Ok}
 use Rattle.std.proofs.Common.{refl, sym, ap, subst, ◌∙◌, arith, append_assoc, length-append, slice_range}
-use Rattle.std.proofs.Common.{take-append-drop, inl, inr, not, ◌&&◌, ◌||◌, ◌==◌, Result, Err}
+use Rattle.std.proofs.Common.{take-append-drop, not, ◌&&◌, ◌||◌, ◌==◌, Result, Err}
 use Rattle.std.specs.Prelude.{IsTrue}
 use Rattle.std.proofs.lemmas.Bool.{false≢true, or_right}
 use Rattle.std.proofs.lemmas.Bool.Decides.{eqb_tells}
@@ -25,13 +25,7 @@ use Rattle.mseed_join.proofs.LineEnds.{lines_more}
 -- n bytes more after those that are held
 pub held_more : (items now : List ℕ) (begin end n : ℕ) → take end now ≡ take end items → begin ≤ end
     → end ≤ length now → slice_range now begin (end + n) ≡ slice_range items begin end ++ take n (drop end now)
-held_more items now begin end n same low high =
-    let size : length (take end now) ≡ end = length-take-le end now high in
-    between_is now begin (end + n)
-    ∙ (ap (λ (xs : List ℕ). drop begin xs) (take-add end n now)
-    ∙ (drop-append-le begin (take end now) (take n (drop end now)) (omega (arith, size))
-    ∙ ap (λ (xs : List ℕ). xs ++ take n (drop end now)) (ap (λ (xs : List ℕ). drop begin xs) same
-    ∙ sym (between_is items begin end))))
+held_more items now begin end n same low high = search (arith, length-take-le, between_is, take-add, drop-append-le)
 
 -- the first of the bytes that are held, and the rest
 pub held_parts : (items : List ℕ) (begin size end : ℕ) → slice_range items begin end
@@ -109,18 +103,12 @@ read_by_passed {r = r} {after = after} ahead held lines counts is =
 -- nothing read, where there was room, is the end
 pub reported_end : (b : Bool) (n : ℕ) (bytes : List ℕ) → n ≡ 0 → 0 < length bytes
     → (b || ((n == 0) && not (length bytes == 0))) ≡ true
-reported_end b n bytes zero some = elim (eqb_tells (length bytes) 0) [
-  | inl same ↦ absurd (omega (arith, same.1, some))
-  | inr other ↦ subst (λ (k : ℕ). (b || ((k == 0) && not (length bytes == 0))) ≡ true) (sym zero)
-      (subst (λ (t : Bool). (b || (true && not t)) ≡ true) (sym other.0) (or_right b true refl))
-]
+reported_end b n bytes zero some = search (arith, eqb_tells, or_right)
 
 -- a source at its end gives nothing more: one that gave some, or failed, isn't at it
 pub reading_on : {E : Type 0} (b room : Bool) (n : ℕ) → (IsTrue b → ◌≡◌ {A = Result ℕ E} (Ok n) (Ok 0))
     → (n == 0) ≡ false → (b || ((n == 0) && room)) ≡ false
-reading_on true room n silent some =
-    let zero : n ≡ 0 = cc (silent refl) in
-    absurd (false≢true (sym (subst (λ (k : ℕ). (k == 0) ≡ false) zero some)))
+reading_on true room n silent some = search (arith, false≢true)
 reading_on false room n silent some = ap (λ (t : Bool). t && room) some
 
 pub failed_before : {E : Type 0} (b : Bool) (e : E) → (IsTrue b → ◌≡◌ {A = Result ℕ E} (Err e) (Ok 0))
@@ -139,8 +127,7 @@ no_end_by _ after old new fault goes = absurd fault
 pub reads_to : {old new : BytesRead} {left rest : Option (List ℕ)} {p q : List ℕ} {i j k l m n : ℕ} {x y : Beside}
     → GrowsTo old new left rest p q i j k l m n → (new.is_at_end ≡ true → IsAtEnd rest) → y ≡ x
     → ReadsOn old new left rest x y
-reads_to grows known beside =
-    record { more = (grows.more, grows.reported, grows.known); known = known; beside = beside }
+reads_to grows known beside = search arith
 
 -- or not yet to its end
 pub reads_so_far : {old new : BytesRead} {left rest : Option (List ℕ)} {p q : List ℕ} {i j k l m n : ℕ} {x y : Beside}
@@ -155,16 +142,7 @@ if_it_does _ X x = x
 -- the fault of one read is that of all
 pub fault_since : (e : StreamFault) (old new : BytesRead) (after : LinesRead) → IsReadFault e after old new
     → IsReadBy new after → GoesOn old → IsStreamFault e nothing_read new
-fault_since (Read n) old new after fault is goes = (
-  omega (arith, ap length is.reported, length-append is.passed after.held, is.bytes, fault.0),
-  omega (arith, fault.1, goes.failures),
-  fault.2,
-)
-fault_since (Turns n) old new after fault is goes = (
-  omega (arith, ap length is.reported, length-append is.passed after.held, is.bytes, fault.0),
-  ap (λ (h : BytesRead). h.failures) fault.2 ∙ goes.failures,
-  omega (arith, is.calls, fault.1),
-  ap (λ (h : BytesRead). h.is_at_end) fault.2 ∙ goes.is_at_end,
-)
+fault_since (Read n) old new after fault is goes = search (arith, length-append)
+fault_since (Turns n) old new after fault is goes = search (arith, length-append)
 fault_since (Frame n f) old new after fault is goes = absurd fault
 fault_since _ old new after fault is goes = absurd fault

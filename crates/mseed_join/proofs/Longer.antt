@@ -1,14 +1,13 @@
 -- Bytes that begin no record begin none whatever comes after them, for the same reason.
-use Rattle.std.proofs.Common.{◌≡◌, ℕ, ◌+◌, ◌^◌, ◌<◌, ◌≤◌, ◌&&◌, ◌++◌, List, [], ◌∷◌, length, ltb}
-use Rattle.std.proofs.Common.{Bool, true, false, cond, Some, None, refl, sym, ap, subst, ◌∙◌, arith, length-append}
-use Rattle.std.specs.Prelude.{nat_eq, nat_le, not}
+use Rattle.std.proofs.Common.{◌≡◌, ℕ, ◌+◌, ◌<◌, ◌≤◌, ◌++◌, List, [], ◌∷◌, length, ltb}
+use Rattle.std.proofs.Common.{Bool, true, false, cond, Some, None, sym, ap, subst, ◌∙◌, arith, length-append}
+use Rattle.std.specs.Prelude.{nat_eq, not}
 use Rattle.std.proofs.Math.ListN.{get_or-append}
 use Rattle.std.proofs.lemmas.Bool.{and_parts, false≢true, le-ltb, ltb-false}
 use Rattle.mseed_time.specs.declared.order.Order.{Order}
 use Rattle.std.proofs.lemmas.Option.{same_Some}
 use Rattle.mseed_record.specs.Chain.{next_at, type_at}
 use Rattle.mseed_record.specs.Header.{blockette_at}
-use Rattle.mseed_record.specs.Record.{exponent_at}
 use Rattle.mseed_record.specs.Scan.{Decides, DecidesFrom, at_1000, at_offset, by_chain, is_version3, no_data, no_order}
 use Rattle.mseed_record.specs.Scan.{version3}
 use Rattle.mseed_record.specs.declared.fault.FrameFault.{FrameFault}
@@ -23,9 +22,7 @@ use Rattle.mseed_record.proofs.Reached.{none_more, version3_more}
 version3_long : (b : List ℕ) → is_version3 b ≡ true → 3 ≤ length b
 version3_long [] e = absurd (false≢true e)
 version3_long (x ∷ []) e = absurd (false≢true (and_parts (nat_eq 77 x) false e).1)
-version3_long (x ∷ y ∷ []) e =
-    let rest = (and_parts (nat_eq 77 x) (nat_eq 83 y && false) e).1 in
-    absurd (false≢true (and_parts (nat_eq 83 y) false rest).1)
+version3_long (x ∷ y ∷ []) e = search (arith, and_parts, false≢true)
 version3_long (x ∷ y ∷ z ∷ rest) e = omega arith
 
 -- ---- a blockette
@@ -39,17 +36,7 @@ by_exponent _ _ long wide e k f h = h
 
 at_1000_more : (prefix more : List ℕ) (o : ℕ) (f : FrameFault) → o + 8 ≤ length prefix → at_1000 prefix o ≡ Not f
     → at_1000 (prefix ++ more) o ≡ Not f
-at_1000_more prefix more o f h d =
-    let all : List ℕ = prefix ++ more in
-    let e : ℕ = exponent_at prefix o in
-    let same : exponent_at all o ≡ exponent_at prefix o =
-    get_or-append prefix more 0 (o + 6) (omega (arith, h)) in
-    let moved : cond (not (nat_le 7 e && nat_le e 20)) (Not (Length e)) (cond (ltb (2 ^ e) (o + 8)) (Not Outside)
-    (cond (ltb (length all) (2 ^ e)) (Need (2 ^ e)) (Record (2 ^ e)))) ≡ Not f =
-    by_exponent (not (nat_le 7 e && nat_le e 20)) (ltb (2 ^ e) (o + 8)) (ltb (length prefix) (2 ^ e))
-    (ltb (length all) (2 ^ e)) e (2 ^ e) f d in
-    subst (λ (n : ℕ). cond (not (nat_le 7 n && nat_le n 20)) (Not (Length n)) (cond (ltb (2 ^ n) (o + 8)) (Not Outside)
-    (cond (ltb (length all) (2 ^ n)) (Need (2 ^ n)) (Record (2 ^ n)))) ≡ Not f) (sym same) moved
+at_1000_more prefix more o f h d = search (arith, get_or-append, by_exponent)
 
 -- where the steps stand: nothing that is missing is requested
 by_offset : (none back four other eight far off wide : Bool) (k n : ℕ) (x y : Scan) (f : FrameFault)
@@ -61,9 +48,7 @@ by_offset : (none back four other eight far off wide : Bool) (k n : ℕ) (x y : 
     (cond wide (Some (Need n)) (Some y))))) ≡ Some (Not f)
 by_offset true back four other eight far off wide k n x y f p q r s h = h
 by_offset false true four other eight far off wide k n x y f p q r s h = h
-by_offset false false false false false far off wide k n x y f p q r s h =
-    (λ i. cond (p refl i) (Some (Need k)) (cond (q refl i) None (cond (r refl i) (Some (Need n)) (Some y))))
-    ∙ ap (λ (z : Scan). Some z) (s refl (same_Some x (Not f) h))
+by_offset false false false false false far off wide k n x y f p q r s h = search (arith, same_Some)
 by_offset false false _ _ _ far off wide k n x y f p q r s h = cc h
 
 -- what has so many bytes has them with more after
@@ -88,14 +73,8 @@ from_more : (order : Order) (prefix more : List ℕ) (low o : ℕ) (os : List �
     → DecidesFrom order prefix low o os (Not f) → DecidesFrom order (prefix ++ more) low o os (Not f)
 from_more order prefix more low o [] f some d = at_offset_more order prefix more low o f d
 from_more order prefix more low o (p ∷ os) f some d =
-    let within = none_within order prefix low o d.1 in
-    let next : next_at order (prefix ++ more) o ≡ next_at order prefix o =
-    number_more order prefix more (o + 2) (omega (arith, within.1)) in
-    let later = from_more order prefix more (o + 4) (next_at order prefix o) os f (omega arith) d.2 in (
-      d.0,
-      none_more order prefix more low o some d.1,
-      subst (λ (n : ℕ). DecidesFrom order (prefix ++ more) (o + 4) n os (Not f)) (sym next) later,
-    )
+    search (arith, none_within, number_more, none_more,
+    from_more order prefix more (o + 4) (next_at order prefix o) os f (omega arith) d.2)
 
 pub refused_more : (prefix more : List ℕ) (f : FrameFault) → Decides prefix (Not f) → Decides (prefix ++ more) (Not f)
 refused_more prefix more _ (version3 e) = version3 (version3_more prefix more (version3_long prefix e) ∙ e)

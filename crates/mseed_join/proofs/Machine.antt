@@ -9,7 +9,7 @@ use Rattle.mseed_audit.specs.declared.channel.Channel.{Channel}
 use Rattle.mseed_text.specs.Fault.{end_line, fault_line}
 use Rattle.mseed_join.specs.Lines.{Line, header, channel, counts, faults, fault, text_of_line, IsLine}
 use Rattle.mseed_join.specs.Lines.{header_line}
-use Rattle.mseed_join.specs.Lines.{counts_line, faults_line, HasChannelLine, HasFaultLine}
+use Rattle.mseed_join.specs.Lines.{faults_line, HasChannelLine, HasFaultLine}
 use Rattle.mseed_join.proofs.OneLine.{line_one}
 use Rattle.mseed_join.specs.Written.{Written, HasText, channel_lines, part_text, texts}
 use Rattle.mseed_join.specs.Reached.{OpenPart, none, begun, whole, Stage, open_part, open_text}
@@ -56,9 +56,7 @@ pub rows_append : {X : Type 0} (row : X → List ℕ) (text : List X → List �
     → ((x : X) (xs : List X) → text (x ∷ xs) ≡ row x ++ text xs) → (xs ys : List X)
     → text (xs ++ ys) ≡ text xs ++ text ys
 rows_append row text nil more [] ys = ap (λ (t : List ℕ). t ++ text ys) (sym nil)
-rows_append row text nil more (x ∷ xs) ys =
-    more x (xs ++ ys) ∙ ap (λ (t : List ℕ). row x ++ t) (rows_append row text nil more xs ys)
-    ∙ sym (append_assoc (row x) (text xs) (text ys)) ∙ ap (λ (t : List ℕ). t ++ text ys) (sym (more x xs))
+rows_append row text nil more (x ∷ xs) ys = search (arith, append_assoc, rows_append row text nil more xs ys)
 
 pub text_append : (xs ys : List Line) → lines_text (xs ++ ys) ≡ lines_text xs ++ lines_text ys
 text_append = rows_append text_of_line lines_text refl (λ x xs. refl)
@@ -76,20 +74,7 @@ end_text bytes None = refl
 end_text bytes (Some f) = append-nil (fault_line f)
 
 pub part_text_is : (w : Written) → lines_text (part_rows w) ≡ part_text w
-part_text_is w =
-    let a : List ℕ = channel_lines w.part.channels in
-    let b : List ℕ = counts_line w.part.records w.part.bytes in
-    let tail : lines_text (faults_row w.faults ++ end_row w.part.bytes w.end) ≡ faults_line w.faults ++ end_line w.end =
-    text_append (faults_row w.faults) (end_row w.part.bytes w.end)
-    ∙ (λ i. faults_text w.faults i ++ end_text w.part.bytes w.end i) in
-    ap (λ (t : List ℕ). header_line ++ t)
-    (text_append (rows w.part.channels) (counts w.part.records w.part.bytes ∷ (faults_row w.faults
-    ++ end_row w.part.bytes w.end))
-    ∙ (λ i. rows_text w.part.channels i ++ (b ++ tail i)))
-    ∙ joined header_line a b (faults_line w.faults) (end_line w.end)
-  where
-    joined : (h a b f e : List ℕ) → h ++ (a ++ (b ++ (f ++ e))) ≡ h ++ a ++ b ++ f ++ e
-    joined h a b f e = sym (simp append_assoc)
+part_text_is w = search (arith, faults_row, end_row, text_append, faults_text, end_text, rows, rows_text, append_assoc)
 
 pub texts_are : (ws : List Written) → lines_text (all_rows ws) ≡ texts ws
 texts_are [] = refl
@@ -151,21 +136,12 @@ nothing_first x rest l e =
 
 pub first_same : (x y : Line) (r s : List ℕ) → IsLine x → IsLine y → text_of_line x ++ r ≡ text_of_line y ++ s
     → (x ≡ y) × (r ≡ s)
-first_same x y r s l m e =
-    let t : IsEnded (text_of_line x) = ended x l in
-    let u : IsEnded (text_of_line y) = ended y m in
-    let same : t.body ++ 10 ∷ r ≡ u.body ++ 10 ∷ s =
-    sym (append_assoc t.body (10 ∷ []) r) ∙ ap (λ (a : List ℕ). a ++ r) (sym t.is) ∙ e
-    ∙ ap (λ (a : List ℕ). a ++ s) u.is ∙ append_assoc u.body (10 ∷ []) s in
-    let both = same_line t.body u.body r s t.piece.is_plain u.piece.is_plain same in
-    (line_one x y l m (t.is ∙ ap (λ (a : List ℕ). a ++ 10 ∷ []) both.0 ∙ sym u.is), both.1)
+first_same x y r s l m e = search (arith, ended, append_assoc, same_line, line_one)
 
 pub leaves : (xs ys : List Line) (rest : List ℕ) → AreAll xs → AreAll ys → lines_text xs ++ rest ≡ lines_text ys
     → LeavesLines ys xs rest
 leaves [] ys rest p q e = record { others = ys; lines = refl; text = e; are = q }
-leaves (x ∷ xs) [] rest p q e =
-    absurd (nothing_first x (lines_text xs ++ rest) p.0
-    (sym (append_assoc (text_of_line x) (lines_text xs) rest) ∙ e))
+leaves (x ∷ xs) [] rest p q e = search (arith, nothing_first, append_assoc)
 leaves (x ∷ xs) (y ∷ ys) rest p q e =
     let both = first_same x y (lines_text xs ++ rest) (lines_text ys) p.0 q.0
     (sym (append_assoc (text_of_line x) (lines_text xs) rest) ∙ e) in

@@ -1,6 +1,6 @@
 -- Two parts have a joint part.
 use Rattle.std.proofs.Common.{◌≡◌, ℕ, ◌+◌, ◌++◌, List, [], ◌∷◌, Bool, true, false, cond, Option, Some, None, IsSome}
-use Rattle.std.proofs.Common.{is_some, Ok, refl, sym, ap, ◌∙◌, subst, append_assoc, append-nil}
+use Rattle.std.proofs.Common.{is_some, Ok, refl, sym, ap, ◌∙◌, subst, append_assoc, append-nil, arith}
 use Rattle.std.specs.BTreeMap.{insert_entry}
 use Rattle.std.specs.Cmp.Lexicographic.{slice_cmp}
 use Rattle.std.specs.Map.{keys_of}
@@ -19,8 +19,7 @@ use Rattle.mseed_join.proofs.Turns.{past_head}
 
 -- with an entry in its place
 has_put : (key : List ℕ) (x : Channel) (es : Entries) → HasAt es key x (insert_entry (slice_cmp nat_cmp) es key x)
-has_put key x es other =
-    kept_insert key x es other ∙ ap (λ (b : Bool). cond b (Some x) (kept_of other es)) (same_back other key)
+has_put key x es other = search (arith, kept_insert, same_back)
 
 -- ---- one channel more
 record IsOneMore (now : Held) (key : List ℕ) (c : Channel) : Type 0 where
@@ -52,12 +51,7 @@ one_more now key c s = by (kept_of key now.channels) refl
 -- ---- all channels
 some_in : (done : Entries) (x : List ℕ × Channel) (rest : Entries) → IsSome (kept_of x.0 (done ++ x ∷ rest))
 some_in [] x rest = ap (λ (b : Bool). is_some (cond b (Some x.1) (kept_of x.0 rest))) (same_itself x.0)
-some_in (d ∷ done) x rest = by (same_key x.0 d.0) (some_in done x rest)
-  where
-    by : (b : Bool) → IsSome (kept_of x.0 (done ++ x ∷ rest))
-        → IsSome (cond b (Some d.1) (kept_of x.0 (done ++ x ∷ rest)))
-    by true h = refl
-    by false h = h
+some_in (d ∷ done) x rest = search (arith, some_in done x rest)
 
 none_some : (o : Option Channel) → o ≡ None → IsSome o → ⊥
 none_some o e s = false≢true (sym (ap (λ (x : Option Channel). is_some x) e) ∙ s)
@@ -76,8 +70,7 @@ absent (d ∷ done) x rest s =
 
 all_joined : (a now : Held) (done rest : Entries) → IsAscending (done ++ rest)
     → IsJoint a (channels_alone done) now → (h : Held) × IsJoint a (channels_alone (done ++ rest)) h
-all_joined a now done [] s j =
-    (now, subst (λ (es : Entries). IsJoint a (channels_alone es) now) (sym (append-nil done)) j)
+all_joined a now done [] s j = search (arith, append-nil)
 all_joined a now done (x ∷ rest) s j =
     let more = one_more now x.0 x.1 j.ascending in
     let here : IsJoint a (channels_alone (done ++ x ∷ [])) more.next =

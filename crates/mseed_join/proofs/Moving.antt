@@ -1,5 +1,5 @@
 -- What is kept of a channel after more records.
-use Rattle.std.proofs.Common.{◌≡◌, ℕ, ◌+◌, List, [], ◌∷◌, map, Option, Some, None, refl, sym, ap, ◌∙◌, subst}
+use Rattle.std.proofs.Common.{◌≡◌, ℕ, ◌+◌, List, [], ◌∷◌, map, Option, Some, None, refl, sym, ap, ◌∙◌, subst, arith}
 use Rattle.std.specs.Option.{option_map}
 use Rattle.std.proofs.lemmas.List.{length-map, map-append}
 use Rattle.mseed_record.specs.View.{View}
@@ -28,13 +28,7 @@ tail_moves d e (Counted count first head tail) = refl
 is_head : (d e : ℕ) (h : Option Head) (p : Placed) → IsHeadOf h p
     → IsHeadOf (option_map (moved_head d e) h) (moved d e p)
 is_head d e None p is = is
-is_head d e (Some h) p is = record {
-  sound = is.sound;
-  number = ap (λ (n : ℕ). d + n) is.number;
-  offset = ap (λ (n : ℕ). e + n) is.offset;
-  start = is.start;
-  rate = is.rate;
-}
+is_head d e (Some h) p is = search arith
 
 finding_moved : (d e : ℕ) (p : Placed) (why : Option Why)
     → finding_at (moved d e p) why ≡ map (moved_finding d e) (finding_at p why)

@@ -1,6 +1,6 @@
 -- What is reported of a channel in two archives one after another: of each alone, and between them.
 use Rattle.std.proofs.Common.{◌≡◌, ℕ, List, [], ◌∷◌, ◌++◌, map, Bool, true, false, cond, Option, Some, None, refl, sym}
-use Rattle.std.proofs.Common.{ap, ◌∙◌, subst, append-nil}
+use Rattle.std.proofs.Common.{ap, ◌∙◌, subst, append-nil, arith}
 use Rattle.std.specs.List.{filter}
 use Rattle.std.specs.Option.{option_map}
 use Rattle.std.proofs.lemmas.List.{map-append}
@@ -19,9 +19,9 @@ use Rattle.mseed_audit.specs.Judging.{rate_in, rate_unless, time_fault_of}
 use Rattle.mseed_audit.specs.Reported.{Reported, AreReportedOf, last_of, reported_with}
 use Rattle.mseed_audit.proofs.Maps.{same_is}
 use Rattle.mseed_audit.proofs.OneReport.{AreReportedIn, channel_reported, key_of, nothing_in as none}
-use Rattle.mseed_join.specs.PartBorders.{Border, border_at, border_with}
+use Rattle.mseed_join.specs.PartBorders.{border_at, border_with}
 use Rattle.mseed_join.specs.Joining.{border_between, border_of, found_at, moved_channel, moved_head}
-use Rattle.mseed_join.specs.Notices.{Notice, border_notices, moved_notice, moved_notices, notice_of, notices_of}
+use Rattle.mseed_join.specs.Notices.{Notice, border_notices, moved_notices, notice_of, notices_of}
 use Rattle.mseed_join.specs.Parts.{Held, IsPartOf, kept_of}
 use Rattle.mseed_join.proofs.Following.{HaveOneFinding, last_is}
 use Rattle.mseed_join.proofs.Moving.{head_moves, stands_at_moved}
@@ -35,19 +35,16 @@ with_key key ns = filter (λ n. same_key key n.key) ns
 
 pub with_reported : (key : List ℕ) (reported : List Reported)
     → with_key key (notices_of reported) ≡ notices_of (reported_with key reported)
-with_reported key reported =
-    filter_map_same notice_of (λ t. same_key key (key_at t.view.bytes)) (λ n. same_key key n.key) (λ t. refl) reported
+with_reported key reported = search (arith, filter_map_same)
 
 pub with_moved : (key : List ℕ) (d e : ℕ) (ns : List Notice)
     → with_key key (moved_notices d e ns) ≡ moved_notices d e (with_key key ns)
-with_moved key d e ns =
-    filter_map_same (moved_notice d e) (λ n. same_key key n.key) (λ n. same_key key n.key) (λ n. refl) ns
+with_moved key d e ns = search (arith, filter_map_same)
 
 pub notices_moved : (d e : ℕ) (reported : List Reported)
     → notices_of (map (moved_reported d e) reported) ≡ moved_notices d e (notices_of reported)
 notices_moved d e [] = refl
-notices_moved d e (t ∷ reported) = ap (λ (ns : List Notice). notice_of (moved_reported d e t) ∷ ns)
-    (notices_moved d e reported)
+notices_moved d e (t ∷ reported) = search (arith, moved_reported, notices_moved d e reported)
 
 -- ---- a border
 -- a record whose rate is known begins in its range
@@ -89,13 +86,7 @@ same_start key d e _ _ = refl
 pub border_is_in : (key : List ℕ) (a : Held) (o : Option Channel) (c : Channel) → o ≡ Some c
     → border_in key (kept_of key a.channels) (option_map (moved_channel a.records a.bytes) o)
     ≡ border_notices (border_with a (key, c))
-border_is_in key a o c e =
-    let further : Channel = moved_channel a.records a.bytes c in
-    let between : Option Finding = border_between (kept_of key a.channels) further in
-    ap (λ (x : Option Channel). border_in key (kept_of key a.channels) (option_map (moved_channel a.records a.bytes) x))
-    e
-    ∙ ap (λ (h : Option Head). border_notices (border_at key h between)) (head_moves a.records a.bytes c.findings)
-    ∙ ap (λ (bs : List Border). border_notices bs) (same_start key a.records a.bytes (head_in c.findings) between)
+border_is_in key a o c e = search (arith, border_in, head_moves, same_start)
 
 -- ---- records with further ones after
 pub record IsReportedWith (key : List ℕ) (c o : Option Channel) (ps qs : List Placed)
@@ -112,18 +103,11 @@ none_reported (p ∷ ps) reported e are = cc (e)
 -- after none, and before none
 reported_after : (ps qs : List Placed) (reported further : List Reported) → ps ≡ [] → AreReportedIn None ps reported
     → AreReportedIn None qs further → AreReportedIn None (ps ++ qs) (reported ++ further)
-reported_after ps qs reported further e are more =
-    subst (λ (rs : List Placed). AreReportedIn None (rs ++ qs) (reported ++ further)) (sym e)
-    (subst (λ (ts : List Reported). AreReportedIn None qs (ts ++ further)) (sym (none_reported ps reported e are)) more)
+reported_after ps qs reported further e are more = search (arith, none_reported)
 
 reported_before : (ps qs : List Placed) (reported further : List Reported) → qs ≡ [] → AreReportedIn None ps reported
     → AreReportedIn None qs further → AreReportedIn None (ps ++ qs) (reported ++ further)
-reported_before ps qs reported further e are more =
-    subst (λ (rs : List Placed). AreReportedIn None (ps ++ rs) (reported ++ further)) (sym e)
-    (subst (λ (ts : List Reported). AreReportedIn None (ps ++ []) (reported ++ ts))
-    (sym (none_reported qs further e more))
-    (subst (λ (rs : List Placed). AreReportedIn None rs (reported ++ [])) (sym (append-nil ps))
-    (subst (λ (ts : List Reported). AreReportedIn None ps ts) (sym (append-nil reported)) are)))
+reported_before ps qs reported further e are more = search (arith, none_reported, append-nil)
 
 no_border : (key : List ℕ) (h : Option Head) → border_at key h None ≡ []
 no_border key None = refl
@@ -157,23 +141,11 @@ reported_joined : HaveOneFinding → (key : List ℕ) (c o : Option Channel) (ps
     → StandsAt c ps → StandsAt o qs
     → ((q : Placed) (rest : List Placed) → qs ≡ q ∷ rest → key ≡ key_at q.view.bytes)
     → AreReportedIn None ps reported → AreReportedIn None qs further → IsReportedWith key c o ps qs reported further
-reported_joined only key None None ps qs reported further s t keys are more = record {
-  between = [];
-  all = reported_after ps qs reported further s are more;
-  notices = refl;
-}
-reported_joined only key None (Some o) ps qs reported further s t keys are more = record {
-  between = [];
-  all = reported_after ps qs reported further s are more;
-  notices = ap border_notices (sym (no_border key (head_in o.findings)));
-}
-reported_joined only key (Some c) None ps qs reported further s t keys are more = record {
-  between = [];
-  all = reported_before ps qs reported further t are more;
-  notices = refl;
-}
-reported_joined only key (Some c) (Some o) ps qs reported further s t keys are more =
-    reported_both only key c o ps qs reported further s t keys are more
+reported_joined only key None None ps qs reported further s t keys are more = search (arith, reported_after)
+reported_joined only key None (Some o) ps qs reported further s t keys are more =
+    search (arith, reported_after, no_border)
+reported_joined only key (Some c) None ps qs reported further s t keys are more = search (arith, reported_before)
+reported_joined only key (Some c) (Some o) ps qs reported further s t keys are more = search (arith, reported_both)
 
 -- the first record of a channel has its key
 first_with : (key : List ℕ) (ps : List Placed) (q : Placed) (rest : List Placed)
@@ -192,9 +164,7 @@ moved_first : (key : List ℕ) (d e : ℕ) (ps : List Placed)
     → ((q : Placed) (rest : List Placed) → ps ≡ q ∷ rest → key ≡ key_at q.view.bytes)
     → (q : Placed) (rest : List Placed) → map (moved d e) ps ≡ q ∷ rest → key ≡ key_at q.view.bytes
 moved_first key d e [] keys q rest is = cc (is)
-moved_first key d e (p ∷ ps) keys q rest is =
-    let same : moved d e p ≡ q = cc (is) in
-    keys p ps refl ∙ ap (λ (r : Placed). key_at r.view.bytes) same
+moved_first key d e (p ∷ ps) keys q rest is = search (arith, moved)
 
 -- ---- of two archives one after another
 pub reported_at_key : HaveOneFinding → (key : List ℕ) (a b : Held) (xs ys : List View)

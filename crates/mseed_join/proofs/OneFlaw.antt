@@ -5,10 +5,10 @@ use Rattle.std.proofs.Common.{take-append-drop}
 use Rattle.mseed_audit.specs.declared.channel.Channel.{Channel}
 use Rattle.mseed_join.specs.Parts.{IsAscending}
 use Rattle.mseed_join.specs.Lines.{Line, channel, text_of_line, IsLine}
-use Rattle.mseed_join.specs.Lines.{header_line, channel_line, HasChannelLine, HasFaultLine}
+use Rattle.mseed_join.specs.Lines.{header_line, channel_line, HasChannelLine}
 use Rattle.mseed_join.specs.Fields.{IsFirstBad}
 use Rattle.mseed_join.specs.declared.bad_field.Field.{Field}
-use Rattle.mseed_join.proofs.Onward.{Onward, onward}
+use Rattle.mseed_join.proofs.Onward.{onward}
 use Rattle.mseed_join.proofs.FirstBad.{bad_field_one}
 use Rattle.mseed_join.proofs.OneLine.{channel_one, line_one}
 use Rattle.mseed_join.specs.declared.flaw.Flaw.{Flaw}
@@ -61,29 +61,18 @@ stands_told _ line s = inr (refl, s)
 
 told : (f : Flaw) (last : OpenPart) (line : List ℕ) → IsFlawOf f last line → Told f last line
 told _ _ _ (IsFlawOf.beginning line other) = inl (refl, other)
-told _ _ _ (IsFlawOf.row channels line field no_channel no_counts first) =
-    inl (field, (refl, record { channel = no_channel; counts = no_counts; first = first }))
-told _ _ _ (IsFlawOf.order channels key c line fits is never) =
-    inr (inl (key, (refl, record { c = c; fits = fits; is = is; never = never })))
-told _ _ _ (IsFlawOf.ending w line other no_fault no_faults) =
-    inl (refl, record { other = other; fault = no_fault; faults = no_faults })
-told _ _ _ (IsFlawOf.limit last x line is_line may text) =
-    stands_told last line (record { x = x; is_line = is_line; may = may; text = text })
+told _ _ _ (IsFlawOf.row channels line field no_channel no_counts first) = search arith
+told _ _ _ (IsFlawOf.order channels key c line fits is never) = search arith
+told _ _ _ (IsFlawOf.ending w line other no_fault no_faults) = search arith
+told _ _ _ (IsFlawOf.limit last x line is_line may text) = search (arith, stands_told)
 
 -- what can stand there has no other flaw
 no_beginning : (line : List ℕ) → line ≢ header_line → Stands none line → ⊥
-no_beginning line other s = by s.x (onward none s.x s.may) s.text
-  where
-    by : (x : Line) → Onward none x → text_of_line x ≡ line → ⊥
-    by _ Onward.opens t = other (sym t)
+no_beginning line other s = search (arith, onward)
 
 no_row : (channels : List (List ℕ × Channel)) (field : Field) (line : List ℕ) → IsNoRow field line
     → Stands (begun channels) line → ⊥
-no_row channels field line e s = by s.x s.is_line (onward (begun channels) s.x s.may) s.text
-  where
-    by : (x : Line) → IsLine x → Onward (begun channels) x → text_of_line x ≡ line → ⊥
-    by _ i (Onward.row _ key c m) t = e.channel key c i (sym t)
-    by _ i (Onward.sums _ n l) t = e.counts n l i (sym t)
+no_row channels field line e s = search (arith, onward)
 
 no_order : (channels : List (List ℕ × Channel)) (key line : List ℕ) → IsDisordered channels key line
     → Stands (begun channels) line → ⊥
@@ -92,22 +81,15 @@ no_order channels key line d s =
     d.never (subst (λ (x : Line). May (begun channels) x) (sym same) s.may)
 
 no_ending : (w : Written) (line : List ℕ) → IsNoEnding w line → Stands (whole w) line → ⊥
-no_ending w line e s = by s.x s.is_line (onward (whole w) s.x s.may) s.text
-  where
-    by : (x : Line) → IsLine x → Onward (whole w) x → text_of_line x ≡ line → ⊥
-    by _ i (Onward.follows _) t = e.other (sym t)
-    by _ i (Onward.passes _ n m) t = e.faults m n i (sym t)
-    by _ i (Onward.ends _ l f m) t = e.fault f (subst (λ (n : ℕ). HasFaultLine n f) (sym m) i) (sym t)
+no_ending w line e s = search (arith, onward)
 
 pub flaw_stands : (f : Flaw) (last : OpenPart) (line : List ℕ) → IsFlawOf f last line → f ≢ Limit → Stands last line
     → ⊥
 flaw_stands _ _ _ (IsFlawOf.beginning line other) never s = no_beginning line other s
-flaw_stands _ _ _ (IsFlawOf.row channels line field no_channel no_counts first) never s =
-    no_row channels field line (record { channel = no_channel; counts = no_counts; first = first }) s
+flaw_stands _ _ _ (IsFlawOf.row channels line field no_channel no_counts first) never s = search (arith, no_row)
 flaw_stands _ _ _ (IsFlawOf.order channels key c line fits is ascends) never s =
     no_order channels key line (record { c = c; fits = fits; is = is; never = ascends }) s
-flaw_stands _ _ _ (IsFlawOf.ending w line other no_fault no_faults) never s =
-    no_ending w line (record { other = other; fault = no_fault; faults = no_faults }) s
+flaw_stands _ _ _ (IsFlawOf.ending w line other no_fault no_faults) never s = search (arith, no_ending)
 flaw_stands _ _ _ (IsFlawOf.limit last x line is_line may text) never s = never refl
 
 one_key : (channels : List (List ℕ × Channel)) (key other line : List ℕ) → IsDisordered channels key line
@@ -153,27 +135,13 @@ Lies f last bytes =
     ⊎ (((f ≡ NoEnd) × HasNoEnd bytes × (length bytes < 512) × (bytes ≢ [])) ⊎ ((f ≡ Missing) × (bytes ≡ []))))
 
 lies : (f : Flaw) (last : OpenPart) (bytes : List ℕ) (at_end : Bool) → IsFlaw f last bytes at_end → Lies f last bytes
-lies _ _ _ _ (IsFlaw.line flaw last body after bytes at_end no_end short is wrong) = inl (record {
-  body = body;
-  after = after;
-  no_end = no_end;
-  short = short;
-  is = is ∙ append_assoc body (10 ∷ []) after;
-  flaw = wrong;
-})
+lies _ _ _ _ (IsFlaw.line flaw last body after bytes at_end no_end short is wrong) = search (arith, append_assoc)
 lies _ _ _ _ (IsFlaw.long last bytes at_end no_end many) = inr (inl (refl, no_end, many))
-lies _ _ _ _ (IsFlaw.unended last bytes at_end ended some no_end short) =
-    inr (inr (inl (refl, no_end, short, some)))
+lies _ _ _ _ (IsFlaw.unended last bytes at_end ended some no_end short) = search arith
 lies _ _ _ _ (IsFlaw.missing channels at_end ended) = inr (inr (inr (refl, refl)))
 
 both_whole : (f g : Flaw) (last : OpenPart) (bytes : List ℕ) → IsWhole f last bytes → IsWhole g last bytes → f ≡ g
-both_whole f g last bytes a b =
-    let same : a.body ≡ b.body =
-    (same_line a.body b.body a.after b.after (plain_from a.body a.no_end) (plain_from b.body b.no_end)
-    (sym a.is ∙ b.is)).0 in
-    one_of f g last (b.body ++ 10 ∷ [])
-    (told f last (b.body ++ 10 ∷ []) (subst (λ (t : List ℕ). IsFlawOf f last (t ++ 10 ∷ [])) same a.flaw))
-    (told g last (b.body ++ 10 ∷ []) b.flaw)
+both_whole f g last bytes a b = search (arith, same_line, plain_from, one_of, told)
 
 -- a whole line isn't too long, has its LF, and is there
 not_long : (f : Flaw) (last : OpenPart) (bytes : List ℕ) → IsWhole f last bytes → HasNoEnd (take 512 bytes)
@@ -214,5 +182,4 @@ one_lie f g last bytes (inr (inr (inr a))) (inr (inr (inr b))) = a.0 ∙ sym b.0
 
 pub flaw_one : (flaw other : Flaw) (last : OpenPart) (bytes : List ℕ) (at_end : Bool) → IsFlaw flaw last bytes at_end
     → IsFlaw other last bytes at_end → flaw ≡ other
-flaw_one flaw other last bytes at_end a b =
-    one_lie flaw other last bytes (lies flaw last bytes at_end a) (lies other last bytes at_end b)
+flaw_one flaw other last bytes at_end a b = search (arith, one_lie, lies)

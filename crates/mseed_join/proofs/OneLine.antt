@@ -1,6 +1,6 @@
 -- A line is one thing at most.
 use Rattle.std.proofs.Common.{◌≡◌, ℕ, zero, suc, ◌+◌, ◌/◌, ◌-◌, ◌^◌, ◌<◌, ◌≤◌, nat_lt, nat_eq, List, [], ◌∷◌, ◌++◌}
-use Rattle.std.proofs.Common.{Bool, true, false, cond, get_or, Option, Some, None, refl, sym, ap, ◌∙◌, arith}
+use Rattle.std.proofs.Common.{false, cond, get_or, Option, Some, None, refl, sym, ap, ◌∙◌, arith}
 use Rattle.std.specs.Prelude.{codes}
 use Rattle.std.proofs.lemmas.Bool.Decides.{nat_tests}
 use Rattle.std.proofs.lemmas.Option.{same_Some}
@@ -23,19 +23,14 @@ line_at (b ∷ bs) =
     (channel_at (b ∷ bs) >>= λ x. Some (channel x.0 x.1))))
 
 low : (n : ℕ) → n < 16 → hex_digit n ≤ 70
-low n l = by (nat_lt n 10) refl
-  where
-    by : (t : Bool) → nat_lt n 10 ≡ t → cond t (48 + n) (55 + n) ≤ 70
-    by true e = omega (arith, l)
-    by false e = omega (arith, l)
+low n l = search (arith, nat_lt)
 
 other : (n b : ℕ) → n ≤ 70 → 70 < b → nat_eq n b ≡ false
 other n b l h = grind (arith, nat_tests)
 
 channel_first : (b : ℕ) (bs : List ℕ) → b ≤ 70
     → line_at (b ∷ bs) ≡ (channel_at (b ∷ bs) >>= λ x. Some (channel x.0 x.1))
-channel_first b bs l =
-    rw (other b 109 l (omega arith), other b 114 l (omega arith), other b 102 l (omega arith)) refl
+channel_first b bs l = search (arith, other)
 
 line_back : (x : Line) → IsLine x → line_at (text_of_line x) ≡ Some x
 line_back header l = refl
@@ -64,6 +59,4 @@ line_one x y l m e = same_Some x y (sym (line_back x l) ∙ ap line_at e ∙ lin
 pub channel_one : (key other : List ℕ) (c d : Channel) → HasChannelLine key c → HasChannelLine other d
     → channel_line key c ≡ channel_line other d → (key ≡ other) × (c ≡ d)
 channel_one key other c d l m e =
-    let both : (key, c) ≡ (other, d) =
-    same_Some (key, c) (other, d) (sym (channel_back key c l) ∙ ap channel_at e ∙ channel_back other d m) in
-    (ap (λ (x : List ℕ × Channel). x.0) both, ap (λ (x : List ℕ × Channel). x.1) both)
+    let same : channel key c ≡ channel other d = line_one (channel key c) (channel other d) l m e in (cc, cc)

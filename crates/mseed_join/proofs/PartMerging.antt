@@ -11,7 +11,7 @@ use Rattle.std.proofs.lemmas.List.{map-append}
 use Rattle.std.proofs.lemmas.List.Elements.{filter-append}
 use Rattle.std.proofs.lemmas.List.Filters.{length-filter_both}
 use Rattle.std.proofs.lemmas.List.Sorted.{IsPermutation-append, IsPermutation-append_comm, IsPermutation-append_right}
-use Rattle.std.proofs.lemmas.List.Sorted.{IsPermutation-filter_both, IsPermutation-refl, IsPermutation-sym}
+use Rattle.std.proofs.lemmas.List.Sorted.{IsPermutation-filter_both, IsPermutation-sym}
 use Rattle.std.proofs.lemmas.List.Sorted.{IsPermutation-trans, length_permutation}
 use Rattle.std.proofs.lemmas.Map.Entries.{lookup_head, lookup_tail}
 use Rattle.std.proofs.lemmas.Map.Keys.{sorted_tail}
@@ -19,13 +19,12 @@ use Rattle.mseed_record.specs.View.{View}
 use Rattle.mseed_audit.specs.declared.channel.Channel.{Channel}
 use Rattle.mseed_audit.specs.declared.channel.Head.{Head}
 use Rattle.mseed_audit.specs.declared.finding.Finding.{Finding}
-use Rattle.mseed_audit.specs.Audit.{head_in}
 use Rattle.mseed_audit.specs.Channels.{added_from, same_key}
 use Rattle.mseed_audit.specs.Reported.{Reported, AreReportedOf}
 use Rattle.mseed_audit.proofs.Maps.{same_back, same_is, same_itself}
 use Rattle.mseed_join.specs.PartBorders.{border_at, border_with, borders_with}
-use Rattle.mseed_join.specs.Joining.{border_between, moved_channel}
-use Rattle.mseed_join.specs.Notices.{AreMerged, HaveBytes, Notice, border_notice, border_notices, moved_notices}
+use Rattle.mseed_join.specs.Joining.{moved_channel}
+use Rattle.mseed_join.specs.Notices.{AreMerged, HaveBytes, Notice, border_notices, moved_notices}
 use Rattle.mseed_join.specs.Notices.{notices_of}
 use Rattle.mseed_join.specs.Parts.{Held, IsAscending, IsPartOf, kept_of}
 use Rattle.mseed_join.proofs.Adding.{Entries}
@@ -51,19 +50,13 @@ of_key key other _ _ = sym (nothing_by (same_key key other))
 of_entry : (key : List ℕ) (a : Held) (x : List ℕ × Channel)
     → with_key key (border_notices (border_with a x))
     ≡ cond (same_key key x.0) (border_notices (border_with a x)) no_notices
-of_entry key a x =
-    of_key key x.0 (head_in x.1.findings)
-    (border_between (kept_of x.0 a.channels) (moved_channel a.records a.bytes x.1))
+of_entry key a x = search (arith, of_key)
 
 -- of the first, or of the others
 parted : (key : List ℕ) (a : Held) (x : List ℕ × Channel) (es : Entries) (b : Bool) → same_key key x.0 ≡ b
     → with_key key (border_notices (borders_with a (x ∷ es)))
     ≡ cond b (border_notices (border_with a x)) no_notices ++ with_key key (border_notices (borders_with a es))
-parted key a x es b e =
-    ap (λ (ns : List Notice). with_key key ns) (map-append border_notice (border_with a x) (borders_with a es))
-    ∙ filter-append (λ n. same_key key n.key) (border_notices (border_with a x)) (border_notices (borders_with a es))
-    ∙ ap (λ (ns : List Notice). ns ++ with_key key (border_notices (borders_with a es)))
-    (of_entry key a x ∙ ap (λ (c : Bool). cond c (border_notices (border_with a x)) no_notices) e)
+parted key a x es b e = search (arith, with_key, map-append, filter-append, of_entry, no_notices)
 
 not_some : (c : Channel) → Some c ≡ None → ⊥
 not_some c e = cc (e)
@@ -115,22 +108,7 @@ without_key key ns = filter (λ n. not (same_key key n.key)) ns
 with_without : (k j : List ℕ) (b : Bool) → same_key k j ≡ b → (ns : List Notice)
     → with_key j (without_key k ns) ≡ cond b [] (with_key j ns)
 with_without k j b e [] = sym (nothing_by b)
-with_without k j b e (n ∷ ns) = by (same_key k n.key) refl b e (with_without k j b e ns)
-  where
-    by : (c : Bool) → same_key k n.key ≡ c → (b : Bool) → same_key k j ≡ b
-        → with_key j (without_key k ns) ≡ cond b [] (with_key j ns)
-        → with_key j (cond (not c) (n ∷ without_key k ns) (without_key k ns))
-        ≡ cond b [] (cond (same_key j n.key) (n ∷ with_key j ns) (with_key j ns))
-    by true h true g more = more
-    by true h false g more =
-        let other : same_key j n.key ≡ false =
-        ap (λ (key : List ℕ). same_key j key) (sym (same_is k n.key h)) ∙ same_back j k ∙ g in
-        more ∙ ap (λ (t : Bool). cond t (n ∷ with_key j ns) (with_key j ns)) (sym other)
-    by false h true g more =
-        let other : same_key j n.key ≡ false = ap (λ (key : List ℕ). same_key key n.key) (sym (same_is k j g)) ∙ h in
-        ap (λ (t : Bool). cond t (n ∷ with_key j (without_key k ns)) (with_key j (without_key k ns))) other ∙ more
-    by false h false g more =
-        ap (λ (ms : List Notice). cond (same_key j n.key) (n ∷ ms) ms) more
+with_without k j b e (n ∷ ns) = search (arith, with_key, without_key, same_is, same_back, with_without k j b e ns)
 
 -- the first is left out
 fewer : (n : Notice) (ns : List Notice) → length (without_key n.key (n ∷ ns)) ≤ length ns
@@ -145,17 +123,7 @@ abbrev AreAlike : List Notice → List Notice → Type 0
 AreAlike ns ms = (key : List ℕ) → IsPermutation (with_key key ns) (with_key key ms)
 
 without_alike : (k : List ℕ) (ns ms : List Notice) → AreAlike ns ms → AreAlike (without_key k ns) (without_key k ms)
-without_alike k ns ms alike j = by (same_key k j) refl
-  where
-    by : (b : Bool) → same_key k j ≡ b → IsPermutation (with_key j (without_key k ns)) (with_key j (without_key k ms))
-    by true e =
-        subst (λ (xs : List Notice). IsPermutation (with_key j (without_key k ns)) xs)
-        (with_without k j true e ns ∙ sym (with_without k j true e ms))
-        (IsPermutation-refl (with_key j (without_key k ns)))
-    by false e =
-        subst (λ (xs : List Notice). IsPermutation xs (with_key j (without_key k ms)))
-        (sym (with_without k j false e ns))
-        (subst (λ (xs : List Notice). IsPermutation (with_key j ns) xs) (sym (with_without k j false e ms)) (alike j))
+without_alike k ns ms alike j = search (arith, with_key, without_key, with_without)
 
 none_alike : (ms : List Notice) → AreAlike [] ms → ms ≡ []
 none_alike [] alike = refl
@@ -166,8 +134,7 @@ none_alike (m ∷ ms) alike =
     absurd (omega (arith, same, ap (λ (xs : List Notice). length xs) some))
 
 alike_within : (most : ℕ) (ns ms : List Notice) → length ns ≤ most → AreAlike ns ms → IsPermutation ns ms
-alike_within most [] ms le alike =
-    subst (λ (xs : List Notice). IsPermutation [] xs) (sym (none_alike ms alike)) (IsPermutation-refl [])
+alike_within most [] ms le alike = search (arith, none_alike)
 alike_within zero (n ∷ ns) ms le alike = absurd (omega (arith, le))
 alike_within (suc most) (n ∷ ns) ms le alike =
     let k : List ℕ = n.key in

@@ -1,5 +1,5 @@
 -- The part of what was read, by what is kept of its channels, and what is written of it.
-use Rattle.std.proofs.Common.{◌≡◌, ℕ, ◌+◌, ◌++◌, List, [], ◌∷◌, length, map, Option, refl, sym, ap, ◌∙◌, subst}
+use Rattle.std.proofs.Common.{◌≡◌, ℕ, ◌+◌, ◌++◌, List, [], ◌∷◌, length, map, Option, refl, sym, ap, ◌∙◌, subst, arith}
 use Rattle.std.proofs.Common.{inr, is_some, Err}
 use Rattle.std.proofs.lemmas.List.{length-append, length-map}
 use Rattle.std.specs.List.{concat}
@@ -28,8 +28,7 @@ use Rattle.mseed_join.specs.private.Parted.{IsPushed}
 -- the sum of their lengths
 pub sizes : (views : List View) → length (concat (map (λ v. v.bytes) views)) ≡ bytes_in views
 sizes [] = refl
-sizes (v ∷ views) = length-append v.bytes (concat (map (λ v. v.bytes) views))
-    ∙ ap (λ (n : ℕ). length v.bytes + n) (sizes views)
+sizes (v ∷ views) = search (arith, length-append, sizes views)
 
 -- the part, and the audit with the verdicts of its channels
 abbrev pub parted_of : (held : Held) (end : Option StreamFault) (bytes : ℕ) (h : BytesRead) (views : List View)

@@ -1,10 +1,9 @@
 -- A field of a line is passed exactly where it is written.
-use Rattle.std.proofs.Common.{◌≡◌, ℕ, ◌-◌, ◌^◌, ◌<◌, ◌≤◌, ◌&&◌, ◌||◌, nat_lt, List, [], ◌∷◌, ◌++◌}
-use Rattle.std.proofs.Common.{Bool, true, cond, Option, Some, None, length, take, drop, refl}
+use Rattle.std.proofs.Common.{◌≡◌, ℕ, ◌-◌, ◌^◌, ◌<◌, ◌≤◌, ◌||◌, nat_lt, List, [], ◌∷◌, ◌++◌}
+use Rattle.std.proofs.Common.{Bool, true, cond, Option, Some, None, length, refl}
 use Rattle.std.proofs.Common.{sym}
 use Rattle.std.proofs.Common.{ap, ◌∙◌, arith, append-nil}
-use Rattle.std.specs.Prelude.{decimal, codes, nat_eq}
-use Rattle.std.specs.Cmp.Lexicographic.{pointwise}
+use Rattle.std.specs.Prelude.{decimal, codes}
 use Rattle.std.specs.Fmt.{signed_decimal}
 use Rattle.std.proofs.lemmas.Bool.{lt-ltb}
 use Rattle.std.proofs.lemmas.Bool.Decides.{nat_tests}
@@ -31,9 +30,7 @@ ends_number (b ∷ rest) e = grind (arith, nat_tests)
 -- ---- what is written is passed
 pub after_prefix : (w v z : List ℕ) → after (w ++ v) (w ++ z) ≡ after v z
 after_prefix [] v z = refl
-after_prefix (b ∷ w) v z =
-    ap (λ (t : Bool). cond (t && pointwise nat_eq (take (length (w ++ v)) (w ++ z)) (w ++ v))
-    (Some (drop (length (w ++ v)) (w ++ z))) None) (same_number b) ∙ after_prefix w v z
+after_prefix (b ∷ w) v z = search (arith, same_number, after_prefix w v z)
 
 after_word : (word z : List ℕ) → after word (word ++ z) ≡ Some z
 after_word word z = ap (λ (w : List ℕ). after w (word ++ z)) (sym (append-nil word)) ∙ after_prefix word [] z
@@ -92,11 +89,7 @@ pub record IsField {X : Type 0} (Fits : X → Type 0) (text : X → List ℕ) (w
 field_by : {X : Type 0} {text : X → List ℕ} {Fits : X → Type 0} {read : List ℕ → Option (X × List ℕ)} (word : List ℕ)
     → ((x : X) (rest : List ℕ) → Fits x → Ends rest → read (text x ++ rest) ≡ Some (x, rest)) → Reads text Fits read
     → IsField Fits text word (past word read)
-field_by {text = text} word back reads = record {
-  on = λ x rest fits ends.
-      rw (after_word word (text x ++ rest), back x rest fits (ends_number rest ends), ends) refl;
-  past = passed_by reads word;
-}
+field_by {text = text} word back reads = search (arith, after_word, ends_number, passed_by)
 
 pub count_field : (word : List ℕ) → IsField IsFew decimal word (past_count word)
 unfolding past_count
@@ -137,6 +130,4 @@ key_past line r e = bind_then (key_at line) _ r e (λ y first more.
 
 pub word_past : (word bytes r : List ℕ) → past_word word bytes ≡ Some r → (bytes ≡ word ++ r) × (ends_field r ≡ true)
 unfolding past_word
-word_past word bytes r e = bind_then (after word bytes) _ r e (λ rest first more.
-    let made = cond_some (ends_field rest) rest r more in
-    rw (← made.1) (word_after word bytes rest first, made.0))
+word_past word bytes r e = search (arith, bind_then, cond_some, word_after)

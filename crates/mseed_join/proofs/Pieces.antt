@@ -161,11 +161,7 @@ is_part add_up only archive ws joint h a parted joined read by =
 read_by : (archive : List ℕ) (h : BytesRead) (reported : List ℕ) (left : Option (List ℕ)) → h.bytes ≡ reported
     → Consumes (Some archive) left reported → (h.is_at_end ≡ true → IsAtEnd left) → IsReadOf archive h
 read_by archive h reported None same takes done = absurd takes
-read_by archive h reported (Some rest) same takes done = record {
-  rest = rest;
-  bytes = takes ∙ ap (λ (xs : List ℕ). xs ++ rest) (sym same);
-  all = done;
-}
+read_by archive h reported (Some rest) same takes done = search arith
 
 pub read_of : (archive : List ℕ) (h : BytesRead) (left : Option (List ℕ))
     → GivesMore nothing_read h (Some archive) left → (h.is_at_end ≡ true → IsAtEnd left) → IsReadOf archive h

@@ -1,11 +1,11 @@
 -- Records one after another, and after more records.
-use Rattle.std.proofs.Common.{◌≡◌, ℕ, suc, ◌+◌, List, [], ◌∷◌, ◌++◌, Bool, true, false, cond, map, length, refl, ap}
-use Rattle.std.proofs.Common.{◌∙◌, arith, subst, sym}
+use Rattle.std.proofs.Common.{◌≡◌, ℕ, suc, ◌+◌, List, [], ◌∷◌, ◌++◌, Bool, map, length, refl, ap}
+use Rattle.std.proofs.Common.{◌∙◌, arith}
 use Rattle.std.proofs.lemmas.List.{map-append}
 use Rattle.std.proofs.lemmas.List.Elements.{filter-append}
 use Rattle.std.specs.List.{filter}
 use Rattle.mseed_record.specs.View.{View}
-use Rattle.mseed_audit.specs.Channels.{Placed, numbered, is_of_channel, records_of, added_from}
+use Rattle.mseed_audit.specs.Channels.{Placed, numbered, records_of, added_from}
 use Rattle.mseed_join.specs.Parts.{bytes_in}
 
 -- a record after so many more records and bytes
@@ -15,8 +15,7 @@ moved d e p = record { view = p.view; offset = e + p.offset; number = d + p.numb
 -- what is reported of a record and of those after it, moved, where a list of it stands in a relation to records
 pub moved_also : {X : Type 0} (Of : List X → Type 0) (move : X → X) (first there rest : List X) → there ≡ map move first
     → Of (there ++ map move rest) → Of (map move (first ++ rest))
-moved_also {X} Of move first there rest e is =
-    subst Of (ap (λ (xs : List X). xs ++ map move rest) e ∙ sym (map-append move first rest)) is
+moved_also {X} Of move first there rest e is = search (arith, map-append)
 
 abbrev placed : ℕ → ℕ → List View → List Placed
 placed n o views = numbered n (added_from o views)
@@ -26,8 +25,7 @@ placed_at n m o p vs e f = λ i. placed (e i) (f i) vs
 
 pub bytes_append : (xs ys : List View) → bytes_in (xs ++ ys) ≡ bytes_in xs + bytes_in ys
 bytes_append [] ys = omega arith
-bytes_append (x ∷ xs) ys = let later : bytes_in (xs ++ ys) ≡ bytes_in xs + bytes_in ys = bytes_append xs ys in
-    omega (arith, later)
+bytes_append (x ∷ xs) ys = search (arith, bytes_append xs ys)
 
 -- the records of the second list stand after those of the first
 placed_append : (n o : ℕ) (xs ys : List View)
@@ -44,11 +42,7 @@ placed_append n o (x ∷ xs) ys =
 -- and after so many more records and bytes each has its number and offset gone up
 placed_moved : (d e n o : ℕ) (vs : List View) → placed (d + n) (e + o) vs ≡ map (moved d e) (placed n o vs)
 placed_moved d e n o [] = refl
-placed_moved d e n o (v ∷ vs) =
-    ap (λ (ps : List Placed). record { view = v; offset = e + o; number = d + n } ∷ ps)
-    (placed_at (d + n + 1) (d + (n + 1)) (e + o + length v.bytes) (e + (o + length v.bytes)) vs (omega arith)
-    (omega arith)
-    ∙ placed_moved d e (n + 1) (o + length v.bytes) vs)
+placed_moved d e n o (v ∷ vs) = search (arith, placed_at, placed_moved d e (n + 1) (o + length v.bytes) vs)
 
 pub placed_after : (xs ys : List View)
     → placed 1 0 (xs ++ ys) ≡ placed 1 0 xs ++ map (moved (length xs) (bytes_in xs)) (placed 1 0 ys)
@@ -62,21 +56,9 @@ placed_after xs ys =
 pub filter_map_same : {X Y : Type 0} (f : X → Y) (p : X → Bool) (q : Y → Bool) → ((x : X) → q (f x) ≡ p x)
     → (xs : List X) → filter q (map f xs) ≡ map f (filter p xs)
 filter_map_same f p q same [] = refl
-filter_map_same {X} {Y} f p q same (x ∷ xs) =
-    ap (λ (b : Bool). cond b (f x ∷ filter q (map f xs)) (filter q (map f xs))) (same x)
-    ∙ by (p x) (filter_map_same f p q same xs)
-  where
-    by : (b : Bool) → filter q (map f xs) ≡ map f (filter p xs)
-        → cond b (f x ∷ filter q (map f xs)) (filter q (map f xs)) ≡ map f (cond b (x ∷ filter p xs) (filter p xs))
-    by true e = ap (λ (ys : List Y). f x ∷ ys) e
-    by false e = e
+filter_map_same {X} {Y} f p q same (x ∷ xs) = search (arith, filter_map_same f p q same xs)
 
 -- the records of a channel in two archives one after another
 pub records_append : (key : List ℕ) (xs ys : List View) → records_of key (added_from 0 (xs ++ ys))
     ≡ records_of key (added_from 0 xs) ++ map (moved (length xs) (bytes_in xs)) (records_of key (added_from 0 ys))
-records_append key xs ys =
-    let test : Placed → Bool = λ p. is_of_channel key p.view in
-    ap (λ (ps : List Placed). filter test ps) (placed_after xs ys)
-    ∙ filter-append test (placed 1 0 xs) (map (moved (length xs) (bytes_in xs)) (placed 1 0 ys))
-    ∙ ap (λ (ps : List Placed). filter test (placed 1 0 xs) ++ ps)
-    (filter_map_same (moved (length xs) (bytes_in xs)) test test (λ p. refl) (placed 1 0 ys))
+records_append key xs ys = search (arith, placed_after, filter-append, placed, moved, filter_map_same)

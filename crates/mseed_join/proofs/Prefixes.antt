@@ -79,23 +79,12 @@ nothing_leading head tail rest =
 
 pub counted_leading : (count : ℕ) (first : Finding) (head : Option Head) (tail : Option Tail) (rest : List ℕ)
     → findings_text (Counted count first head tail) ++ rest ≡ findings_then head tail count (first_then first rest)
-counted_leading count first head tail rest =
-    joined (text_or_none head_text head) (text_or_none tail_text tail) (decimal count) (first_text first)
-    ∙ ap (λ (z : List ℕ). findings_then head tail count z) (first_leading first rest)
-  where
-    joined : (a b c d : List ℕ)
-        → (codes " head " ++ a ++ codes " tail " ++ b ++ codes " findings " ++ c ++ codes " " ++ d) ++ rest
-        ≡ codes " head " ++ (a ++ (codes " tail " ++ (b ++ (codes " findings " ++ (c ++ ((codes " " ++ d) ++ rest))))))
-    joined a b c d = simp append_assoc
+counted_leading count first head tail rest = search (arith, first_leading, append_assoc)
 
 pub channel_leading : (key : List ℕ) (c : Channel) → channel_line key c
     ≡ key_text key ++ (codes " records " ++ (decimal c.records ++ (codes " samples " ++ (decimal c.samples
     ++ (findings_text c.findings ++ codes "\n")))))
-channel_leading key c = joined (key_text key) (decimal c.records) (decimal c.samples) (findings_text c.findings)
-  where
-    joined : (a b d f : List ℕ) → a ++ codes " records " ++ b ++ codes " samples " ++ d ++ f ++ codes "\n"
-        ≡ a ++ (codes " records " ++ (b ++ (codes " samples " ++ (d ++ (f ++ codes "\n")))))
-    joined a b d f = simp append_assoc
+channel_leading key c = search (arith, append_assoc)
 
 pub counts_leading : (records bytes : ℕ) → counts_line records bytes
     ≡ codes "records " ++ (decimal records ++ (codes " bytes " ++ (decimal bytes ++ codes "\n")))
@@ -117,16 +106,8 @@ fault_then offset f = codes "fault at " ++ (decimal offset ++ (codes " " ++ (fau
 
 -- after so many bytes
 pub fault_of : (f : StreamFault) (bytes : ℕ) → IsFaultAfter bytes f → fault_line f ≡ fault_then bytes f
-fault_of (Frame offset f) bytes l = rw (← l.0) (framed (decimal offset) (frame_words f))
-  where
-    framed : (a b : List ℕ) → codes "fault at " ++ a ++ codes " " ++ b ++ codes "\n"
-        ≡ codes "fault at " ++ (a ++ (codes " " ++ (b ++ codes "\n")))
-    framed a b = simp append_assoc
-fault_of (Truncated offset have) bytes l = rw (← l.0) (cut (decimal offset) (decimal have))
-  where
-    cut : (a b : List ℕ) → codes "fault at " ++ a ++ codes " truncated " ++ b ++ codes "\n"
-        ≡ codes "fault at " ++ (a ++ (codes " " ++ ((codes "truncated " ++ b) ++ codes "\n")))
-    cut a b = simp append_assoc
+fault_of (Frame offset f) bytes l = search (arith, append_assoc)
+fault_of (Truncated offset have) bytes l = search (arith, append_assoc)
 fault_of Memory bytes l = absurd l
 fault_of _ bytes l = rw (← l) (simp append_assoc)
 

@@ -1,7 +1,7 @@
 -- The ranges of what a record says.
 use Rattle.std.proofs.Common.{◌≡◌, ℕ, zero, suc, ℤ, pos, negsuc, ◌+◌, ◌-◌, ◌*◌, ◌^◌, ◌<◌, ◌≤◌, ◌+ℤ◌, ◌-ℤ◌, List, get_or}
 use Rattle.std.proofs.Common.{ltb, Bool, true, false, cond, Option, Some, None, refl, sym, ap, subst, ◌∙◌, arith}
-use Rattle.std.proofs.Common.{⊎_elim, unsigned_abs}
+use Rattle.std.proofs.Common.{unsigned_abs}
 use Rattle.std.specs.Prelude.{⊤, slice_index, neg_ℤ, ◌≤ℤ◌, ◌*ℤ◌}
 use Rattle.std.proofs.Math.Nat.{div-le_self}
 use Rattle.std.proofs.lemmas.Bool.{cases_lt, lt-ltb, le-ltb}
@@ -43,10 +43,7 @@ minus_all x (suc m) h = minus x m h ∙ ap negsuc (omega arith)
 
 complement : (half x : ℕ) → x < half + half
     → IsBetween half (cond (ltb x half) (pos x) (pos x -ℤ pos (half + half)))
-complement half x small = ⊎_elim
-    (λ (low : x < half). rw (lt-ltb x half low) low)
-    (λ (high : half ≤ x). rw (le-ltb x half high, minus_all x (half + half) small) (omega (arith, high, small)))
-    (cases_lt x half)
+complement half x small = search (arith, lt-ltb, le-ltb, minus_all, cases_lt)
 
 number_two : (v : View) → IsView v → (o : ℕ) → number_at v.order 2 o v.bytes < 2 ^ 16
 number_two v is o = omega (arith, number_lt v.order 2 o v.bytes (octets_of v is))
@@ -65,26 +62,17 @@ product a b some any small few = (omega (arith, mul-le 1 1 a b some any), omega 
 -- a ratio of two numbers within its range
 ratio_within : (num den : ℕ) (r : Ratio) → (0 < num) × (num ≤ 2 ^ 30) → (0 < den) × (den ≤ 2 ^ 30)
     → Some (record { num = num; den = den }) ≡ Some r → IsRatio r
-ratio_within num den r n d e =
-    subst IsRatio (same_Some (record { num = num; den = den }) r e)
-    (record { num_counts = n.0; num_bound = n.1; den_counts = d.0; den_bound = d.1 })
+ratio_within num den r n d e = search (arith, same_Some)
 
 -- a factor or a multiplier
 part_within : (n : ℕ) → n < 2 ^ 15 → (0 < suc n) × (suc n ≤ 2 ^ 30)
 part_within n h = (omega arith, omega (arith, h))
 
 ratio_one : (f m : ℤ) (r : Ratio) → IsBetween (2 ^ 15) f → IsBetween (2 ^ 15) m → rate_of f m ≡ Some r → IsRatio r
-ratio_one (pos (suc f)) (pos (suc m)) r h k e =
-    ratio_within (suc f * suc m) 1 r
-    (product (suc f) (suc m) (omega arith) (omega arith) (omega (arith, h)) (omega (arith, k)))
-    (omega arith, omega arith) e
-ratio_one (pos (suc f)) (negsuc m) r h k e =
-    ratio_within (suc f) (suc m) r (part_within f (omega (arith, h))) (part_within m (omega (arith, k))) e
-ratio_one (negsuc f) (pos (suc m)) r h k e =
-    ratio_within (suc m) (suc f) r (part_within m (omega (arith, k))) (part_within f (omega (arith, h))) e
-ratio_one (negsuc f) (negsuc m) r h k e =
-    ratio_within 1 (suc f * suc m) r (omega arith, omega arith)
-    (product (suc f) (suc m) (omega arith) (omega arith) (omega (arith, h)) (omega (arith, k))) e
+ratio_one (pos (suc f)) (pos (suc m)) r h k e = search (arith, ratio_within, product)
+ratio_one (pos (suc f)) (negsuc m) r h k e = search (arith, ratio_within, part_within)
+ratio_one (negsuc f) (pos (suc m)) r h k e = search (arith, ratio_within, part_within)
+ratio_one (negsuc f) (negsuc m) r h k e = search (arith, ratio_within, product)
 ratio_one _ _ r h k e = cc e
 
 unless_some : (o : Option TimeFault) (rate : Option Ratio) (r : Ratio) → rate_unless o rate ≡ Some r
@@ -170,36 +158,17 @@ abs_bounds (negsuc m) n h = (omega (arith, ints, h), omega (arith, ints, h))
 
 passed : (start next : ℤ) (step : Option LeapStep) → IsInstant start → IsInstant next
     → unsigned_abs (next -ℤ start +ℤ step_of step) ≤ 2 ^ 54
-passed start next None h k =
-    abs_low (next -ℤ start +ℤ pos 0) (2 ^ 54) (omega (arith, ints, h.0, h.1, k.0, k.1))
-    (omega (arith, ints, h.0, h.1, k.0, k.1))
-passed start next (Some Plus) h k =
-    abs_low (next -ℤ start +ℤ pos (10 ^ 6)) (2 ^ 54) (omega (arith, ints, h.0, h.1, k.0, k.1))
-    (omega (arith, ints, h.0, h.1, k.0, k.1))
-passed start next (Some Minus) h k =
-    abs_low (next -ℤ start +ℤ negsuc 999_999) (2 ^ 54) (omega (arith, ints, h.0, h.1, k.0, k.1))
-    (omega (arith, ints, h.0, h.1, k.0, k.1))
+passed start next None h k = search (arith, abs_low)
+passed start next (Some Plus) h k = search (arith, abs_low)
+passed start next (Some Minus) h k = search (arith, abs_low)
 
 less : (a : ℤ) (d : ℕ) → unsigned_abs a ≤ 2 ^ 84 → d ≤ 2 ^ 84 → unsigned_abs (a -ℤ pos d) < 2 ^ 128
-less a d h k =
-    let both = abs_bounds a (2 ^ 84) h in
-    let small : unsigned_abs (a -ℤ pos d) ≤ 2 ^ 85 =
-    abs_low (a -ℤ pos d) (2 ^ 85) (omega (arith, ints, both.0, both.1, k)) (omega (arith, ints, both.0, both.1, k)) in
-    omega (arith, small)
+less a d h k = search (arith, abs_bounds, unsigned_abs, abs_low)
 
 miss_small : (start : ℤ) (n : ℕ) (rate : Ratio) (step : Option LeapStep) (next : ℤ) → IsInstant start → n < 2 ^ 16
     → IsRatio rate → IsInstant next → unsigned_abs (miss_of start n rate step next) < 2 ^ 128
-miss_small start n rate step next h few ratio k =
-    let way : ℤ = next -ℤ start +ℤ step_of step in
-    let scaled : unsigned_abs way * rate.num ≤ 2 ^ 54 * 2 ^ 30 =
-    mul-le (unsigned_abs way) rate.num (2 ^ 54) (2 ^ 30) (passed start next step h k) ratio.num_bound in
-    let first : unsigned_abs (way *ℤ pos rate.num) ≤ 2 ^ 84 =
-    omega (arith, unsigned_abs-mul way (pos rate.num), scaled) in
-    let due : n * rate.den ≤ 2 ^ 16 * 2 ^ 30 =
-    mul-le n rate.den (2 ^ 16) (2 ^ 30) (omega (arith, few)) ratio.den_bound in
-    less (way *ℤ pos rate.num) (n * rate.den * 10 ^ 6) first (omega (arith, due))
+miss_small start n rate step next h few ratio k = search (arith, unsigned_abs, mul-le, passed, unsigned_abs-mul, less)
 
 pub join_fits : (start : ℤ) (n : ℕ) (rate : Ratio) (step : Option LeapStep) (next : ℤ) → IsInstant start → n < 2 ^ 16
     → IsRatio rate → IsInstant next → JoinFits (join_of start n rate step next)
-join_fits start n rate step next h few ratio k =
-    join_by_fits _ (miss_of start n rate step next) rate.num (miss_small start n rate step next h few ratio k)
+join_fits start n rate step next h few ratio k = search (arith, join_by_fits, miss_small)

@@ -1,8 +1,8 @@
 -- The part of what was read has a text that can be read.
-use Rattle.std.proofs.Common.{◌≡◌, ℕ, zero, suc, ◌+◌, ◌-◌, ◌*◌, ◌^◌, ◌<◌, ◌≤◌, ◌&&◌, List, [], ◌∷◌, ◌++◌, length, drop}
+use Rattle.std.proofs.Common.{◌≡◌, ℕ, zero, suc, ◌+◌, ◌-◌, ◌*◌, ◌^◌, ◌<◌, ◌≤◌, List, [], ◌∷◌, ◌++◌, length, drop}
 use Rattle.std.proofs.Common.{ltb, Bool, true, false, cond, Option, Some, None, IfSome, refl, sym, ap, subst, ◌∙◌}
 use Rattle.std.proofs.Common.{arith, length-append}
-use Rattle.std.specs.Prelude.{⊤, nat_eq, nat_le, not, slice_range}
+use Rattle.std.specs.Prelude.{⊤, slice_range}
 use Rattle.std.specs.List.{All, AllByRecursion, concat, filter}
 use Rattle.std.specs.Map.{keys_of}
 use Rattle.std.specs.Ordering.{nat_cmp}
@@ -15,9 +15,8 @@ use Rattle.std.proofs.lemmas.Map.Entries.{lookup_head, lookup_tail}
 use Rattle.std.proofs.lemmas.Map.Keys.{sorted_tail}
 use Rattle.mseed_time.specs.Btime.{IsInstant}
 use Rattle.mseed_time.specs.declared.order.Order.{Order}
-use Rattle.mseed_record.specs.Chain.{next_at, type_at}
+use Rattle.mseed_record.specs.Chain.{next_at}
 use Rattle.mseed_record.specs.Header.{blockette_at, key_at}
-use Rattle.mseed_record.specs.Record.{exponent_at}
 use Rattle.mseed_record.specs.Scan.{Decides, DecidesFrom, at_1000, at_offset, by_chain}
 use Rattle.mseed_record.specs.View.{View, IsView}
 use Rattle.mseed_record.specs.declared.fault.FrameFault.{FrameFault}
@@ -69,10 +68,8 @@ pub record IsPlaced (n size : ℕ) (p : Placed) : Type 0 where
 all_placed : (k o n size : ℕ) (views : List View) → AllByRecursion IsView views → k + length views ≤ n + 1
     → o + size_of views ≤ size → AllByRecursion (IsPlaced n size) (numbered k (added_from o views))
 all_placed k o n size [] h few small = tt
-all_placed k o n size (v ∷ views) h few small = (
-  record { is_view = h.0; number = omega (arith, few); offset = omega (arith, small) },
-  all_placed (k + 1) (o + length v.bytes) n size views h.1 (omega (arith, few)) (omega (arith, small)),
-)
+all_placed k o n size (v ∷ views) h few small =
+    search (arith, all_placed (k + 1) (o + length v.bytes) n size views h.1 (omega (arith, few)) (omega (arith, small)))
 
 -- and of a channel
 pub record IsOne (key : List ℕ) (n size : ℕ) (p : Placed) : Type 0 where
@@ -110,16 +107,7 @@ ones_of key size views all fits =
     (all_placed 1 0 (length views) size views all (omega arith) (omega (arith, fits)))
 
 pub count_of_key : (key : List ℕ) (views : List View) → length (records_of key (added_from 0 views)) ≤ length views
-count_of_key key views =
-    let ps : List Placed = numbered 1 (added_from 0 views) in
-    let test : Placed → Bool = λ p. is_of_channel key p.view in
-    omega (
-      arith,
-      length-filter test ps,
-      count_by-le-length test ps,
-      numbered_length 1 (added_from 0 views),
-      added_length 0 views,
-    )
+count_of_key key views = search (arith, length-filter, count_by-le-length, numbered_length, added_length)
 
 -- ---- keys
 abbrev IsByte : ℕ → Type 0
@@ -173,40 +161,20 @@ module _ (key : List ℕ) (n size : ℕ) (few : n < 2 ^ 40) (small : size < 2 ^ 
   had_more : (p : Placed) (ps : List Placed) (why : Option Why) (found : List Finding) → IsOne key n size p
       → IfSome why HasWhy → AreHad ps found → AreHad (p ∷ ps) (finding_at p why ++ found)
   had_more p ps None found is has rest = (rest.0, omega (arith, rest.1))
-  had_more p ps (Some why) found is has rest = (
-    (
-      record {
-        number = omega (arith, is.placed.number, few);
-        offset = omega (arith, is.placed.offset, small);
-        why = has;
-      },
-      rest.0,
-    ),
-    omega (arith, rest.1),
-  )
+  had_more p ps (Some why) found is has rest = search arith
 
   all_had : (before : Option View) (ps : List Placed) (found : List Finding) → IfSome before IsView → Ones ps
       → AreFindings before ps found → AreHad ps found
   all_had before _ _ b h (none _) = (tt, omega arith)
   all_had before _ _ b h (one _ p ps why found is rest) =
-      had_more p ps why found h.0 (found_has before p.view why b h.0.placed.is_view is)
-      (all_had (Some p.view) ps found h.0.placed.is_view h.1 rest)
+      search (arith, had_more, found_has, all_had (Some p.view) ps found h.0.placed.is_view h.1 rest)
 
   has_findings : (f : Findings) (first last : Placed) (ps : List Placed) (found : List Finding)
       → IsOne key n size first → IsOne key n size last → IsHeadOf (head_in f) first → IsTailOf (tail_in f) last.view
       → AreCounted f found → AreHad ps found → length ps ≤ n → HasFindings f
-  has_findings (Nothing head tail) first last ps found i k begins ends are had l =
-      (has_head head first i begins, has_tail tail last k ends)
+  has_findings (Nothing head tail) first last ps found i k begins ends are had l = search (arith, has_head, has_tail)
   has_findings (Counted count finding head tail) first last ps found i k begins ends are had l =
-      let size_is : length found ≡ suc (length are.0) = ap (λ (fs : List Finding). length fs) are.1.0 in
-      let all : AllByRecursion HasFinding (finding ∷ are.0) =
-      subst (λ (fs : List Finding). AllByRecursion HasFinding fs) are.1.0 had.0 in (
-        omega (arith, are.1.1, size_is),
-        omega (arith, are.1.1, had.1, l, few),
-        all.0,
-        if_head head first i begins,
-        if_tail tail last k ends,
-      )
+      search (arith, if_head, if_tail)
 
   few_samples : (ps : List Placed) → Ones ps → sample_count ps ≤ 2 ^ 16 * length ps
   few_samples [] h = omega arith
@@ -234,11 +202,7 @@ module _ (key : List ℕ) (n size : ℕ) (few : n < 2 ^ 40) (small : size < 2 ^ 
 -- ---- what is kept of each key
 after_head : (x : List ℕ × Channel) (rest : List (List ℕ × Channel)) (key : List ℕ) (c : Channel)
     → IsAscending (x ∷ rest) → kept_of key rest ≡ Some c → kept_of key (x ∷ rest) ≡ Some c
-after_head x rest key c s is = by (same_key key x.0) refl
-  where
-    by : (b : Bool) → same_key key x.0 ≡ b → kept_of key (x ∷ rest) ≡ Some c
-    by true e = absurd (cc (past_head key x rest s e, is))
-    by false e = lookup_tail (same_key key) x rest e ∙ is
+after_head x rest key c s is = search (arith, past_head, lookup_tail)
 
 each_kept : (P : List ℕ → Channel → Type 0) (es : List (List ℕ × Channel)) → IsAscending es
     → ((key : List ℕ) (c : Channel) → kept_of key es ≡ Some c → P key c)
@@ -268,10 +232,7 @@ at_1000_by false false true e k h = tt
 at_1000_by false false false e k h = tt
 
 at_1000_fits : (b : List ℕ) (o : ℕ) → AreOctets b → AnswerFits (at_1000 b o)
-at_1000_fits b o octets =
-    let e : ℕ = exponent_at b o in
-    at_1000_by (not (nat_le 7 e && nat_le e 20)) (ltb (2 ^ e) (o + 8)) (ltb (length b) (2 ^ e)) e (2 ^ e)
-    (octets (o + 6))
+at_1000_fits b o octets = search (arith, at_1000_by)
 
 at_offset_by : (none back four other eight : Bool) (k n : ℕ) (x : Scan) → AnswerFits x
     → IfSome (cond none (Some (Not No1000)) (cond back (Some (Not Chain)) (cond four (Some (Need k))
@@ -281,18 +242,14 @@ at_offset_by _ _ _ _ _ k n x h = tt
 
 at_offset_fits : (order : Order) (b : List ℕ) (below o : ℕ) → AreOctets b
     → IfSome (at_offset order b below o) AnswerFits
-at_offset_fits order b below o octets =
-    at_offset_by (nat_eq o 0) (ltb o below) (ltb (length b) (o + 4)) (not (nat_eq (type_at order b o) 1000))
-    (ltb (length b) (o + 8)) (o + 4) (o + 8) (at_1000 b o) (at_1000_fits b o octets)
+at_offset_fits order b below o octets = search (arith, at_offset_by, at_1000_fits)
 
 by_offset : (o : Option Scan) (f : FrameFault) → IfSome o AnswerFits → o ≡ Some (Not f) → HasFrameFault f
-by_offset o f h e =
-    let it : IfSome (Some (Not f)) AnswerFits = subst (λ (x : Option Scan). IfSome x AnswerFits) e h in it
+by_offset o f h e = search arith
 
 from_fits : (order : Order) (b : List ℕ) (below o : ℕ) (os : List ℕ) (f : FrameFault) → AreOctets b
     → DecidesFrom order b below o os (Not f) → HasFrameFault f
-from_fits order b below o [] f octets d =
-    by_offset (at_offset order b below o) f (at_offset_fits order b below o octets) d
+from_fits order b below o [] f octets d = search (arith, by_offset, at_offset_fits)
 from_fits order b below o (p ∷ os) f octets d = from_fits order b (o + 4) (next_at order b o) os f octets d.2
 
 frame_fits : (b : List ℕ) (f : FrameFault) → AreOctets b → Decides b (Not f) → HasFrameFault f
@@ -306,20 +263,8 @@ has_end : (end : Option StreamFault) (offset bytes : ℕ) (h : BytesRead) → Is
     → bytes < 2 ^ 63 → IsEnd end offset h → IfSome end (λ fault. HasFaultLine bytes fault)
 has_end None offset bytes h fits same small is = tt
 has_end (Some (Frame n f)) offset bytes h fits same small is =
-    let octets : AreOctets (read_from offset h) =
-    λ i. subst (λ (x : ℕ). x < 256) (sym (get_or-drop offset h.bytes i 0))
-    (octets_in h.bytes fits.octets (offset + i)) in
-    record {
-      bytes_fit = small;
-      is = (is.0.0 ∙ same, frame_fits (read_from offset h) f octets (refused_of (read_from offset h) f is.0.1));
-    }
-has_end (Some (Truncated n have)) offset bytes h fits same small is = record {
-  bytes_fit = small;
-  is = (
-    is.0.0 ∙ same,
-    omega (arith, truncated_in (read_from offset h) have is.0.1, length-drop offset h.bytes, fits.size),
-  );
-}
+    search (arith, get_or-drop, octets_in, frame_fits, refused_of)
+has_end (Some (Truncated n have)) offset bytes h fits same small is = search (arith, truncated_in, length-drop)
 has_end (Some Memory) offset bytes h fits same small is = absurd (is.1 refl)
 has_end _ offset bytes h fits same small is = record { bytes_fit = small; is = is.0.0 ∙ same }
 

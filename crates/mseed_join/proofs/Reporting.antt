@@ -1,5 +1,5 @@
 -- What is reported of a channel's records, of further ones after them, and after a border.
-use Rattle.std.proofs.Common.{◌≡◌, ℕ, List, [], ◌∷◌, ◌++◌, map, Option, Some, None, refl, sym, ap, ◌∙◌, subst}
+use Rattle.std.proofs.Common.{◌≡◌, ℕ, List, [], ◌∷◌, ◌++◌, map, Option, Some, None, refl, sym, ap, ◌∙◌, subst, arith}
 use Rattle.std.proofs.Common.{append_assoc}
 use Rattle.std.proofs.lemmas.List.{map-append}
 use Rattle.std.specs.Option.{option_to_list}
@@ -23,9 +23,7 @@ pub reported_one : HaveOneFinding → (before : Option View) (ps : List Placed) 
     → AreReportedIn before ps b → a ≡ b
 reported_one only before [] a b (none _) (none _) = refl
 reported_one only before (p ∷ ps) a b (one _ _ _ why rest h later) (one _ _ _ other others k latter) =
-    let here : why ≡ other = only before p.view why other h k in
-    let more : rest ≡ others = reported_one only (Some p.view) ps rest others later latter in
-    ap (λ (w : Option Why). reported_at p w ++ rest) here ∙ ap (λ (ts : List Reported). reported_at p other ++ ts) more
+    search (arith, reported_one only (Some p.view) ps rest others later latter)
 
 -- ---- of records and of further ones after them
 pub reported_append : (before : Option View) (ps qs : List Placed) (reported further : List Reported)
@@ -76,9 +74,7 @@ border_is q (Some f) = refl
 reported_after : (q : Placed) (further why : Option Why) (o : Option Finding)
     → finding_at q further ≡ option_to_list o ++ finding_at q why
     → reported_at q further ≡ border_reported q o ++ reported_at q why
-reported_after q further why o e = reported_is q further ∙ ap (λ (fs : List Finding). map (noted q) fs) e
-    ∙ map-append (noted q) (option_to_list o) (finding_at q why)
-    ∙ sym (λ i. border_is q o i ++ reported_is q why i)
+reported_after q further why o e = search (arith, reported_is, noted, map-append, border_is)
 
 -- a record that is judged after another has the border's finding before what is reported of it alone
 pub reported_border : HaveOneFinding → (t : Option Tail) (b : View) (h : Option Head) (q : Placed) (qs : List Placed)

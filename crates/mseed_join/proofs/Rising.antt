@@ -18,17 +18,14 @@ rise_before least lower (n ∷ ns) le rise = (omega (arith, le, rise.0), rise.1)
 rise_at : (offset next number : ℕ) (v : View) (why : Option Why) (reported : List Reported) → offset < next
     → RiseFrom next (notices_of reported)
     → RiseFrom offset (notices_of (reported_at (record { view = v; offset = offset; number = number }) why ++ reported))
-rise_at offset next number v None reported lt rise =
-    rise_before next offset (notices_of reported) (omega (arith, lt)) rise
-rise_at offset next number v (Some why) reported lt rise =
-    (omega arith, rise_before next (offset + 1) (notices_of reported) (omega (arith, lt)) rise)
+rise_at offset next number v None reported lt rise = search (arith, rise_before)
+rise_at offset next number v (Some why) reported lt rise = search (arith, rise_before)
 
 rise_from : (earlier : List Placed) (number offset : ℕ) (vs : List View) (reported : List Reported) → HaveBytes vs
     → AreReported earlier (numbered number (added_from offset vs)) reported → RiseFrom offset (notices_of reported)
 rise_from earlier number offset [] reported some (none _) = tt
 rise_from earlier number offset (v ∷ vs) reported some (one _ p _ why rest h later) =
-    rise_at offset (offset + length v.bytes) number v why rest (let has = some.0 in omega (arith, has))
-    (rise_from (earlier ++ p ∷ []) (number + 1) (offset + length v.bytes) vs rest some.1 later)
+    search (arith, rise_at, rise_from (earlier ++ p ∷ []) (number + 1) (offset + length v.bytes) vs rest some.1 later)
 
 pub reported_rise : (views : List View) (reported : List Reported) → HaveBytes views
     → AreReportedOf (added_from 0 views) reported
@@ -45,9 +42,7 @@ reported_prefix earlier (p ∷ ps) qs all (one _ _ _ why rest h later) =
 
 pub reported_first : (xs ys : List View) (whole : List Reported) → AreReportedOf (added_from 0 (xs ++ ys)) whole
     → (first : List Reported) × AreReportedOf (added_from 0 xs) first
-reported_first xs ys whole are =
-    reported_prefix [] (numbered 1 (added_from 0 xs)) _ whole
-    (subst (λ (ps : List Placed). AreReported [] ps whole) (placed_after xs ys) are)
+reported_first xs ys whole are = search (arith, reported_prefix, placed_after)
 
 -- ---- two lists are merged in one way
 abbrev IsIn : List Notice → Notice → Type 0
@@ -71,19 +66,13 @@ in_other ns ms is =
 not_before : (least : ℕ) (ns : List Notice) (n : Notice) → RiseFrom least ns → IsIn ns n → least ≤ n.finding.offset
 not_before least [] n rise is = absurd is
 not_before least (m ∷ ms) n rise (inl same) = subst (λ (x : Notice). least ≤ x.finding.offset) same rise.0
-not_before least (m ∷ ms) n rise (inr later) =
-    let past : m.finding.offset + 1 ≤ n.finding.offset = not_before (m.finding.offset + 1) ms n rise.1 later in
-    let here : least ≤ m.finding.offset = rise.0 in
-    omega (arith, past, here)
+not_before least (m ∷ ms) n rise (inr later) = search (arith, not_before (m.finding.offset + 1) ms n rise.1 later)
 
 same_first : (least other : ℕ) (n m : Notice) (ns ms : List Notice) → RiseFrom least (n ∷ ns)
     → RiseFrom other (m ∷ ms) → IsIn (m ∷ ms) n → IsIn (n ∷ ns) m → n ≡ m
 same_first least other n m ns ms rise up (inl e) is = sym e
 same_first least other n m ns ms rise up (inr later) (inl e) = e
-same_first least other n m ns ms rise up (inr later) (inr past) =
-    let above : m.finding.offset + 1 ≤ n.finding.offset = not_before (m.finding.offset + 1) ms n up.1 later in
-    let below : n.finding.offset + 1 ≤ m.finding.offset = not_before (n.finding.offset + 1) ns m rise.1 past in
-    absurd (omega (arith, above, below))
+same_first least other n m ns ms rise up (inr later) (inr past) = search (arith, not_before)
 
 -- after the first place no member is the first
 others_in : (n : Notice) (ms ns : List Notice) (least : ℕ) → RiseFrom least ns → n.finding.offset < least

@@ -42,7 +42,8 @@ use Rattle.mseed_join.proofs.Onward.{Standing, standing}
 use Rattle.mseed_join.proofs.Ahead.{IsNextLine, next_line}
 use Rattle.mseed_join.proofs.Machine.{Entries}
 use Rattle.mseed_join.proofs.Pieces.{of_nothing}
-use Rattle.mseed_join.proofs.Running.{AllKeys, HaveTexts, last_key, texts_after}
+use Rattle.mseed_join.proofs.Extended.{AllKeys, key_among}
+use Rattle.mseed_join.proofs.Running.{HaveTexts, texts_after}
 
 -- ---- keys in order
 keys_one : (P : List ℕ → Type 0) (cs : Entries) (e : List ℕ × Channel) → AllKeys P cs → P e.0 → AllKeys P (cs ++ e ∷ [])
@@ -55,7 +56,7 @@ unfolding IsStrictlySortedBy
 sorted_one [] last key b c s l = ((l, tt), (tt, tt))
 sorted_one (d ∷ cs) last key b c s l =
     let first : slice_cmp nat_cmp d.0 last ≡ Less =
-    last_key (λ y. slice_cmp nat_cmp d.0 y ≡ Less) cs (last, b) s.0 in
+    key_among (λ y. slice_cmp nat_cmp d.0 y ≡ Less) cs (last, b) [] s.0 in
     let less : slice_cmp nat_cmp d.0 key ≡ Less = nat_list_cmp_total.trans d.0 last key first l in (
       keys_one (λ y. slice_cmp nat_cmp d.0 y ≡ Less) (cs ++ (last, b) ∷ []) (key, c) s.0 less,
       sorted_one cs last key b c s.1 l,
@@ -75,7 +76,7 @@ in_order (Some last) cs key c l s b =
 first_two : (d : List ℕ × Channel) (cs : Entries) (e : List ℕ × Channel) → IsAscending (d ∷ (cs ++ e ∷ []))
     → slice_cmp nat_cmp d.0 e.0 ≡ Less
 unfolding IsStrictlySortedBy
-first_two d cs e s = last_key (λ y. slice_cmp nat_cmp d.0 y ≡ Less) cs e s.0
+first_two d cs e s = key_among (λ y. slice_cmp nat_cmp d.0 y ≡ Less) cs e [] s.0
 
 two_last : (cs : Entries) (d e : List ℕ × Channel) → IsAscending ((cs ++ d ∷ []) ++ e ∷ [])
     → slice_cmp nat_cmp d.0 e.0 ≡ Less

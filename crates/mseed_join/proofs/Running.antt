@@ -3,7 +3,6 @@ use Rattle.std.proofs.Common.{◌≡◌, ℕ, zero, suc, ◌≤◌, List, [], �
 use Rattle.std.proofs.Common.{inl, inr, refl, sym, ap, ◌∙◌, subst, arith, append_assoc, append-nil}
 use Rattle.std.specs.List.{AllByRecursion}
 use Rattle.std.specs.List.Sorted.{IsStrictlySortedBy}
-use Rattle.std.specs.Map.{keys_of}
 use Rattle.mseed_stream.specs.declared.fault.StreamFault.{StreamFault}
 use Rattle.mseed_audit.specs.declared.channel.Channel.{Channel}
 use Rattle.mseed_join.specs.Parts.{IsAscending}
@@ -11,22 +10,16 @@ use Rattle.mseed_join.specs.Lines.{Line, header, counts}
 use Rattle.mseed_join.specs.Written.{Written, HasText}
 use Rattle.mseed_join.specs.Reached.{OpenPart, none, begun, whole, Stage, begun_part, open_part, parts_at}
 use Rattle.mseed_join.specs.Reached.{IsWhere, start}
-use Rattle.mseed_join.specs.private.Steps.{May, to, goes, counted_part, with_end}
+use Rattle.mseed_join.specs.private.Steps.{May, to, goes, counted_part}
+use Rattle.mseed_join.proofs.Extended.{AllKeys}
 use Rattle.mseed_join.proofs.Onward.{Onward, onward}
 use Rattle.mseed_join.proofs.Machine.{Entries, all_rows, end_row, faults_row, part_rows, rows, open_rows, Runs}
 use Rattle.mseed_join.proofs.Machine.{runs_on}
 
 -- ---- ascending lists
-abbrev pub AllKeys : (List ℕ → Type 0) → Entries → Type 0
-AllKeys P es = AllByRecursion P (keys_of es)
-
 keys_prefix : (P : List ℕ → Type 0) (xs ys : Entries) → AllKeys P (xs ++ ys) → AllKeys P xs
 keys_prefix P [] ys h = tt
 keys_prefix P (x ∷ xs) ys h = (h.0, keys_prefix P xs ys h.1)
-
-pub last_key : (P : List ℕ → Type 0) (cs : Entries) (e : List ℕ × Channel) → AllKeys P (cs ++ e ∷ []) → P e.0
-last_key P [] e h = h.0
-last_key P (d ∷ cs) e h = last_key P cs e h.1
 
 pub ascending_prefix : (xs ys : Entries) → IsAscending (xs ++ ys) → IsAscending xs
 unfolding IsStrictlySortedBy
@@ -42,8 +35,7 @@ begun_is over acc e es s =
 
 rows_run : (over : List Written) (acc es : Entries) → IsAscending (acc ++ es)
     → Runs (record { over = over; last = begun acc }) (rows es) (record { over = over; last = begun (acc ++ es) })
-rows_run over acc [] s =
-    ap (λ (xs : Entries). record { over = over; last = begun xs }) (sym (append-nil acc))
+rows_run over acc [] s = search (arith, append-nil)
 rows_run over acc (e ∷ es) s =
     let t : IsAscending ((acc ++ e ∷ []) ++ es) =
     subst (λ (xs : Entries). IsAscending xs) (sym (append_assoc acc (e ∷ []) es)) s in (
@@ -98,12 +90,7 @@ part_run_from before w s =
 
 part_run : (over : List Written) (b : OpenPart) (w : Written) → IsReady b → IsAscending w.part.channels
     → Runs (record { over = over; last = b }) (part_rows w) (open_by (over ++ open_part b) w w.end)
-part_run over none w r s = (
-  tt,
-  subst (λ (ws : List Written). Runs (record { over = over; last = begun [] })
-      (rows w.part.channels ++ counts w.part.records w.part.bytes ∷ (faults_row w.faults
-      ++ end_row w.part.bytes w.end)) (open_by ws w w.end)) (sym (append-nil over)) (part_run_from over w s),
-)
+part_run over none w r s = search (arith, rows, faults_row, end_row, append-nil, part_run_from)
 part_run over (begun channels) w r s = absurd r
 part_run over (whole v) w r s = (tt, part_run_from (over ++ v ∷ []) w s)
 
@@ -136,9 +123,7 @@ all_run ws h = let r : RunsAll start ws = parts_run start ws tt h in (r.at, (r.r
 -- the rows of two lists of parts, one after another
 pub all_rows_append : (ws vs : List Written) → all_rows (ws ++ vs) ≡ all_rows ws ++ all_rows vs
 all_rows_append [] vs = refl
-all_rows_append (w ∷ ws) vs =
-    ap (λ (xs : List Line). part_rows w ++ xs) (all_rows_append ws vs)
-    ∙ sym (append_assoc (part_rows w) (all_rows ws) (all_rows vs))
+all_rows_append (w ∷ ws) vs = search (arith, part_rows, append_assoc, all_rows, all_rows_append ws vs)
 
 pub texts_before : (ws vs : List Written) → HaveTexts (ws ++ vs) → HaveTexts ws
 texts_before [] vs h = tt
@@ -150,13 +135,7 @@ texts_after (w ∷ ws) vs h = texts_after ws vs h.1
 
 -- a header goes from after any parts to their being over
 header_runs : (at : Stage) → IsReady at.last → to at header ≡ record { over = parts_at at; last = begun [] }
-header_runs at r = by at.over at.last r
-  where
-    by : (over : List Written) (b : OpenPart) → IsReady b
-        → goes over b header ≡ record { over = over ++ open_part b; last = begun [] }
-    by over none q = ap (λ (ws : List Written). record { over = ws; last = begun [] }) (sym (append-nil over))
-    by over (begun channels) q = absurd q
-    by over (whole w) q = refl
+header_runs at r = search (arith, append-nil)
 
 header_may : (b : OpenPart) → IsReady b → May b header
 header_may (begun channels) q = absurd q
@@ -219,13 +198,7 @@ pub record Grows (w v : Written) : Type 0 where
   pub faults : w.faults ≤ v.faults
 
 same_grows : (w : Written) → Grows w w
-same_grows w = record {
-  others = [];
-  channels = sym (append-nil w.part.channels);
-  records = omega arith;
-  bytes = omega arith;
-  faults = omega arith;
-}
+same_grows w = search (arith, append-nil)
 
 -- a list of parts goes on from a part that has begun
 pub record GoesOn (over : List Written) (w : Written) (parts : List Written) : Type 0 where
@@ -241,71 +214,17 @@ Extends over (whole w) parts = GoesOn over w parts
 
 itself : (over : List Written) (b : OpenPart) → Extends over b (over ++ open_part b)
 itself over none = ([], refl)
-itself over (begun channels) = record {
-  part = begun_part channels;
-  others = [];
-  grows = same_grows (begun_part channels);
-  are = refl;
-}
+itself over (begun channels) = search (arith, same_grows)
 itself over (whole w) = record { part = w; others = []; grows = same_grows w; are = refl }
 
 back : (over : List Written) (b : OpenPart) (x : Line) (parts : List Written) → Onward b x
     → Extends (goes over b x).over (goes over b x).last parts → Extends over b parts
 back over _ _ parts Onward.opens e = (e.part ∷ e.others, e.are)
-back over _ _ parts (Onward.row cs k c m) e = record {
-  part = e.part;
-  others = e.others;
-  grows = record {
-    others = (k, c) ∷ e.grows.others;
-    channels = e.grows.channels ∙ append_assoc cs ((k, c) ∷ []) e.grows.others;
-    records = e.grows.records;
-    bytes = e.grows.bytes;
-    faults = e.grows.faults;
-  };
-  are = e.are;
-}
-back over _ _ parts (Onward.sums cs n l) e = record {
-  part = e.part;
-  others = e.others;
-  grows = record {
-    others = e.grows.others;
-    channels = e.grows.channels;
-    records = omega arith;
-    bytes = omega arith;
-    faults = omega arith;
-  };
-  are = e.are;
-}
-back over _ _ parts (Onward.follows w) e = record {
-  part = w;
-  others = e.part ∷ e.others;
-  grows = same_grows w;
-  are = e.are ∙ append_assoc over (w ∷ []) (e.part ∷ e.others);
-}
-back over _ _ parts (Onward.passes w n m) e = record {
-  part = e.part;
-  others = e.others;
-  grows = record {
-    others = e.grows.others;
-    channels = e.grows.channels;
-    records = e.grows.records;
-    bytes = e.grows.bytes;
-    faults = omega (arith, m);
-  };
-  are = e.are;
-}
-back over _ _ parts (Onward.ends w l f m) e = record {
-  part = with_end w f;
-  others = e.0;
-  grows = record {
-    others = [];
-    channels = sym (append-nil w.part.channels);
-    records = omega arith;
-    bytes = omega arith;
-    faults = omega arith;
-  };
-  are = e.1 ∙ append_assoc over (with_end w f ∷ []) e.0;
-}
+back over _ _ parts (Onward.row cs k c m) e = search (arith, append_assoc)
+back over _ _ parts (Onward.sums cs n l) e = search arith
+back over _ _ parts (Onward.follows w) e = search (arith, same_grows, append_assoc)
+back over _ _ parts (Onward.passes w n m) e = search arith
+back over _ _ parts (Onward.ends w l f m) e = search (arith, append-nil, append_assoc)
 
 pub extends : (s t : Stage) (xs : List Line) → Runs s xs t → Extends s.over s.last (parts_at t)
 extends s t [] r = subst (λ (u : Stage). Extends s.over s.last (parts_at u)) r (itself s.over s.last)

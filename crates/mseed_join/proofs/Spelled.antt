@@ -75,11 +75,14 @@ pub record Reads {X : Type 0} (text : X → List ℕ) (Fits : X → Type 0) (rea
   where
     pub spelled : (bytes : List ℕ) (y : X × List ℕ) → read bytes ≡ Some y → IsRead text Fits bytes y
 
+reads : {X : Type 0} {text : X → List ℕ} {Fits : X → Type 0} {read : List ℕ → Option (X × List ℕ)}
+    → ((bytes : List ℕ) (y : X × List ℕ) → read bytes ≡ Some y → IsRead text Fits bytes y) → Reads text Fits read
+reads spelled = record { spelled = spelled }
+
 -- ---- a step of reading, and the steps after it
 word_then : {B P : Type 0} (word bytes : List ℕ) (f : List ℕ → Option B) (y : B) → (after word bytes >>= f) ≡ Some y
     → ((rest : List ℕ) → bytes ≡ word ++ rest → f rest ≡ Some y → P) → P
-word_then word bytes f y e k =
-    bind_then (after word bytes) f y e (λ rest is more. k rest (word_after word bytes rest is) more)
+word_then word bytes f y e k = search (arith, bind_then, word_after)
 
 read_then : {X B P : Type 0} {text : X → List ℕ} {Fits : X → Type 0} {read : List ℕ → Option (X × List ℕ)}
     → Reads text Fits read → (bytes : List ℕ) (f : X × List ℕ → Option B) (y : B) → (read bytes >>= f) ≡ Some y
@@ -98,10 +101,8 @@ after_then {read = read} r word bytes f y e k = bind_then (after word bytes >>= 
 -- ---- of one kind or another
 word : {X : Type 0} {text : X → List ℕ} {Fits : X → Type 0} (w : List ℕ) (x : X) → w ≡ text x → Fits x
     → Reads text Fits (word_at w x)
-word w x is fits = record {
-  spelled = λ bytes y e. word_then w bytes _ y e (λ rest there more.
-      rw (← same_Some _ y more) (there ∙ ap (λ (v : List ℕ). v ++ rest) is, fits));
-}
+word w x is fits = reads (λ bytes y e. word_then w bytes _ y e (λ rest there more.
+    rw (← same_Some _ y more) (there ∙ ap (λ (v : List ℕ). v ++ rest) is, fits)))
 
 either : {X : Type 0} {text : X → List ℕ} {Fits : X → Type 0} {one other : List ℕ → Option (X × List ℕ)}
     → Reads text Fits one → Reads text Fits other → Reads text Fits (λ bytes. else_by (one bytes) (other bytes))
@@ -122,70 +123,57 @@ made_of : {X Y : Type 0} {text : X → List ℕ} {Fits : X → Type 0} {words : 
     {read : List ℕ → Option (X × List ℕ)} (made : X → Y) → ((x : X) → text x ≡ words (made x))
     → ((x : X) → Fits x → Also (made x)) → Reads text Fits read
     → Reads words Also (λ bytes. read bytes >>= λ x. Some (made x.0, x.1))
-made_of made same fits r = record {
-  spelled = λ bytes y e. read_then r bytes _ y e (λ x rest is l more.
-      rw (← same_Some _ y more) (is ∙ ap (λ (t : List ℕ). t ++ rest) (same x), fits x l));
-}
+made_of made same fits r = reads (λ bytes y e. read_then r bytes _ y e (λ x rest is l more.
+    rw (← same_Some _ y more) (is ∙ ap (λ (t : List ℕ). t ++ rest) (same x), fits x l)))
 
 -- a number
 number : (largest : ℕ) → largest < 10 ^ 64 → Reads decimal (λ n. n ≤ largest) (number_at largest)
-number largest few = record {
-  spelled = λ bytes y e. let n = number_spelled largest bytes y few e in (n.is, n.bounded);
-}
+number largest few = reads (λ bytes y e. let n = number_spelled largest bytes y few e in (n.is, n.bounded))
 
 pub count : Reads decimal IsFew (number_at (2 ^ 63 - 1))
-count = record {
-  spelled = λ bytes y e.
-      let n = number_spelled (2 ^ 63 - 1) bytes y (omega arith) e in (n.is, omega (arith, n.bounded));
-}
+count = reads (λ bytes y e.
+    let n = number_spelled (2 ^ 63 - 1) bytes y (omega arith) e in (n.is, omega (arith, n.bounded)))
 
 counted : {X : Type 0} {text : X → List ℕ} {Fits : X → Type 0} (w : List ℕ) (largest : ℕ) (made : ℕ → X)
     → largest < 10 ^ 64 → ((n : ℕ) → w ++ decimal n ≡ text (made n)) → ((n : ℕ) → n ≤ largest → Fits (made n))
     → Reads text Fits (counted_at w largest made)
-counted w largest made few same fits = record {
-  spelled = λ bytes y e. after_then (number largest few) w bytes _ y e (λ n rest is l more.
-      rw (← same_Some _ y more)
-      (is ∙ sym (append_assoc w (decimal n) rest) ∙ ap (λ (t : List ℕ). t ++ rest) (same n), fits n l));
-}
+counted w largest made few same fits = reads (λ bytes y e.
+    after_then (number largest few) w bytes _ y e (λ n rest is l more.
+    rw (← same_Some _ y more)
+    (is ∙ sym (append_assoc w (decimal n) rest) ∙ ap (λ (t : List ℕ). t ++ rest) (same n), fits n l)))
 
 -- ---- rates, starts, leap seconds
 pub ratio : Reads ratio_text IsRatio ratio_at
 unfolding ratio_at
-ratio = record {
-  spelled = λ bytes y e. read_then (number (2 ^ 30) (omega arith)) bytes _ y e (λ num r1 i1 n e1.
-      word_then (codes "/") r1 _ y e1 (λ r2 i2 e2.
-      read_then (number (2 ^ 30) (omega arith)) r2 _ y e2 (λ den r3 i3 d e3.
-      let made = cond_some (nat_lt 0 num && nat_lt 0 den) (record { num = num; den = den }, r3) y e3 in
-      let some = and_parts (nat_lt 0 num) (nat_lt 0 den) made.0 in
-      rw (← made.1) (
-        simp (i1, i2, i3, append_assoc),
-        record { num_counts = counts num some.0; num_bound = n; den_counts = counts den some.1; den_bound = d },
-      ))));
-}
+ratio = reads (λ bytes y e. read_then (number (2 ^ 30) (omega arith)) bytes _ y e (λ num r1 i1 n e1.
+    word_then (codes "/") r1 _ y e1 (λ r2 i2 e2.
+    read_then (number (2 ^ 30) (omega arith)) r2 _ y e2 (λ den r3 i3 d e3.
+    let made = cond_some (nat_lt 0 num && nat_lt 0 den) (record { num = num; den = den }, r3) y e3 in
+    let some = and_parts (nat_lt 0 num) (nat_lt 0 den) made.0 in
+    rw (← made.1) (
+      simp (i1, i2, i3, append_assoc),
+      record { num_counts = counts num some.0; num_bound = n; den_counts = counts den some.1; den_bound = d },
+    )))))
 
 within_instant : (z : ℤ) → IsWithin 5_364_662_400_000_000 7_258_118_399_999_999 z → IsInstant z
 within_instant (pos n) l = (omega (arith, ints, l), omega (arith, ints, l))
 within_instant (negsuc n) l = (omega (arith, ints, l), omega (arith, ints, l))
 
 pub start : Reads signed_decimal IsInstant start_at
-start = record {
-  spelled = λ bytes y e.
-      let i : IsInteger 5_364_662_400_000_000 7_258_118_399_999_999 bytes y =
-      integer_after 5_364_662_400_000_000 7_258_118_399_999_999 bytes y (omega arith) (omega arith) e in
-      (i.0, within_instant y.0 i.1);
-}
+start = reads (λ bytes y e.
+    let i : IsInteger 5_364_662_400_000_000 7_258_118_399_999_999 bytes y =
+    integer_after 5_364_662_400_000_000 7_258_118_399_999_999 bytes y (omega arith) (omega arith) e in
+    (i.0, within_instant y.0 i.1))
 
 within_word : (z : ℤ) → IsWithin (2 ^ 31) (2 ^ 31 - 1) z → IsWord z
 within_word (pos n) l = omega (arith, l)
 within_word (negsuc n) l = l
 
 sample : Reads signed_decimal IsWord sample_at
-sample = record {
-  spelled = λ bytes y e.
-      let i : IsInteger (2 ^ 31) (2 ^ 31 - 1) bytes y =
-      integer_after (2 ^ 31) (2 ^ 31 - 1) bytes y (omega arith) (omega arith) e in
-      (i.0, within_word y.0 i.1);
-}
+sample = reads (λ bytes y e.
+    let i : IsInteger (2 ^ 31) (2 ^ 31 - 1) bytes y =
+    integer_after (2 ^ 31) (2 ^ 31 - 1) bytes y (omega arith) (omega arith) e in
+    (i.0, within_word y.0 i.1))
 
 pub leap : Reads leap_text Any leap_at
 unfolding leap_at
@@ -194,31 +182,27 @@ leap = named leap_text (NoLeap ∷ Positive ∷ Negative ∷ Both ∷ [])
 -- ---- heads and tails
 head : Reads head_text HasHead some_head_at
 unfolding some_head_at
-head = record {
-  spelled = λ bytes y e. read_then count bytes _ y e (λ number r1 i1 n e1.
-      after_then count (codes " ") r1 _ y e1 (λ offset r2 i2 o e2. word_then (codes " ") r2 _ y e2 (λ r3 i3 e3.
-      read_then start r3 _ y e3 (λ begins r4 i4 s e4. word_then (codes " ") r4 _ y e4 (λ r5 i5 e5.
-      read_then ratio r5 _ y e5 (λ rate r6 i6 r e6.
-      rw (← same_Some _ y e6) (
-        simp (i1, i2, i3, i4, i5, i6, append_assoc),
-        record { number = n; offset = o; start = s; rate = r },
-      )))))));
-}
+head = reads (λ bytes y e. read_then count bytes _ y e (λ number r1 i1 n e1.
+    after_then count (codes " ") r1 _ y e1 (λ offset r2 i2 o e2. word_then (codes " ") r2 _ y e2 (λ r3 i3 e3.
+    read_then start r3 _ y e3 (λ begins r4 i4 s e4. word_then (codes " ") r4 _ y e4 (λ r5 i5 e5.
+    read_then ratio r5 _ y e5 (λ rate r6 i6 r e6.
+    rw (← same_Some _ y e6) (
+      simp (i1, i2, i3, i4, i5, i6, append_assoc),
+      record { number = n; offset = o; start = s; rate = r },
+    ))))))))
 
 tail : Reads tail_text HasTail some_tail_at
 unfolding some_tail_at
-tail = record {
-  spelled = λ bytes y e. read_then start bytes _ y e (λ begins r1 i1 s e1.
-      after_then (number (2 ^ 16 - 1) (omega arith)) (codes " ") r1 _ y e1 (λ samples r2 i2 n e2.
-      word_then (codes " ") r2 _ y e2 (λ r3 i3 e3. read_then ratio r3 _ y e3 (λ rate r4 i4 r e4.
-      word_then (codes " ") r4 _ y e4 (λ r5 i5 e5. read_then leap r5 _ y e5 (λ leaps r6 i6 l e6.
-      let made = cond_some (nat_lt 0 samples)
-      (record { start = begins; samples = samples; rate = rate; leap = leaps }, r6) y e6 in
-      rw (← made.1) (
-        simp (i1, i2, i3, i4, i5, i6, append_assoc),
-        record { start = s; some = counts samples made.0; samples = omega (arith, n); rate = r },
-      )))))));
-}
+tail = reads (λ bytes y e. read_then start bytes _ y e (λ begins r1 i1 s e1.
+    after_then (number (2 ^ 16 - 1) (omega arith)) (codes " ") r1 _ y e1 (λ samples r2 i2 n e2.
+    word_then (codes " ") r2 _ y e2 (λ r3 i3 e3. read_then ratio r3 _ y e3 (λ rate r4 i4 r e4.
+    word_then (codes " ") r4 _ y e4 (λ r5 i5 e5. read_then leap r5 _ y e5 (λ leaps r6 i6 l e6.
+    let made = cond_some (nat_lt 0 samples)
+    (record { start = begins; samples = samples; rate = rate; leap = leaps }, r6) y e6 in
+    rw (← made.1) (
+      simp (i1, i2, i3, i4, i5, i6, append_assoc),
+      record { start = s; some = counts samples made.0; samples = omega (arith, n); rate = r },
+    ))))))))
 
 or_none : {X : Type 0} {text : X → List ℕ} {Fits : X → Type 0} {read : List ℕ → Option (X × List ℕ)}
     → Reads text Fits read → Reads (λ o. text_or_none text o) (λ o. IfSome o Fits) (or_none_at read)
@@ -238,19 +222,15 @@ unfolding time_at
 time = named fault_word (Year ∷ Day ∷ Hour ∷ Minute ∷ Second ∷ Fraction ∷ [])
 
 bad_word : Reads read_text HasReadFault bad_word_at
-bad_word = record {
-  spelled = λ bytes y e. after_then count (codes "badword ") bytes _ y e (λ frame r1 i1 f e1.
-      after_then count (codes " ") r1 _ y e1 (λ index r2 i2 w e2.
-      rw (← same_Some _ y e2) (simp (i1, i2, append_assoc), (f, w))));
-}
+bad_word = reads (λ bytes y e. after_then count (codes "badword ") bytes _ y e (λ frame r1 i1 f e1.
+    after_then count (codes " ") r1 _ y e1 (λ index r2 i2 w e2.
+    rw (← same_Some _ y e2) (simp (i1, i2, append_assoc), (f, w)))))
 
 last_differs : Reads read_text HasReadFault last_differs_at
-last_differs = record {
-  spelled = λ bytes y e. word_then (codes "lastdiffers ") bytes _ y e (λ r1 i1 e1.
-      read_then sample r1 _ y e1 (λ found r2 i2 f e2. word_then (codes " ") r2 _ y e2 (λ r3 i3 e3.
-      read_then sample r3 _ y e3 (λ constant r4 i4 c e4.
-      rw (← same_Some _ y e4) (simp (i1, i2, i3, i4, append_assoc), (f, c))))));
-}
+last_differs = reads (λ bytes y e. word_then (codes "lastdiffers ") bytes _ y e (λ r1 i1 e1.
+    read_then sample r1 _ y e1 (λ found r2 i2 f e2. word_then (codes " ") r2 _ y e2 (λ r3 i3 e3.
+    read_then sample r3 _ y e3 (λ constant r4 i4 c e4.
+    rw (← same_Some _ y e4) (simp (i1, i2, i3, i4, append_assoc), (f, c)))))))
 
 read_fault : Reads read_text HasReadFault read_fault_at
 unfolding read_fault_at
@@ -263,11 +243,7 @@ read_fault =
     (either bad_word last_differs))))))
 
 timed : Reads why_text HasWhy timed_at
-timed = record {
-  spelled = λ bytes y e. word_then (codes "time ") bytes _ y e (λ r1 i1 e1.
-      read_then time r1 _ y e1 (λ fault r2 i2 f e2.
-      rw (← same_Some _ y e2) (simp (i1, i2, append_assoc), tt)));
-}
+timed = search (arith, reads, word_then, read_then, time, same_Some, append_assoc)
 
 why : Reads why_text HasWhy why_at
 unfolding why_at
@@ -293,8 +269,7 @@ counted_findings_spelled : (count : ℕ) (head : Option Head) (tail : Option Tai
     → counted_findings_at count head tail bytes ≡ Some y → count < 2 ^ 63 → IfSome head HasHead → IfSome tail HasTail
     → (findings_then head tail count bytes ≡ findings_text y.0 ++ y.1) × HasFindings y.0
 unfolding counted_findings_at
-counted_findings_spelled zero (Some head) (Some tail) bytes y e l h t =
-    rw (← same_Some _ y e) (sym (nothing_leading head tail bytes), (h, t))
+counted_findings_spelled zero (Some head) (Some tail) bytes y e l h t = search (arith, same_Some, nothing_leading)
 counted_findings_spelled (suc n) head tail bytes y e l h t =
     bind_then (first_at bytes) _ y e (λ first is more.
     let f = first_spelled bytes first is in
@@ -307,15 +282,13 @@ counted_findings_spelled zero _ _ bytes y e l h t = absurd (cc e)
 
 findings : Reads findings_text HasFindings findings_at
 unfolding findings_at
-findings = record {
-  spelled = λ bytes y e. word_then (codes " head ") bytes _ y e (λ r1 i1 e1.
-      read_then head_or_none r1 _ y e1 (λ head r2 i2 h e2. word_then (codes " tail ") r2 _ y e2 (λ r3 i3 e3.
-      read_then tail_or_none r3 _ y e3 (λ tail r4 i4 t e4.
-      after_then count (codes " findings ") r4 _ y e4 (λ n r5 i5 c e5.
-      let f = counted_findings_spelled n head tail r5 y e5 c h t in
-      let is : bytes ≡ findings_then head tail n r5 = simp (i1, i2, i3, i4, i5) in
-      (is ∙ f.0, f.1))))));
-}
+findings = reads (λ bytes y e. word_then (codes " head ") bytes _ y e (λ r1 i1 e1.
+    read_then head_or_none r1 _ y e1 (λ head r2 i2 h e2. word_then (codes " tail ") r2 _ y e2 (λ r3 i3 e3.
+    read_then tail_or_none r3 _ y e3 (λ tail r4 i4 t e4.
+    after_then count (codes " findings ") r4 _ y e4 (λ n r5 i5 c e5.
+    let f = counted_findings_spelled n head tail r5 y e5 c h t in
+    let is : bytes ≡ findings_then head tail n r5 = simp (i1, i2, i3, i4, i5) in
+    (is ∙ f.0, f.1)))))))
 
 -- ---- whole lines
 ended : (bytes : List ℕ) → ends bytes ≡ true → bytes ≡ codes "\n"

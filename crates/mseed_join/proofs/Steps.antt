@@ -1,6 +1,6 @@
 -- One more line, taken by a joint part.
 use Rattle.std.proofs.Common.{◌≡◌, ℕ, ◌+◌, ◌<◌, ◌^◌, List, [], ◌∷◌, ◌++◌, Bool, true, false, Some, None, length}
-use Rattle.std.proofs.Common.{refl, sym, ap, ◌∙◌, subst, arith, append-nil}
+use Rattle.std.proofs.Common.{refl, sym, ap, ◌∙◌, subst, arith, append-nil, Result, Ok}
 use Rattle.std.proofs.lemmas.List.{length-append}
 use Rattle.mseed_stream.specs.declared.fault.StreamFault.{StreamFault}
 use Rattle.mseed_audit.specs.declared.channel.Channel.{Channel}
@@ -9,39 +9,32 @@ use Rattle.mseed_join.specs.Lines.{Line, header, channel, counts, faults, fault,
 use Rattle.mseed_join.specs.Lines.{text_of_line}
 use Rattle.mseed_join.specs.Written.{Written}
 use Rattle.mseed_join.specs.Joined.{IsJointOf, IsNext, Begins, counted, moved_fault, nothing}
-use Rattle.mseed_join.specs.Reached.{OpenPart, Stage, begun_part, open_part, parts_at, IsStage}
-use Rattle.mseed_join.specs.Reached.{IsWhere, passed_lines}
+use Rattle.mseed_join.specs.Reached.{OpenPart, Stage, begun_part, parts_at, IsStage}
+use Rattle.mseed_join.specs.Reached.{passed_lines}
 use Rattle.mseed_join.specs.ReadParts.{written_of}
 use Rattle.mseed_join.specs.declared.joint.Joint.{Joint}
 use Rattle.mseed_join.specs.declared.joint.JointPart.{JointPart}
+use Rattle.mseed_join.specs.declared.joint.LineFault.{LineFault}
 use Rattle.mseed_join.specs.declared.joint.Place.{Place}
 use Rattle.mseed_join.specs.declared.joint.Place.TheVariants.{Start, Channels, Whole}
 use Rattle.mseed_join.specs.declared.joint.Reported.{Reported}
 use Rattle.mseed_join.specs.declared.joint.Reported.TheVariants.{Nothing, Passed}
 use Rattle.mseed_join.specs.private.Steps.{May, to, goes, with_faults, with_end}
-use Rattle.mseed_join.specs.private.Taking.{IsReadTo, IsTaken, IsPlace, border_by, fault_after, passed_by}
+use Rattle.mseed_join.specs.private.Taking.{IsReadTo, IsStep, IsTaken, IsPlace, border_by, fault_after, passed_by}
 use Rattle.mseed_join.specs.Borders.{AreBordersOf, Border, border_with, borders_with}
 use Rattle.mseed_join.proofs.Bordering.{header_borders, replaced, same_border, skipped, with_one}
 use Rattle.mseed_join.proofs.Onward.{IsNoHeader, Onward, onward}
 use Rattle.std.specs.Option.{option_map}
 use Rattle.mseed_join.proofs.OneLine.{line_one}
-use Rattle.mseed_join.proofs.Ahead.{IsNextLine, channel_fits, counts_fit, faults_fit, next_line, passed_fit}
-use Rattle.mseed_join.proofs.Ended.{IsEnded, ended, no_end_from}
-use Rattle.mseed_join.proofs.Running.{Extends}
+use Rattle.mseed_join.proofs.Ahead.{IsHere, channel_fits, counts_fit, faults_fit, next_line, passed_fit}
+use Rattle.mseed_join.proofs.Ended.{ended, no_end_from}
 use Rattle.mseed_join.proofs.Stepping.{begin_joint, channel_next, counts_next}
-use Rattle.mseed_join.proofs.Stepping.{fault_is, kept_none, leaves_kept, same_part}
+use Rattle.mseed_join.proofs.Stepping.{fault_is, same_part}
+use Rattle.mseed_join.proofs.Extended.{joins, kept_none, leaves_kept}
 use Rattle.mseed_join.proofs.Sums.{joined_one, not_past, stop}
 use Rattle.mseed_join.proofs.Taken.{IsLast, Replaces, before_is, header_are}
 use Rattle.mseed_join.proofs.Taken.{in_place, last_is, number_same, passed_more}
 use Rattle.mseed_join.proofs.Taken.{passed_none, passed_silent, replaces, stage_more}
-
--- a line that can stand here, and the parts that go on after it
-pub record IsHere (past : Bool) (s : Stage) (x : Line) : Type 0 where
-  pub may : May s.last x
-  parts : List Written
-  extends_to : Extends (to s x).over (to s x).last parts
-  joint : Written
-  is_joint : IsJointOf past parts joint
 
 -- ---- where the joint part has come to
 abbrev with_number : Place → Place
@@ -165,190 +158,122 @@ line_skipped old f e place x other moves lines s r l m =
     (λ found b. rw p.are (skipped old.past s.over (p.old ∷ []) (p.new ∷ []) h f e before found (rw p.was at b)))
 
 -- what goes on from here, if this line stands there
-pub next_here : (past : Bool) (s : Stage) (lines : List ℕ) (x : Line) → IsStage lines s → IsLine x
+next_here : (past : Bool) (s : Stage) (lines : List ℕ) (x : Line) → IsStage lines s → IsLine x
     → Begins past (lines ++ text_of_line x) → IsHere past s x
-next_here past s lines x i l b = record {
-  may = subst (λ (y : Line). May s.last y) same n.may;
-  parts = n.parts;
-  extends_to = subst (λ (y : Line). Extends (to s y).over (to s y).last n.parts) same n.extends_to;
-  joint = n.joint;
-  is_joint = n.is_joint;
-}
-  where
-    t : IsEnded (text_of_line x)
-    t = ended x l
+next_here past s lines x i l b =
+    let t = ended x l in
+    let n = next_line past s lines t.body (text_of_line x) i (no_end_from t.body t.piece.is_plain) t.is b in
+    rw (line_one n.x x n.is_line l n.text) at n.here
 
-    n : IsNextLine past s (text_of_line x)
-    n = next_line past s lines t.body (text_of_line x) i (no_end_from t.body t.piece.is_plain) t.is b
+-- a line is taken so wherever it can stand
+abbrev pub TakesOn : {A : Type 0} → Line → Result Reported LineFault → Joint A → Joint A → Type 0
+TakesOn {A} x result old new =
+    (over : List Written) (b : OpenPart) (lines : List ℕ) → IsReadTo lines (record { over = over; last = b }) old
+    → IsLine x → Onward b x → IsStep lines (record { over = over; last = b }) x result old new
 
-    same : n.x ≡ x
-    same = line_one n.x x n.is_line l n.text
+-- or no parts go on with it
+abbrev pub RefusesOn : {A : Type 0} → Line → Joint A → Type 0
+RefusesOn {A} x old =
+    (over : List Written) (b : OpenPart) (lines : List ℕ) → IsReadTo lines (record { over = over; last = b }) old
+    → IsLine x → Onward b x → Begins old.past (lines ++ text_of_line x) → ⊥
 
--- ---- a channel
-pub channel_added : {A : Type 0} → (old : Joint A) (so_far : JointPart A)
-    (report : Reported) → passed_by report ≡ [] → old.so_far.end ≡ None → (key : List ℕ) (c : Channel)
-    → border_by report ≡ border_with old.so_far.part (key, c)
-    → IsJoint old.so_far.part (one_channel key c) so_far.part
-    → FitsAt old.so_far.part.records old.so_far.part.bytes (kept_of key old.so_far.part.channels) (Some c)
-    → so_far.faults ≡ old.so_far.faults → so_far.end ≡ old.so_far.end
-    → (lines : List ℕ) (s : Stage) → IsReadTo lines s old → IsLine (channel key c)
-    → May s.last (channel key c) → IsTaken lines (text_of_line (channel key c)) s (to s (channel key c)) report old
-    (kept_as old so_far (Channels (Some key)))
-channel_added old so_far report silent free key c border joint fit f e lines s r l m =
-    by s.over s.last r (onward s.last (channel key c) m)
-  where
-    by : (over : List Written) (b : OpenPart) → IsReadTo lines (record { over = over; last = b }) old
-        → Onward b (channel key c) → IsTaken lines (text_of_line (channel key c)) (record { over = over; last = b })
-        (goes over b (channel key c)) report old (kept_as old so_far (Channels (Some key)))
-    by over _ q (Onward.row cs _ _ ascends) =
-        clear_line old so_far (Channels (Some key)) (channel key c) tt refl q l (Onward.row cs key c ascends) free
-        report silent refl (λ a next. (
-          channel_next a (written_of old.so_far) (written_of so_far) cs key c next ascends joint fit f (e ∙ free),
-          with_one a cs (key, c) ∙ ap (λ (bs : List Border). borders_with a.part cs ++ bs)
-              (sym (border ∙ same_border a (written_of old.so_far) key c
-              (leaves_kept key cs a.part old.so_far.part (kept_none cs key c ascends) next.part))),
-        ))
+module _ {A : Type 0} (old : Joint A) (free : old.so_far.end ≡ None) where
+  -- ---- a channel
+  pub channel_added : (so_far : JointPart A) (report : Reported) → passed_by report ≡ [] → (key : List ℕ) (c : Channel)
+      → border_by report ≡ border_with old.so_far.part (key, c)
+      → IsJoint old.so_far.part (one_channel key c) so_far.part
+      → FitsAt old.so_far.part.records old.so_far.part.bytes (kept_of key old.so_far.part.channels) (Some c)
+      → so_far.faults ≡ old.so_far.faults → so_far.end ≡ old.so_far.end
+      → TakesOn (channel key c) (Ok report) old (kept_as old so_far (Channels (Some key)))
+  channel_added so_far report silent key c border joint fit f e over _ lines q l (Onward.row cs _ _ ascends) =
+      clear_line old so_far (Channels (Some key)) (channel key c) tt refl q l (Onward.row cs key c ascends) free
+      report silent refl (λ a next. (
+        channel_next a (written_of old.so_far) (written_of so_far) cs key c next ascends joint fit f (e ∙ free),
+        with_one a cs (key, c) ∙ ap (λ (bs : List Border). borders_with a.part cs ++ bs)
+            (sym (border ∙ same_border a (written_of old.so_far) key c
+            (leaves_kept key cs a.part old.so_far.part (kept_none cs (key, c) [] ascends)
+            (joins a.part cs old.so_far.part next.part)))),
+      ))
 
-pub channel_refused : {A : Type 0} → (old : Joint A) → old.so_far.end ≡ None → (key : List ℕ)
-    (c : Channel) → (FitsAt old.so_far.part.records old.so_far.part.bytes (kept_of key
-    old.so_far.part.channels) (Some c)
-    → ⊥) → (lines : List ℕ) (s : Stage) → IsReadTo lines s old → IsLine (channel key c)
-    → May s.last (channel key c) → Begins old.past (lines ++ text_of_line (channel key c)) → ⊥
-channel_refused old n key c limit lines s r l m b =
-    limit (by s.over s.last key c r.joint (onward s.last (channel key c) m)
-    (next_here old.past s lines (channel key c) r.stage l b))
-  where
-    by : (over : List Written) (b : OpenPart) (k : List ℕ) (d : Channel)
-        → IsJointOf old.past (over ++ open_part b) (written_of old.so_far) → Onward b (channel k d)
-        → IsHere old.past (record { over = over; last = b }) (channel k d)
-        → FitsAt old.so_far.part.records old.so_far.part.bytes (kept_of k old.so_far.part.channels) (Some d)
-    by over _ _ _ j (Onward.row cs k d q) h =
-        channel_fits old.past over (written_of old.so_far) n h.parts h.joint h.is_joint cs k d j q h.extends_to
+  pub channel_refused : (key : List ℕ) (c : Channel)
+      → (FitsAt old.so_far.part.records old.so_far.part.bytes (kept_of key old.so_far.part.channels) (Some c) → ⊥)
+      → RefusesOn (channel key c) old
+  channel_refused key c limit over _ lines r l (Onward.row cs _ _ q) b =
+      let h = next_here old.past _ lines (channel key c) r.stage l b in
+      limit (channel_fits old.past over (written_of old.so_far) free h.parts h.joint h.is_joint cs key c r.joint q
+      h.extends_to)
 
--- ---- the counts
-pub counts_added : {A : Type 0} → (old : Joint A) (so_far : JointPart A)
-    → old.so_far.end ≡ None → (n l : ℕ) → IsJoint old.so_far.part (counts_alone n l) so_far.part
-    → Fits old.so_far.part (counts_alone n l) → so_far.faults ≡ old.so_far.faults → so_far.end ≡ old.so_far.end
-    → (lines : List ℕ) (s : Stage) → IsReadTo lines s old → IsLine (counts n l)
-    → May s.last (counts n l) → IsTaken lines (text_of_line (counts n l)) s (to s (counts n l)) Nothing old
-    (kept_as old so_far (Whole l false))
-counts_added old so_far free n l joint fit f e lines s r is m =
-    by s.over s.last r (onward s.last (counts n l) m)
-  where
-    by : (over : List Written) (b : OpenPart) → IsReadTo lines (record { over = over; last = b }) old
-        → Onward b (counts n l) → IsTaken lines (text_of_line (counts n l)) (record { over = over; last = b })
-        (goes over b (counts n l)) Nothing old (kept_as old so_far (Whole l false))
-    by over _ q (Onward.sums cs _ _) =
-        clear_line old so_far (Whole l false) (counts n l) tt refl q is (Onward.sums cs n l) free Nothing refl refl
-        (λ a next. (
-          counts_next a (written_of old.so_far) (written_of so_far) cs n l next joint fit f (e ∙ free),
-          sym (append-nil (borders_with a.part cs)),
-        ))
+  -- ---- the counts
+  pub counts_added : (so_far : JointPart A) (n l : ℕ) → IsJoint old.so_far.part (counts_alone n l) so_far.part
+      → Fits old.so_far.part (counts_alone n l) → so_far.faults ≡ old.so_far.faults → so_far.end ≡ old.so_far.end
+      → TakesOn (counts n l) (Ok Nothing) old (kept_as old so_far (Whole l false))
+  counts_added so_far n l joint fit f e over _ lines q is (Onward.sums cs _ _) =
+      clear_line old so_far (Whole l false) (counts n l) tt refl q is (Onward.sums cs n l) free Nothing refl refl
+      (λ a next. (
+        counts_next a (written_of old.so_far) (written_of so_far) cs n l next joint fit f (e ∙ free),
+        sym (append-nil (borders_with a.part cs)),
+      ))
 
-pub counts_refused : {A : Type 0} → (old : Joint A) → old.so_far.end ≡ None → (n l : ℕ)
-    → (Fits old.so_far.part (counts_alone n l) → ⊥) → (lines : List ℕ) (s : Stage) → IsReadTo lines s old
-    → IsLine (counts n l) → May s.last (counts n l) → Begins old.past (lines ++ text_of_line (counts n l)) → ⊥
-counts_refused old free n l limit lines s r is m b =
-    limit (by s.over s.last n l r.joint (onward s.last (counts n l) m)
-    (next_here old.past s lines (counts n l) r.stage is b))
-  where
-    by : (over : List Written) (b : OpenPart) (k i : ℕ)
-        → IsJointOf old.past (over ++ open_part b) (written_of old.so_far) → Onward b (counts k i)
-        → IsHere old.past (record { over = over; last = b }) (counts k i) → Fits old.so_far.part (counts_alone k i)
-    by over _ _ _ j (Onward.sums cs k i) h =
-        counts_fit old.past over (written_of old.so_far) free h.parts h.joint h.is_joint cs k i j h.extends_to
+  pub counts_refused : (n l : ℕ) → (Fits old.so_far.part (counts_alone n l) → ⊥)
+      → RefusesOn (counts n l) old
+  counts_refused n l limit over _ lines r is (Onward.sums cs _ _) b =
+      let h = next_here old.past _ lines (counts n l) r.stage is b in
+      limit (counts_fit old.past over (written_of old.so_far) free h.parts h.joint h.is_joint cs n l r.joint
+      h.extends_to)
 
--- ---- the number of faults passed
-pub faults_added : {A : Type 0} → (old : Joint A) (so_far : JointPart A) → old.so_far.end ≡ None
-    → (l : ℕ) → old.place ≡ Whole l false → (n : ℕ) → old.so_far.faults + n < 2 ^ 63
-    → so_far.part ≡ old.so_far.part → so_far.faults ≡ old.so_far.faults + n → so_far.end ≡ old.so_far.end
-    → (lines : List ℕ) (s : Stage) → IsReadTo lines s old → IsLine (faults n)
-    → May s.last (faults n) → IsTaken lines (text_of_line (faults n)) s (to s (faults n)) Nothing old
-    (kept_as old so_far (Whole l true))
-faults_added old so_far free l at n fit p f e lines s r is m =
-    by s.over s.last r (onward s.last (faults n) m)
-  where
-    by : (over : List Written) (b : OpenPart) → IsReadTo lines (record { over = over; last = b }) old
-        → Onward b (faults n) → IsTaken lines (text_of_line (faults n)) (record { over = over; last = b })
-        (goes over b (faults n)) Nothing old (kept_as old so_far (Whole l true))
-    by over _ q (Onward.passes w _ none) =
-        clear_line old so_far (Whole l true) (faults n) tt (ap with_number at) q is (Onward.passes w n none) free
-        Nothing refl q.stage.is_where (λ a next. (
-          same_part a w (written_of old.so_far) (with_faults w n) (written_of so_far) next refl p
-              (omega (arith, f, next.faults, none)) (omega (arith, f, fit))
-              (e ∙ free ∙ sym (ap (option_map (moved_fault a.part.bytes)) q.stage.is_where)),
-          sym (append-nil (borders_with a.part w.part.channels)),
-        ))
+  -- ---- the number of faults passed
+  pub faults_added : (so_far : JointPart A) (l : ℕ) → old.place ≡ Whole l false → (n : ℕ)
+      → old.so_far.faults + n < 2 ^ 63 → so_far.part ≡ old.so_far.part → so_far.faults ≡ old.so_far.faults + n
+      → so_far.end ≡ old.so_far.end → TakesOn (faults n) (Ok Nothing) old (kept_as old so_far (Whole l true))
+  faults_added so_far l at n fit p f e over _ lines q is (Onward.passes w _ none) =
+      clear_line old so_far (Whole l true) (faults n) tt (ap with_number at) q is (Onward.passes w n none) free
+      Nothing refl q.stage.is_where (λ a next. (
+        same_part a w (written_of old.so_far) (with_faults w n) (written_of so_far) next refl p
+            (omega (arith, f, next.faults, none)) (omega (arith, f, fit))
+            (e ∙ free ∙ sym (ap (option_map (moved_fault a.part.bytes)) q.stage.is_where)),
+        sym (append-nil (borders_with a.part w.part.channels)),
+      ))
 
-pub faults_refused : {A : Type 0} → (old : Joint A) → old.so_far.end ≡ None → (n : ℕ)
-    → (old.so_far.faults + n < 2 ^ 63 → ⊥) → (lines : List ℕ) (s : Stage) → IsReadTo lines s old
-    → IsLine (faults n) → May s.last (faults n) → Begins old.past (lines ++ text_of_line (faults n)) → ⊥
-faults_refused old free n limit lines s r is m b =
-    limit (by s.over s.last n r.joint r.stage.is_where (onward s.last (faults n) m)
-    (next_here old.past s lines (faults n) r.stage is b))
-  where
-    by : (over : List Written) (b : OpenPart) (k : ℕ) → IsJointOf old.past (over ++ open_part b) (written_of old.so_far)
-        → IsWhere over b → Onward b (faults k) → IsHere old.past (record { over = over; last = b }) (faults k)
-        → old.so_far.faults + k < 2 ^ 63
-    by over _ _ j v (Onward.passes w k q) h =
-        faults_fit old.past over (written_of old.so_far) free h.parts h.joint h.is_joint w k v q j h.extends_to
+  pub faults_refused : (n : ℕ) → (old.so_far.faults + n < 2 ^ 63 → ⊥)
+      → RefusesOn (faults n) old
+  faults_refused n limit over _ lines r is (Onward.passes w _ q) b =
+      let h = next_here old.past _ lines (faults n) r.stage is b in
+      limit (faults_fit old.past over (written_of old.so_far) free h.parts h.joint h.is_joint w n r.stage.is_where q
+      r.joint h.extends_to)
 
--- ---- the fault with which a part ends
--- the joint part ends with this one
-pub fault_kept : {A : Type 0} → (old : Joint A) (so_far : JointPart A) → old.past ≡ false
-    → old.so_far.end ≡ None → (x : StreamFault) → so_far.part ≡ old.so_far.part → so_far.faults ≡ old.so_far.faults
-    → so_far.end ≡ Some (fault_after old.so_far.part.bytes x) → (l : ℕ)
-    (lines : List ℕ) (s : Stage) → IsReadTo lines s old → IsLine (fault l x)
-    → May s.last (fault l x) → IsTaken lines (text_of_line (fault l x)) s (to s (fault l x)) Nothing old
-    (kept_as old so_far Start)
-fault_kept old so_far p free x pa fa e l lines s r is m = by s.over s.last r (onward s.last (fault l x) m)
-  where
-    by : (over : List Written) (b : OpenPart) → IsReadTo lines (record { over = over; last = b }) old
-        → Onward b (fault l x) → IsTaken lines (text_of_line (fault l x)) (record { over = over; last = b })
-        (goes over b (fault l x)) Nothing old (kept_as old so_far Start)
-    by over _ q (Onward.ends w _ _ size) =
-        counted_line old so_far Start (fault l x) tt refl q is (Onward.ends w l x size) free Nothing (rw p refl)
-        (λ a next. rw p (
-          same_part a w (written_of old.so_far) (with_end w x) (written_of so_far) next refl pa
-              (omega (arith, fa, next.faults)) (omega (arith, fa, next.faults_fit))
-              (e ∙ ap (λ (y : StreamFault). Some y)
-              (fault_is a.part.bytes old.so_far.part.bytes l x is.is (omega (arith, next.part.bytes, size)))),
-          sym (append-nil (borders_with a.part w.part.channels)),
-        ))
+  -- ---- the fault with which a part ends
+  -- the joint part ends with this one
+  pub fault_kept : (so_far : JointPart A) → old.past ≡ false → (x : StreamFault) → so_far.part ≡ old.so_far.part
+      → so_far.faults ≡ old.so_far.faults → so_far.end ≡ Some (fault_after old.so_far.part.bytes x) → (l : ℕ)
+      → TakesOn (fault l x) (Ok Nothing) old (kept_as old so_far Start)
+  fault_kept so_far p x pa fa e l over _ lines q is (Onward.ends w _ _ size) =
+      counted_line old so_far Start (fault l x) tt refl q is (Onward.ends w l x size) free Nothing (rw p refl)
+      (λ a next. rw p (
+        same_part a w (written_of old.so_far) (with_end w x) (written_of so_far) next refl pa
+            (omega (arith, fa, next.faults)) (omega (arith, fa, next.faults_fit))
+            (e ∙ ap (λ (y : StreamFault). Some y)
+            (fault_is a.part.bytes old.so_far.part.bytes l x is.is (omega (arith, next.part.bytes, size)))),
+        sym (append-nil (borders_with a.part w.part.channels)),
+      ))
 
--- it is passed
-pub fault_passed : {A : Type 0} → (old : Joint A) (so_far : JointPart A) → old.past ≡ true
-    → old.so_far.end ≡ None → (x : StreamFault) → old.so_far.faults + 1 < 2 ^ 63 → so_far.part ≡ old.so_far.part
-    → so_far.faults ≡ old.so_far.faults + 1 → so_far.end ≡ old.so_far.end → (l : ℕ)
-    (lines : List ℕ) (s : Stage) → IsReadTo lines s old → IsLine (fault l x) → May s.last (fault l x)
-    → IsTaken lines (text_of_line (fault l x)) s (to s (fault l x)) (Passed old.parts x) old (kept_as old so_far Start)
-fault_passed old so_far p free x fit pa fa e l lines s r is m = by s.over s.last r (onward s.last (fault l x) m)
-  where
-    by : (over : List Written) (b : OpenPart) → IsReadTo lines (record { over = over; last = b }) old
-        → Onward b (fault l x) → IsTaken lines (text_of_line (fault l x)) (record { over = over; last = b })
-        (goes over b (fault l x)) (Passed old.parts x) old (kept_as old so_far Start)
-    by over _ q (Onward.ends w _ _ size) =
-        counted_line old so_far Start (fault l x) tt refl q is (Onward.ends w l x size) free (Passed old.parts x)
-        (rw (p, q.number) (passed_more over w x q.stage.is_where)) (λ a next. rw p (
-          same_part a w (written_of old.so_far) (record { part = w.part; faults = w.faults + 1; end = None })
-              (written_of so_far) next refl pa (omega (arith, fa, next.faults)) (omega (arith, fa, fit)) (e ∙ free),
-          sym (append-nil (borders_with a.part w.part.channels)),
-        ))
+  -- it is passed
+  pub fault_passed : (so_far : JointPart A) → old.past ≡ true → (x : StreamFault) → old.so_far.faults + 1 < 2 ^ 63
+      → so_far.part ≡ old.so_far.part → so_far.faults ≡ old.so_far.faults + 1 → so_far.end ≡ old.so_far.end → (l : ℕ)
+      → TakesOn (fault l x) (Ok (Passed old.parts x)) old (kept_as old so_far Start)
+  fault_passed so_far p x fit pa fa e l over _ lines q is (Onward.ends w _ _ size) =
+      counted_line old so_far Start (fault l x) tt refl q is (Onward.ends w l x size) free (Passed old.parts x)
+      (rw (p, q.number) (passed_more over w x q.stage.is_where)) (λ a next. rw p (
+        same_part a w (written_of old.so_far) (record { part = w.part; faults = w.faults + 1; end = None })
+            (written_of so_far) next refl pa (omega (arith, fa, next.faults)) (omega (arith, fa, fit)) (e ∙ free),
+        sym (append-nil (borders_with a.part w.part.channels)),
+      ))
 
-pub fault_refused : {A : Type 0} → (old : Joint A) → old.past ≡ true → old.so_far.end ≡ None
-    → (x : StreamFault) → (old.so_far.faults + 1 < 2 ^ 63 → ⊥) → (l : ℕ) (lines : List ℕ) (s : Stage)
-    → IsReadTo lines s old → IsLine (fault l x) → May s.last (fault l x)
-    → Begins old.past (lines ++ text_of_line (fault l x)) → ⊥
-fault_refused old p free x limit l lines s r is m b =
-    limit (by s.over s.last l x r.joint r.stage.is_where (onward s.last (fault l x) m)
-    (next_here old.past s lines (fault l x) r.stage is b))
-  where
-    by : (over : List Written) (b : OpenPart) (k : ℕ) (y : StreamFault)
-        → IsJointOf old.past (over ++ open_part b) (written_of old.so_far) → IsWhere over b → Onward b (fault k y)
-        → IsHere old.past (record { over = over; last = b }) (fault k y) → old.so_far.faults + 1 < 2 ^ 63
-    by over _ _ _ j v (Onward.ends w k y q) h =
-        passed_fit old.past over (written_of old.so_far) free h.parts h.joint h.is_joint w y h.extends_to.0 p v j
-        h.extends_to.1
+  pub fault_refused : old.past ≡ true → (x : StreamFault)
+      → (old.so_far.faults + 1 < 2 ^ 63 → ⊥) → (l : ℕ) → RefusesOn (fault l x) old
+  fault_refused p x limit l over _ lines r is (Onward.ends w _ _ q) b =
+      let h = next_here old.past _ lines (fault l x) r.stage is b in
+      limit (passed_fit old.past over (written_of old.so_far) free h.parts h.joint h.is_joint w x h.extends_to.0 p
+      r.stage.is_where r.joint h.extends_to.1)
 
 pub some_after : (y : StreamFault) (m n : ℕ) (x : StreamFault) → y ≡ fault_after m x → m ≡ n
     → Some y ≡ Some (fault_after n x)

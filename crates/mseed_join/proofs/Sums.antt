@@ -1,6 +1,6 @@
 -- Parts that count, joined: those before and those after.
 use Rattle.std.proofs.Common.{◌≡◌, ◌+◌, ◌<◌, ◌^◌, List, [], ◌∷◌, ◌++◌, Bool, true, false, Option, Some, None}
-use Rattle.std.proofs.Common.{refl, sym, ap, ◌∙◌, subst, arith, inl, inr, ◌⊎◌}
+use Rattle.std.proofs.Common.{refl, sym, ap, ◌∙◌, subst, arith, ◌⊎◌}
 use Rattle.std.specs.List.Sorted.{IsStrictlySortedBy}
 use Rattle.std.specs.Option.{is_some, option_map}
 use Rattle.mseed_stream.specs.declared.fault.StreamFault.{StreamFault}
@@ -32,12 +32,7 @@ pub record IsGood (a : Written) : Type 0 where
   pub faults : a.faults < 2 ^ 63
 
 next_good : (a w b : Written) → IsNext a w b → IsGood b
-next_good a w b n = record {
-  ascending = n.part.ascending;
-  records = omega (arith, n.part.records, n.fits.records);
-  bytes = omega (arith, n.part.bytes, n.fits.bytes);
-  faults = n.faults_fit;
-}
+next_good a w b n = search arith
 
 pub joined_good : (a h : Written) (ws : List Written) → IsGood a → AreJoined a ws h → IsGood h
 joined_good a h [] g j = subst IsGood (none_of a h j) g
@@ -90,8 +85,7 @@ on_by false w (Some f) c xs ys zs e more = cc e
 on : (past : Bool) (ws vs : List Written) → closes past ws ≡ false
     → counted past (ws ++ vs) ≡ counted past ws ++ counted past vs
 on past [] vs e = refl
-on past (w ∷ ws) vs e =
-    on_by past w w.end (closes past ws) (counted past (ws ++ vs)) (counted past ws) (counted past vs) e (on past ws vs)
+on past (w ∷ ws) vs e = search (arith, on_by, on past ws vs)
 
 stop_by : (past : Bool) (w : Written) (end : Option StreamFault) (c : Bool) (xs ys : List Written)
     → closes_by past end c ≡ true → (c ≡ true → xs ≡ ys) → counted_by past w end xs ≡ counted_by past w end ys
@@ -101,8 +95,7 @@ stop_by false w (Some f) c xs ys e more = refl
 
 stops : (past : Bool) (ws vs : List Written) → closes past ws ≡ true → counted past (ws ++ vs) ≡ counted past ws
 stops past [] vs e = cc e
-stops past (w ∷ ws) vs e =
-    stop_by past w w.end (closes past ws) (counted past (ws ++ vs)) (counted past ws) e (stops past ws vs)
+stops past (w ∷ ws) vs e = search (arith, stop_by, stops past ws vs)
 
 -- and with one their joint part ends
 closed_by : (past : Bool) (a w : Written) (ws : List Written) (b : Written) (end : Option StreamFault) → w.end ≡ end
@@ -132,8 +125,7 @@ counted_on past ws vs b n j = on past ws vs (closed past nothing ws b refl j ∙
 
 pub glue : (past : Bool) (ws vs : List Written) (b h : Written) → b.end ≡ None → IsJointOf past ws b
     → AreJoined b (counted past vs) h → IsJointOf past (ws ++ vs) h
-glue past ws vs b h n j k =
-    rw (counted_on past ws vs b n j) (joined_append nothing b h (counted past ws) (counted past vs) j k)
+glue past ws vs b h n j k = search (arith, counted_on, joined_append)
 
 -- or with one
 pub counted_stop : (past : Bool) (ws vs : List Written) (b : Written) (x : StreamFault) → b.end ≡ Some x
@@ -147,11 +139,7 @@ stop past ws vs b x n j = rw (counted_stop past ws vs b x n j) j
 -- where faults are passed no joint part ends with one
 never_closes : (ws : List Written) → closes true ws ≡ false
 never_closes [] = refl
-never_closes (w ∷ ws) = by w.end (never_closes ws)
-  where
-    by : (end : Option StreamFault) → closes true ws ≡ false → closes_by true end (closes true ws) ≡ false
-    by None e = e
-    by (Some f) e = e
+never_closes (w ∷ ws) = search (arith, never_closes ws)
 
 pub not_past : (past : Bool) (ws : List Written) (h : Written) (f : StreamFault) → h.end ≡ Some f
     → IsJointOf past ws h → past ≡ false
@@ -166,27 +154,7 @@ pub record IsSplit (past : Bool) (ws vs : List Written) (h : Written) : Type 0 w
       ⊎ ((fault : StreamFault) × (h.end ≡ Some fault) × (before ≡ h))
 
 pub split : (past : Bool) (ws vs : List Written) (h : Written) → IsJointOf past (ws ++ vs) h → IsSplit past ws vs h
-split past ws vs h j = by (closes past ws) refl
-  where
-    none_if : (o : Option StreamFault) → false ≡ is_some o → o ≡ None
-    none_if None e = refl
-    none_if (Some f) e = cc e
-
-    some_if : (o : Option StreamFault) → true ≡ is_some o → (f : StreamFault) × (o ≡ Some f)
-    some_if None e = absurd (cc e)
-    some_if (Some f) e = (f, refl)
-
-    by : (c : Bool) → closes past ws ≡ c → IsSplit past ws vs h
-    by false e =
-        let s = joined_split nothing h (counted past ws) (counted past vs) (rw (on past ws vs e) at j) in record {
-          before = s.0;
-          joined = s.1.0;
-          others = inl (none_if s.0.end (sym e ∙ closed past nothing ws s.0 refl s.1.0), s.1.1);
-        }
-    by true e =
-        let all : IsJointOf past ws h = rw (stops past ws vs e) at j in
-        let f = some_if h.end (sym e ∙ closed past nothing ws h refl all) in
-        record { before = h; joined = all; others = inr (f.0, f.1, refl) }
+split past ws vs h j = search (arith, joined_split, on, closed, stops)
 
 -- ---- there is one joint part
 next_one : (a w b c : Written) → IsNext a w b → IsNext a w c → b ≡ c

@@ -1,8 +1,7 @@
 -- What is read so far, with one more line.
 use Rattle.std.proofs.Common.{◌≡◌, ℕ, ◌+◌, List, [], ◌∷◌, ◌++◌, Bool, true, false, Option, Some, None, length, refl}
-use Rattle.std.proofs.Common.{sym, ap, ◌∙◌, subst, arith, append_assoc, append-nil, inl, inr}
+use Rattle.std.proofs.Common.{sym, ap, ◌∙◌, subst, arith, append_assoc, append-nil}
 use Rattle.std.specs.List.Sorted.{IsStrictlySortedBy}
-use Rattle.std.specs.Option.{option_map}
 use Rattle.std.proofs.ByRecursion.{All-append, All-push}
 use Rattle.std.proofs.lemmas.List.{length-append}
 use Rattle.mseed_stream.specs.declared.fault.StreamFault.{StreamFault}
@@ -13,14 +12,13 @@ use Rattle.mseed_join.specs.Lines.{header_line}
 use Rattle.mseed_join.specs.Lines.{channel_line, counts_line, faults_line, HasChannelLine, HasFaultLine}
 use Rattle.mseed_join.specs.Written.{Written, HasText, channel_lines, part_text, texts}
 use Rattle.mseed_join.specs.Joined.{AreJoined, none as no_more, one, IsNext, IsJointOf, counted, counted_by}
-use Rattle.mseed_join.specs.Joined.{moved_fault}
 use Rattle.mseed_join.specs.Reached.{OpenPart, Stage, begun_part, open_part, parts_at, open_text}
-use Rattle.mseed_join.specs.Reached.{IsStage, IsWhere, passed_from, passed_lines, passed_line, passed_of}
+use Rattle.mseed_join.specs.Reached.{IsStage, IsWhere, passed_from, passed_lines, passed_line}
 use Rattle.mseed_join.specs.private.Steps.{to, goes, counted_part, with_faults, with_end}
 use Rattle.mseed_join.proofs.Onward.{IsNoHeader, Onward}
 use Rattle.mseed_join.proofs.Machine.{Entries, rows_append}
 use Rattle.mseed_join.proofs.Running.{HaveTexts, texts_before, texts_after}
-use Rattle.mseed_join.proofs.Sums.{IsFirst, IsSplit, first_of, none_of, split, glue}
+use Rattle.mseed_join.proofs.Sums.{first_of, none_of, split, glue}
 
 -- ---- the text
 pub texts_append : (ws vs : List Written) → texts (ws ++ vs) ≡ texts ws ++ texts vs
@@ -32,9 +30,7 @@ texts_one ws w = texts_append ws (w ∷ []) ∙ ap (λ (t : List ℕ). texts ws 
 rows_one : (cs : Entries) (key : List ℕ) (c : Channel)
     → channel_lines (cs ++ (key, c) ∷ []) ≡ channel_lines cs ++ channel_line key c
 rows_one [] key c = append-nil (channel_line key c)
-rows_one (d ∷ cs) key c =
-    ap (λ (t : List ℕ). channel_line d.0 d.1 ++ t) (rows_one cs key c)
-    ∙ sym (append_assoc (channel_line d.0 d.1) (channel_lines cs) (channel_line key c))
+rows_one (d ∷ cs) key c = search (arith, append_assoc, rows_one cs key c)
 
 -- a part's text without what may stand after its counts
 abbrev leading : Written → List ℕ
@@ -42,20 +38,10 @@ leading w = header_line ++ channel_lines w.part.channels ++ counts_line w.part.r
 
 text_more : (over : List Written) (b : OpenPart) (x : Line) → IsWhere over b → Onward b x
     → texts over ++ open_text b ++ text_of_line x ≡ texts (goes over b x).over ++ open_text (goes over b x).last
-text_more over _ _ w Onward.opens =
-    (λ i. append-nil (texts over) i ++ sym (append-nil header_line) i)
-text_more over _ _ w (Onward.row cs k c m) =
-    append_assoc (texts over) (header_line ++ channel_lines cs) (channel_line k c)
-    ∙ ap (λ (t : List ℕ). texts over ++ t)
-    (append_assoc header_line (channel_lines cs) (channel_line k c)
-    ∙ ap (λ (t : List ℕ). header_line ++ t) (sym (rows_one cs k c)))
-text_more over _ _ w (Onward.sums cs n l) =
-    append_assoc (texts over) (header_line ++ channel_lines cs) (counts_line n l)
-    ∙ ap (λ (t : List ℕ). texts over ++ t)
-    (sym (append-nil (header_line ++ channel_lines cs ++ counts_line n l ++ [])
-    ∙ append-nil (header_line ++ channel_lines cs ++ counts_line n l)))
-text_more over _ _ w (Onward.follows v) =
-    (λ i. sym (texts_one over v) i ++ sym (append-nil header_line) i)
+text_more over _ _ w Onward.opens = search (arith, append-nil)
+text_more over _ _ w (Onward.row cs k c m) = search (arith, append_assoc, rows_one)
+text_more over _ _ w (Onward.sums cs n l) = search (arith, append_assoc, append-nil)
+text_more over _ _ w (Onward.follows v) = search (arith, texts_one, append-nil)
 text_more over _ _ w (Onward.passes v n m) =
     append_assoc (texts over) (part_text v) (faults_line n)
     ∙ ap (λ (t : List ℕ). texts over ++ t)
@@ -73,13 +59,7 @@ text_more over _ _ w (Onward.ends v l f m) =
 -- ---- the parts' ranges
 empty_text : HasText (begun_part [])
 unfolding IsStrictlySortedBy
-empty_text = record {
-  ascending = tt;
-  channels = tt;
-  counts = record { records_fit = omega arith; bytes_fit = omega arith };
-  faults = omega arith;
-  end = tt;
-}
+empty_text = search arith
 
 each_more : (over : List Written) (b : OpenPart) (x : Line) → IsLine x → IsWhere over b → Onward b x
     → HaveTexts (over ++ open_part b) → HaveTexts (parts_at (goes over b x))
@@ -129,17 +109,12 @@ where_more : (over : List Written) (b : OpenPart) (x : Line) → IsWhere over b 
     → IsWhere (goes over b x).over (goes over b x).last
 where_more over _ _ w (Onward.sums cs n l) = refl
 where_more over _ _ w (Onward.passes v n m) = w
-where_more over _ _ w (Onward.ends v l f m) =
-    inr (record { parts = over; last = with_end v f; fault = f; are = refl; ends = refl })
+where_more over _ _ w (Onward.ends v l f m) = search arith
 where_more over _ _ w _ = tt
 
 pub stage_more : (lines : List ℕ) (s : Stage) (x : Line) → IsStage lines s → IsLine x → Onward s.last x
     → IsStage (lines ++ text_of_line x) (to s x)
-stage_more lines s x i l o = record {
-  text = ap (λ (t : List ℕ). t ++ text_of_line x) i.text ∙ text_more s.over s.last x i.is_where o;
-  each = each_more s.over s.last x l i.is_where o i.each;
-  is_where = where_more s.over s.last x i.is_where o;
-}
+stage_more lines s x i l o = search (arith, text_more, each_more, where_more)
 
 -- ---- a line that is no header puts a part in the place of the last one
 pub counts_one : (past : Bool) (w : Written) → w.end ≡ None → counted past (w ∷ []) ≡ w ∷ []
@@ -201,29 +176,16 @@ pub record IsLast (past : Bool) (over : List Written) (w h : Written) : Type 0 w
   pub next : IsNext before w h
 
 one_next : (past : Bool) (a w h : Written) → w.end ≡ None → AreJoined a (counted past (w ∷ [])) h → IsNext a w h
-one_next past a w h e j =
-    let f : IsFirst a w [] h = first_of a w h [] (rw (counts_one past w e) at j) in
-    rw (none_of f.between h f.more) at f.next
+one_next past a w h e j = search (arith, first_of, counts_one, none_of)
 
 pub last_is : (past : Bool) (over : List Written) (w h : Written) → w.end ≡ None → h.end ≡ None
     → IsJointOf past (over ++ w ∷ []) h → IsLast past over w h
-last_is past over w h e n j =
-    let s : IsSplit past over (w ∷ []) h = split past over (w ∷ []) h j in
-    elim s.others [
-      | inl k ↦ record { before = s.before; joined = s.joined; goes_on = k.0; next = one_next past s.before w h e k.1 }
-      | inr k ↦ cc (k.1, n)
-    ]
+last_is past over w h e n j = search (arith, split, one_next)
 
 -- after a fault the last doesn't count
 pub before_is : (past : Bool) (over : List Written) (w h : Written) (f : StreamFault) → w.end ≡ None → h.end ≡ Some f
     → IsJointOf past (over ++ w ∷ []) h → IsJointOf past over h
-before_is past over w h f e n j =
-    let s : IsSplit past over (w ∷ []) h = split past over (w ∷ []) h j in
-    elim s.others [
-      | inl k ↦ let next : IsNext s.before w h = one_next past s.before w h e k.1 in
-          cc (n, next.end, ap (option_map (moved_fault s.before.part.bytes)) e)
-      | inr k ↦ rw k.2 at s.joined
-    ]
+before_is past over w h f e n j = search (arith, split, one_next)
 
 -- another part in its place
 pub in_place : (past : Bool) (over : List Written) (a v u k : Written) → IsJointOf past over a → a.end ≡ None
@@ -235,35 +197,22 @@ in_place past over a v u k j n same next =
 passed_append : (n : ℕ) (ws vs : List Written)
     → passed_from n (ws ++ vs) ≡ passed_from n ws ++ passed_from (n + length ws) vs
 passed_append n [] vs = let same : n ≡ n + 0 = omega arith in ap (λ (m : ℕ). passed_from m vs) same
-passed_append n (w ∷ ws) vs =
-    let same : n + 1 + length ws ≡ n + length (w ∷ ws) = omega arith in
-    ap (λ (ts : List (List ℕ)). passed_of n w.end ++ ts)
-    (passed_append (n + 1) ws vs ∙ ap (λ (m : ℕ). passed_from (n + 1) ws ++ passed_from m vs) same)
-    ∙ sym (append_assoc (passed_of n w.end) (passed_from (n + 1) ws) (passed_from (n + length (w ∷ ws)) vs))
+passed_append n (w ∷ ws) vs = search (arith, append_assoc, passed_append (n + 1) ws vs)
 
 -- of a part without a fault nothing is reported
 pub passed_silent : (past : Bool) (ws : List Written) (w : Written) → w.end ≡ None
     → passed_lines past (ws ++ w ∷ []) ≡ passed_lines past ws
 passed_silent false ws w e = refl
-passed_silent true ws w e =
-    passed_append 1 ws (w ∷ [])
-    ∙ ap (λ (o : Option StreamFault). passed_from 1 ws ++ (passed_of (1 + length ws) o ++ [])) e
-    ∙ append-nil (passed_from 1 ws)
+passed_silent true ws w e = search (arith, passed_append, append-nil)
 
 pub passed_none : (past : Bool) (over : List Written) (b : OpenPart) (x : Line) → (p : Replaces past over b x)
     → p.new.end ≡ None → passed_lines past (parts_at (goes over b x)) ≡ passed_lines past (over ++ open_part b) ++ []
-passed_none past over b x p e =
-    rw (p.are, p.was) (passed_silent past over p.new e ∙ sym (passed_silent past over p.old p.clear)
-    ∙ sym (append-nil (passed_lines past (over ++ p.old ∷ []))))
+passed_none past over b x p e = search (arith, passed_silent, append-nil)
 
 pub passed_more : (over : List Written) (v : Written) (f : StreamFault) → v.end ≡ None
     → passed_lines true ((over ++ with_end v f ∷ []) ++ [])
     ≡ passed_lines true (over ++ v ∷ []) ++ passed_line (length (over ++ v ∷ [])) f ∷ []
-passed_more over v f e =
-    let same : 1 + length over ≡ length (over ++ v ∷ []) = omega (arith, length-append over (v ∷ [])) in
-    ap (λ (ws : List Written). passed_from 1 ws) (append-nil (over ++ with_end v f ∷ []))
-    ∙ passed_append 1 over (with_end v f ∷ [])
-    ∙ (λ i. sym (passed_silent true over v e) i ++ passed_line (same i) f ∷ [])
+passed_more over v f e = search (arith, length-append, append-nil, passed_append, passed_silent)
 
 -- ---- how many parts there are
 pub number_same : (over : List Written) (w v : Written) → length (over ++ w ∷ []) ≡ length (over ++ v ∷ [])

@@ -19,16 +19,10 @@ rest_octets [] ys h = h
 rest_octets (x ∷ xs) ys h = rest_octets xs ys h.1
 
 first_within : (xs ys : List ℕ) → IsWithinLimits (xs ++ ys) → IsWithinLimits xs
-first_within xs ys h = record {
-  octets = first_octets xs ys h.octets;
-  size = omega (arith, h.size, length-append xs ys);
-}
+first_within xs ys h = search (arith, first_octets, length-append)
 
 rest_within : (xs ys : List ℕ) → IsWithinLimits (xs ++ ys) → IsWithinLimits ys
-rest_within xs ys h = record {
-  octets = rest_octets xs ys h.octets;
-  size = omega (arith, h.size, length-append xs ys);
-}
+rest_within xs ys h = search (arith, rest_octets, length-append)
 
 abbrev pub ReadsBack : Type 0
 ReadsBack = (h : BytesRead) (a : AuditedPart h) → IsWithinLimits h.bytes → HasText a.written
@@ -40,10 +34,9 @@ have_texts : ReadsBack → (archive : List ℕ) (ws : List Written) → AreParte
     → AllByRecursion HasText ws
 have_texts back _ _ none fits = tt
 have_texts back _ _ (last archive h a read by) fits = (back h a (read_within archive h read fits), tt)
-have_texts back _ _ (more archive others h a ws read end parted) fits = (
-  back h a (read_within archive h read (first_within archive others fits)),
-  have_texts back others ws parted (rest_within archive others fits),
-)
+have_texts back _ _ (more archive others h a ws read end parted) fits =
+    search (arith, read_within, first_within, rest_within,
+    have_texts back others ws parted (rest_within archive others fits))
 
 pub spelled : ReadsBack → (archive : List ℕ) (ws : List Written) → AreParted archive ws → IsWithinLimits archive
     → Spells (texts ws) ws

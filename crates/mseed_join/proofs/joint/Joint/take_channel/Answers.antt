@@ -4,6 +4,7 @@ use Rattle.mseed_audit.specs.declared.finding.Finding.{Finding}
 use Rattle.mseed_join.specs.Borders.{border_at}
 use Rattle.mseed_join.specs.declared.part.JoinFault.{JoinFault}
 use Rattle.mseed_join.specs.Lines.{channel}
+use Rattle.mseed_join.proofs.Onward.{onward}
 use Rattle.mseed_join.proofs.Steps.{channel_added, channel_refused, line_skipped}
 use Rattle.mseed_join.proofs.joint.Joint.take_channel.Goals as goal
 
@@ -12,15 +13,16 @@ returns-in-Some-clause-step g c =
     line_skipped c.args.self.now _ c.in-Some.is _ (channel c.args.codes c.args.channel.now) tt refl
 
 pub returns-in-Ok-clause-step : goal.returns-in-Ok-clause-step
-returns-in-Ok-clause-step g c =
-    let found = c.in-Ok.ensures.border in
-    channel_added c.args.self.now _ c.reported_of.result
-    c.reported_of.ensures.passed c.in-None.is c.args.codes c.args.channel.now
+returns-in-Ok-clause-step g c = λ lines s r l m.
+    channel_added c.args.self.now c.in-None.is _ c.reported_of.result c.reported_of.ensures.passed c.args.codes
+    c.args.channel.now
     (c.reported_of.ensures.border
-    ∙ ap (λ (o : Option Finding). border_at c.args.codes (head_in c.args.channel.now.findings) o) found)
-    c.in-Ok.ensures.joined c.in-Ok.ensures.fits refl refl
+    ∙ ap (λ (o : Option Finding). border_at c.args.codes (head_in c.args.channel.now.findings) o)
+    c.in-Ok.ensures.border)
+    c.in-Ok.ensures.joined c.in-Ok.ensures.fits refl refl s.over s.last lines r l (onward s.last _ m)
 
 pub returns-in-Err-Limit-clause-step : goal.returns-in-Err-Limit-clause-step
-returns-in-Err-Limit-clause-step g c =
+returns-in-Err-Limit-clause-step g c = λ lines s r l m.
     channel_refused c.args.self.now c.in-None.is c.args.codes c.args.channel.now
     (c.in-Err-Limit.ensures.limit (ap (λ (e : JoinFault). Err e) c.in-Err-Limit.field-0-is))
+    s.over s.last lines r l (onward s.last _ m)

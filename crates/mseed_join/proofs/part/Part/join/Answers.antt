@@ -8,7 +8,8 @@ use Rattle.mseed_audit.proofs.Rosters.{made_at}
 use Rattle.mseed_join.proofs.Adding.{Entries}
 use Rattle.mseed_join.proofs.JoinedParts.{joint_is}
 use Rattle.mseed_join.proofs.Keeping.{turns_next}
-use Rattle.mseed_join.proofs.Turns.{InTurn, first_fits, first_new, same_error, turns_begin, turns_more}
+use Rattle.mseed_join.proofs.Turns.{InTurn, all_fit, counts_fit, counts_join, first_fits, first_new, same_error}
+use Rattle.mseed_join.proofs.Turns.{turns_begin, turns_more}
 use Rattle.mseed_join.proofs.part.Part.join.Goals as goal
 
 pub loop-codes-init : goal.loop-codes-init
@@ -38,8 +39,8 @@ loop-codes-preserved g c =
     let before = rw c.in-Some.ensures.steps at c.loop-codes.invariant in
     let next = turns_next c.args.self c.args.other.now c.loop-codes.joint c.in-Some.codes.now c.in-Some.index.now
     c.next.new.self es c.index-channels-index.result before.0 before.1 (search rules) in (
-      turns_more c.args.self c.args.other.now c.loop-codes.joint c.add_channel.new.self _
-          (made_at itself es c.next.new.self) next c.in-Ok.ensures.joined c.in-Ok.ensures.fits,
+      turns_more c.args.self c.args.other.now c.loop-codes.joint _ (made_at itself es c.next.new.self) next
+          c.add_channel.new.self c.in-Ok.ensures.joined c.in-Ok.ensures.fits,
       λ k d l. before.1 (suc k) d (omega (arith, l)),
     )
 
@@ -50,7 +51,7 @@ returns-in-Err-clause-limit g c = λ limit fit.
     let next = turns_next c.args.self c.args.other.now c.loop-codes.joint c.in-Some.codes.now c.in-Some.index.now
     c.next.new.self es c.index-channels-index.result before.0 before.1 (search rules) in
     c.in-Err.ensures.limit (same_error c.in-Err.fault Limit limit)
-    (first_fits c.args.other.now c.loop-codes.joint _ (made_at itself es c.next.new.self) (next.fits_back fit))
+    (first_fits c.args.self c.args.other.now c.loop-codes.joint _ (made_at itself es c.next.new.self) next fit)
 
 pub returns-in-Err-clause-memory : goal.returns-in-Err-clause-memory
 returns-in-Err-clause-memory g c = λ memory.
@@ -64,7 +65,7 @@ returns-in-Err-clause-memory g c = λ memory.
 pub returns-in-Ok-add_counts-clause-joint : goal.returns-in-Ok-add_counts-clause-joint
 returns-in-Ok-add_counts-clause-joint g c =
     let all = rw c.in-None.ensures.steps.0 at c.loop-codes.invariant.0 in
-    all.joins c.add_counts.new.self
+    counts_join c.args.self c.args.other.now c.loop-codes.joint all c.add_counts.new.self
     (subst (λ (h : Held). IsJoint c.loop-codes.joint (counts_alone h.records h.bytes) c.add_counts.new.self)
     c.other.view_is c.in-Ok-add_counts.ensures.joined)
 
@@ -77,14 +78,16 @@ returns-in-Ok-add_counts-clause-adds_up g c = λ xs ys p q.
 pub returns-in-Ok-add_counts-clause-fits : goal.returns-in-Ok-add_counts-clause-fits
 returns-in-Ok-add_counts-clause-fits g c =
     let all = rw c.in-None.ensures.steps.0 at c.loop-codes.invariant.0 in
-    all.fits (subst (λ (h : Held). Fits c.loop-codes.joint (counts_alone h.records h.bytes)) c.other.view_is
+    all_fit c.args.self c.args.other.now c.loop-codes.joint all
+    (subst (λ (h : Held). Fits c.loop-codes.joint (counts_alone h.records h.bytes)) c.other.view_is
     c.in-Ok-add_counts.ensures.fits)
 
 pub returns-in-Err-add_counts-clause-limit : goal.returns-in-Err-add_counts-clause-limit
 returns-in-Err-add_counts-clause-limit g c = λ limit fit.
     let all = rw c.in-None.ensures.steps.0 at c.loop-codes.invariant.0 in
     subst (λ (h : Held). Fits c.loop-codes.joint (counts_alone h.records h.bytes) → ⊥) c.other.view_is
-    c.in-Err-add_counts.ensures.limit (all.fits_back fit)
+    c.in-Err-add_counts.ensures.limit
+    (counts_fit c.args.self c.args.other.now c.loop-codes.joint all fit)
 
 pub returns-in-Err-add_counts-clause-memory : goal.returns-in-Err-add_counts-clause-memory
 returns-in-Err-add_counts-clause-memory g c = λ memory.
