@@ -1,5 +1,5 @@
 -- One channel that is joined.
-use Rattle.std.proofs.Common.{◌≡◌, ◌↔◌, ℕ, List, Bool, true, false, cond, Option, Some, None, Result, Ok, Err}
+use Rattle.std.proofs.Common.{◌≡◌, ◌↔◌, ℕ, List, Bool, true, false, cond, Option, Some, None, Result}
 use Rattle.std.proofs.Common.{refl, sym, ap, ◌∙◌, subst, arith}
 use Rattle.std.specs.Prelude.{IfOk, OnErr, OnOk, IsOk, IsErrOf}
 use Rattle.std.specs.Option.{option_map}
@@ -22,16 +22,14 @@ held channels records bytes = record { channels = channels; records = records; b
 
 -- what follows from what holds where an error is answered
 pub err_from : {T E : Type 0} {P Q : Type 0} (r : Result T E) → OnErr r P → (P → Q) → OnErr r Q
-err_from (Ok t) p f = tt
-err_from (Err e) p f = f p
+err_from r h1 h2 = grind arith
 
 -- with something kept at a key
 abbrev pub HasAt : Entries → List ℕ → Channel → Entries → Type 0
 HasAt es key x fs = (other : List ℕ) → kept_of other fs ≡ cond (same_key key other) (Some x) (kept_of other es)
 
 pub joined_none : (o : Option Channel) → channel_joined o None ≡ o
-joined_none None = refl
-joined_none (Some c) = refl
+joined_none o = grind arith
 
 -- by whether another key is the same
 joined_by : (es : Entries) (key other : List ℕ) (x m : Channel) (b : Bool) → same_key key other ≡ b
@@ -43,8 +41,7 @@ joined_by es key other x m false e h = sym (joined_none (kept_of other es))
 
 map_cond : (d e : ℕ) (c : Channel) (b : Bool)
     → cond b (Some (moved_channel d e c)) None ≡ option_map (moved_channel d e) (cond b (Some c) None)
-map_cond d e c true = refl
-map_cond d e c false = refl
+map_cond d e c b = grind arith
 
 pub joined_with : (es fs : Entries) (records bytes : ℕ) (key : List ℕ) (c x : Channel) → HasAt es key x fs
     → IsAscending fs → Some x ≡ channel_joined (kept_of key es) (Some (moved_channel records bytes c))
@@ -70,10 +67,8 @@ module _ (es : Entries) (records bytes : ℕ) (a : Held) (view : held es records
       → OnOk r (x ≡ channel_then k m) → OnOk r (IsJoint a (one_channel key c) (held fs records bytes))
   there_joined x fs has sorted =
       on_ok_weaker r (λ e.
-      let now : Some x ≡ channel_joined (kept_of key es) (Some (moved_channel records bytes c)) =
-      ap (λ (y : Channel). Some y) e ∙ (λ i. channel_joined (there i) (Some (is i))) in
-      subst (λ (h : Held). IsJoint h (one_channel key c) (held fs records bytes)) view
-      (joined_with es fs records bytes key c x has sorted now))
+      let now : Some x ≡ channel_joined (kept_of key es) (Some (moved_channel records bytes c)) = search arith in
+      rw (← view) (joined_with es fs records bytes key c x has sorted now))
 
   pub there_border : IfOk r (λ found. found ≡ border_of (tail_in k.findings) (head_in m.findings))
       → IfOk r (λ found. found ≡ border_between (kept_of key a.channels) (moved_channel a.records a.bytes c))
@@ -96,8 +91,6 @@ pub new_joined : (es old fs : Entries) (records bytes : ℕ) (a : Held) (key : L
     → held es records bytes ≡ a → old ≡ es → kept_of key es ≡ None → m ≡ moved_channel records bytes c
     → HasAt old key m fs → IsAscending fs → IsJoint a (one_channel key c) (held fs records bytes)
 new_joined es old fs records bytes a key c m view same none is has sorted =
-    let now : Some m ≡ channel_joined (kept_of key es) (Some (moved_channel records bytes c)) =
-    λ i. channel_joined (sym none i) (Some (is i)) in
+    let now : Some m ≡ channel_joined (kept_of key es) (Some (moved_channel records bytes c)) = search arith in
     let at : HasAt es key m fs = subst (λ (gs : Entries). HasAt gs key m fs) same has in
-    subst (λ (h : Held). IsJoint h (one_channel key c) (held fs records bytes)) view
-    (joined_with es fs records bytes key c m at sorted now)
+    rw (← view) (joined_with es fs records bytes key c m at sorted now)

@@ -31,7 +31,7 @@ stage_all s lines i =
 
 stage_text : (s : Stage) (lines : List ℕ) → IsStage lines s
     → lines_text (all_rows s.over ++ open_rows s.last) ≡ lines
-stage_text s lines i = search (arith, text_append, all_rows, open_rows, texts_are, open_text_is)
+stage_text s lines i = search (arith, text_append, texts_are, open_text_is)
 
 -- parts that go on after a stage: their further lines
 pub record IsAhead (s : Stage) (parts : List Written) (rest : List ℕ) : Type 0 where
@@ -164,7 +164,8 @@ fitting_by false a v k vs (Some x) e j =
 
 fitting : (past : Bool) (over : List Written) (v : Written) (vs : List Written) (a k : Written)
     → IsJointOf past over a → a.end ≡ None → IsJointOf past (over ++ v ∷ vs) k → IsFitting past a v
-fitting past over v vs a k j n all = search (arith, joined_split, counted_on, fitting_by, joined_one)
+fitting past over v vs a k j n all =
+    search (arith, joined_split, counted_on, fitting_by, joined_one)
 
 -- ---- what is refused for its sum
 module _ (past : Bool) (over : List Written) (h : Written) (free : h.end ≡ None)

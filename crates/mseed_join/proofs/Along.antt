@@ -30,7 +30,8 @@ use Rattle.mseed_join.proofs.Taken.{texts_append}
 -- ---- how few lines and parts there are
 pub lines_few : (bytes : List ℕ) (n : ℕ) → AreLines bytes n → n ≤ length bytes
 lines_few bytes n AreLines.none = omega arith
-lines_few bytes n (AreLines.one line rest count ends more) = search (arith, length-append, lines_few rest count more)
+lines_few bytes n (AreLines.one line rest count ends more) =
+    search (arith, length-append, lines_few rest count more)
 
 part_some : (w : Written) → 1 ≤ length (part_text w)
 part_some w = omega arith

@@ -42,7 +42,8 @@ AddFindings = (a b : Held) (xs ys : List View) (first second whole : List Report
 -- records aren't empty
 have_bytes : (views : List View) → AllByRecursion IsView views → HaveBytes views
 have_bytes [] all = tt
-have_bytes (v ∷ views) all = search (arith, record_long, view_record, have_bytes views all.1)
+have_bytes (v ∷ views) all =
+    search (arith, record_long, view_record, have_bytes views all.1)
 
 -- ---- notices that go up
 moved_same : (d e k l : ℕ) (ns : List Notice) → d ≡ k → e ≡ l → moved_notices d e ns ≡ moved_notices k l ns
@@ -111,8 +112,7 @@ ends_here single before a joint so same = record {
   merged = λ first whole one all.
       let reported : first ≡ whole = single (added_from 0 so.views) first whole one all in
       subst (λ (ns : List Notice). IsPermutation ns (notices_of whole)) (sym (append-nil (notices_of first)))
-      (subst (λ (ts : List Reported). IsPermutation (notices_of first) (notices_of ts)) reported
-      (IsPermutation-refl (notices_of first)));
+      (rw (← reported) (IsPermutation-refl (notices_of first)));
 }
 
 -- one archive is after
@@ -129,8 +129,7 @@ piece add before a so h p views first whole here all =
     let merged : AreMerged (notices_of first ++ moved) between (notices_of whole) =
     add a.part p.parted.written.part so.views p.parted.audited.views first p.reported whole so.part p.parted.part
     (have_bytes both views) here p.are_reported all in
-    subst (λ (ns : List Notice). IsPermutation ns (notices_of whole)) (append_assoc (notices_of first) moved between)
-    merged.members
+    rw (← (append_assoc (notices_of first) moved between)) merged.members
 
 -- ---- in another order
 grouped : (fs ms ns bs rs : List Notice) → fs ++ ((ms ++ ns) ++ (bs ++ rs)) ≡ (fs ++ ms) ++ ((ns ++ bs) ++ rs)
@@ -139,8 +138,7 @@ grouped fs ms ns bs rs = search (arith, append_assoc)
 shuffled : (fs ms ns bs rs : List Notice)
     → IsPermutation (fs ++ ((ms ++ ns) ++ (bs ++ rs))) ((fs ++ (ms ++ bs)) ++ (ns ++ rs))
 shuffled fs ms ns bs rs =
-    let other : (fs ++ (ms ++ bs)) ++ (ns ++ rs) ≡ (fs ++ ms) ++ ((bs ++ ns) ++ rs) =
-    append_assoc fs (ms ++ bs) (ns ++ rs) ∙ grouped fs ms bs ns rs in
+    let other = append_assoc fs (ms ++ bs) (ns ++ rs) ∙ grouped fs ms bs ns rs in
     subst (λ (xs : List Notice). IsPermutation xs ((fs ++ (ms ++ bs)) ++ (ns ++ rs))) (sym (grouped fs ms ns bs rs))
     (subst (λ (xs : List Notice). IsPermutation ((fs ++ ms) ++ ((ns ++ bs) ++ rs)) xs) (sym other)
     (IsPermutation-append_right (fs ++ ms) ((ns ++ bs) ++ rs) ((bs ++ ns) ++ rs)
@@ -163,7 +161,8 @@ pub record IsBordered (befores : List Written) (a w : Written) (ws : List Writte
 
 bordered : (befores : List Written) (a w : Written) (ws : List Written) (found : List Border)
     → AreJoined nothing befores a → AreBorders befores (w ∷ ws) found → IsBordered befores a w ws found
-bordered befores a w ws found joined borders = search (arith, first_found, joined_one)
+bordered befores a w ws found joined borders =
+    search (arith, first_found, joined_one)
 
 -- ---- all archives
 one_piece : AddUp → AddFindings → (archive before : List ℕ) (befores : List Written)
@@ -185,10 +184,7 @@ one_piece add_up add archive before befores found a joint so h p read by clear j
       rest = p.parted.audited.views;
       those_after = refl;
       merged = λ one whole reported all.
-          subst (λ (bs : List Border). IsPermutation (notices_of one
-          ++ (moved_notices a.part.records a.part.bytes (notices_of p.reported) ++ border_notices bs))
-          (notices_of whole))
-          (sym are) (piece add before a so h p now.are_known.cut.views_are one whole reported all);
+          rw are (piece add before a so h p now.are_known.cut.views_are one whole reported all);
     }
 
 more_pieces : AddUp → AddFindings → (archive others before : List ℕ) (reported : List Notice) (found rest : List Border)
@@ -240,8 +236,7 @@ merge_all : HaveOneReport → AddUp → AddFindings → (archive before : List �
     → AreJoined a (counted false ws) joint
     → AreBorders befores (counted false ws) found → IsMergedTo before archive reported found a joint so
 merge_all single add_up add _ before _ befores _ found a joint so none_apart clear joined parts borders =
-    subst (λ (bs : List Border). IsMergedTo before [] [] bs a joint so) (sym (none_found befores found borders))
-    (ends_here single before a joint so (none_of a joint parts))
+    rw (none_found befores found borders) (ends_here single before a joint so (none_of a joint parts))
 merge_all single add_up add _ before _ befores _ found a joint so (last archive h p read by) clear joined parts
     borders =
     let one : counted false (p.parted.written ∷ []) ≡ p.parted.written ∷ [] =
@@ -308,8 +303,7 @@ each_says single add_up add verdicts one archive ws reported found joint h a apa
     record {
       merged = notices_of a.reported;
       are_merged = record {
-        members = subst (λ (ns : List Notice). IsPermutation (ns ++ border_notices found) (notices_of a.reported))
-            (moved_still reported) (m.merged [] a.reported (nothing_reported []) whole);
+        members = rw (← (moved_still reported)) (m.merged [] a.reported (nothing_reported []) whole);
         rise = reported_rise m.all.views a.reported (have_bytes m.all.views m.all.are_known.cut.views_are) whole;
       };
       text = λ i. reported_text a.reported i ++ says_it.text i;

@@ -4,7 +4,7 @@ use Rattle.std.specs.Option.{option_map}
 use Rattle.mseed_audit.specs.declared.finding.Finding.{Finding}
 use Rattle.mseed_audit.specs.declared.channel.Channel.{Channel}
 use Rattle.mseed_audit.specs.declared.channel.Findings.{Findings}
-use Rattle.mseed_audit.specs.declared.channel.Findings.TheVariants.{Nothing, Counted}
+use Rattle.mseed_audit.specs.declared.channel.Findings.TheVariants.{Counted}
 use Rattle.mseed_audit.specs.declared.channel.Head.{Head}
 use Rattle.mseed_audit.specs.declared.tail.Tail.{Tail}
 use Rattle.mseed_join.specs.Joining.{moved_head, moved_finding, moved_findings, moved_channel}
@@ -24,12 +24,10 @@ module _ (d e f g : ℕ) where
 
   heads_twice : (h : Option Head)
       → option_map (moved_head (d + f) (e + g)) h ≡ option_map (moved_head d e) (option_map (moved_head f g) h)
-  heads_twice None = refl
-  heads_twice (Some h) = ap (λ (k : Head). Some k) (head_twice h)
+  heads_twice h = grind (arith, head_twice)
 
   findings_twice : (h : Findings) → moved_findings (d + f) (e + g) h ≡ moved_findings d e (moved_findings f g h)
-  findings_twice (Nothing head tail) = ap (λ (h : Head). Nothing h tail) (head_twice head)
-  findings_twice (Counted count first head tail) = search (arith, finding_twice, heads_twice)
+  findings_twice h = grind (arith, head_twice, finding_twice, heads_twice)
 
   channel_twice : (c : Channel) → moved_channel (d + f) (e + g) c ≡ moved_channel d e (moved_channel f g c)
   channel_twice c = search (arith, findings_twice)
@@ -42,18 +40,12 @@ border_moved d e _ _ = refl
 
 with_moved : (d e : ℕ) (a b : Findings) (border : Option Finding) → moved_findings d e (findings_with a b border)
     ≡ findings_with (moved_findings d e a) (moved_findings d e b) (option_map (moved_finding d e) border)
-with_moved d e (Nothing head t) (Nothing h tail) None = refl
-with_moved d e (Nothing head t) (Nothing h tail) (Some f) = refl
-with_moved d e (Nothing head t) (Counted n next h tail) None = refl
-with_moved d e (Nothing head t) (Counted n next h tail) (Some f) = refl
-with_moved d e (Counted m first head t) (Nothing h tail) None = refl
-with_moved d e (Counted m first head t) (Nothing h tail) (Some f) = refl
-with_moved d e (Counted m first head t) (Counted n next h tail) None = refl
-with_moved d e (Counted m first head t) (Counted n next h tail) (Some f) = refl
+with_moved d e a b border = grind arith
 
 findings_moved : (d e : ℕ) (a b : Findings)
     → moved_findings d e (findings_after a b) ≡ findings_after (moved_findings d e a) (moved_findings d e b)
-findings_moved d e a b = search (arith, border_moved, tail_moves, head_moves, with_moved)
+findings_moved d e a b =
+    search (arith, border_moved, tail_moves, head_moves, with_moved)
 
 after_moved : (d e : ℕ) (c o : Channel)
     → moved_channel d e (channel_then c o) ≡ channel_then (moved_channel d e c) (moved_channel d e o)
@@ -66,38 +58,7 @@ more m n first h t e = ap (λ (k : ℕ). Counted k first h t) e
 
 with_assoc : (a b c : Findings) (x y : Option Finding)
     → findings_with (findings_with a b x) c y ≡ findings_with a (findings_with b c y) x
-with_assoc (Nothing p q) (Nothing r s) (Nothing t u) None None = refl
-with_assoc (Nothing p q) (Nothing r s) (Nothing t u) None (Some g) = refl
-with_assoc (Nothing p q) (Nothing r s) (Nothing t u) (Some f) None = refl
-with_assoc (Nothing p q) (Nothing r s) (Nothing t u) (Some f) (Some g) = refl
-with_assoc (Nothing p q) (Nothing r s) (Counted n z t u) None None = refl
-with_assoc (Nothing p q) (Nothing r s) (Counted n z t u) None (Some g) = refl
-with_assoc (Nothing p q) (Nothing r s) (Counted n z t u) (Some f) None = more _ _ f _ _ (omega arith)
-with_assoc (Nothing p q) (Nothing r s) (Counted n z t u) (Some f) (Some g) = more _ _ f _ _ (omega arith)
-with_assoc (Nothing p q) (Counted m y r s) (Nothing t u) None None = refl
-with_assoc (Nothing p q) (Counted m y r s) (Nothing t u) None (Some g) = refl
-with_assoc (Nothing p q) (Counted m y r s) (Nothing t u) (Some f) None = refl
-with_assoc (Nothing p q) (Counted m y r s) (Nothing t u) (Some f) (Some g) = more _ _ f _ _ (omega arith)
-with_assoc (Nothing p q) (Counted m y r s) (Counted n z t u) None None = refl
-with_assoc (Nothing p q) (Counted m y r s) (Counted n z t u) None (Some g) = refl
-with_assoc (Nothing p q) (Counted m y r s) (Counted n z t u) (Some f) None = more _ _ f _ _ (omega arith)
-with_assoc (Nothing p q) (Counted m y r s) (Counted n z t u) (Some f) (Some g) = more _ _ f _ _ (omega arith)
-with_assoc (Counted k x p q) (Nothing r s) (Nothing t u) None None = refl
-with_assoc (Counted k x p q) (Nothing r s) (Nothing t u) None (Some g) = more _ _ x _ _ (omega arith)
-with_assoc (Counted k x p q) (Nothing r s) (Nothing t u) (Some f) None = more _ _ x _ _ (omega arith)
-with_assoc (Counted k x p q) (Nothing r s) (Nothing t u) (Some f) (Some g) = more _ _ x _ _ (omega arith)
-with_assoc (Counted k x p q) (Nothing r s) (Counted n z t u) None None = refl
-with_assoc (Counted k x p q) (Nothing r s) (Counted n z t u) None (Some g) = more _ _ x _ _ (omega arith)
-with_assoc (Counted k x p q) (Nothing r s) (Counted n z t u) (Some f) None = more _ _ x _ _ (omega arith)
-with_assoc (Counted k x p q) (Nothing r s) (Counted n z t u) (Some f) (Some g) = more _ _ x _ _ (omega arith)
-with_assoc (Counted k x p q) (Counted m y r s) (Nothing t u) None None = refl
-with_assoc (Counted k x p q) (Counted m y r s) (Nothing t u) None (Some g) = more _ _ x _ _ (omega arith)
-with_assoc (Counted k x p q) (Counted m y r s) (Nothing t u) (Some f) None = more _ _ x _ _ (omega arith)
-with_assoc (Counted k x p q) (Counted m y r s) (Nothing t u) (Some f) (Some g) = more _ _ x _ _ (omega arith)
-with_assoc (Counted k x p q) (Counted m y r s) (Counted n z t u) None None = more _ _ x _ _ (omega arith)
-with_assoc (Counted k x p q) (Counted m y r s) (Counted n z t u) None (Some g) = more _ _ x _ _ (omega arith)
-with_assoc (Counted k x p q) (Counted m y r s) (Counted n z t u) (Some f) None = more _ _ x _ _ (omega arith)
-with_assoc (Counted k x p q) (Counted m y r s) (Counted n z t u) (Some f) (Some g) = more _ _ x _ _ (omega arith)
+with_assoc a b c x y = grind (arith, more)
 
 findings_assoc : (a b c : Findings) → findings_after (findings_after a b) c ≡ findings_after a (findings_after b c)
 findings_assoc a b c = search (arith, tail_with, with_assoc, head_with)

@@ -1,31 +1,23 @@
 -- What is written reads back.
 use Rattle.std.proofs.Common.{◌≡◌, ℕ, zero, suc, ◌-◌, ◌^◌, ◌<◌, ◌≤◌, nat_lt, List, ◌∷◌, ◌++◌, true, false}
-use Rattle.std.proofs.Common.{Option, Some, None, ℤ, pos, negsuc, refl, ap, ◌∙◌, arith, IfSome}
+use Rattle.std.proofs.Common.{Option, Some, None, ℤ, refl, ap, ◌∙◌, arith, IfSome}
 use Rattle.std.specs.Prelude.{decimal, codes, nat_eq}
 use Rattle.std.specs.Fmt.{signed_decimal}
 use Rattle.std.proofs.lemmas.Bool.{lt-ltb}
-use Rattle.std.proofs.lemmas.Int.{ints}
 use Rattle.std.proofs.lemmas.Bool.Decides.{nat_tests}
 use Rattle.mseed_time.specs.Btime.{IsInstant}
 use Rattle.mseed_time.specs.Rate.{Ratio, IsRatio}
 use Rattle.mseed_time.specs.Text.{fault_word}
 use Rattle.mseed_time.specs.declared.fault.TimeFault.{TimeFault}
-use Rattle.mseed_time.specs.declared.fault.TimeFault.TheVariants.{Year}
 use Rattle.mseed_record.specs.declared.fault.FrameFault.{FrameFault}
-use Rattle.mseed_record.specs.declared.fault.FrameFault.TheVariants.{NotData, Order as NoOrder, Chain, No1000, Length}
-use Rattle.mseed_record.specs.declared.fault.FrameFault.TheVariants.{Outside, Version3}
 use Rattle.mseed_record.specs.declared.leap.Leap.{Leap}
-use Rattle.mseed_record.specs.declared.leap.Leap.TheVariants.{None as NoLeap}
 use Rattle.mseed_steim.specs.declared.fault.ReadFault.{ReadFault}
-use Rattle.mseed_steim.specs.declared.fault.ReadFault.TheVariants.{Blockette100, Encoding, LittleSteim, DataOffset}
+use Rattle.mseed_steim.specs.declared.fault.ReadFault.TheVariants.{Encoding}
 use Rattle.mseed_steim.specs.declared.fault.ReadFault.TheVariants.{Short, BadWord, Overflow, LastDiffers}
 use Rattle.mseed_steim.specs.declared.fault.ReadFault.TheVariants.{Memory as NoMemory}
 use Rattle.mseed_stream.specs.declared.fault.StreamFault.{StreamFault}
-use Rattle.mseed_stream.specs.declared.fault.StreamFault.TheVariants.{Frame, Truncated, Memory}
 use Rattle.mseed_audit.specs.declared.finding.Finding.{Finding}
 use Rattle.mseed_audit.specs.declared.finding.Why.{Why}
-use Rattle.mseed_audit.specs.declared.finding.Why.TheVariants.{Time, Read as ReadFailed}
-use Rattle.mseed_audit.specs.declared.finding.Why.TheVariants.{Gap, Overlap}
 use Rattle.mseed_text.specs.Fault.{frame_words, fault_line}
 use Rattle.mseed_audit.specs.Text.{why_text, read_text}
 use Rattle.mseed_audit.specs.declared.channel.Channel.{Channel}
@@ -63,8 +55,7 @@ unfolding ratio_at
 ratio_back r rest fits e = search (arith, nat_lt, lt-ltb, number_back)
 
 pub instant_within : (z : ℤ) → IsInstant z → IsWithin 5_364_662_400_000_000 7_258_118_399_999_999 z
-instant_within (pos n) i = omega (arith, ints, i.1)
-instant_within (negsuc n) i = omega (arith, ints, i.0)
+instant_within z h1 = grind arith
 
 pub start_back : (z : ℤ) (rest : List ℕ) → IsInstant z → Ends rest → start_at (signed_decimal z ++ rest) ≡ Some (
   z,
@@ -74,16 +65,14 @@ start_back z rest i e =
     integer_back 5_364_662_400_000_000 7_258_118_399_999_999 z rest (omega arith) (omega arith) (instant_within z i) e
 
 pub word_within : (z : ℤ) → IsWord z → IsWithin (2 ^ 31) (2 ^ 31 - 1) z
-word_within (pos n) l = omega (arith, l)
-word_within (negsuc n) l = l
+word_within z h1 = grind arith
 
 sample_back : (z : ℤ) (rest : List ℕ) → IsWord z → Ends rest → sample_at (signed_decimal z ++ rest) ≡ Some (z, rest)
 sample_back z rest w e = integer_back (2 ^ 31) (2 ^ 31 - 1) z rest (omega arith) (omega arith) (word_within z w) e
 
 pub leap_back : (l : Leap) (rest : List ℕ) → leap_at (leap_text l ++ rest) ≡ Some (l, rest)
 unfolding leap_at
-leap_back NoLeap rest = refl
-leap_back _ rest = refl
+leap_back l rest = grind arith
 
 -- ---- heads and tails
 -- a first byte that isn't the word's
@@ -100,8 +89,7 @@ digits_no_word n rest few =
     ∙ after_other 110 b.first (codes "one") (b.others ++ rest) (other_digit b.first b.high)
 
 pub integer_no_word : (z : ℤ) (rest : List ℕ) → IsInstant z → after (codes "none") (signed_decimal z ++ rest) ≡ None
-integer_no_word (pos n) rest i = digits_no_word n rest (omega (arith, instant_within (pos n) i))
-integer_no_word (negsuc n) rest i = refl
+integer_no_word z rest h1 = grind (arith, digits_no_word, instant_within)
 
 some_head_back : (h : Head) (rest : List ℕ) → HasHead h → Ends rest → some_head_at (head_then h rest) ≡ Some (h, rest)
 unfolding some_head_at
@@ -119,8 +107,7 @@ some_head_back h rest fits e =
 pub head_back : (h : Option Head) (rest : List ℕ) → IfSome h HasHead → Ends rest
     → head_at (text_or_none head_text h ++ rest) ≡ Some (h, rest)
 unfolding head_at
-head_back None rest fits e = refl
-head_back (Some h) rest fits e = search (arith, ratio_then, head_leading, digits_no_word, some_head_back)
+head_back h rest h1 h2 = grind (arith, ratio_then, head_leading, digits_no_word, some_head_back)
 
 some_tail_back : (t : Tail) (rest : List ℕ) → HasTail t → some_tail_at (tail_then t rest) ≡ Some (t, rest)
 unfolding some_tail_at
@@ -140,41 +127,29 @@ some_tail_back t rest fits =
 pub tail_back : (t : Option Tail) (rest : List ℕ) → IfSome t HasTail
     → tail_at (text_or_none tail_text t ++ rest) ≡ Some (t, rest)
 unfolding tail_at
-tail_back None rest fits = refl
-tail_back (Some t) rest fits = search (arith, ratio_then, tail_leading, integer_no_word, some_tail_back)
+tail_back t rest h1 = grind (arith, ratio_then, tail_leading, integer_no_word, some_tail_back)
 
 -- ---- findings
 time_back : (f : TimeFault) (rest : List ℕ) → time_at (fault_word f ++ rest) ≡ Some (f, rest)
 unfolding time_at
-time_back Year rest = refl
-time_back _ rest = refl
+time_back f rest = grind arith
 
 read_fault_back : (f : ReadFault) (rest : List ℕ) → HasReadFault f → Ends rest
     → read_fault_at (read_text f ++ rest) ≡ Some (f, rest)
 unfolding read_fault_at
 read_fault_back (Encoding code) rest l e = search (arith, number_back)
 read_fault_back (Short found) rest l e = rw (count_back found rest l e) refl
-read_fault_back (BadWord frame word) rest l e = search (arith, bad_word_leading, count_back)
+read_fault_back (BadWord frame word) rest l e =
+    search (arith, bad_word_leading, count_back)
 read_fault_back (Overflow index) rest l e = rw (count_back index rest l e) refl
-read_fault_back (LastDiffers found constant) rest l e = search (arith, last_differs_leading, sample_back)
+read_fault_back (LastDiffers found constant) rest l e =
+    search (arith, last_differs_leading, sample_back)
 read_fault_back NoMemory rest l e = absurd l
 read_fault_back _ rest l e = refl
 
 why_back : (w : Why) (rest : List ℕ) → HasWhy w → Ends rest → why_at (why_text w ++ rest) ≡ Some (w, rest)
 unfolding why_at
-why_back (Time f) rest l e = rw (time_back f rest) refl
-why_back (ReadFailed Blockette100) rest l e = rw (read_fault_back Blockette100 rest l e) refl
-why_back (ReadFailed (Encoding code)) rest l e = rw (read_fault_back (Encoding code) rest l e) refl
-why_back (ReadFailed LittleSteim) rest l e = rw (read_fault_back LittleSteim rest l e) refl
-why_back (ReadFailed DataOffset) rest l e = rw (read_fault_back DataOffset rest l e) refl
-why_back (ReadFailed (Short found)) rest l e = rw (read_fault_back (Short found) rest l e) refl
-why_back (ReadFailed (BadWord frame word)) rest l e = rw (read_fault_back (BadWord frame word) rest l e) refl
-why_back (ReadFailed (Overflow index)) rest l e = rw (read_fault_back (Overflow index) rest l e) refl
-why_back (ReadFailed (LastDiffers found constant)) rest l e = search (arith, read_fault_back)
-why_back (ReadFailed NoMemory) rest l e = absurd l
-why_back (Gap us) rest l e = rw (number_back (2 ^ 128 - 1) us rest (omega (arith, l)) (omega (arith, l)) e) refl
-why_back (Overlap us) rest l e = rw (number_back (2 ^ 128 - 1) us rest (omega (arith, l)) (omega (arith, l)) e) refl
-why_back _ rest l e = refl
+why_back w rest h1 h2 = grind (arith, time_back, read_fault_back, number_back)
 
 first_back : (f : Finding) (rest : List ℕ) → HasFinding f → Ends rest → first_at (first_then f rest) ≡ Some (f, rest)
 unfolding first_at
@@ -185,7 +160,8 @@ findings_then_back : (head : Option Head) (tail : Option Tail) (count : ℕ) (re
     → count < 2 ^ 63 → Ends rest
     → findings_at (findings_then head tail count rest) ≡ counted_findings_at count head tail rest
 unfolding findings_at
-findings_then_back head tail count rest h t l e = search (arith, head_back, tail_back, count_back)
+findings_then_back head tail count rest h t l e =
+    search (arith, head_back, tail_back, count_back)
 
 findings_back : (f : Findings) (rest : List ℕ) → HasFindings f → Ends rest
     → findings_at (findings_text f ++ rest) ≡ Some (f, rest)
@@ -195,12 +171,13 @@ findings_back (Nothing head tail) rest fits e =
     ∙ findings_then_back (Some head) (Some tail) 0 rest fits.0 fits.1 (omega arith) e
 findings_back (Counted zero first head tail) rest fits e = absurd (omega (arith, fits.0))
 findings_back (Counted (suc n) first head tail) rest fits e =
-    search (arith, counted_leading, findings_then_back, first_then, first_back)
+    search (arith, counted_leading, findings_then_back, first_back)
 
 -- ---- whole lines
 pub channel_back : (key : List ℕ) (c : Channel) → HasChannelLine key c → channel_at (channel_line key c) ≡ Some (key, c)
 unfolding channel_at
-channel_back key c l = search (arith, channel_leading, key_back, count_back, findings_ends, findings_back)
+channel_back key c l =
+    search (arith, channel_leading, key_back, count_back, findings_ends, findings_back)
 
 pub counts_back : (records bytes : ℕ) → HasCountsLine records bytes
     → counts_at (counts_line records bytes) ≡ Some (records, bytes)
@@ -209,34 +186,23 @@ counts_back records bytes l = search (arith, counts_leading, count_back)
 
 pub faults_back : (n : ℕ) → HasFaultsLine n → faults_at (faults_line n) ≡ Some n
 unfolding faults_at
-faults_back zero l = absurd (omega (arith, l.some))
-faults_back (suc n) l = search (arith, faults_leading, count_back, lt-ltb)
+faults_back n h1 = grind (arith, faults_leading, count_back, lt-ltb)
 
 frame_fault_back : (f : FrameFault) (rest : List ℕ) → HasFrameFault f → Ends rest
     → frame_fault_at (frame_words f ++ rest) ≡ Some (f, rest)
 unfolding frame_fault_at
-frame_fault_back (Length exponent) rest l e = search (arith, number_back)
-frame_fault_back _ rest l e = refl
+frame_fault_back f rest h1 h2 = grind (arith, number_back)
 
 -- what fails is read by its words, whatever the offset
 stream_fault_back : (f : StreamFault) (bytes : ℕ) (rest : List ℕ) → IsFaultAfter bytes f → Ends rest
     → stream_fault_at bytes (fault_words f ++ rest) ≡ Some (f, rest)
 unfolding stream_fault_at
-stream_fault_back (Frame offset NotData) bytes rest l e = rw (frame_fault_back NotData rest l.1 e, l.0) refl
-stream_fault_back (Frame offset NoOrder) bytes rest l e = rw (frame_fault_back NoOrder rest l.1 e, l.0) refl
-stream_fault_back (Frame offset Chain) bytes rest l e = rw (frame_fault_back Chain rest l.1 e, l.0) refl
-stream_fault_back (Frame offset No1000) bytes rest l e = rw (frame_fault_back No1000 rest l.1 e, l.0) refl
-stream_fault_back (Frame offset (Length exponent)) bytes rest l e =
-    rw (frame_fault_back (Length exponent) rest l.1 e, l.0) refl
-stream_fault_back (Frame offset Outside) bytes rest l e = rw (frame_fault_back Outside rest l.1 e, l.0) refl
-stream_fault_back (Frame offset Version3) bytes rest l e = rw (frame_fault_back Version3 rest l.1 e, l.0) refl
-stream_fault_back (Truncated offset have) bytes rest l e = search (arith, count_back)
-stream_fault_back Memory bytes rest l e = absurd l
-stream_fault_back _ bytes rest l e = rw l refl
+stream_fault_back f bytes rest h1 h2 = grind (arith, frame_fault_back, count_back)
 
 pub same_number : (n : ℕ) → nat_eq n n ≡ true
 same_number n = grind (arith, nat_tests)
 
 pub fault_back : (f : StreamFault) (bytes : ℕ) → HasFaultLine bytes f → fault_at (fault_line f) bytes ≡ Some f
 unfolding fault_at
-fault_back f bytes l = search (arith, fault_of, count_back, fault_words, stream_fault_back, same_number)
+fault_back f bytes l =
+    search (arith, fault_of, count_back, stream_fault_back, same_number)

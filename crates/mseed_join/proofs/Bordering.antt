@@ -40,8 +40,7 @@ pub found_after : (before ws : List Written) (a w : Written) (found : List Borde
     → AreJoined nothing (before ++ ws) a
     → AreBorders before (ws ++ w ∷ []) (found ++ borders_with a.part w.part.channels)
 found_after before [] a w found b j =
-    let bare : AreJoined nothing before a =
-    subst (λ (ts : List Written). AreJoined nothing ts a) (append-nil before) j in
+    let bare : AreJoined nothing before a = search (arith, append-nil) in
     let new : List Border = borders_with a.part w.part.channels in
     found_same before (w ∷ []) (new ++ []) (found ++ new)
     (append-nil new ∙ ap (λ (bs : List Border). bs ++ new) (sym (none_found before found b)))
@@ -50,8 +49,7 @@ found_after before (v ∷ ws) a w found b j =
     let f : IsFirstOf before v ws found = first_found before v ws found b in
     let new : List Border = borders_with a.part w.part.channels in
     let old : List Border = borders_with f.joint.part v.part.channels in
-    let further : AreJoined nothing ((before ++ v ∷ []) ++ ws) a =
-    subst (λ (ts : List Written). AreJoined nothing ts a) (sym (append_assoc before (v ∷ []) ws)) j in
+    let further : AreJoined nothing ((before ++ v ∷ []) ++ ws) a = search (arith, append_assoc) in
     found_same before (v ∷ (ws ++ w ∷ [])) (old ++ (f.rest ++ new)) (found ++ new)
     (sym (append_assoc old f.rest new) ∙ ap (λ (bs : List Border). bs ++ new) (sym f.are))
     (AreBorders.one before f.joint v (ws ++ w ∷ []) (f.rest ++ new) f.joined
@@ -93,7 +91,8 @@ last_found before (v ∷ ws) w found b =
 pub skipped : (past : Bool) (over vs us : List Written) (h : Written) (f : StreamFault) → h.end ≡ Some f
     → IsJointOf past over h → (found : List Border) → AreBordersOf past (over ++ vs) found
     → AreBordersOf past (over ++ us) (found ++ [])
-skipped past over vs us h f n j found b = search (arith, found_same, append-nil, counted_stop)
+skipped past over vs us h f n j found b =
+    search (arith, found_same, append-nil, counted_stop)
 
 -- the last, and another in its place
 pub replaced : (past : Bool) (over : List Written) (w v u h : Written) → IsLast past over w h → w.end ≡ None

@@ -7,7 +7,7 @@ use Rattle.mseed_join.specs.Headline.{IsReadOf}
 use Rattle.mseed_join.specs.Joined.{Begins, HasNoEnd, IsBadLine, IsJointOf, lacks, unended, wrong}
 use Rattle.mseed_join.specs.Written.{Spells, Written}
 use Rattle.mseed_join.proofs.Ended.{IsEnded, ended}
-use Rattle.mseed_join.proofs.Machine.{AreAll, all_rows, lines_text, texts_all, texts_are}
+use Rattle.mseed_join.proofs.Machine.{AreAll, lines_text, texts_all, texts_are}
 
 -- nothing, or bytes up to an LF
 abbrev IsClosed : List ℕ → Type 0
@@ -32,7 +32,7 @@ lines_closed [] h = inl refl
 lines_closed (x ∷ xs) h = closed_more x (lines_text xs) h.0 (lines_closed xs h.1)
 
 texts_closed : (bytes : List ℕ) (ws : List Written) → Spells bytes ws → IsClosed bytes
-texts_closed bytes ws spells = search (arith, texts_are, lines_closed, all_rows, texts_all)
+texts_closed bytes ws spells = search (arith, texts_are, lines_closed, texts_all)
 
 ends_there : (first : List ℕ) → HasNoEnd (first ++ 10 ∷ []) → ⊥
 ends_there [] h = h.0 refl
@@ -51,12 +51,14 @@ no_rest (b ∷ lines) line (c ∷ first) some plain e =
     no_rest lines line first some plain rest
 
 not_unended : (bytes lines line : List ℕ) → IsClosed bytes → bytes ≡ lines ++ line → line ≢ [] → HasNoEnd line → ⊥
-not_unended bytes lines line closed is some plain = search (arith, none_after, no_rest)
+not_unended bytes lines line closed is some plain =
+    search (arith, none_after, no_rest)
 
 -- what was read goes on to the texts
 begun : (past : Bool) (text bytes rest first : List ℕ) (left : List ℕ) (ws : List Written) (joint : Written)
     → Spells text ws → IsJointOf past ws joint → text ≡ bytes ++ left → bytes ≡ first ++ rest → Begins past first
-begun past text bytes rest first left ws joint spells joined read is = search (arith, append_assoc)
+begun past text bytes rest first left ws joint spells joined read is =
+    search (arith, append_assoc)
 
 pub all_read : (text : List ℕ) (input : BytesRead) → IsReadOf text input → input.is_at_end ≡ true → text ≡ input.bytes
 all_read text input read done = search (arith, append-nil)

@@ -44,10 +44,8 @@ cut_is only archive h g a b read cut by =
     (first_known archive h a read)
     (known (take a.written.part.bytes archive) g b.audited.views b.audited.end cut b.audited.all
     (subst EndsByBytes b.end by)) in
-    let part : IsPartOf a.written.part b.audited.views =
-    subst (λ (vs : List View). IsPartOf a.written.part vs) both.0 a.part in
-    let same : b.written.part ≡ a.written.part =
-    only b.written.part a.written.part b.audited.views b.part part in
+    let part : IsPartOf a.written.part b.audited.views = search arith in
+    let same : b.written.part ≡ a.written.part = search arith in
     let faults : b.written.faults ≡ a.written.faults = b.faults ∙ sym a.faults in
     let none : b.written.end ≡ None = b.end ∙ sym both.1 in
     λ i. record { part = same i; faults = faults i; end = none i }

@@ -1,6 +1,6 @@
 -- Bytes that are records and what is left after them.
 use Rattle.std.proofs.Common.{◌≡◌, ℕ, ◌+◌, ◌++◌, List, [], ◌∷◌, Option, Some, None, true, refl, sym, arith}
-use Rattle.std.proofs.Common.{ap, ◌∙◌, subst, append_assoc, append-nil}
+use Rattle.std.proofs.Common.{ap, ◌∙◌, append_assoc, append-nil}
 use Rattle.std.proofs.ByRecursion.{All-append}
 use Rattle.std.proofs.lemmas.Bool.{both_ways}
 use Rattle.std.proofs.lemmas.List.{take-append-drop}
@@ -13,7 +13,7 @@ use Rattle.mseed_stream.specs.Cutting.{read_from}
 use Rattle.mseed_stream.specs.Device.{BytesRead}
 use Rattle.mseed_stream.specs.Walk.{AreAllViews, IsEnd, bytes_in}
 use Rattle.mseed_stream.specs.declared.fault.StreamFault.{StreamFault}
-use Rattle.mseed_stream.specs.declared.fault.StreamFault.TheVariants.{Frame, Truncated, Read, Turns, Memory}
+use Rattle.mseed_stream.specs.declared.fault.StreamFault.TheVariants.{Frame, Truncated, Read}
 use Rattle.mseed_stream.proofs.Ends.{one_end}
 use Rattle.mseed_stream.proofs.Handed.{no_further}
 use Rattle.mseed_stream.proofs.OneInput.{ended, refused_of, same_views}
@@ -40,21 +40,18 @@ ends_so (Some (Frame n f)) offset h rest by is all = record {
   is = is_frame f (refused_more (read_from offset h) rest f (refused_of (read_from offset h) f is.0.1));
   end_is = ap (λ (k : ℕ). Some (Frame k f)) is.0.0;
 }
-ends_so (Some (Truncated n have)) offset h rest by is all = search (arith, append-nil)
+ends_so (Some (Truncated n have)) offset h rest by is all =
+    search (arith, append-nil)
 ends_so (Some (Read n)) offset h rest by is all = absurd by
 ends_so _ offset h rest by is all = absurd by
 
 -- and so it does once it was read to its end
 pub at_end_by : (end : Option StreamFault) (offset : ℕ) (h : BytesRead) → h.is_at_end ≡ true → IsEnd end offset h
     → EndsByBytes end
-at_end_by (Some (Read n)) offset h done is = both_ways h.is_at_end is.0.2 done
-at_end_by (Some (Turns n)) offset h done is = both_ways h.is_at_end is.0.2 done
-at_end_by (Some Memory) offset h done is = is.1 refl
-at_end_by _ offset h done is = tt
+at_end_by end offset h h1 h2 = grind (arith, both_ways)
 
 moved_ended : (e offset : ℕ) (at : End) → option_map (moved_fault e) (ended offset at) ≡ ended (e + offset) at
-moved_ended e offset clean = refl
-moved_ended e offset _ = refl
+moved_ended e offset at = grind arith
 
 -- after so many more bytes
 ends_moved : (e offset : ℕ) (rest : List ℕ) (end : Option StreamFault) → EndsSo offset rest end
@@ -62,8 +59,7 @@ ends_moved : (e offset : ℕ) (rest : List ℕ) (end : Option StreamFault) → E
 ends_moved e offset rest end so = search (arith, moved_ended)
 
 nothing_left : (offset : ℕ) (rest : List ℕ) (at : End) → IsEndOf rest at → None ≡ ended offset at → rest ≡ []
-nothing_left offset rest clean (is_clean e) same = e
-nothing_left offset rest _ is same = cc same
+nothing_left offset rest at h1 h2 = grind arith
 
 -- where there is no fault, nothing is left
 none_left : (offset : ℕ) (rest : List ℕ) (end : Option StreamFault) → EndsSo offset rest end → end ≡ None
@@ -116,8 +112,7 @@ one_cut bytes vs ws rest left a b c d so to =
     let both = one_archive bytes (bytes_in vs) (bytes_in ws) rest left (archive_of bytes vs rest so.at c so.is)
     (archive_of bytes ws left to.at d to.is) in
     let views : vs ≡ ws = same_views vs ws c.views_are d.views_are both.0 in
-    let at : so.at ≡ to.at =
-    one_end left so.at to.at (subst (λ (xs : List ℕ). IsEndOf xs so.at) both.1 so.is) to.is in
+    let at : so.at ≡ to.at = search (arith, one_end) in
     (views, so.end_is ∙ (λ i. ended (size_of (views i)) (at i)) ∙ sym to.end_is)
 
 -- ---- archives
@@ -138,8 +133,7 @@ known archive h views end read all by =
         joined = read.bytes ∙ ap (λ (xs : List ℕ). xs ++ read.rest) (read_joined h views end all)
             ∙ append_assoc (concat (bytes_in views)) left read.rest;
       };
-      ends = subst (λ (n : ℕ). EndsSo n (left ++ read.rest) end) (read_size h views end all)
-          (ends_so end all.offset h read.rest by all.ends read.all);
+      ends = rw (← (read_size h views end all)) (ends_so end all.offset h read.rest by all.ends read.all);
     }
 
 -- nothing
@@ -155,13 +149,11 @@ pub known_after : (first second : List ℕ) (xs ys : List View) (before end : Op
     → IsKnown first xs before → IsKnown second ys end
     → IsKnown (first ++ second) (xs ++ ys) (option_map (moved_fault (size_of xs)) end)
 known_after first second xs ys before end none a b =
-    let whole : IsCut first xs [] =
-    subst (λ (rest : List ℕ). IsCut first xs rest) (none_left (size_of xs) a.rest before a.ends none) a.cut in
+    let whole : IsCut first xs [] = search (arith, none_left) in
     record {
       rest = b.rest;
       cut = cut_after first second xs ys b.rest whole b.cut;
-      ends = subst (λ (n : ℕ). EndsSo n b.rest (option_map (moved_fault (size_of xs)) end)) (sym (bytes_append xs ys))
-          (ends_moved (size_of xs) (size_of ys) b.rest end b.ends);
+      ends = rw (bytes_append xs ys) (ends_moved (size_of xs) (size_of ys) b.rest end b.ends);
     }
 
 -- an archive is one list of records, and ends in one way

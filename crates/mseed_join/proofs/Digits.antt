@@ -20,8 +20,7 @@ Ends (b ∷ bs) = is_digit b ≡ false
 
 pub bind_some : {A B : Type 0} (o : Option A) (f : A → Option B) (y : B) → (o >>= f) ≡ Some y
     → (x : A) × ((o ≡ Some x) × (f x ≡ Some y))
-bind_some None f y e = absurd (none-some y e)
-bind_some (Some x) f y e = (x, (refl, e))
+bind_some o f y h1 = grind (arith, none-some)
 
 -- ---- words
 pub word_after : (word bytes rest : List ℕ) → after word bytes ≡ Some rest → bytes ≡ word ++ rest
@@ -66,8 +65,7 @@ chosen : (n : ℕ) → 0 < n → n < 10 ^ 64 → Chosen n (decimal n)
 chosen n some few = decimal_by_steps_wide (λ m ds. 0 < m → Chosen m ds) chosen_one chosen_more n few some
 
 more_ends : (n : ℕ) (rest : List ℕ) → Ends rest → more_at n rest ≡ (n, rest)
-more_ends n [] e = refl
-more_ends n (b ∷ bs) e = ap (λ (t : Bool). cond t (more_at (10 * n + (b - 48)) bs) (n, b ∷ bs)) e
+more_ends n rest h1 = grind arith
 
 le_true : (a b : ℕ) → a ≤ b → nat_le a b ≡ true
 le_true a b l = grind (arith, nat_tests)
@@ -108,8 +106,18 @@ more_after : (n : ℕ) (bs : List ℕ) → 0 < n → (more_at n bs).0 < 10 ^ 64
     → decimal n ++ bs ≡ decimal (more_at n bs).0 ++ (more_at n bs).1
 more_after n [] some few = refl
 more_after n (b ∷ bs) some few =
-    search (arith, digit_after, is_low, is_high, grows, append_assoc, more_after (10 * n + (b - 48)) bs (omega (arith,
-    some)))
+    search (
+      arith,
+      digit_after,
+      is_low,
+      is_high,
+      grows,
+      append_assoc,
+      more_after (10 * n + (b - 48)) bs (omega (
+        arith,
+        some,
+      )),
+    )
 
 within_some : (largest : ℕ) (x y : ℕ × List ℕ) → within largest x ≡ Some y → (x ≡ y) × (x.0 ≤ largest)
 within_some largest x y e = search (arith, nat_le, nat_tests)
@@ -162,8 +170,7 @@ pub stays_small : (n count digit : ℕ) → n < 10 ^ (count + 1) → digit < 10
     → 10 * n + digit < 10 ^ (count + 1 + 1)
 stays_small n count digit small l =
     let next : count + 1 + 1 ≡ suc (count + 1) = omega arith in
-    let power : 10 ^ (count + 1 + 1) ≡ 10 * 10 ^ (count + 1) =
-    ap (λ (k : ℕ). 10 ^ k) next ∙ pow-succ' 10 (count + 1) in
+    let power : 10 ^ (count + 1 + 1) ≡ 10 * 10 ^ (count + 1) = search (arith, pow-succ') in
     omega (arith, small, l, power)
 
 -- so many digits, and room for one more
@@ -179,9 +186,7 @@ pub number_on : (largest n count first : ℕ) (bytes tail : List ℕ) → 1 ≤ 
     → is_digit (get_or bytes 0 0) ≡ true → tail ≡ drop 1 bytes → first ≡ get_or bytes 0 0 - 48
     → more_at n (drop count tail) ≡ more_at first tail
     → number_at largest bytes ≡ within largest (more_at n (drop (count + 1) bytes))
-number_on largest n count first [] tail some other digit rest_is is more = absurd (omega (arith, some))
-number_on largest n count first (b ∷ bs) tail some other digit rest_is is more =
-    search (arith, number_from, is_low, is_high)
+number_on largest n count first bytes tail h1 h2 h3 h4 h5 h6 = grind (arith, number_from, is_low, is_high)
 
 -- the first digit of a number
 pub record Begins (n : ℕ) : Type 0 where
@@ -234,7 +239,8 @@ integer_back below above (pos n) rest low high l e =
     ∙ number_back above n rest l (omega (arith, l, high)) e in
     ap (λ (ds : List ℕ). integer_at below above (ds ++ rest)) b.is
     ∙ integer_from below above b.first (b.others ++ rest) (n, rest) b.low read
-integer_back below above (negsuc n) rest low high l e = search (arith, integer_minus, number_back)
+integer_back below above (negsuc n) rest low high l e =
+    search (arith, integer_minus, number_back)
 
 -- an integer that was read stands before it
 abbrev pub IsInteger : ℕ → ℕ → List ℕ → ℤ × List ℕ → Type 0

@@ -168,7 +168,8 @@ module _ {first old : BytesWritten} {text : List ℕ} {found : List Border} (bef
   -- one more line was added, and perhaps written
   pub lined_more : {new : BytesWritten} {whole next : List ℕ} (more : List Border) → whole ≡ text ++ border_lines more
       → AreGathered old new next whole → new.failures ≡ old.failures → AreLined first new next (found ++ more)
-  lined_more {new} {whole} {next} more e written fine = search (arith, gathered_also, lines_append)
+  lined_more {new} {whole} {next} more e written fine =
+      search (arith, gathered_also, lines_append)
 
   -- there was no memory for it
   pub lined_no_more : (more : List Border) → IsCutShort first old (border_lines (found ++ more)) Memory

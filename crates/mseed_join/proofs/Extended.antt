@@ -66,13 +66,12 @@ else_kept (Some c) o = Some c
 else_kept None o = o
 
 else_none : (o : Option Channel) → else_kept o None ≡ o
-else_none None = refl
-else_none (Some c) = refl
+else_none o = grind arith
 
 lookup_append : (test : List ℕ → Bool) (es : Entries) (e : List ℕ × Channel)
     → lookup test (es ++ e ∷ []) ≡ else_kept (lookup test es) (cond (test e.0) (Some e.1) None)
 lookup_append test [] e = refl
-lookup_append test (d ∷ es) e = search (arith, else_kept, lookup_append test es e)
+lookup_append test (d ∷ es) e = search (arith, lookup_append test es e)
 
 module _ (a now next : Held) (es : Entries) (key : List ℕ) (c : Channel) (before : Joins a es now)
     (new : kept_of key es ≡ None) (joint : IsJoint now (one_channel key c) next) where
@@ -118,7 +117,8 @@ pub fits_here : (a now : Held) (es : Entries) (x : List ℕ × Channel) (rest : 
     → Joins a es now
     → FitsAt a.records a.bytes (kept_of x.0 a.channels) (kept_of x.0 (es ++ x ∷ rest))
     → FitsAt now.records now.bytes (kept_of x.0 now.channels) (Some x.1)
-fits_here a now es x rest new before fit = search (arith, leaves_kept, kept_after, same_itself)
+fits_here a now es x rest new before fit =
+    search (arith, leaves_kept, kept_after, same_itself)
 
 -- one more
 pub fits_more : (a now : Held) (es : Entries) (x : List ℕ × Channel) → kept_of x.0 es ≡ None

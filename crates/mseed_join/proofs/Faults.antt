@@ -1,24 +1,20 @@
 -- The ranges of what is found of a record.
-use Rattle.std.proofs.Common.{◌≡◌, ℕ, zero, suc, ℤ, pos, negsuc, ◌+◌, ◌-◌, ◌^◌, ◌<◌, ◌≤◌, List, [], ◌∷◌, ◌++◌, length}
-use Rattle.std.proofs.Common.{map, Bool, true, false, cond, Option, Some, None, refl, subst, arith, IfSome}
+use Rattle.std.proofs.Common.{◌≡◌, ℕ, zero, suc, ℤ, ◌+◌, ◌-◌, ◌^◌, ◌<◌, ◌≤◌, List, [], ◌∷◌, ◌++◌, length}
+use Rattle.std.proofs.Common.{map, Bool, cond, Option, Some, None, subst, arith, IfSome}
 use Rattle.std.proofs.Common.{length-append}
 use Rattle.std.specs.List.{AllByRecursion, filter, range_with_len}
 use Rattle.std.proofs.Math.Nat.{div-le_self}
-use Rattle.std.proofs.lemmas.Int.{ints}
 use Rattle.std.proofs.lemmas.List.{get_or-drop, length-drop}
 use Rattle.std.proofs.lemmas.List.Elements.{recursion_from_All}
 use Rattle.mseed_time.specs.Rate.{Ratio}
 use Rattle.mseed_time.specs.declared.outcome.Join.{Join}
-use Rattle.mseed_time.specs.declared.outcome.Join.TheVariants.{Meets}
 use Rattle.mseed_record.specs.View.{View, IsView}
 use Rattle.mseed_record.specs.declared.leap.Leap.{Leap}
-use Rattle.mseed_record.specs.declared.leap.Leap.TheVariants.{Both}
 use Rattle.mseed_steim.specs.Frames.{DataWord, data_word, data_words, is_data, word_count, words_from}
 use Rattle.mseed_steim.specs.Reading.{IsFault, encoding, in_payload}
 use Rattle.mseed_steim.specs.Samples.{IsSample, IsFrameFault, IsPayloadFault, short, bad_word, overflow, last_differs}
 use Rattle.mseed_steim.specs.declared.scheme.Scheme.{Scheme}
 use Rattle.mseed_steim.specs.declared.form.Form.{Form}
-use Rattle.mseed_steim.specs.declared.form.Form.TheVariants.{Integers, Frames}
 use Rattle.mseed_steim.specs.declared.fault.ReadFault.{ReadFault}
 use Rattle.mseed_steim.proofs.Framed.{constant_fits}
 use Rattle.mseed_stream.proofs.Passed.{record_few}
@@ -38,8 +34,7 @@ middle P (y ∷ first) x rest h = middle P first x rest h.1
 
 -- ---- the payload
 sample_word : (z : ℤ) → IsSample z → IsWord z
-sample_word (pos n) h = omega (arith, ints, h.0, h.1)
-sample_word (negsuc n) h = omega (arith, ints, h.0, h.1)
+sample_word z h1 = grind arith
 
 below : (k n m : ℕ) → k + n ≤ m → AllByRecursion (λ i. i < m) (range_with_len k n)
 below k zero m h = tt
@@ -73,14 +68,14 @@ frame_fault scheme p n _ octets small few (bad_word before bad back ds cut run l
     (data_words_at p (2 ^ 30) (omega (arith, small, div-le_self (length p) 64))) in
     let it = middle (IsAt (2 ^ 30)) before bad back all in
     (omega (arith, it.0), omega (arith, it.1))
-frame_fault scheme p n _ octets small few (overflow prefix sum rest sums fit not_fit) = search (arith, length-append)
+frame_fault scheme p n _ octets small few (overflow prefix sum rest sums fit not_fit) =
+    search (arith, length-append)
 frame_fault scheme p n _ octets small few (last_differs prefix last sums fit differs) =
     search (arith, recursion_from_All, sample_word, middle, constant_fits)
 
 payload_fault : (form : Form) (p : List ℕ) (n : ℕ) (f : ReadFault) → AreOctets p → length p ≤ 2 ^ 20 → n < 2 ^ 16
     → IsPayloadFault form p n f → HasReadFault f
-payload_fault (Integers width) p n f octets small few is = search arith
-payload_fault (Frames scheme) p n f octets small few is = frame_fault scheme p n f octets small few is
+payload_fault form p n f h1 h2 h3 h4 = grind (arith, frame_fault)
 
 -- why samples aren't read
 read_fault : (v : View) (f : ReadFault) → IsView v → IsFault v f → HasReadFault f
@@ -91,26 +86,23 @@ read_fault v _ is _ = tt
 
 -- ---- what is found after a record
 of_join : (j : Join) → JoinFits j → IfSome (why_of j) HasWhy
-of_join Meets h = tt
-of_join _ h = h
+of_join j h1 = grind arith
 
 by_leap : (leap : Leap) (j : Join) → JoinFits j → IfSome (why_by leap j) HasWhy
-by_leap Both j h = tt
-by_leap _ j h = of_join j h
+by_leap leap j h1 = grind (arith, of_join)
 
 by_rates : (b : Bool) (leap : Leap) (j : Join) → JoinFits j → IfSome (cond b (why_by leap j) (Some RateChange)) HasWhy
-by_rates true leap j h = by_leap leap j h
-by_rates false leap j h = tt
+by_rates b leap j h1 = grind (arith, by_leap)
 
 from_one : (b v : View) (o : Option Ratio) (next : Ratio) → IsView b → IsView v → known_rate b ≡ o
     → known_rate v ≡ Some next → IfSome (why_from b o v next) HasWhy
 from_one b v None next is at e k = tt
-from_one b v (Some r) next is at e k = search (arith, by_rates, join_fits, start_within, count_small, rate_within)
+from_one b v (Some r) next is at e k =
+    search (arith, by_rates, join_fits, start_within, count_small, rate_within)
 
 after_one : (before : Option View) (v : View) (next : Ratio) → IfSome before IsView → IsView v
     → known_rate v ≡ Some next → IfSome (why_after before v next) HasWhy
-after_one None v next is at e = tt
-after_one (Some b) v next is at e = from_one b v (known_rate b) next is at refl e
+after_one before v next h1 h2 h3 = grind (arith, from_one)
 
 pub found_has : (before : Option View) (v : View) (o : Option Why) → IfSome before IsView → IsView v
     → IsFound before v o → IfSome o HasWhy

@@ -60,8 +60,7 @@ first_of : {X : Type 0} → (line : List ℕ) (f : Field) (fs : List Field) (o :
     → (o ≡ None → IsGoodTo f line → ⊥)
     → ((x : X) → o ≡ Some x → IsGoodTo f line × IsFirstOf line (others x) fs)
     → IsFirstOf line (or_bad f o others) (f ∷ fs)
-first_of line f fs None others none some = inl (refl, none refl)
-first_of line f fs (Some x) others none some = inr (some x refl)
+first_of line f fs o others h1 h2 = grind arith
 
 -- how far bytes are read: as the text of this one, and as no other text
 record Read {X : Type 0} (Fits : X → Type 0) (bytes : List ℕ) (to : X → List ℕ → List ℕ) (left : List ℕ) : Type 0 where
@@ -94,8 +93,7 @@ step {X} {Fits = Fits} line {bytes} {left} {to} {text = text} {word} {pass} f fs
     (λ none g. let b = of g in neither (pass left) b.rest none (reads b.x b.rest b.fits b.ends b.is)) (λ r some.
     let p = field.past left r some in
     let fits : Fits (put m.x p.x) = put_fits m.x p.x m.fits p.fits in
-    let is : bytes ≡ to (put m.x p.x) (word ++ (text (get (put m.x p.x)) ++ r)) =
-    m.is ∙ ap (to m.x) p.is ∙ same m.x p.x r in (
+    let is : bytes ≡ to (put m.x p.x) (word ++ (text (get (put m.x p.x)) ++ r)) = search arith in (
       good (put m.x p.x) fits r p.ends is,
       more r p.ends (record {
         x = put m.x p.x;
@@ -107,9 +105,7 @@ step {X} {Fits = Fits} line {bytes} {left} {to} {text = text} {word} {pass} f fs
   where
     reads : (x : X) (rest : List ℕ) → Fits x → ends_field rest ≡ true
         → bytes ≡ to x (word ++ (text (get x) ++ rest)) → pass left ≡ Some rest
-    reads x rest fits ends is =
-        ap pass (sym (m.only x (word ++ (text (get x) ++ rest)) fits (space (text (get x) ++ rest)) is))
-        ∙ field.on (get x) rest (get_fits x fits) ends
+    reads x rest fits ends is = search arith
 
 -- ---- channels
 abbrev HasLine : List ℕ × Channel → Type 0
@@ -140,8 +136,7 @@ fits_with : (key : List ℕ) (c : Channel) (f : Findings) → HasChannelLine key
 fits_with key c f h fits = search arith
 
 ends_fit : (f : Findings) → HasFindings f → IfSome (head_in f) HasHead × IfSome (tail_in f) HasTail
-ends_fit (Nothing head tail) h = (h.0, h.1)
-ends_fit (Counted count first head tail) h = (h.3, h.4)
+ends_fit f h1 = grind arith
 
 -- a line begins as that of a channel up to here, and goes on with these bytes; so does each channel's line with which
 -- it begins, and this holds of the channel
@@ -173,8 +168,7 @@ has_both c = is_some (tail_in c.findings) && has_head c
 
 -- a number of findings, by whether there are both a head and a tail
 number_fits : (f : Findings) → HasFindings f → AreFindings (is_some (tail_in f) && is_some (head_in f)) (count_in f)
-number_fits (Nothing head tail) h = (omega arith, refl)
-number_fits (Counted count first head tail) h = (h.1, rw (lt-ltb 0 count h.0) refl)
+number_fits f h1 = grind (arith, lt-ltb)
 
 -- so many findings of this head and this tail
 record Makes (n : ℕ) (head : Option Head) (tail : Option Tail) : Type 0 where
@@ -213,10 +207,8 @@ module _ (line : List ℕ) (both : Bool) (m : Reached line (to_tail to_tail_leap
       let p = (findings_field both).past m.good.rest r e in
       let old = ends_fit m.good.channel.findings m.good.has_line.findings in
       let made : Makes p.x (head_in m.good.channel.findings) (tail_in m.good.channel.findings) =
-      makes p.x (head_in m.good.channel.findings) (tail_in m.good.channel.findings) old.0 old.1
-      (subst (λ (b : Bool). AreFindings b p.x) (sym m.own) p.fits) in
-      let is : line ≡ to_tail to_tail_leap m.good.key m.good.channel (codes " findings " ++ (decimal p.x ++ r)) =
-      m.good.is ∙ ap (λ (z : List ℕ). to_tail to_tail_leap m.good.key m.good.channel z) p.is in (
+      search (arith, makes) in
+      let is = m.good.is ∙ ap (λ (z : List ℕ). to_tail to_tail_leap m.good.key m.good.channel z) p.is in (
         good_with line to_findings m.good.key m.good.channel made.findings r m.good.has_line made.fits p.ends
             (rw (made.count_is, made.head_is, made.tail_is) is),
         inl (refl, λ g. never g.key g.channel g.has_line g.is),
@@ -276,8 +268,7 @@ module _ {X : Type 0} {Fits : X → Type 0} {get : Findings → Option X} {word 
     of_some : (part : X → List ℕ → List ℕ) (o : Option X) (rest : List ℕ) → IfSome o Fits → ends_field rest ≡ true
         → word ++ or_none part o rest ≡ m.good.rest
         → (x : X) × ((o ≡ Some x) × (Fits x × (m.good.rest ≡ word ++ part x rest)))
-    of_some part None rest fits ends is = search (arith, neither, word_on)
-    of_some part (Some x) rest fits ends is = (x, (refl, (fits, sym is)))
+    of_some part o rest h1 h2 h3 = grind (arith, neither, word_on)
 
     part_of : (part : X → List ℕ → List ℕ) → BeginsAsChannel (To part) line
         → Begins Fits m.good.rest (λ x rest. word ++ part x rest)

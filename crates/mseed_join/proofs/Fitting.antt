@@ -11,9 +11,8 @@ use Rattle.mseed_stream.specs.Walk.{bytes_in}
 use Rattle.mseed_stream.specs.declared.fault.StreamFault.{StreamFault}
 use Rattle.mseed_audit.specs.declared.channel.Channel.{Channel}
 use Rattle.mseed_audit.specs.declared.channel.Findings.{Findings}
-use Rattle.mseed_audit.specs.declared.channel.Findings.TheVariants.{Nothing, Counted}
 use Rattle.mseed_audit.specs.declared.channel.Head.{Head}
-use Rattle.mseed_audit.specs.Audit.{Stands, StandsAt, head_in}
+use Rattle.mseed_audit.specs.Audit.{StandsAt, head_in}
 use Rattle.mseed_audit.specs.Channels.{Placed, added_from, records_of}
 use Rattle.mseed_audit.specs.Summary.{Audited}
 use Rattle.mseed_join.specs.Joining.{channel_then, channel_joined, moved_channel, moved_findings, moved_head}
@@ -34,17 +33,14 @@ use Rattle.mseed_join.proofs.Readable.{IsOne, count_of_key, has_channel, has_lin
 
 -- ---- no number passes the limit
 if_head : (d e : ℕ) (o : Option Head) → IfSome (option_map (moved_head d e) o) HasHead → HeadFits d e o
-if_head d e None h = tt
-if_head d e (Some head) h = (h.number, h.offset)
+if_head d e o h1 = grind arith
 
 findings_move : (d e : ℕ) (f : Findings) → HasFindings (moved_findings d e f)
     → (HeadFits d e (head_in f) × FirstFits d e f) × CountFits f
-findings_move d e (Nothing head tail) h = (((h.0.number, h.0.offset), tt), tt)
-findings_move d e (Counted count first head tail) h = search (arith, if_head)
+findings_move d e f h1 = grind (arith, if_head)
 
 findings_count : (f : Findings) → HasFindings f → CountFits f
-findings_count (Nothing head tail) h = tt
-findings_count (Counted count first head tail) h = h.1
+findings_count f h1 = grind arith
 
 counts_of : (key : List ℕ) (c : Channel) → HasChannelLine key c → CountsFit c
 counts_of key c l = (l.records, l.samples, findings_count c.findings l.findings)
@@ -67,8 +63,7 @@ module _ (a w b : Held) (vs xs : List View) (p : IsPartOf a vs) (q : IsPartOf w 
       let size : ℕ = size_of vs + size_of xs in
       let ps : List Placed = records_of key (added_from 0 xs) in
       let stands : StandsAt (Some o) ps = subst (λ (x : Option Channel). StandsAt x ps) e (q.each key) in
-      let moves : Stands (moved_channel a.records a.bytes o) (map (moved a.records a.bytes) ps) =
-      stands_at_moved a.records a.bytes (Some o) ps stands in
+      let moves = stands_at_moved a.records a.bytes (Some o) ps stands in
       has_line key n size few small (moved_channel a.records a.bytes o) (map (moved a.records a.bytes) ps)
       (ones_moved key (length xs) (size_of xs) a.records a.bytes n size ps (omega (arith, p.records))
       (omega (arith, p.bytes)) (ones_of key (size_of xs) xs second (omega arith)))
@@ -113,8 +108,7 @@ module _ (add_up : AddUp) where
       → (b : Written) × IsNext a p.written b
   next_of before a h p so few small =
       let joint = joint_of a.part p.written.part so.part.ascending p.part.ascending in
-      let whole : IsPartOf joint.0 (so.views ++ p.audited.views) =
-      add_up a.part p.written.part joint.0 so.views p.audited.views so.part p.part joint.1 in (
+      let whole : IsPartOf joint.0 (so.views ++ p.audited.views) = search arith in (
         record {
           part = joint.0;
           faults = a.faults + p.written.faults;
@@ -139,8 +133,7 @@ module _ (add_up : AddUp) where
   join_all _ before _ a (last archive h p read by) so clear few small =
       let it = next_of before a h p so few small in (
         it.0,
-        subst (λ (ws : List Written). AreJoined a ws it.0) (sym (counted_last p.written p.written.end))
-            (one a p.written it.0 it.0 [] it.1 (none it.0)),
+        rw (counted_last p.written p.written.end) (one a p.written it.0 it.0 [] it.1 (none it.0)),
       )
   join_all _ before _ a (more archive others h p ws read end parted) so clear few small =
       let later : List View = views_of others ws parted in
@@ -148,8 +141,7 @@ module _ (add_up : AddUp) where
       (omega (arith, small, bytes_append p.audited.views later)) in
       let by : EndsByBytes p.written.end = subst EndsByBytes (sym end) tt in
       let now : IsSoFar (before ++ archive) it.0 = further add_up before archive a it.0 h p so clear read by it.1 in
-      let goes_on : it.0.end ≡ None =
-      it.1.end ∙ ap (λ (o : Option StreamFault). option_map (moved_fault a.part.bytes) o) end in
+      let goes_on : it.0.end ≡ None = search arith in
       let rest = join_all others (before ++ archive) ws it.0 parted now goes_on
       (omega (arith, few, length-append p.audited.views later, length-append so.views p.audited.views))
       (omega (arith, small, bytes_append p.audited.views later, bytes_append so.views p.audited.views)) in (
@@ -182,7 +174,6 @@ module _ (add_up : AddUp) where
       let all = whole_of archive ws parted in
       let both = one_known archive views a.views all.0 a.end all.1 (known archive h a.views a.end read a.all by) in
       let count : length views ≡ length a.views = ap (λ (vs : List View). length vs) both.0 in
-      let sum : length archive ≡ length (concat (bytes_in views)) + length all.1.rest =
-      ap (λ (xs : List ℕ). length xs) all.1.cut.joined ∙ length-append (concat (bytes_in views)) all.1.rest in
+      let sum : length archive ≡ length (concat (bytes_in views)) + length all.1.rest = search (arith, length-append) in
       join_all archive [] ws nothing parted (at_first nothing.part of_nothing) refl
       (omega (arith, count, a.all.few)) (omega (arith, sum, sizes views, size))

@@ -13,7 +13,6 @@ use Rattle.mseed_audit.specs.Reported.{last_of}
 use Rattle.mseed_audit.specs.Verdict.{finding_at, AreFindings, none, one}
 use Rattle.mseed_audit.specs.declared.channel.Channel.{Channel}
 use Rattle.mseed_audit.specs.declared.channel.Findings.{Findings}
-use Rattle.mseed_audit.specs.declared.channel.Findings.TheVariants.{Nothing, Counted}
 use Rattle.mseed_audit.specs.declared.channel.Head.{Head}
 use Rattle.mseed_audit.specs.declared.tail.Tail.{Tail}
 use Rattle.mseed_join.specs.Joining.{found_at, border_of, findings_with, channel_then, channel_joined}
@@ -48,8 +47,7 @@ border_is t b h q tail head = search arith
 
 found_is : (h : Head) (q : Placed) (why : Option Why) → IsHead h q
     → finding_at q why ≡ option_to_list (found_at h why)
-found_is h q None head = refl
-found_is h q (Some why) head = search arith
+found_is h q why h1 = grind arith
 
 -- a record that is judged after another has the border's finding before what is found of it alone
 pub record IsFoundNext (t : Option Tail) (b : View) (h : Option Head) (q : Placed) (why : Option Why) : Type 0 where
@@ -115,14 +113,7 @@ last_is ps prefix last e = ap (λ (qs : List Placed). last_of None qs) e ∙ las
 -- ---- counts and ends
 ends_with : (a b : Findings) (border : Option Finding)
     → (head_in (findings_with a b border) ≡ head_in a) × (tail_in (findings_with a b border) ≡ tail_in b)
-ends_with (Nothing head t) (Nothing h tail) None = (refl, refl)
-ends_with (Nothing head t) (Nothing h tail) (Some f) = (refl, refl)
-ends_with (Nothing head t) (Counted n g h tail) None = (refl, refl)
-ends_with (Nothing head t) (Counted n g h tail) (Some f) = (refl, refl)
-ends_with (Counted m first head t) (Nothing h tail) None = (refl, refl)
-ends_with (Counted m first head t) (Nothing h tail) (Some f) = (refl, refl)
-ends_with (Counted m first head t) (Counted n g h tail) None = (refl, refl)
-ends_with (Counted m first head t) (Counted n g h tail) (Some f) = (refl, refl)
+ends_with a b border = grind arith
 
 pub head_with : (a b : Findings) (border : Option Finding) → head_in (findings_with a b border) ≡ head_in a
 head_with a b border = (ends_with a b border).0
@@ -135,40 +126,7 @@ none_in fs e = ap (λ (gs : List Finding). length gs) e
 
 counted_with : (a b : Findings) (border : Option Finding) (fs gs : List Finding) → AreCounted a fs → AreCounted b gs
     → AreCounted (findings_with a b border) (fs ++ (option_to_list border ++ gs))
-counted_with (Nothing head t) (Nothing h tail) None fs gs e k = λ i. e i ++ k i
-counted_with (Nothing head t) (Nothing h tail) (Some f) fs gs e k = search arith
-counted_with (Nothing head t) (Counted n first h tail) None fs gs e k = search arith
-counted_with (Nothing head t) (Counted n first h tail) (Some f) fs gs e k =
-    let all : fs ++ f ∷ gs ≡ f ∷ gs = ap (λ (hs : List Finding). hs ++ f ∷ gs) e in
-    (gs, (all, omega (arith, k.1.1, ap (λ (hs : List Finding). length hs) all)))
-counted_with (Counted m first head t) (Nothing h tail) None fs gs e k = (
-  e.0 ++ gs,
-  (
-    ap (λ (hs : List Finding). hs ++ gs) e.1.0,
-    omega (arith, e.1.1, none_in gs k, length-append fs gs),
-  ),
-)
-counted_with (Counted m first head t) (Nothing h tail) (Some f) fs gs e k = (
-  e.0 ++ f ∷ gs,
-  (
-    ap (λ (hs : List Finding). hs ++ f ∷ gs) e.1.0,
-    omega (arith, e.1.1, none_in gs k, length-append fs (f ∷ gs)),
-  ),
-)
-counted_with (Counted m first head t) (Counted n next h tail) None fs gs e k = (
-  e.0 ++ gs,
-  (
-    ap (λ (hs : List Finding). hs ++ gs) e.1.0,
-    omega (arith, e.1.1, k.1.1, length-append fs gs),
-  ),
-)
-counted_with (Counted m first head t) (Counted n next h tail) (Some f) fs gs e k = (
-  e.0 ++ f ∷ gs,
-  (
-    ap (λ (hs : List Finding). hs ++ f ∷ gs) e.1.0,
-    omega (arith, e.1.1, k.1.1, length-append fs (f ∷ gs)),
-  ),
-)
+counted_with a b border fs gs h1 h2 = grind (arith, none_in, length-append)
 
 samples_append : (ps qs : List Placed) → sample_count (ps ++ qs) ≡ sample_count ps + sample_count qs
 samples_append [] qs = omega arith
@@ -178,7 +136,8 @@ samples_append (p ∷ ps) qs = search (arith, samples_append ps qs)
 all_found : HaveOneFinding → (c o : Channel) (ps qs : List Placed) (s : Stands c ps) (t : Stands o qs)
     → AreFindings None (ps ++ qs)
     (s.found ++ (option_to_list (border_of (tail_in c.findings) (head_in o.findings)) ++ t.found))
-all_found only c o ps qs s t = search (arith, border_found, last_is, findings_append)
+all_found only c o ps qs s t =
+    search (arith, border_found, last_is, findings_append)
 
 pub stands_after : HaveOneFinding → (c o : Channel) (ps qs : List Placed) → Stands c ps → Stands o qs
     → Stands (channel_then c o) (ps ++ qs)
@@ -201,6 +160,4 @@ stands_after only c o ps qs s t =
 
 pub stands_joined : HaveOneFinding → (c o : Option Channel) (ps qs : List Placed) → StandsAt c ps → StandsAt o qs
     → StandsAt (channel_joined c o) (ps ++ qs)
-stands_joined only None o ps qs s t = subst (λ (rs : List Placed). StandsAt o (rs ++ qs)) (sym s) t
-stands_joined only (Some c) None ps qs s t = search (arith, append-nil)
-stands_joined only (Some c) (Some o) ps qs s t = stands_after only c o ps qs s t
+stands_joined h1 c o ps qs h2 h3 = grind (arith, append-nil, stands_after)

@@ -139,7 +139,8 @@ module _ (most less more : ℕ → ℕ → ℕ) (bytes : List ℕ) (room : 8 ≤
 
   values_are : sel_l (map (top 7) (zip2 most (replicate 8 10) figures)) (zip2 more letters (replicate 8 10)) figures
       ≡ map value digits
-  values_are = search (arith, are_other, raised_are, figures_are, map-map, sel_of_maps)
+  values_are =
+      search (arith, are_other, raised_are, figures_are, map-map, sel_of_maps)
 
   module _ (none : agree_below wrong (λ x. lacks (nibble_of x)) 256 ≡ true)
       (some : agree_below (λ x. wrong x || has (nibble_of x) (value x)) (λ x. true) 256 ≡ true) where

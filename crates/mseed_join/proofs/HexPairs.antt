@@ -68,7 +68,8 @@ pub pair_fits : (values : List ℕ) (i : ℕ) → length values ≡ 8 → i + 1 
     → ((k : ℕ) → k < 8 → get_or values k 0 < 16)
     → (16 * get_or (values ++ values) i 0 % 256 + get_or (values ++ values) (i + 1) 0) % 256
     ≡ 16 * get_or values i 0 + get_or values (i + 1) 0
-pair_fits values i size within small = search (arith, get_or_append_left, mod-eq_of_lt)
+pair_fits values i size within small =
+    search (arith, get_or_append_left, mod-eq_of_lt)
 
 -- ---- where a digit is none
 none_high : (o : Option ℕ) (n : ℕ) (done rest : List ℕ) (p : Option ℕ) → o ≡ None

@@ -1,5 +1,5 @@
 -- The laws of joining.
-use Rattle.std.proofs.Common.{◌≡◌, ℕ, ◌+◌, List, [], ◌∷◌, ◌++◌, Option, Some, None, refl, sym, ap, ◌∙◌, subst}
+use Rattle.std.proofs.Common.{◌≡◌, ℕ, List, [], ◌∷◌, ◌++◌, Option, Some, None, sym, ◌∙◌}
 use Rattle.std.proofs.Common.{arith, length-append}
 use Rattle.std.specs.Option.{option_map}
 use Rattle.mseed_record.specs.View.{View}
@@ -9,7 +9,6 @@ use Rattle.mseed_audit.specs.Verdict.{AreFindings}
 use Rattle.mseed_audit.proofs.Alike.{one_list}
 use Rattle.mseed_audit.specs.declared.channel.Channel.{Channel}
 use Rattle.mseed_audit.specs.declared.channel.Findings.{Findings}
-use Rattle.mseed_audit.specs.declared.channel.Findings.TheVariants.{Nothing, Counted}
 use Rattle.mseed_audit.specs.declared.channel.Head.{Head}
 use Rattle.mseed_audit.specs.declared.tail.Tail.{Tail}
 use Rattle.mseed_join.specs.Joining.{moved_head, moved_finding, moved_findings, moved_channel, channel_joined}
@@ -18,13 +17,13 @@ use Rattle.mseed_join.specs.Parts.{Held, IsAscending, kept_of, IsPartOf, IsJoint
 use Rattle.mseed_join.proofs.Adding.{joined_none}
 use Rattle.mseed_join.proofs.Following.{HaveOneFinding, last_is, stands_joined}
 use Rattle.mseed_join.proofs.Moving.{stands_at_moved}
-use Rattle.mseed_join.proofs.Placing.{moved, bytes_append, records_append}
+use Rattle.mseed_join.proofs.Placing.{bytes_append, records_append}
 
 -- the joint part of the parts of two archives is the part of the archives one after another
 pub joint_is : HaveOneFinding → (a b h : Held) (xs ys : List View) → IsPartOf a xs → IsPartOf b ys → IsJoint a b h
     → IsPartOf h (xs ++ ys)
 joint_is only a b h xs ys p q j =
-    search (arith, length-append, bytes_append, moved, stands_at_moved, stands_joined, records_append)
+    search (arith, length-append, bytes_append, stands_at_moved, stands_joined, records_append)
 
 -- ---- records have one part
 abbrev pub HaveOneList : Type 0
@@ -32,23 +31,14 @@ HaveOneList = (before : Option View) (ps : List Placed) (a b : List Finding) →
     → AreFindings before ps b → a ≡ b
 
 head_one : HaveOneFinding → (h g : Option Head) (p : Placed) → IsHeadOf h p → IsHeadOf g p → h ≡ g
-head_one only None None p i k = refl
-head_one only None (Some g) p i k = search arith
-head_one only (Some h) None p i k = search arith
-head_one only (Some h) (Some g) p i k = search arith
+head_one h1 h g p h2 h3 = grind arith
 
 tail_one : (t u : Option Tail) (v : View) → IsTailOf t v → IsTailOf u v → t ≡ u
-tail_one None None v i k = refl
-tail_one None (Some u) v i k = let rate = k.rate in cc (i, rate)
-tail_one (Some t) None v i k = let rate = i.rate in cc (rate, k)
-tail_one (Some t) (Some u) v i k = search arith
+tail_one t u v h1 h2 = grind arith
 
 findings_one : (f g : Findings) (found : List Finding) → head_in f ≡ head_in g → tail_in f ≡ tail_in g
     → AreCounted f found → AreCounted g found → f ≡ g
-findings_one (Nothing head tail) (Nothing h t) found e k i j = cc (e, k)
-findings_one (Nothing head tail) (Counted n first h t) found e k i j = let is = j.1.0 in cc (i, is)
-findings_one (Counted m first head tail) (Nothing h t) found e k i j = let is = i.1.0 in cc (is, j)
-findings_one (Counted m first head tail) (Counted n next h t) found e k i j = search arith
+findings_one f g found h1 h2 h3 h4 = grind arith
 
 stands_one : HaveOneFinding → HaveOneList → (c o : Channel) (ps : List Placed) → Stands c ps → Stands o ps → c ≡ o
 stands_one only single c o ps s t =
@@ -59,16 +49,10 @@ stands_one only single c o ps s t =
     let end : Some s.last.view ≡ Some t.last.view = sym (last_is ps s.prefix s.last s.ends)
     ∙ last_is ps t.prefix t.last t.ends in
     let last : s.last.view ≡ t.last.view = cc (end) in
-    let head : head_in c.findings ≡ head_in o.findings =
-    head_one only (head_in c.findings) (head_in o.findings) t.first
-    (subst (λ (p : Placed). IsHeadOf (head_in c.findings) p) first s.head) t.head in
-    let tail : tail_in c.findings ≡ tail_in o.findings =
-    tail_one (tail_in c.findings) (tail_in o.findings) t.last.view
-    (subst (λ (v : View). IsTailOf (tail_in c.findings) v) last s.tail) t.tail in
+    let head : head_in c.findings ≡ head_in o.findings = search (arith, head_one) in
+    let tail : tail_in c.findings ≡ tail_in o.findings = search (arith, tail_one) in
     let found : s.found ≡ t.found = single None ps s.found t.found s.are_found t.are_found in
-    let findings : c.findings ≡ o.findings =
-    findings_one c.findings o.findings t.found head tail
-    (subst (λ (fs : List Finding). AreCounted c.findings fs) found s.counted) t.counted in
+    let findings : c.findings ≡ o.findings = search (arith, findings_one) in
     λ i. record { records = records i; samples = samples i; findings = findings i }
 
 none_begins : (c : Channel) (ps : List Placed) → ps ≡ [] → Stands c ps → ⊥
@@ -76,10 +60,7 @@ none_begins c ps e s = let no : [] ≡ s.first ∷ s.rest = sym e ∙ s.begins i
 
 stands_at_one : HaveOneFinding → HaveOneList → (c o : Option Channel) (ps : List Placed) → StandsAt c ps
     → StandsAt o ps → c ≡ o
-stands_at_one only single None None ps s t = refl
-stands_at_one only single None (Some o) ps s t = absurd (none_begins o ps s t)
-stands_at_one only single (Some c) None ps s t = absurd (none_begins c ps t s)
-stands_at_one only single (Some c) (Some o) ps s t = ap (λ (x : Channel). Some x) (stands_one only single c o ps s t)
+stands_at_one h1 h2 c o ps h3 h4 = grind (arith, none_begins, stands_one)
 
 -- the same records and bytes, and the same at each key, are the same part
 pub same_held : (a b : Held) → a.records ≡ b.records → a.bytes ≡ b.bytes → IsAscending a.channels
@@ -97,8 +78,7 @@ joint_one a b h g j k = search (arith, same_held)
 
 -- ---- the part of nothing is the unit
 none_kept : (o : Option Channel) → StandsAt o [] → o ≡ None
-none_kept None s = refl
-none_kept (Some c) s = absurd (none_begins c [] refl s)
+none_kept o h1 = grind (arith, none_begins)
 
 head_still : (h : Head) → moved_head 0 0 h ≡ h
 head_still h = search arith
@@ -107,16 +87,13 @@ finding_still : (f : Finding) → moved_finding 0 0 f ≡ f
 finding_still f = search arith
 
 heads_still : (h : Option Head) → option_map (moved_head 0 0) h ≡ h
-heads_still None = refl
-heads_still (Some h) = ap (λ (g : Head). Some g) (head_still h)
+heads_still h = grind (arith, head_still)
 
 findings_still : (f : Findings) → moved_findings 0 0 f ≡ f
-findings_still (Nothing head tail) = ap (λ (h : Head). Nothing h tail) (head_still head)
-findings_still (Counted count first head tail) = λ i. Counted count (finding_still first i) (heads_still head i) tail
+findings_still f = grind (arith, head_still, finding_still, heads_still)
 
 kept_still : (o : Option Channel) → option_map (moved_channel 0 0) o ≡ o
-kept_still None = refl
-kept_still (Some c) = search (arith, findings_still)
+kept_still o = grind (arith, findings_still)
 
 nothing_kept : (n : Held) → IsPartOf n [] → (key : List ℕ) → kept_of key n.channels ≡ None
 nothing_kept n p key = none_kept (kept_of key n.channels) (p.each key)

@@ -1,5 +1,5 @@
 -- Keys: their digits.
-use Rattle.std.proofs.Common.{◌≡◌, ℕ, zero, suc, ◌+◌, ◌-◌, ◌*◌, ◌/◌, ◌%◌, ◌^◌, ◌<◌, nat_le, nat_lt, List, []}
+use Rattle.std.proofs.Common.{◌≡◌, ℕ, zero, suc, ◌+◌, ◌*◌, ◌/◌, ◌%◌, ◌^◌, ◌<◌, nat_le, nat_lt, List, []}
 use Rattle.std.proofs.Common.{◌∷◌, ◌++◌, Option, Some, None, length, get_or, take, refl}
 use Rattle.std.proofs.Common.{sym, ap, ◌∙◌, subst, arith, append_assoc, append-nil}
 use Rattle.std.specs.List.{AllByRecursion}
@@ -78,15 +78,7 @@ bytes_spelled (suc n) done bytes x e =
         → ((b : ℕ × List ℕ) → bytes_at n (done ++ b.0 ∷ []) b.1 ≡ Some x → AreMore n (done ++ b.0 ∷ []) b.1 x)
         → AreMore (suc n) done bytes x
     by None k given more = absurd (cc given)
-    by (Some b) k given more =
-        let p : IsByte bytes b = byte_spelled bytes b k in
-        let m : AreMore n (done ++ b.0 ∷ []) b.1 x = more b given in record {
-          key = b.0 ∷ m.key;
-          all = m.all ∙ append_assoc done (b.0 ∷ []) m.key;
-          long = ap suc m.long;
-          is = p.is ∙ ap (λ (z : List ℕ). hex_digit (b.0 / 16) ∷ hex_digit (b.0 % 16) ∷ z) m.is;
-          small = (p.small, m.small);
-        }
+    by (Some b) k given more = search (arith, byte_spelled, append_assoc)
 
 -- what is read as a key is the text of one
 pub record IsKey (bytes : List ℕ) (x : List ℕ × List ℕ) : Type 0 where

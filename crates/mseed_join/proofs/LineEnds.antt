@@ -57,7 +57,8 @@ end_found bytes k some =
 -- an LF after bytes that have none
 first_after : (before rest : List ℕ) → HasNoEnd before → first_end (before ++ rest) ≡ length before + first_end rest
 first_after [] rest _ = omega arith
-first_after (b ∷ bs) rest lacks = search (arith, eqb_tells, first_after bs rest lacks.1)
+first_after (b ∷ bs) rest lacks =
+    search (arith, eqb_tells, first_after bs rest lacks.1)
 
 pub no_end_in_both : (before more : List ℕ) → HasNoEnd before → HasNoEnd more → HasNoEnd (before ++ more)
 no_end_in_both [] more _ lacks = lacks
@@ -89,12 +90,14 @@ first_is_after bytes at within lacks =
 pub found_after : (bytes : List ℕ) (at k : ℕ) → at ≤ length bytes → HasNoEnd (take at bytes)
     → position (λ b. b == 10) (take (length bytes - at) (drop at bytes)) ≡ Some k
     → Some (at + k) ≡ position (λ b. b == 10) bytes
-found_after bytes at k within lacks some = search (arith, found_is, take_rest, first_is_after, leb_tells, length-drop)
+found_after bytes at k within lacks some =
+    search (arith, found_is, take_rest, first_is_after, leb_tells, length-drop)
 
 pub nowhere_after : (bytes : List ℕ) (at : ℕ) → at ≤ length bytes → HasNoEnd (take at bytes)
     → position (λ b. b == 10) (take (length bytes - at) (drop at bytes)) ≡ None
     → None ≡ position (λ b. b == 10) bytes
-nowhere_after bytes at within lacks nowhere = search (arith, leb_tells, take_rest, first_is_after, length-drop)
+nowhere_after bytes at within lacks nowhere =
+    search (arith, leb_tells, take_rest, first_is_after, length-drop)
 
 -- what a vector's comparison with LF says
 abbrev ends_mask : List ℕ → ℕ

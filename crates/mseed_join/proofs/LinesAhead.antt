@@ -25,7 +25,8 @@ use Rattle.mseed_join.proofs.LineEnds.{lines_more}
 -- n bytes more after those that are held
 pub held_more : (items now : List ℕ) (begin end n : ℕ) → take end now ≡ take end items → begin ≤ end
     → end ≤ length now → slice_range now begin (end + n) ≡ slice_range items begin end ++ take n (drop end now)
-held_more items now begin end n same low high = search (arith, length-take-le, between_is, take-add, drop-append-le)
+held_more items now begin end n same low high =
+    search (arith, length-take-le, between_is, take-add, drop-append-le)
 
 -- the first of the bytes that are held, and the rest
 pub held_parts : (items : List ℕ) (begin size end : ℕ) → slice_range items begin end

@@ -20,19 +20,14 @@ use Rattle.mseed_record.proofs.Reached.{none_more, version3_more}
 
 -- ---- the header
 version3_long : (b : List ℕ) → is_version3 b ≡ true → 3 ≤ length b
-version3_long [] e = absurd (false≢true e)
-version3_long (x ∷ []) e = absurd (false≢true (and_parts (nat_eq 77 x) false e).1)
-version3_long (x ∷ y ∷ []) e = search (arith, and_parts, false≢true)
-version3_long (x ∷ y ∷ z ∷ rest) e = omega arith
+version3_long b h1 = grind (arith, false≢true, and_parts)
 
 -- ---- a blockette
 -- the first 1000, by its exponent
 by_exponent : (low short long wide : Bool) (e k : ℕ) (f : FrameFault)
     → cond low (Not (Length e)) (cond short (Not Outside) (cond long (Need k) (Record k))) ≡ Not f
     → cond low (Not (Length e)) (cond short (Not Outside) (cond wide (Need k) (Record k))) ≡ Not f
-by_exponent false false true wide e k f h = cc h
-by_exponent false false false wide e k f h = cc h
-by_exponent _ _ long wide e k f h = h
+by_exponent low short long wide e k f h1 = grind arith
 
 at_1000_more : (prefix more : List ℕ) (o : ℕ) (f : FrameFault) → o + 8 ≤ length prefix → at_1000 prefix o ≡ Not f
     → at_1000 (prefix ++ more) o ≡ Not f
@@ -46,10 +41,7 @@ by_offset : (none back four other eight far off wide : Bool) (k n : ℕ) (x y : 
     (cond eight (Some (Need n)) (Some x))))) ≡ Some (Not f)
     → cond none (Some (Not No1000)) (cond back (Some (Not Chain)) (cond far (Some (Need k)) (cond off None
     (cond wide (Some (Need n)) (Some y))))) ≡ Some (Not f)
-by_offset true back four other eight far off wide k n x y f p q r s h = h
-by_offset false true four other eight far off wide k n x y f p q r s h = h
-by_offset false false false false false far off wide k n x y f p q r s h = search (arith, same_Some)
-by_offset false false _ _ _ far off wide k n x y f p q r s h = cc h
+by_offset none back four other eight far off wide k n x y f h1 h2 h3 h4 h5 = grind (arith, same_Some)
 
 -- what has so many bytes has them with more after
 still : (n m k : ℕ) → n ≤ m → ltb n k ≡ false → ltb m k ≡ false
@@ -73,8 +65,13 @@ from_more : (order : Order) (prefix more : List ℕ) (low o : ℕ) (os : List �
     → DecidesFrom order prefix low o os (Not f) → DecidesFrom order (prefix ++ more) low o os (Not f)
 from_more order prefix more low o [] f some d = at_offset_more order prefix more low o f d
 from_more order prefix more low o (p ∷ os) f some d =
-    search (arith, none_within, number_more, none_more,
-    from_more order prefix more (o + 4) (next_at order prefix o) os f (omega arith) d.2)
+    search (
+      arith,
+      none_within,
+      number_more,
+      none_more,
+      from_more order prefix more (o + 4) (next_at order prefix o) os f (omega arith) d.2,
+    )
 
 pub refused_more : (prefix more : List ℕ) (f : FrameFault) → Decides prefix (Not f) → Decides (prefix ++ more) (Not f)
 refused_more prefix more _ (version3 e) = version3 (version3_more prefix more (version3_long prefix e) ∙ e)

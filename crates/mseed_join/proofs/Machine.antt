@@ -6,7 +6,7 @@ use Rattle.std.proofs.ByRecursion.{All-append}
 use Rattle.std.proofs.lemmas.List.{length-append}
 use Rattle.mseed_stream.specs.declared.fault.StreamFault.{StreamFault}
 use Rattle.mseed_audit.specs.declared.channel.Channel.{Channel}
-use Rattle.mseed_text.specs.Fault.{end_line, fault_line}
+use Rattle.mseed_text.specs.Fault.{end_line}
 use Rattle.mseed_join.specs.Lines.{Line, header, channel, counts, faults, fault, text_of_line, IsLine}
 use Rattle.mseed_join.specs.Lines.{header_line}
 use Rattle.mseed_join.specs.Lines.{faults_line, HasChannelLine, HasFaultLine}
@@ -56,7 +56,8 @@ pub rows_append : {X : Type 0} (row : X → List ℕ) (text : List X → List �
     → ((x : X) (xs : List X) → text (x ∷ xs) ≡ row x ++ text xs) → (xs ys : List X)
     → text (xs ++ ys) ≡ text xs ++ text ys
 rows_append row text nil more [] ys = ap (λ (t : List ℕ). t ++ text ys) (sym nil)
-rows_append row text nil more (x ∷ xs) ys = search (arith, append_assoc, rows_append row text nil more xs ys)
+rows_append row text nil more (x ∷ xs) ys =
+    search (arith, append_assoc, rows_append row text nil more xs ys)
 
 pub text_append : (xs ys : List Line) → lines_text (xs ++ ys) ≡ lines_text xs ++ lines_text ys
 text_append = rows_append text_of_line lines_text refl (λ x xs. refl)
@@ -66,15 +67,14 @@ rows_text [] = refl
 rows_text (e ∷ es) = ap (λ (t : List ℕ). text_of_line (channel e.0 e.1) ++ t) (rows_text es)
 
 faults_text : (n : ℕ) → lines_text (faults_row n) ≡ faults_line n
-faults_text zero = refl
-faults_text (suc n) = append-nil (faults_line (suc n))
+faults_text n = grind (arith, append-nil)
 
 end_text : (bytes : ℕ) (end : Option StreamFault) → lines_text (end_row bytes end) ≡ end_line end
-end_text bytes None = refl
-end_text bytes (Some f) = append-nil (fault_line f)
+end_text bytes end = grind (arith, append-nil)
 
 pub part_text_is : (w : Written) → lines_text (part_rows w) ≡ part_text w
-part_text_is w = search (arith, faults_row, end_row, text_append, faults_text, end_text, rows, rows_text, append_assoc)
+part_text_is w =
+    search (arith, text_append, faults_text, end_text, rows_text, append_assoc)
 
 pub texts_are : (ws : List Written) → lines_text (all_rows ws) ≡ texts ws
 texts_are [] = refl
@@ -91,13 +91,11 @@ rows_are [] h = h
 rows_are (e ∷ es) h = (h.0, rows_are es h.1)
 
 faults_are : (n : ℕ) → n < 2 ^ 63 → AreAll (faults_row n)
-faults_are zero l = tt
-faults_are (suc n) l = (record { some = omega arith; fit = l }, tt)
+faults_are n h1 = grind arith
 
 end_are : (bytes : ℕ) (end : Option StreamFault) → IfSome end (λ f. HasFaultLine bytes f)
     → AreAll (end_row bytes end)
-end_are bytes None h = tt
-end_are bytes (Some f) h = (h, tt)
+end_are bytes end h1 = grind arith
 
 pub part_are : (w : Written) → HasText w → AreAll (part_rows w)
 part_are w h = (
@@ -115,9 +113,7 @@ texts_all [] h = tt
 texts_all (w ∷ ws) h = All-append IsLine (part_rows w) (all_rows ws) (part_are w h.0) (texts_all ws h.1)
 
 pub open_all : (b : OpenPart) → AllByRecursion HasText (open_part b) → AreAll (open_rows b)
-open_all none h = tt
-open_all (begun channels) h = (tt, rows_are channels h.0.channels)
-open_all (whole w) h = part_are w h.0
+open_all b h1 = grind (arith, rows_are, part_are)
 
 -- ---- bytes are the lines of one list
 -- what lies after lines that begin a text

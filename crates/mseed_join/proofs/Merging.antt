@@ -76,8 +76,7 @@ all_joined a now done (x ∷ rest) s j =
     let here : IsJoint a (channels_alone (done ++ x ∷ [])) more.next =
     channel_more a now more.next done x.0 x.1 j (absent done x rest s) more.joint in
     let same : (done ++ x ∷ []) ++ rest ≡ done ++ x ∷ rest = append_assoc done (x ∷ []) rest in
-    subst (λ (es : Entries). (h : Held) × IsJoint a (channels_alone es) h) same
-    (all_joined a more.next (done ++ x ∷ []) rest (subst IsAscending (sym same) s) here)
+    rw (← same) (all_joined a more.next (done ++ x ∷ []) rest (subst IsAscending (sym same) s) here)
 
 pub joint_of : (a b : Held) → IsAscending a.channels → IsAscending b.channels
     → (h : Held) × IsJoint a b h

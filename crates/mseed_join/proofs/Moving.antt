@@ -10,7 +10,6 @@ use Rattle.mseed_audit.specs.Channels.{Placed, sample_count}
 use Rattle.mseed_audit.specs.Verdict.{finding_at, AreFindings, none, one}
 use Rattle.mseed_audit.specs.declared.channel.Channel.{Channel}
 use Rattle.mseed_audit.specs.declared.channel.Findings.{Findings}
-use Rattle.mseed_audit.specs.declared.channel.Findings.TheVariants.{Nothing, Counted}
 use Rattle.mseed_audit.specs.declared.channel.Head.{Head}
 use Rattle.mseed_audit.specs.declared.tail.Tail.{Tail}
 use Rattle.mseed_join.specs.Joining.{moved_head, moved_finding, moved_findings, moved_channel}
@@ -18,22 +17,18 @@ use Rattle.mseed_audit.specs.Audit.{IsHeadOf, IsTailOf, head_in, tail_in, AreCou
 use Rattle.mseed_join.proofs.Placing.{moved, moved_also}
 
 pub head_moves : (d e : ℕ) (f : Findings) → head_in (moved_findings d e f) ≡ option_map (moved_head d e) (head_in f)
-head_moves d e (Nothing head tail) = refl
-head_moves d e (Counted count first head tail) = refl
+head_moves d e f = grind arith
 
 pub tail_moves : (d e : ℕ) (f : Findings) → tail_in (moved_findings d e f) ≡ tail_in f
-tail_moves d e (Nothing head tail) = refl
-tail_moves d e (Counted count first head tail) = refl
+tail_moves d e f = grind arith
 
 is_head : (d e : ℕ) (h : Option Head) (p : Placed) → IsHeadOf h p
     → IsHeadOf (option_map (moved_head d e) h) (moved d e p)
-is_head d e None p is = is
-is_head d e (Some h) p is = search arith
+is_head d e h p h1 = grind arith
 
 finding_moved : (d e : ℕ) (p : Placed) (why : Option Why)
     → finding_at (moved d e p) why ≡ map (moved_finding d e) (finding_at p why)
-finding_moved d e p None = refl
-finding_moved d e p (Some why) = refl
+finding_moved d e p why = grind arith
 
 findings_moved : (d e : ℕ) (before : Option View) (ps : List Placed) (found : List Finding)
     → AreFindings before ps found → AreFindings before (map (moved d e) ps) (map (moved_finding d e) found)
@@ -50,14 +45,7 @@ samples_moved d e (p ∷ ps) = ap (λ (n : ℕ). count_of p.view + n) (samples_m
 
 counted_moved : (d e : ℕ) (f : Findings) (found : List Finding) → AreCounted f found
     → AreCounted (moved_findings d e f) (map (moved_finding d e) found)
-counted_moved d e (Nothing head tail) found h = ap (λ (fs : List Finding). map (moved_finding d e) fs) h
-counted_moved d e (Counted count first head tail) found h = (
-  map (moved_finding d e) h.0,
-  (
-    ap (λ (fs : List Finding). map (moved_finding d e) fs) h.1.0,
-    h.1.1 ∙ sym (length-map found (moved_finding d e)),
-  ),
-)
+counted_moved d e f found h1 = grind (arith, length-map)
 
 stands_moved : (d e : ℕ) (c : Channel) (ps : List Placed) → Stands c ps
     → Stands (moved_channel d e c) (map (moved d e) ps)
@@ -67,8 +55,7 @@ stands_moved d e c ps s = record {
   first = moved d e s.first;
   rest = map (moved d e) s.rest;
   begins = ap (λ (qs : List Placed). map (moved d e) qs) s.begins;
-  head = subst (λ (h : Option Head). IsHeadOf h (moved d e s.first)) (sym (head_moves d e c.findings))
-      (is_head d e (head_in c.findings) s.first s.head);
+  head = rw (head_moves d e c.findings) (is_head d e (head_in c.findings) s.first s.head);
   prefix = map (moved d e) s.prefix;
   last = moved d e s.last;
   ends = ap (λ (qs : List Placed). map (moved d e) qs) s.ends ∙ map-append (moved d e) s.prefix (s.last ∷ []);
@@ -80,5 +67,4 @@ stands_moved d e c ps s = record {
 
 pub stands_at_moved : (d e : ℕ) (o : Option Channel) (ps : List Placed) → StandsAt o ps
     → StandsAt (option_map (moved_channel d e) o) (map (moved d e) ps)
-stands_at_moved d e None ps h = ap (λ (qs : List Placed). map (moved d e) qs) h
-stands_at_moved d e (Some c) ps h = stands_moved d e c ps h
+stands_at_moved d e o ps h1 = grind (arith, moved, stands_moved)

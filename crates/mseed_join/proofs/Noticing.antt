@@ -14,11 +14,11 @@ use Rattle.mseed_audit.specs.declared.finding.Finding.{Finding}
 use Rattle.mseed_audit.specs.declared.finding.Why.{Why}
 use Rattle.mseed_audit.specs.declared.tail.Tail.{Tail}
 use Rattle.mseed_audit.specs.Audit.{IsHeadOf, Stands, StandsAt, break_by, head_in, tail_in}
-use Rattle.mseed_audit.specs.Channels.{Placed, added_from, is_of_channel, numbered, records_of, same_key}
+use Rattle.mseed_audit.specs.Channels.{Placed, added_from, is_of_channel, records_of, same_key}
 use Rattle.mseed_audit.specs.Judging.{rate_in, rate_unless, time_fault_of}
 use Rattle.mseed_audit.specs.Reported.{Reported, AreReportedOf, last_of, reported_with}
 use Rattle.mseed_audit.proofs.Maps.{same_is}
-use Rattle.mseed_audit.proofs.OneReport.{AreReportedIn, channel_reported, key_of, nothing_in as none}
+use Rattle.mseed_audit.proofs.OneReport.{AreReportedIn, channel_reported, key_of}
 use Rattle.mseed_join.specs.PartBorders.{border_at, border_with}
 use Rattle.mseed_join.specs.Joining.{border_between, border_of, found_at, moved_channel, moved_head}
 use Rattle.mseed_join.specs.Notices.{Notice, border_notices, moved_notices, notice_of, notices_of}
@@ -44,14 +44,13 @@ with_moved key d e ns = search (arith, filter_map_same)
 pub notices_moved : (d e : ℕ) (reported : List Reported)
     → notices_of (map (moved_reported d e) reported) ≡ moved_notices d e (notices_of reported)
 notices_moved d e [] = refl
-notices_moved d e (t ∷ reported) = search (arith, moved_reported, notices_moved d e reported)
+notices_moved d e (t ∷ reported) = search (arith, notices_moved d e reported)
 
 -- ---- a border
 -- a record whose rate is known begins in its range
 in_range : (fault : Option TimeFault) (rate : Option Ratio) (known : Ratio) → rate_unless fault rate ≡ Some known
     → fault ≡ None
-in_range None rate known e = refl
-in_range (Some fault) rate known e = cc (e)
+in_range fault rate known h1 = grind arith
 
 -- what is reported of it
 same_notice : (key : List ℕ) (t : Option Tail) (h : Option Head) (q : Placed) → key ≡ key_at q.view.bytes
@@ -80,13 +79,12 @@ border_in key c (Some o) = border_notices (border_at key (head_in o.findings) (b
 
 same_start : (key : List ℕ) (d e : ℕ) (h : Option Head) (found : Option Finding)
     → border_at key (option_map (moved_head d e) h) found ≡ border_at key h found
-same_start key d e None found = refl
-same_start key d e _ _ = refl
+same_start key d e h found = grind arith
 
 pub border_is_in : (key : List ℕ) (a : Held) (o : Option Channel) (c : Channel) → o ≡ Some c
     → border_in key (kept_of key a.channels) (option_map (moved_channel a.records a.bytes) o)
     ≡ border_notices (border_with a (key, c))
-border_is_in key a o c e = search (arith, border_in, head_moves, same_start)
+border_is_in key a o c e = search (arith, head_moves, same_start)
 
 -- ---- records with further ones after
 pub record IsReportedWith (key : List ℕ) (c o : Option Channel) (ps qs : List Placed)
@@ -97,8 +95,7 @@ pub record IsReportedWith (key : List ℕ) (c o : Option Channel) (ps qs : List 
     pub notices : notices_of between ≡ border_in key c o
 
 none_reported : (ps : List Placed) (reported : List Reported) → ps ≡ [] → AreReportedIn None ps reported → reported ≡ []
-none_reported [] reported e (none _) = refl
-none_reported (p ∷ ps) reported e are = cc (e)
+none_reported ps reported h1 h2 = grind arith
 
 -- after none, and before none
 reported_after : (ps qs : List Placed) (reported further : List Reported) → ps ≡ [] → AreReportedIn None ps reported
@@ -107,11 +104,11 @@ reported_after ps qs reported further e are more = search (arith, none_reported)
 
 reported_before : (ps qs : List Placed) (reported further : List Reported) → qs ≡ [] → AreReportedIn None ps reported
     → AreReportedIn None qs further → AreReportedIn None (ps ++ qs) (reported ++ further)
-reported_before ps qs reported further e are more = search (arith, none_reported, append-nil)
+reported_before ps qs reported further e are more =
+    search (arith, none_reported, append-nil)
 
 no_border : (key : List ℕ) (h : Option Head) → border_at key h None ≡ []
-no_border key None = refl
-no_border key (Some h) = refl
+no_border key h = grind arith
 
 reported_both : HaveOneFinding → (key : List ℕ) (c o : Channel) (ps qs : List Placed) (reported further : List Reported)
     → Stands c ps → Stands o qs → ((q : Placed) (rest : List Placed) → qs ≡ q ∷ rest → key ≡ key_at q.view.bytes)
@@ -120,15 +117,10 @@ reported_both : HaveOneFinding → (key : List ℕ) (c o : Channel) (ps qs : Lis
 reported_both only key c o ps qs reported further s t keys are more =
     let border : Option Finding = border_of (tail_in c.findings) (head_in o.findings) in
     let between : List Reported = border_reported t.first border in
-    let alone : AreReportedIn None (t.first ∷ t.rest) further =
-    subst (λ (rs : List Placed). AreReportedIn None rs further) t.begins more in
+    let alone : AreReportedIn None (t.first ∷ t.rest) further = search arith in
     let after_last : AreReportedIn (Some s.last.view) (t.first ∷ t.rest) (between ++ further) =
-    reported_border only (tail_in c.findings) s.last.view (head_in o.findings) t.first t.rest further s.tail t.head
-    alone in
-    let all : AreReportedIn (last_of None ps) qs (between ++ further) =
-    subst (λ (v : Option View). AreReportedIn v qs (between ++ further)) (sym (last_is ps s.prefix s.last s.ends))
-    (subst (λ (rs : List Placed). AreReportedIn (Some s.last.view) rs (between ++ further)) (sym t.begins)
-    after_last) in
+    search (arith, reported_border) in
+    let all : AreReportedIn (last_of None ps) qs (between ++ further) = search (arith, last_is) in
     record {
       between = between;
       all = reported_append None ps qs reported (between ++ further) are all;
@@ -141,11 +133,14 @@ reported_joined : HaveOneFinding → (key : List ℕ) (c o : Option Channel) (ps
     → StandsAt c ps → StandsAt o qs
     → ((q : Placed) (rest : List Placed) → qs ≡ q ∷ rest → key ≡ key_at q.view.bytes)
     → AreReportedIn None ps reported → AreReportedIn None qs further → IsReportedWith key c o ps qs reported further
-reported_joined only key None None ps qs reported further s t keys are more = search (arith, reported_after)
+reported_joined only key None None ps qs reported further s t keys are more =
+    search (arith, reported_after)
 reported_joined only key None (Some o) ps qs reported further s t keys are more =
     search (arith, reported_after, no_border)
-reported_joined only key (Some c) None ps qs reported further s t keys are more = search (arith, reported_before)
-reported_joined only key (Some c) (Some o) ps qs reported further s t keys are more = search (arith, reported_both)
+reported_joined only key (Some c) None ps qs reported further s t keys are more =
+    search (arith, reported_before)
+reported_joined only key (Some c) (Some o) ps qs reported further s t keys are more =
+    search (arith, reported_both)
 
 -- the first record of a channel has its key
 first_with : (key : List ℕ) (ps : List Placed) (q : Placed) (rest : List Placed)
@@ -164,7 +159,7 @@ moved_first : (key : List ℕ) (d e : ℕ) (ps : List Placed)
     → ((q : Placed) (rest : List Placed) → ps ≡ q ∷ rest → key ≡ key_at q.view.bytes)
     → (q : Placed) (rest : List Placed) → map (moved d e) ps ≡ q ∷ rest → key ≡ key_at q.view.bytes
 moved_first key d e [] keys q rest is = cc (is)
-moved_first key d e (p ∷ ps) keys q rest is = search (arith, moved)
+moved_first key d e (p ∷ ps) keys q rest is = search arith
 
 -- ---- of two archives one after another
 pub reported_at_key : HaveOneFinding → (key : List ℕ) (a b : Held) (xs ys : List View)
@@ -184,13 +179,9 @@ reported_at_key only key a b xs ys first second whole p q alone other all =
     let ones : List Reported = reported_with key first in
     let twos : List Reported = reported_with key second in
     let keys : (r : Placed) (rest : List Placed) → map (moved d e) theirs ≡ r ∷ rest → key ≡ key_at r.view.bytes =
-    moved_first key d e theirs (λ r rest is.
-    same_is key (key_at r.view.bytes) (key_of key r.view (first_with key (numbered 1 (added_from 0 ys)) r rest is))) in
+    search (arith, moved_first, same_is, key_of, first_with) in
     let j : IsReportedWith key c o ours (map (moved d e) theirs) ones (map (moved_reported d e) twos) =
-    reported_joined only key c o ours (map (moved d e) theirs) ones (map (moved_reported d e) twos) (p.each key)
-    (stands_at_moved d e (kept_of key b.channels) theirs (q.each key)) keys
-    (channel_reported (added_from 0 xs) first key alone)
-    (reported_moved d e None theirs twos (channel_reported (added_from 0 ys) second key other)) in
+    search (arith, reported_joined, stands_at_moved, channel_reported, reported_moved) in
     let records : ours ++ map (moved d e) theirs ≡ records_of key (added_from 0 (xs ++ ys)) =
     (λ i. ours ++ map (moved (p.records i) (p.bytes i)) theirs) ∙ sym (records_append key xs ys) in
     let same : reported_with key whole ≡ ones ++ (j.between ++ map (moved_reported d e) twos) =
@@ -200,8 +191,7 @@ reported_at_key only key a b xs ys first second whole p q alone other all =
     (subst (λ (ps : List Placed). AreReportedIn None ps (ones ++ (j.between ++ map (moved_reported d e) twos))) records
     j.all) in
     let last : notices_of (map (moved_reported d e) twos) ≡ with_key key (moved_notices d e (notices_of second)) =
-    notices_moved d e twos ∙ ap (λ (ns : List Notice). moved_notices d e ns) (sym (with_reported key second))
-    ∙ sym (with_moved key d e (notices_of second)) in
+    search (arith, notices_moved, with_reported, with_moved) in
     with_reported key whole ∙ ap notices_of same
     ∙ map-append notice_of ones (j.between ++ map (moved_reported d e) twos)
     ∙ ap (λ (ns : List Notice). notices_of ones ++ ns)

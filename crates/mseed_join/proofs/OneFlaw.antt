@@ -8,7 +8,6 @@ use Rattle.mseed_join.specs.Lines.{Line, channel, text_of_line, IsLine}
 use Rattle.mseed_join.specs.Lines.{header_line, channel_line, HasChannelLine}
 use Rattle.mseed_join.specs.Fields.{IsFirstBad}
 use Rattle.mseed_join.specs.declared.bad_field.Field.{Field}
-use Rattle.mseed_join.proofs.Onward.{onward}
 use Rattle.mseed_join.proofs.FirstBad.{bad_field_one}
 use Rattle.mseed_join.proofs.OneLine.{channel_one, line_one}
 use Rattle.mseed_join.specs.declared.flaw.Flaw.{Flaw}
@@ -56,23 +55,23 @@ Told f (begun channels) line =
 Told f (whole w) line = ((f ≡ Ending (begun_as line)) × IsNoEnding w line) ⊎ ((f ≡ Limit) × Stands (whole w) line)
 
 stands_told : (last : OpenPart) (line : List ℕ) → Stands last line → Told Limit last line
-stands_told (begun channels) line s = inr (inr (refl, s))
-stands_told _ line s = inr (refl, s)
+stands_told last line h1 = grind arith
 
 told : (f : Flaw) (last : OpenPart) (line : List ℕ) → IsFlawOf f last line → Told f last line
 told _ _ _ (IsFlawOf.beginning line other) = inl (refl, other)
 told _ _ _ (IsFlawOf.row channels line field no_channel no_counts first) = search arith
 told _ _ _ (IsFlawOf.order channels key c line fits is never) = search arith
 told _ _ _ (IsFlawOf.ending w line other no_fault no_faults) = search arith
-told _ _ _ (IsFlawOf.limit last x line is_line may text) = search (arith, stands_told)
+told _ _ _ (IsFlawOf.limit last x line is_line may text) =
+    search (arith, stands_told)
 
 -- what can stand there has no other flaw
 no_beginning : (line : List ℕ) → line ≢ header_line → Stands none line → ⊥
-no_beginning line other s = search (arith, onward)
+no_beginning line other s = search arith
 
 no_row : (channels : List (List ℕ × Channel)) (field : Field) (line : List ℕ) → IsNoRow field line
     → Stands (begun channels) line → ⊥
-no_row channels field line e s = search (arith, onward)
+no_row channels field line e s = search arith
 
 no_order : (channels : List (List ℕ × Channel)) (key line : List ℕ) → IsDisordered channels key line
     → Stands (begun channels) line → ⊥
@@ -81,15 +80,17 @@ no_order channels key line d s =
     d.never (subst (λ (x : Line). May (begun channels) x) (sym same) s.may)
 
 no_ending : (w : Written) (line : List ℕ) → IsNoEnding w line → Stands (whole w) line → ⊥
-no_ending w line e s = search (arith, onward)
+no_ending w line e s = search arith
 
 pub flaw_stands : (f : Flaw) (last : OpenPart) (line : List ℕ) → IsFlawOf f last line → f ≢ Limit → Stands last line
     → ⊥
 flaw_stands _ _ _ (IsFlawOf.beginning line other) never s = no_beginning line other s
-flaw_stands _ _ _ (IsFlawOf.row channels line field no_channel no_counts first) never s = search (arith, no_row)
+flaw_stands _ _ _ (IsFlawOf.row channels line field no_channel no_counts first) never s =
+    search (arith, no_row)
 flaw_stands _ _ _ (IsFlawOf.order channels key c line fits is ascends) never s =
     no_order channels key line (record { c = c; fits = fits; is = is; never = ascends }) s
-flaw_stands _ _ _ (IsFlawOf.ending w line other no_fault no_faults) never s = search (arith, no_ending)
+flaw_stands _ _ _ (IsFlawOf.ending w line other no_fault no_faults) never s =
+    search (arith, no_ending)
 flaw_stands _ _ _ (IsFlawOf.limit last x line is_line may text) never s = never refl
 
 one_key : (channels : List (List ℕ × Channel)) (key other line : List ℕ) → IsDisordered channels key line
@@ -135,7 +136,8 @@ Lies f last bytes =
     ⊎ (((f ≡ NoEnd) × HasNoEnd bytes × (length bytes < 512) × (bytes ≢ [])) ⊎ ((f ≡ Missing) × (bytes ≡ []))))
 
 lies : (f : Flaw) (last : OpenPart) (bytes : List ℕ) (at_end : Bool) → IsFlaw f last bytes at_end → Lies f last bytes
-lies _ _ _ _ (IsFlaw.line flaw last body after bytes at_end no_end short is wrong) = search (arith, append_assoc)
+lies _ _ _ _ (IsFlaw.line flaw last body after bytes at_end no_end short is wrong) =
+    search (arith, append_assoc)
 lies _ _ _ _ (IsFlaw.long last bytes at_end no_end many) = inr (inl (refl, no_end, many))
 lies _ _ _ _ (IsFlaw.unended last bytes at_end ended some no_end short) = search arith
 lies _ _ _ _ (IsFlaw.missing channels at_end ended) = inr (inr (inr (refl, refl)))

@@ -1,4 +1,5 @@
 -- Texts of parts are read in one way.
+use Rattle.std.proofs.Common.{arith}
 use Rattle.std.proofs.Common.{◌≡◌, ℕ, List, [], ◌∷◌, refl, sym, ap, ◌∙◌, subst}
 use Rattle.mseed_join.specs.Lines.{Line}
 use Rattle.mseed_join.specs.Reached.{Stage, parts_at, start}
@@ -26,9 +27,7 @@ runs_one s t u (x ∷ xs) a b = runs_one (to s x) t u xs a.1 b.1
 -- and bytes are the texts of one list of parts
 pub text_one : (bytes : List ℕ) (ws vs : List Written) → Spells bytes ws → Spells bytes vs → ws ≡ vs
 text_one bytes ws vs p q =
-    let same : all_rows ws ≡ all_rows vs =
-    lines_one (all_rows ws) (all_rows vs) (texts_all ws p.each) (texts_all vs q.each)
-    (texts_are ws ∙ sym p.text ∙ q.text ∙ sym (texts_are vs)) in
+    let same : all_rows ws ≡ all_rows vs = search (arith, lines_one, texts_all, texts_are) in
     let a = all_run ws p.each in
     let b = all_run vs q.each in
     sym a.1.1

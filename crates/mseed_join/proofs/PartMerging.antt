@@ -1,5 +1,5 @@
 -- The findings of two archives, and those of the borders of their parts, are those of the archives one after another.
-use Rattle.std.proofs.Common.{◌≡◌, ℕ, zero, suc, ◌+◌, ◌≤◌, List, [], ◌∷◌, ◌++◌, length, not, Bool, true, false}
+use Rattle.std.proofs.Common.{◌≡◌, ℕ, zero, suc, ◌≤◌, List, [], ◌∷◌, ◌++◌, length, not, Bool, true, false}
 use Rattle.std.proofs.Common.{cond, Option, Some, None, refl, sym, ap, ◌∙◌, subst, append_assoc, append-nil, arith}
 use Rattle.std.proofs.Common.{IsPermutation}
 use Rattle.std.specs.List.{filter}
@@ -38,14 +38,12 @@ abbrev no_notices : List Notice
 no_notices = []
 
 nothing_by : (b : Bool) → cond b no_notices no_notices ≡ no_notices
-nothing_by true = refl
-nothing_by false = refl
+nothing_by b = grind arith
 
 of_key : (key other : List ℕ) (h : Option Head) (found : Option Finding)
     → with_key key (border_notices (border_at other h found))
     ≡ cond (same_key key other) (border_notices (border_at other h found)) []
-of_key key other (Some h) (Some f) = refl
-of_key key other _ _ = sym (nothing_by (same_key key other))
+of_key key other h found = grind (arith, nothing_by)
 
 of_entry : (key : List ℕ) (a : Held) (x : List ℕ × Channel)
     → with_key key (border_notices (border_with a x))
@@ -56,7 +54,7 @@ of_entry key a x = search (arith, of_key)
 parted : (key : List ℕ) (a : Held) (x : List ℕ × Channel) (es : Entries) (b : Bool) → same_key key x.0 ≡ b
     → with_key key (border_notices (borders_with a (x ∷ es)))
     ≡ cond b (border_notices (border_with a x)) no_notices ++ with_key key (border_notices (borders_with a es))
-parted key a x es b e = search (arith, with_key, map-append, filter-append, of_entry, no_notices)
+parted key a x es b e = search (arith, map-append, filter-append, of_entry)
 
 not_some : (c : Channel) → Some c ≡ None → ⊥
 not_some c e = cc (e)
@@ -71,8 +69,7 @@ none_with key a (x ∷ es) e = by (same_key key x.0) refl (λ gone. none_with ke
         → (kept_of key es ≡ None → with_key key (border_notices (borders_with a es)) ≡ no_notices)
         → with_key key (border_notices (borders_with a (x ∷ es))) ≡ no_notices
     by true same later = absurd (not_some x.1 (sym (lookup_head (same_key key) x es same) ∙ e))
-    by false same later =
-        parted key a x es false same ∙ later (sym (lookup_tail (same_key key) x es same) ∙ e)
+    by false same later = search (arith, parted, lookup_tail)
 
 -- of one that is there, or isn't
 borders_by_key : (key : List ℕ) (a : Held) (es : Entries) → IsAscending es
@@ -95,10 +92,7 @@ borders_by_key key a (x ∷ es) s =
         ∙ append-nil (border_notices (border_with a x))
         ∙ ap (λ (k : List ℕ). border_notices (border_with a (k, x.1))) (sym (same_is key x.0 same))
         ∙ sym (border_is_in key a (kept_of key (x ∷ es)) x.1 (lookup_head (same_key key) x es same))
-    by false same later =
-        parted key a x es false same ∙ later
-        ∙ ap (λ (o : Option Channel). border_in key (kept_of key a.channels)
-        (option_map (moved_channel a.records a.bytes) o)) (sym (lookup_tail (same_key key) x es same))
+    by false same later = search (arith, parted, lookup_tail)
 
 -- ---- lists that are alike by each key are alike
 abbrev without_key : List ℕ → List Notice → List Notice
@@ -108,22 +102,22 @@ without_key key ns = filter (λ n. not (same_key key n.key)) ns
 with_without : (k j : List ℕ) (b : Bool) → same_key k j ≡ b → (ns : List Notice)
     → with_key j (without_key k ns) ≡ cond b [] (with_key j ns)
 with_without k j b e [] = sym (nothing_by b)
-with_without k j b e (n ∷ ns) = search (arith, with_key, without_key, same_is, same_back, with_without k j b e ns)
+with_without k j b e (n ∷ ns) =
+    search (arith, same_is, same_back, with_without k j b e ns)
 
 -- the first is left out
 fewer : (n : Notice) (ns : List Notice) → length (without_key n.key (n ∷ ns)) ≤ length ns
 fewer n ns =
     let gone : without_key n.key (n ∷ ns) ≡ without_key n.key ns =
     ap (λ (b : Bool). cond (not b) (n ∷ without_key n.key ns) (without_key n.key ns)) (same_itself n.key) in
-    let both : length (with_key n.key ns) + length (without_key n.key ns) ≡ length ns =
-    length-filter_both (λ m. same_key n.key m.key) (λ m. not (same_key n.key m.key)) (λ m. refl) ns in
+    let both = length-filter_both (λ m. same_key n.key m.key) (λ m. not (same_key n.key m.key)) (λ m. refl) ns in
     omega (arith, both, ap (λ (ms : List Notice). length ms) gone)
 
 abbrev AreAlike : List Notice → List Notice → Type 0
 AreAlike ns ms = (key : List ℕ) → IsPermutation (with_key key ns) (with_key key ms)
 
 without_alike : (k : List ℕ) (ns ms : List Notice) → AreAlike ns ms → AreAlike (without_key k ns) (without_key k ms)
-without_alike k ns ms alike j = search (arith, with_key, without_key, with_without)
+without_alike k ns ms alike j = search (arith, with_without)
 
 none_alike : (ms : List Notice) → AreAlike [] ms → ms ≡ []
 none_alike [] alike = refl

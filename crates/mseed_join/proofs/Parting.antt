@@ -109,8 +109,7 @@ pub part_cut_off : {h : BytesRead} (s : Summary) (taken : ℕ) (views : List Vie
     (old new : BytesWritten) → IsPushed s h views start next → start ≡ [] → IsCutOff taken next old new
     → (a : AuditedPart h) × IsCutOff taken (part_text a.written) old new
 part_cut_off s taken views start next old new p empty cut =
-    let is : next ≡ part_text p.parted.written = p.text_is
-    ∙ ap (λ (xs : List ℕ). xs ++ part_text p.parted.written) empty in
+    let is : next ≡ part_text p.parted.written = search arith in
     (p.parted, subst (λ (xs : List ℕ). IsCutOff taken xs old new) is cut)
 
 -- ---- with lines before it
@@ -166,7 +165,6 @@ pub one_of_input : HasOneInput
     → (h : BytesRead) (a b : AuditedPart h) → a.written ≡ b.written
 one_of_input input only h a b =
     let both = input h a.audited.views b.audited.views a.audited.end b.audited.end a.audited.all b.audited.all in
-    let part : IsPartOf a.written.part b.audited.views =
-    subst (λ (vs : List View). IsPartOf a.written.part vs) both.0 a.part in
+    let part : IsPartOf a.written.part b.audited.views = search arith in
     written_one a.written b.written (only a.written.part b.written.part b.audited.views part b.part)
     (a.faults ∙ sym b.faults) (a.end ∙ both.1 ∙ sym b.end)

@@ -24,8 +24,7 @@ use Rattle.mseed_join.proofs.Prefixes.{ratio_leading}
 use Rattle.mseed_join.proofs.Spelled.{Any, IsFew, Reads, bind_then, count, counts, leading, leap, ratio, start}
 
 ends_number : (rest : List ℕ) → ends_field rest ≡ true → Ends rest
-ends_number [] e = tt
-ends_number (b ∷ rest) e = grind (arith, nat_tests)
+ends_number rest h1 = grind (arith, nat_tests)
 
 -- ---- what is written is passed
 pub after_prefix : (w v z : List ℕ) → after (w ++ v) (w ++ z) ≡ after v z

@@ -33,8 +33,7 @@ pub joined_more : (a w h : Written) (ws : List Written) → AreJoined a (w ∷ w
 joined_more a w h ws (one _ _ b _ _ next rest) = (b, (next, rest))
 
 pub counted_last : (w : Written) (end : Option StreamFault) → counted_by false w end [] ≡ w ∷ []
-counted_last w None = refl
-counted_last w (Some fault) = refl
+counted_last w end = grind arith
 
 -- ---- the part of the bytes so far
 abbrev pub AddUp : Type 0
@@ -60,15 +59,12 @@ abbrev pub further : AddUp → (before archive : List ℕ) (a b : Written) (h : 
 further add_up before archive a b h p so clear read by next =
     let here : IsKnown archive p.audited.views p.audited.end =
     known archive h p.audited.views p.audited.end read p.audited.all (subst EndsByBytes p.end by) in
-    let all_known : IsKnown (before ++ archive) (so.views ++ p.audited.views)
-    (option_map (moved_fault (size_of so.views)) p.audited.end) =
-    known_after before archive so.views p.audited.views a.end p.audited.end clear so.are_known here in
+    let all_known = known_after before archive so.views p.audited.views a.end p.audited.end clear so.are_known here in
     let end : option_map (moved_fault (size_of so.views)) p.audited.end ≡ b.end =
     (λ i. option_map (moved_fault (sym so.part.bytes i)) (sym p.end i)) ∙ sym next.end in
     record {
       views = so.views ++ p.audited.views;
-      are_known = subst (λ (o : Option StreamFault). IsKnown (before ++ archive) (so.views ++ p.audited.views) o) end
-          all_known;
+      are_known = rw (← end) all_known;
       part = add_up a.part p.written.part b.part so.views p.audited.views so.part p.part next.part;
       faults = omega (arith, next.faults, so.faults, p.faults);
     }
@@ -160,8 +156,7 @@ is_part add_up only archive ws joint h a parted joined read by =
 -- what a source gave that is known to have left an archive was read of it
 read_by : (archive : List ℕ) (h : BytesRead) (reported : List ℕ) (left : Option (List ℕ)) → h.bytes ≡ reported
     → Consumes (Some archive) left reported → (h.is_at_end ≡ true → IsAtEnd left) → IsReadOf archive h
-read_by archive h reported None same takes done = absurd takes
-read_by archive h reported (Some rest) same takes done = search arith
+read_by archive h reported left h1 h2 h3 = grind arith
 
 pub read_of : (archive : List ℕ) (h : BytesRead) (left : Option (List ℕ))
     → GivesMore nothing_read h (Some archive) left → (h.is_at_end ≡ true → IsAtEnd left) → IsReadOf archive h

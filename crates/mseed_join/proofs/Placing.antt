@@ -42,7 +42,8 @@ placed_append n o (x ∷ xs) ys =
 -- and after so many more records and bytes each has its number and offset gone up
 placed_moved : (d e n o : ℕ) (vs : List View) → placed (d + n) (e + o) vs ≡ map (moved d e) (placed n o vs)
 placed_moved d e n o [] = refl
-placed_moved d e n o (v ∷ vs) = search (arith, placed_at, placed_moved d e (n + 1) (o + length v.bytes) vs)
+placed_moved d e n o (v ∷ vs) =
+    search (arith, placed_at, placed_moved d e (n + 1) (o + length v.bytes) vs)
 
 pub placed_after : (xs ys : List View)
     → placed 1 0 (xs ++ ys) ≡ placed 1 0 xs ++ map (moved (length xs) (bytes_in xs)) (placed 1 0 ys)
@@ -56,9 +57,11 @@ placed_after xs ys =
 pub filter_map_same : {X Y : Type 0} (f : X → Y) (p : X → Bool) (q : Y → Bool) → ((x : X) → q (f x) ≡ p x)
     → (xs : List X) → filter q (map f xs) ≡ map f (filter p xs)
 filter_map_same f p q same [] = refl
-filter_map_same {X} {Y} f p q same (x ∷ xs) = search (arith, filter_map_same f p q same xs)
+filter_map_same {X} {Y} f p q same (x ∷ xs) =
+    search (arith, filter_map_same f p q same xs)
 
 -- the records of a channel in two archives one after another
 pub records_append : (key : List ℕ) (xs ys : List View) → records_of key (added_from 0 (xs ++ ys))
     ≡ records_of key (added_from 0 xs) ++ map (moved (length xs) (bytes_in xs)) (records_of key (added_from 0 ys))
-records_append key xs ys = search (arith, placed_after, filter-append, placed, moved, filter_map_same)
+records_append key xs ys =
+    search (arith, placed_after, filter-append, filter_map_same)

@@ -1,5 +1,5 @@
 -- Texts before what follows them, joined from the left to the right.
-use Rattle.std.proofs.Common.{◌≡◌, ℕ, suc, List, [], ◌++◌, Option, Some, ℤ, refl, sym, ap, ◌∙◌, append_assoc, arith}
+use Rattle.std.proofs.Common.{◌≡◌, ℕ, suc, List, [], ◌++◌, Option, Some, ℤ, sym, ap, ◌∙◌, append_assoc, arith}
 use Rattle.std.specs.Prelude.{decimal, codes}
 use Rattle.std.specs.Fmt.{signed_decimal}
 use Rattle.std.proofs.lemmas.Fmt.{decimal_digit}
@@ -79,7 +79,8 @@ nothing_leading head tail rest =
 
 pub counted_leading : (count : ℕ) (first : Finding) (head : Option Head) (tail : Option Tail) (rest : List ℕ)
     → findings_text (Counted count first head tail) ++ rest ≡ findings_then head tail count (first_then first rest)
-counted_leading count first head tail rest = search (arith, first_leading, append_assoc)
+counted_leading count first head tail rest =
+    search (arith, first_leading, append_assoc)
 
 pub channel_leading : (key : List ℕ) (c : Channel) → channel_line key c
     ≡ key_text key ++ (codes " records " ++ (decimal c.records ++ (codes " samples " ++ (decimal c.samples
@@ -106,12 +107,8 @@ fault_then offset f = codes "fault at " ++ (decimal offset ++ (codes " " ++ (fau
 
 -- after so many bytes
 pub fault_of : (f : StreamFault) (bytes : ℕ) → IsFaultAfter bytes f → fault_line f ≡ fault_then bytes f
-fault_of (Frame offset f) bytes l = search (arith, append_assoc)
-fault_of (Truncated offset have) bytes l = search (arith, append_assoc)
-fault_of Memory bytes l = absurd l
-fault_of _ bytes l = rw (← l) (simp append_assoc)
+fault_of f bytes h1 = grind (arith, append_assoc)
 
 -- a channel's findings begin with a space
 pub findings_ends : (f : Findings) (rest : List ℕ) → Ends (findings_text f ++ rest)
-findings_ends (Nothing head tail) rest = refl
-findings_ends (Counted count first head tail) rest = refl
+findings_ends f rest = grind arith

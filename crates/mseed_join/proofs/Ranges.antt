@@ -1,8 +1,8 @@
 -- The ranges of what a record says.
-use Rattle.std.proofs.Common.{◌≡◌, ℕ, zero, suc, ℤ, pos, negsuc, ◌+◌, ◌-◌, ◌*◌, ◌^◌, ◌<◌, ◌≤◌, ◌+ℤ◌, ◌-ℤ◌, List, get_or}
-use Rattle.std.proofs.Common.{ltb, Bool, true, false, cond, Option, Some, None, refl, sym, ap, subst, ◌∙◌, arith}
+use Rattle.std.proofs.Common.{◌≡◌, ℕ, suc, ℤ, pos, negsuc, ◌+◌, ◌-◌, ◌*◌, ◌^◌, ◌<◌, ◌≤◌, ◌+ℤ◌, ◌-ℤ◌, List, get_or}
+use Rattle.std.proofs.Common.{ltb, Bool, cond, Option, Some, None, arith}
 use Rattle.std.proofs.Common.{unsigned_abs}
-use Rattle.std.specs.Prelude.{⊤, slice_index, neg_ℤ, ◌≤ℤ◌, ◌*ℤ◌}
+use Rattle.std.specs.Prelude.{⊤, neg_ℤ, ◌≤ℤ◌, ◌*ℤ◌}
 use Rattle.std.proofs.Math.Nat.{div-le_self}
 use Rattle.std.proofs.lemmas.Bool.{cases_lt, lt-ltb, le-ltb}
 use Rattle.std.proofs.lemmas.Bool.Decides.{nat_tests}
@@ -18,7 +18,6 @@ use Rattle.mseed_time.specs.declared.fault.TimeFault.{TimeFault}
 use Rattle.mseed_time.specs.declared.outcome.Join.{Join}
 use Rattle.mseed_time.specs.declared.outcome.Join.TheVariants.{Meets, Late, Early}
 use Rattle.mseed_time.specs.declared.outcome.LeapStep.{LeapStep}
-use Rattle.mseed_time.specs.declared.outcome.LeapStep.TheVariants.{Plus, Minus}
 use Rattle.mseed_record.specs.Header.{factor_at, multiplier_at, correction_at, time_at}
 use Rattle.mseed_record.specs.View.{View, IsView, microseconds_at, start_of}
 use Rattle.mseed_steim.specs.Reading.{count_of}
@@ -38,8 +37,7 @@ IsBetween half (pos n) = n < half
 IsBetween half (negsuc n) = n < half
 
 minus_all : (x m : ℕ) → x < m → pos x -ℤ pos m ≡ negsuc (m - 1 - x)
-minus_all x zero h = absurd (omega arith)
-minus_all x (suc m) h = minus x m h ∙ ap negsuc (omega arith)
+minus_all x m h1 = grind (arith, minus)
 
 complement : (half x : ℕ) → x < half + half
     → IsBetween half (cond (ltb x half) (pos x) (pos x -ℤ pos (half + half)))
@@ -69,16 +67,11 @@ part_within : (n : ℕ) → n < 2 ^ 15 → (0 < suc n) × (suc n ≤ 2 ^ 30)
 part_within n h = (omega arith, omega (arith, h))
 
 ratio_one : (f m : ℤ) (r : Ratio) → IsBetween (2 ^ 15) f → IsBetween (2 ^ 15) m → rate_of f m ≡ Some r → IsRatio r
-ratio_one (pos (suc f)) (pos (suc m)) r h k e = search (arith, ratio_within, product)
-ratio_one (pos (suc f)) (negsuc m) r h k e = search (arith, ratio_within, part_within)
-ratio_one (negsuc f) (pos (suc m)) r h k e = search (arith, ratio_within, part_within)
-ratio_one (negsuc f) (negsuc m) r h k e = search (arith, ratio_within, product)
-ratio_one _ _ r h k e = cc e
+ratio_one f m r h1 h2 h3 = grind (arith, ratio_within, product, part_within)
 
 unless_some : (o : Option TimeFault) (rate : Option Ratio) (r : Ratio) → rate_unless o rate ≡ Some r
     → (o ≡ None) × (rate ≡ Some r)
-unless_some None rate r e = (refl, e)
-unless_some (Some fault) rate r e = cc e
+unless_some o rate r h1 = grind arith
 
 pub rate_within : (v : View) (r : Ratio) → IsView v → known_rate v ≡ Some r → IsRatio r
 rate_within v r is e =
@@ -103,17 +96,13 @@ within day shift us hour minute second fraction low high h m s f below above lea
 
 shift_within : (c : ℤ) (b : Bool) → IsBetween (2 ^ 31) c → (neg_ℤ (pos 300_000_000_000) ≤ℤ shift_of c b)
     × (shift_of c b ≤ℤ pos 300_000_000_000)
-shift_within c true h = (omega (arith, ints), omega (arith, ints))
-shift_within (pos n) false h = (omega (arith, ints, h), omega (arith, ints, h))
-shift_within (negsuc n) false h = (omega (arith, ints, h), omega (arith, ints, h))
+shift_within c b h1 = grind arith
 
 bounds : (z : ℤ) → IsBetween 128 z → (neg_ℤ (pos 128) ≤ℤ z) × (z ≤ℤ pos 128)
-bounds (pos n) h = (omega (arith, ints, h), omega (arith, ints, h))
-bounds (negsuc n) h = (omega (arith, ints, h), omega (arith, ints, h))
+bounds z h1 = grind arith
 
 micros_between : (b : List ℕ) (o : Option ℕ) → AreOctets b → IsBetween 128 (microseconds_at b o)
-micros_between b (Some o) octets = complement 128 (slice_index b (o + 5)) (omega (arith, octets (o + 5)))
-micros_between b None octets = omega arith
+micros_between b o h1 = grind (arith, complement)
 
 timed : (t : Parts) (c us : ℤ) (b : Bool) → IsTime t → IsBetween (2 ^ 31) c → IsBetween 128 us
     → IsInstant (instant_of t c b us)
@@ -130,8 +119,7 @@ start_within v r is e =
     timed (time_at v.order v.bytes) (correction_at v.order v.bytes) v.microseconds _
     (is_time (time_at v.order v.bytes) (unless_some (time_fault_of v) (rate_in v) r e).0)
     (complement (2 ^ 31) (number_at v.order 4 40 v.bytes) (number_four v is 40))
-    (subst (λ (z : ℤ). IsBetween 128 z) (sym is.1.1.1.microseconds_is)
-    (micros_between v.bytes _ (octets_of v is)))
+    (rw is.1.1.1.microseconds_is (micros_between v.bytes _ (octets_of v is)))
 
 -- ---- gaps and overlaps
 abbrev pub JoinFits : Join → Type 0
@@ -140,35 +128,31 @@ JoinFits (Late us) = us < 2 ^ 128
 JoinFits (Early us) = us < 2 ^ 128
 
 missed_fits : (miss : ℤ) (num : ℕ) → unsigned_abs miss < 2 ^ 128 → JoinFits (missed_by miss num)
-missed_fits (pos n) num h = omega (arith, div-le_self n num, h)
-missed_fits (negsuc n) num h = omega (arith, div-le_self (suc n) num, h)
+missed_fits miss num h1 = grind (arith, div-le_self)
 
 join_by_fits : (b : Bool) (miss : ℤ) (num : ℕ) → unsigned_abs miss < 2 ^ 128
     → JoinFits (cond b Meets (missed_by miss num))
-join_by_fits true miss num h = tt
-join_by_fits false miss num h = missed_fits miss num h
+join_by_fits b miss num h1 = grind (arith, missed_fits)
 
 abs_low : (z : ℤ) (n : ℕ) → neg_ℤ (pos n) ≤ℤ z → z ≤ℤ pos n → unsigned_abs z ≤ n
-abs_low (pos m) n low high = omega (arith, ints, low, high)
-abs_low (negsuc m) n low high = omega (arith, ints, low, high)
+abs_low z n h1 h2 = grind arith
 
 abs_bounds : (z : ℤ) (n : ℕ) → unsigned_abs z ≤ n → (neg_ℤ (pos n) ≤ℤ z) × (z ≤ℤ pos n)
-abs_bounds (pos m) n h = (omega (arith, ints, h), omega (arith, ints, h))
-abs_bounds (negsuc m) n h = (omega (arith, ints, h), omega (arith, ints, h))
+abs_bounds z n h1 = grind arith
 
 passed : (start next : ℤ) (step : Option LeapStep) → IsInstant start → IsInstant next
     → unsigned_abs (next -ℤ start +ℤ step_of step) ≤ 2 ^ 54
-passed start next None h k = search (arith, abs_low)
-passed start next (Some Plus) h k = search (arith, abs_low)
-passed start next (Some Minus) h k = search (arith, abs_low)
+passed start next step h1 h2 = grind (arith, abs_low)
 
 less : (a : ℤ) (d : ℕ) → unsigned_abs a ≤ 2 ^ 84 → d ≤ 2 ^ 84 → unsigned_abs (a -ℤ pos d) < 2 ^ 128
 less a d h k = search (arith, abs_bounds, unsigned_abs, abs_low)
 
 miss_small : (start : ℤ) (n : ℕ) (rate : Ratio) (step : Option LeapStep) (next : ℤ) → IsInstant start → n < 2 ^ 16
     → IsRatio rate → IsInstant next → unsigned_abs (miss_of start n rate step next) < 2 ^ 128
-miss_small start n rate step next h few ratio k = search (arith, unsigned_abs, mul-le, passed, unsigned_abs-mul, less)
+miss_small start n rate step next h few ratio k =
+    search (arith, unsigned_abs, mul-le, passed, unsigned_abs-mul, less)
 
 pub join_fits : (start : ℤ) (n : ℕ) (rate : Ratio) (step : Option LeapStep) (next : ℤ) → IsInstant start → n < 2 ^ 16
     → IsRatio rate → IsInstant next → JoinFits (join_of start n rate step next)
-join_fits start n rate step next h few ratio k = search (arith, join_by_fits, miss_small)
+join_fits start n rate step next h few ratio k =
+    search (arith, join_by_fits, miss_small)

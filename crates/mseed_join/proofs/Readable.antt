@@ -16,8 +16,8 @@ use Rattle.std.proofs.lemmas.Map.Keys.{sorted_tail}
 use Rattle.mseed_time.specs.Btime.{IsInstant}
 use Rattle.mseed_time.specs.declared.order.Order.{Order}
 use Rattle.mseed_record.specs.Chain.{next_at}
-use Rattle.mseed_record.specs.Header.{blockette_at, key_at}
-use Rattle.mseed_record.specs.Scan.{Decides, DecidesFrom, at_1000, at_offset, by_chain}
+use Rattle.mseed_record.specs.Header.{key_at}
+use Rattle.mseed_record.specs.Scan.{Decides, DecidesFrom, at_1000, at_offset}
 use Rattle.mseed_record.specs.View.{View, IsView}
 use Rattle.mseed_record.specs.declared.fault.FrameFault.{FrameFault}
 use Rattle.mseed_record.specs.declared.fault.FrameFault.TheVariants.{Chain, Length, No1000, Outside}
@@ -31,12 +31,10 @@ use Rattle.mseed_stream.specs.Cutting.{read_from}
 use Rattle.mseed_stream.specs.Device.{BytesRead}
 use Rattle.mseed_stream.specs.Walk.{IsEnd, bytes_in}
 use Rattle.mseed_stream.specs.declared.fault.StreamFault.{StreamFault}
-use Rattle.mseed_stream.specs.declared.fault.StreamFault.TheVariants.{Frame, Truncated, Memory}
 use Rattle.mseed_stream.proofs.OneInput.{refused_of}
 use Rattle.mseed_stream.proofs.Records.{view_record}
 use Rattle.mseed_audit.specs.declared.channel.Channel.{Channel}
 use Rattle.mseed_audit.specs.declared.channel.Findings.{Findings}
-use Rattle.mseed_audit.specs.declared.channel.Findings.TheVariants.{Nothing, Counted}
 use Rattle.mseed_audit.specs.declared.channel.Head.{Head}
 use Rattle.mseed_audit.specs.declared.finding.Finding.{Finding}
 use Rattle.mseed_audit.specs.declared.finding.Why.{Why}
@@ -107,7 +105,8 @@ ones_of key size views all fits =
     (all_placed 1 0 (length views) size views all (omega arith) (omega (arith, fits)))
 
 pub count_of_key : (key : List ℕ) (views : List View) → length (records_of key (added_from 0 views)) ≤ length views
-count_of_key key views = search (arith, length-filter, count_by-le-length, numbered_length, added_length)
+count_of_key key views =
+    search (arith, length-filter, count_by-le-length, numbered_length, added_length)
 
 -- ---- keys
 abbrev IsByte : ℕ → Type 0
@@ -147,12 +146,10 @@ module _ (key : List ℕ) (n size : ℕ) (few : n < 2 ^ 40) (small : size < 2 ^ 
   }
 
   if_head : (o : Option Head) (p : Placed) → IsOne key n size p → IsHeadOf o p → IfSome o HasHead
-  if_head None p is begins = tt
-  if_head (Some h) p is begins = has_head h p is begins
+  if_head o p h1 h2 = grind (arith, has_head)
 
   if_tail : (o : Option Tail) (p : Placed) → IsOne key n size p → IsTailOf o p.view → IfSome o HasTail
-  if_tail None p is ends = tt
-  if_tail (Some t) p is ends = has_tail t p is ends
+  if_tail o p h1 h2 = grind (arith, has_tail)
 
   -- the findings of its records
   abbrev AreHad : List Placed → List Finding → Type 0
@@ -160,8 +157,7 @@ module _ (key : List ℕ) (n size : ℕ) (few : n < 2 ^ 40) (small : size < 2 ^ 
 
   had_more : (p : Placed) (ps : List Placed) (why : Option Why) (found : List Finding) → IsOne key n size p
       → IfSome why HasWhy → AreHad ps found → AreHad (p ∷ ps) (finding_at p why ++ found)
-  had_more p ps None found is has rest = (rest.0, omega (arith, rest.1))
-  had_more p ps (Some why) found is has rest = search arith
+  had_more p ps why found h1 h2 h3 = grind arith
 
   all_had : (before : Option View) (ps : List Placed) (found : List Finding) → IfSome before IsView → Ones ps
       → AreFindings before ps found → AreHad ps found
@@ -172,9 +168,7 @@ module _ (key : List ℕ) (n size : ℕ) (few : n < 2 ^ 40) (small : size < 2 ^ 
   has_findings : (f : Findings) (first last : Placed) (ps : List Placed) (found : List Finding)
       → IsOne key n size first → IsOne key n size last → IsHeadOf (head_in f) first → IsTailOf (tail_in f) last.view
       → AreCounted f found → AreHad ps found → length ps ≤ n → HasFindings f
-  has_findings (Nothing head tail) first last ps found i k begins ends are had l = search (arith, has_head, has_tail)
-  has_findings (Counted count finding head tail) first last ps found i k begins ends are had l =
-      search (arith, if_head, if_tail)
+  has_findings f first last ps found h1 h2 h3 h4 h5 h6 h7 = grind (arith, has_head, has_tail, if_head, if_tail)
 
   few_samples : (ps : List Placed) → Ones ps → sample_count ps ≤ 2 ^ 16 * length ps
   few_samples [] h = omega arith
@@ -191,8 +185,7 @@ module _ (key : List ℕ) (n size : ℕ) (few : n < 2 ^ 40) (small : size < 2 ^ 
       record {
         key_length = ap (λ (k : List ℕ). length k) first.key_is
             ∙ key_long bytes (omega (arith, record_long bytes (view_record s.first.view is)));
-        key_bytes = subst (λ (k : List ℕ). AllByRecursion IsByte k) (sym first.key_is)
-            (key_bytes bytes (octets_of s.first.view is));
+        key_bytes = rw first.key_is (key_bytes bytes (octets_of s.first.view is));
         records = omega (arith, s.records, l, few);
         samples = omega (arith, s.samples, few_samples ps h, l, few);
         findings = has_findings c.findings s.first s.last ps s.found first last s.head s.tail s.counted
@@ -226,10 +219,7 @@ AnswerFits _ = ⊤
 
 at_1000_by : (low short long : Bool) (e k : ℕ) → e < 2 ^ 8
     → AnswerFits (cond low (Not (Length e)) (cond short (Not Outside) (cond long (Need k) (Record k))))
-at_1000_by true short long e k h = h
-at_1000_by false true long e k h = tt
-at_1000_by false false true e k h = tt
-at_1000_by false false false e k h = tt
+at_1000_by low short long e k h1 = grind arith
 
 at_1000_fits : (b : List ℕ) (o : ℕ) → AreOctets b → AnswerFits (at_1000 b o)
 at_1000_fits b o octets = search (arith, at_1000_by)
@@ -253,20 +243,15 @@ from_fits order b below o [] f octets d = search (arith, by_offset, at_offset_fi
 from_fits order b below o (p ∷ os) f octets d = from_fits order b (o + 4) (next_at order b o) os f octets d.2
 
 frame_fits : (b : List ℕ) (f : FrameFault) → AreOctets b → Decides b (Not f) → HasFrameFault f
-frame_fits b f octets (by_chain order os _ e l k m d) = from_fits order b 48 (blockette_at order b) os f octets d
-frame_fits b _ octets _ = tt
+frame_fits b f h1 h2 = grind (arith, from_fits)
 
 truncated_in : (rest : List ℕ) (have : ℕ) → IsEndOf rest (truncated have) → have ≡ length rest
 truncated_in rest _ (is_truncated k l d) = refl
 
 has_end : (end : Option StreamFault) (offset bytes : ℕ) (h : BytesRead) → IsWithinLimits h.bytes → offset ≡ bytes
     → bytes < 2 ^ 63 → IsEnd end offset h → IfSome end (λ fault. HasFaultLine bytes fault)
-has_end None offset bytes h fits same small is = tt
-has_end (Some (Frame n f)) offset bytes h fits same small is =
-    search (arith, get_or-drop, octets_in, frame_fits, refused_of)
-has_end (Some (Truncated n have)) offset bytes h fits same small is = search (arith, truncated_in, length-drop)
-has_end (Some Memory) offset bytes h fits same small is = absurd (is.1 refl)
-has_end _ offset bytes h fits same small is = record { bytes_fit = small; is = is.0.0 ∙ same }
+has_end end offset bytes h h1 h2 h3 h4 =
+    grind (arith, get_or-drop, octets_in, frame_fits, refused_of, truncated_in, length-drop)
 
 -- ---- the whole
 pub has_channel : (views : List View) (size : ℕ) (key : List ℕ) (c : Channel) (o : Option Channel)
@@ -300,6 +285,5 @@ has_text h a fits =
         bytes_fit = omega (arith, a.part.bytes, size);
       };
       faults = omega (arith, a.faults);
-      end = subst (λ (o : Option StreamFault). IfSome o (λ fault. HasFaultLine a.written.part.bytes fault)) (sym a.end)
-          end;
+      end = rw a.end end;
     }

@@ -41,8 +41,7 @@ moved_reported d e t = record { view = t.view; finding = moved_finding d e t.fin
 
 reported_at_moved : (d e : ℕ) (p : Placed) (why : Option Why)
     → reported_at (moved d e p) why ≡ map (moved_reported d e) (reported_at p why)
-reported_at_moved d e p None = refl
-reported_at_moved d e p (Some why) = refl
+reported_at_moved d e p why = grind arith
 
 pub reported_moved : (d e : ℕ) (before : Option View) (ps : List Placed) (reported : List Reported)
     → AreReportedIn before ps reported
@@ -64,17 +63,16 @@ abbrev noted : Placed → Finding → Reported
 noted q f = record { view = q.view; finding = f }
 
 reported_is : (q : Placed) (why : Option Why) → reported_at q why ≡ map (noted q) (finding_at q why)
-reported_is q None = refl
-reported_is q (Some why) = refl
+reported_is q why = grind arith
 
 border_is : (q : Placed) (o : Option Finding) → border_reported q o ≡ map (noted q) (option_to_list o)
-border_is q None = refl
-border_is q (Some f) = refl
+border_is q o = grind arith
 
 reported_after : (q : Placed) (further why : Option Why) (o : Option Finding)
     → finding_at q further ≡ option_to_list o ++ finding_at q why
     → reported_at q further ≡ border_reported q o ++ reported_at q why
-reported_after q further why o e = search (arith, reported_is, noted, map-append, border_is)
+reported_after q further why o e =
+    search (arith, reported_is, map-append, border_is)
 
 -- a record that is judged after another has the border's finding before what is reported of it alone
 pub reported_border : HaveOneFinding → (t : Option Tail) (b : View) (h : Option Head) (q : Placed) (qs : List Placed)

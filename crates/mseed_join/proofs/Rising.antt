@@ -1,5 +1,5 @@
 -- What is reported of an archive stands there by its offsets, and merged lists are one.
-use Rattle.std.proofs.Common.{◌≡◌, ℕ, ◌+◌, ◌≤◌, ◌<◌, List, [], ◌∷◌, ◌++◌, length, Option, Some, None, refl, sym, ap}
+use Rattle.std.proofs.Common.{◌≡◌, ℕ, ◌+◌, ◌≤◌, ◌<◌, List, [], ◌∷◌, ◌++◌, length, Option, refl}
 use Rattle.std.proofs.Common.{subst, arith, ◌⊎◌, inl, inr, IsPermutation}
 use Rattle.std.specs.List.{AllByRecursion}
 use Rattle.std.proofs.lemmas.List.Elements.{All-from_recursion, recursion_from_All}
@@ -18,8 +18,7 @@ rise_before least lower (n ∷ ns) le rise = (omega (arith, le, rise.0), rise.1)
 rise_at : (offset next number : ℕ) (v : View) (why : Option Why) (reported : List Reported) → offset < next
     → RiseFrom next (notices_of reported)
     → RiseFrom offset (notices_of (reported_at (record { view = v; offset = offset; number = number }) why ++ reported))
-rise_at offset next number v None reported lt rise = search (arith, rise_before)
-rise_at offset next number v (Some why) reported lt rise = search (arith, rise_before)
+rise_at offset next number v why reported h1 h2 = grind (arith, rise_before)
 
 rise_from : (earlier : List Placed) (number offset : ℕ) (vs : List View) (reported : List Reported) → HaveBytes vs
     → AreReported earlier (numbered number (added_from offset vs)) reported → RiseFrom offset (notices_of reported)
@@ -66,13 +65,12 @@ in_other ns ms is =
 not_before : (least : ℕ) (ns : List Notice) (n : Notice) → RiseFrom least ns → IsIn ns n → least ≤ n.finding.offset
 not_before least [] n rise is = absurd is
 not_before least (m ∷ ms) n rise (inl same) = subst (λ (x : Notice). least ≤ x.finding.offset) same rise.0
-not_before least (m ∷ ms) n rise (inr later) = search (arith, not_before (m.finding.offset + 1) ms n rise.1 later)
+not_before least (m ∷ ms) n rise (inr later) =
+    search (arith, not_before (m.finding.offset + 1) ms n rise.1 later)
 
 same_first : (least other : ℕ) (n m : Notice) (ns ms : List Notice) → RiseFrom least (n ∷ ns)
     → RiseFrom other (m ∷ ms) → IsIn (m ∷ ms) n → IsIn (n ∷ ns) m → n ≡ m
-same_first least other n m ns ms rise up (inl e) is = sym e
-same_first least other n m ns ms rise up (inr later) (inl e) = e
-same_first least other n m ns ms rise up (inr later) (inr past) = search (arith, not_before)
+same_first least other n m ns ms h1 h2 h3 h4 = grind (arith, not_before)
 
 -- after the first place no member is the first
 others_in : (n : Notice) (ms ns : List Notice) (least : ℕ) → RiseFrom least ns → n.finding.offset < least
@@ -84,10 +82,7 @@ others_in n ms (m ∷ ns) least rise lt all = (
 )
   where
     by : IsIn (n ∷ ms) m → IsIn ms m
-    by (inl e) =
-        let no : n.finding.offset ≡ m.finding.offset = ap (λ (x : Notice). x.finding.offset) e in
-        let at : least ≤ m.finding.offset = rise.0 in
-        absurd (omega (arith, no, at, lt))
+    by (inl e) = search arith
     by (inr is) = is
 
 rising_one : (least : ℕ) (ns ms : List Notice) → RiseFrom least ns → RiseFrom least ms → AllByRecursion (IsIn ms) ns
@@ -97,12 +92,8 @@ rising_one least [] (m ∷ ms) rise up all are = absurd are.0
 rising_one least (n ∷ ns) [] rise up all are = absurd all.0
 rising_one least (n ∷ ns) (m ∷ ms) rise up all are =
     let first : n ≡ m = same_first least least n m ns ms rise up all.0 are.0 in
-    let rest : AllByRecursion (IsIn ms) ns =
-    others_in m ms ns (n.finding.offset + 1) rise.1
-    (subst (λ (x : Notice). x.finding.offset < n.finding.offset + 1) first (omega arith)) all.1 in
-    let back : AllByRecursion (IsIn ns) ms =
-    others_in n ns ms (m.finding.offset + 1) up.1
-    (subst (λ (x : Notice). n.finding.offset < x.finding.offset + 1) first (omega arith)) are.1 in
+    let rest : AllByRecursion (IsIn ms) ns = search (arith, others_in) in
+    let back : AllByRecursion (IsIn ns) ms = search (arith, others_in) in
     let at : ℕ = m.finding.offset + 1 in
     let here : RiseFrom at ns = subst (λ (x : Notice). RiseFrom (x.finding.offset + 1) ns) first rise.1 in
     let more : ns ≡ ms = rising_one at ns ms here up.1 rest back in

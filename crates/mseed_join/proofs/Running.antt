@@ -1,5 +1,5 @@
 -- Reading goes along the lines of parts, and of no others.
-use Rattle.std.proofs.Common.{◌≡◌, ℕ, zero, suc, ◌≤◌, List, [], ◌∷◌, ◌++◌, Option, Some, None}
+use Rattle.std.proofs.Common.{◌≡◌, ℕ, ◌≤◌, List, [], ◌∷◌, ◌++◌, Option, Some, None}
 use Rattle.std.proofs.Common.{inl, inr, refl, sym, ap, ◌∙◌, subst, arith, append_assoc, append-nil}
 use Rattle.std.specs.List.{AllByRecursion}
 use Rattle.std.specs.List.Sorted.{IsStrictlySortedBy}
@@ -37,12 +37,9 @@ rows_run : (over : List Written) (acc es : Entries) → IsAscending (acc ++ es)
     → Runs (record { over = over; last = begun acc }) (rows es) (record { over = over; last = begun (acc ++ es) })
 rows_run over acc [] s = search (arith, append-nil)
 rows_run over acc (e ∷ es) s =
-    let t : IsAscending ((acc ++ e ∷ []) ++ es) =
-    subst (λ (xs : Entries). IsAscending xs) (sym (append_assoc acc (e ∷ []) es)) s in (
+    let t : IsAscending ((acc ++ e ∷ []) ++ es) = search (arith, append_assoc) in (
       begun_is over acc e es s,
-      subst (λ (xs : Entries). Runs (record { over = over; last = begun (acc ++ e ∷ []) }) (rows es)
-          (record { over = over; last = begun xs })) (append_assoc acc (e ∷ []) es)
-          (rows_run over (acc ++ e ∷ []) es t),
+      rw (← (append_assoc acc (e ∷ []) es)) (rows_run over (acc ++ e ∷ []) es t),
     )
 
 -- where reading is after a part, by how it ends
@@ -56,13 +53,11 @@ IsReady (begun channels) = ⊥
 IsReady _ = Unit {0}
 
 ready_by : (before : List Written) (w : Written) (end : Option StreamFault) → IsReady (open_by before w end).last
-ready_by before w None = tt
-ready_by before w (Some f) = tt
+ready_by before w end = grind arith
 
 parts_by : (before : List Written) (w : Written) (end : Option StreamFault)
     → parts_at (open_by before w end) ≡ before ++ w ∷ []
-parts_by before w None = refl
-parts_by before w (Some f) = append-nil (before ++ w ∷ [])
+parts_by before w end = grind (arith, append-nil)
 
 -- from the line of the counts on
 ending_run : (before : List Written) (cs : Entries) (records bytes n : ℕ) (end : Option StreamFault)
@@ -73,9 +68,7 @@ ending_run : (before : List Written) (cs : Entries) (records bytes n : ℕ) (end
       faults = n;
       end = end;
     }) end)
-ending_run before cs records bytes zero None = refl
-ending_run before cs records bytes (suc n) (Some f) = (refl, (refl, refl))
-ending_run before cs records bytes _ _ = (refl, refl)
+ending_run before cs records bytes n end = grind arith
 
 part_run_from : (before : List Written) (w : Written) → IsAscending w.part.channels
     → Runs (record { over = before; last = begun [] })
@@ -90,9 +83,7 @@ part_run_from before w s =
 
 part_run : (over : List Written) (b : OpenPart) (w : Written) → IsReady b → IsAscending w.part.channels
     → Runs (record { over = over; last = b }) (part_rows w) (open_by (over ++ open_part b) w w.end)
-part_run over none w r s = search (arith, rows, faults_row, end_row, append-nil, part_run_from)
-part_run over (begun channels) w r s = absurd r
-part_run over (whole v) w r s = (tt, part_run_from (over ++ v ∷ []) w s)
+part_run over b w h1 h2 = grind (arith, rows, faults_row, end_row, append-nil, part_run_from)
 
 -- ---- along parts
 record RunsAll (s : Stage) (ws : List Written) : Type 0 where
@@ -123,7 +114,7 @@ all_run ws h = let r : RunsAll start ws = parts_run start ws tt h in (r.at, (r.r
 -- the rows of two lists of parts, one after another
 pub all_rows_append : (ws vs : List Written) → all_rows (ws ++ vs) ≡ all_rows ws ++ all_rows vs
 all_rows_append [] vs = refl
-all_rows_append (w ∷ ws) vs = search (arith, part_rows, append_assoc, all_rows, all_rows_append ws vs)
+all_rows_append (w ∷ ws) vs = search (arith, append_assoc, all_rows_append ws vs)
 
 pub texts_before : (ws vs : List Written) → HaveTexts (ws ++ vs) → HaveTexts ws
 texts_before [] vs h = tt
@@ -138,8 +129,7 @@ header_runs : (at : Stage) → IsReady at.last → to at header ≡ record { ove
 header_runs at r = search (arith, append-nil)
 
 header_may : (b : OpenPart) → IsReady b → May b header
-header_may (begun channels) q = absurd q
-header_may _ q = tt
+header_may b h1 = grind arith
 
 -- what was read runs to where it is
 ended_runs : (ws : List Written) (w : Written) (f : StreamFault) → HaveTexts (ws ++ w ∷ []) → w.end ≡ Some f
@@ -213,9 +203,7 @@ Extends over (begun channels) parts = GoesOn over (begun_part channels) parts
 Extends over (whole w) parts = GoesOn over w parts
 
 itself : (over : List Written) (b : OpenPart) → Extends over b (over ++ open_part b)
-itself over none = ([], refl)
-itself over (begun channels) = search (arith, same_grows)
-itself over (whole w) = record { part = w; others = []; grows = same_grows w; are = refl }
+itself over b = grind (arith, same_grows)
 
 back : (over : List Written) (b : OpenPart) (x : Line) (parts : List Written) → Onward b x
     → Extends (goes over b x).over (goes over b x).last parts → Extends over b parts
@@ -224,7 +212,8 @@ back over _ _ parts (Onward.row cs k c m) e = search (arith, append_assoc)
 back over _ _ parts (Onward.sums cs n l) e = search arith
 back over _ _ parts (Onward.follows w) e = search (arith, same_grows, append_assoc)
 back over _ _ parts (Onward.passes w n m) e = search arith
-back over _ _ parts (Onward.ends w l f m) e = search (arith, append-nil, append_assoc)
+back over _ _ parts (Onward.ends w l f m) e =
+    search (arith, append-nil, append_assoc)
 
 pub extends : (s t : Stage) (xs : List Line) → Runs s xs t → Extends s.over s.last (parts_at t)
 extends s t [] r = subst (λ (u : Stage). Extends s.over s.last (parts_at u)) r (itself s.over s.last)

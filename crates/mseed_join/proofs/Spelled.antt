@@ -1,12 +1,11 @@
 -- What is read is what is written.
 use Rattle.std.proofs.Common.{◌≡◌, ℕ, zero, suc, ◌-◌, ◌^◌, ◌<◌, ◌≤◌, ◌&&◌, nat_lt, nat_eq, List, [], ◌∷◌, ◌++◌}
-use Rattle.std.proofs.Common.{true, Option, Some, None, ℤ, pos, negsuc, refl, sym, ap, ◌∙◌, arith}
+use Rattle.std.proofs.Common.{true, Option, Some, None, ℤ, refl, sym, ap, ◌∙◌, arith}
 use Rattle.std.proofs.Common.{append_assoc, IfSome}
 use Rattle.std.specs.Prelude.{decimal, codes}
 use Rattle.std.specs.Fmt.{signed_decimal}
 use Rattle.std.specs.Cmp.Lexicographic.{same_text}
 use Rattle.std.proofs.lemmas.Bool.Decides.{nat_tests}
-use Rattle.std.proofs.lemmas.Int.{ints}
 use Rattle.std.proofs.lemmas.Bool.{and_parts}
 use Rattle.std.proofs.lemmas.Option.{cond_some, none-some, same_Some}
 use Rattle.mseed_time.specs.Btime.{IsInstant}
@@ -52,8 +51,7 @@ use Rattle.mseed_join.proofs.Keys.{IsKey, key_spelled}
 -- a step that answered, and the steps after it
 pub bind_then : {A B P : Type 0} (o : Option A) (f : A → Option B) (y : B) → (o >>= f) ≡ Some y
     → ((x : A) → o ≡ Some x → f x ≡ Some y → P) → P
-bind_then None f y e k = absurd (none-some y e)
-bind_then (Some x) f y e k = k x refl e
+bind_then o f y h1 h2 = grind (arith, none-some)
 
 pub leading : (w a b c : List ℕ) → a ≡ w ++ b → b ≡ c → a ≡ w ++ c
 leading w a b c e h = e ∙ ap (λ (t : List ℕ). w ++ t) h
@@ -156,8 +154,7 @@ ratio = reads (λ bytes y e. read_then (number (2 ^ 30) (omega arith)) bytes _ y
     )))))
 
 within_instant : (z : ℤ) → IsWithin 5_364_662_400_000_000 7_258_118_399_999_999 z → IsInstant z
-within_instant (pos n) l = (omega (arith, ints, l), omega (arith, ints, l))
-within_instant (negsuc n) l = (omega (arith, ints, l), omega (arith, ints, l))
+within_instant z h1 = grind arith
 
 pub start : Reads signed_decimal IsInstant start_at
 start = reads (λ bytes y e.
@@ -166,8 +163,7 @@ start = reads (λ bytes y e.
     (i.0, within_instant y.0 i.1))
 
 within_word : (z : ℤ) → IsWithin (2 ^ 31) (2 ^ 31 - 1) z → IsWord z
-within_word (pos n) l = omega (arith, l)
-within_word (negsuc n) l = l
+within_word z h1 = grind arith
 
 sample : Reads signed_decimal IsWord sample_at
 sample = reads (λ bytes y e.
@@ -269,7 +265,8 @@ counted_findings_spelled : (count : ℕ) (head : Option Head) (tail : Option Tai
     → counted_findings_at count head tail bytes ≡ Some y → count < 2 ^ 63 → IfSome head HasHead → IfSome tail HasTail
     → (findings_then head tail count bytes ≡ findings_text y.0 ++ y.1) × HasFindings y.0
 unfolding counted_findings_at
-counted_findings_spelled zero (Some head) (Some tail) bytes y e l h t = search (arith, same_Some, nothing_leading)
+counted_findings_spelled zero (Some head) (Some tail) bytes y e l h t =
+    search (arith, same_Some, nothing_leading)
 counted_findings_spelled (suc n) head tail bytes y e l h t =
     bind_then (first_at bytes) _ y e (λ first is more.
     let f = first_spelled bytes first is in

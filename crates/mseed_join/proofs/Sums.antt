@@ -1,13 +1,13 @@
 -- Parts that count, joined: those before and those after.
-use Rattle.std.proofs.Common.{◌≡◌, ◌+◌, ◌<◌, ◌^◌, List, [], ◌∷◌, ◌++◌, Bool, true, false, Option, Some, None}
+use Rattle.std.proofs.Common.{◌≡◌, ◌<◌, ◌^◌, List, [], ◌∷◌, ◌++◌, Bool, true, false, Option, Some, None}
 use Rattle.std.proofs.Common.{refl, sym, ap, ◌∙◌, subst, arith, ◌⊎◌}
 use Rattle.std.specs.List.Sorted.{IsStrictlySortedBy}
-use Rattle.std.specs.Option.{is_some, option_map}
+use Rattle.std.specs.Option.{is_some}
 use Rattle.mseed_stream.specs.declared.fault.StreamFault.{StreamFault}
 use Rattle.mseed_join.specs.Parts.{IsAscending}
 use Rattle.mseed_join.specs.Written.{Written}
 use Rattle.mseed_join.proofs.JoinedParts.{joint_one}
-use Rattle.mseed_join.specs.Joined.{AreJoined, none, one, IsNext, IsJointOf, counted, counted_by, moved_fault, nothing}
+use Rattle.mseed_join.specs.Joined.{AreJoined, none, one, IsNext, IsJointOf, counted, counted_by, nothing}
 
 -- ---- one part and more
 pub record IsFirst (a w : Written) (ws : List Written) (h : Written) : Type 0 where
@@ -78,9 +78,7 @@ closes past (w ∷ ws) = closes_by past w.end (closes past ws)
 on_by : (past : Bool) (w : Written) (end : Option StreamFault) (c : Bool) (xs ys zs : List Written)
     → closes_by past end c ≡ false → (c ≡ false → xs ≡ ys ++ zs)
     → counted_by past w end xs ≡ counted_by past w end ys ++ zs
-on_by past w None c xs ys zs e more = ap (λ (ts : List Written). w ∷ ts) (more e)
-on_by true w (Some f) c xs ys zs e more = ap (counted_by true w (Some f)) (more e)
-on_by false w (Some f) c xs ys zs e more = cc e
+on_by past w end c xs ys zs h1 h2 = grind arith
 
 on : (past : Bool) (ws vs : List Written) → closes past ws ≡ false
     → counted past (ws ++ vs) ≡ counted past ws ++ counted past vs
@@ -89,9 +87,7 @@ on past (w ∷ ws) vs e = search (arith, on_by, on past ws vs)
 
 stop_by : (past : Bool) (w : Written) (end : Option StreamFault) (c : Bool) (xs ys : List Written)
     → closes_by past end c ≡ true → (c ≡ true → xs ≡ ys) → counted_by past w end xs ≡ counted_by past w end ys
-stop_by past w None c xs ys e more = ap (λ (ts : List Written). w ∷ ts) (more e)
-stop_by true w (Some f) c xs ys e more = ap (counted_by true w (Some f)) (more e)
-stop_by false w (Some f) c xs ys e more = refl
+stop_by past w end c xs ys h1 h2 = grind arith
 
 stops : (past : Bool) (ws vs : List Written) → closes past ws ≡ true → counted past (ws ++ vs) ≡ counted past ws
 stops past [] vs e = cc e
@@ -101,17 +97,7 @@ stops past (w ∷ ws) vs e = search (arith, stop_by, stops past ws vs)
 closed_by : (past : Bool) (a w : Written) (ws : List Written) (b : Written) (end : Option StreamFault) → w.end ≡ end
     → ((c : Written) → c.end ≡ None → AreJoined c (counted past ws) b → closes past ws ≡ is_some b.end)
     → AreJoined a (counted_by past w end (counted past ws)) b → closes_by past end (closes past ws) ≡ is_some b.end
-closed_by past a w ws b None e more j =
-    let f : IsFirst a w (counted past ws) b = first_of a w b (counted past ws) j in
-    more f.between (f.next.end ∙ ap (option_map (moved_fault a.part.bytes)) e) f.more
-closed_by true a w ws b (Some x) e more j =
-    let v : Written = record { part = w.part; faults = w.faults + 1; end = None } in
-    let f : IsFirst a v (counted true ws) b = first_of a v b (counted true ws) j in
-    more f.between f.next.end f.more
-closed_by false a w ws b (Some x) e more j =
-    let f : IsFirst a w [] b = first_of a w b [] j in
-    sym (ap (λ (c : Written). is_some c.end) (sym (none_of f.between b f.more))
-    ∙ ap is_some (f.next.end ∙ ap (option_map (moved_fault a.part.bytes)) e))
+closed_by past a w ws b end h1 h2 h3 = grind (arith, first_of, none_of)
 
 closed : (past : Bool) (a : Written) (ws : List Written) (b : Written) → a.end ≡ None → AreJoined a (counted past ws) b
     → closes past ws ≡ is_some b.end
@@ -143,8 +129,7 @@ never_closes (w ∷ ws) = search (arith, never_closes ws)
 
 pub not_past : (past : Bool) (ws : List Written) (h : Written) (f : StreamFault) → h.end ≡ Some f
     → IsJointOf past ws h → past ≡ false
-not_past false ws h f n j = refl
-not_past true ws h f n j = cc (never_closes ws, closed true nothing ws h refl j, ap is_some n)
+not_past past ws h f h1 h2 = grind (arith, never_closes, closed)
 
 -- the joint part of those before, to which the others are joined; or it ends with a fault, and is that of all
 pub record IsSplit (past : Bool) (ws vs : List Written) (h : Written) : Type 0 where
@@ -171,5 +156,4 @@ joined_one a (w ∷ ws) b c j k =
     let f : IsFirst a w ws b = first_of a w b ws j in
     let g : IsFirst a w ws c = first_of a w c ws k in
     joined_one f.between ws b c f.more
-    (subst (λ (d : Written). AreJoined d ws c)
-    (sym (next_one a w f.between g.between f.next g.next)) g.more)
+    (rw (next_one a w f.between g.between f.next g.next) g.more)

@@ -107,10 +107,7 @@ each_more over _ _ l w (Onward.ends v k f m) h =
 
 where_more : (over : List Written) (b : OpenPart) (x : Line) → IsWhere over b → Onward b x
     → IsWhere (goes over b x).over (goes over b x).last
-where_more over _ _ w (Onward.sums cs n l) = refl
-where_more over _ _ w (Onward.passes v n m) = w
-where_more over _ _ w (Onward.ends v l f m) = search arith
-where_more over _ _ w _ = tt
+where_more over b x h1 h2 = grind arith
 
 pub stage_more : (lines : List ℕ) (s : Stage) (x : Line) → IsStage lines s → IsLine x → Onward s.last x
     → IsStage (lines ++ text_of_line x) (to s x)
@@ -127,8 +124,7 @@ ending_part false w f = with_end w f
 
 pub ending_counts : (past : Bool) (w : Written) (f : StreamFault)
     → counted past (with_end w f ∷ []) ≡ ending_part past w f ∷ []
-ending_counts true w f = refl
-ending_counts false w f = refl
+ending_counts past w f = grind arith
 
 pub record Replaces (past : Bool) (over : List Written) (b : OpenPart) (x : Line) : Type 0 where
   pub old : Written
@@ -164,8 +160,7 @@ replaces past over _ _ w _ p = absurd p
 -- and a header begins one after all
 pub header_are : (over : List Written) (b : OpenPart) → Onward b header
     → parts_at (goes over b header) ≡ (over ++ open_part b) ++ begun_part [] ∷ []
-header_are over _ Onward.opens = ap (λ (ws : List Written). ws ++ begun_part [] ∷ []) (sym (append-nil over))
-header_are over _ (Onward.follows w) = refl
+header_are over b h1 = grind (arith, append-nil)
 
 -- ---- the joint part
 -- a part without a fault, the last of those that are joined
@@ -197,13 +192,13 @@ in_place past over a v u k j n same next =
 passed_append : (n : ℕ) (ws vs : List Written)
     → passed_from n (ws ++ vs) ≡ passed_from n ws ++ passed_from (n + length ws) vs
 passed_append n [] vs = let same : n ≡ n + 0 = omega arith in ap (λ (m : ℕ). passed_from m vs) same
-passed_append n (w ∷ ws) vs = search (arith, append_assoc, passed_append (n + 1) ws vs)
+passed_append n (w ∷ ws) vs =
+    search (arith, append_assoc, passed_append (n + 1) ws vs)
 
 -- of a part without a fault nothing is reported
 pub passed_silent : (past : Bool) (ws : List Written) (w : Written) → w.end ≡ None
     → passed_lines past (ws ++ w ∷ []) ≡ passed_lines past ws
-passed_silent false ws w e = refl
-passed_silent true ws w e = search (arith, passed_append, append-nil)
+passed_silent past ws w h1 = grind (arith, passed_append, append-nil)
 
 pub passed_none : (past : Bool) (over : List Written) (b : OpenPart) (x : Line) → (p : Replaces past over b x)
     → p.new.end ≡ None → passed_lines past (parts_at (goes over b x)) ≡ passed_lines past (over ++ open_part b) ++ []
@@ -212,7 +207,8 @@ passed_none past over b x p e = search (arith, passed_silent, append-nil)
 pub passed_more : (over : List Written) (v : Written) (f : StreamFault) → v.end ≡ None
     → passed_lines true ((over ++ with_end v f ∷ []) ++ [])
     ≡ passed_lines true (over ++ v ∷ []) ++ passed_line (length (over ++ v ∷ [])) f ∷ []
-passed_more over v f e = search (arith, length-append, append-nil, passed_append, passed_silent)
+passed_more over v f e =
+    search (arith, length-append, append-nil, passed_append, passed_silent)
 
 -- ---- how many parts there are
 pub number_same : (over : List Written) (w v : Written) → length (over ++ w ∷ []) ≡ length (over ++ v ∷ [])

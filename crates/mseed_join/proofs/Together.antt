@@ -35,8 +35,13 @@ have_texts : ReadsBack → (archive : List ℕ) (ws : List Written) → AreParte
 have_texts back _ _ none fits = tt
 have_texts back _ _ (last archive h a read by) fits = (back h a (read_within archive h read fits), tt)
 have_texts back _ _ (more archive others h a ws read end parted) fits =
-    search (arith, read_within, first_within, rest_within,
-    have_texts back others ws parted (rest_within archive others fits))
+    search (
+      arith,
+      read_within,
+      first_within,
+      rest_within,
+      have_texts back others ws parted (rest_within archive others fits),
+    )
 
 pub spelled : ReadsBack → (archive : List ℕ) (ws : List Written) → AreParted archive ws → IsWithinLimits archive
     → Spells (texts ws) ws
