@@ -14,7 +14,7 @@ use Rattle.mseed_steim.specs.private.Digits.{digits, differences_in, differences
 use Rattle.mseed_steim.specs.Frames.{DataWord}
 use Rattle.mseed_steim.specs.Groups.{Group, group_of}
 use Rattle.mseed_steim.specs.private.Items.{items_of}
-use Rattle.mseed_steim.specs.Left.{Left}
+use Rattle.mseed_steim.specs.RemainingDifferences.{RemainingDifferences}
 use Rattle.mseed_steim.specs.private.Reads.{as_data}
 use Rattle.mseed_steim.specs.private.Steps.{IsStep}
 use Rattle.mseed_steim.proofs.Spelled.{no_differences, length-digits}
@@ -75,15 +75,15 @@ some_of s c word ds other e = some_in word (group_of s c (word / 2 ^ 30)) ds (gr
     (rw other at e)
 
 -- what is left after a step
-pub stepped : (s : Scheme) (old : Left) (words after : List DataWord) (ready : List ℤ)
+pub stepped : (s : Scheme) (old : RemainingDifferences) (words after : List DataWord) (ready : List ℤ)
     (r : Option (Result ℤ BadWordAt)) → old.items ≡ items_of s words → IsStep s words r after ready
-    → YieldsFirst (λ (left : Left). left.items) old r
+    → YieldsFirst (λ (left : RemainingDifferences). left.items) old r
     (record { items = map Ok ready ++ items_of s after; ready = ready; words = after })
 stepped s old words after ready r e h = search (arith, no_items)
 
-pub progressed : (s : Scheme) (old : Left) (words after : List DataWord) (ready : List ℤ)
+pub progressed : (s : Scheme) (old : RemainingDifferences) (words after : List DataWord) (ready : List ℤ)
     (r : Option (Result ℤ BadWordAt)) → old.items ≡ items_of s words → IsStep s words r after ready
-    → MakesProgress (λ (left : Left). ⊤) (item_count (λ (left : Left). left.items)) old r
+    → MakesProgress (λ (left : RemainingDifferences). ⊤) (item_count (λ (left : RemainingDifferences). left.items)) old r
     (record { items = map Ok ready ++ items_of s after; ready = ready; words = after })
 progressed s old words after ready None e h = record { on = λ _. tt; keeps = tt; rests = λ _. tt }
 progressed s old words after ready (Some item) e h =

@@ -3,7 +3,7 @@ pub mod Spelling
 pub mod Frames
 pub mod Runs
 pub mod ByteRuns
-pub mod Left
+pub mod RemainingDifferences
 pub mod Samples
 pub mod Reading
 pub mod Nearness

@@ -9,7 +9,7 @@ ghost use Rattle.mseed_steim.specs.declared.scheme.Scheme.{Scheme};
 ghost use Rattle.mseed_steim.specs.ByteRuns.{UnpacksRun, past_empty, words_after};
 ghost use Rattle.mseed_steim.specs.Frames.{data_words};
 ghost use Rattle.mseed_steim.specs.private.Items.{items_of};
-ghost use Rattle.mseed_steim.specs.Left.{most_left};
+ghost use Rattle.mseed_steim.specs.RemainingDifferences.{most_left};
 ghost use Rattle.mseed_steim.specs.Runs.{Gives};
 ghost use Rattle.mseed_steim.specs.private.Steps.{IsStep};
 
@@ -41,9 +41,9 @@ pub struct Differences<'a> {
 impl<'a> Model for Differences<'a> {
     ghost use Rattle.std.specs.Prelude.{◌++◌, map, Ok};
     ghost use Rattle.mseed_steim.specs.private.Items.{items_of};
-    ghost use Rattle.mseed_steim.specs.Left.{Left};
+    ghost use Rattle.mseed_steim.specs.RemainingDifferences.{RemainingDifferences};
 
-    ghost Value = { Left };
+    ghost Value = { RemainingDifferences };
 
     ghost view = { λ d. record {
       items = map Ok d.ready ++ items_of d.scheme d.words;
