@@ -4,8 +4,8 @@ use Rattle.std.proofs.Common.{false, Option, refl, sym, ap, ◌∙◌, subst, ar
 use Rattle.std.proofs.Common.{length-append, take-append-drop, length-take}
 use Rattle.mseed_stream.specs.Device.{BytesRead, BytesWritten, nothing_read}
 use Rattle.mseed_join.specs.Lines.{Line, counts_line, header_line}
-use Rattle.mseed_join.specs.declared.line_reader.Ahead.{Ahead}
-use Rattle.mseed_join.specs.declared.line_reader.Ahead.TheVariants.{Line as WholeLine, TooLong, Unended, Nothing}
+use Rattle.mseed_join.specs.declared.line_reader.NextLine.{NextLine}
+use Rattle.mseed_join.specs.declared.line_reader.NextLine.TheVariants.{Line as WholeLine, TooLong, Unended, Nothing}
 use Rattle.mseed_join.specs.declared.joint.Joint.{Joint}
 use Rattle.mseed_join.specs.declared.joint.Place.{Place}
 use Rattle.mseed_join.specs.declared.joint.Reported.{Reported}
@@ -176,7 +176,7 @@ module _ {A : Type 0} {past : Bool} {now : BytesRead} {s : Stage} {lines : Lines
   all_passed held = l.by.reported ∙ ap (λ (t : List ℕ). l.by.passed ++ t) held ∙ append-nil l.by.passed
 
   -- by what lies ahead, if it is no line
-  pub over_at : (a : Ahead) → LiesAhead a lines now.is_at_end → is_over a j.place ≡ true → HasEnded past now s j
+  pub over_at : (a : NextLine) → LiesAhead a lines now.is_at_end → is_over a j.place ≡ true → HasEnded past now s j
   over_at Nothing lies e = record {
     stopped = stops;
     at_end = lies.0;
@@ -186,7 +186,7 @@ module _ {A : Type 0} {past : Bool} {now : BytesRead} {s : Stage} {lines : Lines
   }
   over_at _ lies e = cc e
 
-  pub bad_at : (a : Ahead) → LiesAhead a lines now.is_at_end → a ≢ WholeLine → is_over a j.place ≡ false
+  pub bad_at : (a : NextLine) → LiesAhead a lines now.is_at_end → a ≢ WholeLine → is_over a j.place ≡ false
       → IsBadNext (flaw_of a)
   bad_at WholeLine lies other e = absurd (other refl)
   bad_at TooLong lies other e =

@@ -15,8 +15,8 @@ use Rattle.mseed_stream.specs.Device.{Beside, BytesRead, nothing_read}
 use Rattle.mseed_stream.specs.Fault.{IsStreamFault}
 use Rattle.mseed_stream.specs.declared.fault.StreamFault.{StreamFault}
 use Rattle.mseed_stream.specs.declared.fault.StreamFault.TheVariants.{Frame, Read, Turns}
-use Rattle.mseed_join.specs.declared.line_reader.Ahead.{Ahead}
-use Rattle.mseed_join.specs.declared.line_reader.Ahead.TheVariants.{Unended, Nothing}
+use Rattle.mseed_join.specs.declared.line_reader.NextLine.{NextLine}
+use Rattle.mseed_join.specs.declared.line_reader.NextLine.TheVariants.{Unended, Nothing}
 use Rattle.mseed_join.specs.Joined.{AreLines}
 use Rattle.mseed_join.specs.private.LineReading.{LinesRead, Grows, GrowsTo, IsReadBy}
 use Rattle.mseed_join.specs.private.LineReading.{GoesOn, IfGoesOn, IsLineAhead, IsReadFault}
@@ -135,7 +135,7 @@ pub reads_so_far : {old new : BytesRead} {left rest : Option (List ℕ)} {p q : 
     → GrowsTo old new left rest p q i j k l m n → new.is_at_end ≡ false → y ≡ x → ReadsOn old new left rest x y
 reads_so_far grows goes_on beside = reads_to grows (λ end. absurd (false≢true (sym goes_on ∙ end))) beside
 
-pub if_it_does : (a : Ahead) (X : Type 0) → X → IfGoesOn (Ok a) X
+pub if_it_does : (a : NextLine) (X : Type 0) → X → IfGoesOn (Ok a) X
 if_it_does Unended X x = tt
 if_it_does Nothing X x = tt
 if_it_does _ X x = x

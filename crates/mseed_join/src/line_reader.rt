@@ -30,7 +30,7 @@ const LANES: usize = 32;
 
 /// What lies ahead of a reader of lines.
 #[derive(Clone, Copy)]
-pub(crate) enum Ahead {
+pub(crate) enum NextLine {
     /// A line.
     Line,
     /// As many bytes as the longest line has, without an LF.
@@ -114,7 +114,7 @@ impl<A: Allocator> LineReader<A> {
     ///
     /// `Read` where the source failed, `Turns` where it wasn't at its end after 2^40 reads: each with the number of
     /// bytes that were read in all.
-    pub(crate) fn look<R: Source>(&mut self, source: &mut R) -> Result<Ahead, StreamFault>
+    pub(crate) fn look<R: Source>(&mut self, source: &mut R) -> Result<NextLine, StreamFault>
         requires along { IsReadBy (R.read source.old) self.old }
         requires goes_on { GoesOn (R.read source.old) }
         ensures ahead { IfOk result (λ a. LiesAhead a self.new (R.read source.new).is_at_end) }
@@ -180,7 +180,7 @@ impl<A: Allocator> LineReader<A> {
     }
 
     /// Returns what lies ahead, where the bytes that are held show it.
-    fn see(&mut self) -> Option<Ahead>
+    fn see(&mut self) -> Option<NextLine>
         ensures some { IfSome result (λ a. LiesAhead a self.new false) }
         ensures none { IfNone result ((length self.new.held < LONGEST) × HasNoEnd self.new.held) }
         ensures stays { self.new ≡ record self.old { size = self.new.size } }
@@ -190,24 +190,24 @@ impl<A: Allocator> LineReader<A> {
         match size_of_line(held) {
             Some(size) => {
                 self.size = size;
-                Some(Ahead::Line)
+                Some(NextLine::Line)
             }
-            None if is_long => Some(Ahead::TooLong),
+            None if is_long => Some(NextLine::TooLong),
             None => None,
         }
     }
 
     /// Returns what lies ahead at the input's end.
-    fn left(&self) -> Ahead
+    fn left(&self) -> NextLine
         requires no_end { HasNoEnd self.now.held }
         requires short { length self.now.held < LONGEST }
         ensures ahead { LiesAhead result self.now true }
         ensures ends { IfGoesOn (Ok result) ⊥ }
     {
         if self.begin == self.end {
-            Ahead::Nothing
+            NextLine::Nothing
         } else {
-            Ahead::Unended
+            NextLine::Unended
         }
     }
 

@@ -9,7 +9,7 @@ use crate::fault::JoinsFault;
 use crate::flaw::Flaw;
 use crate::joint::{Joint, JointPart, LineFault, Reported};
 use crate::law::lines_are_short;
-use crate::line_reader::{Ahead, LineReader};
+use crate::line_reader::{LineReader, NextLine};
 use mseed_audit::Memory;
 use mseed_stream::Source;
 use std::alloc::Allocator;
@@ -60,7 +60,7 @@ impl<A: Allocator + Copy> Reader<A> {
         let number = self.lines.lines() + 1;
         let offset = self.lines.offset();
         match ahead {
-            Ahead::Line => match self.joint.take_line(self.lines.line()) {
+            NextLine::Line => match self.joint.take_line(self.lines.line()) {
                 Ok(reported) => {
                     self.lines.pass();
                     Ok(Some(reported))
@@ -88,10 +88,10 @@ impl<A: Allocator + Copy> Reader<A> {
     }
 
     /// Returns whether what lies ahead is the input's end, where a part can end.
-    fn is_over(&self, ahead: Ahead) -> bool
+    fn is_over(&self, ahead: NextLine) -> bool
         ensures { result ≡ is_over ahead self.now.joint.place }
     {
-        matches!(ahead, Ahead::Nothing) && self.joint.can_end()
+        matches!(ahead, NextLine::Nothing) && self.joint.can_end()
     }
 
     /// Returns the joint part, at the input's end. Where a number of parts is `expected` they have to be as many, those
@@ -112,12 +112,12 @@ impl<A: Allocator + Copy> Reader<A> {
 }
 
 /// What is wrong with what lies ahead, where it is no line, and no part can be over.
-fn flaw_of(ahead: Ahead) -> Flaw
+fn flaw_of(ahead: NextLine) -> Flaw
     ensures { result ≡ flaw_of ahead }
 {
     match ahead {
-        Ahead::Line | Ahead::TooLong => Flaw::Long,
-        Ahead::Unended => Flaw::Unended,
-        Ahead::Nothing => Flaw::Missing,
+        NextLine::Line | NextLine::TooLong => Flaw::Long,
+        NextLine::Unended => Flaw::Unended,
+        NextLine::Nothing => Flaw::Missing,
     }
 }

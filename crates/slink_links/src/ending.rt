@@ -124,7 +124,10 @@ fn garbage_line(packets: u64) -> Line
     ensures { result ≡ garbage_line packets }
 {
     let mut line = Line::new();
-    line.put_labelled(b"mseed: bytes came that are neither a packet nor the end, after ", packets);
+    line.put_labelled(
+        b"mseed: bytes came that are neither a packet nor the end, after ",
+        packets,
+    );
     if packets == 1 {
         line.put(b" packet\n");
     } else {

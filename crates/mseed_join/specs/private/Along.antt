@@ -3,8 +3,8 @@ use Rattle.std.specs.Prelude.{◌≡◌, ◌≢◌, ◌+◌, ℕ, length, Bool, 
 use Rattle.std.specs.Prelude.{⊤, Result, Ok, Err}
 use Rattle.mseed_stream.specs.Device.{BytesRead, nothing_read}
 use Rattle.mseed_stream.specs.Fault.{IsStreamFault}
-use Rattle.mseed_join.specs.declared.line_reader.Ahead.{Ahead}
-use Rattle.mseed_join.specs.declared.line_reader.Ahead.TheVariants.{Line, TooLong, Unended, Nothing}
+use Rattle.mseed_join.specs.declared.line_reader.NextLine.{NextLine}
+use Rattle.mseed_join.specs.declared.line_reader.NextLine.TheVariants.{Line, TooLong, Unended, Nothing}
 use Rattle.mseed_join.specs.declared.joint.Joint.{Joint}
 use Rattle.mseed_join.specs.declared.joint.JointPart.{JointPart}
 use Rattle.mseed_join.specs.declared.joint.Place.{Place}
@@ -30,14 +30,14 @@ can_end (Channels last) = false
 can_end (Whole bytes has_faults) = true
 
 -- the input ends here, and so can a part
-abbrev pub is_over : Ahead → Place → Bool
+abbrev pub is_over : NextLine → Place → Bool
 is_over Line place = false
 is_over TooLong place = false
 is_over Unended place = false
 is_over Nothing place = can_end place
 
 -- what is wrong where no line lies ahead
-abbrev pub flaw_of : Ahead → Flaw
+abbrev pub flaw_of : NextLine → Flaw
 flaw_of Line = Long
 flaw_of TooLong = Long
 flaw_of Unended = NoEnd

@@ -6,8 +6,8 @@ use Rattle.mseed_stream.specs.Device.{BytesRead}
 use Rattle.mseed_stream.specs.declared.fault.StreamFault.{StreamFault}
 use Rattle.mseed_stream.specs.declared.fault.StreamFault.TheVariants.{Frame, Truncated, Read, Turns, Memory}
 use Rattle.mseed_join.specs.Joined.{AreLines, HasNoEnd}
-use Rattle.mseed_join.specs.declared.line_reader.Ahead.{Ahead}
-use Rattle.mseed_join.specs.declared.line_reader.Ahead.TheVariants.{Line, TooLong, Unended, Nothing}
+use Rattle.mseed_join.specs.declared.line_reader.NextLine.{NextLine}
+use Rattle.mseed_join.specs.declared.line_reader.NextLine.TheVariants.{Line, TooLong, Unended, Nothing}
 
 -- the bytes that were read and not passed, the length of the line that begins them where one was found, the room
 -- after them, how many lines were passed, how many bytes were read in all, and by how many reads
@@ -34,7 +34,7 @@ abbrev pub IsOpen : List ℕ → Type 0
 IsOpen held = (length held < 512) × HasNoEnd held
 
 -- what lies ahead, by what was read and not passed, and whether the input is at its end
-abbrev pub LiesAhead : Ahead → LinesRead → Bool → Type 0
+abbrev pub LiesAhead : NextLine → LinesRead → Bool → Type 0
 LiesAhead Line r at_end = IsLineAhead r.size r.held
 LiesAhead TooLong r at_end = HasNoEnd (take 512 r.held) × (512 ≤ length r.held)
 LiesAhead Unended r at_end = (at_end ≡ true) × HasNoEnd r.held × (r.held ≢ []) × (length r.held < 512)
@@ -71,7 +71,7 @@ pub record GoesOn (now : BytesRead) : Type 0 where
   pub is_at_end : now.is_at_end ≡ false
 
 -- the answer is neither the input's end nor a fault
-abbrev pub IfGoesOn : Result Ahead StreamFault → Type 0 → Type 0
+abbrev pub IfGoesOn : Result NextLine StreamFault → Type 0 → Type 0
 IfGoesOn (Ok Line) X = X
 IfGoesOn (Ok TooLong) X = X
 IfGoesOn (Ok Unended) X = ⊤
