@@ -107,7 +107,12 @@ pub six_is : (a b c d : ℕ) → a < 256 → b < 256 → c < 256 → d < 256
     + (c / 4 + 16) % 32 + 8 * ((c + 2) % 4) + d / 32 + (d + 16) % 32
 six_is a b c d A B C D =
     let digit_5 : (word_of a b c d / 33554432 % 32 + 16) % 32 ≡ (a / 2 + 16) % 32 = omega arith in
-    grind arith
+    let digit_4 : (word_of a b c d / 1048576 % 32 + 16) % 32 ≡ 16 * ((a + 1) % 2) + b / 16 = omega arith in
+    let digit_3 : (word_of a b c d / 32768 % 32 + 16) % 32 ≡ 2 * ((b + 8) % 16) + c / 128 = omega arith in
+    let digit_2 : (word_of a b c d / 1024 % 32 + 16) % 32 ≡ (c / 4 + 16) % 32 = omega arith in
+    let digit_1 : (word_of a b c d / 32 % 32 + 16) % 32 ≡ 8 * ((c + 2) % 4) + d / 32 = omega arith in
+    let digit_0 : (word_of a b c d / 1 % 32 + 16) % 32 ≡ (d + 16) % 32 = omega arith in
+    omega (arith, digit_5, digit_4, digit_3, digit_2, digit_1, digit_0)
 
 -- 7 differences of 4 bits
 pub seven_is : (a b c d : ℕ) → a < 256 → b < 256 → c < 256 → d < 256
@@ -116,7 +121,13 @@ pub seven_is : (a b c d : ℕ) → a < 256 → b < 256 → c < 256 → d < 256
     + (d / 16 + 8) % 16 + (d + 8) % 16
 seven_is a b c d A B C D =
     let digit_6 : (word_of a b c d / 16777216 % 16 + 8) % 16 ≡ (a + 8) % 16 = omega arith in
-    grind arith
+    let digit_5 : (word_of a b c d / 1048576 % 16 + 8) % 16 ≡ (b / 16 + 8) % 16 = omega arith in
+    let digit_4 : (word_of a b c d / 65536 % 16 + 8) % 16 ≡ (b + 8) % 16 = omega arith in
+    let digit_3 : (word_of a b c d / 4096 % 16 + 8) % 16 ≡ (c / 16 + 8) % 16 = omega arith in
+    let digit_2 : (word_of a b c d / 256 % 16 + 8) % 16 ≡ (c + 8) % 16 = omega arith in
+    let digit_1 : (word_of a b c d / 16 % 16 + 8) % 16 ≡ (d / 16 + 8) % 16 = omega arith in
+    let digit_0 : (word_of a b c d / 1 % 16 + 8) % 16 ≡ (d + 8) % 16 = omega arith in
+    omega (arith, digit_6, digit_5, digit_4, digit_3, digit_2, digit_1, digit_0)
 
 -- 2 differences of 16 bits
 pub wide_is : (a b c d : ℕ) → a < 256 → b < 256 → c < 256 → d < 256

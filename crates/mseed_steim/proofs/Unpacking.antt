@@ -83,7 +83,8 @@ stepped s old words after ready r e h = search (arith, no_items)
 
 pub progressed : (s : Scheme) (old : RemainingDifferences) (words after : List DataWord) (ready : List ℤ)
     (r : Option (Result ℤ BadWordAt)) → old.items ≡ items_of s words → IsStep s words r after ready
-    → MakesProgress (λ (left : RemainingDifferences). ⊤) (item_count (λ (left : RemainingDifferences). left.items)) old r
+    → MakesProgress (λ (left : RemainingDifferences). ⊤)
+    (item_count (λ (left : RemainingDifferences). left.items)) old r
     (record { items = map Ok ready ++ items_of s after; ready = ready; words = after })
 progressed s old words after ready None e h = record { on = λ _. tt; keeps = tt; rests = λ _. tt }
 progressed s old words after ready (Some item) e h =
