@@ -16,3 +16,11 @@ returns-clause-value c =
       c.num.ensures.value,
       c.den.ensures.value,
     ) refl)
+
+pub returns-clause-low : goal.returns-clause-low
+returns-clause-low c = rw (difference c.scaled.result c.due.result c.scaled.ensures.low c.scaled.ensures.high
+    c.due.ensures.low c.due.ensures.high) (omega (arith, ints, c.scaled.ensures.low, c.due.ensures.high))
+
+pub returns-clause-high : goal.returns-clause-high
+returns-clause-high c = rw (difference c.scaled.result c.due.result c.scaled.ensures.low c.scaled.ensures.high
+    c.due.ensures.low c.due.ensures.high) (omega (arith, ints, c.scaled.ensures.high, c.due.ensures.low))

@@ -4,6 +4,11 @@ use Rattle.std.proofs.lemmas.Int.{to_z-of_z}
 use Rattle.mseed_time.proofs.Joining.{product_low, product_high, product_fits, widened}
 use Rattle.mseed_time.proofs.joins.scaled.Goals as goal
 
+pub overflow_mul-result : goal.overflow_mul-result
+overflow_mul-result c =
+    rw (widened c.args.passed c.from.result c.from-2.result c.args.num c.ranges.passed c.ranges.num
+    c.from.ensures c.from-2.ensures) (product_fits c.args.passed c.args.num c.ranges.passed c.ranges.num)
+
 pub returns-clause-value : goal.returns-clause-value
 returns-clause-value c =
     rw (

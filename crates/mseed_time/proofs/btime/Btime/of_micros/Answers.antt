@@ -2,7 +2,7 @@ use Rattle.std.proofs.Common.{arith, rules, true}
 use Rattle.std.proofs.lemmas.Bool.{false≢true}
 use Rattle.jiff_core.proofs.SignedLemmas.{signed_casts}
 use Rattle.mseed_time.specs.Naming.{IsOutside}
-use Rattle.mseed_time.proofs.Naming.{name_unique, outside_unnamed}
+use Rattle.mseed_time.proofs.Naming.{name_unique, named_value, outside_unnamed}
 use Rattle.mseed_time.proofs.btime.Btime.of_micros.Goals as goal
 
 pub returns-clause-names : goal.returns-clause-names
@@ -16,6 +16,9 @@ returns-clause-names c = record {
 
 pub returns-clause-unique : goal.returns-clause-unique
 returns-clause-unique c t u spells = name_unique _ _ _ _ _ (returns-clause-names c) spells
+
+pub returns-clause-value : goal.returns-clause-value
+returns-clause-value c = named_value _ _ _ (returns-clause-names c)
 
 pub returns-clause-no_name : goal.returns-clause-no_name
 returns-clause-no_name c = ((λ h. absurd (false≢true h)), λ none. absurd (none _ _ (returns-clause-names c)))
