@@ -115,11 +115,11 @@ MISPARTED = [
 ]
 # Rows of a table of crates that are wrong, and one that is right but for some lines.
 MISCOUNTED = [
-    ("| `mseed_time` | 43 | 770 | 58 | 304 | 32 | 833 | 128 | 7 |", False),
-    ("| `mseed_time` | 65 | 770 | 58 | 304 | 32 | 833 | 128 | 6 |", False),
-    ("| `mseed_time` | 43 | 1,770 | 58 | 304 | 32 | 833 | 128 | 6 |", False),
-    ("| `mseed_time` | 43 | 770 | 58 | 304 | 32 | 833 | 6 |", False),
-    ("| `mseed_time` | 43 | 769 | 58 | 304 | 32 | 833 | 128 | 6 |", True),
+    ("| `mseed_time` | 43 | 770 | 58 | 304 | 32 | 849 | 128 | 7 |", False),
+    ("| `mseed_time` | 65 | 770 | 58 | 304 | 32 | 849 | 128 | 6 |", False),
+    ("| `mseed_time` | 43 | 1,770 | 58 | 304 | 32 | 849 | 128 | 6 |", False),
+    ("| `mseed_time` | 43 | 770 | 58 | 304 | 32 | 849 | 6 |", False),
+    ("| `mseed_time` | 43 | 769 | 58 | 304 | 32 | 849 | 128 | 6 |", True),
 ]
 
 
