@@ -11,4 +11,4 @@ mod time;
 
 pub use fault::push_fault_line;
 pub use line::{LONGEST_LINE, Line, push_line};
-pub use shown::printed_byte;
+pub use shown::shown_byte;

@@ -8,10 +8,10 @@ use mseed_record::trimmed;
 use std::alloc::{AllocError, Allocator};
 use std::marker::Model;
 
-/// A line has at most so many bytes.
+/// The most bytes of a line.
 pub const LONGEST_LINE: usize = 256;
 
-/// A text that has room for any bytes has room for at least so many.
+/// The fewest bytes for which a text has room, if for any.
 const LEAST_ROOM: usize = 8;
 
 /// A line of up to [`LONGEST_LINE`] bytes, as far as it is built. It needs no allocation, and [`push_line`] adds it to

@@ -5,11 +5,12 @@ use Rattle.mseed_text.proofs.line.Line.put_shown.Goals as goal
 first : (given : List ℕ) → 60 < length given → length (take 57 given) ≡ 57
 first given more = length-take-le 57 given (omega (arith, more))
 
-pub slice_bounds-put_printed-end : goal.slice_bounds-put_printed-end
-slice_bounds-put_printed-end c = sym (first c.args.given.now c.if-given-le60.false)
+pub slice_bounds-put_shown_bytes-end : goal.slice_bounds-put_shown_bytes-end
+slice_bounds-put_shown_bytes-end c = sym (first c.args.given.now c.if-given-le60.false)
 
-pub put_printed-requires-else-given-le60 : goal.put_printed-requires-else-given-le60
-put_printed-requires-else-given-le60 c = omega (arith, c.requires.room, first c.args.given.now c.if-given-le60.false)
+pub put_shown_bytes-requires-else-given-le60 : goal.put_shown_bytes-requires-else-given-le60
+put_shown_bytes-requires-else-given-le60 c =
+    omega (arith, c.requires.room, first c.args.given.now c.if-given-le60.false)
 
 pub put-requires : goal.put-requires
 put-requires c = record {
@@ -17,7 +18,7 @@ put-requires c = record {
     arith,
     c.requires.room,
     first c.args.given.now c.if-given-le60.false,
-    c.put_printed-else-given-le60.ensures.len,
+    c.put_shown_bytes-else-given-le60.ensures.len,
   );
 }
 
@@ -27,6 +28,6 @@ returns-else-given-le60-clause-most c =
       arith,
       c.requires.room,
       first c.args.given.now c.if-given-le60.false,
-      c.put_printed-else-given-le60.ensures.len,
+      c.put_shown_bytes-else-given-le60.ensures.len,
       c.put.ensures.len,
     )
