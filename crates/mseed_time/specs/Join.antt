@@ -14,7 +14,7 @@ step_of (Some Plus) = pos (10 ^ 6)
 step_of (Some Minus) = negsuc 999_999
 
 -- By how much the next start misses the instant of the sample after n others, of which the first is at `start`, and
--- where leap seconds added so many microseconds: in microseconds times num, positive where it is late.
+-- where leap seconds added `added` microseconds: in microseconds times num, positive where it is late.
 abbrev pub drift_of : ℤ → ℕ → Ratio → ℤ → ℤ → ℤ
 drift_of start n rate added next = (next -ℤ start +ℤ added) *ℤ pos rate.num -ℤ pos (n * rate.den * 10 ^ 6)
 
@@ -26,7 +26,7 @@ miss_of start n rate step next = drift_of start n rate (step_of step) next
 abbrev pub Joins : ℤ → ℕ → Ratio → Option LeapStep → ℤ → Type 0
 Joins start n rate step next = 2 * unsigned_abs (miss_of start n rate step next) ≤ rate.den * 10 ^ 6
 
--- late or early by so many whole microseconds
+-- late or early, by the whole microseconds
 abbrev pub missed_by : ℤ → ℕ → Join
 missed_by (pos miss) num = Late (miss / num)
 missed_by (negsuc miss) num = Early (suc miss / num)

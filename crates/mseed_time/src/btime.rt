@@ -144,7 +144,7 @@ impl Btime {
         Ok((Btime::of_ticks(ticks), microseconds))
     }
 
-    /// Returns the time that is so many ten-thousandths of a second after 1900-01-01T00:00:00.
+    /// Returns the time that is `ticks` ten-thousandths of a second after 1900-01-01T00:00:00.
     fn of_ticks(ticks: u64) -> Btime
         requires { ticks < 63_429_696_000_000 }
         ensures value { microsecond_of (parts_of result) +ℤ BEFORE_1970 ≡ pos (100 * ticks) }
@@ -196,7 +196,7 @@ fn days_since_1900(year: u16) -> u32
     (1461 * (u32::from(year) - 1900)).saturating_sub(1) / 4
 }
 
-/// Returns the year and the day of the year, 1 January being 1, of the day that is so many days after 1900-01-01.
+/// Returns the year and the day of the year, 1 January being 1, of the day that is `days` days after 1900-01-01.
 fn year_and_day(days: u32) -> (u16, u16)
     requires { days < 73_414 }
     ensures low { 1900 ≤ result.0 }

@@ -30,7 +30,7 @@ pub fn join(start: Micros, count: u32, rate: Ratio, step: Option<LeapStep>, next
 }
 
 /// Returns by how much `next` misses the instant of the sample after `count` others, of which the first is at `start`,
-/// where leap seconds added so many microseconds: in microseconds times the rate's `num`, so that it is a whole number;
+/// where leap seconds added `added` microseconds: in microseconds times the rate's `num`, so that it is a whole number;
 /// positive where `next` is late, negative where it is early. `count` is at most 2^60, and `added` in -2^61..=2^61.
 pub fn drift(start: Micros, count: u64, rate: Ratio, added: i64, next: Micros) -> i128
     requires few { count ≤ 2 ^ 60 }
@@ -43,7 +43,7 @@ pub fn drift(start: Micros, count: u64, rate: Ratio, added: i64, next: Micros) -
     scaled(passed(start, added, next), rate.num()) - due(count, rate.den())
 }
 
-/// Returns the microseconds from one start to the next, where leap seconds added so many; negative where the next is
+/// Returns the microseconds from one start to the next, where leap seconds added `added`; negative where the next is
 /// earlier.
 fn passed(start: Micros, added: i64, next: Micros) -> i64
     requires low { neg_ℤ (pos (2 ^ 61)) ≤ℤ added }

@@ -31,8 +31,8 @@ impl Micros {
     /// The last instant, 2199-12-31T23:59:59.999999, in microseconds from 1970-01-01T00:00:00.
     pub const MAX: i64 = 7_258_118_399_999_999;
 
-    /// Returns the instant that is so many microseconds from 1970-01-01T00:00:00; `None` exactly where it lies outside
-    /// of the years 1800 to 2199.
+    /// Returns the instant `micros` microseconds from 1970-01-01T00:00:00; `None` exactly where it lies outside of the
+    /// years 1800 to 2199.
     pub fn new(micros: i64) -> Option<Micros>
         ensures some { IsSome result ↔ IsInstant micros }
         ensures value { IfSome result (λ t. t ≡ micros) }
@@ -59,7 +59,7 @@ impl Micros {
         (self.micros - Micros::MIN) as u64
     }
 
-    /// Returns the instant that is so many microseconds from 1970-01-01T00:00:00, where it is known to lie in the years
+    /// Returns the instant `micros` microseconds from 1970-01-01T00:00:00, where it is known to lie in the years
     /// 1800 to 2199.
     pub(crate) fn within(micros: i64) -> Micros
         requires { IsInstant micros }

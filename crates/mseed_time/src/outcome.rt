@@ -15,8 +15,8 @@ pub enum LeapStep {
 pub enum Join {
     /// Within half a sample period of it.
     Meets,
-    /// Later by so many microseconds, rounded down: a gap.
+    /// Later by this number of microseconds, rounded down: a gap.
     Late(u128),
-    /// Earlier by so many microseconds, rounded down: the two overlap.
+    /// Earlier by this number of microseconds, rounded down: the two overlap.
     Early(u128),
 }

@@ -82,8 +82,7 @@ impl Rate {
     pub fn same_as(self, other: Rate) -> bool
         ensures { IsTrue result ↔ SameRate (ratio_of self) (ratio_of other) }
     {
-        u64::from(self.num()) * u64::from(other.den())
-            == u64::from(other.num()) * u64::from(self.den())
+        self.ratio().same_as(other.ratio())
     }
 }
 

@@ -4,7 +4,7 @@ ghost use Rattle.mseed_time.specs.Rate.{IsRatio, SameRate};
 
 use std::marker::Model;
 
-/// A sample rate: so many samples in so many seconds, each in 1..=2^30, not reduced. Two of them are equal by `==`
+/// A sample rate: `num` samples in `den` seconds, each in 1..=2^30, not reduced. Two of them are equal by `==`
 /// where both numbers are; whether they are the same number of samples a second is what [`Ratio::same_as`] says.
 ///
 /// Each factor and multiplier of a header give one ([`Rate::ratio`](crate::Rate::ratio)); they can't be read from it.

@@ -48,7 +48,7 @@ pub fn show_time(instant: Micros) -> [u8; 26]
     ]
 }
 
-/// Returns the year, the month and the day of the month, both from 1, of the day that is so many days after 1800-01-01.
+/// Returns the year, the month and the day of the month, both from 1, of the day that is `day` days after 1800-01-01.
 fn civil_date(day: u64) -> (u32, u32, u32)
     requires { day < 146_097 }
     ensures year { result.0 ≡ year_of day }
