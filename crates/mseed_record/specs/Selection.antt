@@ -29,7 +29,7 @@ rate_in v = rate_of (factor_at v.order v.bytes) (multiplier_at v.order v.bytes)
 abbrev pub start_fault : View → Option TimeFault
 start_fault v = first_fault (time_at v.order v.bytes)
 
--- The last of so many samples is at an instant or after it: the first is at `start`, and the last (samples - 1)
+-- The last of `samples` samples is at an instant or after it: the first is at `start`, and the last (samples - 1)
 -- periods later. Without a rate, or with no samples, there is `start` alone.
 abbrev pub LastsTo : Option Ratio → ℤ → ℕ → ℤ → Type 0
 LastsTo None start samples instant = instant ≤ℤ start

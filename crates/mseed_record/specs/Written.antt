@@ -19,7 +19,7 @@ use Rattle.mseed_record.specs.View.{View, IsView, HasPayload, start_of, payload_
 abbrev pub is_code_byte : ℕ → Bool
 is_code_byte c = nat_le 33 c && nat_le c 126
 
--- a code that fits a field of so many bytes
+-- a code that fits a field of `width` bytes
 abbrev pub is_code : ℕ → List ℕ → Bool
 is_code width code = nat_le (length code) width && list_all is_code_byte code
 

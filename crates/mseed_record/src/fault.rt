@@ -25,7 +25,7 @@ pub enum FrameFault {
 pub enum ViewFault {
     /// They begin no record, whatever follows them.
     Not(FrameFault),
-    /// So many bytes are needed, from the first of them on, before it is known whether they begin a record.
+    /// This number of bytes is needed, from the first of them on, before it is known whether they begin a record.
     Short(usize),
 }
 

@@ -8,18 +8,18 @@ ghost use Rattle.mseed_record.specs.Scan.{Decides, at_offset, at_1000};
 ghost use Rattle.mseed_record.specs.Framer.{IsFramerOf, HasReached, HasNoChain, StandsAt};
 
 use crate::fault::FrameFault;
-use crate::header::{HEADER, has_fixed_bytes, order_of};
+use crate::header::{FIXED_HEADER, has_fixed_bytes, order_of};
 use mseed_time::Order;
 
-/// The longest record has so many bytes (SEED manual, chapter 8, blockette 1000: a length exponent of 20).
+/// The bytes of the longest record (SEED manual, chapter 8, blockette 1000: a length exponent of 20).
 pub const LONGEST_RECORD: usize = 1 << 20;
 
 /// What framing says of the first bytes of an input.
 #[derive(Clone, Copy, Debug, PartialEq, Eq)]
 pub enum Scan {
-    /// So many bytes are needed, from the first of them on, before more is known.
+    /// This number of bytes is needed, from the first of them on, before more is known.
     Need(usize),
-    /// The first so many bytes are a record.
+    /// The bytes begin with a record, of this number of bytes.
     Record(usize),
     /// They begin no record, whatever follows them.
     Not(FrameFault),
@@ -131,13 +131,13 @@ fn chain_of(prefix: &[u8]) -> Result<Reached, Scan>
     ensures none { OnErr result (HasNoChain prefix.now) }
     ensures early { IfErr result (λ answer. (k : ℕ) → answer ≢ Record k) }
 {
-    if prefix.len() < HEADER || !has_fixed_bytes(prefix) {
+    if prefix.len() < FIXED_HEADER || !has_fixed_bytes(prefix) {
         return Err(early_of(prefix));
     }
     match order_of(prefix) {
         Some(order) => Ok(Reached {
             order,
-            low: HEADER,
+            low: FIXED_HEADER,
             offset: usize::from(order.u16_at(prefix, 46)),
         }),
         None => Err(Scan::Not(FrameFault::Order)),
@@ -146,14 +146,14 @@ fn chain_of(prefix: &[u8]) -> Result<Reached, Scan>
 
 /// Returns what is decided by the bytes before the station, where there are fewer than a header has, or no header's.
 fn early_of(prefix: &[u8]) -> Scan
-    requires { HEADER ≤ length prefix.now → has_fixed_bytes prefix.now ≡ false }
+    requires { FIXED_HEADER ≤ length prefix.now → has_fixed_bytes prefix.now ≡ false }
     ensures decides { Decides prefix.now result }
     ensures early { (k : ℕ) → result ≢ Record k }
 {
     if prefix.starts_with(b"MS\x03") {
         Scan::Not(FrameFault::Version3)
-    } else if prefix.len() < HEADER {
-        Scan::Need(HEADER)
+    } else if prefix.len() < FIXED_HEADER {
+        Scan::Need(FIXED_HEADER)
     } else {
         Scan::Not(FrameFault::NotData)
     }

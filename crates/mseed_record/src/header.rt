@@ -15,8 +15,8 @@ use byteorder::{BigEndian, ByteOrder, LittleEndian};
 use mseed_time::{Btime, Order, TimeFault};
 use std::simd::prelude::*;
 
-/// The fixed section of a header has so many bytes (SEED manual, chapter 8).
-pub const HEADER: usize = 48;
+/// The bytes of the fixed section of a header (SEED manual, chapter 8).
+pub const FIXED_HEADER: usize = 48;
 
 /// Returns the BTIME of the start, at byte 20.
 ///
@@ -127,7 +127,7 @@ fn is_quality(byte: u8) -> bool
 }
 
 /// Returns whether a byte is blank: a space or NUL, by which fields are filled.
-pub fn is_blank(byte: u8) -> bool
+pub(crate) fn is_blank(byte: u8) -> bool
     ensures { result ≡ is_blank byte }
 {
     byte == b' ' || byte == 0
@@ -151,7 +151,7 @@ pub fn trimmed(code: &[u8]) -> &[u8]
 /// Returns the byte order of a header: big-endian where the start's year and day are in their ranges so, else
 /// little-endian where they are; `None` where they are in neither.
 pub(crate) fn order_of(prefix: &[u8]) -> Option<Order>
-    requires { HEADER ≤ length prefix.now }
+    requires { FIXED_HEADER ≤ length prefix.now }
     ensures { result ≡ order_of prefix.now }
 {
     if is_dated(prefix, Order::Big) {
@@ -165,7 +165,7 @@ pub(crate) fn order_of(prefix: &[u8]) -> Option<Order>
 
 /// Returns whether the start's year is 1900 to 2100 and its day 1 to 366, read in this order.
 fn is_dated(prefix: &[u8], order: Order) -> bool
-    requires { HEADER ≤ length prefix.now }
+    requires { FIXED_HEADER ≤ length prefix.now }
     ensures { result ≡ is_dated order prefix.now }
 {
     let (year, day) = (order.u16_at(prefix, 20), order.u16_at(prefix, 22));

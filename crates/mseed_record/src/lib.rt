@@ -24,7 +24,7 @@ pub use fault::{DataOffset, FrameFault, ViewFault};
 pub use fields::Fields;
 pub use framer::{Framer, LONGEST_RECORD, Scan};
 pub use framing::scan;
-pub use header::{HEADER, is_blank, trimmed};
+pub use header::{FIXED_HEADER, trimmed};
 pub use law::header_reads_back;
 pub use leap::Leap;
 pub use naming::{BadCode, CodeField};

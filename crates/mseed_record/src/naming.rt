@@ -72,7 +72,7 @@ fn filled<const N: usize>(code: &[u8], field: CodeField) -> Result<[u8; N], BadC
     Ok(bytes)
 }
 
-/// Returns whether a code fits a field of so many bytes.
+/// Returns whether a code fits a field of `width` bytes.
 fn is_code(code: &[u8], width: usize) -> bool
     ensures { result ≡ is_code width code.now }
 {

@@ -6,7 +6,7 @@ ghost use Rattle.std.specs.Int.{bit_at};
 ghost use Rattle.mseed_time.specs.Btime.{first_fault};
 ghost use Rattle.mseed_time.specs.Rate.{rate_of};
 ghost use Rattle.mseed_record.specs.declared.fault.FrameFault.{FrameFault};
-ghost use Rattle.mseed_record.specs.declared.header.TheConstants.{HEADER};
+ghost use Rattle.mseed_record.specs.declared.header.TheConstants.{FIXED_HEADER};
 ghost use Rattle.mseed_record.specs.Header.{key_at, quality_at, time_at, samples_at, factor_at, multiplier_at};
 ghost use Rattle.mseed_record.specs.Header.{activity_at, is_quality};
 ghost use Rattle.mseed_record.specs.Record.{IsRecord, IsRecordBy};
@@ -18,7 +18,7 @@ use crate::chain::{blockettes_of, first_1000_of};
 use crate::codes::{Codes, codes_at};
 use crate::fault::{DataOffset, ViewFault};
 use crate::framer::{Scan, frame};
-use crate::header::{HEADER, i8_at, i16_at, i32_at, order_of, read_time};
+use crate::header::{FIXED_HEADER, i8_at, i16_at, i32_at, order_of, read_time};
 use crate::leap::Leap;
 use mseed_time::{Micros, NoRate, Order, Rate, TimeFault};
 
@@ -44,7 +44,7 @@ pub struct RecordView<'a> {
     has_rate_blockette: bool,
     // After the small fields, so that a result's tag and a fault don't share its place.
     bytes: &'a [u8],
-    ghost has_header: { HEADER ≤ length bytes.now },
+    ghost has_header: { FIXED_HEADER ≤ length bytes.now },
     ghost is_view: { ∥ IsView (record {
       bytes = bytes.now;
       order = order;
@@ -227,7 +227,7 @@ impl<'a> RecordView<'a> {
         ensures value { IfOk result (λ bytes. bytes.now ≡ payload_of (view_of self.now)) }
     {
         let begin = usize::from(self.order.u16_at(self.bytes, 44));
-        if begin < HEADER || begin > self.bytes.len() {
+        if begin < FIXED_HEADER || begin > self.bytes.len() {
             return Err(DataOffset);
         }
         Ok(&self.bytes[begin..])

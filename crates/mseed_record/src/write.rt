@@ -1,5 +1,5 @@
 //! Writing a header (SEED manual, chapter 8).
-ghost use Rattle.std.specs.Prelude.{◌≡◌, ◌↔◌, ◌<◌, ◌≤◌, ◌+◌, ◌/◌, ◌%◌, ◌^◌, ◌++◌, ℕ, List, length, take, drop};
+ghost use Rattle.std.specs.Prelude.{◌≡◌, ◌↔◌, ◌<◌, ◌≤◌, ◌+◌, ◌^◌, ◌++◌, ℕ, List, length, take, drop};
 ghost use Rattle.std.specs.Prelude.{FitsSigned, IsErr, OnErr, OnOk};
 ghost use Rattle.std.specs.Int.{w8, w16};
 ghost use Rattle.mseed_time.specs.Text.{padded_decimal};
@@ -8,9 +8,9 @@ ghost use Rattle.mseed_record.specs.Written.{IsHeaded, ReadsBack, header_bytes, 
 ghost use Rattle.mseed_record.specs.Written.{blockette_1000, blockette_1001};
 
 use crate::fields::Fields;
-use mseed_time::Order;
+use mseed_time::{Order, two_digits};
 
-/// A header that is written has so many bytes: the fixed section, a blockette 1000 and a blockette 1001.
+/// The bytes of a header that is written: the fixed section, a blockette 1000 and a blockette 1001.
 pub const WRITTEN_HEADER: usize = 64;
 
 /// The output has fewer bytes than [`WRITTEN_HEADER`].
@@ -97,20 +97,8 @@ fn put(out: &mut [u8], offset: usize, bytes: &[u8])
 fn sequence_digits(number: u32) -> [u8; 6]
     ensures { result ≡ padded_decimal 6 number }
 {
-    [
-        digit(number, 100_000),
-        digit(number, 10_000),
-        digit(number, 1000),
-        digit(number, 100),
-        digit(number, 10),
-        digit(number, 1),
-    ]
-}
-
-/// Returns the decimal digit of a number that counts this unit, a power of ten, in ASCII.
-fn digit(number: u32, unit: u32) -> u8
-    requires { 0 < unit }
-    ensures { result ≡ 48 + number / unit % 10 }
-{
-    b'0' + (number / unit % 10) as u8
+    let [a, b] = two_digits(number / 10_000 % 100);
+    let [c, d] = two_digits(number / 100 % 100);
+    let [e, f] = two_digits(number % 100);
+    [a, b, c, d, e, f]
 }

@@ -6,5 +6,5 @@ use Rattle.mseed_record.proofs.framer.chain_of.Goals as goal
 pub returns-in-None-clause-err : goal.returns-in-None-clause-err
 returns-in-None-clause-err c =
     let fixed = sym c.has_fixed_bytes.ensures ∙ c.if-not-has_fixed_bytes.false in
-    no_order (no_version3 c.args.prefix.now fixed) c.if-prefix-lt-HEADER.false fixed
+    no_order (no_version3 c.args.prefix.now fixed) c.if-prefix-lt-FIXED_HEADER.false fixed
     (sym c.order_of.ensures ∙ c.in-None.is)
