@@ -74,7 +74,7 @@ pub record IsAlong (h : BytesRead) (c : CutterState) : Type 0 where
   pub going_on : c.answer ≡ None → h.is_at_end ≡ false
   pub ended : IfSome c.answer (λ e. IsEnding e c.offset h)
 
--- A record of so many bytes begins what the source holds, and the cutter, which goes on and holds nothing, can go past
+-- A record of `size` bytes begins what the source holds, and the cutter, which goes on and holds nothing, can go past
 -- it.
 pub record IsAhead (size : ℕ) (c : CutterState) (lent : List ℕ) : Type 0 where
   pub whole : size ≤ length lent

@@ -58,7 +58,7 @@ read_also h r buf = record {
   is_at_end = h.is_at_end || is_end r (length buf);
 }
 
--- so many bytes more, read by one call
+-- these bytes more, read by one call
 abbrev pub lent_also : BytesRead → List ℕ → BytesRead
 lent_also h more = record {
   bytes = h.bytes ++ more;
@@ -84,7 +84,7 @@ written_also s r bytes = record {
 abbrev pub IsPrefixOf : List ℕ → List ℕ → Type 0
 IsPrefixOf prefix whole = (more : List ℕ) × (whole ≡ prefix ++ more)
 
--- of these bytes, so many are a record from an offset on
+-- of these bytes, `size` are a record from an offset on
 pub record HasRecordAt (bytes : List ℕ) (offset size : ℕ) : Type 0 where
   pub inside : offset + size ≤ length bytes
   pub is_record : IsRecord (take size (drop offset bytes))

@@ -16,7 +16,7 @@ pub record AreGathered (old new : BytesWritten) (gathered text : List ℕ) : Typ
   pub bytes : new.bytes ≡ old.bytes ++ taken
   pub joined : taken ++ gathered ≡ text
 
--- so many bytes of a text were accepted, and then the output failed: it isn't called again
+-- `taken` bytes of a text were accepted, and then the output failed: it isn't called again
 pub record IsCutOff (taken : ℕ) (whole : List ℕ) (old new : BytesWritten) : Type 0 where
   pub text : new.bytes ≡ old.bytes ++ take taken whole
   pub part : taken < length whole

@@ -21,7 +21,7 @@ pub record EndsAfter (bytes : List ℕ) (offset : ℕ) (records : List (List ℕ
   pub few : length records < 2 ^ 40
   pub ends : IsEndOf (drop offset bytes) end
 
--- so many records stand up to the offset, and a further one after them
+-- these records stand up to the offset, and a further one after them
 pub record GoesOnAfter (bytes : List ℕ) (offset : ℕ) (records : List (List ℕ)) : Type 0 where
   pub before : HasRecords bytes offset records
   pub further : (k : ℕ) × ((k ≤ length (drop offset bytes)) × IsRecord (take k (drop offset bytes)))

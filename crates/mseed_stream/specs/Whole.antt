@@ -37,3 +37,7 @@ pub record ReadsInto {U : Type 0} (result : Result U StreamFault) (bytes : List 
   pub prefix : IsPrefixOf old.bytes new.bytes
   -- What it accepted, and the files that it reads, stay as they were.
   pub beside : later ≡ apart
+
+-- what was put into a list is all that was read in a call but for the last bytes, of which there are some
+abbrev pub LacksTheLast : List ℕ → BytesRead → BytesRead → Type 0
+LacksTheLast bytes old new = (last : List ℕ) × (0 < length last) × (new.bytes ≡ old.bytes ++ bytes ++ last)

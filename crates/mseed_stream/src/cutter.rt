@@ -21,7 +21,7 @@ ghost use Rattle.mseed_stream.specs.private.Steps.{after_found, forgot};
 
 use crate::device::{Failed, READS, Source};
 use crate::fault::StreamFault;
-use mseed_record::{Framer, HEADER, LONGEST_RECORD, RecordView, Scan};
+use mseed_record::{FIXED_HEADER, Framer, LONGEST_RECORD, RecordView, Scan};
 use std::alloc::{Allocator, Global};
 use std::marker::Model;
 
@@ -221,7 +221,7 @@ impl<A: Allocator> Cutter<A> {
         self.is_lent || self.have == 0
     }
 
-    /// Goes past a record of so many bytes that the source holds whole, as [`next`](Cutter::next) does where it returns
+    /// Goes past a record of `size` bytes that the source holds whole, as [`next`](Cutter::next) does where it returns
     /// one: by two calls of the source, for the header and for the rest. It is the record that [`peek`](Cutter::peek)
     /// returned, and neither the cutter nor the source moved since.
     pub fn pass<R: Source>(&mut self, source: &mut R, size: usize)
@@ -375,7 +375,7 @@ impl<A: Allocator> Cutter<A> {
         true
     }
 
-    /// Tells the source of the record of so many bytes that is held.
+    /// Tells the source of the record of `size` bytes that is held.
     #[inline(always)]
     fn note_held<R: Source>(&self, source: &mut R, size: usize)
         requires read { IsRead (R.read source.old) self.now }
@@ -427,7 +427,7 @@ impl<A: Allocator> Cutter<A> {
         self.framer.look(&self.held[..self.have])
     }
 
-    /// Makes the buffer at least so many bytes long.
+    /// Makes the buffer at least `needed` bytes long.
     ///
     /// # Errors
     ///
@@ -446,7 +446,7 @@ impl<A: Allocator> Cutter<A> {
         Ok(())
     }
 
-    /// Reads until so many bytes are held, and returns whether the input ended before.
+    /// Reads until `needed` bytes are held, and returns whether the input ended before.
     ///
     /// # Errors
     ///
@@ -478,10 +478,10 @@ impl<A: Allocator> Cutter<A> {
     }
 }
 
-/// Goes past a record of so many bytes that the source holds, as framing asks for them: the header, and then the rest.
+/// Goes past a record of `size` bytes that the source holds, as framing asks for them: the header, and then the rest.
 /// It begins at an offset, where reading has come to.
 fn pass_whole<R: Source>(source: &mut R, offset: u64, size: usize)
-    requires header { HEADER ≤ size }
+    requires header { FIXED_HEADER ≤ size }
     requires whole { size ≤ length (R.lent source.old) }
     requires offset { offset ≡ length (R.read source.old).bytes }
     requires is_record { IsRecord (take size (R.lent source.old)) }
@@ -490,8 +490,8 @@ fn pass_whole<R: Source>(source: &mut R, offset: u64, size: usize)
     ensures known { Consumes (R.remaining source.old) (R.remaining source.new) (take size (R.lent source.old)) }
     ensures beside { R.beside source.new ≡ R.beside source.old }
 {
-    source.consume(HEADER);
-    source.consume(size - HEADER);
+    source.consume(FIXED_HEADER);
+    source.consume(size - FIXED_HEADER);
     source.note_record(offset, size);
 }
 

@@ -5,8 +5,8 @@ ghost use Rattle.std.specs.Io.KnownBytes.{Consumes, ReadConsumes, WriteAppends};
 ghost use Rattle.mseed_stream.specs.Device.{Beside, BytesRead, BytesWritten, nothing_read, nothing_written, read_also};
 ghost use Rattle.mseed_stream.specs.Device.{accepted, lent_also, written_also, ComesFirst, HasRecordAt};
 
-/// One input is read at most so often.
-pub(crate) const READS: u64 = 1 << 40;
+/// One input is read at most so often: 2^40 times.
+pub const READS: u64 = 1 << 40;
 
 /// A device failed at a call, for whatever cause. No byte went through in that call.
 #[derive(Debug, Clone, Copy, PartialEq, Eq)]
@@ -31,7 +31,7 @@ pub trait Source {
     // What it accepted so far, where it is a sink as well, and which files it reads. A read leaves both as they were.
     ghost beside: { Self → Beside } = { λ _. accepted nothing_written };
 
-    /// Reads once, into the beginning of `buf`, and returns how many bytes were read.
+    /// Returns how many bytes were read, by one read into the beginning of `buf`.
     ///
     /// The first 0 for a slice that isn't empty is the input's end. From then on each call returns `Ok(0)`, and the
     /// device isn't called. Fewer bytes than there is room for are no end.
@@ -53,7 +53,7 @@ pub trait Source {
         ensures bytes { result.now ≡ lent self.now }
         ensures known { IfSome (remaining self.now) (λ left. StartsWith left (lent self.now)) };
 
-    /// Goes past so many of the bytes that it holds: they count as read, by one call that didn't fail.
+    /// Goes past `amount` of the bytes that it holds: they count as read, by one call that didn't fail.
     fn consume(&mut self, amount: usize)
         requires { amount ≤ length (lent self.old) }
         ensures read { read self.new ≡ lent_also (read self.old) (take amount (lent self.old)) }
@@ -88,8 +88,8 @@ pub trait Sink {
     // What was read of it so far, where it is a source as well. A write leaves it as it was.
     ghost beside: { Self → BytesRead } = { λ _. nothing_read };
 
-    /// Writes once, from the beginning of `bytes`, and returns how many bytes were accepted: at least one, where there
-    /// are any.
+    /// Returns how many bytes were accepted, by one write from the beginning of `bytes`: at least one, where there are
+    /// any.
     ///
     /// # Errors
     ///

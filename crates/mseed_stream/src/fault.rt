@@ -13,7 +13,8 @@ use mseed_record::FrameFault;
 pub enum StreamFault {
     /// The bytes from the offset on begin no record, whatever follows them: by the first framing step that applies.
     Frame(u64, FrameFault),
-    /// The input ended while more was needed: with so many bytes, from the offset on, of what might have been a record.
+    /// The input ended while more was needed: an offset, and how many bytes there were from it on of what might
+    /// have been a record.
     Truncated(u64, usize),
     /// The source failed.
     Read(u64),

@@ -27,7 +27,7 @@ mod whole;
 pub use buffered::Buffered;
 pub use counted::Counted;
 pub use cutter::Cutter;
-pub use device::{Duplex, Failed, Sink, Source};
+pub use device::{Duplex, Failed, READS, Sink, Source};
 pub use exchanges::Exchanges;
 pub use fault::StreamFault;
 pub use law::one_input;

@@ -12,11 +12,12 @@ use crate::slices::split_in;
 use mseed_record::RecordView;
 use std::alloc::Allocator;
 
-/// [`split_in`] of all that was read of a source, which is told of the records before a fault.
+/// Returns all records of the bytes, as [`split_in`] does. They are all that was read of a source.
 ///
 /// # Errors
 ///
-/// Those of [`split`](crate::split).
+/// Those of [`split`](crate::split). The source is told of the records before the fault ([`Source::note_record`]). No
+/// clause says that it is told of each of them; what was read of it, and what it has left, stay.
 pub fn split_read<'a, A: Allocator, R: Source>(
     alloc: A,
     bytes: &'a [u8],

@@ -6,12 +6,13 @@ ghost use Rattle.mseed_record.specs.Viewing.{view_of};
 ghost use Rattle.mseed_stream.specs.Archive.{IsArchive, HasOneArchive, HasOneEnd};
 ghost use Rattle.mseed_stream.specs.Split.{bytes_of_each, fault_at, IsSplitFault};
 
+use crate::device::READS;
 use crate::fault::StreamFault;
 use mseed_record::{RecordView, ViewFault};
 use std::alloc::{Allocator, Global};
 
-/// A slice is split into at most so many records.
-const MOST: usize = (1 << 40) - 1;
+/// The most records into which a slice is split: fewer than reads of one input.
+const MOST: usize = READS as usize - 1;
 
 /// Returns all records of the bytes, in their order, where nothing is left after them.
 ///
@@ -32,7 +33,7 @@ pub fn split(alloc: Global, bytes: &[u8]) -> Result<Vec<RecordView<'_>>, StreamF
     split_in(alloc, bytes)
 }
 
-/// [`split`] with any allocator, as one that refuses.
+/// Returns all records of the bytes, as [`split`] does, with memory of any allocator, as one that refuses.
 ///
 /// # Errors
 ///

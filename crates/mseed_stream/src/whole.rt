@@ -1,18 +1,19 @@
 //! Reading a source to its end, writing all of a slice, and writing a text that is gathered some at a time.
-ghost use Rattle.std.specs.Prelude.{◌≡◌, ◌≤◌, ◌+◌, ◌++◌, ◌<◌, [], length, take, IsOk, OnOk, IfErr, OnErr, MatchResult};
+ghost use Rattle.std.specs.Prelude.{◌≡◌, ◌≤◌, ◌+◌, ◌++◌, ◌<◌, [], length, take, Err, IsOk, OnOk, IfErr, OnErr};
+ghost use Rattle.std.specs.Prelude.{MatchResult};
 ghost use Rattle.std.specs.Io.KnownBytes.{Appends};
 ghost use Rattle.mseed_stream.specs.Calls.{ReadsOn, WritesOn};
 ghost use Rattle.mseed_stream.specs.Gathered.{AreGathered, IsCutOff};
-ghost use Rattle.mseed_stream.specs.Whole.{ReadsAll, ReadsInto};
+ghost use Rattle.mseed_stream.specs.Whole.{LacksTheLast, ReadsAll, ReadsInto};
 
 use crate::device::{Failed, READS, Sink, Source};
 use crate::fault::StreamFault;
 use std::alloc::{Allocator, Global};
 
-/// One read has room for so many bytes.
+/// The bytes for which one read has room.
 const ROOM: usize = 4096;
 
-/// Reads the source from here to its end, and returns the bytes.
+/// Returns the bytes of the source from here to its end, which it reads.
 ///
 /// # Errors
 ///
@@ -29,7 +30,8 @@ pub fn read_all<R: Source>(alloc: Global, source: &mut R) -> Result<Vec<u8>, Str
     read_all_in(alloc, source)
 }
 
-/// [`read_all`] with any allocator, as one that refuses.
+/// Returns the bytes of the source from here to its end, as [`read_all`] does, with memory of any allocator, as one
+/// that refuses.
 ///
 /// # Errors
 ///
@@ -57,7 +59,8 @@ pub fn read_all_in<A: Allocator, R: Source>(
 ///
 /// # Errors
 ///
-/// Those of [`read_all`]. Where memory was refused, the list lacks the bytes of the last read.
+/// Those of [`read_all`]. Where memory was refused, the list lacks the last bytes that were read, of which there are
+/// some.
 pub fn read_all_into<A: Allocator, R: Source>(
     source: &mut R,
     bytes: &mut Vec<u8, A>,
@@ -65,6 +68,10 @@ pub fn read_all_into<A: Allocator, R: Source>(
     requires { bytes.old.items ≡ [] }
     ensures all { ReadsInto result bytes.new.items (R.read source.old) (R.read source.new) (R.remaining source.old)
         (R.beside source.old) (R.beside source.new) }
+
+    // Where memory was refused, the list lacks the last bytes that were read.
+    ensures lost { result ≡ Err StreamFault.Memory → LacksTheLast bytes.new.items (R.read source.old)
+        (R.read source.new) }
 
     // What the source is known to have left is what was read of it, up to its end where it is at its end.
     ensures reads { ReadsOn (R.read source.old) (R.read source.new) (R.remaining source.old) (R.remaining source.new)
@@ -115,7 +122,7 @@ pub fn write_all_of<W: Sink>(sink: &mut W, bytes: &[u8]) -> Result<(), usize>
     Ok(())
 }
 
-/// At most so many bytes of a text are gathered before they are written, whichever command gathers them.
+/// The most bytes of a text that are gathered before they are written, whichever command gathers them.
 pub const GATHERED: usize = (1 << 16) - 1;
 
 /// Writes a text that was gathered, where it has more than `most` bytes, and empties it then: a text of `most` bytes or
