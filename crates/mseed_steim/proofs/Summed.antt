@@ -60,7 +60,10 @@ held_in t h e near = h.is ∙ ap (int_wrap w32) e ∙ int_wrap_fits w32 t (near_
 -- sums of more differences
 pub sums_more : (l : ℤ) (xs ys : List ℤ) → sums l (xs ++ ys) ≡ sums l xs ++ sums (l +ℤ total xs) ys
 sums_more l [] ys = grind (arith, ints)
-sums_more l (x ∷ xs) ys = grind (arith, ints, sums_more (l +ℤ x) xs ys)
+sums_more l (x ∷ xs) ys =
+    let next : l +ℤ (x +ℤ total xs) ≡ (l +ℤ x) +ℤ total xs = omega (arith, ints) in
+    ap (λ (zs : List ℤ). (l +ℤ x) ∷ zs)
+    (sums_more (l +ℤ x) xs ys ∙ ap (λ (z : ℤ). sums (l +ℤ x) xs ++ sums z ys) (sym next))
 
 pub length-sums : (l : ℤ) (xs : List ℤ) → length (sums l xs) ≡ length xs
 length-sums l [] = refl

@@ -16,8 +16,8 @@ const TURN: usize = 8;
 /// How many come before the first turn.
 const FIRST: usize = 4;
 
-/// The sums of four differences, each with those before it, and of each difference its sum with the one before it. Each
-/// of the four last sums becomes the one four places on by a pair of two differences and the pair before that.
+/// Returns the sums of four differences, each with those before it, and of each difference its sum with the one before
+/// it. Each of the four last sums becomes the one four places on by a pair of two differences and the pair before that.
 #[inline(always)]
 fn slide(past: i32x4, pairs: i32x4, before: i32x4, four: i32x4) -> (i32x4, i32x4)
     requires window { IsWindow (span four) (slice_index_or before 0 (pos 0)) past pairs }
@@ -31,7 +31,8 @@ fn slide(past: i32x4, pairs: i32x4, before: i32x4, four: i32x4) -> (i32x4, i32x4
     (past + (next + pairs.shuffle(next, [2, 3, 4, 5])), next)
 }
 
-/// The first four differences added up, and the sums put in their places.
+/// Adds up the first four differences after the sample `last`, and puts the sums in their places. Returns the four
+/// sums, and of each difference its sum with the one before it.
 #[inline(always)]
 fn put_first_four(differences: &[i32], last: i32, out: &mut [i32]) -> (i32x4, i32x4)
     requires some { 4 ≤ length differences.now }
@@ -51,7 +52,8 @@ fn put_first_four(differences: &[i32], last: i32, out: &mut [i32]) -> (i32x4, i3
     (sums, pairs)
 }
 
-/// Four more differences added up, and the sums put in their places.
+/// Adds up four more differences, from place `at` on, and puts the sums in their places. Returns these four sums, and
+/// of each difference its sum with the one before it.
 #[inline(always)]
 fn put_four(
     differences: &[i32],
@@ -81,7 +83,8 @@ fn put_four(
     (sums, pairs)
 }
 
-/// Four differences and whole turns of them added up, and the sums put in their places.
+/// Adds up four differences and whole turns of them after the sample `last`, puts the sums in their places, and returns
+/// the last of them.
 #[inline(always)]
 fn put_turns(differences: &[i32], last: i32, out: &mut [i32]) -> i32
     requires whole { (turns : ℕ) × length differences.now ≡ 4 + 8 * turns }
@@ -102,7 +105,8 @@ fn put_turns(differences: &[i32], last: i32, out: &mut [i32]) -> i32
     sums.to_array()[3]
 }
 
-/// Differences added up one by one, and the sums put in their places.
+/// Adds up differences one by one after the sample `last`, puts the sums in their places, and returns the last of them;
+/// `last` where there is none.
 #[inline(always)]
 #[tactic(auto, using(crate::proofs::Rules::put_each))]
 fn put_each(differences: &[i32], last: i32, out: &mut [i32]) -> i32
@@ -120,8 +124,9 @@ fn put_each(differences: &[i32], last: i32, out: &mut [i32]) -> i32
     sum
 }
 
-/// The sums of the first of some differences put in their places, while the limits of 32 bits are out of reach: in
-/// lanes, where there is room for one turn more.
+/// Adds up the first `count` differences after the sample `last`, puts the sums in their places, and returns the last
+/// of them; `last` where `count` is 0. The limits of 32 bits are out of reach. It adds up in lanes where there is room
+/// for one turn more.
 #[inline(always)]
 pub(crate) fn put_sums(differences: &mut Room, count: usize, last: i32, out: &mut [i32]) -> i32
     requires few { count ≤ 120 }

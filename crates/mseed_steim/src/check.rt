@@ -22,7 +22,8 @@ use crate::walk::{find_lack, walk};
 use mseed_record::RecordView;
 use mseed_time::Order;
 
-/// The constants for the first and the last sample, where there's a frame that holds them.
+/// Returns the payload's constants for the first and the last sample; `None` where it has no whole frame, which would
+/// hold them.
 pub(crate) fn constants_of(payload: &[u8]) -> Option<Ends>
     ensures none { IfNone result (length payload.now < 64) }
     ensures first { IfSome result (λ ends. ends.first ≡ first_constant payload.now) }
@@ -38,8 +39,8 @@ pub(crate) fn constants_of(payload: &[u8]) -> Option<Ends>
     })
 }
 
-/// The constants, where so many samples that were added up from the first of them end on the last; else the fault that
-/// comes first.
+/// Returns the constants, where all samples were added up from the first of them and end on the last; else the fault
+/// that comes first.
 #[inline(always)]
 fn ends_of_walk(
     payload: &[u8],
@@ -65,8 +66,8 @@ fn ends_of_walk(
     }
 }
 
-/// The ends of so many samples of Steim frames, with what is kept of each sample put in its place; frames are unpacked
-/// in the room.
+/// Returns the ends of `samples` samples of Steim frames, with what is kept of each put in its place; or why they can't
+/// be read. Frames are unpacked in the room.
 #[tactic(auto, using(crate::proofs::Ended::no_frame))]
 #[inline(always)]
 pub(crate) fn walk_frames<K: Keeper>(
@@ -93,7 +94,7 @@ pub(crate) fn walk_frames<K: Keeper>(
     ends_of_walk(payload, scheme, samples, constants, walked)
 }
 
-/// The ends of so many samples of Steim frames, of which none is kept.
+/// Returns the ends of `samples` samples of Steim frames, of which none is kept; or why they can't be read.
 #[inline(never)]
 fn check_frames(payload: &[u8], scheme: Scheme, samples: usize) -> Result<Ends, ReadFault>
     requires { 0 < samples }
@@ -102,7 +103,7 @@ fn check_frames(payload: &[u8], scheme: Scheme, samples: usize) -> Result<Ends, 
     walk_frames::<Sums>(payload, scheme, samples, &mut [], &mut [])
 }
 
-/// The ends of so many integers.
+/// Returns the ends of `samples` integers; `Short` where the payload has fewer.
 #[inline(always)]
 pub(crate) fn check_integers(
     payload: &[u8],
@@ -123,14 +124,14 @@ pub(crate) fn check_integers(
     })
 }
 
-/// Steim frames of little-endian words.
+/// Returns whether these are Steim frames of little-endian words.
 fn is_little_steim(form: Form, order: Order) -> bool
     ensures { result ≡ is_little_steim form order }
 {
     matches!((form, order), (Form::Frames(_), Order::Little))
 }
 
-/// How a record holds its samples, and the bytes that do.
+/// Returns how a record holds its samples, and the bytes that do; or the fault that comes before its payload is read.
 #[inline(always)]
 pub(crate) fn payload_of<'a>(view: &RecordView<'a>) -> Result<(Form, &'a [u8]), ReadFault>
     ensures held { IfOk result (λ found. HoldsIn (view_of view.now) found.0 found.1.now) }
@@ -154,7 +155,8 @@ pub(crate) fn payload_of<'a>(view: &RecordView<'a>) -> Result<(Form, &'a [u8]), 
     }
 }
 
-/// The ends of a record's samples: one relation, from which the clauses of [`check_samples`] follow.
+/// Returns the ends of a record's samples, or why it has none: one relation, from which the clauses of
+/// [`check_samples`] follow.
 #[inline(always)]
 #[tactic(auto, using(crate::proofs::Laws::payload_answers))]
 fn check_record(view: &RecordView<'_>) -> Result<Ends, ReadFault>
@@ -169,8 +171,8 @@ fn check_record(view: &RecordView<'_>) -> Result<Ends, ReadFault>
     }
 }
 
-/// The first and the last of a record's samples, without keeping any: those of its one reading, where it
-/// ends on the payload's constant. The record has at least one sample.
+/// Returns the first and the last of a record's samples, in counts, without keeping any: those of its one reading,
+/// where it ends on the payload's constant. The record has at least one sample.
 ///
 /// # Errors
 ///

@@ -20,7 +20,7 @@ pub(crate) const WORD: usize = 4;
 /// Words of a frame.
 pub(crate) const FRAME: usize = 16;
 
-/// The bits of a word, which are counted from the payload's begin.
+/// Returns the bits of the word at an index, which counts from 0 at the payload's beginning.
 pub(crate) fn read_word(payload: &[u8], index: usize) -> u32
     requires { 4 * (index + 1) ≤ length payload.now }
     ensures { result ≡ word_at payload.now index }
@@ -57,7 +57,7 @@ impl<'a> Model for Words<'a> {
         × (w.next % 16 ≢ 0 → w.codes ≡ word_at w.payload.now (16 * (w.next / 16))) × AreOctets w.payload.now };
 }
 
-/// The code of a word, by its frame's codes.
+/// Returns the code, 0 to 3, of the word at an index of the payload, by the codes of its frame.
 pub(crate) fn code_in(codes: u32, index: usize) -> u8
     ensures value { result ≡ codes / 2 ^ (30 - 2 * (index % 16)) % 4 }
     ensures small { result < 4 }
@@ -65,7 +65,7 @@ pub(crate) fn code_in(codes: u32, index: usize) -> u8
     (codes >> (30 - 2 * (index % FRAME)) & 3) as u8
 }
 
-/// The first data word of a payload.
+/// Returns the first data word of a payload, which stands behind the constants of its first frame.
 #[inline]
 #[tactic(auto, using(crate::proofs::Walking::words_step))]
 pub(crate) fn first_word(payload: &[u8]) -> Word
@@ -80,10 +80,10 @@ pub(crate) fn first_word(payload: &[u8]) -> Word
     }
 }
 
-/// The first data word from a word on, up to a frame's end, and its frame's codes; these are known unless the word
-/// is the frame's first.
+/// Returns the index of the first data word at or after `from`, before `end`, and the codes of its frame; `end`, where
+/// there is none. `codes` are the frame's, unless the word at `from` is its first.
 #[tactic(auto, using(crate::proofs::ByteRun::past_head))]
-fn prefix_of(payload: &[u8], from: usize, end: usize, codes: u32) -> (usize, u32)
+fn first_data_word(payload: &[u8], from: usize, end: usize, codes: u32) -> (usize, u32)
     requires order { from ≤ end }
     requires whole { end % 16 ≡ 0 }
     requires inside { 4 * end ≤ length payload.now }
@@ -98,7 +98,8 @@ fn prefix_of(payload: &[u8], from: usize, end: usize, codes: u32) -> (usize, u32
     (from, codes)
 }
 
-/// The first of some words whose code isn't 01; their end, where there's none.
+/// Returns the index of the first word at or after `from`, before `end`, whose code isn't 01, by the codes of their
+/// frame; `end`, where there is none.
 fn run_end(codes: u32, from: usize, end: usize) -> usize
     requires { from ≤ end }
     ensures low { from ≤ result }
@@ -115,7 +116,8 @@ fn run_end(codes: u32, from: usize, end: usize) -> usize
 }
 
 impl<'a> Words<'a> {
-    /// Those of all whole frames: all words but the first of each frame, and of the first frame its constants.
+    /// Returns the data words of all whole frames: all words but the first of each frame and the two constants of the
+    /// first one.
     pub(crate) fn of(payload: &'a [u8]) -> Self
         ensures { result ≡ data_words payload.now }
     {
@@ -124,7 +126,7 @@ impl<'a> Words<'a> {
         Words::between(payload, from, end)
     }
 
-    /// Those from a word on, up to a frame's end.
+    /// Returns the data words from the word at `from` on, up to `end`, where a frame ends.
     pub(crate) fn between(payload: &'a [u8], from: usize, end: usize) -> Self
         requires order { from ≤ end }
         requires whole { end % 16 ≡ 0 }
@@ -144,7 +146,7 @@ impl<'a> Words<'a> {
         }
     }
 
-    /// The number of words that are left.
+    /// Returns the number of words that are left.
     #[tactic(auto, using(crate::proofs::Rules::words_counted))]
     pub(crate) fn count_left(&self) -> usize
         ensures value { result ≡ length self.now }
@@ -161,16 +163,16 @@ impl<'a> Words<'a> {
         self.next = self.end;
     }
 
-    /// Whether a word of code 00 is next.
+    /// Returns whether a word of code 00 is next.
     #[tactic(auto, using(crate::proofs::ByteRun::prefix))]
     pub(crate) fn begins_empty(&self) -> bool
         ensures { result ≡ begins_empty self.now }
     {
-        let (next, codes) = prefix_of(self.payload, self.next, self.end, self.codes);
+        let (next, codes) = first_data_word(self.payload, self.next, self.end, self.codes);
         next < self.end && code_in(codes, next) == 0
     }
 
-    /// Takes the words of code 01 that are next, as far as they stand in one frame: their bytes.
+    /// Takes the words of code 01 that are next, as far as they stand in one frame, and returns their bytes.
     pub(crate) fn take_bytes(&mut self) -> &'a [u8]
         // What is left are the words after them.
         ensures cut { self.old ≡ byte_run self.old ++ self.new }
@@ -183,7 +185,7 @@ impl<'a> Words<'a> {
         ensures count { length result.now ≡ 4 * length (byte_run self.old) }
         ensures few { length result.now ≤ 60 }
     {
-        let (from, codes) = prefix_of(self.payload, self.next, self.end, self.codes);
+        let (from, codes) = first_data_word(self.payload, self.next, self.end, self.codes);
         let frame_end = (from / FRAME + 1) * FRAME;
         let to = run_end(codes, from, frame_end.min(self.end));
         let bytes = &self.payload[WORD * from..WORD * to];
@@ -210,7 +212,7 @@ impl<'a> Iterator for Words<'a> {
             self.next += 1;
         }
         let (frame, place) = (self.next / FRAME, self.next % FRAME);
-        let code = (self.codes >> (30 - 2 * place) & 3) as u8;
+        let code = code_in(self.codes, self.next);
         let bits = read_word(self.payload, self.next);
         self.next += 1;
         Some(Word {

@@ -66,8 +66,8 @@ fn pass_empty(words: &mut Words<'_>)
     }
 }
 
-/// The first difference of what comes next among data words, which is unpacked at once: a run of words of code
-/// 01 in one frame, or another word; or the place of a bad word.
+/// Unpacks at once what comes next among data words, a run of words of code 01 in one frame or another word, and
+/// returns its first difference; or the place of a bad word. `None` where no difference is left.
 #[tactic(auto, using(crate::proofs::Rules::unpack_next))]
 fn unpack_next(
     words: &mut Words<'_>,
@@ -102,7 +102,7 @@ fn unpack_next(
 }
 
 impl<'a> Differences<'a> {
-    /// Those of a payload, by its scheme. Bytes after the last whole frame aren't read.
+    /// Returns the differences of a payload's whole frames in this scheme; the bytes after them aren't read.
     #[tactic(auto, using(crate::proofs::Rules::words_counted))]
     pub fn over(payload: &'a [u8], scheme: Scheme) -> Self
         // What is handed out is what the words spell, or those before the first bad word, and its place, and nothing
@@ -124,7 +124,7 @@ impl<'a> Differences<'a> {
         }
     }
 
-    /// What is unpacked and not yet given.
+    /// Returns the differences that are unpacked and that `next` hasn't returned yet.
     pub fn ready(&self) -> &[i32]
         ensures value { result.now ≡ self.now.ready }
         // They come first.
@@ -160,7 +160,8 @@ impl<'a> Iterator for Differences<'a> {
         }
     }
 
-    /// The differences that are unpacked, and seven more for each word that isn't at the most.
+    /// Returns the least and the greatest number of items that can be left: the differences that are unpacked, and
+    /// these with seven more for each word that isn't.
     #[tactic(auto, using(crate::proofs::Rules::words_counted))]
     fn size_hint(&self) -> (usize, Option<usize>)
         // The items left lie between the bounds.

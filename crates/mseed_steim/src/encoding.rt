@@ -16,7 +16,7 @@ pub enum Encoding {
 }
 
 impl Encoding {
-    /// The encoding of a code.
+    /// Returns the encoding with this code of blockette 1000; `None` for a code other than 1, 3, 10 and 11.
     pub fn of(code: u8) -> Option<Encoding>
         ensures { result ≡ encoding_of code }
     {
@@ -29,7 +29,7 @@ impl Encoding {
         }
     }
 
-    /// Its code.
+    /// Returns its code in blockette 1000.
     pub fn code(self) -> u8
         ensures { result ≡ code_of self }
     {

@@ -21,8 +21,8 @@ use mseed_time::Order;
 /// The lower bits of the codes of a frame's words 1 to 15.
 const LOWER_BITS: u32 = 0x1555_5555;
 
-/// The first and the last of a record's samples, of which none is read: the record is known to have a reading that
-/// ends on its constants.
+/// Returns the first and the last of a record's samples, in counts, without decoding. The record is known to have a
+/// reading that ends on its constants.
 pub fn ends_of(view: &RecordView<'_>) -> Ends
     requires { (s : List ℤ) × IsWhole (view_of view.now) s }
     ensures { (s : List ℤ) → IsWhole (view_of view.now) s → AreEnds result s }
@@ -33,7 +33,8 @@ pub fn ends_of(view: &RecordView<'_>) -> Ends
     }
 }
 
-/// The ends of the record's reading, or why there is none.
+/// Returns the ends that the record's reading has, if it has one that ends on its constants; or the fault by which it
+/// has none.
 #[tactic(auto, using(crate::proofs::Constants::frameless))]
 fn find_ends(view: &RecordView<'_>) -> Result<Ends, ReadFault>
     requires { 0 < count_of (view_of view.now) }
@@ -51,30 +52,10 @@ fn find_ends(view: &RecordView<'_>) -> Result<Ends, ReadFault>
     }
 }
 
-/// Whether it shows, before a record's samples are read, that each is the one before it plus a difference of 30 bits:
-/// always in Steim-2, and of 16-bit integers; in Steim-1 where no word holds a wider difference; of 32-bit integers
-/// where each has 29 bits at the most.
-#[tactic(auto, using(crate::proofs::Nearness::near_whole, crate::proofs::Nearness::shown_near))]
-pub fn is_surely_near(view: &RecordView<'_>) -> bool
-    // The words or integers show it.
-    ensures shown { IsTrue result ↔ ShowsNear (view_of view.now) }
-    // Where they do, the samples are near one another.
-    ensures near { OnTrue result ((s : List ℤ) → IsWhole (view_of view.now) s → AreNear s) }
-{
-    let Ok((form, payload)) = payload_of(view) else {
-        return false;
-    };
-    shows_near(
-        form,
-        view.payload_order(),
-        payload,
-        usize::from(view.samples()),
-    )
-}
-
-/// The first and the last of a record's samples, where it shows before they are read that each is the one before it
-/// plus a difference of 30 bits, as [`is_surely_near`] says. The record is known to have a reading that ends on its
-/// constants.
+/// Returns the first and the last of a record's samples, in counts, where its payload shows, without decoding, that
+/// each sample is the one before it plus a difference of 30 bits: always in Steim-2, and of 16-bit integers; in Steim-1
+/// where no word holds a wider difference; of 32-bit integers where each has 29 bits at the most. `None` where it
+/// doesn't show that. The record is known to have a reading that ends on its constants.
 #[inline(always)]
 pub fn near_ends(view: &RecordView<'_>) -> Option<Ends>
     requires { (s : List ℤ) × IsWhole (view_of view.now) s }
@@ -103,7 +84,8 @@ pub fn near_ends(view: &RecordView<'_>) -> Option<Ends>
     }
 }
 
-/// Whether the words or integers of a payload show it.
+/// Returns whether the words or integers of a payload show, without decoding, that each of `samples` samples is the one
+/// before it plus a difference of 30 bits.
 fn shows_near(form: Form, order: Order, payload: &[u8], samples: usize) -> bool
     ensures shown { IsTrue result ↔ IsSurelyNear form order payload.now samples }
     ensures octets { AreOctets payload.now }
@@ -116,7 +98,7 @@ fn shows_near(form: Form, order: Order, payload: &[u8], samples: usize) -> bool
     }
 }
 
-/// Whether so many 32-bit integers are there, and have 29 bits at the most.
+/// Returns whether `samples` 32-bit integers are there, and have 29 bits at the most.
 #[tactic(auto, using(crate::proofs::Rules::are_short))]
 fn are_short(payload: &[u8], order: Order, samples: usize) -> bool
     ensures { IsTrue result ↔ AreShort order payload.now samples }
@@ -132,8 +114,8 @@ fn are_short(payload: &[u8], order: Order, samples: usize) -> bool
     highest < 0x2000_0000
 }
 
-/// How far a number lies above the least of 29 bits, modulo 2^32: less than 2^29 where it has 29 bits at the most, and
-/// nowhere else.
+/// Returns how far a number lies above the least of 29 bits, modulo 2^32: less than 2^29 where it has 29 bits at the
+/// most, and nowhere else.
 #[inline(always)]
 #[tactic(auto, using(crate::proofs::Rules::above_least))]
 fn above_least(number: i32) -> u32
@@ -142,7 +124,7 @@ fn above_least(number: i32) -> u32
     number.wrapping_add(0x1000_0000).cast_unsigned()
 }
 
-/// Whether no Steim-1 word of the whole frames holds a difference of more than 30 bits.
+/// Returns whether no Steim-1 word of the whole frames holds a difference of more than 30 bits.
 fn are_narrow(payload: &[u8]) -> bool
     ensures { IsTrue result ↔ ((k : ℕ) → k < word_count payload.now → k % 16 ≢ 0 → IsNarrowAt payload.now k) }
 {
@@ -154,7 +136,7 @@ fn are_narrow(payload: &[u8]) -> bool
     true
 }
 
-/// Whether none of a frame does.
+/// Returns whether no Steim-1 word of a frame holds a difference of more than 30 bits.
 fn is_frame_narrow(payload: &[u8], frame: usize) -> bool
     requires { 64 * (frame + 1) ≤ length payload.now }
     ensures { IsTrue result ↔ ((k : ℕ) → 16 * frame < k → k < 16 * (frame + 1) → IsNarrowAt payload.now k) }
@@ -163,7 +145,7 @@ fn is_frame_narrow(payload: &[u8], frame: usize) -> bool
     has_no_code_3(codes) || are_words_narrow(payload, frame, codes)
 }
 
-/// Whether no word of a frame has the code 3, both bits of which are set.
+/// Returns whether no word of a frame has the code 3, both bits of which are set, by the frame's codes.
 #[tactic(auto, using(crate::proofs::Nearness::no_code_3))]
 pub(crate) fn has_no_code_3(codes: u32) -> bool
     ensures { OnTrue result ((j : ℕ) → 0 < j → j < 16 → codes / 2 ^ (30 - 2 * j) % 4 ≢ 3) }
@@ -171,7 +153,8 @@ pub(crate) fn has_no_code_3(codes: u32) -> bool
     codes & (codes >> 1) & LOWER_BITS == 0
 }
 
-/// Whether each word of a frame is narrow, looked at one by one.
+/// Returns whether no Steim-1 word of a frame holds a difference of more than 30 bits, by a look at each of those that
+/// have one difference alone.
 #[cold]
 #[tactic(auto, using(crate::proofs::Rules::are_words_narrow))]
 fn are_words_narrow(payload: &[u8], frame: usize, codes: u32) -> bool
@@ -188,9 +171,9 @@ fn are_words_narrow(payload: &[u8], frame: usize, codes: u32) -> bool
     true
 }
 
-/// Whether a difference has 30 bits at the most.
+/// Returns whether a difference has 30 bits at the most.
 fn is_narrow(difference: i32) -> bool
     ensures { IsTrue result ↔ IsWithin 30 difference }
 {
-    -0x2000_0000 <= difference && difference < 0x2000_0000
+    (-0x2000_0000..0x2000_0000).contains(&difference)
 }

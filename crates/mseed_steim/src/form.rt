@@ -5,6 +5,7 @@ ghost use Rattle.byteorder.specs.Endian.{twos_complement};
 ghost use Rattle.mseed_time.specs.Fields.{number_at};
 ghost use Rattle.mseed_steim.specs.Samples.{bytes_of, form_of};
 
+use crate::encoding::Encoding;
 use crate::scheme::Scheme;
 use byteorder::{BigEndian, ByteOrder, LittleEndian};
 use mseed_time::Order;
@@ -27,21 +28,20 @@ pub enum Form {
     Frames(Scheme),
 }
 
-/// The form of an encoding that is read.
+/// Returns how a payload of this encoding, a code of blockette 1000, holds samples; `None` for a code that isn't read.
 pub(crate) fn form_of(encoding: u8) -> Option<Form>
     ensures { result ≡ form_of encoding }
 {
-    match encoding {
-        1 => Some(Form::Integers(Width::Two)),
-        3 => Some(Form::Integers(Width::Four)),
-        10 => Some(Form::Frames(Scheme::One)),
-        11 => Some(Form::Frames(Scheme::Two)),
-        _ => None,
+    match Encoding::of(encoding)? {
+        Encoding::Int16 => Some(Form::Integers(Width::Two)),
+        Encoding::Int32 => Some(Form::Integers(Width::Four)),
+        Encoding::Steim1 => Some(Form::Frames(Scheme::One)),
+        Encoding::Steim2 => Some(Form::Frames(Scheme::Two)),
     }
 }
 
 impl Width {
-    /// The number of bytes.
+    /// Returns the number of bytes of an integer.
     pub(crate) fn bytes(self) -> usize
         ensures value { result ≡ bytes_of self }
         ensures low { 2 ≤ result }
@@ -54,7 +54,7 @@ impl Width {
     }
 }
 
-/// The integer at an offset.
+/// Returns the integer that begins at an offset of the payload, in bytes.
 pub(crate) fn integer_at(payload: &[u8], width: Width, order: Order, offset: usize) -> i32
     requires { offset + bytes_of width ≤ length payload.now }
     ensures { result ≡ twos_complement (bytes_of width) (number_at order (bytes_of width) offset payload.now) }

@@ -66,8 +66,8 @@ const FROM_1: Rows = [
     0, 0x30, 0x0C, 0x03, 0xC0, 0x30, 0x0C, 0x03, 0xC0, 0x30, 0x0C, 0x03, 0xC0, 0x30, 0x0C, 0x03,
 ];
 
-/// The first data word of a frame that isn't taken yet, once so many samples have been met. The first frame has the
-/// payload's constants in front; its first data word may be taken alone.
+/// Returns the place of the first data word of a frame that isn't taken yet, once `met` samples have been met: 1, 3 or
+/// 4. The first frame has the payload's constants in front; its first data word may be taken alone.
 pub(crate) fn data_in(met: usize, frame: usize) -> usize
     ensures { result ≡ data_in met frame }
 {
@@ -84,7 +84,7 @@ pub(crate) fn data_in(met: usize, frame: usize) -> usize
 /// it has been met, and of a later frame.
 static BEGINS: [[Rows; 2]; 2] = [[FROM_3, FROM_4], [FROM_1, FROM_1]];
 
-/// Those of a frame, once so many samples have been met.
+/// Returns the bits of the codes of those words of a frame that aren't taken yet, once `met` samples have been met.
 #[inline(always)]
 pub(crate) fn begin_in(met: usize, frame: usize) -> Rows
     ensures { Begins result (data_in met frame) }
@@ -94,7 +94,7 @@ pub(crate) fn begin_in(met: usize, frame: usize) -> Rows
     BEGINS[row][column]
 }
 
-/// The rows of a frame's words, and the planes of their bytes, of which some bits are turned over by row.
+/// Returns the rows of a frame's words, and the planes of their bytes, of which some bits are turned over by row.
 #[inline(always)]
 fn turned_lanes(
     frame: &[u8; 64],
@@ -118,7 +118,7 @@ fn turned_lanes(
     )
 }
 
-/// What counts for less than 1, 128-fold.
+/// Returns what the parts of Steim-2 words that count for less than 1 come to, 128-fold and in lanes.
 #[inline(always)]
 fn fine_of(a: u8x16, b: u8x16, c: u8x16, d: u8x16, rows: u8x16) -> u32x4
     requires { Each1 (λ r. r < 16) rows }
@@ -147,7 +147,7 @@ fn fine_of(a: u8x16, b: u8x16, c: u8x16, d: u8x16, rows: u8x16) -> u32x4
     plus(plus(plus(plus(of_a, of_b), of_c), top_c), of_d)
 }
 
-/// What counts for 1 to 64.
+/// Returns what the parts of Steim-2 words that count for 1 to 64 come to, in lanes.
 #[inline(always)]
 fn ones_of(a: u8x16, b: u8x16, c: u8x16, d: u8x16, rows: u8x16) -> u32x4
     requires { Each1 (λ r. r < 16) rows }
@@ -175,7 +175,7 @@ fn ones_of(a: u8x16, b: u8x16, c: u8x16, d: u8x16, rows: u8x16) -> u32x4
     plus(plus(plus(of_a, of_b), of_c), of_d)
 }
 
-/// What counts 256-fold.
+/// Returns what the parts of Steim-2 words that count for 256 and more come to, in units of 256 and in lanes.
 #[inline(always)]
 fn coarse_of(a: u8x16, c: u8x16, rows: u8x16) -> u32x4
     requires { Each1 (λ r. r < 16) rows }
@@ -186,7 +186,7 @@ fn coarse_of(a: u8x16, c: u8x16, rows: u8x16) -> u32x4
     plus(of_a, of_c)
 }
 
-/// The differences of a Steim-2 frame.
+/// Returns what the differences of a Steim-2 frame are in all.
 #[inline(always)]
 fn frame_two(frame: &[u8; 64], begin: Rows) -> MovedLanes
     ensures { (from : ℕ) → Begins begin from → Adds Two frame.now from result }
@@ -223,7 +223,7 @@ macro_rules! rows_one {
 /// How many differences a word of a row of Steim-1 has; 128 where it has one of 32 bits.
 pub(crate) const COUNT_ONE: Rows = [0, 0, 0, 0, 4, 4, 4, 4, 2, 2, 2, 2, 128, 128, 128, 128];
 
-/// What counts for 1.
+/// Returns what the bytes of Steim-1 words that count for 1 come to, in lanes.
 #[inline(always)]
 fn low_of(a: u8x16, b: u8x16, c: u8x16, d: u8x16, rows: u8x16) -> u32x4
     requires { Each1 (λ r. r < 16) rows }
@@ -236,7 +236,7 @@ fn low_of(a: u8x16, b: u8x16, c: u8x16, d: u8x16, rows: u8x16) -> u32x4
     plus(plus(plus(of_a, of_b), of_c), of_d)
 }
 
-/// What counts for 256.
+/// Returns what the bytes of Steim-1 words that count for 256 come to, in units of 256 and in lanes.
 #[inline(always)]
 fn high_of(a: u8x16, c: u8x16, rows: u8x16) -> u32x4
     requires { Each1 (λ r. r < 16) rows }
@@ -247,7 +247,7 @@ fn high_of(a: u8x16, c: u8x16, rows: u8x16) -> u32x4
     plus(of_a, of_c)
 }
 
-/// The differences of a Steim-1 frame.
+/// Returns what the differences of a Steim-1 frame are in all.
 #[inline(always)]
 fn frame_one(frame: &[u8; 64], begin: Rows) -> MovedLanes
     ensures { (from : ℕ) → Begins begin from → Adds One frame.now from result }
@@ -264,7 +264,7 @@ fn frame_one(frame: &[u8; 64], begin: Rows) -> MovedLanes
     }
 }
 
-/// The differences of a frame's words from word 1, 3 or 4 on, by its scheme.
+/// Returns what the differences of a frame's words from word 1, 3 or 4 on are in all, by its scheme.
 #[inline(always)]
 fn frame_lanes(scheme: Scheme, frame: &[u8; 64], begin: Rows) -> MovedLanes
     ensures { (p : List ℕ) (k from : ℕ) → Begins begin from → frame.now ≡ take 64 (drop (64 * k) p)
@@ -276,7 +276,7 @@ fn frame_lanes(scheme: Scheme, frame: &[u8; 64], begin: Rows) -> MovedLanes
     }
 }
 
-/// The number of which lanes come to 128 times.
+/// Returns the number, less than 2^24 from 0, whose 128-fold the lanes add up to, modulo 2^32.
 #[inline(always)]
 fn lowered(by: u32x4) -> i32
     ensures { (number : ℤ) → nat_abs number < 2 ^ 24 → Raises (sum_l by) number → result ≡ number }
@@ -286,7 +286,8 @@ fn lowered(by: u32x4) -> i32
     more as i32 - (1 << 24)
 }
 
-/// The bits of the codes of a frame in a run, of which the first frame has others.
+/// Returns the bits of the codes of a frame in a run: `first` for the first frame, and those from word 1 on for
+/// another.
 #[inline(always)]
 fn begin_at(index: usize, first: Rows) -> Rows
     ensures first { index ≡ 0 → result ≡ first }
@@ -295,8 +296,9 @@ fn begin_at(index: usize, first: Rows) -> Rows
     if index == 0 { first } else { FROM_1 }
 }
 
-/// The differences of frames from a word of the first one on, at most so many: of the first frames, up to one with
-/// more, or with a word that is bad or has one of 30 or 32 bits. A frame after those with so many isn't looked at.
+/// Returns what the differences of the first of some frames are in all, from a word of the first one on: of as many
+/// frames as have at most `most` together, and no word that is bad or has one of 30 or 32 bits. A frame after those
+/// with `most` isn't looked at.
 #[inline(always)]
 fn run_of(scheme: Scheme, frames: &[[u8; 64]], begin: Rows, most: usize) -> Run
     requires { length frames.now ≤ RUN }
@@ -321,7 +323,7 @@ fn run_of(scheme: Scheme, frames: &[[u8; 64]], begin: Rows, most: usize) -> Run
     }
 }
 
-/// What [`run_of`] says of frames, by a body for each scheme.
+/// Returns what [`run_of`] returns of frames, by a body for each scheme.
 pub(crate) fn moves_of(scheme: Scheme, frames: &[[u8; 64]], begin: Rows, most: usize) -> Run
     requires { length frames.now ≤ RUN }
     ensures { IsRun scheme frames.now begin most result }

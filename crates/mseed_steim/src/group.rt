@@ -17,7 +17,7 @@ pub(crate) struct Group {
     ghost fits: { width * count ≤ 32 },
 }
 
-/// A row of the table.
+/// Returns a row of the table.
 #[inline(always)]
 fn row(count: u32, width: u32) -> Option<Group>
     requires few { count ≤ 7 }
@@ -29,8 +29,8 @@ fn row(count: u32, width: u32) -> Option<Group>
     Some(Group { count, width })
 }
 
-/// The group of a word, by its code and its top two bits, the dnib: that of no differences where the code is
-/// 0, and none where they have no meaning in the scheme.
+/// Returns the group of a word, by its code and its top two bits, the dnib: that of no differences where the code is 0;
+/// `None` where they have no meaning in the scheme.
 #[inline(always)]
 #[tactic(auto, using(crate::proofs::Grouped::table))]
 pub(crate) fn group_of(scheme: Scheme, code: u8, word: u32) -> Option<Group>

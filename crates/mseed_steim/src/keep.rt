@@ -43,14 +43,14 @@ pub(crate) trait Keeper {
     // Of a difference and the sample that it comes to, where anything is kept.
     ghost kept: { Option (ℤ → ℤ → ℤ) };
 
-    /// Keeps a sample at its place, or its difference; of the first sample itself.
+    /// Keeps a sample at its place, or its difference; of the first sample the sample itself.
     fn keep(place: usize, difference: i32, sample: i32, out: &mut [i32])
         requires inside { places_for kept (place + 1) ≤ length out.old }
         ensures put { Puts kept place (λ keep. kept_at keep place difference sample ∷ []) out.old out.new }
         ensures places { length out.new ≡ length out.old };
 
-    /// Keeps the first of some differences, or the samples that they come to, while the limits of 32 bits are out of
-    /// reach: the last sample.
+    /// Keeps the first `count` differences, or the samples that they come to, while the limits of 32 bits are out of
+    /// reach, and returns the last sample.
     fn keep_near(differences: &mut Room, count: usize, sum: Sum, out: &mut [i32]) -> i32
         requires few { count ≤ 120 }
         requires counted { IsCounted sum.met (take count differences.old) }
@@ -61,7 +61,7 @@ pub(crate) trait Keeper {
             out.old out.new }
         ensures places { length out.new ≡ length out.old };
 
-    /// Whether nothing is kept.
+    /// Returns whether nothing is kept.
     fn keeps_nothing() -> bool
         ensures { result ≡ true → kept ≡ None };
 }
@@ -143,7 +143,8 @@ fn put_first(met: usize, number: i32, differences: &mut Room)
     }
 }
 
-/// Keeps the first of some differences, as far as they are needed, while the limits of 32 bits are out of reach.
+/// Keeps the first `count` differences, as far as they are needed, while the limits of 32 bits are out of reach, and
+/// returns the sum after them.
 #[inline(always)]
 #[tactic(auto, using(crate::proofs::Continuing::first_span, crate::proofs::Continuing::span_needed))]
 pub(crate) fn keep_needed<K: Keeper>(
@@ -168,8 +169,8 @@ pub(crate) fn keep_needed<K: Keeper>(
     }
 }
 
-/// How many frames are added up at once after a sum: so many that none of their sums leaves 32 bits, as far as they
-/// have no difference of 30 or 32 bits.
+/// Returns how many frames are added up at once after a sum: so many that none of their sums leaves 32 bits, as far as
+/// they have no difference of 30 or 32 bits.
 #[inline(always)]
 fn frames_at_once(sum: Sum) -> usize
     ensures few { result ≤ RUN }
@@ -180,7 +181,7 @@ fn frames_at_once(sum: Sum) -> usize
     RUN.min((room / REACH) as usize)
 }
 
-/// The first difference of a word that has several, each of 16 bits at the most.
+/// Returns the first difference of a word that has several, each of 16 bits at the most; `None` of another word.
 #[inline(always)]
 fn first_difference(scheme: Scheme, word: Word) -> Option<i32>
     ensures { IfSome result (λ d. (ws : List DataWord)
@@ -193,8 +194,9 @@ fn first_difference(scheme: Scheme, word: Word) -> Option<i32>
     Some(read_digit(word.bits, group.width, group.count - 1))
 }
 
-/// What isn't used of that which the frames from one on add up to: the first sample's difference, where none was met
-/// before. None where it doesn't stand in the first word, or has more than 16 bits.
+/// Returns what isn't used of that which the frames from `index` on add up to: the first sample's difference, where
+/// none was met before, and else 0. `None` where that difference doesn't stand in the payload's first data word, or has
+/// more than 16 bits.
 #[inline(always)]
 #[tactic(auto, using(crate::proofs::FirstRun::moved_run))]
 fn unused_in(task: Task, payload: &[u8], index: usize, sum: Sum) -> Option<i32>
@@ -211,7 +213,8 @@ fn unused_in(task: Task, payload: &[u8], index: usize, sum: Sum) -> Option<i32>
     first_difference(task.scheme, first_word(payload))
 }
 
-/// Adds up frames from one on at once, as many as it can. None where the first has to be looked at.
+/// Adds up as many frames at once as it can, from frame `index` on, and returns how many these are and the sum after
+/// them; `None` where that frame has to be decoded differently.
 #[inline(always)]
 fn add_frames(task: Task, payload: &[u8], index: usize, sum: Sum) -> Option<Taken>
     requires inside { index < length payload.now / 64 }
@@ -237,9 +240,10 @@ fn add_frames(task: Task, payload: &[u8], index: usize, sum: Sum) -> Option<Take
     })
 }
 
-/// Takes frames from one on at once: where nothing is kept, as many as it can; else one, unpacked in a room for its
-/// differences, as far as these are needed. None where the first has to be looked at: where a word of it is bad or has
-/// a wide difference, or the limits of 32 bits are within its reach. Nothing is kept then.
+/// Takes frames at once, from frame `index` on: where nothing is kept, as many as it can; else one, unpacked in a room
+/// for its differences, as far as these are needed. Returns how many these are and the sum after them. `None` where
+/// frame `index` has to be decoded differently, since a word of it is bad or has a wide difference, or the limits of 32
+/// bits are within its reach; nothing is kept then.
 #[inline(always)]
 #[tactic(auto, using(crate::proofs::Rules::take_frames))]
 pub(crate) fn take_frames<K: Keeper>(

@@ -26,8 +26,8 @@ use crate::unpack::{PLACES, Room, Widest, unpack_frame};
 use crate::walk::keep_in_room;
 use mseed_record::RecordView;
 
-/// The differences of a frame, put in their places, as far as there are places: how many were put. None where a word is
-/// bad.
+/// Puts the differences of a frame in their places, as far as there are places, and returns how many were put; `None`
+/// where a word is bad.
 #[inline(always)]
 #[tactic(auto, using(crate::proofs::Rules::unpack_some))]
 fn unpack_some(
@@ -51,8 +51,8 @@ fn unpack_some(
     Some(some)
 }
 
-/// Puts a frame's differences after so many of the frames before it, where it has a bad word: by the walk, which stops
-/// at the last place. Whether they fill the places before that word comes.
+/// Puts a frame's differences after the `met` of the frames before it, where it has a bad word: by the walk, which
+/// stops at the last place. Returns whether they fill the places before that word comes.
 #[cold]
 fn unpack_rest(
     scheme: Scheme,
@@ -78,8 +78,8 @@ fn unpack_rest(
     }
 }
 
-/// Unpacks the first differences of a payload's frames, as many as there are places. False where a bad word comes
-/// before that, or in the first of these frames, or there are too few.
+/// Unpacks the first differences of a payload's frames, as many as there are places, and returns whether all places are
+/// filled: they aren't where a bad word comes before that, or in the first of these frames, or there are too few.
 #[tactic(auto, using(crate::proofs::Summed::put_front, crate::proofs::Placed::rest_put))]
 fn unpack_frames(scheme: Scheme, payload: &[u8], out: &mut [i32]) -> bool
     requires some { 0 < length out.old }
@@ -107,8 +107,8 @@ fn unpack_frames(scheme: Scheme, payload: &[u8], out: &mut [i32]) -> bool
     false
 }
 
-/// Fills in the steps of as many samples as there are places, where no bad word comes before, and answers the constants
-/// for the first and the last of them.
+/// Fills in the steps of as many samples as there are places, and returns the constants for the first and the last of
+/// them; `None` where a bad word comes before, or there are too few differences.
 #[inline(always)]
 #[tactic(auto, using(crate::proofs::Rules::fill_payload))]
 fn fill_payload(scheme: Scheme, payload: &[u8], out: &mut [i32]) -> Option<Ends>
@@ -127,7 +127,8 @@ fn fill_payload(scheme: Scheme, payload: &[u8], out: &mut [i32]) -> Option<Ends>
     Some(constants)
 }
 
-/// Fills in the steps of a record's samples, where no bad word comes before, and answers the record's ends.
+/// Fills in the steps of the samples of a record of Steim frames, and returns the record's ends; `None` where a bad
+/// word comes before, or there are too few differences, or the record isn't read as such frames.
 #[inline(always)]
 fn fill_known(view: &RecordView<'_>, out: &mut [i32]) -> Option<Ends>
     requires some { 0 < count_of (view_of view.now) }

@@ -18,6 +18,7 @@ pub(crate) type Rows = [u8; 16];
 /// The code in the low four bits: words 0 and 2 of a byte have it in the upper two of them, 1 and 3 in the lower.
 const CODES: Rows = [0, 4, 8, 12, 4, 0, 0, 0, 8, 0, 0, 0, 12, 0, 0, 0];
 
+/// Returns what a table says of each row.
 #[inline(always)]
 #[tactic(auto, using(crate::proofs::LaneTables::looked_up, crate::proofs::LaneTables::looked_up_below))]
 pub(crate) fn look_up(table: Rows, rows: u8x16) -> u8x16
@@ -28,6 +29,7 @@ pub(crate) fn look_up(table: Rows, rows: u8x16) -> u8x16
     u8x16::from_array(table).swizzle_dyn(rows)
 }
 
+/// Returns the low four bits of each lane.
 #[inline(always)]
 pub(crate) fn low(rows: u8x16) -> u8x16
     ensures small { Each1 (λ r. r < 16) result }
@@ -36,7 +38,8 @@ pub(crate) fn low(rows: u8x16) -> u8x16
     rows & u8x16::splat(15)
 }
 
-/// The row of each word, by the frame's codes and the words' first bytes.
+/// Returns the row of each word, by the frame's codes and the words' first bytes; words whose bits of the codes aren't
+/// in `begin` count as those of code 0.
 #[inline(always)]
 pub(crate) fn rows_of(frame: &[u8; 64], tops: u8x16, begin: Rows) -> u8x16
     requires { tops ≡ map (byte_at frame.now 0) words }
@@ -50,7 +53,7 @@ pub(crate) fn rows_of(frame: &[u8; 64], tops: u8x16, begin: Rows) -> u8x16
     low(codes | (tops >> u8x16::splat(6)))
 }
 
-/// A plane of bytes with some bits turned over, by row.
+/// Returns a plane of bytes with some bits turned over, by row.
 #[inline(always)]
 pub(crate) fn turn(plane: u8x16, rows: u8x16, table: Rows) -> u8x16
     requires { Each1 (λ r. r < 16) rows }
@@ -60,7 +63,7 @@ pub(crate) fn turn(plane: u8x16, rows: u8x16, table: Rows) -> u8x16
     plane ^ look_up(table, rows)
 }
 
-/// The weighted sum of a part of a plane of bytes.
+/// Returns the weighted sum of a part of a plane of bytes, in lanes.
 #[inline(always)]
 #[tactic(auto, using(crate::proofs::Rules::part_by))]
 pub(crate) fn part(plane: u8x16, rows: u8x16, mask: Rows, weight: Rows) -> u32x4
@@ -74,7 +77,7 @@ pub(crate) fn part(plane: u8x16, rows: u8x16, mask: Rows, weight: Rows) -> u32x4
     kept.dot4(look_up(weight, rows))
 }
 
-/// The weighted sum of a part of a plane of bytes, where all rows have one weight.
+/// Returns the weighted sum of a part of a plane of bytes, in lanes, where all rows have one weight.
 #[inline(always)]
 #[tactic(auto, using(crate::proofs::Rules::part_by))]
 pub(crate) fn part_by(plane: u8x16, rows: u8x16, mask: Rows, weight: u8) -> u32x4
@@ -87,7 +90,7 @@ pub(crate) fn part_by(plane: u8x16, rows: u8x16, mask: Rows, weight: u8) -> u32x
     kept.dot4(u8x16::splat(weight))
 }
 
-/// What a table says of all the rows.
+/// Returns the sum of what a table says of each of the rows, in lanes.
 #[inline(always)]
 #[tactic(auto, using(std::proofs::lemmas::Simd::dot4_Fits))]
 pub(crate) fn tally(rows: u8x16, table: Rows) -> u32x4
@@ -97,7 +100,7 @@ pub(crate) fn tally(rows: u8x16, table: Rows) -> u32x4
     look_up(table, rows).dot4(u8x16::splat(1))
 }
 
-/// A byte of each word.
+/// Returns the four planes of a frame: the first, the second, the third and the last byte of each word.
 #[inline(always)]
 pub(crate) fn planes(frame: &[u8; 64]) -> (u8x16, u8x16, u8x16, u8x16)
     ensures first { result.0 ≡ map (byte_at frame.now 0) words }
@@ -147,7 +150,7 @@ pub(crate) fn planes(frame: &[u8; 64]) -> (u8x16, u8x16, u8x16, u8x16)
     )
 }
 
-/// Whether a table of at most 128 for a row has less for each of the rows.
+/// Returns whether a table, which has at most 128 for a row, has less than 128 for each of the rows.
 #[inline(always)]
 pub(crate) fn are_low(rows: u8x16, table: Rows) -> bool
     requires rows { Each1 (λ r. r < 16) rows }
@@ -159,7 +162,7 @@ pub(crate) fn are_low(rows: u8x16, table: Rows) -> bool
     high == 0
 }
 
-/// The sum of two vectors.
+/// Returns the sums of the lanes of two vectors, modulo 2^32.
 #[inline(always)]
 pub(crate) fn plus(a: u32x4, b: u32x4) -> u32x4
     ensures { sum_l result % 4294967296 ≡ (sum_l a + sum_l b) % 4294967296 }
@@ -167,6 +170,7 @@ pub(crate) fn plus(a: u32x4, b: u32x4) -> u32x4
     a + b
 }
 
+/// Returns the differences of the lanes of two vectors, modulo 2^32.
 #[inline(always)]
 pub(crate) fn minus(a: u32x4, b: u32x4) -> u32x4
     ensures { (sum_l result + sum_l b) % 4294967296 ≡ sum_l a % 4294967296 }
@@ -174,7 +178,7 @@ pub(crate) fn minus(a: u32x4, b: u32x4) -> u32x4
     a - b
 }
 
-/// Each lane, with its bits moved up by so many places.
+/// Returns each lane with its bits moved up by `bits` places.
 #[inline(always)]
 pub(crate) fn shifted(a: u32x4, bits: u32) -> u32x4
     requires { bits < 32 }
@@ -183,7 +187,7 @@ pub(crate) fn shifted(a: u32x4, bits: u32) -> u32x4
     a << u32x4::splat(bits)
 }
 
-/// The sum of a vector's lanes.
+/// Returns the sum of a vector's lanes, modulo 2^32.
 #[inline(always)]
 pub(crate) fn sum_of(a: u32x4) -> u32
     ensures { result ≡ sum_l a % 4294967296 }
@@ -191,7 +195,7 @@ pub(crate) fn sum_of(a: u32x4) -> u32
     a.reduce_sum()
 }
 
-/// What a table of at most 128 for a row says of all the rows.
+/// Returns the sum of what a table, which has at most 128 for a row, says of each of the rows.
 #[inline(always)]
 pub(crate) fn counted(rows: u8x16, table: Rows) -> u32
     requires rows { Each1 (λ r. r < 16) rows }

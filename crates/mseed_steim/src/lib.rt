@@ -28,7 +28,7 @@ mod word;
 pub use check::check_samples;
 pub use differences::{BadWordAt, Differences};
 pub use encoding::Encoding;
-pub use ends::{ends_of, is_surely_near, near_ends};
+pub use ends::{ends_of, near_ends};
 pub use fault::{Ends, ReadFault};
 pub use known::unpack_differences;
 pub use law::{one_fault, one_reading, reading_has_count};

@@ -21,8 +21,8 @@ use mseed_record::RecordView;
 use mseed_time::Order;
 use std::alloc::{AllocError, Allocator};
 
-/// Fills in what is kept of so many samples of Steim frames. It stands apart, so that its room is cleared for frames
-/// alone.
+/// Fills in what is kept of `samples` samples of Steim frames, or returns why they can't be read. It stands apart, so
+/// that its room is cleared for frames alone.
 #[inline(never)]
 fn fill_frames<K: Keeper>(
     payload: &[u8],
@@ -38,7 +38,7 @@ fn fill_frames<K: Keeper>(
     Ok(())
 }
 
-/// Fills in so many integers.
+/// Fills in `samples` integers, or returns `Short` where the payload has fewer.
 fn fill_integers(
     payload: &[u8],
     width: Width,
@@ -60,7 +60,8 @@ fn fill_integers(
     Ok(())
 }
 
-/// Fills in a record's samples.
+/// Fills in a record's samples, or returns why it has none: one relation, from which the clauses of [`fill_samples`]
+/// follow.
 #[inline(always)]
 #[tactic(auto, using(crate::proofs::Laws::payload_answers, crate::proofs::Folded::samples_are))]
 fn fill_record(view: &RecordView<'_>, out: &mut [i32]) -> Result<(), ReadFault>
@@ -101,14 +102,15 @@ pub fn fill_samples(view: &RecordView<'_>, out: &mut [i32]) -> Result<(), ReadFa
     fill_record(view, out)
 }
 
-/// Whether a record's samples stand in Steim frames.
+/// Returns whether a record's samples stand in Steim frames, by its encoding.
 pub fn is_steim(view: &RecordView<'_>) -> bool
     ensures { IsTrue result ↔ IsSteim (view_of view.now) }
 {
     matches!(form_of(view.encoding()), Some(Form::Frames(_)))
 }
 
-/// Fills in the steps of the samples of a record of Steim frames.
+/// Fills in the steps of the samples of a record of Steim frames, or returns why it has none: one relation, from which
+/// the clauses of [`fill_differences`] follow.
 #[inline(always)]
 #[tactic(auto, using(crate::proofs::Laws::payload_answers, crate::proofs::Folded::steps_are))]
 fn fill_steps(view: &RecordView<'_>, out: &mut [i32]) -> Result<(), ReadFault>
@@ -152,14 +154,15 @@ pub fn fill_differences(view: &RecordView<'_>, out: &mut [i32]) -> Result<(), Re
     fill_steps(view, out)
 }
 
-/// So many zeros.
+/// Returns a list of `count` zeros, or `AllocError` where there is no memory for it.
 fn zeros<A: Allocator + Drop>(alloc: A, count: usize) -> Result<Vec<i32, A>, AllocError>
     ensures { IfOk result (λ samples. length samples.items ≡ count) }
 {
     Ok(vec![in alloc; 0; count]?)
 }
 
-/// A record's samples: one relation, from which the clauses of [`read_samples`] follow.
+/// Returns a record's samples, or why they aren't kept: two relations, from which the clauses of [`read_samples`]
+/// follow.
 fn read_record<A: Allocator + Drop>(
     alloc: A,
     view: &RecordView<'_>,
@@ -180,13 +183,13 @@ fn read_record<A: Allocator + Drop>(
     Ok(out)
 }
 
-/// A record's samples: those of its one reading, where it ends on the payload's constant. The record has at
-/// least one sample.
+/// Returns a record's samples, in counts: those of its one reading, where it ends on the payload's constant. The record
+/// has at least one sample.
 ///
 /// # Errors
 ///
-/// The first reason, in the order of [`ReadFault`], why the record has no such reading. Where it has one,
-/// `Memory` where there is no memory for it.
+/// The first reason, in the order of [`ReadFault`], why the record has no such reading. Where it has one, `Memory`
+/// where there is no memory for it.
 #[tactic(auto, using(crate::proofs::Laws::refused_denies))]
 pub fn read_samples<A: Allocator + Drop>(
     alloc: A,

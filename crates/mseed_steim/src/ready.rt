@@ -32,7 +32,7 @@ impl Model for Ready {
 }
 
 impl Ready {
-    /// None.
+    /// Returns a room in which nothing is unpacked.
     pub(crate) fn new() -> Self
         ensures { result ≡ [] }
     {
@@ -43,14 +43,14 @@ impl Ready {
         }
     }
 
-    /// Those that aren't given yet.
+    /// Returns the differences that aren't given yet.
     pub(crate) fn as_slice(&self) -> &[i32]
         ensures { result.now ≡ self.now }
     {
         &self.unpacked[self.given..self.count]
     }
 
-    /// Gives the next.
+    /// Returns the next difference, which is given then; `None` where all are given.
     pub(crate) fn next(&mut self) -> Option<i32>
         ensures { MatchOption result ((self.old ≡ [])
             × (self.new ≡ [])) (λ difference. self.old ≡ difference ∷ self.new) }

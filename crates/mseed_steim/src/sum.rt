@@ -21,7 +21,8 @@ pub(crate) struct Sum {
 /// The sum that a walk has come to, or what comes first in place of a sample.
 pub(crate) type Walked = Result<Sum, ReadFault>;
 
-/// One difference more. That of the first sample isn't used.
+/// Returns the sum with one difference more; that of the first sample isn't used. `Overflow` where 32 bits don't hold
+/// the sum.
 #[tactic(auto, using(crate::proofs::Rules::add_difference))]
 pub(crate) fn add_difference(difference: i32, samples: usize, sum: Sum) -> Walked
     requires { sum.met < samples }
@@ -45,7 +46,7 @@ pub(crate) fn add_difference(difference: i32, samples: usize, sum: Sum) -> Walke
     }
 }
 
-/// The sum of two numbers, which 32 bits hold.
+/// Returns the sum of two numbers, which 32 bits hold.
 #[inline(always)]
 pub(crate) fn add_near(last: i32, difference: i32) -> i32
     requires { nat_abs last + nat_abs difference < 2 ^ 31 }
@@ -54,7 +55,7 @@ pub(crate) fn add_near(last: i32, difference: i32) -> i32
     last.wrapping_add(difference)
 }
 
-/// The sum of a sample and the differences after it, while the limits of 32 bits are out of reach.
+/// Returns the sum of a sample and the differences after it, while the limits of 32 bits are out of reach.
 #[inline(always)]
 #[tactic(auto, using(crate::proofs::Rules::add_all))]
 pub(crate) fn add_all(differences: &[i32], last: i32) -> i32
@@ -68,8 +69,8 @@ pub(crate) fn add_all(differences: &[i32], last: i32) -> i32
     sum
 }
 
-/// What no sum of differences is further from 0 than: as many times the greatest of them, whatever their signs, as
-/// there are.
+/// Returns what no sum of differences is further from 0 than: as many times the greatest of them, whatever their signs,
+/// as there are.
 #[inline(always)]
 #[tactic(auto, using(crate::proofs::Rules::reach_of))]
 pub(crate) fn reach_of(differences: &[i32]) -> u64
@@ -83,7 +84,7 @@ pub(crate) fn reach_of(differences: &[i32]) -> u64
     differences.len() as u64 * u64::from(most)
 }
 
-/// The next difference of a group in the low bits of a word.
+/// Returns the difference at an index, from 0, of a group in the low bits of a word.
 #[inline(always)]
 #[tactic(auto, using(crate::proofs::Rules::next_difference))]
 pub(crate) fn next_difference(word: u32, group: Group, index: u32) -> i32
@@ -94,7 +95,7 @@ pub(crate) fn next_difference(word: u32, group: Group, index: u32) -> i32
     read_digit(word, group.width, group.count - 1 - index)
 }
 
-/// The sum where no difference is left: short, unless all samples have been met.
+/// Returns the sum where no difference is left; `Short` unless all samples have been met.
 #[inline]
 #[tactic(auto, using(crate::proofs::Folds::fold_ended, crate::proofs::Folds::fold_enough))]
 pub(crate) fn all_met(samples: usize, sum: Sum) -> Walked

@@ -49,7 +49,7 @@ struct Unpacking {
     spare: u128,
 }
 
-/// A row of so many differences.
+/// A row, by the number of its differences.
 macro_rules! row {
     ($count:literal, $width:literal, $lifts:expr) => {
         Unpacking {
@@ -126,7 +126,7 @@ pub(crate) enum Widest {
     Bits32,
 }
 
-/// How many differences a word of a row has; 128 where it is bad, or has one that is wider.
+/// Returns how many differences a word has, by its row; 128 where it is bad, or has one that is wider.
 #[inline(always)]
 fn counts_of(scheme: Scheme, widest: Widest) -> Rows
     ensures counts { result ≡ counts_up_to widest scheme }
@@ -144,7 +144,7 @@ fn counts_of(scheme: Scheme, widest: Widest) -> Rows
     }
 }
 
-/// How a word of a row is unpacked.
+/// Returns how a word of a row is unpacked.
 #[inline(always)]
 fn unpacking_of(scheme: Scheme, row: usize) -> &'static Unpacking
     requires { row < 16 }
@@ -159,7 +159,7 @@ fn unpacking_of(scheme: Scheme, row: usize) -> &'static Unpacking
     }
 }
 
-/// How many lanes a word has.
+/// Returns how many lanes a word has.
 #[inline(always)]
 pub(crate) fn lanes_of(scheme: Scheme) -> usize
     ensures { result ≡ lanes_of scheme }
@@ -170,7 +170,7 @@ pub(crate) fn lanes_of(scheme: Scheme) -> usize
     }
 }
 
-/// A difference that is lifted to the top of 32 bits, and let down.
+/// Returns a difference of a word, which is lifted to the top of 32 bits, and let down.
 #[inline(always)]
 #[tactic(auto, using(crate::proofs::Rules::digit_shifted))]
 fn digit_by(word: u32, lift: u32, fall: u32) -> i32
@@ -181,7 +181,7 @@ fn digit_by(word: u32, lift: u32, fall: u32) -> i32
     word.wrapping_mul(lift).cast_signed() >> fall
 }
 
-/// The differences of a word, from a place on.
+/// Puts the differences of a word from place `at` on, in `lanes` lanes; what stands after the last of them is open.
 #[inline(always)]
 #[tactic(auto, using(crate::proofs::Rules::spread))]
 fn spread(word: u32, by: &Unpacking, lanes: usize, at: usize, differences: &mut [i32])
@@ -196,7 +196,7 @@ fn spread(word: u32, by: &Unpacking, lanes: usize, at: usize, differences: &mut 
     }
 }
 
-/// The row of a word.
+/// Returns the row of a word.
 #[inline(always)]
 fn row_in(rows: &[u64; 2], word: usize) -> usize
     requires { word < 16 }
@@ -205,7 +205,7 @@ fn row_in(rows: &[u64; 2], word: usize) -> usize
     ((rows[word / 8] >> (8 * (word % 8))) & 15) as usize
 }
 
-/// Four words, the highest byte of each first.
+/// Returns the four words of these bytes, the highest byte of each first.
 #[inline(always)]
 fn four_words(bytes: u8x16) -> [u32; 4]
     ensures { (byte : ℕ → ℕ) → ((place : ℕ) → byte place < 256) → bytes ≡ map byte words
@@ -216,7 +216,7 @@ fn four_words(bytes: u8x16) -> [u32; 4]
     u32x4::from_le_bytes(swapped).to_array()
 }
 
-/// The words of a frame.
+/// Returns the words of a frame.
 #[inline(always)]
 fn words_of(frame: &[u8; 64]) -> [u32; 16]
     ensures { result ≡ map (word_at frame.now) words }
@@ -231,7 +231,7 @@ fn words_of(frame: &[u8; 64]) -> [u32; 16]
     ]
 }
 
-/// The differences of five words of these rows, put after those that there are: how many there are then.
+/// Puts the differences of five words of these rows after those that there are, and returns how many there are then.
 #[inline(always)]
 #[tactic(auto, using(crate::proofs::Rules::unpack_five))]
 fn unpack_five(
@@ -261,7 +261,8 @@ fn unpack_five(
     met
 }
 
-/// The differences of the words of these rows, in their order, with so many lanes for each: how many there are.
+/// Puts the differences of the words of these rows, in their order, with `lanes` lanes for each, and returns how many
+/// there are.
 #[inline(always)]
 #[tactic(auto, using(crate::proofs::FrameUnpacked::unpacked_fives))]
 fn unpack_all(
@@ -284,8 +285,8 @@ fn unpack_all(
     unpack_five(scheme, lanes, bits, rows, 11, met, differences)
 }
 
-/// The differences of a frame's words of these rows, in their order: how many there are. Words without the code 3 have
-/// no more of them in Steim-2 than in Steim-1.
+/// Puts the differences of a frame's words of these rows, in their order, and returns how many there are. Words without
+/// the code 3 have no more of them in Steim-2 than in Steim-1.
 #[inline(always)]
 fn unpack_words(scheme: Scheme, frame: &[u8; 64], rows: u8x16, differences: &mut [i32]) -> usize
     requires rows { Each1 (λ r. r < 16) rows }
@@ -302,8 +303,8 @@ fn unpack_words(scheme: Scheme, frame: &[u8; 64], rows: u8x16, differences: &mut
     unpack_all(scheme, lanes_of(scheme), &bits, &rows, differences)
 }
 
-/// The differences of a frame's words from word 1, 3 or 4 on, in their order: how many there are. None where a word is
-/// bad, or a difference is wider.
+/// Puts the differences of a frame's words from word 1, 3 or 4 on, in their order, and returns how many there are;
+/// `None` where a word is bad, or a difference is wider.
 #[inline(always)]
 fn unpack_by(
     scheme: Scheme,
@@ -324,8 +325,8 @@ fn unpack_by(
     None
 }
 
-/// The differences of a frame's words from word 1, 3 or 4 on, in their order: how many there are. None where a word is
-/// bad, or a difference is wider. There is a body for each scheme, with its own table and lanes.
+/// Puts the differences of a frame's words from word 1, 3 or 4 on, in their order, and returns how many there are;
+/// `None` where a word is bad, or a difference is wider. There is a body for each scheme, with its own table and lanes.
 #[inline(always)]
 pub(crate) fn unpack_frame(
     scheme: Scheme,

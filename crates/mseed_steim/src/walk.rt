@@ -20,7 +20,8 @@ use crate::scheme::Scheme;
 use crate::sum::{Sum, Walked, add_difference, all_met, next_difference, reach_of};
 use crate::unpack::{FEW, PLACES, Room, Widest, unpack_frame};
 
-/// Keeps one sample more, by its difference; that of the first sample isn't used.
+/// Keeps one sample more, by its difference, and returns the sum after it; `Overflow` where 32 bits don't hold it. The
+/// difference of the first sample isn't used.
 #[inline(always)]
 #[tactic(auto, using(crate::proofs::Rules::keep_difference))]
 fn keep_difference<K: Keeper>(difference: i32, samples: usize, sum: Sum, out: &mut [i32]) -> Walked
@@ -36,7 +37,8 @@ fn keep_difference<K: Keeper>(difference: i32, samples: usize, sum: Sum, out: &m
     Ok(next)
 }
 
-/// Keeps the differences of a group in the low bits of a word, as far as they are needed.
+/// Keeps the differences of a group in the low bits of a word, as far as they are needed, and returns the sum after
+/// them; `Overflow` of the first sample that 32 bits don't hold.
 #[inline(always)]
 #[tactic(auto, using(crate::proofs::Rules::keep_group))]
 fn keep_group<K: Keeper>(
@@ -59,7 +61,8 @@ fn keep_group<K: Keeper>(
     Ok(sum)
 }
 
-/// Keeps the differences of a word, as far as they are needed.
+/// Keeps the differences of a word, as far as they are needed, and returns the sum after them, or what comes first in
+/// place of a sample.
 #[inline(always)]
 #[tactic(auto, using(crate::proofs::Folds::bad_word))]
 fn keep_word<K: Keeper>(
@@ -82,7 +85,8 @@ fn keep_word<K: Keeper>(
     }
 }
 
-/// Keeps the differences of some words, as far as they are needed.
+/// Keeps the differences of some words, as far as they are needed, and returns the sum after them, or what comes first
+/// in place of a sample.
 #[cold]
 #[tactic(auto, using(std::proofs::lemmas::Result::err_from_is_err_and))]
 fn keep_words<K: Keeper>(
@@ -103,7 +107,8 @@ fn keep_words<K: Keeper>(
     Ok(sum)
 }
 
-/// Keeps differences that are all needed, as far as no sum leaves 32 bits.
+/// Keeps differences that are all needed, and returns the sum after them; `Overflow` of the first sample that 32 bits
+/// don't hold.
 #[inline(always)]
 #[tactic(auto, using(crate::proofs::Rules::keep_checked))]
 fn keep_checked<K: Keeper>(differences: &[i32], samples: usize, sum: Sum, out: &mut [i32]) -> Walked
@@ -119,7 +124,8 @@ fn keep_checked<K: Keeper>(differences: &[i32], samples: usize, sum: Sum, out: &
     Ok(sum)
 }
 
-/// Keeps the first of some differences of any width, as far as they are needed.
+/// Keeps the first `count` differences, of any width, as far as they are needed, and returns the sum after them;
+/// `Overflow` of the first sample that 32 bits don't hold.
 fn keep_unpacked<K: Keeper>(
     differences: &mut Room,
     count: usize,
@@ -140,7 +146,7 @@ fn keep_unpacked<K: Keeper>(
 }
 
 /// Keeps the differences of a frame that isn't taken at once, as far as they are needed: unpacked, or word by word
-/// where few are needed or a word is bad.
+/// where few are needed or a word is bad. Returns the sum after them, or what comes first in place of a sample.
 pub(crate) fn keep_in_room<K: Keeper>(
     task: Task,
     payload: &[u8],
@@ -171,6 +177,7 @@ pub(crate) fn keep_in_room<K: Keeper>(
 }
 
 /// Keeps the differences of a frame that isn't taken at once, in a room of its own where there is none for them.
+/// Returns the sum after them, or what comes first in place of a sample.
 #[cold]
 fn keep_other<K: Keeper>(
     task: Task,
@@ -189,8 +196,8 @@ fn keep_other<K: Keeper>(
     }
 }
 
-/// Whether a word has one difference alone. It may have 30 or 32 bits, and no frame is taken at once that has such a
-/// one.
+/// Returns whether a word has one difference alone. It may have 30 or 32 bits, and no frame is taken at once that has
+/// such a one.
 #[inline(always)]
 fn is_single(scheme: Scheme, word: Word) -> bool
     ensures { OnTrue result ((d : ℤ) × ((rest : List DataWord)
@@ -202,7 +209,8 @@ fn is_single(scheme: Scheme, word: Word) -> bool
     }
 }
 
-/// How a walk begins: at the first sample, which is kept at once where a word has its difference alone.
+/// Returns the sum at which a walk begins: before the first sample, or after it, where a word has its difference alone;
+/// the sample is kept at once then.
 #[inline(always)]
 fn begin<K: Keeper>(task: Task, payload: &[u8], first: i32, out: &mut [i32]) -> Sum
     requires some { 0 < task.samples }
@@ -223,9 +231,9 @@ fn begin<K: Keeper>(task: Task, payload: &[u8], first: i32, out: &mut [i32]) -> 
     start
 }
 
-/// The sum of so many samples, of which this is the first, with what is kept of each put in its place; or what comes
-/// first in place of one. Frames are taken at once, where that can't go wrong; else difference by difference, and where
-/// a word is bad or few are needed, word by word.
+/// Returns the sum of a task's samples, of which `first` is the first one, with what is kept of each put in its place;
+/// or what comes first in place of one. Frames are taken at once, where that can't go wrong; else difference by
+/// difference, and where a word is bad or few are needed, word by word.
 #[inline(always)]
 #[tactic(auto, using(crate::proofs::Rules::walk))]
 pub(crate) fn walk<K: Keeper>(
@@ -265,7 +273,8 @@ pub(crate) fn walk<K: Keeper>(
     all_met(task.samples, sum)
 }
 
-/// What comes first in place of one of so many differences, where any does, whatever they add up to.
+/// Returns what comes first in place of one of `samples` differences, whatever they add up to; `None` where nothing
+/// does.
 #[tactic(auto, using(crate::proofs::Walking::no_items))]
 pub(crate) fn find_lack(payload: &[u8], scheme: Scheme, samples: usize) -> Option<ReadFault>
     requires { 0 < samples }

@@ -12,7 +12,7 @@ use arrayvec::ArrayVec;
 #[derive(Clone, Copy, Debug, PartialEq, Eq)]
 pub struct BadWord;
 
-/// The digit of `width` bits at a place of a word, counted from its last, in two's complement: shifted up
+/// Returns the digit of `width` bits at a place of a word, counted from its last, in two's complement: it is shifted up
 /// to the word's top, and down again.
 #[inline(always)]
 #[tactic(auto, using(crate::proofs::Rules::digit_shifted))]
@@ -24,7 +24,7 @@ pub(crate) fn read_digit(word: u32, width: u32, place: u32) -> i32
     (word << (32 - width * (place + 1))).cast_signed() >> (32 - width)
 }
 
-/// The differences of a group that stand in the low bits of a word.
+/// Returns the differences of a group that stand in the low bits of a word.
 #[tactic(auto, using(crate::proofs::Rules::differences_in))]
 pub(crate) fn differences_in(word: u32, group: Group) -> ArrayVec<i32, 7>
     ensures { result.items ≡ digits group.width word group.count }
@@ -36,8 +36,8 @@ pub(crate) fn differences_in(word: u32, group: Group) -> ArrayVec<i32, 7>
     differences
 }
 
-/// The differences that a data word of this code, 0 to 3, spells: none where the code is 0, and else those of its
-/// row of the table.
+/// Returns the differences that a data word of this code, 0 to 3, spells: none where the code is 0, and else those of
+/// its row of the table.
 ///
 /// # Errors
 ///

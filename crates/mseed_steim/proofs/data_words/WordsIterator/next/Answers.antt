@@ -1,5 +1,4 @@
-use Rattle.std.proofs.Common.{◌≡◌, ◌≢◌, suc, ◌+◌, ◌-◌, ◌*◌, ◌/◌, ◌%◌, ◌<◌, ◌∙◌, ◌^◌, ◌∷◌, arith, sym, rules}
-use Rattle.std.proofs.lemmas.Nat.{and_mask}
+use Rattle.std.proofs.Common.{◌≡◌, ◌≢◌, suc, ◌+◌, ◌-◌, ◌*◌, ◌/◌, ◌%◌, ◌<◌, ◌∙◌, ◌∷◌, arith, sym, rules}
 use Rattle.mseed_steim.specs.Frames.{data_word, word_at, words_from}
 use Rattle.mseed_steim.proofs.Walking.{words_none, words_skip, words_step}
 use Rattle.mseed_steim.proofs.data_words.WordsIterator.next.Goals.{After-read_word-bits, then-self-eq0, else-self-eq0}
@@ -40,11 +39,10 @@ returns-clause-steps c =
     let i = c.if-self-eq0.self-inside in
     let at = at_word (goal.at.returns-clause-steps c).After-read_word-bits in
     let more : i.end - i.next ≡ suc (i.end - (i.next + 1)) = omega arith in
-    let code = and_mask (i.codes / 2 ^ (30 - 2 * (i.next % 16))) 2 in
     let step : words_from i.payload.now i.next (i.end - i.next) ≡ data_word i.payload.now i.next
     ∷ words_from i.payload.now (i.next + 1) (i.end - (i.next + 1)) =
     rw more (words_step i.payload.now i.next (i.end - (i.next + 1)) at.2) in
-    rw (code, at.3, c.read_word-bits.ensures) (at.0 ∙ step)
+    rw (c.code_in-code.ensures.value, at.3, c.read_word-bits.ensures) (at.0 ∙ step)
 
 pub returns-clause-goes : goal.returns-clause-goes
 returns-clause-goes c = rw (returns-clause-steps c) (search rules)
