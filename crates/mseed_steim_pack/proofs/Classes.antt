@@ -1,16 +1,15 @@
 -- The most differences of the words that hold a size, by two tables.
 use Rattle.std.proofs.Common.{◌≡◌, ℕ, ◌+◌, ◌-◌, ◌/◌, ◌%◌, ◌^◌, ◌<◌, List, [], ◌∷◌, length, get_or, map}
-use Rattle.std.proofs.Common.{arith, refl, cond, ltb, Bool, w8, w16}
-use mir.Syntax.{Width}
-use mir.Val.{bits, hbits}
+use Rattle.std.proofs.Common.{arith, cond, ltb, w8, w16}
 use lib.Lanes.{zip2, sel_l, top, Each1}
 use lib.ListN.{replicate}
 use Rattle.std.proofs.lemmas.Bool.Decides.{nat_tests}
 use Rattle.std.proofs.lemmas.List.{length-map}
-use Rattle.std.proofs.lemmas.Simd.{Each1-weaker, Each1-zip2, Each2-splat, map-map, splat_is_map, tops_compared}
+use Rattle.std.proofs.lemmas.Simd.{Each1-weaker, Each1-zip2, Each2-splat, map-map, splat_is_map}
 use Rattle.std.proofs.lemmas.Simd.{zip2-map}
 use Rattle.std.proofs.lemmas.Simd.{zip2_splat}
 use Rattle.mseed_steim.proofs.Below.{same_below}
+use Rattle.mseed_steim_pack.proofs.Lanes.{min_maps, same_maps}
 use Rattle.mseed_steim_pack.specs.private.Ahead.{most_two}
 
 abbrev pub eighths : List ℕ
@@ -62,23 +61,6 @@ lane_two : (x : ℕ) → x < 32768
 lane_two x small = rw (narrow_is x, wide_is x) (grind (arith, nat_tests))
 
 -- in all lanes
-pub same_maps : {A : Type 0} (P : A → Type 0) (f g : A → ℕ) → ((x : A) → P x → f x ≡ g x) → (xs : List A) → Each1 P xs
-    → map f xs ≡ map g xs
-same_maps P f g same [] h = refl
-same_maps P f g same (x ∷ xs) h = cc (same x h.0, same_maps P f g same xs h.1)
-
-sel_maps : (p : ℕ → Bool) (f g : ℕ → ℕ) (xs : List ℕ)
-    → sel_l (map p xs) (map f xs) (map g xs) ≡ map (λ x. cond (p x) (f x) (g x)) xs
-sel_maps p f g [] = refl
-sel_maps p f g (x ∷ xs) = cc (sel_maps p f g xs)
-
--- the smaller of two
-min_maps : (w : Width) (f g : ℕ → ℕ) (xs : List ℕ)
-    → sel_l (map (top (hbits w)) (zip2 (λ a b. cond (ltb a b) (2 ^ bits w - 1) 0) (map f xs) (map g xs))) (map f xs)
-    (map g xs) ≡ map (λ x. cond (ltb (f x) (g x)) (f x) (g x)) xs
-min_maps w f g xs = rw (tops_compared w ltb (map f xs) (map g xs), zip2-map ltb f g xs)
-    (sel_maps (λ x. ltb (f x) (g x)) f g xs)
-
 pub eighths_read : (n : ℕ) (xs : List ℕ) → length xs ≡ n
     → sel_l (map (top 15) (zip2 (λ a b. cond (ltb a b) 65535 0) (zip2 (λ a b. a / 2 ^ b) xs (replicate n 3))
     (replicate n 255))) (zip2 (λ a b. a / 2 ^ b) xs (replicate n 3)) (replicate n 255) ≡ map eighth xs

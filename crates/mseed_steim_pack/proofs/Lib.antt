@@ -8,6 +8,7 @@ pub mod Firsts
 pub mod Fewest
 pub mod Written
 pub mod Filling
+pub mod Lanes
 pub mod Sizes
 pub mod Layouts
 pub mod Held

@@ -3,13 +3,12 @@ use Rattle.std.proofs.Common.{◌≡◌, ℕ, ◌+◌, ◌-◌, ◌*◌, ◌/◌
 use Rattle.std.proofs.Common.{get_or, ℤ, pos, arith, refl, ap, sym, ◌∙◌, subst, All, ⊎_elim, Some, length-append}
 use Rattle.std.proofs.Common.{Result, Err, ◌↔◌}
 use Rattle.std.proofs.lemmas.Bool.{cases_lt}
-use Rattle.std.proofs.lemmas.List.{length_push, drop-drop, length-take-le, length-drop, take_more, get_or-take}
+use Rattle.std.proofs.lemmas.List.{length_push, drop-drop, length-take-le, length-drop}
 use Rattle.std.proofs.lemmas.List.{get_or-drop, append_cancel_right, drop-append-le, take-append-le, take-append-drop}
 use Rattle.std.proofs.lemmas.List.{append_assoc}
-use Rattle.std.proofs.lemmas.List.Elements.{All-get_or, All-cons, All-nil}
 use Rattle.mseed_steim.specs.declared.scheme.Scheme.{Scheme}
 use Rattle.mseed_steim.specs.declared.scheme.Scheme.TheVariants.{One, Two}
-use Rattle.mseed_steim.specs.Spelling.{Spells, IsWithin, positional}
+use Rattle.mseed_steim.specs.Spelling.{IsWithin, positional}
 use Rattle.mseed_steim.specs.Frames.{DataWord}
 use Rattle.mseed_steim.specs.Runs.{SpellsRun}
 use Rattle.mseed_steim.proofs.Words.{positional_lt}
@@ -18,6 +17,7 @@ use Rattle.mseed_steim_pack.specs.declared.row.WordFormat.{WordFormat}
 use Rattle.mseed_steim_pack.specs.declared.pack.TooLargeAt.{TooLargeAt}
 use Rattle.mseed_steim_pack.specs.Packing.{CanSpell, IsFullest, PacksRun, IsTooLargeAt, IsFirstTooLarge, LeavesRoom}
 use Rattle.mseed_steim_pack.specs.private.Rows.{row_with, row_for, NoneSpelled, IsBestRow}
+use Rattle.mseed_steim_pack.proofs.Bits.{prefix_within}
 use Rattle.mseed_steim_pack.proofs.Rows.{FitsRow, row_is, row_spells, fits_spelled, spelled_fits, narrower_by}
 
 -- the word of the best row
@@ -25,50 +25,38 @@ seven_plain : (r : WordFormat) (ds : List ℤ) → row_for Two 7 ≡ Some r → 
     → (r.dnib * 2 ^ 30 + positional r.width ds) / 2 ^ 28 % 4 ≡ 0
 seven_plain r ds e long = search (arith, positional_lt)
 
-pub is_fullest : (s : Scheme) (ds : List ℤ) (r : WordFormat) (word : ℕ) → row_for s r.count ≡ Some r
-    → r.count ≤ length ds
-    → All (IsWithin r.width) (take r.count ds) → NoneSpelled s ds r.count (length ds)
+pub is_fullest : (s : Scheme) (ds : List ℤ) (r : WordFormat) (word : ℕ) → IsBestRow s ds (length ds) (Some r)
     → word ≡ r.dnib * 2 ^ 30 + positional r.width (take r.count ds) → IsFullest s ds r.code word r.count
-is_fullest s ds r word found in' range none e =
-    let is = row_is s r.count r found in
-    let long : length (take r.count ds) ≡ r.count = length-take-le r.count ds in' in record {
-      some = is.0.some;
-      inside = in';
-      spelled = rw e (row_spells s r.count r (take r.count ds) found long range);
-      plain = λ two seven. rw e
-          (seven_plain r (take r.count ds)
-          (subst (λ (n : ℕ). row_for Two n ≡ Some r) seven
-          (subst (λ (x : Scheme). row_for x r.count ≡ Some r) two found)) (long ∙ seven));
-      largest = none;
+is_fullest s ds r word best e =
+    let long : length (take r.count ds) ≡ r.count = length-take-le r.count ds best.1 in record {
+      some = (row_is s r.count r best.0).0.some;
+      inside = best.1;
+      spelled = rw e (row_spells s r.count r (take r.count ds) best.0 long best.2);
+      plain = λ two seven. rw e (seven_plain r (take r.count ds)
+          (subst (λ (n : ℕ). row_for Two n ≡ Some r) seven (rw two at best.0)) (long ∙ seven));
+      largest = best.3;
     }
 
 -- a word of Steim-2 has 30 bits at the most for a difference
 fits_thirty : (ds : List ℤ) → FitsRow Two ds → 0 < length ds → All (IsWithin 30) ds
 fits_thirty ds f h = search (arith, narrower_by, within_wider)
 
-pub taken_thirty : (ds : List ℤ) (code word used k : ℕ) → IsFullest Two ds code word used → k < used
-    → IsWithin 30 (get_or ds k (pos 0))
-taken_thirty ds code word used k full h =
-    let long : length (take used ds) ≡ used = length-take-le used ds full.inside in
-    let some : 0 < length (take used ds) = omega (arith, long, full.some) in
-    let range = fits_thirty (take used ds) (spelled_fits Two (take used ds) some (code, (word, full.spelled))) some in
-    let inside : k < length (take used ds) = omega (arith, long, h) in
-    rw (get_or-take used ds k (pos 0) h) at (All-get_or (IsWithin 30) (take used ds) k (pos 0) inside range)
-
 pub fullest_not_large : (s : Scheme) (ds : List ℤ) (code word used k : ℕ) → IsFullest s ds code word used → k < used
     → ¬ (IsTooLargeAt s ds k)
 fullest_not_large s ds code word used k full h large =
-    large.2 (taken_thirty ds code word used k (subst (λ (x : Scheme). IsFullest x ds code word used) large.1 full) h)
+    let long : length (take used ds) ≡ used = length-take-le used ds full.inside in
+    let fits = spelled_fits s (take used ds) (omega (arith, long, full.some)) (code, (word, full.spelled)) in
+    let range = fits_thirty (take used ds) (rw large.1 at fits) (omega (arith, long, full.some)) in
+    large.2 ((prefix_within 30 used ds full.inside).0 range k h)
 
 -- where no word spells the first difference, it's too large for Steim-2
 one_row : (s : Scheme) (ds : List ℤ) (r : WordFormat) → row_for s 1 ≡ Some r → 0 < length ds
     → IsWithin r.width (get_or ds 0 (pos 0)) → CanSpell s (take 1 ds)
-one_row s ds r e h fit =
-    let long : length (take 1 ds) ≡ 1 = length-take-le 1 ds h in
-    let prefix : take (0 + 1) ds ≡ take 0 ds ++ get_or ds 0 (pos 0) ∷ [] = take_more ds 0 (pos 0) h in
-    let range : All (IsWithin r.width) (take 1 ds) =
-    rw prefix (All-cons (IsWithin r.width) (get_or ds 0 (pos 0)) [] fit (All-nil (IsWithin r.width))) in
-    fits_spelled s (take 1 ds) (record { row = r; found = rw long e; range = range })
+one_row s ds r e h fit = fits_spelled s (take 1 ds) (record {
+  row = r;
+  found = rw (length-take-le 1 ds h) e;
+  range = (prefix_within r.width 1 ds h).1 (λ j less. let none : j ≡ 0 = omega (arith, less) in rw none fit);
+})
 
 pub none_large : (s : Scheme) (ds : List ℤ) → 0 < length ds → IsWithin 32 (get_or ds 0 (pos 0))
     → NoneSpelled s ds 0 (length ds) → IsTooLargeAt s ds 0
@@ -90,13 +78,7 @@ rest_shorter s (w ∷ ws) ds rest run =
 -- one more word
 pub run_more : (s : Scheme) (ws : List DataWord) (w : DataWord) (ds mid : List ℤ) (used : ℕ) → PacksRun s ws ds mid
     → IsFullest s mid w.code w.bits used → PacksRun s (ws ++ w ∷ []) ds (drop used mid)
-run_more s [] w ds mid used run full = (
-  used,
-  (
-    subst (λ (xs : List ℤ). IsFullest s xs w.code w.bits used) (sym run) full,
-    ap (λ (xs : List ℤ). drop used xs) run,
-  ),
-)
+run_more s [] w ds mid used run full = (used, (rw run full, ap (λ (xs : List ℤ). drop used xs) run))
 run_more s (v ∷ ws) w ds mid used run full = (run.0, (run.1.0, run_more s ws w (drop run.0 ds) mid used run.1.1 full))
 
 -- what is packed is spelled
@@ -113,9 +95,8 @@ pub prefix_spelled : (s : Scheme) (ws : List DataWord) (ds : List ℤ) (used : �
     → SpellsRun s ws (take used ds)
 prefix_spelled s ws ds used run =
     let found = run_spelled s ws ds (drop used ds) run in
-    let same : found.0 ≡ take used ds =
-    append_cancel_right found.0 (take used ds) (drop used ds) (sym found.1.0 ∙ sym (take-append-drop used ds)) in
-    subst (λ (xs : List ℤ). SpellsRun s ws xs) same found.1.1
+    rw (append_cancel_right found.0 (take used ds) (drop used ds) (sym found.1.0 ∙ sym (take-append-drop used ds))) at
+    found.1.1
 
 -- it's a packing of those differences alone, too
 prefix_fullest : (s : Scheme) (prefix rest : List ℤ) (code word used : ℕ) → IsFullest s (prefix ++ rest) code word used
@@ -123,10 +104,10 @@ prefix_fullest : (s : Scheme) (prefix rest : List ℤ) (code word used : ℕ) �
 prefix_fullest s prefix rest code word used full h = record {
   some = full.some;
   inside = h;
-  spelled = subst (λ (xs : List ℤ). Spells s code word xs) (take-append-le used prefix rest h) full.spelled;
+  spelled = rw (take-append-le used prefix rest h) at full.spelled;
   plain = full.plain;
   largest = λ k more less can. full.largest k more (omega (arith, less, length-append prefix rest))
-      (subst (λ (xs : List ℤ). CanSpell s xs) (sym (take-append-le k prefix rest less)) can);
+      (rw (take-append-le k prefix rest less) can);
 }
 
 pub run_prefix : (s : Scheme) (ws : List DataWord) (prefix rest : List ℤ) → PacksRun s ws (prefix ++ rest) rest
@@ -137,13 +118,8 @@ run_prefix s (w ∷ ws) prefix rest run =
     let inside = run.1.0.inside in
     let less : run.0 ≤ length prefix =
     omega (arith, later, inside, length-drop run.0 (prefix ++ rest), length-append prefix rest) in
-    let cut : drop run.0 (prefix ++ rest) ≡ drop run.0 prefix ++ rest = drop-append-le run.0 prefix rest less in (
-      run.0,
-      (
-        prefix_fullest s prefix rest w.code w.bits run.0 run.1.0 less,
-        run_prefix s ws (drop run.0 prefix) rest (subst (λ (xs : List ℤ). PacksRun s ws xs rest) cut run.1.1),
-      ),
-    )
+    let first = prefix_fullest s prefix rest w.code w.bits run.0 run.1.0 less in
+    (run.0, (first, run_prefix s ws (drop run.0 prefix) rest (rw (drop-append-le run.0 prefix rest less) at run.1.1)))
 
 -- none of the differences that words accepted is too large
 large_later : (s : Scheme) (ds : List ℤ) (used k : ℕ) → used ≤ k → IsTooLargeAt s ds k
@@ -180,15 +156,9 @@ least_more ds used words r run best =
       code = r.code;
       bits = r.dnib * 2 ^ 30 + positional r.width (take r.count (drop used ds));
     } in
-    let full : IsFullest Two (drop used ds) w.code w.bits r.count =
-    is_fullest Two (drop used ds) r w.bits best.0 best.1 best.2 best.3 refl in (
-      run.0 ++ w ∷ [],
-      (
-        length_push run.0 w ∙ ap (λ (n : ℕ). n + 1) run.1.0,
-        subst (λ (xs : List ℤ). PacksRun Two (run.0 ++ w ∷ []) ds xs) (drop-drop r.count used ds)
-            (run_more Two run.0 w ds (drop used ds) r.count run.1.1 full),
-      ),
-    )
+    let more = run_more Two run.0 w ds (drop used ds) r.count run.1.1
+    (is_fullest Two (drop used ds) r w.bits best refl) in
+    (run.0 ++ w ∷ [], (omega (arith, length_push run.0 w, run.1.0), rw drop-drop at more))
 
 -- a fault names one place
 pub same_index : (T : Type 0) (a b : ℕ)

@@ -1,15 +1,12 @@
 -- The rows of the table, by how many differences they have, and what words of them spell.
-use Rattle.std.proofs.Common.{◌≡◌, ◌≢◌, ℕ, ◌+◌, ◌*◌, ◌^◌, ◌<◌, ◌≤◌, ◌/◌, ◌%◌, List, [], ◌∷◌, ◌++◌, length, ℤ}
+use Rattle.std.proofs.Common.{◌≡◌, ◌≢◌, ℕ, ◌+◌, ◌*◌, ◌^◌, ◌<◌, ◌≤◌, ◌/◌, ◌%◌, List, [], ◌∷◌, length, ℤ}
 use Rattle.std.proofs.Common.{sym, ◌∙◌, subst, All, ⊎_elim, ◌⊎◌, cond, eqb, Option, Some, None, arith, refl, ap}
-use Rattle.std.proofs.Common.{length-append, Bool, true, false, T, ◌&&◌, ◌||◌, ltb, not}
-use Rattle.std.specs.List.{list_all}
+use Rattle.std.proofs.Common.{Bool, true, false, T, not}
+use Rattle.std.specs.List.{AllByRecursion}
 use lib.Dec.{leb}
 use Rattle.std.proofs.Math.Dec.{leb→le}
-use mir.ValLaws.{and_both}
 use Rattle.std.proofs.lemmas.Bool.{cases_eq, ne_eqb, eq-eqb}
 use Rattle.std.proofs.lemmas.Bool.Decides.{nat_tests}
-use Rattle.std.proofs.lemmas.List.{take_at, drop_at}
-use Rattle.std.proofs.lemmas.List.Elements.{All-take, All-drop}
 use Rattle.mseed_steim.specs.declared.scheme.Scheme.{Scheme}
 use Rattle.mseed_steim.specs.declared.scheme.Scheme.TheVariants.{One, Two}
 use Rattle.mseed_steim.specs.Groups.{Group, group_of}
@@ -21,17 +18,14 @@ use Rattle.mseed_steim_pack.specs.declared.row.WordFormat.{WordFormat}
 use Rattle.mseed_steim_pack.specs.Packing.{CanSpell}
 use Rattle.mseed_steim_pack.specs.private.Rows.{row_with, row_in, rows_of, row_for}
 
--- what a test says of each row of a table it says of the one of a count, which has that count
-pub found_by : (p : WordFormat → Bool) (rows : List WordFormat) → T (list_all p rows) → (k : ℕ) (r : WordFormat)
-    → row_in rows k ≡ Some r
-    → T (p r) × (r.count ≡ k)
-found_by p [] h k r e = cc
-found_by p (q ∷ rows) h k r e =
-    let both = and_both (p q) (list_all p rows) h in
-    ⊎_elim
+-- what holds of each row of a table holds of the one of a count, which has that count
+pub found_in : (P : WordFormat → Type 0) (rows : List WordFormat) → AllByRecursion P rows → (k : ℕ) (r : WordFormat)
+    → row_in rows k ≡ Some r → P r × (r.count ≡ k)
+found_in P [] all k r e = cc
+found_in P (q ∷ rows) all k r e = ⊎_elim
     (λ (same : k ≡ q.count). let one : q ≡ r = cc (rw (eq-eqb k q.count same) at e) in
-    (subst (λ (x : WordFormat). T (p x)) one both.0, ap (λ (x : WordFormat). x.count) (sym one) ∙ sym same))
-    (λ (other : k ≢ q.count). found_by p rows both.1 k r (rw (ne_eqb k q.count other) at e)) (cases_eq k q.count)
+    (subst P one all.0, ap (λ (x : WordFormat). x.count) (sym one) ∙ sym same))
+    (λ (other : k ≢ q.count). found_in P rows all.1 k r (rw (ne_eqb k q.count other) at e)) (cases_eq k q.count)
 
 -- what the numbers of a row are
 pub record IsRow (r : WordFormat) : Type 0 where
@@ -44,21 +38,16 @@ pub record IsRow (r : WordFormat) : Type 0 where
   pub room : r.width * r.count ≤ 32
   pub apart : 0 < r.dnib → r.width * r.count ≤ 30
 
-abbrev is_sized : WordFormat → Bool
-is_sized r =
-    ltb r.code 4 && (ltb r.dnib 4 && (ltb 0 r.count && (ltb r.count 8 && (ltb 0 r.width && (ltb r.width 33
-    && ltb (r.width * r.count) (cond (eqb r.dnib 0) 33 31))))))
-
-sized : (r : WordFormat) → T (is_sized r) → IsRow r
-sized r h = grind (arith, nat_tests)
-
 -- what stands in the table by count is a row of the table
 pub row_is : (s : Scheme) (k : ℕ) (r : WordFormat) → row_for s k ≡ Some r → IsRow r × (r.count ≡ k)
-row_is s k r e = search (arith, found_by, sized)
+row_is One k r e = found_in IsRow (rows_of One) (omega arith) k r e
+row_is Two k r e = found_in IsRow (rows_of Two) (omega arith) k r e
 
--- a word of Steim-1 has four differences at the most
-pub four_at_most : (k : ℕ) (r : WordFormat) → row_for One k ≡ Some r → k ≤ 4
-four_at_most k r e = search (arith, found_by)
+-- a word of Steim-1 has four differences at the most, and not three
+pub four_at_most : (k : ℕ) (r : WordFormat) → row_for One k ≡ Some r → (k ≤ 4) × (k ≢ 3)
+four_at_most k r e =
+    let found = found_in (λ r. (r.count ≤ 4) × (r.count ≢ 3)) (rows_of One) (omega arith) k r e in
+    rw found.1 at found.0
 
 -- Each group of the table has a row of its count and width, with its code, and with its dnib where one is marked.
 record HasRow (s : Scheme) (c d : ℕ) (g : Group) : Type 0 where
@@ -121,11 +110,8 @@ group_by r = record {
 
 has_group : (s : Scheme) (k : ℕ) (r : WordFormat) → row_for s k ≡ Some r
     → (group_of s r.code r.dnib ≡ Some (group_by r))
-    × (cond (group_by r).marked (r.dnib * 2 ^ 30) 0 ≡ r.dnib * 2 ^ 30)
+    × (cond (group_by r).marked (r.dnib * 2 ^ 30) 0 ≡ r.dnib * 2 ^ 30) × (0 < (group_by r).spare)
 has_group s k r e = search (arith)
-
-spare_some : (b : Bool) → 0 < cond b 4 1
-spare_some b = search (arith)
 
 pub row_spells : (s : Scheme) (k : ℕ) (r : WordFormat) (ds : List ℤ) → row_for s k ≡ Some r → length ds ≡ k
     → All (IsWithin r.width) ds → Spells s r.code (r.dnib * 2 ^ 30 + positional r.width ds) ds
@@ -134,7 +120,7 @@ row_spells s k r ds found long range =
     Spells.row (group_by r) r.dnib is.0 (record {
       count = long ∙ sym (row_is s k r found).1;
       range = range;
-      sum = (0, spare_some (eqb r.count 7), rw is.1 (omega arith));
+      sum = (0, is.2, rw is.1 (omega arith));
     })
 
 pub fits_spelled : (s : Scheme) (ds : List ℤ) → FitsRow s ds → CanSpell s ds
@@ -159,24 +145,18 @@ narrower_by k j r some less e = search (arith, all_below, every_below, found_wid
 pub pair_wider : (s : Scheme) (k : ℕ) (r : WordFormat) → 1 < k → row_for s k ≡ Some r
     → (w : WordFormat) × ((row_for s 2 ≡ Some w) × (r.width ≤ w.width))
 pair_wider One k r some e =
-    let found = found_by (λ r. ltb r.count 2 || ltb r.width 17) (rows_of One) tt k r e in
-    (row_with 2 0 2 16, (refl, grind (arith, nat_tests, found.0, found.1)))
+    let found = found_in (λ r. 2 ≤ r.count → r.width ≤ 16) (rows_of One) (omega arith) k r e in
+    (row_with 2 0 2 16, (refl, found.0 (omega (arith, found.1, some))))
 pair_wider Two k r some e = narrower_by k 2 r (omega arith) (omega (arith, some)) e
 
--- A run of neighbours of a list that a Steim-2 word spells is spelled by some word.
-pub part_spelled : (xs ys zs : List ℤ) → 0 < length ys → CanSpell Two (xs ++ (ys ++ zs)) → CanSpell Two ys
-part_spelled xs ys zs h can =
-    let long : length (xs ++ (ys ++ zs)) ≡ length xs + (length ys + length zs) = length-append xs (ys ++ zs)
-    ∙ ap (λ (n : ℕ). length xs + n) (length-append ys zs) in
-    let whole = spelled_fits Two (xs ++ (ys ++ zs)) (omega (arith, long, h)) can in
-    let wider = narrower_by (length (xs ++ (ys ++ zs))) (length ys) whole.row h (omega (arith, long)) whole.found in
-    let behind : All (IsWithin whole.row.width) (ys ++ zs) =
-    rw (drop_at xs (ys ++ zs) (length xs) refl) at
-    (All-drop (IsWithin whole.row.width) (length xs) (xs ++ (ys ++ zs)) whole.range) in
-    let part : All (IsWithin whole.row.width) ys =
-    rw (take_at ys zs (length ys) refl) at (All-take (IsWithin whole.row.width) (length ys) (ys ++ zs) behind) in
-    fits_spelled Two ys (record {
+-- Where a Steim-2 word spells some differences, some word spells fewer of no more bits.
+pub fewer_spelled : (ds part : List ℤ) → 0 < length part → length part ≤ length ds
+    → ((w : ℕ) → All (IsWithin w) ds → All (IsWithin w) part) → CanSpell Two ds → CanSpell Two part
+fewer_spelled ds part some less range can =
+    let whole = spelled_fits Two ds (omega (arith, some, less)) can in
+    let wider = narrower_by (length ds) (length part) whole.row some less whole.found in
+    fits_spelled Two part (record {
       row = wider.0;
       found = wider.1.0;
-      range = all_wider whole.row.width wider.0.width ys wider.1.1 part;
+      range = all_wider whole.row.width wider.0.width part wider.1.1 (range whole.row.width whole.range);
     })

@@ -1,8 +1,9 @@
 -- Sizes in lanes, and how many differences of such sizes a word holds.
 use Rattle.std.proofs.Common.{◌≡◌, ℕ, zero, suc, ◌+◌, ◌-◌, ◌*◌, ◌%◌, ◌<◌, ◌≤◌, List, [], ◌∷◌, length, take}
-use Rattle.std.proofs.Common.{get_or, map, arith, refl, ap, sym, ◌∙◌, subst, ⊎_elim, cond, ltb, to_z, w8, w16, Bool}
-use Rattle.std.proofs.Common.{drop, false, min, max, length-append}
-use Rattle.std.proofs.lemmas.List.{length-map, take_rest, drop_all, append-nil, get_or_append_left, get_or-append_right}
+use Rattle.std.proofs.Common.{get_or, map, arith, refl, ap, sym, ◌∙◌, ⊎_elim, cond, ltb, to_z, w8, w16, Bool}
+use Rattle.std.proofs.Common.{drop, false, min, max, length-append, zero-add}
+use Rattle.std.proofs.lemmas.List.{length-map, map-id, take_rest, drop_all, append-nil, get_or_append_left}
+use Rattle.std.proofs.lemmas.List.{get_or-append_right}
 use Rattle.std.proofs.lemmas.List.{get_or-take, get_or-drop, get_or-map, length-take-le, length-drop}
 use lib.Signed.{lt_z}
 use lib.Dec.{leb}
@@ -45,20 +46,8 @@ raised_small f limit b h x = search (arith)
 pub two_1 : (x : ℕ) → raised (λ _. 1) 16384 x ≤ 2
 two_1 = raised_small (λ _. 1) 16384 1 (λ x. omega arith)
 
-pub two_2 : (x : ℕ) → raised (raised (λ _. 1) 16384) 512 x ≤ 3
-two_2 = raised_small _ 512 2 two_1
-
-pub two_3 : (x : ℕ) → raised (raised (raised (λ _. 1) 16384) 512) 128 x ≤ 4
-two_3 = raised_small _ 128 3 two_2
-
-pub two_4 : (x : ℕ) → raised (raised (raised (raised (λ _. 1) 16384) 512) 128) 32 x ≤ 5
-two_4 = raised_small _ 32 4 two_3
-
-pub two_5 : (x : ℕ) → raised (raised (raised (raised (raised (λ _. 1) 16384) 512) 128) 32) 16 x ≤ 6
-two_5 = raised_small _ 16 5 two_4
-
 pub two_6 : (x : ℕ) → most_two x ≤ 7
-two_6 = raised_small _ 8 6 two_5
+two_6 x = grind (arith, nat_tests)
 
 pub one_2 : (x : ℕ) → raised (raised (λ _. 1) 16384) 64 x ≤ 3
 one_2 = raised_small _ 64 2 two_1
@@ -66,16 +55,8 @@ one_2 = raised_small _ 64 2 two_1
 pub one_3 : (x : ℕ) → most_one x ≤ 4
 one_3 = raised_small _ 64 3 one_2
 
-pub each_map : (P : ℕ → Type 0) (f : ℕ → ℕ) → ((x : ℕ) → P (f x)) → (xs : List ℕ) → Each1 P (map f xs)
-each_map P f h [] = tt
-each_map P f h (x ∷ xs) = (h x, each_map P f h xs)
-
 pub same_lanes : (xs ys : List ℕ) → xs ≡ ys → map (λ x. x) xs ≡ ys
-same_lanes xs ys e = by xs ∙ e
-  where
-    by : (xs : List ℕ) → map (λ x. x) xs ≡ xs
-    by [] = refl
-    by (x ∷ xs) = let later = by xs in cc later
+same_lanes xs ys e = map-id xs ∙ e
 
 -- the greater and the smaller of two lanes
 sel_at : (xs ys us vs : List ℕ) (i : ℕ) → i < length xs → length xs ≡ length ys → length xs ≡ length us
@@ -98,14 +79,12 @@ pub lanes_bounded : (n p : ℕ) (ms hs : List ℕ) (i : ℕ) → length ms ≡ n
 lanes_bounded n p ms hs i e f inside =
     let ps = replicate n p in
     let long : length ps ≡ n = length-replicate n p in
-    let marks : length (map (top 7) (zip2 (λ a b. cond (ltb a b) 255 0) hs ps)) ≡ length hs =
-    length-map _ (top 7) ∙ length-zip2 _ hs ps (f ∙ sym long) in
-    let most = length-sel_l (map (top 7) (zip2 (λ a b. cond (ltb a b) 255 0) hs ps)) ps hs
-    (marks ∙ f ∙ sym long) marks in
+    let marks = map (top 7) (zip2 (λ a b. cond (ltb a b) 255 0) hs ps) in
+    let count : length marks ≡ n = length-map _ (top 7) ∙ length-zip2 _ hs ps (f ∙ sym long) ∙ f in
+    let most : length (sel_l marks ps hs) ≡ n = length-sel_l marks ps hs (count ∙ sym long) (count ∙ sym f) ∙ count in
     let inner = sel_at hs ps ps hs i (omega (arith, f)) (f ∙ sym long) (f ∙ sym long) refl in
-    let outer = sel_at ms (sel_l (map (top 7) (zip2 (λ a b. cond (ltb a b) 255 0) hs ps)) ps hs) ms
-    (sel_l (map (top 7) (zip2 (λ a b. cond (ltb a b) 255 0) hs ps)) ps hs) i (omega (arith, e))
-    (omega (arith, e, f, most, marks)) refl (omega (arith, e, f, most, marks)) in
+    let outer = sel_at ms (sel_l marks ps hs) ms (sel_l marks ps hs) i (omega (arith, e)) (e ∙ sym most) refl
+    (e ∙ sym most) in
     rw (outer, inner, get_or-replicate n i p 0 inside) (grind (arith, nat_tests))
 
 -- the first item is looked at, and one more
@@ -131,17 +110,13 @@ most_more items from p m n is e k =
           (cases_lt p k),
     )
 
-zero-add : (n : ℕ) → 0 + n ≡ n
-zero-add n = omega arith
-
 -- sixteen of a list, whose length is known
 pub part_at : {A : Type 0} (d : A) (n from i : ℕ) (xs : List A) → length xs ≡ n → 16 + from ≤ n → i < 16
     → get_or (chunk 0 16 (mid_of from (n - from) xs)) i d ≡ get_or xs (i + from) d
 part_at d n from i xs e room inside =
-    get_or-chunk 0 16 (take (n - from) (drop from xs)) i d inside
-    ∙ ap (λ (m : ℕ). get_or (take (n - from) (drop from xs)) m d) (zero-add i)
-    ∙ get_or-take (n - from) (drop from xs) i d (omega (arith, room, inside)) ∙ get_or-drop from xs i d
-    ∙ ap (λ (m : ℕ). get_or xs m d) (omega arith)
+    let place : from + (0 + i) ≡ i + from = omega arith in
+    let taken = get_or-take (n - from) (drop from xs) (0 + i) d (omega (arith, room, inside)) in
+    rw (get_or-chunk 0 16 (take (n - from) (drop from xs)) i d inside, taken, get_or-drop, place) refl
 
 pub length_part : {A : Type 0} (n from : ℕ) (xs : List A) → length xs ≡ n → 16 + from ≤ n
     → length (chunk 0 16 (mid_of from (n - from) xs)) ≡ 16
@@ -166,48 +141,65 @@ pub put_above : (n a i : ℕ) (xs ys : List ℕ) → length xs ≡ n → a + 16 
     → get_or (put_mid a (n - a) xs (put_chunk 0 (mid_of a (n - a) xs) ys)) i 0 ≡ get_or xs i 0
 put_above n a i xs ys e room long more = search (arith, behind, get_or-drop, get_or-put_chunk_above)
 
-pub near_part : (n from : ℕ) (xs : List ℕ) → length xs ≡ n → 16 + from ≤ n → ((i : ℕ) → i < n → get_or xs i 0 < 32768)
-    → Each1 (λ x. x < 32768) (chunk 0 16 (mid_of from (n - from) xs))
-near_part n from xs e room small =
-    let long = length_part n from xs e room in
-    Each1-from_get_or (λ x. x < 32768) (chunk 0 16 (mid_of from (n - from) xs)) 0
-    (λ i h. subst (λ (x : ℕ). x < 32768) (sym (part_at 0 n from i xs e room (omega (arith, h, long))))
-    (small (i + from) (omega (arith, h, long, room))))
+-- what holds of each of 128 holds of sixteen of them
+pub part_all : {A : Type 0} (d : A) (P : A → Type 0) (turn : ℕ) (xs : List A) → length xs ≡ 128 → turn < 8
+    → ((i : ℕ) → i < 128 → P (get_or xs i d)) → Each1 P (chunk 0 16 (mid_of (16 * turn) (128 - 16 * turn) xs))
+part_all d P turn xs told few each =
+    let room : 16 + 16 * turn ≤ 128 = omega (arith, few) in
+    let long = length_part 128 (16 * turn) xs told room in
+    Each1-from_get_or P (chunk 0 16 (mid_of (16 * turn) (128 - 16 * turn) xs)) d (λ i less.
+    rw (part_at d 128 (16 * turn) i xs told room (omega (arith, less, long)))
+    (each (i + 16 * turn) (omega (arith, less, long, room))))
 
-pub mapped_part : {A : Type 0} (d : A) (f : A → ℕ) (n from i : ℕ) (xs : List A) (ys : List ℕ) → length xs ≡ n
+mapped_part : {A : Type 0} (d : A) (f : A → ℕ) (n from i : ℕ) (xs : List A) (ys : List ℕ) → length xs ≡ n
     → 16 + from ≤ n → from ≤ i → i < from + 16 → ys ≡ map f (chunk 0 16 (mid_of from (n - from) xs))
     → get_or ys (i - from) 0 ≡ f (get_or xs i d)
 mapped_part d f n from i xs ys e room more less q = search (arith, length_part, get_or-map, part_at)
 
-pub length_lanes : {A : Type 0} (f : A → ℕ) (xs : List A) (ys : List ℕ) → ys ≡ map f xs → length xs ≡ 16
-    → length ys ≡ 16
-length_lanes f xs ys e long = ap (λ (l : List ℕ). length l) e ∙ length-map xs f ∙ long
+-- a list of 144 with sixteen lanes in the place of others
+abbrev pub with_lanes : ℕ → List ℕ → List ℕ → List ℕ
+with_lanes at xs ys = put_mid at (144 - at) xs (put_chunk 0 (mid_of at (144 - at) xs) ys)
 
 pub put_length : (n a : ℕ) (xs ys : List ℕ) → length xs ≡ n → a ≤ n
     → length (put_mid a (n - a) xs (put_chunk 0 (mid_of a (n - a) xs) ys)) ≡ n
 put_length n a xs ys e room = search (arith, length-append, length-drop, length-put_chunk, length-take-le)
 
+-- the rest of a list whose length is known
+pub rest_long : {A : Type 0} (n at : ℕ) (xs : List A) → length xs ≡ n → take (n - at) (drop at xs) ≡ drop at xs
+rest_long n at xs long = rw (← long) (take_rest xs at)
+
 -- what is the most in a part of a list is so in the whole
 pub most_later : (n a i m : ℕ) (xs zs : List ℕ) → length xs ≡ n → a ≤ i
     → ((x : ℕ) → a ≤ x → get_or xs x 0 ≡ get_or zs x 0) → IsMost (mid_of a (n - a) xs) (i - a) m → IsMost zs i m
 most_later n a i m xs zs e more rest h =
-    let all : mid_of a (n - a) xs ≡ drop a xs =
-    subst (λ (l : ℕ). take (l - a) (drop a xs) ≡ drop a xs) e (take_rest xs a) in
     let same : (j : ℕ) → get_or (mid_of a (n - a) xs) (i - a + j) 0 ≡ get_or zs (i + j) 0 = λ j.
     let place : a + (i - a + j) ≡ i + j = omega (arith, more) in
-    ap (λ (l : List ℕ). get_or l (i - a + j) 0) all ∙ get_or-drop a xs (i - a + j) 0
-    ∙ ap (λ (x : ℕ). get_or xs x 0) place ∙ rest (i + j) (omega (arith, more)) in
+    rw (rest_long n a xs e, get_or-drop, place) (rest (i + j) (omega (arith, more))) in
     λ k. (
-      λ q j less few. subst (λ (x : ℕ). k ≤ x) (same j) ((h k).0 q j less few),
-      λ each. (h k).1 (λ j less few. subst (λ (x : ℕ). k ≤ x) (sym (same j)) (each j less few)),
+      λ q j less few. rw (same j) at ((h k).0 q j less few),
+      λ each. (h k).1 (λ j less few. rw (same j) (each j less few)),
     )
 
 -- Sixteen lanes more are stored: what holds of each item before them and of each lane holds of all so far.
-pub stored : (P : ℕ → ℕ → Type 0) (n turn : ℕ) (xs ys : List ℕ) → length xs ≡ n → 16 * turn + 16 ≤ n → length ys ≡ 16
+pub stored : (P : ℕ → ℕ → Type 0) (turn : ℕ) (xs ys : List ℕ) → length xs ≡ 144 → turn < 8 → length ys ≡ 16
     → ((i : ℕ) → i < 16 * turn → P i (get_or xs i 0))
     → ((i : ℕ) → 16 * turn ≤ i → i < 16 * turn + 16 → P i (get_or ys (i - 16 * turn) 0)) → (i : ℕ) → i < 16 * (turn + 1)
-    → P i (get_or (put_mid (16 * turn) (n - 16 * turn) xs (put_chunk 0 (mid_of (16 * turn) (n - 16 * turn) xs) ys)) i 0)
-stored P n turn xs ys e room long before here i less = ⊎_elim
-    (λ (l : i < 16 * turn). rw (put_below n (16 * turn) i xs ys e (omega (arith, room)) l) (before i l))
+    → P i (get_or (with_lanes (16 * turn) xs ys) i 0)
+stored P turn xs ys e few long before here i less = ⊎_elim
+    (λ (l : i < 16 * turn). rw (put_below 144 (16 * turn) i xs ys e (omega (arith, few)) l) (before i l))
     (λ (m : 16 * turn ≤ i). let last : i < 16 * turn + 16 = omega (arith, less) in
-    rw (put_at n (16 * turn) i xs ys e room long m last) (here i m last)) (cases_lt i (16 * turn))
+    rw (put_at 144 (16 * turn) i xs ys e (omega (arith, few)) long m last) (here i m last)) (cases_lt i (16 * turn))
+
+-- so is what is found of 128 items
+pub stored_map : {A : Type 0} (d : A) (f : A → ℕ) (turn : ℕ) (xs : List A) (most ys : List ℕ) → length xs ≡ 128
+    → length most ≡ 144 → turn < 8 → ys ≡ map f (chunk 0 16 (mid_of (16 * turn) (128 - 16 * turn) xs))
+    → ((i : ℕ) → i < 16 * turn → get_or most i 0 ≡ f (get_or xs i d))
+    → (length (with_lanes (16 * turn) most ys) ≡ 144)
+    × ((i : ℕ) → i < 16 * (turn + 1) → get_or (with_lanes (16 * turn) most ys) i 0 ≡ f (get_or xs i d))
+stored_map d f turn xs most ys told room few value done =
+    let inside : 16 + 16 * turn ≤ 128 = omega (arith, few) in
+    let long : length ys ≡ 16 = rw value (length-map _ f ∙ length_part 128 (16 * turn) xs told inside) in (
+      put_length 144 (16 * turn) most ys room (omega (arith, few)),
+      stored (λ i x. x ≡ f (get_or xs i d)) turn most ys room few long done
+          (λ i more last. mapped_part d f 128 (16 * turn) i xs ys told inside more last value),
+    )

@@ -1,8 +1,9 @@
 -- Differences of samples as far as 32 bits hold them: how many, one by one, of a part, and where they are held whole.
 use Rattle.std.proofs.Common.{◌≡◌, ◌∙◌, ◌<◌, ◌≤◌, ℕ, zero, suc, ℤ, pos, ◌-ℤ◌, List, [], ◌∷◌, length, take, drop}
-use Rattle.std.proofs.Common.{◌+◌, ◌-◌, add-one, get_or, refl, ap, arith, sym, All, w32}
+use Rattle.std.proofs.Common.{◌+◌, ◌-◌, add-one, get_or, refl, ap, arith, All, w32}
 use Rattle.std.specs.Int.{int_wrap}
-use Rattle.std.proofs.lemmas.Int.{int_wrap_fits}
+use Rattle.std.proofs.lemmas.Int.{int_wrap_fits, to_z-of_z, wrapping_sub-bits}
+use Rattle.std.proofs.Common.{FitsSigned, of_z, rules, to_z, ◌%◌}
 use Rattle.std.proofs.lemmas.List.{drop_more, length-take-le}
 use Rattle.std.proofs.lemmas.List.Elements.{All-head, All-tail}
 use Rattle.mseed_steim.specs.Samples.{differences_from}
@@ -41,10 +42,16 @@ pub wrapped_whole : (before : ℤ) (xs : List ℤ) → All (IsWithin 32) (differ
     → wrapped_from before xs ≡ differences_from before xs
 wrapped_whole before [] all = refl
 wrapped_whole before (x ∷ xs) all =
-    ap (λ (z : ℤ). z ∷ wrapped_from x xs) (int_wrap_fits w32 (x -ℤ before) (within_fits (x -ℤ before)
-    (All-head (IsWithin 32) (x -ℤ before) (differences_from x xs) all)))
-    ∙ ap (λ (ds : List ℤ). (x -ℤ before) ∷ ds)
-    (wrapped_whole x xs (All-tail (IsWithin 32) (x -ℤ before) (differences_from x xs) all))
+    let rest = differences_from x xs in
+    let fits = within_fits (x -ℤ before) (All-head (IsWithin 32) (x -ℤ before) rest all) in
+    let later = wrapped_whole x xs (All-tail (IsWithin 32) (x -ℤ before) rest all) in
+    rw (int_wrap_fits w32 (x -ℤ before) fits, later) refl
+
+-- the difference of two numbers of 32 bits, by their bits
+pub wrapped_bits : (x y : ℤ) → FitsSigned w32 x → FitsSigned w32 y
+    → to_z w32 ((of_z w32 x + (4294967296 - of_z w32 y)) % 4294967296) ≡ int_wrap w32 (x -ℤ y)
+wrapped_bits x y f g = wrapping_sub-bits w32 (of_z w32 x) (of_z w32 y) (search rules) (search rules)
+    ∙ rw (to_z-of_z w32 x f, to_z-of_z w32 y g) refl
 
 -- ---- between the neighbours of a list
 pub between_length : (xs : List ℤ) → length (between xs) ≡ length xs - 1
@@ -60,9 +67,5 @@ pub between_from : (before : ℤ) (xs : List ℤ) (from : ℕ) → 0 < from → 
 between_from before xs from some inside =
     let i = from - 1 in
     let place : i + 1 ≡ from = omega (arith, some) in
-    let rest : drop i xs ≡ get_or xs i (pos 0) ∷ drop (i + 1) xs =
-    drop_more xs i (pos 0) (omega (arith, some, inside)) in
     let last : get_or (before ∷ xs) (i + 1) (pos 0) ≡ get_or xs i (pos 0) = rw add-one refl in
-    ap between rest ∙ ap (λ (z : ℤ). wrapped_from z (drop (i + 1) xs)) (sym last)
-    ∙ wrapped_drop (i + 1) before xs (omega (arith, place, inside))
-    ∙ ap (λ (n : ℕ). drop n (wrapped_from before xs)) place
+    rw (drop_more xs i (pos 0) (omega (arith, some, inside)), ← last, place) (wrapped_drop from before xs inside)

@@ -7,13 +7,13 @@ use Rattle.mseed_steim.specs.Spelling.{IsWithin}
 use Rattle.mseed_steim_pack.specs.declared.ahead.Lookahead.{Lookahead}
 use Rattle.mseed_steim_pack.specs.Packing.{CanSpell}
 
--- how many differences a word takes where each of so many is narrow enough: Steim-1 has no word of three
+-- how many differences a word takes where each of `most` is narrow enough: Steim-1 has no word of three
 abbrev pub taken : Scheme → ℕ → ℕ
 taken One most = if most == 3 then 2 else most
 taken Two most = most
 
 -- Where two or more are known to be held, eight differences or more come next, and the word that takes the largest
--- number of them takes so many.
+-- number of them takes `most`.
 abbrev pub IsAhead : Scheme → List ℤ → ℕ → Type 0
 IsAhead scheme ds most =
     2 ≤ most → (most ≤ 7) × (8 ≤ length ds) × CanSpell scheme (take (taken scheme most) ds)

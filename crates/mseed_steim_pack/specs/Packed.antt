@@ -1,4 +1,4 @@
--- What a run of differences that was packed into frames is: the clauses of `pack_words`, as one relation.
+-- What is packed into frames, and what is refused.
 use Rattle.std.specs.Prelude.{◌≡◌, ◌⊎◌, ◌↔◌, ℕ, ℤ, ◌%◌, ◌<◌, ◌≤◌, List, Result, Err, IfOk, take, drop, length}
 use Rattle.std.specs.List.{AllByRecursion}
 use Rattle.mseed_steim.specs.declared.scheme.Scheme.{Scheme}
@@ -9,6 +9,10 @@ use Rattle.mseed_steim_pack.specs.declared.pack.Packed.{Packed}
 use Rattle.mseed_steim_pack.specs.declared.pack.TooLargeAt.{TooLargeAt}
 use Rattle.mseed_steim_pack.specs.Packing.{IsEmptyWord, IsFarthest, IsFewest, IsFirstTooLarge, LeavesRoom, PacksRun}
 
+-- The words in use hold the first `used` differences, each as many as any word can. All differences are used, or all
+-- words. All else is 0: the words after, X0 and Xn, and the codes of words that hold no differences. In Steim-2 no
+-- fewer words spell those that are used, and no list of as many words comes further. It's refused exactly where a word
+-- is left for a difference that no word holds.
 pub record IsRunPacked (scheme : Scheme) (ds : List ℤ) (frames : List ℕ) (result : Result Packed TooLargeAt)
     : Type 0 where
   pub packed : IfOk result (λ p. PacksRun scheme (take p.words (data_words frames)) ds (drop p.used ds))

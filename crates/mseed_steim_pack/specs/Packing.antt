@@ -34,7 +34,7 @@ IsTooLargeAt scheme ds i = (i < length ds) × (scheme ≡ Two) × ¬ (IsWithin 3
 abbrev pub IsFirstTooLarge : Scheme → List ℤ → ℕ → Type 0
 IsFirstTooLarge scheme ds i = IsTooLargeAt scheme ds i × ((k : ℕ) → k < i → ¬ (IsTooLargeAt scheme ds k))
 
--- once the differences are packed, fewer than so many words are in use
+-- once the differences are packed, fewer than `room` words are in use
 abbrev pub LeavesRoom : Scheme → List ℤ → ℕ → Type 0
 LeavesRoom scheme ds room = (ws : List DataWord) × ((length ws < room) × PacksRun scheme ws ds [])
 

@@ -21,7 +21,7 @@ pub(crate) const AHEAD: usize = 128;
 /// How many places are reported: for a word eight differences are read.
 pub(crate) const KNOWN: usize = AHEAD - 7;
 
-/// Where so many of them are behind, too few are known for four words.
+/// With this number of them behind, too few are known for four words.
 pub(crate) const EARLY: usize = 100;
 
 /// Fewer differences than these aren't looked at ahead.
@@ -40,13 +40,13 @@ pub(crate) type Cut = [i16; AHEAD];
 /// [`crate::pack_words_ahead`], so that each difference is looked at once.
 #[derive(Drop)]
 pub struct Lookahead {
-    /// By place, how many differences are narrow enough for a word that takes so many, where it's two or more. Where
-    /// it's less, nothing is known.
-    pub most: [u8; ROOM],
+    /// By place, how many differences are narrow enough for one word that takes them all, where it's two or more.
+    /// Where it's less, nothing is known.
+    pub(crate) most: [u8; ROOM],
     /// In Steim-2 the differences themselves, or the nearest to each of the numbers of 16 bits.
-    pub cut: [i16; AHEAD],
+    pub(crate) cut: [i16; AHEAD],
     /// The place of the difference that comes next.
-    pub place: usize,
+    pub(crate) place: usize,
 }
 
 impl Lookahead {
@@ -61,7 +61,7 @@ impl Lookahead {
         }
     }
 
-    /// The place of the first of so many differences that come next, or the first place of which nothing is known,
+    /// The place of the first of `count` differences that come next, or the first place of which nothing is known,
     /// where nothing is known of them alone.
     #[inline(always)]
     pub(crate) fn begin(&self, count: usize) -> usize
@@ -105,7 +105,7 @@ fn cut_off(difference: i32) -> i16
     }
 }
 
-/// Half the sizes of so many differences.
+/// Half the sizes of the first `AHEAD` differences.
 #[inline(always)]
 fn put_half_sizes<D: Steps>(diffs: &D, sizes: &mut [u16; AHEAD])
     requires { AHEAD ≤ length (D.differences diffs.now) }
@@ -117,7 +117,7 @@ fn put_half_sizes<D: Steps>(diffs: &D, sizes: &mut [u16; AHEAD])
     }
 }
 
-/// So many differences, cut off at 16 bits.
+/// The first `AHEAD` differences, cut off at 16 bits.
 #[inline(always)]
 fn put_cut<D: Steps>(diffs: &D, cut: &mut Cut)
     requires { AHEAD ≤ length (D.differences diffs.now) }

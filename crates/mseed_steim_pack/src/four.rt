@@ -1,4 +1,4 @@
-//! Four words of Steim-2 at once, or three, where so many are known ahead.
+//! Four words of Steim-2 at once, or three, where their differences are known ahead.
 
 ghost use Rattle.std.specs.Prelude.{◌≡◌, ◌+◌, ◌%◌, ◌^◌, ◌<◌, ◌≤◌, ◌++◌, ◌∷◌, [], List, ℤ, IfSome, drop, map};
 ghost use Rattle.std.specs.Simd.Lanes.{pair_sums, sum_l};
@@ -79,7 +79,7 @@ fn parts_at(known: &Lookahead, place: usize) -> Option<Parts>
     Some(Parts { pairs, code, count })
 }
 
-/// The next three words from a place on, where so many are known.
+/// The next three words from a place on, where their differences are known.
 #[inline(always)]
 fn three_parts(known: &Lookahead, place: usize) -> Option<(Parts, Parts, Parts)>
     requires { (ds : List ℤ) × IsLookahead Two (known_from known.now place) ds }
@@ -115,7 +115,7 @@ fn joined(a: Parts, b: Parts, c: Parts, d: Parts) -> FourWords
     }
 }
 
-/// The next four words of Steim-2 from a place on, where so many are known ahead.
+/// The next four words of Steim-2 from a place on, where their differences are known ahead.
 #[inline(always)]
 fn four_two(known: &Lookahead, place: usize) -> Option<FourWords>
     requires { (ds : List ℤ) × IsLookahead Two (known_from known.now place) ds }
@@ -127,7 +127,7 @@ fn four_two(known: &Lookahead, place: usize) -> Option<FourWords>
     Some(joined(a, b, c, d))
 }
 
-/// The next three words of Steim-2 from a place on, where so many are known ahead.
+/// The next three words of Steim-2 from a place on, where their differences are known ahead.
 #[inline(always)]
 fn three_two(known: &Lookahead, place: usize) -> Option<ThreeWords>
     requires { (ds : List ℤ) × IsLookahead Two (known_from known.now place) ds }

@@ -90,10 +90,10 @@ macro_rules! layout_two {
     };
 }
 
-/// Where no word holds so many.
+/// Of a number of differences that no word holds.
 const NO_LAYOUT_ONE: LayoutOne = layout_one!(0, 0 of 0, 0, [0, 0, 0, 0, 0, 0, 0, 0]);
 
-/// Where no word holds so many, and where a word holds one, which may have more than 15 bits.
+/// Of a number of differences that no word holds, and of one, which may have more than 15 bits.
 const NO_LAYOUT_TWO: LayoutTwo =
     layout_two!(0, 0, 0 of 0, 0, 0, [0, 0, 0, 0, 0, 0, 0, 0], [0, 0, 0, 0]);
 
@@ -235,7 +235,7 @@ fn word_one<P: Pending>(most: usize, pending: &P, from: usize) -> (u32, u32, usi
     (code, pending.join(from, layout), taken_one(most))
 }
 
-/// How many of so many that are held a word of Steim-1 takes: there is none of three.
+/// How many differences a word of Steim-1 takes of the most that it holds: there is no word of three.
 #[inline(always)]
 fn taken_one(most: usize) -> usize
     ensures { result ≡ taken One most }

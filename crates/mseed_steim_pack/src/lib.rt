@@ -14,5 +14,5 @@ pub use ahead::Lookahead;
 pub use law::{lookahead_stays, one_fewest, one_packing, packed_spells};
 pub use pack::{
     Packed, TooLarge, TooLargeAt, least_words, pack_samples_ahead, pack_word, pack_words,
-    pack_words_ahead,
+    pack_words_ahead, write_word,
 };

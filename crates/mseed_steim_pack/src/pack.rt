@@ -3,16 +3,13 @@
 ghost use Rattle.std.specs.Prelude.{◌≡◌, ◌≢◌, ◌⊎◌, ◌↔◌, ℕ, ◌+◌, ◌-◌, ◌*◌, ◌/◌, ◌%◌, ◌^◌, ◌<◌, ◌≤◌, ◌==◌};
 ghost use Rattle.std.specs.Prelude.{Err, IfErr, IfOk, if◌then◌else◌, nat_lt};
 ghost use Rattle.std.specs.Prelude.{MatchResult, List, ℤ, ◌++◌, length, take, drop, All};
-ghost use Rattle.std.specs.List.{AllByRecursion};
 ghost use Rattle.mseed_steim.specs.declared.scheme.Scheme.TheVariants.{Two};
-ghost use Rattle.mseed_steim.specs.Frames.{code_at, data_words, word_at, word_count};
-ghost use Rattle.mseed_steim.specs.Runs.{SpellsRun};
+ghost use Rattle.mseed_steim.specs.Frames.{data_words, word_at, word_count};
 ghost use Rattle.mseed_steim.specs.Samples.{differences_from};
 ghost use Rattle.mseed_steim.specs.Spelling.{IsWithin};
 ghost use Rattle.mseed_steim_pack.specs.Lookahead.{IsAhead, IsCut, IsLookahead};
 ghost use Rattle.mseed_steim_pack.specs.Packed.{IsRunPacked};
-ghost use Rattle.mseed_steim_pack.specs.Packing.{IsEmptyWord, IsFarthest, IsFewest, IsFirstTooLarge, IsFullest};
-ghost use Rattle.mseed_steim_pack.specs.Packing.{IsTooLargeAt, LeavesRoom, PacksRun};
+ghost use Rattle.mseed_steim_pack.specs.Packing.{IsFewest, IsFirstTooLarge, IsFullest, IsTooLargeAt, LeavesRoom};
 ghost use Rattle.mseed_steim_pack.specs.private.Four.{AreFour, AreThree};
 ghost use Rattle.mseed_steim_pack.specs.private.Wrapped.{wrapped_from};
 ghost use Rattle.mseed_steim_pack.specs.private.Pushing.{FillsOn, Filling, HasFrame, IsReached, MovesOn, Pushing};
@@ -72,7 +69,7 @@ pub fn pack_word(scheme: Scheme, diffs: &[i32]) -> Result<(u8, u32, usize), TooL
     }
 }
 
-/// The fullest word of so many of the differences of samples, seven at the most.
+/// The fullest word of the first `count` differences of samples, seven at the most.
 #[inline(always)]
 fn pack_first(
     scheme: Scheme,
@@ -141,8 +138,8 @@ fn next_word<P: Pending>(
     }
 }
 
-/// Writes the bits of a word of the frames.
-fn write_word(frames: &mut [u8], index: usize, word: u32)
+/// Writes the bits of a word of the frames, by its index from their beginning on, which includes the words of codes.
+pub fn write_word(frames: &mut [u8], index: usize, word: u32)
     requires { 4 * (index + 1) ≤ length frames.old }
     ensures { (k : ℕ) → word_at frames.new k ≡ (if k == index then word else word_at frames.old k) }
 {
@@ -486,26 +483,7 @@ fn pack_ahead<P: Pending>(
 pub fn pack_words(scheme: Scheme, diffs: &[i32], frames: &mut [u8]) -> Result<Packed, TooLargeAt>
     requires some { 0 < length frames.old }
     requires whole { length frames.old % 64 ≡ 0 }
-    // The words in use hold the first `used` differences, each as many as any word can.
-    ensures packed { IfOk result
-        (λ p. PacksRun scheme (take p.words (data_words frames.new)) diffs.now (drop p.used diffs.now)) }
-    ensures spelled { IfOk result
-        (λ p. SpellsRun scheme (take p.words (data_words frames.new)) (take p.used diffs.now)) }
-    ensures inside { IfOk result (λ p. (p.used ≤ length diffs.now) × (p.words ≤ length (data_words frames.new))) }
-    // All differences are used, or all words.
-    ensures whole { IfOk result (λ p. (p.used ≡ length diffs.now) ⊎ (p.words ≡ length (data_words frames.new))) }
-    // All else is 0: the words after, X0 and Xn, and the codes of words that hold no differences.
-    ensures behind { IfOk result (λ p. AllByRecursion IsEmptyWord (drop p.words (data_words frames.new))) }
-    ensures constants { IfOk result (λ _. (word_at frames.new 1 ≡ 0) × (word_at frames.new 2 ≡ 0)) }
-    ensures codes { IfOk result (λ _. (k : ℕ) → k < word_count frames.new → (k < 3) ⊎ (k % 16 ≡ 0)
-        → code_at frames.new k ≡ 0) }
-    // In Steim-2 no fewer words spell those that are used, and no list of as many words comes further.
-    ensures fewest { IfOk result (λ p. scheme ≡ Two → IsFewest (take p.used diffs.now) p.words) }
-    ensures farthest { IfOk result (λ p. scheme ≡ Two → IsFarthest diffs.now p.words p.used) }
-    // It's refused exactly where a word is left for a difference that no word holds.
-    ensures refused { (i : ℕ)
-        → (result ≡ Err (record { index = i })) ↔ (IsFirstTooLarge scheme diffs.now i
-        × LeavesRoom scheme (take i diffs.now) (length (data_words frames.new))) }
+    ensures packed { IsRunPacked scheme diffs.now frames.new result }
 {
     pack_words_ahead(scheme, diffs, &mut Lookahead::new(), frames)
 }

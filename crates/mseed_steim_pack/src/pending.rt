@@ -15,7 +15,7 @@ use mseed_steim::Scheme;
 
 /// The differences that are to be packed.
 pub(crate) trait Pending {
-    /// They are these.
+    /// The differences, in their order.
     ghost differences: { Self → List ℤ };
 
     /// How many there are.
@@ -131,7 +131,7 @@ impl<'a> Pending for Sampled<'a> {
 
 /// Differences that are looked at, one by one.
 pub(crate) trait Steps {
-    /// They are these.
+    /// The differences, in their order.
     ghost differences: { Self → List ℤ };
 
     /// The one at an index.

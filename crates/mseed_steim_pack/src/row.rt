@@ -32,7 +32,7 @@ fn row_with(code: u8, dnib: u32, count: usize, width: u32) -> WordFormat
     }
 }
 
-/// The row of so many differences.
+/// The row of words with `count` differences.
 fn row_of(scheme: Scheme, count: usize) -> Option<WordFormat>
     ensures { result ≡ row_for scheme count }
 {
@@ -68,7 +68,7 @@ fn size_of(difference: i32) -> u32
     }
 }
 
-/// What the sizes of so many differences are less than where a word holds them; 0 where no row has so many.
+/// What the sizes of `count` differences are less than where a word holds them; 0 where no row has this number.
 #[inline(always)]
 fn size_limit(scheme: Scheme, count: usize) -> u32
     ensures { result ≡ size_limit (row_for scheme count) }
@@ -79,7 +79,7 @@ fn size_limit(scheme: Scheme, count: usize) -> u32
     }
 }
 
-/// The largest number of the differences, at most so many, that a word holds; 0 where none holds the first.
+/// The largest number of the differences, at most `high`, that a word holds; 0 where none holds the first.
 #[inline(always)]
 fn most_held(scheme: Scheme, diffs: &[i32], high: usize) -> usize
     requires { high ≤ length diffs.now }

@@ -1,5 +1,5 @@
 -- How many differences words hold, by the sizes of single differences, and how they are joined.
-use Rattle.std.specs.Prelude.{◌≡◌, ◌↔◌, ℕ, ◌+◌, ◌-◌, ◌*◌, ◌/◌, ◌%◌, ◌^◌, ◌<◌, ◌≤◌, nat_lt, if◌then◌else◌}
+use Rattle.std.specs.Prelude.{◌≡◌, ◌⊎◌, ◌↔◌, ℕ, ◌+◌, ◌-◌, ◌*◌, ◌/◌, ◌%◌, ◌^◌, ◌<◌, ◌≤◌, nat_lt, if◌then◌else◌}
 use Rattle.std.specs.Prelude.{List, [], ◌∷◌, ℤ, pos, negsuc, slice_index_or, Some, map, true}
 use Rattle.std.specs.List.{list_all, range_with_len}
 use Rattle.mseed_steim.specs.declared.scheme.Scheme.{Scheme}
@@ -7,6 +7,7 @@ use Rattle.mseed_steim.specs.Spelling.{residue}
 use Rattle.mseed_steim.specs.declared.scheme.Scheme.TheVariants.{One, Two}
 use Rattle.mseed_steim_pack.specs.declared.layout.LayoutOne.{LayoutOne}
 use Rattle.mseed_steim_pack.specs.declared.layout.LayoutTwo.{LayoutTwo}
+use Rattle.mseed_steim_pack.specs.Lookahead.{AreCut, IsAhead}
 use Rattle.mseed_steim_pack.specs.private.Rows.{row_for, masks_of, places_of}
 
 -- the number, or the one below its opposite: the bits that it takes but for its sign
@@ -77,3 +78,12 @@ pub record IsLayoutTwo (layout : LayoutTwo) : Type 0 where
   pub heads : layout.heads ≡ layout.row.dnib * 2 ^ 30 ∷ 0 ∷ 0 ∷ 0 ∷ []
   pub places : map (λ i. bits_of (slice_index_or layout.weights i (pos 0)) * slice_index_or layout.counts (i / 2) 0
       % 2 ^ 32) (range_with_len 0 8) ≡ places_of layout.row.width layout.row.count
+
+-- What is known ahead of differences: how many a word takes, and, in Steim-2, the first of them.
+abbrev pub Knows : Scheme → List ℤ → List ℤ → ℕ → Type 0
+Knows scheme ds cut most = 2 ≤ most → IsAhead scheme ds most × (scheme ≡ Two → AreCut ds cut)
+
+-- There are zeros from one place to another, and every other number is as it was before, or 0.
+pub record Cleared (from to : ℕ) (before after : List ℕ) : Type 0 where
+  pub each : (i : ℕ) → (slice_index_or after i 0 ≡ slice_index_or before i 0) ⊎ (slice_index_or after i 0 ≡ 0)
+  pub none : (i : ℕ) → from ≤ i → i < to → slice_index_or after i 0 ≡ 0

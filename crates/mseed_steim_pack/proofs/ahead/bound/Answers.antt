@@ -13,8 +13,8 @@ loop-turn-preserved c =
     let long : length lanes ≡ 16 = omega arith in
     record {
       room = put_length 144 at held lanes room (omega (arith, inside));
-      done = stored (λ i x. IsMost c.args.held.now i x) 144 c.loop-turn.turn held lanes room
-          (omega (arith, inside)) long c.loop-turn.invariant.done
+      done = stored (λ i x. IsMost c.args.held.now i x) c.loop-turn.turn held lanes room c.loop-turn-test.true long
+          c.loop-turn.invariant.done
           (λ i more last. most_later 144 at i (get_or lanes (i - at) 0) held c.args.held.now room more
           c.loop-turn.invariant.rest (c.most_from-lanes.ensures (i - at) (omega (arith, more, last))));
       rest = λ i more. put_above 144 at i held lanes room (omega (arith, inside)) long (omega (arith, more))

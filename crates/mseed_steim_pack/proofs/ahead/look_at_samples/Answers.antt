@@ -1,7 +1,6 @@
-use Rattle.std.proofs.Common.{◌≤◌, ℤ, List, arith, drop, length, subst, take, w32}
+use Rattle.std.proofs.Common.{arith, drop, take, w32}
 use Rattle.std.proofs.lemmas.Int.{to_z-of_z}
 use Rattle.std.proofs.lemmas.List.{take-append-drop}
-use Rattle.mseed_steim_pack.specs.Lookahead.{IsLookahead}
 use Rattle.mseed_steim_pack.specs.private.Wrapped.{wrapped_from}
 use Rattle.mseed_steim_pack.proofs.Lookaheads.{known_at, known_more}
 use Rattle.mseed_steim_pack.proofs.Wrapped.{first_written}
@@ -15,9 +14,6 @@ returns c =
     let ds = wrapped_from before xs in
     let n = c.min-count.result in
     let known = known_at c.look_at.new.most c.look_at.new.cut 0 in
-    let inside : n ≤ length xs = omega (arith, c.min-count.ensures) in
-    let written = rw (to_z-of_z w32 before c.ranges.before) at c.put_wrapped.ensures in
-    let first : IsLookahead s known (take n ds) = subst (λ (ys : List ℤ). IsLookahead s known ys)
-    (first_written n before xs c.put_wrapped.new.differences inside written) c.look_at.ensures in
-    subst (λ (ys : List ℤ). IsLookahead s known ys) (take-append-drop n ds)
-    (known_more s known (take n ds) (drop n ds) first)
+    let written = first_written n before xs c.put_wrapped.new.differences (omega (arith, c.min-count.ensures))
+    (rw (to_z-of_z w32 before c.ranges.before) at c.put_wrapped.ensures) in
+    rw take-append-drop at (known_more s known (take n ds) (drop n ds) (rw written at c.look_at.ensures))

@@ -1,15 +1,15 @@
-use Rattle.std.proofs.Common.{◌≡◌, ◌<◌, ◌≤◌, ◌-◌, ◌^◌, ◌∙◌, ◌∷◌, [], ℕ, ℤ, List, ap, arith, get_or, length, map}
-use Rattle.std.proofs.Common.{pos, ltb, rules, subst, sym, true}
+use Rattle.std.proofs.Common.{◌≡◌, ◌<◌, ◌≤◌, ◌^◌, ◌∙◌, ◌∷◌, [], ℕ, ℤ, List, ap, arith, get_or, length, map}
+use Rattle.std.proofs.Common.{pos, ltb, rules, true}
 use Rattle.std.proofs.lemmas.List.{get_or-take}
 use Rattle.std.proofs.lemmas.List.Elements.{All-get_or}
 use Rattle.std.proofs.lemmas.List.Sums.{AllPass-from_list_all}
-use Rattle.std.proofs.lemmas.Simd.{Each1-from_get_or}
+use Rattle.std.proofs.lemmas.Simd.{Each1-from_get_or, pick_l_whole}
+use Rattle.std.proofs.Common.{sym}
 use borrow.Author.Tests.{ltb-true}
-use lib.Lanes.{Each1}
 use Rattle.mseed_steim.specs.Spelling.{residue}
 use Rattle.mseed_steim.proofs.LaneSums.{spelled_four}
 use Rattle.mseed_steim_pack.specs.private.Ahead.{bits_of, size_of}
-use Rattle.mseed_steim_pack.proofs.Halves.{digit_bits, digits_small, eight_of, eight_long, lanes_of, low_digits}
+use Rattle.mseed_steim_pack.proofs.Halves.{digit_bits, digits_small, eight_of, lanes_of, low_digits}
 use Rattle.mseed_steim_pack.proofs.Halves.{same_again}
 use Rattle.mseed_steim_pack.proofs.layout.parts_of.Goals as goal
 
@@ -27,7 +27,6 @@ returns c =
     let heads : length layout.heads ≡ 4 = search rules in
     let counts : length layout.counts ≡ 4 = search rules in
     let wide : length weights ≡ 8 = search rules in
-    let long : length layout.masks ≡ 8 = search rules in
     let read : length eight ≡ 8 = search rules in
     let short : w ≤ 15 = omega (arith, ltb-true w 16 c.requires.layout.short) in
     let small = Each1-from_get_or (λ (z : ℤ). size_of z < 32768) eight (pos 0)
@@ -36,14 +35,13 @@ returns c =
     let few = Each1-from_get_or (λ (z : ℤ). size_of z < 32768) weights (pos 0)
     (λ i h. ltb-true _ 32768 (All-get_or (λ (z : ℤ). ltb (size_of z) 32768 ≡ true) weights i (pos 0) h
     (AllPass-from_list_all _ weights c.requires.layout.small))) in
-    let masks = subst (λ (ms : List ℤ). Each1 (λ m. m ≡ pos (2 ^ w - 1)) ms) (sym c.requires.layout.masks) assumption in
-    let digits = low_digits w eight layout.masks short small masks (long ∙ sym read) in
-    let xs : c.bits_of.result ≡ list digit = c.bits_of.ensures (rw digits (digits_small w eight short))
+    let digits = low_digits w eight layout.masks short c.requires.layout.masks read small in
+    let xs : c.bits_of.result ≡ list digit = c.bits_of.ensures (rw digits (digits_small w eight short small))
     ∙ ap (λ (zs : List ℤ). map bits_of zs) digits ∙ digit_bits w eight
     ∙ ap (λ (zs : List ℤ). map (λ d. residue (2 ^ w) d) zs)
     (c.first_eight.ensures.value ∙ eight_of cut c.requires.eight) in
     let ws : c.bits_of-2.result ≡ list weight = c.bits_of-2.ensures (rw (same_again weights few) few)
-    ∙ ap (λ (zs : List ℤ). map bits_of zs) (same_again weights few ∙ eight_long weights wide) in
+    ∙ ap (λ (zs : List ℤ). map bits_of zs) (same_again weights few ∙ sym (pick_l_whole (pos 0) weights 8 wide)) in
     ap (λ (l : List ℕ). lanes_of l c.bits_of-2.result layout.counts layout.heads) xs
     ∙ ap (λ (l : List ℕ). lanes_of (list digit) l layout.counts layout.heads) ws
     ∙ ap (λ (l : List ℕ). lanes_of (list digit) (list weight) l layout.heads) (spelled_four layout.counts counts)

@@ -1,12 +1,11 @@
 use borrow.Author.Tests.{ltb-true}
 use Rattle.std.proofs.Common.{◌≤◌, arith}
-use Rattle.std.proofs.Common.{◌≡◌, ◌+◌, ◌*◌, ◌%◌, ◌^◌, ◌∙◌, ℕ, ℤ, List, arith, ap, take, length, subst, sym}
+use Rattle.std.proofs.Common.{◌≡◌, ◌+◌, ◌*◌, ◌%◌, ◌^◌, ◌∙◌, ℕ, ℤ, List, arith, ap, take, length}
 use Rattle.std.proofs.Math.Nat.{mod-eq_of_lt}
 use Rattle.std.proofs.lemmas.List.{length-take-le}
 use lib.Lanes.{sum_l}
 use Rattle.mseed_steim.specs.declared.scheme.Scheme.TheVariants.{Two}
 use Rattle.mseed_steim.specs.Spelling.{positional}
-use Rattle.mseed_steim_pack.specs.Packing.{IsFullest}
 use Rattle.mseed_steim_pack.proofs.Rows.{row_is}
 use Rattle.mseed_steim_pack.proofs.Packs.{is_fullest}
 use Rattle.mseed_steim_pack.proofs.Joins.{dnib_below, parts_joined}
@@ -27,13 +26,11 @@ returns c = λ ds ahead cut.
     let long : length prefix ≡ layout.row.count = length-take-le layout.row.count ds best.0.1 in
     let below = dnib_below layout.row.dnib layout.row.width prefix is.dnib (rw long is.room)
     (λ some. rw long (is.apart some)) in
-    let joint = parts_joined layout c.args.cut.now reported is.wide is.narrow is.room (omega (arith, few))
+    let joint = parts_joined layout c.args.cut.now reported (omega (arith, few))
     (omega (arith, few, c.requires.eight)) in
     let bits = sum_l c.parts_of.result % 4294967296 in
     let word : bits ≡ layout.row.dnib * 2 ^ 30 + positional layout.row.width prefix =
     ap (λ (xs : List ℕ). sum_l xs % 4294967296) c.parts_of.ensures ∙ joint
     ∙ ap (λ (xs : List ℤ). (layout.row.dnib * 1073741824 + positional layout.row.width xs) % 4294967296) same
     ∙ mod-eq_of_lt below in
-    subst (λ (n : ℕ). IsFullest Two ds layout.code bits n) best.1
-    (subst (λ (n : ℕ). IsFullest Two ds n bits layout.row.count) (sym reported.code)
-    (is_fullest Two ds layout.row bits best.0.0 best.0.1 best.0.2 best.0.3 word))
+    rw (reported.code, ← best.1) (is_fullest Two ds layout.row bits best.0 word)

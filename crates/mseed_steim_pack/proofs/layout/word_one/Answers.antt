@@ -1,7 +1,6 @@
-use Rattle.std.proofs.Common.{◌≡◌, ◌+◌, ◌*◌, ◌^◌, ◌∙◌, ℕ, arith, subst, sym, take, drop}
+use Rattle.std.proofs.Common.{◌≡◌, ◌+◌, ◌*◌, ◌^◌, arith, take, drop}
 use Rattle.mseed_steim.specs.declared.scheme.Scheme.TheVariants.{One}
 use Rattle.mseed_steim.specs.Spelling.{positional}
-use Rattle.mseed_steim_pack.specs.Packing.{IsFullest}
 use Rattle.mseed_steim_pack.proofs.Packs.{is_fullest}
 use Rattle.mseed_steim_pack.proofs.Held.{best_ahead, row_ahead}
 use Rattle.mseed_steim_pack.proofs.layout.word_one.Goals as goal
@@ -22,6 +21,4 @@ returns g c =
     let plain : row.dnib ≡ 0 = (c.layout_one-layout.ensures known.0 known.1.0).1.1 in
     let word : c.join.result ≡ row.dnib * 2 ^ 30 + positional row.width (take row.count ds) =
     omega (arith, c.join.ensures, plain) in
-    subst (λ (n : ℕ). IsFullest One ds c.from-code.result c.join.result n) (best.1 ∙ sym c.taken_one.ensures)
-    (subst (λ (n : ℕ). IsFullest One ds n c.join.result row.count) (sym c.from-code.ensures)
-    (is_fullest One ds row c.join.result best.0.0 best.0.1 best.0.2 best.0.3 word))
+    rw (c.from-code.ensures, c.taken_one.ensures, ← best.1) (is_fullest One ds row c.join.result best.0 word)

@@ -1,13 +1,10 @@
 use Rattle.std.proofs.Common.{rules}
-use Rattle.mseed_steim_pack.specs.Packing.{IsFullest}
 use Rattle.mseed_steim_pack.proofs.Packs.{is_fullest, fullest_not_large, none_large}
 use Rattle.mseed_steim_pack.proofs.pack.pack_word.Goals as goal
 
 pub returns-in-Some : goal.returns-in-Some
 returns-in-Some c =
-    let best = c.in-Some.ensures.best in
-    let full : IsFullest c.args.scheme c.args.diffs.now c.in-Some.row.code c.word_of.result c.in-Some.row.count =
-    is_fullest c.args.scheme c.args.diffs.now c.in-Some.row c.word_of.result best.0 best.1 best.2 best.3
+    let full = is_fullest c.args.scheme c.args.diffs.now c.in-Some.row c.word_of.result c.in-Some.ensures.best
     (search rules) in
     record {
       fullest = full;

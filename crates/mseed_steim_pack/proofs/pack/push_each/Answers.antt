@@ -1,6 +1,5 @@
-use Rattle.std.proofs.Common.{◌≢◌, ℕ, ◌<◌, arith, inr}
+use Rattle.std.proofs.Common.{◌≢◌, arith, inr}
 use Rattle.std.proofs.lemmas.List.{length-drop}
-use Rattle.mseed_steim_pack.specs.private.Pushing.{IsReached}
 use Rattle.mseed_steim_pack.proofs.Lookaheads.{known_here}
 use Rattle.mseed_steim_pack.proofs.pack.push_each.Goals as goal
 
@@ -9,7 +8,7 @@ loop-reached-init g c = search (arith)
 
 pub push_next-requires-clause-some : goal.push_next-requires-clause-some
 push_next-requires-clause-some g c =
-    let is = c.loop-reached.invariant.reached c.requires.reached.0 c.requires.reached.1 in
+    let is = c.loop-reached.invariant.fills c.requires.reached.0 c.requires.reached.1 in
     let inside = c.loop-reached.invariant.used in
     elim c.else-reached-count.branch [
       | goal.else-reached-count-via-else-reached-count w ↦
@@ -25,25 +24,20 @@ push_next-requires-clause-early g c = omega (arith, c.if-due-reached.false, c.re
 
 pub push_next-requires-clause-reached : goal.push_next-requires-clause-reached
 push_next-requires-clause-reached g c =
-    (c.requires.reached.0, c.loop-reached.invariant.reached c.requires.reached.0 c.requires.reached.1)
+    (c.requires.reached.0, c.loop-reached.invariant.fills c.requires.reached.0 c.requires.reached.1)
 
 pub loop-reached-preserved : goal.loop-reached-preserved
 loop-reached-preserved g c =
     let before = c.loop-reached.invariant in
     let moves = c.in-Ok.ensures.moves in
-    let so_far = before.moves in
-    let ds = g.P.Pending.differences c.args.pending.now in
-    let next : (head : ℕ) → IsReached c.args.scheme ds c.args.known.now c.args.frames.now head c.args.reached
-    → IsReached c.args.scheme ds c.args.known.now c.push_next.new.frames head c.in-Ok.next =
-    λ head from. c.in-Ok.ensures.fills head (before.reached head from) in
-    let is = next c.requires.reached.0 c.requires.reached.1 in
-    let more : c.args.reached.index < c.in-Ok.next.index = omega (arith, moves, so_far) in
+    let is = c.in-Ok.ensures.fills c.requires.reached.0 (before.fills c.requires.reached.0 c.requires.reached.1) in
     record {
-      inside = omega (arith, moves, c.loop-reached-test.true);
-      begun = omega (arith, moves, before.begun);
-      room = omega (arith, before.room, c.push_next.auto.frames);
-      used = is.pushing.coding.filling.inside;
+      frame = omega (arith, moves, before.frame, c.loop-reached-test.true, c.push_next.auto.frames);
+      moves = record {
+        inside = omega (arith, moves, c.loop-reached-test.true);
+        moves = inr (omega (arith, moves, before.moves.moves));
+      };
+      used = is.pushing.inside;
       place = is.ahead.place;
-      moves = inr more;
-      reached = next;
+      fills = λ head from. c.in-Ok.ensures.fills head (before.fills head from);
     }

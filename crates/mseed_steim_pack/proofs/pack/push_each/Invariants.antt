@@ -1,19 +1,14 @@
-use Rattle.std.proofs.Common.{◌≡◌, ◌⊎◌, ℕ, ◌<◌, ◌≤◌, ◌+◌, ◌-◌, length}
-use Rattle.mseed_steim.specs.Frames.{word_count}
-use Rattle.mseed_steim_pack.specs.private.Pushing.{IsReached}
+use Rattle.std.proofs.Common.{◌≤◌, ◌-◌, length}
+use Rattle.mseed_steim_pack.specs.private.Pushing.{FillsOn, HasFrame, MovesOn}
 use Rattle.mseed_steim_pack.proofs.pack.push_each.Given as goal
 
 abbrev pub invariant-loop-reached : goal.invariant-loop-reached
 invariant-loop-reached g l = record {
-  inside : l.reached.index ≤ l.end;
-  begun : l.end < l.reached.index + 16;
-  room : l.end ≤ word_count l.frames;
+  frame : HasFrame l.frames l.end l.reached;
+  moves : MovesOn l.end l.fn.reached l.reached;
   used : l.reached.used ≤ length (g.P.Pending.differences l.pending);
   place : l.reached.place ≤ 128;
-  moves : ((l.reached.index ≡ l.fn.reached.index) × (l.reached.place ≡ l.fn.reached.place))
-      ⊎ (l.fn.reached.index < l.reached.index);
-  reached : (head : ℕ) → IsReached l.scheme (g.P.Pending.differences l.pending) l.known l.fn.frames head l.fn.reached
-      → IsReached l.scheme (g.P.Pending.differences l.pending) l.known l.frames head l.reached;
+  fills : FillsOn l.scheme (g.P.Pending.differences l.pending) l.known l.fn.frames l.fn.reached l.frames l.reached;
 }
 
 abbrev pub decreases-loop-reached : goal.decreases-loop-reached

@@ -1,9 +1,9 @@
 use Rattle.std.proofs.Common.{◌≡◌, ◌∙◌, ◌<◌, ◌≤◌, ◌+◌, ◌-◌, ◌%◌, ℕ, ℤ, pos, ◌-ℤ◌, List, ◌∷◌, length, take}
-use Rattle.std.proofs.Common.{get_or, set, add-one, refl, sym, ap, arith, rules, FitsSigned, w32, to_z, of_z}
+use Rattle.std.proofs.Common.{get_or, set, add-one, refl, ap, arith, rules, FitsSigned, w32, to_z, of_z}
 use Rattle.std.specs.Int.{int_wrap}
-use Rattle.std.proofs.lemmas.Grind.{get_or-set_at}
 use Rattle.std.proofs.lemmas.Int.{to_z-of_z, wrapping_sub-bits}
-use Rattle.std.proofs.lemmas.List.{ext_get_or, get_or-set_other, get_or-take, length-set, length-take-le}
+use Rattle.std.proofs.lemmas.List.{length-set, take_all, take_more}
+use Rattle.std.proofs.Math.Seq.{take-suc-set}
 use Rattle.mseed_steim_pack.specs.private.Wrapped.{wrapped_from}
 use Rattle.mseed_steim_pack.proofs.Wrapped.{wrapped_at, wrapped_length}
 use Rattle.mseed_steim_pack.proofs.pending.put_wrapped.Goals as goal
@@ -11,10 +11,11 @@ use Rattle.mseed_steim_pack.proofs.pending.put_wrapped.Goals as goal
 -- one more is put after those before it
 put_more : (before last z : ℤ) (xs ds : List ℤ) (i : ℕ) → i < length xs → length xs ≤ length ds
     → last ≡ get_or (before ∷ xs) i (pos 0) → z ≡ int_wrap w32 (get_or xs i (pos 0) -ℤ last)
-    → ((k : ℕ) → k < i → get_or ds k (pos 0) ≡ get_or (wrapped_from before xs) k (pos 0))
-    → (k : ℕ) → k < i + 1 → get_or (set ds i z) k (pos 0) ≡ get_or (wrapped_from before xs) k (pos 0)
-put_more before last z xs ds i inside room last_is is done k h =
-    search (arith, get_or-set_at, get_or-set_other, wrapped_at)
+    → take i ds ≡ take i (wrapped_from before xs) → take (i + 1) (set ds i z) ≡ take (i + 1) (wrapped_from before xs)
+put_more before last z xs ds i inside room last_is is done =
+    let more = take_more (wrapped_from before xs) i (pos 0) (omega (arith, inside, wrapped_length before xs)) in
+    let put = rw (← add-one) at (take-suc-set ds i z (omega (arith, inside, room))) in
+    rw (put, more, done, is, wrapped_at before xs i inside, last_is) refl
 
 pub loop-index-preserved : goal.loop-index-preserved
 loop-index-preserved c =
@@ -43,10 +44,6 @@ pub returns : goal.returns
 returns c =
     let before = c.args.before in
     let xs = c.args.samples.now in
-    let ds = c.loop-index.differences in
-    let long : length (take (length xs) ds) ≡ length xs = length-take-le (length xs) ds c.loop-index.invariant.room in
-    let done = rw (to_z-of_z w32 before c.ranges.before) at c.loop-index.invariant.done in
-    ext_get_or (pos 0) (take (length xs) ds) (wrapped_from before xs) (long ∙ sym (wrapped_length before xs))
-    (λ k h.
-    let inside : k < length xs = omega (arith, h, long) in
-    get_or-take (length xs) ds k (pos 0) inside ∙ done k (omega (arith, inside, c.loop-index-test.false)))
+    let all : c.loop-index.index ≡ length xs = omega (arith, c.loop-index-test.false, c.loop-index.auto.index-end) in
+    rw (to_z-of_z w32 before c.ranges.before, all) at c.loop-index.invariant.done
+    ∙ take_all (length xs) (wrapped_from before xs) (omega (arith, wrapped_length before xs))

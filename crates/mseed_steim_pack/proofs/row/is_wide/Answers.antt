@@ -1,5 +1,5 @@
 use Rattle.std.proofs.Common.{◌≡◌, ◌↔◌, ◌^◌, ◌-◌, ◌<◌, ◌≤◌, ℕ, ℤ, arith, refl, Some, w32}
-use Rattle.std.proofs.lemmas.Bool.{le-leb, leb-true}
+use Rattle.std.proofs.lemmas.Bool.Decides.{nat_tests}
 use Rattle.std.proofs.lemmas.Int.{to_z-of_z}
 use Rattle.mseed_steim.specs.declared.scheme.Scheme.{Scheme}
 use Rattle.mseed_steim.specs.declared.scheme.Scheme.TheVariants.{One, Two}
@@ -19,12 +19,6 @@ is_wide Two d size by = by_row Two d size (row_with 2 2 2 15) refl (by 15)
 
 pub returns : goal.returns
 returns c =
-    let size = rw (to_z-of_z w32 c.args.difference c.ranges.difference) at c.size_of.ensures in
-    let wide = is_wide c.args.scheme c.args.difference c.size_of.result size in (
-      λ over.
-          let least = leb-true c.size_limit.result c.size_of.result over in
-          wide.0 (omega (arith, least, c.size_limit.ensures)),
-      λ is.
-          let least = wide.1 is in
-          le-leb c.size_limit.result c.size_of.result (omega (arith, least, c.size_limit.ensures)),
-    )
+    let wide = is_wide c.args.scheme c.args.difference c.size_of.result
+    (rw (to_z-of_z w32 c.args.difference c.ranges.difference) at c.size_of.ensures) in
+    grind (arith, nat_tests, wide)

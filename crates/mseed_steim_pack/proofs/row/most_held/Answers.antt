@@ -1,8 +1,8 @@
-use Rattle.std.proofs.Common.{◌≡◌, ◌<◌, ◌+◌, arith, length, subst, get_or, pos, rules, w32, FitsSigned}
+use Rattle.std.proofs.Common.{refl, ◌≡◌, ◌<◌, ◌+◌, arith, length, get_or, pos, rules, w32, FitsSigned}
 use Rattle.std.proofs.lemmas.Int.{to_z-of_z}
 use Rattle.mseed_steim_pack.proofs.Bits.{fits_within}
-use Rattle.mseed_steim_pack.specs.private.Rows.{row_for, IsBestRow}
-use Rattle.mseed_steim_pack.proofs.Fullest.{Sized, sized_none, sized_more, first_fits, best_none, best_more, best_same}
+use Rattle.mseed_steim_pack.specs.private.Rows.{row_for}
+use Rattle.mseed_steim_pack.proofs.Fullest.{Sized, sized_none, sized_more, best_none, best_at, best_same}
 use Rattle.mseed_steim_pack.proofs.row.most_held.Goals.{then-size-size_limit, else-size-size_limit}
 use Rattle.mseed_steim_pack.proofs.row.most_held.Goals as goal
 
@@ -16,13 +16,13 @@ loop-index-preserved c =
     let fits : FitsSigned w32 (get_or c.args.diffs.now i (pos 0)) = search rules in
     let one = rw to_z-of_z at c.size_of.ensures in
     let known : Sized c.args.diffs.now (i + 1) c.max-size.result =
-    sized_more c.args.diffs.now i c.loop-index.size c.size_of.result c.max-size.result inside
+    sized_more c.args.diffs.now i c.loop-index.size c.size_of.result c.max-size.result
     c.loop-index.invariant.known one ((one 32).1 (fits_within _ fits)) c.max-size.ensures in
     record {
       known = known;
       best = elim c.if-size-size_limit.branch [
         | then-size-size_limit w ↦ rw w.count-is
-            (best_more c.args.scheme c.args.diffs.now (i + 1) c.max-size.result known
+            (best_at c.args.scheme c.args.diffs.now (i + 1) c.max-size.result _ (omega (arith, inside)) refl known
             (omega (arith, w.if-size-size_limit.true, c.size_limit.ensures)))
         | else-size-size_limit w ↦ rw w.count-is (best_same c.args.scheme c.args.diffs.now i c.max-size.result
             (row_for c.args.scheme c.loop-index.count) inside known
@@ -34,10 +34,9 @@ all-seen : (c : goal.After-loop-index) → c.loop-index.index ≡ c.args.high
 all-seen c = omega (arith, c.loop-index-test.false, c.loop-index.auto.index-end)
 
 pub returns-clause-best : goal.returns-clause-best
-returns-clause-best c = subst
-    (λ n. IsBestRow c.args.scheme c.args.diffs.now n (row_for c.args.scheme c.loop-index.count)) (all-seen c)
-    c.loop-index.invariant.best
+returns-clause-best c = rw (all-seen c) at c.loop-index.invariant.best
 
 pub returns-clause-fits : goal.returns-clause-fits
-returns-clause-fits c = λ h. first_fits c.args.diffs.now c.loop-index.index c.loop-index.size
-    (omega (arith, all-seen c, h)) (omega (arith, all-seen c, c.requires)) c.loop-index.invariant.known
+returns-clause-fits c = λ some.
+    let known = c.loop-index.invariant.known in
+    (known.by 32).0 known.small 0 (omega (arith, all-seen c, some))

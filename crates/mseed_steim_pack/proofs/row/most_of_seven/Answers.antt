@@ -11,4 +11,4 @@ returns-then-is_wide-clause-best c =
     let fits : FitsSigned w32 (get_or ds 0 (pos 0)) = search rules in
     let wide = rw (to_z-of_z w32 (get_or ds 0 (pos 0)) fits) at (c.is_wide.ensures.0 c.if-is_wide.true) in
     best_extends s ds 1 7 (row_for s c.most_held.result) (omega arith)
-    (λ k h l. wide_alone s ds k h (omega (arith, l, c.requires)) wide) c.most_held.ensures.best
+    (λ k over low. wide_alone s ds wide k over (omega (arith, low, c.requires))) c.most_held.ensures.best

@@ -1,8 +1,5 @@
-use Rattle.std.proofs.Common.{◌∙◌, ◌+◌, ◌<◌, ◌-ℤ◌, ℤ, arith, ap, get_or, length, of_z, pos, rules, sym, to_z, w32}
-use Rattle.std.proofs.Common.{FitsSigned}
-use Rattle.std.specs.Int.{int_wrap}
-use Rattle.std.proofs.lemmas.Int.{to_z-of_z, wrapping_sub-bits}
-use Rattle.mseed_steim_pack.proofs.Wrapped.{between_at, between_length}
+use Rattle.std.proofs.Common.{◌∙◌, ◌+◌, ◌<◌, arith, get_or, length, pos, rules, sym}
+use Rattle.mseed_steim_pack.proofs.Wrapped.{between_at, between_length, wrapped_bits}
 use Rattle.mseed_steim_pack.proofs.pending.NeighboursSteps.at.Goals as goal
 
 pub overflow_add-result : goal.overflow_add-result
@@ -24,12 +21,7 @@ pub returns : goal.returns
 returns c =
     let xs = c.args.self.now.samples.now in
     let i = c.args.index in
-    let x = get_or xs i (pos 0) in
-    let next = get_or xs (i + 1) (pos 0) in
     let inside : i + 1 < length xs = omega (arith, c.requires, between_length xs) in
     let before : i < length xs = omega (arith, inside) in
-    let first : FitsSigned w32 x = search rules in
-    let second : FitsSigned w32 next = search rules in
-    wrapping_sub-bits w32 (of_z w32 next) (of_z w32 x) (search rules) (search rules)
-    ∙ ap (λ (z : ℤ). int_wrap w32 (z -ℤ to_z w32 (of_z w32 x))) (to_z-of_z w32 next second)
-    ∙ ap (λ (z : ℤ). int_wrap w32 (next -ℤ z)) (to_z-of_z w32 x first) ∙ sym (between_at xs i c.requires)
+    wrapped_bits (get_or xs (i + 1) (pos 0)) (get_or xs i (pos 0)) (search rules) (search rules)
+    ∙ sym (between_at xs i c.requires)
