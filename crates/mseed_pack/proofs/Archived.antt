@@ -1,43 +1,24 @@
 -- Among the records of several packed series each channel's are its series' own.
-use Rattle.std.proofs.Common.{◌≡◌, ◌≢◌, ℕ, ◌+◌, nat_lt, true, List, [], ◌∷◌, ◌++◌, length, IsTrue}
-use Rattle.std.proofs.Common.{refl, sym, ap, ◌∙◌, append_assoc, append-nil}
+use Rattle.std.proofs.Common.{◌≡◌, ◌≢◌, ℕ, true, List, [], ◌∷◌, ◌++◌, IsTrue}
+use Rattle.std.proofs.Common.{refl, sym, ap, ◌∙◌, append-nil}
 use Rattle.std.specs.List.{AllByRecursion, filter}
-use Rattle.std.specs.Ordering.{nat_cmp, is_eq}
-use Rattle.std.specs.Cmp.Lexicographic.{slice_cmp}
-use Rattle.std.specs.declared.cmp.Ordering.{Ordering}
-use Rattle.std.specs.declared.cmp.Ordering.TheVariants.{Less, Equal, Greater}
 use Rattle.std.proofs.Common.{inl, inr}
-use Rattle.std.proofs.lemmas.Bool.{and_parts, cases_Bool}
+use Rattle.std.proofs.lemmas.Bool.{cases_Bool}
+use Rattle.std.proofs.Common.{drop, length, take}
+use Rattle.std.proofs.ByRecursion.{All-drop, All-take}
+use Rattle.std.proofs.lemmas.List.{drop-map, drop_at, take-append-drop, take-map, take_at}
 use Rattle.std.proofs.lemmas.List.Elements.{filter-append}
-use Rattle.std.proofs.lemmas.Map.Lookups.{exact_bytes}
 use Rattle.mseed_record.specs.Header.{key_at}
 use Rattle.mseed_record.specs.View.{View, IsView}
-use Rattle.mseed_steim.specs.Reading.{count_of}
-use Rattle.mseed_audit.specs.Channels.{Placed, added_from, is_of_channel, numbered, views_in}
+use Rattle.mseed_audit.specs.Channels.{added_from, is_of_channel, records_of, views_in}
+use Rattle.mseed_audit.proofs.Following.{views_are}
+use Rattle.mseed_audit.proofs.Maps.{key_of as same_key_of, same_is}
 use Rattle.mseed_pack.specs.ReadBack.{AreApart, AreViewsOf, Packed, ReadsAs, StandsIn, records_of_all}
 use Rattle.mseed_pack.proofs.Followed.{bytes_in}
 
 -- a record is of one channel at most
 pub key_of : (key : List ℕ) (v : View) → is_of_channel key v ≡ true → key ≡ key_at v.bytes
-key_of key v e = exact_bytes key (key_at v.bytes)
-    (equal_from (slice_cmp nat_cmp key (key_at v.bytes)) (and_parts (nat_lt 0 (count_of v)) _ e).1)
-  where
-    equal_from : (o : Ordering) → is_eq o ≡ true → o ≡ Equal
-    equal_from Less f = cc
-    equal_from Equal f = refl
-    equal_from Greater f = cc
-
--- the channel's records by their views
-pub views_filtered : (key : List ℕ) (n offset : ℕ) (vs : List View)
-    → views_in (filter (λ (p : Placed). is_of_channel key p.view) (numbered n (added_from offset vs))) ≡ filter
-    (is_of_channel key) vs
-views_filtered key n offset [] = refl
-views_filtered key n offset (v ∷ vs) =
-    let rest = views_filtered key (n + 1) (offset + length v.bytes) vs in
-    elim (cases_Bool (is_of_channel key v)) [
-      | inl is ↦ rw is (ap (λ (us : List View). v ∷ us) rest)
-      | inr other ↦ rw other rest
-    ]
+key_of key v e = same_is key (key_at v.bytes) (same_key_of key v e)
 
 pub all_kept : (key : List ℕ) (vs : List View) → AllByRecursion (λ (v : View). IsTrue (is_of_channel key v)) vs
     → filter (is_of_channel key) vs ≡ vs
@@ -63,24 +44,22 @@ pub record Halves (xs ys : List (List ℕ)) (vs : List View) : Type 0 where
 
 pub halves : (xs ys : List (List ℕ)) (vs : List View) → bytes_in vs ≡ xs ++ ys → AllByRecursion IsView vs
     → Halves xs ys vs
-halves [] ys vs e h = record {
-  prefix = [];
-  back = vs;
-  parts = refl;
-  first = record { bytes = refl; each = tt };
-  second = record { bytes = e; each = h };
-}
-halves (x ∷ xs) ys [] e h = cc
-halves (x ∷ xs) ys (v ∷ vs) e h =
-    let here : v.bytes ≡ x = cc in
-    let rest : bytes_in vs ≡ xs ++ ys = cc in
-    let later = halves xs ys vs rest h.1 in
+halves xs ys vs e each =
+    let n = length xs in
     record {
-      prefix = v ∷ later.prefix;
-      back = later.back;
-      parts = λ i. v ∷ later.parts i;
-      first = record { bytes = λ i. here i ∷ later.first.bytes i; each = (h.0, later.first.each) };
-      second = later.second;
+      prefix = take n vs;
+      back = drop n vs;
+      parts = sym (take-append-drop n vs);
+      first = record {
+        bytes = sym (take-map (λ (v : View). v.bytes) n vs) ∙ ap (λ (bs : List (List ℕ)). take n bs) e
+            ∙ take_at xs ys n refl;
+        each = All-take IsView n vs each;
+      };
+      second = record {
+        bytes = sym (drop-map (λ (v : View). v.bytes) n vs) ∙ ap (λ (bs : List (List ℕ)). drop n bs) e
+            ∙ drop_at xs ys n refl;
+        each = All-drop IsView n vs each;
+      };
     }
 
 -- the records of a packed series are of its channel
@@ -102,51 +81,30 @@ others_gone key (p ∷ ps) vs reads apart are =
     let second = others_gone key ps cut.back reads.1 apart.1 cut.second in
     rw (cut.parts, filter-append, first, second)
 
--- where nothing before it is of these channels
-abbrev Gone : List View → List Packed → Type 0
-Gone prefix packed = AllByRecursion (λ (p : Packed). filter (is_of_channel p.series.codes) prefix ≡ []) packed
+-- records of another channel before them change nothing
+behind : (key : List ℕ) (prefix vs : List View) (packed : List Packed)
+    → AllByRecursion (λ (v : View). IsTrue (is_of_channel key v)) prefix
+    → AllByRecursion (λ (q : Packed). q.series.codes ≢ key) packed → AllByRecursion (StandsIn vs) packed
+    → AllByRecursion (StandsIn (prefix ++ vs)) packed
+behind key prefix vs [] of_key apart h = tt
+behind key prefix vs (q ∷ qs) of_key apart h =
+    let other = q.series.codes in
+    let none = none_kept key other prefix (λ e. apart.0 (sym e)) of_key in
+    let same = views_are other (prefix ++ vs) ∙ rw (filter-append, none) (sym (views_are other vs)) in
+    (rw same h.0, behind key prefix vs qs of_key apart.1 h.1)
 
-gone_more : (key : List ℕ) (prefix more : List View) (packed : List Packed) → Gone prefix packed
-    → AllByRecursion (λ (v : View). IsTrue (is_of_channel key v)) more
-    → AllByRecursion (λ (q : Packed). q.series.codes ≢ key) packed → Gone (prefix ++ more) packed
-gone_more key prefix more [] gone of_key apart = tt
-gone_more key prefix more (q ∷ qs) gone of_key apart =
-    let second = none_kept key q.series.codes more (λ e. apart.0 (sym e)) of_key in
-    (rw (filter-append, gone.0, second), gone_more key prefix more qs gone.1 of_key apart.1)
-
-stand : (prefix : List View) (packed : List Packed) (vs : List View) → Gone prefix packed
+pub archived : (packed : List Packed) (vs : List View)
     → AllByRecursion (λ (p : Packed). ReadsAs p.series p.records) packed → AreApart packed
-    → AreViewsOf (records_of_all packed) vs
-    → AllByRecursion (λ (p : Packed). AreViewsOf p.records (filter (is_of_channel p.series.codes) (prefix ++ vs)))
-    packed
-stand prefix [] vs gone reads apart are = tt
-stand prefix (p ∷ ps) vs gone reads apart are =
+    → AreViewsOf (records_of_all packed) vs → AllByRecursion (StandsIn vs) packed
+archived [] vs reads apart are = tt
+archived (p ∷ ps) vs reads apart are =
     let key = p.series.codes in
     let cut = halves p.records (records_of_all ps) vs are.bytes are.each in
     let of_key = of_channel p cut.prefix reads.0 cut.first in
     let kept = all_kept key cut.prefix of_key in
     let others = others_gone key ps cut.back reads.1 apart.0 cut.second in
-    let own : filter (is_of_channel key) (prefix ++ vs) ≡ cut.prefix =
-    ap (λ (us : List View). filter (is_of_channel key) (prefix ++ us)) cut.parts
-    ∙ rw (filter-append, filter-append, gone.0, kept, others, append-nil) in
-    let rest = stand (prefix ++ cut.prefix) ps cut.back (gone_more key prefix cut.prefix ps gone.1 of_key apart.0)
-    reads.1 apart.1 cut.second in
-    let whole : (prefix ++ cut.prefix) ++ cut.back ≡ prefix ++ vs = append_assoc prefix cut.prefix cut.back
-    ∙ ap (λ (us : List View). prefix ++ us) (sym cut.parts) in
-    (rw own cut.first, rw whole at rest)
-
-pub archived : (packed : List Packed) (vs : List View)
-    → AllByRecursion (λ (p : Packed). ReadsAs p.series p.records) packed → AreApart packed
-    → AreViewsOf (records_of_all packed) vs → AllByRecursion (StandsIn vs) packed
-archived packed vs reads apart are =
-    placed packed (stand [] packed vs (nothing_in_prefix packed) reads apart are)
-  where
-    nothing_in_prefix : (ps : List Packed) → Gone [] ps
-    nothing_in_prefix [] = tt
-    nothing_in_prefix (p ∷ ps) = (refl, nothing_in_prefix ps)
-
-    placed : (ps : List Packed)
-        → AllByRecursion (λ (p : Packed). AreViewsOf p.records (filter (is_of_channel p.series.codes) vs)) ps
-        → AllByRecursion (StandsIn vs) ps
-    placed [] h = tt
-    placed (p ∷ ps) h = (rw (views_filtered p.series.codes 1 0 vs) h.0, placed ps h.1)
+    let own : views_in (records_of key (added_from 0 vs)) ≡ cut.prefix =
+    views_are key vs ∙ ap (λ (us : List View). filter (is_of_channel key) us) cut.parts
+    ∙ rw (filter-append, kept, others, append-nil) in
+    let rest = behind key cut.prefix cut.back ps of_key apart.0 (archived ps cut.back reads.1 apart.1 cut.second) in
+    (rw own cut.first, rw (← cut.parts) at rest)

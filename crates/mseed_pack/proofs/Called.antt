@@ -8,7 +8,7 @@ use Rattle.mseed_audit.specs.Channels.{Placed, views_in}
 use Rattle.mseed_audit.specs.Follows.{IsContinuous}
 use Rattle.mseed_audit.specs.Series.{Trace, IsSeriesOf, IsSeries}
 use Rattle.mseed_audit.specs.Verdict.{IsVerdict, says_continuous}
-use Rattle.mseed_pack.specs.ReadBack.{AreViewsOf, ReadsAs}
+use Rattle.mseed_pack.specs.ReadBack.{AreViewsOf, IsAssembled, ReadsAs}
 
 -- what the audit's layer says: a verdict is exact, and a channel has one series
 abbrev pub ExactVerdicts : Type 0
@@ -29,15 +29,20 @@ pub called : ExactVerdicts → (s : Trace) (records : List (List ℕ)) (ps : Lis
 called exact s records ps verdict reads are is =
     (exact verdict ps is).1 (same_views s records (views_in ps) reads are).0
 
+-- what is assembled of a continuous channel
+pub assembled_of : (ps : List Placed) (answer : Result Trace NotContinuous) → IsContinuous (views_in ps)
+    → IsSeries answer ps → IsAssembled answer (views_in ps)
+assembled_of ps (Ok t) continuous is = (continuous, is.1)
+assembled_of ps (Err Absent) continuous is = continuous.some (ap (λ (qs : List Placed). views_in qs) is)
+assembled_of ps (Err (Broken first)) continuous is = is.0 continuous
+assembled_of ps (Err Memory) continuous is = tt
+
 pub answered : OneSeries
     → (s : Trace) (records : List (List ℕ)) (ps : List Placed) (answer : Result Trace NotContinuous)
     → ReadsAs s records → AreViewsOf records (views_in ps) → IsSeries answer ps
     → (answer ≡ Ok s) ⊎ (answer ≡ Err Memory)
 answered one s records ps (Ok t) reads are is =
     inl (ap Ok (one t s (views_in ps) is.1 (same_views s records (views_in ps) reads are).1))
-answered one s records ps (Err Absent) reads are is =
-    let both = same_views s records (views_in ps) reads are in
-    absurd (both.0.some (ap (λ (qs : List Placed). views_in qs) is))
-answered one s records ps (Err (Broken first)) reads are is =
-    absurd (is.0 (same_views s records (views_in ps) reads are).0)
 answered one s records ps (Err Memory) reads are is = inr refl
+answered one s records ps answer reads are is =
+    absurd (assembled_of ps answer (same_views s records (views_in ps) reads are).0 is)

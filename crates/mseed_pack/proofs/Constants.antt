@@ -1,13 +1,15 @@
 -- The first and the last sample, written into Steim frames in which differences are packed.
-use Rattle.std.proofs.Common.{inl, inr}
-use Rattle.std.proofs.Common.{◌≡◌, ◌≢◌, ℕ, zero, suc, ◌+◌, ◌-◌, ◌*◌, ◌/◌, ◌%◌, ◌^◌, ◌≤◌, List}
-use Rattle.std.proofs.Common.{length, arith, refl, ap, sym, ◌∙◌, cond, eqb}
+use Rattle.std.proofs.Common.{◌≡◌, ◌≢◌, ℕ, ◌+◌, ◌-◌, ◌*◌, ◌/◌, ◌%◌, ◌^◌, ◌≤◌, List}
+use Rattle.std.proofs.Common.{length, arith, refl, ap, ◌∙◌, cond, eqb}
 use Rattle.std.proofs.Common.{ℤ, pos, negsuc, FitsSigned, w32, of_z}
-use Rattle.std.proofs.lemmas.Bool.{cases_eq, ne_eqb}
+use Rattle.std.proofs.lemmas.Bool.{ne_eqb}
 use Rattle.std.proofs.lemmas.Bool.Decides.{nat_tests}
 use Rattle.std.proofs.lemmas.Int.{ints}
 use Rattle.byteorder.specs.Endian.{twos_complement}
-use Rattle.mseed_steim.specs.Frames.{data_word, words_from, word_at, code_at, word_count}
+use Rattle.mseed_steim.specs.Frames.{data_word, word_at, code_at, word_count}
+use Rattle.std.proofs.Common.{zero, suc, inl, inr, sym}
+use Rattle.std.proofs.lemmas.Bool.{cases_eq}
+use Rattle.mseed_steim.specs.Frames.{words_from}
 use Rattle.mseed_steim.proofs.Walking.{words_none, words_skip, words_step}
 use Rattle.mseed_pack.specs.private.Filling.{AreSet}
 

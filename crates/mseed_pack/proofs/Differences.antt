@@ -1,10 +1,8 @@
 -- The differences of a series, one by one.
 use Rattle.std.proofs.Common.{inl, inr}
 use Rattle.std.proofs.Common.{◌≡◌, ◌≢◌, ◌∙◌, ℕ, zero, suc, ◌+◌, ◌-◌, ◌<◌, List, [], ◌∷◌, length, get_or, set, refl}
-use Rattle.std.proofs.Common.{sym, ap, take, drop, All, arith, ℤ, pos, negsuc, ◌-ℤ◌}
-use Rattle.std.proofs.Common.{FitsSigned, w32}
+use Rattle.std.proofs.Common.{sym, ap, take, drop, All, arith, ℤ, pos, ◌-ℤ◌}
 use Rattle.std.specs.Prelude.{slice_range}
-use native.Mathlib.Numerals.{unary_clauses}
 use Rattle.std.proofs.lemmas.Bool.{cases_eq}
 use Rattle.std.proofs.lemmas.Int.{ints}
 use Rattle.std.proofs.lemmas.List.{get_or-set_other, get_or-set_same}
@@ -20,10 +18,16 @@ from_at before [] i h = absurd (omega (arith, h))
 from_at before (x ∷ xs) zero h = refl
 from_at before (x ∷ xs) (suc i) h = from_at x xs i (omega (arith, h))
 
-pub difference_at : (xs : List ℤ) (i : ℕ) → i + 1 < length xs
-    → get_or (differences xs) (i + 1) (pos 0) ≡ get_or xs (i + 1) (pos 0) -ℤ get_or xs i (pos 0)
-difference_at [] i h = absurd (omega (arith, h))
-difference_at (x ∷ xs) i h = simp unary_clauses (from_at x xs i (omega (arith, h)))
+pub differences_are : (xs : List ℤ) → differences xs ≡ differences_from (get_or xs 0 (pos 0)) xs
+differences_are [] = refl
+differences_are (x ∷ xs) = let none : pos 0 ≡ x -ℤ x = omega (arith, ints) in
+    ap (λ (z : ℤ). z ∷ differences_from x xs) none
+
+pub difference_at : (xs : List ℤ) (i : ℕ) → i < length xs
+    → get_or (differences xs) i (pos 0) ≡ get_or xs i (pos 0) -ℤ sample_before xs i
+difference_at xs zero h = rw differences_are (from_at (get_or xs 0 (pos 0)) xs zero h)
+difference_at xs (suc i) h = let before : suc i - 1 ≡ i = omega arith in
+    rw (differences_are, before) (from_at (get_or xs 0 (pos 0)) xs (suc i) h)
 
 pub first_difference : (xs : List ℤ) → get_or (differences xs) 0 (pos 0) ≡ pos 0
 first_difference [] = refl
@@ -34,8 +38,7 @@ length_from before [] = refl
 length_from before (x ∷ xs) = ap (λ (n : ℕ). suc n) (length_from x xs)
 
 pub length-differences : (xs : List ℤ) → length (differences xs) ≡ length xs
-length-differences [] = refl
-length-differences (x ∷ xs) = ap (λ (n : ℕ). suc n) (length_from x xs)
+length-differences xs = rw differences_are (length_from (get_or xs 0 (pos 0)) xs)
 
 from_take : (before : ℤ) (xs : List ℤ) (n : ℕ)
     → take n (differences_from before xs) ≡ differences_from before (take n xs)
@@ -51,11 +54,9 @@ from_drop before (x ∷ xs) (suc n) = from_drop x xs n
 
 pub drop_differences : (xs : List ℤ) (n : ℕ)
     → drop n (differences xs) ≡ differences_from (sample_before xs n) (drop n xs)
-drop_differences [] zero = refl
-drop_differences [] (suc n) = refl
-drop_differences (x ∷ xs) zero = let none : pos 0 ≡ x -ℤ x = omega (arith, ints) in
-    ap (λ (z : ℤ). z ∷ differences_from x xs) none
-drop_differences (x ∷ xs) (suc n) = let place : suc n - 1 ≡ n = omega arith in rw place (from_drop x xs n)
+drop_differences xs zero = differences_are xs
+drop_differences xs (suc n) = let before : suc n - 1 ≡ n = omega arith in
+    rw (differences_are, before) (from_drop (get_or xs 0 (pos 0)) xs (suc n))
 
 -- those of some samples, the first of them from the sample before it
 pub part_differences : (xs : List ℤ) (first end : ℕ)
@@ -68,10 +69,6 @@ pub difference_fits : (xs : List ℤ) (i : ℕ) → i < length xs → All (IsWit
     → IsWithin 32 (get_or (differences xs) i (pos 0))
 difference_fits xs i inside all =
     All-get_or (IsWithin 32) (differences xs) i (pos 0) (omega (arith, inside, length-differences xs)) all
-
-pub within_fits : (z : ℤ) → IsWithin 32 z → FitsSigned w32 z
-within_fits (pos n) h = record { sfits = omega (arith, ints, h.1) }
-within_fits (negsuc n) h = record { sfits = omega (arith, ints, h.0) }
 
 -- one of them is put into a list, where others stand
 pub put_one : (ds xs : List ℤ) (first i : ℕ) (z : ℤ) → i < length xs → z ≡ get_or ds (first + i) (pos 0) → (k : ℕ)

@@ -13,7 +13,7 @@ use Rattle.mseed_steim_pack.specs.Packing.{IsEmptyWord, IsFewest, PacksRun}
 use Rattle.mseed_audit.specs.Series.{Trace}
 use Rattle.mseed_steim.specs.declared.encoding.Encoding.TheVariants.{Steim2}
 use Rattle.mseed_pack.specs.declared.options.Options.{Options}
-use Rattle.mseed_pack.specs.FewestWords.{words_in_use, HasFewestWords}
+use Rattle.mseed_pack.specs.FewestWords.{HasFewestWords}
 use Rattle.mseed_pack.specs.Packing.{Piece, HoldsFrames, IsPacked}
 use Rattle.mseed_pack.specs.Stretches.{differences, span_end, left_of}
 use Rattle.mseed_pack.proofs.Viewed.{short}
@@ -47,26 +47,16 @@ all_in_use s (w ∷ ws) vs ds rest run h =
     ne_eqb w.code 0 (coded s w.code w.bits (take run.0 ds) (omega (arith, size, full.some)) full.spelled) in
     rw code (ap suc (all_in_use s ws vs (drop run.0 ds) rest run.1.1 h))
 
-frames_fewest : PackedFewest → (left samples : List ℤ) (frames : ℕ) (payload : List ℕ)
-    → HoldsFrames Two left samples frames payload → IsFewest (take (length samples) left) (words_in_use payload)
-frames_fewest fewest left samples frames payload h =
-    let ws = data_words payload in
-    rw (
-      ← all_in_use Two (take h.words ws) (drop h.words ws) left (drop (length samples) left) h.packed h.behind,
-      take-append-drop,
-    ) at (fewest (take h.words ws) left (length samples) h.packed)
-
 pub record_fewest : PackedFewest → (s : Trace) (o : Options) (p : Piece) → o.encoding ≡ Steim2 → IsPacked s o p
     → HasFewestWords s p
 record_fewest fewest s o p two k =
     let n = length p.samples in
-    let holds : HoldsFrames Two (left_of s p.first) p.samples k.frames (drop 64 p.bytes) = rw two at k.payload in
+    let left = left_of s p.first in
+    let ws = data_words (drop 64 p.bytes) in
+    let h : HoldsFrames Two left p.samples k.frames (drop 64 p.bytes) = rw two at k.payload in
+    let used = all_in_use Two (take h.words ws) (drop h.words ws) left (drop n left) h.packed h.behind in
+    let least = rw (← used, take-append-drop) at (fewest (take h.words ws) left n h.packed) in
     let count : p.first + n - p.first ≡ n = omega arith in
-    rw (count)
-    (rw (← take-take n (span_end s p.first - p.first) (drop p.first (differences s.samples)) (short s p k.within))
-    (frames_fewest fewest (left_of s p.first) p.samples k.frames (drop 64 p.bytes) holds))
-
-pub all_fewest : PackedFewest → (s : Trace) (o : Options) (ps : List Piece) → o.encoding ≡ Steim2
-    → AllByRecursion (IsPacked s o) ps → AllByRecursion (HasFewestWords s) ps
-all_fewest fewest s o [] two each = tt
-all_fewest fewest s o (p ∷ ps) two each = (record_fewest fewest s o p two each.0, all_fewest fewest s o ps two each.1)
+    rw count
+    (rw (← take-take n (span_end s p.first - p.first) (drop p.first (differences s.samples))
+    (short s p k.within)) least)

@@ -5,7 +5,7 @@ use Rattle.std.proofs.Common.{get_or, sym, ap, ◌∙◌, arith, ℤ, pos, ◌�
 use Rattle.std.specs.Prelude.{slice_range, slice_get}
 use Rattle.std.proofs.lemmas.List.{length-drop, length-take-le, take-take, get_or-take, get_or-drop, ext_get_or}
 use Rattle.std.proofs.lemmas.Option.{slice_get-get_or}
-use Rattle.std.proofs.lemmas.List.Elements.{All-drop, All-get_or, All-take}
+use Rattle.std.proofs.lemmas.List.Elements.{All-get_or}
 use Rattle.std.proofs.lemmas.Bool.{cases_lt}
 use Rattle.mseed_steim.specs.declared.scheme.Scheme.{Scheme}
 use Rattle.mseed_steim.specs.declared.scheme.Scheme.TheVariants.{One, Two}
@@ -47,111 +47,87 @@ held_part xs w first end h low order high long =
     ∙ ap (λ (m : ℕ). get_or (differences xs) m (pos 0)) place
     ∙ sym (part_at (differences xs) first end k here))
 
-part_long : (s : Scheme) (xs : List ℤ) (l : Remaining) (until : ℕ) (r : Packed) (p : List ℕ)
-    → Fills s xs l until r p
-    → (l.first < until) × (length (slice_range (differences xs) l.first until) ≡ until - l.first)
-part_long s xs l until r p f = (
-  omega (arith, f.are_left.some, f.enough, f.frames.long),
-  length-between (differences xs) l.first until (omega (arith, f.most, f.are_left.inside, length-differences xs)),
-)
-
--- where seven for each word are packed, those are packed of all that are left
-run_left : (s : Scheme) (xs : List ℤ) (l : Remaining) (until : ℕ) (r : Packed) (p : List ℕ)
-    → Fills s xs l until r p
-    → PacksRun s (take r.words (data_words p)) (slice_range (differences xs) l.first l.end)
-    (drop r.used (slice_range (differences xs) l.first l.end))
-run_left s xs l until r p f = elim f.enough [
-  | inl e ↦ rw e at f.run.packed
-  | inr b ↦
-      let part : slice_range (differences xs) l.first until ≡ take (until - l.first)
-      (slice_range (differences xs) l.first l.end) =
-      sym (take-take (until - l.first) (l.end - l.first) (drop l.first (differences xs)) (omega (arith, f.most))) in
-      packs_on s (take r.words (data_words p)) (slice_range (differences xs) l.first l.end) r.used (until - l.first)
-      (omega (arith, length-take-le r.words (data_words p) f.run.inside.1, f.run.inside.1, words_fit p, b))
-      (rw part at f.run.inside.0) (rw part at f.run.packed)
-]
-
-pub some_used_of : (s : Scheme) (xs : List ℤ) (l : Remaining) (until : ℕ) (r : Packed) (p : List ℕ)
-    → Fills s xs l until r p → (0 < r.used) × (l.first + r.used ≤ until)
-some_used_of s xs l until r p f =
-    let part = slice_range (differences xs) l.first until in
-    let sized = part_long s xs l until r p f in
-    let count = length-take-le r.words (data_words p) f.run.inside.1 in
-    let each = rest_shorter s (take r.words (data_words p)) part (drop r.used part) f.run.packed in
-    let word = length-words_from p 3 (word_count p - 3) in
-    let fits = f.run.inside.0 in (
-      omega (arith, f.run.whole, sized.0, sized.1, each, count, word, length-drop r.used part, fits, f.frames.long),
-      omega (arith, fits, sized.0, sized.1),
+-- what was packed of the differences up to a place
+module _ {s : Scheme} {xs : List ℤ} {l : Remaining} {until : ℕ} {r : Packed} {p : List ℕ} (f : Fills s xs l until r p)
+  where
+    part_long : (l.first < until) × (length (slice_range (differences xs) l.first until) ≡ until - l.first)
+    part_long = (
+      omega arith,
+      length-between (differences xs) l.first until (omega (arith, length-differences xs)),
     )
 
--- each word takes seven at the most
-used_seven : (s : Scheme) (xs : List ℤ) (l : Remaining) (until : ℕ) (r : Packed) (p : List ℕ)
-    → Fills s xs l until r p → r.used ≤ 7 * r.words
-used_seven s xs l until r p f =
-    let part = slice_range (differences xs) l.first until in
-    let run = run_few s (take r.words (data_words p)) part (drop r.used part) f.run.packed in
-    let count = length-take-le r.words (data_words p) f.run.inside.1 in
-    omega (arith, run, f.run.inside.0, count, length-drop r.used part)
+    -- where seven for each word are packed, those are packed of all that are left
+    run_left : PacksRun s (take r.words (data_words p)) (slice_range (differences xs) l.first l.end)
+        (drop r.used (slice_range (differences xs) l.first l.end))
+    run_left = elim f.enough [
+      | inl e ↦ rw e at f.run.packed
+      | inr b ↦
+          let part : slice_range (differences xs) l.first until ≡ take (until - l.first)
+          (slice_range (differences xs) l.first l.end) =
+          sym (take-take (until - l.first) (l.end - l.first) (drop l.first (differences xs)) (omega (arith, f.most))) in
+          packs_on s (take r.words (data_words p)) (slice_range (differences xs) l.first l.end) r.used (until - l.first)
+          (omega (arith, length-take-le r.words (data_words p) f.run.inside.1, f.run.inside.1, words_fit p, b))
+          (rw part at f.run.inside.0) (rw part at f.run.packed)
+    ]
 
-pub taken_of : (s : Scheme) (xs : List ℤ) (l : Remaining) (until : ℕ) (r : Packed) (p : List ℕ)
-    → Fills s xs l until r p → AreTaken l r.used
-taken_of s xs l until r p f =
-    let some = some_used_of s xs l until r p f in
-    record {
-      some = some.0;
-      within = omega (arith, some.1, f.most);
-      few = omega (arith, used_seven s xs l until r p f, f.run.inside.1, f.frames.short, words_fit p);
+    pub some_used_of : (0 < r.used) × (l.first + r.used ≤ until)
+    some_used_of =
+        let part = slice_range (differences xs) l.first until in
+        let sized = part_long in
+        let count = length-take-le r.words (data_words p) f.run.inside.1 in
+        let each = rest_shorter s (take r.words (data_words p)) part (drop r.used part) f.run.packed in
+        let word = length-words_from p 3 (word_count p - 3) in
+        let fits = f.run.inside.0 in
+        (omega (arith, f.run.whole, length-drop r.used part), omega arith)
+
+    -- each word takes seven at the most
+    used_seven : r.used ≤ 7 * r.words
+    used_seven =
+        let part = slice_range (differences xs) l.first until in
+        let run = run_few s (take r.words (data_words p)) part (drop r.used part) f.run.packed in
+        let count = length-take-le r.words (data_words p) f.run.inside.1 in
+        omega (arith, f.run.inside.0, length-drop r.used part)
+
+    pub taken_of : AreTaken l r.used
+    taken_of = record {
+      some = some_used_of.0;
+      within = omega (arith, some_used_of.1, f.most);
+      few = omega (arith, used_seven, f.run.inside.1, f.frames.short, words_fit p);
     }
 
-pub holds : (s : Scheme) (xs : List ℤ) (l : Remaining) (until : ℕ) (r : Packed) (p q : List ℕ)
-    → Fills s xs l until r p → length q ≡ length p
-    → AreSet p q (get_or xs l.first (pos 0)) (get_or xs (l.first + r.used - 1) (pos 0))
-    → HoldsFrames s (slice_range (differences xs) l.first l.end) (slice_range xs l.first (l.first + r.used))
-    ((r.words + 16) / 15) q
-holds s xs l until r p q f size set =
-    let left = slice_range (differences xs) l.first l.end in
-    let mine = slice_range xs l.first (l.first + r.used) in
-    let some = some_used_of s xs l until r p f in
-    let sized = part_long s xs l until r p f in
-    let seven = used_seven s xs l until r p f in
-    let count : length mine ≡ r.used = omega (
-      arith,
-      length-between xs l.first (l.first + r.used) (omega (arith, some.1, f.most, f.are_left.inside)),
-    ) in
-    let all = length-between (differences xs) l.first l.end (omega (arith, f.are_left.inside, length-differences xs)) in
-    let at : (k : ℕ) → k < r.used → get_or mine k (pos 0) ≡ get_or xs (l.first + k) (pos 0) =
-    λ k h. part_at xs l.first (l.first + r.used) k (omega (arith, h)) in
-    record {
-      words = r.words;
-      inside = rw set.words f.run.inside.1;
-      packed = rw (set.words, count) (run_left s xs l until r p f);
-      full = elim f.run.whole [
-        | inl e ↦ inl (omega (
-          arith,
-          count,
-          e,
-          sized.0,
-          sized.1,
-          all,
-          f.enough,
-          seven,
-          f.run.inside.1,
-          words_fit p,
-          f.frames.long,
-          f.frames.whole,
-        ))
-        | inr e ↦ inr (rw set.words e)
-      ];
-      behind = rw set.words f.run.behind;
-      codes = λ k h first_or_head. set.codes k ∙ f.run.codes k (omega (arith, h, size)) first_or_head;
-      first_is = slice_get-get_or mine 0 (pos 0) (omega (arith, count, some.0))
-          ∙ ap Some (at 0 some.0 ∙ rw add-zero (sym set.first_is));
-      last_is = ap (λ (m : ℕ). slice_get mine (m - 1)) count
-          ∙ slice_get-get_or mine (r.used - 1) (pos 0) (omega (arith, count, some.0))
-          ∙ ap Some (at (r.used - 1) (omega (arith, some.0))
-          ∙ (let e : l.first + (r.used - 1) ≡ l.first + r.used - 1 = omega (arith, some.0) in rw e (sym set.last_is)));
-      frames_is = let e : r.words + 16 ≡ r.words + 2 + 14 = omega arith in rw e;
-    }
+    pub holds : (q : List ℕ) → length q ≡ length p
+        → AreSet p q (get_or xs l.first (pos 0)) (get_or xs (l.first + r.used - 1) (pos 0))
+        → HoldsFrames s (slice_range (differences xs) l.first l.end) (slice_range xs l.first (l.first + r.used))
+        ((r.words + 16) / 15) q
+    holds q size set =
+        let mine = slice_range xs l.first (l.first + r.used) in
+        let some = some_used_of in
+        let sized = part_long in
+        let seven = used_seven in
+        let long = length-between xs l.first (l.first + r.used) (omega (arith, some.1, f.most, f.are_left.inside)) in
+        let count : length mine ≡ r.used = omega arith in
+        let all = length-between (differences xs) l.first l.end (omega (arith, length-differences xs)) in
+        let at : (k : ℕ) → k < r.used → get_or mine k (pos 0) ≡ get_or xs (l.first + k) (pos 0) =
+        λ k h. part_at xs l.first (l.first + r.used) k (omega (arith, h)) in
+        record {
+          words = r.words;
+          inside = rw set.words f.run.inside.1;
+          packed = rw (set.words, count) run_left;
+          full = elim f.run.whole [
+            | inl e ↦ inl (omega (arith, f.run.inside.1, words_fit p))
+            | inr e ↦ inr (rw set.words e)
+          ];
+          behind = rw set.words f.run.behind;
+          codes = λ k h first_or_head. set.codes k ∙ f.run.codes k (omega (arith, h, size)) first_or_head;
+          first_is = slice_get-get_or mine 0 (pos 0) (omega (arith, count, some.0))
+              ∙ ap Some (at 0 some.0 ∙ rw add-zero (sym set.first_is));
+          last_is = ap (λ (m : ℕ). slice_get mine (m - 1)) count
+              ∙ slice_get-get_or mine (r.used - 1) (pos 0) (omega (arith, count, some.0))
+              ∙ ap Some (at (r.used - 1) (omega (arith, some.0)) ∙ (
+              let e : l.first + (r.used - 1) ≡ l.first + r.used - 1 = omega (arith, some.0) in rw e (sym set.last_is)
+              ));
+          frames_is = let e : r.words + 16 ≡ r.words + 2 + 14 = omega arith in rw e;
+        }
 
 -- a window holds enough of the samples that are left: all, or seven for each word of so many bytes
 pub held_enough : (all held few : ℕ) → min all few ≤ held → (min all held ≡ all) ⊎ (few ≤ min all held)
@@ -170,10 +146,3 @@ none_large s ds i fit large =
 pub scheme_fits : (s : Scheme) (ds : List ℤ) → All (IsWithin (width_of s)) ds → All (IsWithin 32) ds
 scheme_fits One ds fit = fit
 scheme_fits Two ds fit = all_wider 30 32 ds (omega arith) fit
-
--- some of the differences fit as all do
-pub part_fits : (width : ℕ) (xs : List ℤ) (ds : List ℤ) (first end : ℕ)
-    → ds ≡ slice_range (differences xs) first end → All (IsWithin width) (differences xs) → All (IsWithin width) ds
-part_fits width xs ds first end is fit =
-    rw is (All-take (IsWithin width) (end - first) (drop first (differences xs))
-    (All-drop (IsWithin width) first (differences xs) fit))

@@ -1,5 +1,5 @@
 -- The records that a series is packed into follow one another, and hold the series.
-use Rattle.std.proofs.Common.{◌≡◌, ◌≢◌, ℕ, ◌+◌, ◌*◌, ◌^◌, ◌≤◌, List, [], ◌∷◌, ◌++◌, length, map}
+use Rattle.std.proofs.Common.{◌≡◌, ◌≢◌, ℕ, ◌+◌, ◌*◌, ◌^◌, List, [], ◌∷◌, ◌++◌, length, map}
 use Rattle.std.proofs.Common.{take, drop, refl, sym, ap, ◌∙◌, arith, ℤ}
 use Rattle.std.proofs.Common.{length-append}
 use Rattle.std.specs.List.{AllByRecursion, flat_map}
@@ -8,7 +8,7 @@ use Rattle.mseed_time.specs.Ratios.{ratio_of}
 use Rattle.mseed_record.specs.View.{View, IsView}
 use Rattle.mseed_record.specs.Written.{headed_view}
 use Rattle.mseed_steim.specs.Reading.{HasOneReading}
-use Rattle.mseed_audit.specs.Follows.{Follows, AllNeighbours, IsSound, IsContinuous}
+use Rattle.mseed_audit.specs.Follows.{Follows, AllNeighbours, IsSound, IsContinuous, FollowsAt}
 use Rattle.mseed_audit.specs.Series.{Trace, AreSteps, AreJoined, none, one, steps_from, IsSeriesOf}
 use Rattle.mseed_pack.specs.declared.options.Options.{Options}
 use Rattle.mseed_pack.specs.Clock.{added_before}
@@ -16,7 +16,7 @@ use Rattle.mseed_pack.specs.Fitting.{IsTooFast, Fits}
 use Rattle.mseed_pack.specs.Outcome.{IsTrace}
 use Rattle.mseed_pack.specs.Packing.{Piece, ArePlaced, IsPacked}
 use Rattle.mseed_pack.specs.Stretches.{step_after}
-use Rattle.mseed_pack.proofs.Leaps.{later, passes, all_left, none_left}
+use Rattle.mseed_pack.proofs.Leaps.{later, passes, before, none_left}
 use Rattle.mseed_pack.proofs.Neighbours.{joins}
 use Rattle.mseed_pack.proofs.Times.{reading_first}
 use Rattle.std.proofs.Common.{append_assoc, append-nil}
@@ -55,23 +55,19 @@ laid headers spells s o trace fits number first (p ∷ ps) joined placed each =
     record {
       views = headed_view each.0.header p.bytes ∷ rest.views;
       bytes = ap (λ (bs : List (List ℕ)). p.bytes ∷ bs) rest.bytes;
-      at = (
-        p.samples,
-        (
-          samples_in ps,
-          (
-            refl,
-            rw placed.1 at (at headers spells s o p trace fits own each.0),
-            rest.at,
-          ),
-        ),
-      );
+      at = (p.samples, (samples_in ps, (refl, rw placed.1 at (at each.0 headers spells trace fits own), rest.at)));
     }
+
+-- what is so of the view of each record is so of each of these
+pub each_at : (s : Trace) (P : View → Type 0) → ((first : ℕ) (v : View) (samples : List ℤ) → IsAt s first v samples
+    → P v) → (first : ℕ) (vs : List View) (samples : List ℤ) → AreAt s first vs samples → AllByRecursion P vs
+each_at s P is first [] samples h = tt
+each_at s P is first (v ∷ vs) samples h =
+    (is first v h.0 h.1.1.1, each_at s P is (first + length h.0) vs h.1.0 h.1.1.2)
 
 pub are_views : (s : Trace) (first : ℕ) (vs : List View) (samples : List ℤ) → AreAt s first vs samples
     → AllByRecursion IsView vs
-are_views s first [] samples h = tt
-are_views s first (v ∷ vs) samples h = (h.1.1.1.is_view, are_views s (first + length h.0) vs h.1.0 h.1.1.2)
+are_views s = each_at s IsView (λ first v samples is. is.is_view)
 
 -- their samples, joined
 pub joined_at : (s : Trace) (first : ℕ) (vs : List View) (samples : List ℤ) → AreAt s first vs samples
@@ -96,22 +92,14 @@ steps_on s are first (v ∷ vs) samples h =
     rw (is.count, is.step, end, pass.left, append_assoc, steps_on s are (first + n) vs h.1.0 h.1.1.2)
 
 -- each has one reading
-sound_at : ((v : View) → HasOneReading v) → (s : Trace) (first : ℕ) (vs : List View) (samples : List ℤ)
-    → AreAt s first vs samples → AllByRecursion IsSound vs
-sound_at single s first [] samples h = tt
-sound_at single s first (v ∷ vs) samples h =
-    let is = h.1.1.1 in (
-      record {
-        timed = rw is.rate refl;
-        samples = h.0;
-        whole = is.whole;
-        only = λ others r. single v others h.0 r is.whole.0;
-      },
-      sound_at single s (first + length h.0) vs h.1.0 h.1.1.2,
-    )
-
-slow_enough : (s : Trace) → ¬ (IsTooFast s) → (ratio_of s.rate).num ≤ 500_000 * (ratio_of s.rate).den
-slow_enough s slow = omega (arith, slow)
+sound : ((v : View) → HasOneReading v) → (s : Trace) (first : ℕ) (v : View) (samples : List ℤ) → IsAt s first v samples
+    → IsSound v
+sound single s first v samples is = record {
+  timed = rw is.rate refl;
+  samples = samples;
+  whole = is.whole;
+  only = λ others r. single v others samples r is.whole.0;
+}
 
 -- the next one begins where this one ends
 follows_at : (s : Trace) → IsTrace s → ¬ (IsTooFast s) → (first : ℕ) (b v : View) (samples next : List ℤ)
@@ -122,36 +110,31 @@ follows_at s trace slow first b v samples next x y =
     let pass = passes 0 (length s.samples) s.steps first n trace.steps x.some x.within in
     let some = (has_ratio s.rate.factor s.rate.multiplier trace.factor_counts trace.multiplier_counts).1 in
     let exact = joins s.start (added_before s.steps first) (added_before s.steps (first + n))
-    (first * rate.den * 10 ^ 6) n rate (step_after s (first + n)) some (slow_enough s slow) pass.added in
-    let way : first * rate.den * 10 ^ 6 + n * rate.den * 10 ^ 6 ≡ (first + n) * rate.den * 10 ^ 6 = omega arith in (
-      rate,
-      (
-        rate,
-        record {
-          before_is = x.rate;
-          next_is = y.rate;
-          same = refl;
-          one_step = x.reported;
-          joins = rw (x.start, x.count, x.step, y.start) (rw way at exact);
-        },
-      ),
-    )
+    (first * rate.den * 10 ^ 6) n rate (step_after s (first + n)) some (omega (arith, slow)) pass.added in
+    let way : first * rate.den * 10 ^ 6 + n * rate.den * 10 ^ 6 ≡ (first + n) * rate.den * 10 ^ 6 = omega arith in
+    let follows : FollowsAt rate rate b v = record {
+      before_is = x.rate;
+      next_is = y.rate;
+      same = refl;
+      one_step = x.reported;
+      joins = rw (x.start, x.count, x.step, y.start) (rw way at exact);
+    } in
+    (rate, (rate, follows))
 
 neighbours_at : (s : Trace) → IsTrace s → ¬ (IsTooFast s) → (first : ℕ) (vs : List View) (samples : List ℤ)
     → AreAt s first vs samples → AllNeighbours Follows vs
 neighbours_at s trace slow first [] samples h = tt
 neighbours_at s trace slow first (b ∷ []) samples h = tt
-neighbours_at s trace slow first (b ∷ (v ∷ vs)) samples h = (
-  follows_at s trace slow first b v h.0 h.1.1.2.0 h.1.1.1 h.1.1.2.1.1.1,
-  neighbours_at s trace slow (first + length h.0) (v ∷ vs) h.1.0 h.1.1.2,
-)
+neighbours_at s trace slow first (b ∷ (v ∷ vs)) samples h =
+    let rest = neighbours_at s trace slow (first + length h.0) (v ∷ vs) h.1.0 h.1.1.2 in
+    (follows_at s trace slow first b v h.0 h.1.1.2.0 h.1.1.1 h.1.1.2.1.1.1, rest)
 
 -- the channel is continuous
 pub continuous_at : ((v : View) → HasOneReading v) → (s : Trace) → IsTrace s → ¬ (IsTooFast s) → s.samples ≢ []
     → (vs : List View) → AreAt s 0 vs s.samples → IsContinuous vs
 continuous_at single s trace slow some vs h = record {
   some = λ e. some (rw e at h);
-  each = sound_at single s 0 vs s.samples h;
+  each = each_at s IsSound (sound single s) 0 vs s.samples h;
   follow = neighbours_at s trace slow 0 vs s.samples h;
 }
 
@@ -170,7 +153,7 @@ series_at s trace some (v ∷ vs) h =
       factor = sym is.factor;
       multiplier = sym is.multiplier;
       samples = joined_at s 0 (v ∷ vs) s.samples h;
-      steps = sym (all_left (length s.samples) s.steps trace.steps).0
+      steps = sym (before 0 (length s.samples) s.steps 0 (omega arith) trace.steps).all
           ∙ steps_on s trace.steps 0 (v ∷ vs) s.samples h
           ∙ rw (size, none_left 0 (length s.samples) s.steps trace.steps, append-nil);
     }

@@ -3,8 +3,8 @@ use Rattle.std.proofs.Common.{◌≡◌, ℕ, suc, ◌+◌, ◌-◌, ◌*◌, �
 use Rattle.std.proofs.Common.{refl, sym, ap, ◌∙◌, arith, ℤ, length-append, append_assoc}
 use Rattle.std.specs.Prelude.{slice_range, flat_map}
 use Rattle.std.specs.List.{concat}
-use Rattle.std.proofs.lemmas.List.{append-nil, take-append-drop, length-drop, length-map, drop_all}
-use Rattle.std.proofs.ByRecursion.{All-push}
+use Rattle.std.proofs.lemmas.List.{append-nil, take-append-drop, length-drop, length-map}
+use Rattle.std.proofs.ByRecursion.{All-push, All-take}
 use Rattle.std.proofs.lemmas.List.{take-append-le}
 use Rattle.std.proofs.lemmas.List.Folds.{concat-append}
 use Rattle.std.proofs.lemmas.Bool.{cases_lt}
@@ -12,14 +12,14 @@ use Rattle.std.proofs.Common.{zero, inl, inr}
 use Rattle.std.proofs.Math.Seq.{take-append-add}
 use Rattle.std.proofs.lemmas.List.{map_push, take-map, take_at}
 use Rattle.std.proofs.lemmas.List.Concat.{flat_map-append}
-use Rattle.std.proofs.lemmas.List.Elements.{All-from_recursion, All-take, recursion_from_All}
 use Rattle.mseed_pack.proofs.Onward.{parts}
 use Rattle.mseed_stream.specs.Device.{BytesWritten}
 use Rattle.mseed_audit.specs.Series.{Trace}
-use Rattle.mseed_pack.specs.declared.batch.Place.{Place}
+use Rattle.mseed_pack.specs.declared.batch.PackedSoFar.{PackedSoFar}
 use Rattle.mseed_pack.specs.declared.options.Options.{Options}
 use Rattle.mseed_pack.specs.Packing.{Piece, ArePlaced, IsPacked, PacksUpTo}
-use Rattle.mseed_pack.specs.Outcome.{PacksOn, EmittedSo, EmittedAll, EmittedPrefix}
+use Rattle.mseed_pack.specs.Outcome.{EmittedPrefix}
+use Rattle.mseed_pack.specs.private.Spans.{PacksTo}
 
 -- a piece of these samples, from one on
 abbrev pub piece_at : Trace → ℕ → ℕ → ℕ → List ℕ → Piece
@@ -34,98 +34,58 @@ placed_more : (ps : List Piece) (p : Piece) (number first : ℕ) → ArePlaced n
     → p.number ≡ number + length ps → p.first ≡ first + length (flat_map (λ (q : Piece). q.samples) ps)
     → ArePlaced number first (ps ++ p ∷ [])
 placed_more [] p number first h a b = (omega (arith, a), omega (arith, b), tt)
-placed_more (q ∷ ps) p number first h a b = (
-  h.0,
-  h.1,
-  placed_more ps p (number + 1) (first + length q.samples) h.2 (omega (arith, a))
-      (omega (arith, b, length-append q.samples (flat_map (λ (x : Piece). x.samples) ps))),
-)
+placed_more (q ∷ ps) p number first h a b =
+    let size = length-append q.samples (flat_map (λ (x : Piece). x.samples) ps) in
+    (h.0, h.1, placed_more ps p (number + 1) (first + length q.samples) h.2 (omega arith) (omega arith))
 
 pub concat_more : (bs : List (List ℕ)) (b : List ℕ) → concat (bs ++ b ∷ []) ≡ concat bs ++ b
 concat_more bs b = simp (concat-append, append-nil)
 
-packs_more : (s : Trace) (o : Options) (records : List (List ℕ)) (first n : ℕ) (b : List ℕ)
-    → PacksUpTo s o records (drop first s.samples) → first + n ≤ length s.samples
-    → IsPacked s o (piece_at s (length records) first n b) → PacksUpTo s o (records ++ b ∷ [])
-    (drop (first + n) s.samples)
-packs_more s o records first n b h inside one =
-    let p = piece_at s (length records) first n b in
-    let whole = simp length-append at (ap (λ (l : List ℤ). length l) h.joined) in
-    let count = simp length-map at (ap (λ (bs : List (List ℕ)). length bs) h.bytes) in
-    record {
-      pieces = h.pieces ++ p ∷ [];
-      bytes = map_push (λ (q : Piece). q.bytes) h.pieces p ∙ ap (λ (bs : List (List ℕ)). bs ++ b ∷ []) h.bytes;
-      joined = simp (flat_map-append, append-nil, append_assoc, parts s.samples first (first + n) (omega arith))
-          h.joined;
-      placed = placed_more h.pieces p 0 0 h.placed (omega (arith, count))
-          (omega (arith, whole, inside, length-drop first s.samples));
-      each = All-push (IsPacked s o) h.pieces p h.each one;
-    }
-
--- no record
-pub packs_none : (s : Trace) (o : Options) → PacksUpTo s o [] s.samples
-packs_none s o = record { pieces = []; bytes = refl; joined = refl; placed = tt; each = tt }
-
-pub emitted_none : (s : Trace) (o : Options) (written : BytesWritten) → EmittedSo s o 0 0 written written
-emitted_none s o written = record {
-  records = [];
-  packing = packs_none s o;
-  count_is = refl;
-  long = omega arith;
-  bytes = sym (append-nil written.bytes);
-  failures = refl;
-}
-
 pub packed_length : (s : Trace) (o : Options) (p : Piece) → IsPacked s o p → length p.bytes ≡ 2 ^ o.exponent
 packed_length s o p one = one.headed.size ∙ ap (λ (e : ℕ). 2 ^ e) one.fields.exponent
 
--- no record goes from a place to itself
-pub on_none : (s : Trace) (o : Options) (place : Place) → PacksOn s o place place []
-on_none s o place = record {
+-- no record
+pub packs_none : (s : Trace) (o : Options) (place : PackedSoFar) → place.number ≡ 0 → place.first ≡ 0
+    → PacksTo s o place []
+packs_none s o place number first = record {
   records = [];
-  packing = λ prefix _ h. rw append-nil h;
-  count_is = omega arith;
-  long = omega arith;
+  packing = rw first (record { pieces = []; bytes = refl; joined = refl; placed = tt; each = tt });
+  count_is = number;
+  long = rw number (omega arith);
   bytes_are = refl;
 }
 
 -- one record more
-pub on_one : (s : Trace) (o : Options) (place next : Place) (n : ℕ) (b : List ℕ) → next.number ≡ place.number + 1
+pub on_one : (s : Trace) (o : Options) (place next : PackedSoFar) (n : ℕ) (b : List ℕ) → next.number ≡ place.number + 1
     → next.first ≡ place.first + n → place.first + n ≤ length s.samples
-    → IsPacked s o (piece_at s place.number place.first n b) → PacksOn s o place next b
-on_one s o place next n b number first inside one =
-    let size : length b ≡ 2 ^ o.exponent = packed_length s o (piece_at s place.number place.first n b) one in
+    → IsPacked s o (piece_at s place.number place.first n b) → (before : List ℕ) → PacksTo s o place before
+    → PacksTo s o next (before ++ b)
+on_one s o place next n b number first inside one before h =
+    let p = piece_at s place.number place.first n b in
+    let k = h.packing in
+    let whole = simp length-append at (ap (λ (l : List ℤ). length l) k.joined) in
+    let count = simp length-map at (ap (λ (bs : List (List ℕ)). length bs) k.bytes) in
+    let size : length b ≡ 2 ^ o.exponent = packed_length s o p one in
     record {
-      records = b ∷ [];
-      packing = λ prefix count h. rw first (packs_more s o prefix place.first n b h inside (rw count one));
-      count_is = number;
-      long = rw (number, size) (omega arith);
-      bytes_are = sym (append-nil b);
+      records = h.records ++ b ∷ [];
+      packing = record {
+        pieces = k.pieces ++ p ∷ [];
+        bytes = map_push (λ (q : Piece). q.bytes) k.pieces p ∙ ap (λ (bs : List (List ℕ)). bs ++ b ∷ []) k.bytes;
+        joined = rw first (simp (
+          flat_map-append,
+          append-nil,
+          append_assoc,
+          parts s.samples place.first (place.first
+              + n) (omega arith),
+        ) k.joined);
+        placed = placed_more k.pieces p 0 0 k.placed (omega (arith, count, h.count_is))
+            (omega (arith, whole, inside, length-drop place.first s.samples));
+        each = All-push (IsPacked s o) k.pieces p k.each one;
+      };
+      count_is = omega (arith, number, h.count_is, length-append h.records (b ∷ []));
+      long = rw (length-append, h.long, size, number) (omega arith);
+      bytes_are = concat_more h.records b ∙ ap (λ (l : List ℕ). l ++ b) h.bytes_are;
     }
-
--- from one place to another, and on to a third
-pub on_join : (s : Trace) (o : Options) (place mid next : Place) (a b : List ℕ) → PacksOn s o place mid a
-    → PacksOn s o mid next b → PacksOn s o place next (a ++ b)
-on_join s o place mid next a b h k = record {
-  records = h.records ++ k.records;
-  packing = λ prefix n up. rw append_assoc at (k.packing (prefix ++ h.records)
-      (omega (arith, n, h.count_is, length-append prefix h.records)) (h.packing prefix n up));
-  count_is = omega (arith, h.count_is, k.count_is, length-append h.records k.records);
-  long = omega (arith, h.long, k.long, length-append a b);
-  bytes_are = rw (concat-append, ← h.bytes_are, ← k.bytes_are);
-}
-
-pub emitted_more : (s : Trace) (o : Options) (place next : Place) (b : List ℕ) (old mid new : BytesWritten)
-    → EmittedSo s o place.number place.first old mid → PacksOn s o place next b
-    → new.bytes ≡ mid.bytes ++ b → new.failures ≡ mid.failures → EmittedSo s o next.number next.first old new
-emitted_more s o place next b old mid new h on reported fine = record {
-  records = h.records ++ on.records;
-  packing = on.packing h.records (sym h.count_is) h.packing;
-  count_is = omega (arith, h.count_is, on.count_is, length-append h.records on.records);
-  long = rw (concat-append, length-append, ← on.bytes_are) (omega (arith, h.long, on.long));
-  bytes = reported ∙ rw (concat-append, ← on.bytes_are, h.bytes, append_assoc);
-  failures = fine ∙ h.failures;
-}
 
 -- the record in which so many bytes end
 record EndsIn (records : List (List ℕ)) (taken : ℕ) : Type 0 where
@@ -172,29 +132,24 @@ packs_prefix s o prefix back left h =
             ∙ take_at prefix back n refl;
         joined = rw (← append_assoc, ← flat_map-append, take-append-drop) h.joined;
         placed = placed_first n 0 0 h.pieces h.placed;
-        each = recursion_from_All (IsPacked s o) (take n h.pieces)
-            (All-take (IsPacked s o) n h.pieces (All-from_recursion (IsPacked s o) h.pieces h.each));
+        each = All-take (IsPacked s o) n h.pieces h.each;
       },
     )
 
-pub emitted_prefix : (s : Trace) (o : Options) (place next : Place) (taken : ℕ) (b : List ℕ)
-    (old mid new : BytesWritten)
-    → EmittedSo s o place.number place.first old mid → PacksOn s o place next b
-    → taken < length b → new.bytes ≡ mid.bytes ++ take taken b → new.failures ≡ mid.failures + 1
-    → EmittedPrefix s o (place.number * 2 ^ o.exponent + taken) old new
-emitted_prefix s o place next taken b old mid new h on part reported failed =
+pub emitted_prefix : (s : Trace) (o : Options) (place next : PackedSoFar) (taken : ℕ) (bytes b : List ℕ)
+    (old mid new : BytesWritten) → PacksTo s o place bytes → PacksTo s o next (bytes ++ b) → taken < length b
+    → mid.bytes ≡ old.bytes ++ bytes → mid.failures ≡ old.failures → new.bytes ≡ mid.bytes ++ take taken b
+    → new.failures ≡ mid.failures + 1 → EmittedPrefix s o (place.number * 2 ^ o.exponent + taken) old new
+emitted_prefix s o place next taken bytes b old mid new before after part grown fine reported failed =
     let m : ℕ = place.number * 2 ^ o.exponent + taken in
-    let all : concat (h.records ++ on.records) ≡ concat h.records ++ b = rw (concat-append, ← on.bytes_are) in
-    let at = ends_in (h.records ++ on.records) m (rw (all, length-append) (omega (arith, h.long, part))) in
+    let at = ends_in after.records m (rw (after.bytes_are, length-append) (omega (arith, before.long, part))) in
     let lead : List (List ℕ) = at.prefix ++ at.last ∷ [] in
-    let packs = packs_prefix s o lead at.rest (drop next.first s.samples)
-    (rw at.parts at (on.packing h.records (sym h.count_is) h.packing)) in
+    let packs = packs_prefix s o lead at.rest (drop next.first s.samples) (rw at.parts at after.packing) in
     let size : m ≤ length (concat lead) = rw (concat_more, length-append) (omega (arith, at.part)) in
-    let cut : take m (concat lead) ≡ concat h.records ++ take taken b =
+    let cut : take m (concat lead) ≡ bytes ++ take taken b =
     sym (take-append-le m (concat lead) (concat at.rest) size) ∙ ap (λ (l : List ℕ). take m l)
-    (sym (concat-append lead at.rest) ∙ ap (λ (l : List (List ℕ)). concat l) (sym at.parts) ∙ all)
-    ∙ ap (λ (n : ℕ). take (n + taken) (concat h.records ++ b)) (sym h.long)
-    ∙ take-append-add (concat h.records) b taken in
+    (sym (concat-append lead at.rest) ∙ ap (λ (l : List (List ℕ)). concat l) (sym at.parts) ∙ after.bytes_are)
+    ∙ ap (λ (n : ℕ). take (n + taken) (bytes ++ b)) (sym before.long) ∙ take-append-add bytes b taken in
     record {
       records = at.prefix;
       last = at.last;
@@ -202,17 +157,6 @@ emitted_prefix s o place next taken b old mid new h on part reported failed =
       packing = packs.1;
       whole = at.whole;
       part = at.part;
-      bytes = reported ∙ rw (cut, h.bytes, append_assoc);
-      failures = failed ∙ ap (λ (n : ℕ). n + 1) h.failures;
+      bytes = reported ∙ rw (cut, grown, append_assoc);
+      failures = failed ∙ ap (λ (n : ℕ). n + 1) fine;
     }
-
-pub emitted_all : (s : Trace) (o : Options) (number first : ℕ) (old new : BytesWritten)
-    → EmittedSo s o number first old new
-    → length s.samples ≤ first → EmittedAll s o number old new
-emitted_all s o number first old new h end = record {
-  records = h.records;
-  packing = rw drop_all at h.packing;
-  count_is = h.count_is;
-  bytes = h.bytes;
-  failures = h.failures;
-}

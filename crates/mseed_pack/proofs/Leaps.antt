@@ -7,7 +7,7 @@ use Rattle.std.proofs.lemmas.Bool.{cases_lt, eq-eqb, le-leb, le-ltb, lt-leb, lt-
 use Rattle.std.proofs.lemmas.Int.{ints}
 use Rattle.mseed_time.specs.declared.outcome.LeapStep.{LeapStep}
 use Rattle.mseed_time.specs.Join.{step_of}
-use Rattle.mseed_audit.specs.Series.{AreStepsFrom, AreSteps, step_at}
+use Rattle.mseed_audit.specs.Series.{AreStepsFrom, step_at}
 use Rattle.mseed_pack.specs.Clock.{added_before}
 
 -- the leap second at a place, and the next one's place after another
@@ -54,43 +54,37 @@ pub passes : (low size : ℕ) (steps : List (ℕ × LeapStep)) (first count : �
 passes low size [] first count are some h = record { added = refl; left = refl }
 passes low size (t ∷ ts) first count are some h =
     let end = first + count in
-    elim (cases_lt first t.0) [
-      | inl next ↦
-          let inside : end ≤ t.0 = rw (lt-ltb first t.0 next) at h in
-          let at_first = before t.0 size ts first (omega (arith, next)) are.2 in
-          let at_end = before t.0 size ts end inside are.2 in
-          elim (cases_lt end t.0) [
-            | inl less ↦
-                let not_eq = ne_eqb t.0 end (λ e. omega (arith, e, less)) in
-                record {
-                  added = rw (lt-leb t.0 end less, lt-leb t.0 first next, not_eq, at_end.added, at_first.added)
-                      (rw (at_end.none));
-                  left = rw (lt-ltb first t.0 next, not_eq, lt-ltb end t.0 less, at_end.none);
-                }
-            | inr more ↦
-                let here : t.0 ≡ end = omega (arith, more, inside) in
-                record {
-                  added = rw (le-leb t.0 end more, lt-leb t.0 first next, eq-eqb t.0 end here, at_end.added)
-                      (rw (at_first.added) (omega (arith, ints)));
-                  left = rw (lt-ltb first t.0 next, eq-eqb t.0 end here, le-ltb end t.0 more, at_end.all)
-                      (λ i. (here i, t.1) ∷ ts);
-                }
-          ]
-      | inr past ↦
-          let not_eq = ne_eqb t.0 end (λ e. omega (arith, e, past, some)) in
-          let rest = passes t.0 size ts first count are.2 some (rw (le-ltb first t.0 past) at h) in
+    elim (cases_lt end t.0) [
+      | inl less ↦
+          let at_first = before end size (t ∷ ts) first (omega arith) (less, are.1, are.2) in
+          let at_end = before end size (t ∷ ts) end (omega arith) (less, are.1, are.2) in
           record {
-            added = rw (le-leb t.0 end (omega (arith, past)), le-leb t.0 first past, not_eq)
-                (omega (arith, ints, rest.added));
-            left = rw (le-ltb first t.0 past, not_eq, le-ltb end t.0 (omega (arith, past))) rest.left;
+            added = rw (at_end.added, at_first.added, at_end.none);
+            left = rw (at_first.all, at_end.none, at_end.all);
           }
+      | inr more ↦ elim (cases_lt first t.0) [
+        | inl next ↦
+            let inside : end ≤ t.0 = rw (lt-ltb first t.0 next) at h in
+            let here : t.0 ≡ end = omega arith in
+            let at_first = before t.0 size ts first (omega arith) are.2 in
+            let at_end = before t.0 size ts end inside are.2 in
+            record {
+              added = rw (le-leb t.0 end more, lt-leb t.0 first next, eq-eqb t.0 end here, at_end.added, at_first.added)
+                  (omega (arith, ints));
+              left = rw (lt-ltb first t.0 next, eq-eqb t.0 end here, le-ltb end t.0 more, at_end.all)
+                  (λ i. (here i, t.1) ∷ ts);
+            }
+        | inr past ↦
+            let not_eq = ne_eqb t.0 end (λ e. omega (arith, e)) in
+            let rest = passes t.0 size ts first count are.2 some (rw (le-ltb first t.0 past) at h) in
+            record {
+              added = rw (le-leb t.0 end more, le-leb t.0 first past, not_eq) (omega (arith, ints, rest.added));
+              left = rw (le-ltb first t.0 past, not_eq, le-ltb end t.0 more) rest.left;
+            }
+      ]
     ]
 
--- before the first sample all are left, and after the last none
-pub all_left : (size : ℕ) (steps : List (ℕ × LeapStep)) → AreSteps size steps
-    → (later steps 0 ≡ steps) × (added_before steps 0 ≡ pos 0)
-all_left size steps are = let b = before 0 size steps 0 (omega arith) are in (b.all, b.added)
-
+-- after the last sample none is left
 pub none_left : (low size : ℕ) (steps : List (ℕ × LeapStep)) → AreStepsFrom low size steps → later steps size ≡ []
 none_left low size [] are = refl
 none_left low size (t ∷ ts) are = rw (le-ltb size t.0 are.1) (none_left t.0 size ts are.2)

@@ -1,5 +1,5 @@
 -- Samples by sums of the differences between them.
-use Rattle.std.proofs.Common.{◌≡◌, ◌∙◌, ℕ, zero, suc, ◌+◌, ◌-◌, ◌<◌, ◌≤◌, List, length, get_or, arith}
+use Rattle.std.proofs.Common.{◌≡◌, ◌∙◌, ℕ, ◌+◌, ◌-◌, ◌<◌, ◌≤◌, List, length, get_or, arith}
 use Rattle.std.proofs.Common.{All, FitsSigned, w32, ℤ, pos, ◌+ℤ◌, ◌-ℤ◌}
 use Rattle.std.specs.Int.{int_wrap, int_wrapping_add, int_wrapping_sub}
 use Rattle.std.proofs.lemmas.Int.{ints, int_wrap-add_left, int_wrap-add_right, int_wrap-sub_right, int_wrap_fits}
@@ -10,17 +10,13 @@ use Rattle.mseed_pack.specs.declared.window.Window.{Window}
 use Rattle.mseed_pack.specs.private.Filling.{HoldsDifferences}
 use Rattle.mseed_pack.specs.private.KnownSamples.{sample_before}
 use Rattle.mseed_pack.specs.Stretches.{differences}
-use Rattle.mseed_pack.proofs.Differences.{difference_at, first_difference, within_fits}
+use Rattle.mseed_steim_pack.proofs.Bits.{within_fits}
+use Rattle.mseed_pack.proofs.Differences.{difference_at}
 
 -- a difference leads from the sample before its place to that before the next
 next_of : (xs : List ℤ) (i : ℕ) → i < length xs
     → get_or (differences xs) i (pos 0) ≡ sample_before xs (i + 1) -ℤ sample_before xs i
-next_of xs zero inside = omega (arith, ints, first_difference xs)
-next_of xs (suc i) inside =
-    let at : suc i ≡ i + 1 = omega arith in
-    let behind : i + 1 + 1 - 1 ≡ i + 1 = omega arith in
-    let before : i + 1 - 1 ≡ i = omega arith in
-    rw (at, behind, before) (difference_at xs i (omega (arith, inside)))
+next_of xs i inside = let here : i + 1 - 1 ≡ i = omega arith in rw here (difference_at xs i inside)
 
 -- one more difference is added
 pub moved_on : (xs : List ℤ) (w : Window) (first k : ℕ) (moved : ℤ) → HoldsDifferences xs w → w.first ≤ first

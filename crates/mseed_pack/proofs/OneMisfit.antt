@@ -70,7 +70,4 @@ no_misfit s o f fits (large_difference some slow timed all i h) = none_first _ _
 pub refused : (s : Trace) (o : Options) (f : PackFault) (written : BytesWritten) → IsMisfit s o f
     → IsOutcome (Err f) s o written written
 refused s o f written (no_sample e) = (no_sample e, refl)
-refused s o f written (too_fast some fast) = (too_fast some fast, refl)
-refused s o f written (time_outside some slow i h) = (time_outside some slow i h, refl)
-refused s o f written (large_sample some slow timed i h) = (large_sample some slow timed i h, refl)
-refused s o f written (large_difference some slow timed all i h) = (large_difference some slow timed all i h, refl)
+refused s o f written h = (h, refl)

@@ -26,7 +26,6 @@ use Rattle.mseed_pack.specs.Stretches.{left_of}
 use Rattle.mseed_pack.proofs.Followed.{samples_in}
 use Rattle.mseed_pack.proofs.Spellings.{length-all}
 use Rattle.mseed_pack.proofs.SamePayload.{octets_behind, same_payload}
-use Rattle.mseed_pack.proofs.Room.{used_is}
 use Rattle.mseed_pack.proofs.Recorded.{power_more}
 use Rattle.mseed_pack.proofs.Growing.{packed_length, records_in}
 use Rattle.mseed_steim.proofs.Walking.{length-words_from}
@@ -80,36 +79,6 @@ record Same (xs ys : List ℤ) (f g : ℕ) (p q : List ℕ) : Type 0 where
   frames : f ≡ g
   payload : xs ≡ ys → p ≡ q
 
-same_frames : OneRun → (s : Scheme) (left xs ys : List ℤ) (f g : ℕ) (p q : List ℕ) → length xs ≤ length left
-    → length ys ≤ length left → AreOctets p → AreOctets q → length p ≡ length q → length p % 64 ≡ 0
-    → HoldsFrames s left xs f p → HoldsFrames s left ys g q → Same xs ys f g p q
-same_frames one s left xs ys f g p q a b op oq size whole h k =
-    let ps = data_words p in
-    let qs = data_words q in
-    let here = length-words_from p 3 (word_count p - 3) in
-    let there = length-words_from q 3 (word_count q - 3) in
-    let many : length ps ≡ length qs = omega (arith, size, here, there) in
-    let least = not_fewer one s left xs ys f g p q many h k in
-    let most = not_fewer one s left ys xs g f q p (sym many) k h in
-    let words : h.words ≡ k.words = omega (arith, least, most) in
-    let used = length-take-le h.words ps h.inside in
-    let used_2 = length-take-le k.words qs k.inside in
-    let run = one s (take h.words ps) (take k.words qs) left (drop (length xs) left) (drop (length ys) left) h.packed
-    k.packed (omega (arith, words, used, used_2)) in
-    let backs : length (drop h.words ps) ≡ length (drop k.words qs) =
-    omega (arith, words, many, length-drop h.words ps, length-drop k.words qs) in
-    let behind = empty_contents (drop h.words ps) h.behind ∙ ap (λ (n : ℕ). replicate n (0, 0)) backs
-    ∙ sym (empty_contents (drop k.words qs) k.behind) in
-    let all : contents ps ≡ contents qs =
-    rw (← take-append-drop h.words ps, ← take-append-drop k.words qs, contents-append, contents-append)
-    (λ i. run.0 i ++ behind i) in
-    record {
-      count = used_is left (length xs) (length ys) a b run.1;
-      frames = omega (arith, words, h.frames_is, k.frames_is);
-      payload = λ e. same_payload p q op oq size whole all (cc (e, h.first_is, k.first_is))
-          (cc (e, h.last_is, k.last_is)) h.codes k.codes;
-    }
-
 -- the same of integers
 not_less : (width left : ℕ) (xs ys : List ℤ) (f g : ℕ) (p q : List ℕ) → length ys ≤ left → length p ≡ length q
     → HoldsIntegers width left xs f p → HoldsIntegers width left ys g q → ¬ (length xs < length ys)
@@ -118,27 +87,56 @@ not_less width left xs ys f g p q b size h k less =
     let inside = simp (length-append, length-all) at (ap (λ (bs : List ℕ). length bs) k.bytes) in
     omega (arith, less, b, more, inside, size, h.full)
 
-same_integers : (width left : ℕ) (xs ys : List ℤ) (f g : ℕ) (p q : List ℕ) → length xs ≤ left → length ys ≤ left
-    → length p ≡ length q → HoldsIntegers width left xs f p → HoldsIntegers width left ys g q → Same xs ys f g p q
-same_integers width left xs ys f g p q a b size h k = record {
-  count = omega (
-    arith,
-    not_less width left xs ys f g p q b size h k,
-    not_less width left ys xs g f q p a (sym size) k h,
-  );
-  frames = h.no_frames ∙ sym k.no_frames;
-  payload = λ e. h.bytes ∙ rw (e, size) (sym k.bytes);
-}
+-- payloads where the same differences are left
+module _ (one : OneRun) (left : List ℤ) {xs ys : List ℤ} {f g : ℕ} {p q : List ℕ} (a : length xs ≤ length left)
+    (b : length ys ≤ length left) (op : AreOctets p) (oq : AreOctets q) (size : length p ≡ length q)
+    (whole : length p % 64 ≡ 0) where
+  same_frames : (s : Scheme) → HoldsFrames s left xs f p → HoldsFrames s left ys g q → Same xs ys f g p q
+  same_frames s h k =
+      let ps = data_words p in
+      let qs = data_words q in
+      let here = length-words_from p 3 (word_count p - 3) in
+      let there = length-words_from q 3 (word_count q - 3) in
+      let many : length ps ≡ length qs = omega arith in
+      let least = not_fewer one s left xs ys f g p q many h k in
+      let most = not_fewer one s left ys xs g f q p (sym many) k h in
+      let words : h.words ≡ k.words = omega arith in
+      let used = length-take-le h.words ps h.inside in
+      let used_2 = length-take-le k.words qs k.inside in
+      let run = one s (take h.words ps) (take k.words qs) left (drop (length xs) left) (drop (length ys) left) h.packed
+      k.packed (omega arith) in
+      let left_long : length (drop (length xs) left) ≡ length (drop (length ys) left) =
+      ap (λ (ds : List ℤ). length ds) run.1 in
+      let backs : length (drop h.words ps) ≡ length (drop k.words qs) =
+      omega (arith, length-drop h.words ps, length-drop k.words qs) in
+      let behind = empty_contents (drop h.words ps) h.behind ∙ ap (λ (n : ℕ). replicate n (0, 0)) backs
+      ∙ sym (empty_contents (drop k.words qs) k.behind) in
+      let all : contents ps ≡ contents qs =
+      rw (← take-append-drop h.words ps, ← take-append-drop k.words qs, contents-append, contents-append)
+      (λ i. run.0 i ++ behind i) in
+      record {
+        count = omega (arith, length-drop (length xs) left, length-drop (length ys) left);
+        frames = omega (arith, h.frames_is, k.frames_is);
+        payload = λ e. same_payload p q op oq size whole all (cc (e, h.first_is, k.first_is))
+            (cc (e, h.last_is, k.last_is)) h.codes k.codes;
+      }
 
-same_held : OneRun → (e : Encoding) (left xs ys : List ℤ) (f g : ℕ) (p q : List ℕ) → length xs ≤ length left
-    → length ys ≤ length left → AreOctets p → AreOctets q → length p ≡ length q → length p % 64 ≡ 0
-    → HoldsSamples e left xs f p → HoldsSamples e left ys g q → Same xs ys f g p q
-same_held one Int16 left xs ys f g p q a b op oq size whole = same_integers 2 (length left) xs ys f g p q a b size
-same_held one Int32 left xs ys f g p q a b op oq size whole = same_integers 4 (length left) xs ys f g p q a b size
-same_held one Steim1 left xs ys f g p q a b op oq size whole =
-    same_frames one One left xs ys f g p q a b op oq size whole
-same_held one Steim2 left xs ys f g p q a b op oq size whole =
-    same_frames one Two left xs ys f g p q a b op oq size whole
+  same_integers : (width : ℕ) → HoldsIntegers width (length left) xs f p → HoldsIntegers width (length left) ys g q
+      → Same xs ys f g p q
+  same_integers width h k =
+      let least = not_less width (length left) xs ys f g p q b size h k in
+      let most = not_less width (length left) ys xs g f q p a (sym size) k h in
+      record {
+        count = omega arith;
+        frames = h.no_frames ∙ sym k.no_frames;
+        payload = λ e. h.bytes ∙ rw (e, size) (sym k.bytes);
+      }
+
+  same_held : (e : Encoding) → HoldsSamples e left xs f p → HoldsSamples e left ys g q → Same xs ys f g p q
+  same_held Int16 = same_integers 2
+  same_held Int32 = same_integers 4
+  same_held Steim1 = same_frames One
+  same_held Steim2 = same_frames Two
 
 whole_frames : (h : Header) (b : List ℕ) → IsHeaded h b → length (drop 64 b) % 64 ≡ 0
 whole_frames h b headed =
@@ -172,25 +170,6 @@ record SamePiece (p q : Piece) : Type 0 where
   count : length p.samples ≡ length q.samples
   bytes : p.samples ≡ q.samples → p.bytes ≡ q.bytes
 
-same_piece : OneRun → OneName → (s : Trace) (o : Options) (p q : Piece) → p.number ≡ q.number → p.first ≡ q.first
-    → IsPacked s o p → IsPacked s o q → SamePiece p q
-same_piece one name s o p q number first h k =
-    let size : length p.bytes ≡ length q.bytes = packed_length s o p h ∙ sym (packed_length s o q k) in
-    let same = same_held one o.encoding (left_of s p.first) p.samples q.samples h.frames k.frames (drop 64 p.bytes)
-    (drop 64 q.bytes) h.within (rw first k.within) (octets_behind 64 p.bytes h.headed.octets)
-    (octets_behind 64 q.bytes k.headed.octets) (omega (arith, size, length-drop 64 p.bytes, length-drop 64 q.bytes))
-    (whole_frames h.header p.bytes h.headed) h.payload (rw first k.payload) in
-    let headers : h.header ≡ k.header =
-    same_header name s o p q h.frames k.frames h.header k.header number first same.count same.frames h.fields
-    k.fields in
-    let prefixes : take 64 p.bytes ≡ take 64 q.bytes = h.headed.begins ∙ ap header_bytes headers
-    ∙ sym k.headed.begins in
-    record {
-      count = same.count;
-      bytes = λ e. sym (take-append-drop 64 p.bytes) ∙ (λ i. prefixes i ++ same.payload e i)
-          ∙ take-append-drop 64 q.bytes;
-    }
-
 -- records begin others, and are all of them where no samples are left
 abbrev Begin : List (List ℕ) → List (List ℕ) → List ℤ → Type 0
 Begin xs ys left = (more : List (List ℕ)) × ((ys ≡ xs ++ more) × (left ≡ [] → more ≡ []))
@@ -201,64 +180,81 @@ some_left p back left rest some e none =
     let size = simp length-append at (ap (λ (xs : List ℤ). length xs) (sym none ∙ e)) in
     omega (arith, size, some)
 
--- of two parts of a packing from its first record on, one begins the other
-compared : OneRun → OneName → (s : Trace) (o : Options) (number first : ℕ) (ps qs : List Piece) (left rest : List ℤ)
-    → samples_in ps ++ left ≡ samples_in qs ++ rest → ArePlaced number first ps → ArePlaced number first qs
-    → AllByRecursion (IsPacked s o) ps → AllByRecursion (IsPacked s o) qs
-    → Begin (records_in ps) (records_in qs) left ⊎ Begin (records_in qs) (records_in ps) rest
-compared one name s o number first [] [] left rest joined a b h k = inl ([], (refl, λ none. refl))
-compared one name s o number first [] (q ∷ qs) left rest joined a b h k = inl (
-  records_in (q ∷ qs),
-  (refl, λ none. absurd (some_left q (samples_in qs) left rest k.0.some joined none)),
-)
-compared one name s o number first (p ∷ ps) [] left rest joined a b h k = inr (
-  records_in (p ∷ ps),
-  (refl, λ none. absurd (some_left p (samples_in ps) rest left h.0.some (sym joined) none)),
-)
-compared one name s o number first (p ∷ ps) (q ∷ qs) left rest joined a b h k =
-    let same = same_piece one name s o p q (a.0 ∙ sym b.0) (a.1 ∙ sym b.1) h.0 k.0 in
-    let n = length p.samples in
-    let whole : p.samples ++ (samples_in ps ++ left) ≡ q.samples ++ (samples_in qs ++ rest) =
-    sym (append_assoc p.samples (samples_in ps) left) ∙ joined ∙ append_assoc q.samples (samples_in qs) rest in
-    let samples : p.samples ≡ q.samples =
-    sym (take_at p.samples (samples_in ps ++ left) n refl) ∙ ap (λ (xs : List ℤ). take n xs) whole
-    ∙ take_at q.samples (samples_in qs ++ rest) n (sym same.count) in
-    let others : samples_in ps ++ left ≡ samples_in qs ++ rest =
-    sym (drop_at p.samples (samples_in ps ++ left) n refl) ∙ ap (λ (xs : List ℤ). drop n xs) whole
-    ∙ drop_at q.samples (samples_in qs ++ rest) n (sym same.count) in
-    let here : p.bytes ≡ q.bytes = same.bytes samples in
-    elim (compared one name s o (number + 1) (first + n) ps qs left rest others a.2 (rw same.count b.2) h.1 k.1) [
-      | inl f ↦ inl (f.0, ((λ i. sym here i ∷ f.1.0 i), f.1.1))
-      | inr f ↦ inr (f.0, ((λ i. here i ∷ f.1.0 i), f.1.1))
-    ]
-
-either : OneRun → OneName → (s : Trace) (o : Options) (records others : List (List ℕ)) (left rest : List ℤ)
-    → PacksUpTo s o records left → PacksUpTo s o others rest → Begin records others left ⊎ Begin others records rest
-either one name s o records others left rest h k =
-    rw (h.bytes, k.bytes) at (compared one name s o 0 0 h.pieces k.pieces left rest (h.joined ∙ sym k.joined) h.placed
-    k.placed h.each k.each)
-
 all_of : (xs ys : List (List ℕ)) → Begin xs ys [] → ys ≡ xs
 all_of xs ys f = f.1.0 ∙ ap (λ (more : List (List ℕ)). xs ++ more) (f.1.1 refl) ∙ append-nil xs
 
-pub one_list : OneRun → OneName → (s : Trace) (o : Options) (xs ys : List (List ℕ)) → IsPacking s o xs
-    → IsPacking s o ys → xs ≡ ys
-one_list one name s o xs ys h k = elim (either one name s o xs ys [] [] h k) [
-  | inl f ↦ sym (all_of xs ys f)
-  | inr f ↦ all_of ys xs f
-]
+module _ (one : OneRun) (name : OneName) (s : Trace) (o : Options) where
+  same_piece : (p q : Piece) → p.number ≡ q.number → p.first ≡ q.first → IsPacked s o p → IsPacked s o q
+      → SamePiece p q
+  same_piece p q number first h k =
+      let size : length p.bytes ≡ length q.bytes = packed_length s o p h ∙ sym (packed_length s o q k) in
+      let same = same_held one (left_of s p.first) h.within (rw first k.within)
+      (octets_behind 64 p.bytes h.headed.octets)
+      (octets_behind 64 q.bytes k.headed.octets) (omega (arith, length-drop 64 p.bytes, length-drop 64 q.bytes))
+      (whole_frames h.header p.bytes h.headed) o.encoding h.payload (rw first k.payload) in
+      let headers : h.header ≡ k.header =
+      same_header name s o p q h.frames k.frames h.header k.header number first same.count same.frames h.fields
+      k.fields in
+      let prefixes : take 64 p.bytes ≡ take 64 q.bytes = h.headed.begins ∙ ap header_bytes headers
+      ∙ sym k.headed.begins in
+      record {
+        count = same.count;
+        bytes = λ e. sym (take-append-drop 64 p.bytes) ∙ (λ i. prefixes i ++ same.payload e i)
+            ∙ take-append-drop 64 q.bytes;
+      }
 
--- what is packed of the series so far is a prefix of all
-pub one_prefix : OneRun → OneName → (s : Trace) (o : Options) (prefix records : List (List ℕ)) (left : List ℤ)
-    → PacksUpTo s o prefix left → IsPacking s o records → (rest : List (List ℕ)) × (records ≡ prefix ++ rest)
-one_prefix one name s o prefix records left h k = elim (either one name s o prefix records left [] h k) [
-  | inl f ↦ (f.0, f.1.0)
-  | inr f ↦ ([], sym (append-nil prefix ∙ all_of records prefix f))
-]
+  -- of two parts of a packing from its first record on, one begins the other
+  compared : (number first : ℕ) (ps qs : List Piece) (left rest : List ℤ)
+      → samples_in ps ++ left ≡ samples_in qs ++ rest → ArePlaced number first ps → ArePlaced number first qs
+      → AllByRecursion (IsPacked s o) ps → AllByRecursion (IsPacked s o) qs
+      → Begin (records_in ps) (records_in qs) left ⊎ Begin (records_in qs) (records_in ps) rest
+  compared number first [] [] left rest joined a b h k = inl ([], (refl, λ none. refl))
+  compared number first [] (q ∷ qs) left rest joined a b h k =
+      let more = some_left q (samples_in qs) left rest k.0.some joined in
+      inl (records_in (q ∷ qs), (refl, λ none. absurd (more none)))
+  compared number first (p ∷ ps) [] left rest joined a b h k =
+      let more = some_left p (samples_in ps) rest left h.0.some (sym joined) in
+      inr (records_in (p ∷ ps), (refl, λ none. absurd (more none)))
+  compared number first (p ∷ ps) (q ∷ qs) left rest joined a b h k =
+      let same = same_piece p q (a.0 ∙ sym b.0) (a.1 ∙ sym b.1) h.0 k.0 in
+      let n = length p.samples in
+      let whole : p.samples ++ (samples_in ps ++ left) ≡ q.samples ++ (samples_in qs ++ rest) =
+      sym (append_assoc p.samples (samples_in ps) left) ∙ joined ∙ append_assoc q.samples (samples_in qs) rest in
+      let samples : p.samples ≡ q.samples =
+      sym (take_at p.samples (samples_in ps ++ left) n refl) ∙ ap (λ (xs : List ℤ). take n xs) whole
+      ∙ take_at q.samples (samples_in qs ++ rest) n (sym same.count) in
+      let others : samples_in ps ++ left ≡ samples_in qs ++ rest =
+      sym (drop_at p.samples (samples_in ps ++ left) n refl) ∙ ap (λ (xs : List ℤ). drop n xs) whole
+      ∙ drop_at q.samples (samples_in qs ++ rest) n (sym same.count) in
+      let here : p.bytes ≡ q.bytes = same.bytes samples in
+      elim (compared (number + 1) (first + n) ps qs left rest others a.2 (rw same.count b.2) h.1 k.1) [
+        | inl f ↦ inl (f.0, ((λ i. sym here i ∷ f.1.0 i), f.1.1))
+        | inr f ↦ inr (f.0, ((λ i. here i ∷ f.1.0 i), f.1.1))
+      ]
 
-pub either_prefix : OneRun → OneName → (s : Trace) (o : Options) (records others : List (List ℕ)) (left rest : List ℤ)
-    → PacksUpTo s o records left → PacksUpTo s o others rest → ArePrefixes records others
-either_prefix one name s o records others left rest h k = elim (either one name s o records others left rest h k) [
-  | inl f ↦ inl (f.0, f.1.0)
-  | inr f ↦ inr (f.0, f.1.0)
-]
+  either : (records others : List (List ℕ)) (left rest : List ℤ) → PacksUpTo s o records left
+      → PacksUpTo s o others rest → Begin records others left ⊎ Begin others records rest
+  either records others left rest h k =
+      rw (h.bytes, k.bytes) at (compared 0 0 h.pieces k.pieces left rest (h.joined ∙ sym k.joined) h.placed k.placed
+      h.each k.each)
+
+  pub one_list : (xs ys : List (List ℕ)) → IsPacking s o xs → IsPacking s o ys → xs ≡ ys
+  one_list xs ys h k = elim (either xs ys [] [] h k) [
+    | inl f ↦ sym (all_of xs ys f)
+    | inr f ↦ all_of ys xs f
+  ]
+
+  -- what is packed of the series so far is a prefix of all
+  pub one_prefix : (prefix records : List (List ℕ)) (left : List ℤ) → PacksUpTo s o prefix left
+      → IsPacking s o records → (rest : List (List ℕ)) × (records ≡ prefix ++ rest)
+  one_prefix prefix records left h k = elim (either prefix records left [] h k) [
+    | inl f ↦ (f.0, f.1.0)
+    | inr f ↦ ([], sym (append-nil prefix ∙ all_of records prefix f))
+  ]
+
+  pub either_prefix : (records others : List (List ℕ)) (left rest : List ℤ) → PacksUpTo s o records left
+      → PacksUpTo s o others rest → ArePrefixes records others
+  either_prefix records others left rest h k = elim (either records others left rest h k) [
+    | inl f ↦ inl (f.0, f.1.0)
+    | inr f ↦ inr (f.0, f.1.0)
+  ]

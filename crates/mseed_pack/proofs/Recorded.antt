@@ -5,6 +5,8 @@ use borrow.Rule.Slice.PartMut.{put_mid, post_of}
 use Rattle.std.proofs.Math.Pow.{pow_mono}
 use Rattle.std.proofs.lemmas.List.{length-drop, length-take-le, take_at, drop_at, drop_all, append-nil}
 use Rattle.std.proofs.lemmas.Nat.{pow-add}
+use Rattle.mseed_pack.specs.declared.record.TheConstants.{LONGEST, SHORTEST}
+use Rattle.mseed_pack.specs.declared.options.Options.{Options}
 
 pub header_first : (header out payload new : List ℕ) → 64 ≤ length out → length payload ≡ length out - 64
     → length new ≡ length out → new ≡ header ++ drop 64 (put_mid 64 (length out - 64) out payload)
@@ -23,9 +25,9 @@ pub power_more : (k e : ℕ) → k ≤ e → 2 ^ e ≡ 2 ^ k * 2 ^ (e - k)
 power_more k e h = let more : k + (e - k) ≡ e = omega (arith, h) in rw (← pow-add, more)
 
 -- the lengths of records
-pub lengths : (e : ℕ) → 7 ≤ e → e ≤ 12 → (128 ≤ 2 ^ e) × (2 ^ e ≤ 4096) × (2 ^ e % 64 ≡ 0)
-lengths e low high = (
-  pow_mono {i = 7} {j = e} low,
-  pow_mono {i = e} {j = 12} high,
-  omega (arith, power_more 7 e low),
+pub lengths_of : (o : Options) (n : ℕ) → n ≡ 2 ^ o.exponent → (SHORTEST ≤ n) × (n ≤ LONGEST) × (n % 64 ≡ 0)
+lengths_of o n is = rw is (
+  pow_mono {i = 7} {j = o.exponent} o.long,
+  pow_mono {i = o.exponent} {j = 12} o.short,
+  omega (arith, power_more 7 o.exponent o.long),
 )

@@ -8,10 +8,10 @@ use Rattle.std.proofs.lemmas.Bool.Decides.{nat_tests}
 use Rattle.std.proofs.lemmas.Int.{ints}
 use Rattle.std.proofs.lemmas.List.{ext_get_or, get_or-drop}
 use Rattle.byteorder.specs.Endian.{twos_complement}
-use Rattle.byteorder.specs.Numbers.{big_from-lt}
 use Rattle.mseed_steim.specs.Frames.{words_from, data_words, word_at, code_at, word_count}
 use Rattle.mseed_steim.specs.Frames.{AreOctets, first_constant, last_constant}
 use Rattle.byteorder.specs.Endian.{big_number}
+use Rattle.mseed_steim.proofs.Given.{word_small}
 use Rattle.mseed_steim.proofs.Walking.{words_skip, words_step}
 use Rattle.mseed_steim_pack.specs.Packing.{contents}
 
@@ -58,31 +58,26 @@ quarters w v (suc n) e each =
     let high : w / 2 ^ (2 * n) / 4 ≡ v / 2 ^ (2 * n) / 4 = sym (cut w) ∙ e ∙ cut v in
     quarters w v n (omega (arith, last, high)) (λ k h. each k (omega (arith, h)))
 
--- where word j of a frame is the one at 16 * frame + j
-place_of : (frame j : ℕ) → j < 16 → ((16 * frame + j) / 16 ≡ frame) × ((16 * frame + j) % 16 ≡ j)
-place_of frame j h = (omega (arith, h), omega (arith, h))
-
+-- word j of a frame is the one at 16 * frame + j
 code_of_frame : (p : List ℕ) (frame k : ℕ) → k < 16
     → code_at p (16 * frame + (15 - k)) ≡ word_at p (16 * frame) / 2 ^ (2 * k) % 4
 code_of_frame p frame k h =
-    let place = place_of frame (15 - k) (omega arith) in
+    let before : (16 * frame + (15 - k)) / 16 ≡ frame = omega arith in
+    let inside : (16 * frame + (15 - k)) % 16 ≡ 15 - k = omega arith in
     let shift : 30 - 2 * (15 - k) ≡ 2 * k = omega (arith, h) in
-    ap (λ (f : ℕ). word_at p (16 * f) / 2 ^ (30 - 2 * ((16 * frame + (15 - k)) % 16)) % 4) place.0
-    ∙ ap (λ (j : ℕ). word_at p (16 * frame) / 2 ^ (30 - 2 * j) % 4) place.1
+    ap (λ (f : ℕ). word_at p (16 * f) / 2 ^ (30 - 2 * ((16 * frame + (15 - k)) % 16)) % 4) before
+    ∙ ap (λ (j : ℕ). word_at p (16 * frame) / 2 ^ (30 - 2 * j) % 4) inside
     ∙ ap (λ (m : ℕ). word_at p (16 * frame) / 2 ^ m % 4) shift
 
 pub octets_behind : (n : ℕ) (p : List ℕ) → AreOctets p → AreOctets (drop n p)
 octets_behind n p octets i = rw get_or-drop (octets (n + i))
-
-word_lt : (p : List ℕ) → AreOctets p → (k : ℕ) → word_at p k < 2 ^ 32
-word_lt p octets k = big_from-lt 0 4 (drop (4 * k) p) (octets_behind (4 * k) p octets)
 
 frame_word : (p q : List ℕ) → AreOctets p → AreOctets q → (frame : ℕ)
     → ((j : ℕ) → j < 16 → code_at p (16 * frame + j) ≡ code_at q (16 * frame + j))
     → word_at p (16 * frame) ≡ word_at q (16 * frame)
 frame_word p q a b frame codes =
     quarters (word_at p (16 * frame)) (word_at q (16 * frame)) 16
-    (omega (arith, word_lt p a (16 * frame), word_lt q b (16 * frame)))
+    (omega (arith, word_small p (16 * frame) a, word_small q (16 * frame) b))
     (λ k h. sym (code_of_frame p frame k h) ∙ codes (15 - k) (omega arith) ∙ code_of_frame q frame k h)
 
 -- a word tells its bytes
@@ -108,31 +103,27 @@ pub same_payload : (p q : List ℕ) → AreOctets p → AreOctets q → length p
     → ((k : ℕ) → k < word_count q → (k < 3) ⊎ (k % 16 ≡ 0) → code_at q k ≡ 0) → p ≡ q
 same_payload p q a b size whole words first last p_codes q_codes =
     let count : word_count q ≡ word_count p = ap (λ (n : ℕ). 16 * (n / 64)) (sym size) in
-    let inner : (i : ℕ) → 3 ≤ i → i < word_count p → i % 16 ≢ 0 → Alike p q i =
-    λ i low high. each_alike p q 3 (word_count p - 3) (rw count at words) i low (omega (arith, low, high)) in
     let none : (i : ℕ) → i < word_count p → (i < 3) ⊎ (i % 16 ≡ 0) → code_at p i ≡ code_at q i =
     λ i high h. p_codes i high h ∙ sym (q_codes i (omega (arith, high, count)) h) in
+    let small : (k : ℕ) → k ≢ 0 → k < 3 → word_at p k ≡ word_at q k = λ k some low. elim (cases_eq k 1) [
+      | inl same ↦ rw same (one_complement (word_at p 1) (word_at q 1) (word_small p 1 a) (word_small q 1 b) first)
+      | inr other ↦
+          let same : k ≡ 2 = omega (arith, low, some, other) in
+          rw same (one_complement (word_at p 2) (word_at q 2) (word_small p 2 a) (word_small q 2 b) last)
+    ] in
+    let plain : (i : ℕ) → i < word_count p → i % 16 ≢ 0 → Alike p q i = λ i high other. elim (cases_lt i 3) [
+      | inl low ↦ (none i high (inl low), small i (λ zero. other (omega (arith, zero))) low)
+      | inr up ↦ each_alike p q 3 (word_count p - 3) (rw count at words) i up (omega (arith, up, high)) other
+    ] in
     let codes : (i : ℕ) → i < word_count p → code_at p i ≡ code_at q i = λ i high. elim (cases_eq (i % 16) 0) [
       | inl head ↦ none i high (inr head)
-      | inr plain ↦ elim (cases_lt i 3) [
-        | inl low ↦ none i high (inl low)
-        | inr up ↦ (inner i up high plain).0
-      ]
+      | inr other ↦ (plain i high other).0
     ] in
-    let one = one_complement (word_at p 1) (word_at q 1) (word_lt p a 1) (word_lt q b 1) first in
-    let two = one_complement (word_at p 2) (word_at q 2) (word_lt p a 2) (word_lt q b 2) last in
     let all : (i : ℕ) → i < word_count p → word_at p i ≡ word_at q i = λ i high. elim (cases_eq (i % 16) 0) [
       | inl head ↦
           let place : 16 * (i / 16) ≡ i = omega (arith, head) in
-          rw place at (frame_word p q a b (i / 16)
-          (λ j h. codes (16 * (i / 16) + j) (omega (arith, h, high, head))))
-      | inr plain ↦ elim (cases_lt i 3) [
-        | inl low ↦ elim (cases_eq i 1) [
-          | inl same ↦ rw same one
-          | inr other ↦ let same : i ≡ 2 = omega (arith, low, plain, other) in rw same two
-        ]
-        | inr up ↦ (inner i up high plain).1
-      ]
+          rw place at (frame_word p q a b (i / 16) (λ j h. codes (16 * (i / 16) + j) (omega (arith, h, high, head))))
+      | inr other ↦ (plain i high other).1
     ] in
     ext_get_or 0 p q size (λ i h.
     let place : 4 * (i / 4) + i % 4 ≡ i = omega arith in

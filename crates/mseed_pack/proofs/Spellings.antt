@@ -1,8 +1,8 @@
 -- A payload of integers begins with them.
-use Rattle.std.proofs.Common.{◌≡◌, ℕ, ◌+◌, ◌*◌, ◌^◌, ◌<◌, List, [], ◌∷◌, ◌++◌, length, refl, sym, ap, ◌∙◌}
-use Rattle.std.proofs.Common.{append_assoc, length-append, arith, ℤ, pos, negsuc, All}
+use Rattle.std.proofs.Common.{◌≡◌, ℕ, ◌+◌, ◌*◌, ◌^◌, List, [], ◌∷◌, ◌++◌, length, refl, sym, ap, ◌∙◌}
+use Rattle.std.proofs.Common.{append_assoc, length-append, arith, ℤ, All}
 use Rattle.std.specs.List.{flat_map}
-use Rattle.std.proofs.Math.Nat.{mod-lt}
+use Rattle.mseed_steim.proofs.Words.{residue_lt}
 use Rattle.std.proofs.lemmas.Nat.{pow_pos}
 use Rattle.std.proofs.lemmas.List.Elements.{All-head, All-tail}
 use Rattle.byteorder.proofs.Bytes.{pow256}
@@ -12,10 +12,6 @@ use Rattle.mseed_time.specs.declared.order.Order.TheVariants.{Big}
 use Rattle.mseed_steim.specs.Spelling.{residue, IsWithin}
 use Rattle.mseed_steim.specs.Samples.{BeginsWith}
 use Rattle.mseed_pack.specs.private.Filling.{integer_bytes}
-
-pub residue_lt : (m : ℕ) (z : ℤ) → 0 < m → residue m z < m
-residue_lt m (pos n) h = mod-lt n h
-residue_lt m (negsuc n) h = omega (arith, h)
 
 -- bytes before it move the places on
 pub from_after : (prefix xs : List ℕ) (n : ℕ) → big_from (length prefix) n (prefix ++ xs) ≡ big_from 0 n xs
@@ -34,12 +30,7 @@ read_back width prefix z rest =
 
 pub length-all : (width : ℕ) (zs : List ℤ) → length (flat_map (λ (z : ℤ). integer_bytes width z) zs) ≡ width * length zs
 length-all width [] = omega arith
-length-all width (z ∷ zs) = omega (
-  arith,
-  length-append (integer_bytes width z) (flat_map (λ (x : ℤ). integer_bytes width x) zs),
-  length-bytes_of width z,
-  length-all width zs,
-)
+length-all width (z ∷ zs) = rw (length-append, length-bytes_of) (omega (arith, length-all width zs))
 
 -- After any bytes stand these integers.
 pub begins : (width : ℕ) (zs : List ℤ) (prefix rest bytes : List ℕ) (place : ℕ)

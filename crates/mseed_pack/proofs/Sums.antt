@@ -17,15 +17,12 @@ adds before xs zero = tt
 adds before [] (suc n) = tt
 adds before (x ∷ xs) (suc n) = (back x before, adds x xs n)
 
-first_is : (x first : ℤ) (xs : List ℤ) → slice_get (x ∷ xs) 0 ≡ Some first → x ≡ first
-first_is x first xs e = cc
-
 starts_from : (before : ℤ) (xs : List ℤ) (n : ℕ) (first : ℤ) → slice_get xs 0 ≡ Some first
     → StartsAndAdds first (take n (differences_from before xs)) (take n xs)
 starts_from before xs zero first e = tt
 starts_from before [] (suc n) first e = tt
 starts_from before (x ∷ xs) (suc n) first e =
-    let same = first_is x first xs e in
+    let same : x ≡ first = cc in
     (same, subst (λ (z : ℤ). Adds z (take n (differences_from x xs)) (take n xs)) same (adds x xs n))
 
 -- So are those from any one on: it's the first, and its own difference isn't used.

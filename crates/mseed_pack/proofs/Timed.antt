@@ -1,6 +1,6 @@
 -- The clock of some records, one after another, of those that a series is packed into.
 use Rattle.std.proofs.Common.{◌≡◌, ℕ, ◌+◌, ◌≤◌, List, [], ◌∷◌, ◌++◌, length, map}
-use Rattle.std.proofs.Common.{refl, sym, ap, subst, ◌∙◌, arith, ℤ, Option, Some, None, append_assoc}
+use Rattle.std.proofs.Common.{refl, sym, ap, subst, ◌∙◌, arith, ℤ, Option, Some, None}
 use Rattle.std.proofs.Common.{length-append}
 use Rattle.std.specs.List.{filter}
 use Rattle.std.proofs.Common.{inl, inr}
@@ -9,7 +9,8 @@ use Rattle.std.proofs.lemmas.List.{append_cancel_right, map-append}
 use Rattle.mseed_time.specs.declared.outcome.LeapStep.{LeapStep}
 use Rattle.mseed_record.specs.View.{View}
 use Rattle.mseed_steim.specs.Reading.{count_of, HasOneReading}
-use Rattle.mseed_audit.specs.Series.{Trace, AreStepsFrom, AreJoined, step_at, steps_from, IsSeriesOf}
+use Rattle.mseed_audit.specs.Series.{Trace, AreStepsFrom, AreJoined, none, one, step_at, steps_from, IsSeriesOf}
+use Rattle.mseed_audit.proofs.Joined.{count_is}
 use Rattle.mseed_pack.specs.declared.options.Options.{Options}
 use Rattle.mseed_pack.specs.Fitting.{Fits}
 use Rattle.mseed_pack.specs.Outcome.{IsTrace}
@@ -17,38 +18,36 @@ use Rattle.mseed_pack.specs.Packing.{IsPacking}
 use Rattle.mseed_pack.specs.ReadBack.{AreViewsOf, HaveSamples, IsTimedFrom, is_among, moved}
 use Rattle.mseed_pack.proofs.Followed.{AreAt, joined_at, steps_on}
 use Rattle.mseed_pack.proofs.Leaps.{before, later}
-use Rattle.mseed_pack.proofs.Parted.{thirds, views_joined}
-use Rattle.mseed_pack.proofs.ReadBack.{HaveOneViews, lies_at, reads_as}
+use Rattle.mseed_pack.proofs.Parted.{only_views, thirds}
+use Rattle.mseed_pack.proofs.ReadBack.{lies_at, reads_as}
 use Rattle.mseed_pack.proofs.Viewed.{HeadersReadBack, PackedSpells}
 
--- the views of records, cut in two
-record Split (s : Trace) (first : ℕ) (us vs : List View) (samples : List ℤ) : Type 0 where
-  prefix : List ℤ
-  back : List ℤ
-  parts : samples ≡ prefix ++ back
-  at_prefix : AreAt s first us prefix
-  at_back : AreAt s (first + length prefix) vs back
+-- how many samples the records of some views have
+abbrev counted : List View → ℕ
+counted [] = 0
+counted (v ∷ vs) = count_of v + counted vs
 
-split : (s : Trace) (first : ℕ) (us vs : List View) (samples : List ℤ) → AreAt s first (us ++ vs) samples
-    → Split s first us vs samples
-split s first [] vs samples h = record {
-  prefix = [];
-  back = samples;
-  parts = refl;
-  at_prefix = refl;
-  at_back = let same : first + 0 ≡ first = omega arith in rw same h;
-}
-split s first (u ∷ us) vs samples h =
-    let rest = split s (first + length h.0) us vs h.1.0 h.1.1.2 in
-    let place : first + length (h.0 ++ rest.prefix) ≡ first + length h.0 + length rest.prefix =
-    omega (arith, length-append h.0 rest.prefix) in
-    record {
-      prefix = h.0 ++ rest.prefix;
-      back = rest.back;
-      parts = h.1.1.0 ∙ ap (λ (l : List ℤ). h.0 ++ l) rest.parts ∙ sym (append_assoc h.0 rest.prefix rest.back);
-      at_prefix = (h.0, (rest.prefix, (refl, h.1.1.1, rest.at_prefix)));
-      at_back = rw place rest.at_back;
-    }
+joined_count : (vs : List View) (samples : List ℤ) → AreJoined vs samples → length samples ≡ counted vs
+joined_count [] _ none = refl
+joined_count (v ∷ vs) _ (one _ _ xs rest is more) =
+    omega (arith, length-append xs rest, count_is v xs is, joined_count vs rest more)
+
+-- the samples that the last of some views hold, and the first
+at_behind : (s : Trace) (first : ℕ) (us vs : List View) (samples : List ℤ) → AreAt s first (us ++ vs) samples
+    → (rest : List ℤ) × AreAt s (first + counted us) vs rest
+at_behind s first [] vs samples h = let same : first + 0 ≡ first = omega arith in (samples, rw same h)
+at_behind s first (u ∷ us) vs samples h =
+    let rest = at_behind s (first + length h.0) us vs h.1.0 h.1.1.2 in
+    let place : first + length h.0 + counted us ≡ first + (count_of u + counted us) =
+    omega (arith, h.1.1.1.count) in
+    (rest.0, rw place at rest.1)
+
+at_ahead : (s : Trace) (first : ℕ) (us vs : List View) (samples : List ℤ) → AreAt s first (us ++ vs) samples
+    → (prefix : List ℤ) × AreAt s first us prefix
+at_ahead s first [] vs samples h = ([], refl)
+at_ahead s first (u ∷ us) vs samples h =
+    let rest = at_ahead s (first + length h.0) us vs h.1.0 h.1.1.2 in
+    (h.0 ++ rest.0, (h.0, (rest.0, (refl, h.1.1.1, rest.1))))
 
 -- between two places some leap seconds stand, before those that are left after them
 among_steps : (low size : ℕ) (steps : List (ℕ × LeapStep)) (a b : ℕ) → a ≤ b → AreStepsFrom low size steps
@@ -106,21 +105,18 @@ timed_at same s part place views samples trace at series =
           ∙ found));
     }
 
-pub timed : HeadersReadBack → PackedSpells → ((v : View) → HasOneReading v) → HaveOneViews → HaveOneSamples
+pub timed : HeadersReadBack → PackedSpells → ((v : View) → HasOneReading v) → HaveOneSamples
     → (s part : Trace) (o : Options) (before held after : List (List ℕ)) (views : List View) (older : List ℤ)
     → IsTrace s → Fits s o → IsPacking s o (before ++ (held ++ after)) → AreViewsOf held views → IsSeriesOf part views
     → HaveSamples before older → IsTimedFrom s (length older) part
-timed headers spells single once same s part o before held after views older trace fits k are series ahead =
-    let lies = lies_at headers spells s o (before ++ (held ++ after)) trace fits k in
-    let reads = reads_as headers spells single once s o (before ++ (held ++ after)) trace fits k in
+timed headers spells single same s part o before held after views older trace fits k are series ahead =
+    let lies = lies_at headers spells single s o (before ++ (held ++ after)) trace fits k in
+    let reads = reads_as headers spells single s o (before ++ (held ++ after)) trace fits k in
     let back = thirds s before held after views reads are in
-    let others = views_joined before (held ++ after) ahead.0 (views ++ back.back) ahead.1
-    (views_joined held after views back.back are back.second) in
-    let is : lies.0 ≡ ahead.0 ++ (views ++ back.back) =
-    reads.only lies.0 lies.1.0 ∙ sym (reads.only (ahead.0 ++ (views ++ back.back)) others) in
-    let outer = split s 0 ahead.0 (views ++ back.back) s.samples (rw is at lies.1.1) in
-    let inner = split s (0 + length outer.prefix) views back.back outer.back outer.at_back in
-    let first = same ahead.0 outer.prefix older (joined_at s 0 ahead.0 outer.prefix outer.at_prefix) ahead.2 in
-    let place : 0 + length outer.prefix ≡ length older = omega (arith, ap (λ (xs : List ℤ). length xs) first) in
-    timed_at same s part (length older) views inner.prefix trace
-    (subst (λ (n : ℕ). AreAt s n views inner.prefix) place inner.at_prefix) series
+    let is = reads.only lies.0 lies.1.0
+    ∙ sym (only_views s before held after views reads are ahead.0 back.back ahead.1 back.second) in
+    let behind = at_behind s 0 ahead.0 (views ++ back.back) s.samples (rw is at lies.1.1) in
+    let own = at_ahead s (0 + counted ahead.0) views back.back behind.0 behind.1 in
+    let place : 0 + counted ahead.0 ≡ length older = omega (arith, joined_count ahead.0 older ahead.2) in
+    timed_at same s part (length older) views own.0 trace
+    (subst (λ (n : ℕ). AreAt s n views own.0) place own.1) series

@@ -1,5 +1,5 @@
 -- The instants of a span rise.
-use Rattle.std.proofs.Common.{◌-◌}
+use Rattle.std.proofs.Common.{◌-◌, ◌⊎◌}
 use Rattle.std.proofs.Common.{◌≡◌, ℕ, zero, suc, ◌+◌, ◌*◌, ◌/◌, ◌^◌, ◌<◌, ◌≤◌, inl, inr, List, subst, arith, ℤ}
 use Rattle.std.proofs.Common.{pos, ◌+ℤ◌, ◌-ℤ◌, ◌≤ℤ◌, ◌<ℤ◌, nat_abs}
 use Rattle.std.proofs.lemmas.Bool.{cases_lt}
@@ -16,7 +16,7 @@ use Rattle.mseed_pack.specs.Clock.{added_before, periods, reading_at}
 use Rattle.mseed_pack.specs.Fitting.{IsFirstOutside}
 use Rattle.mseed_pack.specs.private.Heads.{IsSpanOutside}
 use Rattle.mseed_pack.specs.private.Spans.{IsSpan}
-use Rattle.mseed_pack.proofs.Leaps.{all_left}
+use Rattle.mseed_pack.proofs.Leaps.{before}
 use Rattle.mseed_pack.proofs.Steps.{added_at, added_near}
 
 div_rise : (a b k : ℕ) → a ≤ b → a / k ≤ b / k
@@ -32,13 +32,7 @@ periods_rise rate i j h =
 pub reading_first : (start : ℤ) (rate : Ratio) (steps : List (ℕ × LeapStep)) (size : ℕ) → AreSteps size steps
     → reading_at start rate steps 0 ≡ start
 reading_first start rate steps size are =
-    omega (arith, ints, (all_left size steps are).1, div-le_self (0 * rate.den * 10 ^ 6) rate.num)
-
--- the instant of a sample of a span
-pub reading_in : (start : ℤ) (rate : Ratio) (steps : List (ℕ × LeapStep)) (size : ℕ) (span : Span) (i : ℕ)
-    → IsSpan steps size span → span.begin ≤ i → i < span.end
-    → start +ℤ pos (periods rate i) -ℤ span.added ≡ reading_at start rate steps i
-reading_in start rate steps size span i h low high = rw (added_at steps size span i h low high)
+    omega (arith, ints, (before 0 size steps 0 (omega arith) are).added, div-le_self (0 * rate.den * 10 ^ 6) rate.num)
 
 -- between two samples of a span whose instants can be written each one's can be
 pub between_timed : (start : ℤ) (rate : Ratio) (added : ℤ) (first last i : ℕ) → first ≤ i → i ≤ last
@@ -50,33 +44,45 @@ between_timed start rate added first last i low high in_first in_last out = elim
   | inr late ↦ in_last (inr (omega (arith, ints, late, periods_rise rate i last high)))
 ]
 
--- so each sample's is before a place in a span, where all before the span are
-pub timed_on : (start : ℤ) (rate : Ratio) (steps : List (ℕ × LeapStep)) (size : ℕ) (span : Span)
+module _ (start : ℤ) (rate : Ratio) {steps : List (ℕ × LeapStep)} {size : ℕ} {span : Span} where
+  -- the instant of a sample of a span
+  pub reading_in : (i : ℕ) → IsSpan steps size span → span.begin ≤ i → i < span.end
+      → start +ℤ pos (periods rate i) -ℤ span.added ≡ reading_at start rate steps i
+  reading_in i h low high = rw (added_at h i low high)
+
+  -- each sample's can be written before a place in a span, where each before the span can be
+  pub timed_on : IsSpan steps size span → span.begin < size
+      → ¬ (IsOutside (start +ℤ pos (periods rate span.begin) -ℤ span.added))
+      → ¬ (IsOutside (start +ℤ pos (periods rate (span.end - 1)) -ℤ span.added))
+      → ((i : ℕ) → i < span.begin → ¬ (IsOutside (reading_at start rate steps i))) → (n : ℕ) → n ≤ span.end
+      → (i : ℕ) → i < n → ¬ (IsOutside (reading_at start rate steps i))
+  timed_on h some first last before n end i less = elim (cases_lt i span.begin) [
+    | inl below ↦ before i below
+    | inr low ↦ rw (reading_in i h low (omega arith)) at
+        (between_timed start rate span.added span.begin (span.end - 1) i low (omega arith) first last)
+  ]
+
+pub span_out : {start : ℤ} {rate : Ratio} {steps : List (ℕ × LeapStep)} {size : ℕ} {span : Span}
     → IsSpan steps size span → span.begin < size
-    → ¬ (IsOutside (start +ℤ pos (periods rate span.begin) -ℤ span.added))
-    → ¬ (IsOutside (start +ℤ pos (periods rate (span.end - 1)) -ℤ span.added))
-    → ((i : ℕ) → i < span.begin → ¬ (IsOutside (reading_at start rate steps i))) → (n : ℕ) → n ≤ span.end
-    → (i : ℕ) → i < n → ¬ (IsOutside (reading_at start rate steps i))
-timed_on start rate steps size span h some first last before n end i less = elim (cases_lt i span.begin) [
-  | inl below ↦ before i below
-  | inr low ↦
-      rw (reading_in start rate steps size span i h low (omega (arith, less, end))) at
-      (between_timed start rate span.added span.begin (span.end - 1) i low (omega (arith, less, end)) first last)
-]
+    → ((i : ℕ) → i < span.begin → ¬ (IsOutside (reading_at start rate steps i)))
+    → IsOutside (start +ℤ pos (periods rate span.begin) -ℤ span.added)
+    ⊎ IsOutside (start +ℤ pos (periods rate (span.end - 1)) -ℤ span.added)
+    → IsSpanOutside start rate steps size span
+span_out h more before ends =
+    record { standing = h; some = h.some more; within = h.most; before = before; ends = ends }
 
 -- the first sample whose instant can't be written lies in the first span in which there is one
-pub first_of_span : (start : ℤ) (rate : Ratio) (steps : List (ℕ × LeapStep)) (size : ℕ) (span : Span) (i : ℕ)
+pub first_of_span : {start : ℤ} {rate : Ratio} {steps : List (ℕ × LeapStep)} {size : ℕ} {span : Span} (i : ℕ)
     → IsSpanOutside start rate steps size span → span.begin ≤ i → i < span.end
     → IsOutside (start +ℤ pos (periods rate i) -ℤ span.added)
     → ((k : ℕ) → span.begin ≤ k → k < i → ¬ (IsOutside (start +ℤ pos (periods rate k) -ℤ span.added)))
     → IsFirstOutside (λ (k : ℕ). reading_at start rate steps k) size i
-first_of_span start rate steps size span i h low high out before = record {
-  inside = omega (arith, high, h.within);
-  outside = rw (reading_in start rate steps size span i h.standing low high) at out;
+first_of_span {start} {rate} {steps} {size} {span} i h low high out before = record {
+  inside = omega (arith, h.within);
+  outside = rw (reading_in start rate i h.standing low high) at out;
   before = λ k less. elim (cases_lt k span.begin) [
     | inl below ↦ h.before k below
-    | inr more ↦
-        rw (reading_in start rate steps size span k h.standing more (omega (arith, less, high))) at (before k more less)
+    | inr more ↦ rw (reading_in start rate k h.standing more (omega arith)) at (before k more less)
   ];
 }
 

@@ -1,6 +1,6 @@
 -- What is so of the series of a channel's records.
 use Rattle.std.proofs.Common.{◌≡◌, ◌≢◌, ℕ, zero, suc, ℤ, pos, negsuc, ◌+◌, ◌*◌, ◌^◌, ◌<◌, ◌≤◌, ◌+ℤ◌}
-use Rattle.std.proofs.Common.{List, [], ◌∷◌, ◌++◌, length, get_or, Option, Some, None, IsSome}
+use Rattle.std.proofs.Common.{List, [], ◌∷◌, ◌++◌, length, Option, Some, None, IsSome}
 use Rattle.std.proofs.Common.{FitsSigned, sym, ap, ◌∙◌, arith, length-append}
 use Rattle.std.specs.Prelude.{flat_map, neg_ℤ, ◌≤ℤ◌, ◌*ℤ◌}
 use Rattle.std.specs.Int.{w16}
@@ -11,7 +11,6 @@ use Rattle.std.proofs.lemmas.Int.{ints}
 use Rattle.byteorder.specs.Endian.{twos_complement}
 use Rattle.mseed_time.specs.declared.fault.TimeFault.{TimeFault}
 use Rattle.mseed_time.specs.declared.order.Order.{Order}
-use Rattle.mseed_time.specs.declared.order.Order.TheVariants.{Big, Little}
 use Rattle.mseed_time.specs.declared.outcome.LeapStep.{LeapStep}
 use Rattle.mseed_time.specs.Btime.{Parts, IsInstant, day_of}
 use Rattle.mseed_time.specs.Fields.{number_at}
@@ -36,26 +35,25 @@ use Rattle.mseed_pack.specs.Fitting.{Fits}
 use Rattle.mseed_pack.specs.Outcome.{IsTrace}
 use Rattle.mseed_pack.specs.Packing.{IsPacked, IsPacking, Piece, ArePlaced}
 use Rattle.mseed_pack.specs.declared.options.Options.{Options}
-use Rattle.std.proofs.lemmas.List.Elements.{All-filter, All-from_recursion, recursion_from_All}
+use Rattle.std.proofs.ByRecursion.{all_kept_by}
+use Rattle.mseed_steim.specs.Frames.{AreOctets}
+use Rattle.mseed_steim.proofs.Integers.{number_lt}
 use Rattle.mseed_pack.proofs.Times.{reading_first}
 
--- a number of two bytes
-number_small : (order : Order) (b : List ℕ) (o : ℕ) → ((i : ℕ) → get_or b i 0 < 256) → number_at order 2 o b < 2 ^ 16
-number_small Big b o octets = omega (arith, octets o, octets (suc o))
-number_small Little b o octets = omega (arith, octets o, octets (suc o))
-
+-- a signed number of two bytes
 fits_16 : (n : ℕ) → n < 2 ^ 16 → FitsSigned w16 (twos_complement 2 n)
 fits_16 n h = grind (arith, nat_tests, ints)
+
+fits_at : (order : Order) (b : List ℕ) (o : ℕ) → AreOctets b
+    → FitsSigned w16 (twos_complement 2 (number_at order 2 o b))
+fits_at order b o octets = fits_16 (number_at order 2 o b) (number_lt order 2 o b octets)
 
 -- a factor and a multiplier that give a rate count
 rate_counts : (f m : ℤ) → IsSome (rate_of f m) → (f ≢ pos 0) × (m ≢ pos 0)
 rate_counts (pos zero) m some = absurd (false≢true some)
 rate_counts (pos (suc f)) (pos zero) some = absurd (false≢true some)
-rate_counts (pos (suc f)) (pos (suc m)) some = (λ e. omega (arith, ints, e), λ e. omega (arith, ints, e))
-rate_counts (pos (suc f)) (negsuc m) some = (λ e. omega (arith, ints, e), λ e. omega (arith, ints, e))
 rate_counts (negsuc f) (pos zero) some = absurd (false≢true some)
-rate_counts (negsuc f) (pos (suc m)) some = (λ e. omega (arith, ints, e), λ e. omega (arith, ints, e))
-rate_counts (negsuc f) (negsuc m) some = (λ e. omega (arith, ints, e), λ e. omega (arith, ints, e))
+rate_counts f m some = (λ e. omega (arith, ints, e), λ e. omega (arith, ints, e))
 
 some_rate : (o : Option TimeFault) (r : Option Ratio) → IsSome (rate_unless o r) → IsSome r
 some_rate None r some = some
@@ -116,8 +114,7 @@ start_within s o (p ∷ ps) samples steps some joined placed each =
 -- each record of a channel is one
 pub kept_views : (key : List ℕ) (vs : List View) → AllByRecursion IsView vs
     → AllByRecursion IsView (filter (is_of_channel key) vs)
-kept_views key vs h = recursion_from_All IsView (filter (is_of_channel key) vs)
-    (All-filter (is_of_channel key) IsView vs (All-from_recursion IsView vs h))
+kept_views key = all_kept_by (is_of_channel key) IsView
 
 -- what is so of the trace of every series, of that of records
 pub is_trace : (s : Trace) (o : Options) (vs : List View) (records : List (List ℕ)) → AllByRecursion IsView vs
@@ -136,11 +133,9 @@ is_trace s o vs records each continuous series fits packing =
       key = ap (λ (k : List ℕ). length k) series.codes
           ∙ key_long first.bytes (omega (arith, record_long first.bytes (view_record first view)));
       start = start_within s o packing.pieces s.samples steps fits.some packing.joined packing.placed packing.each;
-      factor = rw series.factor
-          (fits_16 (number_at first.order 2 32 first.bytes) (number_small first.order first.bytes 32 octets));
+      factor = rw series.factor (fits_at first.order first.bytes 32 octets);
       factor_counts = λ e. counts.0 (sym series.factor ∙ e);
-      multiplier = rw series.multiplier
-          (fits_16 (number_at first.order 2 34 first.bytes) (number_small first.order first.bytes 34 octets));
+      multiplier = rw series.multiplier (fits_at first.order first.bytes 34 octets);
       multiplier_counts = λ e. counts.1 (sym series.multiplier ∙ e);
       steps = steps;
     }

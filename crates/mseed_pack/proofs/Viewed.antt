@@ -1,20 +1,19 @@
 -- A packed record's bytes are a record, and its view says what was packed.
 use Rattle.std.proofs.Common.{◌≡◌, ◌≢◌, ℕ, zero, suc, ◌+◌, ◌-◌, ◌^◌, ◌<◌, ◌≤◌, ◌==◌, cond, List, [], ◌∷◌, length, take}
-use Rattle.std.proofs.Common.{drop, refl, sym, ap, ◌∙◌, arith, ℤ, pos, negsuc, neg_ℤ, ◌≤ℤ◌, All, Option, Some}
-use Rattle.std.proofs.Common.{None, unwrap_or, length-append, FitsSigned, w8}
+use Rattle.std.proofs.Common.{drop, refl, sym, ap, ◌∙◌, arith, ℤ, pos, negsuc, All, Option, Some}
+use Rattle.std.proofs.Common.{None, unwrap_or, length-append, w8}
 use Rattle.std.specs.Prelude.{slice_get}
 use Rattle.std.specs.Int.{bit_at}
 use Rattle.std.proofs.Math.Pow.{pow_mono}
-use Rattle.std.proofs.lemmas.Bool.Decides.{nat_tests}
 use Rattle.std.proofs.lemmas.Int.{fits_signed_from_abs, ints}
 use Rattle.std.proofs.lemmas.List.{length-drop, length-take-le, length-take, take-take, take-append-drop}
 use Rattle.std.proofs.lemmas.List.Elements.{All-take, All-drop}
 use Rattle.mseed_time.specs.declared.order.Order.TheVariants.{Big}
 use Rattle.mseed_time.specs.declared.outcome.LeapStep.{LeapStep}
 use Rattle.mseed_time.specs.declared.outcome.LeapStep.TheVariants.{Plus, Minus}
-use Rattle.mseed_time.specs.declared.fault.TimeFault.{TimeFault}
-use Rattle.mseed_time.specs.Btime.{Parts, IsTime, first_fault}
+use Rattle.mseed_time.specs.Btime.{Parts, first_fault}
 use Rattle.mseed_time.specs.Rate.{Ratio, rate_of}
+use Rattle.mseed_time.proofs.Reading.{first_fault-none}
 use Rattle.mseed_time.specs.Ratios.{ratio_of}
 use Rattle.mseed_record.specs.declared.leap.Leap.{Leap}
 use Rattle.mseed_record.specs.declared.leap.Leap.TheVariants.{None as NoLeap, Positive, Negative, Both}
@@ -31,7 +30,7 @@ use Rattle.mseed_steim.specs.Runs.{SpellsRun}
 use Rattle.mseed_steim.specs.Samples.{form_of, IsSample, StartsAndAdds, IsPayloadReading, EndsOnConstant}
 use Rattle.mseed_steim.specs.Reading.{count_of, IsWhole}
 use Rattle.mseed_steim_pack.specs.Packing.{PacksRun}
-use Rattle.mseed_audit.specs.Judging.{step_in, known_rate, rate_unless}
+use Rattle.mseed_audit.specs.Judging.{step_in, known_rate}
 use Rattle.mseed_audit.specs.Series.{Trace}
 use Rattle.mseed_steim.specs.declared.encoding.Encoding.{Encoding}
 use Rattle.mseed_steim.specs.declared.encoding.Encoding.TheVariants.{Int16, Int32, Steim1, Steim2}
@@ -64,9 +63,7 @@ form_in Steim2 = Frames Steim2s
 
 form_is : (e : Encoding) → form_of (code_of e) ≡ Some (form_in e)
 form_is Int16 = refl
-form_is Int32 = refl
-form_is Steim1 = refl
-form_is Steim2 = refl
+form_is e = refl
 
 -- what is known of a record's samples and of the differences that are left at its first
 record Slice (e : Encoding) (left samples : List ℤ) : Type 0 where
@@ -75,16 +72,20 @@ record Slice (e : Encoding) (left samples : List ℤ) : Type 0 where
   sums : (first : ℤ) → slice_get samples 0 ≡ Some first → StartsAndAdds first (take (length samples) left) samples
   fit : All (IsSampleOf e) samples
 
-abbrev IsHeld : Form → List ℕ → List ℤ → Type 0
-IsHeld form payload samples = IsPayloadReading form Big payload (length samples) samples
-    × EndsOnConstant form payload samples
+-- What a payload says: the samples' reading, which ends on its constants. In 4096 bytes they are fewer than 2^16.
+record Held (form : Form) (samples : List ℤ) (payload : List ℕ) : Type 0 where
+  reading : IsPayloadReading form Big payload (length samples) samples
+  ends : EndsOnConstant form payload samples
+  few : length payload ≤ 4096 → length samples < 2 ^ 16
 
 framed : PackedSpells → (e : Encoding) (scheme : Scheme) (left samples : List ℤ) (frames : ℕ) (payload : List ℕ)
     → Slice e left samples → All IsSample samples → HoldsFrames scheme left samples frames payload
-    → IsHeld (Frames scheme) payload samples
+    → Held (Frames scheme) samples payload
 framed spells e scheme left samples frames payload slice small h =
-    let ws = data_words payload in (
-      (
+    let ws = data_words payload in
+    let size = length-take-le (length samples) left slice.within in
+    record {
+      reading = (
         refl,
         record {
           count = refl;
@@ -93,52 +94,29 @@ framed spells e scheme left samples frames payload slice small h =
           cut = sym (take-append-drop h.words ws);
           differences = take (length samples) left;
           spelled = spells scheme (take h.words ws) left (length samples) h.packed;
-          enough = let size = length-take-le (length samples) left slice.within in omega (arith, size);
+          enough = omega arith;
           sums = slice.sums (first_constant payload) h.first_is;
         },
         small,
-      ),
-      h.last_is,
-    )
+      );
+      ends = h.last_is;
+      few = λ short.
+          let run = run_few scheme (take h.words ws) left (drop (length samples) left) h.packed in
+          let used = length-take-le h.words ws h.inside in
+          omega (arith, words_fit payload, length-drop (length samples) left);
+    }
 
--- the payload is the samples' reading, and ends on its constants
 held : PackedSpells → (e : Encoding) (left samples : List ℤ) (frames : ℕ) (payload : List ℕ) → Slice e left samples
-    → HoldsSamples e left samples frames payload → IsHeld (form_in e) payload samples
-held spells Int16 left samples frames payload slice h =
-    ((refl, begins 2 samples [] _ payload 0 h.bytes refl slice.fit), tt)
-held spells Int32 left samples frames payload slice h =
-    ((refl, begins 4 samples [] _ payload 0 h.bytes refl slice.fit), tt)
+    → HoldsSamples e left samples frames payload → Held (form_in e) samples payload
 held spells Steim1 left samples frames payload slice h =
     framed spells Steim1 Steim1s left samples frames payload slice slice.fit h
 held spells Steim2 left samples frames payload slice h =
     framed spells Steim2 Steim2s left samples frames payload slice slice.fit h
-
--- a record of 4096 bytes at the most has fewer than 2^16 samples
-few_frames : (scheme : Scheme) (left samples : List ℤ) (frames : ℕ) (payload : List ℕ) → length samples ≤ length left
-    → HoldsFrames scheme left samples frames payload → length payload ≤ 4096 → length samples < 2 ^ 16
-few_frames scheme left samples frames payload within h few =
-    let ws = data_words payload in
-    omega (
-      arith,
-      run_few scheme (take h.words ws) left (drop (length samples) left) h.packed,
-      length-take-le h.words ws h.inside,
-      words_fit payload,
-      h.inside,
-      few,
-      within,
-      length-drop (length samples) left,
-    )
-
-few_samples : (e : Encoding) (left samples : List ℤ) (frames : ℕ) (payload : List ℕ) → length samples ≤ length left
-    → HoldsSamples e left samples frames payload → length payload ≤ 4096 → length samples < 2 ^ 16
-few_samples Int16 left samples frames payload within h few =
-    omega (arith, few, simp (length-append, length-all) at (ap (λ (xs : List ℕ). length xs) h.bytes))
-few_samples Int32 left samples frames payload within h few =
-    omega (arith, few, simp (length-append, length-all) at (ap (λ (xs : List ℕ). length xs) h.bytes))
-few_samples Steim1 left samples frames payload within h few =
-    few_frames Steim1s left samples frames payload within h few
-few_samples Steim2 left samples frames payload within h few =
-    few_frames Steim2s left samples frames payload within h few
+held spells e left samples frames payload slice h = record {
+  reading = (refl, begins _ samples [] _ payload 0 h.bytes refl slice.fit);
+  ends = tt;
+  few = λ small. omega (arith, simp (length-append, length-all) at (ap (λ (xs : List ℕ). length xs) h.bytes));
+}
 
 -- the leap second that the flags tell
 abbrev leap_by : ℕ → Leap
@@ -150,23 +128,14 @@ reported None = (refl, λ e. cc)
 reported (Some Plus) = (refl, λ e. cc)
 reported (Some Minus) = (refl, λ e. cc)
 
-no_fault : (t : Parts) → IsTime t → first_fault t ≡ None
-no_fault t h = grind (arith, nat_tests)
-
 -- a rate that isn't 0 has its ratio
 pub has_ratio : (f m : ℤ) → f ≢ pos 0 → m ≢ pos 0
     → (rate_of f m ≡ Some (unwrap_or (rate_of f m) (record { num = 0; den = 0 })))
     × (0 < (unwrap_or (rate_of f m) (record { num = 0; den = 0 })).num)
 has_ratio (pos zero) m f_counts m_counts = absurd (f_counts refl)
 has_ratio (pos (suc f)) (pos zero) f_counts m_counts = absurd (m_counts refl)
-has_ratio (pos (suc f)) (pos (suc m)) f_counts m_counts = (refl, omega arith)
-has_ratio (pos (suc f)) (negsuc m) f_counts m_counts = (refl, omega arith)
 has_ratio (negsuc f) (pos zero) f_counts m_counts = absurd (m_counts refl)
-has_ratio (negsuc f) (pos (suc m)) f_counts m_counts = (refl, omega arith)
-has_ratio (negsuc f) (negsuc m) f_counts m_counts = (refl, omega arith)
-
-small_micros : (u : ℤ) → neg_ℤ (pos 50) ≤ℤ u → u ≤ℤ pos 49 → FitsSigned w8 u
-small_micros u low high = fits_signed_from_abs w8 u (omega (arith, ints, low, high))
+has_ratio f m f_counts m_counts = (refl, omega arith)
 
 -- What the view of a record says that holds these samples of the series, with so many before them.
 pub record IsAt (s : Trace) (first : ℕ) (v : View) (samples : List ℤ) : Type 0 where
@@ -185,12 +154,7 @@ pub record IsAt (s : Trace) (first : ℕ) (v : View) (samples : List ℤ) : Type
 
 known : (v : View) (t : Parts) (f m : ℤ) (r : Ratio) → time_at v.order v.bytes ≡ t → first_fault t ≡ None
     → factor_at v.order v.bytes ≡ f → multiplier_at v.order v.bytes ≡ m → rate_of f m ≡ Some r → known_rate v ≡ Some r
-known v t f m r time valid factor multiplier rate =
-    ap (λ (x : Parts). rate_unless (first_fault x)
-    (rate_of (factor_at v.order v.bytes) (multiplier_at v.order v.bytes))) time
-    ∙ ap (λ (o : Option TimeFault). rate_unless o
-    (rate_of (factor_at v.order v.bytes) (multiplier_at v.order v.bytes))) valid
-    ∙ ap (λ (z : ℤ). rate_of z (multiplier_at v.order v.bytes)) factor ∙ ap (λ (z : ℤ). rate_of f z) multiplier ∙ rate
+known v t f m r time valid factor multiplier rate = cc
 
 first_take : (n : ℕ) (xs : List ℤ) (x : ℤ) → slice_get (take n xs) 0 ≡ Some x → slice_get xs 0 ≡ Some x
 first_take zero xs x e = cc
@@ -202,86 +166,82 @@ pub short : (s : Trace) (p : Piece) → length p.samples ≤ length (left_of s p
     → length p.samples ≤ span_end s p.first - p.first
 short s p h = omega (arith, h, length-take (span_end s p.first - p.first) (drop p.first (differences s.samples)))
 
--- the record's own samples and differences
-slice_of : (s : Trace) (o : Options) (p : Piece) → Fits s o
-    → p.samples ≡ take (length p.samples) (drop p.first s.samples) → IsPacked s o p
-    → Slice o.encoding (left_of s p.first) p.samples
-slice_of s o p fits here k =
-    let n = length p.samples in
-    record {
-      some = k.some;
-      within = k.within;
-      sums = λ first e. rw (take-take n (span_end s p.first - p.first) (drop p.first (differences s.samples))
-          (short s p k.within))
-          (rw (← here) at (starts s.samples p.first n first
-          (first_take n (drop p.first s.samples) first (rw here at e))));
-      fit = rw here (All-take (IsSampleOf o.encoding) n (drop p.first s.samples)
-          (All-drop (IsSampleOf o.encoding) p.first s.samples fits.samples));
-    }
-
--- what the header says fits its fields
-writable : (s : Trace) (o : Options) (p : Piece) → IsTrace s → (k : IsPacked s o p) → IsWritable k.header
-writable s o p trace k =
-    let long : 2 ^ k.header.exponent ≤ 4096 =
-    pow_mono {i = k.header.exponent} {j = 12} (rw k.fields.exponent o.short) in
-    let few = few_samples o.encoding (left_of s p.first) p.samples k.frames (drop 64 p.bytes) k.within k.payload
-    (omega (arith, k.headed.size, long, length-drop 64 p.bytes)) in
-    record {
-      key = ap (λ (xs : List ℕ). length xs) k.fields.key ∙ trace.key;
-      time = k.fields.start.valid;
-      samples = rw k.fields.samples few;
-      factor = rw k.fields.factor trace.factor;
-      multiplier = rw k.fields.multiplier trace.multiplier;
-      microseconds = small_micros k.header.microseconds k.fields.start.low k.fields.start.high;
-    }
-
-whole_of : PackedSpells → (s : Trace) (o : Options) (p : Piece) (k : IsPacked s o p)
-    → Slice o.encoding (left_of s p.first) p.samples → ReadsBack k.header p.bytes
-    → IsWhole (headed_view k.header p.bytes) p.samples
-whole_of spells s o p k slice back =
-    let v = headed_view k.header p.bytes in
-    let form : form_of v.encoding ≡ Some (form_in o.encoding) = ap form_of k.fields.encoding ∙ form_is o.encoding in
-    let payload : payload_of v ≡ drop 64 p.bytes = back.payload in
-    let count : count_of v ≡ length p.samples = back.samples ∙ k.fields.samples in
-    let both = held spells o.encoding (left_of s p.first) p.samples k.frames (drop 64 p.bytes) slice k.payload in (
+module _ {s : Trace} {o : Options} {p : Piece} (k : IsPacked s o p) where
+  -- the record's own samples and differences
+  slice_of : Fits s o → p.samples ≡ take (length p.samples) (drop p.first s.samples)
+      → Slice o.encoding (left_of s p.first) p.samples
+  slice_of fits here =
+      let n = length p.samples in
       record {
-        some = rw count k.some;
-        one_rate = refl;
-        form = form_in o.encoding;
-        encoding = form;
-        payload = back.has_payload;
-        spelled = rw (payload, count) both.0;
-      },
-      λ other e. let same : other ≡ form_in o.encoding = cc (form, e) in rw (same, payload) both.1,
-    )
+        some = k.some;
+        within = k.within;
+        sums = λ first e. rw (take-take n (span_end s p.first - p.first) (drop p.first (differences s.samples))
+            (short s p k.within)) (rw (← here) at (starts s.samples p.first n first
+            (first_take n (drop p.first s.samples) first (rw here at e))));
+        fit = rw here (All-take (IsSampleOf o.encoding) n (drop p.first s.samples)
+            (All-drop (IsSampleOf o.encoding) p.first s.samples fits.samples));
+      }
 
-pub at : HeadersReadBack → PackedSpells → (s : Trace) (o : Options) (p : Piece) → IsTrace s → Fits s o
-    → p.samples ≡ take (length p.samples) (drop p.first s.samples) → (k : IsPacked s o p)
-    → IsAt s p.first (headed_view k.header p.bytes) p.samples
-at headers spells s o p trace fits here k =
-    let v = headed_view k.header p.bytes in
-    let back = headers k.header p.bytes (writable s o p trace k) k.headed in
-    let slice = slice_of s o p fits here k in
-    let factor : factor_at v.order v.bytes ≡ s.rate.factor = back.factor ∙ k.fields.factor in
-    let multiplier : multiplier_at v.order v.bytes ≡ s.rate.multiplier = back.multiplier ∙ k.fields.multiplier in
-    let flags : activity_at v.bytes ≡ flags_of (step_after s (p.first + length p.samples)) =
-    back.activity ∙ k.fields.activity in
-    let leap : leap_of v.bytes ≡ leap_by (flags_of (step_after s (p.first + length p.samples))) = ap leap_by flags in
-    let tells = reported (step_after s (p.first + length p.samples)) in
-    let within = short s p k.within in
-    record {
-      is_view = back.is_view;
-      some = k.some;
-      within = omega (arith, within, k.some);
-      key = back.key ∙ k.fields.key;
-      factor = factor;
-      multiplier = multiplier;
-      rate = known v k.header.start s.rate.factor s.rate.multiplier (ratio_of s.rate) back.time
-          (no_fault k.header.start k.fields.start.valid) factor multiplier
-          (has_ratio s.rate.factor s.rate.multiplier trace.factor_counts trace.multiplier_counts).0;
-      start = back.start ∙ k.fields.start.value;
-      count = back.samples ∙ k.fields.samples;
-      step = ap step_in leap ∙ tells.0;
-      reported = λ e. tells.1 (sym leap ∙ e);
-      whole = whole_of spells s o p k slice back;
-    }
+  -- what the header says fits its fields
+  writable : IsTrace s → (length (drop 64 p.bytes) ≤ 4096 → length p.samples < 2 ^ 16) → IsWritable k.header
+  writable trace few =
+      let long : 2 ^ k.header.exponent ≤ 4096 =
+      pow_mono {i = k.header.exponent} {j = 12} (rw k.fields.exponent o.short) in
+      record {
+        key = ap (λ (xs : List ℕ). length xs) k.fields.key ∙ trace.key;
+        time = k.fields.start.valid;
+        samples = rw k.fields.samples (few (omega (arith, k.headed.size, long, length-drop 64 p.bytes)));
+        factor = rw k.fields.factor trace.factor;
+        multiplier = rw k.fields.multiplier trace.multiplier;
+        microseconds = fits_signed_from_abs w8 k.header.microseconds (omega (arith, ints, k.fields.start));
+      }
+
+  whole_of : Held (form_in o.encoding) p.samples (drop 64 p.bytes) → ReadsBack k.header p.bytes
+      → IsWhole (headed_view k.header p.bytes) p.samples
+  whole_of holds back =
+      let v = headed_view k.header p.bytes in
+      let form : form_of v.encoding ≡ Some (form_in o.encoding) = ap form_of k.fields.encoding ∙ form_is o.encoding in
+      let payload : payload_of v ≡ drop 64 p.bytes = back.payload in
+      let count : count_of v ≡ length p.samples = back.samples ∙ k.fields.samples in (
+        record {
+          some = rw count k.some;
+          one_rate = refl;
+          form = form_in o.encoding;
+          encoding = form;
+          payload = back.has_payload;
+          spelled = rw (payload, count) holds.reading;
+        },
+        λ other e. let same : other ≡ form_in o.encoding = cc (form, e) in rw (same, payload) holds.ends,
+      )
+
+  pub at : HeadersReadBack → PackedSpells → IsTrace s → Fits s o
+      → p.samples ≡ take (length p.samples) (drop p.first s.samples)
+      → IsAt s p.first (headed_view k.header p.bytes) p.samples
+  at headers spells trace fits here =
+      let v = headed_view k.header p.bytes in
+      let holds = held spells o.encoding (left_of s p.first) p.samples k.frames (drop 64 p.bytes) (slice_of fits here)
+      k.payload in
+      let back = headers k.header p.bytes (writable trace holds.few) k.headed in
+      let factor : factor_at v.order v.bytes ≡ s.rate.factor = back.factor ∙ k.fields.factor in
+      let multiplier : multiplier_at v.order v.bytes ≡ s.rate.multiplier = back.multiplier ∙ k.fields.multiplier in
+      let flags : activity_at v.bytes ≡ flags_of (step_after s (p.first + length p.samples)) =
+      back.activity ∙ k.fields.activity in
+      let leap : leap_of v.bytes ≡ leap_by (flags_of (step_after s (p.first + length p.samples))) = ap leap_by flags in
+      let tells = reported (step_after s (p.first + length p.samples)) in
+      let within = short s p k.within in
+      record {
+        is_view = back.is_view;
+        some = k.some;
+        within = omega (arith, k.some);
+        key = back.key ∙ k.fields.key;
+        factor = factor;
+        multiplier = multiplier;
+        rate = known v k.header.start s.rate.factor s.rate.multiplier (ratio_of s.rate) back.time
+            (first_fault-none k.header.start k.fields.start.valid) factor multiplier
+            (has_ratio s.rate.factor s.rate.multiplier trace.factor_counts trace.multiplier_counts).0;
+        start = back.start ∙ k.fields.start.value;
+        count = back.samples ∙ k.fields.samples;
+        step = ap step_in leap ∙ tells.0;
+        reported = λ e. tells.1 (sym leap ∙ e);
+        whole = whole_of holds back;
+      }

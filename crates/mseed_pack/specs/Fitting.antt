@@ -22,7 +22,7 @@ IsTooFast s = 500_000 * (ratio_of s.rate).den < (ratio_of s.rate).num
 abbrev pub HasTimeOutside : Trace → Type 0
 HasTimeOutside s = (i : ℕ) × ((i < length s.samples) × IsOutside (instant_at s i))
 
--- of so many samples, whose instants these are, the one at this index is the first whose instant can't be written
+-- of `size` samples, whose instants these are, the one at this index is the first whose instant can't be written
 pub record IsFirstOutside (instant : ℕ → ℤ) (size index : ℕ) : Type 0 where
   pub inside : index < size
   pub outside : IsOutside (instant index)

@@ -1,12 +1,11 @@
 -- What packing leaves behind.
-use Rattle.std.specs.Prelude.{◌≡◌, ◌≢◌, ℕ, ◌+◌, ◌*◌, ◌^◌, ◌<◌, ◌≤◌, List, [], ◌∷◌, ◌++◌, length, take, drop, ℤ, pos}
+use Rattle.std.specs.Prelude.{◌≡◌, ◌≢◌, ℕ, ◌+◌, ◌<◌, ◌≤◌, List, [], ◌∷◌, ◌++◌, length, take, drop, ℤ, pos}
 use Rattle.std.specs.Prelude.{Result, Ok, Err, FitsSigned}
 use Rattle.std.specs.Int.{w16}
 use Rattle.std.specs.List.{concat}
 use Rattle.mseed_time.specs.Btime.{IsInstant}
 use Rattle.mseed_stream.specs.Device.{BytesWritten}
 use Rattle.mseed_audit.specs.Series.{Trace, AreSteps}
-use Rattle.mseed_pack.specs.declared.batch.Place.{Place}
 use Rattle.mseed_pack.specs.declared.options.Options.{Options}
 use Rattle.mseed_pack.specs.declared.fault.PackFault.{PackFault}
 use Rattle.mseed_pack.specs.declared.fault.PackFault.TheVariants.{Empty, RateTooHigh, TimeOutOfRange, SampleTooLarge}
@@ -24,26 +23,7 @@ pub record IsTrace (s : Trace) : Type 0 where
   pub multiplier_counts : s.rate.multiplier ≢ pos 0
   pub steps : AreSteps (length s.samples) s.steps
 
--- so far the sink accepted so many records, that hold so many samples of the series, and none of its calls failed
-pub record EmittedSo (s : Trace) (o : Options) (number first : ℕ) (old new : BytesWritten) : Type 0 where
-  pub records : List (List ℕ)
-  pub packing : PacksUpTo s o records (drop first s.samples)
-  pub count_is : number ≡ length records
-  pub long : length (concat records) ≡ number * 2 ^ o.exponent
-  pub bytes : new.bytes ≡ old.bytes ++ concat records
-  pub failures : new.failures ≡ old.failures
-
--- The bytes are the records that pack the series on from one place to another, after any that pack it up to the first.
-pub record PacksOn (s : Trace) (o : Options) (place next : Place) (bytes : List ℕ) : Type 0 where
-  pub records : List (List ℕ)
-  pub packing : (prefix : List (List ℕ)) → length prefix ≡ place.number
-      → PacksUpTo s o prefix (drop place.first s.samples)
-      → PacksUpTo s o (prefix ++ records) (drop next.first s.samples)
-  pub count_is : next.number ≡ place.number + length records
-  pub long : next.number * 2 ^ o.exponent ≡ place.number * 2 ^ o.exponent + length bytes
-  pub bytes_are : bytes ≡ concat records
-
--- the sink accepted the records that the series is packed into, so many, and none of its calls failed
+-- the sink accepted the `count` records that the series is packed into, and none of its calls failed
 pub record EmittedAll (s : Trace) (o : Options) (count : ℕ) (old new : BytesWritten) : Type 0 where
   pub records : List (List ℕ)
   pub packing : IsPacking s o records
@@ -51,7 +31,7 @@ pub record EmittedAll (s : Trace) (o : Options) (count : ℕ) (old new : BytesWr
   pub bytes : new.bytes ≡ old.bytes ++ concat records
   pub failures : new.failures ≡ old.failures
 
--- The records that the series is packed into, so many, stand in a room, as many bytes of them as it has. What lies
+-- The `count` records that the series is packed into stand in a room, as many bytes of them as it has. What lies
 -- after them is what was there.
 pub record FillsRoom (s : Trace) (o : Options) (count : ℕ) (old new : List ℕ) : Type 0 where
   pub records : List (List ℕ)
@@ -59,7 +39,7 @@ pub record FillsRoom (s : Trace) (o : Options) (count : ℕ) (old new : List ℕ
   pub count_is : count ≡ length records
   pub bytes : new ≡ take (length old) (concat records) ++ drop (length (concat records)) old
 
--- The sink failed, once it had taken so many bytes of records that the series is packed into: all of those before the
+-- The sink failed, once it had taken `taken` bytes of records that the series is packed into: all of those before the
 -- last, and of that a part.
 pub record EmittedPrefix (s : Trace) (o : Options) (taken : ℕ) (old new : BytesWritten) : Type 0 where
   pub records : List (List ℕ)

@@ -25,7 +25,7 @@ pub record Piece : Type 0 where
   pub samples : List ℤ
   pub bytes : List ℕ
 
--- the pieces stand one after another, with so many records and samples before them
+-- the pieces stand one after another, with `number` records and `first` samples before them
 abbrev pub ArePlaced : ℕ → ℕ → List Piece → Type 0
 ArePlaced number first [] = ⊤
 ArePlaced number first (p ∷ ps) = (p.number ≡ number) × (p.first ≡ first)
@@ -45,7 +45,7 @@ pub record IsHeaderOf (s : Trace) (o : Options) (p : Piece) (frames : ℕ) (h : 
   pub frames_is : h.frames ≡ frames
   pub activity : h.activity ≡ flags_of (step_after s (p.first + length p.samples))
 
--- Integers in so many bytes each, big-endian two's complement, one after another, until `left` of them are there or no
+-- Integers in `width` bytes each, big-endian two's complement, one after another, until `left` of them are there or no
 -- room is left for another; zeros after them. There are no frames.
 pub record HoldsIntegers (width left : ℕ) (samples : List ℤ) (frames : ℕ) (payload : List ℕ) : Type 0 where
   pub bytes : payload

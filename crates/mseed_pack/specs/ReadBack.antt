@@ -64,15 +64,15 @@ pub record IsPartOf (s : Trace) (before after : List (List ℕ)) (part : Trace) 
   pub after_it : HaveSamples after later
   pub codes : part.codes ≡ s.codes
 
--- the leap second stands after more than so many samples, and not more than so many
+-- the leap second stands after more than `place` samples, and not more than `end`
 abbrev pub is_among : ℕ → ℕ → ℕ × LeapStep → Bool
 is_among place end step = nat_lt place step.0 && nat_le step.0 end
 
--- a leap second, with so many samples more before it
+-- a leap second, with `place` more samples before it
 abbrev pub moved : ℕ → ℕ × LeapStep → ℕ × LeapStep
 moved place step = (place + step.0, step.1)
 
--- A part of a series that has so many samples before it begins at the instant of its first one, at the series' rate,
+-- A part of a series that has `place` samples before it begins at the instant of its first one, at the series' rate,
 -- and its leap seconds are the series' own that stand after one of its samples: their places are counted from its
 -- first.
 pub record IsTimedFrom (s : Trace) (place : ℕ) (part : Trace) : Type 0 where

@@ -11,7 +11,7 @@ abbrev pub differences : List ℤ → List ℤ
 differences [] = []
 differences (x ∷ xs) = pos 0 ∷ differences_from x xs
 
--- how many samples stand before the next leap second, where so many have been packed; all, where there's none left
+-- how many samples stand before the next leap second, where `first` have been packed; all, where there's none left
 abbrev pub span_end : Trace → ℕ → ℕ
 span_end s first =
     unwrap_or (option_map (λ (step : ℕ × LeapStep). step.0)
@@ -28,7 +28,7 @@ flags_of None = 0
 flags_of (Some Plus) = 16
 flags_of (Some Minus) = 32
 
--- the leap second with so many samples before it
+-- the leap second with `place` samples before it
 abbrev pub step_after : Trace → ℕ → Option LeapStep
 step_after s place = option_map (λ (step : ℕ × LeapStep). step.1)
     (find (λ (step : ℕ × LeapStep). step.0 == place) s.steps)

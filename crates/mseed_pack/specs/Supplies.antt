@@ -6,7 +6,7 @@ use Rattle.mseed_pack.specs.Fitting.{Fits}
 use Rattle.mseed_pack.specs.Stretches.{differences}
 use Rattle.mseed_pack.specs.Traces.{headed}
 
--- the first so many numbers of a list are the next differences of some samples, after those that were given: some,
+-- the first `count` numbers of a list are the next differences of some samples, after those that were given: some,
 -- where any is left and the list isn't empty
 pub record IsNextGiven (samples : List ℤ) (given : ℕ) (out : List ℤ) (count : ℕ) : Type 0 where
   pub inside : given + count ≤ length samples

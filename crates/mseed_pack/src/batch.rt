@@ -10,9 +10,10 @@ use crate::record::{length_of, write_record};
 use crate::series_head::SeriesHead;
 use crate::span::{Span, first_span, next_span};
 
-/// How far a packing has come: so many records hold so many samples. The next one stands in the span, or after it.
+/// How far a packing has come: `number` records hold the samples before `first`. The next record stands in the span, or
+/// after it.
 #[derive(Clone, Copy)]
-pub(crate) struct Place {
+pub(crate) struct PackedSoFar {
     pub(crate) span: Span,
     pub(crate) number: u64,
     pub(crate) first: usize,
@@ -25,21 +26,21 @@ pub(crate) struct Job<'a> {
     pub(crate) options: &'a Options,
 }
 
-/// What was gathered: so many bytes of records, and the place after them.
+/// What was gathered: how many bytes of records, and the place after them.
 #[derive(Clone, Copy)]
 pub(crate) struct Batch {
     pub(crate) bytes: usize,
-    pub(crate) next: Place,
+    pub(crate) next: PackedSoFar,
 }
 
 /// The place before the first record.
-pub(crate) fn first_place(head: &SeriesHead) -> Place
+pub(crate) fn first_place(head: &SeriesHead) -> PackedSoFar
     requires { AreSteps head.now.count head.now.steps.now }
     ensures standing { StandsAt head.now.steps.now head.now.count result }
     ensures number { result.number ≡ 0 }
     ensures first { result.first ≡ 0 }
 {
-    Place {
+    PackedSoFar {
         span: first_span(head.steps, head.count),
         number: 0,
         first: 0,
@@ -47,9 +48,10 @@ pub(crate) fn first_place(head: &SeriesHead) -> Place
 }
 
 /// Gathers records from a place on, one after another, until no sample is left or no room for a record.
+#[tactic(auto, using(crate::proofs::Rules::gather))]
 pub(crate) fn gather<S, F: Filler<S>>(
     job: &Job,
-    place: Place,
+    place: PackedSoFar,
     filler: &mut F,
     supply: &mut S,
     out: &mut [u8],
@@ -77,14 +79,14 @@ pub(crate) fn gather<S, F: Filler<S>>(
     Batch { bytes, next }
 }
 
-/// Puts the record at a place, and answers the place after it.
+/// Puts the record at a place, and returns the place after it.
 fn put_record<S, F: Filler<S>>(
     job: &Job,
-    place: Place,
+    place: PackedSoFar,
     filler: &mut F,
     supply: &mut S,
     out: &mut [u8],
-) -> Place
+) -> PackedSoFar
     requires on { (samples : List ℤ) × CanGoOn F.stands job.now filler.old supply.old place samples }
     requires size { length out.old ≡ 2 ^ job.now.options.now.exponent }
     ensures to { (samples : List ℤ) → CanGoOn F.stands job.now filler.old supply.old place samples
@@ -94,9 +96,9 @@ fn put_record<S, F: Filler<S>>(
     ensures beside { F.beside supply.new ≡ F.beside supply.old }
 {
     let span = span_at(job.head, place.span, place.first);
-    let place = Place { span, ..place };
+    let place = PackedSoFar { span, ..place };
     let count = write_record(job, place, filler, supply, out);
-    Place {
+    PackedSoFar {
         span,
         number: place.number + 1,
         first: place.first + count,

@@ -10,7 +10,7 @@ use crate::span::Span;
 use mseed_time::{Btime, Micros, Rate};
 
 /// Microseconds in a second.
-const SECOND: u128 = 1_000_000;
+pub(crate) const SECOND: u128 = 1_000_000;
 
 /// The time that is written for the sample at an index of a span: a BTIME, and the microseconds of blockette 1001.
 pub(crate) fn time_at(start: Micros, rate: Rate, span: Span, index: usize) -> Option<(Btime, i8)>
@@ -45,7 +45,7 @@ fn instant_at(start: Micros, rate: Rate, span: Span, index: usize) -> i128
     i128::from(start.get()) + elapsed as i128 - span.added
 }
 
-/// The whole microseconds in so many sample periods.
+/// The whole microseconds in `index` sample periods.
 fn elapsed_at(rate: Rate, index: usize) -> u128
     ensures value { result ≡ periods (ratio_of rate) index }
     ensures bound { result ≤ 2 ^ 115 }

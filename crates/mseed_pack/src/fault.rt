@@ -37,7 +37,7 @@ pub enum PackFault {
         /// How much greater it is than the one before it, in counts; negative where it is less.
         difference: i64,
     },
-    /// The sink failed, once it had taken so many bytes.
+    /// The sink failed, once it had taken this number of bytes.
     #[error("the output failed after {0} bytes")]
     Write(u128),
 }

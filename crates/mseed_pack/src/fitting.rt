@@ -103,7 +103,7 @@ fn rate_has_16_bits(rate: Rate)
     ensures multiplier_counts { rate.multiplier ≢ pos 0 }
 {}
 
-/// A rate is so many samples in so many seconds, each in 1..=2^30.
+/// A rate is a number of samples in a number of seconds, each in 1..=2^30.
 fn rate_is_a_ratio(rate: Rate)
     ensures { IsRatio (ratio_of rate) }
 {
@@ -131,6 +131,7 @@ pub fn fit_head(head: &SeriesHead) -> Result<(), PackFault>
 }
 
 /// The first reason why a series that begins so can't be packed, whatever its samples are.
+#[tactic(auto, using(crate::proofs::Rules::head_misfit))]
 fn head_misfit(head: &SeriesHead) -> Option<PackFault>
     requires { AreSteps head.now.count head.now.steps.now }
     ensures none { IfNone result ((samples : List ℤ) → length samples ≡ head.now.count
@@ -181,8 +182,9 @@ fn is_too_fast(rate: Rate) -> bool
     FASTEST * u64::from(rate.den()) < u64::from(rate.num())
 }
 
-/// The first of the spans of so many samples in which the instant of one can't be written. Between leap seconds the
+/// The first of the spans of `size` samples in which the instant of one can't be written. Between leap seconds the
 /// instants rise, so that the first and the last one tell.
+#[tactic(auto, using(crate::proofs::Times::span_out))]
 fn span_outside(start: Micros, rate: Rate, steps: &[(u64, LeapStep)], size: usize) -> Option<Span>
     requires { AreSteps size steps.now }
     ensures none { IfNone result ((i : ℕ) → i < size → ¬ (IsOutside (reading_at start (ratio_of rate) steps.now i))) }
@@ -312,6 +314,7 @@ fn first_large_difference(samples: &[i32], encoding: Encoding) -> Option<usize>
 
 /// The first sample whose difference the encoding doesn't hold. Samples that aren't too far apart are looked for
 /// first.
+#[tactic(auto, using(crate::proofs::Misfits::near_differences))]
 fn first_wide_difference(samples: &[i32], encoding: Encoding) -> Option<usize>
     ensures none { IfNone result (All (IsDifferenceOf encoding) (differences samples.now)) }
     ensures some { IfSome result (λ index. IsFirstNot (IsDifferenceOf encoding) (differences samples.now) index) }
@@ -343,7 +346,7 @@ fn are_within(samples: &[i32], limit: u32) -> bool
     bits < 2 * limit
 }
 
-/// The bits that any of four samples has, so many apart, each raised by a limit, a power of two.
+/// The bits that any of four samples has, `part` places apart, each raised by a limit, a power of two.
 #[inline(always)]
 fn bits_of_four(samples: &[i32], index: usize, part: usize, limit: u32) -> u32
     requires power { (k : ℕ) × (2 * limit ≡ 2 ^ k) }
@@ -360,6 +363,7 @@ fn bits_of_four(samples: &[i32], index: usize, part: usize, limit: u32) -> u32
 
 /// A sample and a limit added up, modulo 2^32: less than twice the limit exactly where the sample is less than the
 /// limit, and no less than its negative.
+#[tactic(auto, using(crate::proofs::Rules::raised))]
 fn raised(sample: i32, limit: u32) -> u32
     requires { limit < 2 ^ 31 }
     ensures { (result < 2 * limit) ↔ IsUnder (pos limit) sample }
@@ -368,6 +372,7 @@ fn raised(sample: i32, limit: u32) -> u32
 }
 
 /// The first sample whose difference the encoding doesn't hold, looked for sample by sample.
+#[tactic(auto, using(crate::proofs::Rules::large_difference))]
 fn find_large_difference(samples: &[i32], encoding: Encoding) -> Option<usize>
     ensures none { IfNone result (All (IsDifferenceOf encoding) (differences samples.now)) }
     ensures some { IfSome result (λ index. IsFirstNot (IsDifferenceOf encoding) (differences samples.now) index) }

@@ -1,11 +1,10 @@
 //! Samples as Steim frames.
-ghost use Rattle.std.specs.Prelude.{◌≡◌, ℕ, ℤ, List, ◌+◌, ◌-◌, ◌*◌, ◌/◌, ◌<◌, ◌≤◌, ◌==◌, if◌then◌else◌, length};
+ghost use Rattle.std.specs.Prelude.{◌≡◌, ℕ, ℤ, List, ◌+◌, ◌-◌, ◌/◌, ◌<◌, ◌≤◌, length};
 ghost use Rattle.std.specs.Prelude.{drop, min, slice_range, ◌++◌, All, Ok};
-ghost use Rattle.mseed_steim.specs.Frames.{word_at};
 ghost use Rattle.mseed_steim.specs.Spelling.{IsWithin};
 ghost use Rattle.mseed_steim_pack.specs.Lookahead.{IsLookahead};
 ghost use Rattle.mseed_steim_pack.specs.Packed.{IsRunPacked};
-ghost use Rattle.mseed_pack.specs.declared.window.TheConstants.{ROOM};
+ghost use Rattle.mseed_pack.specs.declared.window.TheConstants.{MOST_DIFFERENCES};
 ghost use Rattle.mseed_pack.specs.private.Filling.{AreAhead, AreBegun, AreFrames, AreRemaining, AreRunEnds, AreSet};
 ghost use Rattle.mseed_pack.specs.private.Filling.{AreTaken, GoesOn, Holds, HoldsDifferences, HoldsInFrames};
 ghost use Rattle.mseed_pack.specs.private.Filling.{Fills, width_of};
@@ -17,9 +16,8 @@ use crate::options::Encoding;
 use crate::payload::{Filled, Filler, Remaining};
 use crate::supply::Supply;
 use crate::window::Window;
-use byteorder::{BigEndian, ByteOrder};
 use mseed_steim::{Ends, Scheme};
-use mseed_steim_pack::{Lookahead, Packed, pack_words_ahead};
+use mseed_steim_pack::{Lookahead, Packed, pack_words_ahead, write_word};
 
 /// Bytes of a word.
 const WORD: usize = 4;
@@ -60,7 +58,7 @@ impl Frames {
         self.near = 0;
     }
 
-    /// The first and the last of so many samples from one on, by their differences, which the window holds.
+    /// The first and the last of `count` samples from a place on, by their differences, which the window holds.
     fn add_ends(&mut self, place: usize, count: usize) -> Ends
         requires some { 0 < count }
         requires low { self.old.window.first ≤ place }
@@ -178,7 +176,7 @@ fn pack_part(
     requires low { window.old.first ≤ first }
     requires order { first ≤ end }
     requires high { end ≤ window.old.end }
-    requires room { window.old.end ≤ window.old.first + ROOM }
+    requires room { window.old.end ≤ window.old.first + MOST_DIFFERENCES }
     requires fit { All (IsWithin (width_of scheme))
         (slice_range window.old.differences (first - window.old.first) (end - window.old.first)) }
     requires known { (more : List ℤ) × IsLookahead scheme known.old
@@ -214,7 +212,7 @@ pub(crate) fn end_payload(packed: Packed, ends: Ends, payload: &mut [u8]) -> Fil
     }
 }
 
-/// How many frames hold so many data words: 15 each, the first one two fewer.
+/// How many frames hold `words` data words: 15 each, the first one two fewer.
 fn frames_of(words: usize) -> u8
     requires { words ≤ 1008 }
     ensures { result ≡ (words + 16) / 15 }
@@ -229,12 +227,4 @@ fn put_constants(frames: &mut [u8], first: i32, last: i32)
 {
     write_word(frames, 1, first.cast_unsigned());
     write_word(frames, 2, last.cast_unsigned());
-}
-
-/// Writes the bits of a word of the frames.
-fn write_word(frames: &mut [u8], index: usize, word: u32)
-    requires { 4 * (index + 1) ≤ length frames.old }
-    ensures { (k : ℕ) → word_at frames.new k ≡ (if k == index then word else word_at frames.old k) }
-{
-    BigEndian::write_u32(&mut frames[WORD * index..], word);
 }

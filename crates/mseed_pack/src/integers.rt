@@ -4,6 +4,7 @@ ghost use Rattle.std.specs.Prelude.{slice_range, drop};
 ghost use Rattle.mseed_steim.specs.Spelling.{IsWithin};
 ghost use Rattle.mseed_pack.specs.private.Filling.{AreFrames, AreRemaining, AreTaken, bytes_in, integer_bytes};
 ghost use Rattle.mseed_pack.specs.Packing.{HoldsIntegers};
+ghost use Rattle.mseed_pack.specs.Stretches.{differences};
 
 use crate::payload::{Filled, Remaining};
 use byteorder::{BigEndian, ByteOrder};
@@ -26,6 +27,7 @@ fn bytes_in(width: Width) -> usize
 }
 
 /// Writes the samples from one on, as many as there is room for, as big-endian integers, and zeros after them.
+#[tactic(auto, using(crate::proofs::Numbers::taken))]
 pub(crate) fn fill_integers(
     width: Width,
     samples: &[i32],
@@ -35,7 +37,7 @@ pub(crate) fn fill_integers(
     requires left { AreRemaining samples.now left }
     requires frames { AreFrames payload.old }
     requires fits { All (IsWithin (8 * bytes_in width)) samples.now }
-    ensures holds { HoldsIntegers (bytes_in width) (left.end - left.first)
+    ensures holds { HoldsIntegers (bytes_in width) (length (slice_range (differences samples.now) left.first left.end))
         (slice_range samples.now left.first (left.first + result.samples)) result.frames payload.new }
     ensures taken { AreTaken left result.samples }
 {
@@ -57,6 +59,7 @@ pub(crate) fn fill_integers(
 }
 
 /// Writes the sample at an index.
+#[tactic(auto, using(crate::proofs::Rules::put_sample))]
 fn put_sample(width: Width, samples: &[i32], index: usize, out: &mut [u8])
     requires inside { index < length samples.now }
     requires room { bytes_in width ≤ length out.old }

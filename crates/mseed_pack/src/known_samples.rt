@@ -17,7 +17,7 @@ const APART: usize = 224;
 #[derive(Drop)]
 pub(crate) struct KnownSamples {
     pub(crate) marks: [KnownSample; MARKS],
-    /// Where the last one was put, and how often they were gone round before.
+    /// How many marks were put after the first, modulo 2^64; the last one stands at this number modulo `MARKS`.
     last: usize,
 }
 

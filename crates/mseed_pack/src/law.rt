@@ -66,6 +66,7 @@ pub fn one_prefix()
 }
 
 /// A series has one reason at most why it isn't packed, and none where it fits.
+#[tactic(auto, using(crate::proofs::OneMisfit::one_misfit, crate::proofs::OneMisfit::no_misfit))]
 pub fn one_misfit()
     ensures one { (s : Trace) (o : Options) (f g : PackFault) → IsMisfit s o f → IsMisfit s o g → f ≡ g }
     ensures none { (s : Trace) (o : Options) (f : PackFault) → Fits s o → ¬ (IsMisfit s o f) }
@@ -91,6 +92,7 @@ pub fn reads_back()
 
 /// Where an audit judges the records that a series is packed into, wherever they stand in an archive, it calls
 /// their channel continuous; and what is assembled of them is the series, or there was no memory for it.
+#[tactic(auto, using(crate::proofs::Called::called))]
 pub fn called_continuous()
     ensures verdict { (s : Trace) (records : List (List ℕ)) (ps : List Placed) (verdict : Verdict)
         → ReadsAs s records → AreViewsOf records (views_in ps) → IsVerdict verdict ps
@@ -105,6 +107,7 @@ pub fn called_continuous()
 
 /// Where the records of several series stand one after another, no two of one channel, the records of each
 /// channel are those that its series is packed into.
+#[tactic(auto, using(crate::proofs::Archived::archived))]
 pub fn archive_reads_back()
     ensures { (packed : List Packed) (views : List View)
         → AllByRecursion (λ (p : Packed). ReadsAs p.series p.records) packed → AreApart packed

@@ -8,14 +8,14 @@ ghost use Rattle.mseed_pack.specs.private.Filling.{StandsInList};
 ghost use Rattle.mseed_pack.specs.private.Spans.{CanGoOn, IsFilledTo, StandsAt};
 ghost use Rattle.mseed_pack.specs.Traces.{trace_of};
 
-use crate::batch::{Batch, Job, Place, first_place, gather};
+use crate::batch::{Batch, Job, PackedSoFar, first_place, gather};
 use crate::options::Options;
 use crate::payloads::Payloads;
 use crate::record::LONGEST;
 use crate::series_view::SeriesView;
 
 /// [`Packer::pack_fitting`](crate::Packer::pack_fitting) into a room, which takes as many bytes of the records as it
-/// has, and answers how many records there are. What lies after them stays as it was. The numbers of samples before
+/// has, and returns how many records there are. What lies after them stays as it was. The numbers of samples before
 /// its leap seconds rise strictly, from 1 to at most the number of samples.
 pub fn pack_into(series: &SeriesView, options: &Options, room: &mut [u8]) -> u64
     requires fits { Fits (trace_of series.now) options.now }
@@ -44,7 +44,7 @@ pub fn pack_into(series: &SeriesView, options: &Options, room: &mut [u8]) -> u64
 /// Packs from a place on into what is left of the room; or through these bytes, where a record could be longer.
 fn fill_on(
     job: &Job,
-    place: Place,
+    place: PackedSoFar,
     payloads: &mut Payloads,
     list: &mut &[i32],
     records: &mut [u8],
@@ -65,8 +65,8 @@ fn fill_on(
     batch
 }
 
-/// Writes bytes over a room, as many of them as there is room for. What lies after them stays.
-fn overwrite(bytes: &[u8], room: &mut [u8])
+/// Writes bytes over the beginning of a room, as many of them as there is room for. What lies after them stays.
+pub fn overwrite(bytes: &[u8], room: &mut [u8])
     ensures { room.new ≡ take (length room.old) bytes.now ++ drop (length bytes.now) room.old }
 {
     let shown = bytes.len().min(room.len());

@@ -30,10 +30,11 @@ pub use law::{
     a_packing_exists, a_stretch_keeps_time, a_stretch_reads_back, archive_reads_back,
     called_continuous, fewest_words, one_length, one_misfit, one_packing, one_prefix, reads_back,
 };
-pub use lent::pack_into;
+pub use lent::{overwrite, pack_into};
 pub use listed::Listed;
 pub use options::{BadOption, Encoding, Options};
 pub use packing::{Packer, pack, pack_view};
 pub use series_head::SeriesHead;
 pub use series_view::SeriesView;
 pub use supply::Supply;
+pub use window::MOST_DIFFERENCES;

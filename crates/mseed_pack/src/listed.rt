@@ -9,7 +9,7 @@ ghost use Rattle.mseed_pack.specs.Stretches.{differences};
 use crate::fitting::difference_at;
 use crate::supply::Supply;
 
-/// The samples of a list, as a supply: so many of them were given.
+/// The samples of a list, as a supply, with how many of them were given.
 #[derive(Clone, Copy)]
 pub struct Listed<'a> {
     pub(crate) samples: &'a [i32],
@@ -71,6 +71,7 @@ fn difference_or_0(samples: &[i32], index: usize) -> i32
 }
 
 /// The difference of a sample from the one that stands before it.
+#[tactic(auto, using(crate::proofs::Rules::difference_after))]
 fn difference_after(samples: &[i32], index: usize) -> i32
     requires some { 0 < index }
     requires inside { index < length samples.now }

@@ -1,5 +1,5 @@
 //! How a series is packed.
-ghost use Rattle.std.specs.Prelude.{◌≡◌, ◌≤◌, ◌<◌, IfOk, None};
+ghost use Rattle.std.specs.Prelude.{◌≡◌, ◌+◌, ◌%◌, ◌≤◌, ◌<◌, IfOk, None};
 ghost use Rattle.std.specs.Result.{result_err};
 ghost use Rattle.mseed_pack.specs.Options.{code_of, first_bad_option};
 
@@ -15,6 +15,9 @@ pub enum BadOption {
     /// The sequence number is over 999,999.
     Sequence,
 }
+
+/// How many sequence numbers there are.
+const NUMBERS: u64 = 1_000_000;
 
 /// How a series is packed.
 #[derive(Clone, Copy, Debug, PartialEq, Eq)]
@@ -60,5 +63,20 @@ impl Options {
             encoding,
             first_sequence,
         })
+    }
+
+    /// Returns the options of what is packed after so many records: their sequence numbers, of six digits, run on
+    /// (SEED manual, chapter 8, fixed section of data header, field 1).
+    pub fn after(&self, records: u64) -> Options
+        ensures exponent { result.exponent ≡ self.now.exponent }
+        ensures encoding { result.encoding ≡ self.now.encoding }
+        ensures sequence { result.first_sequence ≡ (self.now.first_sequence + records) % 1_000_000 }
+    {
+        let sequence = (u64::from(self.first_sequence) + records % NUMBERS) % NUMBERS;
+        Options {
+            exponent: self.exponent,
+            encoding: self.encoding,
+            first_sequence: sequence as u32,
+        }
     }
 }

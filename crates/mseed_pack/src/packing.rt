@@ -31,7 +31,7 @@ use std::alloc::Allocator;
 /// The bytes that are gathered before they are written: whole records of any length.
 const GATHERED: usize = 1 << 14;
 
-/// Packs a series into records, which it writes one after another, and answers how many there are. It takes no memory.
+/// Packs a series into records, which it writes one after another. Returns how many there are. It takes no memory.
 ///
 /// # Errors
 ///
@@ -64,6 +64,7 @@ pub fn pack<A: Allocator + Copy, W: Sink>(
 /// # Errors
 ///
 /// Those of [`pack`].
+#[tactic(auto, using(crate::proofs::OneMisfit::refused, mseed_stream::proofs::Calls::writes_none))]
 pub fn pack_view<W: Sink>(
     series: &SeriesView,
     options: &Options,
@@ -193,7 +194,7 @@ fn count_has_64_bits(count: usize)
     ensures { count < 2 ^ 64 }
 {}
 
-/// Writes the records of a series to a sink, gathered in a room, and answers how many there are.
+/// Writes the records of a series to a sink, gathered in a room, and returns how many there are.
 ///
 /// # Errors
 ///
@@ -208,11 +209,11 @@ fn write_records<S, F: Filler<S>, W: Sink>(
     requires steps { AreSteps job.now.head.now.count job.now.head.now.steps.now }
     requires begins { (samples : List ℤ) × CanBegin F.stands job.now filler.old supply.old samples }
     requires long { LONGEST ≤ length room.old }
-    ensures ok { IfOk result (λ count. (samples : List ℤ) → CanBegin F.stands job.now filler.old supply.old samples
-        → EmittedAll (headed job.now.head.now samples) job.now.options.now count (W.written sink.old)
+    ensures ok { (samples : List ℤ) → CanBegin F.stands job.now filler.old supply.old samples → IfOk result (λ count.
+        EmittedAll (headed job.now.head.now samples) job.now.options.now count (W.written sink.old)
         (W.written sink.new)) }
-    ensures err { IfErr result (λ taken. (samples : List ℤ) → CanBegin F.stands job.now filler.old supply.old samples
-        → EmittedPrefix (headed job.now.head.now samples) job.now.options.now taken (W.written sink.old)
+    ensures err { (samples : List ℤ) → CanBegin F.stands job.now filler.old supply.old samples → IfErr result (λ taken.
+        EmittedPrefix (headed job.now.head.now samples) job.now.options.now taken (W.written sink.old)
         (W.written sink.new)) }
     ensures writes { WritesOn (W.written sink.old) (W.written sink.new) (W.contents sink.old) (W.contents sink.new)
         (W.beside sink.old) (W.beside sink.new) }

@@ -2,7 +2,7 @@
 
 use crate::options::Encoding;
 
-/// What was put into a payload: so many samples, in so many frames.
+/// What was put into a payload: how many samples, in how many frames.
 #[derive(Clone, Copy)]
 pub(crate) struct Filled {
     pub(crate) samples: usize,

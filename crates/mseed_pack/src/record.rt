@@ -1,5 +1,5 @@
 //! One record of a packing.
-ghost use Rattle.std.specs.Prelude.{◌≡◌, ◌+◌, ◌^◌, ◌%◌, ◌<◌, ◌≤◌, length, List, ℕ, ℤ, IsSome, IfSome};
+ghost use Rattle.std.specs.Prelude.{◌≡◌, ◌+◌, ◌^◌, ◌%◌, ◌<◌, ◌≤◌, length, List, ℕ, ℤ};
 ghost use Rattle.mseed_record.specs.Fields.{header_of};
 ghost use Rattle.mseed_pack.specs.declared.record.TheConstants.{LONGEST, SHORTEST};
 ghost use Rattle.mseed_pack.specs.Fitting.{HasTimeOutside};
@@ -8,13 +8,13 @@ ghost use Rattle.mseed_pack.specs.Traces.{headed};
 ghost use Rattle.mseed_pack.specs.private.Spans.{CanGoOn, IsRecorded, IsSpan};
 ghost use Rattle.mseed_pack.specs.Stretches.{flags_of, step_after};
 
-use crate::batch::{Job, Place};
+use crate::batch::{Job, PackedSoFar};
 use crate::clock::time_at;
 use crate::options::Options;
 use crate::payload::{Filled, Filler, Remaining};
 use crate::series_head::SeriesHead;
 use crate::span::Span;
-use mseed_record::{Fields, write_header};
+use mseed_record::{Fields, WRITTEN_HEADER, write_header};
 use mseed_time::LeapStep;
 
 /// The bytes of the shortest record.
@@ -22,12 +22,6 @@ pub(crate) const SHORTEST: usize = 128;
 
 /// The bytes of the longest record.
 pub(crate) const LONGEST: usize = 4096;
-
-/// The bytes of a header with its two blockettes.
-const HEADER: usize = 64;
-
-/// How many sequence numbers there are.
-const NUMBERS: u64 = 1_000_000;
 
 /// The bytes of a record.
 pub(crate) fn length_of(options: &Options) -> usize
@@ -39,7 +33,8 @@ pub(crate) fn length_of(options: &Options) -> usize
     1 << options.exponent
 }
 
-/// The activity flags of a record of a span, which ends after so many samples: the leap second at its end.
+/// The activity flags of a record of a span, which ends before the sample at `end`: the leap second at its end.
+#[tactic(auto, using(crate::proofs::Steps::kind_some, crate::proofs::Steps::none_after, crate::proofs::Steps::one_after))]
 fn flags_at(head: &SeriesHead, span: Span, end: usize) -> u8
     requires standing { IsSpan head.now.steps.now head.now.count span }
     requires begin { span.begin < end }
@@ -59,8 +54,8 @@ fn flags_at(head: &SeriesHead, span: Span, end: usize) -> u8
     }
 }
 
-/// What the header of a record says that holds so many samples from a place on.
-fn fields_at(job: &Job, place: Place, filled: Filled) -> Option<Fields>
+/// What the header of a record says that holds the samples that were filled in, from a place on.
+fn fields_at(job: &Job, place: PackedSoFar, filled: Filled) -> Fields
     requires timed { (samples : List ℤ) × ((length samples ≡ job.now.head.now.count)
         × ¬ (HasTimeOutside (headed job.now.head.now samples))) }
     requires standing { IsSpan job.now.head.now.steps.now job.now.head.now.count place.span }
@@ -68,23 +63,21 @@ fn fields_at(job: &Job, place: Place, filled: Filled) -> Option<Fields>
     requires some { 0 < filled.samples }
     requires within { place.first + filled.samples ≤ place.span.end }
     requires few { filled.samples < 2 ^ 16 }
-    ensures some { IsSome result }
-    ensures fields { IfSome result (λ fields. (all samples : List ℤ) (bytes : List ℕ)
+    ensures { (all samples : List ℤ) (bytes : List ℕ)
         → length all ≡ job.now.head.now.count → length samples ≡ filled.samples
         → IsHeaderOf (headed job.now.head.now all) job.now.options.now
         (record { number = place.number; first = place.first; samples = samples; bytes = bytes })
-        filled.frames (header_of fields)) }
+        filled.frames (header_of result) }
 {
     let head = job.head;
     let options = job.options;
     let Some((start, usec)) = time_at(head.start, head.rate, place.span, place.first) else {
-        return None;
+        // Each instant can be written.
+        unreachable!()
     };
-    // Sequence numbers have six digits.
-    let sequence = (u64::from(options.first_sequence) + place.number % NUMBERS) % NUMBERS;
     let activity = flags_at(head, place.span, place.first + filled.samples);
-    Some(Fields {
-        sequence: sequence as u32,
+    Fields {
+        sequence: options.after(place.number).first_sequence,
         codes: head.codes,
         start,
         usec,
@@ -94,13 +87,13 @@ fn fields_at(job: &Job, place: Place, filled: Filled) -> Option<Fields>
         exponent: options.exponent,
         frames: filled.frames,
         activity,
-    })
+    }
 }
 
-/// Writes the record at a place, and answers how many samples it holds.
+/// Writes the record at a place, and returns how many samples it holds.
 pub(crate) fn write_record<S, F: Filler<S>>(
     job: &Job,
-    place: Place,
+    place: PackedSoFar,
     filler: &mut F,
     supply: &mut S,
     out: &mut [u8],
@@ -121,15 +114,16 @@ pub(crate) fn write_record<S, F: Filler<S>>(
         first: place.first,
         end: place.span.end,
     };
-    let filled = filler.fill(job.options.encoding, left, supply, &mut out[HEADER..]);
-    let fields = match fields_at(job, place, filled) {
-        Some(fields) => fields,
-        // Each instant can be written.
-        None => return 0,
-    };
+    let filled = filler.fill(
+        job.options.encoding,
+        left,
+        supply,
+        &mut out[WRITTEN_HEADER..],
+    );
+    let fields = fields_at(job, place, filled);
     match write_header(out, &fields) {
         Ok(()) => filled.samples,
         // A record is longer than its header.
-        Err(_) => 0,
+        Err(_) => unreachable!(),
     }
 }

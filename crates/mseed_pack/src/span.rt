@@ -3,10 +3,8 @@ ghost use Rattle.std.specs.Prelude.{◌≡◌, ◌<◌};
 ghost use Rattle.mseed_audit.specs.Series.{AreSteps};
 ghost use Rattle.mseed_pack.specs.private.Spans.{IsSpan};
 
+use crate::clock::SECOND;
 use mseed_time::LeapStep;
-
-/// What a leap second adds, in microseconds.
-const SECOND: i128 = 1_000_000;
 
 /// Samples with no leap second among them.
 #[derive(Clone, Copy)]
@@ -22,6 +20,7 @@ pub(crate) struct Span {
 }
 
 /// The samples before the first leap second.
+#[tactic(auto, using(crate::proofs::Steps::ended))]
 pub(crate) fn first_span(steps: &[(u64, LeapStep)], size: usize) -> Span
     requires { AreSteps size steps.now }
     ensures span { IsSpan steps.now size result }
@@ -43,8 +42,8 @@ pub(crate) fn next_span(steps: &[(u64, LeapStep)], size: usize, span: Span) -> S
     ensures begin { result.begin ≡ span.end }
 {
     let added = match steps[span.passed].1 {
-        LeapStep::Plus => span.added + SECOND,
-        LeapStep::Minus => span.added - SECOND,
+        LeapStep::Plus => span.added + SECOND as i128,
+        LeapStep::Minus => span.added - SECOND as i128,
     };
     let passed = span.passed + 1;
     Span {

@@ -5,13 +5,13 @@ pub trait Supply {
     ghost use Rattle.std.specs.Prelude.{◌≡◌, ◌+◌, ◌-◌, ◌<◌, ◌≤◌, ℕ, ℤ, List, length, pos, slice_index_or, IfSome};
     ghost use Rattle.mseed_pack.specs.Supplies.{IsNextGiven};
 
-    /// It supplies the differences of these samples, and has given so many of them.
+    /// It supplies the differences of these samples, and has given this number of them.
     ghost supplies: { Self → List ℤ → ℕ → Type 0 };
 
     /// What a call leaves as it was, whatever a supply says of itself by it.
     ghost beside: { Self → ℕ } = { λ _. 0 };
 
-    /// Puts the next differences into `out`, from its beginning on, and answers how many there are. While any is left
+    /// Puts the next differences into `out`, from its beginning on, and returns how many there are. While any is left
     /// it puts some into an `out` that isn't empty, as many as it likes. What lies after them is then open.
     fn fill(&mut self, out: &mut [i32]) -> usize
         requires { (samples : List ℤ) × ((given : ℕ) × supplies self.old samples given) }

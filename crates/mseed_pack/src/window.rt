@@ -3,14 +3,14 @@
 use crate::known_samples::{KnownSample, KnownSamples};
 use crate::supply::Supply;
 
-/// How many differences a window holds: the most that are looked at for a record, of whose 1008 words none holds more
-/// than seven.
-pub(crate) const ROOM: usize = 7 * 1008;
+/// The most differences of a record in Steim frames: those of 1008 words, of which none holds more than seven.
+pub const MOST_DIFFERENCES: usize = 7 * 1008;
 
-/// The differences of samples that stand one after another. What one record doesn't take is kept for the next.
+/// The differences of samples that stand one after another, as many as are looked at for a record. What one record
+/// doesn't take is kept for the next.
 #[derive(Drop)]
 pub(crate) struct Window {
-    pub(crate) differences: [i32; ROOM],
+    pub(crate) differences: [i32; MOST_DIFFERENCES],
     /// The sample whose difference is the first.
     pub(crate) first: usize,
     /// The sample after the one whose difference is the last.
@@ -23,14 +23,14 @@ impl Window {
     ghost use Rattle.std.specs.Prelude.{◌≡◌, ℤ, ◌+◌, ◌-ℤ◌, ◌^◌, ◌<◌, ◌≤◌, List, length, min, pos, slice_index_or, All};
     ghost use Rattle.std.specs.Int.{int_wrap, w32};
     ghost use Rattle.mseed_steim.specs.Spelling.{IsWithin};
-    ghost use Rattle.mseed_pack.specs.declared.window.TheConstants.{ROOM};
+    ghost use Rattle.mseed_pack.specs.declared.window.TheConstants.{MOST_DIFFERENCES};
     ghost use Rattle.mseed_pack.specs.private.Filling.{Draws, HoldsDifferences};
     ghost use Rattle.mseed_pack.specs.private.KnownSamples.{IsKnownSample, sample_before};
 
     /// A window that holds nothing.
     pub(crate) fn new() -> Window {
         Window {
-            differences: [0; ROOM],
+            differences: [0; MOST_DIFFERENCES],
             first: 0,
             end: 0,
             marks: KnownSamples::of(0),
@@ -49,12 +49,12 @@ impl Window {
         self.marks = KnownSamples::of(first);
     }
 
-    /// Makes it hold the differences of so many samples from one on. It takes what it lacks from the supply, from
-    /// which its own differences came.
+    /// Makes it hold the differences of `count` samples, from the one at `first` on. It takes what it lacks from the
+    /// supply, from which its own differences came.
     pub(crate) fn hold<S: Supply>(&mut self, supply: &mut S, first: usize, count: usize)
         requires drawn { (samples : List ℤ) × (Draws S.supplies samples supply.old self.old first
             × (first + count ≤ length samples) × (length samples < 2 ^ 64)) }
-        requires few { count ≤ ROOM }
+        requires few { count ≤ MOST_DIFFERENCES }
         ensures drawn { (samples : List ℤ) → Draws S.supplies samples supply.old self.old first
             → first + count ≤ length samples
             → Draws S.supplies samples supply.new self.new first × (first + count ≤ self.new.end) }
@@ -69,7 +69,7 @@ impl Window {
 
     /// Lets go of the differences before that of a sample.
     fn begin_at(&mut self, first: usize)
-        requires few { self.old.end ≤ self.old.first + ROOM }
+        requires few { self.old.end ≤ self.old.first + MOST_DIFFERENCES }
         requires low { self.old.first ≤ first }
         requires high { first ≤ self.old.end }
         ensures held { (samples : List ℤ) → HoldsDifferences samples self.old → HoldsDifferences samples self.new }
@@ -89,10 +89,11 @@ impl Window {
         ensures held { (samples : List ℤ) → HoldsDifferences samples self.old
             → S.supplies supply.old samples self.old.end
             → HoldsDifferences samples self.new × S.supplies supply.new samples self.new.end
-            × (self.old.end ≤ self.new.end) × (min (length samples) (self.old.first + ROOM) ≤ self.new.end) }
+            × (self.old.end ≤ self.new.end)
+            × (min (length samples) (self.old.first + MOST_DIFFERENCES) ≤ self.new.end) }
         ensures beside { S.beside supply.new ≡ S.beside supply.old }
     {
-        while self.end - self.first < ROOM {
+        while self.end - self.first < MOST_DIFFERENCES {
             if self.take(supply) == 0 {
                 return;
             }
@@ -100,11 +101,11 @@ impl Window {
         }
     }
 
-    /// Takes differences once, where there is room for any, and answers how many.
+    /// Takes differences once, where there is room for any, and returns how many.
     fn take<S: Supply>(&mut self, supply: &mut S) -> usize
         requires supplied { (samples : List ℤ) × (HoldsDifferences samples self.old
             × S.supplies supply.old samples self.old.end × (length samples < 2 ^ 64)) }
-        requires room { self.old.end < self.old.first + ROOM }
+        requires room { self.old.end < self.old.first + MOST_DIFFERENCES }
         ensures first { self.new.first ≡ self.old.first }
         ensures end { self.new.end ≡ self.old.end + result }
         ensures held { (samples : List ℤ) → HoldsDifferences samples self.old

@@ -17,7 +17,7 @@ use Rattle.mseed_steim.specs.declared.encoding.Encoding.TheVariants.{Int16, Int3
 use Rattle.mseed_pack.specs.declared.payload.Filled.{Filled}
 use Rattle.mseed_pack.specs.declared.payload.Remaining.{Remaining}
 use Rattle.mseed_pack.specs.declared.payloads.Payloads.{Payloads}
-use Rattle.mseed_pack.specs.declared.window.TheConstants.{ROOM}
+use Rattle.mseed_pack.specs.declared.window.TheConstants.{MOST_DIFFERENCES}
 use Rattle.mseed_pack.specs.declared.window.Window.{Window}
 use Rattle.mseed_pack.specs.private.KnownSamples.{AreKnownSamples, sample_before}
 use Rattle.mseed_pack.specs.Packing.{HoldsFrames, HoldsSamples}
@@ -53,7 +53,7 @@ integer_bytes width z = big_bytes width (residue (2 ^ (8 * width)) z)
 pub record HoldsDifferences (samples : List ℤ) (window : Window) : Type 0 where
   pub order : window.first ≤ window.end
   pub inside : window.end ≤ length samples
-  pub few : window.end ≤ window.first + ROOM
+  pub few : window.end ≤ window.first + MOST_DIFFERENCES
   pub each : (k : ℕ) → k < window.end - window.first
       → slice_index_or window.differences k (pos 0) ≡ slice_index_or (differences samples) (window.first + k) (pos 0)
   pub marked : AreKnownSamples samples window.marks
@@ -63,11 +63,9 @@ abbrev pub IsUnder : ℤ → ℤ → Type 0
 IsUnder limit z = (neg_ℤ limit ≤ℤ z) × (z <ℤ limit)
 
 -- so are four of some numbers, so many apart
-pub record AreFourUnder (limit : ℤ) (zs : List ℤ) (index part : ℕ) : Type 0 where
-  pub first : IsUnder limit (slice_index_or zs index (pos 0))
-  pub second : IsUnder limit (slice_index_or zs (index + part) (pos 0))
-  pub third : IsUnder limit (slice_index_or zs (index + 2 * part) (pos 0))
-  pub fourth : IsUnder limit (slice_index_or zs (index + 3 * part) (pos 0))
+abbrev pub AreFourUnder : ℤ → List ℤ → ℕ → ℕ → Type 0
+AreFourUnder limit zs index part =
+    (j : ℕ) → j < 4 → IsUnder limit (slice_index_or zs (index + j * part) (pos 0))
 
 -- some are left
 pub record AreRemaining (samples : List ℤ) (left : Remaining) : Type 0 where

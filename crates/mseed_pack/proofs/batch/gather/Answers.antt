@@ -1,56 +1,38 @@
-use Rattle.std.proofs.Common.{◌≡◌, ◌+◌, ◌-◌, ◌≤◌, ◌++◌, ◌∙◌, arith, rules, refl, length, take}
-use Rattle.std.proofs.Common.{drop}
+use Rattle.std.proofs.Common.{◌≡◌, ◌+◌, ◌-◌, ◌≤◌, ◌++◌, ◌∙◌, arith, rules, length, take}
+use Rattle.std.proofs.Common.{append_assoc, drop}
 use Rattle.std.proofs.lemmas.List.{drop-drop}
 use Rattle.std.proofs.lemmas.Slice.{take-put_mid, drop-put_mid}
 use borrow.Rule.Slice.PartMut.{put_mid}
-use Rattle.mseed_pack.specs.Traces.{headed}
 use Rattle.mseed_pack.proofs.Begun.{go_on}
-use Rattle.mseed_pack.proofs.Growing.{on_none, on_join}
 use Rattle.mseed_pack.proofs.batch.gather.Goals as goal
-
-pub loop-out-init : goal.loop-out-init
-loop-out-init g c = record {
-  standing = c.requires.on.1.standing;
-  to = λ xs on. record {
-    on = on_none (headed c.args.job.now.head.now xs) c.args.job.now.options.now c.args.place;
-    stands_next = on.stands_there;
-  };
-  within = omega arith;
-  order = omega arith;
-  some = omega arith;
-  beside = refl;
-  behind = refl;
-}
 
 pub loop-out-preserved : goal.loop-out-preserved
 loop-out-preserved g c =
-    let o = c.args.job.now.options.now in
     let l = c.loop-out in
     let size = c.length_of-length.result in
     let buf = c.put_record-next.new.out in
-    let next = c.put_record-next.result in
-    let within = l.invariant.within in
     let short = c.length_of-length.ensures.short in
     let room : l.bytes + size ≤ length l.out = omega (arith, c.loop-out-test.true, c.length_of-length.ensures.long) in
     let same : l.bytes + size - l.bytes ≡ size = omega arith in
     let buf_long : length buf ≡ size = (let e : length buf ≡ l.bytes + size - l.bytes = search rules in e) ∙ same in
-    let kept : length (put_mid l.bytes (l.bytes + size - l.bytes) l.out buf) ≡ length l.out = search rules in
-    let prefix : take (l.bytes + size) (put_mid l.bytes (l.bytes + size - l.bytes) l.out buf) ≡ take l.bytes l.out
-    ++ buf = take-put_mid l.bytes (l.bytes + size - l.bytes) l.out buf (l.bytes + size) (omega (arith, buf_long))
-    (omega (arith, within)) in
-    let stays : drop (l.bytes + size) (put_mid l.bytes (l.bytes + size - l.bytes) l.out buf) ≡ drop (l.bytes + size)
-    c.args.out.now =
-    drop-put_mid l.bytes (l.bytes + size - l.bytes) l.out buf (l.bytes + size) (omega arith) (omega (arith, within))
-    (omega (arith, buf_long)) ∙ rw (← drop-drop, ← drop-drop, l.invariant.behind) in
+    let new = put_mid l.bytes (l.bytes + size - l.bytes) l.out buf in
+    let kept : length new ≡ length l.out = search rules in
+    let prefix : take (l.bytes + size) new ≡ take l.bytes l.out ++ buf =
+    take-put_mid l.bytes (l.bytes + size - l.bytes) l.out buf (l.bytes + size) (omega arith) (omega arith) in
+    let stays : drop (l.bytes + size) new ≡ drop (l.bytes + size) c.args.out.now =
+    drop-put_mid l.bytes (l.bytes + size - l.bytes) l.out buf (l.bytes + size) (omega arith) (omega arith) (omega arith)
+    ∙ rw (← drop-drop, ← drop-drop, l.invariant.behind) in
     record {
       standing = c.put_record-next.ensures.standing;
       to = λ xs on.
-          let s = headed c.args.job.now.head.now xs in
           let here = l.invariant.to xs on in
           let one = c.put_record-next.ensures.to xs (go_on on.count on.fits l.invariant.standing
           (omega (arith, l.invariant.standing.inside, c.if-next-job.false)) here.stands_next) in
           record {
-            on = rw prefix (on_join s o c.args.place l.next next (take l.bytes l.out) buf here.on one.on);
+            on = record {
+              after = λ before h.
+                  rw (prefix, ← append_assoc) (one.on.after (before ++ take l.bytes l.out) (here.on.after before h));
+            };
             stands_next = one.stands_next;
           };
       within = omega (arith, kept, room);

@@ -8,21 +8,17 @@ moment_at-instant-requires-clause-known c =
     let head = c.args.head.now in
     let found = c.first_outside-index.ensures in
     let i = c.first_outside-index.result in
-    rw (reading_in head.start (ratio_of head.rate) head.steps.now head.count c.args.span i
-    c.requires.outside.standing found.begin found.end)
+    rw (reading_in head.start (ratio_of head.rate) i c.requires.outside.standing found.begin found.end)
     (first_is_instant head.start (ratio_of head.rate) head.steps.now head.count i c.start_is_an_instant.ensures
-    c.rate_is_a_ratio.ensures c.requires.steps (first_of_span head.start (ratio_of head.rate) head.steps.now head.count
-    c.args.span i c.requires.outside found.begin found.end found.outside found.before))
+    c.rate_is_a_ratio.ensures c.requires.steps
+    (first_of_span i c.requires.outside found.begin found.end found.outside found.before))
 
 pub returns : goal.returns
 returns c = λ xs o size some slow.
-    let head = c.args.head.now in
     let found = c.first_outside-index.ensures in
     let i = c.first_outside-index.result in
-    rw (
-      c.moment_at-instant.ensures,
-      reading_in head.start (ratio_of head.rate) head.steps.now head.count c.args.span i
-          c.requires.outside.standing found.begin found.end,
-    ) (time_outside some slow i
-    (rw size (first_of_span head.start (ratio_of head.rate) head.steps.now head.count c.args.span i c.requires.outside
-    found.begin found.end found.outside found.before)))
+    let start = c.args.head.now.start in
+    let at = reading_in start (ratio_of c.args.head.now.rate) i c.requires.outside.standing found.begin found.end in
+    rw (c.moment_at-instant.ensures, at)
+    (time_outside some slow i
+    (rw size (first_of_span i c.requires.outside found.begin found.end found.outside found.before)))

@@ -1,16 +1,10 @@
 use Rattle.std.proofs.Common.{◌≡◌, inl, inr}
-use Rattle.std.proofs.Common.{◌-◌, arith, refl, ⊎_elim}
+use Rattle.std.proofs.Common.{◌-◌, arith, ⊎_elim}
 use Rattle.std.proofs.lemmas.Bool.{cases_lt}
 use Rattle.mseed_time.specs.Ratios.{ratio_of}
 use Rattle.mseed_pack.proofs.Misfits.{not_so}
 use Rattle.mseed_pack.proofs.Times.{between_timed}
 use Rattle.mseed_pack.proofs.fitting.first_outside.Goals as goal
-
-pub returns-then-is_outside_at-clause-outside : goal.returns-then-is_outside_at-clause-outside
-returns-then-is_outside_at-clause-outside c = c.if-is_outside_at.ensures.0 refl
-
-pub returns-then-is_outside_at-clause-before : goal.returns-then-is_outside_at-clause-before
-returns-then-is_outside_at-clause-before c = λ k low high. absurd (omega (arith, low, high))
 
 pub loop-inside-init : goal.loop-inside-init
 loop-inside-init c =

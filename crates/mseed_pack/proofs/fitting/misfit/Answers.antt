@@ -19,14 +19,12 @@ returns-in-Some-first_large_sample-clause-some c =
     (large_sample fit.some fit.slow fit.timed i c.in-Some-first_large_sample.ensures.some)
 
 pub difference_at-requires-clause-some : goal.difference_at-requires-clause-some
-difference_at-requires-clause-some c =
-    difference_late c.args.options.now.encoding c.args.series.now.samples.now c.in-Some-first_large_difference.index
-    c.in-Some-first_large_difference.ensures.some
+difference_at-requires-clause-some c = difference_late _ _ _ c.in-Some-first_large_difference.ensures.some
 
 pub difference_at-requires-clause-inside : goal.difference_at-requires-clause-inside
 difference_at-requires-clause-inside c =
-    let inside = c.in-Some-first_large_difference.ensures.some.inside in
-    omega (arith, inside, length-differences c.args.series.now.samples.now)
+    let some = c.in-Some-first_large_difference.ensures.some in
+    omega (arith, some.inside, length-differences c.args.series.now.samples.now)
 
 pub returns-in-Some-first_large_difference-clause-some : goal.returns-in-Some-first_large_difference-clause-some
 returns-in-Some-first_large_difference-clause-some c =
@@ -40,10 +38,4 @@ pub returns-clause-none : goal.returns-clause-none
 returns-clause-none c =
     let fit = rw c.head.ensures.trace at
     (c.in_default.ensures.none c.args.series.now.samples.now (sym c.head.ensures.count)) in
-    record {
-      some = fit.some;
-      slow = fit.slow;
-      timed = fit.timed;
-      samples = c.in_default-first_large_sample.ensures.none;
-      differences_fit = c.in_default-first_large_difference.ensures.none;
-    }
+    search rules

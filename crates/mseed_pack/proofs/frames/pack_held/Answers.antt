@@ -6,7 +6,7 @@ use Rattle.mseed_pack.proofs.frames.pack_held.Goals as goal
 pub add_ends-ends-requires : goal.add_ends-ends-requires
 add_ends-ends-requires c =
     let h = c.requires.held.1 in
-    let some = some_used_of _ _ _ _ _ _ (c.pack_window-packed.ensures.filled c.requires.held.0 h).0 in
+    let some = some_used_of (c.pack_window-packed.ensures.filled c.requires.held.0 h).0 in
     rw c.pack_window-packed.ensures.window
     (record { some = some.0; low = h.low; high = omega (arith, some.1); held = (c.requires.held.0, h.held) })
 
@@ -30,9 +30,9 @@ returns-clause-filled c = λ xs h.
 pub returns-clause-taken : goal.returns-clause-taken
 returns-clause-taken c =
     rw c.end_payload-filled.ensures.samples
-    (taken_of _ _ _ _ _ _ (c.pack_window-packed.ensures.filled c.requires.held.0 c.requires.held.1).0)
+    (taken_of (c.pack_window-packed.ensures.filled c.requires.held.0 c.requires.held.1).0)
 
 pub returns-clause-few : goal.returns-clause-few
 returns-clause-few c =
-    let some = some_used_of _ _ _ _ _ _ (c.pack_window-packed.ensures.filled c.requires.held.0 c.requires.held.1).0 in
+    let some = some_used_of (c.pack_window-packed.ensures.filled c.requires.held.0 c.requires.held.1).0 in
     omega (arith, some.1, c.end_payload-filled.ensures.samples)

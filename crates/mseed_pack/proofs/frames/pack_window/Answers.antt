@@ -1,9 +1,6 @@
-use Rattle.std.proofs.Common.{◌≤◌, ◌-◌, List, ℤ, arith, rules, drop}
-use Rattle.std.specs.Prelude.{slice_range}
-use Rattle.mseed_pack.specs.private.Filling.{width_of}
-use Rattle.mseed_pack.specs.Stretches.{differences}
-use Rattle.mseed_pack.proofs.Filled.{held_enough, held_part, part_fits}
-use Rattle.mseed_pack.proofs.Onward.{known_of, known_on}
+use Rattle.std.proofs.Common.{◌≤◌, arith, rules}
+use Rattle.mseed_pack.proofs.Filled.{held_enough, held_part}
+use Rattle.mseed_pack.proofs.Onward.{ahead_on, known_of, part_fits}
 use Rattle.mseed_pack.proofs.frames.pack_window.Goals as goal
 
 pub pack_part-requires : goal.pack_part-requires
@@ -15,7 +12,6 @@ pack_part-requires c =
     let end = c.min-end.result in
     let ordered : l.first ≤ end = omega (arith, c.min-end.ensures, h.are_left.some, h.high, c.requires.frames.long) in
     let inside : end ≤ w.end = omega (arith, c.min-end.ensures) in
-    let part : List ℤ = slice_range w.differences (l.first - w.first) (end - w.first) in
     let drawn = held_part xs w l.first end h.held h.low ordered inside (search rules) in
     record {
       frames = c.requires.frames;
@@ -23,11 +19,8 @@ pack_part-requires c =
       order = ordered;
       high = inside;
       room = h.held.few;
-      fit = part_fits (width_of c.args.scheme) xs part l.first end drawn h.ahead.differences_fit;
-      known = (
-        drop end (differences xs),
-        known_of c.args.scheme c.args.frames.now.known part (differences xs) l.first end ordered drawn h.ahead.known,
-      );
+      fit = part_fits end drawn ordered h.ahead;
+      known = known_of end drawn ordered h.ahead;
     }
 
 pub returns-clause-filled : goal.returns-clause-filled
@@ -45,11 +38,5 @@ returns-clause-filled c = λ xs h.
         enough = search (rules, held_enough);
         run = rw drawn at done.packed;
       }),
-      record {
-        fit = h.ahead.fit;
-        differences_fit = h.ahead.differences_fit;
-        known = known_on c.args.scheme c.pack_part.new.known (slice_range w.differences (l.first - w.first)
-            (end - w.first)) (differences xs) l.first end c.pack_part.result.used ordered drawn done.packed.inside.0
-            done.known;
-      },
+      ahead_on end drawn ordered h.ahead c.pack_part.new.known c.pack_part.result.used done.packed.inside.0 done.known,
     )

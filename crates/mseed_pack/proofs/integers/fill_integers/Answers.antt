@@ -7,7 +7,10 @@ use Rattle.std.proofs.lemmas.List.{take_rest}
 use Rattle.mseed_pack.specs.private.Filling.{bytes_in, integer_bytes}
 use Rattle.std.proofs.lemmas.List.Edits.{length-between}
 use Rattle.mseed_pack.proofs.Spellings.{length-all}
-use Rattle.mseed_pack.proofs.Numbers.{flat_more, one_more, taken}
+use Rattle.mseed_pack.proofs.Numbers.{flat_more, one_more}
+use Rattle.mseed_pack.specs.Stretches.{differences}
+use Rattle.mseed_pack.proofs.Differences.{length-differences}
+use Rattle.std.proofs.lemmas.Grind.{common_steps}
 use Rattle.mseed_pack.proofs.integers.fill_integers.Goals as goal
 
 pub loop-index-preserved : goal.loop-index-preserved
@@ -41,8 +44,8 @@ loop-index-init c =
     let no_samples : c.args.left.first + 0 - c.args.left.first ≡ 0 = omega arith in
     record { bytes_are = c.bytes_in-bytes.ensures; written = rw (none, no_samples) }
 
-pub returns-clause-taken : goal.returns-clause-taken
-returns-clause-taken c =
-    taken c.args.width c.args.samples.now c.args.left (length c.args.payload.now) c.bytes_in-bytes.result
-    c.min-count.result
-    c.bytes_in-bytes.ensures c.min-count.ensures c.requires.left c.requires.frames.long c.requires.frames.short
+pub returns-clause-holds : goal.returns-clause-holds
+returns-clause-holds c =
+    let xs = c.args.samples.now in
+    rw (length-between (differences xs) c.args.left.first c.args.left.end (omega (arith, length-differences xs)))
+    (grind (arith, common_steps))

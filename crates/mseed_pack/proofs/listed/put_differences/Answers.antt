@@ -1,6 +1,5 @@
-use Rattle.std.proofs.Common.{◌≡◌, ◌≢◌, ◌+◌, ◌<◌, ℕ, pos, rules, arith, eqb, false, get_or, length, sym, ap, ◌∙◌}
+use Rattle.std.proofs.Common.{◌≡◌, ◌+◌, ◌<◌, ℕ, pos, rules, arith, get_or, length, sym, ap, ◌∙◌}
 use Rattle.std.proofs.Common.{w32}
-use Rattle.std.proofs.lemmas.Bool.{eqb-false}
 use Rattle.std.proofs.lemmas.Int.{to_z-of_z}
 use Rattle.std.proofs.lemmas.List.{ext_get_or}
 use Rattle.std.specs.Prelude.{slice_range}
@@ -8,20 +7,17 @@ use Rattle.mseed_pack.specs.Stretches.{differences}
 use Rattle.mseed_pack.proofs.Differences.{difference_fits, length-differences, put_one}
 use Rattle.std.proofs.lemmas.List.Edits.{length-between}
 use Rattle.mseed_pack.proofs.Filled.{part_at}
+use Rattle.std.proofs.lemmas.Bool.Decides.{nat_tests}
 use Rattle.mseed_pack.proofs.listed.put_differences.Goals as goal
-
-some_items : (n : ℕ) → eqb n 0 ≡ false → 0 < n
-some_items n e = let not : n ≢ 0 = eqb-false n 0 e in omega (arith, not)
 
 pub difference_or_0-requires : goal.difference_or_0-requires
 difference_or_0-requires c =
-    let some = some_items (length c.args.out.now) (sym c.is_empty.ensures ∙ c.if-is_empty.false) in
-    let inside : c.args.first < length c.args.samples.now = omega (arith, some, c.requires.inside) in
+    let inside : c.args.first < length c.args.samples.now = grind (arith, nat_tests) in
     record { inside = inside; fits = difference_fits c.args.samples.now c.args.first inside c.requires.fits }
 
 pub loop-index-init : goal.loop-index-init
 loop-index-init c =
-    let some = some_items (length c.args.out.now) (sym c.is_empty.ensures ∙ c.if-is_empty.false) in
+    let some : 0 < length c.args.out.now = grind (arith, nat_tests) in
     let first : c.args.first ≡ c.args.first + 0 = omega arith in
     λ k h. put_one (differences c.args.samples.now) c.args.out.now c.args.first 0 _ some
     (to_z-of_z w32 c.difference_or_0.result (record { sfits = c.difference_or_0.type_inv })

@@ -1,7 +1,9 @@
-use Rattle.std.proofs.Common.{refl, ◌∙◌, take, arith}
+use Rattle.std.proofs.Common.{◌≤◌, ℤ, List, [], ◌++◌, length, refl, sym, ◌∙◌, take, append_assoc, arith}
+use Rattle.std.proofs.lemmas.List.{append-nil, drop_all}
 use Rattle.mseed_pack.specs.Traces.{headed}
 use Rattle.mseed_pack.proofs.Begun.{go_on}
-use Rattle.mseed_pack.proofs.Growing.{emitted_all, emitted_more, emitted_none, emitted_prefix}
+use Rattle.mseed_pack.specs.private.Spans.{CanBegin}
+use Rattle.mseed_pack.proofs.Growing.{emitted_prefix, packs_none}
 use Rattle.mseed_stream.proofs.Calls.{writes_none, writes_on}
 use Rattle.mseed_pack.proofs.packing.write_records.Goals as goal
 
@@ -16,13 +18,16 @@ pub returns-in-Err-clause-err : goal.returns-in-Err-clause-err
 returns-in-Err-clause-err g c = λ xs begins.
     let s = headed c.args.job.now.head.now xs in
     let l = c.loop-place in
+    let e = l.invariant.emitted in
     let b = take c.gather-batch.result.bytes c.gather-batch.new.out in
+    let before = e.to xs begins in
     let to = c.gather-batch.ensures.to xs (go_on begins.count begins.fits l.invariant.standing c.loop-place-test.true
     (l.invariant.stands_there xs begins)) in
-    let prefix = emitted_prefix s c.args.job.now.options.now l.place c.gather-batch.result.next c.in-Err.taken b
-    (g.W.Sink.written c.args.sink.now) (g.W.Sink.written l.sink) (g.W.Sink.written c.write_all_of.new.sink)
-    (l.invariant.emitted xs begins) to.on c.in-Err.ensures.within c.in-Err.ensures.err c.in-Err.ensures.failed in
-    rw (c.from.ensures, c.length_of-length.ensures.value) prefix
+    rw (c.from.ensures, c.length_of-length.ensures.value) (emitted_prefix s c.args.job.now.options.now l.place
+    c.gather-batch.result.next c.in-Err.taken e.bytes b (g.W.Sink.written c.args.sink.now) (g.W.Sink.written l.sink)
+    (g.W.Sink.written c.write_all_of.new.sink) before
+    (to.on.after e.bytes before) c.in-Err.ensures.within e.grown e.fine
+    c.in-Err.ensures.err c.in-Err.ensures.failed)
 
 pub returns-in-Err-clause-writes : goal.returns-in-Err-clause-writes
 returns-in-Err-clause-writes g c =
@@ -36,28 +41,35 @@ pub loop-place-init : goal.loop-place-init
 loop-place-init g c = record {
   standing = c.first_place-place.ensures.standing;
   stands_there = λ xs begins. rw (c.first_place-place.ensures.first) begins.stands_first;
-  emitted = λ xs begins. rw (c.first_place-place.ensures.number, c.first_place-place.ensures.first)
-      (emitted_none (headed c.args.job.now.head.now xs) c.args.job.now.options.now
-      (g.W.Sink.written c.args.sink.now));
+  emitted = record {
+    bytes = [];
+    to = λ xs begins. packs_none (headed c.args.job.now.head.now xs) c.args.job.now.options.now
+        c.first_place-place.result c.first_place-place.ensures.number c.first_place-place.ensures.first;
+    grown = sym (append-nil _);
+    fine = refl;
+  };
   beside = refl;
   writes = writes_none _ _ _;
 }
 
 pub loop-place-preserved : goal.loop-place-preserved
 loop-place-preserved g c =
-    let o = c.args.job.now.options.now in
     let l = c.loop-place in
+    let e = l.invariant.emitted in
     let b = take c.gather-batch.result.bytes c.gather-batch.new.out in
+    let to = λ (xs : List ℤ)
+    (begins : CanBegin g.F.Filler.stands c.args.job.now c.args.filler.now c.args.supply.now xs).
+    c.gather-batch.ensures.to xs (go_on begins.count begins.fits l.invariant.standing c.loop-place-test.true
+    (l.invariant.stands_there xs begins)) in
     record {
       standing = c.gather-batch.ensures.standing;
-      stands_there = λ xs begins. (c.gather-batch.ensures.to xs (go_on begins.count begins.fits l.invariant.standing
-          c.loop-place-test.true (l.invariant.stands_there xs begins))).stands_next;
-      emitted = λ xs begins.
-          let to = c.gather-batch.ensures.to xs (go_on begins.count begins.fits l.invariant.standing
-          c.loop-place-test.true (l.invariant.stands_there xs begins)) in
-          emitted_more (headed c.args.job.now.head.now xs) o l.place c.gather-batch.result.next b
-          (g.W.Sink.written c.args.sink.now) (g.W.Sink.written l.sink) (g.W.Sink.written c.write_all_of.new.sink)
-          (l.invariant.emitted xs begins) to.on c.in_default.ensures.ok c.in_default.ensures.fine;
+      stands_there = λ xs begins. (to xs begins).stands_next;
+      emitted = record {
+        bytes = e.bytes ++ b;
+        to = λ xs begins. (to xs begins).on.after e.bytes (e.to xs begins);
+        grown = c.in_default.ensures.ok ∙ rw (e.grown, append_assoc);
+        fine = c.in_default.ensures.fine ∙ e.fine;
+      };
       beside = c.gather-batch.ensures.beside ∙ l.invariant.beside;
       writes = writes_on (g.W.Sink.written c.args.sink.now) (g.W.Sink.written l.sink)
           (g.W.Sink.written c.write_all_of.new.sink) _ _ _ _ _ _ l.invariant.writes (record {
@@ -68,6 +80,13 @@ loop-place-preserved g c =
 
 pub returns-clause-ok : goal.returns-clause-ok
 returns-clause-ok g c = λ xs begins.
-    emitted_all (headed c.args.job.now.head.now xs) c.args.job.now.options.now c.loop-place.place.number
-    c.loop-place.place.first (g.W.Sink.written c.args.sink.now) (g.W.Sink.written c.loop-place.sink)
-    (c.loop-place.invariant.emitted xs begins) (omega (arith, begins.count, c.loop-place-test.false))
+    let e = c.loop-place.invariant.emitted in
+    let to = e.to xs begins in
+    let end : length xs ≤ c.loop-place.place.first = omega (arith, begins.count, c.loop-place-test.false) in
+    record {
+      records = to.records;
+      packing = rw drop_all at to.packing;
+      count_is = to.count_is;
+      bytes = rw to.bytes_are e.grown;
+      failures = e.fine;
+    }

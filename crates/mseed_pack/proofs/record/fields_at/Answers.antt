@@ -4,25 +4,24 @@ use Rattle.mseed_time.specs.Ratios.{ratio_of}
 use Rattle.mseed_pack.proofs.Times.{reading_in}
 use Rattle.mseed_pack.proofs.record.fields_at.Goals as goal
 
-pub returns-in_default-clause-some : goal.returns-in_default-clause-some
-returns-in_default-clause-some c =
+pub unreachable-requires : goal.unreachable-requires
+unreachable-requires c =
     let h = c.args.job.now.head.now in
     let place = c.args.place in
     let timed = c.requires.timed in
     let before : place.first < place.span.end = omega (arith, c.requires.some, c.requires.within) in
-    let out = rw (reading_in h.start (ratio_of h.rate) h.steps.now h.count place.span place.first c.requires.standing
-    c.requires.begin before) at (c.time_at.ensures.none.0 c.in_default.is) in
-    absurd (timed.1.1 (place.first, (omega (arith, before, c.requires.standing.most, timed.1.0), out)))
+    let out = rw (reading_in h.start (ratio_of h.rate) place.first c.requires.standing c.requires.begin before) at
+    (c.time_at.ensures.none.0 c.in_default.is) in
+    timed.1.1 (place.first, (omega (arith, before, c.requires.standing.most, timed.1.0), out))
 
-pub returns-clause-fields : goal.returns-clause-fields
-returns-clause-fields c = λ xs samples bytes count e.
+pub returns : goal.returns
+returns c = λ xs samples bytes count e.
     let h = c.args.job.now.head.now in
     let place = c.args.place in
     let before : place.first < place.span.end = omega (arith, c.requires.some, c.requires.within) in
-    let at = reading_in h.start (ratio_of h.rate) h.steps.now h.count place.span place.first c.requires.standing
-    c.requires.begin before in
+    let at = reading_in h.start (ratio_of h.rate) place.first c.requires.standing c.requires.begin before in
     record {
-      sequence = omega (arith, c.from.ensures);
+      sequence = c.after.ensures.sequence;
       key = refl;
       start = rw (to_z-of_z w8 c.in-Some.usec (search rules)) (rw at at c.in-Some.ensures.names);
       samples = sym e;

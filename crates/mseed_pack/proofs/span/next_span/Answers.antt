@@ -23,6 +23,5 @@ moved c =
     ]
 
 pub returns-clause-span : goal.returns-clause-span
-returns-clause-span c =
-    next_is c.args.steps.now c.args.size c.args.span _ (0, Plus) c.requires.span c.requires.more refl refl
+returns-clause-span c = next_is c.requires.span _ (0, Plus) c.requires.more refl refl
     (c.match-steps-span.added-is ∙ moved c) c.end_of.ensures

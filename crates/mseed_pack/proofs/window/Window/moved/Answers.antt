@@ -23,15 +23,7 @@ loop-difference-preserved c = λ xs h.
 
 pub returns : goal.returns
 returns c = λ xs h.
-    let end : c.args.first + c.loop-difference.difference-index ≡ c.args.end =
-    omega (
-      arith,
-      c.loop-difference-test.false,
-      c.loop-difference.auto.difference-index-end,
-      c.requires.low,
-      c.requires.order,
-      c.requires.high,
-    ) in
+    let end : c.args.first + c.loop-difference.difference-index ≡ c.args.end = omega arith in
     let bits = to_z w32 c.loop-difference.moved-bits in
     subst (λ (n : ℕ). bits ≡ int_wrap w32 (sample_before xs n -ℤ sample_before xs c.args.first)) end
     (c.loop-difference.invariant xs h)
