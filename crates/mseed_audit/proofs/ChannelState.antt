@@ -1,6 +1,6 @@
--- What is kept of a channel, with one more record.
+-- What is kept of a channel, with one more record, and the verdicts on what is kept.
 use Rattle.std.proofs.Common.{◌≡◌, ℕ, ◌+◌, length, List, [], ◌∷◌, ◌++◌, Option, Some, None, refl, ap, ◌∙◌}
-use Rattle.std.proofs.Common.{append_assoc, arith}
+use Rattle.std.proofs.Common.{append_assoc, arith, ◌↔◌, IsTrue, map}
 use Rattle.std.proofs.lemmas.List.{append-nil, length-append}
 use Rattle.mseed_record.specs.View.{View}
 use Rattle.mseed_steim.specs.Reading.{count_of}
@@ -12,14 +12,23 @@ use Rattle.mseed_audit.specs.declared.channel.Findings.{Findings}
 use Rattle.mseed_audit.specs.declared.channel.Findings.TheVariants.{Nothing, Counted}
 use Rattle.mseed_audit.specs.declared.channel.Judged.{Judged}
 use Rattle.mseed_audit.specs.declared.channel.Judged.TheVariants.{Sound, Faulty}
-use Rattle.mseed_audit.specs.Channels.{Placed, sample_count}
+use Rattle.mseed_audit.specs.Channels.{Placed, sample_count, Added, channel_in, numbered, same_key, views_in}
 use Rattle.mseed_audit.specs.Judging.{IsFound}
-use Rattle.mseed_audit.specs.Audit.{AreCounted, IsHeadOf, IsTailOf, Stands, head_in, tail_in, verdict_by}
-use Rattle.mseed_audit.specs.Audit.{verdict_of}
+use Rattle.mseed_audit.specs.Audit.{AreCounted, IsHeadOf, IsTailOf, Stands, head_in, tail_in, verdict_by, verdict_of}
+use Rattle.mseed_audit.specs.Audit.{AreChannels, Held, StandsAt, IsAuditAmong}
 use Rattle.mseed_audit.specs.private.ChannelState.{IsTailBefore, TakesIn, end_in, why_in, with_judged}
 use Rattle.mseed_audit.specs.Reported.{last_of}
-use Rattle.mseed_audit.specs.Verdict.{finding_at, AreFindings, none, one, IsVerdict}
+use Rattle.mseed_audit.specs.Verdict.{finding_at, AreFindings, IsRun, IsVerdict, none, one, IsVerdictAt, IsExactAt}
+use Rattle.mseed_audit.specs.Verdict.{says_continuous, AreVerdicts, AreVerdictsAmong}
 use Rattle.mseed_audit.proofs.Lasts.{last_snoc}
+use Rattle.std.specs.Map.{lookup, keys_of}
+use Rattle.std.specs.Option.{option_map}
+use Rattle.std.specs.Ordering.{nat_cmp}
+use Rattle.std.specs.Cmp.Lexicographic.{slice_cmp}
+use Rattle.std.specs.List.Sorted.{IsStrictlySortedBy}
+use Rattle.mseed_audit.specs.declared.verdict.Verdict.{Verdict}
+use Rattle.mseed_audit.specs.Follows.{IsContinuous}
+use Rattle.std.proofs.lemmas.Map.Made.{keys_of-map_values, lookup-map_values}
 
 -- with one more record
 findings_more : (before : Option View) (ps : List Placed) (p : Placed) (why : Option Why) (found : List Finding)
@@ -103,29 +112,54 @@ takes_in c p j samples findings judged end many is =
     }
 
 -- the verdict on a channel is that on its records
-verdict_by_findings : (findings : Findings) (records samples : ℕ) (ps : List Placed) (first : Placed)
-    (rest : List Placed) (found : List Finding) → ps ≡ first ∷ rest → IsHeadOf (head_in findings) first
-    → AreFindings None ps found → AreCounted findings found → records ≡ length ps → samples ≡ sample_count ps
-    → IsVerdict (verdict_by findings records samples) ps
-verdict_by_findings (Nothing head tail) records samples ps first rest found begins is are counted r n = (
-  first,
-  (
-    rest,
-    (
-      begins,
-      record {
-        findings = rw (begins, counted) at are;
-        start_is = is.start;
-        rate_is = is.rate;
-        records_is = r ∙ ap length begins;
-        samples_is = n ∙ ap sample_count begins;
-      },
-    ),
-  ),
-)
-verdict_by_findings (Counted count first_found head tail) records samples ps first rest found begins is are counted r
-    n = (counted.0, (rw counted.1.0 at are, counted.1.1 ∙ ap length counted.1.0))
-
 pub stands_verdict : (c : Channel) (ps : List Placed) → Stands c ps → IsVerdict (verdict_of c) ps
-stands_verdict c ps s = verdict_by_findings c.findings c.records c.samples ps s.first s.rest s.found s.begins s.head
-    s.are_found s.counted s.records s.samples
+stands_verdict c ps s =
+    elim c.findings as (λ f. IsHeadOf (head_in f) s.first → AreCounted f s.found
+    → IsVerdict (verdict_by f c.records c.samples) ps) [
+      | Nothing head tail ↦ λ is none.
+          let run : IsRun s.first s.rest head.start head.rate c.records c.samples = record {
+            findings = rw (s.begins, none) at s.are_found;
+            start_is = is.start;
+            rate_is = is.rate;
+            records_is = s.records ∙ ap length s.begins;
+            samples_is = s.samples ∙ ap sample_count s.begins;
+          } in
+          (s.first, (s.rest, (s.begins, run)))
+      | Counted count first head tail ↦ λ is counted.
+          (counted.0, (rw counted.1.0 at s.are_found, counted.1.1 ∙ ap length counted.1.0))
+    ] s.head s.counted
+
+-- ---- what is kept of the channels, as their verdicts
+verdict_at : (o : Option Channel) (ps : List Placed) → StandsAt o ps → IsVerdictAt (option_map verdict_of o) ps
+verdict_at None ps s = s
+verdict_at (Some c) ps s = stands_verdict c ps s
+
+-- each verdict says that its channel is continuous exactly where it is
+abbrev pub AreExact : Type 0
+AreExact = (verdict : Verdict) (ps : List Placed) → IsVerdict verdict ps
+    → (IsTrue (says_continuous verdict) ↔ IsContinuous (views_in ps))
+
+pub exact_at : AreExact → (o : Option Verdict) (ps : List Placed) → IsVerdictAt o ps → IsExactAt o ps
+exact_at exact None ps is = tt
+exact_at exact (Some verdict) ps is = exact verdict ps is
+
+pub finished : AreExact → (h : Held) (ps : List Placed) (count : ℕ) (verdicts : List (List ℕ × Verdict))
+    → IsStrictlySortedBy (slice_cmp nat_cmp) (keys_of verdicts)
+    → ((key : List ℕ) → lookup (same_key key) verdicts ≡ option_map verdict_of (lookup (same_key key) h.channels))
+    → IsAuditAmong h ps count → AreVerdictsAmong ps verdicts
+finished exact h ps count verdicts sorted found is =
+    let each : (key : List ℕ) → IsVerdictAt (lookup (same_key key) verdicts) (channel_in key ps) =
+    λ key. rw (found key) (verdict_at (lookup (same_key key) h.channels) (channel_in key ps) (is.each key)) in record {
+      ascending = sorted;
+      each = each;
+      exact = λ key. exact_at exact (lookup (same_key key) verdicts) (channel_in key ps) (each key);
+    }
+
+-- channels in their order are enough for it
+pub channels_finished : AreExact → (added : List Added) (channels : List (List ℕ × Channel))
+    → AreChannels added channels → AreVerdicts added (map (λ e. (e.0, verdict_of e.1)) channels)
+channels_finished exact added channels is =
+    finished exact (record { channels = channels; added = length added }) (numbered 1 added) (length added)
+    (map (λ e. (e.0, verdict_of e.1)) channels)
+    (rw (keys_of-map_values verdict_of channels) is.ascending)
+    (λ key. lookup-map_values verdict_of (same_key key) channels) (record { number = refl; each = is.each })

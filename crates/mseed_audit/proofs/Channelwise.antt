@@ -1,5 +1,5 @@
 -- Without a window, what the audit of the records that are asked for says of a channel is what the audit of all says.
-use Rattle.std.proofs.Common.{◌≡◌, ℕ, ◌++◌, List, [], ◌∷◌, Bool, true, false, Option, Some, None, if◌then◌else◌, cond}
+use Rattle.std.proofs.Common.{◌≡◌, ℕ, ◌++◌, List, [], ◌∷◌, Bool, true, false, Option, None, if◌then◌else◌, cond}
 use Rattle.std.proofs.Common.{refl, sym, ap, ◌∙◌, arith, inl, inr}
 use Rattle.std.proofs.lemmas.Bool.{cases_Bool}
 use Rattle.std.proofs.lemmas.List.Elements.{filter-append}
@@ -15,11 +15,10 @@ use Rattle.mseed_record.specs.Pattern.{is_of_channels}
 use Rattle.mseed_record.specs.Selection.{Selection, asks_for, is_asked}
 use Rattle.mseed_record.specs.declared.answer.Answer.TheVariants.{AskedFor, Left}
 use Rattle.mseed_stream.specs.Device.{BytesRead}
-use Rattle.mseed_audit.specs.declared.finding.Why.{Why}
 use Rattle.mseed_audit.specs.declared.verdict.Verdict.{Verdict}
 use Rattle.mseed_audit.specs.Channels.{Placed, channel_in, is_of_channel, same_key}
 use Rattle.mseed_audit.specs.Each.{AuditedEach, AuditedEachIn}
-use Rattle.mseed_audit.specs.Reported.{AreReported, Reported, none, one, reported_at}
+use Rattle.mseed_audit.specs.Reported.{AreReported, Reported, none, one}
 use Rattle.mseed_audit.specs.Scope.{HasNoWindow, asked, placed_of}
 use Rattle.mseed_audit.specs.Summary.{Audited, AuditedIn}
 use Rattle.mseed_audit.specs.Verdict.{IsVerdictAt}
@@ -27,9 +26,8 @@ use Rattle.mseed_audit.proofs.Alike.{one_list}
 use Rattle.mseed_audit.proofs.Continuity.{Excludes}
 use Rattle.mseed_audit.proofs.Maps.{key_of, same_is}
 use Rattle.mseed_audit.proofs.OneAudit.{HasOneInput}
-use Rattle.mseed_audit.proofs.OneList.{verdict_at}
-use Rattle.mseed_audit.proofs.OneReport.{last_without, reported_one}
-use Rattle.mseed_audit.proofs.OneVerdict.{HasOneFault}
+use Rattle.mseed_audit.proofs.OneReport.{last_without, reported_kept, reported_one}
+use Rattle.mseed_audit.proofs.OneVerdict.{HasOneFault, verdict_at}
 
 -- of those that pass a test, those that pass another, where the one goes by the other
 filtered : (p test : Placed → Bool) (b : Bool) → ((x : Placed) → p x ≡ true → test x ≡ b) → (ps : List Placed)
@@ -92,12 +90,6 @@ module _ (s : Selection) (free : HasNoWindow s) where
   abbrev chosen : List Reported → List Reported
   chosen ts = filter (λ t. matching (key_at t.view.bytes)) ts
 
-  chosen_at : (p : Placed) (why : Option Why) (rest : List Reported) (b : Bool) → asks_for s p.view ≡ b
-      → chosen (reported_at p why ++ rest) ≡ cond b (reported_at p why ++ chosen rest) (chosen rest)
-  chosen_at p None rest true e = refl
-  chosen_at p None rest false e = refl
-  chosen_at p (Some why) rest b e = rw (sym (asks_so p.view) ∙ e) refl
-
   -- before a record, each channel that is asked for has the same records in both
   abbrev AreAlike : List Placed → List Placed → Type 0
   AreAlike some all = (key : List ℕ) → matching key ≡ true → channel_in key some ≡ channel_in key all
@@ -112,16 +104,18 @@ module _ (s : Selection) (free : HasNoWindow s) where
   chosen_are : (some all ps : List Placed) (ts : List Reported) → AreAlike some all → AreReported all ps ts
       → AreReported some (wanted ps) (chosen ts)
   chosen_are some all [] ts alike (none _) = none some
-  chosen_are some all (p ∷ ps) ts alike (one _ _ _ why rest h later) = elim (cases_Bool (asks_for s p.view)) [
-    | inl e ↦
-        let more : AreAlike (some ++ p ∷ []) (all ++ p ∷ []) =
-        λ key m. rw (filter-append, filter-append, alike key m) refl in
-        rw (e, chosen_at p why rest true e) (one some p (wanted ps) why (chosen rest)
-        (rw (alike (key_at p.view.bytes) (sym (asks_so p.view) ∙ e)) h)
-        (chosen_are (some ++ p ∷ []) (all ++ p ∷ []) ps rest more later))
-    | inr e ↦ rw (e, chosen_at p why rest false e)
-        (chosen_are some (all ++ p ∷ []) ps rest (alike_past some all p e alike) later)
-  ]
+  chosen_are some all (p ∷ ps) ts alike (one _ _ _ why rest h later) =
+      let kept = reported_kept (λ v. matching (key_at v.bytes)) p why rest in
+      let asked = asks_so p.view in elim (cases_Bool (asks_for s p.view)) [
+        | inl e ↦
+            let more : AreAlike (some ++ p ∷ []) (all ++ p ∷ []) =
+            λ key m. rw (filter-append, filter-append, alike key m) refl in
+            rw (e, kept true (sym asked ∙ e)) (one some p (wanted ps) why (chosen rest)
+            (rw (alike (key_at p.view.bytes) (sym asked ∙ e)) h)
+            (chosen_are (some ++ p ∷ []) (all ++ p ∷ []) ps rest more later))
+        | inr e ↦ rw (e, kept false (sym asked ∙ e))
+            (chosen_are some (all ++ p ∷ []) ps rest (alike_past some all p e alike) later)
+      ]
 
   pub reported_alike : HasOneFault → Excludes → HasOneInput → (h : BytesRead) (a : AuditedEachIn (asked s) h)
       (b : AuditedEach h) → a.reported ≡ chosen b.reported

@@ -28,13 +28,11 @@ HaveOneReading = (v : View) → HasOneReading v
 -- a record of which nothing is found
 found_none : HaveOneReading → (before : Option View) (v : View) (why : Option Why) → IsFound before v why → why ≡ None
     → IsSound v × ((next : Ratio) × ((known_rate v ≡ Some next) × (why_after before v next ≡ None)))
-found_none single before v why (by_time fault e) h = cc
-found_none single before v why (by_rate e r) h = cc
-found_none single before v why (by_read next known fault f) h = cc
 found_none single before v why (by_after next known samples whole) h =
     let only : (others : List ℤ) → IsReading v others → others ≡ samples =
     λ others r. single v others samples r whole.0 in
     (record { timed = rw known refl; samples = samples; whole = whole; only = only }, (next, (known, h)))
+found_none single before v why found h = cc
 
 unknown : (v : View) → IsSome (known_rate v) → known_rate v ≡ None → ⊥
 unknown v some e = let no : false ≡ true = rw e at some in cc (no)
@@ -55,10 +53,6 @@ after_none b v next h known =
     let same : h.1.0 ≡ next = cc (h.1.1.next_is, known) in
     rw h.1.1.before_is (between_none b v h.0 next (rw same at h.1.1))
 
-follows_after : (b v : View) (rate next : Ratio) → known_rate b ≡ Some rate → known_rate v ≡ Some next
-    → why_after (Some b) v next ≡ None → Follows b v
-follows_after b v rate next known later e = (rate, (next, follows_of b v rate next known later (rw known at e)))
-
 no_finding : (p : Placed) (why : Option Why) (rest : List Finding) → finding_at p why ++ rest ≡ []
     → (why ≡ None) × (rest ≡ [])
 no_finding p None rest e = (refl, e)
@@ -73,7 +67,8 @@ later_sound single b rate (p ∷ ps) found known (one _ _ _ why rest h later) e 
     let parts : (why ≡ None) × (rest ≡ []) = no_finding p why rest e in
     let here = found_none single (Some b) p.view why h parts.0 in
     let more = later_sound single p.view here.1.0 ps rest here.1.1.0 later parts.1 in
-    ((here.0, more.0), (follows_after b p.view rate here.1.0 known here.1.1.0 here.1.1.1, more.1))
+    let follows = follows_of b p.view rate here.1.0 known here.1.1.0 (rw known at here.1.1.1) in
+    ((here.0, more.0), ((rate, (here.1.0, follows)), more.1))
 
 run_continuous : HaveOneReading → (first : Placed) (rest : List Placed) (found : List Finding)
     → AreFindings None (first ∷ rest) found → found ≡ [] → IsContinuous (views_in (first ∷ rest))
@@ -83,33 +78,28 @@ run_continuous single first rest found (one _ _ _ why others h later) e =
     let more = later_sound single first.view here.1.0 rest others here.1.1.0 later parts.1 in
     record { some = λ no. cc; each = (here.0, more.0); follow = more.1 }
 
-none_more : (p : Placed) (why : Option Why) (rest : List Finding) → why ≡ None → rest ≡ []
-    → finding_at p why ++ rest ≡ []
-none_more p why rest e k = rw (e, k) refl
-
 -- nothing is found of sound records that follow one another
 later_none : Excludes → (b : View) (ps : List Placed) (found : List Finding) → AreFindings (Some b) ps found
     → AllByRecursion IsSound (views_in ps)
     → AllNeighbours Follows (b ∷ views_in ps) → found ≡ []
 later_none excludes b [] found (none _) each follow = refl
 later_none excludes b (p ∷ ps) found (one _ _ _ why rest h later) each follow =
-    none_more p why rest
-    (none_found (Some b) p.view why excludes h each.0 (λ next known. after_none b p.view next follow.0 known))
-    (later_none excludes p.view ps rest later each.1 follow.1)
+    let none_here = none_found (Some b) p.view why excludes h each.0
+    (λ next known. after_none b p.view next follow.0 known) in
+    rw (none_here, later_none excludes p.view ps rest later each.1 follow.1) refl
 
 none_continuous : Excludes → (ps : List Placed) (found : List Finding) → AreFindings None ps found
     → IsContinuous (views_in ps) → found ≡ []
 none_continuous excludes [] found (none _) h = refl
 none_continuous excludes (p ∷ ps) found (one _ _ _ why rest k later) h =
-    none_more p why rest
-    (none_found None p.view why excludes k h.each.0 (λ next known. refl))
-    (later_none excludes p.view ps rest later h.each.1 h.follow)
+    rw (
+      none_found None p.view why excludes k h.each.0 (λ next known. refl),
+      later_none excludes p.view ps rest later h.each.1 h.follow,
+    ) refl
 
 pub verdict_exact : HaveOneReading → Excludes → (verdict : Verdict) (ps : List Placed) → IsVerdict verdict ps
     → (IsTrue (says_continuous verdict) ↔ IsContinuous (views_in ps))
-verdict_exact single excludes (Continuous start rate records samples) ps h = (
-  (λ says. rw h.1.1.0 (run_continuous single h.0 h.1.0 [] h.1.1.1.findings refl)),
-  (λ is. refl),
-)
+verdict_exact single excludes (Continuous start rate records samples) ps h =
+    ((λ says. rw h.1.1.0 (run_continuous single h.0 h.1.0 [] h.1.1.1.findings refl)), (λ is. refl))
 verdict_exact single excludes (Broken first count) ps h =
     ((λ says. cc), (λ is. let no : first ∷ h.0 ≡ [] = none_continuous excludes ps (first ∷ h.0) h.1.0 is in cc))

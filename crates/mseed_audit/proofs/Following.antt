@@ -1,11 +1,10 @@
 -- Records that stand one after another, and those of a channel among them.
-use Rattle.std.proofs.Common.{◌≡◌, ℕ, zero, suc, ◌+◌, ◌^◌, ◌≤◌, ◌<◌, List, [], ◌∷◌, ◌++◌, length, map, take, get_or}
-use Rattle.std.proofs.Common.{cond, if◌then◌else◌, Bool, true, false, Option, refl, sym, ap, ◌∙◌}
+use Rattle.std.proofs.Common.{◌≡◌, ℕ, ◌+◌, ◌^◌, ◌≤◌, ◌<◌, List, [], ◌∷◌, ◌++◌, length, map, take, drop, get_or}
+use Rattle.std.proofs.Common.{if◌then◌else◌, Bool, true, Option, refl, sym, ap, ◌∙◌}
 use Rattle.std.proofs.Common.{◌*◌, length-take-le, arith}
 use Rattle.std.specs.List.{filter, AllByRecursion}
-use Rattle.std.proofs.lemmas.List.{map_more, length-map}
+use Rattle.std.proofs.lemmas.List.{drop_more, length-map, map-append, map_more, take-append-drop}
 use Rattle.std.proofs.Math.Nat.{pow-le-pow_right}
-use Rattle.std.proofs.lemmas.Bool.{false≢true}
 use Rattle.std.proofs.lemmas.List.Elements.{filter-append}
 use Rattle.mseed_record.specs.View.{View, IsView}
 use Rattle.mseed_record.specs.Viewing.{view_of}
@@ -15,7 +14,7 @@ use Rattle.mseed_audit.specs.Channels.{Added, Placed, added_from, numbered, is_o
 use Rattle.mseed_audit.specs.Channels.{channel_in, views_in}
 use Rattle.mseed_audit.specs.Follows.{IsSound}
 use Rattle.mseed_audit.specs.Audit.{StandsAt}
-use Rattle.mseed_audit.proofs.More.{filter_by, records_more}
+use Rattle.mseed_audit.proofs.More.{filter_by, filter_more, numbered_more}
 use Rattle.mseed_audit.proofs.Views.{added_length}
 
 -- where the last of them ends
@@ -47,7 +46,8 @@ records_after : (key : List ℕ) (vs : List View) (v : View) → records_of key 
     (record { view = v; offset = end_of 0 vs; number = length vs + 1 })
 records_after key vs v =
     let number : 1 + length (added_from 0 vs) ≡ length vs + 1 = omega (arith, added_length 0 vs) in
-    rw (added_after 0 vs v, records_more key (added_from 0 vs) _, number) refl
+    rw (added_after 0 vs v, numbered_more 1 (added_from 0 vs), number)
+    (filter_more key (numbered 1 (added_from 0 vs)) _)
 
 -- the records that a loop has passed, with one more
 passed : (rs : List RecordView) (n : ℕ) (r : RecordView) → n < length rs → r ≡ get_or rs n r
@@ -93,27 +93,28 @@ kept_next key rs n r b h is of =
     rw (passed rs n r h is, filter-append (is_of_channel key) vs (view_of r ∷ []), ← of)
     (filter_by b (filter (is_of_channel key) vs) (view_of r))
 
-first_sound : (b : Bool) (v : View) (vs : List View) → b ≡ true → AllByRecursion IsSound (cond b (v ∷ vs) vs)
-    → IsSound v
-first_sound true v vs e h = h.0
-first_sound false v vs e h = absurd (false≢true e)
+-- the channel's records are those before one of them, that one, and those after it
+pub kept_around : (key : List ℕ) (rs : List RecordView) (n : ℕ) (r : RecordView) → n < length rs → r ≡ get_or rs n r
+    → true ≡ is_of_channel key (view_of r) → filter (is_of_channel key) (map view_of rs)
+    ≡ filter (is_of_channel key) (map view_of (take n rs)) ++ view_of r
+    ∷ filter (is_of_channel key) (map view_of (drop (n + 1) rs))
+kept_around key rs n r h is of =
+    let parts : take n rs ++ r ∷ drop (n + 1) rs ≡ rs = rw (is, ← drop_more rs n r h) (take-append-drop n rs) in
+    sym (ap (λ (qs : List RecordView). filter (is_of_channel key) (map view_of qs)) parts)
+    ∙ rw (map-append, filter-append, ← of) refl
 
-rest_sound : (b : Bool) (v : View) (vs : List View) → AllByRecursion IsSound (cond b (v ∷ vs) vs)
-    → AllByRecursion IsSound vs
-rest_sound true v vs h = h.1
-rest_sound false v vs h = h
+-- a record among sound ones is sound
+middle_sound : (vs : List View) (v : View) (ws : List View) → AllByRecursion IsSound (vs ++ v ∷ ws) → IsSound v
+middle_sound [] v ws all = all.0
+middle_sound (u ∷ vs) v ws all = middle_sound vs v ws all.1
 
 -- each record of the channel is sound
 pub sound_at : (key : List ℕ) (rs : List RecordView) (n : ℕ) (r : RecordView) → n < length rs → r ≡ get_or rs n r
     → true ≡ is_of_channel key (view_of r)
     → AllByRecursion IsSound (filter (is_of_channel key) (map view_of rs)) → IsSound (view_of r)
-sound_at key [] n r h is of all = absurd (omega (arith, h))
-sound_at key (s ∷ rs) zero r h is of all =
-    rw is (first_sound (is_of_channel key (view_of s)) (view_of s) (filter (is_of_channel key) (map view_of rs))
-    (sym (of ∙ ap (λ (q : RecordView). is_of_channel key (view_of q)) is)) all)
-sound_at key (s ∷ rs) (suc n) r h is of all =
-    sound_at key rs n r (omega (arith, h)) is of
-    (rest_sound (is_of_channel key (view_of s)) (view_of s) (filter (is_of_channel key) (map view_of rs)) all)
+sound_at key rs n r h is of all =
+    middle_sound (filter (is_of_channel key) (map view_of (take n rs))) (view_of r) _
+    (rw (kept_around key rs n r h is of) at all)
 
 -- the records of a channel are those that pass its test
 views_from : (key : List ℕ) (n offset : ℕ) (vs : List View)

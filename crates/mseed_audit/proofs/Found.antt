@@ -6,10 +6,7 @@ use Rattle.std.specs.Option.{option_map}
 use Rattle.mseed_audit.specs.declared.channel.Channel.{Channel}
 use Rattle.mseed_audit.specs.declared.verdict.Verdict.{Verdict}
 use Rattle.mseed_audit.specs.Places.{with_channel}
-use Rattle.mseed_audit.proofs.Rosters.{with_itself}
-
-abbrev Entries : Type 0
-Entries = List (List ℕ × Channel)
+use Rattle.mseed_audit.proofs.Rosters.{Entries, with_itself}
 
 length_with : (es : Entries) (i : ℕ) (c : Channel) → length (with_channel es i c) ≡ length es
 length_with [] i c = refl

@@ -1,5 +1,5 @@
 -- The samples and leap seconds of records, with one more.
-use Rattle.std.proofs.Common.{◌≡◌, ℕ, ℤ, ◌+◌, ◌<◌, List, [], ◌∷◌, ◌++◌, Option, Some, length, refl, sym, ap, ◌∙◌}
+use Rattle.std.proofs.Common.{◌≡◌, ℕ, ℤ, ◌+◌, ◌<◌, List, [], ◌∷◌, ◌++◌, Option, length, refl, sym, ap, ◌∙◌}
 use Rattle.std.proofs.Common.{append_assoc, append-nil, arith}
 use Rattle.std.proofs.lemmas.List.{length-append}
 use Rattle.mseed_time.specs.declared.order.Order.{Order}
@@ -23,14 +23,14 @@ pub count_is : (v : View) (samples : List ℤ) → IsWhole v samples → length 
 count_is v samples h = counted h.0.form v.payload_order _ (count_of v) samples h.0.spelled
 
 -- and they are some
-pub some_more : (v : View) (old more new : List ℤ) → IsWhole v more → new ≡ old ++ more → length old < length new
-some_more v old more new whole e =
+pub some_more : (v : View) (old new : List ℤ) → (more : List ℤ) × (IsWhole v more × (new ≡ old ++ more))
+    → length old < length new
+some_more v old new (more, (whole, e)) =
     rw e (omega (arith, count_is v more whole, whole.0.some, length-append old more))
 
 joined_more : (vs : List View) (samples : List ℤ) (v : View) (more : List ℤ) → AreJoined vs samples → IsWhole v more
     → AreJoined (vs ++ v ∷ []) (samples ++ more)
-joined_more [] [] v more none h = rw append-nil at (one v [] more [] h none)
-joined_more [] (s ∷ samples) v more joined h = elim joined [ ]
+joined_more [] _ v more none h = rw append-nil at (one v [] more [] h none)
 joined_more (w ∷ vs) _ v more (one _ _ first rest is later) h =
     rw append_assoc (one w (vs ++ v ∷ []) first (rest ++ more) is (joined_more vs rest v more later h))
 
@@ -38,10 +38,9 @@ joined_more (w ∷ vs) _ v more (one _ _ first rest is later) h =
 steps_next : (place : ℕ) (vs : List View) (samples : List ℤ) (v : View) → AreJoined vs samples
     → steps_from place (vs ++ v ∷ []) ≡ steps_from place vs ++ step_at (place + length samples + count_of v)
     (step_in (leap_of v.bytes))
-steps_next place [] [] v none =
+steps_next place [] _ v none =
     append-nil (step_at (place + count_of v) (step_in (leap_of v.bytes)))
     ∙ ap (λ (n : ℕ). step_at n (step_in (leap_of v.bytes))) (omega arith)
-steps_next place [] (s ∷ samples) v joined = elim joined [ ]
 steps_next place (w ∷ vs) _ v (one _ _ first rest is later) =
     let at : place + count_of w + length rest + count_of v ≡ place + length (first ++ rest) + count_of v =
     omega (arith, length-append first rest, count_is w first is) in
@@ -79,18 +78,3 @@ holds_none codes start rate samples s empty e = rw (e, empty) (record {
   samples = none;
   steps = refl;
 })
-
--- of the same series and records
-pub holds_same : (codes : List ℕ) (start : ℤ) (rate : Rate) (vs ws : List View) (s t : Trace) → ws ≡ vs → t ≡ s
-    → HoldsAll codes start rate vs s → HoldsAll codes start rate ws t
-holds_same codes start rate vs ws s t e f h = rw (e, f) h
-
--- a series with more samples, and a leap second after them
-pub pushed : (old : Trace) (samples more : List ℤ) (steps : List (ℕ × LeapStep)) (place : ℕ) (step : LeapStep)
-    → samples ≡ old.samples ++ more → place ≡ length samples → steps ≡ old.steps ++ (place, step) ∷ []
-    → record old { samples = samples; steps = steps } ≡ record old {
-      samples = old.samples ++ more;
-      steps = old.steps ++ step_at (length old.samples + length more) (Some step);
-    }
-pushed old samples more steps place step e at f =
-    rw (f, at, e, length-append old.samples more) refl

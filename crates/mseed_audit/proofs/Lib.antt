@@ -1,13 +1,10 @@
-pub mod Apart
 pub mod ByKey
 pub mod Alike
 pub mod Assembled
 pub mod Following
 pub mod Between
 pub mod Continuity
-pub mod Counts
 pub mod ChannelState
-pub mod Finished
 pub mod Found
 pub mod Gathers
 pub mod Joined
@@ -17,7 +14,6 @@ pub mod Maps
 pub mod More
 pub mod OneMore
 pub mod OneAudit
-pub mod OneList
 pub mod OneSeries
 pub mod OneReport
 pub mod OneVerdict
@@ -30,4 +26,3 @@ pub mod Reporting
 pub mod Views
 pub mod Channelwise
 pub mod PrintedCodes
-pub mod OneSelected

@@ -1,13 +1,10 @@
 -- Maps by the bytes of their keys, and records by theirs.
-use Rattle.std.proofs.Common.{◌≡◌, ◌∙◌, ◌<◌, ℕ, List, true, refl, sym, arith}
-use Rattle.std.specs.Ordering.{nat_cmp, eq_by_cmp, is_eq}
-use Rattle.std.specs.Cmp.{IsEquivalence}
+use Rattle.std.proofs.Common.{◌≡◌, ◌∙◌, ◌<◌, ℕ, List, true, sym, arith}
+use Rattle.std.specs.Ordering.{nat_cmp, eq_by_cmp}
+use Rattle.std.specs.Cmp.{Equal-is, IsEquivalence}
 use Rattle.std.specs.Cmp.Lexicographic.{slice_cmp}
 use Rattle.std.proofs.lemmas.Cmp.{eq_by_cmp_equiv, nat_list_cmp_total}
-use Rattle.std.specs.declared.cmp.Ordering.{Ordering}
-use Rattle.std.specs.declared.cmp.Ordering.TheVariants.{Less, Equal, Greater}
 use Rattle.std.proofs.lemmas.Map.Lookups.{exact_bytes}
-use Rattle.std.proofs.lemmas.Bool.{false≢true}
 use Rattle.std.proofs.lemmas.Bool.Decides.{nat_tests}
 use Rattle.mseed_record.specs.Header.{key_at}
 use Rattle.mseed_record.specs.View.{View}
@@ -23,14 +20,9 @@ same_back key other = keys_alike.symm key other
 pub same_itself : (key : List ℕ) → same_key key key ≡ true
 same_itself key = keys_alike.refl key
 
-pub equal_from : (o : Ordering) → is_eq o ≡ true → o ≡ Equal
-equal_from Less e = absurd (false≢true e)
-equal_from Equal e = refl
-equal_from Greater e = absurd (false≢true e)
-
 -- keys that compare equal are equal
 pub same_is : (key other : List ℕ) → same_key key other ≡ true → key ≡ other
-same_is key other e = exact_bytes key other (equal_from (slice_cmp nat_cmp key other) e)
+same_is key other e = exact_bytes key other ((Equal-is (slice_cmp nat_cmp key other)).0 e)
 
 -- a record with samples is of its channel alone
 pub of_some : (key : List ℕ) (v : View) → 0 < count_of v → is_of_channel key v ≡ same_key key (key_at v.bytes)

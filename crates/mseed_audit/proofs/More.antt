@@ -7,8 +7,8 @@ use Rattle.mseed_record.specs.Header.{key_at}
 use Rattle.mseed_record.specs.View.{View}
 use Rattle.mseed_audit.specs.declared.audits.Memory.{Memory}
 use Rattle.mseed_audit.specs.declared.finding.Why.{Why}
-use Rattle.mseed_audit.specs.Audit.{Held, IsAuditAmong, IsAuditOf}
-use Rattle.mseed_audit.specs.Channels.{Added, Placed, channel_in, is_of_channel, numbered, records_of, with_record}
+use Rattle.mseed_audit.specs.Audit.{Held, IsAuditOf}
+use Rattle.mseed_audit.specs.Channels.{Added, Placed, channel_in, is_of_channel, numbered, with_record}
 use Rattle.mseed_audit.specs.private.ChannelState.{AddsTo}
 use Rattle.mseed_audit.specs.private.Gathered.{IsAdded}
 
@@ -30,16 +30,10 @@ pub filter_by : {X : Type 0} (b : Bool) (xs : List X) (x : X)
 filter_by true xs x = refl
 filter_by false xs x = append-nil xs
 
-filter_more : (key : List ℕ) (ps : List Placed) (p : Placed)
+pub filter_more : (key : List ℕ) (ps : List Placed) (p : Placed)
     → channel_in key (ps ++ p ∷ []) ≡ with_record key (channel_in key ps) p
 filter_more key ps p = filter-append (λ q. is_of_channel key q.view) ps (p ∷ [])
     ∙ filter_by (is_of_channel key p.view) (channel_in key ps) p
-
--- the channel's records with one more record of the archive
-pub records_more : (key : List ℕ) (added : List Added) (a : Added)
-    → records_of key (added ++ a ∷ []) ≡ with_record key (records_of key added) (placed_at a (1 + length added))
-records_more key added a = ap (channel_in key) (numbered_more 1 added a)
-    ∙ filter_more key (numbered 1 added) (placed_at a (1 + length added))
 
 -- an audit that takes a record in
 pub audit_more : (old new : Held) (v : View) (offset : ℕ) (why : Option Why)
@@ -57,13 +51,7 @@ audit_more old new v offset why adds number = record {
   memory = λ there. refl;
 }
 
--- one that passes a record
-pub audit_passed : (h new : Held) (ps : List Placed) (count : ℕ) → IsAuditAmong h ps count
-    → new.added ≡ h.added + 1 → new.channels ≡ h.channels → IsAuditAmong new ps (count + 1)
-audit_passed h new ps count is number same =
-    record { number = omega (arith, number, is.number); each = λ key. rw same (is.each key) }
-
--- one that passes none
+-- an audit of all records takes one more in
 pub audit_all : (r : Result (Option Why) Memory) (v : View) (offset : ℕ) (old new : Held) → IsAdded r v offset old new
     → (added : List Added) → IsAuditOf old added
     → OnOk r (IsAuditOf new (added ++ record { view = v; offset = offset } ∷ []))

@@ -28,25 +28,15 @@ text_more line lines snoc vs n v first old new h is before one =
     one ∙ ap (λ (xs : List ℕ). xs ++ line v) before ∙ append_assoc first (lines (take n vs)) (line v)
     ∙ ap (λ (xs : List ℕ). first ++ xs) (sym (ap lines (prefix_more vs n v h is) ∙ snoc (take n vs) v))
 
-lines_snoc : (vs : List (List ℕ × Verdict)) (v : List ℕ × Verdict)
+pub lines_snoc : (vs : List (List ℕ × Verdict)) (v : List ℕ × Verdict)
     → verdict_lines (vs ++ v ∷ []) ≡ verdict_lines vs ++ verdict_line v.0 v.1
 lines_snoc [] v = append-nil (verdict_line v.0 v.1)
 lines_snoc (w ∷ vs) v = ap (λ (xs : List ℕ). verdict_line w.0 w.1 ++ xs) (lines_snoc vs v)
     ∙ sym (append_assoc (verdict_line w.0 w.1) (verdict_lines vs) (verdict_line v.0 v.1))
 
-pub lines_more : (vs : List (List ℕ × Verdict)) (n : ℕ) (v : List ℕ × Verdict) (first old new : List ℕ) → n < length vs
-    → v ≡ get_or vs n v → old ≡ first ++ verdict_lines (take n vs)
-    → new ≡ old ++ verdict_line v.0 v.1 → new ≡ first ++ verdict_lines (take (n + 1) vs)
-lines_more = text_more (λ v. verdict_line v.0 v.1) verdict_lines lines_snoc
-
-count_snoc : (vs : List (List ℕ × Verdict)) (v : List ℕ × Verdict)
+pub count_snoc : (vs : List (List ℕ × Verdict)) (v : List ℕ × Verdict)
     → broken_count (vs ++ v ∷ []) ≡ broken_count vs + (if says_continuous v.1 then 0 else 1)
 count_snoc [] (key, Continuous start rate records samples) = refl
 count_snoc [] (key, Broken first count) = refl
 count_snoc ((key, Continuous start rate records samples) ∷ vs) v = count_snoc vs v
 count_snoc ((key, Broken first count) ∷ vs) v = omega (arith, count_snoc vs v)
-
--- the count with one more
-pub count_more : (vs : List (List ℕ × Verdict)) (n : ℕ) (v : List ℕ × Verdict) → n < length vs → v ≡ get_or vs n v
-    → broken_count (take (n + 1) vs) ≡ broken_count (take n vs) + (if says_continuous v.1 then 0 else 1)
-count_more vs n v h is = ap broken_count (prefix_more vs n v h is) ∙ count_snoc (take n vs) v

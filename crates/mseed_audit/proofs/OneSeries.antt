@@ -10,9 +10,7 @@ pub joined_one : ((v : View) → HasOneReading v) → (vs : List View) (s t : Li
     → s ≡ t
 joined_one single [] _ _ none none = refl
 joined_one single (v ∷ vs) _ _ (one _ _ samples rest is later) (one _ _ others more are latter) =
-    let here : samples ≡ others = single v samples others is.0 are.0 in
-    let after : rest ≡ more = joined_one single vs rest more later latter in
-    λ i. here i ++ after i
+    λ i. single v samples others is.0 are.0 i ++ joined_one single vs rest more later latter i
 
 pub series_one : ((v : View) → HasOneReading v) → (s t : Trace) (vs : List View) → IsSeriesOf s vs → IsSeriesOf t vs
     → s ≡ t
@@ -31,8 +29,7 @@ series_one single s t vs h k =
 no_later : (place size : ℕ) (prefix back others rest : List (ℕ × LeapStep)) (bad other : ℕ × LeapStep)
     → prefix ++ bad ∷ back ≡ others ++ other ∷ rest
     → AreStepsFrom place size others → ¬ (AreStepsFrom place size (prefix ++ bad ∷ [])) → length others ≤ length prefix
-no_later place size [] back [] rest bad other e good not_good = omega arith
-no_later place size (s ∷ prefix) back [] rest bad other e good not_good = omega arith
+no_later place size prefix back [] rest bad other e good not_good = omega arith
 no_later place size [] back (t ∷ others) rest bad other e good not_good =
     let same : t ≡ bad = cc in absurd (not_good (rw (← same) (good.0, good.1, tt)))
 no_later place size (s ∷ prefix) back (t ∷ others) rest bad other e good not_good =

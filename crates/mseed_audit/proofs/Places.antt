@@ -1,8 +1,7 @@
 -- The places of leap seconds.
-use Rattle.std.proofs.Common.{◌≡◌, ℕ, suc, ◌+◌, ◌<◌, ◌≤◌, List, [], ◌∷◌, ◌++◌, length, take, drop, get_or, refl, sym}
-use Rattle.std.proofs.Common.{◌∙◌, append_assoc, length-take-le, arith}
-use Rattle.std.proofs.Math.Seq.{take-suc}
-use Rattle.std.proofs.lemmas.List.{take-append-drop, take_more}
+use Rattle.std.proofs.Common.{◌≡◌, ℕ, ◌+◌, ◌<◌, ◌≤◌, List, [], ◌∷◌, ◌++◌, length, take, drop, get_or, refl, sym}
+use Rattle.std.proofs.Common.{append_assoc, length-take-le, arith}
+use Rattle.std.proofs.lemmas.List.{drop_more, take-append-drop, take_more}
 use Rattle.mseed_time.specs.declared.outcome.LeapStep.{LeapStep}
 use Rattle.mseed_audit.specs.Series.{AreStepsFrom, AreSteps, IsBadStep}
 
@@ -11,30 +10,21 @@ abbrev pub place_of : ℕ → List (ℕ × LeapStep) → ℕ
 place_of place [] = place
 place_of place (s ∷ ss) = place_of s.0 ss
 
--- one more
-pub steps_more : (place size : ℕ) (ss : List (ℕ × LeapStep)) (s : ℕ × LeapStep) → AreStepsFrom place size ss
-    → place_of place ss < s.0 → s.0 ≤ size → AreStepsFrom place size (ss ++ s ∷ [])
-steps_more place size [] s h low high = (low, high, tt)
-steps_more place size (t ∷ ss) s h low high = (h.0, h.1, steps_more t.0 size ss s h.2 low high)
+-- those of two lists, one after another
+steps_join : (place size : ℕ) (ss ts : List (ℕ × LeapStep)) → AreStepsFrom place size ss
+    → AreStepsFrom (place_of place ss) size ts → AreStepsFrom place size (ss ++ ts)
+steps_join place size [] ts first later = later
+steps_join place size (s ∷ ss) ts first later = (first.0, first.1, steps_join s.0 size ss ts first.2 later)
 
-pub steps_last : (place size : ℕ) (ss : List (ℕ × LeapStep)) (s : ℕ × LeapStep)
-    → AreStepsFrom place size (ss ++ s ∷ []) → (place_of place ss < s.0) × (s.0 ≤ size)
-steps_last place size [] s h = (h.0, h.1)
-steps_last place size (t ∷ ss) s h = steps_last t.0 size ss s h.2
-
--- those before it
-pub steps_prefix : (place size : ℕ) (ss ts : List (ℕ × LeapStep)) → AreStepsFrom place size (ss ++ ts)
-    → AreStepsFrom place size ss
-steps_prefix place size [] ts h = tt
-steps_prefix place size (s ∷ ss) ts h = (h.0, h.1, steps_prefix s.0 size ss ts h.2)
+steps_split : (place size : ℕ) (ss ts : List (ℕ × LeapStep)) → AreStepsFrom place size (ss ++ ts)
+    → AreStepsFrom place size ss × AreStepsFrom (place_of place ss) size ts
+steps_split place size [] ts all = (tt, all)
+steps_split place size (s ∷ ss) ts all =
+    let parts = steps_split s.0 size ss ts all.2 in ((all.0, all.1, parts.0), parts.1)
 
 pub place_more : (place : ℕ) (ss : List (ℕ × LeapStep)) (s : ℕ × LeapStep) → place_of place (ss ++ s ∷ []) ≡ s.0
 place_more place [] s = refl
 place_more place (t ∷ ss) s = place_more t.0 ss s
-
-pub cut_at : (ss : List (ℕ × LeapStep)) (i : ℕ) (d : ℕ × LeapStep) → i < length ss
-    → ss ≡ take i ss ++ get_or ss i d ∷ drop (suc i) ss
-cut_at ss i d lt = sym (take-append-drop (suc i) ss) ∙ rw (take-suc ss i d lt) (append_assoc (take i ss) _ _)
 
 -- the first that doesn't stand after the one before it
 pub bad_step : (size : ℕ) (ss : List (ℕ × LeapStep)) (i : ℕ) (d : ℕ × LeapStep) (before : ℕ) → i < length ss
@@ -43,17 +33,17 @@ pub bad_step : (size : ℕ) (ss : List (ℕ × LeapStep)) (i : ℕ) (d : ℕ × 
 bad_step size ss i d before lt good at refuses = record {
   prefix = take i ss;
   bad = get_or ss i d;
-  back = drop (suc i) ss;
-  parts = cut_at ss i d lt;
+  back = drop (i + 1) ss;
+  parts = rw (← drop_more ss i d lt) (sym (take-append-drop i ss));
   index_is = sym (length-take-le i ss (omega (arith, lt)));
   good = good;
-  not_good = λ h.
-      refuses (rw at (steps_last 0 size (take i ss) (get_or ss i d) h));
+  not_good = λ h. let last = (steps_split 0 size (take i ss) (get_or ss i d ∷ []) h).1 in
+      refuses (rw at (last.0, last.1));
 }
 
 pub bad_steps : (size : ℕ) (ss : List (ℕ × LeapStep)) (i : ℕ) → IsBadStep size ss i → AreSteps size ss → ⊥
 bad_steps size ss i bad all =
-    bad.not_good (steps_prefix 0 size (bad.prefix ++ bad.bad ∷ []) bad.back (rw append_assoc (rw bad.parts at all)))
+    bad.not_good (steps_split 0 size (bad.prefix ++ bad.bad ∷ []) bad.back (rw append_assoc (rw bad.parts at all))).0
 
 pub more_steps : (size : ℕ) (ss : List (ℕ × LeapStep)) (i : ℕ) (d : ℕ × LeapStep) (before : ℕ) → i < length ss
     → AreSteps size (take i ss) → before ≡ place_of 0 (take i ss)
@@ -61,7 +51,7 @@ pub more_steps : (size : ℕ) (ss : List (ℕ × LeapStep)) (i : ℕ) (d : ℕ �
     × ((get_or ss i d).0 ≡ place_of 0 (take (i + 1) ss))
 more_steps size ss i d before lt good at low high =
     rw (take_more ss i d lt) (
-      steps_more 0 size (take i ss) (get_or ss i d) good (rw at at low) high,
+      steps_join 0 size (take i ss) (get_or ss i d ∷ []) good (rw at at low, high, tt),
       sym (place_more 0 (take i ss) (get_or ss i d)),
     )
 
@@ -79,8 +69,9 @@ last_within place size (s ∷ ss) le h = last_within s.0 size ss h.1 h.2
 pub steps_after : (m n place : ℕ) (old new : List (ℕ × LeapStep)) (step : LeapStep) → m < n → place ≡ n
     → AreSteps m old → new ≡ old ++ (place, step) ∷ [] → AreSteps n new
 steps_after m n place old new step lt at h e =
-    rw e (steps_more 0 n old (place, step) (steps_wider 0 m n old (omega (arith, lt)) h)
-    (omega (arith, last_within 0 m old (omega arith) h, lt, at)) (omega (arith, at)))
+    let last : place_of 0 old < place = omega (arith, last_within 0 m old (omega arith) h, lt, at) in
+    rw e (steps_join 0 n old ((place, step) ∷ []) (steps_wider 0 m n old (omega (arith, lt)) h)
+    (last, omega (arith, at), tt))
 
 -- those of fewer samples
 pub steps_kept : (m n : ℕ) (old new : List (ℕ × LeapStep)) → m ≤ n → AreSteps m old → new ≡ old → AreSteps n new

@@ -1,38 +1,33 @@
 -- A pattern that fits a channel's codes fits them as they are printed, and the other way round.
-use Rattle.std.proofs.Common.{◌≡◌, ℕ, ◌≤◌, refl, sym, ap, ◌∙◌, arith, true}
+use Rattle.std.proofs.Common.{◌≡◌, ℕ, refl, sym, ap, ◌∙◌, arith, true}
 use Rattle.std.proofs.Common.{eqb}
-use Rattle.std.proofs.Common.{List, [], ◌∷◌, ◌++◌, length, map, inl, inr, append_assoc}
+use Rattle.std.proofs.Common.{List, [], ◌∷◌, ◌++◌, drop, length, map, take, inl, inr}
 use Rattle.std.specs.Prelude.{slice_range}
 use Rattle.std.specs.List.{join_with_byte, list_all}
 use Rattle.std.proofs.lemmas.Bool.{and_parts}
 use Rattle.std.proofs.lemmas.Bool.Decides.{nat_tests}
-use Rattle.std.proofs.lemmas.List.{length-map, map-append}
+use Rattle.std.proofs.lemmas.List.{drop-map, drop_at, length-map, map-append, take-append-drop, take-map, take_at}
 use Rattle.std.proofs.lemmas.List.Folds.{list_all-append}
 use Rattle.std.proofs.lemmas.List.Splits.{join_with_byte-slice_split}
 use Rattle.mseed_record.specs.Pattern.{Fits, FitsLocation, Matches, Takes, channel_of, fields_in, is_character}
 use Rattle.mseed_record.specs.Pattern.{is_pattern}
 use Rattle.mseed_record.specs.Pattern.{location_of, network_of, station_of}
-use Rattle.mseed_text.specs.Name.{code_text, name_text, printed}
+use Rattle.mseed_text.specs.Name.{code_text, printed}
 use Rattle.mseed_audit.specs.Printed.{MatchesPrinted, printed_codes}
 
 -- ---- a character
 -- what a pattern may have is printed as itself
-in_range : (c : ℕ) → is_character c ≡ true → (33 ≤ c) × (c ≤ 126)
-in_range c e = (grind (arith, nat_tests, e), grind (arith, nat_tests, e))
-
-printed_itself : (c : ℕ) → 33 ≤ c → c ≤ 126 → printed c ≡ c
-printed_itself c low high = grind (arith, nat_tests)
+printed_itself : (c : ℕ) → is_character c ≡ true → printed c ≡ c
+printed_itself c e = grind (arith, nat_tests, e)
 
 takes_printed : (c : ℕ) (taken : List ℕ) → is_character c ≡ true → Takes c taken → Takes c (map printed taken)
-takes_printed c taken e (inl same) =
-    let range = in_range c e in inl (rw (same, printed_itself c range.0 range.1) refl)
+takes_printed c taken e (inl same) = inl (rw (same, printed_itself c e) refl)
 takes_printed c taken e (inr (inl one)) = inr (inl (one.0, length-map taken printed ∙ one.1))
 takes_printed c taken e (inr (inr star)) = inr (inr star)
 
 takes_back : (c : ℕ) (taken : List ℕ) → Takes c (map printed taken) → Takes c taken
-takes_back c [] (inl same) = absurd (cc (same))
 takes_back c (x ∷ []) (inl same) = grind (arith, nat_tests, same)
-takes_back c (x ∷ y ∷ xs) (inl same) = absurd (cc (same))
+takes_back c taken (inl same) = absurd (cc (same))
 takes_back c taken (inr (inl one)) = inr (inl (one.0, sym (length-map taken printed) ∙ one.1))
 takes_back c taken (inr (inr star)) = inr (inr star)
 
@@ -43,46 +38,25 @@ fits_printed [] code all fits = ap (λ (xs : List ℕ). map printed xs) fits
 fits_printed (c ∷ cs) code all (taken, (rest, (whole, takes, more))) =
     let both = and_parts (is_character c) (list_all is_character cs) all in
     let same : map printed code ≡ map printed taken ++ map printed rest =
-    rw (whole, map-append printed taken rest) refl in (
-      map printed taken,
-      (
-        map printed rest,
-        (same, takes_printed c taken both.0 takes, fits_printed cs rest both.1 more),
-      ),
-    )
-
--- what is printed in two parts is in two parts
-record IsInTwo (code one other : List ℕ) : Type 0 where
-  front : List ℕ
-  back : List ℕ
-  whole : code ≡ front ++ back
-  front_is : map printed front ≡ one
-  back_is : map printed back ≡ other
-
-in_two : (code one other : List ℕ) → map printed code ≡ one ++ other → IsInTwo code one other
-in_two code [] other e = record { front = []; back = code; whole = refl; front_is = refl; back_is = e }
-in_two [] (y ∷ ys) other e = absurd (cc e)
-in_two (x ∷ xs) (y ∷ ys) other e =
-    let first : printed x ≡ y = cc e in
-    let others : map printed xs ≡ ys ++ other = cc e in
-    let more = in_two xs ys other others in record {
-      front = x ∷ more.front;
-      back = more.back;
-      whole = ap (λ (zs : List ℕ). x ∷ zs) more.whole;
-      front_is = λ i. first i ∷ more.front_is i;
-      back_is = more.back_is;
-    }
+    rw (whole, map-append printed taken rest) refl in
+    let first = takes_printed c taken both.0 takes in
+    let later = fits_printed cs rest both.1 more in
+    (map printed taken, (map printed rest, (same, first, later)))
 
 nothing_printed : (code : List ℕ) → map printed code ≡ [] → code ≡ []
 nothing_printed [] e = refl
 nothing_printed (x ∷ xs) e = absurd (cc e)
 
+-- what is printed in two parts is in two parts
 pub fits_back : (field code : List ℕ) → Fits field (map printed code) → Fits field code
 fits_back [] code fits = nothing_printed code fits
 fits_back (c ∷ cs) code (taken, (rest, (whole, takes, more))) =
-    let two = in_two code taken rest whole in
-    let front = takes_back c two.front (rw two.front_is takes) in
-    (two.front, (two.back, (two.whole, front, fits_back cs two.back (rw two.back_is more))))
+    let n = length taken in
+    let front = sym (take-map printed n code) ∙ ap (take n) whole ∙ take_at taken rest n refl in
+    let back = sym (drop-map printed n code) ∙ ap (drop n) whole ∙ drop_at taken rest n refl in
+    let first = takes_back c (take n code) (rw front takes) in
+    let later = fits_back cs (drop n code) (rw back more) in
+    (take n code, (drop n code, (sym (take-append-drop n code), first, later)))
 
 location_printed : (field code : List ℕ) → list_all is_character field ≡ true → FitsLocation field code
     → FitsLocation field (map printed code)
@@ -140,7 +114,3 @@ pattern_back pattern key m =
           (rw location at m.fits_location);
       fits_channel = fits_back m.channel (channel_of key) (rw channel at m.fits_channel);
     }
-
--- a name is its codes with `_` between them
-pub name_is : (key : List ℕ) → name_text key ≡ join_with_byte 95 (printed_codes key)
-name_is key = simp append_assoc

@@ -1,6 +1,6 @@
 -- A further record, added to what is kept of the channels.
 use Rattle.std.proofs.Common.{◌≡◌, ◌∙◌, ◌<◌, ◌+◌, ◌∷◌, ◌++◌, [], ℕ, List, Option, Some, None, false, cond, Bool, refl}
-use Rattle.std.proofs.Common.{sym, ap, arith, inl, inr}
+use Rattle.std.proofs.Common.{◌≤◌, sym, ap, arith, inl, inr}
 use Rattle.std.proofs.lemmas.Bool.{cases_Bool}
 use Rattle.std.proofs.lemmas.List.{map-append}
 use Rattle.std.proofs.lemmas.List.Elements.{All-push}
@@ -19,12 +19,15 @@ use Rattle.mseed_audit.specs.Judging.{IsFound}
 use Rattle.mseed_audit.specs.Places.{place_of, with_channel}
 use Rattle.mseed_audit.specs.Reported.{last_of}
 use Rattle.mseed_audit.specs.private.ChannelState.{AddsTo, AreBounded, IsBounded, TakesIn}
-use Rattle.mseed_audit.proofs.Counts.{all_within_more, within_more}
 use Rattle.mseed_audit.proofs.Maps.{keys_alike, of_some, same_back, same_is}
-use Rattle.mseed_audit.proofs.Rosters.{found_at, kept_more, with_is}
+use Rattle.mseed_audit.proofs.Rosters.{Entries, found_at, kept_more, with_is}
 
-abbrev Entries : Type 0
-Entries = List (List ℕ × Channel)
+-- how high the counts of channels are
+pub within_more : (m n : ℕ) (c : Channel) → m ≤ n → IsBounded m c → IsBounded n c
+within_more m n c le h = record { records = omega (arith, h.records, le); samples = h.samples; found = h.found }
+
+pub all_within_more : (m n : ℕ) (es : List (List ℕ × Channel)) → m ≤ n → AreBounded m es → AreBounded n es
+all_within_more m n es le all = λ k d lt. within_more m n _ le (all k d lt)
 
 -- a silent one
 pub adds_silent : (es : Entries) (p : Placed) → count_of p.view ≡ 0 → AddsTo es es p None
@@ -67,26 +70,27 @@ pub is_there : (code : List ℕ) (es now old : Entries) (i : ℕ) (c : Channel) 
 is_there code es now old i c stays are place at =
     record { same = stays ∙ are; place = rw stays (sym place); at = at }
 
-pub there_bounded : (code : List ℕ) (es old : Entries) (i : ℕ) (c : Channel) → IsThere code es old i c → (n : ℕ)
-    → AreBounded n old → IsBounded n c
-there_bounded code es old i c there n all =
-    rw (found_at (same_key code) es i c there.place there.at) at
-    (IfSome-lookup_from_All (λ (d : Channel). IsBounded n d) (same_key code) es (rw there.same all))
+module _ {code : List ℕ} {es old : Entries} {i : ℕ} {c : Channel} (there : IsThere code es old i c) where
+  -- the channel is kept at its key
+  kept : lookup (same_key code) es ≡ Some c
+  kept = found_at (same_key code) es i c there.place there.at
 
--- it takes the record in
-pub there_adds : (code : List ℕ) (es old : Entries) (i : ℕ) (c next : Channel) (p : Placed) (why : Option Why)
-    → IsThere code es old i c → code ≡ key_at p.view.bytes → 0 < count_of p.view → TakesIn c next p why
-    → ((n : ℕ) → IsBounded n c → IsBounded (n + 1) next) → AddsTo old (with_channel es i next) p why
-there_adds code es old i c next p why there at some takes counted =
-    let found : lookup (same_key code) es ≡ Some c = found_at (same_key code) es i c there.place there.at in
-    rw (← there.same, with_is (same_key code) es i next there.place)
-    (adds_at es (set_value (same_key code) es next) code p why next at some
-    (λ key. lookup-set_value keys_alike (same_key code)
-    (λ x y e. ap (λ (k : List ℕ). same_key k y) (same_is code x e)) key next es (rw found refl))
-    (λ ps s. let stands = rw found at s in (takes.stands ps stands, takes.found ps stands))
-    (λ n all. All-values-set_value (same_key code) (λ (d : Channel). IsBounded (n + 1) d) es next
-    (all_within_more n (n + 1) es (omega arith) all)
-    (counted n (there_bounded code es old i c there n (rw there.same at all)))))
+  pub there_bounded : (n : ℕ) → AreBounded n old → IsBounded n c
+  there_bounded n all = rw kept at
+      (IfSome-lookup_from_All (λ (d : Channel). IsBounded n d) (same_key code) es (rw there.same all))
+
+  -- it takes the record in
+  pub there_adds : (next : Channel) (p : Placed) (why : Option Why) → code ≡ key_at p.view.bytes → 0 < count_of p.view
+      → TakesIn c next p why → ((n : ℕ) → IsBounded n c → IsBounded (n + 1) next)
+      → AddsTo old (with_channel es i next) p why
+  there_adds next p why at some takes counted =
+      rw (← there.same, with_is (same_key code) es i next there.place)
+      (adds_at es (set_value (same_key code) es next) code p why next at some
+      (λ key. lookup-set_value keys_alike (same_key code)
+      (λ x y e. ap (λ (k : List ℕ). same_key k y) (same_is code x e)) key next es (rw kept refl))
+      (λ ps s. let stands = rw kept at s in (takes.stands ps stands, takes.found ps stands))
+      (λ n all. All-values-set_value (same_key code) (λ (d : Channel). IsBounded (n + 1) d) es next
+      (all_within_more n (n + 1) es (omega arith) all) (counted n (there_bounded n (rw there.same at all)))))
 
 -- a new channel begins with it
 pub new_adds : (old new : Entries) (code : List ℕ) (c : Channel) (p : Placed) (why : Option Why)

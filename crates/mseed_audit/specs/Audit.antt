@@ -19,7 +19,7 @@ use Rattle.mseed_audit.specs.declared.finding.Why.TheVariants.{RateChange}
 use Rattle.mseed_audit.specs.declared.tail.Tail.{Tail}
 use Rattle.mseed_audit.specs.declared.verdict.Verdict.{Verdict}
 use Rattle.mseed_audit.specs.declared.verdict.Verdict.TheVariants.{Continuous, Broken}
-use Rattle.mseed_audit.specs.Channels.{Added, Placed, channel_in, numbered, same_key, records_of, sample_count}
+use Rattle.mseed_audit.specs.Channels.{Added, Placed, channel_in, numbered, same_key, sample_count}
 use Rattle.mseed_audit.specs.Judging.{known_rate, IsFound, step_in, why_by}
 use Rattle.mseed_audit.specs.Verdict.{AreFindings}
 
@@ -87,10 +87,14 @@ abbrev pub StandsAt : Option Channel → List Placed → Type 0
 StandsAt None ps = ps ≡ []
 StandsAt (Some c) ps = Stands c ps
 
--- what is kept of all channels with samples, in the ascending order of their keys
-pub record AreChannels (added : List Added) (channels : List (List ℕ × Channel)) : Type 0 where
+-- what is kept of all channels that have samples among these records, in the ascending order of their keys
+pub record AreChannelsAmong (ps : List Placed) (channels : List (List ℕ × Channel)) : Type 0 where
   pub ascending : IsStrictlySortedBy (slice_cmp nat_cmp) (keys_of channels)
-  pub each : (key : List ℕ) → StandsAt (lookup (same_key key) channels) (records_of key added)
+  pub each : (key : List ℕ) → StandsAt (lookup (same_key key) channels) (channel_in key ps)
+
+-- what is kept of all channels of an archive
+abbrev pub AreChannels : List Added → List (List ℕ × Channel) → Type 0
+AreChannels added channels = AreChannelsAmong (numbered 1 added) channels
 
 -- why a record of this start and rate doesn't follow one that ends so: another rate comes first, then a leap second
 -- that nobody can say, then the join
@@ -113,7 +117,7 @@ pub record Held : Type 0 where
   pub channels : List (List ℕ × Channel)
   pub added : ℕ
 
--- The audit holds what these records say, of so many that came: each has its number and offset among all that came,
+-- The audit holds what these records say, of `count` that came: each has its number and offset among all that came,
 -- those that the audit passed too.
 pub record IsAuditAmong (h : Held) (ps : List Placed) (count : ℕ) : Type 0 where
   pub number : h.added ≡ count

@@ -5,6 +5,7 @@ use Rattle.mseed_stream.specs.Device.{BytesRead, BytesWritten}
 use Rattle.mseed_stream.specs.Walk.{AreViews}
 use Rattle.mseed_stream.specs.declared.fault.StreamFault.{StreamFault}
 use Rattle.mseed_stream.specs.Gathered.{AreGathered, EmittedFirst, EmittedPart}
+use Rattle.mseed_audit.specs.declared.summary.Gathered.{Gathered}
 use Rattle.mseed_audit.specs.declared.summary.Summary.{Summary}
 use Rattle.mseed_audit.specs.declared.each.EachFault.{EachFault}
 use Rattle.mseed_audit.specs.declared.each.EachFault.TheVariants.{Write, Memory}
@@ -74,8 +75,8 @@ IsLinesFaultIn scope Write h old new =
 IsLinesFaultIn scope Memory h old new =
     (new.failures ≡ old.failures) × EndsInLinesIn scope (EmittedFirst old new) h
 
--- by the outcome: the audit, how the input ends, and how many bytes the records have; the last lines are left in a text
-abbrev pub IsReporting : Result (Held × Option StreamFault × ℕ) EachFault → BytesRead → BytesWritten → BytesWritten
+-- by the outcome: what the records come to; the last lines are left in a text
+abbrev pub IsReporting : {A : Type 0} → Result (Gathered A) EachFault → BytesRead → BytesWritten → BytesWritten
     → List ℕ → Type 0
-IsReporting (Ok found) h old new text = HasLinesIn whole found.0 found.1 found.2 h old new text
+IsReporting (Ok found) h old new text = HasLinesIn whole found.audit found.end found.bytes h old new text
 IsReporting (Err fault) h old new text = IsLinesFaultIn whole fault h old new

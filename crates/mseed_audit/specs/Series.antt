@@ -23,12 +23,12 @@ pub record Trace : Type 0 where
   pub samples : List ℤ
   pub steps : List (ℕ × LeapStep)
 
--- each leap second stands after another, and at most so many samples are before it
+-- each leap second stands after another, and at most `size` samples are before it
 abbrev pub AreStepsFrom : ℕ → ℕ → List (ℕ × LeapStep) → Type 0
 AreStepsFrom place size [] = ⊤
 AreStepsFrom place size (s ∷ ss) = (place < s.0) × (s.0 ≤ size) × AreStepsFrom s.0 size ss
 
--- the leap seconds of so many samples: their places are in 1..=size, and rise strictly
+-- the leap seconds of `size` samples: their places are in 1..=size, and rise strictly
 abbrev pub AreSteps : ℕ → List (ℕ × LeapStep) → Type 0
 AreSteps size steps = AreStepsFrom 0 size steps
 
@@ -52,7 +52,7 @@ abbrev pub step_at : ℕ → Option LeapStep → List (ℕ × LeapStep)
 step_at place None = []
 step_at place (Some step) = (place, step) ∷ []
 
--- the leap seconds of records that begin with so many samples before them: each stands just past the last sample of
+-- the leap seconds of records that begin with `place` samples before them: each stands just past the last sample of
 -- the record that carries it
 abbrev pub steps_from : ℕ → List View → List (ℕ × LeapStep)
 steps_from place [] = []

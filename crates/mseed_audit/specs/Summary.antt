@@ -57,7 +57,7 @@ pub record IsWritten (text : List ℕ) (old new : BytesWritten) : Type 0 where
   pub bytes : new.bytes ≡ old.bytes ++ text
   pub fine : new.failures ≡ old.failures
 
--- By the outcome: where the output failed, so many bytes of the text were written before.
+-- By the outcome: where the output failed, as many bytes of the text as it tells were written before.
 abbrev pub IsOutcomeIn : Scope → Result Summary AuditFault → BytesRead → BytesWritten → BytesWritten → Type 0
 IsOutcomeIn scope (Ok summary) h old new =
     (a : AuditedIn scope h) × (IsSummaryIn scope summary a × IsWritten (text_in scope a) old new)
@@ -67,13 +67,13 @@ IsOutcomeIn scope (Err Memory) h old new = new ≡ old
 abbrev pub IsOutcome : Result Summary AuditFault → BytesRead → BytesWritten → BytesWritten → Type 0
 IsOutcome result h old new = IsOutcomeIn whole result h old new
 
--- the audit holds what the judged records say of all up to the end, which have so many bytes
+-- the audit holds what the judged records say of all up to the end, which have `bytes` bytes
 pub record IsGatheredIn (scope : Scope) (held : Held) (end : Option StreamFault) (bytes : ℕ) (h : BytesRead)
     (views : List View) : Type 0 where
   pub all : AreAllViews h views end
   pub audit : IsAuditAmong held (scope.judged views) (length (added_from 0 views))
   pub size : length (concat (bytes_in views)) ≡ bytes
 
--- all records up to the end were added, and they have so many bytes
+-- all records up to the end were added, and they have `bytes` bytes
 abbrev pub IsGathered : Held → Option StreamFault → ℕ → BytesRead → List View → Type 0
 IsGathered held end bytes h views = IsGatheredIn whole held end bytes h views

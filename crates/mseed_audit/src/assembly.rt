@@ -61,7 +61,8 @@ pub fn series<A: Allocator + Copy>(
     }
 }
 
-/// The sample rate of a channel's first record as its header has it; none where there is none.
+/// Returns the sample rate of a channel's first record as its header has it; `None` where the channel has no record, or
+/// the first one's factor and multiplier give no rate.
 fn first_rate(views: &[RecordView], codes: &Codes) -> Option<Rate>
     ensures { IsFirstRate (filter (is_of_channel codes.now) (map view_of views.now)) result }
 {
@@ -76,7 +77,7 @@ fn first_rate(views: &[RecordView], codes: &Codes) -> Option<Rate>
     None
 }
 
-/// Returns what an audit of the records holds of a channel; nothing where none of them has samples of it.
+/// Returns what an audit of the records holds of a channel; `None` where none of them has samples of it.
 fn channel_of(views: &[RecordView], codes: &Codes) -> Option<Channel>
     requires { length views.now < 2 ^ 40 }
     ensures { StandsAt result (records_of codes.now (added_from 0 (map view_of views.now))) }
@@ -90,7 +91,8 @@ fn channel_of(views: &[RecordView], codes: &Codes) -> Option<Channel>
     channel
 }
 
-/// Returns what an audit holds of a channel after a further record, which may be of another channel.
+/// Returns what an audit holds of a channel after a further record, which may be of another channel; `None` where no
+/// record had samples of it so far.
 fn channel_with(
     channel: Option<Channel>,
     view: &RecordView,
@@ -124,7 +126,7 @@ pub fn is_of_channel(codes: &Codes, view: &RecordView) -> bool
     view.samples() > 0 && *codes == view.codes()
 }
 
-/// The series of a channel that is continuous, of so many samples.
+/// The series of a channel that is continuous and has `count` samples.
 fn assemble<A: Allocator + Copy>(
     alloc: A,
     views: &[RecordView],

@@ -4,7 +4,7 @@ ghost use Rattle.std.specs.Prelude.{ℕ, IfErr, IsTrue, None, Ok};
 ghost use Rattle.mseed_record.specs.Header.{key_at};
 ghost use Rattle.mseed_record.specs.Viewing.{view_of};
 ghost use Rattle.mseed_steim.specs.Reading.{count_of};
-ghost use Rattle.mseed_audit.specs.Audit.{AreChannels, HoldsKey, IsAuditAmong, IsAuditOf};
+ghost use Rattle.mseed_audit.specs.Audit.{AreChannels, AreChannelsAmong, HoldsKey, IsAuditAmong, IsAuditOf};
 ghost use Rattle.mseed_audit.specs.Channels.{Added, Placed, numbered, records_of};
 ghost use Rattle.mseed_audit.specs.private.ChannelState.{AreBounded, IsLearnt};
 ghost use Rattle.mseed_audit.specs.private.Gathered.{IsAdded};
@@ -124,7 +124,7 @@ impl<A: Allocator + Copy> Audit<A> {
         }
     }
 
-    /// Adds a record as `add` does, if nothing is found of it and its channel isn't new.
+    /// Adds a record as `add` does, if nothing is found of it and its channel isn't new, or if it is silent.
     ///
     /// # Errors
     ///
@@ -142,7 +142,7 @@ impl<A: Allocator + Copy> Audit<A> {
         Ok(())
     }
 
-    /// Adds a record as `add` does, and returns what is found of it: of a silent one, nothing.
+    /// Adds a record as `add` does, and returns what is found of it; `None` where nothing is, as of a silent one.
     ///
     /// # Errors
     ///
@@ -174,7 +174,7 @@ impl<A: Allocator + Copy> Audit<A> {
         }
     }
 
-    /// [`Audit::add_judged`] of a record of which this was learnt. Nothing is passed on where nothing was.
+    /// [`Audit::add_judged`] of a record of which this was learnt; `None` where nothing was.
     #[inline(always)]
     pub(crate) fn add_learnt(
         &mut self,
@@ -251,7 +251,10 @@ impl<A: Allocator + Copy> Audit<A> {
     ///
     /// `Memory` where an allocation was refused.
     pub fn into_channels(self, alloc: A) -> Result<Channels<A>, Memory>
-        ensures { (added : List Added) → IsAuditOf self added → IfOk result (λ channels. AreChannels added channels) }
+        ensures channels { (added : List Added) → IsAuditOf self added
+            → IfOk result (λ channels. AreChannels added channels) }
+        ensures among { (ps : List Placed) (count : ℕ) → IsAuditAmong self ps count
+            → IfOk result (λ channels. AreChannelsAmong ps channels) }
     {
         Ok(ByChannel {
             entries: self.roster.into_channels(alloc)?,

@@ -46,9 +46,9 @@ pub enum Findings {
         count: u64,
         /// The first finding.
         first: Finding,
-        /// How the first record begins; none where it has a finding of its own, which asks for no record before.
+        /// How the first record begins; `None` where it has a finding of its own, which asks for no record before.
         head: Option<Head>,
-        /// How the last ends; none where its time or rate isn't known.
+        /// How the last ends; `None` where its time or rate isn't known.
         tail: Option<Tail>,
     },
 }
@@ -195,7 +195,7 @@ impl Channel {
 }
 
 impl Findings {
-    /// Returns how the channel's first record begins, where it has no finding of its own.
+    /// Returns how the channel's first record begins; `None` where it has a finding of its own.
     pub fn head(&self) -> Option<Head>
         ensures { result ≡ head_in self.now }
     {
@@ -205,13 +205,23 @@ impl Findings {
         }
     }
 
-    /// Returns how the channel's last record ends, where its time and rate are known.
+    /// Returns how the channel's last record ends; `None` where its time or rate isn't known.
     pub fn tail(&self) -> Option<Tail>
         ensures { result ≡ tail_in self.now }
     {
         match self {
             Findings::Nothing { tail, .. } => Some(*tail),
             Findings::Counted { tail, .. } => *tail,
+        }
+    }
+
+    /// Returns how many of the channel's records have a finding.
+    pub fn count(&self) -> u64
+        ensures { result ≡ count_in self.now }
+    {
+        match self {
+            Findings::Nothing { .. } => 0,
+            Findings::Counted { count, .. } => *count,
         }
     }
 

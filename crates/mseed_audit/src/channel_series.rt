@@ -159,7 +159,7 @@ fn append_samples<A: Allocator>(
     }
 }
 
-/// Returns the index of the first leap second that a series of so many samples can't have.
+/// Returns the index of the first leap second that a series of `size` samples can't have.
 fn first_bad(steps: &[(u64, LeapStep)], size: usize) -> Option<usize>
     ensures none { (result ≡ None) ↔ AreSteps size steps.now }
     ensures some { IfSome result (λ index. IsBadStep size steps.now index) }
@@ -174,7 +174,7 @@ fn first_bad(steps: &[(u64, LeapStep)], size: usize) -> Option<usize>
     None
 }
 
-/// Returns whether a leap second comes after a place, with at most so many samples before it.
+/// Returns whether a leap second at `place` comes after `before`, with at most `size` samples before it.
 fn is_after(before: u64, place: u64, size: u64) -> bool
     ensures { IsTrue result ↔ ((before < place) × (place ≤ size)) }
 {

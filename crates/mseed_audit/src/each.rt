@@ -5,10 +5,10 @@ ghost use Rattle.mseed_stream.specs.Device.{nothing_read};
 ghost use Rattle.mseed_audit.specs.Each.{IsEachOutcome, IsReporting};
 ghost use Rattle.mseed_audit.specs.Selected.{IsEachSelectedOutcome};
 
-use crate::audits::{Audit, Memory};
-use crate::summary::{SelectedSummary, Summary, gather_with, push_finished};
+use crate::audits::Memory;
+use crate::summary::{Gathered, SelectedSummary, Summary, gather_with, push_finished};
 use mseed_record::{All, Choice};
-use mseed_stream::{Sink, Source, StreamFault, write_all_of};
+use mseed_stream::{Sink, Source, write_all_of};
 use std::alloc::Allocator;
 use thiserror::Error;
 
@@ -76,11 +76,11 @@ pub fn audit_each_selected<A: Allocator + Copy, C: Choice, R: Source, W: Sink>(
         (W.beside sink.old) (W.beside sink.new) }
 {
     let mut text = Vec::new(alloc);
-    let gathered = match gather_with(alloc, choice, source, &mut text, sink) {
-        Ok(gathered) => gathered,
+    let selected = match gather_with(alloc, choice, source, &mut text, sink) {
+        Ok(selected) => selected,
         Err(fault) => return Err(fault),
     };
-    let found = match push_finished(&mut text, gathered) {
+    let found = match push_finished(&mut text, selected) {
         Ok(found) => found,
         Err(Memory) => return Err(EachFault::Memory),
     };
@@ -102,7 +102,7 @@ pub fn gather_each<A: Allocator + Copy, R: Source, W: Sink>(
     source: &mut R,
     sink: &mut W,
     text: &mut Vec<u8, A>,
-) -> Result<(Audit<A>, Option<StreamFault>, u64), EachFault>
+) -> Result<Gathered<A>, EachFault>
     requires read { R.read source.old ≡ nothing_read }
     requires text { text.old.items ≡ [] }
     ensures reported { IsReporting result (R.read source.new) (W.written sink.old) (W.written sink.new) text.new.items }
@@ -116,7 +116,7 @@ pub fn gather_each<A: Allocator + Copy, R: Source, W: Sink>(
         (W.beside sink.old) (W.beside sink.new) }
 {
     match gather_with(alloc, &All, source, text, sink) {
-        Ok(found) => Ok((found.audit, found.end, found.bytes)),
+        Ok(found) => Ok(found.gathered),
         Err(fault) => Err(fault),
     }
 }

@@ -15,9 +15,9 @@ pub enum Why {
     RateChange,
     /// The record before carries both leap flags, so that nobody can say where it ends.
     Leap,
-    /// It begins so many microseconds after that record's end.
+    /// It begins after that record's end, by this number of microseconds.
     Gap(u128),
-    /// It begins so many microseconds before that record's end.
+    /// It begins before that record's end, by this number of microseconds.
     Overlap(u128),
 }
 

@@ -29,7 +29,7 @@ pub use law::{
     matches_as_printed, one_audit, one_bad_step, one_finding, one_list_of_verdicts, one_report,
     one_selected_audit, one_series, one_verdict, selected_channels,
 };
-pub use summary::{AuditFault, SelectedSummary, Summary, audit, audit_selected, gather};
+pub use summary::{AuditFault, Gathered, SelectedSummary, Summary, audit, audit_selected, gather};
 pub use tail::Tail;
 pub use text::{push_total_line, push_verdict_line, put_why};
 pub use verdict::Verdict;

@@ -21,7 +21,7 @@ pub(crate) trait Report<O> {
     // So the output stands where it failed as these were reported: by the output at first, and the output.
     ghost fails: { O → O → List Reported → Type 0 };
 
-    // So many bytes of lines wait to be written.
+    // How many bytes of lines wait to be written.
     ghost waiting: { Self → ℕ };
 
     /// Adds a record with its finding.

@@ -83,8 +83,8 @@ impl<A: Allocator + Copy> Roster<A> {
         Ok(())
     }
 
-    /// Adds a record, of which this was learnt, to its channel, which may be new, and returns what is found of it.
-    /// Of a silent one nothing is held, and nothing is found.
+    /// Adds a record, of which this was learnt, to its channel, which may be new, and returns what is found of it;
+    /// `None` where nothing is. A silent one isn't held, and nothing is found of it.
     ///
     /// # Errors
     ///

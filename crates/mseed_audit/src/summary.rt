@@ -16,7 +16,7 @@ use crate::text::push_audit;
 use crate::verdict::Verdict;
 use mseed_record::{All, Answer, Choice, Codes, RecordView};
 use mseed_stream::{Cutter, Failed, Sink, Source, StreamFault, write_all_of};
-use std::alloc::Allocator;
+use std::alloc::{Allocator, Global};
 use thiserror::Error;
 
 /// What an audit's text says in numbers.
@@ -47,7 +47,7 @@ pub struct SelectedSummary {
 /// Why an audit's text wasn't written whole.
 #[derive(Clone, Copy, Debug, PartialEq, Eq, Error)]
 pub enum AuditFault {
-    /// The output failed, once it had taken so many bytes of the text.
+    /// The output failed, once it had taken this number of bytes of the text.
     #[error("the output failed after {0} bytes")]
     Write(usize),
     /// An allocation was refused. Nothing was written.
@@ -66,20 +66,28 @@ pub(crate) enum Step {
 
 /// What the records of an input come to, up to its end.
 #[derive(Drop)]
-pub(crate) struct Gathered<A: Allocator> {
-    /// The audit of those that are asked for.
-    pub(crate) audit: Audit<A>,
-    /// The others.
-    pub(crate) passed: Passed,
+pub struct Gathered<A: Allocator = Global> {
+    /// The audit of the records.
+    pub audit: Audit<A>,
     /// The fault with which the input ends, if with one.
-    pub(crate) end: Option<StreamFault>,
+    pub end: Option<StreamFault>,
     /// How many bytes all the records have.
-    pub(crate) bytes: u64,
+    pub bytes: u64,
 }
 
-ghost use Rattle.mseed_audit.specs.private.Gathered.{HasEnded, HasReport, IsFinished, IsGathering, IsJudged, IsNext};
+/// What the records of an input come to, of which those that are asked for are judged.
+#[derive(Drop)]
+pub(crate) struct GatheredSelected<A: Allocator> {
+    /// What all come to: the audit passed those that aren't asked for.
+    pub(crate) gathered: Gathered<A>,
+    /// How many those are.
+    pub(crate) passed: Passed,
+}
+
+ghost use Rattle.mseed_audit.specs.private.Gathered.{HasEnded, HasJudged, HasReport, IsFinished, IsGathering};
+ghost use Rattle.mseed_audit.specs.private.Gathered.{IsJudged, IsNext};
 ghost use Rattle.mseed_audit.specs.Scope.{asked_of};
-ghost use Rattle.mseed_stream.specs.Walk.{AreViews, HasHandedOut};
+ghost use Rattle.mseed_stream.specs.Walk.{AreViews};
 ghost use Rattle.mseed_audit.specs.Selected.{IsSelectedOutcome};
 ghost use Rattle.mseed_audit.specs.Summary.{IsOutcome, IsGathered, broken_count};
 
@@ -136,12 +144,12 @@ pub fn audit_selected<A: Allocator + Copy, C: Choice, R: Source, W: Sink>(
     ensures writes { WritesOn (W.written sink.old) (W.written sink.new) (W.contents sink.old) (W.contents sink.new)
         (W.beside sink.old) (W.beside sink.new) }
 {
-    let gathered = match gather_with(alloc, choice, source, &mut Unreported, &mut ()) {
-        Ok(gathered) => gathered,
+    let selected = match gather_with(alloc, choice, source, &mut Unreported, &mut ()) {
+        Ok(selected) => selected,
         Err(_) => return Err(AuditFault::Memory),
     };
     let mut text = Vec::new(alloc);
-    let found = match push_finished(&mut text, gathered) {
+    let found = match push_finished(&mut text, selected) {
         Ok(found) => found,
         Err(Memory) => return Err(AuditFault::Memory),
     };
@@ -154,19 +162,15 @@ pub fn audit_selected<A: Allocator + Copy, C: Choice, R: Source, W: Sink>(
 /// Adds the audit's text, and returns what it says in numbers.
 pub(crate) fn push_finished<A: Allocator + Copy>(
     text: &mut Vec<u8, A>,
-    gathered: Gathered<A>,
+    selected: GatheredSelected<A>,
 ) -> Result<SelectedSummary, Memory>
-    requires { gathered.passed.left + gathered.passed.without_time ≤ gathered.audit.added }
+    requires { selected.passed.left + selected.passed.without_time ≤ selected.gathered.audit.added }
     ensures { (s : Selection) (h : BytesRead) (views : List View)
-        → HasEnded s gathered.audit gathered.passed gathered.end gathered.bytes h views
+        → HasEnded s selected.gathered.audit selected.passed selected.gathered.end selected.gathered.bytes h views
         → IfOk result (λ found. IsFinished s found h views text.old.items text.new.items) }
 {
-    let Gathered {
-        audit,
-        passed,
-        end,
-        ..
-    } = gathered;
+    let GatheredSelected { gathered, passed } = selected;
+    let Gathered { audit, end, .. } = gathered;
     let records = audit.added() - passed.left - passed.without_time;
     let verdicts = audit.finish();
     match push_audit(text, verdicts.as_slice(), records, &end) {
@@ -184,8 +188,8 @@ pub(crate) fn push_finished<A: Allocator + Copy>(
     }
 }
 
-/// Audits the records that a source gives, and returns the audit, the fault with which the input ends, if with one, and
-/// how many bytes the records have. The source is one of which nothing was read yet.
+/// Audits the records that a source gives up to its end, and returns what they come to. The source is one of which
+/// nothing was read yet.
 ///
 /// # Errors
 ///
@@ -193,17 +197,17 @@ pub(crate) fn push_finished<A: Allocator + Copy>(
 pub fn gather<A: Allocator + Copy, R: Source>(
     alloc: A,
     source: &mut R,
-) -> Result<(Audit<A>, Option<StreamFault>, u64), Memory>
+) -> Result<Gathered<A>, Memory>
     requires { R.read source.old ≡ nothing_read }
     ensures gathered { IfOk result (λ found. (views : List View)
-        × IsGathered found.0 found.1 found.2 (R.read source.new) views) }
+        × IsGathered found.audit found.end found.bytes (R.read source.new) views) }
 
     // What the source is known to have left is what was read of it, up to its end where the input is at its end.
     ensures reads { ReadsOn (R.read source.old) (R.read source.new) (R.remaining source.old) (R.remaining source.new)
         (R.beside source.old) (R.beside source.new) }
 {
     match gather_with(alloc, &All, source, &mut Unreported, &mut ()) {
-        Ok(found) => Ok((found.audit, found.end, found.bytes)),
+        Ok(found) => Ok(found.gathered),
         Err(_) => Err(Memory),
     }
 }
@@ -219,7 +223,7 @@ pub(crate) fn gather_with<A: Allocator + Copy, C: Choice, R: Source, O, P: Repor
     source: &mut R,
     report: &mut P,
     output: &mut O,
-) -> Result<Gathered<A>, EachFault>
+) -> Result<GatheredSelected<A>, EachFault>
     requires read { R.read source.old ≡ nothing_read }
     requires report { P.stands output.old report.old output.old [] }
     ensures gathered { IsGathering (C.selection choice.now) result (R.read source.new)
@@ -235,11 +239,9 @@ pub(crate) fn gather_with<A: Allocator + Copy, C: Choice, R: Source, O, P: Repor
         match take_next(&mut audit, &mut passed, choice, &mut cutter, source, report) {
             Ok(Step::Taken) => {}
             Ok(Step::Ended(end)) => {
-                return Ok(Gathered {
-                    audit,
+                return Ok(GatheredSelected {
+                    gathered: Gathered { audit, end, bytes },
                     passed,
-                    end,
-                    bytes,
                 });
             }
             Err(Memory) => return Err(EachFault::Memory),
@@ -265,10 +267,10 @@ fn take_next<A: Allocator + Copy, C: Choice, R: Source, O, P: Report<O>>(
     requires along { IsAlong (R.read source.old) cutter.old }
     requires few { audit.old.added ≤ (R.read source.old).calls }
     requires passed { passed.old.left + passed.old.without_time ≤ audit.old.added }
-    ensures next { (first now : O) (views : List View) → HasHandedOut (R.read source.old) cutter.old views
-        → IsJudged (C.selection choice.now) audit.old passed.old (P.stands first report.old now) views
-        → IsNext (C.selection choice.now) result views cutter.old.offset (R.read source.old) (R.read source.new)
-        cutter.new audit.new passed.new (P.stands first report.new now) }
+    ensures next { (first now : O) (before : HasJudged (C.selection choice.now) (R.read source.old) cutter.old
+        audit.old passed.old (P.stands first report.old now))
+        → IsNext (C.selection choice.now) result before.views cutter.old.offset (R.read source.old)
+        (R.read source.new) cutter.new audit.new passed.new (P.stands first report.new now) }
     ensures reads { cutter.old.answer ≡ None → ReadsOn (R.read source.old) (R.read source.new) (R.remaining source.old)
         (R.remaining source.new) (R.beside source.old) (R.beside source.new) }
 {

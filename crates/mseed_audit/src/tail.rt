@@ -8,7 +8,7 @@ ghost use Rattle.mseed_audit.specs.private.ChannelState.{break_after};
 
 use crate::finding::Why;
 use mseed_record::{Leap, RecordView};
-use mseed_time::{Join, LeapStep, Micros, Ratio, join};
+use mseed_time::{Join, Micros, Ratio, join};
 
 /// The end of a record whose time and rate are known: where it began, how many samples follow at which
 /// rate, and the leap seconds that it carries.
@@ -63,20 +63,23 @@ impl Tail {
         }
     }
 
-    /// Why a record of this start and rate doesn't follow one that ends so, if it doesn't.
+    /// Returns why a record of this start and rate doesn't follow one that ends so; `None` where it does.
     pub fn break_to(&self, start: Micros, rate: Ratio) -> Option<Why>
         ensures { result ≡ break_by self.now start rate }
     {
         if !self.rate.same_as(rate) {
             return Some(Why::RateChange);
         }
-        let step = match self.leap {
-            Leap::None => None,
-            Leap::Positive => Some(LeapStep::Plus),
-            Leap::Negative => Some(LeapStep::Minus),
-            Leap::Both => return Some(Why::Leap),
-        };
-        match join(self.start, u32::from(self.samples), self.rate, step, start) {
+        if matches!(self.leap, Leap::Both) {
+            return Some(Why::Leap);
+        }
+        match join(
+            self.start,
+            u32::from(self.samples),
+            self.rate,
+            self.leap.step(),
+            start,
+        ) {
             Join::Meets => None,
             Join::Late(micros) => Some(Why::Gap(micros)),
             Join::Early(micros) => Some(Why::Overlap(micros)),

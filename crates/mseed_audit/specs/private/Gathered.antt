@@ -17,7 +17,7 @@ use Rattle.mseed_audit.specs.declared.each.EachFault.{EachFault}
 use Rattle.mseed_audit.specs.declared.each.EachFault.TheVariants.{Write, Memory}
 use Rattle.mseed_audit.specs.declared.finding.Why.{Why}
 use Rattle.mseed_audit.specs.declared.passed.Passed.{Passed}
-use Rattle.mseed_audit.specs.declared.summary.Gathered.{Gathered}
+use Rattle.mseed_audit.specs.declared.summary.GatheredSelected.{GatheredSelected}
 use Rattle.mseed_audit.specs.declared.summary.SelectedSummary.{SelectedSummary}
 use Rattle.mseed_audit.specs.declared.summary.Step.{Step}
 use Rattle.mseed_audit.specs.declared.summary.Step.TheVariants.{Taken as OneMore, Ended}
@@ -55,12 +55,19 @@ pub record IsJudged (s : Selection) (held : Held) (p : Passed) (Stands : List Re
   pub passed : IsPassed s p views
   pub report : HasReport (asked_of s views) Stands
 
+-- these records were handed out, and each was judged or passed
+pub record HasJudged (s : Selection) (h : BytesRead) (c : CutterState) (held : Held) (p : Passed)
+    (Stands : List Reported → Type 0) : Type 0 where
+  pub views : List View
+  pub handed : HasHandedOut h c views
+  pub judged : IsJudged s held p Stands views
+
 -- a record more was handed out than these, and it was judged or passed
 pub record IsOneMore (s : Selection) (views : List View) (old new : BytesRead) (c : CutterState) (held : Held)
     (p : Passed) (Stands : List Reported → Type 0) : Type 0 where
+  pub all : HasJudged s new c held p Stands
   pub view : View
-  pub handed : HasHandedOut new c (views ++ view ∷ [])
-  pub judged : IsJudged s held p Stands (views ++ view ∷ [])
+  pub more : all.views ≡ views ++ view ∷ []
   pub called : old.calls < new.calls
 
 -- the end of an input, and what was passed up to it
@@ -68,6 +75,17 @@ pub record HasEnded (s : Selection) (held : Held) (p : Passed) (end : Option Str
     (views : List View) : Type 0 where
   pub all : IsGatheredIn (asked s) held end bytes h views
   pub passed : IsPassed s p views
+
+-- an input has ended, and its records have such a report
+abbrev pub HasEndedWith : Selection → Held → Passed → Option StreamFault → ℕ → BytesRead → (List Reported → Type 0)
+    → Type 0
+HasEndedWith s held p end bytes h Stands =
+    (views : List View) × (HasEnded s held p end bytes h views × HasReport (asked_of s views) Stands)
+
+-- the first records of an input have such a report
+abbrev pub HasReportTo : Selection → BytesRead → (List Reported → Type 0) → Type 0
+HasReportTo s h Stands =
+    (offset : ℕ) × ((views : List View) × (AreViews h.bytes offset views × HasReport (asked_of s views) Stands))
 
 -- What comes next of an input, after these records that were judged or passed: one more, its end, so that they are
 -- all, or a want of memory.
@@ -79,17 +97,11 @@ IsNext s (Ok (Ended end)) views offset old new c held p Stands =
 IsNext s (Err e) views offset old new c held p Stands =
     AreViews new.bytes offset views × HasReport (asked_of s views) Stands
 
--- the first records of an input have such a report
-abbrev pub HasReportTo : Selection → BytesRead → (List Reported → Type 0) → Type 0
-HasReportTo s h Stands =
-    (offset : ℕ) × ((views : List View) × (AreViews h.bytes offset views × HasReport (asked_of s views) Stands))
-
 -- by the outcome: the input was read to its end, or there was no memory for more, or the output failed
-abbrev pub IsGathering : {A : Type 0} → Selection → Result (Gathered A) EachFault → BytesRead
+abbrev pub IsGathering : {A : Type 0} → Selection → Result (GatheredSelected A) EachFault → BytesRead
     → (List Reported → Type 0) → (List Reported → Type 0) → Type 0
 IsGathering s (Ok found) h Stands Fails =
-    (views : List View) × (HasEnded s found.audit found.passed found.end found.bytes h views
-    × HasReport (asked_of s views) Stands)
+    HasEndedWith s found.gathered.audit found.passed found.gathered.end found.gathered.bytes h Stands
 IsGathering s (Err Memory) h Stands Fails = HasReportTo s h Stands
 IsGathering s (Err Write) h Stands Fails = HasReportTo s h Fails
 

@@ -1,12 +1,7 @@
-use Rattle.std.proofs.Common.{◌≡◌, ◌∙◌, List, map, false, true, Some, None, refl, sym, subst, arith}
-use Rattle.std.specs.List.{filter}
+use Rattle.std.proofs.Common.{◌≡◌, ◌∙◌, false, take, true, Some, None, refl, arith}
 use Rattle.std.proofs.lemmas.List.{take_all}
-use Rattle.mseed_record.specs.View.{View}
-use Rattle.mseed_record.specs.declared.view.RecordView.{RecordView}
 use Rattle.mseed_record.specs.Viewing.{view_of}
 use Rattle.mseed_audit.specs.Judging.{rate_in}
-use Rattle.mseed_audit.specs.Channels.{is_of_channel}
-use Rattle.mseed_audit.specs.private.ChannelState.{IsFirstRate}
 use Rattle.mseed_audit.proofs.Assembled.{first_there}
 use Rattle.mseed_audit.proofs.Following.{kept_next}
 use Rattle.mseed_audit.proofs.Judged.{none_unless}
@@ -32,6 +27,6 @@ loop-view-preserved c =
 
 pub returns : goal.returns
 returns c =
-    let all = take_all c.loop-view.view-index c.args.views.now (omega (arith, c.loop-view-test.false)) in
-    subst (λ (rs : List RecordView). IsFirstRate (filter (is_of_channel c.args.codes.now) (map view_of rs)) None) all
-    (subst (λ (vs : List View). IsFirstRate vs None) (sym c.loop-view.invariant) refl)
+    let all : take c.loop-view.view-index c.args.views.now ≡ c.args.views.now =
+    take_all c.loop-view.view-index c.args.views.now (omega (arith, c.loop-view-test.false)) in
+    rw (rw all at c.loop-view.invariant) refl

@@ -39,11 +39,7 @@ returns-clause-added g c =
     (omega (arith, c.len-before.ensures)) in
     let within : have ≤ length now = omega (arith, c.deref_mut.ensures.len, c.in_ok-resize.ensures.len) in
     let taken = length-take (length now - have) (drop have now) in
-    let long : length out ≡ length now - have = omega (arith, c.fill_samples.auto.out, taken, length-drop have now) in (
-      out,
-      (
-        c.in-Ok.ensures.reading,
-        filled items c.resize.new.self.items now out _ have c.resize.new.self.len c.deref_mut.ensures.value first
-            within (sym c.deref_mut.ensures.len) long,
-      ),
-    )
+    let long : length out ≡ length now - have = omega (arith, c.fill_samples.auto.out, taken, length-drop have now) in
+    let whole = filled items c.resize.new.self.items now out _ have c.resize.new.self.len c.deref_mut.ensures.value
+    first within (sym c.deref_mut.ensures.len) long in
+    (out, (c.in-Ok.ensures.reading, whole))

@@ -1,9 +1,6 @@
-use Rattle.std.proofs.Common.{arith}
-use Rattle.mseed_stream.specs.Device.{BytesRead, BytesWritten}
+use Rattle.std.proofs.Common.{arith, inl}
 use Rattle.mseed_stream.proofs.Calls.{writes_on}
-use Rattle.mseed_record.specs.Selection.{Selection}
 use Rattle.mseed_audit.specs.Scope.{asked}
-use Rattle.mseed_audit.specs.declared.each.EachFault.TheVariants.{Memory}
 use Rattle.mseed_audit.proofs.Gathers.{each_short, each_written, lined_first, lines_fault, lines_outcome, memory_short}
 use Rattle.mseed_audit.proofs.Views.{added_length}
 use Rattle.mseed_audit.proofs.each.audit_each_selected.Goals as goal
@@ -15,17 +12,15 @@ pub returns-in-Ok-write_all_of-clause-outcome : goal.returns-in-Ok-write_all_of-
 returns-in-Ok-write_all_of-clause-outcome g c =
     let found = c.in-Ok.ensures.gathered in
     let r = found.1.1 in
-    let finished = c.in-Ok-push_finished.ensures _ _ found.0 found.1.0 in
-    each_written _ _ _ _ _ _ _ _ _ finished r.are_reported r.stands.lines
-    (rw c.deref.ensures.value at c.in-Ok-write_all_of.ensures.ok) r.stands.fine c.in-Ok-write_all_of.ensures.fine
+    each_written (c.in-Ok-push_finished.ensures _ _ found.0 found.1.0) r.are_reported r.stands.lines r.stands.fine _
+    (rw c.deref.ensures.value at c.in-Ok-write_all_of.ensures.ok) c.in-Ok-write_all_of.ensures.fine
 
 pub returns-clause-outcome : goal.returns-clause-outcome
 returns-clause-outcome g c =
     let found = c.in-Ok.ensures.gathered in
     let r = found.1.1 in
-    let finished = c.in-Ok-push_finished.ensures _ _ found.0 found.1.0 in
-    each_short _ _ _ _ _ _ _ (g.W.Sink.written c.write_all_of.new.sink) _ _ finished r.are_reported r.stands.lines
-    r.stands.fine (record {
+    each_short (c.in-Ok-push_finished.ensures _ _ found.0 found.1.0) r.are_reported r.stands.lines r.stands.fine
+    (g.W.Sink.written c.write_all_of.new.sink) _ (record {
       text = rw c.deref.ensures.value at c.in-Err-write_all_of.ensures.err;
       part = rw c.deref.ensures.value at c.in-Err-write_all_of.ensures.within;
       failed = c.in-Err-write_all_of.ensures.failed;
@@ -33,22 +28,17 @@ returns-clause-outcome g c =
 
 pub returns-in-Err-push_finished-clause-outcome : goal.returns-in-Err-push_finished-clause-outcome
 returns-in-Err-push_finished-clause-outcome g c =
-    let s : Selection = g.C.Choice.selection c.args.choice.now in
-    let first : BytesWritten = g.W.Sink.written c.args.sink.now in
-    let old : BytesWritten = g.W.Sink.written c.gather_with.new.output in
     let found = c.in-Ok.ensures.gathered in
     let r = found.1.1 in
-    lines_outcome s Memory (g.R.Source.read c.gather_with.new.source) first old (memory_short (asked s) _ first old _ _
-    found.0 _ found.1.0.all.all.records r.stands.fine r.stands.lines r.are_reported)
+    let lines = memory_short (asked (g.C.Choice.selection c.args.choice.now)) _ (g.W.Sink.written c.args.sink.now)
+    (g.W.Sink.written c.gather_with.new.output) _ _ found.0 _ found.1.0.all.all.records r.stands.fine r.stands.lines
+    r.are_reported in (lines.0, inl lines.1)
 
 pub returns-in-Err-clause-outcome : goal.returns-in-Err-clause-outcome
 returns-in-Err-clause-outcome g c =
-    let s : Selection = g.C.Choice.selection c.args.choice.now in
-    let read : BytesRead = g.R.Source.read c.gather_with.new.source in
-    let first : BytesWritten = g.W.Sink.written c.args.sink.now in
-    let new : BytesWritten = g.W.Sink.written c.gather_with.new.output in
-    lines_outcome s c.in-Err.fault read first new
-    (lines_fault g.row.A.Denot s c.in-Err.fault read first new _ _ _ _ c.gather_with.new.report.items
+    lines_outcome (g.C.Choice.selection c.args.choice.now) c.in-Err.fault (g.R.Source.read c.gather_with.new.source)
+    (g.W.Sink.written c.args.sink.now) (g.W.Sink.written c.gather_with.new.output) (lines_fault g.row.A.Denot
+    (g.C.Choice.selection c.args.choice.now) c.in-Err.fault _ _ _ _ _ _ _ c.gather_with.new.report.items
     c.in-Err.ensures.gathered).0
 
 pub returns-in-Err-clause-writes : goal.returns-in-Err-clause-writes

@@ -11,7 +11,7 @@ gather_with-requires-clause-report g c = lined_first _ _ _ _ c.requires.text
 
 pub returns-in-Ok-clause-reported : goal.returns-in-Ok-clause-reported
 returns-in-Ok-clause-reported g c =
-    let found = c.in-Ok.found in
+    let found = c.in-Ok.found.gathered in
     let o = c.in-Ok.ensures.gathered in
     let r = o.1.1 in
     subst (λ (scope : Scope). HasLinesIn scope found.audit found.end found.bytes

@@ -1,4 +1,4 @@
-use Rattle.mseed_audit.proofs.Finished.{channels_finished}
+use Rattle.mseed_audit.proofs.ChannelState.{channels_finished}
 use Rattle.mseed_audit.proofs.law.channels_have_verdicts.Goals as goal
 
 pub returns : goal.returns

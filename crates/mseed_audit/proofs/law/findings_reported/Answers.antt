@@ -5,10 +5,7 @@ pub returns-clause-channel : goal.returns-clause-channel
 returns-clause-channel c = channel_findings
 
 pub returns-clause-count : goal.returns-clause-count
-returns-clause-count c = λ added reported verdicts key. channel_count c.one_fault.ensures.one
-    c.one_fault.ensures.excludes
-    added reported verdicts key
+returns-clause-count c = channel_count c.one_fault.ensures.one c.one_fault.ensures.excludes
 
 pub returns-clause-prefix : goal.returns-clause-prefix
-returns-clause-prefix c = λ added more reported all. lines_prefix c.one_fault.ensures.one c.one_fault.ensures.excludes
-    added more reported all
+returns-clause-prefix c = lines_prefix c.one_fault.ensures.one c.one_fault.ensures.excludes

@@ -1,5 +1,5 @@
 use Rattle.mseed_audit.specs.Channels.{numbered}
-use Rattle.mseed_audit.proofs.OneList.{verdicts_one}
+use Rattle.mseed_audit.proofs.OneVerdict.{verdicts_one}
 use Rattle.mseed_audit.proofs.law.one_list_of_verdicts.Goals as goal
 
 pub returns : goal.returns

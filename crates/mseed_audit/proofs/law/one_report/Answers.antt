@@ -2,7 +2,7 @@ use Rattle.std.proofs.Common.{[]}
 use Rattle.mseed_audit.specs.Channels.{numbered}
 use Rattle.mseed_audit.specs.Scope.{whole}
 use Rattle.mseed_audit.proofs.OneReport.{reported_one}
-use Rattle.mseed_audit.proofs.OneSelected.{each_one}
+use Rattle.mseed_audit.proofs.OneAudit.{each_one}
 use Rattle.mseed_audit.proofs.law.one_report.Goals as goal
 
 pub returns-clause-reported : goal.returns-clause-reported

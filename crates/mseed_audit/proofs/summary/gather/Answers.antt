@@ -1,5 +1,4 @@
 use Rattle.std.proofs.Common.{subst}
-use Rattle.mseed_stream.specs.Device.{BytesRead}
 use Rattle.mseed_audit.specs.Scope.{Scope}
 use Rattle.mseed_audit.specs.Summary.{IsGatheredIn}
 use Rattle.mseed_audit.proofs.Outcomes.{asked_all}
@@ -7,9 +6,8 @@ use Rattle.mseed_audit.proofs.summary.gather.Goals as goal
 
 pub returns-in-Ok-clause-gathered : goal.returns-in-Ok-clause-gathered
 returns-in-Ok-clause-gathered g c =
-    let read : BytesRead = g.R.Source.read c.gather_with.new.source in
-    let found = c.in-Ok.found in
-    let o = c.in-Ok.ensures.gathered in (
-      o.0,
-      subst (λ (scope : Scope). IsGatheredIn scope found.audit found.end found.bytes read o.0) asked_all o.1.0.all,
-    )
+    let found = c.in-Ok.found.gathered in
+    let o = c.in-Ok.ensures.gathered in
+    let gathered = subst (λ (scope : Scope). IsGatheredIn scope found.audit found.end found.bytes
+    (g.R.Source.read c.gather_with.new.source) o.0) asked_all o.1.0.all in
+    (o.0, gathered)

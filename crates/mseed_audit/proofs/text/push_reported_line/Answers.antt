@@ -19,15 +19,16 @@ pub returns-clause-ok : goal.returns-clause-ok
 returns-clause-ok g c =
     let v : View = view_of c.args.view.now in
     let f : Finding = c.args.finding.now in
-    let a1 = rw c.new-line.ensures at c.put_count.ensures.text in
-    let a2 = rw a1 at c.put.ensures.text in
-    let a3 = rw (a2, c.codes.ensures) at c.put_name.ensures.text in
-    let a4 = rw a3 at c.put_labelled.ensures.text in
-    let a5 = rw a4 at c.put-2.ensures.text in
-    let a6 = rw a5 at c.put_start.ensures.text in
-    let a7 = rw a6 at c.put-3.ensures.text in
-    let a8 = rw a7 at c.put_why.ensures.text in
-    let a9 = rw a8 at c.put-4.ensures.text in
-    rw (c.as_slice.ensures ∙ a9 ∙ joined [] (decimal f.offset) (codes " ") (name_text (key_at v.bytes))
+    let end = rw (c.put_why.ensures.text, c.put-3.ensures.text, c.put_start.ensures.text, c.put-2.ensures.text)
+    at c.put-4.ensures.text in
+    let all = rw (
+      c.put_labelled.ensures.text,
+      c.put_name.ensures.text,
+      c.codes.ensures,
+      c.put.ensures.text,
+      c.put_count.ensures.text,
+      c.new-line.ensures,
+    ) at end in
+    rw (c.as_slice.ensures ∙ all ∙ joined [] (decimal f.offset) (codes " ") (name_text (key_at v.bytes))
     (codes " record ") (decimal f.number) (codes " start ") (start_text v) (codes " ") (why_text f.why) (codes "\n"))
     at c.push_line.ensures.ok

@@ -12,12 +12,9 @@ joined line words start rate-word rate record-word records sample-word samples e
 
 pub returns : goal.returns
 returns c =
-    let a2 = rw (c.put.ensures.text, c.show_time.ensures) at c.put-2.ensures.text in
-    let a3 = rw a2 at c.put-3.ensures.text in
-    let a4 = rw a3 at c.put_ratio.ensures.text in
-    let a5 = rw a4 at c.put_labelled.ensures.text in
-    let a6 = rw a5 at c.put_labelled-2.ensures.text in
-    let a7 = rw a6 at c.put-4.ensures.text in
-    a7 ∙ joined c.args.line.now (codes " continuous ") (time_text c.args.start) (codes " rate ")
+    let end = rw (c.put_labelled-2.ensures.text, c.put_labelled.ensures.text, c.put_ratio.ensures.text)
+    at c.put-4.ensures.text in
+    let all = rw (c.put-3.ensures.text, c.put-2.ensures.text, c.put.ensures.text, c.show_time.ensures) at end in
+    all ∙ joined c.args.line.now (codes " continuous ") (time_text c.args.start) (codes " rate ")
     (ratio_text c.args.rate) (codes " records ") (decimal c.args.records) (codes " samples ") (decimal c.args.samples)
     (codes "\n")

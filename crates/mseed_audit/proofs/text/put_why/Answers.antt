@@ -1,20 +1,15 @@
-use Rattle.std.proofs.Common.{◌++◌, ◌∙◌, ap, sym}
-use Rattle.mseed_audit.specs.Text.{why_text}
-use Rattle.mseed_audit.specs.declared.finding.Why.{Why}
-use Rattle.mseed_audit.proofs.OneMore.{put_more}
+use Rattle.std.proofs.Common.{append_assoc}
 use Rattle.mseed_audit.proofs.text.put_why.Goals as goal
 
 pub returns-in-Time-clause-text : goal.returns-in-Time-clause-text
 returns-in-Time-clause-text c =
-    put_more c.args.line.now _ _ _ _ c.put.ensures.text c.put_field.ensures.text
-    ∙ ap (λ (w : Why). c.args.line.now ++ why_text w) (sym c.in-Time.is)
+    rw (c.in-Time.is, c.put_field.ensures.text, c.put.ensures.text) (append_assoc c.args.line.now _ _)
 
 pub returns-in-Gap-clause-text : goal.returns-in-Gap-clause-text
 returns-in-Gap-clause-text c =
-    put_more c.args.line.now _ _ _ _ c.put-in-Gap.ensures.text c.put_wide.ensures.text
-    ∙ ap (λ (w : Why). c.args.line.now ++ why_text w) (sym c.in-Gap.is)
+    rw (c.in-Gap.is, c.put_wide.ensures.text, c.put-in-Gap.ensures.text) (append_assoc c.args.line.now _ _)
 
 pub returns-in-Overlap-clause-text : goal.returns-in-Overlap-clause-text
 returns-in-Overlap-clause-text c =
-    put_more c.args.line.now _ _ _ _ c.put-in-Overlap.ensures.text c.put_wide-in-Overlap.ensures.text
-    ∙ ap (λ (w : Why). c.args.line.now ++ why_text w) (sym c.in-Overlap.is)
+    rw (c.in-Overlap.is, c.put_wide-in-Overlap.ensures.text, c.put-in-Overlap.ensures.text)
+    (append_assoc c.args.line.now _ _)

@@ -1,5 +1,4 @@
-use Rattle.std.proofs.Common.{◌+◌, None, refl}
-use Rattle.mseed_record.specs.Viewing.{view_of}
+use Rattle.std.proofs.Common.{◌+◌, refl}
 use Rattle.mseed_audit.proofs.More.{audit_more}
 use Rattle.mseed_audit.proofs.audits.Audit.add_sound.Goals as goal
 
@@ -8,6 +7,5 @@ invariant_of-self-2 g c = (c.in_ok-add_sound.ensures.adds 0 0).bounded c.self.in
 
 pub returns-clause-added : goal.returns-clause-added
 returns-clause-added g c = λ offset.
-    rw (← c.self.view_is) (audit_more (record { channels = c.self.inside.roster; added = c.self.inside.added })
-    (record { channels = c.add_sound.new.self; added = c.self.inside.added + 1 }) (view_of c.args.view.now) offset
-    None (c.in_ok-add_sound.ensures.adds offset (c.self.inside.added + 1)) refl)
+    rw (← c.self.view_is)
+    (audit_more _ _ _ _ _ (c.in_ok-add_sound.ensures.adds offset (c.self.inside.added + 1)) refl)

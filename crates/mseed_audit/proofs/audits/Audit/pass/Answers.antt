@@ -1,7 +1,5 @@
-use Rattle.std.proofs.Common.{◌+◌, arith, refl}
-use Rattle.mseed_audit.specs.Audit.{Held, IsAuditAmong}
-use Rattle.mseed_audit.proofs.Counts.{all_within_more}
-use Rattle.mseed_audit.proofs.More.{audit_passed}
+use Rattle.std.proofs.Common.{◌+◌, arith}
+use Rattle.mseed_audit.proofs.Steps.{all_within_more}
 use Rattle.mseed_audit.proofs.audits.Audit.pass.Goals as goal
 
 pub invariant_of-self : goal.invariant_of-self
@@ -10,7 +8,4 @@ invariant_of-self g c =
 
 pub returns-clause-passes : goal.returns-clause-passes
 returns-clause-passes g c = λ ps count h.
-    let old : Held = record { channels = c.self.inside.roster; added = c.self.inside.added } in
-    let new : Held = record { channels = c.self.inside.roster; added = c.self.inside.added + 1 } in
-    let is : IsAuditAmong old ps count = rw (← c.self.view_is) at h in
-    audit_passed old new ps count is refl refl
+    let is = rw (← c.self.view_is) at h in record { number = omega (arith, is.number); each = is.each }

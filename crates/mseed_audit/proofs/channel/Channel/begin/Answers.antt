@@ -1,20 +1,14 @@
-use Rattle.std.proofs.Common.{◌≡◌, [], None, Some, refl, ◌∙◌}
-use Rattle.mseed_record.specs.View.{View}
-use Rattle.mseed_record.specs.Viewing.{view_of}
-use Rattle.mseed_steim.specs.Reading.{count_of}
-use Rattle.mseed_audit.specs.Channels.{Placed}
+use Rattle.std.proofs.Common.{[], None, Some, refl, ◌∙◌}
 use Rattle.mseed_audit.proofs.ChannelState.{one_stands}
 use Rattle.mseed_audit.proofs.channel.Channel.begin.Goals as goal
 use Rattle.mseed_audit.proofs.channel.Channel.begin.Goals.{in-Sound, in-Faulty}
 
 pub returns-clause-stands : goal.returns-clause-stands
 returns-clause-stands c =
-    let v : View = view_of c.args.view.now in
-    let p : Placed = record { view = v; offset = c.args.offset; number = c.args.number } in
-    let samples : c.from.result ≡ count_of v = c.from.ensures ∙ c.samples.ensures in
+    let samples = c.from.ensures ∙ c.samples.ensures in
     elim c.match-judge.branch [
       | in-Sound w ↦
-          rw w.why-is (one_stands _ p None (w.in-Sound.ensures.why None tt) refl samples
+          rw w.why-is (one_stands _ _ None (w.in-Sound.ensures.why None tt) refl samples
           (record {
             sound = w.in-Sound.ensures.why None tt;
             number = refl;
@@ -23,6 +17,6 @@ returns-clause-stands c =
             rate = w.in-Sound.ensures.tail.rate;
           }) w.in-Sound.ensures.tail refl)
       | in-Faulty w ↦
-          rw w.why-is (one_stands _ p (Some w.in-Faulty.why) (w.in-Faulty.ensures.why None tt) refl samples
+          rw w.why-is (one_stands _ _ (Some w.in-Faulty.why) (w.in-Faulty.ensures.why None tt) refl samples
           (w.in-Faulty.why, w.in-Faulty.ensures.why None tt) w.in-Faulty.ensures.tail ([], (refl, refl)))
     ]

@@ -8,8 +8,7 @@ use Rattle.mseed_audit.proofs.report.VecU8Report.add.Goals as goal
 pub returns-in-Ok : goal.returns-in-Ok
 returns-in-Ok g c = λ first now reported before.
     let here : Reported = record { view = view_of c.args.view.now; finding = c.args.finding.now } in
-    lined_more (g.W.Sink.written first) (g.W.Sink.written now) _ _ _ _ c.args.self.now.items
-    c.push_reported_line.new.text.items reported (here ∷ []) before
+    lined_more before c.push_reported_line.new.text.items (here ∷ [])
     (c.in-Ok.ensures.ok ∙ ap (λ (xs : List ℕ). c.args.self.now.items ++ xs) (sym (append-nil (reported_line here))))
 
 pub returns-in-Err : goal.returns-in-Err

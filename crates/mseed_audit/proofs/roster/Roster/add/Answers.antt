@@ -9,7 +9,7 @@ use Rattle.mseed_audit.proofs.roster.Roster.add.Goals as goal
 
 pub add-requires-clause-bounded : goal.add-requires-clause-bounded
 add-requires-clause-bounded g c =
-    there_bounded _ _ _ _ _ (is_there c.codes-codes.result _ _ _ _ _ c.find.ensures.stays c.self.view_is
+    there_bounded (is_there c.codes-codes.result _ _ _ _ _ c.find.ensures.stays c.self.view_is
     c.in-Some.ensures.place c.channel_mut.ensures.value) (2 ^ 40) c.requires.bounded
 
 pub invariant_of-self : goal.invariant_of-self
@@ -20,10 +20,10 @@ returns-then-samples-eq0-clause-adds g c = search (rules, arith, adds_silent)
 
 pub returns-in-Some-clause-adds : goal.returns-in-Some-clause-adds
 returns-in-Some-clause-adds g c =
-    there_adds _ _ _ _ _ _
+    there_adds (is_there c.codes-codes.result _ _ _ _ _ c.find.ensures.stays c.self.view_is c.in-Some.ensures.place
+    c.channel_mut.ensures.value) _
     (record { view = view_of c.args.view.now; offset = c.args.offset; number = c.args.number }) c.add.result
-    (is_there c.codes-codes.result _ _ _ _ _ c.find.ensures.stays c.self.view_is c.in-Some.ensures.place
-    c.channel_mut.ensures.value) c.codes-codes.ensures (search rules) c.add.ensures.takes c.add.ensures.bounded
+    c.codes-codes.ensures (search rules) c.add.ensures.takes c.add.ensures.bounded
 
 pub begin-requires-clause-new : goal.begin-requires-clause-new
 begin-requires-clause-new g c =

@@ -6,7 +6,7 @@ use Rattle.mseed_audit.proofs.roster.Roster.add_sound.Goals as goal
 
 pub add_sound-requires-clause-bounded : goal.add_sound-requires-clause-bounded
 add_sound-requires-clause-bounded g c =
-    there_bounded _ _ _ _ _ (is_there c.codes.result _ _ _ _ _ c.find.ensures.stays c.self.view_is
+    there_bounded (is_there c.codes.result _ _ _ _ _ c.find.ensures.stays c.self.view_is
     c.in-Some.ensures.place c.channel_mut.ensures.value) (2 ^ 40) c.requires
 
 pub invariant_of-self-2 : goal.invariant_of-self-2
@@ -25,7 +25,6 @@ returns-then-samples-eq0-clause-adds g c = λ offset number. search (rules, arit
 
 pub returns-clause-adds : goal.returns-clause-adds
 returns-clause-adds g c = λ offset number.
-    there_adds _ _ _ _ _ _ (record { view = view_of c.args.view.now; offset = offset; number = number }) None
-    (is_there c.codes.result _ _ _ _ _ c.find.ensures.stays c.self.view_is c.in-Some.ensures.place
-    c.channel_mut.ensures.value) c.codes.ensures (search rules) (c.in_ok-add_sound.ensures.takes offset number)
-    c.in_ok-add_sound.ensures.bounded
+    there_adds (is_there c.codes.result _ _ _ _ _ c.find.ensures.stays c.self.view_is c.in-Some.ensures.place
+    c.channel_mut.ensures.value) _ (record { view = view_of c.args.view.now; offset = offset; number = number }) None
+    c.codes.ensures (search rules) (c.in_ok-add_sound.ensures.takes offset number) c.in_ok-add_sound.ensures.bounded
