@@ -8,8 +8,8 @@ use Rattle.mseed_audit.specs.declared.finding.Finding.{Finding}
 use Rattle.mseed_audit.specs.Channels.{same_key}
 use Rattle.mseed_audit.proofs.Maps.{same_back, same_is}
 use Rattle.mseed_audit.specs.declared.channel.Channel.{Channel}
-use Rattle.mseed_join.specs.declared.part.JoinFault.{JoinFault}
-use Rattle.mseed_join.specs.declared.part.JoinFault.TheVariants.{Limit}
+use Rattle.mseed_join.specs.declared.part.PartFault.{PartFault}
+use Rattle.mseed_join.specs.declared.part.PartFault.TheVariants.{Limit}
 use Rattle.mseed_join.specs.Joining.{border_of, border_between, moved_channel, channel_then, channel_joined}
 use Rattle.mseed_audit.specs.Audit.{head_in, tail_in}
 use Rattle.mseed_join.specs.Parts.{Held, IsAscending, kept_of, IsJoint, one_channel, Moves, CountsFit, FitsAt}
@@ -62,7 +62,7 @@ joined_with es fs records bytes key c x has sorted is = record {
 -- ---- where the channel is there
 module _ (es : Entries) (records bytes : ℕ) (a : Held) (view : held es records bytes ≡ a) (key : List ℕ)
     (c k m : Channel) (there : Some k ≡ kept_of key es) (is : m ≡ moved_channel records bytes c)
-    (r : Result (Option Finding) JoinFault) where
+    (r : Result (Option Finding) PartFault) where
   pub there_joined : (x : Channel) (fs : Entries) → HasAt es key x fs → IsAscending fs
       → OnOk r (x ≡ channel_then k m) → OnOk r (IsJoint a (one_channel key c) (held fs records bytes))
   there_joined x fs has sorted =

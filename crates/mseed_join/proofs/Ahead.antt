@@ -1,5 +1,5 @@
 -- What goes on: the next line of parts, and what their joint part says of it.
-use Rattle.std.proofs.Common.{◌≡◌, ℕ, ◌+◌, ◌≤◌, ◌<◌, ◌^◌, List, [], ◌∷◌, ◌++◌, Bool, true, false, Option, Some, None}
+use Rattle.std.proofs.Common.{◌≡◌, ℕ, ◌+◌, ◌≤◌, ◌<◌, ◌^◌, List, [], ◌∷◌, ◌++◌, Bool, true, Option, Some, None}
 use Rattle.std.proofs.Common.{length, refl, sym, ap, ◌∙◌, subst, arith, append_assoc}
 use Rattle.std.specs.Prelude.{codes}
 use Rattle.std.proofs.ByRecursion.{All-append}
@@ -8,26 +8,26 @@ use Rattle.mseed_stream.specs.declared.fault.StreamFault.{StreamFault}
 use Rattle.mseed_audit.specs.declared.channel.Channel.{Channel}
 use Rattle.mseed_join.specs.Parts.{IsAscending, Fits, FitsAt, kept_of, counts_alone}
 use Rattle.mseed_join.specs.Lines.{Line, text_of_line, IsLine}
-use Rattle.mseed_join.specs.Written.{Written, texts}
+use Rattle.mseed_join.specs.Written.{HasText, Written, texts}
 use Rattle.mseed_join.specs.Joined.{AreJoined, Begins, HasNoEnd, IsJointOf, counted, counted_by}
 use Rattle.mseed_join.specs.Reached.{Stage, begun_part, open_part, parts_at, IsStage, start}
 use Rattle.mseed_join.specs.private.Steps.{May, to, counted_part, with_faults, with_end}
 use Rattle.mseed_join.proofs.Ended.{IsEnded, ended, plain_from, same_line, short, within_line}
-use Rattle.mseed_join.proofs.Machine.{AreAll, Entries, LeavesLines, Runs, all_rows, open_all}
+use Rattle.mseed_join.proofs.Machine.{AreAll, Entries, Runs, all_rows, open_all}
 use Rattle.mseed_join.proofs.Machine.{open_text_is, leaves, lines_text, open_rows, runs_rest, text_append}
 use Rattle.mseed_join.proofs.Machine.{texts_all, texts_are}
-use Rattle.mseed_join.proofs.Running.{Extends, GoesOn, HaveTexts, all_run, extends, stage_runs, texts_before}
-use Rattle.mseed_join.proofs.Running.{texts_after}
+use Rattle.mseed_join.proofs.Running.{Extends, GoesOn, HaveTexts, all_run, extends, stage_runs, each_before}
+use Rattle.mseed_join.proofs.Running.{each_after}
 use Rattle.mseed_join.proofs.Extended.{fits_here, joins, kept_none}
-use Rattle.mseed_join.proofs.Sums.{IsFirst, counted_on, first_of, joined_one, joined_split, some_none}
+use Rattle.mseed_join.proofs.Sums.{counted_on, first_of, joined_one, joined_split}
 use Rattle.mseed_join.proofs.Taken.{IsLast, last_is}
 
 -- ---- the lines up to a stage
 stage_all : (s : Stage) (lines : List ℕ) → IsStage lines s → AreAll (all_rows s.over ++ open_rows s.last)
 stage_all s lines i =
     All-append IsLine (all_rows s.over) (open_rows s.last)
-    (texts_all s.over (texts_before s.over (open_part s.last) i.each))
-    (open_all s.last (texts_after s.over (open_part s.last) i.each))
+    (texts_all s.over (each_before HasText s.over (open_part s.last) i.each))
+    (open_all s.last (each_after HasText s.over (open_part s.last) i.each))
 
 stage_text : (s : Stage) (lines : List ℕ) → IsStage lines s
     → lines_text (all_rows s.over ++ open_rows s.last) ≡ lines
@@ -46,13 +46,10 @@ pub ahead : (s : Stage) (lines : List ℕ) (parts : List Written) (rest : List �
     → lines ++ rest ≡ texts parts → HaveTexts parts → IsAhead s parts rest
 ahead s lines parts rest i e h =
     let xs : List Line = all_rows s.over ++ open_rows s.last in
-    let same : lines_text xs ++ rest ≡ lines_text (all_rows parts) =
-    ap (λ (t : List ℕ). t ++ rest) (stage_text s lines i) ∙ e ∙ sym (texts_are parts) in
-    let left : LeavesLines (all_rows parts) xs rest =
-    leaves xs (all_rows parts) rest (stage_all s lines i) (texts_all parts h) same in
+    let same = ap (λ (t : List ℕ). t ++ rest) (stage_text s lines i) ∙ e ∙ sym (texts_are parts) in
+    let left = leaves xs (all_rows parts) rest (stage_all s lines i) (texts_all parts h) same in
     let run = all_run parts h in
-    let all : Runs start (xs ++ left.others) run.0 =
-    subst (λ (ys : List Line). Runs start ys run.0) left.lines run.1.0 in record {
+    let all = subst (λ (ys : List Line). Runs start ys run.0) left.lines run.1.0 in record {
       others = left.others;
       text = left.text;
       are = left.are;
@@ -85,17 +82,12 @@ next_line past s lines body line i none_there is b =
     a = ahead s lines b.parts (line ++ b.rest) i (sym (append_assoc lines line b.rest) ∙ b.spells.text) b.spells.each
 
     by : (xs : List Line) → line ++ b.rest ≡ lines_text xs → AreAll xs → Runs s xs a.at → IsNextLine past s line
-    by [] e l r = absurd (omega (
-      arith,
-      ap length is,
-      length-append body (codes "\n"),
-      length-append line b.rest,
-      ap length e,
-    ))
+    by [] e l r =
+        let long = ap length is ∙ length-append body (codes "\n") in
+        absurd (omega (arith, long, length-append line b.rest, ap length e))
     by (x ∷ xs) e l r =
         let t : IsEnded (text_of_line x) = ended x l.0 in
-        let same : body ++ 10 ∷ b.rest ≡ t.body ++ 10 ∷ lines_text xs =
-        sym (append_assoc body (10 ∷ []) b.rest) ∙ ap (λ (z : List ℕ). z ++ b.rest) (sym is) ∙ e
+        let same = sym (append_assoc body (10 ∷ []) b.rest) ∙ ap (λ (z : List ℕ). z ++ b.rest) (sym is) ∙ e
         ∙ ap (λ (z : List ℕ). z ++ lines_text xs) t.is ∙ append_assoc t.body (10 ∷ []) (lines_text xs) in
         let both = same_line body t.body b.rest (lines_text xs) (plain_from body none_there) t.piece.is_plain same in
         record {
@@ -123,16 +115,9 @@ too_long past s lines bytes i none_there long b = by a.others a.text a.are
     by [] e l = absurd (omega (arith, length-append bytes b.rest, ap length e, long))
     by (x ∷ xs) e l =
         let t : IsEnded (text_of_line x) = ended x l.0 in
-        let same : bytes ++ b.rest ≡ t.body ++ 10 ∷ lines_text xs =
-        e ∙ ap (λ (z : List ℕ). z ++ lines_text xs) t.is ∙ append_assoc t.body (10 ∷ []) (lines_text xs) in
-        absurd (omega (
-          arith,
-          long,
-          within_line bytes t.body b.rest (lines_text xs) (plain_from bytes none_there) same,
-          ap length t.is,
-          length-append t.body (10 ∷ []),
-          short x l.0,
-        ))
+        let same = e ∙ ap (λ (z : List ℕ). z ++ lines_text xs) t.is ∙ append_assoc t.body (10 ∷ []) (lines_text xs) in
+        let within = within_line bytes t.body b.rest (lines_text xs) (plain_from bytes none_there) same in
+        absurd (omega (arith, long, within, ap length t.is, length-append t.body (10 ∷ []), short x l.0))
 
 -- ---- what a further part fits into
 pub record IsFitting (past : Bool) (a v : Written) : Type 0 where
@@ -142,25 +127,7 @@ pub record IsFitting (past : Bool) (a v : Written) : Type 0 where
 
 fitting_by : (past : Bool) (a v k : Written) (vs : List Written) (end : Option StreamFault) → v.end ≡ end
     → AreJoined a (counted_by past v end (counted past vs)) k → IsFitting past a v
-fitting_by past a v k vs None e j =
-    let f : IsFirst a v (counted past vs) k = first_of a v k (counted past vs) j in record {
-      fits = f.next.fits;
-      faults_fit = omega (arith, f.next.faults, f.next.faults_fit);
-      passed_fit = λ g p q. absurd (some_none g (sym q ∙ e));
-    }
-fitting_by true a v k vs (Some x) e j =
-    let w : Written = record { part = v.part; faults = v.faults + 1; end = None } in
-    let f : IsFirst a w (counted true vs) k = first_of a w k (counted true vs) j in record {
-      fits = f.next.fits;
-      faults_fit = omega (arith, f.next.faults, f.next.faults_fit);
-      passed_fit = λ g p q. omega (arith, f.next.faults, f.next.faults_fit);
-    }
-fitting_by false a v k vs (Some x) e j =
-    let f : IsFirst a v [] k = first_of a v k [] j in record {
-      fits = f.next.fits;
-      faults_fit = omega (arith, f.next.faults, f.next.faults_fit);
-      passed_fit = λ g p q. cc (p);
-    }
+fitting_by past a v k vs end is joined = grind (arith, first_of)
 
 fitting : (past : Bool) (over : List Written) (v : Written) (vs : List Written) (a k : Written)
     → IsJointOf past over a → a.end ≡ None → IsJointOf past (over ++ v ∷ vs) k → IsFitting past a v
@@ -185,8 +152,7 @@ module _ (past : Bool) (over : List Written) (h : Written) (free : h.end ≡ Non
       → FitsAt h.part.records h.part.bytes (kept_of key h.part.channels) (Some c)
   channel_fits cs key c j sorted g =
       let both = grown (begun_part cs) (begun_part (cs ++ (key, c) ∷ [])) refl j g in
-      let there : kept_of key g.part.part.channels ≡ kept_of key (cs ++ (key, c) ∷ g.grows.others) =
-      ap (kept_of key) (g.grows.channels ∙ append_assoc cs ((key, c) ∷ []) g.grows.others) in
+      let there = ap (kept_of key) (g.grows.channels ∙ append_assoc cs ((key, c) ∷ []) g.grows.others) in
       fits_here both.0.before.part h.part cs (key, c) g.grows.others (kept_none cs (key, c) [] sorted)
       (joins both.0.before.part cs h.part both.0.next.part) (rw there at (both.1.fits.each key))
 
@@ -210,7 +176,6 @@ module _ (past : Bool) (over : List Written) (h : Written) (free : h.end ≡ Non
       → IsJointOf past (over ++ w ∷ []) h → parts ≡ (over ++ with_end w f ∷ []) ++ vs → h.faults + 1 < 2 ^ 63
   passed_fit w f vs p e j is =
       let l : IsLast past over w h = last_is past over w h e free j in
-      let fit : IsFitting past l.before (with_end w f) =
-      fitting past over (with_end w f) vs l.before k l.joined l.goes_on
+      let fit = fitting past over (with_end w f) vs l.before k l.joined l.goes_on
       (subst (λ (ws : List Written). IsJointOf past ws k) (is ∙ append_assoc over (with_end w f ∷ []) vs) all) in
       omega (arith, fit.passed_fit f p refl, l.next.faults)

@@ -1,24 +1,23 @@
 -- Parts that are read along lines: what was passed, and what lies ahead.
-use Rattle.std.proofs.Common.{◌≡◌, ◌≢◌, ℕ, ◌+◌, ◌≤◌, ◌<◌, ◌^◌, List, [], ◌∷◌, ◌++◌, length, take, drop, Bool, true}
+use Rattle.std.proofs.Common.{◌≡◌, ℕ, ◌+◌, ◌≤◌, ◌<◌, ◌^◌, List, [], ◌∷◌, ◌++◌, length, take, drop, Bool, true}
 use Rattle.std.proofs.Common.{false, Option, refl, sym, ap, ◌∙◌, subst, arith, inl, append_assoc, append-nil}
 use Rattle.std.proofs.Common.{length-append, take-append-drop, length-take}
 use Rattle.mseed_stream.specs.Device.{BytesRead, BytesWritten, nothing_read}
 use Rattle.mseed_join.specs.Lines.{Line, counts_line, header_line}
-use Rattle.mseed_join.specs.declared.line_reader.NextLine.{NextLine}
-use Rattle.mseed_join.specs.declared.line_reader.NextLine.TheVariants.{Line as WholeLine, TooLong, Unended, Nothing}
+use Rattle.mseed_join.specs.declared.line_reader.NextLine.TheVariants.{TooLong, Unended, Nothing}
 use Rattle.mseed_join.specs.declared.joint.Joint.{Joint}
-use Rattle.mseed_join.specs.declared.joint.Place.{Place}
+use Rattle.mseed_join.specs.declared.joint.PlaceInPart.{PlaceInPart}
 use Rattle.mseed_join.specs.declared.joint.Reported.{Reported}
 use Rattle.mseed_join.specs.declared.reader.Reader.{Reader}
 use Rattle.mseed_join.specs.declared.flaw.Flaw.{Flaw}
-use Rattle.mseed_join.specs.declared.flaw.Flaw.TheVariants.{Long, Missing}
+use Rattle.mseed_join.specs.declared.flaw.Flaw.TheVariants.{Long, Unended as NoEnd, Missing}
 use Rattle.mseed_join.specs.Flaws.{IsFlaw, IsFlawOf}
 use Rattle.mseed_join.specs.Joined.{AreLines, Begins, IsBadLine, IsOfOneLine, HasNoBadLine}
 use Rattle.mseed_join.specs.Reached.{OpenPart, Stage, IsStage, none, begun, whole, open_part, AreReported}
 use Rattle.mseed_join.specs.Reached.{parts_at, passed_lines, start, open_text}
 use Rattle.mseed_join.specs.ReadParts.{written_of}
 use Rattle.mseed_join.specs.Written.{Written, Spells, channel_lines, part_text, texts}
-use Rattle.mseed_join.specs.private.Along.{HasEnded, IsAlong, IsBadAfter, IsStoppedAt, can_end, flaw_of, is_over}
+use Rattle.mseed_join.specs.private.Along.{HasEnded, IsAlong, IsBadAfter, IsStoppedAt, can_end}
 use Rattle.mseed_join.specs.private.LineReading.{GoesOn, Grows, IsLineAhead, IsOpen, IsReadBy, LiesAhead, LinesRead}
 use Rattle.mseed_join.specs.private.Taking.{IsReadTo, IsTaken}
 use Rattle.mseed_join.proofs.Onward.{Standing, standing}
@@ -61,7 +60,7 @@ open_whole _ = refl
 completes : (lines : List ℕ) (s : Stage) → IsStage lines s → lines ++ rest_of s.last ≡ texts (parts_at s)
 completes lines s i = search (arith, append_assoc, open_whole, texts_append)
 
-pub begins : {A : Type 0} → (lines : List ℕ) (s : Stage) (j : Joint A) → IsReadTo lines s j → Begins j.past lines
+pub begins : {A : Type 0} → (lines : List ℕ) (s : Stage) (j : Joint A) → IsReadTo lines s j → Begins j.past_faults lines
 begins lines s j r = record {
   rest = rest_of s.last;
   parts = parts_at s;
@@ -71,11 +70,11 @@ begins lines s j r = record {
 }
 
 -- ---- at the input's end
-over_rest : (place : Place) (b : OpenPart) → Standing place b → can_end place ≡ true → rest_of b ≡ []
+over_rest : (place : PlaceInPart) (b : OpenPart) → Standing place b → can_end place ≡ true → rest_of b ≡ []
 over_rest _ _ (Standing.rows last cs p) e = cc e
 over_rest _ _ _ e = refl
 
-open_rest : (place : Place) (b : OpenPart) → Standing place b → can_end place ≡ false → 0 < length (rest_of b)
+open_rest : (place : PlaceInPart) (b : OpenPart) → Standing place b → can_end place ≡ false → 0 < length (rest_of b)
 open_rest _ _ (Standing.rows last cs p) e = omega arith
 open_rest _ _ _ e = cc e
 
@@ -98,19 +97,14 @@ lacks lines s j r e ws sp = by a.others a.text a.are a.runs
     by : (xs : List Line) → [] ≡ lines_text xs → AreAll xs → Runs s xs a.at → ⊥
     by [] t l runs =
         let same : parts_at s ≡ ws = ap parts_at runs ∙ a.parts_are in
-        let whole_text : lines ++ rest_of s.last ≡ lines =
-        completes lines s r.stage ∙ ap texts same ∙ sym sp.text in
-        absurd (omega (
-          arith,
-          ap length whole_text,
-          length-append lines (rest_of s.last),
-          open_rest j.place s.last (standing j.place s.last r.place) e,
-        ))
+        let whole_text = completes lines s r.stage ∙ ap texts same ∙ sym sp.text in
+        let some = open_rest j.place s.last (standing j.place s.last r.place) e in
+        absurd (omega (arith, ap length whole_text, length-append lines (rest_of s.last), some))
     by (x ∷ xs) t l runs = nothing_first x (lines_text xs) l.0 (sym t)
 
 -- a part has begun here
-missing_at : (place : Place) (b : OpenPart) (at_end : Bool) → Standing place b → can_end place ≡ false → at_end ≡ true
-    → IsFlaw Missing b [] at_end
+missing_at : (place : PlaceInPart) (b : OpenPart) (at_end : Bool) → Standing place b → can_end place ≡ false
+    → at_end ≡ true → IsFlaw Missing b [] at_end
 missing_at _ _ at_end (Standing.rows last cs p) e ended = IsFlaw.missing cs at_end ended
 missing_at _ _ at_end _ e ended = cc e
 
@@ -119,7 +113,7 @@ pub record IsLooked {A : Type 0} (past : Bool) (now : BytesRead) (s : Stage) (li
     : Type 0 where
   pub by : IsReadBy now lines
   pub read : IsReadTo by.passed s j
-  pub past_is : j.past ≡ past
+  pub past_is : j.past_faults ≡ past
 
 pub looked : {A : Type 0} {past : Bool} {old new : BytesRead} {left rest : Option (List ℕ)} {s : Stage} {r : Reader A}
     (after : LinesRead) → IsAlong past old s r → Grows old new left rest r.lines after
@@ -176,29 +170,30 @@ module _ {A : Type 0} {past : Bool} {now : BytesRead} {s : Stage} {lines : Lines
   all_passed held = l.by.reported ∙ ap (λ (t : List ℕ). l.by.passed ++ t) held ∙ append-nil l.by.passed
 
   -- by what lies ahead, if it is no line
-  pub over_at : (a : NextLine) → LiesAhead a lines now.is_at_end → is_over a j.place ≡ true → HasEnded past now s j
-  over_at Nothing lies e = record {
+  pub over_at : LiesAhead Nothing lines now.is_at_end → can_end j.place ≡ true → HasEnded past now s j
+  over_at lies e = record {
     stopped = stops;
     at_end = lies.0;
     spells = rw (all_passed lies.1) (ended l.by.passed s j l.read e);
     joint = rw l.past_is at l.read.joint;
     number = l.read.number;
   }
-  over_at _ lies e = cc e
 
-  pub bad_at : (a : NextLine) → LiesAhead a lines now.is_at_end → a ≢ WholeLine → is_over a j.place ≡ false
-      → IsBadNext (flaw_of a)
-  bad_at WholeLine lies other e = absurd (other refl)
-  bad_at TooLong lies other e =
+  pub long_at : LiesAhead TooLong lines now.is_at_end → IsBadNext Long
+  long_at lies =
       wrong_line 512 Long (IsOfOneLine.begun (take 512 lines.held) lies.0)
       (too_long past s l.by.passed (take 512 lines.held) l.read.stage lies.0
       (omega (arith, lies.1, length-take 512 lines.held))) (IsFlaw.long s.last lines.held now.is_at_end lies.0 lies.1)
-  bad_at Unended lies other e = record {
+
+  pub unended_at : LiesAhead Unended lines now.is_at_end → IsBadNext NoEnd
+  unended_at lies = record {
     bad = IsBadLine.unended l.by.passed lines.held lines.lines lies.0 l.by.reported l.by.lines begun_so lies.2 lies.1;
     number = refl;
     flaw_is = IsFlaw.unended s.last lines.held now.is_at_end lies.0 lies.2 lies.1 lies.3;
   }
-  bad_at Nothing lies other e = record {
+
+  pub lacking_at : LiesAhead Nothing lines now.is_at_end → can_end j.place ≡ false → IsBadNext Missing
+  lacking_at lies e = record {
     bad = rw (all_passed lies.1) (IsBadLine.lacks lines.lines lies.0 l.by.lines begun_so
         (lacks l.by.passed s j l.read e));
     number = refl;
@@ -213,25 +208,19 @@ module _ {A : Type 0} {past : Bool} {now : BytesRead} {s : Stage} {lines : Lines
   line_taken {t} {r} line ahead same held more counts goes taken = record {
     by = read_by_passed ahead held more counts l.by;
     read = subst (λ (b : List ℕ). IsReadTo (l.by.passed ++ b) t r.joint) same taken.read;
-    past_is = taken.past ∙ l.past_is;
+    past_is = taken.past_faults ∙ l.past_is;
     goes_on = goes;
   }
 
   -- a whole line that is refused
   pub whole_line : (line : List ℕ) (flaw : Flaw) → IsLineAhead lines.size lines.held
-      → line ≡ take lines.size lines.held → (Begins j.past (l.by.passed ++ line) → ⊥) → IsFlawOf flaw s.last line
+      → line ≡ take lines.size lines.held → (Begins j.past_faults (l.by.passed ++ line) → ⊥) → IsFlawOf flaw s.last line
       → IsBadNext flaw
   whole_line line flaw a same refused why =
-      let split : lines.held ≡ (a.line.0 ++ 10 ∷ []) ++ drop lines.size lines.held =
-      sym (take-append-drop lines.size lines.held)
+      let split = sym (take-append-drop lines.size lines.held)
       ∙ ap (λ (t : List ℕ). t ++ drop lines.size lines.held) a.line.2 in
-      let few : length a.line.0 < 512 = omega (
-        arith,
-        a.short,
-        ap length a.line.2,
-        length-append a.line.0 (10 ∷ []),
-        length-take lines.size lines.held,
-      ) in
+      let long = ap length a.line.2 ∙ length-append a.line.0 (10 ∷ []) in
+      let few : length a.line.0 < 512 = omega (arith, a.short, long, length-take lines.size lines.held) in
       wrong_line lines.size flaw (rw a.line.2 (IsOfOneLine.whole a.line.0 a.line.1)) (rw (same, l.past_is) at refused)
       (IsFlaw.line flaw s.last a.line.0 (drop lines.size lines.held) lines.held now.is_at_end a.line.1 few split
       (rw (same ∙ a.line.2) at why))
@@ -242,9 +231,6 @@ pub along_stops : {A : Type 0} {past : Bool} {now : BytesRead} {s : Stage} {r : 
 along_stops a = stops (record { by = a.by; read = a.read; past_is = a.past_is })
 
 -- ---- what is reported
-pub reported_none : (past : Bool) → passed_lines past (parts_at start) ≡ []
-reported_none true = refl
-reported_none false = refl
 
 reported_also : (xs ys : List (List ℕ)) (a b c : BytesWritten) → AreReported xs a b → AreReported ys b c
     → AreReported (xs ++ ys) a c
@@ -270,5 +256,5 @@ none_read now e = record {
 }
 
 pub none_reported : (past : Bool) (at : BytesWritten) → AreReported (passed_lines past (parts_at start)) at at
-none_reported past at = subst (λ (lines : List (List ℕ)). AreReported lines at at) (sym (reported_none past))
-    (AreReported.none at)
+none_reported true at = AreReported.none at
+none_reported false at = AreReported.none at

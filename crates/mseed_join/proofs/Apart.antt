@@ -173,11 +173,9 @@ one_piece : AddUp → AddFindings → (archive before : List ℕ) (befores : Lis
 one_piece add_up add archive before befores found a joint so h p read by clear joined parts borders =
     let w : Written = p.parted.written in
     let first = joined_more a w joint [] parts in
-    let now : IsSoFar (before ++ archive) first.0 =
-    further add_up before archive a first.0 h p.parted so clear read by first.1.0 in
+    let now = further add_up before archive a first.0 h p.parted so clear read by first.1.0 in
     let b : IsBordered befores a w [] found = bordered befores a w [] found joined borders in
-    let are : found ≡ borders_with a.part w.part.channels =
-    b.are ∙ ap (λ (bs : List Border). borders_with a.part w.part.channels ++ bs)
+    let are = b.are ∙ ap (λ (bs : List Border). borders_with a.part w.part.channels ++ bs)
     (none_found (befores ++ w ∷ []) b.rest b.more)
     ∙ append-nil (borders_with a.part w.part.channels) in record {
       all = as_joint (before ++ archive) first.0 joint (none_of first.0 joint first.1.1) now;
@@ -201,10 +199,8 @@ more_pieces add_up add archive others before reported found rest a b joint so h 
     let own : List Notice = notices_of p.reported in
     let later : List Notice = moved_notices w.part.records w.part.bytes reported in
     let between : List Notice = border_notices (borders_with a.part w.part.channels) in
-    let known : AllByRecursion IsView (so.views ++ p.parted.audited.views) =
-    subst (λ (vs : List View). AllByRecursion IsView vs) views now.are_known.cut.views_are in
-    let there : moved_notices d e later ≡ moved_notices b.part.records b.part.bytes reported =
-    moved_twice d e w.part.records w.part.bytes reported
+    let known = subst (λ (vs : List View). AllByRecursion IsView vs) views now.are_known.cut.views_are in
+    let there = moved_twice d e w.part.records w.part.bytes reported
     ∙ moved_same (d + w.part.records) (e + w.part.bytes) b.part.records b.part.bytes reported (sym next.part.records)
     (sym next.part.bytes) in
     let notices : moved_notices d e (own ++ later) ++ border_notices found
@@ -221,8 +217,7 @@ more_pieces add_up add archive others before reported found rest a b joint so h 
       merged = λ first whole one all.
           let mid = reported_first now.views m.rest whole
           (subst (λ (vs : List View). AreReportedOf (added_from 0 vs) whole) m.those_after all) in
-          let near : AreReportedOf (added_from 0 (so.views ++ p.parted.audited.views)) mid.0 =
-          subst (λ (vs : List View). AreReportedOf (added_from 0 vs) mid.0) views mid.1 in
+          let near = subst (λ (vs : List View). AreReportedOf (added_from 0 vs) mid.0) views mid.1 in
           subst (λ (ns : List Notice). IsPermutation (notices_of first ++ ns) (notices_of whole)) (sym notices)
           (carried (notices_of first) (moved_notices d e own) (moved_notices b.part.records b.part.bytes reported)
           between
@@ -239,8 +234,7 @@ merge_all single add_up add _ before _ befores _ found a joint so none_apart cle
     rw (none_found befores found borders) (ends_here single before a joint so (none_of a joint parts))
 merge_all single add_up add _ before _ befores _ found a joint so (last archive h p read by) clear joined parts
     borders =
-    let one : counted false (p.parted.written ∷ []) ≡ p.parted.written ∷ [] =
-    counted_last p.parted.written p.parted.written.end in
+    let one = counted_last p.parted.written p.parted.written.end in
     one_piece add_up add archive before befores found a joint so h p read by clear joined
     (subst (λ (ws : List Written). AreJoined a ws joint) one parts)
     (subst (λ (ws : List Written). AreBorders befores ws found) one borders)
@@ -255,12 +249,10 @@ merge_all single add_up add _ before _ befores _ found a joint so
     borders in
     let first = joined_more a w joint (counted false ws) on in
     let b : Written = first.0 in
-    let now : IsSoFar (before ++ archive) b =
-    further add_up before archive a b h p.parted so clear read (subst EndsByBytes (sym end) tt) first.1.0 in
+    let now = further add_up before archive a b h p.parted so clear read (subst EndsByBytes (sym end) tt) first.1.0 in
     let goes_on : b.end ≡ None = first.1.0.end
     ∙ ap (λ (o : Option StreamFault). option_map (moved_fault a.part.bytes) o) end in
-    let c : IsBordered befores a w (counted false ws) found =
-    bordered befores a w (counted false ws) found joined along in
+    let c = bordered befores a w (counted false ws) found joined along in
     more_pieces add_up add archive others before reported found c.rest a b joint so h p now refl first.1.0 c.are
     (merge_all single add_up add others (before ++ archive) ws (befores ++ w ∷ []) reported c.rest b joint now
     apart
@@ -289,14 +281,12 @@ pub each_says : HaveOneReport → AddUp → AddFindings → HaveVerdicts → Hav
     (h : BytesRead) (a : AuditedEach h) → AreReportedApart archive ws reported → IsJointOf false ws joint
     → AreBordersOf false ws found → IsReadOf archive h → EndsByBytes a.audited.end → SaysEach reported found joint a
 each_says single add_up add verdicts one archive ws reported found joint h a apart joined borders read by =
-    let m : IsMergedTo [] archive reported found nothing joint (at_first nothing.part of_nothing) =
-    merge_all single add_up add archive [] ws [] reported found nothing joint (at_first nothing.part of_nothing)
+    let m = merge_all single add_up add archive [] ws [] reported found nothing joint (at_first nothing.part of_nothing)
     apart
     refl (AreJoined.none nothing) joined borders in
     let both = one_known archive m.all.views a.audited.views joint.end a.audited.end m.all.are_known
     (known archive h a.audited.views a.audited.end read a.audited.all by) in
-    let whole : AreReportedOf (added_from 0 m.all.views) a.reported =
-    subst (λ (vs : List View). AreReportedOf (added_from 0 vs) a.reported) (sym both.0) a.are_reported in
+    let whole = subst (λ (vs : List View). AreReportedOf (added_from 0 vs) a.reported) (sym both.0) a.are_reported in
     let says_it : SaysAudit joint a.audited =
     says add_up verdicts one archive ws joint h a.audited (parted_of_reported archive ws reported apart) joined read
     by in

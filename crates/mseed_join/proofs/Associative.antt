@@ -22,12 +22,8 @@ module _ (d e f g : ℕ) where
   finding_twice : (h : Finding) → moved_finding (d + f) (e + g) h ≡ moved_finding d e (moved_finding f g h)
   finding_twice h = search arith
 
-  heads_twice : (h : Option Head)
-      → option_map (moved_head (d + f) (e + g)) h ≡ option_map (moved_head d e) (option_map (moved_head f g) h)
-  heads_twice h = grind (arith, head_twice)
-
   findings_twice : (h : Findings) → moved_findings (d + f) (e + g) h ≡ moved_findings d e (moved_findings f g h)
-  findings_twice h = grind (arith, head_twice, finding_twice, heads_twice)
+  findings_twice h = grind (arith, head_twice, finding_twice)
 
   channel_twice : (c : Channel) → moved_channel (d + f) (e + g) c ≡ moved_channel d e (moved_channel f g c)
   channel_twice c = search (arith, findings_twice)

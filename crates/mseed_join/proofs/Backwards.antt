@@ -93,16 +93,7 @@ integer_no_word z rest h1 = grind (arith, digits_no_word, instant_within)
 
 some_head_back : (h : Head) (rest : List ℕ) → HasHead h → Ends rest → some_head_at (head_then h rest) ≡ Some (h, rest)
 unfolding some_head_at
-some_head_back h rest fits e =
-    let last : List ℕ = ratio_then h.rate rest in
-    let third : List ℕ = signed_decimal h.start ++ (codes " " ++ last) in
-    let second : List ℕ = decimal h.offset ++ (codes " " ++ third) in
-    rw (
-      count_back h.number (codes " " ++ second) fits.number refl,
-      count_back h.offset (codes " " ++ third) fits.offset refl,
-      start_back h.start (codes " " ++ last) fits.start refl,
-      ratio_back h.rate rest fits.rate e,
-    ) refl
+some_head_back h rest fits e = search (arith, count_back, start_back, ratio_back)
 
 pub head_back : (h : Option Head) (rest : List ℕ) → IfSome h HasHead → Ends rest
     → head_at (text_or_none head_text h ++ rest) ≡ Some (h, rest)
@@ -112,17 +103,7 @@ head_back h rest h1 h2 = grind (arith, ratio_then, head_leading, digits_no_word,
 some_tail_back : (t : Tail) (rest : List ℕ) → HasTail t → some_tail_at (tail_then t rest) ≡ Some (t, rest)
 unfolding some_tail_at
 some_tail_back t rest fits =
-    let last : List ℕ = codes " " ++ (leap_text t.leap ++ rest) in
-    let third : List ℕ = ratio_then t.rate last in
-    let second : List ℕ = decimal t.samples ++ (codes " " ++ third) in
-    rw (
-      start_back t.start (codes " " ++ second) fits.start refl,
-      number_back (2 ^ 16 - 1) t.samples (codes " " ++ third) (omega (arith, fits.samples))
-          (omega (arith, fits.samples)) refl,
-      ratio_back t.rate last fits.rate refl,
-      leap_back t.leap rest,
-      lt-ltb 0 t.samples fits.some,
-    ) refl
+    search (arith, start_back, number_back, ratio_back, leap_back, lt-ltb)
 
 pub tail_back : (t : Option Tail) (rest : List ℕ) → IfSome t HasTail
     → tail_at (text_or_none tail_text t ++ rest) ≡ Some (t, rest)

@@ -39,13 +39,9 @@ count_snoc : (cs : List (List ℕ × Channel)) (c : List ℕ × Channel)
     → broken_count (map verdict_at (cs ++ c ∷ [])) ≡ broken_count (map verdict_at cs) + broken_by c.1.findings
 count_snoc [] c = count_one c.0 c.1.records c.1.samples c.1.findings []
 count_snoc (d ∷ cs) c =
-    let one : broken_count (map verdict_at (d ∷ (cs ++ c ∷ [])))
-    ≡ broken_count (map verdict_at (cs ++ c ∷ [])) + broken_by d.1.findings =
-    count_one d.0 d.1.records d.1.samples d.1.findings (cs ++ c ∷ []) in
-    let before : broken_count (map verdict_at (d ∷ cs)) ≡ broken_count (map verdict_at cs) + broken_by d.1.findings =
-    count_one d.0 d.1.records d.1.samples d.1.findings cs in
-    let later : broken_count (map verdict_at (cs ++ c ∷ []))
-    ≡ broken_count (map verdict_at cs) + broken_by c.1.findings = count_snoc cs c in
+    let one = count_one d.0 d.1.records d.1.samples d.1.findings (cs ++ c ∷ []) in
+    let before = count_one d.0 d.1.records d.1.samples d.1.findings cs in
+    let later = count_snoc cs c in
     omega (arith, one, before, later)
 
 -- the count with one more

@@ -1,12 +1,12 @@
 -- No line of the texts of parts is bad.
 use Rattle.std.proofs.Common.{◌≡◌, ◌≢◌, ◌⊎◌, ℕ, ◌++◌, List, [], ◌∷◌, Bool, true, inl, inr, refl, sym, ap, ◌∙◌, subst}
-use Rattle.std.proofs.Common.{append_assoc, append-nil, ⊎_elim, arith}
+use Rattle.std.proofs.Common.{append_assoc, append-nil, arith}
 use Rattle.mseed_stream.specs.Device.{BytesRead}
 use Rattle.mseed_join.specs.Lines.{Line, IsLine, text_of_line}
 use Rattle.mseed_join.specs.Headline.{IsReadOf}
 use Rattle.mseed_join.specs.Joined.{Begins, HasNoEnd, IsBadLine, IsJointOf, lacks, unended, wrong}
 use Rattle.mseed_join.specs.Written.{Spells, Written}
-use Rattle.mseed_join.proofs.Ended.{IsEnded, ended}
+use Rattle.mseed_join.proofs.Ended.{ended}
 use Rattle.mseed_join.proofs.Machine.{AreAll, lines_text, texts_all, texts_are}
 
 -- nothing, or bytes up to an LF
@@ -14,18 +14,13 @@ abbrev IsClosed : List ℕ → Type 0
 IsClosed bytes = (bytes ≡ []) ⊎ ((first : List ℕ) × (bytes ≡ first ++ 10 ∷ []))
 
 closed_more : (x : Line) (rest : List ℕ) → IsLine x → IsClosed rest → IsClosed (text_of_line x ++ rest)
-closed_more x rest l closed =
-    let it : IsEnded (text_of_line x) = ended x l in
-    ⊎_elim
-    (λ (e : rest ≡ []). inr (
-      it.body,
-      ap (λ (xs : List ℕ). text_of_line x ++ xs) e ∙ append-nil (text_of_line x) ∙ it.is,
-    ))
-    (λ (e : (first : List ℕ) × (rest ≡ first ++ 10 ∷ [])). inr (
-      text_of_line x ++ e.0,
-      ap (λ (xs : List ℕ). text_of_line x ++ xs) e.1 ∙ sym (append_assoc (text_of_line x) e.0 (10 ∷ [])),
-    ))
-    closed
+closed_more x rest l (inl none) =
+    let it = ended x l in
+    inr (it.body, ap (λ (xs : List ℕ). text_of_line x ++ xs) none ∙ append-nil (text_of_line x) ∙ it.is)
+closed_more x rest l (inr (first, is)) = inr (
+  text_of_line x ++ first,
+  ap (λ (xs : List ℕ). text_of_line x ++ xs) is ∙ sym (append_assoc (text_of_line x) first (10 ∷ [])),
+)
 
 lines_closed : (xs : List Line) → AreAll xs → IsClosed (lines_text xs)
 lines_closed [] h = inl refl

@@ -23,8 +23,7 @@ first_known archive h a read =
     let all = a.audited.all in
     let records : List ℕ = concat (bytes_in a.audited.views) in
     let left : List ℕ = read_from all.offset h ++ read.rest in
-    let whole : archive ≡ records ++ left =
-    read.bytes ∙ ap (λ (xs : List ℕ). xs ++ read.rest) (read_joined h a.audited.views a.audited.end all)
+    let whole = read.bytes ∙ ap (λ (xs : List ℕ). xs ++ read.rest) (read_joined h a.audited.views a.audited.end all)
     ∙ append_assoc records (read_from all.offset h) read.rest in
     let size : a.written.part.bytes ≡ length records = a.part.bytes ∙ sym (sizes a.audited.views) in
     record {

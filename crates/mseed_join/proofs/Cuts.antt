@@ -8,7 +8,7 @@ use Rattle.std.specs.List.{concat, AllByRecursion}
 use Rattle.std.specs.Option.{option_map}
 use Rattle.mseed_record.specs.Record.{IsRecord}
 use Rattle.mseed_record.specs.View.{View, IsView}
-use Rattle.mseed_stream.specs.Archive.{End, IsArchive, IsEndOf, clean, frame, is_clean, is_frame}
+use Rattle.mseed_stream.specs.Archive.{End, IsArchive, IsEndOf, frame, is_clean, is_frame}
 use Rattle.mseed_stream.specs.Cutting.{read_from}
 use Rattle.mseed_stream.specs.Device.{BytesRead}
 use Rattle.mseed_stream.specs.Walk.{AreAllViews, IsEnd, bytes_in}
@@ -138,11 +138,7 @@ known archive h views end read all by =
 
 -- nothing
 pub known_none : IsKnown [] [] None
-known_none = record {
-  rest = [];
-  cut = record { views_are = tt; joined = refl };
-  ends = record { at = clean; is = is_clean refl; end_is = refl };
-}
+known_none = search (arith, is_clean)
 
 -- an archive after another, which ends without a fault
 pub known_after : (first second : List ℕ) (xs ys : List View) (before end : Option StreamFault) → before ≡ None

@@ -18,9 +18,9 @@ abbrev pub Ends : List ℕ → Type 0
 Ends [] = Unit {0}
 Ends (b ∷ bs) = is_digit b ≡ false
 
-pub bind_some : {A B : Type 0} (o : Option A) (f : A → Option B) (y : B) → (o >>= f) ≡ Some y
-    → (x : A) × ((o ≡ Some x) × (f x ≡ Some y))
-bind_some o f y h1 = grind (arith, none-some)
+pub bind_then : {A B P : Type 0} (o : Option A) (f : A → Option B) (y : B) → (o >>= f) ≡ Some y
+    → ((x : A) → o ≡ Some x → f x ≡ Some y → P) → P
+bind_then o f y h1 h2 = grind (arith, none-some)
 
 -- ---- words
 pub word_after : (word bytes rest : List ℕ) → after word bytes ≡ Some rest → bytes ≡ word ++ rest
@@ -67,11 +67,8 @@ chosen n some few = decimal_by_steps_wide (λ m ds. 0 < m → Chosen m ds) chose
 more_ends : (n : ℕ) (rest : List ℕ) → Ends rest → more_at n rest ≡ (n, rest)
 more_ends n rest h1 = grind arith
 
-le_true : (a b : ℕ) → a ≤ b → nat_le a b ≡ true
-le_true a b l = grind (arith, nat_tests)
-
 within_is : (largest n : ℕ) (rest : List ℕ) → n ≤ largest → within largest (n, rest) ≡ Some (n, rest)
-within_is largest n rest l = ap (λ (t : Bool). cond t (Some (n, rest)) None) (le_true n largest l)
+within_is largest n rest l = grind (arith, nat_tests)
 
 number_from : (largest b : ℕ) (bs : List ℕ) → 49 ≤ b → b ≤ 57
     → number_at largest (b ∷ bs) ≡ within largest (more_at (b - 48) bs)
@@ -106,18 +103,8 @@ more_after : (n : ℕ) (bs : List ℕ) → 0 < n → (more_at n bs).0 < 10 ^ 64
     → decimal n ++ bs ≡ decimal (more_at n bs).0 ++ (more_at n bs).1
 more_after n [] some few = refl
 more_after n (b ∷ bs) some few =
-    search (
-      arith,
-      digit_after,
-      is_low,
-      is_high,
-      grows,
-      append_assoc,
-      more_after (10 * n + (b - 48)) bs (omega (
-        arith,
-        some,
-      )),
-    )
+    let later = more_after (10 * n + (b - 48)) bs (omega (arith, some)) in
+    search (arith, digit_after, is_low, is_high, grows, append_assoc, later)
 
 within_some : (largest : ℕ) (x y : ℕ × List ℕ) → within largest x ≡ Some y → (x ≡ y) × (x.0 ≤ largest)
 within_some largest x y e = search (arith, nat_le, nat_tests)
@@ -137,8 +124,7 @@ number_spelled largest (b ∷ bs) x few e = by (nat_eq b 48) refl (is_digit b) r
         → cond t (Some (0, bs)) (cond u (within largest (more_at (b - 48) bs)) None) ≡ Some x
         → IsNumber largest (b ∷ bs) x
     by true k u d h =
-        let value : (0, bs) ≡ x =
-        ap (λ (o : Option (ℕ × List ℕ)). elim o as (λ _. ℕ × List ℕ) [ Some z ↦ z | None ↦ x ]) h in
+        let value = ap (λ (o : Option (ℕ × List ℕ)). elim o as (λ _. ℕ × List ℕ) [ Some z ↦ z | None ↦ x ]) h in
         let first : b ≡ 48 = grind (arith, nat_tests) in
         subst (λ (y : ℕ × List ℕ). IsNumber largest (b ∷ bs) y) value
         (record {
@@ -197,23 +183,11 @@ pub record Begins (n : ℕ) : Type 0 where
   pub high : first ≤ 57
 
 pub begins : (n : ℕ) → n < 10 ^ 64 → Begins n
-begins zero few = record {
-  first = 48;
-  others = [];
-  is = decimal_digit 0 (omega arith);
-  low = omega arith;
-  high =
-      omega arith;
-}
-begins (suc m) few = let c : Chosen (suc m) (decimal (suc m)) =
-    chosen (suc m) (omega arith) few in record {
-      first = c.first;
-      others = c.others;
-      is = c.is;
-      low =
-          omega (arith, c.low);
-      high = c.high;
-    }
+begins zero few =
+    record { first = 48; others = []; is = decimal_digit 0 (omega arith); low = omega arith; high = omega arith }
+begins (suc m) few =
+    let c = chosen (suc m) (omega arith) few in
+    record { first = c.first; others = c.others; is = c.is; low = omega (arith, c.low); high = c.high }
 
 -- within these sizes, below 0 and above
 abbrev pub IsWithin : ℕ → ℕ → ℤ → Type 0
@@ -234,8 +208,7 @@ pub integer_back : (below above : ℕ) (z : ℤ) (rest : List ℕ) → below < 1
     → Ends rest → integer_at below above (signed_decimal z ++ rest) ≡ Some (z, rest)
 integer_back below above (pos n) rest low high l e =
     let b : Begins n = begins n (omega (arith, l, high)) in
-    let read : number_at above (b.first ∷ (b.others ++ rest)) ≡ Some (n, rest) =
-    ap (λ (ds : List ℕ). number_at above (ds ++ rest)) (sym b.is)
+    let read = ap (λ (ds : List ℕ). number_at above (ds ++ rest)) (sym b.is)
     ∙ number_back above n rest l (omega (arith, l, high)) e in
     ap (λ (ds : List ℕ). integer_at below above (ds ++ rest)) b.is
     ∙ integer_from below above b.first (b.others ++ rest) (n, rest) b.low read
@@ -261,11 +234,9 @@ integer_after below above (b ∷ bs) x low high e = by (nat_eq b 45) refl e
     by : (t : Bool) → nat_eq b 45 ≡ t
         → cond t (number_at below bs >>= negated) (number_at above (b ∷ bs) >>= λ n. Some (pos n.0, n.1)) ≡ Some x
         → IsInteger below above (b ∷ bs) x
-    by true k h =
-        let read = bind_some (number_at below bs) negated x h in
-        less read.0 (number_spelled below bs read.0 low read.1.0) (grind (arith, nat_tests)) read.1.1
+    by true k h = bind_then (number_at below bs) negated x h (λ y read given.
+        less y (number_spelled below bs y low read) (grind (arith, nat_tests)) given)
     by false k h =
-        let read = bind_some (number_at above (b ∷ bs)) (λ n. Some (pos n.0, n.1)) x h in
-        let is : IsNumber above (b ∷ bs) read.0 = number_spelled above (b ∷ bs) read.0 high read.1.0 in
-        subst (λ (z : ℤ × List ℕ). IsInteger below above (b ∷ bs) z) (same_Some (pos read.0.0, read.0.1) x read.1.1)
-        (is.is, is.bounded)
+        bind_then (number_at above (b ∷ bs)) (λ n. Some (pos n.0, n.1)) x h (λ y read given.
+        let is = number_spelled above (b ∷ bs) y high read in
+        rw (← same_Some (pos y.0, y.1) x given) (is.is, is.bounded))

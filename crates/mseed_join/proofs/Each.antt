@@ -8,8 +8,8 @@ use Rattle.mseed_stream.proofs.Gathered.{all_behind, all_written, cut_part, firs
 use Rattle.mseed_stream.proofs.Gathered.{gathered_written, part_after, part_of}
 use Rattle.mseed_audit.specs.Summary.{IsWritten}
 use Rattle.mseed_join.specs.declared.joining.Joined.{Joined as Answer}
-use Rattle.mseed_join.specs.declared.fault.JoinsFault.{JoinsFault}
-use Rattle.mseed_join.specs.declared.fault.JoinsFault.TheVariants.{Line, Count, Stream, Write, Memory}
+use Rattle.mseed_join.specs.declared.fault.JoinFault.{JoinFault}
+use Rattle.mseed_join.specs.declared.fault.JoinFault.TheVariants.{Line, Count, Stream, Write, Memory}
 use Rattle.mseed_join.specs.declared.joint.Joint.{Joint}
 use Rattle.mseed_join.specs.declared.joint.JointPart.{JointPart}
 use Rattle.mseed_join.specs.declared.joint.Reported.{Reported}
@@ -47,8 +47,8 @@ pub on_way : {A : Type 0} {past : Bool} {old now : BytesRead} {before after : Re
 on_way reported u step passed on = search (arith, reported_more)
 
 -- no line was read
-pub none_read_yet : {past : Bool} {expected : Option ℕ} {now : BytesRead} {fault : JoinsFault} {first : BytesWritten}
-    {Cuts : List Border → JoinsFault → Type 0} {Stops : List Border → JoinsFault → JoinsFault → Type 0}
+pub none_read_yet : {past : Bool} {expected : Option ℕ} {now : BytesRead} {fault : JoinFault} {first : BytesWritten}
+    {Cuts : List Border → JoinFault → Type 0} {Stops : List Border → JoinFault → JoinFault → Type 0}
     → now ≡ nothing_read → Stops [] Memory fault → IsUnread fault past expected now first first Cuts Stops
 none_read_yet {past} {now = now} {first = first} begin ends =
     let stop : IsStoppedAt now start = none_read now begin in record {
@@ -66,7 +66,7 @@ module _ {A : Type 0} {past : Bool} {old now : BytesRead} {r : Reader A} {first 
   each_to : IsStoppedAt now u.stage → AreEachTo past now u.found first at
   each_to stop = search arith
 
-  ended_by : (ended : JoinsFault) (expected : Option ℕ) (stop : IsStoppedAt now u.stage)
+  ended_by : (ended : JoinFault) (expected : Option ℕ) (stop : IsStoppedAt now u.stage)
       → IsStoppedBy ended past now u.stage stop → IsEndedBy ended past expected now u.found first at
   ended_by (Line k offset flaw) expected stop by = record {
     bad = record {
@@ -89,7 +89,7 @@ module _ {A : Type 0} {past : Bool} {old now : BytesRead} {r : Reader A} {first 
     abbrev all_parts : AreReadParts past now.bytes (written_of j.so_far) first at
     all_parts = record { parts = parts_at u.stage; spells = e.spells; is_joint = e.joint; reported = u.reported }
 
-    counted_by : (ended : JoinsFault) (expected : Option ℕ) → IsFinished {A = A} j expected (Err ended)
+    counted_by : (ended : JoinFault) (expected : Option ℕ) → IsFinished {A = A} j expected (Err ended)
         → IsEndedBy ended past expected now u.found first at
     counted_by (Count parts due) expected f = record {
       whole = e.at_end;
@@ -118,8 +118,8 @@ module _ {A : Type 0} {past : Bool} {old now : BytesRead} {r : Reader A} {first 
       ),
     )
 
-  module _ {expected : Option ℕ} {fault : JoinsFault} {Cuts : List Border → JoinsFault → Type 0}
-      {Stops : List Border → JoinsFault → JoinsFault → Type 0} (ended : JoinsFault)
+  module _ {expected : Option ℕ} {fault : JoinFault} {Cuts : List Border → JoinFault → Type 0}
+      {Stops : List Border → JoinFault → JoinFault → Type 0} (ended : JoinFault)
       (ends : (found : List Border) → Before found → Stops found ended fault) where
     -- the next line is bad, or can't be read
     pub stopped_at : (stop : IsStoppedAt now u.stage) × IsStoppedBy ended past now u.stage stop
@@ -132,15 +132,15 @@ module _ {A : Type 0} {past : Bool} {old now : BytesRead} {r : Reader A} {first 
     miscounted e f = search (arith, each_to, counted_by)
 
 -- the report failed at the last line
-pub cut_off : {A : Type 0} {past : Bool} {expected : Option ℕ} {now : BytesRead} {r : Reader A} {fault : JoinsFault}
-    {first at : BytesWritten} {Cuts : List Border → JoinsFault → Type 0}
-    {Stops : List Border → JoinsFault → JoinsFault → Type 0}
+pub cut_off : {A : Type 0} {past : Bool} {expected : Option ℕ} {now : BytesRead} {r : Reader A} {fault : JoinFault}
+    {first at : BytesWritten} {Cuts : List Border → JoinFault → Type 0}
+    {Stops : List Border → JoinFault → JoinFault → Type 0}
     → IsUnderWay past now r first at (λ found. Cuts found fault)
     → IsUnread fault past expected now first at Cuts Stops
 cut_off u = record { found = u.found; to = each_to u (along_stops u.along); by = inl u.stands }
 
 -- ---- with no report
-refused_by : (A : Type 0) (fault : JoinsFault) {past : Bool} (expected : Option ℕ) {h : BytesRead} {found : List Border}
+refused_by : (A : Type 0) (fault : JoinFault) {past : Bool} (expected : Option ℕ) {h : BytesRead} {found : List Border}
     {first at : BytesWritten} → AreEachTo past h found first at → IsEndedBy fault past expected h found first at
     → IsReadOutcome {A = A} (Err fault) past expected h first at
 refused_by A (Line k offset flaw) expected to by = by.bad
@@ -149,14 +149,14 @@ refused_by A (Stream fault) expected to by = search arith
 refused_by A Write expected to by = absurd by
 refused_by A Memory expected to by = record { stage = to.stage; lines = to.lines }
 
-unread : (A : Type 0) (fault : JoinsFault) {past : Bool} (expected : Option ℕ) {h : BytesRead} {found : List Border}
+unread : (A : Type 0) (fault : JoinFault) {past : Bool} (expected : Option ℕ) {h : BytesRead} {found : List Border}
     {first at : BytesWritten} → AreEachTo past h found first at
-    → ⊥ ⊎ ((ended : JoinsFault) × (IsEndedBy ended past expected h found first at × (fault ≡ ended)))
+    → ⊥ ⊎ ((ended : JoinFault) × (IsEndedBy ended past expected h found first at × (fault ≡ ended)))
     → IsReadOutcome {A = A} (Err fault) past expected h first at
 unread A fault expected to (inl cut) = absurd cut
 unread A fault expected to (inr (ended, (end, same))) = rw same (refused_by A ended expected to end)
 
-pub unreported : (A : Type 0) (result : Result (JointPart A) JoinsFault) (past : Bool) (expected : Option ℕ)
+pub unreported : (A : Type 0) (result : Result (JointPart A) JoinFault) (past : Bool) (expected : Option ℕ)
     (h : BytesRead) (first at : BytesWritten) (Stands : List Border → Type 0)
     → IsReading result past expected h first at Stands (λ found fault. ⊥) (λ found ended fault. fault ≡ ended)
     → IsReadOutcome result past expected h first at
@@ -190,15 +190,14 @@ module _ {first old : BytesWritten} {text : List ℕ} {found : List Border} (bef
   )
 
   -- what is gathered was written
-  pub flushed : {new : BytesWritten} {whole : List ℕ} (ended : JoinsFault) → whole ≡ text
+  pub flushed : {new : BytesWritten} {whole : List ℕ} (ended : JoinFault) → whole ≡ text
       → new.bytes ≡ old.bytes ++ whole → new.failures ≡ old.failures → IsFlushed first new found ended ended
   flushed {new} ended e bytes fine =
-      let all : AreGathered first new [] (border_lines found) =
-      gathered_written first old new text [] (border_lines found) before.lines (rw e at bytes) refl in
+      let all = gathered_written first old new text [] (border_lines found) before.lines (rw e at bytes) refl in
       inl (record { bytes = all_written first new (border_lines found) [] all refl; fine = fine ∙ before.fine }, refl)
 
   -- or a part of it, before the output failed
-  pub flushed_in_part : {new : BytesWritten} {whole : List ℕ} {taken : ℕ} (ended : JoinsFault) → whole ≡ text
+  pub flushed_in_part : {new : BytesWritten} {whole : List ℕ} {taken : ℕ} (ended : JoinFault) → whole ≡ text
       → new.bytes ≡ old.bytes ++ take taken whole → taken < length whole → new.failures ≡ old.failures + 1
       → IsFlushed first new found ended Write
   flushed_in_part {new} {taken = taken} ended e bytes within failed = inr (
@@ -211,13 +210,13 @@ module _ {first old : BytesWritten} {text : List ℕ} {found : List Border} (bef
 
 module _ {past : Bool} (expected : Option ℕ) {h : BytesRead} {found : List Border} (first new : BytesWritten)
     {reported at : BytesWritten} (to : AreEachTo past h found reported at) where
-  cut_by : (fault : JoinsFault) → IsCutShort first new (border_lines found) fault
+  cut_by : (fault : JoinFault) → IsCutShort first new (border_lines found) fault
       → IsJoinEachOutcome past expected (Err fault) h first new reported at
   cut_by Write cut = (cut.0, inl (found, (to, cut.1)))
   cut_by Memory cut = (cut.0, inl (found, (to, cut.1)))
   cut_by _ cut = absurd cut
 
-  written_by : (ended : JoinsFault) → IsEndedBy ended past expected h found reported at
+  written_by : (ended : JoinFault) → IsEndedBy ended past expected h found reported at
       → IsWritten (border_lines found) first new → IsJoinEachOutcome past expected (Err ended) h first new reported at
   written_by (Stream fault) by written = (found, (to, written, by.0, by.1))
   written_by Write by written = absurd by
@@ -227,8 +226,8 @@ module _ {past : Bool} (expected : Option ℕ) {h : BytesRead} {found : List Bor
       (written.fine, inl (found, (to, gathered_first first new [] (border_lines found) all)))
   written_by _ by written = (found, (by, written))
 
-  unread_by : (fault : JoinsFault) (Also : Type 0)
-      → (IsCutShort first new (border_lines found) fault × Also) ⊎ ((ended : JoinsFault)
+  unread_by : (fault : JoinFault) (Also : Type 0)
+      → (IsCutShort first new (border_lines found) fault × Also) ⊎ ((ended : JoinFault)
       × (IsEndedBy ended past expected h found reported at × (IsFlushed first new found ended fault × Also)))
       → IsJoinEachOutcome past expected (Err fault) h first new reported at × Also
   unread_by fault Also (inl cut) = (cut_by fault cut.0, cut.1)
@@ -236,7 +235,7 @@ module _ {past : Bool} (expected : Option ℕ) {h : BytesRead} {found : List Bor
   unread_by fault Also (inr (ended, (by, (inr (cut, same), also)))) = (rw same (cut_by Write cut), also)
 
 -- the parts weren't read whole
-pub each_unread : (fault : JoinsFault) (past : Bool) (expected : Option ℕ) (h : BytesRead)
+pub each_unread : (fault : JoinFault) (past : Bool) (expected : Option ℕ) (h : BytesRead)
     (first new reported at : BytesWritten) (Also : Type 0)
     → IsUnread fault past expected h reported at (λ found f. IsCutShort first new (border_lines found) f × Also)
     (λ found ended f. IsFlushed first new found ended f × Also)

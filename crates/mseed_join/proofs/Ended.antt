@@ -50,12 +50,7 @@ plain (b ∷ bs) = cond (nat_eq b 10) false (plain bs)
 
 plain_two : (a b : List ℕ) → plain a ≡ true → plain b ≡ true → plain (a ++ b) ≡ true
 plain_two [] b p q = q
-plain_two (x ∷ a) b p q = by (nat_eq x 10) (λ e. plain_two a b e q) p
-  where
-    by : (t : Bool) → (plain a ≡ true → plain (a ++ b) ≡ true) → cond t false (plain a) ≡ true
-        → cond t false (plain (a ++ b)) ≡ true
-    by true more e = absurd (false≢true e)
-    by false more e = more e
+plain_two (x ∷ a) b p q = search (arith, nat_eq, false≢true, plain_two a b)
 
 digit : (n : ℕ) → plain ((48 + n) ∷ []) ≡ true
 digit n = search (arith, nat_eq, nat_tests)

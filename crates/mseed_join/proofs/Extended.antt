@@ -80,8 +80,7 @@ module _ (a now next : Held) (es : Entries) (key : List ℕ) (c : Channel) (befo
       ≡ channel_joined (kept_of other a.channels)
       (option_map (moved_channel a.records a.bytes) (else_kept (kept_of other es) (cond b (Some c) None)))
   each_by other true e =
-      let none : kept_of other es ≡ None =
-      ap (λ (k : List ℕ). kept_of k es) (same_is other key e) ∙ new in
+      let none = ap (λ (k : List ℕ). kept_of k es) (same_is other key e) ∙ new in
       let left = leaves_kept other es a now none before in
       (λ i. channel_joined (left.kept i) (Some (moved_channel (left.records i) (left.bytes i) c)))
       ∙ ap (λ (o : Option Channel). channel_joined (kept_of other a.channels)

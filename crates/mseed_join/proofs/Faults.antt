@@ -23,6 +23,7 @@ use Rattle.mseed_audit.specs.declared.finding.Why.{Why}
 use Rattle.mseed_audit.specs.declared.finding.Why.TheVariants.{RateChange}
 use Rattle.mseed_audit.specs.Judging.{IsFound, read, after, known_rate, why_after, why_by}
 use Rattle.mseed_audit.specs.Judging.{why_from, why_of}
+use Rattle.std.proofs.ByRecursion.{all_kept_by}
 use Rattle.mseed_join.specs.Lines.{HasReadFault, HasWhy, IsWord}
 use Rattle.mseed_join.proofs.Ranges.{AreOctets, JoinFits, count_small, join_fits, octets_of, rate_within, start_within}
 
@@ -40,10 +41,6 @@ below : (k n m : ℕ) → k + n ≤ m → AllByRecursion (λ i. i < m) (range_wi
 below k zero m h = tt
 below k (suc n) m h = (omega (arith, h), below (k + 1) n m (omega (arith, h)))
 
-kept_below : (m : ℕ) (ks : List ℕ) → AllByRecursion (λ i. i < m) ks → AllByRecursion (λ i. i < m) (filter is_data ks)
-kept_below m [] h = tt
-kept_below m (k ∷ ks) h = search (arith, kept_below m ks h.1)
-
 abbrev IsAt : ℕ → DataWord → Type 0
 IsAt m w = (w.frame < m) × (w.place < 16)
 
@@ -56,15 +53,14 @@ data_words_at : (p : List ℕ) (m : ℕ) → word_count p + 3 ≤ m → AllByRec
 unfolding words_from
 data_words_at p m h =
     let n : ℕ = word_count p - 3 in
-    words_at p m (filter is_data (range_with_len 3 n)) (kept_below m (range_with_len 3 n)
+    words_at p m (filter is_data (range_with_len 3 n)) (all_kept_by is_data (λ i. i < m) (range_with_len 3 n)
     (below 3 n m (omega (arith, h))))
 
 frame_fault : (scheme : Scheme) (p : List ℕ) (n : ℕ) (f : ReadFault) → AreOctets p → length p ≤ 2 ^ 20 → n < 2 ^ 16
     → IsFrameFault scheme p n f → HasReadFault f
 frame_fault scheme p n _ octets small few (short ds run l) = omega (arith, l, few)
 frame_fault scheme p n _ octets small few (bad_word before bad back ds cut run l none) =
-    let all : AllByRecursion (IsAt (2 ^ 30)) (before ++ bad ∷ back) =
-    subst (λ (ws : List DataWord). AllByRecursion (IsAt (2 ^ 30)) ws) cut
+    let all = subst (λ (ws : List DataWord). AllByRecursion (IsAt (2 ^ 30)) ws) cut
     (data_words_at p (2 ^ 30) (omega (arith, small, div-le_self (length p) 64))) in
     let it = middle (IsAt (2 ^ 30)) before bad back all in
     (omega (arith, it.0), omega (arith, it.1))

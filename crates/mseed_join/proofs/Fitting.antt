@@ -39,11 +39,8 @@ findings_move : (d e : ℕ) (f : Findings) → HasFindings (moved_findings d e f
     → (HeadFits d e (head_in f) × FirstFits d e f) × CountFits f
 findings_move d e f h1 = grind (arith, if_head)
 
-findings_count : (f : Findings) → HasFindings f → CountFits f
-findings_count f h1 = grind arith
-
 counts_of : (key : List ℕ) (c : Channel) → HasChannelLine key c → CountsFit c
-counts_of key c l = (l.records, l.samples, findings_count c.findings l.findings)
+counts_of key c l = grind arith
 
 -- the records of a channel, after others
 ones_moved : (key : List ℕ) (n size d e all whole : ℕ) (ps : List Placed) → d + n ≤ all → e + size ≤ whole
@@ -84,8 +81,7 @@ module _ (a w b : Held) (vs xs : List View) (p : IsPartOf a vs) (q : IsPartOf w 
       (moves.0, (line.records, line.samples, moves.1))
   fits_at key (Some c) (Some o) e f =
       let line = moved_line key o f in
-      let both : kept_of key b.channels ≡ Some (channel_then c (moved_channel a.records a.bytes o)) =
-      j.each key ∙ (λ i. channel_joined (e i) (option_map (moved_channel a.records a.bytes) (f i))) in
+      let both = j.each key ∙ (λ i. channel_joined (e i) (option_map (moved_channel a.records a.bytes) (f i))) in
       let joint = joint_line key (channel_then c (moved_channel a.records a.bytes o)) both in (
         (findings_move a.records a.bytes o.findings line.findings).0,
         counts_of key (channel_then c (moved_channel a.records a.bytes o)) joint,

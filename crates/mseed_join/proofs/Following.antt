@@ -67,8 +67,7 @@ found_after only (Some t) b None q why tail head k =
     record { further = why; found = own_after only b q why head.0 head.1 k; is = refl }
 found_after only None b (Some h) q why tail head k =
     let is : why ≡ None = only None q.view why None k head.sound in
-    let nothing : why_after (Some b) q.view h.rate ≡ why =
-    ap (λ (r : Option Ratio). why_from b r q.view h.rate) tail ∙ sym is in
+    let nothing = ap (λ (r : Option Ratio). why_from b r q.view h.rate) tail ∙ sym is in
     record {
       further = why;
       found = subst (λ (x : Option Why). IsFound (Some b) q.view x) nothing

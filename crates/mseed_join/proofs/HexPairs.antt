@@ -35,8 +35,7 @@ module _ (bytes values : List ℕ) (room : 8 ≤ length bytes)
       → bytes_at (suc n) done (drop k bytes)
       ≡ bytes_at n (done ++ (16 * get_or values k 0 + get_or values (k + 1) 0) ∷ []) (drop (k + 1 + 1) bytes)
   pair_at k l n done =
-      let there : drop k bytes ≡ get_or bytes k 0 ∷ get_or bytes (k + 1) 0 ∷ drop (k + 1 + 1) bytes =
-      drop_more bytes k 0 (omega (arith, l, room))
+      let there = drop_more bytes k 0 (omega (arith, l, room))
       ∙ ap (λ (xs : List ℕ). get_or bytes k 0 ∷ xs) (drop_more bytes (k + 1) 0 (omega (arith, l, room))) in
       ap (λ (xs : List ℕ). bytes_at (suc n) done xs) there
       ∙ ap (λ (o : Option ℕ). read_by n done (drop (k + 1 + 1) bytes) o (nibble_of (get_or bytes (k + 1) 0)))

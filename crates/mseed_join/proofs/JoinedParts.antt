@@ -42,8 +42,7 @@ findings_one f g found h1 h2 h3 h4 = grind arith
 
 stands_one : HaveOneFinding → HaveOneList → (c o : Channel) (ps : List Placed) → Stands c ps → Stands o ps → c ≡ o
 stands_one only single c o ps s t =
-    let records : c.records ≡ o.records = s.records ∙ sym t.records in
-    let samples : c.samples ≡ o.samples = s.samples ∙ sym t.samples in
+    let samples = s.samples ∙ sym t.samples in
     let begin : s.first ∷ s.rest ≡ t.first ∷ t.rest = sym s.begins ∙ t.begins in
     let first : s.first ≡ t.first = cc (begin) in
     let end : Some s.last.view ≡ Some t.last.view = sym (last_is ps s.prefix s.last s.ends)
@@ -53,7 +52,7 @@ stands_one only single c o ps s t =
     let tail : tail_in c.findings ≡ tail_in o.findings = search (arith, tail_one) in
     let found : s.found ≡ t.found = single None ps s.found t.found s.are_found t.are_found in
     let findings : c.findings ≡ o.findings = search (arith, findings_one) in
-    λ i. record { records = records i; samples = samples i; findings = findings i }
+    λ i. record { records = (s.records ∙ sym t.records) i; samples = samples i; findings = findings i }
 
 none_begins : (c : Channel) (ps : List Placed) → ps ≡ [] → Stands c ps → ⊥
 none_begins c ps e s = let no : [] ≡ s.first ∷ s.rest = sym e ∙ s.begins in cc (no)
@@ -86,11 +85,8 @@ head_still h = search arith
 finding_still : (f : Finding) → moved_finding 0 0 f ≡ f
 finding_still f = search arith
 
-heads_still : (h : Option Head) → option_map (moved_head 0 0) h ≡ h
-heads_still h = grind (arith, head_still)
-
 findings_still : (f : Findings) → moved_findings 0 0 f ≡ f
-findings_still f = grind (arith, head_still, finding_still, heads_still)
+findings_still f = grind (arith, head_still, finding_still)
 
 kept_still : (o : Option Channel) → option_map (moved_channel 0 0) o ≡ o
 kept_still o = grind (arith, findings_still)

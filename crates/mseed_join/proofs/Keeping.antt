@@ -24,8 +24,7 @@ use Rattle.mseed_join.proofs.Turns.{InTurn}
 pub within_push : (es : Entries) (code : List ℕ) (c : Channel) → AreWithin es → IsWithin c
     → AreWithin (es ++ (code, c) ∷ [])
 within_push es code c all one =
-    let values : values_of (es ++ (code, c) ∷ []) ≡ values_of es ++ c ∷ [] =
-    map-append (λ (e : List ℕ × Channel). e.1) es ((code, c) ∷ []) in
+    let values = map-append (λ (e : List ℕ × Channel). e.1) es ((code, c) ∷ []) in
     subst (λ (cs : List Channel). All (λ d. IsWithin d) cs) (sym values)
     (All-push (λ (d : Channel). IsWithin d) (values_of es) c all one)
 

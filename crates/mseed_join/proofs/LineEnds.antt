@@ -33,8 +33,7 @@ end_at bytes within = search (arith, passes_at_first, eqb_tells)
 
 pub no_end_found : (bytes : List ℕ) → position (λ b. b == 10) bytes ≡ None → HasNoEnd bytes
 no_end_found bytes lacks = elim (leb_tells (suc (first_end bytes)) (length bytes)) [
-  | inl within ↦ absurd (let e : Some (first_end bytes) ≡ None =
-      ap (λ t. cond t (Some (first_end bytes)) None) (sym within.0) ∙ lacks in cc e)
+  | inl within ↦ absurd (let e = ap (λ t. cond t (Some (first_end bytes)) None) (sym within.0) ∙ lacks in cc e)
   | inr farther ↦ subst HasNoEnd (take_all (first_end bytes) bytes (omega (arith, farther.1))) (none_before bytes)
 ]
 
@@ -46,8 +45,7 @@ pub end_found : (bytes : List ℕ) (k : ℕ) → position (λ b. b == 10) bytes 
     → IsWholeLine (take (k + 1) bytes) × (k < length bytes)
 end_found bytes k some =
     let there = found_is bytes k some in
-    let whole : take (first_end bytes + 1) bytes ≡ take (first_end bytes) bytes ++ 10 ∷ [] =
-    take_more bytes (first_end bytes) 0 there.1
+    let whole = take_more bytes (first_end bytes) 0 there.1
     ∙ ap (λ (b : ℕ). take (first_end bytes) bytes ++ b ∷ []) (end_at bytes there.1) in (
       subst (λ (n : ℕ). IsWholeLine (take (n + 1) bytes)) there.0
           (take (first_end bytes) bytes, none_before bytes, whole),
@@ -71,8 +69,7 @@ no_end_farther bytes at place within lacks found =
     let long : length (take 32 (drop at bytes)) ≡ 32 = length-chunk at 32 bytes within in
     let few : place ≤ 32 =
     omega (arith, found, long, prefix_len-le-length (λ b. not (b == 10)) (take 32 (drop at bytes))) in
-    let more : HasNoEnd (take place (drop at bytes)) =
-    subst HasNoEnd (take-take place 32 (drop at bytes) few)
+    let more = subst HasNoEnd (take-take place 32 (drop at bytes) few)
     (subst (λ (n : ℕ). HasNoEnd (take n (take 32 (drop at bytes)))) (sym found)
     (none_before (take 32 (drop at bytes)))) in (
       few,

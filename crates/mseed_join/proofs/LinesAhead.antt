@@ -11,15 +11,15 @@ use Rattle.std.proofs.Math.Seq.{take-add}
 use Rattle.std.proofs.KnownBytes.{Consumes-nil, Consumes-trans}
 use Rattle.std.specs.Io.KnownBytes.{IsAtEnd}
 use Rattle.mseed_stream.specs.Calls.{ReadsOn}
-use Rattle.mseed_stream.specs.Device.{Beside, BytesRead, nothing_read}
-use Rattle.mseed_stream.specs.Fault.{IsStreamFault}
+use Rattle.mseed_stream.specs.Device.{Beside, BytesRead}
 use Rattle.mseed_stream.specs.declared.fault.StreamFault.{StreamFault}
 use Rattle.mseed_stream.specs.declared.fault.StreamFault.TheVariants.{Frame, Read, Turns}
 use Rattle.mseed_join.specs.declared.line_reader.NextLine.{NextLine}
 use Rattle.mseed_join.specs.declared.line_reader.NextLine.TheVariants.{Unended, Nothing}
 use Rattle.mseed_join.specs.Joined.{AreLines}
+use Rattle.mseed_join.specs.ReadParts.{IsReadFault}
 use Rattle.mseed_join.specs.private.LineReading.{LinesRead, Grows, GrowsTo, IsReadBy}
-use Rattle.mseed_join.specs.private.LineReading.{GoesOn, IfGoesOn, IsLineAhead, IsReadFault}
+use Rattle.mseed_join.specs.private.LineReading.{GoesOn, IfGoesOn, IsLineAhead, IsFaultOfOneRead}
 use Rattle.mseed_join.proofs.LineEnds.{lines_more}
 
 -- n bytes more after those that are held
@@ -33,8 +33,7 @@ pub held_parts : (items : List ℕ) (begin size end : ℕ) → slice_range items
     ≡ take size (slice_range items begin end) ++ slice_range items (begin + size) end
 held_parts items begin size end =
     let held : List ℕ = slice_range items begin end in
-    let rest : drop size held ≡ slice_range items (begin + size) end =
-    ap (λ (xs : List ℕ). drop size xs) (between_is items begin end)
+    let rest = ap (λ (xs : List ℕ). drop size xs) (between_is items begin end)
     ∙ (drop-drop size begin (take end items) ∙ sym (between_is items (begin + size) end)) in
     sym (take-append-drop size held) ∙ ap (λ (xs : List ℕ). take size held ++ xs) rest
 
@@ -90,14 +89,9 @@ read_by_passed {r = r} {after = after} ahead held lines counts is =
       reported = is.reported ∙ ap (λ (xs : List ℕ). is.passed ++ xs) held
           ∙ sym (append_assoc is.passed line after.held);
       lines = rw lines more;
-      bytes = omega (
-        arith,
-        counts.0,
-        is.bytes,
-        ap length held,
-        length-append line after.held,
-        length-append is.passed line,
-      );
+      bytes =
+          let size = ap length held ∙ length-append line after.held in
+          omega (arith, counts.0, is.bytes, size, length-append is.passed line);
       calls = is.calls ∙ sym counts.1;
     }
 
@@ -118,7 +112,7 @@ failed_before true e silent = absurd (cc (silent refl))
 failed_before false e silent = refl
 
 -- a read that failed gave no end
-pub no_end_by : (e : StreamFault) (after : LinesRead) (old new : BytesRead) → IsReadFault e after old new
+pub no_end_by : (e : StreamFault) (after : LinesRead) (old new : BytesRead) → IsFaultOfOneRead e after old new
     → GoesOn old → new.is_at_end ≡ false
 no_end_by (Read n) after old new fault goes = fault.2
 no_end_by (Turns n) after old new fault goes = ap (λ (h : BytesRead). h.is_at_end) fault.2 ∙ goes.is_at_end
@@ -141,8 +135,8 @@ if_it_does Nothing X x = tt
 if_it_does _ X x = x
 
 -- the fault of one read is that of all
-pub fault_since : (e : StreamFault) (old new : BytesRead) (after : LinesRead) → IsReadFault e after old new
-    → IsReadBy new after → GoesOn old → IsStreamFault e nothing_read new
+pub fault_since : (e : StreamFault) (old new : BytesRead) (after : LinesRead) → IsFaultOfOneRead e after old new
+    → IsReadBy new after → GoesOn old → IsReadFault e new
 fault_since (Read n) old new after fault is goes = search (arith, length-append)
 fault_since (Turns n) old new after fault is goes = search (arith, length-append)
 fault_since (Frame n f) old new after fault is goes = absurd fault

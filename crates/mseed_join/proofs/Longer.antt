@@ -65,13 +65,8 @@ from_more : (order : Order) (prefix more : List ℕ) (low o : ℕ) (os : List �
     → DecidesFrom order prefix low o os (Not f) → DecidesFrom order (prefix ++ more) low o os (Not f)
 from_more order prefix more low o [] f some d = at_offset_more order prefix more low o f d
 from_more order prefix more low o (p ∷ os) f some d =
-    search (
-      arith,
-      none_within,
-      number_more,
-      none_more,
-      from_more order prefix more (o + 4) (next_at order prefix o) os f (omega arith) d.2,
-    )
+    let later = from_more order prefix more (o + 4) (next_at order prefix o) os f (omega arith) d.2 in
+    search (arith, none_within, number_more, none_more, later)
 
 pub refused_more : (prefix more : List ℕ) (f : FrameFault) → Decides prefix (Not f) → Decides (prefix ++ more) (Not f)
 refused_more prefix more _ (version3 e) = version3 (version3_more prefix more (version3_long prefix e) ∙ e)
@@ -82,8 +77,7 @@ refused_more prefix more _ (no_order e l k m) =
     no_order (version3_more prefix more (omega (arith, l)) ∙ e) (omega (arith, l, length-append prefix more))
     (fixed_more prefix more l ∙ k) (order_more prefix more l ∙ m)
 refused_more prefix more f (by_chain order os _ e l k m d) =
-    let begins : blockette_at order (prefix ++ more) ≡ blockette_at order prefix =
-    number_more order prefix more 46 (omega (arith, l)) in
+    let begins = number_more order prefix more 46 (omega (arith, l)) in
     by_chain order os (Not f) (version3_more prefix more (omega (arith, l)) ∙ e)
     (omega (arith, l, length-append prefix more)) (fixed_more prefix more l ∙ k) (order_more prefix more l ∙ m)
     (subst (λ (n : ℕ). DecidesFrom order (prefix ++ more) 48 n os (Not f)) (sym begins)

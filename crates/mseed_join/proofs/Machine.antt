@@ -1,5 +1,5 @@
 -- Parts as lists of lines, and how reading goes along them.
-use Rattle.std.proofs.Common.{◌≡◌, ℕ, zero, suc, ◌+◌, ◌<◌, ◌^◌, List, [], ◌∷◌, ◌++◌, length, Option, Some, None}
+use Rattle.std.proofs.Common.{◌≡◌, ℕ, zero, suc, ◌<◌, ◌^◌, List, [], ◌∷◌, ◌++◌, length, Option, Some, None}
 use Rattle.std.proofs.Common.{refl, sym, ap, ◌∙◌, subst, arith, append_assoc, append-nil, IfSome}
 use Rattle.std.specs.List.{AllByRecursion}
 use Rattle.std.proofs.ByRecursion.{All-append}
@@ -98,15 +98,7 @@ end_are : (bytes : ℕ) (end : Option StreamFault) → IfSome end (λ f. HasFaul
 end_are bytes end h1 = grind arith
 
 pub part_are : (w : Written) → HasText w → AreAll (part_rows w)
-part_are w h = (
-  tt,
-  All-append IsLine (rows w.part.channels) (counts w.part.records w.part.bytes ∷ (faults_row w.faults
-      ++ end_row w.part.bytes w.end)) (rows_are w.part.channels h.channels) (
-        h.counts,
-        All-append IsLine (faults_row w.faults) (end_row w.part.bytes w.end) (faults_are w.faults h.faults)
-            (end_are w.part.bytes w.end h.end),
-      ),
-)
+part_are w h = search (arith, All-append, rows_are, faults_are, end_are)
 
 pub texts_all : (ws : List Written) → AllByRecursion HasText ws → AreAll (all_rows ws)
 texts_all [] h = tt
@@ -126,9 +118,8 @@ pub record LeavesLines (ys xs : List Line) (rest : List ℕ) : Type 0 where
 pub nothing_first : (x : Line) (rest : List ℕ) → IsLine x → text_of_line x ++ rest ≡ [] → ⊥
 nothing_first x rest l e =
     let t : IsEnded (text_of_line x) = ended x l in
-    let some : length (text_of_line x) ≡ length t.body + 1 = ap length t.is ∙ length-append t.body (10 ∷ []) in
-    let zero_all : length (text_of_line x ++ rest) ≡ 0 = ap length e in
-    absurd (omega (arith, some, zero_all, length-append (text_of_line x) rest))
+    let some = ap length t.is ∙ length-append t.body (10 ∷ []) in
+    absurd (omega (arith, some, ap length e, length-append (text_of_line x) rest))
 
 pub first_same : (x y : Line) (r s : List ℕ) → IsLine x → IsLine y → text_of_line x ++ r ≡ text_of_line y ++ s
     → (x ≡ y) × (r ≡ s)

@@ -1,9 +1,11 @@
 -- What is reported of a channel in two archives one after another: of each alone, and between them.
-use Rattle.std.proofs.Common.{◌≡◌, ℕ, List, [], ◌∷◌, ◌++◌, map, Bool, true, false, cond, Option, Some, None, refl, sym}
+use Rattle.std.proofs.Common.{◌≡◌, ℕ, List, [], ◌∷◌, ◌++◌, map, true, Option, Some, None, refl, sym}
 use Rattle.std.proofs.Common.{ap, ◌∙◌, subst, append-nil, arith}
 use Rattle.std.specs.List.{filter}
 use Rattle.std.specs.Option.{option_map}
 use Rattle.std.proofs.lemmas.List.{map-append}
+use Rattle.std.proofs.ByRecursion.{kept_by_passes}
+use Rattle.std.specs.List.{AllByRecursion}
 use Rattle.mseed_record.specs.Header.{key_at}
 use Rattle.mseed_record.specs.View.{View}
 use Rattle.mseed_time.specs.Rate.{Ratio}
@@ -145,15 +147,9 @@ reported_joined only key (Some c) (Some o) ps qs reported further s t keys are m
 -- the first record of a channel has its key
 first_with : (key : List ℕ) (ps : List Placed) (q : Placed) (rest : List Placed)
     → filter (λ p. is_of_channel key p.view) ps ≡ q ∷ rest → is_of_channel key q.view ≡ true
-first_with key [] q rest e = cc (e)
-first_with key (p ∷ ps) q rest e = by (is_of_channel key p.view) refl e (λ k. first_with key ps q rest k)
-  where
-    by : (b : Bool) → is_of_channel key p.view ≡ b
-        → cond b (p ∷ filter (λ r. is_of_channel key r.view) ps) (filter (λ r. is_of_channel key r.view) ps) ≡ q ∷ rest
-        → (filter (λ r. is_of_channel key r.view) ps ≡ q ∷ rest → is_of_channel key q.view ≡ true)
-        → is_of_channel key q.view ≡ true
-    by true h k later = let same : p ≡ q = cc (k) in ap (λ (r : Placed). is_of_channel key r.view) (sym same) ∙ h
-    by false h k later = later k
+first_with key ps q rest e =
+    (subst (λ (qs : List Placed). AllByRecursion (λ p. is_of_channel key p.view ≡ true) qs) e
+    (kept_by_passes (λ p. is_of_channel key p.view) ps)).0
 
 moved_first : (key : List ℕ) (d e : ℕ) (ps : List Placed)
     → ((q : Placed) (rest : List Placed) → ps ≡ q ∷ rest → key ≡ key_at q.view.bytes)
@@ -184,8 +180,7 @@ reported_at_key only key a b xs ys first second whole p q alone other all =
     search (arith, reported_joined, stands_at_moved, channel_reported, reported_moved) in
     let records : ours ++ map (moved d e) theirs ≡ records_of key (added_from 0 (xs ++ ys)) =
     (λ i. ours ++ map (moved (p.records i) (p.bytes i)) theirs) ∙ sym (records_append key xs ys) in
-    let same : reported_with key whole ≡ ones ++ (j.between ++ map (moved_reported d e) twos) =
-    reported_one only None (records_of key (added_from 0 (xs ++ ys))) (reported_with key whole)
+    let same = reported_one only None (records_of key (added_from 0 (xs ++ ys))) (reported_with key whole)
     (ones ++ (j.between ++ map (moved_reported d e) twos))
     (channel_reported (added_from 0 (xs ++ ys)) whole key all)
     (subst (λ (ps : List Placed). AreReportedIn None ps (ones ++ (j.between ++ map (moved_reported d e) twos))) records

@@ -98,10 +98,7 @@ one_key : (channels : List (List ℕ × Channel)) (key other line : List ℕ) �
 one_key channels key other line d e = (channel_one key other d.c e.c d.fits e.fits (sym d.is ∙ e.is)).0
 
 one_of : (f g : Flaw) (last : OpenPart) (line : List ℕ) → Told f last line → Told g last line → f ≡ g
-one_of f g none line (inl a) (inl b) = a.0 ∙ sym b.0
-one_of f g none line (inl a) (inr b) = absurd (no_beginning line a.1 b.1)
-one_of f g none line (inr a) (inl b) = absurd (no_beginning line b.1 a.1)
-one_of f g none line (inr a) (inr b) = a.0 ∙ sym b.0
+one_of f g none line one other = grind (arith, no_beginning)
 one_of f g (begun channels) line (inl a) (inl b) =
     a.1.0 ∙ ap (λ (field : Field). Row field) (bad_field_one a.0 b.0 line a.1.1.first b.1.1.first) ∙ sym b.1.0
 one_of f g (begun channels) line (inl a) (inr (inl b)) = absurd (a.1.1.channel b.0 b.1.1.c b.1.1.fits b.1.1.is)
@@ -113,10 +110,7 @@ one_of f g (begun channels) line (inr (inl a)) (inr (inr b)) = absurd (no_order 
 one_of f g (begun channels) line (inr (inr a)) (inl b) = absurd (no_row channels b.0 line b.1.1 a.1)
 one_of f g (begun channels) line (inr (inr a)) (inr (inl b)) = absurd (no_order channels b.0 line b.1.1 a.1)
 one_of f g (begun channels) line (inr (inr a)) (inr (inr b)) = a.0 ∙ sym b.0
-one_of f g (whole w) line (inl a) (inl b) = a.0 ∙ sym b.0
-one_of f g (whole w) line (inl a) (inr b) = absurd (no_ending w line a.1 b.1)
-one_of f g (whole w) line (inr a) (inl b) = absurd (no_ending w line b.1 a.1)
-one_of f g (whole w) line (inr a) (inr b) = a.0 ∙ sym b.0
+one_of f g (whole w) line one other = grind (arith, no_ending)
 
 -- ---- the first line of some bytes
 -- it is whole
@@ -149,38 +143,30 @@ both_whole f g last bytes a b = search (arith, same_line, plain_from, one_of, to
 not_long : (f : Flaw) (last : OpenPart) (bytes : List ℕ) → IsWhole f last bytes → HasNoEnd (take 512 bytes)
     → 512 ≤ length bytes → ⊥
 not_long f last bytes a no_end many =
-    let within : length (take 512 bytes) ≤ length a.body =
-    within_line (take 512 bytes) a.body (drop 512 bytes) a.after (plain_from (take 512 bytes) no_end)
+    let within = within_line (take 512 bytes) a.body (drop 512 bytes) a.after (plain_from (take 512 bytes) no_end)
     (take-append-drop 512 bytes ∙ a.is) in
     omega (arith, within, a.short, many, length-take 512 bytes)
 
 not_unended : (f : Flaw) (last : OpenPart) (bytes : List ℕ) → IsWhole f last bytes → HasNoEnd bytes → ⊥
 not_unended f last bytes a no_end =
-    let within : length bytes ≤ length a.body =
-    within_line bytes a.body [] a.after (plain_from bytes no_end) (append-nil bytes ∙ a.is) in
+    let within = within_line bytes a.body [] a.after (plain_from bytes no_end) (append-nil bytes ∙ a.is) in
     omega (arith, within, ap length a.is, length-append a.body (10 ∷ a.after))
 
 not_missing : (f : Flaw) (last : OpenPart) (bytes : List ℕ) → IsWhole f last bytes → bytes ≡ [] → ⊥
 not_missing f last bytes a e =
     omega (arith, ap length e, ap length a.is, length-append a.body (10 ∷ a.after))
 
+-- where it is whole it lies nowhere else
+one_whole : (f g : Flaw) (last : OpenPart) (bytes : List ℕ) → IsWhole f last bytes → Lies g last bytes → f ≡ g
+one_whole f g last bytes a (inl b) = both_whole f g last bytes a b
+one_whole f g last bytes a (inr (inl b)) = absurd (not_long f last bytes a b.1 b.2)
+one_whole f g last bytes a (inr (inr (inl b))) = absurd (not_unended f last bytes a b.1)
+one_whole f g last bytes a (inr (inr (inr b))) = absurd (not_missing f last bytes a b.1)
+
 one_lie : (f g : Flaw) (last : OpenPart) (bytes : List ℕ) → Lies f last bytes → Lies g last bytes → f ≡ g
-one_lie f g last bytes (inl a) (inl b) = both_whole f g last bytes a b
-one_lie f g last bytes (inl a) (inr (inl b)) = absurd (not_long f last bytes a b.1 b.2)
-one_lie f g last bytes (inl a) (inr (inr (inl b))) = absurd (not_unended f last bytes a b.1)
-one_lie f g last bytes (inl a) (inr (inr (inr b))) = absurd (not_missing f last bytes a b.1)
-one_lie f g last bytes (inr (inl a)) (inl b) = absurd (not_long g last bytes b a.1 a.2)
-one_lie f g last bytes (inr (inl a)) (inr (inl b)) = a.0 ∙ sym b.0
-one_lie f g last bytes (inr (inl a)) (inr (inr (inl b))) = absurd (omega (arith, a.2, b.2))
-one_lie f g last bytes (inr (inl a)) (inr (inr (inr b))) = absurd (omega (arith, a.2, ap length b.1))
-one_lie f g last bytes (inr (inr (inl a))) (inl b) = absurd (not_unended g last bytes b a.1)
-one_lie f g last bytes (inr (inr (inl a))) (inr (inl b)) = absurd (omega (arith, b.2, a.2))
-one_lie f g last bytes (inr (inr (inl a))) (inr (inr (inl b))) = a.0 ∙ sym b.0
-one_lie f g last bytes (inr (inr (inl a))) (inr (inr (inr b))) = absurd (a.3 b.1)
-one_lie f g last bytes (inr (inr (inr a))) (inl b) = absurd (not_missing g last bytes b a.1)
-one_lie f g last bytes (inr (inr (inr a))) (inr (inl b)) = absurd (omega (arith, b.2, ap length a.1))
-one_lie f g last bytes (inr (inr (inr a))) (inr (inr (inl b))) = absurd (b.3 a.1)
-one_lie f g last bytes (inr (inr (inr a))) (inr (inr (inr b))) = a.0 ∙ sym b.0
+one_lie f g last bytes (inl a) other = one_whole f g last bytes a other
+one_lie f g last bytes (inr one) (inl b) = sym (one_whole g f last bytes b (inr one))
+one_lie f g last bytes (inr one) (inr other) = grind arith
 
 pub flaw_one : (flaw other : Flaw) (last : OpenPart) (bytes : List ℕ) (at_end : Bool) → IsFlaw flaw last bytes at_end
     → IsFlaw other last bytes at_end → flaw ≡ other

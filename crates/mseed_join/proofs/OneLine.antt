@@ -45,10 +45,8 @@ line_back (faults (suc n)) l = ap (λ (o : Option ℕ). o >>= λ m. Some (faults
 line_back (fault bytes f) l =
     let rest : List ℕ = codes " " ++ (fault_words f ++ codes "\n") in
     let text : List ℕ = fault_then bytes f in
-    let at : number_after (codes "fault at ") (2 ^ 63 - 1) text ≡ Some (bytes, rest) =
-    count_back bytes rest l.bytes_fit refl in
-    let read : fault_at text bytes ≡ Some f =
-    ap (λ (xs : List ℕ). fault_at xs bytes) (sym (fault_of f bytes l.is)) ∙ fault_back f bytes l in
+    let at = count_back bytes rest l.bytes_fit refl in
+    let read = ap (λ (xs : List ℕ). fault_at xs bytes) (sym (fault_of f bytes l.is)) ∙ fault_back f bytes l in
     ap line_at (fault_of f bytes l.is)
     ∙ ap (λ (o : Option (ℕ × List ℕ)). o >>= λ at. fault_at text at.0 >>= λ g. Some (fault at.0 g)) at
     ∙ ap (λ (o : Option StreamFault). o >>= λ g. Some (fault bytes g)) read

@@ -6,8 +6,8 @@ use Rattle.mseed_join.specs.Lines.{Line, header, channel, counts, faults, fault}
 use Rattle.mseed_join.specs.Parts.{IsAscending}
 use Rattle.mseed_join.specs.Reached.{OpenPart, none, begun, whole}
 use Rattle.mseed_join.specs.Written.{Written}
-use Rattle.mseed_join.specs.declared.joint.Place.{Place}
-use Rattle.mseed_join.specs.declared.joint.Place.TheVariants.{Start, Channels, Whole}
+use Rattle.mseed_join.specs.declared.joint.PlaceInPart.{PlaceInPart}
+use Rattle.mseed_join.specs.declared.joint.PlaceInPart.TheVariants.{Start, Channels, Whole}
 use Rattle.mseed_join.specs.private.Steps.{May}
 use Rattle.mseed_join.specs.private.Taking.{IsLastKey, IsPlace, IsRead}
 
@@ -31,14 +31,14 @@ onward (whole w) (fault l f) m = Onward.ends w l f m
 onward _ _ m = absurd m
 
 -- what a joint part knows of where they are
-pub data Standing : Place → OpenPart → Type 0 where
+pub data Standing : PlaceInPart → OpenPart → Type 0 where
   starts : Standing Start none
   rows : (last : Option (List ℕ)) (cs : List (List ℕ × Channel)) → IsLastKey last cs
       → Standing (Channels last) (begun cs)
   closes : (bytes : ℕ) (has : Bool) (w : Written) → bytes ≡ w.part.bytes → IsRead has w.faults
       → Standing (Whole bytes has) (whole w)
 
-pub standing : (place : Place) (b : OpenPart) → IsPlace place b → Standing place b
+pub standing : (place : PlaceInPart) (b : OpenPart) → IsPlace place b → Standing place b
 standing Start none p = Standing.starts
 standing (Channels last) (begun cs) p = Standing.rows last cs p
 standing (Whole bytes has) (whole w) p = Standing.closes bytes has w p.0 p.1

@@ -108,8 +108,7 @@ with_without k j b e (n ∷ ns) =
 -- the first is left out
 fewer : (n : Notice) (ns : List Notice) → length (without_key n.key (n ∷ ns)) ≤ length ns
 fewer n ns =
-    let gone : without_key n.key (n ∷ ns) ≡ without_key n.key ns =
-    ap (λ (b : Bool). cond (not b) (n ∷ without_key n.key ns) (without_key n.key ns)) (same_itself n.key) in
+    let gone = ap (λ (b : Bool). cond (not b) (n ∷ without_key n.key ns) (without_key n.key ns)) (same_itself n.key) in
     let both = length-filter_both (λ m. same_key n.key m.key) (λ m. not (same_key n.key m.key)) (λ m. refl) ns in
     omega (arith, both, ap (λ (ms : List Notice). length ms) gone)
 
@@ -123,8 +122,7 @@ none_alike : (ms : List Notice) → AreAlike [] ms → ms ≡ []
 none_alike [] alike = refl
 none_alike (m ∷ ms) alike =
     let same : length (with_key m.key (m ∷ ms)) ≡ 0 = length_permutation [] (with_key m.key (m ∷ ms)) (alike m.key) in
-    let some : with_key m.key (m ∷ ms) ≡ m ∷ with_key m.key ms =
-    ap (λ (b : Bool). cond b (m ∷ with_key m.key ms) (with_key m.key ms)) (same_itself m.key) in
+    let some = ap (λ (b : Bool). cond b (m ∷ with_key m.key ms) (with_key m.key ms)) (same_itself m.key) in
     absurd (omega (arith, same, ap (λ (xs : List Notice). length xs) some))
 
 alike_within : (most : ℕ) (ns ms : List Notice) → length ns ≤ most → AreAlike ns ms → IsPermutation ns ms
@@ -135,8 +133,7 @@ alike_within (suc most) (n ∷ ns) ms le alike =
     let all : List Notice = n ∷ ns in
     let parts : (xs : List Notice) → IsPermutation xs (with_key k xs ++ without_key k xs) =
     λ xs. IsPermutation-filter_both (λ m. same_key k m.key) (λ m. not (same_key k m.key)) (λ m. refl) xs in
-    let rest : IsPermutation (without_key k all) (without_key k ms) =
-    alike_within most (without_key k all) (without_key k ms) (omega (arith, le, fewer n ns))
+    let rest = alike_within most (without_key k all) (without_key k ms) (omega (arith, le, fewer n ns))
     (without_alike k all ms alike) in
     IsPermutation-trans all (with_key k all ++ without_key k all) ms (parts all)
     (IsPermutation-trans (with_key k all ++ without_key k all) (with_key k ms ++ without_key k ms) ms
@@ -158,12 +155,10 @@ findings_merge only a b xs ys first second whole p q some alone other all =
     let here : List Notice = with_key key ones in
     let there : List Notice = with_key key twos in
     let border : List Notice = with_key key between in
-    let split : with_key key ((ones ++ twos) ++ between) ≡ here ++ (there ++ border) =
-    filter-append (λ n. same_key key n.key) (ones ++ twos) between
+    let split = filter-append (λ n. same_key key n.key) (ones ++ twos) between
     ∙ ap (λ (ns : List Notice). ns ++ border) (filter-append (λ n. same_key key n.key) ones twos)
     ∙ append_assoc here there border in
-    let is : here ++ (border ++ there) ≡ with_key key (notices_of whole) =
-    sym (reported_at_key only key a b xs ys first second whole p q alone other all
+    let is = sym (reported_at_key only key a b xs ys first second whole p q alone other all
     ∙ ap (λ (ns : List Notice). here ++ (ns ++ there)) (sym (borders_by_key key a b.channels q.ascending))) in
     subst (λ (ns : List Notice). IsPermutation ns (with_key key (notices_of whole))) (sym split)
     (subst (λ (ns : List Notice). IsPermutation (here ++ (there ++ border)) ns) is

@@ -18,10 +18,10 @@ use Rattle.mseed_join.specs.private.Passing.{past_start, past_word}
 use Rattle.mseed_join.specs.private.Reading.{◌>>=◌, after, key_at, number_at, ratio_at}
 use Rattle.mseed_join.proofs.Backwards.{count_back, leap_back, ratio_back, same_number}
 use Rattle.mseed_join.proofs.Backwards.{start_back}
-use Rattle.mseed_join.proofs.Digits.{Ends, IsNumber, number_back, number_spelled, word_after}
+use Rattle.mseed_join.proofs.Digits.{Ends, bind_then, IsNumber, number_back, number_spelled, word_after}
 use Rattle.mseed_join.proofs.Keys.{AreBytes, IsKey, key_back, key_spelled}
 use Rattle.mseed_join.proofs.Prefixes.{ratio_leading}
-use Rattle.mseed_join.proofs.Spelled.{Any, IsFew, Reads, bind_then, count, counts, leading, leap, ratio, start}
+use Rattle.mseed_join.proofs.Spelled.{Any, IsFew, Reads, count, counts, leading, leap, ratio, start}
 
 ends_number : (rest : List ℕ) → ends_field rest ≡ true → Ends rest
 ends_number rest h1 = grind (arith, nat_tests)

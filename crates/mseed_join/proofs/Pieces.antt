@@ -57,8 +57,7 @@ abbrev pub further : AddUp → (before archive : List ℕ) (a b : Written) (h : 
     → IsSoFar before a → a.end ≡ None → IsReadOf archive h → EndsByBytes p.written.end → IsNext a p.written b
     → IsSoFar (before ++ archive) b
 further add_up before archive a b h p so clear read by next =
-    let here : IsKnown archive p.audited.views p.audited.end =
-    known archive h p.audited.views p.audited.end read p.audited.all (subst EndsByBytes p.end by) in
+    let here = known archive h p.audited.views p.audited.end read p.audited.all (subst EndsByBytes p.end by) in
     let all_known = known_after before archive so.views p.audited.views a.end p.audited.end clear so.are_known here in
     let end : option_map (moved_fault (size_of so.views)) p.audited.end ≡ b.end =
     (λ i. option_map (moved_fault (sym so.part.bytes i)) (sym p.end i)) ∙ sym next.end in
@@ -76,11 +75,9 @@ pieces add_up _ before _ a joint no_pieces so clear joined =
     let same : IsSoFar before joint = subst (λ (w : Written). IsSoFar before w) (none_of a joint joined) so in
     subst (λ (xs : List ℕ). IsSoFar xs joint) (sym (append-nil before)) same
 pieces add_up _ before _ a joint (last archive h p read by) so clear joined =
-    let only : AreJoined a (p.written ∷ []) joint =
-    subst (λ (ws : List Written). AreJoined a ws joint) (counted_last p.written p.written.end) joined in
+    let only = subst (λ (ws : List Written). AreJoined a ws joint) (counted_last p.written p.written.end) joined in
     let first = joined_more a p.written joint [] only in
-    let now : IsSoFar (before ++ archive) first.0 =
-    further add_up before archive a first.0 h p so clear read by first.1.0 in
+    let now = further add_up before archive a first.0 h p so clear read by first.1.0 in
     subst (λ (w : Written). IsSoFar (before ++ archive) w) (none_of first.0 joint first.1.1) now
 pieces add_up _ before _ a joint (more archive others h p ws read end parted) so clear joined =
     let all : AreJoined a (p.written ∷ counted false ws) joint =
@@ -88,8 +85,7 @@ pieces add_up _ before _ a joint (more archive others h p ws read end parted) so
     joined in
     let first = joined_more a p.written joint (counted false ws) all in
     let b : Written = first.0 in
-    let now : IsSoFar (before ++ archive) b =
-    further add_up before archive a b h p so clear read (subst EndsByBytes (sym end) tt) first.1.0 in
+    let now = further add_up before archive a b h p so clear read (subst EndsByBytes (sym end) tt) first.1.0 in
     let goes_on : b.end ≡ None = first.1.0.end
     ∙ ap (λ (o : Option StreamFault). option_map (moved_fault a.part.bytes) o) end in
     subst (λ (xs : List ℕ). IsSoFar xs joint) (append_assoc before archive others)
@@ -109,12 +105,9 @@ says_of : HaveVerdicts → HaveOneVerdicts → (joint : Written) (h : BytesRead)
     → IsPartOf joint.part a.views → joint.faults ≡ 0 → joint.end ≡ a.end → SaysAudit joint a
 says_of verdicts single joint h a part faults end =
     let cs : List (List ℕ × Channel) = joint.part.channels in
-    let are : AreVerdicts (added_from 0 a.views) (map verdict_at cs) =
-    verdicts (added_from 0 a.views) cs (record { ascending = part.ascending; each = part.each }) in
-    let same : map verdict_at cs ≡ a.verdicts =
-    single (added_from 0 a.views) (map verdict_at cs) a.verdicts are a.are_verdicts in
-    let count : length cs ≡ length a.verdicts =
-    sym (length-map cs verdict_at) ∙ ap (λ (vs : List (List ℕ × Verdict)). length vs) same in
+    let are = verdicts (added_from 0 a.views) cs (record { ascending = part.ascending; each = part.each }) in
+    let same = single (added_from 0 a.views) (map verdict_at cs) a.verdicts are a.are_verdicts in
+    let count = sym (length-map cs verdict_at) ∙ ap (λ (vs : List (List ℕ × Verdict)). length vs) same in
     record {
       text = (λ i. verdict_lines (same i) ++ total_line (part.records i) (count i) ++ faults_line (faults i)
           ++ end_line (end i))
@@ -129,8 +122,7 @@ pub says : AddUp → HaveVerdicts → HaveOneVerdicts → (archive : List ℕ) (
     (h : BytesRead) (a : Audited h) → AreParted archive ws → IsJointOf false ws joint → IsReadOf archive h
     → EndsByBytes a.end → SaysAudit joint a
 says add_up verdicts single archive ws joint h a parted joined read by =
-    let so : IsSoFar archive joint =
-    pieces add_up archive [] ws nothing joint parted (at_first nothing.part of_nothing) refl joined in
+    let so = pieces add_up archive [] ws nothing joint parted (at_first nothing.part of_nothing) refl joined in
     let both = one_known archive so.views a.views joint.end a.end so.are_known
     (known archive h a.views a.end read a.all by) in
     says_of verdicts single joint h a (subst (λ (vs : List View). IsPartOf joint.part vs) both.0 so.part) so.faults
@@ -142,16 +134,12 @@ pub is_part : AddUp → ((a b : Held) (views : List View) → IsPartOf a views �
     → AreParted archive ws → IsJointOf false ws joint → IsReadOf archive h → EndsByBytes a.written.end
     → joint ≡ a.written
 is_part add_up only archive ws joint h a parted joined read by =
-    let so : IsSoFar archive joint =
-    pieces add_up archive [] ws nothing joint parted (at_first nothing.part of_nothing) refl joined in
+    let so = pieces add_up archive [] ws nothing joint parted (at_first nothing.part of_nothing) refl joined in
     let both = one_known archive so.views a.audited.views joint.end a.audited.end so.are_known
     (known archive h a.audited.views a.audited.end read a.audited.all (subst EndsByBytes a.end by)) in
-    let same : joint.part ≡ a.written.part =
-    only joint.part a.written.part a.audited.views
+    let same = only joint.part a.written.part a.audited.views
     (subst (λ (vs : List View). IsPartOf joint.part vs) both.0 so.part) a.part in
-    let faults : joint.faults ≡ a.written.faults = so.faults ∙ sym a.faults in
-    let end : joint.end ≡ a.written.end = both.1 ∙ sym a.end in
-    λ i. record { part = same i; faults = faults i; end = end i }
+    λ i. record { part = same i; faults = (so.faults ∙ sym a.faults) i; end = (both.1 ∙ sym a.end) i }
 
 -- what a source gave that is known to have left an archive was read of it
 read_by : (archive : List ℕ) (h : BytesRead) (reported : List ℕ) (left : Option (List ℕ)) → h.bytes ≡ reported

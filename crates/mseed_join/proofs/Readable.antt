@@ -176,10 +176,8 @@ module _ (key : List ℕ) (n size : ℕ) (few : n < 2 ^ 40) (small : size < 2 ^ 
 
   pub has_line : (c : Channel) (ps : List Placed) → Ones ps → length ps ≤ n → Stands c ps → HasChannelLine key c
   has_line c ps h l s =
-      let first : IsOne key n size s.first =
-      middle (IsOne key n size) [] s.first s.rest (subst (λ (qs : List Placed). Ones qs) s.begins h) in
-      let last : IsOne key n size s.last =
-      middle (IsOne key n size) s.prefix s.last [] (subst (λ (qs : List Placed). Ones qs) s.ends h) in
+      let first = middle (IsOne key n size) [] s.first s.rest (subst (λ (qs : List Placed). Ones qs) s.begins h) in
+      let last = middle (IsOne key n size) s.prefix s.last [] (subst (λ (qs : List Placed). Ones qs) s.ends h) in
       let bytes : List ℕ = s.first.view.bytes in
       let is : IsView s.first.view = first.placed.is_view in
       record {
@@ -258,8 +256,7 @@ pub has_channel : (views : List View) (size : ℕ) (key : List ℕ) (c : Channel
     → AllByRecursion IsView views → length views < 2 ^ 40 → size_of views ≤ size → size < 2 ^ 63 → o ≡ Some c
     → StandsAt o (records_of key (added_from 0 views)) → HasChannelLine key c
 has_channel views size key c o all few fits small e stands =
-    let is : Stands c (records_of key (added_from 0 views)) =
-    subst (λ (x : Option Channel). StandsAt x (records_of key (added_from 0 views))) e stands in
+    let is = subst (λ (x : Option Channel). StandsAt x (records_of key (added_from 0 views))) e stands in
     has_line key (length views) size few small c (records_of key (added_from 0 views)) (ones_of key size views all fits)
     (count_of_key key views) is
 
@@ -268,12 +265,10 @@ has_text h a fits =
     let views : List View = a.audited.views in
     let all = a.audited.all in
     let rest : List ℕ = read_from all.offset h in
-    let whole : length h.bytes ≡ length (concat (bytes_in views)) + length rest =
-    ap (λ (xs : List ℕ). length xs) (read_joined h views a.audited.end all)
+    let whole = ap (λ (xs : List ℕ). length xs) (read_joined h views a.audited.end all)
     ∙ length-append (concat (bytes_in views)) rest in
     let size : size_of views < 2 ^ 63 = omega (arith, whole, sizes views, fits.size) in
-    let end : IfSome a.audited.end (λ fault. HasFaultLine a.written.part.bytes fault) =
-    has_end a.audited.end all.offset a.written.part.bytes h fits
+    let end = has_end a.audited.end all.offset a.written.part.bytes h fits
     (read_size h views a.audited.end all ∙ sym a.part.bytes) (omega (arith, a.part.bytes, size)) all.ends in
     record {
       ascending = a.part.ascending;

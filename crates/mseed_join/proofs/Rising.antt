@@ -2,8 +2,8 @@
 use Rattle.std.proofs.Common.{◌≡◌, ℕ, ◌+◌, ◌≤◌, ◌<◌, List, [], ◌∷◌, ◌++◌, length, Option, refl}
 use Rattle.std.proofs.Common.{subst, arith, ◌⊎◌, inl, inr, IsPermutation}
 use Rattle.std.specs.List.{AllByRecursion}
-use Rattle.std.proofs.lemmas.List.Elements.{All-from_recursion, recursion_from_All}
-use Rattle.std.proofs.lemmas.List.Sorted.{All-permutation, IsPermutation-sym, IsPermutation-trans}
+use Rattle.std.proofs.ByRecursion.{All-weaker, all_shuffled}
+use Rattle.std.proofs.lemmas.List.Sorted.{IsPermutation-sym, IsPermutation-trans}
 use Rattle.mseed_record.specs.View.{View}
 use Rattle.mseed_audit.specs.declared.finding.Why.{Why}
 use Rattle.mseed_audit.specs.Channels.{Placed, added_from, numbered}
@@ -49,17 +49,14 @@ IsIn [] n = ⊥
 IsIn (m ∷ ms) n = (m ≡ n) ⊎ IsIn ms n
 
 in_more : (m : Notice) (ms ns : List Notice) → AllByRecursion (IsIn ms) ns → AllByRecursion (IsIn (m ∷ ms)) ns
-in_more m ms [] all = tt
-in_more m ms (n ∷ ns) all = (inr all.0, in_more m ms ns all.1)
+in_more m ms ns all = All-weaker (IsIn ms) (IsIn (m ∷ ms)) (λ n is. inr is) ns all
 
 in_itself : (ns : List Notice) → AllByRecursion (IsIn ns) ns
 in_itself [] = tt
 in_itself (n ∷ ns) = (inl refl, in_more n ns ns (in_itself ns))
 
 in_other : (ns ms : List Notice) → IsPermutation ns ms → AllByRecursion (IsIn ns) ms
-in_other ns ms is =
-    recursion_from_All (IsIn ns) ms
-    (All-permutation (IsIn ns) ns ms is (All-from_recursion (IsIn ns) ns (in_itself ns)))
+in_other ns ms is = all_shuffled (IsIn ns) ns ms is (in_itself ns)
 
 -- no member stands before the first place
 not_before : (least : ℕ) (ns : List Notice) (n : Notice) → RiseFrom least ns → IsIn ns n → least ≤ n.finding.offset
@@ -101,6 +98,5 @@ rising_one least (n ∷ ns) (m ∷ ms) rise up all are =
 
 pub merged_one : (ns ms a b : List Notice) → AreMerged ns ms a → AreMerged ns ms b → a ≡ b
 merged_one ns ms a b is other =
-    let there : IsPermutation a b =
-    IsPermutation-trans a (ns ++ ms) b (IsPermutation-sym (ns ++ ms) a is.members) other.members in
+    let there = IsPermutation-trans a (ns ++ ms) b (IsPermutation-sym (ns ++ ms) a is.members) other.members in
     rising_one 0 a b is.rise other.rise (in_other b a (IsPermutation-sym a b there)) (in_other a b there)

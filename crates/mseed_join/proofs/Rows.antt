@@ -18,14 +18,14 @@ use Rattle.mseed_join.specs.Lines.{channel_line, counts_line, faults_line, HasCh
 use Rattle.mseed_join.specs.Lines.{HasFaultsLine, HasFaultLine}
 use Rattle.mseed_join.specs.Fields.{IsFirstBad}
 use Rattle.mseed_join.specs.declared.bad_field.Field.{Field}
-use Rattle.mseed_join.specs.Written.{Written}
+use Rattle.mseed_join.specs.Written.{HasText, Written}
 use Rattle.mseed_join.specs.Joined.{AreJoined, Begins, HasNoEnd, none as no_more, nothing}
 use Rattle.mseed_join.specs.Reached.{OpenPart, Stage, begun_part, open_part, start}
 use Rattle.mseed_join.specs.declared.joint.Joint.{Joint}
 use Rattle.mseed_join.specs.declared.joint.LineFault.{LineFault}
 use Rattle.mseed_join.specs.declared.joint.LineFault.TheVariants.{Bad, Memory}
-use Rattle.mseed_join.specs.declared.joint.Place.{Place}
-use Rattle.mseed_join.specs.declared.joint.Place.TheVariants.{Start, Channels, Whole}
+use Rattle.mseed_join.specs.declared.joint.PlaceInPart.{PlaceInPart}
+use Rattle.mseed_join.specs.declared.joint.PlaceInPart.TheVariants.{Start, Channels, Whole}
 use Rattle.mseed_join.specs.declared.joint.Reported.{Reported}
 use Rattle.mseed_join.specs.private.Steps.{May, to}
 use Rattle.mseed_join.specs.declared.flaw.Closing.{Closing}
@@ -43,7 +43,7 @@ use Rattle.mseed_join.proofs.Ahead.{IsNextLine, next_line}
 use Rattle.mseed_join.proofs.Machine.{Entries}
 use Rattle.mseed_join.proofs.Pieces.{of_nothing}
 use Rattle.mseed_join.proofs.Extended.{AllKeys, key_among}
-use Rattle.mseed_join.proofs.Running.{HaveTexts, texts_after}
+use Rattle.mseed_join.proofs.Running.{HaveTexts, each_after}
 
 -- ---- keys in order
 keys_one : (P : List ℕ → Type 0) (cs : Entries) (e : List ℕ × Channel) → AllKeys P cs → P e.0 → AllKeys P (cs ++ e ∷ [])
@@ -55,8 +55,7 @@ sorted_one : (cs : Entries) (last key : List ℕ) (b c : Channel) → IsAscendin
 unfolding IsStrictlySortedBy
 sorted_one [] last key b c s l = ((l, tt), (tt, tt))
 sorted_one (d ∷ cs) last key b c s l =
-    let first : slice_cmp nat_cmp d.0 last ≡ Less =
-    key_among (λ y. slice_cmp nat_cmp d.0 y ≡ Less) cs (last, b) [] s.0 in
+    let first = key_among (λ y. slice_cmp nat_cmp d.0 y ≡ Less) cs (last, b) [] s.0 in
     let less : slice_cmp nat_cmp d.0 key ≡ Less = nat_list_cmp_total.trans d.0 last key first l in (
       keys_one (λ y. slice_cmp nat_cmp d.0 y ≡ Less) (cs ++ (last, b) ∷ []) (key, c) s.0 less,
       sorted_one cs last key b c s.1 l,
@@ -96,22 +95,22 @@ pub step_line : {A : Type 0} → (lines : List ℕ) (s : Stage) (x : Line) (line
 step_line lines s x line (Ok reported) old new e h =
     (to s x, subst (λ (t : List ℕ). IsTaken lines t s (to s x) reported old new) (sym e) h)
 step_line lines s x line (Err (Bad flaw)) old new e h = λ b.
-    h (subst (λ (t : List ℕ). Begins old.past (lines ++ t)) e b)
+    h (subst (λ (t : List ℕ). Begins old.past_faults (lines ++ t)) e b)
 step_line lines s x line (Err Memory) old new e h = tt
 
 -- ---- where a line stands
 abbrev pub IsEndedLine : List ℕ → Type 0
 IsEndedLine line = (body : List ℕ) × HasNoEnd body × (line ≡ body ++ codes "\n")
 
-stands_at : {A : Type 0} {lines : List ℕ} {s : Stage} {j : Joint A} (place : Place) → j.place ≡ place
+stands_at : {A : Type 0} {lines : List ℕ} {s : Stage} {j : Joint A} (place : PlaceInPart) → j.place ≡ place
     → IsReadTo lines s j → Standing place s.last
-stands_at {s = s} place e q = standing place s.last (subst (λ (p : Place). IsPlace p s.last) e q.place)
+stands_at {s = s} place e q = standing place s.last (subst (λ (p : PlaceInPart). IsPlace p s.last) e q.place)
 
 channel_may : (last : Option (List ℕ)) (over : List Written) (b : OpenPart) (key : List ℕ) (c : Channel)
     → Standing (Channels last) b → HaveTexts (over ++ open_part b)
     → IsAfterKey last key → May b (channel key c)
 channel_may last over _ key c (Standing.rows _ cs p) h k =
-    in_order last cs key c p (texts_after over (begun_part cs ∷ []) h).0.ascending k
+    in_order last cs key c p (each_after HasText over (begun_part cs ∷ []) h).0.ascending k
 
 counts_may : (last : Option (List ℕ)) (b : OpenPart) (n l : ℕ) → Standing (Channels last) b → May b (counts n l)
 counts_may last _ n l (Standing.rows _ cs p) = tt
@@ -123,7 +122,7 @@ faults_may : (l : ℕ) (b : OpenPart) (n : ℕ) → Standing (Whole l false) b �
 faults_may l _ n (Standing.closes _ _ w e r) = r
 
 -- a header, or nothing
-header_may : (place : Place) (b : OpenPart) → Standing place b
+header_may : (place : PlaceInPart) (b : OpenPart) → Standing place b
     → ((last : Option (List ℕ)) → place ≡ Channels last → ⊥) → May b header
 header_may _ _ (Standing.rows last cs p) never = absurd (never last refl)
 header_may _ _ _ never = tt
@@ -179,7 +178,8 @@ module _ {A : Type 0} (old new : Joint A) (line : List ℕ) where
       → TakesLine line (Err (Bad flaw)) old new
   flawed flaw never ends why lines s q = (
     λ b.
-        let n : IsNextLine old.past s line = next_line old.past s lines ends.0 line q.stage ends.1 ends.2 b in
+        let n : IsNextLine old.past_faults s line =
+        next_line old.past_faults s lines ends.0 line q.stage ends.1 ends.2 b in
         flaw_stands flaw s.last line (why lines s q) never
         (record { x = n.x; is_line = n.is_line; may = n.may; text = n.text }),
     why lines s q,
@@ -204,7 +204,7 @@ module _ {A : Type 0} (old new : Joint A) (line : List ℕ) where
       by _ (Standing.rows _ cs p) = IsFlawOf.row cs line field f g first
 
   -- where a header is wanted
-  header_or : (flaw : Flaw) (place : Place) (r : Result Reported LineFault) → flaw ≢ Limit → old.place ≡ place
+  header_or : (flaw : Flaw) (place : PlaceInPart) (r : Result Reported LineFault) → flaw ≢ Limit → old.place ≡ place
       → ((last : Option (List ℕ)) → place ≡ Channels last → ⊥) → IsEndedLine line → IsHeaderStep r old new
       → OnOk r (line ≡ header_line) → IfErr r (λ e. (e ≡ Bad flaw) × (line ≢ header_line))
       → ((b : OpenPart) → Standing place b → line ≢ header_line → IsFlawOf flaw b line) → TakesLine line r old new
@@ -249,7 +249,7 @@ pub nothing_read : {A : Type 0} → (part : Held) (past : Bool) → HaveOnePart 
       so_far = record { part = part; faults = 0; end = None };
       parts = 0;
       place = Start;
-      past = past;
+      past_faults = past;
     })
 nothing_read part past only is =
     let same : nothing.part ≡ part = only nothing.part part [] of_nothing is in record {

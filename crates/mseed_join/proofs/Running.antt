@@ -111,18 +111,19 @@ parts_run s (w ∷ ws) r h =
 pub all_run : (ws : List Written) → HaveTexts ws → (at : Stage) × (Runs start (all_rows ws) at × (parts_at at ≡ ws))
 all_run ws h = let r : RunsAll start ws = parts_run start ws tt h in (r.at, (r.runs, r.parts))
 
+-- what holds of each of two lists holds of each of the first, and of each of the second
+pub each_before : {X : Type 0} (P : X → Type 0) (xs ys : List X) → AllByRecursion P (xs ++ ys) → AllByRecursion P xs
+each_before P [] ys all = tt
+each_before P (x ∷ xs) ys all = (all.0, each_before P xs ys all.1)
+
+pub each_after : {X : Type 0} (P : X → Type 0) (xs ys : List X) → AllByRecursion P (xs ++ ys) → AllByRecursion P ys
+each_after P [] ys all = all
+each_after P (x ∷ xs) ys all = each_after P xs ys all.1
+
 -- the rows of two lists of parts, one after another
 pub all_rows_append : (ws vs : List Written) → all_rows (ws ++ vs) ≡ all_rows ws ++ all_rows vs
 all_rows_append [] vs = refl
 all_rows_append (w ∷ ws) vs = search (arith, append_assoc, all_rows_append ws vs)
-
-pub texts_before : (ws vs : List Written) → HaveTexts (ws ++ vs) → HaveTexts ws
-texts_before [] vs h = tt
-texts_before (w ∷ ws) vs h = (h.0, texts_before ws vs h.1)
-
-pub texts_after : (ws vs : List Written) → HaveTexts (ws ++ vs) → HaveTexts vs
-texts_after [] vs h = h
-texts_after (w ∷ ws) vs h = texts_after ws vs h.1
 
 -- a header goes from after any parts to their being over
 header_runs : (at : Stage) → IsReady at.last → to at header ≡ record { over = parts_at at; last = begun [] }
@@ -135,8 +136,8 @@ header_may b h1 = grind arith
 ended_runs : (ws : List Written) (w : Written) (f : StreamFault) → HaveTexts (ws ++ w ∷ []) → w.end ≡ Some f
     → Runs start (all_rows (ws ++ w ∷ [])) (record { over = ws ++ w ∷ []; last = none })
 ended_runs ws w f h e =
-    let r : RunsAll start ws = parts_run start ws tt (texts_before ws (w ∷ []) h) in
-    let has : HasText w = (texts_after ws (w ∷ []) h).0 in
+    let r : RunsAll start ws = parts_run start ws tt (each_before HasText ws (w ∷ []) h) in
+    let has : HasText w = (each_after HasText ws (w ∷ []) h).0 in
     let last : Runs r.at (part_rows w) (record { over = ws ++ w ∷ []; last = none }) =
     subst (λ (t : Stage). Runs r.at (part_rows w) t)
     (ap (λ (o : Option StreamFault). open_by (parts_at r.at) w o) e
@@ -153,13 +154,13 @@ pub stage_runs : (over : List Written) (b : OpenPart) → HaveTexts (over ++ ope
 stage_runs over none h (inl e) =
     subst (λ (ws : List Written). Runs start (all_rows ws ++ []) (record { over = ws; last = none })) (sym e) refl
 stage_runs over none h (inr q) =
-    let texts : HaveTexts over = texts_before over [] h in
+    let texts : HaveTexts over = each_before HasText over [] h in
     subst (λ (xs : List Line). Runs start xs (record { over = over; last = none })) (sym (append-nil (all_rows over)))
     (subst (λ (ws : List Written). Runs start (all_rows ws) (record { over = ws; last = none })) (sym q.are)
     (ended_runs q.parts q.last q.fault (subst HaveTexts q.are texts) q.ends))
 stage_runs over (begun channels) h w =
-    let r : RunsAll start over = parts_run start over tt (texts_before over (begun_part channels ∷ []) h) in
-    let has : HasText (begun_part channels) = (texts_after over (begun_part channels ∷ []) h).0 in
+    let r : RunsAll start over = parts_run start over tt (each_before HasText over (begun_part channels ∷ []) h) in
+    let has : HasText (begun_part channels) = (each_after HasText over (begun_part channels ∷ []) h).0 in
     let first : to r.at header ≡ record { over = over; last = begun [] } =
     header_runs r.at r.ready ∙ ap (λ (vs : List Written). record { over = vs; last = begun [] }) r.parts in
     runs_on start r.at (record { over = over; last = begun channels }) (all_rows over) (header ∷ rows channels)
@@ -169,8 +170,8 @@ stage_runs over (begun channels) h w =
           (rows_run over [] channels has.ascending),
     )
 stage_runs over (whole v) h w =
-    let r : RunsAll start over = parts_run start over tt (texts_before over (v ∷ []) h) in
-    let has : HasText v = (texts_after over (v ∷ []) h).0 in
+    let r : RunsAll start over = parts_run start over tt (each_before HasText over (v ∷ []) h) in
+    let has : HasText v = (each_after HasText over (v ∷ []) h).0 in
     let last : Runs r.at (part_rows v) (record { over = over; last = whole v }) =
     subst (λ (t : Stage). Runs r.at (part_rows v) t)
     (ap (λ (o : Option StreamFault). open_by (parts_at r.at) v o) w

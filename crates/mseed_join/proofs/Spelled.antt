@@ -7,7 +7,7 @@ use Rattle.std.specs.Fmt.{signed_decimal}
 use Rattle.std.specs.Cmp.Lexicographic.{same_text}
 use Rattle.std.proofs.lemmas.Bool.Decides.{nat_tests}
 use Rattle.std.proofs.lemmas.Bool.{and_parts}
-use Rattle.std.proofs.lemmas.Option.{cond_some, none-some, same_Some}
+use Rattle.std.proofs.lemmas.Option.{cond_some, same_Some}
 use Rattle.mseed_time.specs.Btime.{IsInstant}
 use Rattle.mseed_time.specs.Rate.{IsRatio}
 use Rattle.mseed_time.specs.Text.{fault_word}
@@ -41,7 +41,7 @@ use Rattle.mseed_join.specs.private.Reading.{last_differs_at, read_fault_at, tim
 use Rattle.mseed_join.specs.private.Reading.{counted_findings_at, findings_at, ends, key_at, channel_at}
 use Rattle.mseed_join.specs.private.Reading.{counts_at}
 use Rattle.mseed_join.specs.private.Reading.{faults_at, frame_fault_at, stream_fault_at, fault_at}
-use Rattle.mseed_join.proofs.Digits.{word_after, number_spelled, IsWithin, IsInteger, integer_after}
+use Rattle.mseed_join.proofs.Digits.{bind_then, word_after, number_spelled, IsWithin, integer_after}
 use Rattle.mseed_join.proofs.Prefixes.{first_then}
 use Rattle.mseed_join.proofs.Prefixes.{findings_then, nothing_leading, counted_leading}
 use Rattle.mseed_join.proofs.Prefixes.{counts_leading}
@@ -49,9 +49,6 @@ use Rattle.mseed_join.proofs.Prefixes.{faults_leading, fault_words, fault_then, 
 use Rattle.mseed_join.proofs.Keys.{IsKey, key_spelled}
 
 -- a step that answered, and the steps after it
-pub bind_then : {A B P : Type 0} (o : Option A) (f : A → Option B) (y : B) → (o >>= f) ≡ Some y
-    → ((x : A) → o ≡ Some x → f x ≡ Some y → P) → P
-bind_then o f y h1 h2 = grind (arith, none-some)
 
 pub leading : (w a b c : List ℕ) → a ≡ w ++ b → b ≡ c → a ≡ w ++ c
 leading w a b c e h = e ∙ ap (λ (t : List ℕ). w ++ t) h
@@ -158,8 +155,7 @@ within_instant z h1 = grind arith
 
 pub start : Reads signed_decimal IsInstant start_at
 start = reads (λ bytes y e.
-    let i : IsInteger 5_364_662_400_000_000 7_258_118_399_999_999 bytes y =
-    integer_after 5_364_662_400_000_000 7_258_118_399_999_999 bytes y (omega arith) (omega arith) e in
+    let i = integer_after 5_364_662_400_000_000 7_258_118_399_999_999 bytes y (omega arith) (omega arith) e in
     (i.0, within_instant y.0 i.1))
 
 within_word : (z : ℤ) → IsWithin (2 ^ 31) (2 ^ 31 - 1) z → IsWord z
@@ -167,8 +163,7 @@ within_word z h1 = grind arith
 
 sample : Reads signed_decimal IsWord sample_at
 sample = reads (λ bytes y e.
-    let i : IsInteger (2 ^ 31) (2 ^ 31 - 1) bytes y =
-    integer_after (2 ^ 31) (2 ^ 31 - 1) bytes y (omega arith) (omega arith) e in
+    let i = integer_after (2 ^ 31) (2 ^ 31 - 1) bytes y (omega arith) (omega arith) e in
     (i.0, within_word y.0 i.1))
 
 pub leap : Reads leap_text Any leap_at

@@ -18,9 +18,6 @@ pub record IsFirst (a w : Written) (ws : List Written) (h : Written) : Type 0 wh
 pub first_of : (a w h : Written) (ws : List Written) → AreJoined a (w ∷ ws) h → IsFirst a w ws h
 first_of a w h ws (one _ _ b _ _ next more) = record { between = b; next = next; more = more }
 
-pub some_none : (f : StreamFault) → Some f ≡ None → ⊥
-some_none f e = cc
-
 pub none_of : (a h : Written) → AreJoined a [] h → a ≡ h
 none_of a h (none _) = refl
 
@@ -145,9 +142,7 @@ split past ws vs h j = search (arith, joined_split, on, closed, stops)
 next_one : (a w b c : Written) → IsNext a w b → IsNext a w c → b ≡ c
 next_one a w b c n m =
     let part : b.part ≡ c.part = joint_one a.part w.part b.part c.part n.part m.part in
-    let faults : b.faults ≡ c.faults = n.faults ∙ sym m.faults in
-    let end : b.end ≡ c.end = n.end ∙ sym m.end in
-    λ i. record { part = part i; faults = faults i; end = end i }
+    λ i. record { part = part i; faults = (n.faults ∙ sym m.faults) i; end = (n.end ∙ sym m.end) i }
 
 pub joined_one : (a : Written) (ws : List Written) (b c : Written) → AreJoined a ws b → AreJoined a ws c
     → b ≡ c

@@ -1,6 +1,6 @@
 -- What is read so far, with one more line.
 use Rattle.std.proofs.Common.{◌≡◌, ℕ, ◌+◌, List, [], ◌∷◌, ◌++◌, Bool, true, false, Option, Some, None, length, refl}
-use Rattle.std.proofs.Common.{sym, ap, ◌∙◌, subst, arith, append_assoc, append-nil}
+use Rattle.std.proofs.Common.{sym, ap, ◌∙◌, arith, append_assoc, append-nil}
 use Rattle.std.specs.List.Sorted.{IsStrictlySortedBy}
 use Rattle.std.proofs.ByRecursion.{All-append, All-push}
 use Rattle.std.proofs.lemmas.List.{length-append}
@@ -9,7 +9,7 @@ use Rattle.mseed_text.specs.Fault.{end_line, fault_line}
 use Rattle.mseed_audit.specs.declared.channel.Channel.{Channel}
 use Rattle.mseed_join.specs.Lines.{Line, header, text_of_line, IsLine}
 use Rattle.mseed_join.specs.Lines.{header_line}
-use Rattle.mseed_join.specs.Lines.{channel_line, counts_line, faults_line, HasChannelLine, HasFaultLine}
+use Rattle.mseed_join.specs.Lines.{channel_line, counts_line, faults_line}
 use Rattle.mseed_join.specs.Written.{Written, HasText, channel_lines, part_text, texts}
 use Rattle.mseed_join.specs.Joined.{AreJoined, none as no_more, one, IsNext, IsJointOf, counted, counted_by}
 use Rattle.mseed_join.specs.Reached.{OpenPart, Stage, begun_part, open_part, parts_at, open_text}
@@ -17,7 +17,7 @@ use Rattle.mseed_join.specs.Reached.{IsStage, IsWhere, passed_from, passed_lines
 use Rattle.mseed_join.specs.private.Steps.{to, goes, counted_part, with_faults, with_end}
 use Rattle.mseed_join.proofs.Onward.{IsNoHeader, Onward}
 use Rattle.mseed_join.proofs.Machine.{Entries, rows_append}
-use Rattle.mseed_join.proofs.Running.{HaveTexts, texts_before, texts_after}
+use Rattle.mseed_join.proofs.Running.{HaveTexts, each_before, each_after}
 use Rattle.mseed_join.proofs.Sums.{first_of, none_of, split, glue}
 
 -- ---- the text
@@ -61,49 +61,26 @@ empty_text : HasText (begun_part [])
 unfolding IsStrictlySortedBy
 empty_text = search arith
 
+-- another part in the place of the last has a text, if that one has
+each_put : (over : List Written) (v w : Written) → HaveTexts (over ++ v ∷ []) → (HasText v → HasText w)
+    → HaveTexts (over ++ w ∷ [])
+each_put over v w all also =
+    All-append HasText over (w ∷ []) (each_before HasText over (v ∷ []) all)
+    (also (each_after HasText over (v ∷ []) all).0, tt)
+
 each_more : (over : List Written) (b : OpenPart) (x : Line) → IsLine x → IsWhere over b → Onward b x
     → HaveTexts (over ++ open_part b) → HaveTexts (parts_at (goes over b x))
 each_more over _ _ l w Onward.opens h =
-    All-append HasText over (begun_part [] ∷ []) (texts_before over [] h) (empty_text, tt)
+    All-append HasText over (begun_part [] ∷ []) (each_before HasText over [] h) (empty_text, tt)
 each_more over _ _ l w (Onward.row cs k c m) h =
-    let has : HasText (begun_part cs) = (texts_after over (begun_part cs ∷ []) h).0 in
-    All-append HasText over (begun_part (cs ++ (k, c) ∷ []) ∷ []) (texts_before over (begun_part cs ∷ []) h) (
-      record {
-        ascending = m;
-        channels = All-push (λ (e : List ℕ × Channel). HasChannelLine e.0 e.1) cs (k, c) has.channels l;
-        counts = has.counts;
-        faults = has.faults;
-        end = tt;
-      },
-      tt,
-    )
+    each_put over (begun_part cs) (begun_part (cs ++ (k, c) ∷ [])) h (λ has. search (arith, All-push))
 each_more over _ _ l w (Onward.sums cs n k) h =
-    let has : HasText (begun_part cs) = (texts_after over (begun_part cs ∷ []) h).0 in
-    All-append HasText over (counted_part cs n k ∷ []) (texts_before over (begun_part cs ∷ []) h) (
-      record { ascending = has.ascending; channels = has.channels; counts = l; faults = has.faults; end = tt },
-      tt,
-    )
+    each_put over (begun_part cs) (counted_part cs n k) h (λ has. search arith)
 each_more over _ _ l w (Onward.follows v) h =
     All-append HasText (over ++ v ∷ []) (begun_part [] ∷ []) h (empty_text, tt)
-each_more over _ _ l w (Onward.passes v n m) h =
-    let has : HasText v = (texts_after over (v ∷ []) h).0 in
-    All-append HasText over (with_faults v n ∷ []) (texts_before over (v ∷ []) h) (
-      record { ascending = has.ascending; channels = has.channels; counts = has.counts; faults = l.fit; end = has.end },
-      tt,
-    )
+each_more over _ _ l w (Onward.passes v n m) h = each_put over v (with_faults v n) h (λ has. search arith)
 each_more over _ _ l w (Onward.ends v k f m) h =
-    let has : HasText v = (texts_after over (v ∷ []) h).0 in
-    All-append HasText (over ++ with_end v f ∷ []) []
-    (All-append HasText over (with_end v f ∷ []) (texts_before over (v ∷ []) h) (
-      record {
-        ascending = has.ascending;
-        channels = has.channels;
-        counts = has.counts;
-        faults = has.faults;
-        end = subst (λ (n : ℕ). HasFaultLine n f) (sym m) l;
-      },
-      tt,
-    )) tt
+    All-append HasText (over ++ with_end v f ∷ []) [] (each_put over v (with_end v f) h (λ has. search arith)) tt
 
 where_more : (over : List Written) (b : OpenPart) (x : Line) → IsWhere over b → Onward b x
     → IsWhere (goes over b x).over (goes over b x).last

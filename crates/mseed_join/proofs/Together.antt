@@ -1,5 +1,5 @@
 -- The texts of the parts of archives, one after another.
-use Rattle.std.proofs.Common.{◌≡◌, ℕ, ◌<◌, ◌^◌, ◌++◌, List, [], ◌∷◌, length, Bool, true, false, refl, sym, subst, arith}
+use Rattle.std.proofs.Common.{◌≡◌, ℕ, ◌<◌, ◌^◌, ◌++◌, List, length, Bool, true, false, refl, sym, subst, arith}
 use Rattle.std.proofs.Common.{length-append}
 use Rattle.std.specs.List.{AllByRecursion}
 use Rattle.mseed_stream.specs.Device.{BytesRead}
@@ -9,20 +9,13 @@ use Rattle.mseed_join.specs.Headline.{AreParted, EndsByBytes, IsReadOf, IsWithin
 use Rattle.mseed_join.specs.Joined.{IsBadLine, IsJointOf}
 use Rattle.mseed_join.specs.Written.{HasText, Spells, Written, texts}
 use Rattle.mseed_join.proofs.Clean.{all_read}
-
-first_octets : (xs ys : List ℕ) → AllByRecursion (λ b. b < 2 ^ 8) (xs ++ ys) → AllByRecursion (λ b. b < 2 ^ 8) xs
-first_octets [] ys h = tt
-first_octets (x ∷ xs) ys h = (h.0, first_octets xs ys h.1)
-
-rest_octets : (xs ys : List ℕ) → AllByRecursion (λ b. b < 2 ^ 8) (xs ++ ys) → AllByRecursion (λ b. b < 2 ^ 8) ys
-rest_octets [] ys h = h
-rest_octets (x ∷ xs) ys h = rest_octets xs ys h.1
+use Rattle.mseed_join.proofs.Running.{each_after, each_before}
 
 first_within : (xs ys : List ℕ) → IsWithinLimits (xs ++ ys) → IsWithinLimits xs
-first_within xs ys h = search (arith, first_octets, length-append)
+first_within xs ys h = search (arith, each_before, length-append)
 
 rest_within : (xs ys : List ℕ) → IsWithinLimits (xs ++ ys) → IsWithinLimits ys
-rest_within xs ys h = search (arith, rest_octets, length-append)
+rest_within xs ys h = search (arith, each_after, length-append)
 
 abbrev pub ReadsBack : Type 0
 ReadsBack = (h : BytesRead) (a : AuditedPart h) → IsWithinLimits h.bytes → HasText a.written
@@ -35,13 +28,8 @@ have_texts : ReadsBack → (archive : List ℕ) (ws : List Written) → AreParte
 have_texts back _ _ none fits = tt
 have_texts back _ _ (last archive h a read by) fits = (back h a (read_within archive h read fits), tt)
 have_texts back _ _ (more archive others h a ws read end parted) fits =
-    search (
-      arith,
-      read_within,
-      first_within,
-      rest_within,
-      have_texts back others ws parted (rest_within archive others fits),
-    )
+    let later = have_texts back others ws parted (rest_within archive others fits) in
+    search (arith, read_within, first_within, rest_within, later)
 
 pub spelled : ReadsBack → (archive : List ℕ) (ws : List Written) → AreParted archive ws → IsWithinLimits archive
     → Spells (texts ws) ws
@@ -59,8 +47,7 @@ pub parts_read : ReadsBack → HaveOneText → (archive : List ℕ) (ws vs : Lis
     → AreParted archive ws → IsWithinLimits archive → IsReadOf (texts ws) input → input.is_at_end ≡ true
     → Spells input.bytes vs → vs ≡ ws
 parts_read back single archive ws vs input parted fits reported done spells =
-    let all : Spells (texts ws) vs =
-    subst (λ (xs : List ℕ). Spells xs vs) (sym (all_read (texts ws) input reported done)) spells in
+    let all = subst (λ (xs : List ℕ). Spells xs vs) (sym (all_read (texts ws) input reported done)) spells in
     single (texts ws) vs ws all (spelled back archive ws parted fits)
 
 pub says_read : ReadsBack → HaveOneText → Says → (archive : List ℕ) (ws vs : List Written) (joint : Written)

@@ -10,7 +10,7 @@ use Rattle.std.proofs.lemmas.Map.Entries.{none_past_head}
 use Rattle.mseed_audit.specs.Channels.{same_key}
 use Rattle.mseed_audit.proofs.Maps.{keys_alike, same_itself}
 use Rattle.mseed_audit.specs.declared.channel.Channel.{Channel}
-use Rattle.mseed_join.specs.declared.part.JoinFault.{JoinFault}
+use Rattle.mseed_join.specs.declared.part.PartFault.{PartFault}
 use Rattle.mseed_join.specs.Parts.{Held, IsAscending, kept_of, IsJoint, one_channel, FitsAt, Fits, HasNewChannel}
 use Rattle.mseed_join.specs.Parts.{counts_alone}
 use Rattle.mseed_audit.proofs.Rosters.{kept_after}
@@ -79,5 +79,5 @@ module _ (a b now : Held) (t : InTurn a b now []) where
   counts_fit f = search arith
 
 -- an error is the same of whatever would have been answered
-pub same_error : {T U : Type 0} (e x : JoinFault) → IsErrOf {T = T} (Err e) x → IsErrOf {T = U} (Err e) x
+pub same_error : {T U : Type 0} (e x : PartFault) → IsErrOf {T = T} (Err e) x → IsErrOf {T = U} (Err e) x
 same_error {T} {U} e x h = search arith

@@ -25,8 +25,7 @@ pub verdicts_more : (cs : List (List ℕ × Channel)) (n : ℕ) (c : List ℕ ×
     → old ≡ first ++ verdict_lines (map verdict_at (take n cs)) → new ≡ old ++ verdict_line c.0 v
     → new ≡ first ++ verdict_lines (map verdict_at (take (n + 1) cs))
 verdicts_more cs n c v first old new h is verdict before one =
-    let more : take (n + 1) cs ≡ take n cs ++ c ∷ [] =
-    take_more cs n c h ∙ ap (λ (d : List ℕ × Channel). take n cs ++ d ∷ []) (sym is) in
+    let more = take_more cs n c h ∙ ap (λ (d : List ℕ × Channel). take n cs ++ d ∷ []) (sym is) in
     let lines : verdict_lines (map verdict_at (take (n + 1) cs))
     ≡ verdict_lines (map verdict_at (take n cs)) ++ verdict_line c.0 (verdict_of c.1) =
     ap (λ (ds : List (List ℕ × Channel)). verdict_lines (map verdict_at ds)) more ∙ lines_snoc (take n cs) c in

@@ -5,54 +5,37 @@ use Rattle.std.specs.Prelude.{⊤, IfSome, OnOk, OnErr, IsOk}
 use Rattle.std.specs.Option.{option_map}
 use Rattle.std.proofs.lemmas.Map.Views.{IfSome-lookup_from_All}
 use Rattle.mseed_audit.specs.declared.finding.Finding.{Finding}
-use Rattle.mseed_audit.specs.declared.finding.Why.{Why}
 use Rattle.mseed_audit.specs.Channels.{same_key}
 use Rattle.mseed_audit.specs.declared.channel.Channel.{Channel}
 use Rattle.mseed_audit.specs.declared.channel.Findings.{Findings}
-use Rattle.mseed_audit.specs.declared.channel.Findings.TheVariants.{Nothing, Counted}
 use Rattle.mseed_audit.specs.declared.channel.Head.{Head}
 use Rattle.mseed_audit.specs.declared.tail.Tail.{Tail}
-use Rattle.mseed_join.specs.declared.part.JoinFault.{JoinFault}
-use Rattle.mseed_join.specs.Joining.{moved_head, moved_findings, moved_channel, found_at, border_of}
+use Rattle.mseed_join.specs.declared.part.PartFault.{PartFault}
+use Rattle.mseed_join.specs.Joining.{moved_head, moved_findings, moved_channel, border_of}
 use Rattle.mseed_join.specs.Joining.{findings_with, channel_then}
-use Rattle.mseed_audit.specs.Audit.{break_by, head_in, tail_in}
+use Rattle.mseed_audit.specs.Audit.{head_in, tail_in}
 use Rattle.mseed_join.specs.Parts.{HeadFits, FirstFits, Moves, CountFits, CountsFit, IsWithin, AreWithin, kept_of}
 use Rattle.mseed_join.proofs.Adding.{Entries}
 use Rattle.mseed_join.proofs.Following.{head_with}
 
 -- what went up and didn't pass it
 heads_fit : (d e : ℕ) (h : Option Head) → HeadFits d e h → HeadFits 0 0 (option_map (moved_head d e) h)
-heads_fit d e None f = tt
-heads_fit d e (Some h) f = (omega (arith, f.0), omega (arith, f.1))
+heads_fit d e head fits = grind arith
 
 moved_fits : (d e : ℕ) (f : Findings) → HeadFits d e (head_in f) × FirstFits d e f
     → HeadFits 0 0 (head_in (moved_findings d e f)) × FirstFits 0 0 (moved_findings d e f)
-moved_fits d e (Nothing head tail) f = (heads_fit d e (Some head) f.0, tt)
-moved_fits d e (Counted count first head tail) f =
-    (heads_fit d e head f.0, (omega (arith, f.1.0), omega (arith, f.1.1)))
+moved_fits d e found fits = grind (arith, heads_fit)
 
 abbrev BorderFits : Option Finding → Type 0
 BorderFits None = ⊤
 BorderFits (Some f) = (0 + f.number < 2 ^ 63) × (0 + f.offset < 2 ^ 63)
 
 border_fits : (t : Option Tail) (h : Option Head) → HeadFits 0 0 h → BorderFits (border_of t h)
-border_fits (Some t) (Some h) f = by (break_by t h.start h.rate)
-  where
-    by : (why : Option Why) → BorderFits (found_at h why)
-    by None = tt
-    by (Some why) = f
-border_fits _ _ f = tt
+border_fits t h fits = grind arith
 
 first_with : (a b : Findings) (border : Option Finding) → FirstFits 0 0 a → FirstFits 0 0 b → BorderFits border
     → FirstFits 0 0 (findings_with a b border)
-first_with (Nothing head t) (Nothing h tail) None f g k = tt
-first_with (Nothing head t) (Nothing h tail) (Some x) f g k = k
-first_with (Nothing head t) (Counted n first h tail) None f g k = g
-first_with (Nothing head t) (Counted n first h tail) (Some x) f g k = k
-first_with (Counted m first head t) (Nothing h tail) None f g k = f
-first_with (Counted m first head t) (Nothing h tail) (Some x) f g k = f
-first_with (Counted m first head t) (Counted n next h tail) None f g k = f
-first_with (Counted m first head t) (Counted n next h tail) (Some x) f g k = f
+first_with a b border fit fits found = grind arith
 
 -- a channel with its further records after
 then_within : (d e : ℕ) (c o : Channel) → IsWithin c → Moves d e o
@@ -76,7 +59,7 @@ within_there key es c is all =
 
 -- a channel that is there, with what is joined to it
 pub after_within : (d e : ℕ) (key : List ℕ) (es : Entries) (c o m after : Channel)
-    (r : Result (Option Finding) JoinFault) → Some c ≡ kept_of key es → AreWithin es → Moves d e o
+    (r : Result (Option Finding) PartFault) → Some c ≡ kept_of key es → AreWithin es → Moves d e o
     → m ≡ moved_channel d e o → IsOk r ↔ CountsFit (channel_then c m) → OnOk r (after ≡ channel_then c m)
     → OnErr r (after ≡ c) → IsWithin after
 after_within d e key es c o m after r there all moves is fits ok err = by r fits ok err
@@ -84,7 +67,7 @@ after_within d e key es c o m after r there all moves is fits ok err = by r fits
     before : IsWithin c
     before = within_there key es c there all
 
-    by : (s : Result (Option Finding) JoinFault) → IsOk s ↔ CountsFit (channel_then c m)
+    by : (s : Result (Option Finding) PartFault) → IsOk s ↔ CountsFit (channel_then c m)
         → OnOk s (after ≡ channel_then c m) → OnErr s (after ≡ c) → IsWithin after
     by (Ok found) f g h =
         subst (λ (x : Channel). IsWithin x) (sym g)
@@ -98,8 +81,7 @@ new_within d e o m moves is counts =
     (counts, subst (λ (x : Channel). Moves 0 0 x) (sym is) (moved_fits d e o.findings moves))
 
 count_before : (d e : ℕ) (f : Findings) → CountFits (moved_findings d e f) → CountFits f
-count_before d e (Nothing head tail) fits = tt
-count_before d e (Counted count first head tail) fits = fits
+count_before d e found fits = grind arith
 
 -- what goes up keeps its counts
 pub counts_before : (d e : ℕ) (o m : Channel) → m ≡ moved_channel d e o → CountsFit m → CountsFit o

@@ -24,8 +24,8 @@ pub record AuditedPart (h : BytesRead) : Type 0 where
   pub faults : written.faults ≡ 0
   pub end : written.end ≡ audited.end
 
--- By the outcome: the answer is that of the audit; where the output failed, so many bytes of the part's text were
--- written before.
+-- By the outcome: the answer is that of the audit; where the output failed, as many bytes of the part's text
+-- as it tells were written before.
 abbrev pub IsPartOutcome : Result Summary AuditFault → BytesRead → BytesWritten → BytesWritten → Type 0
 IsPartOutcome (Ok summary) h old new =
     (a : AuditedPart h) × (IsSummary summary a.audited × IsWritten (part_text a.written) old new)

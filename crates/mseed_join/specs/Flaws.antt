@@ -45,7 +45,7 @@ IsNoChannel line = (key : List ℕ) (c : Channel) → HasChannelLine key c → l
 abbrev pub IsNoCounts : List ℕ → Type 0
 IsNoCounts line = (records bytes : ℕ) → HasCountsLine records bytes → line ≢ counts_line records bytes
 
--- it is no line of the fault after so many bytes, and none of faults that were passed
+-- it is no line of the fault after `bytes` bytes, and none of faults that were passed
 abbrev pub IsNoFault : ℕ → List ℕ → Type 0
 IsNoFault bytes line = (f : StreamFault) → HasFaultLine bytes f → line ≢ fault_line f
 

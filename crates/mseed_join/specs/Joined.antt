@@ -29,7 +29,7 @@ counted past (w ∷ ws) = counted_by past w w.end (counted past ws)
 abbrev pub nothing : Written
 nothing = record { part = record { channels = []; records = 0; bytes = 0 }; faults = 0; end = None }
 
--- a fault after so many more bytes
+-- a fault, as one of what has `e` more bytes before it
 abbrev pub moved_fault : ℕ → StreamFault → StreamFault
 moved_fault e (Frame offset f) = Frame (e + offset) f
 moved_fault e (Truncated offset have) = Truncated (e + offset) have

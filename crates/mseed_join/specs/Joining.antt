@@ -10,7 +10,7 @@ use Rattle.mseed_audit.specs.declared.channel.Head.{Head}
 use Rattle.mseed_audit.specs.declared.tail.Tail.{Tail}
 use Rattle.mseed_audit.specs.Audit.{break_by, head_in, tail_in}
 
--- what is kept of a record after so many more records and bytes
+-- what is kept of a record, with `d` more records and `e` more bytes before it
 abbrev pub moved_head : ℕ → ℕ → Head → Head
 moved_head d e h = record { number = d + h.number; offset = e + h.offset; start = h.start; rate = h.rate }
 

@@ -1,18 +1,17 @@
 -- What is written of the joint part of parts with a line for each border with a finding, and what is answered of it.
 use Rattle.std.specs.Prelude.{◌≡◌, ◌⊎◌, ℕ, ◌+◌, List, ◌++◌, Bool, true, Option, Result, Ok, Err}
-use Rattle.mseed_stream.specs.Device.{BytesRead, BytesWritten, nothing_read}
-use Rattle.mseed_stream.specs.Fault.{IsStreamFault}
+use Rattle.mseed_stream.specs.Device.{BytesRead, BytesWritten}
 use Rattle.mseed_stream.specs.Gathered.{EmittedFirst, EmittedPart}
 use Rattle.mseed_audit.specs.Summary.{IsWritten}
 use Rattle.mseed_join.specs.declared.joining.Joined.{Joined as Answer}
-use Rattle.mseed_join.specs.declared.fault.JoinsFault.{JoinsFault}
-use Rattle.mseed_join.specs.declared.fault.JoinsFault.TheVariants.{Line, Count, Stream, Write, Memory}
+use Rattle.mseed_join.specs.declared.fault.JoinFault.{JoinFault}
+use Rattle.mseed_join.specs.declared.fault.JoinFault.TheVariants.{Line, Count, Stream, Write, Memory}
 use Rattle.mseed_join.specs.declared.flaw.Flaw.{Flaw}
 use Rattle.mseed_join.specs.Borders.{AreBordersOf, Border, border_lines}
 use Rattle.mseed_join.specs.Joined.{HasNoBadLine, join_text}
 use Rattle.mseed_join.specs.Joins.{IsAnswer}
 use Rattle.mseed_join.specs.Reached.{Stage, parts_at}
-use Rattle.mseed_join.specs.ReadParts.{AreBadParts, AreMiscounted, AreReportedTo, IsRead}
+use Rattle.mseed_join.specs.ReadParts.{AreBadParts, AreMiscounted, AreReportedTo, IsRead, IsReadFault}
 use Rattle.mseed_join.specs.Written.{Written}
 
 -- the whole input was read, and this is found at the borders of its parts
@@ -31,7 +30,7 @@ pub record AreBadEach (past : Bool) (h : BytesRead) (k offset : ℕ) (flaw : Fla
   pub bad : AreBadParts past h.bytes h.is_at_end k offset flaw reported now
   pub borders : AreBordersOf past (parts_at bad.stage) found
 
--- the whole input was read: it is so many parts, where another number is expected, and this is found at their borders
+-- the whole input was read: it is `parts` parts, where another number is expected, and this is found at their borders
 pub record AreMiscountedEach (past : Bool) (expected : Option ℕ) (h : BytesRead) (parts due : ℕ) (found : List Border)
     (reported now : BytesWritten) : Type 0 where
   pub whole : h.is_at_end ≡ true
@@ -53,7 +52,7 @@ EndsShort Emitted past expected h reported now =
 
 -- By the outcome: of the input, of the output before and after, and of the device that faults are reported to before
 -- and after. An output that failed isn't called again.
-abbrev pub IsJoinEachOutcome : Bool → Option ℕ → Result Answer JoinsFault → BytesRead → BytesWritten → BytesWritten
+abbrev pub IsJoinEachOutcome : Bool → Option ℕ → Result Answer JoinFault → BytesRead → BytesWritten → BytesWritten
     → BytesWritten → BytesWritten → Type 0
 IsJoinEachOutcome past expected (Ok answer) h old new reported now =
     (w : Written) × ((found : List Border) × (IsReadEach past expected h w found reported now
@@ -66,7 +65,7 @@ IsJoinEachOutcome past expected (Err (Count parts due)) h old new reported now =
     × IsWritten (border_lines found) old new)
 IsJoinEachOutcome past expected (Err (Stream fault)) h old new reported now =
     (found : List Border) × (AreEachTo past h found reported now × IsWritten (border_lines found) old new
-    × IsStreamFault fault nothing_read h × HasNoBadLine past h.bytes)
+    × IsReadFault fault h × HasNoBadLine past h.bytes)
 IsJoinEachOutcome past expected (Err Write) h old new reported now =
     (new.failures ≡ old.failures + 1) × EndsShort (EmittedPart old new) past expected h reported now
 IsJoinEachOutcome past expected (Err Memory) h old new reported now =

@@ -153,7 +153,7 @@ pub record HasCountsLine (records bytes : ℕ) : Type 0 where
   pub records_fit : records < 2 ^ 63
   pub bytes_fit : bytes < 2 ^ 63
 
--- so many faults have a line
+-- this number of faults has a line
 pub record HasFaultsLine (faults : ℕ) : Type 0 where
   pub some : 0 < faults
   pub fit : faults < 2 ^ 63
@@ -167,7 +167,7 @@ HasFrameFault (Length exponent) = exponent < 2 ^ 8
 HasFrameFault Outside = ⊤
 HasFrameFault Version3 = ⊤
 
--- a fault after so many bytes; a want of memory isn't one
+-- a fault after `bytes` bytes; a want of memory isn't one
 abbrev pub IsFaultAfter : ℕ → StreamFault → Type 0
 IsFaultAfter bytes (Frame offset fault) = (offset ≡ bytes) × HasFrameFault fault
 IsFaultAfter bytes (Truncated offset have) = (offset ≡ bytes) × (have < 2 ^ 63)
@@ -175,7 +175,7 @@ IsFaultAfter bytes (Read offset) = offset ≡ bytes
 IsFaultAfter bytes (Turns offset) = offset ≡ bytes
 IsFaultAfter bytes Memory = ⊥
 
--- a fault after so many bytes has a line
+-- a fault after `bytes` bytes has a line
 pub record HasFaultLine (bytes : ℕ) (fault : StreamFault) : Type 0 where
   pub bytes_fit : bytes < 2 ^ 63
   pub is : IsFaultAfter bytes fault

@@ -36,7 +36,7 @@ border_notice b = record { key = b.key; fault = None; start = b.start; finding =
 abbrev pub border_notices : List Border → List Notice
 border_notices found = map border_notice found
 
--- after so many more records and bytes
+-- a notice, with `d` more records and `e` more bytes before it
 abbrev pub moved_notice : ℕ → ℕ → Notice → Notice
 moved_notice d e n = record {
   key = n.key;

@@ -55,7 +55,7 @@ channels_alone channels = record { channels = channels; records = 0; bytes = 0 }
 abbrev pub one_channel : List ℕ → Channel → Held
 one_channel key c = channels_alone ((key, c) ∷ [])
 
--- so many records and bytes, and no channel
+-- these numbers of records and bytes, and no channel
 abbrev pub counts_alone : ℕ → ℕ → Held
 counts_alone records bytes = record { channels = []; records = records; bytes = bytes }
 
@@ -72,7 +72,7 @@ abbrev pub FirstFits : ℕ → ℕ → Findings → Type 0
 FirstFits d e (Nothing head tail) = ⊤
 FirstFits d e (Counted count first head tail) = (d + first.number < 2 ^ 63) × (e + first.offset < 2 ^ 63)
 
--- the numbers and offsets of a channel can go up by so many records and bytes
+-- the numbers and offsets of a channel can go up by `d` records and `e` bytes
 abbrev pub Moves : ℕ → ℕ → Channel → Type 0
 Moves d e c = HeadFits d e (head_in c.findings) × FirstFits d e c.findings
 

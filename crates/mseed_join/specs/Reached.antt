@@ -95,7 +95,7 @@ pub data AreReported : List (List ℕ) → BytesWritten → BytesWritten → Typ
       → AreReported lines now new → AreReported (line ∷ lines) old new
 
 -- ---- what was read
--- so many whole lines of parts, of these bytes that were read, up to this stage
+-- `count` whole lines of parts, of these bytes that were read, up to this stage
 pub record AreLinesRead (bytes : List ℕ) (count : ℕ) (s : Stage) : Type 0 where
   pub lines : List ℕ
   pub rest : List ℕ

@@ -2,9 +2,11 @@
 use Rattle.std.specs.Prelude.{⊤, ◌≡◌, ◌≢◌, ℕ, ◌+◌, List, length, Bool, true, Option, Some, None, Result, Ok, Err}
 use Rattle.mseed_stream.specs.Device.{BytesRead, BytesWritten, nothing_read}
 use Rattle.mseed_stream.specs.Fault.{IsStreamFault}
+use Rattle.mseed_stream.specs.declared.fault.StreamFault.{StreamFault}
+use Rattle.mseed_stream.specs.declared.fault.StreamFault.TheVariants.{Memory as NoMemory}
 use Rattle.mseed_join.specs.declared.joint.JointPart.{JointPart}
-use Rattle.mseed_join.specs.declared.fault.JoinsFault.{JoinsFault}
-use Rattle.mseed_join.specs.declared.fault.JoinsFault.TheVariants.{Line, Count, Stream, Write, Memory}
+use Rattle.mseed_join.specs.declared.fault.JoinFault.{JoinFault}
+use Rattle.mseed_join.specs.declared.fault.JoinFault.TheVariants.{Line, Count, Stream, Write, Memory}
 use Rattle.mseed_join.specs.declared.flaw.Flaw.{Flaw}
 use Rattle.mseed_join.specs.Flaws.{IsFlaw}
 use Rattle.mseed_join.specs.Joined.{HasNoBadLine, IsBadLine, IsJointOf}
@@ -35,7 +37,7 @@ pub record IsRead (past : Bool) (expected : Option ℕ) (h : BytesRead) (w : Wri
   pub parts : AreReadParts past h.bytes w reported now
   pub number : AreExpected expected (length parts.parts)
 
--- the bytes are the texts of so many parts, and another number is expected; each fault that was passed was reported
+-- the bytes are the texts of `parts` parts, and another number is expected; each fault that was passed was reported
 pub record AreMiscounted (past : Bool) (expected : Option ℕ) (bytes : List ℕ) (parts due : ℕ) (old new : BytesWritten)
     : Type 0 where
   pub joint : Written
@@ -66,6 +68,12 @@ pub record IsStopped (past : Bool) (h : BytesRead) (s new : BytesWritten) : Type
   pub stage : Stage
   pub lines : AreReportedTo past h.bytes stage s new
 
+-- A fault of the input, of which nothing was read before: a read failed, or the input wasn't at its end after 2^40
+-- reads. Memory that was refused is no fault of the input.
+abbrev pub IsReadFault : StreamFault → BytesRead → Type 0
+IsReadFault NoMemory h = ⊥
+IsReadFault fault h = IsStreamFault fault nothing_read h
+
 -- the source failed after it: no bad line was read before
 pub record IsFailed (past : Bool) (h : BytesRead) (s new : BytesWritten) : Type 0 where
   pub stopped : IsStopped past h s new
@@ -73,13 +81,13 @@ pub record IsFailed (past : Bool) (h : BytesRead) (s new : BytesWritten) : Type 
 
 -- By the answer: of what was read of the source, and of the device that faults are reported to, before and after.
 -- Nothing else is written, so no output fails.
-abbrev pub IsReadOutcome : {A : Type 0} → Result (JointPart A) JoinsFault → Bool → Option ℕ → BytesRead → BytesWritten
+abbrev pub IsReadOutcome : {A : Type 0} → Result (JointPart A) JoinFault → Bool → Option ℕ → BytesRead → BytesWritten
     → BytesWritten → Type 0
 IsReadOutcome (Ok joint) past expected h s new = IsRead past expected h (written_of joint) s new
 IsReadOutcome (Err (Line k offset flaw)) past expected h s new = AreBadParts past h.bytes h.is_at_end k offset flaw s
     new
 IsReadOutcome (Err (Count parts due)) past expected h s new =
     (h.is_at_end ≡ true) × AreMiscounted past expected h.bytes parts due s new
-IsReadOutcome (Err (Stream fault)) past expected h s new = IsStreamFault fault nothing_read h × IsFailed past h s new
+IsReadOutcome (Err (Stream fault)) past expected h s new = IsReadFault fault h × IsFailed past h s new
 IsReadOutcome (Err Write) past expected h s new = ⊥
 IsReadOutcome (Err Memory) past expected h s new = IsStopped past h s new

@@ -10,8 +10,8 @@ ghost use Rattle.mseed_join.specs.private.Parted.{IsPushed};
 
 use crate::text::push_part;
 use mseed_audit::{
-    Audit, AuditFault, Channel, EachFault, Findings, Memory, Summary, channels_have_verdicts,
-    gather, gather_each,
+    Audit, AuditFault, Channel, EachFault, Findings, Gathered, Memory, Summary,
+    channels_have_verdicts, gather, gather_each,
 };
 use mseed_record::Codes;
 use mseed_stream::{Sink, Source, StreamFault, write_all_of};
@@ -39,7 +39,7 @@ pub fn audit_part<A: Allocator + Copy, R: Source, W: Sink>(
     ensures writes { WritesOn (W.written sink.old) (W.written sink.new) (W.contents sink.old) (W.contents sink.new)
         (W.beside sink.old) (W.beside sink.new) }
 {
-    let (audit, end, bytes) = match gather(alloc, source) {
+    let Gathered { audit, end, bytes } = match gather(alloc, source) {
         Ok(gathered) => gathered,
         Err(Memory) => return Err(AuditFault::Memory),
     };
@@ -77,7 +77,7 @@ pub fn audit_part_each<A: Allocator + Copy, R: Source, W: Sink>(
         (W.beside sink.old) (W.beside sink.new) }
 {
     let mut text = Vec::new(alloc);
-    let (audit, end, bytes) = gather_each(alloc, source, sink, &mut text)?;
+    let Gathered { audit, end, bytes } = gather_each(alloc, source, sink, &mut text)?;
     let summary = match push_audited(&mut text, alloc, audit, &end, bytes) {
         Ok(summary) => summary,
         Err(Memory) => return Err(EachFault::Memory),

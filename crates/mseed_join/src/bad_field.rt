@@ -10,7 +10,7 @@ ghost use Rattle.mseed_join.specs.private.Passing.{past_samples, past_start, pas
 
 use crate::fields::{leap_at, ratio_at, start_at};
 use crate::hex::key_at;
-use crate::numbers::{LIMIT, after, number_after, number_at};
+use crate::numbers::{LARGEST, after, number_after, number_at};
 
 /// A field of the line of a channel, or of the line of the counts. Of a head and of a tail each part is one.
 #[derive(Clone, Copy, Debug, PartialEq, Eq)]
@@ -51,7 +51,7 @@ pub enum Field {
 /// the counts, and any other for that of a channel. A field ends at a space or at the line's LF: the first bad one is
 /// the first up to the end of which no such line begins with the same bytes.
 ///
-/// The line is neither of a channel nor of the counts: `read_channel_line` and `read_counts_line` return nothing.
+/// The line is neither of a channel nor of the counts: `read_channel_line` and `read_counts_line` return `None`.
 #[cold]
 pub fn first_bad_field(line: &[u8]) -> Field
     requires no_channel { (key : List ℕ) (c : Channel) → HasChannelLine key c → line.now ≢ channel_line key c }
@@ -190,7 +190,7 @@ fn past_word<'a, const N: usize>(word: &[u8; N], bytes: &'a [u8]) -> Option<&'a 
 fn past_count<'a, const N: usize>(word: &[u8; N], bytes: &'a [u8]) -> Option<&'a [u8]>
     ensures { option_map (λ rest. rest.now) result ≡ past_count word.now bytes.now }
 {
-    let (_, rest) = number_after(word, LIMIT, bytes)?;
+    let (_, rest) = number_after(word, LARGEST, bytes)?;
     ended(rest)
 }
 
@@ -244,6 +244,6 @@ fn past_findings(both: bool, bytes: &[u8]) -> Option<&[u8]>
     ensures { option_map (λ rest. rest.now) result ≡ past_findings both bytes.now }
 {
     let rest = after(b" findings ", bytes)?;
-    let (count, rest) = number_at(LIMIT, rest)?;
+    let (count, rest) = number_at(LARGEST, rest)?;
     if count > 0 || both { ended(rest) } else { None }
 }

@@ -92,9 +92,9 @@ pub fn one_text()
 
 /// No line of the texts of parts that can be joined is bad, however much of them was read.
 pub fn no_bad_line()
-    ensures { (past : Bool) (text : List ℕ) (input : BytesRead) (line offset : ℕ) (ws : List Written)
-        (joint : Written) → Spells text ws → IsJointOf past ws joint → IsReadOf text input
-        → IsBadLine past input.bytes input.is_at_end line offset → ⊥ }
+    ensures { (past_faults : Bool) (text : List ℕ) (input : BytesRead) (line offset : ℕ) (ws : List Written)
+        (joint : Written) → Spells text ws → IsJointOf past_faults ws joint → IsReadOf text input
+        → IsBadLine past_faults input.bytes input.is_at_end line offset → ⊥ }
 {}
 
 /// Parts of archives can be joined where the archives one after another can be audited: no number passes 2^63 - 1.

@@ -6,7 +6,7 @@ use thiserror::Error;
 /// Why parts weren't read, or weren't joined, or what they are joined to wasn't written whole. Where the parts are at
 /// fault or couldn't be read, nothing was written, or by `join_each` the lines of the borders so far.
 #[derive(Clone, Copy, Debug, PartialEq, Eq, Error)]
-pub enum JoinsFault {
+pub enum JoinFault {
     /// A line is bad.
     #[error("bad part at line {number}")]
     Line {
@@ -17,10 +17,10 @@ pub enum JoinsFault {
         /// What is wrong with it.
         flaw: Flaw,
     },
-    /// So many parts were read, and so many were expected.
+    /// The number of parts that were read isn't the number that was expected: both, in this order.
     #[error("{0} parts, not {1}")]
     Count(u64, u64),
-    /// The source failed, or wasn't at its end after 2^40 reads.
+    /// The source failed (`Read`), or wasn't at its end after 2^40 reads (`Turns`).
     #[error("the input failed")]
     Stream(StreamFault),
     /// The output failed. A prefix of the text was written. `read_parts` writes nothing, and never returns it.

@@ -5,7 +5,7 @@ ghost use Rattle.mseed_join.specs.private.Reading.{ratio_at, start_at, leap_at, 
 ghost use Rattle.mseed_join.specs.private.Reading.{some_tail_at};
 ghost use Rattle.mseed_join.specs.private.Reading.{tail_at};
 
-use crate::numbers::{LIMIT, after, integer_at, number_after, number_at};
+use crate::numbers::{LARGEST, after, integer_at, number_after, number_at};
 use mseed_audit::{Head, Tail};
 use mseed_record::Leap;
 use mseed_time::{Micros, Ratio};
@@ -16,9 +16,9 @@ use mseed_time::{Micros, Ratio};
 pub(crate) fn ratio_at(bytes: &[u8]) -> Option<(Ratio, &[u8])>
     ensures { option_map (λ x. (x.0, x.1.now)) result ≡ ratio_at bytes.now }
 {
-    let (num, rest) = number_at(1 << 30, bytes)?;
+    let (num, rest) = number_at(u64::from(Ratio::MAX), bytes)?;
     let rest = after(b"/", rest)?;
-    let (den, rest) = number_at(1 << 30, rest)?;
+    let (den, rest) = number_at(u64::from(Ratio::MAX), rest)?;
     match Ratio::new(num as u32, den as u32) {
         Some(ratio) => Some((ratio, rest)),
         None => None,
@@ -30,7 +30,7 @@ pub(crate) fn ratio_at(bytes: &[u8]) -> Option<(Ratio, &[u8])>
 pub(crate) fn start_at(bytes: &[u8]) -> Option<(Micros, &[u8])>
     ensures { option_map (λ x. (x.0, x.1.now)) result ≡ start_at bytes.now }
 {
-    let (start, rest) = integer_at(5_364_662_400_000_000, 7_258_118_399_999_999, bytes)?;
+    let (start, rest) = integer_at(Micros::MIN.unsigned_abs(), Micros::MAX as u64, bytes)?;
     match Micros::new(start) {
         Some(start) => Some((start, rest)),
         None => None,
@@ -62,8 +62,8 @@ pub(crate) fn leap_at(bytes: &[u8]) -> Option<(Leap, &[u8])>
 fn some_head_at(bytes: &[u8]) -> Option<(Head, &[u8])>
     ensures { option_map (λ x. (x.0, x.1.now)) result ≡ some_head_at bytes.now }
 {
-    let (number, rest) = number_at(LIMIT, bytes)?;
-    let (offset, rest) = number_after(b" ", LIMIT, rest)?;
+    let (number, rest) = number_at(LARGEST, bytes)?;
+    let (offset, rest) = number_after(b" ", LARGEST, rest)?;
     let rest = after(b" ", rest)?;
     let Some((start, rest)) = start_at(rest) else {
         return None;

@@ -8,7 +8,7 @@ ghost use Rattle.mseed_join.specs.private.Reading.{bytes_at, key_at, nibble_of};
 use mseed_record::Codes;
 use std::simd::prelude::*;
 
-/// A key has so many digits.
+/// The digits of a key.
 const DIGITS: usize = 24;
 
 /// A key, and the bytes after it.

@@ -5,7 +5,7 @@ ghost use Rattle.mseed_stream.specs.Device.{nothing_read};
 ghost use Rattle.mseed_join.specs.Joins.{IsAnswer, IsJoinOutcome, text_by};
 
 use crate::auditing::count_broken;
-use crate::fault::JoinsFault;
+use crate::fault::JoinFault;
 use crate::joint::JointPart;
 use crate::part::Part;
 use crate::parts::read_parts;
@@ -50,7 +50,7 @@ pub fn join<A: Allocator + Copy, R: Source, W: Sink, E: Sink>(
     source: &mut R,
     sink: &mut W,
     errors: &mut E,
-) -> Result<Joined, JoinsFault>
+) -> Result<Joined, JoinFault>
     requires { R.read source.old ≡ nothing_read }
     ensures outcome { IsJoinOutcome form past_faults expected result (R.read source.new) (W.written sink.old)
         (W.written sink.new) (E.written errors.old) (E.written errors.new) }
@@ -67,11 +67,11 @@ pub fn join<A: Allocator + Copy, R: Source, W: Sink, E: Sink>(
     let mut text = Vec::new(alloc);
     let joined = match push_joined(&mut text, alloc, form, part, faults, &end) {
         Ok(joined) => joined,
-        Err(Memory) => return Err(JoinsFault::Memory),
+        Err(Memory) => return Err(JoinFault::Memory),
     };
     match write_all_of(sink, &text) {
         Ok(()) => Ok(joined),
-        Err(_) => Err(JoinsFault::Write),
+        Err(_) => Err(JoinFault::Write),
     }
 }
 

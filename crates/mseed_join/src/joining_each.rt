@@ -4,7 +4,7 @@ ghost use Rattle.mseed_stream.specs.Calls.{ReadsOn, WritesOn};
 ghost use Rattle.mseed_stream.specs.Device.{nothing_read};
 ghost use Rattle.mseed_join.specs.JoinsEach.{IsJoinEachOutcome};
 
-use crate::fault::JoinsFault;
+use crate::fault::JoinFault;
 use crate::joining::{Form, Joined, push_joined};
 use crate::joint::JointPart;
 use crate::parts::read_with;
@@ -28,7 +28,7 @@ pub fn join_each<A: Allocator + Copy, R: Source, W: Sink, E: Sink>(
     source: &mut R,
     sink: &mut W,
     errors: &mut E,
-) -> Result<Joined, JoinsFault>
+) -> Result<Joined, JoinFault>
     requires { R.read source.old ≡ nothing_read }
     ensures outcome { IsJoinEachOutcome past_faults expected result (R.read source.new) (W.written sink.old)
         (W.written sink.new) (E.written errors.old) (E.written errors.new) }
@@ -53,10 +53,10 @@ pub fn join_each<A: Allocator + Copy, R: Source, W: Sink, E: Sink>(
     )?;
     let joined = match push_joined(&mut text, alloc, Form::Audit, part, faults, &end) {
         Ok(joined) => joined,
-        Err(Memory) => return Err(JoinsFault::Memory),
+        Err(Memory) => return Err(JoinFault::Memory),
     };
     match write_all_of(sink, &text) {
         Ok(()) => Ok(joined),
-        Err(_) => Err(JoinsFault::Write),
+        Err(_) => Err(JoinFault::Write),
     }
 }

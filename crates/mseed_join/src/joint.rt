@@ -13,10 +13,10 @@ ghost use Rattle.mseed_join.specs.private.Taking.{fault_after, passed_by};
 use crate::bad_field::first_bad_field;
 use crate::flaw::{Flaw, begun_as};
 use crate::lines::{read_channel_line, read_counts_line, read_fault_line, read_faults_line};
-use crate::part::{JoinFault, Part};
+use crate::part::{Part, PartFault};
 use crate::part_law::one_part;
 use crate::part_sums::sum;
-use crate::writing::HEADER;
+use crate::writing::FIRST_LINE;
 use mseed_audit::{Channel, Finding};
 use mseed_record::Codes;
 use mseed_stream::StreamFault;
@@ -71,7 +71,7 @@ pub(crate) enum LineFault {
 
 /// Where in a part's text the next line stands.
 #[derive(Clone, Copy)]
-pub(crate) enum Place {
+pub(crate) enum PlaceInPart {
     /// Before the first line of a part.
     Start,
     /// After a channel with this key, or after the first line.
@@ -86,16 +86,16 @@ pub(crate) struct Joint<A: Allocator> {
     pub(crate) so_far: JointPart<A>,
     // The parts, those that don't count and the one that has begun too.
     pub(crate) parts: u64,
-    place: Place,
+    place: PlaceInPart,
     // Faults are passed.
-    past: bool,
+    past_faults: bool,
 }
 
 impl<A: Allocator + Copy> Joint<A> {
     /// The joint part of no line.
-    pub(crate) fn new(alloc: A, past: bool) -> Joint<A>
+    pub(crate) fn new(alloc: A, past_faults: bool) -> Joint<A>
         ensures read { IsReadTo [] start result }
-        ensures past { result.past ≡ past }
+        ensures past_faults { result.past_faults ≡ past_faults }
         ensures parts { result.parts ≡ 0 }
     {
         one_part();
@@ -106,8 +106,8 @@ impl<A: Allocator + Copy> Joint<A> {
                 end: None,
             },
             parts: 0,
-            place: Place::Start,
-            past,
+            place: PlaceInPart::Start,
+            past_faults,
         }
     }
 
@@ -123,9 +123,9 @@ impl<A: Allocator + Copy> Joint<A> {
         ensures { TakesLine line.now result self.old self.new }
     {
         match self.place {
-            Place::Start => self.take_header(Flaw::Beginning, line),
-            Place::Channels(last) => self.take_row(last, line),
-            Place::Whole { bytes, has_faults } => self.take_ending(bytes, has_faults, line),
+            PlaceInPart::Start => self.take_header(Flaw::Beginning, line),
+            PlaceInPart::Channels(last) => self.take_row(last, line),
+            PlaceInPart::Whole { bytes, has_faults } => self.take_ending(bytes, has_faults, line),
         }
     }
 
@@ -134,7 +134,7 @@ impl<A: Allocator + Copy> Joint<A> {
         ensures { result ≡ can_end self.now.place }
     {
         match self.place {
-            Place::Channels(_) => false,
+            PlaceInPart::Channels(_) => false,
             _ => true,
         }
     }
@@ -154,17 +154,17 @@ impl<A: Allocator + Copy> Joint<A> {
         ensures line { OnOk result (line.now ≡ header_line) }
         ensures bad { IfErr result (λ fault. (fault ≡ LineFault.Bad flaw) × (line.now ≢ header_line)) }
     {
-        if line != HEADER {
+        if line != FIRST_LINE {
             return Err(LineFault::Bad(flaw));
         }
         self.parts += 1;
-        self.place = Place::Channels(None);
+        self.place = PlaceInPart::Channels(None);
         Ok(Reported::Nothing)
     }
 
     /// Takes a channel or the counts.
     fn take_row(&mut self, last: Option<Codes>, line: &[u8]) -> Result<Reported, LineFault>
-        requires place { self.old.place ≡ Place.Channels last }
+        requires place { self.old.place ≡ PlaceInPart.Channels last }
         requires ended { (body : List ℕ) × HasNoEnd body × (line.now ≡ body ++ codes "\n") }
         ensures { TakesLine line.now result self.old self.new }
     {
@@ -188,7 +188,7 @@ impl<A: Allocator + Copy> Joint<A> {
         line: &[u8],
     ) -> Result<Reported, LineFault>
         requires parts { self.old.parts < 2 ^ 63 }
-        requires place { self.old.place ≡ Place.Whole bytes has_faults }
+        requires place { self.old.place ≡ PlaceInPart.Whole bytes has_faults }
         requires ended { (body : List ℕ) × HasNoEnd body × (line.now ≡ body ++ codes "\n") }
         ensures { TakesLine line.now result self.old self.new }
     {
@@ -210,20 +210,17 @@ impl<A: Allocator + Copy> Joint<A> {
         ensures step { Takes (Line.channel codes channel.now) result self.old self.new }
         ensures limit { IfErr result IsLimit }
     {
-        match self.so_far.end {
-            Some(_) => {
-                self.place = Place::Channels(Some(codes));
-                return Ok(Reported::Nothing);
-            }
-            None => {}
+        if let Some(_) = self.so_far.end {
+            self.place = PlaceInPart::Channels(Some(codes));
+            return Ok(Reported::Nothing);
         }
         match self.so_far.part.add_channel(codes, channel) {
             Ok(found) => {
-                self.place = Place::Channels(Some(codes));
+                self.place = PlaceInPart::Channels(Some(codes));
                 Ok(reported_of(codes, channel, found))
             }
-            Err(JoinFault::Limit) => Err(LineFault::Bad(Flaw::Limit)),
-            Err(JoinFault::Memory) => Err(LineFault::Memory),
+            Err(PartFault::Limit) => Err(LineFault::Bad(Flaw::Limit)),
+            Err(PartFault::Memory) => Err(LineFault::Memory),
         }
     }
 
@@ -232,7 +229,7 @@ impl<A: Allocator + Copy> Joint<A> {
         ensures step { Takes (Line.counts records bytes) result self.old self.new }
         ensures limit { IfErr result IsLimit }
     {
-        self.place = Place::Whole {
+        self.place = PlaceInPart::Whole {
             bytes,
             has_faults: false,
         };
@@ -247,11 +244,11 @@ impl<A: Allocator + Copy> Joint<A> {
 
     /// Takes the number of faults passed.
     fn take_faults(&mut self, faults: u64, bytes: u64) -> Result<Reported, LineFault>
-        requires { self.old.place ≡ Place.Whole bytes false }
+        requires { self.old.place ≡ PlaceInPart.Whole bytes false }
         ensures step { Takes (Line.faults faults) result self.old self.new }
         ensures limit { IfErr result IsLimit }
     {
-        self.place = Place::Whole {
+        self.place = PlaceInPart::Whole {
             bytes,
             has_faults: true,
         };
@@ -267,16 +264,16 @@ impl<A: Allocator + Copy> Joint<A> {
         }
     }
 
-    /// Takes the fault with which a part of so many bytes ends.
+    /// Takes the fault with which a part of `bytes` bytes ends.
     fn take_fault(&mut self, fault: StreamFault, bytes: u64) -> Result<Reported, LineFault>
         ensures step { Takes (Line.fault bytes fault) result self.old self.new }
         ensures limit { IfErr result IsLimit }
     {
-        self.place = Place::Start;
+        self.place = PlaceInPart::Start;
         if let Some(_) = self.so_far.end {
             return Ok(Reported::Nothing);
         }
-        if !self.past {
+        if !self.past_faults {
             self.so_far.end = Some(fault_after(self.so_far.part.bytes(), &fault));
             return Ok(Reported::Nothing);
         }
@@ -293,7 +290,7 @@ impl<A: Allocator + Copy> Joint<A> {
     }
 }
 
-/// The fault after so many bytes.
+/// The fault, as one after `bytes` bytes.
 fn fault_after(bytes: u64, fault: &StreamFault) -> StreamFault
     ensures { result ≡ fault_after bytes fault.now }
 {

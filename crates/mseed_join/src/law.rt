@@ -34,8 +34,8 @@ pub fn one_flaw()
 
 /// What is found at the borders of parts that can be joined is found once.
 pub fn one_list_of_borders()
-    ensures one { (past : Bool) (ws : List Written) (found other : List Border) → AreBordersOf past ws found
-        → AreBordersOf past ws other → found ≡ other }
-    ensures some { (past : Bool) (ws : List Written) (joint : Written) → IsJointOf past ws joint
-        → (found : List Border) × AreBordersOf past ws found }
+    ensures one { (past_faults : Bool) (ws : List Written) (found other : List Border)
+        → AreBordersOf past_faults ws found → AreBordersOf past_faults ws other → found ≡ other }
+    ensures some { (past_faults : Bool) (ws : List Written) (joint : Written) → IsJointOf past_faults ws joint
+        → (found : List Border) × AreBordersOf past_faults ws found }
 {}

@@ -36,7 +36,7 @@ pub use composed::{
     cut_part, joined_audit, joined_each, joined_texts, no_bad_line, one_text, part_reads_back,
     parts_can_be_joined,
 };
-pub use fault::JoinsFault;
+pub use fault::JoinFault;
 pub use flaw::{Closing, Flaw};
 pub use joining::{Form, Joined, join};
 pub use joining_each::join_each;
@@ -44,8 +44,8 @@ pub use joint::JointPart;
 pub use law::{lines_are_short, one_flaw, one_list_of_borders, one_part_of_input};
 pub use line_law::{one_bad_field, one_channel, one_line};
 pub use lines::{read_channel_line, read_counts_line, read_fault_line, read_faults_line};
-pub use part::{JoinFault, Part};
+pub use part::{Part, PartFault};
 pub use part_law::{findings_add_up, joined_in_turn, joining_laws, one_part, parts_add_up};
 pub use part_sums::{TooLarge, sum};
 pub use parts::read_parts;
-pub use writing::{HEADER, push_channel_line, push_counts_line, push_faults_line};
+pub use writing::{FIRST_LINE, push_channel_line, push_counts_line, push_faults_line};

@@ -4,20 +4,17 @@ ghost use Rattle.std.specs.Prelude.{IfOk, OnOk, IfErr, IfSome, IfNone, IsTrue, O
 ghost use Rattle.std.specs.List.{position_or_len};
 ghost use Rattle.std.specs.Io.KnownBytes.{ReadConsumes};
 ghost use Rattle.mseed_stream.specs.Calls.{ReadsOn};
-ghost use Rattle.mseed_stream.specs.Device.{nothing_read, read_also};
-ghost use Rattle.mseed_stream.specs.Fault.{IsStreamFault};
+ghost use Rattle.mseed_stream.specs.Device.{read_also};
 ghost use Rattle.mseed_join.specs.Joined.{HasNoEnd};
+ghost use Rattle.mseed_join.specs.ReadParts.{IsReadFault};
 ghost use Rattle.mseed_join.specs.private.LineReading.{Grows, IsReadBy, GoesOn, IfGoesOn, IsLineAhead, IsOpen};
 ghost use Rattle.mseed_join.specs.private.LineReading.{IsOneRead, LiesAhead};
 
 use mseed_audit::Memory;
-use mseed_stream::{Failed, Source, StreamFault};
+use mseed_stream::{Failed, READS, Source, StreamFault};
 use std::alloc::Allocator;
 use std::marker::Model;
 use std::simd::prelude::*;
-
-/// How often one input is read at most.
-const TURNS: u64 = 1 << 40;
 
 /// How many bytes the buffer has.
 const ROOM: usize = 1 << 16;
@@ -64,7 +61,8 @@ pub(crate) struct LineReader<A: Allocator> {
 impl<A: Allocator> Model for LineReader<A> {
     ghost use Rattle.std.specs.Prelude.{◌≡◌, ◌≤◌, ◌+◌, ◌-◌, ◌*◌, slice_range};
     ghost use Rattle.std.specs.Vec.{vec_len};
-    ghost use Rattle.mseed_join.specs.declared.line_reader.TheConstants.{ROOM, TURNS};
+    ghost use Rattle.mseed_join.specs.declared.line_reader.TheConstants.{ROOM};
+    ghost use Rattle.mseed_stream.specs.declared.device.TheConstants.{READS};
     ghost use Rattle.mseed_join.specs.private.LineReading.{LinesRead};
 
     ghost Value = { LinesRead };
@@ -79,7 +77,7 @@ impl<A: Allocator> Model for LineReader<A> {
     } };
 
     ghost invariant = { λ r. (vec_len r.buffer ≡ ROOM) × (r.begin + r.size ≤ r.end) × (r.end ≤ ROOM)
-        × (r.reads ≤ TURNS) × (r.bytes ≤ ROOM * r.reads) × (r.lines + r.end ≤ r.bytes + r.begin) };
+        × (r.reads ≤ READS) × (r.bytes ≤ ROOM * r.reads) × (r.lines + r.end ≤ r.bytes + r.begin) };
 }
 
 impl<A: Allocator> LineReader<A> {
@@ -125,7 +123,7 @@ impl<A: Allocator> LineReader<A> {
         ensures goes_on { IfGoesOn result (GoesOn (R.read source.new)) }
 
         // A fault is that of all reads since the reader was made.
-        ensures fault { IfErr result (λ e. IsStreamFault e nothing_read (R.read source.new)) }
+        ensures fault { IfErr result (λ e. IsReadFault e (R.read source.new)) }
 
         // No line lies ahead then, and no more bytes than a line has.
         ensures open { IfErr result (λ e. IsOpen self.new.held) }
@@ -218,10 +216,10 @@ impl<A: Allocator> LineReader<A> {
             self.old self.new }
         ensures read { IsOneRead result (R.read source.old) (R.read source.new) (R.remaining source.new) self.old
             self.new }
-        ensures turns { OnOk result (self.new.reads ≤ TURNS) }
+        ensures turns { OnOk result (self.new.reads ≤ READS) }
         ensures beside { R.beside source.new ≡ R.beside source.old }
     {
-        if self.reads == TURNS {
+        if self.reads == READS {
             return Err(StreamFault::Turns(self.bytes));
         }
         self.make_room();
@@ -240,7 +238,7 @@ impl<A: Allocator> LineReader<A> {
     /// Reads into the room after what is held, and returns whether the input ended.
     fn read<R: Source>(&mut self, source: &mut R) -> Result<bool, StreamFault>
         requires room { 0 < self.old.room }
-        requires turns { self.old.reads < TURNS }
+        requires turns { self.old.reads < READS }
         ensures more { Grows (R.read source.old) (R.read source.new) (R.remaining source.old) (R.remaining source.new)
             self.old self.new }
         ensures read { IsOneRead result (R.read source.old) (R.read source.new) (R.remaining source.new) self.old

@@ -11,7 +11,7 @@ use mseed_audit::Channel;
 use mseed_record::Codes;
 use mseed_stream::StreamFault;
 
-/// Returns a channel and its codes, from its line with the LF at its end; nothing where it is no channel's line.
+/// Returns a channel and its codes, from its line with the LF at its end; `None` where it isn't a channel's line.
 pub fn read_channel_line(line: &[u8]) -> Option<(Codes, Channel)>
     // What is read is what is written of it.
     ensures read { IfSome result (λ x. line.now ≡ channel_line x.0 x.1) }
@@ -22,8 +22,8 @@ pub fn read_channel_line(line: &[u8]) -> Option<(Codes, Channel)>
     channel_at(line)
 }
 
-/// Returns the numbers of records and of bytes, from their line with the LF at its end; nothing where it is no such
-/// line.
+/// Returns the numbers of records and of bytes, from their line with the LF at its end; `None` where it isn't the
+/// line of the counts.
 pub fn read_counts_line(line: &[u8]) -> Option<(u64, u64)>
     ensures read { IfSome result (λ x. line.now ≡ counts_line x.0 x.1) }
     ensures fits { IfSome result (λ x. HasCountsLine x.0 x.1) }
@@ -33,8 +33,8 @@ pub fn read_counts_line(line: &[u8]) -> Option<(u64, u64)>
     counts_at(line)
 }
 
-/// Returns how many faults were passed, at least one, from the line with the LF at its end; nothing where it is no such
-/// line.
+/// Returns how many faults were passed, at least one, from their line with the LF at its end; `None` where it isn't the
+/// line of the faults that were passed.
 pub fn read_faults_line(line: &[u8]) -> Option<u64>
     ensures read { IfSome result (λ n. line.now ≡ faults_line n) }
     ensures fits { IfSome result (λ n. HasFaultsLine n) }
@@ -43,8 +43,8 @@ pub fn read_faults_line(line: &[u8]) -> Option<u64>
     faults_at(line)
 }
 
-/// Returns the fault after so many bytes, from its line with the LF at its end; nothing where it is no line of a fault
-/// there.
+/// Returns the fault after this number of bytes, from its line with the LF at its end; `None` where it isn't the
+/// line of a fault there.
 pub fn read_fault_line(line: &[u8], bytes: u64) -> Option<StreamFault>
     ensures read { IfSome result (λ fault. line.now ≡ fault_line fault) }
     ensures fits { IfSome result (λ fault. HasFaultLine bytes fault) }

@@ -7,11 +7,11 @@ ghost use Rattle.mseed_join.specs.private.Reading.{within};
 
 use std::simd::prelude::*;
 
-/// So many digits after a first fit for sure, and are looked for at once.
+/// How many digits after a first fit for sure, and are looked for at once.
 const FEW: usize = 16;
 
-/// No number of a part is larger, but the microseconds of a gap or an overlap.
-pub(crate) const LIMIT: u64 = 0x7fff_ffff_ffff_ffff;
+/// The largest count, number or offset of a part. Only the microseconds of a gap or an overlap may be more.
+pub(crate) const LARGEST: u64 = 0x7fff_ffff_ffff_ffff;
 
 /// The bytes after a word, if they begin with it.
 #[inline(always)]
@@ -154,7 +154,7 @@ fn with_digit(number: u64, digit: u8) -> u64
     10 * number + u64::from(digit) - u64::from(b'0')
 }
 
-/// How many bytes are digits before the first that isn't one, or 16 where so many are.
+/// How many bytes are digits before the first that isn't one, at most 16.
 #[inline(always)]
 fn digits_ahead(bytes: &[u8]) -> usize
     ensures within { result ≤ length bytes.now }
@@ -264,11 +264,12 @@ impl Spelled for u128 {
     }
 }
 
+/// Returns whether a byte is one of the digits `0` to `9`.
 #[inline(always)]
 fn is_digit(byte: u8) -> bool
     ensures { result ≡ is_digit byte }
 {
-    byte >= b'0' && byte <= b'9'
+    byte.is_ascii_digit()
 }
 
 /// A number that is at most so large, without leading zeros, and the bytes after it.
@@ -311,7 +312,7 @@ fn further_at<N: Spelled>(largest: N, number: N, bytes: &[u8]) -> Option<(N, &[u
     }
 }
 
-/// Further digits of a number; nothing where it doesn't fit.
+/// Returns a number with its further digits, and the bytes after them; `None` where the type has no number so large.
 fn more_at<N: Spelled>(number: N, bytes: &[u8]) -> Option<(N, &[u8])>
     ensures some { IfSome result (λ x. (N.value x.0, x.1.now) ≡ more_at (N.value number) bytes.now) }
     ensures none { IfNone result (N.limit ≤ (more_at (N.value number) bytes.now).0) }

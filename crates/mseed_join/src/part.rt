@@ -2,7 +2,7 @@
 ghost use Rattle.std.specs.Prelude.{◌≡◌, ◌++◌, ◌<◌, ◌^◌, [], List, Some, None, IfOk, OnOk, OnErr, IsErrOf};
 ghost use Rattle.mseed_record.specs.View.{View};
 ghost use Rattle.mseed_audit.specs.Places.{by_key};
-ghost use Rattle.mseed_join.specs.declared.part.JoinFault.TheVariants.{Limit};
+ghost use Rattle.mseed_join.specs.declared.part.PartFault.TheVariants.{Limit};
 ghost use Rattle.mseed_join.specs.Joining.{border_between, moved_channel};
 ghost use Rattle.mseed_join.specs.Parts.{IsPartOf, IsJoint, Fits, FitsAt, kept_of, one_channel};
 ghost use Rattle.mseed_join.specs.Parts.{counts_alone, AreWithin, HasNewChannel, Held, IsAscending, IsSmall};
@@ -15,18 +15,18 @@ use std::marker::Model;
 
 /// Why parts weren't joined.
 #[derive(Clone, Copy, Debug, PartialEq, Eq)]
-pub enum JoinFault {
+pub enum PartFault {
     /// An allocation was refused.
     Memory,
     /// A number would pass 2^63 - 1.
     Limit,
 }
 
-impl From<TooLarge> for JoinFault {
+impl From<TooLarge> for PartFault {
     ghost from_gives = { λ _ fault. fault ≡ Limit };
 
-    fn from(_large: TooLarge) -> JoinFault {
-        JoinFault::Limit
+    fn from(_large: TooLarge) -> PartFault {
+        PartFault::Limit
     }
 }
 
@@ -91,43 +91,43 @@ impl<A: Allocator + Copy> Part<A> {
         &mut self,
         codes: Codes,
         channel: &Channel,
-    ) -> Result<Option<Finding>, JoinFault>
+    ) -> Result<Option<Finding>, PartFault>
         ensures joined { OnOk result (IsJoint self.old (one_channel codes channel.now) self.new) }
         ensures border { IfOk result (λ found. found ≡ border_between (kept_of codes self.old.channels)
             (moved_channel self.old.records self.old.bytes channel.now)) }
         ensures fits { OnOk result
             (FitsAt self.old.records self.old.bytes (kept_of codes self.old.channels) (Some channel.now)) }
-        ensures limit { IsErrOf result JoinFault.Limit
+        ensures limit { IsErrOf result PartFault.Limit
             → FitsAt self.old.records self.old.bytes (kept_of codes self.old.channels) (Some channel.now) → ⊥ }
-        ensures memory { IsErrOf result JoinFault.Memory → kept_of codes self.old.channels ≡ None }
+        ensures memory { IsErrOf result PartFault.Memory → kept_of codes self.old.channels ≡ None }
         ensures unchanged { OnErr result (self.new ≡ self.old) }
     {
         let further = match moved(channel, self.records, self.bytes) {
             Ok(further) => further,
-            Err(_) => return Err(JoinFault::Limit),
+            Err(_) => return Err(PartFault::Limit),
         };
         // After other records its counts are no smaller.
         if !counts_fit(&further) {
-            return Err(JoinFault::Limit);
+            return Err(PartFault::Limit);
         }
         match self.kept.find_or_keep(codes, &further) {
             Ok(Some(index)) => add_further(self.kept.channel_mut(index), &further),
             Ok(None) => Ok(None),
-            Err(Memory) => Err(JoinFault::Memory),
+            Err(Memory) => Err(PartFault::Memory),
         }
     }
 
-    /// Adds so many records and bytes to the counts.
+    /// Adds these numbers of records and of bytes to the counts.
     ///
     /// # Errors
     ///
     /// `Limit` where a count would pass 2^63 - 1. The part is then as it was.
     #[tactic(auto, using(mseed_audit::proofs::ByKey::by_key_ascends))]
-    pub fn add_counts(&mut self, records: u64, bytes: u64) -> Result<(), JoinFault>
+    pub fn add_counts(&mut self, records: u64, bytes: u64) -> Result<(), PartFault>
         ensures joined { OnOk result (IsJoint self.old (counts_alone records bytes) self.new) }
         ensures fits { OnOk result (Fits self.old (counts_alone records bytes)) }
         ensures limit { OnErr result (Fits self.old (counts_alone records bytes) → ⊥) }
-        ensures fault { IsErrOf result JoinFault.Memory → ⊥ }
+        ensures fault { IsErrOf result PartFault.Memory → ⊥ }
         ensures unchanged { OnErr result (self.new ≡ self.old) }
     {
         let records = sum(self.records, records)?;
@@ -142,13 +142,13 @@ impl<A: Allocator + Copy> Part<A> {
     /// # Errors
     ///
     /// `Limit` where a number would pass 2^63 - 1, `Memory` where there was no room for a channel that is new.
-    pub fn join(self, other: &Part<A>) -> Result<Part<A>, JoinFault>
+    pub fn join(self, other: &Part<A>) -> Result<Part<A>, PartFault>
         ensures joint { IfOk result (λ p. IsJoint self other.now p) }
         ensures adds_up { (xs ys : List View) → IsPartOf self xs → IsPartOf other.now ys
             → IfOk result (λ p. IsPartOf p (xs ++ ys)) }
         ensures fits { OnOk result (Fits self other.now) }
-        ensures limit { IsErrOf result JoinFault.Limit → Fits self other.now → ⊥ }
-        ensures memory { IsErrOf result JoinFault.Memory → HasNewChannel self other.now }
+        ensures limit { IsErrOf result PartFault.Limit → Fits self other.now → ⊥ }
+        ensures memory { IsErrOf result PartFault.Memory → HasNewChannel self other.now }
     {
         one_finding();
         let mut joint = self;

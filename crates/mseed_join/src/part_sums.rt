@@ -9,11 +9,9 @@ ghost use Rattle.mseed_audit.specs.declared.tail.Tail.{Tail};
 ghost use Rattle.mseed_join.specs.Parts.{HeadFits, FirstFits, Moves, CountFits, CountsFit};
 
 use crate::border::border_of;
-use crate::part::JoinFault;
+use crate::numbers::LARGEST;
+use crate::part::PartFault;
 use mseed_audit::{Channel, Finding, Findings, Head};
-
-/// No count, number or offset is larger.
-const LARGEST: u64 = 0x7fff_ffff_ffff_ffff;
 
 /// A sum of two numbers of a part would pass 2^63 - 1.
 #[derive(Clone, Copy, Debug, PartialEq, Eq)]
@@ -36,6 +34,11 @@ pub fn sum(a: u64, b: u64) -> Result<u64, TooLarge>
     }
 }
 
+/// Returns a head as it is after so many records and bytes: its number and its offset go up by them.
+///
+/// # Errors
+///
+/// `TooLarge` exactly where one of the two would pass 2^63 - 1.
 #[inline(always)]
 fn moved_head(head: &Head, records: u64, bytes: u64) -> Result<Head, TooLarge>
     ensures value { IfOk result (λ h. h ≡ moved_head records bytes head.now) }
@@ -49,6 +52,11 @@ fn moved_head(head: &Head, records: u64, bytes: u64) -> Result<Head, TooLarge>
     })
 }
 
+/// Returns a head, where there is one, as `moved_head` does, and `None` where there is none.
+///
+/// # Errors
+///
+/// `TooLarge` exactly where the head's number or its offset would pass 2^63 - 1.
 #[inline(always)]
 fn moved_some(head: Option<Head>, records: u64, bytes: u64) -> Result<Option<Head>, TooLarge>
     ensures value { IfOk result (λ h. h ≡ option_map (moved_head records bytes) head) }
@@ -60,6 +68,12 @@ fn moved_some(head: Option<Head>, records: u64, bytes: u64) -> Result<Option<Hea
     }
 }
 
+/// Returns the findings of a channel as they are after so many records and bytes: the numbers and the offsets of the
+/// head and of the first finding go up by them.
+///
+/// # Errors
+///
+/// `TooLarge` exactly where one of these would pass 2^63 - 1.
 #[inline(always)]
 fn moved_findings(findings: &Findings, records: u64, bytes: u64) -> Result<Findings, TooLarge>
     ensures value { IfOk result (λ f. f ≡ moved_findings records bytes findings.now) }
@@ -89,7 +103,7 @@ fn moved_findings(findings: &Findings, records: u64, bytes: u64) -> Result<Findi
     }
 }
 
-/// A channel as it is after so many more records and bytes: its numbers and offsets go up by them.
+/// A channel as it is after these numbers of further records and bytes: its numbers and offsets go up by them.
 #[inline(always)]
 pub(crate) fn moved(channel: &Channel, records: u64, bytes: u64) -> Result<Channel, TooLarge>
     ensures value { IfOk result (λ c. c ≡ moved_channel records bytes channel.now) }
@@ -153,11 +167,7 @@ fn put_findings(
             },
         },
         Findings::Counted { count, tail, .. } => {
-            let more = match *further {
-                Findings::Nothing { .. } => 0,
-                Findings::Counted { count, .. } => count,
-            };
-            *count = sum(*count, sum(size_of(border), more)?)?;
+            *count = sum(*count, sum(size_of(border), further.count())?)?;
             *tail = further.tail();
         }
     }
@@ -177,12 +187,12 @@ fn size_of(border: Option<Finding>) -> u64
 pub(crate) fn add_further(
     kept: &mut Channel,
     further: &Channel,
-) -> Result<Option<Finding>, JoinFault>
+) -> Result<Option<Finding>, PartFault>
     ensures value { OnOk result (kept.new ≡ channel_then kept.old further.now) }
     ensures border { IfOk result
         (λ found. found ≡ border_of (tail_in kept.old.findings) (head_in further.now.findings)) }
     ensures fits { IsOk result ↔ CountsFit (channel_then kept.old further.now) }
-    ensures fault { IfErr result (λ fault. fault ≡ JoinFault.Limit) }
+    ensures fault { IfErr result (λ fault. fault ≡ PartFault.Limit) }
     ensures unchanged { OnErr result (kept.new ≡ kept.old) }
 {
     let border = border_of(kept.findings.tail(), further.findings.head());
@@ -198,9 +208,6 @@ pub(crate) fn add_further(
 pub(crate) fn counts_fit(channel: &Channel) -> bool
     ensures { IsTrue result ↔ CountsFit channel.now }
 {
-    let found = match channel.findings {
-        Findings::Nothing { .. } => 0,
-        Findings::Counted { count, .. } => count,
-    };
+    let found = channel.findings.count();
     channel.records <= LARGEST && channel.samples <= LARGEST && found <= LARGEST
 }

@@ -7,7 +7,7 @@ ghost use Rattle.mseed_join.specs.Reached.{AreReported};
 ghost use Rattle.mseed_join.specs.private.Bordered.{IsReading};
 ghost use Rattle.mseed_join.specs.private.Taking.{passed_by};
 
-use crate::fault::JoinsFault;
+use crate::fault::JoinFault;
 use crate::joint::{JointPart, Reported};
 use crate::reader::Reader;
 use crate::report::{Report, Unreported};
@@ -17,10 +17,10 @@ use mseed_text::Line;
 use std::alloc::Allocator;
 
 /// Reads the texts of parts, one after another, and joins them as they are read. A part after one that ends with a
-/// fault isn't counted; where faults are passed (`past`), each part counts as if it ended without one, and a line on
-/// `errors` reports the fault. Where a number of parts is `expected` they have to be as many, those that aren't counted
-/// too. It takes memory for the channels, and a buffer of a fixed size. The source is one of which nothing was read
-/// yet.
+/// fault isn't counted; where faults are passed (`past_faults`), each part counts as if it ended without one, and a
+/// line on `errors` reports the fault. Where a number of parts is `expected` they have to be as many, those that aren't
+/// counted too. It takes memory for the channels, and a buffer of a fixed size. The source is one of which nothing was
+/// read yet.
 ///
 /// # Errors
 ///
@@ -29,13 +29,13 @@ use std::alloc::Allocator;
 /// is another number of parts than is expected. `Memory` where an allocation was refused.
 pub fn read_parts<A: Allocator + Copy, R: Source, E: Sink>(
     alloc: A,
-    past: bool,
+    past_faults: bool,
     expected: Option<u64>,
     source: &mut R,
     errors: &mut E,
-) -> Result<JointPart<A>, JoinsFault>
+) -> Result<JointPart<A>, JoinFault>
     requires { R.read source.old ≡ nothing_read }
-    ensures outcome { IsReadOutcome result past expected (R.read source.new) (E.written errors.old)
+    ensures outcome { IsReadOutcome result past_faults expected (R.read source.new) (E.written errors.old)
         (E.written errors.new) }
 
     // What the source is known to have left is what was read of it, up to its end where the input is at its end.
@@ -44,7 +44,7 @@ pub fn read_parts<A: Allocator + Copy, R: Source, E: Sink>(
 {
     read_with(
         alloc,
-        past,
+        past_faults,
         expected,
         source,
         errors,
@@ -61,23 +61,24 @@ pub fn read_parts<A: Allocator + Copy, R: Source, E: Sink>(
 /// Those of `read_parts`, as the report answers them, and those of the report.
 pub(crate) fn read_with<A: Allocator + Copy, R: Source, E: Sink, O, P: Report<O>>(
     alloc: A,
-    past: bool,
+    past_faults: bool,
     expected: Option<u64>,
     source: &mut R,
     errors: &mut E,
     report: &mut P,
     output: &mut O,
-) -> Result<JointPart<A>, JoinsFault>
+) -> Result<JointPart<A>, JoinFault>
     requires read { R.read source.old ≡ nothing_read }
     requires report { P.stands output.old report.old output.old [] }
-    ensures outcome { IsReading result past expected (R.read source.new) (E.written errors.old) (E.written errors.new)
-        (P.stands output.old report.new output.new) (P.cuts output.old output.new) (P.stops output.old output.new) }
+    ensures outcome { IsReading result past_faults expected (R.read source.new) (E.written errors.old)
+        (E.written errors.new) (P.stands output.old report.new output.new) (P.cuts output.old output.new)
+        (P.stops output.old output.new) }
     ensures reads { ReadsOn (R.read source.old) (R.read source.new) (R.remaining source.old) (R.remaining source.new)
         (R.beside source.old) (R.beside source.new) }
 {
-    let mut reader = match Reader::new(alloc, past) {
+    let mut reader = match Reader::new(alloc, past_faults) {
         Ok(reader) => reader,
-        Err(Memory) => return Err(report.stop(output, JoinsFault::Memory)),
+        Err(Memory) => return Err(report.stop(output, JoinFault::Memory)),
     };
     'lines: loop {
         match reader.next(source) {

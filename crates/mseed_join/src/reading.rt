@@ -6,7 +6,7 @@ ghost use Rattle.mseed_join.specs.private.Reading.{counts_at, faults_at, fault_a
 
 use crate::fields::{head_at, tail_at};
 use crate::hex::key_at;
-use crate::numbers::{LIMIT, after, number_after};
+use crate::numbers::{LARGEST, after, number_after};
 use crate::reasons::{stream_fault_at, why_at};
 use mseed_audit::{Channel, Finding, Findings, Head, Tail};
 use mseed_record::Codes;
@@ -17,8 +17,8 @@ use mseed_stream::StreamFault;
 fn first_at(bytes: &[u8]) -> Option<(Finding, &[u8])>
     ensures { option_map (λ x. (x.0, x.1.now)) result ≡ first_at bytes.now }
 {
-    let (number, rest) = number_after(b" first ", LIMIT, bytes)?;
-    let (offset, rest) = number_after(b" ", LIMIT, rest)?;
+    let (number, rest) = number_after(b" first ", LARGEST, bytes)?;
+    let (offset, rest) = number_after(b" ", LARGEST, rest)?;
     let rest = after(b" ", rest)?;
     let (why, rest) = why_at(rest)?;
     Some((
@@ -74,7 +74,7 @@ fn findings_at(bytes: &[u8]) -> Option<(Findings, &[u8])>
     let Some((tail, rest)) = tail_at(rest) else {
         return None;
     };
-    let (count, rest) = number_after(b" findings ", LIMIT, rest)?;
+    let (count, rest) = number_after(b" findings ", LARGEST, rest)?;
     counted_findings_at(count, head, tail, rest)
 }
 
@@ -86,7 +86,7 @@ fn ends(bytes: &[u8]) -> bool
     bytes == b"\n".as_slice()
 }
 
-/// A channel and its key, from its line; nothing where it is no such line.
+/// Returns a channel and its codes, from its line; `None` where it isn't a channel's line.
 #[inline(always)]
 #[tactic(auto, unfolding(crate::specs::private::Reading::channel_at))]
 pub(crate) fn channel_at(line: &[u8]) -> Option<(Codes, Channel)>
@@ -95,8 +95,8 @@ pub(crate) fn channel_at(line: &[u8]) -> Option<(Codes, Channel)>
     let Some((codes, rest)) = key_at(line) else {
         return None;
     };
-    let (records, rest) = number_after(b" records ", LIMIT, rest)?;
-    let (samples, rest) = number_after(b" samples ", LIMIT, rest)?;
+    let (records, rest) = number_after(b" records ", LARGEST, rest)?;
+    let (samples, rest) = number_after(b" samples ", LARGEST, rest)?;
     let Some((findings, rest)) = findings_at(rest) else {
         return None;
     };
@@ -113,13 +113,13 @@ pub(crate) fn channel_at(line: &[u8]) -> Option<(Codes, Channel)>
     ))
 }
 
-/// How many records and bytes there are, from their line; nothing where it is no such line.
+/// Returns how many records and bytes there are, from their line; `None` where it isn't the line of the counts.
 #[tactic(auto, unfolding(crate::specs::private::Reading::counts_at))]
 pub(crate) fn counts_at(line: &[u8]) -> Option<(u64, u64)>
     ensures { result ≡ counts_at line.now }
 {
-    let (records, rest) = number_after(b"records ", LIMIT, line)?;
-    let (bytes, rest) = number_after(b" bytes ", LIMIT, rest)?;
+    let (records, rest) = number_after(b"records ", LARGEST, line)?;
+    let (bytes, rest) = number_after(b" bytes ", LARGEST, rest)?;
     if ends(rest) {
         Some((records, bytes))
     } else {
@@ -127,12 +127,12 @@ pub(crate) fn counts_at(line: &[u8]) -> Option<(u64, u64)>
     }
 }
 
-/// How many faults were passed, from their line; nothing where it is no such line.
+/// Returns how many faults were passed, from their line; `None` where it isn't the line of the faults that were passed.
 #[tactic(auto, unfolding(crate::specs::private::Reading::faults_at))]
 pub(crate) fn faults_at(line: &[u8]) -> Option<u64>
     ensures { result ≡ faults_at line.now }
 {
-    let (faults, rest) = number_after(b"faults ", LIMIT, line)?;
+    let (faults, rest) = number_after(b"faults ", LARGEST, line)?;
     if faults > 0 && ends(rest) {
         Some(faults)
     } else {
@@ -140,12 +140,12 @@ pub(crate) fn faults_at(line: &[u8]) -> Option<u64>
     }
 }
 
-/// What fails after so many bytes, from its line; nothing where it is no such line.
+/// Returns the fault after this number of bytes, from its line; `None` where it isn't the line of a fault there.
 #[tactic(auto, unfolding(crate::specs::private::Reading::fault_at))]
 pub(crate) fn fault_at(line: &[u8], bytes: u64) -> Option<StreamFault>
     ensures { result ≡ fault_at line.now bytes }
 {
-    let (offset, rest) = number_after(b"fault at ", LIMIT, line)?;
+    let (offset, rest) = number_after(b"fault at ", LARGEST, line)?;
     let rest = after(b" ", rest)?;
     let (fault, rest) = stream_fault_at(bytes, rest)?;
     if offset == bytes && ends(rest) {

@@ -6,7 +6,7 @@ ghost use Rattle.mseed_join.specs.private.Reading.{timed_at};
 ghost use Rattle.mseed_join.specs.private.Reading.{why_at, frame_fault_at, stream_fault_at, sample_at};
 ghost use Rattle.mseed_join.specs.private.Reading.{number_after};
 
-use crate::numbers::{LIMIT, after, integer_at, number_after, wide_at};
+use crate::numbers::{LARGEST, after, integer_at, number_after, wide_at};
 use mseed_audit::Why;
 use mseed_record::FrameFault;
 use mseed_steim::ReadFault;
@@ -49,8 +49,8 @@ fn sample_at(bytes: &[u8]) -> Option<(i32, &[u8])>
 fn bad_word_at(bytes: &[u8]) -> Option<(ReadFault, &[u8])>
     ensures { option_map (λ x. (x.0, x.1.now)) result ≡ bad_word_at bytes.now }
 {
-    let (frame, rest) = number_after(b"badword ", LIMIT, bytes)?;
-    let (word, rest) = number_after(b" ", LIMIT, rest)?;
+    let (frame, rest) = number_after(b"badword ", LARGEST, bytes)?;
+    let (word, rest) = number_after(b" ", LARGEST, rest)?;
     Some((ReadFault::BadWord(frame as usize, word as usize), rest))
 }
 
@@ -82,10 +82,10 @@ fn read_fault_at(bytes: &[u8]) -> Option<(ReadFault, &[u8])>
     if let Some((code, rest)) = number_after(b"encoding ", 255, bytes) {
         return Some((ReadFault::Encoding(code as u8), rest));
     }
-    if let Some((found, rest)) = number_after(b"short ", LIMIT, bytes) {
+    if let Some((found, rest)) = number_after(b"short ", LARGEST, bytes) {
         return Some((ReadFault::Short(found as usize), rest));
     }
-    if let Some((index, rest)) = number_after(b"overflow ", LIMIT, bytes) {
+    if let Some((index, rest)) = number_after(b"overflow ", LARGEST, bytes) {
         return Some((ReadFault::Overflow(index as usize), rest));
     }
     match bad_word_at(bytes) {
@@ -103,7 +103,7 @@ fn timed_at(bytes: &[u8]) -> Option<(Why, &[u8])>
     Some((Why::Time(fault), rest))
 }
 
-/// So many microseconds after a word, and the bytes after them.
+/// The number of microseconds after a word, and the bytes after it.
 fn micros_at<'a, const N: usize>(word: &[u8; N], bytes: &'a [u8]) -> Option<(u128, &'a [u8])>
     ensures { option_map (λ x. (x.0, x.1.now)) result ≡ number_after word.now (2 ^ 128 - 1) bytes.now }
 {
@@ -165,12 +165,12 @@ fn frame_fault_at(bytes: &[u8]) -> Option<(FrameFault, &[u8])>
     Some((FrameFault::Version3, rest))
 }
 
-/// What fails after so many bytes of a stream, and the bytes after it.
+/// What fails after `offset` bytes of a stream, and the bytes after it.
 #[tactic(auto, unfolding(crate::specs::private::Reading::stream_fault_at))]
 pub(crate) fn stream_fault_at(offset: u64, bytes: &[u8]) -> Option<(StreamFault, &[u8])>
     ensures { option_map (λ x. (x.0, x.1.now)) result ≡ stream_fault_at offset bytes.now }
 {
-    if let Some((have, rest)) = number_after(b"truncated ", LIMIT, bytes) {
+    if let Some((have, rest)) = number_after(b"truncated ", LARGEST, bytes) {
         return Some((StreamFault::Truncated(offset, have as usize), rest));
     }
     if let Some(rest) = after(b"read", bytes) {

@@ -3,12 +3,12 @@ ghost use Rattle.std.specs.Prelude.{◌≡◌, ◌≤◌, ◌++◌, ⊤, ℕ, If
 ghost use Rattle.mseed_stream.specs.declared.whole.TheConstants.{GATHERED};
 ghost use Rattle.mseed_stream.specs.Calls.{WritesOn};
 ghost use Rattle.mseed_join.specs.Borders.{Border, border_lines};
-ghost use Rattle.mseed_join.specs.declared.fault.JoinsFault.{JoinsFault};
+ghost use Rattle.mseed_join.specs.declared.fault.JoinFault.{JoinFault};
 ghost use Rattle.mseed_join.specs.private.Bordered.{AreLined, IsCutShort, IsFlushed};
 ghost use Rattle.mseed_join.specs.private.Taking.{border_by};
 
 use crate::borders::push_reported;
-use crate::fault::JoinsFault;
+use crate::fault::JoinFault;
 use crate::joint::Reported;
 use mseed_stream::{GATHERED, Sink, write_all_of, write_beyond};
 use std::alloc::Allocator;
@@ -20,12 +20,12 @@ pub(crate) trait Report<O> {
     ghost stands: { O → Self → O → List Border → Type 0 };
 
     // So the output stands where a fault came as these were reported: by the output at first, and the output.
-    ghost cuts: { O → O → List Border → JoinsFault → Type 0 };
+    ghost cuts: { O → O → List Border → JoinFault → Type 0 };
 
     // So the output stands where the parts ended with a fault after these, and which one is answered then.
-    ghost stops: { O → O → List Border → JoinsFault → JoinsFault → Type 0 };
+    ghost stops: { O → O → List Border → JoinFault → JoinFault → Type 0 };
 
-    // So many bytes of lines wait to be written.
+    // How many bytes of lines wait to be written.
     ghost waiting: { Self → ℕ };
 
     /// Adds the border that a line reports, if it reports one, and writes to the output what was gathered, once it has
@@ -34,7 +34,7 @@ pub(crate) trait Report<O> {
     /// # Errors
     ///
     /// Where the output failed, or an allocation was refused: it isn't called again.
-    fn add(&mut self, output: &mut O, reported: &Reported) -> Result<(), JoinsFault>
+    fn add(&mut self, output: &mut O, reported: &Reported) -> Result<(), JoinFault>
         ensures reported { (first : O) (found : List Border) → stands first self.old output.old found
             → MatchResult result (λ _. stands first self.new output.new (found ++ border_by reported.now))
             (λ fault. cuts first output.new (found ++ border_by reported.now) fault) }
@@ -42,7 +42,7 @@ pub(crate) trait Report<O> {
 
     /// Writes to the output what was gathered, since the parts end with a fault, and returns the fault: the output's
     /// where the output failed.
-    fn stop(&self, output: &mut O, fault: JoinsFault) -> JoinsFault
+    fn stop(&self, output: &mut O, fault: JoinFault) -> JoinFault
         ensures { (first : O) (found : List Border) → stands first self.now output.old found
             → stops first output.new found fault result };
 }
@@ -61,12 +61,12 @@ impl Report<()> for Unreported {
     ghost waiting = { λ _. 0 };
 
     #[inline(always)]
-    fn add(&mut self, _output: &mut (), _reported: &Reported) -> Result<(), JoinsFault> {
+    fn add(&mut self, _output: &mut (), _reported: &Reported) -> Result<(), JoinFault> {
         Ok(())
     }
 
     #[inline(always)]
-    fn stop(&self, _output: &mut (), fault: JoinsFault) -> JoinsFault {
+    fn stop(&self, _output: &mut (), fault: JoinFault) -> JoinFault {
         fault
     }
 }
@@ -87,21 +87,21 @@ impl<A: Allocator, W: Sink> Report<W> for Vec<u8, A> {
 
     ghost waiting = { λ text. length text.items };
 
-    fn add(&mut self, output: &mut W, reported: &Reported) -> Result<(), JoinsFault> {
+    fn add(&mut self, output: &mut W, reported: &Reported) -> Result<(), JoinFault> {
         match push_reported(self, reported) {
             Ok(()) => {}
-            Err(_) => return Err(JoinsFault::Memory),
+            Err(_) => return Err(JoinFault::Memory),
         }
         match write_beyond(output, self, GATHERED) {
             Ok(()) => Ok(()),
-            Err(_) => Err(JoinsFault::Write),
+            Err(_) => Err(JoinFault::Write),
         }
     }
 
-    fn stop(&self, output: &mut W, fault: JoinsFault) -> JoinsFault {
+    fn stop(&self, output: &mut W, fault: JoinFault) -> JoinFault {
         match write_all_of(output, self) {
             Ok(()) => fault,
-            Err(_) => JoinsFault::Write,
+            Err(_) => JoinFault::Write,
         }
     }
 }

@@ -6,14 +6,15 @@ ghost use Rattle.mseed_join.specs.Lines.{faults_line};
 ghost use Rattle.mseed_join.specs.Joined.{join_text, verdict_at};
 ghost use Rattle.mseed_join.specs.Written.{channel_lines, part_text};
 
-use crate::writing::{HEADER, push_channel_line, push_counts_line, push_faults_line};
+use crate::writing::{FIRST_LINE, push_channel_line, push_counts_line, push_faults_line};
 use mseed_audit::{Channel, push_total_line, push_verdict_line};
 use mseed_record::Codes;
 use mseed_stream::StreamFault;
 use mseed_text::push_fault_line;
 use std::alloc::{AllocError, Allocator};
 
-/// Adds the text of a part of these channels, with so many faults passed, which ends with this fault, if with one.
+/// Adds the text of a part of these channels, in which `faults` faults were passed, and which ends with `end`, if with
+/// a fault.
 /// Where memory is refused, the first bytes of it may have been added.
 pub(crate) fn push_part<A: Allocator>(
     text: &mut Vec<u8, A>,
@@ -29,7 +30,7 @@ pub(crate) fn push_part<A: Allocator>(
       end = end.now;
     })) }
 {
-    text.extend_from_slice(HEADER)?;
+    text.extend_from_slice(FIRST_LINE)?;
     push_channels(text, channels)?;
     push_counts_line(text, records, bytes)?;
     push_faults(text, faults, end)
@@ -63,8 +64,8 @@ fn push_faults<A: Allocator>(
     }
 }
 
-/// Adds the text of the audit that holds these channels, with so many faults passed, which ends with this fault,
-/// if with one. Where memory is refused, the first bytes of it may have been added.
+/// Adds the text of the audit that holds these channels, in which `faults` faults were passed, and which ends with
+/// `end`, if with a fault. Where memory is refused, the first bytes of it may have been added.
 pub(crate) fn push_join<A: Allocator>(
     text: &mut Vec<u8, A>,
     channels: &[(Codes, Channel)],

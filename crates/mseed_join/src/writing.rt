@@ -12,7 +12,7 @@ use mseed_text::{LONGEST_LINE, Line, push_line};
 use std::alloc::{AllocError, Allocator};
 
 /// The first line of a part's text, with its LF.
-pub const HEADER: &[u8] = b"mseed part 1\n";
+pub const FIRST_LINE: &[u8] = b"mseed part 1\n";
 
 /// Adds a channel's line.
 ///

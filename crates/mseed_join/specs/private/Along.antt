@@ -1,53 +1,35 @@
 -- How reading parts goes along: no public contract is stated by these words.
 use Rattle.std.specs.Prelude.{◌≡◌, ◌≢◌, ◌+◌, ℕ, length, Bool, true, false, Option, Some, None}
 use Rattle.std.specs.Prelude.{⊤, Result, Ok, Err}
-use Rattle.mseed_stream.specs.Device.{BytesRead, nothing_read}
-use Rattle.mseed_stream.specs.Fault.{IsStreamFault}
-use Rattle.mseed_join.specs.declared.line_reader.NextLine.{NextLine}
-use Rattle.mseed_join.specs.declared.line_reader.NextLine.TheVariants.{Line, TooLong, Unended, Nothing}
+use Rattle.mseed_stream.specs.Device.{BytesRead}
 use Rattle.mseed_join.specs.declared.joint.Joint.{Joint}
 use Rattle.mseed_join.specs.declared.joint.JointPart.{JointPart}
-use Rattle.mseed_join.specs.declared.joint.Place.{Place}
-use Rattle.mseed_join.specs.declared.joint.Place.TheVariants.{Start, Channels, Whole}
+use Rattle.mseed_join.specs.declared.joint.PlaceInPart.{PlaceInPart}
+use Rattle.mseed_join.specs.declared.joint.PlaceInPart.TheVariants.{Start, Channels, Whole}
 use Rattle.mseed_join.specs.declared.joint.Reported.{Reported}
-use Rattle.mseed_join.specs.declared.fault.JoinsFault.{JoinsFault}
-use Rattle.mseed_join.specs.declared.fault.JoinsFault.TheVariants.{Line as BadLine, Count, Stream, Write, Memory}
+use Rattle.mseed_join.specs.declared.fault.JoinFault.{JoinFault}
+use Rattle.mseed_join.specs.declared.fault.JoinFault.TheVariants.{Line as BadLine, Count, Stream, Write, Memory}
 use Rattle.mseed_join.specs.declared.reader.Reader.{Reader}
 use Rattle.mseed_join.specs.declared.flaw.Flaw.{Flaw}
-use Rattle.mseed_join.specs.declared.flaw.Flaw.TheVariants.{Long, Unended as NoEnd, Missing}
 use Rattle.mseed_join.specs.Flaws.{IsFlaw}
 use Rattle.mseed_join.specs.Joined.{HasNoBadLine, IsBadLine, IsJointOf}
 use Rattle.mseed_join.specs.Reached.{AreLinesRead, Stage, parts_at}
-use Rattle.mseed_join.specs.ReadParts.{AreExpected, written_of}
+use Rattle.mseed_join.specs.ReadParts.{AreExpected, IsReadFault, written_of}
 use Rattle.mseed_join.specs.Written.{Spells}
 use Rattle.mseed_join.specs.private.LineReading.{GoesOn, IsReadBy}
 use Rattle.mseed_join.specs.private.Taking.{IsReadTo, IsReportedMore}
 
 -- a part can be over here
-abbrev pub can_end : Place → Bool
+abbrev pub can_end : PlaceInPart → Bool
 can_end Start = true
 can_end (Channels last) = false
 can_end (Whole bytes has_faults) = true
-
--- the input ends here, and so can a part
-abbrev pub is_over : NextLine → Place → Bool
-is_over Line place = false
-is_over TooLong place = false
-is_over Unended place = false
-is_over Nothing place = can_end place
-
--- what is wrong where no line lies ahead
-abbrev pub flaw_of : NextLine → Flaw
-flaw_of Line = Long
-flaw_of TooLong = Long
-flaw_of Unended = NoEnd
-flaw_of Nothing = Missing
 
 -- the lines that were passed are parts up to this stage, whose joint part is kept
 pub record IsAlong {A : Type 0} (past : Bool) (now : BytesRead) (s : Stage) (r : Reader A) : Type 0 where
   pub by : IsReadBy now r.lines
   pub read : IsReadTo by.passed s r.joint
-  pub past_is : r.joint.past ≡ past
+  pub past_is : r.joint.past_faults ≡ past
   pub goes_on : GoesOn now
 
 -- no line more was passed, of all that was read
@@ -71,15 +53,15 @@ pub record IsBadAfter (past : Bool) (now : BytesRead) (s : Stage) (stopped : IsS
   pub flaw_is : IsFlaw flaw s.last stopped.before.rest now.is_at_end
 
 -- why no line more was passed: where the source failed, no bad line was read before
-abbrev pub IsStoppedBy : JoinsFault → Bool → (now : BytesRead) → (s : Stage) → IsStoppedAt now s → Type 0
+abbrev pub IsStoppedBy : JoinFault → Bool → (now : BytesRead) → (s : Stage) → IsStoppedAt now s → Type 0
 IsStoppedBy (BadLine k offset flaw) past now s stopped = IsBadAfter past now s stopped k offset flaw
 IsStoppedBy (Count parts due) past now s stopped = ⊥
-IsStoppedBy (Stream fault) past now s stopped = IsStreamFault fault nothing_read now × HasNoBadLine past now.bytes
+IsStoppedBy (Stream fault) past now s stopped = IsReadFault fault now × HasNoBadLine past now.bytes
 IsStoppedBy Write past now s stopped = ⊥
 IsStoppedBy Memory past now s stopped = ⊤
 
 -- by what one step answers
-abbrev pub IsNextStep : {A : Type 0} → Bool → Stage → Result (Option Reported) JoinsFault → BytesRead → Reader A
+abbrev pub IsNextStep : {A : Type 0} → Bool → Stage → Result (Option Reported) JoinFault → BytesRead → Reader A
     → Type 0
 IsNextStep past s (Ok (Some reported)) now r = (t : Stage) × (IsAlong past now t r × IsReportedMore past s t reported)
 IsNextStep past s (Ok None) now r = HasEnded past now s r.joint
@@ -87,7 +69,7 @@ IsNextStep past s (Err fault) now r = (stopped : IsStoppedAt now s) × IsStopped
 
 -- All parts are read: the joint part, where they are as many as are expected; or their number, and the one that is
 -- expected.
-abbrev pub IsFinished : {A : Type 0} → Joint A → Option ℕ → Result (JointPart A) JoinsFault → Type 0
+abbrev pub IsFinished : {A : Type 0} → Joint A → Option ℕ → Result (JointPart A) JoinFault → Type 0
 IsFinished j expected (Ok joint) = (joint ≡ j.so_far) × AreExpected expected j.parts
 IsFinished j expected (Err (Count parts due)) = (parts ≡ j.parts) × (expected ≡ Some due) × (parts ≢ due)
 IsFinished j expected (Err (BadLine k offset flaw)) = ⊥

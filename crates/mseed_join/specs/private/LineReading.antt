@@ -79,12 +79,13 @@ IfGoesOn (Ok Nothing) X = ⊤
 IfGoesOn (Err e) X = ⊤
 
 -- what a fault means of one read
-abbrev pub IsReadFault : StreamFault → LinesRead → BytesRead → BytesRead → Type 0
-IsReadFault (Frame n f) after old new = ⊥
-IsReadFault (Truncated n have) after old new = ⊥
-IsReadFault (Read n) after old new = (n ≡ after.bytes) × (new.failures ≡ old.failures + 1) × (new.is_at_end ≡ false)
-IsReadFault (Turns n) after old new = (n ≡ after.bytes) × (after.reads ≡ 2 ^ 40) × (new ≡ old)
-IsReadFault Memory after old new = ⊥
+abbrev pub IsFaultOfOneRead : StreamFault → LinesRead → BytesRead → BytesRead → Type 0
+IsFaultOfOneRead (Frame n f) after old new = ⊥
+IsFaultOfOneRead (Truncated n have) after old new = ⊥
+IsFaultOfOneRead (Read n) after old new = (n ≡ after.bytes) × (new.failures ≡ old.failures + 1)
+    × (new.is_at_end ≡ false)
+IsFaultOfOneRead (Turns n) after old new = (n ≡ after.bytes) × (after.reads ≡ 2 ^ 40) × (new ≡ old)
+IsFaultOfOneRead Memory after old new = ⊥
 
 -- What one read answers, by what was read of the source before and after, what that is known to have left, and what was
 -- held before and after: whether the input ended, and nothing more is held then, or why it failed.
@@ -94,5 +95,5 @@ pub record IsOneRead (answer : Result Bool StreamFault) (old new : BytesRead) (r
   pub whole : answer ≡ Ok false → new.is_at_end ≡ false
   pub ended : answer ≡ Ok true → (new.is_at_end ≡ true) × (after.held ≡ r.held) × IsAtEnd rest
   pub fine : OnOk answer (new.failures ≡ old.failures)
-  pub fault : IfErr answer (λ e. IsReadFault e after old new)
+  pub fault : IfErr answer (λ e. IsFaultOfOneRead e after old new)
   pub held : OnErr answer (after.held ≡ r.held)

@@ -11,8 +11,8 @@ use Rattle.mseed_join.specs.Lines.{IsLine, Line, text_of_line}
 use Rattle.mseed_join.specs.declared.joint.Joint.{Joint}
 use Rattle.mseed_join.specs.declared.joint.LineFault.{LineFault}
 use Rattle.mseed_join.specs.declared.joint.LineFault.TheVariants.{Bad, Memory as NoMemory}
-use Rattle.mseed_join.specs.declared.joint.Place.{Place}
-use Rattle.mseed_join.specs.declared.joint.Place.TheVariants.{Start, Channels, Whole}
+use Rattle.mseed_join.specs.declared.joint.PlaceInPart.{PlaceInPart}
+use Rattle.mseed_join.specs.declared.joint.PlaceInPart.TheVariants.{Start, Channels, Whole}
 use Rattle.mseed_join.specs.declared.joint.Reported.{Reported}
 use Rattle.mseed_join.specs.declared.joint.Reported.TheVariants.{Nothing, Border as AtBorder, Passed}
 use Rattle.mseed_join.specs.Borders.{AreBordersOf, Border}
@@ -39,7 +39,7 @@ abbrev pub IsRead : Bool → ℕ → Type 0
 IsRead false n = n ≡ 0
 IsRead true n = 0 < n
 
-abbrev pub IsPlace : Place → OpenPart → Type 0
+abbrev pub IsPlace : PlaceInPart → OpenPart → Type 0
 IsPlace Start none = ⊤
 IsPlace Start (begun channels) = ⊥
 IsPlace Start (whole w) = ⊥
@@ -53,7 +53,7 @@ IsPlace (Whole bytes has_faults) (whole w) = (bytes ≡ w.part.bytes) × IsRead 
 -- these lines were taken, and so far are the parts
 pub record IsReadTo {A : Type 0} (lines : List ℕ) (s : Stage) (j : Joint A) : Type 0 where
   pub stage : IsStage lines s
-  pub joint : IsJointOf j.past (parts_at s) (written_of j.so_far)
+  pub joint : IsJointOf j.past_faults (parts_at s) (written_of j.so_far)
   pub place : IsPlace j.place s.last
   pub number : j.parts ≡ length (parts_at s)
 
@@ -78,14 +78,14 @@ pub record IsReportedMore (past : Bool) (s t : Stage) (reported : Reported) : Ty
 pub record IsTaken {A : Type 0} (lines line : List ℕ) (s t : Stage) (report : Reported) (old new : Joint A) : Type 0
   where
     pub read : IsReadTo (lines ++ line) t new
-    pub reported : IsReportedMore old.past s t report
-    pub past : new.past ≡ old.past
+    pub reported : IsReportedMore old.past_faults s t report
+    pub past_faults : new.past_faults ≡ old.past_faults
     pub parts : new.parts ≡ length (parts_at t)
 
 -- this line, which can stand there
 abbrev pub IsStep : {A : Type 0} → List ℕ → Stage → Line → Result Reported LineFault → Joint A → Joint A → Type 0
 IsStep lines s x (Ok reported) old new = IsTaken lines (text_of_line x) s (to s x) reported old new
-IsStep lines s x (Err (Bad flaw)) old new = Begins old.past (lines ++ text_of_line x) → ⊥
+IsStep lines s x (Err (Bad flaw)) old new = Begins old.past_faults (lines ++ text_of_line x) → ⊥
 IsStep lines s x (Err NoMemory) old new = ⊤
 
 abbrev pub Takes : {A : Type 0} → Line → Result Reported LineFault → Joint A → Joint A → Type 0
@@ -95,7 +95,7 @@ Takes x result old new =
 -- any line
 abbrev pub IsLineStep : {A : Type 0} → List ℕ → Stage → List ℕ → Result Reported LineFault → Joint A → Joint A → Type 0
 IsLineStep lines s line (Ok reported) old new = (t : Stage) × IsTaken lines line s t reported old new
-IsLineStep lines s line (Err (Bad flaw)) old new = Begins old.past (lines ++ line) → ⊥
+IsLineStep lines s line (Err (Bad flaw)) old new = Begins old.past_faults (lines ++ line) → ⊥
 IsLineStep lines s line (Err NoMemory) old new = ⊤
 
 -- why a line wasn't taken that can stand there

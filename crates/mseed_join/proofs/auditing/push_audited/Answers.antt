@@ -9,7 +9,7 @@ use Rattle.mseed_join.proofs.auditing.push_audited.Goals as goal
 pub returns-in-Ok : goal.returns-in-Ok
 returns-in-Ok g c = λ h views found.
     let channels = c.in_ok-channels.channels in
-    let are = c.in_ok-channels.ensures (added_from 0 views) found.audit in
+    let are = c.in_ok-channels.ensures.channels (added_from 0 views) found.audit in
     pushed _ c.args.audit c.args.end.now c.args.bytes h views channels c.as_slice.result.now c.added-records.result
     c.args.text.now.items c.push_part.new.text.items found are
     (c.channels_have_verdicts.ensures (added_from 0 views) channels are) c.as_slice.ensures c.added-records.ensures

@@ -17,7 +17,7 @@ lines-init g c = record {
     stage = start;
     found = [];
     along = rw c.requires.read c.in-Ok.ensures;
-    reported = none_reported c.args.past (g.E.Sink.written c.args.errors.now);
+    reported = none_reported c.args.past_faults (g.E.Sink.written c.args.errors.now);
     borders = AreBorders.none [];
     stands = c.requires.report;
   };
@@ -32,7 +32,7 @@ lines-init g c = record {
 pub next-requires : goal.next-requires
 next-requires g c =
     let u = c.lines.invariant.along in
-    (c.args.past, u.stage, u.along)
+    (c.args.past_faults, u.stage, u.along)
 
 pub lines-smaller : goal.lines-smaller
 lines-smaller g c =
@@ -43,7 +43,7 @@ lines-smaller g c =
 pub lines-preserved : goal.lines-preserved
 lines-preserved g c =
     let i = c.lines.invariant in
-    let step = rw c.in-Ok-Some.field-0-is at c.in-Ok-Some.ensures.step c.args.past i.along.stage i.along.along in
+    let step = rw c.in-Ok-Some.field-0-is at c.in-Ok-Some.ensures.step c.args.past_faults i.along.stage i.along.along in
     let reads = reads_on (g.R.Source.read c.args.source.now) (g.R.Source.read c.lines.source) _ _ _ _ _ _ _ i.more
     i.beside c.next.ensures.reads in
     record {
@@ -56,20 +56,20 @@ lines-preserved g c =
 pub returns-in-Err-add-clause-outcome : goal.returns-in-Err-add-clause-outcome
 returns-in-Err-add-clause-outcome g c =
     let i = c.lines.invariant in
-    let step = rw c.in-Ok-Some.field-0-is at c.in-Ok-Some.ensures.step c.args.past i.along.stage i.along.along in
+    let step = rw c.in-Ok-Some.field-0-is at c.in-Ok-Some.ensures.step c.args.past_faults i.along.stage i.along.along in
     cut_off (on_way c.in-Ok-Some.reported i.along step c.report_passed.ensures
     (c.in-Err-add.ensures.reported c.args.output.now))
 
 pub returns-in-Ok-finish-clause-outcome : goal.returns-in-Ok-finish-clause-outcome
 returns-in-Ok-finish-clause-outcome g c =
     let i = c.lines.invariant in
-    let step = rw c.in-Ok-None.field-0-is at c.in-Ok-None.ensures.step c.args.past i.along.stage i.along.along in
+    let step = rw c.in-Ok-None.field-0-is at c.in-Ok-None.ensures.step c.args.past_faults i.along.stage i.along.along in
     all_read i.along step c.in-Ok-finish.ensures
 
 pub returns-in-Err-finish-clause-outcome : goal.returns-in-Err-finish-clause-outcome
 returns-in-Err-finish-clause-outcome g c =
     let i = c.lines.invariant in
-    let step = rw c.in-Ok-None.field-0-is at c.in-Ok-None.ensures.step c.args.past i.along.stage i.along.along in
+    let step = rw c.in-Ok-None.field-0-is at c.in-Ok-None.ensures.step c.args.past_faults i.along.stage i.along.along in
     miscounted i.along c.in-Err-finish.unread (c.stop-in-Err-finish.ensures c.args.output.now) step
     c.in-Err-finish.ensures
 
@@ -77,7 +77,7 @@ pub returns-in-Err-next-clause-outcome : goal.returns-in-Err-next-clause-outcome
 returns-in-Err-next-clause-outcome g c =
     let i = c.lines.invariant in
     stopped_at i.along c.in-Err-next.unread (c.stop-in-Err-next.ensures c.args.output.now)
-    (c.in-Err-next.ensures.step c.args.past i.along.stage i.along.along)
+    (c.in-Err-next.ensures.step c.args.past_faults i.along.stage i.along.along)
 
 pub returns-in-Err-add-clause-reads : goal.returns-in-Err-add-clause-reads
 returns-in-Err-add-clause-reads g c =

@@ -5,7 +5,7 @@ use Rattle.mseed_join.proofs.parts.read_with.Given as goal
 
 abbrev pub invariant-lines : goal.invariant-lines
 invariant-lines g l = record {
-  along : IsUnderWay l.fn.past (g.R.Source.read l.source) l.reader (g.E.Sink.written l.fn.errors)
+  along : IsUnderWay l.fn.past_faults (g.R.Source.read l.source) l.reader (g.E.Sink.written l.fn.errors)
       (g.E.Sink.written l.errors) (g.P.Report.stands l.fn.output l.report l.output);
   more : GivesMore (g.R.Source.read l.fn.source) (g.R.Source.read l.source) (g.R.Source.remaining l.fn.source)
       (g.R.Source.remaining l.source);

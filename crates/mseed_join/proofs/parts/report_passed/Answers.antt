@@ -2,7 +2,7 @@ use Rattle.std.proofs.Common.{[], ◌≡◌, ◌++◌, ◌∙◌, List, ℕ, app
 use Rattle.mseed_stream.specs.Device.{BytesWritten}
 use Rattle.mseed_stream.specs.LineWritten.{WritesLine}
 use Rattle.mseed_text.specs.Fault.{fault_line}
-use Rattle.mseed_join.specs.Reached.{AreReported, passed_line}
+use Rattle.mseed_join.specs.Reached.{AreReported}
 use Rattle.mseed_join.proofs.parts.report_passed.Goals as goal
 
 -- what was put, one after another
@@ -16,8 +16,7 @@ returns-in-Passed g c =
     let a1 = rw c.new-line.ensures at c.put_labelled.ensures.text in
     let a2 = rw a1 at c.put.ensures.text in
     let a3 = rw a2 at c.put_fault_line.ensures.text in
-    let wrote : WritesLine (passed_line c.in-Passed.part c.in-Passed.fault) old new =
-    subst (λ (line : List ℕ). WritesLine line old new) (c.as_slice.ensures ∙ a3
+    let wrote = subst (λ (line : List ℕ). WritesLine line old new) (c.as_slice.ensures ∙ a3
     ∙ joined (codes "mseed: part ") (decimal c.in-Passed.part) (codes " ") (fault_line c.in-Passed.fault))
     c.report.ensures in
     rw c.in-Passed.is (AreReported.one _ [] _ _ _ wrote (AreReported.none _))

@@ -1,5 +1,5 @@
 use Rattle.std.proofs.Common.{ap, ◌∙◌, Bool}
-use Rattle.mseed_join.specs.declared.joint.Place.TheVariants.{Whole}
+use Rattle.mseed_join.specs.declared.joint.PlaceInPart.TheVariants.{Whole}
 use Rattle.mseed_join.proofs.Rows.{ending_or, fault_taken, faults_taken}
 use Rattle.mseed_join.proofs.joint.Joint.take_ending.Goals as goal
 

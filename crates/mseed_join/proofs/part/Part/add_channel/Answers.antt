@@ -1,4 +1,4 @@
-use Rattle.std.proofs.Common.{◌≡◌, ◌∙◌, None, Option, Some, length, refl, sym, ap, subst, arith, rules}
+use Rattle.std.proofs.Common.{◌∙◌, None, Option, Some, length, refl, sym, ap, subst, arith, rules}
 use Rattle.mseed_audit.specs.Channels.{same_key}
 use Rattle.mseed_audit.specs.Places.{by_key, with_channel}
 use Rattle.mseed_audit.proofs.ByKey.{by_key_ascends}
@@ -11,7 +11,7 @@ use Rattle.mseed_join.proofs.Keeping.{by_key_within, has_new, has_with, kept_the
 use Rattle.mseed_join.proofs.Keeping.{within_push}
 use Rattle.mseed_join.proofs.Within.{after_within, counts_before, new_within}
 use Rattle.mseed_join.specs.Joining.{border_between, moved_channel}
-use Rattle.mseed_join.specs.Parts.{AreWithin, CountsFit, FitsAt, Held, IsWithin, kept_of}
+use Rattle.mseed_join.specs.Parts.{AreWithin, CountsFit, FitsAt, Held, kept_of}
 use Rattle.mseed_join.proofs.part.Part.add_channel.Goals as goal
 
 -- where the channel is there
@@ -25,8 +25,7 @@ invariant_of-self g c =
     let f = rw c.in-Ok-Some.field-0-is at c.in-Ok-Some.ensures in
     let at = c.channel_mut.ensures.value in
     let after : Channel = c.add_further.new.kept in
-    let within : IsWithin after =
-    after_within c.self.inside.records c.self.inside.bytes c.args.codes (by_key c.self.inside.kept) _
+    let within = after_within c.self.inside.records c.self.inside.bytes c.args.codes (by_key c.self.inside.kept) _
     c.args.channel.now c.in-Ok.further after c.add_further.result (kept_there _ _ _ _ _ f at)
     (by_key_within c.self.inside.kept c.self.invariant.0) (c.in-Ok.ensures.fits.0 refl) c.in-Ok.ensures.value
     c.add_further.ensures.fits c.add_further.ensures.value c.add_further.ensures.unchanged in (
@@ -77,8 +76,7 @@ pub invariant_of-self-in-Ok-None : goal.invariant_of-self-in-Ok-None
 invariant_of-self-in-Ok-None g c =
     let f = rw c.in-Ok-None.field-0-is at c.in-Ok-None.ensures in
     let counts : CountsFit c.in-Ok.further = search rules in
-    let one : IsWithin c.in-Ok.further =
-    new_within c.self.inside.records c.self.inside.bytes c.args.channel.now c.in-Ok.further
+    let one = new_within c.self.inside.records c.self.inside.bytes c.args.channel.now c.in-Ok.further
     (c.in-Ok.ensures.fits.0 refl) c.in-Ok.ensures.value counts in (
       subst (λ (fs : Entries). AreWithin fs) (sym f.1)
           (within_push c.self.inside.kept c.args.codes c.in-Ok.further c.self.invariant.0 one),
@@ -101,8 +99,7 @@ pub returns-in-Ok-None-clause-border : goal.returns-in-Ok-None-clause-border
 returns-in-Ok-None-clause-border g c =
     let es : Entries = c.self.inside.kept in
     let f = rw c.in-Ok-None.field-0-is at c.in-Ok-None.ensures in
-    let none : kept_of c.args.codes c.args.self.now.channels ≡ None =
-    ap (λ (h : Held). kept_of c.args.codes h.channels) (sym c.self.view_is)
+    let none = ap (λ (h : Held). kept_of c.args.codes h.channels) (sym c.self.view_is)
     ∙ none_kept es c.args.codes (none_there (same_key c.args.codes) es f.0) in
     ap (λ (o : Option Channel). border_between o
     (moved_channel c.args.self.now.records c.args.self.now.bytes c.args.channel.now)) (sym none)

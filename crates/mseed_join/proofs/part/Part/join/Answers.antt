@@ -1,7 +1,7 @@
 use Rattle.std.proofs.Common.{◌≡◌, ◌<◌, ◌∙◌, ℕ, suc, List, length, subst, sym, ap, arith, rules}
 use Rattle.std.specs.List.{All}
 use Rattle.std.specs.Map.{values_of}
-use Rattle.mseed_join.specs.declared.part.JoinFault.TheVariants.{Limit, Memory}
+use Rattle.mseed_join.specs.declared.part.PartFault.TheVariants.{Limit, Memory}
 use Rattle.mseed_join.specs.Parts.{Fits, Held, IsAscending, IsJoint, counts_alone}
 use Rattle.mseed_audit.proofs.ByKey.{by_key_ascends, itself, placed_by_key}
 use Rattle.mseed_audit.proofs.Rosters.{made_at}
@@ -18,13 +18,10 @@ loop-codes-init g c =
     let es : Entries = c.as_slice-channels.result.now in
     let slice : es ≡ c.other.inside.kept = search rules in
     let all : c.into_iter-codes-iterator.result ≡ ps = search rules in
-    let are : made_at itself es ps ≡ c.args.other.now.channels =
-    ap (λ (fs : Entries). made_at itself fs ps) slice ∙ placed_by_key ps c.other.inside.kept c.places.ensures
+    let are = ap (λ (fs : Entries). made_at itself fs ps) slice ∙ placed_by_key ps c.other.inside.kept c.places.ensures
     ∙ ap (λ (h : Held). h.channels) c.other.view_is in
-    let ascending : IsAscending c.args.other.now.channels =
-    subst (λ (h : Held). IsAscending h.channels) c.other.view_is (by_key_ascends c.other.inside.kept) in
-    let begun : InTurn c.args.self c.args.other.now c.args.self (made_at itself es ps) =
-    subst (λ (rest : Entries). InTurn c.args.self c.args.other.now c.args.self rest) (sym are)
+    let ascending = subst (λ (h : Held). IsAscending h.channels) c.other.view_is (by_key_ascends c.other.inside.kept) in
+    let begun = subst (λ (rest : Entries). InTurn c.args.self c.args.other.now c.args.self rest) (sym are)
     (turns_begin c.args.self c.args.other.now ascending) in
     let within : All (λ i. i < length es) (values_of ps) =
     subst (λ (fs : Entries). All (λ i. i < length fs) (values_of ps)) (sym slice) c.places.ensures.places.within in (

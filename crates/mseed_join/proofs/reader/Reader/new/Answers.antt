@@ -14,6 +14,6 @@ returns g c =
         calls = sym lines.counts.1;
       };
       read = c.new-2.ensures.read;
-      past_is = c.new-2.ensures.past;
+      past_is = c.new-2.ensures.past_faults;
       goes_on = record { failures = refl; is_at_end = refl };
     }

@@ -1,7 +1,10 @@
 use Rattle.std.proofs.Common.{◌∙◌, Bool, arith, subst, sym}
 use Rattle.mseed_join.specs.private.LineReading.{IsLineAhead}
 use Rattle.mseed_join.specs.private.Taking.{IsReportedMore}
-use Rattle.mseed_join.proofs.Along.{bad_at, bad_next, fails, line_taken, looked, looked_few, over_at, stops, whole_line}
+use Rattle.mseed_join.proofs.Along.{bad_next, fails, lacking_at, line_taken, long_at, looked, looked_few, over_at}
+use Rattle.mseed_join.proofs.Along.{stops, unended_at, whole_line}
+use Rattle.mseed_join.proofs.reader.Reader.next.Goals.{in-Line+in-Err-Bad, in-TooLong, in-Unended}
+use Rattle.mseed_join.proofs.reader.Reader.next.Goals.{in-Nothing+else-can_end}
 use Rattle.mseed_join.proofs.reader.Reader.next.Goals as goal
 
 pub look-requires : goal.look-requires
@@ -37,31 +40,29 @@ returns-in-Ok-take_line-clause-step g c past s along =
       ),
     )
 
-pub returns-in-Err-Bad-clause-step : goal.returns-in-Err-Bad-clause-step
-returns-in-Err-Bad-clause-step g c past s along =
-    let l = looked c.look.new.self along c.look.ensures.more in
-    let refused = rw c.in-Err-Bad.field-0-is at c.in-Err-Bad.ensures l.by.passed s l.read in
-    let line : IsLineAhead c.look.new.self.size c.look.new.self.held = rw c.in-Line.is at c.in-Ok.ensures.ahead in (
-      stops l,
-      bad_next l _ _ _ c.lines-number.ensures.value c.offset-offset.ensures
-          (whole_line l c.line.result.now _ line c.line.ensures refused.0 refused.1),
-    )
-
 pub returns-in-Err-Memory-clause-step : goal.returns-in-Err-Memory-clause-step
 returns-in-Err-Memory-clause-step g c past s along = (stops (looked c.look.new.self along c.look.ensures.more), tt)
 
-pub returns-then-is_over-clause-step : goal.returns-then-is_over-clause-step
-returns-then-is_over-clause-step g c past s along =
-    over_at (looked c.look.new.self along c.look.ensures.more) c.in-Ok.ahead c.in-Ok.ensures.ahead
-    (sym c.is_over.ensures ∙ c.if-is_over.true)
+pub returns-then-can_end-clause-step : goal.returns-then-can_end-clause-step
+returns-then-can_end-clause-step g c past s along =
+    over_at (looked c.look.new.self along c.look.ensures.more) (rw c.in-Nothing.is at c.in-Ok.ensures.ahead)
+    (sym c.can_end.ensures ∙ c.if-can_end.true)
 
-pub returns-else-is_over-clause-step : goal.returns-else-is_over-clause-step
-returns-else-is_over-clause-step g c past s along =
+pub returns-clause-step : goal.returns-clause-step
+returns-clause-step g c past s along =
     let l = looked c.look.new.self along c.look.ensures.more in (
       stops l,
-      rw c.flaw_of-flaw.ensures (bad_next l _ _ _ c.lines-number.ensures.value c.offset-offset.ensures
-          (bad_at l c.in-Ok.ahead c.in-Ok.ensures.ahead c.in_default.not-Line
-          (sym c.is_over.ensures ∙ c.if-is_over.false))),
+      bad_next l _ _ _ c.lines-number.ensures.value c.offset-offset.ensures (elim c.match-ahead.branch [
+        | in-Line+in-Err-Bad w ↦
+            let refused = rw w.in-Err-Bad.field-0-is at w.in-Err-Bad.ensures l.by.passed s l.read in
+            let line : IsLineAhead c.look.new.self.size c.look.new.self.held =
+            rw w.in-Line.is at c.in-Ok.ensures.ahead in
+            rw w.flaw-is (whole_line l w.line.result.now _ line w.line.ensures refused.0 refused.1)
+        | in-TooLong w ↦ rw w.flaw-is (long_at l (rw w.in-TooLong.is at c.in-Ok.ensures.ahead))
+        | in-Unended w ↦ rw w.flaw-is (unended_at l (rw w.in-Unended.is at c.in-Ok.ensures.ahead))
+        | in-Nothing+else-can_end w ↦ rw w.flaw-is (lacking_at l (rw w.in-Nothing.is at c.in-Ok.ensures.ahead)
+            (sym w.can_end.ensures ∙ w.if-can_end.false))
+      ]),
     )
 
 pub returns-in-Ok-take_line-clause-few : goal.returns-in-Ok-take_line-clause-few
