@@ -3,6 +3,7 @@ use Rattle.std.proofs.Common.{subst, ◌≡◌, ℕ, ◌+◌, ◌++◌, List, []
 use Rattle.std.proofs.Common.{append_assoc, append-nil, arith, inl, inr, Bool, true, false, cond, Result, Ok, Err}
 use Rattle.std.proofs.lemmas.List.{length-append}
 use Rattle.std.proofs.lemmas.List.Elements.{filter-append}
+use Rattle.std.proofs.lemmas.Result.{err_from_is_err_and}
 use Rattle.std.specs.List.{concat}
 use Rattle.std.specs.Result.{IsErrAnd}
 use Rattle.mseed_record.specs.View.{View}
@@ -117,24 +118,23 @@ pub next_err : (t : Texts) (s : Selection) (r : Result Step SelectFault) (views 
     (before h : BytesRead) (c : CutterState) (first now : BytesWritten) (text added : List ℕ)
     → IsErrAnd r (λ e. e ≡ Memory) → AreViews h.bytes offset views → IsHeld t s first now text views
     → IsNext t s r views before h c first now added
-next_err t s (Ok step) views offset before h c first now text added is shown held = absurd is
-next_err t s (Err e) views offset before h c first now text added is shown held =
-    rw is (cut_short t s h offset first now text views shown held)
+next_err t s r views offset before h c first now text added is shown held =
+    let e = err_from_is_err_and r is in rw (e.1, e.2) (cut_short t s h offset first now text views shown held)
 
 pub copied_err : (t : Texts) (s : Selection) (r : Result Selected SelectFault) (Q : SelectFault → Type 0)
     (fault : SelectFault) (h : BytesRead) (old new : BytesWritten) (text : List ℕ) → IsErrAnd r Q
     → ((e : SelectFault) → Q e → e ≡ fault) → IsFormatted t s (Err fault) h old new → IsCopying t s r h old new text
-copied_err t s (Ok x) Q fault h old new text is q shown = absurd is
-copied_err t s (Err e) Q fault h old new text is q shown =
-    rw (q e is) shown
+copied_err t s r Q fault h old new text is q shown =
+    let e = err_from_is_err_and r is in rw (e.1, q e.0 e.2) shown
 
 -- no memory for the end
 pub end_err : (t : Texts) (s : Selection) (r : Result Selected SelectFault) (found : Selected) (h : BytesRead)
     (first new : BytesWritten) (text : List ℕ) (views : List View) → IsErrAnd r (λ e. e ≡ Memory)
     → HasCopied t s found h first new text views → IsFormatted t s r h first new
-end_err t s (Ok x) found h first new text views is copied = absurd is
-end_err t s (Err e) found h first new text views is copied =
-    rw is (cut_short t s h copied.is_found.all.offset first new text views copied.is_found.all.records copied.held)
+end_err t s r found h first new text views is copied =
+    let e = err_from_is_err_and r is in
+    rw (e.1, e.2) (cut_short t s h copied.is_found.all.offset first new text views copied.is_found.all.records
+    copied.held)
 
 -- all of it was written
 pub written_all : (t : Texts) (s : Selection) (found : Selected) (h : BytesRead) (first old new : BytesWritten)

@@ -1,14 +1,11 @@
 -- A field fits a code exactly where the test says so.
+use Rattle.std.proofs.Math.Bool.{or-true}
 use Rattle.std.proofs.Common.{◌≡◌, ◌≢◌, ℕ, refl, ap, arith, Bool, true, false, ◌&&◌, ◌||◌}
 use Rattle.std.proofs.Common.{List, [], ◌∷◌, ◌++◌, length, get_or, drop, eqb, inl, inr, eq-eqb, ◌≤◌}
 use Rattle.std.proofs.lemmas.Bool.{and_parts, cases_Bool}
 use Rattle.std.proofs.lemmas.Bool.Decides.{eqb_tells, nat_tests}
 use Rattle.std.specs.Bool.{Decides}
 use Rattle.mseed_record.specs.Pattern.{Fits, Takes, any_rest, after_one, fits}
-
-pub or_true : (b : Bool) → (b || true) ≡ true
-or_true true = refl
-or_true false = refl
 
 -- a code that begins with some characters, after which a test holds
 abbrev HoldsAfter : (List ℕ → Bool) → (List ℕ → Type 0) → List ℕ → Type 0
@@ -31,7 +28,7 @@ any_first test (x ∷ xs) e = rw e refl
 
 any_back : (test : List ℕ → Bool) (taken rest : List ℕ) → test rest ≡ true → any_rest test (taken ++ rest) ≡ true
 any_back test [] rest e = any_first test rest e
-any_back test (x ∷ taken) rest e = rw (any_back test taken rest e) (or_true (test (x ∷ (taken ++ rest))))
+any_back test (x ∷ taken) rest e = rw (any_back test taken rest e) (or-true (test (x ∷ (taken ++ rest))))
 
 one_yes : (c : ℕ) (test : List ℕ → Bool) (code : List ℕ) → after_one c test code ≡ true → HoldsAfter test (Takes c) code
 one_yes c test [] e = cc (e)
@@ -41,7 +38,7 @@ one_yes c test (x ∷ xs) e =
 
 one_back : (c : ℕ) (test : List ℕ → Bool) (taken rest : List ℕ) → Takes c taken → c ≢ 42 → test rest ≡ true
     → after_one c test (taken ++ rest) ≡ true
-one_back c test taken rest (inl same) ne e = rw (same, eq-eqb c c refl, or_true (eqb c 63)) e
+one_back c test taken rest (inl same) ne e = rw (same, eq-eqb c c refl, or-true (eqb c 63)) e
 one_back c test [] rest (inr (inl mark)) ne e = absurd (omega (arith, mark.1))
 one_back c test (x ∷ []) rest (inr (inl mark)) ne e = rw (eq-eqb c 63 mark.0) e
 one_back c test (x ∷ y ∷ ys) rest (inr (inl mark)) ne e = absurd (omega (arith, mark.1))

@@ -1,9 +1,9 @@
 -- A text is a pattern exactly where it is four fields of letters.
-use Rattle.std.proofs.Common.{◌≡◌, ℕ, zero, suc, ◌<◌, ◌≤◌, refl, sym, ap, ◌∙◌, arith, Bool, true, false, not}
-use Rattle.std.proofs.Common.{◌&&◌, ◌||◌, eqb, List, [], ◌∷◌, ◌++◌, length, inl, inr, append_assoc}
+use Rattle.std.proofs.Common.{◌≡◌, ℕ, ◌≤◌, refl, sym, ap, ◌∙◌, arith, Bool, true, false, not}
+use Rattle.std.proofs.Common.{◌||◌, eqb, List, [], ◌∷◌, ◌++◌, length, inl, inr, append_assoc}
 use Rattle.std.specs.Prelude.{codes}
 use Rattle.std.specs.List.{All, Contains, join_with_byte, list_all, list_any, onto_first, slice_split}
-use Rattle.std.proofs.lemmas.Bool.{and_parts, cases_Bool, cases_lt, eqb-true, false≢true}
+use Rattle.std.proofs.lemmas.Bool.{agree_below_at, and_parts, cases_Bool, cases_lt, eqb-true, false≢true, not-true}
 use Rattle.std.proofs.lemmas.Bool.Decides.{nat_tests}
 use Rattle.std.proofs.lemmas.List.Elements.{All-cons, All-contains, All-head, All-nil, All-tail}
 use Rattle.std.proofs.lemmas.List.Folds.{list_all-append}
@@ -20,26 +20,13 @@ use Rattle.mseed_select.proofs.TimeParts.{joined, next_part, one_part, three_par
 abbrev is_named : ℕ → Bool
 is_named x = not (is_character x) || ((eqb x 95) || list_any (eqb x) letters)
 
-abbrev are_named : ℕ → Bool
-are_named zero = true
-are_named (suc n) = is_named n && are_named n
-
-named_below : (count n : ℕ) → are_named count ≡ true → n < count → is_named n ≡ true
-named_below zero n e h = absurd (omega (arith, h))
-named_below (suc count) n e h =
-    let both = and_parts (is_named count) (are_named count) e in
-    elim (cases_lt n count) [
-      | inl lt ↦ named_below count n both.1 lt
-      | inr ge ↦ let last : n ≡ count = omega (arith, ge, h) in ap (λ (k : ℕ). is_named k) last ∙ both.0
-    ]
-
 no_letter : (x : ℕ) → 128 ≤ x → is_character x ≡ false
 no_letter x h = grind (arith, nat_tests, h)
 
 named : (x : ℕ) → is_character x ≡ true → eqb x 95 ≡ false → Contains letters x
 named x e ne = elim (cases_lt x 128) [
   | inl lt ↦
-      let test : is_named x ≡ true = named_below 128 x refl lt in
+      let test : is_named x ≡ true = agree_below_at is_named (λ n. true) 128 x refl lt in
       let rest : (false || (false || list_any (eqb x) letters)) ≡ true = rw ne at (rw e at test) in
       Contains-from_any {eq = eqb} (λ a b h. eqb-true a b h) x letters rest
   | inr ge ↦ absurd (false≢true (sym (no_letter x ge) ∙ e))
@@ -50,12 +37,8 @@ letter_is x in_letters =
     All-contains (λ (c : ℕ). is_character c ≡ true) letters x (AllPass-from_list_all is_character letters refl)
     in_letters
 
-not_true : (b : Bool) → not b ≡ true → b ≡ false
-not_true true e = absurd (false≢true e)
-not_true false e = refl
-
 letters_lack : (field : List ℕ) → AreLetters field → Lacks 95 field
-letters_lack field are = λ k d h. not_true _ (All-contains (λ (y : ℕ). not (eqb y 95) ≡ true) letters _
+letters_lack field are = λ k d h. not-true _ (All-contains (λ (y : ℕ). not (eqb y 95) ≡ true) letters _
     (AllPass-from_list_all (λ (y : ℕ). not (eqb y 95)) letters refl) (are k d h))
 
 letters_test : (field : List ℕ) → AreLetters field → list_all is_character field ≡ true

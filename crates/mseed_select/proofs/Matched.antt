@@ -10,13 +10,13 @@ use Rattle.mseed_record.specs.Pattern.{FitsLocation, IsOfChannels, Matches, chan
 use Rattle.mseed_record.specs.Pattern.{fits_location, is_dashes, is_of_channels, location_of, matches, network_of}
 use Rattle.mseed_record.specs.Pattern.{patterns_in, station_of}
 use Rattle.mseed_select.proofs.Fitting.{fits_decides}
-use Rattle.mseed_select.proofs.TimeParts.{nothing}
+use Rattle.std.proofs.lemmas.List.{nil_from_length}
 
 dashes_decides : (field : List ℕ) → Decides (is_dashes field) (field ≡ codes "--")
 dashes_decides field = (λ e. grind (arith, nat_tests, e), λ e. rw e refl)
 
 none_decides : (code : List ℕ) → Decides (eqb (length code) 0) (code ≡ [])
-none_decides code = (λ e. nothing code (eqb-true (length code) 0 e), λ e. rw e refl)
+none_decides code = (λ e. nil_from_length code (eqb-true (length code) 0 e), λ e. rw e refl)
 
 location_decides : (field code : List ℕ) → Decides (fits_location field code) (FitsLocation field code)
 location_decides field code = Decides-or (is_dashes field && eqb (length code) 0) (fits field code)

@@ -6,7 +6,7 @@ use Rattle.std.proofs.Common.{fold}
 use Rattle.std.specs.List.{All}
 use Rattle.std.proofs.lemmas.Bool.{and_parts, eqb-true}
 use Rattle.std.proofs.lemmas.Bool.Decides.{nat_tests}
-use Rattle.std.proofs.lemmas.Grind.{pow_more}
+use Rattle.std.proofs.Math.Nat.{pow-suc}
 use Rattle.std.proofs.lemmas.List.{length-append, length-replicate}
 use Rattle.std.proofs.lemmas.List.Elements.{All-append, All-cons}
 use Rattle.std.proofs.lemmas.List.Folds.{list_all-append}
@@ -59,9 +59,7 @@ one_before : (a d p r s t : ℕ) → s ≡ (10 * a + d) * p + r → t ≡ (10 * 
 one_before a d p r s t e f = omega arith
 
 longer : (x : ℕ) (xs : List ℕ) → 10 ^ length (x ∷ xs) ≡ 10 * 10 ^ length xs
-longer x xs =
-    ap (λ (n : ℕ). 10 ^ n) (let e : length (x ∷ xs) ≡ length xs + 1 = omega arith in e)
-    ∙ (let e : 10 ^ (length xs + 1) ≡ 10 * 10 ^ length xs = omega (arith, pow_more 10 (length xs)) in e)
+longer x xs = pow-suc 10 (length xs) ∙ omega arith
 
 spelled_from : (a : ℕ) (xs : List ℕ) → spelled a xs ≡ a * 10 ^ length xs + number_of xs
 spelled_from a [] = omega arith
@@ -80,11 +78,7 @@ number_below (x ∷ xs) all =
     let few : 10 * 0 + (x - 48) < 10 = omega (arith, digit) in
     let is : number_of (x ∷ xs) ≡ (10 * 0 + (x - 48)) * 10 ^ length xs + number_of xs =
     spelled_from (10 * 0 + (x - 48)) xs in
-    below_by (number_of (x ∷ xs)) (10 * 0 + (x - 48)) (10 ^ length xs) (number_of xs) (10 ^ length (x ∷ xs)) is power
-    (mul-add-lt (10 * 0 + (x - 48)) (10 ^ length xs) (number_of xs) 10 few rest)
-  where
-    below_by : (n d p r q : ℕ) → n ≡ d * p + r → q ≡ 10 * p → d * p + r < p * 10 → n < q
-    below_by n d p r q e f h = omega arith
+    omega (arith, is, power, mul-add-lt (10 * 0 + (x - 48)) (10 ^ length xs) (number_of xs) 10 few rest)
 
 -- the digits of the number that digits spell are these
 pub padded_back : (a : ℕ) (xs : List ℕ) → are_digits xs ≡ true → padded_decimal (length xs) (spelled a xs) ≡ xs

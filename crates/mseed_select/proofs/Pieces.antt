@@ -6,10 +6,11 @@ use Rattle.mseed_record.specs.Pattern.{any_rest, after_one, fits}
 use Rattle.mseed_select.specs.declared.matching.Piece.{Piece}
 use Rattle.mseed_select.specs.declared.matching.Piece.TheVariants.{Whole, Fails, Star}
 use Rattle.mseed_select.specs.private.Pieces.{IsLeft, IsPiece}
-use Rattle.mseed_select.proofs.Fitting.{any_first, fits_one, or_true, other_star, two_stars}
+use Rattle.mseed_select.proofs.Fitting.{any_first, fits_one, other_star, two_stars}
+use Rattle.std.proofs.Math.Bool.{or-true}
 
 any_more : (test : List ℕ → Bool) (x : ℕ) (xs : List ℕ) → any_rest test xs ≡ true → any_rest test (x ∷ xs) ≡ true
-any_more test x xs e = rw e (or_true (test (x ∷ xs)))
+any_more test x xs e = rw e (or-true (test (x ∷ xs)))
 
 -- what holds after a later character holds of a rest
 later_one : (c : ℕ) (test : List ℕ → Bool) (xs : List ℕ) → any_rest (λ rest. after_one c test rest) xs ≡ true

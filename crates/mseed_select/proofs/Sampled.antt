@@ -42,11 +42,8 @@ within None (Some until) v rate i h = (h.known, tt, begins (Some until) v rate i
 within (Some from) until v rate i h =
     let samples : ℕ = samples_at v.order v.bytes in
     let lasts : LastsTo (Some rate) (start_of v) samples from =
-    last_on ((from -ℤ start_of v) *ℤ pos rate.num) i samples rate.den h.from_on h.sample in (
-      h.known,
-      rw h.rated lasts,
-      begins until v rate i h.before,
-    )
+    last_on ((from -ℤ start_of v) *ℤ pos rate.num) i samples rate.den h.from_on h.sample in
+    (h.known, rw h.rated lasts, begins until v rate i h.before)
 
 pub sampled : (s : Selection) (v : View) (rate : Ratio) (i : ℕ) → IsOfChannels s.channels (key_at v.bytes)
     → HasSampleIn s.from s.until v rate i → IsAskedFor s v

@@ -1,7 +1,7 @@
 -- The parts of a text, put together and taken apart.
-use Rattle.std.proofs.Common.{◌≡◌, ℕ, zero, suc, ◌≤◌, refl, sym, ap, ◌∙◌, arith, false, eqb, List, [], ◌∷◌}
-use Rattle.std.proofs.Common.{◌++◌, length, get_or, inl, inr}
-use Rattle.std.proofs.lemmas.List.{append-nil, length-append}
+use Rattle.std.proofs.Common.{◌≡◌, ℕ, suc, ◌≤◌, refl, sym, ap, ◌∙◌, arith, false, eqb, List, [], ◌∷◌}
+use Rattle.std.proofs.Common.{◌++◌, length, get_or, inl, inr, take}
+use Rattle.std.proofs.lemmas.List.{append_cancel_left, get_or_past, length-append, take_at}
 use Rattle.std.proofs.lemmas.Bool.Decides.{leb_tells}
 use Rattle.std.specs.List.{join_with_byte, slice_split}
 use Rattle.std.proofs.lemmas.List.Splits.{join_with_byte-slice_split, slice_split_at, slice_split_none}
@@ -46,32 +46,19 @@ cut_after (f ∷ fs) behind (w ∷ ws) rest e h =
     let more = cut_after fs behind ws rest others (omega (arith, h)) in
     (more.0, record { whole_is = λ i. first i ∷ more.1.whole_is i; rest_is = more.1.rest_is })
 
-pub nothing : (xs : List ℕ) → length xs ≡ 0 → xs ≡ []
-nothing [] e = refl
-nothing (x ∷ xs) e = absurd (omega (arith, e))
-
 -- the beginning and the end are these, where the ends are equally long
 pub exactly : (front behind whole rest : List ℕ) → whole ++ rest ≡ front ++ behind → length rest ≡ length behind
     → (whole ≡ front) × (rest ≡ behind)
 exactly front behind whole rest e same =
     let long : length whole ≡ length front =
     omega (arith, same, ap (λ (xs : List ℕ). length xs) e, length-append whole rest, length-append front behind) in
-    let cut = cut_after front behind whole rest e (omega (arith, long)) in
-    let none : cut.0 ≡ [] = nothing cut.0
-    (omega (arith, long, ap (λ (xs : List ℕ). length xs) cut.1.whole_is, length-append front cut.0)) in (
-      cut.1.whole_is ∙ ap (λ (xs : List ℕ). front ++ xs) none ∙ append-nil front,
-      ap (λ (xs : List ℕ). xs ++ rest) (sym none) ∙ cut.1.rest_is,
-    )
+    let first : whole ≡ front = sym (take_at whole rest (length front) long)
+    ∙ (ap (take (length front)) e ∙ take_at front behind (length front) refl) in
+    (first, append_cancel_left front rest behind (rw first at e))
 
 -- a text that lacks a character has it nowhere
 pub lacks_at : (c : ℕ) (text : List ℕ) (i : ℕ) → 1 ≤ c → Lacks c text → eqb (get_or text i 0) c ≡ false
 lacks_at c text i some none = elim (leb_tells (suc i) (length text)) [
   | inl lt ↦ none i 0 (omega (arith, lt.1))
-  | inr ge ↦ ap (λ (x : ℕ). eqb x c) (get_or_past text i (omega (arith, ge.1)))
-      ∙ (let e : eqb 0 c ≡ false = grind (arith, nat_tests, some) in e)
+  | inr ge ↦ rw (get_or_past text i 0 (omega (arith, ge.1))) (grind (arith, nat_tests, some))
 ]
-  where
-    get_or_past : (xs : List ℕ) (k : ℕ) → length xs ≤ k → get_or xs k 0 ≡ 0
-    get_or_past [] k h = refl
-    get_or_past (x ∷ xs) zero h = absurd (omega (arith, h))
-    get_or_past (x ∷ xs) (suc k) h = get_or_past xs k (omega (arith, h))

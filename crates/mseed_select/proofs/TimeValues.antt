@@ -6,7 +6,7 @@ use Rattle.std.proofs.lemmas.List.{length-append, length-replicate}
 use Rattle.mseed_time.specs.Text.{clock_text, padded_decimal}
 use Rattle.mseed_select.specs.TimeTexts.{IsClockText, IsLeapText, IsOneOf, endings}
 use Rattle.mseed_select.specs.Word.{number_of}
-use Rattle.mseed_select.proofs.Padded.{number_of-2, number_of-6}
+use Rattle.mseed_select.proofs.Padded.{IsFraction, number_of-2, number_of-6}
 use Rattle.mseed_select.proofs.TimeClocks.{IsForm, IsShape, fine_text, hour_text, minute_text, second_text, value_of}
 use Rattle.mseed_select.proofs.TimeParts.{cut_after, exactly}
 
@@ -103,17 +103,10 @@ of_fine text t j within few e =
     omega (arith, length-append {A = ℕ}, length-replicate {A = ℕ}, ap (λ (xs : List ℕ). length xs) e) in
     let cut =
     cut_after front (padded_decimal 6 (micros_in t)) text (replicate j 48) e (omega (arith, long, few)) in
+    let fraction : IsFraction cut.0 (micros_in t) =
+    record { zeros = j; few = few; below = omega arith; whole = cut.1.rest_is } in
     made text (fine_text (hour_in t) (minute_in t) (second_in t) cut.0) t within cut.1.whole_is
-    (inr (inr (inr (
-      cut.0,
-      refl,
-      record {
-        zeros = j;
-        few = few;
-        below = omega arith;
-        whole = cut.1.rest_is;
-      },
-    ))))
+    (inr (inr (inr (cut.0, refl, fraction))))
 
 -- zeros at the end
 zeros : (m s u : ℕ) → m < 60 → s < 60 → u < 1_000_000

@@ -14,7 +14,7 @@ number_of digits = fold (λ n c. 10 * n + (c - 48)) 0 digits
 abbrev pub are_digits : List ℕ → Bool
 are_digits text = list_all (λ c. is_within 48 57 c) text
 
--- so many digits that give a number from low to high
+-- the number from low to high that `count` digits give
 abbrev pub number_in : ℕ → ℕ → ℕ → List ℕ → Option ℕ
 number_in count low high text =
     if (length text == count) && are_digits text && is_within low high (number_of text)

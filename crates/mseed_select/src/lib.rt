@@ -23,7 +23,7 @@ mod word;
 
 pub use copying::{select, write_selected};
 pub use counts::Counts;
-pub use fault::{BadPatterns, BadTime, BadWindow, SelectFault, SelectFault as ShowFault};
+pub use fault::{BadPatterns, BadTime, BadWindow, SelectFault};
 pub use format::Format;
 pub use law::{
     asked_for_exactly, fits_exactly, lacks_time_exactly, patterns_exactly, samples_in_window,

@@ -6,7 +6,7 @@ ghost use Rattle.mseed_select.specs.Word.{are_digits, fraction_of, number_in, nu
 fn are_digits(text: &[u8]) -> bool
     ensures { result ≡ are_digits text.now }
 {
-    text.iter().all(|c| (48..=57).contains(c))
+    text.iter().all(|byte| byte.is_ascii_digit())
 }
 
 /// Returns the number that at most six digits spell.
@@ -51,7 +51,7 @@ pub(crate) fn fraction_of(text: &[u8]) -> Option<u32>
     Some(number_of(text) * scale_of(text.len()))
 }
 
-/// Returns how many microseconds one of the last of so many digits after a point is, 1 to 6.
+/// Returns how many microseconds a one is in the last of `digits` digits after a point, which are 1 to 6.
 fn scale_of(digits: usize) -> u32
     requires low { 1 ≤ digits }
     requires high { digits ≤ 6 }

@@ -145,7 +145,7 @@ fn lasts_to(view: &RecordView, start: Micros, instant: Micros) -> bool
     }
 }
 
-/// Returns whether the last of so many samples from `start` on is at an instant or after it.
+/// Returns whether the last of `samples` samples from `start` on is at an instant or after it.
 fn is_sampled_to(start: Micros, samples: u16, rate: Ratio, instant: Micros) -> bool
     ensures { result ≡ lasts_to (Some rate) start samples instant }
 {
