@@ -1,10 +1,10 @@
 -- The links of an archive's channels, and what is found and written of their records.
+use Rattle.mseed_audit.specs.Channels.{is_of_channel}
+use Rattle.std.proofs.lemmas.List.Sums.{count_by-le-length, length-filter}
 use Rattle.std.proofs.Common.{◌≡◌, ◌≢◌, ℕ, ◌+◌, ◌<◌, ◌≤◌, ◌^◌, List, []}
 use Rattle.std.proofs.Common.{◌∷◌, length, map, drop, get_or, refl, sym, ap, ◌∙◌, arith}
-use Rattle.std.proofs.Common.{All}
 use Rattle.std.specs.List.{AllByRecursion}
 use Rattle.std.proofs.lemmas.List.{drop_all, drop_more, get_or_default, length-map}
-use Rattle.std.proofs.lemmas.List.Elements.{All-from_recursion}
 use Rattle.mseed_record.specs.View.{View}
 use Rattle.mseed_record.specs.Viewing.{view_of}
 use Rattle.mseed_record.specs.declared.view.RecordView.{RecordView}
@@ -12,33 +12,27 @@ use Rattle.mseed_stream.specs.Device.{BytesWritten}
 use Rattle.mseed_audit.specs.Follows.{IsSound}
 use Rattle.mseed_audit.proofs.Following.{views_are}
 use Rattle.mseed_pack.specs.declared.options.Options.{Options}
-use Rattle.mseed_repack.specs.Repack.{AreContinuous, CanBePacked, Channel, StretchFits, Wrote}
+use Rattle.mseed_repack.specs.Repack.{AreContinuous, Channel, Wrote}
 use Rattle.mseed_repack.specs.Repack.{records_in}
-use Rattle.mseed_repack.specs.ByStretches.{AreFound, IsFit, kept_of}
+use Rattle.mseed_repack.specs.ByStretches.{IsFit, kept_of}
 use Rattle.mseed_repack.specs.private.Archives.{IsAudited, IsWalkOf, records_on}
 use Rattle.mseed_repack.specs.private.Planning.{AreReady, CanBeWritten, IsCutAs, IsPartAs, IsPartOn, IsReady}
 use Rattle.mseed_repack.specs.private.Planning.{IsTextAs, IsTextOn}
-use Rattle.mseed_repack.specs.private.Planning.{PartsAs, IsPackabilityAs, TextsAs, stretches_by}
+use Rattle.mseed_repack.specs.private.Planning.{PartsAs, TextsAs, stretches_by}
 use Rattle.mseed_repack.specs.private.Reading.{channel_in}
-use Rattle.mseed_repack.specs.private.Restretching.{AreUnsound}
+use Rattle.mseed_repack.specs.private.Restretching.{AreFoundAs}
 use Rattle.mseed_repack.specs.declared.plan.Plan.{Plan}
 use Rattle.mseed_repack.specs.declared.packability.Packability.{Packability}
-use Rattle.mseed_repack.specs.declared.packability.Packability.TheVariants.{Fit, Broken, Misfit}
+use Rattle.mseed_repack.specs.declared.packability.Packability.TheVariants.{Fit, Broken}
 use Rattle.mseed_repack.specs.declared.stretching.Cutting.{Cutting}
-use Rattle.mseed_repack.specs.declared.stretching.Cutting.TheVariants.{Whole}
 use Rattle.mseed_repack.specs.declared.archive.Archive.{Archive}
 use Rattle.mseed_repack.specs.declared.archive.ChannelWalk.{ChannelWalk}
 use Rattle.mseed_repack.proofs.Planning.{packability_each, part_as, ready_at, text_as, wrote_as}
-use Rattle.mseed_repack.proofs.Packabilities.{as_many, each_found, fits_by_packability, unsound_at}
+use Rattle.mseed_repack.proofs.Packabilities.{unsound_at}
 use Rattle.mseed_repack.proofs.Texts.{IsWrittenSo, written_all, written_next, written_part}
 
 abbrev views_of : Archive → List View
 views_of a = map view_of a.views.now
-
--- a channel has no more records than an archive
-few_in : (key : List ℕ) (vs : List View) → length (channel_in key vs) ≤ length vs
-few_in key [] = omega arith
-few_in key (v ∷ vs) = grind (arith, few_in key vs)
 
 -- the records of a walk are those of its channel
 pub on_trail : (a : Archive) (k : ℕ) (t : ChannelWalk) (w : IsWalkOf a k t)
@@ -51,12 +45,6 @@ pub all_on : (a : Archive) (k : ℕ) (t : ChannelWalk) → IsWalkOf a k t → t.
 all_on a k t w same = on_trail a k t w ∙ ap (λ (key : List ℕ). channel_in key (views_of a)) (sym w.codes_are)
     ∙ ap (λ (rs : List RecordView). channel_in t.codes.now (map view_of rs)) (sym same)
 
--- not all of those of a broken channel are sound
-pub unsound_on : (a : Archive) (ss : List Packability) (k : ℕ) (t : ChannelWalk) → IsWalkOf a k t
-    → AreUnsound (map view_of a.views.now) a.channels.now ss → k < length a.channels.now
-    → length ss ≡ length a.channels.now → get_or ss k Fit ≡ Broken → ¬ (AllByRecursion IsSound (records_on t))
-unsound_on a ss k t h h2 h3 h4 h5 = grind (arith, unsound_at)
-
 -- the channel is the one at its number
 pub channel_on : (a : Archive) (k : ℕ) (t : ChannelWalk) (c : Channel) (w : IsWalkOf a k t) → k < length a.channels.now
     → c ≡ get_or a.channels.now k c → w.channel ≡ c
@@ -66,19 +54,32 @@ channel_on a k t c w lt is = w.at ∙ get_or_default a.channels.now k w.channel 
 pub of_channel : (a : Archive) (k : ℕ) (t : ChannelWalk) (c : Channel) → k < length a.channels.now
     → c ≡ get_or a.channels.now k c → IsWalkOf a k t → records_on t ≡ channel_in c.0 (map view_of a.views.now)
 of_channel a k t c lt is w =
-    let same : w.channel ≡ c = w.at ∙ get_or_default a.channels.now k w.channel c lt ∙ sym is in
-    on_trail a k t w ∙ ap (λ (d : Channel). channel_in d.0 (views_of a)) same
+    on_trail a k t w ∙ ap (λ (d : Channel). channel_in d.0 (views_of a)) (channel_on a k t c w lt is)
 
 at_index : (a : Archive) (k : ℕ) (t : ChannelWalk) (w : IsWalkOf a k t)
     → records_on t ≡ records_in (views_of a) (get_or a.channels.now k w.channel).0
 at_index a k t w = w.records_are ∙ ap (λ (d : Channel). records_in (views_of a) d.0) w.at
 
+-- not all of those of a broken channel are sound
+pub unsound_on : (a : Archive) (ss : List Packability) (k : ℕ) (t : ChannelWalk) → IsWalkOf a k t
+    → AreFoundAs (map view_of a.views.now) a.channels.now ss → k < length a.channels.now
+    → length ss ≡ length a.channels.now → get_or ss k Fit ≡ Broken → ¬ (AllByRecursion IsSound (records_on t))
+unsound_on a ss k t w found lt size broken =
+    let c = get_or a.channels.now k w.channel in
+    rw (at_index a k t w) (unsound_at found.0 found.1.0 (views_of a) a.channels.now ss k c found.1.1 lt size
+    (get_or_default a.channels.now k w.channel c lt) broken)
+
 pub few_on : (a : Archive) (k : ℕ) (t : ChannelWalk) → IsWalkOf a k t → length (records_on t) ≤ length a.views.now
 few_on a k t w =
     let size = ap (λ (vs : List View). length vs) (on_trail a k t w) in
-    let most = few_in w.channel.0 (views_of a) in
-    let all = length-map a.views.now view_of in
-    omega (arith, size, most, all)
+    let count = length-filter (is_of_channel w.channel.0) (views_of a) in
+    omega (
+      arith,
+      size,
+      count,
+      count_by-le-length (is_of_channel w.channel.0) (views_of a),
+      length-map a.views.now view_of,
+    )
 
 -- no channel has more records than a loop can count
 pub few_trail : (a : Archive) (k : ℕ) (t : ChannelWalk) → IsWalkOf a k t → IsAudited a → length (records_on t) ≤ 2 ^ 40
@@ -132,17 +133,17 @@ module _ {cutting : Cutting} {o : Options} {room places : ℕ} (a : Archive) (ss
   kept_on s h h2 = grind (arith, drop_more, inside)
 
   pub texts_next : {first old new : BytesWritten} (s : Packability) (ps : List Plan) → get_or ss k s ≡ Fit
-      → IsCutAs cutting (records_on t) (stretches_by ps (records_on t)) → AreWrittenTo cutting o a ss k first old
+      → ps ≡ get_or ls k [] → AreWrittenTo cutting o a ss k first old
       → Wrote (IsTextOn o (stretches_by ps (records_on t))) 0 old new → AreWrittenTo cutting o a ss (k + 1) first new
-  texts_next s ps fit cut so one = written_next (kept_on s fit so) (wrote_as (λ text is.
-      rw (at_index a k t w) at (text_as cutting o (records_on t) (stretches_by ps (records_on t)) text cut is)) one)
+  texts_next s ps fit e so one = written_next (kept_on s fit so) (wrote_as (λ text is. rw (at_index a k t w) at
+      (text_as cutting o (records_on t) (stretches_by ps (records_on t)) text (ready_on s ps fit e).0 is)) one)
 
   pub texts_part : {first old new : BytesWritten} (s : Packability) (ps : List Plan) → get_or ss k s ≡ Fit
-      → IsCutAs cutting (records_on t) (stretches_by ps (records_on t)) → AreWrittenTo cutting o a ss k first old
+      → ps ≡ get_or ls k [] → AreWrittenTo cutting o a ss k first old
       → Wrote (IsPartOn o (stretches_by ps (records_on t))) 1 old new
       → Wrote (PartsAs cutting o (map view_of a.views.now) (kept_of a.channels.now ss)) 1 first new
-  texts_part s ps fit cut so one = written_part (kept_on s fit so) (wrote_as (λ text is.
-      rw (at_index a k t w) at (part_as cutting o (records_on t) (stretches_by ps (records_on t)) text cut is)) one)
+  texts_part s ps fit e so one = written_part (kept_on s fit so) (wrote_as (λ text is. rw (at_index a k t w) at
+      (part_as cutting o (records_on t) (stretches_by ps (records_on t)) text (ready_on s ps fit e).0 is)) one)
 
 -- all are written
 pub texts_all : (cutting : Cutting) (o : Options) {first new : BytesWritten} (a : Archive) (ss : List Packability)
@@ -153,24 +154,8 @@ texts_all cutting o a ss k past so = let none = drop_all k a.channels.now past i
 -- Channels that are packed whole.
 
 -- where each fits, each is kept
-kept_all : (cs : List Channel) (ss : List Packability) → length ss ≡ length cs → AllByRecursion IsFit ss
+pub kept_all : (cs : List Channel) (ss : List Packability) → length ss ≡ length cs → AllByRecursion IsFit ss
     → kept_of cs ss ≡ cs
 kept_all [] ss size fit = refl
 kept_all (c ∷ cs) [] size fit = absurd (omega (arith, size))
-kept_all (c ∷ cs) (Fit ∷ ss) size fit = ap (λ (ds : List Channel). c ∷ ds) (kept_all cs ss (omega (arith, size)) fit.1)
-kept_all (c ∷ cs) (Broken ∷ ss) size fit = cc
-kept_all (c ∷ cs) (Misfit n f ∷ ss) size fit = cc
-
--- and can be packed
-pub record IsWholeFit (o : Options) (views : List View) (cs : List Channel) (ss : List Packability) : Type 0 where
-  pub fit : All (λ (c : Channel). CanBePacked o views c.0) cs
-  pub kept : kept_of cs ss ≡ cs
-
-pub whole_fit : (o : Options) (views : List View) (cs : List Channel) (ss : List Packability)
-    → AreFound (IsPackabilityAs Whole o) views cs ss → AllByRecursion IsFit ss → IsWholeFit o views cs ss
-whole_fit o views cs ss all each = record {
-  fit = All-from_recursion (λ (c : Channel). CanBePacked o views c.0) cs
-      (each_found (IsPackabilityAs Whole o) IsFit (StretchFits o)
-      (λ vs s is fit. (fits_by_packability (IsPackabilityAs Whole o) vs s is fit).1) views cs ss all each);
-  kept = kept_all cs ss (as_many (IsPackabilityAs Whole o) views cs ss all) each;
-}
+kept_all (c ∷ cs) (s ∷ ss) size fit = grind (arith, kept_all cs ss (omega (arith, size)) fit.1)

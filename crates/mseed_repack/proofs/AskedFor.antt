@@ -6,7 +6,6 @@ use Rattle.std.proofs.Common.{Bool, append-nil, length-append, Result, Ok, Err, 
 use Rattle.std.specs.List.{AllByRecursion, count_by, filter}
 use Rattle.std.proofs.lemmas.List.{length-map}
 use Rattle.std.proofs.lemmas.List.Sums.{count_by-le-length, length-filter}
-use Rattle.mseed_record.specs.Record.{IsRecord}
 use Rattle.mseed_record.specs.View.{View, IsView}
 use Rattle.mseed_record.specs.Viewing.{view_of}
 use Rattle.mseed_record.specs.declared.view.RecordView.{RecordView}
@@ -14,7 +13,6 @@ use Rattle.mseed_stream.specs.Device.{BytesRead, BytesWritten}
 use Rattle.mseed_stream.specs.LineWritten.{WritesLine}
 use Rattle.mseed_stream.specs.Archive.{IsArchive}
 use Rattle.mseed_stream.specs.Split.{bytes_of_each}
-use Rattle.mseed_stream.specs.Walk.{bytes_in}
 use Rattle.mseed_stream.specs.declared.fault.StreamFault.{StreamFault}
 use Rattle.mseed_stream.specs.declared.fault.StreamFault.TheVariants.{Memory as NoMemory}
 use Rattle.mseed_select.specs.Select.{selected_bytes}
@@ -23,7 +21,7 @@ use Rattle.mseed_audit.specs.Channels.{Placed}
 use Rattle.mseed_audit.specs.Scope.{asked_of}
 use Rattle.mseed_steim.specs.declared.encoding.Encoding.{Encoding}
 use Rattle.mseed_pack.specs.declared.options.Options.{Options}
-use Rattle.mseed_repack.specs.ByStretches.{AreReported, AreReportsOf, IsRestretchingAmong, ReportsEach}
+use Rattle.mseed_repack.specs.ByStretches.{AreReported, AreReportsOf, IsRestretchingAmong, ReportsEach, WereStretched}
 use Rattle.mseed_repack.specs.ByStretches.{also, left_out_of, silent, worse_of}
 use Rattle.mseed_repack.specs.ReadBack.{IsReadOf}
 use Rattle.mseed_repack.specs.Repack.{Channel, IsRepackingAmong, IsUnread, IsWhole}
@@ -34,19 +32,17 @@ use Rattle.mseed_repack.specs.private.Places.{ArePlaces}
 use Rattle.mseed_repack.specs.private.Restretching.{AreAsked, IsPackedIfLeft, IsRestretchingIfLeft}
 use Rattle.mseed_repack.specs.private.Restretching.{IsSelectedAs, ReportsAfter, ReportsUnlessLeft}
 use Rattle.mseed_repack.specs.declared.fault.RepackFault.{RepackFault}
-use Rattle.mseed_repack.specs.declared.fault.RepackFault.TheVariants.{Stream, Broken, Misfit, Write, Memory}
+use Rattle.mseed_repack.specs.declared.fault.RepackFault.TheVariants.{Stream, Write, Memory}
 use Rattle.mseed_repack.specs.declared.refusing.LeftOut.{LeftOut}
-use Rattle.mseed_repack.specs.declared.refusing.LeftOut.TheVariants.{Nothing, Broken as LeftBroken}
-use Rattle.mseed_repack.specs.declared.refusing.LeftOut.TheVariants.{Misfit as LeftMisfit}
+use Rattle.mseed_repack.specs.declared.refusing.LeftOut.TheVariants.{Nothing}
 use Rattle.mseed_repack.specs.declared.packability.Packability.{Packability}
 use Rattle.mseed_repack.specs.declared.packability.Packability.TheVariants.{Fit, Broken as BrokenChannel}
-use Rattle.mseed_repack.specs.declared.packability.Packability.TheVariants.{Misfit as MisfitChannel}
 use Rattle.mseed_repack.specs.declared.stretching.Cutting.{Cutting}
 use Rattle.std.proofs.ByRecursion.{all_kept_by}
 use Rattle.mseed_repack.proofs.OneRepacking.{never_unread}
 use Rattle.mseed_repack.proofs.InPlaces.{views_asked}
 use Rattle.mseed_repack.proofs.Packabilities.{tells_one}
-use Rattle.mseed_repack.proofs.Wholes.{all_of, whole_read}
+use Rattle.mseed_repack.proofs.Wholes.{all_of, whole_read, all_records}
 
 -- the views of the records that are kept
 pub kept_views : (p : View → Bool) (rs : List RecordView)
@@ -54,23 +50,10 @@ pub kept_views : (p : View → Bool) (rs : List RecordView)
 kept_views p [] = refl
 kept_views p (r ∷ rs) = grind (arith, kept_views p rs)
 
--- how many are counted
-pub counted_views : (p : View → Bool) (rs : List RecordView)
-    → count_by (λ (r : RecordView). p (view_of r)) rs ≡ count_by p (map view_of rs)
-counted_views p rs =
-    let test : RecordView → Bool = λ r. p (view_of r) in
-    sym (length-filter test rs) ∙ sym (length-map (filter test rs) view_of)
-    ∙ ap (λ (vs : List View). length vs) (kept_views p rs) ∙ length-filter p (map view_of rs)
-
-records_kept : (p : View → Bool) (vs : List View) → AllByRecursion IsRecord (bytes_in vs)
-    → AllByRecursion IsRecord (bytes_in (filter p vs))
-records_kept p [] h = tt
-records_kept p (v ∷ vs) h = grind (arith, records_kept p vs h.1)
-
 -- records that are kept of an archive are one themselves
 pub whole_kept : (s : Selection) (h : BytesRead) (views : List View) → IsWhole h views
     → IsWhole (read_of (selected_bytes s views)) (filter (asks_for s) views)
-whole_kept s h views h' = grind (arith, append-nil, records_kept, all_kept_by, length-filter, count_by-le-length)
+whole_kept s h views h' = grind (arith, append-nil, all_records, all_kept_by, length-filter, count_by-le-length)
 
 -- what was read is a whole archive, of whose records these are asked for
 pub are_asked : (s : Selection) (rs kept : List RecordView) (count : ℕ) {h : BytesRead} {bytes : List ℕ}
@@ -114,12 +97,10 @@ some_left left h = grind (arith)
 
 pub lines_none : (encoding : Encoding) (cs : List Channel) (ss : List Packability) (lines : List (List ℕ))
     → left_out_of ss ≡ Nothing → AreReportsOf encoding cs ss lines → lines ≡ []
-lines_none encoding [] ss lines e are = are
-lines_none encoding (c ∷ cs) [] lines e are = are
 lines_none encoding (c ∷ cs) (Fit ∷ ss) lines e (own, (rest, (joined, none, others))) =
     joined ∙ ap (λ (ls : List (List ℕ)). ls ++ rest) none ∙ lines_none encoding cs ss rest e others
-lines_none encoding (c ∷ cs) (BrokenChannel ∷ ss) lines e are = absurd (some_left (left_out_of ss) e)
-lines_none encoding (c ∷ cs) (MisfitChannel number fault ∷ ss) lines e are = cc
+lines_none encoding (c ∷ cs) (s ∷ ss) lines e are = grind (arith, some_left)
+lines_none encoding cs ss lines e are = are
 
 module _ (s : Selection) (o : Options) (h : BytesRead) (views : List View) (whole : IsWhole h views)
     (old new : BytesWritten) where
@@ -143,10 +124,8 @@ module _ (s : Selection) (o : Options) (h : BytesRead) (views : List View) (whol
       → IsSelectedRepacking s o result h old new first last
   repacked_asked (Ok u) first last is told = record { views = views; whole = whole; is_so = (is, told) }
   repacked_asked (Err (Stream fault)) first last is told = never fault is.0 is.1
-  repacked_asked (Err (Broken key found)) first last is told = grind (arith)
-  repacked_asked (Err (Misfit key number fault)) first last is told = grind (arith)
   repacked_asked (Err Write) first last is told = record { views = views; whole = whole; is_so = (is, told) }
-  repacked_asked (Err Memory) first last is told = (is, told)
+  repacked_asked result first last is told = grind (arith)
 
   -- of which none is left out
   told_after : (result : Result LeftOut RepackFault) (first last : BytesWritten) → IfOk result (λ left. left ≡ Nothing)
@@ -158,14 +137,11 @@ module _ (s : Selection) (o : Options) (h : BytesRead) (views : List View) (whol
       → AreReported o.encoding cs ss left between → ReportsWithoutTime count between last
       → ReportsWithoutTime count left last × AreReported o.encoding cs ss last last
   all_kept left between last cs ss none nothing told =
-      let no_lines = lines_none o.encoding cs ss nothing.lines none nothing.are in (
-        rw (silent_only nothing.lines left between nothing.each no_lines) at told,
-        record {
-          lines = nothing.lines;
-          are = nothing.are;
-          each = subst (λ (ls : List (List ℕ)). ReportsEach ls last last) (sym no_lines) (silent last);
-        },
-      )
+      let no_lines = lines_none o.encoding cs ss nothing.lines none nothing.are in
+      let still = subst (λ (ls : List (List ℕ)). ReportsEach ls last last) (sym no_lines) (silent last) in
+      let reported : AreReported o.encoding cs ss last last =
+      record { lines = nothing.lines; are = nothing.are; each = still } in
+      (rw (silent_only nothing.lines left between nothing.each no_lines) at told, reported)
 
   none_left : (leave : Bool) (first between last : BytesWritten)
       → IsRestretchingAmong place o leave (Ok Nothing) read old new first between
@@ -175,23 +151,13 @@ module _ (s : Selection) (o : Options) (h : BytesRead) (views : List View) (whol
       let cs = came.1.0 in
       let is = came.1.1.1 in
       let kept = is.kept in
-      let both = all_kept first between last cs is.packabilities (sym is.left_is) kept.reported told in (
-        both.0,
-        (
-          came.0,
-          (
-            cs,
-            (
-              came.1.1.0,
-              record {
-                packabilities = is.packabilities;
-                kept = record { are = kept.are; whole = kept.whole; reported = both.1; wrote = kept.wrote };
-                left_is = is.left_is;
-              },
-            ),
-          ),
-        ),
-      )
+      let both = all_kept first between last cs is.packabilities (sym is.left_is) kept.reported told in
+      let were : WereStretched o leave came.0 cs Nothing old new last last = record {
+        packabilities = is.packabilities;
+        kept = record { are = kept.are; whole = kept.whole; reported = both.1; wrote = kept.wrote };
+        left_is = is.left_is;
+      } in
+      (both.0, (came.0, (cs, (came.1.1.0, were))))
 
   -- by stretches
   restretched_asked : (leave : Bool) (result : Result LeftOut RepackFault) (first between last : BytesWritten)
@@ -200,13 +166,9 @@ module _ (s : Selection) (o : Options) (h : BytesRead) (views : List View) (whol
   restretched_asked leave (Ok Nothing) first between last is told =
       let all = none_left leave first between last (rw is.1.0 at is.1.1) told in
       record { views = views; whole = whole; is_so = (last, (all.0, all.1)) }
-  restretched_asked leave (Ok LeftBroken) first between last is same = grind (arith)
-  restretched_asked leave (Ok LeftMisfit) first between last is same = grind (arith)
   restretched_asked leave (Err (Stream fault)) first between last is told = never fault is.0 is.1
-  restretched_asked leave (Err (Broken key found)) first between last came told = grind (arith)
-  restretched_asked leave (Err (Misfit key number fault)) first between last came told = grind (arith)
-  restretched_asked leave (Err Write) first between last came same = grind (arith)
   restretched_asked leave (Err Memory) first between last is same = (is.0, same ∙ is.1)
+  restretched_asked leave result first between last came told = grind (arith)
 
   -- either way
   pub packed_asked : (cutting : Cutting) (leave : Bool) (result : Result LeftOut RepackFault)

@@ -1,10 +1,11 @@
 -- What is written of a channel goes on where its records do, and shows a gap or an overlap where they leave one.
-use Rattle.std.proofs.Common.{◌≡◌, ◌≢◌, ◌⊎◌, inl, inr, ℕ, suc, ◌+◌, ◌*◌, ◌==◌, ◌^◌, ◌<◌, ◌≤◌, nat_le, true}
+use Rattle.std.proofs.lemmas.Bool.{eq-eqb}
+use Rattle.std.proofs.Common.{◌≡◌, ◌≢◌, ℕ, suc, ◌+◌, ◌*◌, ◌^◌, ◌<◌, ◌≤◌, nat_le}
 use Rattle.std.proofs.Common.{false, List, []}
 use Rattle.std.proofs.Common.{◌∷◌, ◌++◌, length, refl, sym, ap, subst, ◌∙◌, arith, ℤ, pos, negsuc}
 use Rattle.std.proofs.Common.{neg_ℤ, unsigned_abs}
 use Rattle.std.proofs.Common.{◌/◌, ◌+ℤ◌, ◌*ℤ◌, ◌-ℤ◌, IsTrue}
-use Rattle.std.proofs.Common.{Option, Some, append-nil, append_assoc, ⊎_elim}
+use Rattle.std.proofs.Common.{Option, Some, append-nil, append_assoc}
 use Rattle.std.specs.List.{AllByRecursion, concat}
 use Rattle.std.proofs.lemmas.Bool.Decides.{nat_tests}
 use Rattle.std.proofs.lemmas.Int.{ints}
@@ -13,7 +14,7 @@ use Rattle.std.proofs.ByRecursion.{All-append}
 use Rattle.std.proofs.lemmas.Option.{same_Some}
 use Rattle.mseed_time.specs.declared.outcome.Join.{Join}
 use Rattle.mseed_time.specs.declared.outcome.Join.TheVariants.{Late, Early}
-use Rattle.mseed_time.specs.Join.{Joins, join_by, step_of}
+use Rattle.mseed_time.specs.Join.{join_by, step_of}
 use Rattle.mseed_time.specs.Rate.{Ratio, SameRate}
 use Rattle.mseed_record.specs.declared.leap.Leap.{Leap}
 use Rattle.mseed_record.specs.declared.leap.Leap.TheVariants.{Both}
@@ -25,7 +26,7 @@ use Rattle.mseed_audit.specs.declared.finding.Why.{Why}
 use Rattle.mseed_audit.specs.declared.finding.Why.TheVariants.{Gap, Overlap}
 use Rattle.mseed_audit.specs.Follows.{AllNeighbours, Follows, IsContinuous, IsSound}
 use Rattle.mseed_audit.specs.Judging.{IsFound, after, step_in, why_after, why_by, why_from, why_of}
-use Rattle.mseed_audit.specs.Series.{Trace, IsSeriesOf}
+use Rattle.mseed_audit.specs.Series.{Trace}
 use Rattle.mseed_audit.proofs.Maps.{same_itself}
 use Rattle.mseed_repack.specs.Stretches.{AreStretches, AreStretchesUpTo, samples_of}
 use Rattle.mseed_repack.proofs.Drifts.{close_alike, far_alike, same_rates, signed_misses}
@@ -40,15 +41,12 @@ use Rattle.mseed_pack.proofs.ReadBack.{HaveOneViews}
 use Rattle.mseed_pack.proofs.Viewed.{HeadersReadBack, PackedSpells}
 use Rattle.mseed_repack.specs.Borders.{AreReadAs, IsClose, IsFar, IsFoundAfter, KeepsBorders, LeavesGap, MissesBy}
 use Rattle.mseed_repack.specs.Borders.{Overlaps}
-use Rattle.mseed_repack.specs.Repack.{StretchFits}
-use Rattle.mseed_repack.specs.Restretch.{ArePackedOn, ChannelFits, IsChannelPacked}
-use Rattle.mseed_repack.specs.Restretch.{none as packed_none, more as packed_more}
+use Rattle.mseed_repack.specs.Restretch.{ChannelFits, IsChannelPacked}
 use Rattle.mseed_repack.proofs.Borders.{AreBordering, IsBorder, IsLaid, bordering, joined_samples, miss_at, samples_at}
-use Rattle.mseed_repack.proofs.ChannelReadBack.{IsSoundStretch, each_sound, packed_fits}
-use Rattle.mseed_repack.proofs.Cuts.{one_list}
-use Rattle.mseed_repack.proofs.Each.{AreMade, each_at_back, each_in_leading, each_made, made_push}
+use Rattle.mseed_repack.proofs.ChannelReadBack.{IsPackedStretch, each_packed}
+use Rattle.mseed_pack.proofs.Called.{OneSeries}
+use Rattle.mseed_repack.proofs.Each.{AreMade, each_at_back, each_in_leading, each_made, nothing_there}
 use Rattle.mseed_repack.proofs.Misses.{half_of}
-use Rattle.mseed_repack.proofs.Stretched.{fits_on}
 
 -- those of records of one key are of that key
 of_key_at : (key : List ℕ) (s : Trace) (first : ℕ) (vs : List View) (samples : List ℤ) → s.codes ≡ key
@@ -69,39 +67,24 @@ each_of_key key vs (s ∷ ss) ws (left, (first, cut)) keys (own, (rest, (parts, 
     (of_key_at key here.trace 0 own here.trace.samples (here.series.codes ∙ of_first.0) here.at)
     (each_of_key key left ss rest cut (each_at_back P s left all) more))
 
--- Two neighbours that were read, in one stretch or in two.
-
-record IsInside (leading : List View) (b v : View) (back s rest : List View) : Type 0 where
-  behind : List View
-  parts : s ≡ leading ++ b ∷ (v ∷ behind)
-
-record IsBetween (leading : List View) (b v : View) (back s rest : List View) : Type 0 where
-  parts : s ≡ leading ++ b ∷ []
-  parts_after : rest ≡ v ∷ back
-
-record IsLater (leading : List View) (b v : View) (back s rest : List View) : Type 0 where
-  further : List View
-  parts : leading ≡ s ++ further
-  parts_after : rest ≡ further ++ b ∷ (v ∷ back)
-
-where_is : (leading : List View) (b v : View) (back s rest : List View) → leading ++ b ∷ (v ∷ back) ≡ s ++ rest
-    → IsInside leading b v back s rest ⊎ (IsBetween leading b v back s rest ⊎ IsLater leading b v back s rest)
-where_is leading b v back [] rest e = inr (inr (record { further = leading; parts = refl; parts_after = sym e }))
-where_is [] b v back (x ∷ []) rest e = grind (arith)
-where_is [] b v back (x ∷ (y ∷ s)) rest e = grind (arith)
-where_is (w ∷ leading) b v back (x ∷ s) rest e =
+-- Two neighbours that were read stand in one stretch, or in two, or behind it.
+where_is : {So : Type 0} (leading : List View) (b v : View) (back s rest : List View)
+    → leading ++ b ∷ (v ∷ back) ≡ s ++ rest → ((behind : List View) → s ≡ leading ++ b ∷ (v ∷ behind) → So)
+    → (s ≡ leading ++ b ∷ [] → rest ≡ v ∷ back → So)
+    → ((further : List View) → leading ≡ s ++ further → rest ≡ further ++ b ∷ (v ∷ back) → So) → So
+where_is leading b v back [] rest e inside between later = later leading refl (sym e)
+where_is [] b v back (x ∷ []) rest e inside between later =
+    let here : x ∷ [] ≡ b ∷ [] = cc in
+    let there : rest ≡ v ∷ back = cc in
+    between here there
+where_is [] b v back (x ∷ (y ∷ s)) rest e inside between later =
+    let here : x ∷ (y ∷ s) ≡ b ∷ (v ∷ s) = cc in
+    inside s here
+where_is (w ∷ leading) b v back (x ∷ s) rest e inside between later =
     let here : w ≡ x = cc in
     let there : leading ++ b ∷ (v ∷ back) ≡ s ++ rest = cc in
-    ⊎_elim
-    (λ (h : IsInside leading b v back s rest).
-    inl (record { behind = h.behind; parts = λ i. sym here i ∷ h.parts i }))
-    (λ (k : IsBetween leading b v back s rest ⊎ IsLater leading b v back s rest). inr (⊎_elim
-    (λ (h : IsBetween leading b v back s rest).
-    inl (record { parts = λ i. sym here i ∷ h.parts i; parts_after = h.parts_after }))
-    (λ (h : IsLater leading b v back s rest).
-    inr (record { further = h.further; parts = λ i. here i ∷ h.parts i; parts_after = h.parts_after }))
-    k))
-    (where_is leading b v back s rest there)
+    where_is leading b v back s rest there (λ behind split. inside behind (λ i. sym here i ∷ split i))
+    (λ split. between (λ i. sym here i ∷ split i)) (λ further split. later further (λ i. here i ∷ split i))
 
 neighbours_at : {X : Type 0} (R : X → X → Type 0) (leading : List X) (b v : X) (back : List X)
     → AllNeighbours R (leading ++ b ∷ (v ∷ back)) → R b v
@@ -126,9 +109,6 @@ neighbours_joined R (x ∷ (y ∷ xs)) b v ys h at k = (h.0, neighbours_joined R
 -- a gap or an overlap of more than half a period is found
 why_reported : (leap : Leap) (join : Join) → leap ≢ Both → why_by leap join ≡ why_of join
 why_reported leap join h = grind (arith)
-
-tells_same : (m n : ℕ) → m ≡ n → (m == n) ≡ true
-tells_same m n e = grind (arith, nat_tests)
 
 late_by : (rate : Ratio) (z miss drift : ℤ) (left : ℕ) → z ≡ (miss +ℤ drift) +ℤ pos left
     → (3 * (rate.den * 10 ^ 6) + 4 * rate.num) + 4 * down miss ≤ 4 * up miss
@@ -181,7 +161,7 @@ module _ (b v last next : View) (h : IsBorder b v last next) where
   found_by : {rate : Ratio} {miss : ℤ} → MissesBy b v rate miss → (join : Join)
       → join_by (miss_at last next h.rate) h.rate ≡ join → IsFound (Some last) next (why_of join)
   found_by by join e =
-      let is_same = tells_same (h.rate.num * h.comes.rate.den) (h.comes.rate.num * h.rate.den) (rates_at by) in
+      let is_same = eq-eqb (h.rate.num * h.comes.rate.den) (h.comes.rate.num * h.rate.den) (rates_at by) in
       let why : why_after (Some last) next h.comes.rate ≡ why_of join =
       ap (λ (o : Option Ratio). why_from last o next h.comes.rate) h.rate_is
       ∙ rw is_same (ap (λ (j : Join). why_by (leap_of last.bytes) j) e
@@ -247,10 +227,6 @@ overlaps_show = record {
 
 -- Where it is found.
 
-nothing_there : (leading : List View) (b : View) (back : List View) → [] ≡ leading ++ b ∷ back → ⊥
-nothing_there [] b back e = cc
-nothing_there (w ∷ leading) b back e = cc
-
 -- the records of the next stretch, and what was written of it
 record NextLaid (v : View) (ws : List View) : Type 0 where
   further : List View
@@ -274,15 +250,15 @@ own_size : (s own : List View) → IsLaid s own → samples_of own ≡ samples_o
 own_size s own h = grind (arith, samples_at, joined_samples)
 
 -- what is found after a stretch
-later : {why : ℕ → Why} (s own leading back left rest ws : List View) (b v : View) → IsLaid s own → ws ≡ own ++ rest
-    → (h : IsLater leading b v back s left) → IsFoundAfter why (samples_of (h.further ++ b ∷ [])) (start_of v) rest
+later : {why : ℕ → Why} (s own leading further rest ws : List View) (b v : View) → IsLaid s own → ws ≡ own ++ rest
+    → leading ≡ s ++ further → IsFoundAfter why (samples_of (further ++ b ∷ [])) (start_of v) rest
     → IsFoundAfter why (samples_of (leading ++ b ∷ [])) (start_of v) ws
-later s own leading back left rest ws b v here parts h there =
+later s own leading further rest ws b v here parts split there =
     let own_is : samples_of own ≡ samples_of s = own_size s own here in
     let mine = ap samples_of (append_assoc own there.before (there.last ∷ [])) ∙ samples_append own (there.before ++
     there.last ∷ []) in
-    let its = ap (λ (us : List View). samples_of (us ++ b ∷ [])) h.parts ∙ ap samples_of (append_assoc s h.further (b ∷
-    [])) ∙ samples_append s (h.further ++ b ∷ []) in
+    let its = ap (λ (us : List View). samples_of (us ++ b ∷ [])) split ∙ ap samples_of (append_assoc s further (b ∷ []))
+    ∙ samples_append s (further ++ b ∷ []) in
     let place_there = there.place in
     record {
       before = own ++ there.before;
@@ -302,21 +278,21 @@ find : {R : View → View → Type 0} {why : ℕ → Why} → Shows R why → (v
     → vs ≡ leading ++ b ∷ (v ∷ back) → IsFoundAfter why (samples_of (leading ++ b ∷ [])) (start_of v) ws
 find shows vs [] ws leading b v back cut all r e = absurd (nothing_there leading b (v ∷ back) (sym cut ∙ e))
 find {R} {why} shows vs (s ∷ ss) ws leading b v back (left, (first, cut)) (own, (rest, (parts, here, more))) r e =
-    ⊎_elim inside (λ (k : IsBetween leading b v back s left ⊎ IsLater leading b v back s left).
-    ⊎_elim between (λ (h : IsLater leading b v back s left).
-    later s own leading back left rest ws b v here parts h
-    (find shows left ss rest h.further b v back cut more r h.parts_after)) k)
-    (where_is leading b v back s left (sym e ∙ first.parts))
+    where_is leading b v back s left (sym e ∙ first.parts) inside between
+    (λ further split follows. later s own leading further rest ws b v here parts split
+    (find shows left ss rest further b v back cut more r follows))
   where
-    inside : IsInside leading b v back s left → IsFoundAfter why (samples_of (leading ++ b ∷ [])) (start_of v) ws
-    inside h =
-        let all = rw h.parts at (continuous s here.sound here.stretch).follow in
-        absurd (shows.apart b v r (neighbours_at Follows leading b v h.behind all))
+    inside : (behind : List View) → s ≡ leading ++ b ∷ (v ∷ behind)
+        → IsFoundAfter why (samples_of (leading ++ b ∷ [])) (start_of v) ws
+    inside behind split =
+        let all = rw split at (continuous s here.sound here.stretch).follow in
+        absurd (shows.apart b v r (neighbours_at Follows leading b v behind all))
 
-    between : IsBetween leading b v back s left → IsFoundAfter why (samples_of (leading ++ b ∷ [])) (start_of v) ws
-    between h =
-        let next = next_laid left v back ss rest h.parts_after cut more in
-        let at = bordering s leading next.further own next.own b v here next.here h.parts in
+    between : s ≡ leading ++ b ∷ [] → left ≡ v ∷ back
+        → IsFoundAfter why (samples_of (leading ++ b ∷ [])) (start_of v) ws
+    between split follows =
+        let next = next_laid left v back ss rest follows cut more in
+        let at = bordering s leading next.further own next.own b v here next.here split in
         let found = shows.found b v at.last at.next at.border r in
         record {
           before = at.before;
@@ -324,7 +300,7 @@ find {R} {why} shows vs (s ∷ ss) ws leading b v back (left, (first, cut)) (own
           next = at.next;
           behind = at.behind ++ next.rest;
           parts = at_border ws own next.own rest next.rest b v at parts next.parts;
-          place = ap samples_of (sym at.parts) ∙ own_size s own here ∙ ap samples_of h.parts;
+          place = ap samples_of (sym at.parts) ∙ own_size s own here ∙ ap samples_of split;
           start_is = at.border.comes.start;
           microseconds = found.0;
           found = found.1;
@@ -358,37 +334,30 @@ pub record IsOwn (vs : List View) (records : List (List ℕ)) : Type 0 where
   pub borders : KeepsBorders vs views
 
 module _ (headers : HeadersReadBack) (spells : PackedSpells) (single : (v : View) → HasOneReading v)
-    (once : HaveOneViews) (series : (s t : Trace) (vs : List View) → IsSeriesOf s vs → IsSeriesOf t vs → s ≡ t) where
+    (once : HaveOneViews) (series : OneSeries) where
   -- the views of what was written of each stretch
-  all_laid : (o : Options) (ss : List (List View)) (records : List (List ℕ)) → AllByRecursion IsSoundStretch ss
-      → AllByRecursion (StretchFits o) ss → ArePackedOn o ss records
+  all_laid : (ss : List (List View)) (records : List (List ℕ)) → AreMade IsPackedStretch ss records
       → (ws : List View) × (AreMade IsLaid ss ws × (bytes_in ws ≡ records))
-  all_laid o _ _ sound fit packed_none = ([], (refl, refl))
-  all_laid o _ _ sound fit (packed_more ss s records others next packed on here) =
-      let before = all_laid o ss records (each_in_leading IsSoundStretch ss (s ∷ []) sound)
-      (each_in_leading (StretchFits o) ss (s ∷ []) fit) packed in
-      let is = (each_at_back IsSoundStretch ss (s ∷ []) sound).0 in
-      let fits = fits_on o next (length records) s on (each_at_back (StretchFits o) ss (s ∷ []) fit).0 in
-      let traced = packed_fits series is.views (continuous s is.sound is.stretch) fits here in
-      let k = here.packing in
-      let whole : samples_in k.pieces ≡ here.trace.samples = sym (append-nil (samples_in k.pieces)) ∙ k.joined in
-      let lies = laid headers spells here.trace next traced.0 traced.1 0 0 k.pieces whole k.placed k.each in
-      let bytes = lies.bytes ∙ k.bytes in (
-        before.0 ++ lies.views,
-        (
-          made_push IsLaid ss s before.0 lies.views before.1.0 (record {
-            trace = here.trace;
-            is = traced.0;
-            slow = traced.1.slow;
-            some = traced.1.some;
-            series = here.series;
-            at = subst (λ (xs : List ℤ). AreAt here.trace 0 lies.views xs) whole lies.at;
-            stretch = is.stretch;
-            sound = is.sound;
-          }),
-          map-append (λ (v : View). v.bytes) before.0 lies.views ∙ (λ i. before.1.1 i ++ bytes i),
-        ),
-      )
+  all_laid [] records e = ([], (refl, sym e))
+  all_laid (s ∷ ss) records (own, (rest, (parts, here, more))) =
+      let behind = all_laid ss rest more in
+      let trace : Trace = here.packed.trace in
+      let k = here.packed.packing in
+      let whole : samples_in k.pieces ≡ trace.samples = sym (append-nil (samples_in k.pieces)) ∙ k.joined in
+      let lies = laid headers spells trace here.options here.traced here.fits 0 0 k.pieces whole k.placed k.each in
+      let bytes = lies.bytes ∙ k.bytes in
+      let first : IsLaid s lies.views = record {
+        trace = trace;
+        is = here.traced;
+        slow = here.fits.slow;
+        some = here.fits.some;
+        series = here.packed.series;
+        at = subst (λ (xs : List ℤ). AreAt trace 0 lies.views xs) whole lies.at;
+        stretch = here.is.stretch;
+        sound = here.is.sound;
+      } in
+      let all = map-append (λ (v : View). v.bytes) lies.views behind.0 ∙ (λ i. bytes i ++ behind.1.1 i) ∙ sym parts in
+      (lies.views ++ behind.0, ((lies.views, (behind.0, (refl, first, behind.1.0))), all))
 
   own_continuous : (s own : List View) → IsLaid s own → IsContinuous own
   own_continuous s own h = continuous_at single h.trace h.is h.slow h.some own h.at
@@ -431,9 +400,7 @@ module _ (headers : HeadersReadBack) (spells : PackedSpells) (single : (v : View
   pub own_of : (o : Options) (vs : List View) (records : List (List ℕ)) → AllByRecursion IsView vs → ChannelFits o vs
       → IsChannelPacked o vs records → IsOwn vs records
   own_of o vs records views fits packed =
-      let same = one_list vs fits.stretches packed.stretches fits.are packed.are in
-      let all = all_laid o packed.stretches records
-      (each_sound vs packed.stretches [] fits.sound views packed.are) (rw same at fits.fit) packed.packed in
+      let all = all_laid packed.stretches records (each_packed series o vs records views fits packed) in
       record {
         views = all.0;
         are = record {

@@ -139,14 +139,6 @@ record IsPast (s : List View) (first last : View) (rate : Ratio) (t : ℤ) : Typ
   miss : miss_of (start_of last) (count_of last) rate (step_in (leap_of last.bytes)) t
       ≡ drift_of (start_of first) (samples_of s) rate (added_by s) t +ℤ pos left
 
-same_miss : (t a : ℤ) (n m : ℕ) (rate : Ratio) (o q : Option LeapStep) (u : ℤ) → t ≡ a → n ≡ m → o ≡ q
-    → miss_of t n rate o u ≡ miss_of a m rate q u
-same_miss t a n m rate o q u h h2 h3 = grind (arith)
-
-same_drift : (s a : ℤ) (n m : ℕ) (rate : Ratio) (x y : ℤ) (t : ℤ) → s ≡ a → n ≡ m → x ≡ y
-    → drift_of s n rate x t ≡ drift_of a m rate y t
-same_drift s a n m rate x y t h h2 h3 = grind (arith)
-
 past : (s own : List View) (h : IsLaid s own) (first : View) → start_of first ≡ h.trace.start
     → (e : EndsAt h.trace own (length h.trace.samples)) → (t : ℤ) → 0 < (ratio_of h.trace.rate).num
     → IsPast s first e.last (ratio_of h.trace.rate) t
@@ -191,12 +183,10 @@ pub record AreBordering (b v : View) (own others : List View) : Type 0 where
   pub parts_after : others ≡ next ∷ behind
   pub border : IsBorder b v last next
 
-first_of : (s own : List View) (h : IsLaid s own) → AllByRecursion IsSound (h.series.first ∷ h.series.rest)
-    → known_rate h.series.first ≡ Some (ratio_of h.trace.rate)
-first_of s own h sound = rate_as h.series.first h.trace.rate sound.0 h.series.factor h.series.multiplier
-
-sound_first : (s own : List View) (h : IsLaid s own) → AllByRecursion IsSound (h.series.first ∷ h.series.rest)
-sound_first s own h = rw h.series.parts at h.sound
+first_of : (s own : List View) (h : IsLaid s own) → known_rate h.series.first ≡ Some (ratio_of h.trace.rate)
+first_of s own h =
+    let sound = rw h.series.parts at h.sound in
+    rate_as h.series.first h.trace.rate sound.0 h.series.factor h.series.multiplier
 
 comes : (v next : View) (vs behind : List View) → IsLaid (v ∷ vs) (next ∷ behind) → Comes v next
 comes v next vs behind h =
@@ -207,8 +197,7 @@ comes v next vs behind h =
     record {
       rate = ratio_of h.trace.rate;
       rate_is = is.rate;
-      read_is = ap (λ (w : View). known_rate w) (sym same) ∙ first_of (v ∷ vs) (next ∷ behind) h
-          (sound_first (v ∷ vs) (next ∷ behind) h);
+      read_is = ap (λ (w : View). known_rate w) (sym same) ∙ first_of (v ∷ vs) (next ∷ behind) h;
       start = ap start_of here ∙ sym back.start ∙ h.series.start ∙ ap start_of same;
       samples = h.at.0;
       whole = is.whole;
@@ -222,7 +211,7 @@ bordering s before others (w ∷ ws) (next ∷ behind) b v h k e =
     let first : View = h.series.first in
     let rest = h.series.rest in
     let rate : Ratio = ratio_of h.trace.rate in
-    let known : known_rate first ≡ Some rate = first_of s (w ∷ ws) h (sound_first s (w ∷ ws) h) in
+    let known : known_rate first ≡ Some rate = first_of s (w ∷ ws) h in
     let counts = both_some first rate known in
     let whole : 0 + length h.trace.samples ≡ length h.trace.samples = omega arith in
     let ends = rw whole at (ends_at h.trace 0 w ws h.trace.samples h.at) in

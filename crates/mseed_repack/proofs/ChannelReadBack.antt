@@ -1,13 +1,13 @@
 -- What the stretches of a channel were packed into reads back, and is one list of records.
-use Rattle.std.proofs.Common.{◌≡◌, ℕ, ℤ, ◌+◌, ◌<◌, ◌≤◌, List, [], ◌∷◌, ◌++◌, length, refl, sym, ap, subst, ◌∙◌}
-use Rattle.std.proofs.Common.{append_assoc, append-nil, arith, length-append}
+use Rattle.std.proofs.Common.{◌≡◌, ℕ, ℤ, ◌<◌, ◌≤◌, List, [], ◌∷◌, ◌++◌, length, refl, sym, ap, subst, ◌∙◌}
+use Rattle.std.proofs.Common.{arith}
 use Rattle.std.proofs.Math.Bridge.{le_prop}
 use Rattle.std.specs.List.{AllByRecursion, concat}
 use Rattle.std.proofs.lemmas.List.{same_from_push}
 use Rattle.mseed_record.specs.View.{View, IsView}
 use Rattle.mseed_stream.specs.Device.{BytesRead}
 use Rattle.mseed_audit.specs.Follows.{IsContinuous, IsSound}
-use Rattle.mseed_audit.specs.Series.{Trace, AreJoined, IsSeriesOf, none, one}
+use Rattle.mseed_audit.specs.Series.{Trace, AreJoined, none}
 use Rattle.mseed_audit.proofs.Following.{views_are}
 use Rattle.mseed_repack.specs.Stretches.{AreStretchesUpTo, IsStretch}
 use Rattle.mseed_pack.specs.Fitting.{Fits}
@@ -19,14 +19,15 @@ use Rattle.mseed_pack.specs.declared.options.Options.{Options}
 use Rattle.mseed_pack.proofs.Traced.{is_trace, kept_views}
 use Rattle.mseed_repack.specs.ByStretches.{ArePackabilities, AreStretched, EachRestretching, WroteFitting, kept_of}
 use Rattle.mseed_repack.specs.declared.packability.Packability.{Packability}
-use Rattle.mseed_repack.specs.declared.packability.Packability.TheVariants.{Fit, Broken, Misfit}
 use Rattle.mseed_repack.specs.Repack.{Channel, IsArchiveOf, IsStretchPacked, StretchFits, records_in}
 use Rattle.mseed_repack.specs.Restretch.{ArePackedOn, ChannelFits, IsChannelPacked, IsChannelText, IsNumberedOn}
 use Rattle.mseed_repack.specs.Restretch.{none as packed_none, more as packed_more}
 use Rattle.mseed_repack.specs.StretchesReadBack.{AreChannelsReadBack, AreReadBack, IsChannelReadBack}
-use Rattle.mseed_repack.specs.StretchesReadBack.{IsStretchReadBack, IsStretchedBack, IsTextReadBack, KeepsTime}
+use Rattle.mseed_repack.specs.StretchesReadBack.{IsStretchedBack, IsTextReadBack, KeepsTime}
 use Rattle.mseed_repack.specs.StretchesReadBack.{read_none, read_more}
-use Rattle.mseed_repack.proofs.Each.{each_at_back, each_in_leading}
+use Rattle.mseed_repack.proofs.Each.{AreMade, each_at_back, each_in_leading, made_push, nothing_there}
+use Rattle.mseed_pack.proofs.Called.{OneSeries}
+use Rattle.mseed_repack.proofs.ReadChannels.{joined_append}
 use Rattle.mseed_repack.proofs.Cuts.{one_list}
 use Rattle.mseed_repack.proofs.Joining.{continuous}
 use Rattle.mseed_repack.proofs.Stretched.{fits_on}
@@ -53,7 +54,7 @@ keeps_time : (s : List View) → IsStretch s → KeepsTime s
 keeps_time s h = grind (arith, stay_near)
 
 -- a stretch that fits, and was packed, fits by the series that was packed, which is one
-pub packed_fits : ((s t : Trace) (vs : List View) → IsSeriesOf s vs → IsSeriesOf t vs → s ≡ t)
+pub packed_fits : OneSeries
     → {o : Options} {s : List View} {records : List (List ℕ)} → AllByRecursion IsView s → IsContinuous s
     → StretchFits o s → (packed : IsStretchPacked o s records) → IsTrace packed.trace × Fits packed.trace o
 packed_fits series {o} {s} {records} views continuous fits packed =
@@ -61,39 +62,38 @@ packed_fits series {o} {s} {records} views continuous fits packed =
     let fit : Fits packed.trace o = rw same at fits.fits in
     (is_trace packed.trace o s records views continuous packed.series fit packed.packing, fit)
 
--- stretches after others
-read_append : (ss ts : List (List View)) (rs qs : List (List ℕ)) (xs ys : List ℤ) → AreReadBack ss rs xs
-    → AreReadBack ts qs ys → AreReadBack (ss ++ ts) (rs ++ qs) (xs ++ ys)
-read_append _ ts _ qs _ ys read_none back = back
-read_append _ ts _ qs _ ys (read_more s ss trace records rest samples first behind) back =
-    subst (λ (rs : List (List ℕ)). AreReadBack (s ∷ (ss ++ ts)) rs ((trace.samples ++ samples) ++ ys))
-    (sym (append_assoc records rest qs))
-    (rw (append_assoc trace.samples samples ys) (read_more s (ss ++ ts) trace records (rest ++ qs) (samples ++ ys) first
-    (read_append ss ts rest qs samples ys behind back)))
-
-read_one : (s : List View) (trace : Trace) (records : List (List ℕ)) → IsStretchReadBack s trace records
-    → AreReadBack (s ∷ []) records trace.samples
-read_one s trace records first =
-    rw (append-nil records) at (rw (append-nil trace.samples) at (read_more s [] trace records [] [] first read_none))
-
--- all of them do
-record AreAllRead (ss : List (List View)) (records : List (List ℕ)) : Type 0 where
-  samples : List ℤ
-  read : AreReadBack ss records samples
-
--- the samples are those of the records
-joined_append : (vs ws : List View) (xs ys : List ℤ) → AreJoined vs xs → AreJoined ws ys
-    → AreJoined (vs ++ ws) (xs ++ ys)
-joined_append _ ws _ ys none back = back
-joined_append _ ws _ ys (one v vs samples rest whole behind) back =
-    subst (λ (zs : List ℤ). AreJoined (v ∷ (vs ++ ws)) zs) (sym (append_assoc samples rest ys))
-    (one v (vs ++ ws) samples (rest ++ ys) whole (joined_append vs ws rest ys behind back))
-
 all_joined : (vs : List View) (ss : List (List View)) (records : List (List ℕ)) (samples : List ℤ)
     → AreReadBack ss records samples → AreStretchesUpTo vs ss [] → AreJoined vs samples
 all_joined vs _ _ _ read_none cut = subst (λ (us : List View). AreJoined us []) (sym cut) none
 all_joined vs _ _ _ (read_more s ss trace records rest samples first behind) (left, (stretch, cut)) =
     grind (arith, joined_append, all_joined left ss rest samples behind cut)
+
+-- how a stretch was packed into its records
+pub record IsPackedStretch (s : List View) (records : List (List ℕ)) : Type 0 where
+  pub is : IsSoundStretch s
+  pub options : Options
+  pub packed : IsStretchPacked options s records
+  pub traced : IsTrace packed.trace
+  pub fits : Fits packed.trace options
+
+-- each stretch of a channel that fits was
+pub each_packed : OneSeries → (o : Options) (vs : List View) (records : List (List ℕ)) → AllByRecursion IsView vs
+    → ChannelFits o vs → (packed : IsChannelPacked o vs records) → AreMade IsPackedStretch packed.stretches records
+each_packed series o vs records views fits packed =
+    let same = one_list vs fits.stretches packed.stretches fits.are packed.are in
+    by _ _ (each_sound vs packed.stretches [] fits.sound views packed.are) (rw same at fits.fit) packed.packed
+  where
+    by : (ss : List (List View)) (rs : List (List ℕ)) → AllByRecursion IsSoundStretch ss
+        → AllByRecursion (StretchFits o) ss → ArePackedOn o ss rs → AreMade IsPackedStretch ss rs
+    by _ _ sound fit packed_none = refl
+    by _ _ sound fit (packed_more ss s rs others next packed on here) =
+        let is = (each_at_back IsSoundStretch ss (s ∷ []) sound).0 in
+        let can = fits_on o next (length rs) s on (each_at_back (StretchFits o) ss (s ∷ []) fit).0 in
+        let traced = packed_fits series is.views (continuous s is.sound is.stretch) can here in
+        made_push IsPackedStretch ss s rs others
+        (by ss rs (each_in_leading IsSoundStretch ss (s ∷ []) sound) (each_in_leading (StretchFits o) ss (s ∷ []) fit)
+        packed)
+        (record { is = is; options = next; packed = here; traced = traced.0; fits = traced.1 })
 
 -- A channel is packed by its stretches in one way.
 
@@ -120,20 +120,14 @@ one_next o a b n on other =
     made _ _ _ _ _ _ _ _ _ _ _ _ (on.exponent_is ∙ sym other.exponent_is) (on.encoding_is ∙ sym other.encoding_is)
     (on.sequence_is ∙ sym other.sequence_is)
 
-pub ends_apart : {X : Type 0} (xs : List X) (x : X) → [] ≡ xs ++ x ∷ [] → ⊥
-ends_apart {X} xs x e =
-    let size : 0 ≡ length (xs ++ x ∷ []) = ap (λ (ys : List X). length ys) e in
-    let long : length (xs ++ x ∷ []) ≡ length xs + 1 = length-append xs (x ∷ []) in
-    omega (arith, size, long)
-
-module _ (series : (s t : Trace) (vs : List View) → IsSeriesOf s vs → IsSeriesOf t vs → s ≡ t)
+module _ (series : OneSeries)
     (packing : (s : Trace) (o : Options) (records others : List (List ℕ)) → IsPacking s o records
     → IsPacking s o others → records ≡ others) where
   one_on : (o : Options) (ss ts : List (List View)) (rs qs : List (List ℕ)) → ArePackedOn o ss rs
       → ArePackedOn o ts qs → ss ≡ ts → rs ≡ qs
   one_on o _ _ _ _ packed_none packed_none e = refl
-  one_on o _ _ _ _ packed_none (packed_more ts t qs own other q on_other there) e = absurd (ends_apart ts t e)
-  one_on o _ _ _ _ (packed_more ss s rs others next p on here) packed_none e = absurd (ends_apart ss s (sym e))
+  one_on o _ _ _ _ packed_none (packed_more ts t qs own other q on_other there) e = absurd (nothing_there ts t [] e)
+  one_on o _ _ _ _ (packed_more ss s rs others next p on here) packed_none e = absurd (nothing_there ss s [] (sym e))
   one_on o _ _ _ _ (packed_more ss s rs others next p on here) (packed_more ts t qs own other q on_other there) e =
       let parts = same_from_push ss ts s t e in
       let before : rs ≡ qs = one_on o ss ts rs qs p q parts.0 in
@@ -160,11 +154,8 @@ module _ (series : (s t : Trace) (vs : List View) → IsSeriesOf s vs → IsSeri
 pub kept_fit : (o : Options) (views : List View) (cs : List Channel) (ss : List Packability)
     → ArePackabilities o views cs ss
     → AllByRecursion (λ (c : Channel). ChannelFits o (records_in views c.0)) (kept_of cs ss)
-kept_fit o views [] ss all = tt
-kept_fit o views (c ∷ cs) [] all = tt
-kept_fit o views (c ∷ cs) (Fit ∷ ss) all = (all.0, kept_fit o views cs ss all.1)
-kept_fit o views (c ∷ cs) (Broken ∷ ss) all = kept_fit o views cs ss all.1
-kept_fit o views (c ∷ cs) (Misfit n f ∷ ss) all = kept_fit o views cs ss all.1
+kept_fit o views (c ∷ cs) (s ∷ ss) all = grind (arith, kept_fit o views cs ss all.1)
+kept_fit o views cs ss all = tt
 
 -- what follows for a text of channels that fit is so of whatever is written of an archive
 pub each_restretching : (P : List View → List Channel → List ℕ → Type 0)
@@ -198,38 +189,31 @@ each_restretching P follows place o leave left h old new reported_old reported_n
 module _
     (reads : (s : Trace) (o : Options) (records : List (List ℕ)) → IsTrace s → Fits s o → IsPacking s o records
     → ReadsAs s records)
-    (series : (s t : Trace) (vs : List View) → IsSeriesOf s vs → IsSeriesOf t vs → s ≡ t) where
-  all_read : (o : Options) (ss : List (List View)) (records : List (List ℕ)) → AllByRecursion IsSoundStretch ss
-      → AllByRecursion (StretchFits o) ss → ArePackedOn o ss records → AreAllRead ss records
-  all_read o _ _ sound fit packed_none = record { samples = []; read = read_none }
-  all_read o _ _ sound fit (packed_more ss s records others next packed on here) =
-      let before = all_read o ss records (each_in_leading IsSoundStretch ss (s ∷ []) sound)
-      (each_in_leading (StretchFits o) ss (s ∷ []) fit) packed in
-      let is = (each_at_back IsSoundStretch ss (s ∷ []) sound).0 in
-      let fits = fits_on o next (length records) s on (each_at_back (StretchFits o) ss (s ∷ []) fit).0 in
-      let traced = packed_fits series is.views (continuous s is.sound is.stretch) fits here in
-      record {
-        samples = before.samples ++ here.trace.samples;
-        read = read_append ss (s ∷ []) records others before.samples here.trace.samples before.read
-            (read_one s here.trace others (record {
-              series = here.series;
-              reads = reads here.trace next others traced.0 traced.1 here.packing;
-              keeps = keeps_time s is.stretch;
-            }));
-      }
+    (series : OneSeries) where
+  all_read : (ss : List (List View)) (records : List (List ℕ)) → AreMade IsPackedStretch ss records
+      → (samples : List ℤ) × AreReadBack ss records samples
+  all_read [] records e = ([], rw e read_none)
+  all_read (s ∷ ss) records (own, (rest, (parts, here, more))) =
+      let behind = all_read ss rest more in
+      let trace : Trace = here.packed.trace in (
+        trace.samples ++ behind.0,
+        rw parts (read_more s ss trace own rest behind.0 (record {
+          series = here.packed.series;
+          reads = reads trace here.options own here.traced here.fits here.packed.packing;
+          keeps = keeps_time s here.is.stretch;
+        }) behind.1),
+      )
 
   pub reads_back : (o : Options) (vs : List View) (records : List (List ℕ)) → AllByRecursion IsView vs
       → ChannelFits o vs → IsChannelPacked o vs records → IsChannelReadBack vs records
   reads_back o vs records views fits packed =
-      let same = one_list vs fits.stretches packed.stretches fits.are packed.are in
-      let all = all_read o packed.stretches records
-      (each_sound vs packed.stretches [] fits.sound views packed.are) (rw same at fits.fit) packed.packed in
+      let all = all_read packed.stretches records (each_packed series o vs records views fits packed) in
       record {
         stretches = packed.stretches;
         are = packed.are;
-        samples = all.samples;
-        read = all.read;
-        joined = all_joined vs packed.stretches records all.samples all.read packed.are;
+        samples = all.0;
+        read = all.1;
+        joined = all_joined vs packed.stretches records all.0 all.1 packed.are;
       }
 
   pub stretched_back : EachRestretching IsStretchedBack

@@ -55,31 +55,21 @@ pub half_alike : (x : ℤ) (num den k other c : ℕ) → 0 < den → k * den ≡
     → 2 * unsigned_abs (x *ℤ pos num -ℤ pos (c * den * 10 ^ 6)) ≤ den * 10 ^ 6
     → 2 * unsigned_abs (x *ℤ pos k -ℤ pos (c * other * 10 ^ 6)) ≤ other * 10 ^ 6
 half_alike x num den k other c some e h =
-    let same = misses x num den k other c e in
-    let most = mul-le-mul_right other h in
-    let less : (2 * unsigned_abs (x *ℤ pos k -ℤ pos (c * other * 10 ^ 6))) * den ≤ (other * 10 ^ 6) * den = omega arith
-    in
-    le_of_mul-le-mul_right less some
+    le_of_mul-le-mul_right (omega (arith, misses x num den k other c e, mul-le-mul_right other h)) some
 
 -- one that is within a quarter of a period, less a microsecond
 pub close_alike : (x : ℤ) (num den k other c : ℕ) → 0 < other → k * den ≡ num * other
     → 4 * (unsigned_abs (x *ℤ pos k -ℤ pos (c * other * 10 ^ 6)) + k) ≤ other * 10 ^ 6
     → 4 * (unsigned_abs (x *ℤ pos num -ℤ pos (c * den * 10 ^ 6)) + num) ≤ den * 10 ^ 6
 close_alike x num den k other c some e h =
-    let same = misses x num den k other c e in
-    let most = mul-le-mul_right den h in
-    let less : (4 * (unsigned_abs (x *ℤ pos num -ℤ pos (c * den * 10 ^ 6)) + num)) * other ≤ (den * 10 ^ 6) * other =
-    omega arith in
-    le_of_mul-le-mul_right less some
+    le_of_mul-le-mul_right (omega (arith, e, misses x num den k other c e, mul-le-mul_right den h)) some
 
 -- and one that is three quarters of a period and a microsecond, or more, as much above 0 as these are above those
 pub far_alike : (p q r s num den k other : ℕ) → 0 < other → k * den ≡ num * other
     → p * den + s * other ≡ r * other + q * den → (3 * (other * 10 ^ 6) + 4 * k) + 4 * q ≤ 4 * p
     → (3 * (den * 10 ^ 6) + 4 * num) + 4 * s ≤ 4 * r
 far_alike p q r s num den k other some e f h =
-    let most = mul-le-mul_right den h in
-    let less : ((3 * (den * 10 ^ 6) + 4 * num) + 4 * s) * other ≤ (4 * r) * other = omega arith in
-    le_of_mul-le-mul_right less some
+    le_of_mul-le-mul_right (omega (arith, e, f, mul-le-mul_right den h)) some
 
 -- two ratios that are one rate with a third are one rate
 pub same_rates : (num den a b c d : ℕ) → 0 < den → num * b ≡ a * den → num * d ≡ c * den → a * d ≡ c * b

@@ -30,3 +30,8 @@ pub each_made : {X Y : Type 0} (Of : X → List Y → Type 0) (P : Y → Type 0)
 each_made Of P one [] ys e = rw e tt
 each_made Of P one (x ∷ xs) ys (own, (rest, (parts, here, more))) =
     grind (arith, All-append, each_made Of P one xs rest more)
+
+-- a list with a member isn't empty
+pub nothing_there : {X : Type 0} (leading : List X) (x : X) (back : List X) → [] ≡ leading ++ x ∷ back → ⊥
+nothing_there [] x back e = cc
+nothing_there (y ∷ leading) x back e = cc

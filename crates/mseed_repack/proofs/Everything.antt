@@ -20,8 +20,7 @@ use Rattle.mseed_repack.specs.Selected.{ReportsWithoutTime, read_of}
 use Rattle.mseed_repack.specs.declared.fault.RepackFault.{RepackFault}
 use Rattle.mseed_repack.specs.declared.fault.RepackFault.TheVariants.{Stream, Broken, Misfit, Write, Memory}
 use Rattle.mseed_repack.specs.declared.refusing.LeftOut.{LeftOut}
-use Rattle.mseed_repack.specs.declared.refusing.LeftOut.TheVariants.{Nothing, Broken as LeftBroken}
-use Rattle.mseed_repack.specs.declared.refusing.LeftOut.TheVariants.{Misfit as LeftMisfit}
+use Rattle.mseed_repack.specs.declared.refusing.LeftOut.TheVariants.{Nothing}
 use Rattle.mseed_repack.proofs.AskedFor.{silent_only, whole_kept}
 
 -- nothing is reported of how many lack a time
@@ -35,8 +34,7 @@ untold_of_bytes bytes old new told = untold told.0 old new told.1.1
 untold_if_left : (left : LeftOut) (views : List View) (old new : BytesWritten)
     → ReportsIfLeft left (count_by (lacks_time everything) views) old new → new ≡ old
 untold_if_left Nothing views old new same = same
-untold_if_left LeftBroken views old new told = untold views old new told
-untold_if_left LeftMisfit views old new told = untold views old new told
+untold_if_left left views old new told = untold views old new told
 
 all_kept : (views : List View) → filter (asks_for everything) views ≡ views
 all_kept [] = refl

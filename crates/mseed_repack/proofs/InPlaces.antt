@@ -89,10 +89,8 @@ number_from n offset [] (q ∷ leading) back p e = cc
 number_from n offset (v ∷ vs) [] back p e = grind (arith)
 number_from n offset (v ∷ vs) (q ∷ leading) back p e =
     let rest : numbered (n + 1) (added_from (offset + length v.bytes) vs) ≡ leading ++ p ∷ back = cc in
-    number_from (n + 1) (offset + length v.bytes) vs leading back p rest ∙ later n (length leading)
-  where
-    later : (k m : ℕ) → k + 1 + m ≡ k + suc m
-    later k m = omega arith
+    let later = number_from (n + 1) (offset + length v.bytes) vs leading back p rest in
+    omega (arith, later)
 
 pub number_at : (vs : List View) (index : ℕ) (f : Finding) → StandsAt (placed_of vs) index f → f.number ≡ index + 1
 number_at vs index f h = grind (arith, number_from)
@@ -116,13 +114,12 @@ index_among vs ps index f same at =
 pub parts_alike : {X : Type 0} (xs ys cs ds : List X) (x y : X) → length xs ≡ length ys → xs ++ x ∷ cs ≡ ys ++ y ∷ ds
     → (xs ≡ ys) × (x ≡ y)
 parts_alike [] [] cs ds x y size e = (refl, cc)
-parts_alike [] (z ∷ ys) cs ds x y size e = absurd (omega (arith, size))
-parts_alike (w ∷ xs) [] cs ds x y size e = absurd (omega (arith, size))
 parts_alike {X} (w ∷ xs) (z ∷ ys) cs ds x y size e =
     let first : w ≡ z = cc in
     let rest : xs ++ x ∷ cs ≡ ys ++ y ∷ ds = cc in
     let others = parts_alike xs ys cs ds x y (omega (arith, size)) rest in
     (λ i. first i ∷ others.0 i, others.1)
+parts_alike xs ys cs ds x y size e = absurd (omega (arith, size))
 
 -- what stands at one record, for one reason, is one finding
 pub one_at : (ps : List Placed) (index : ℕ) (f g : Finding) → StandsAt ps index f → StandsAt ps index g → f.why ≡ g.why
@@ -223,48 +220,41 @@ moved_either before p q ps qs own kept found false same rest is = grind (arith, 
 moved : (key : List ℕ) (before : Option View) (ps qs : List Placed) (found : List Finding) → views_in ps ≡ views_in qs
     → AreFindings before (placed_in key ps) found → Moved before ps qs (placed_in key qs) found
 moved key before [] [] _ same (none _) = ([], (none before, tt))
-moved key before [] (q ∷ qs) found same is = cc
-moved key before (p ∷ ps) [] found same is = cc
 moved key before (p ∷ ps) (q ∷ qs) found same is =
     let here : p.view ≡ q.view = cc in
     let others : views_in ps ≡ views_in qs = cc in
     subst (λ (v : View). Moved before (p ∷ ps) (q ∷ qs) (cond (is_of_channel key v) (q ∷ placed_in key qs)
     (placed_in key qs)) found) here
     (moved_either _ _ _ _ _ _ _ _ _ here (λ prior later more. moved key prior ps qs later others more) is)
+moved key before ps qs found same is = cc
 
--- the first finding of a channel stands at some record
-pub first_index : (key : List ℕ) (vs : List View) (f : Finding) → IsFirstFinding (placed_in key (placed_of vs)) f
-    → (index : ℕ) × StandsAt (placed_of vs) index f
-first_index key vs f first = by m.0 m.1.1
+-- the first finding of a channel stands at some record, and so does the first one where the records stand elsewhere
+first_both : (key : List ℕ) (vs : List View) (ps : List Placed) (f : Finding) → views_in ps ≡ vs
+    → IsFirstFinding (placed_in key (placed_of vs)) f
+    → (g : Finding) × (IsFirstFinding (placed_in key ps) g × AreFirst (placed_of vs) ps (f ∷ []) (g ∷ []))
+first_both key vs ps f same first = by m.0 m.1.0 m.1.1
   where
-    m : Moved None (placed_of vs) (placed_of vs) (placed_in key (placed_of vs)) (f ∷ first.0)
-    m = moved key None (placed_of vs) (placed_of vs) (f ∷ first.0) refl first.1
+    m : Moved None (placed_of vs) ps (placed_in key ps) (f ∷ first.0)
+    m = moved key None (placed_of vs) ps (f ∷ first.0) (views_placed vs ∙ sym same) first.1
 
-    by : (others : List Finding) → AreFirst (placed_of vs) (placed_of vs) (f ∷ first.0) others
-        → (index : ℕ) × StandsAt (placed_of vs) index f
-    by [] is = absurd is
-    by (g ∷ gs) is = (is.0, is.1.0)
+    by : (others : List Finding) → AreFindings None (placed_in key ps) others
+        → AreFirst (placed_of vs) ps (f ∷ first.0) others
+        → (g : Finding) × (IsFirstFinding (placed_in key ps) g × AreFirst (placed_of vs) ps (f ∷ []) (g ∷ []))
+    by [] are is = absurd is
+    by (g ∷ gs) are is = (g, ((gs, are), is))
 
 pub first_number : (key : List ℕ) (vs : List View) (f : Finding) → IsFirstFinding (placed_in key (placed_of vs)) f
     → 0 < f.number
 first_number key vs f first =
-    let at = first_index key vs f first in
-    omega (arith, number_at vs at.0 f at.1)
+    let at = (first_both key vs (placed_of vs) f (views_placed vs) first).1.1 in
+    omega (arith, number_at vs at.0 f at.1.0)
 
 -- and is the first one wherever the records stand, with the number and the offset that it has there
 pub first_moved : (key : List ℕ) (vs : List View) (ps : List Placed) (f g : Finding) → views_in ps ≡ vs
     → IsFirstFinding (placed_in key (placed_of vs)) f
     → ((index : ℕ) → StandsAt (placed_of vs) index f → StandsAt ps index g) → g.why ≡ f.why
     → IsFirstFinding (placed_in key ps) g
-first_moved key vs ps f g same first stands why = by m.0 m.1.0 m.1.1
-  where
-    m : Moved None (placed_of vs) ps (placed_in key ps) (f ∷ first.0)
-    m = moved key None (placed_of vs) ps (f ∷ first.0) (views_placed vs ∙ sym same) first.1
-
-    by : (others : List Finding) → AreFindings None (placed_in key ps) others
-        → AreFirst (placed_of vs) ps (f ∷ first.0) others → IsFirstFinding (placed_in key ps) g
-    by [] are is = absurd is
-    by (h ∷ hs) are is = (
-      hs,
-      rw (one_at ps is.0 h g is.1.1 (stands is.0 is.1.0) (is.1.2 ∙ sym why)) at are,
-    )
+first_moved key vs ps f g same first stands why =
+    let both = first_both key vs ps f same first in
+    let at = both.1.1 in
+    rw (one_at ps at.0 both.0 g at.1.1 (stands at.0 at.1.0) (at.1.2 ∙ sym why)) at both.1.0

@@ -117,7 +117,7 @@ neighbours rate first rest before b (v ∷ vs) known e stands (go, more) =
           (stands_next rate next.0 first rest before b v e next.1) more,
     )
 
-pub rate_there : (o : Option Ratio) → IsSome o → (r : Ratio) × (o ≡ Some r)
+pub rate_there : {X : Type 0} (o : Option X) → IsSome o → (x : X) × (o ≡ Some x)
 rate_there o h = grind (arith, false≢true)
 
 pub stands_first : (rate : Ratio) (first : View) → known_rate first ≡ Some rate → IsPackability rate (start_of first)

@@ -9,7 +9,7 @@ use Rattle.std.specs.Cmp.Lexicographic.{slice_cmp}
 use Rattle.std.specs.List.Sorted.{IsStrictlySortedBy, IsNonDecreasingBy, IsBinarySearchResult}
 use Rattle.std.specs.declared.cmp.Ordering.{Ordering}
 use Rattle.std.specs.declared.cmp.Ordering.TheVariants.{Less}
-use Rattle.std.proofs.lemmas.Bool.{cases_lt, false≢true, lt-ltb}
+use Rattle.std.proofs.lemmas.Bool.{cases_lt, false≢true, lt-ltb, cases_eq}
 use Rattle.std.proofs.lemmas.Cmp.{nat_list_cmp_total}
 use Rattle.std.proofs.lemmas.List.{drop_more, get_or_default, get_or-set_same, get_or-set_other}
 use Rattle.mseed_record.specs.Header.{key_at}
@@ -152,13 +152,8 @@ pub links_more : (rs : List RecordView) (cs : List Channel) (n number : ℕ) (fi
     → ((c : Channel) → same_key (get_or cs number c).0 (key_at (view_of r).bytes) ≡ true) → n < length rs
     → r ≡ get_or rs n r → AreLinksFrom (n + 1) rs cs firsts nexts
     → AreLinksFrom n rs cs (set firsts number n) (set nexts n (get_or firsts number 0))
-links_more rs cs n number firsts nexts r sorted inside long room some found lt is h = λ k c less. ⊎_elim
-    (λ (below : k < number). other k c less (λ e. omega (arith, below, e)))
-    (λ (not_below : number ≤ k). ⊎_elim
-    (λ (above : number < k). other k c less (λ e. omega (arith, above, e)))
-    (λ (not_above : k ≤ number). own k c less (omega (arith, not_below, not_above)))
-    (cases_lt number k))
-    (cases_lt k number)
+links_more rs cs n number firsts nexts r sorted inside long room some found lt is h =
+    λ k c less. ⊎_elim (own k c less) (other k c less) (cases_eq k number)
   where
     new : List ℕ
     new = set nexts n (get_or firsts number 0)

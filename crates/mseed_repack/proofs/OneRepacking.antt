@@ -1,10 +1,12 @@
 -- Packing an archive anew comes to one thing.
+use Rattle.mseed_pack.proofs.Called.{OneSeries}
+use Rattle.mseed_audit.proofs.OneAudit.{HasOneInput}
 use Rattle.std.specs.Prelude.{⊤}
-use Rattle.std.proofs.Common.{◌≡◌, ◌≢◌, ℕ, ℤ, ◌+◌, ◌≤◌, ◌<◌, ◌^◌, ◌⊎◌, inl, inr, List, [], ◌∷◌, ◌++◌, length}
-use Rattle.std.proofs.Common.{length-append, length-take, take, drop, All, ⊎_elim, Option, Some, None, Result, Ok, Err}
+use Rattle.std.proofs.Common.{◌≡◌, ◌≢◌, ℕ, ℤ, ◌+◌, ◌≤◌, ◌<◌, ◌^◌, ◌⊎◌, inl, inr, List, [], ◌∷◌, ◌++◌, length, min}
+use Rattle.std.proofs.Common.{length-append, length-take, take, drop, All, Option, Some, None, Result, Ok, Err}
 use Rattle.std.proofs.Common.{IsTrue, refl, sym, ap, subst, ◌∙◌, arith, append_assoc, append-nil}
-use Rattle.std.proofs.lemmas.Bool.{cases_lt, false≢true}
-use Rattle.std.proofs.lemmas.List.{append_cancel_left, length-drop, length-map, take-append-drop, take_all}
+use Rattle.std.proofs.lemmas.Bool.{false≢true}
+use Rattle.std.proofs.lemmas.List.{length-drop, length-map, take-append-drop, take_all, drop_all, take_min}
 use Rattle.std.proofs.lemmas.List.Elements.{recursion_from_All}
 use Rattle.std.proofs.Math.Seq.{take-append_seam}
 use Rattle.std.proofs.lemmas.List.Folds.{concat-append}
@@ -27,7 +29,7 @@ use Rattle.mseed_stream.proofs.Records.{one_archive}
 use Rattle.mseed_audit.specs.Channels.{Added, Placed, added_from, channel_in}
 use Rattle.mseed_audit.specs.Follows.{IsContinuous}
 use Rattle.mseed_audit.specs.Scope.{placed_of}
-use Rattle.mseed_audit.specs.Series.{Trace, IsSeriesOf}
+use Rattle.mseed_audit.specs.Series.{Trace}
 use Rattle.mseed_audit.specs.Verdict.{AreFindings, AreVerdicts}
 use Rattle.mseed_audit.specs.declared.finding.Finding.{Finding}
 use Rattle.mseed_audit.specs.declared.verdict.Verdict.{Verdict}
@@ -52,9 +54,7 @@ use Rattle.mseed_repack.proofs.Texts.{AreEither, AreParts, HasOne, either_part, 
 all_views : (h : BytesRead) (views : List View) → IsWhole h views → AreAllViews h views None
 all_views h views w =
     let whole : h.bytes ≡ concat (bytes_in views) = w.archive.joined ∙ append-nil (concat (bytes_in views)) in
-    let behind : drop (length h.bytes) h.bytes ≡ [] = append_cancel_left h.bytes (drop (length h.bytes) h.bytes) []
-    (ap (λ (xs : List ℕ). xs ++ drop (length h.bytes) h.bytes) (sym (take_all (length h.bytes) h.bytes (omega arith)))
-    ∙ (take-append-drop (length h.bytes) h.bytes ∙ sym (append-nil h.bytes))) in
+    let behind = drop_all (length h.bytes) h.bytes (omega arith) in
     record {
       offset = length h.bytes;
       records = record {
@@ -108,13 +108,12 @@ fewer bytes tail rest (x ∷ xs) (r ∷ all) each e a =
 as_many : (bytes tail rest : List ℕ) (xs ys : List (List ℕ)) → AllByRecursion IsRecord xs → AllByRecursion IsRecord ys
     → bytes ≡ concat xs ++ tail → bytes ≡ concat ys ++ rest → length xs ≡ length ys → xs ≡ ys
 as_many bytes tail rest [] [] a b d e same = refl
-as_many bytes tail rest [] (y ∷ ys) a b d e same = absurd (omega (arith, same))
-as_many bytes tail rest (x ∷ xs) [] a b d e same = absurd (omega (arith, same))
 as_many bytes tail rest (x ∷ xs) (y ∷ ys) a b d e same =
     let first = one_first bytes x y (concat xs ++ tail) (concat ys ++ rest) a.0 b.0
     (d ∙ append_assoc x (concat xs) tail) (e ∙ append_assoc y (concat ys) rest) in
     let others = as_many (concat xs ++ tail) tail rest xs ys a.1 b.1 refl first.1 (omega (arith, same)) in
     λ i. first.0 i ∷ others i
+as_many bytes tail rest xs ys a b d e same = absurd (omega (arith, same))
 
 -- and the further one after them is there
 turns_fewer : (bytes rest : List ℕ) (n : ℕ) (records all : List (List ℕ)) → GoesOnAfter bytes n records
@@ -146,8 +145,6 @@ same_split bytes f g (by_end n rs end a d) (by_end m qs other b e) =
     let ends = one_end (drop m bytes) end other (rw both.1 at a.ends) b.ends in
     let one : Some f ≡ Some g = sym d ∙ (ap (λ (k : ℕ). at k end) offset ∙ (ap (at m) ends ∙ e)) in
     cc
-same_split bytes f g (by_end n rs end a d) (by_turns m qs b count e) = grind (arith, turns_fewer)
-same_split bytes f g (by_turns n rs a count d) (by_end m qs other b e) = grind (arith, turns_fewer)
 same_split bytes f g (by_turns n rs a count d) (by_turns m qs b number e) =
     let same : rs ≡ qs = as_many _ _ _ _ _ a.before.each b.before.each (sym (take-append-drop n bytes) ∙ ap (λ (xs :
     List ℕ). xs ++ drop n bytes) a.before.joined) (sym (take-append-drop m bytes) ∙ ap (λ (xs : List ℕ). xs ++ drop m
@@ -155,6 +152,8 @@ same_split bytes f g (by_turns n rs a count d) (by_turns m qs b number e) =
     let offset : n ≡ m = sym (turns_at bytes n rs a)
     ∙ (ap (λ (xs : List (List ℕ)). length (concat xs)) same ∙ turns_at bytes m qs b) in
     d ∙ (ap Turns offset ∙ sym e)
+same_split bytes f g (by_end n rs end a d) (by_turns m qs b count e) = grind (arith, turns_fewer)
+same_split bytes f g (by_turns n rs a count d) (by_end m qs other b e) = grind (arith, turns_fewer)
 
 -- How an input fails that isn't read to its end.
 same_stream : (h : BytesRead) (f g : StreamFault) → f ≢ NoMemory → g ≢ NoMemory → IsStreamFault f nothing_read h
@@ -214,12 +213,7 @@ abbrev Part : Options → List View → Channel → List ℕ → Type 0
 Part o views c own = IsPackedInPart o (records_in views c.0) own
 
 clipped : (xs : List ℕ) (n : ℕ) → (m : ℕ) × ((m ≤ length xs) × (take n xs ≡ take m xs))
-clipped xs n = ⊎_elim (λ (less : n < length xs). (n, (omega (arith, less), refl)))
-    (λ (past : length xs ≤ n). (
-      length xs,
-      (omega arith, take_all n xs past ∙ sym (take_all (length xs) xs (omega arith))),
-    ))
-    (cases_lt n (length xs))
+clipped xs n = (min n (length xs), (omega arith, sym (take_min n xs)))
 
 -- A continuous channel isn't broken, and one that can be packed isn't one that can't.
 
@@ -254,12 +248,11 @@ came o h Memory old new p = refused refl
 
 -- By laws of lower crates.
 module _
-    (input : (h : BytesRead) (views others : List View) (end other : Option StreamFault) → AreAllViews h views end
-    → AreAllViews h others other → (views ≡ others) × (end ≡ other))
+    (input : HasOneInput)
     (list : (added : List Added) (vs ws : List Channel) → AreVerdicts added vs → AreVerdicts added ws → vs ≡ ws)
     (finding : (before : Option View) (ps : List Placed) (a b : List Finding) → AreFindings before ps a
     → AreFindings before ps b → a ≡ b)
-    (series : (s t : Trace) (vs : List View) → IsSeriesOf s vs → IsSeriesOf t vs → s ≡ t)
+    (series : OneSeries)
     (packing : (s : Trace) (o : Options) (records others : List (List ℕ)) → IsPacking s o records
     → IsPacking s o others → records ≡ others)
     (prefix : (s : Trace) (o : Options) (leading records : List (List ℕ)) (left : List ℤ) → PacksUpTo s o leading left
@@ -349,17 +342,13 @@ module _
   one_judged views cs Write (Broken l e) p q = absurd (none_first (Whole views) q.0 (λ no yes. no yes) p.0)
   one_judged views cs (Misfit k m f) Write p q = absurd (none_first (CanBePacked o views) p.1 (cant views f k) q.1)
   one_judged views cs Write (Misfit l n g) p q = absurd (none_first (CanBePacked o views) q.1 (cant views g l) p.1)
-  one_judged views cs (Stream f) g p q = absurd p
-  one_judged views cs Memory g p q = absurd p
-  one_judged views cs f (Stream g) p q = absurd q
-  one_judged views cs f Memory p q = absurd q
+  one_judged views cs f g p q = grind (arith)
 
   one_came : (f g : RepackFault) → Came o h f → Came o h g → (f ≡ Memory) ⊎ ((g ≡ Memory) ⊎ (f ≡ g))
   one_came f g (refused e) b = inl e
-  one_came f g (unread x n u e) (refused d) = inr (inl d)
+  one_came f g a (refused d) = inr (inl d)
   one_came f g (unread x n u e) (unread y m v d) = inr (inr (e ∙ ap Stream (one_unread h x y n m u v) ∙ sym d))
   one_came f g (unread x n u e) (judged ws ds b k) = absurd (never_unread h x ws n u b.whole)
-  one_came f g (judged vs cs a j) (refused d) = inr (inl d)
   one_came f g (judged vs cs a j) (unread y m v d) = absurd (never_unread h y vs m v a.whole)
   one_came f g (judged vs cs a j) (judged ws ds b k) =
       inr (inr (one_judged ws ds f g (same_archive (λ us es. Judged o us es f) a b j) k))

@@ -3,7 +3,7 @@ use Rattle.std.proofs.Common.{◌≡◌, ℕ, zero, suc, ◌+◌, ◌<◌, ◌�
 use Rattle.std.proofs.Common.{refl, sym, ap, subst, ◌∙◌, arith, append_assoc, append-nil, All, Bool, true, false}
 use Rattle.std.specs.List.{AllByRecursion}
 use Rattle.std.proofs.lemmas.List.{get_or_default, take_all}
-use Rattle.std.proofs.lemmas.List.Elements.{All-from_recursion, All-take, recursion_from_All}
+use Rattle.std.proofs.lemmas.List.Elements.{All-from_recursion, recursion_from_All}
 use Rattle.mseed_record.specs.View.{View}
 use Rattle.mseed_stream.specs.Device.{BytesWritten}
 use Rattle.mseed_stream.specs.LineWritten.{WritesLine}
@@ -21,7 +21,7 @@ use Rattle.mseed_repack.specs.ByStretches.{AreReported, AreReportsOf, IsFirstOwn
 use Rattle.mseed_repack.specs.ByStretches.{also, kept_of, silent}
 use Rattle.mseed_repack.specs.private.Planning.{IsPackabilityAs}
 use Rattle.mseed_repack.specs.private.Reading.{channel_in, steps_of}
-use Rattle.mseed_repack.specs.private.Restretching.{AreUnsound, IsFirstRefused, IsNoMisfit, IsUnbroken}
+use Rattle.mseed_repack.specs.private.Restretching.{IsFirstRefused, IsUnbroken}
 use Rattle.mseed_repack.specs.declared.packability.Packability.{Packability}
 use Rattle.mseed_repack.specs.declared.packability.Packability.TheVariants.{Fit, Broken, Misfit}
 use Rattle.mseed_repack.specs.declared.stretching.Cutting.{Cutting}
@@ -33,9 +33,8 @@ use Rattle.mseed_repack.proofs.Repacks.{first_at, says_of}
 pub as_many : (Is : List View → Packability → Type 0) (views : List View) (cs : List Channel) (ss : List Packability)
     → AreFound Is views cs ss → length ss ≡ length cs
 as_many Is views [] [] all = refl
-as_many Is views [] (t ∷ ts) all = absurd all
-as_many Is views (d ∷ ds) [] all = absurd all
 as_many Is views (d ∷ ds) (t ∷ ts) all = ap suc (as_many Is views ds ts all.1)
+as_many Is views cs ss all = absurd all
 
 pub stands_at : (Is : List View → Packability → Type 0) (views : List View) (cs : List Channel) (ss : List Packability)
     (k : ℕ) (c : Channel) (s : Packability) → AreFound Is views cs ss → k < length cs → c ≡ get_or cs k c
@@ -51,9 +50,8 @@ found_take : (Is : List View → Packability → Type 0) (views : List View) (cs
     (k : ℕ) → AreFound Is views cs ss → AreFound Is views (take k cs) (take k ss)
 found_take Is views cs ss zero all = tt
 found_take Is views [] [] (suc k) all = tt
-found_take Is views [] (s ∷ ss) (suc k) all = absurd all
-found_take Is views (c ∷ cs) [] (suc k) all = absurd all
 found_take Is views (c ∷ cs) (s ∷ ss) (suc k) all = (all.0, found_take Is views cs ss k all.1)
+found_take Is views cs ss (suc k) all = absurd all
 
 -- what is so of the records of a channel of which such is found is so of those of each channel
 pub each_found : (Is : List View → Packability → Type 0) (Such : Packability → Type 0) (So : List View → Type 0)
@@ -108,37 +106,37 @@ pub fits_by_packability : (Is : List View → Packability → Type 0) (vs : List
     → Is vs Fit
 fits_by_packability Is vs s is fit = subst (Is vs) fit is
 
--- where no channel is broken, those before the first that doesn't fit do
-pub each_fits : (ss : List Packability) (k : ℕ) → All IsUnbroken ss → All IsNoMisfit (take k ss) → All IsFit (take k ss)
-each_fits ss k un fine = All-from_recursion IsFit (take k ss)
-    (by (take k ss) (recursion_from_All IsUnbroken (take k ss) (All-take IsUnbroken k ss un))
-    (recursion_from_All IsNoMisfit (take k ss) fine))
-  where
-    by : (ts : List Packability) → AllByRecursion IsUnbroken ts → AllByRecursion IsNoMisfit ts → AllByRecursion IsFit ts
-    by [] un fine = tt
-    by (Fit ∷ ts) un fine = (refl, by ts un.1 fine.1)
-    by (Broken ∷ ts) un fine = absurd un.0
-    by (Misfit n f ∷ ts) un fine = absurd fine.0
+-- a channel that isn't broken, and has no stretch that doesn't fit, fits
+pub fits_else : (s : Packability) → IsUnbroken s → ((n : ℕ) (f : PackFault) → s ≡ Misfit n f → ⊥) → IsFit s
+fits_else s h h2 = grind (arith)
 
 -- what is said of each channel that is broken
 unsound_by : (cutting : Cutting) (o : Options) (vs : List View) (s : Packability) → IsPackabilityAs cutting o vs s
     → s ≡ Broken → ¬ (AllByRecursion IsSound vs)
 unsound_by cutting o vs s h h2 = grind (arith)
 
-pub unsound_all : (cutting : Cutting) (o : Options) (views : List View) (cs : List Channel) (ss : List Packability)
-    → AreFound (IsPackabilityAs cutting o) views cs ss → AreUnsound views cs ss
-unsound_all cutting o views [] [] all = tt
-unsound_all cutting o views [] (s ∷ ss) all = absurd all
-unsound_all cutting o views (c ∷ cs) [] all = absurd all
-unsound_all cutting o views (c ∷ cs) (s ∷ ss) all = grind (arith, unsound_by, unsound_all cutting o views cs ss all.1)
-
-pub unsound_at : (views : List View) (cs : List Channel) (ss : List Packability) (k : ℕ) (c : Channel)
-    → AreUnsound views cs ss → k < length cs → length ss ≡ length cs → c ≡ get_or cs k c → get_or ss k Fit ≡ Broken
-    → ¬ (AllByRecursion IsSound (records_in views c.0))
-unsound_at views cs ss k c all lt size at broken =
+pub unsound_at : (cutting : Cutting) (o : Options) (views : List View) (cs : List Channel) (ss : List Packability)
+    (k : ℕ) (c : Channel) → AreFound (IsPackabilityAs cutting o) views cs ss → k < length cs → length ss ≡ length cs
+    → c ≡ get_or cs k c → get_or ss k Fit ≡ Broken → ¬ (AllByRecursion IsSound (records_in views c.0))
+unsound_at cutting o views cs ss k c all lt size at broken =
     let inside : k < length ss = omega (arith, lt, size) in
-    stands_at (λ vs t. t ≡ Broken → ¬ (AllByRecursion IsSound vs)) views cs ss k c Broken all lt at
-    (sym broken ∙ get_or_default ss k Fit Broken inside) refl
+    unsound_by cutting o _ Broken (stands_at (IsPackabilityAs cutting o) views cs ss k c Broken all lt at
+    (sym broken ∙ get_or_default ss k Fit Broken inside)) refl
+
+-- the first channel of which such is found, behind others of which other things are
+first_kind : (Is : List View → Packability → Type 0) (Such : Packability → Type 0) (So At : List View → Type 0)
+    (s : Packability) → ((vs : List View) (t : Packability) → Is vs t → Such t → So vs)
+    → ((vs : List View) → Is vs s → At vs) → (views : List View) (cs : List Channel) (ss : List Packability) (k : ℕ)
+    (c : Channel) → k < length ss → length ss ≡ length cs → c ≡ get_or cs k c → get_or ss k Fit ≡ s
+    → All Such (take k ss) → AreFound Is views cs ss
+    → IsFirst (λ key. So (records_in views key)) (λ key. At (records_in views key)) c.0 cs
+first_kind Is Such So At s so kind views cs ss k c lt size at is before all =
+    let less : k < length cs = omega (arith, lt, size) in
+    let here = kind (records_in views c.0) (stands_at Is views cs ss k c s all less at
+    (sym is ∙ get_or_default ss k Fit s lt)) in
+    rw (sym (ap (λ (d : Channel). d.0) at)) at (first_at (λ key. So (records_in views key))
+    (λ key. At (records_in views key)) cs k c less (first_found Is Such So so views cs ss k all before)
+    (subst (λ (d : Channel). At (records_in views d.0)) at here))
 
 -- the first broken channel is why an archive is refused
 pub refused_broken : (cutting : Cutting) (o : Options) (ps : List Placed) (views : List View) (cs : List Channel)
@@ -146,45 +144,27 @@ pub refused_broken : (cutting : Cutting) (o : Options) (ps : List Placed) (views
     (k : ℕ) (c : Channel) (first : Finding) → k < length ss → length ss ≡ length cs → c ≡ get_or cs k c
     → get_or ss k Fit ≡ Broken → All IsUnbroken (take k ss) → AreFound (IsPackabilityAs cutting o) views cs ss
     → IsFirstOwn (placed_in c.0 ps) first → IsFirstRefused cutting o ps views cs (BrokenChannel c.0 first)
-refused_broken cutting o ps views cs ss k c first lt size at is before all own =
-    let Sound : List ℕ → Type 0 = λ key. AllByRecursion IsSound (records_in views key) in
-    let Unsound : List ℕ → Type 0 = λ key. ¬ (AllByRecursion IsSound (records_in views key)) in
-    let less : k < length cs = omega (arith, lt, size) in
-    let here = unsound_by _ _ _ _ (stands_at (IsPackabilityAs cutting o) views cs ss k c Broken all less at (sym is ∙
-    get_or_default ss k Fit Broken lt)) refl in
-    let is_first : IsFirst Sound Unsound c.0 cs =
-    subst (λ (key : List ℕ). IsFirst Sound Unsound key cs) (sym (ap (λ (d : Channel). d.0) at))
-    (first_at _ _ _ _ _ less (first_found (IsPackabilityAs cutting o) IsUnbroken (AllByRecursion IsSound)
-    (sound_by_packability cutting o) views cs ss k all before) (subst (λ (d : Channel). Unsound d.0) at here)) in
-    (is_first, own)
+refused_broken cutting o ps views cs ss k c first lt size at is before all own = (
+  first_kind (IsPackabilityAs cutting o) IsUnbroken (AllByRecursion IsSound) (λ vs. ¬ (AllByRecursion IsSound vs))
+      Broken (sound_by_packability cutting o) (λ vs broken. unsound_by cutting o vs Broken broken refl) views cs ss k c
+      lt size at is before all,
+  own,
+)
 
 -- or else the first that doesn't fit
 pub refused_misfit : (cutting : Cutting) (o : Options) (ps : List Placed) (views : List View) (cs : List Channel)
     (ss : List Packability) (k n : ℕ) (fault : PackFault) (c : Channel) → k < length ss → length ss ≡ length cs
-    → c ≡ get_or cs k c → get_or ss k Fit ≡ Misfit n fault → All IsUnbroken ss → All IsNoMisfit (take k ss)
+    → c ≡ get_or cs k c → get_or ss k Fit ≡ Misfit n fault → All IsUnbroken ss → All IsFit (take k ss)
     → AreFound (IsPackabilityAs cutting o) views cs ss
     → IsFirstRefused cutting o ps views cs (MisfitStretch c.0 n fault)
-refused_misfit cutting o ps views cs ss k n fault c lt size at is un before all =
-    let Fits : List ℕ → Type 0 = λ key. IsPackabilityAs cutting o (records_in views key) Fit in
-    let Misfits : List ℕ → Type 0 = λ key. IsPackabilityAs cutting o (records_in views key) (Misfit n fault) in
-    let less : k < length cs = omega (arith, lt, size) in
-    let here : IsPackabilityAs cutting o (records_in views c.0) (Misfit n fault) =
-    stands_at (IsPackabilityAs cutting o) views cs ss k c (Misfit n fault) all less at (sym is
-    ∙ get_or_default ss k Fit (Misfit n fault) lt) in (
-      All-from_recursion (λ (d : Channel). AllByRecursion IsSound (records_in views d.0)) cs
-          (each_found (IsPackabilityAs cutting o) IsUnbroken (AllByRecursion IsSound) (sound_by_packability cutting o)
-          views cs ss all (recursion_from_All IsUnbroken ss un)),
-      rw (sym (ap (λ (d : Channel). d.0) at)) at (first_at Fits Misfits cs k c less
-          (first_found (IsPackabilityAs cutting o) IsFit (λ vs. IsPackabilityAs cutting o vs Fit) (fits_by_packability
-          (IsPackabilityAs cutting o))
-          views cs ss k all
-          (each_fits ss k un before))
-          (subst (λ (d : Channel). Misfits d.0) at here)),
-    )
-
--- where none doesn't fit either, each fits
-pub all_fit : (ss : List Packability) → All IsUnbroken ss → All IsNoMisfit ss → All IsFit ss
-all_fit ss h h2 = grind (arith, take_all, each_fits)
+refused_misfit cutting o ps views cs ss k n fault c lt size at is un before all = (
+  All-from_recursion (λ (d : Channel). AllByRecursion IsSound (records_in views d.0)) cs
+      (each_found (IsPackabilityAs cutting o) IsUnbroken (AllByRecursion IsSound) (sound_by_packability cutting o) views
+      cs ss all (recursion_from_All IsUnbroken ss un)),
+  first_kind (IsPackabilityAs cutting o) IsFit (λ vs. IsPackabilityAs cutting o vs Fit)
+      (λ vs. IsPackabilityAs cutting o vs (Misfit n fault)) (Misfit n fault)
+      (fits_by_packability (IsPackabilityAs cutting o)) (λ vs misfit. misfit) views cs ss k c lt size at is before all,
+)
 
 -- what is reported of the channels so far, and of one more
 reports_next : (e : Encoding) (cs : List Channel) (ss : List Packability) (k : ℕ) (c : Channel) (s : Packability)
@@ -237,6 +217,3 @@ all_to_end {X} P xs n past all = subst (λ (ys : List X). All P ys) (take_all n 
 -- a packability that isn't of a kind
 pub unbroken : (s : Packability) → (s ≡ Broken → ⊥) → IsUnbroken s
 unbroken s h = grind (arith)
-
-pub no_misfit : (s : Packability) → ((n : ℕ) (f : PackFault) → s ≡ Misfit n f → ⊥) → IsNoMisfit s
-no_misfit s h = grind (arith)

@@ -1,11 +1,11 @@
 -- A stretch that is cut from the start of records, record by record.
 use Rattle.std.proofs.Common.{◌≡◌, ℕ, ◌+◌, ◌<◌, List, [], ◌∷◌, ◌++◌, length, take, drop, get_or, map, arith}
-use Rattle.std.proofs.Common.{sym, ap, subst, ◌∙◌, append_assoc, append-nil}
+use Rattle.std.proofs.Common.{sym, subst, append_assoc, append-nil}
 use Rattle.std.proofs.Math.Seq.{drop-cons}
-use Rattle.std.proofs.lemmas.List.{map-append, map_more, take-append-drop}
 use Rattle.mseed_record.specs.View.{View}
 use Rattle.mseed_record.specs.Viewing.{view_of}
 use Rattle.mseed_record.specs.declared.view.RecordView.{RecordView}
+use Rattle.mseed_repack.proofs.Runs.{parted, passed_with}
 use Rattle.mseed_repack.specs.Clocks.{IsStretchOf}
 use Rattle.mseed_repack.specs.Stretches.{AllGoOn, EndsBefore, GoesOn, IsFirstStretch, IsStretch}
 use Rattle.mseed_repack.specs.declared.stretch.Stretch.{Stretch}
@@ -30,23 +30,16 @@ pub passed_more : (rs : List RecordView) (n : ℕ) (r : RecordView) (s new : Str
     → r ≡ get_or rs n r → IsPassed rs s n → GoesOn (map view_of (take n rs)) (view_of r)
     → IsStretchOf new (map view_of (take n rs) ++ view_of r ∷ []) → new.records ≡ s.records + 1
     → IsPassed rs new (n + 1)
-passed_more rs n r s new lt is h go kept e =
-    let next : map view_of (take n rs) ++ view_of r ∷ [] ≡ map view_of (take (n + 1) rs) =
-    ap (λ (q : RecordView). map view_of (take n rs) ++ view_of q ∷ []) is ∙ sym (map_more view_of rs n r lt) in
-    record {
-      kept = subst (λ (vs : List View). IsStretchOf new vs) next kept;
-      is = subst (λ (vs : List View). IsStretch vs) next (stretch_on (map view_of (take n rs)) (view_of r) h.is go);
-      records_is = omega (arith, e, h.records_is);
-    }
-
-whole : (rs : List RecordView) (n : ℕ) → map view_of rs ≡ map view_of (take n rs) ++ map view_of (drop n rs)
-whole rs n = ap (λ (qs : List RecordView). map view_of qs) (sym (take-append-drop n rs))
-    ∙ map-append view_of (take n rs) (drop n rs)
+passed_more rs n r s new lt is h go kept e = record {
+  kept = rw (passed_with rs n r lt is) kept;
+  is = rw (passed_with rs n r lt is) (stretch_on (map view_of (take n rs)) (view_of r) h.is go);
+  records_is = omega (arith, e, h.records_is);
+}
 
 cut_at : (rs : List RecordView) (s : Stretch) (n : ℕ) → IsPassed rs s n
     → EndsBefore (map view_of (take n rs)) (map view_of (drop n rs))
     → IsFirstStretch (map view_of rs) (map view_of (take s.records rs)) (map view_of (drop s.records rs))
-cut_at rs s n h ends = rw h.records_is (record { stretch = h.is; parts = whole rs n; ends = ends })
+cut_at rs s n h ends = rw h.records_is (record { stretch = h.is; parts = parted rs n; ends = ends })
 
 -- it ends before a record that doesn't go on
 pub cut_before : (rs : List RecordView) (n : ℕ) (r : RecordView) (s : Stretch) → n < length rs → r ≡ get_or rs n r

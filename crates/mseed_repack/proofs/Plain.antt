@@ -1,4 +1,5 @@
 -- Records whose samples are near one another in whatever order they stand.
+use Rattle.std.proofs.ByRecursion.{All-weaker as each_weaker}
 use Rattle.std.proofs.Common.{ℤ, pos, ◌-ℤ◌, List, [], ◌∷◌, ◌++◌, arith, All}
 use Rattle.std.specs.List.{AllByRecursion}
 use Rattle.std.proofs.lemmas.Int.{ints}
@@ -38,12 +39,11 @@ near_joined vs [] plain joined = tt
 near_joined vs (x ∷ xs) plain joined =
     (zero_near, (joined_from vs (x ∷ xs) plain joined (pos 0) (omega (arith, ints), omega (arith, ints))).1)
 
-each_unpackable : (vs : List View) → AllByRecursion IsPlain vs → AllByRecursion IsUnpackable vs
-each_unpackable [] plain = tt
-each_unpackable (v ∷ vs) plain = (plain.0.unpackable, each_unpackable vs plain.1)
-
 pub unread_plain : (vs : List View) → AllByRecursion IsPlain vs → AreUnread vs
-unread_plain vs h = grind (arith, each_unpackable, near_joined)
+unread_plain vs plain = record {
+  unpackable = each_weaker IsPlain IsUnpackable (λ v is. is.unpackable) vs plain;
+  near = λ xs. near_joined vs xs plain;
+}
 
 -- either Steim holds samples that are near one another
 pub near_held : (e : Encoding) (xs : List ℤ) → IsSteim e → All (IsWithin 32) xs → AreNear xs → AreHeld e xs

@@ -2,7 +2,7 @@
 use Rattle.std.proofs.Common.{◌≡◌, ◌≢◌, ℕ, zero, suc, ◌+◌, ◌-◌, ◌<◌, ◌≤◌, ◌^◌, List, [], ◌∷◌, ◌++◌}
 use Rattle.std.proofs.Common.{length, take, drop, get_or, refl, sym, ap, subst, ◌∙◌, arith, append_assoc, append-nil}
 use Rattle.std.proofs.Common.{length-append}
-use Rattle.std.specs.Prelude.{Result, Ok, Err, IfOk, IfErr}
+use Rattle.std.specs.Prelude.{Option, None, unwrap_or, Result, Ok, Err, IfOk, IfErr}
 use Rattle.std.specs.List.{AllByRecursion, concat}
 use Rattle.std.proofs.lemmas.List.{drop_all, drop_more, same_from_push, take_all}
 use Rattle.std.proofs.lemmas.List.Folds.{concat-append}
@@ -23,7 +23,7 @@ use Rattle.mseed_repack.specs.ByStretches.{AreFound}
 use Rattle.mseed_repack.specs.private.Planning.{AreReady, CanBeWritten, GoesBy, IsCutAs, IsPartAs, IsPartOn}
 use Rattle.mseed_repack.specs.private.Planning.{IsPlanned, IsReadable, IsReady, IsStretchText, IsStretchWritten}
 use Rattle.mseed_repack.specs.private.Planning.{IsTextAs, IsTextOn, IsPackabilityAs, ready_next, ready_none}
-use Rattle.mseed_repack.specs.private.Planning.{stretches_by}
+use Rattle.mseed_repack.specs.private.Planning.{most_of, stretches_by}
 use Rattle.mseed_repack.specs.private.Reading.{steps_of}
 use Rattle.mseed_repack.specs.declared.plan.Plan.{Plan}
 use Rattle.mseed_repack.specs.declared.plan.Way.{Way}
@@ -31,8 +31,8 @@ use Rattle.mseed_repack.specs.declared.packability.Packability.{Packability}
 use Rattle.mseed_repack.specs.declared.packability.Packability.TheVariants.{Fit, Broken, Misfit}
 use Rattle.mseed_repack.specs.declared.stretching.Cutting.{Cutting}
 use Rattle.mseed_repack.specs.declared.stretching.Cutting.TheVariants.{Whole, Stretches}
-use Rattle.mseed_repack.proofs.ChannelReadBack.{ends_apart, one_next}
-use Rattle.mseed_repack.proofs.Each.{each_at_back, each_in_leading}
+use Rattle.mseed_repack.proofs.ChannelReadBack.{one_next}
+use Rattle.mseed_repack.proofs.Each.{each_at_back, each_in_leading, nothing_there}
 use Rattle.mseed_repack.proofs.ReadChannels.{steps_append}
 use Rattle.mseed_repack.proofs.Stretched.{on_more, on_none}
 
@@ -55,13 +55,13 @@ pub written_on : (o : Options) (room next places : ℕ) (ps : List Plan) (vs : L
     → CanBeWritten o room places ps vs → CanBeWritten o next places ps vs
 written_on o room next places [] vs le all = tt
 written_on o room next places (p ∷ ps) vs le all =
-    (roomier next le all.0, written_on o room next places ps (drop p.records vs) le all.1)
+    (roomier next le all.0, written_on o room next places ps (drop (most_of p) vs) le all.1)
 
 -- each stretch can be packed
 fit_by : (o : Options) (room places : ℕ) (ps : List Plan) (vs : List View) → CanBeWritten o room places ps vs
     → AllByRecursion (StretchFits o) (stretches_by ps vs)
 fit_by o room places [] vs all = tt
-fit_by o room places (p ∷ ps) vs all = (all.0.fits, fit_by o room places ps (drop p.records vs) all.1)
+fit_by o room places (p ∷ ps) vs all = (all.0.fits, fit_by o room places ps (drop (most_of p) vs) all.1)
 
 -- The stretches into which a channel is cut.
 
@@ -86,33 +86,33 @@ first_read places n vs h h2 = grind (arith, length-append, steps_append, some_fi
 abbrev pub ArePlannedUpTo : Options → ℕ → ℕ → List Plan → List View → List View → Type 0
 ArePlannedUpTo o room places [] vs left = vs ≡ left
 ArePlannedUpTo o room places (p ∷ ps) vs left =
-    IsFirstStretch vs (take p.records vs) (drop p.records vs) × IsPlanned o room places p.way (take p.records vs)
-    × ArePlannedUpTo o room places ps (drop p.records vs) left
+    IsFirstStretch vs (take (most_of p) vs) (drop (most_of p) vs) × IsPlanned o room places p.way (take (most_of p) vs)
+    × ArePlannedUpTo o room places ps (drop (most_of p) vs) left
 
 -- one more
 pub planned_more : (o : Options) (room next places : ℕ) (ps : List Plan) (p : Plan) (vs left : List View) → room ≤ next
-    → ArePlannedUpTo o room places ps vs left → IsFirstStretch left (take p.records left) (drop p.records left)
-    → IsPlanned o next places p.way (take p.records left)
-    → ArePlannedUpTo o next places (ps ++ p ∷ []) vs (drop p.records left)
+    → ArePlannedUpTo o room places ps vs left → IsFirstStretch left (take (most_of p) left) (drop (most_of p) left)
+    → IsPlanned o next places p.way (take (most_of p) left)
+    → ArePlannedUpTo o next places (ps ++ p ∷ []) vs (drop (most_of p) left)
 planned_more o room next places [] p vs left le e first one = grind (arith)
 planned_more o room next places (q ∷ ps) p vs left le all first one =
-    grind (arith, roomier, planned_more o room next places ps p (drop q.records vs) left le all.2 first one)
+    grind (arith, roomier, planned_more o room next places ps p (drop (most_of q) vs) left le all.2 first one)
 
 planned_cut : (o : Options) (room places : ℕ) (ps : List Plan) (vs left : List View)
     → ArePlannedUpTo o room places ps vs left → AreStretchesUpTo vs (stretches_by ps vs) left
 planned_cut o room places [] vs left e = e
 planned_cut o room places (p ∷ ps) vs left all =
-    grind (arith, planned_cut o room places ps (drop p.records vs) left all.2)
+    grind (arith, planned_cut o room places ps (drop (most_of p) vs) left all.2)
 
 planned_written : (o : Options) (room places : ℕ) (ps : List Plan) (vs left : List View)
     → ArePlannedUpTo o room places ps vs left → CanBeWritten o room places ps vs
 planned_written o room places [] vs left e = tt
 planned_written o room places (p ∷ ps) vs left all =
-    grind (arith, planned_written o room places ps (drop p.records vs) left all.2)
+    grind (arith, planned_written o room places ps (drop (most_of p) vs) left all.2)
 
 as_planned : (ps : List Plan) (vs : List View) → length (stretches_by ps vs) ≡ length ps
 as_planned [] vs = refl
-as_planned (p ∷ ps) vs = ap suc (as_planned ps (drop p.records vs))
+as_planned (p ∷ ps) vs = ap suc (as_planned ps (drop (most_of p) vs))
 
 -- where none is left, the channel fits
 pub channel_fits : (o : Options) (room places : ℕ) (ps : List Plan) (vs : List View) → AllByRecursion IsSound vs
@@ -133,11 +133,12 @@ planned_misfit o room next places further ps vs left s rest n fault h h2 h3 h4 h
 
 -- A channel that isn't cut is one stretch.
 
-whole_is : (p : Plan) (vs : List View) → length vs ≤ 2 ^ 40 → p.records ≡ 2 ^ 64 - 1 → take p.records vs ≡ vs
-whole_is p vs few e = take_all p.records vs (omega (arith, few, e))
+whole_is : (p : Plan) (vs : List View) → length vs ≤ 2 ^ 40 → p.records ≡ None → take (most_of p) vs ≡ vs
+whole_is p vs few e =
+    ap (λ (n : Option ℕ). take (unwrap_or n (2 ^ 64 - 1)) vs) e ∙ take_all (2 ^ 64 - 1) vs (omega (arith, few))
 
 pub whole_fits : (o : Options) (room places : ℕ) (p : Plan) (ps : List Plan) (vs : List View) → IsReadable places vs
-    → p.records ≡ 2 ^ 64 - 1 → ps ≡ p ∷ [] → StretchFits o vs → GoesBy o.encoding room p.way vs
+    → p.records ≡ None → ps ≡ p ∷ [] → StretchFits o vs → GoesBy o.encoding room p.way vs
     → IsReady Whole o room places vs Fit ps
 whole_fits o room places p ps vs h h2 h3 h4 h5 = grind (arith, whole_is)
 
@@ -180,18 +181,18 @@ packed_none o room places ps vs s few can = record {
 
 -- where the next plan is met
 pub packed_next : {o next : Options} {room places : ℕ} {ss : List (List View)} {left : List View}
-    {old new : BytesWritten} (ps : List Plan) (k : ℕ) (p : Plan) (vs : List View) → k < length ps → p ≡ get_or ps k p
-    → vs ≡ left → IsPackedSo o room places ss (drop k ps) left next old new
-    → IsPackedSo o room places ss (p ∷ drop (k + 1) ps) vs next old new
-packed_next ps k p vs h h2 h3 h4 = grind (arith, drop_more)
+    {old new : BytesWritten} (ps : List Plan) (k : ℕ) (p : Plan) (vs : List View) → k < length ps → vs ≡ left
+    → IsPackedSo o room places ss (drop k ps) left next old new
+    → IsPackedSo o room places ss (get_or ps k p ∷ drop (k + 1) ps) vs next old new
+packed_next ps k p vs h h2 h3 = grind (arith, drop_more)
 
 pub packed_more : {o next further : Options} {room places : ℕ} {ss : List (List View)} {p : Plan} {ps : List Plan}
     {vs : List View} {count : ℕ} {first old new : BytesWritten} → IsPackedSo o room places ss (p ∷ ps) vs next first old
-    → Wrote (IsStretchText next (take p.records vs) count) 0 old new → IsNumberedOn next count further
-    → IsPackedSo o room places ss ps (drop p.records vs) further first new
+    → Wrote (IsStretchText next (take (most_of p) vs) count) 0 old new → IsNumberedOn next count further
+    → IsPackedSo o room places ss ps (drop (most_of p) vs) further first new
 packed_more {o = o} {next = next} {further = further} {p = p} {ps = ps} {vs = vs} {count = count} {first = first} h
     wrote on =
-    let s : List View = take p.records vs in
+    let s : List View = take (most_of p) vs in
     let one = wrote.text_is.series in
     let size : length (h.records ++ one.records) ≡ length h.records + length one.records =
     length-append h.records one.records in
@@ -199,7 +200,7 @@ packed_more {o = o} {next = next} {further = further} {p = p} {ps = ps} {vs = vs
     omega (arith, size, wrote.text_is.count_is) in
     record {
       done = h.done ++ s ∷ [];
-      parts = h.parts ∙ sym (append_assoc h.done (s ∷ []) (stretches_by ps (drop p.records vs)));
+      parts = h.parts ∙ sym (append_assoc h.done (s ∷ []) (stretches_by ps (drop (most_of p) vs)));
       can = h.can.1;
       records = h.records ++ one.records;
       packed = more h.done s h.records one.records next h.packed h.next_is one.packed;
@@ -218,13 +219,13 @@ packed_all ps k h h2 = grind (arith, drop_all, append-nil)
 
 pub packed_part : {o next : Options} {room places : ℕ} {ss : List (List View)} {p : Plan} {ps : List Plan}
     {vs : List View} {first old new : BytesWritten} → IsPackedSo o room places ss (p ∷ ps) vs next first old
-    → Wrote (IsPackedInPart next (take p.records vs)) 1 old new → Wrote (IsPartOn o ss) 1 first new
+    → Wrote (IsPackedInPart next (take (most_of p) vs)) 1 old new → Wrote (IsPartOn o ss) 1 first new
 packed_part {next = next} {p = p} {ps = ps} {vs = vs} {first = first} h wrote = record {
   text = concat h.records ++ wrote.text;
   text_is = record {
     before = h.done;
-    stretch = take p.records vs;
-    back = stretches_by ps (drop p.records vs);
+    stretch = take (most_of p) vs;
+    back = stretches_by ps (drop (most_of p) vs);
     parts = h.parts;
     records = h.records;
     packed = h.packed;
@@ -280,7 +281,7 @@ next_upto (b ∷ before) back s vs left (rest, (first, behind)) = grind (arith, 
 
 on_nothing : (o : Options) (ss : List (List View)) (records : List (List ℕ)) → ArePackedOn o ss records → ss ≡ []
     → records ≡ []
-on_nothing o ss records h h2 = grind (arith, ends_apart)
+on_nothing o ss records h h2 = grind (arith, nothing_there)
 
 -- after nothing the options are the same
 on_same : (o next : Options) (records : List (List ℕ)) → records ≡ [] → IsNumberedOn o (length records) next → next ≡ o
@@ -288,7 +289,7 @@ on_same o next records e on = one_next o next o 0 (rw e at on) (on_none o o.numb
 
 on_one : (o : Options) (ss : List (List View)) (s : List View) (records : List (List ℕ)) → ArePackedOn o ss records
     → ss ≡ s ∷ [] → IsStretchPacked o s records
-on_one o _ s _ none e = absurd (ends_apart [] s e)
+on_one o _ s _ none e = absurd (nothing_there [] s [] e)
 on_one o _ s _ (more ss t records others next before on here) e =
     let same = same_from_push ss [] t s e in
     let first = on_nothing o ss records before same.0 in
@@ -297,9 +298,8 @@ on_one o _ s _ (more ss t records others next before on here) e =
 one_part : (before back : List (List View)) (s t : List View) → s ∷ [] ≡ before ++ t ∷ back → (before ≡ []) × (t ≡ s)
 one_part [] back s t e = (refl, ap (λ (ts : List (List View)). get_or ts 0 t) (sym e))
 one_part (b ∷ before) back s t e =
-    let size : 1 ≡ suc (length (before ++ t ∷ back)) = ap (λ (ts : List (List View)). length ts) e in
-    let long = length-append before (t ∷ back) in
-    absurd (omega (arith, size, long))
+    let rest : [] ≡ before ++ t ∷ back = cc in
+    absurd (nothing_there before t back rest)
 
 pub text_as : (cutting : Cutting) (o : Options) (vs : List View) (ss : List (List View)) (text : List ℕ)
     → IsCutAs cutting vs ss → IsTextOn o ss text → IsTextAs cutting o vs text

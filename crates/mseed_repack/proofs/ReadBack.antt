@@ -1,4 +1,5 @@
 -- What was written when an archive was packed anew reads back.
+use Rattle.mseed_repack.proofs.Wholes.{all_records}
 use Rattle.std.specs.Prelude.{⊤}
 use Rattle.std.proofs.Common.{◌≡◌, ◌≢◌, ◌↔◌, ℕ, List, [], ◌∷◌, ◌++◌, length-take, IsTrue}
 use Rattle.std.proofs.Common.{Result}
@@ -13,13 +14,11 @@ use Rattle.std.proofs.lemmas.Bool.{false≢true}
 use Rattle.std.proofs.ByRecursion.{All-weaker}
 use Rattle.std.proofs.lemmas.List.Elements.{All-from_recursion, All-map, recursion_from_All}
 use Rattle.std.proofs.lemmas.List.Folds.{concat-append}
-use Rattle.mseed_record.specs.Record.{IsRecord}
 use Rattle.mseed_record.specs.View.{View, IsView}
 use Rattle.mseed_record.proofs.Called.{record_long}
 use Rattle.mseed_stream.specs.Archive.{HasNoFurther, IsArchive}
 use Rattle.mseed_stream.specs.Device.{BytesRead, BytesWritten}
 use Rattle.mseed_stream.specs.Walk.{bytes_in}
-use Rattle.mseed_stream.proofs.Records.{view_record}
 use Rattle.mseed_audit.specs.Channels.{Placed, added_from, records_of, same_key, views_in}
 use Rattle.mseed_audit.specs.Follows.{IsContinuous}
 use Rattle.mseed_audit.specs.Series.{Trace, IsSeriesOf}
@@ -37,11 +36,12 @@ use Rattle.mseed_pack.proofs.Parted.{views_joined}
 use Rattle.mseed_pack.proofs.Traced.{kept_views}
 use Rattle.mseed_repack.specs.OneRepacking.{ComeToOne}
 use Rattle.mseed_repack.specs.ReadBack.{IsReadBack}
-use Rattle.mseed_repack.specs.Repack.{ArePackedInto, CanBePacked, Channel, IsRepacking}
-use Rattle.mseed_repack.specs.Repack.{records_in}
+use Rattle.mseed_repack.specs.Repack.{ArePackedInto, CanBePacked, Channel, IsRepacking, IsSeriesText, IsWhole}
+use Rattle.mseed_repack.specs.Repack.{IsFitFor, IsStretchPacked, Wrote, records_in}
 use Rattle.mseed_repack.specs.declared.fault.RepackFault.{RepackFault}
+use Rattle.mseed_pack.proofs.Called.{OneSeries, ExactVerdicts}
 use Rattle.mseed_repack.proofs.ChannelReadBack.{packed_fits}
-use Rattle.mseed_repack.proofs.Written.{ExactVerdicts, HasNoOthers, IsWritten, Others, are_verdicts, codes_of}
+use Rattle.mseed_repack.proofs.Written.{HasNoOthers, IsWritten, Others, are_verdicts, codes_of}
 use Rattle.mseed_repack.proofs.Written.{either_key, entries, entry, not_there}
 
 -- The series of the input's channels, and what each was packed into.
@@ -100,10 +100,6 @@ nothing_in (p ∷ ps) e = cc
 
 -- They are an archive.
 
-pub all_records : (vs : List View) → AllByRecursion IsView vs → AllByRecursion IsRecord (bytes_in vs)
-all_records [] each = tt
-all_records (v ∷ vs) each = (view_record v each.0, all_records vs each.1)
-
 pub none_further : HasNoFurther []
 none_further = grind (arith, record_long, length-take)
 
@@ -121,21 +117,13 @@ packed_again : (o : Options) (views written : List View) (packed : List Packed)
     → AllByRecursion (IsBoth o views written) packed
     → ArePackedInto o written (entries written packed) (concat (records_of_all packed))
 packed_again o views written [] each = refl
-packed_again o views written (p ∷ ps) each = (
-  concat p.records,
-  (
-    concat (records_of_all ps),
-    (
-      concat-append p.records (records_of_all ps),
-      record {
-        records = p.records;
-        packed = record { trace = p.series; series = each.0.own.series; packing = each.0.read.packing };
-        text_is = refl;
-      },
-      packed_again o views written ps each.1,
-    ),
-  ),
-)
+packed_again o views written (p ∷ ps) each =
+    let packed : IsStretchPacked o (records_in written p.series.codes) p.records =
+    record { trace = p.series; series = each.0.own.series; packing = each.0.read.packing } in
+    let first : IsSeriesText o (records_in written p.series.codes) (concat p.records) =
+    record { records = p.records; packed = packed; text_is = refl } in
+    let both = concat-append p.records (records_of_all ps) in
+    (concat p.records, (concat (records_of_all ps), (both, first, packed_again o views written ps each.1)))
 
 -- The series are the same.
 
@@ -148,7 +136,7 @@ module _
     (archived : (packed : List Packed) (views : List View)
     → AllByRecursion (λ (p : Packed). ReadsAs p.series p.records) packed → AreApart packed
     → AreViewsOf (records_of_all packed) views → AllByRecursion (StandsIn views) packed) (exact : ExactVerdicts)
-    (series : (s t : Trace) (vs : List View) → IsSeriesOf s vs → IsSeriesOf t vs → s ≡ t)
+    (series : OneSeries)
     (outcome : (o : Options) (h : BytesRead) (result other : Result ⊤ RepackFault) (old new before after : BytesWritten)
     → IsRepacking o result h old new → IsRepacking o other h before after
     → ComeToOne result other old new before after) where
@@ -247,39 +235,23 @@ module _
         continuous = All-map (λ (c : Channel). IsTrue (says_continuous c.1)) (entry written) packed (λ k p lt. refl);
         series = same_series o views written cs packed all.keys fit.archive.verdicts both gone;
         again = λ other result before after few read second.
-            outcome o other (Ok tt) result old new before after (
-              written,
-              (
-                channels,
-                (
-                  record {
-                    archive = record {
-                      whole = record {
-                        archive = rw read.bytes archive;
-                        each = made.1.each;
-                        few = few;
-                        ended = read.ended;
-                        fine = read.fine;
-                      };
-                      verdicts = verdicts;
-                    };
-                    continuous = All-map (λ (c : Channel). IsContinuous (records_in written c.0)) (entry written) packed
-                        (λ k p lt. (every k p lt).own.continuous);
-                    fit = All-map (λ (c : Channel). CanBePacked o written c.0) (entry written) packed
-                        (λ k p lt. record {
-                          trace = _;
-                          series = (every k p lt).own.series;
-                          fits = (every k p lt).read.fits;
-                        });
-                  },
-                  record {
-                    text = text;
-                    text_is = subst (λ (xs : List ℕ). ArePackedInto o written channels xs) (sym all.text_is)
-                        (packed_again o views written packed both);
-                    bytes = wrote.bytes;
-                    failed = wrote.failed;
-                  },
-                ),
-              ),
-            ) second;
+            let whole : IsWhole other written =
+            record {
+              archive = rw read.bytes archive;
+              each = made.1.each;
+              few = few;
+              ended = read.ended;
+              fine = read.fine;
+            } in
+            let fit_again : IsFitFor o other written channels = record {
+              archive = record { whole = whole; verdicts = verdicts };
+              continuous = All-map (λ (c : Channel). IsContinuous (records_in written c.0)) (entry written) packed
+                  (λ k p lt. (every k p lt).own.continuous);
+              fit = All-map (λ (c : Channel). CanBePacked o written c.0) (entry written) packed
+                  (λ k p lt. record { trace = _; series = (every k p lt).own.series; fits = (every k p lt).read.fits });
+            } in
+            let texts = rw (sym all.text_is) at (packed_again o views written packed both) in
+            let text_again : Wrote (ArePackedInto o written channels) 0 old new =
+            record { text = text; text_is = texts; bytes = wrote.bytes; failed = wrote.failed } in
+            outcome o other (Ok tt) result old new before after (written, (channels, (fit_again, text_again))) second;
       }

@@ -1,4 +1,5 @@
 -- What is kept of a stretch, with one more record.
+use Rattle.mseed_repack.proofs.Joining.{added_one}
 use Rattle.std.proofs.Common.{◌≡◌, ◌↔◌, ◌+◌, List, [], ◌∷◌, ◌++◌, false, IsTrue}
 use Rattle.std.proofs.Common.{Some, ℤ, ◌+ℤ◌, arith, sym, ap, subst, ◌∙◌}
 use Rattle.std.proofs.lemmas.Bool.{false≢true}
@@ -14,10 +15,10 @@ use Rattle.mseed_record.specs.View.{View, leap_of, start_of, step_in}
 use Rattle.mseed_steim.specs.Reading.{count_of}
 use Rattle.mseed_audit.specs.Judging.{known_rate}
 use Rattle.mseed_repack.specs.Clocks.{IsStretchOf}
-use Rattle.mseed_repack.specs.Stretches.{GoesOn, added_by, last_of}
+use Rattle.mseed_repack.specs.Stretches.{GoesOn, last_of}
 use Rattle.mseed_repack.specs.private.Nexts.{IsNext}
 use Rattle.mseed_repack.specs.declared.stretch.Stretch.{Stretch}
-use Rattle.mseed_repack.proofs.Runs.{added_append, last_snoc, samples_append}
+use Rattle.mseed_repack.proofs.Runs.{last_snoc, samples_append}
 
 -- what one more record changes of what is kept
 pub record IsOneMore (s new : Stretch) (v : View) : Type 0 where
@@ -28,10 +29,6 @@ pub record IsOneMore (s new : Stretch) (v : View) : Type 0 where
   pub samples_is : new.samples ≡ s.samples + count_of v
   pub added_is : new.added ≡ s.added +ℤ step_of (step_in (leap_of v.bytes))
   pub closed_is : IsTrue new.closed ↔ (leap_of v.bytes ≡ Both)
-
-added_last : (vs : List View) (v : View) (a z : ℤ) → a ≡ added_by vs
-    → z ≡ a +ℤ step_of (step_in (leap_of v.bytes)) → z ≡ added_by (vs ++ v ∷ [])
-added_last vs v a z h h2 = grind (arith, ints, added_append)
 
 pub stretch_more : (s new : Stretch) (vs : List View) (v : View) → IsStretchOf s vs → IsOneMore s new v
     → IsStretchOf new (vs ++ v ∷ [])
@@ -48,7 +45,7 @@ stretch_more s new (first ∷ rest) v is more =
       multiplier_is = ap (λ (r : Rate). r.multiplier) more.rate_is ∙ is.multiplier_is;
       records_is = omega (arith, more.records_is, is.records_is, size);
       samples_is = omega (arith, more.samples_is, is.samples_is, count);
-      added_is = added_last (first ∷ rest) v s.added new.added is.added_is more.added_is;
+      added_is = omega (arith, ints, more.added_is, is.added_is, added_one (first ∷ rest) v);
       closed_is = subst (λ (w : View). IsTrue new.closed ↔ (leap_of w.bytes ≡ Both)) (sym last) more.closed_is;
     }
 

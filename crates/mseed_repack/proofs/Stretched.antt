@@ -18,22 +18,10 @@ use Rattle.mseed_repack.specs.private.Reading.{AreOf}
 use Rattle.mseed_repack.specs.private.Planning.{IsBegunBy}
 
 pub series_is : (s : Stretch) (vs : List View) (xs : List ℤ) (ss : List (ℕ × LeapStep)) → IsBegunBy s vs
-    → AreOf s.codes vs xs ss
+    → AreOf vs xs ss
     → IsSeriesOf (record { codes = s.codes; start = s.start; rate = s.rate; samples = xs; steps = ss }) vs
 series_is s [] xs ss is are = absurd is
-series_is s (first ∷ rest) xs ss is are =
-    let all = are s.start s.rate in
-    record {
-      first = first;
-      rest = rest;
-      parts = refl;
-      codes = is.codes_is;
-      start = is.start_is;
-      factor = is.factor_is;
-      multiplier = is.multiplier_is;
-      samples = all.samples;
-      steps = all.steps;
-    }
+series_is s (first ∷ rest) xs ss is are = grind (arith)
 
 pub series_fits : (o : Options) (vs : List View) (s : Trace) → IsSeriesOf s vs → Fits s o → StretchFits o vs
 series_fits o vs s series fits = record { trace = s; series = series; fits = fits }

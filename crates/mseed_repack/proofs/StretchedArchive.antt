@@ -1,4 +1,5 @@
 -- What was written of an archive by stretches is an archive, channel after channel.
+use Rattle.std.proofs.ByRecursion.{All-weaker, kept_by_passes}
 use Rattle.std.proofs.Common.{arith}
 use Rattle.std.specs.Prelude.{⊤}
 use Rattle.std.proofs.Common.{◌≡◌, ◌≢◌, ℕ, List, [], ◌∷◌, ◌++◌, IsTrue, refl, sym, ap, subst}
@@ -15,7 +16,7 @@ use Rattle.std.proofs.lemmas.List.Folds.{concat-append}
 use Rattle.mseed_record.specs.Header.{key_at}
 use Rattle.mseed_record.specs.View.{View, IsView}
 use Rattle.mseed_steim.specs.Reading.{HasOneReading}
-use Rattle.mseed_audit.specs.Series.{Trace, IsSeriesOf}
+use Rattle.mseed_pack.proofs.Called.{OneSeries}
 use Rattle.mseed_pack.proofs.ReadBack.{HaveOneViews}
 use Rattle.mseed_pack.proofs.Viewed.{HeadersReadBack, PackedSpells}
 use Rattle.mseed_stream.specs.Walk.{bytes_in}
@@ -29,11 +30,11 @@ use Rattle.mseed_repack.specs.ByStretches.{AreStretched, EachRestretching, kept_
 use Rattle.mseed_repack.specs.Repack.{Channel, records_in}
 use Rattle.mseed_repack.specs.Restretch.{ChannelFits}
 use Rattle.mseed_repack.specs.declared.packability.Packability.{Packability}
-use Rattle.mseed_repack.specs.declared.packability.Packability.TheVariants.{Fit, Broken, Misfit}
 use Rattle.mseed_repack.proofs.Bordered.{own_of}
 use Rattle.mseed_repack.proofs.Each.{AreMade, each_made}
 use Rattle.mseed_repack.proofs.ChannelReadBack.{each_restretching}
-use Rattle.mseed_repack.proofs.ReadBack.{all_records, none_further, others_by}
+use Rattle.mseed_repack.proofs.ReadBack.{none_further, others_by}
+use Rattle.mseed_repack.proofs.Wholes.{all_records}
 
 -- the views of what was written of a channel
 record IsOf (views : List View) (c : Channel) (own : List View) : Type 0 where
@@ -44,8 +45,8 @@ record IsOf (views : List View) (c : Channel) (own : List View) : Type 0 where
 -- the records of a channel have its key
 kept_keys : (key : List ℕ) (vs : List View)
     → AllByRecursion (λ (v : View). key_at v.bytes ≡ key) (filter (is_of_channel key) vs)
-kept_keys key [] = tt
-kept_keys key (v ∷ vs) = grind (arith, key_of, kept_keys key vs)
+kept_keys key vs =
+    All-weaker _ _ (λ (v : View) is. sym (key_of key v is)) _ (kept_by_passes (is_of_channel key) vs)
 
 -- The keys of channels rise, so that no two are the same.
 
@@ -63,18 +64,12 @@ distinct (c ∷ cs) sorted = (others_by (λ (d : Channel). d.0) c.0 cs sorted.0,
 
 others_kept : (key : List ℕ) (cs : List Channel) (ss : List Packability) → AreOthers key cs
     → AreOthers key (kept_of cs ss)
-others_kept key [] ss h = tt
-others_kept key (c ∷ cs) [] h = tt
-others_kept key (c ∷ cs) (Fit ∷ ss) h = (h.0, others_kept key cs ss h.1)
-others_kept key (c ∷ cs) (Broken ∷ ss) h = others_kept key cs ss h.1
-others_kept key (c ∷ cs) (Misfit n f ∷ ss) h = others_kept key cs ss h.1
+others_kept key (c ∷ cs) (s ∷ ss) h = grind (arith, others_kept key cs ss h.1)
+others_kept key cs ss h = tt
 
 distinct_kept : (cs : List Channel) (ss : List Packability) → AreDistinct cs → AreDistinct (kept_of cs ss)
-distinct_kept [] ss h = tt
-distinct_kept (c ∷ cs) [] h = tt
-distinct_kept (c ∷ cs) (Fit ∷ ss) h = (others_kept c.0 cs ss h.0, distinct_kept cs ss h.1)
-distinct_kept (c ∷ cs) (Broken ∷ ss) h = distinct_kept cs ss h.1
-distinct_kept (c ∷ cs) (Misfit n f ∷ ss) h = distinct_kept cs ss h.1
+distinct_kept (c ∷ cs) (s ∷ ss) h = grind (arith, others_kept c.0 cs ss h.0, distinct_kept cs ss h.1)
+distinct_kept cs ss h = tt
 
 -- Of all that was written, the records of a channel are its own.
 
@@ -129,14 +124,8 @@ each_keeps views (c ∷ cs) before ws (own, (rest, (parts, here, more))) apart n
       rw all at further,
     )
 
-in_records : (views written : List View) (cs : List Channel)
-    → AllByRecursion (λ (c : Channel). KeepsBorders (records_in views c.0) (filter (is_of_channel c.0) written)) cs
-    → AllByRecursion (λ (c : Channel). KeepsBorders (records_in views c.0) (records_in written c.0)) cs
-in_records views written [] h = tt
-in_records views written (c ∷ cs) h = grind (arith, views_are, in_records views written cs h.1)
-
 module _ (headers : HeadersReadBack) (spells : PackedSpells) (single : (v : View) → HasOneReading v)
-    (once : HaveOneViews) (series : (s t : Trace) (vs : List View) → IsSeriesOf s vs → IsSeriesOf t vs → s ≡ t) where
+    (once : HaveOneViews) (series : OneSeries) where
   all_of : (o : Options) (views : List View) (cs : List Channel) (text : List ℕ) → AllByRecursion IsView views
       → AllByRecursion (λ (c : Channel). ChannelFits o (records_in views c.0)) cs → AreStretched o views cs text
       → (ws : List View) × (AreMade (IsOf views) cs ws × (concat (bytes_in ws) ≡ text))
@@ -146,30 +135,16 @@ module _ (headers : HeadersReadBack) (spells : PackedSpells) (single : (v : View
       let behind = all_of o views cs rest each fit.1 written.2 in
       let mine = views_are c.0 views in
       let is = own_of headers spells single once series o (records_in views c.0) here.records
-      (rw mine (kept_views c.0 views each)) fit.0 here.packed in (
-        is.views ++ behind.0,
-        (
-          (
-            is.views,
-            (
-              behind.0,
-              (
-                refl,
-                record {
-                  each = is.are.each;
-                  of_key = is.of_key c.0 (rw mine (kept_keys c.0 views));
-                  borders = is.borders;
-                },
-                behind.1.0,
-              ),
-            ),
-          ),
-          ap (λ (rs : List (List ℕ)). concat rs) (map-append (λ (v : View). v.bytes) is.views behind.0)
-              ∙ concat-append (bytes_in is.views) (bytes_in behind.0)
-              ∙ (λ i. concat (is.are.bytes i) ++ behind.1.1 i) ∙ ap (λ (xs : List ℕ). xs ++ rest) (sym here.text_is)
-              ∙ sym written.0,
-        ),
-      )
+      (rw mine (kept_views c.0 views each)) fit.0 here.packed in
+      let own : IsOf views c is.views = record {
+        each = is.are.each;
+        of_key = is.of_key c.0 (rw mine (kept_keys c.0 views));
+        borders = is.borders;
+      } in
+      let all = ap (λ (rs : List (List ℕ)). concat rs) (map-append (λ (v : View). v.bytes) is.views behind.0)
+      ∙ concat-append (bytes_in is.views) (bytes_in behind.0) ∙ (λ i. concat (is.are.bytes i) ++ behind.1.1 i)
+      ∙ ap (λ (xs : List ℕ). xs ++ rest) (sym here.text_is) ∙ sym written.0 in
+      (is.views ++ behind.0, ((is.views, (behind.0, (refl, own, behind.1.0))), all))
 
   pub stretched_archive : EachRestretching IsStretchedArchive
   stretched_archive = each_restretching (λ views kept text. IsArchiveKept views kept text)
@@ -188,5 +163,6 @@ module _ (headers : HeadersReadBack) (spells : PackedSpells) (single : (v : View
         };
         each = each;
         others = λ key others. views_are key written ∙ none_among views key kept written all.1.0 others;
-        borders = in_records views written kept (each_keeps views kept [] written all.1.0 apart (none_yet kept));
+        borders = All-weaker _ _ (λ (c : Channel) keeps. rw (views_are c.0 written) keeps) kept
+            (each_keeps views kept [] written all.1.0 apart (none_yet kept));
       })

@@ -1,6 +1,9 @@
 -- Differences that are unpacked record by record.
+use Rattle.mseed_pack.proofs.Called.{OneSeries}
+use Rattle.mseed_audit.proofs.OneSeries.{joined_one}
+use Rattle.mseed_steim.proofs.Laws.{reading_one}
 use Rattle.std.proofs.Common.{◌≡◌, ℕ, suc, ◌+◌, ◌-◌, ◌<◌, ◌≤◌, List, [], ◌∷◌, ◌++◌, length, take, drop, min, refl, sym}
-use Rattle.std.proofs.Common.{ap, subst, ◌∙◌, arith, append_assoc, length-append, ℤ, pos, ◌-ℤ◌, Some, slice_get}
+use Rattle.std.proofs.Common.{ap, ◌∙◌, arith, append_assoc, length-append, ℤ, pos, ◌-ℤ◌, Some, slice_get}
 use Rattle.std.proofs.Common.{FitsSigned, IsTrue, w32, set, get_or, to_z, of_z}
 use Rattle.std.specs.List.{AllByRecursion}
 use Rattle.std.specs.Prelude.{slice_range}
@@ -10,14 +13,13 @@ use Rattle.std.proofs.lemmas.Int.{ints, to_z-of_z}
 use Rattle.std.proofs.lemmas.List.{drop-drop, drop-take, take-take}
 use Rattle.std.proofs.Math.Seq.{drop-append_seam, take-append_seam}
 use Rattle.mseed_time.specs.declared.outcome.LeapStep.{LeapStep}
-use Rattle.mseed_time.specs.declared.rate.Rate.{Rate}
 use Rattle.mseed_record.specs.View.{View}
 use Rattle.mseed_steim.specs.Reading.{IsSteim, IsWhole, count_of}
 use Rattle.mseed_steim.specs.Samples.{AreEnds, differences_from, steps_of}
 use Rattle.mseed_steim.specs.Spelling.{IsWithin}
 use Rattle.mseed_steim.specs.declared.fault.Ends.{Ends}
 use Rattle.mseed_audit.specs.Follows.{IsSound}
-use Rattle.mseed_audit.specs.Series.{AreJoined, IsSeriesOf, Trace, none, one}
+use Rattle.mseed_audit.specs.Series.{AreJoined, IsSeriesOf, none, one}
 use Rattle.mseed_audit.proofs.Joined.{count_is}
 use Rattle.mseed_pack.specs.Fitting.{Fits}
 use Rattle.mseed_pack.specs.Stretches.{differences}
@@ -29,6 +31,7 @@ use Rattle.mseed_repack.specs.Repack.{StretchFits}
 use Rattle.mseed_repack.specs.private.Outline.{AreNear, IsKnown, IsOutline, last_after, says_near}
 use Rattle.mseed_repack.specs.private.Supplying.{AreCut, AreUnread, IsLast, IsSupplied, IsUnpackable}
 use Rattle.mseed_repack.specs.declared.outline.Nearness.{Nearness}
+use Rattle.mseed_repack.proofs.Each.{each_at_back, each_in_leading}
 use Rattle.mseed_repack.proofs.Near.{ends_on, last_append}
 
 pub within_fits : (z : ℤ) → IsWithin 30 z → FitsSigned w32 z
@@ -74,20 +77,9 @@ after_are last xs behind h = grind (arith, none_between, from_append, from_lengt
 first_are : (last : ℤ) (s more : List ℤ) → take (length s) (differences_from last (s ++ more)) ≡ differences_from last s
 first_are last s more = grind (arith, from_append, from_length, take-append_seam)
 
-near_from : (before last : ℤ) (xs behind : List ℤ)
-    → AllByRecursion (IsWithin 30) (differences_from before (xs ++ behind)) → last_after before xs ≡ last
-    → AllByRecursion (IsWithin 30) (differences_from last behind)
-near_from before last [] behind near e = grind (arith)
-near_from before last (x ∷ xs) behind near e = near_from x last xs behind near.1 e
-
-near_after : (last : ℤ) (xs behind : List ℤ) → IsLast last xs behind → AreNear (xs ++ behind)
-    → AllByRecursion (IsWithin 30) (differences_from last behind)
-near_after last xs behind h h2 = grind (arith, none_between, near_from)
-
-near_first : (last : ℤ) (s more : List ℤ) → AllByRecursion (IsWithin 30) (differences_from last (s ++ more))
-    → AllByRecursion (IsWithin 30) (differences_from last s)
-near_first last [] more near = tt
-near_first last (x ∷ s) more near = (near.0, near_first x s more near.1)
+near_begin : (first : ℤ) (xs : List ℤ) → get_or xs 0 (pos 0) ≡ first → AreNear xs
+    → AllByRecursion (IsWithin 30) (differences_from first xs)
+near_begin first xs h h2 = grind (arith, none_between)
 
 last_more : (last next : ℤ) (xs s more : List ℤ) → IsLast last xs (s ++ more) → 0 < length s
     → last_after last s ≡ next → IsLast next (xs ++ s) more
@@ -194,20 +186,21 @@ cut_on {v = v} {vs = vs} {last = last} {samples = samples} {unpacked = unpacked}
     let last_is : IsLast last unpacked (s ++ more) = rw same at h.last_is in
     let parts : samples ≡ unpacked ++ (s ++ more) = rw same at h.parts in
     let long = count_is v s whole in
+    let near = rw (same, from_append) at h.near in
     record {
       s = s;
       more = more;
       whole = whole;
       long = long;
       parts = same;
-      near = near_first last s more (near_after last unpacked (s ++ more) last_is (rw parts at h.near));
+      near = each_in_leading (IsWithin 30) (differences_from last s) _ near;
       cut = record {
         sound = h.sound.1;
         steim = h.steim.1;
         fits = h.fits.1;
         parts = parts ∙ sym (append_assoc unpacked s more);
         joined = found.1.1.1.0;
-        near = h.near;
+        near = each_at_back (IsWithin 30) (differences_from last s) _ near;
         last_is = last_more last (last_after last s) unpacked s more last_is (omega (arith, long, whole.0.some)) refl;
       };
     }
@@ -299,26 +292,13 @@ first_joined v vs xs ends h h2 = grind (arith, joined_next)
 near_known : (n : Nearness) (xs : List ℤ) → IsTrue (says_near n) → IsKnown n xs → AreNear xs
 near_known n xs h h2 = grind (arith, false≢true)
 
--- records have one list of samples
-joined_only : (vs : List View) (xs ys : List ℤ) → AllByRecursion IsSound vs → AreJoined vs xs → AreJoined vs ys
-    → ys ≡ xs
-joined_only [] xs ys sound a b = joined_none ys b ∙ sym (joined_none xs a)
-joined_only (v ∷ vs) xs ys sound a b =
-    let first = joined_next v vs xs a in
-    let other = joined_next v vs ys b in
-    let here : other.0 ≡ first.0 = only_one v first.0 other.0 sound.0 first.1.1.0 other.1.1.0 in
-    let rest : other.1.0 ≡ first.1.0 = joined_only vs first.1.0 other.1.0 sound.1 first.1.1.1.0 other.1.1.1.0 in
-    other.1.1.1.1 ∙ ap (λ (s : List ℤ). s ++ other.1.0) here ∙ ap (λ (more : List ℤ). first.0 ++ more) rest
-    ∙ sym first.1.1.1.1
-
 -- records that go from frames to frames, by their outline
-pub unread_by : {key : List ℕ} {vs : List View} {count bears : ℕ} {nearness : Nearness} {steps : List (ℕ × LeapStep)}
-    (start : ℤ) (rate : Rate) → IsOutline key vs count bears nearness steps → AllByRecursion IsSound vs
-    → IsTrue (says_near nearness) → AllByRecursion IsUnpackable vs → AreUnread vs
-unread_by {vs = vs} {nearness = nearness} start rate h sound says unpackable = record {
+pub unread_by : {vs : List View} {count bears : ℕ} {nearness : Nearness} {steps : List (ℕ × LeapStep)}
+    → IsOutline vs count bears nearness steps → IsTrue (says_near nearness) → AllByRecursion IsUnpackable vs
+    → AreUnread vs
+unread_by {vs = vs} {nearness = nearness} h says unpackable = record {
   unpackable = unpackable;
-  near = λ xs joined. subst (λ (ys : List ℤ). AreNear ys)
-      (sym (joined_only vs h.samples xs sound (h.are start rate).samples joined))
+  near = λ xs joined. rw (joined_one reading_one vs xs h.samples joined h.read.are.samples_are)
       (near_known nearness h.samples says h.known);
 }
 
@@ -332,12 +312,12 @@ pub record HasSupply (vs : List View) (room : List ℤ) (head : SeriesHead) (o :
   pub fits : Fits (headed head samples) o
 
 pub has_supply : {vs : List View} {count bears : ℕ} {nearness : Nearness} {steps : List (ℕ × LeapStep)}
-    (head : SeriesHead) (o : Options) (room : List ℤ) (h : IsOutline head.codes vs count bears nearness steps)
+    (head : SeriesHead) (o : Options) (room : List ℤ) (h : IsOutline vs count bears nearness steps)
     → AreUnread vs → AllByRecursion IsSound vs → IsSeriesOf (headed head h.samples) vs → head.count ≡ count
     → 7056 ≤ length room → ((xs : List ℤ) → AreJoined vs xs → get_or xs 0 (pos 0) ≡ head.first) → StretchFits o vs
-    → ((s t : Trace) (vs : List View) → IsSeriesOf s vs → IsSeriesOf t vs → s ≡ t) → HasSupply vs room head o
+    → OneSeries → HasSupply vs room head o
 has_supply {vs = vs} head o room h unread sound series size long is can one_series =
-    let joined : AreJoined vs h.samples = (h.are head.start head.rate).samples in
+    let joined : AreJoined vs h.samples = h.read.are.samples_are in
     let same = one_series can.trace (headed head h.samples) vs can.series series in
     record {
       samples = h.samples;
@@ -351,7 +331,7 @@ has_supply {vs = vs} head o room h unread sound series size long is can one_seri
               vs unread.unpackable;
           parts = refl;
           joined = joined;
-          near = unread.near h.samples joined;
+          near = near_begin head.first h.samples (is h.samples joined) (unread.near h.samples joined);
           last_is = begins_on h.samples head.first (is h.samples joined);
         };
         order = omega arith;
@@ -359,7 +339,7 @@ has_supply {vs = vs} head o room h unread sound series size long is can one_seri
         given_is = refl;
         held = refl;
       };
-      count = sym (size ∙ h.count_is);
+      count = h.read.size ∙ sym size;
       first_is = is h.samples joined;
       series = series;
       fits = rw same at can.fits;

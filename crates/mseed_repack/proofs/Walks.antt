@@ -1,16 +1,16 @@
 -- Records that a walk has gone over.
-use Rattle.std.proofs.Common.{◌≡◌, ℕ, ◌+◌, ◌≤◌, ℤ, List, [], ◌∷◌, ◌++◌, refl, sym, ap, ◌∙◌, arith}
-use Rattle.std.proofs.Common.{append_assoc, append-nil, drop, length, length-append, ◌-◌, ◌*◌, ◌<◌, Bool, true}
+use Rattle.std.proofs.Common.{◌≡◌, ℕ, ◌+◌, ◌≤◌, List, [], ◌∷◌, ◌++◌, refl, sym, ap, ◌∙◌, arith, take, ℤ}
+use Rattle.std.proofs.Common.{append_assoc, append-nil, drop, length, length-append, ◌*◌, ◌<◌, Bool, true}
 use Rattle.std.specs.List.{AllByRecursion}
-use Rattle.std.proofs.lemmas.List.{drop-drop, drop_all}
+use Rattle.std.proofs.lemmas.List.{drop-drop, drop_all, length-drop}
 use Rattle.mseed_time.specs.declared.outcome.LeapStep.{LeapStep}
 use Rattle.mseed_record.specs.View.{View}
 use Rattle.mseed_steim.specs.Reading.{count_of}
-use Rattle.mseed_repack.specs.private.Reading.{samples_of, step_count, steps_of}
+use Rattle.mseed_repack.specs.private.Reading.{samples_of, step_count, steps_of, IsRead}
 use Rattle.mseed_repack.specs.private.Supplying.{IsUnpackable}
 use Rattle.mseed_repack.specs.declared.outline.Nearness.{Nearness}
-use Rattle.mseed_repack.proofs.Outlines.{IsOutlined}
-use Rattle.mseed_repack.proofs.ReadChannels.{IsRead, steps_append}
+use Rattle.mseed_repack.specs.private.Outline.{IsOutline}
+use Rattle.mseed_repack.proofs.ReadChannels.{steps_append}
 use Rattle.mseed_repack.proofs.Runs.{samples_append}
 
 -- something holds of the records before those that are left
@@ -64,13 +64,13 @@ pub steps_so_far : {P : List View → Type 0} {all rest : List View} {v : View} 
     → steps_of h.gone + step_count v ≤ steps_of all
 steps_so_far h = omega (arith, so_far steps_of steps_append h)
 
--- what is read, and what is known, of the records that were gone over, whatever their key is
+-- what is read, and what is known, of the records that were gone over
 abbrev pub AreReadSo : ℕ → ℕ → List ℤ → List (ℕ × LeapStep) → List View → Type 0
-AreReadSo m k samples steps vs = (key : List ℕ) → IsRead key vs m k samples steps
+AreReadSo m k samples steps vs = IsRead m k (take m samples) (take k steps) vs
 
 abbrev pub AreOutlinedSo : ℕ → ℕ → Nearness → Bool → List (ℕ × LeapStep) → List View → Type 0
 AreOutlinedSo m k nearness unpackable steps vs =
-    (m ≤ 65_535 * length vs) × ((key : List ℕ) → IsOutlined key vs m k nearness steps)
+    (m ≤ 65_535 * length vs) × IsOutline vs m k nearness steps
     × (unpackable ≡ true → AllByRecursion IsUnpackable vs)
 
 -- there are no more records before one that is left than there are in all
@@ -84,7 +84,4 @@ dropped_more t vs rest v e = ap (λ (ws : List View). drop 1 ws) (sym e) ∙ dro
 
 pub dropped_all : (t n : ℕ) (vs : List View) → t < n → drop t vs ≡ [] → drop n vs ≡ []
 dropped_all t n vs lt e =
-    let behind : ℕ = n - t in
-    let same : n ≡ t + behind = omega (arith, lt) in
-    ap (λ (m : ℕ). drop m vs) same ∙ sym (drop-drop behind t vs) ∙ ap (λ (ws : List View). drop behind ws) e
-    ∙ drop_all behind [] (omega arith)
+    drop_all n vs (omega (arith, lt, ap (λ (ws : List View). length ws) e, length-drop t vs))

@@ -1,5 +1,9 @@
 -- A whole archive that was read.
-use Rattle.std.proofs.Common.{◌≡◌, ℕ, ◌<◌, ◌^◌, List, [], ◌∷◌, length, map, refl, ap, subst, arith}
+use Rattle.std.proofs.lemmas.Simd.{map-map}
+use Rattle.mseed_record.specs.Record.{IsRecord}
+use Rattle.mseed_stream.proofs.Records.{view_record}
+use Rattle.std.proofs.ByRecursion.{All-map, All-weaker}
+use Rattle.std.proofs.Common.{◌≡◌, ℕ, ◌<◌, ◌^◌, List, [], length, map, subst, arith, sym}
 use Rattle.std.specs.List.{AllByRecursion}
 use Rattle.std.proofs.lemmas.List.{length-map}
 use Rattle.mseed_record.specs.View.{View, IsView}
@@ -16,20 +20,17 @@ use Rattle.mseed_repack.specs.ReadBack.{IsReadOf}
 use Rattle.mseed_repack.specs.private.Places.{AreAllOf}
 
 bytes_are : (rs : List RecordView) → bytes_of_each rs ≡ bytes_in (map view_of rs)
-bytes_are [] = refl
-bytes_are (r ∷ rs) = ap (λ (bs : List (List ℕ)). (view_of r).bytes ∷ bs) (bytes_are rs)
+bytes_are rs = sym (map-map (λ (v : View). v.bytes) view_of rs)
 
-views_each : (rs : List RecordView) → AllByRecursion (λ (r : RecordView). IsView (view_of r)) rs
-    → AllByRecursion IsView (map view_of rs)
-views_each [] h = tt
-views_each (r ∷ rs) h = (h.0, views_each rs h.1)
+pub all_records : (vs : List View) → AllByRecursion IsView vs → AllByRecursion IsRecord (bytes_in vs)
+all_records vs each = All-map IsRecord (λ (v : View). v.bytes) vs (All-weaker IsView _ view_record vs each)
 
 -- bytes that are records one after another
 pub all_of : (rs : List RecordView) {bytes : List ℕ} → IsArchive bytes (bytes_of_each rs) []
     → AllByRecursion (λ (r : RecordView). IsView (view_of r)) rs → AreAllOf bytes (map view_of rs)
 all_of rs {bytes = bytes} archive each = record {
   archive = subst (λ (bs : List (List ℕ)). IsArchive bytes bs []) (bytes_are rs) archive;
-  each = views_each rs each;
+  each = All-map IsView view_of rs each;
 }
 
 -- where they are what was read, it is an archive

@@ -1,7 +1,8 @@
 -- The channels of what was written when an archive was packed anew.
+use Rattle.mseed_pack.proofs.Called.{ExactVerdicts}
 use Rattle.std.proofs.Common.{arith}
-use Rattle.std.proofs.Common.{◌≡◌, ◌≢◌, ◌↔◌, ◌⊎◌, inl, inr, ℕ, List, [], ◌∷◌, length, map, Bool, true, false, Option}
-use Rattle.std.proofs.Common.{Some, None, IsTrue, IsSome, unwrap_or, refl, sym, ap, subst, ◌∙◌}
+use Rattle.std.proofs.Common.{◌≡◌, ◌≢◌, ◌⊎◌, inl, inr, ℕ, List, [], ◌∷◌, length, map, Bool, true, false, Option}
+use Rattle.std.proofs.Common.{Some, None, IsSome, unwrap_or, refl, sym, ap, subst, ◌∙◌}
 use Rattle.std.specs.List.{AllByRecursion}
 use Rattle.std.specs.Map.{lookup, keys_of}
 use Rattle.std.specs.Ordering.{nat_cmp}
@@ -23,7 +24,6 @@ use Rattle.mseed_audit.specs.Judging.{known_rate, rate_unless, why_after, why_fr
 use Rattle.mseed_audit.specs.Judging.{after as by_after}
 use Rattle.mseed_audit.specs.Series.{Trace, IsSeriesOf}
 use Rattle.mseed_audit.specs.Verdict.{AreFindings, AreVerdicts, IsExactAt, IsVerdict, IsVerdictAt, none, one}
-use Rattle.mseed_audit.specs.Verdict.{says_continuous}
 use Rattle.mseed_audit.proofs.Between.{between_none}
 use Rattle.mseed_audit.proofs.Maps.{same_is, same_itself}
 use Rattle.mseed_pack.specs.ReadBack.{Packed}
@@ -147,11 +147,6 @@ verdict_at written key (p ∷ ps) each gone =
         (sym (lookup_tail (same_key key) (entry written p) (entries written ps) e))
         (later (λ rest. gone (other_key key p.series.codes e, rest)))
 
--- what the audit's layer says: a verdict is exact
-abbrev pub ExactVerdicts : Type 0
-ExactVerdicts = (verdict : Verdict) (ps : List Placed) → IsVerdict verdict ps
-    → (IsTrue (says_continuous verdict) ↔ IsContinuous (views_in ps))
-
 exact_at : ExactVerdicts → (o : Option Verdict) (ps : List Placed) → IsVerdictAt o ps → IsExactAt o ps
 exact_at h o ps h2 = grind (arith)
 
@@ -177,10 +172,9 @@ either_key key (p ∷ ps) P each = by (same_key key p.series.codes) refl (either
 pub not_there : (key : List ℕ) (packed : List Packed) (cs : List Channel) → codes_of packed ≡ keys_of cs
     → Others key packed → lookup (same_key key) cs ≡ None
 not_there key [] [] e others = refl
-not_there key [] (c ∷ cs) e others = cc
-not_there key (p ∷ ps) [] e others = cc
 not_there key (p ∷ ps) (c ∷ cs) e others =
     let first : p.series.codes ≡ c.0 = cc in
     let rest : codes_of ps ≡ keys_of cs = cc in
     let unequal : same_key key c.0 ≡ false = unlike key c.0 (λ same. others.0 (first ∙ same)) in
     lookup_tail (same_key key) c cs unequal ∙ not_there key ps cs rest others.1
+not_there key packed cs e others = cc

@@ -18,7 +18,7 @@ use Rattle.mseed_pack.specs.declared.options.Options.{Options}
 use Rattle.mseed_repack.specs.ByStretches.{WroteFitting}
 use Rattle.mseed_repack.specs.Repack.{Channel, records_in}
 
--- The next record has the same rate, and misses this one's end, with its leap second put in, by so many microseconds
+-- The next record has the same rate, and misses this one's end, with its leap second put in, by `miss` microseconds
 -- times num: positive where it is late.
 pub record MissesBy (b v : View) (rate : Ratio) (miss : ℤ) : Type 0 where
   pub next : Ratio
@@ -51,7 +51,7 @@ pub record AreReadAs (P : List View → Type 0) (records : List (List ℕ)) : Ty
   pub only : (others : List View) → AreViewsOf records others → others ≡ views
   pub is_so : P views
 
--- After so many samples a record begins at this instant, and this is found of it: a gap, or an overlap, of so many
+-- After `samples` samples a record begins at this instant, and this is found of it: a gap, or an overlap, by its
 -- microseconds.
 pub record IsFoundAfter (why : ℕ → Why) (samples : ℕ) (start : ℤ) (views : List View) : Type 0 where
   pub before : List View

@@ -42,7 +42,7 @@ difference_bits Int32 = None
 difference_bits Steim1 = Some 32
 difference_bits Steim2 = Some 30
 
--- the least and the greatest of the signed numbers of so many bits
+-- the least and the greatest of the signed numbers of `bits` bits
 abbrev pub range_text : ℕ → List ℕ
 range_text bits = codes "-" ++ decimal (2 ^ (bits - 1)) ++ codes " to " ++ decimal (2 ^ (bits - 1) - 1)
 

@@ -11,7 +11,7 @@ use Rattle.mseed_repack.specs.Repack.{IsPackedInPart, IsStretchPacked, StretchFi
 use Rattle.mseed_repack.specs.declared.channel_fault.ChannelFault.{ChannelFault}
 use Rattle.mseed_repack.specs.declared.channel_fault.ChannelFault.TheVariants.{Broken, Misfit, Write, Memory}
 
--- the options of what stands after so many records: sequence numbers run on, and have six digits (SEED manual,
+-- the options of what stands after `n` records: sequence numbers run on, and have six digits (SEED manual,
 -- chapter 8, fixed section of data header, field 1)
 pub record IsNumberedOn (o : Options) (n : ℕ) (next : Options) : Type 0 where
   pub exponent_is : next.exponent ≡ o.exponent

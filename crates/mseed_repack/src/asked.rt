@@ -36,9 +36,7 @@ fn count_without_time<C: Choice>(views: &[RecordView], choice: &C) -> u64
 {
     let mut count = 0;
     for view in views {
-        if let Answer::NoTime = choice.answer(view) {
-            count += 1;
-        }
+        count += count_one(view, choice);
     }
     count
 }

@@ -15,8 +15,7 @@ use mseed_audit::{Finding, Verdict};
 use mseed_record::{Choice, Codes, RecordView};
 
 /// Returns the codes of the first channel, by its key, that isn't continuous, and its first finding, with the number
-/// and
-/// the offset that its record has in what was read. Where channels are to be cut there is none.
+/// and the offset that its record has in what was read. Where channels are to be cut there is none.
 pub(crate) fn broken_whole<C: Choice>(
     cutting: Cutting,
     views: &[RecordView],

@@ -5,7 +5,7 @@ ghost use Rattle.mseed_repack.specs.Stretches.{IsOnTime};
 use mseed_time::{Micros, Ratio, drift};
 
 /// Returns whether a record that begins at `next` begins within a quarter of a sample period of the instant of the
-/// sample after `count` others, of which the first is at `start`, where leap seconds added so many microseconds.
+/// sample after `count` others, of which the first is at `start`, where leap seconds added `added` microseconds.
 pub(crate) fn is_on_time(start: Micros, count: u64, rate: Ratio, added: i64, next: Micros) -> bool
     requires few { count ≤ 2 ^ 60 }
     requires low { neg_ℤ (pos (2 ^ 61)) ≤ℤ added }

@@ -135,7 +135,7 @@ pub fn borders_are_kept()
 }
 
 /// What is said of a sample or a difference that an encoding doesn't hold names the numbers that it does hold: those of
-/// so many bits and no others. Where no bits are named, it holds any difference.
+/// the bits that are named and no others. Where no bits are named, it holds any difference.
 pub fn named_numbers_are_held()
     ensures samples { (e : Encoding) (z : ℤ) → IsSampleOf e z ↔ IsWithin (sample_bits e) z }
     ensures differences { (e : Encoding) (bits : ℕ) (z : ℤ) → difference_bits e ≡ Some bits

@@ -47,7 +47,6 @@ pub use law::{
     repacked_reads_back, stretches_read_back,
 };
 pub use misfit::{misfit_number, put_misfit_more};
-pub use packability::Packability;
 pub use refusing::{LeftOut, report_broken, report_misfit};
 pub use repacking::{repack, repack_selected};
 pub use restretching::{repack_selected_stretches, repack_stretches};

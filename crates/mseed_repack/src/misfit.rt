@@ -27,9 +27,9 @@ pub fn misfit_number(fault: &PackFault) -> u64
 
 /// Puts the line that says in words why a series can't be packed in an encoding at the end of a line, with its LF: of a
 /// rate that is too high what it is; of a time that is out of range which sample's it is, counted from 1, and its
-/// instant; of a sample that the encoding doesn't hold which one it is, counted from 1, what it
-/// is, and what the encoding holds; of a difference the same, by the sample after it. Puts nothing where the output
-/// failed, nor for a difference where the encoding holds any. At most 175 bytes.
+/// instant; of a sample that the encoding doesn't hold which one it is, counted from 1, what it is, and what the
+/// encoding holds; of a difference the same, by the sample after it. Puts nothing where the output failed, nor for a
+/// difference where the encoding holds any. At most 175 bytes.
 pub fn put_misfit_more(line: &mut Line, encoding: Encoding, fault: &PackFault)
     requires { length line.old + 175 ≤ LONGEST_LINE }
     ensures { line.new ≡ line.old ++ misfit_more encoding fault.now }
@@ -96,8 +96,8 @@ fn put_large_difference(line: &mut Line, encoding: Encoding, index: usize, diffe
     }
 }
 
-/// Puts which sample it is, counted from 1, what it or its difference is, and outside which numbers of so many bits
-/// that lies at the end of a line.
+/// Puts which sample it is, counted from 1, what it or its difference is, and outside which numbers that lies, those of
+/// `bits` bits, at the end of a line.
 fn put_outside(line: &mut Line, encoding: Encoding, bits: u32, index: usize, value: i64)
     requires some { 1 ≤ bits }
     requires most { bits ≤ 32 }
@@ -123,7 +123,7 @@ fn put_sample_number(line: &mut Line, index: usize)
     line.put_wide(index as u128 + 1);
 }
 
-/// Puts the least and the greatest of the signed numbers of so many bits at the end of a line.
+/// Puts the least and the greatest of the signed numbers of `bits` bits at the end of a line.
 fn put_range(line: &mut Line, bits: u32)
     requires some { 1 ≤ bits }
     requires most { bits ≤ 32 }

@@ -62,8 +62,7 @@ pub(crate) fn outline_records<'a, R: Walk<'a>>(
 ) -> Outline
     requires read { CanBeRead R.leads R.left records (length steps.old) }
     requires none { IsKnown before [] }
-    ensures outline { (key : List ℕ) → IsOutline key (R.left records)
-        result.samples result.steps result.nearness steps.new }
+    ensures outline { IsOutline (R.left records) result.samples result.steps result.nearness steps.new }
     ensures samples { result.samples ≡ samples_of (R.left records) }
     ensures steps_inside { result.steps ≤ length steps.new }
     ensures unpackable { result.unpackable ≡ true → AllByRecursion IsUnpackable (R.left records) }
@@ -81,7 +80,7 @@ pub(crate) fn outline_records<'a, R: Walk<'a>>(
     outline
 }
 
-/// The outline of some records that have so many samples, whose nearness isn't asked for. Where the list has no room
+/// The outline of some records with `samples` samples, whose nearness isn't asked for. Where the list has no room
 /// for a leap second there is none, and no record is looked at.
 pub(crate) fn outline_counted<'a, R: Walk<'a>>(
     records: R,
@@ -90,8 +89,7 @@ pub(crate) fn outline_counted<'a, R: Walk<'a>>(
 ) -> Outline
     requires read { CanBeRead R.leads R.left records (length steps.old) }
     requires count { samples ≡ samples_of (R.left records) }
-    ensures outline { (key : List ℕ) → IsOutline key (R.left records)
-        result.samples result.steps result.nearness steps.new }
+    ensures outline { IsOutline (R.left records) result.samples result.steps result.nearness steps.new }
     ensures steps_inside { result.steps ≤ length steps.new }
 {
     if steps.is_empty() {

@@ -74,18 +74,17 @@ fn find_own(views: &[RecordView], begin: usize, codes: &Codes) -> Option<Finding
 }
 
 /// Returns what is found of a record with samples by itself, if something is.
-fn own_finding(view: &RecordView) -> Option<Why>
+#[inline(always)]
+pub(crate) fn own_finding(view: &RecordView) -> Option<Why>
     requires { 0 < count_of (view_of view.now) }
     ensures { IsFound None (view_of view.now) result }
 {
-    let _start = match view.start() {
-        Ok(start) => start,
-        Err(fault) => return Some(Why::Time(fault)),
-    };
-    let _rate = match view.rate() {
-        Ok(rate) => rate,
-        Err(_) => return Some(Why::Rate),
-    };
+    if let Err(fault) = view.start() {
+        return Some(Why::Time(fault));
+    }
+    if let Err(_) = view.rate() {
+        return Some(Why::Rate);
+    }
     match check_samples(view) {
         Ok(_) => None,
         Err(fault) => Some(Why::Read(fault)),

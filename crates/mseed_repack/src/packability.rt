@@ -26,7 +26,7 @@ use std::alloc::{AllocError, Allocator};
 
 /// What is found of a channel, taken as a list of stretches.
 #[derive(Clone, Copy, Debug, PartialEq, Eq)]
-pub enum Packability {
+pub(crate) enum Packability {
     /// Each of its stretches can be packed.
     Fit,
     /// Some record has a finding of its own.
@@ -108,8 +108,8 @@ fn count_plain(verdict: &Verdict, plain: bool, encoding: Encoding) -> Option<usi
 }
 
 /// What is found of a channel with these records, each of which is known to be sound, or isn't. Where the channel isn't
-/// cut, they may be known to be plain, and to have so many samples. How each of its stretches is packed, if it fits, is
-/// put into a list, which is empty.
+/// cut, they may be known to be plain, and how many samples they have. How each of its stretches is packed, if it fits,
+/// is put into a list, which is empty.
 ///
 /// # Errors
 ///
@@ -143,10 +143,7 @@ fn plan_channel<'a, A: Allocator + Copy, R: Walk<'a>>(
         Cutting::Stretches => fit_stretches(alloc, records, options, plans, samples, steps),
         Cutting::Whole => match fit_series(alloc, records, plain, options, samples, steps)? {
             Fitting::Fits(way) => {
-                plans.push(Plan {
-                    records: usize::MAX,
-                    way,
-                })?;
+                plans.push(Plan { records: None, way })?;
                 Ok(Packability::Fit)
             }
             Fitting::Misfits(fault) => Ok(Packability::Misfit(1, fault)),
@@ -194,7 +191,7 @@ pub(crate) fn fit_stretches<'a, A: Allocator + Copy, R: Walk<'a>>(
         let stretch = Part { rest, count };
         match fit_series(alloc, stretch, None, options, samples, steps)? {
             Fitting::Fits(way) => plans.push(Plan {
-                records: count,
+                records: Some(count),
                 way,
             })?,
             Fitting::Misfits(fault) => return Ok(Packability::Misfit(

@@ -3,7 +3,6 @@ ghost use Rattle.std.specs.Prelude.{◌≡◌, ◌<◌, [], length, map, slice_i
 ghost use Rattle.mseed_record.specs.Viewing.{view_of};
 ghost use Rattle.mseed_repack.specs.ByStretches.{kept_of};
 ghost use Rattle.mseed_repack.specs.Repack.{Wrote};
-ghost use Rattle.mseed_repack.specs.Restretch.{IsNumberedOn};
 ghost use Rattle.mseed_repack.specs.private.Archives.{IsAudited};
 ghost use Rattle.mseed_repack.specs.private.Planning.{AreReady, CanBeWritten, IsPartOn, IsTextOn, PartsAs, TextsAs};
 ghost use Rattle.mseed_repack.specs.private.Planning.{stretches_by};
@@ -98,28 +97,13 @@ pub(crate) fn pack_stretches<'a, R: Walk<'a>, W: Sink>(
     let mut passed = 0;
     for plan in plans {
         rest = skip(rest, passed);
-        let stretch = Part {
-            rest,
-            count: plan.records,
-        };
+        let count = plan.most();
+        let stretch = Part { rest, count };
         match pack_series(stretch, plan.way, &next, samples, steps, packer, output) {
-            Ok(written) => next = numbered_on(&next, written),
+            Ok(written) => next = next.after(written),
             Err(_) => return Err(Failed),
         }
-        passed = plan.records;
+        passed = count;
     }
     Ok(())
-}
-
-/// Returns the options of what is written after so many records: their sequence numbers, of six digits, run on (SEED
-/// manual, chapter 8, fixed section of data header, field 1).
-fn numbered_on(options: &Options, count: u64) -> Options
-    ensures { IsNumberedOn options.now count result }
-{
-    let sequence = (u64::from(options.first_sequence) + count % 1_000_000) % 1_000_000;
-    Options {
-        exponent: options.exponent,
-        encoding: options.encoding,
-        first_sequence: sequence as u32,
-    }
 }

@@ -6,8 +6,7 @@ ghost use Rattle.mseed_steim.specs.Reading.{count_of, IsWhole};
 ghost use Rattle.mseed_audit.specs.Follows.{IsSound};
 ghost use Rattle.mseed_audit.specs.Judging.{step_in};
 ghost use Rattle.mseed_audit.specs.Series.{AreSteps, step_at};
-ghost use Rattle.mseed_repack.specs.private.Reading.{CanBeRead, samples_of, step_count, steps_of};
-ghost use Rattle.mseed_repack.specs.private.Planning.{AreOfAny};
+ghost use Rattle.mseed_repack.specs.private.Reading.{AreOf, CanBeRead, samples_of, step_count, steps_of};
 
 use crate::walk::Walk;
 use mseed_record::RecordView;
@@ -30,7 +29,7 @@ pub(crate) fn read_records<'a, R: Walk<'a>>(
 ) -> Read
     requires read { CanBeRead R.leads R.left records (length steps.old) }
     requires samples_fit { samples_of (R.left records) ≤ length samples.old }
-    ensures read { AreOfAny (R.left records) (take result.samples samples.new) (take result.steps steps.new) }
+    ensures read { AreOf (R.left records) (take result.samples samples.new) (take result.steps steps.new) }
     ensures places { AreSteps result.samples (take result.steps steps.new) }
     ensures samples_inside { result.samples ≤ length samples.new }
     ensures steps_inside { result.steps ≤ length steps.new }

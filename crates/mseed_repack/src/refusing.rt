@@ -13,7 +13,7 @@ ghost use Rattle.mseed_repack.specs.Misfits.{misfit_line, misfit_number, misfit_
 ghost use Rattle.mseed_repack.specs.private.Archives.{IsAudited};
 ghost use Rattle.mseed_repack.specs.private.Places.{ArePlaces};
 ghost use Rattle.mseed_repack.specs.private.Planning.{IsPackabilityAs};
-ghost use Rattle.mseed_repack.specs.private.Restretching.{AreUnsound, IsFirstRefused, IsNoMisfit, IsUnbroken};
+ghost use Rattle.mseed_repack.specs.private.Restretching.{AreFoundAs, IsFirstRefused, IsUnbroken};
 ghost use Rattle.mseed_repack.specs.declared.packability.Packability.{Packability};
 ghost use Rattle.mseed_repack.specs.declared.stretching.Cutting.{Cutting};
 
@@ -51,7 +51,7 @@ pub(crate) fn refusal_unless<C: Choice>(
 ) -> Option<RepackFault>
     requires audited { IsAudited archive.now }
     requires each { length packabilities.now ≡ length archive.now.channels.now }
-    requires unsound { AreUnsound (map view_of archive.now.views.now) archive.now.channels.now packabilities.now }
+    requires found { AreFoundAs (map view_of archive.now.views.now) archive.now.channels.now packabilities.now }
     ensures some { IfSome result (λ fault. (cutting : Cutting) (o : Options) (ps : List Placed)
         → ArePlaces (C.selection places.now.choice.now) places.now.bytes.now (map view_of archive.now.views.now) ps
         → AreFound (IsPackabilityAs cutting o) (map view_of archive.now.views.now)
@@ -96,11 +96,12 @@ fn first_broken(packabilities: &[Packability]) -> Option<usize>
 /// Returns the index of the first channel of which a stretch doesn't fit, with the stretch's number, from 1, and the
 /// reason.
 fn first_misfit(packabilities: &[Packability]) -> Option<(usize, u64, PackFault)>
+    requires { All IsUnbroken packabilities.now }
     ensures inside { IfSome result (λ found. found.0 < length packabilities.now) }
     ensures some { IfSome result (λ found. slice_index_or packabilities.now found.0 Packability.Fit
         ≡ Packability.Misfit found.1 found.2) }
-    ensures before { IfSome result (λ found. All IsNoMisfit (take found.0 packabilities.now)) }
-    ensures none { IfNone result (All IsNoMisfit packabilities.now) }
+    ensures before { IfSome result (λ found. All IsFit (take found.0 packabilities.now)) }
+    ensures none { IfNone result (All IsFit packabilities.now) }
 {
     for (number, packability) in packabilities.iter().enumerate() {
         if let Packability::Misfit(stretch, fault) = *packability {

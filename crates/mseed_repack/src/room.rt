@@ -4,7 +4,7 @@ ghost use Rattle.std.specs.Prelude.{◌≡◌, ◌<◌, ◌≤◌, length, IfOk,
 use mseed_time::LeapStep;
 use std::alloc::{AllocError, Allocator};
 
-/// Lets a list have room for so many samples, where it has less. What it held is let go of before more is requested.
+/// Lets a list have room for `count` samples, where it has less. What it held is let go of before more is requested.
 ///
 /// # Errors
 ///
@@ -27,7 +27,7 @@ pub(crate) fn make_room<A: Allocator + Copy>(
     Ok(())
 }
 
-/// So many leap seconds.
+/// A list of `count` leap seconds, to be filled in.
 pub(crate) fn blank_steps<A: Allocator + Copy>(
     alloc: A,
     count: usize,

@@ -9,9 +9,9 @@ ghost use Rattle.mseed_pack.specs.Traces.{headed, trace_of};
 ghost use Rattle.mseed_repack.specs.private.Outline.{AreHeld, IsKnown, says_near};
 ghost use Rattle.mseed_repack.specs.private.Reading.{AreOf, CanBeRead, IsSoundWalk, samples_of};
 ghost use Rattle.mseed_repack.specs.private.Supplying.{AreCounted};
-ghost use Rattle.mseed_repack.specs.private.Planning.{AreOfAny, GoesBy, IsBegunBy, IsFitting, IsStretchWritten};
+ghost use Rattle.mseed_repack.specs.private.Planning.{GoesBy, IsBegunBy, IsFitting, IsStretchWritten};
 ghost use Rattle.mseed_repack.specs.private.Planning.{room_of};
-ghost use Rattle.mseed_repack.specs.declared.unpacking.TheConstants.{ROOM};
+ghost use Rattle.mseed_pack.specs.declared.window.TheConstants.{MOST_DIFFERENCES};
 ghost use Rattle.mseed_repack.specs.Repack.{StretchFits, StretchMisfits};
 ghost use Rattle.mseed_repack.specs.declared.plan.Way.TheVariants.{Frames};
 ghost use Rattle.mseed_repack.specs.declared.series.Fitting.TheVariants.{Fits};
@@ -21,11 +21,12 @@ use crate::plan::Way;
 use crate::reading::read_records;
 use crate::room::make_room;
 use crate::stretch::Stretch;
-use crate::unpacking::{ROOM, Unpacking, first_sample};
+use crate::unpacking::{Unpacking, first_sample};
 use crate::walk::Walk;
 use mseed_audit::one_series;
 use mseed_pack::{
-    Encoding, Options, PackFault, Packer, SeriesHead, SeriesView, fit_head, fit_view,
+    Encoding, MOST_DIFFERENCES, Options, PackFault, Packer, SeriesHead, SeriesView, fit_head,
+    fit_view,
 };
 use mseed_stream::Sink;
 use mseed_time::LeapStep;
@@ -41,7 +42,7 @@ pub(crate) enum Fitting {
 }
 
 /// Returns whether the series of some records can be packed, and which way it goes. Where they are known to be plain,
-/// and to have so many samples, none of them is looked at but the first. The samples are read only where less doesn't
+/// and how many samples they have, none is looked at but the first. The samples are read only where less doesn't
 /// show that they fit. Memory is requested only where the list of samples is too short: for all samples of a series
 /// that goes by a list, and for those of one record where the series goes from frames to frames.
 ///
@@ -69,7 +70,7 @@ pub(crate) fn fit_series<'a, A: Allocator + Copy, R: Walk<'a>>(
         if let Err(fault) = fit_plain(records, count, options, steps) {
             return Ok(Fitting::Misfits(fault));
         }
-        make_room(alloc, samples, ROOM)?;
+        make_room(alloc, samples, MOST_DIFFERENCES)?;
         return Ok(Fitting::Fits(Way::Frames(count)));
     }
     let outline = outline_records(records, nearness_before(options.encoding), steps);
@@ -79,7 +80,7 @@ pub(crate) fn fit_series<'a, A: Allocator + Copy, R: Walk<'a>>(
     }
     let held = held_way(&outline, options.encoding);
     if let Some(Way::Frames(count)) = held {
-        make_room(alloc, samples, ROOM)?;
+        make_room(alloc, samples, MOST_DIFFERENCES)?;
         return Ok(Fitting::Fits(Way::Frames(count)));
     }
     make_room(alloc, samples, outline.samples)?;
@@ -89,7 +90,7 @@ pub(crate) fn fit_series<'a, A: Allocator + Copy, R: Walk<'a>>(
     }
 }
 
-/// Tells whether the series of some records can be packed that are plain, and have so many samples: it goes from frames
+/// Tells whether the series of some records can be packed that are plain, and have `count` samples: it goes from frames
 /// to frames, where there is room for the samples of one record.
 ///
 /// # Errors
@@ -103,7 +104,7 @@ fn fit_plain<'a, R: Walk<'a>>(
 ) -> Result<(), PackFault>
     requires read { CanBeRead R.leads R.left records (length steps.old) }
     requires plain { AreCounted options.now.encoding count (R.left records) }
-    ensures fits { OnOk result (IsFitting options.now ROOM (R.left records) (Fits (Frames count))) }
+    ensures fits { OnOk result (IsFitting options.now MOST_DIFFERENCES (R.left records) (Fits (Frames count))) }
     ensures misfits { IfErr result (λ fault. StretchMisfits options.now fault (R.left records)) }
 {
     let outline = outline_counted(records, count, steps);
@@ -212,7 +213,7 @@ fn head_of<'s, 'a, R: Walk<'a>>(
 ) -> SeriesHead<'s>
     requires { IsSoundWalk R.leads R.left records }
     // With the samples of the records it is their series.
-    ensures series { (xs : List ℤ) → AreOf result.codes (R.left records) xs steps.now
+    ensures series { (xs : List ℤ) → AreOf (R.left records) xs steps.now
         → IsSeriesOf (headed result xs) (R.left records) }
     ensures first { (xs : List ℤ) → AreJoined (R.left records) xs → slice_index_or xs 0 (pos 0) ≡ result.first }
     ensures count { result.count ≡ count }
@@ -235,7 +236,7 @@ fn series_of<'a>(
     samples: &'a [i32],
     steps: &'a [(u64, LeapStep)],
 ) -> SeriesView<'a>
-    ensures series { (vs : List View) → IsBegunBy stretch.now vs → AreOfAny vs samples.now steps.now
+    ensures series { (vs : List View) → IsBegunBy stretch.now vs → AreOf vs samples.now steps.now
         → IsSeriesOf (trace_of result) vs }
     ensures samples { result.samples.now ≡ samples.now }
     ensures steps { result.steps.now ≡ steps.now }

@@ -4,9 +4,9 @@ ghost use Rattle.mseed_record.specs.Viewing.{view_of};
 ghost use Rattle.mseed_steim.specs.Reading.{count_of};
 ghost use Rattle.mseed_audit.specs.Follows.{IsSound};
 
-use crate::stretch::beginning_of;
+use crate::own::own_finding;
 use mseed_record::RecordView;
-use mseed_steim::{check_samples, one_reading};
+use mseed_steim::{one_fault, one_reading};
 
 /// Returns whether a record with samples has no finding of its own: its time and its rate are known, and it has one
 /// reading, which ends on its constants.
@@ -15,11 +15,6 @@ pub fn is_sound(view: &RecordView) -> bool
     ensures { IsTrue result ↔ IsSound (view_of view.now) }
 {
     one_reading();
-    let Some(_) = beginning_of(view) else {
-        return false;
-    };
-    match check_samples(view) {
-        Ok(_) => true,
-        Err(_) => false,
-    }
+    one_fault();
+    own_finding(view).is_none()
 }

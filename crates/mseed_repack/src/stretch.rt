@@ -30,7 +30,7 @@ pub struct Stretch {
     pub added: i64,
     /// Whether the last record has both leap flags: no record goes on with it.
     pub closed: bool,
-    /// There are so many records at most.
+    /// There are at most 2^40 records.
     pub ghost few: { records ≤ 2 ^ 40 },
     /// A record has at most 65,535 samples.
     pub ghost samples_bound: { samples ≤ records * 65_535 },

@@ -8,13 +8,12 @@ ghost use Rattle.mseed_steim.specs.Samples.{differences_from};
 ghost use Rattle.mseed_steim.specs.Spelling.{IsWithin};
 ghost use Rattle.mseed_audit.specs.Follows.{IsSound};
 ghost use Rattle.mseed_audit.specs.Series.{AreJoined};
-ghost use Rattle.mseed_repack.specs.declared.unpacking.TheConstants.{ROOM};
 ghost use Rattle.mseed_repack.specs.private.Outline.{last_after};
 ghost use Rattle.mseed_repack.specs.private.Reading.{IsSoundWalk};
 ghost use Rattle.mseed_repack.specs.private.Supplying.{IsSupplied, IsUnpackable};
 
 use crate::walk::Walk;
-use mseed_pack::Supply;
+use mseed_pack::{MOST_DIFFERENCES, Supply};
 use mseed_record::RecordView;
 use mseed_steim::{ends_of, is_steim, unpack_differences};
 use std::marker::PhantomData;
@@ -25,9 +24,6 @@ const LINE: usize = 64;
 /// How many lines of a record are touched before it is unpacked: all of one of 512 bytes. Of longer records the
 /// processor fetches the others by itself.
 const TOUCHED: usize = 8;
-
-/// The most differences of a record that is unpacked: as many as 1008 words hold, seven each.
-pub(crate) const ROOM: usize = 7 * 1008;
 
 /// The differences of the samples of some records, each of Steim frames, of which no list is made. Each record is
 /// unpacked where its differences are wanted, or, where there isn't place for all of them, in a room that is lent, from
@@ -144,7 +140,7 @@ fn touch(bytes: &[u8]) -> u8 {
 pub(crate) fn is_unpackable(view: &RecordView) -> bool
     ensures { IsTrue result ↔ IsUnpackable (view_of view.now) }
 {
-    if usize::from(view.samples()) > ROOM {
+    if usize::from(view.samples()) > MOST_DIFFERENCES {
         return false;
     }
     is_steim(view)
@@ -162,7 +158,7 @@ pub(crate) fn first_sample<'a, R: Walk<'a>>(records: R) -> i32
     }
 }
 
-/// Unpacks the differences of a sound record's samples, the first one's from the sample before it, and answers the
+/// Unpacks the differences of a sound record's samples, the first one's from the sample before it, and returns the
 /// last sample.
 fn unpack(view: &RecordView<'_>, before: i32, out: &mut [i32]) -> i32
     requires sound { IsSound (view_of view.now) }

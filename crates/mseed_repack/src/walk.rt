@@ -69,7 +69,7 @@ impl<'a, R: Walk<'a>> Walk<'a> for Part<R> {
     }
 }
 
-/// Returns what is left of a walk after so many records.
+/// Returns what is left of a walk after `count` records.
 pub(crate) fn skip<'a, R: Walk<'a>>(records: R, count: usize) -> R
     requires { R.leads records }
     ensures leads { R.leads result }

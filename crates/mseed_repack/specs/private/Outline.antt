@@ -1,14 +1,13 @@
 -- What is known of a channel's samples before they are read.
-use Rattle.std.specs.Prelude.{⊤, ◌≡◌, ℕ, Bool, true, false, ℤ, List, [], ◌∷◌, take, length, All}
+use Rattle.std.specs.Prelude.{⊤, ◌≡◌, ℕ, Bool, true, false, ℤ, List, [], ◌∷◌, take, All}
 use Rattle.std.specs.List.{AllByRecursion}
 use Rattle.mseed_time.specs.declared.outcome.LeapStep.{LeapStep}
 use Rattle.mseed_record.specs.View.{View}
 use Rattle.mseed_steim.specs.Spelling.{IsWithin}
-use Rattle.mseed_audit.specs.Series.{AreSteps}
 use Rattle.mseed_pack.specs.Fitting.{IsDifferenceOf, IsSampleOf}
 use Rattle.mseed_pack.specs.Stretches.{differences}
 use Rattle.mseed_steim.specs.declared.encoding.Encoding.{Encoding}
-use Rattle.mseed_repack.specs.private.Reading.{AreOf}
+use Rattle.mseed_repack.specs.private.Reading.{IsRead}
 use Rattle.mseed_repack.specs.declared.outline.Nearness.{Nearness}
 use Rattle.mseed_repack.specs.declared.outline.Nearness.TheVariants.{Empty, Near, Unknown}
 
@@ -42,13 +41,11 @@ says_near Empty = false
 says_near (Near last) = true
 says_near Unknown = false
 
--- The samples of these records are so many numbers of 32 bits, of which this is known, and their leap seconds are the
+-- The samples of these records are numbers of 32 bits, so many, of which this is known, and their leap seconds are the
 -- first so many of a list.
-pub record IsOutline (key : List ℕ) (vs : List View) (count bears : ℕ) (nearness : Nearness)
-    (steps : List (ℕ × LeapStep)) : Type 0 where
+pub record IsOutline (vs : List View) (count bears : ℕ) (nearness : Nearness) (steps : List (ℕ × LeapStep)) : Type
+    0 where
   pub samples : List ℤ
-  pub are : AreOf key vs samples (take bears steps)
-  pub places : AreSteps count (take bears steps)
-  pub count_is : count ≡ length samples
+  pub read : IsRead count bears samples (take bears steps) vs
   pub within : All (IsWithin 32) samples
   pub known : IsKnown nearness samples

@@ -1,8 +1,7 @@
 -- How the channels of an archive are packed: each by its stretches, of which a channel that is packed whole has one.
-use Rattle.std.specs.Prelude.{⊤, ◌≡◌, ◌≢◌, ℕ, ◌≤◌, ◌^◌, ℤ, List, [], ◌∷◌, ◌++◌, length, take, drop}
+use Rattle.std.specs.Prelude.{⊤, ◌≡◌, ◌≢◌, ℕ, ◌-◌, ◌≤◌, ◌^◌, List, [], ◌∷◌, ◌++◌, length, take, drop, unwrap_or}
 use Rattle.std.specs.Prelude.{Result, Ok, Err}
 use Rattle.std.specs.List.{concat, AllByRecursion}
-use Rattle.mseed_time.specs.declared.outcome.LeapStep.{LeapStep}
 use Rattle.mseed_record.specs.View.{View}
 use Rattle.mseed_stream.specs.Device.{BytesWritten}
 use Rattle.mseed_audit.specs.Follows.{IsSound}
@@ -12,7 +11,7 @@ use Rattle.mseed_repack.specs.declared.stretch.Stretch.{Stretch}
 use Rattle.mseed_pack.specs.Options.{IsSteim}
 use Rattle.mseed_steim.specs.declared.encoding.Encoding.{Encoding}
 use Rattle.mseed_pack.specs.declared.options.Options.{Options}
-use Rattle.mseed_repack.specs.private.Reading.{AreOf, samples_of, steps_of}
+use Rattle.mseed_repack.specs.private.Reading.{samples_of, steps_of}
 use Rattle.mseed_repack.specs.private.Supplying.{AreUnread}
 use Rattle.mseed_repack.specs.Repack.{AreTexts, Channel, IsPackedInPart, IsSeriesText, IsTextUpTo, StretchFits}
 use Rattle.mseed_repack.specs.Repack.{StretchMisfits, Wrote, records_in}
@@ -25,13 +24,9 @@ use Rattle.mseed_repack.specs.declared.series.Fitting.{Fitting}
 use Rattle.mseed_repack.specs.declared.series.Fitting.TheVariants.{Fits, Misfits}
 use Rattle.mseed_repack.specs.declared.packability.Packability.{Packability}
 use Rattle.mseed_repack.specs.declared.packability.Packability.TheVariants.{Fit, Broken, Misfit}
-use Rattle.mseed_repack.specs.declared.unpacking.TheConstants.{ROOM}
+use Rattle.mseed_pack.specs.declared.window.TheConstants.{MOST_DIFFERENCES}
 use Rattle.mseed_repack.specs.declared.stretching.Cutting.{Cutting}
 use Rattle.mseed_repack.specs.declared.stretching.Cutting.TheVariants.{Whole, Stretches}
-
--- the samples and leap seconds are those of the records, whatever their key is
-abbrev pub AreOfAny : List View → List ℤ → List (ℕ × LeapStep) → Type 0
-AreOfAny vs samples steps = (key : List ℕ) → AreOf key vs samples steps
 
 -- what is kept of a stretch tells how its first record begins
 abbrev pub IsBegunBy : Stretch → List View → Type 0
@@ -48,10 +43,14 @@ abbrev pub IsStretchWritten : {E : Type 0} → Options → List View → Result 
 IsStretchWritten o s (Ok count) old new = Wrote (IsStretchText o s count) 0 old new
 IsStretchWritten o s (Err fault) old new = Wrote (IsPackedInPart o s) 1 old new
 
+-- how many records a stretch has at the most: as many as it is planned with, or as many as there can be
+abbrev pub most_of : Plan → ℕ
+most_of p = unwrap_or p.records (2 ^ 64 - 1)
+
 -- some records as stretches, one after another: each of so many as it is planned with, or of as many as are left
 abbrev pub stretches_by : List Plan → List View → List (List View)
 stretches_by [] vs = []
-stretches_by (p ∷ ps) vs = take p.records vs ∷ stretches_by ps (drop p.records vs)
+stretches_by (p ∷ ps) vs = take (most_of p) vs ∷ stretches_by ps (drop (most_of p) vs)
 
 -- a stretch has a record, each is sound, no more than a loop can count, and there is room for so many leap seconds
 pub record IsReadable (places : ℕ) (s : List View) : Type 0 where
@@ -63,7 +62,8 @@ pub record IsReadable (places : ℕ) (s : List View) : Type 0 where
 -- A stretch goes this way: from frames to frames, where its records can, it has so many samples, and there is room for
 -- those of one record; or by a list, where there is room for all.
 abbrev pub GoesBy : Encoding → ℕ → Way → List View → Type 0
-GoesBy encoding room (Frames count) s = IsSteim encoding × AreUnread s × (count ≡ samples_of s) × (ROOM ≤ room)
+GoesBy encoding room (Frames count) s =
+    IsSteim encoding × AreUnread s × (count ≡ samples_of s) × (MOST_DIFFERENCES ≤ room)
 GoesBy encoding room Listed s = samples_of s ≤ room
 
 -- what is found of a series: it can be packed, and goes this way; or it can't, for this reason
@@ -73,7 +73,7 @@ IsFitting o room s (Misfits fault) = StretchMisfits o fault s
 
 -- so many samples there has to be room for: by a list, and where only the samples show that they don't fit, for all
 abbrev pub room_of : Fitting → List View → ℕ
-room_of (Fits (Frames count)) s = ROOM
+room_of (Fits (Frames count)) s = MOST_DIFFERENCES
 room_of (Fits Listed) s = samples_of s
 room_of (Misfits fault) s = samples_of s
 
@@ -112,7 +112,7 @@ pub record IsPlanned (o : Options) (room places : ℕ) (way : Way) (s : List Vie
 abbrev pub CanBeWritten : Options → ℕ → ℕ → List Plan → List View → Type 0
 CanBeWritten o room places [] vs = ⊤
 CanBeWritten o room places (p ∷ ps) vs =
-    IsPlanned o room places p.way (take p.records vs) × CanBeWritten o room places ps (drop p.records vs)
+    IsPlanned o room places p.way (take (most_of p) vs) × CanBeWritten o room places ps (drop (most_of p) vs)
 
 -- what is found of a channel that is packed whole
 abbrev pub IsPackabilityWhole : Options → List View → Packability → Type 0

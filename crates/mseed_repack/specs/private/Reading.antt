@@ -2,12 +2,11 @@
 use Rattle.std.specs.Prelude.{◌≡◌, ◌≢◌, ℕ, ◌+◌, ◌≤◌, ◌^◌, ℤ, List, [], ◌∷◌, length, take, drop}
 use Rattle.std.specs.List.{AllByRecursion, filter}
 use Rattle.mseed_time.specs.declared.outcome.LeapStep.{LeapStep}
-use Rattle.mseed_time.specs.declared.rate.Rate.{Rate}
 use Rattle.mseed_record.specs.View.{View, leap_of}
 use Rattle.mseed_audit.specs.Channels.{is_of_channel}
 use Rattle.mseed_audit.specs.Follows.{IsSound}
 use Rattle.mseed_audit.specs.Judging.{step_in}
-use Rattle.mseed_audit.specs.Series.{HoldsAll, step_at}
+use Rattle.mseed_audit.specs.Series.{AreJoined, AreSteps, step_at, steps_from}
 use Rattle.mseed_repack.specs.Stretches.{IsFirstStretch}
 pub use Rattle.mseed_repack.specs.Stretches.{samples_of}
 
@@ -24,17 +23,18 @@ steps_of (v ∷ vs) = step_count v + steps_of vs
 abbrev pub channel_in : List ℕ → List View → List View
 channel_in key views = filter (is_of_channel key) views
 
--- the samples and leap seconds are those of the records, whatever the start and the rate are
-abbrev pub AreOf : List ℕ → List View → List ℤ → List (ℕ × LeapStep) → Type 0
-AreOf key vs samples steps =
-    (start : ℤ) (rate : Rate)
-    → HoldsAll key start rate vs (record {
-      codes = key;
-      start = start;
-      rate = rate;
-      samples = samples;
-      steps = steps;
-    })
+-- the samples and leap seconds are those of the records
+pub record AreOf (vs : List View) (samples : List ℤ) (steps : List (ℕ × LeapStep)) : Type 0 where
+  pub samples_are : AreJoined vs samples
+  pub steps_are : steps ≡ steps_from 0 vs
+
+-- they are, and so many: each leap second stands at one of the samples
+pub record IsRead (m k : ℕ) (samples : List ℤ) (steps : List (ℕ × LeapStep)) (vs : List View) : Type 0 where
+  pub are : AreOf vs samples steps
+  pub places : AreSteps m steps
+  pub size : length samples ≡ m
+  pub samples_count : m ≡ samples_of vs
+  pub steps_count : k ≡ steps_of vs
 
 -- a walk leads to records, of which each is sound
 pub record IsSoundWalk {S : Type 0} (leads : S → Type 0) (left : S → List View) (walk : S) : Type 0 where

@@ -26,10 +26,10 @@ use Rattle.mseed_repack.specs.declared.packability.Packability.TheVariants.{Fit,
 use Rattle.mseed_repack.specs.declared.stretching.Cutting.{Cutting}
 use Rattle.mseed_repack.specs.declared.stretching.Cutting.TheVariants.{Whole, Stretches}
 
--- a channel that is said to be broken has a record that isn't sound
-abbrev pub AreUnsound : List View → List Channel → List Packability → Type 0
-AreUnsound views channels packabilities =
-    AreFound (λ vs s. s ≡ IsBroken → ¬ (AllByRecursion IsSound vs)) views channels packabilities
+-- by some way to cut the channels, and some options, this is found of them
+abbrev pub AreFoundAs : List View → List Channel → List Packability → Type 0
+AreFoundAs views channels packabilities =
+    (cutting : Cutting) × ((o : Options) × AreFound (IsPackabilityAs cutting o) views channels packabilities)
 
 -- the fault is the first channel that is broken, or else the first that doesn't fit, where channels are cut so; these
 -- are
@@ -49,12 +49,6 @@ abbrev pub IsUnbroken : Packability → Type 0
 IsUnbroken Fit = ⊤
 IsUnbroken IsBroken = ⊥
 IsUnbroken (IsMisfit number fault) = ⊤
-
--- no stretch of it is known not to fit
-abbrev pub IsNoMisfit : Packability → Type 0
-IsNoMisfit Fit = ⊤
-IsNoMisfit IsBroken = ⊤
-IsNoMisfit (IsMisfit number fault) = ⊥
 
 -- at a fault of the input it is reported how many records lack a time before it; refused memory is none of the input's
 abbrev pub ReportsAtFault : Selection → StreamFault → List ℕ → BytesWritten → BytesWritten → Type 0

@@ -3,13 +3,14 @@ use Rattle.std.specs.Prelude.{⊤, ◌≡◌, ℕ, ◌+◌, ◌-◌, ◌≤◌, 
 use Rattle.std.specs.List.{AllByRecursion}
 use Rattle.mseed_record.specs.View.{View}
 use Rattle.mseed_steim.specs.Reading.{IsSteim, IsWhole, count_of}
+use Rattle.mseed_steim.specs.Samples.{differences_from}
 use Rattle.mseed_steim.specs.Spelling.{IsWithin}
 use Rattle.mseed_steim.specs.declared.encoding.Encoding.{Encoding}
 use Rattle.mseed_audit.specs.Follows.{IsSound}
 use Rattle.mseed_audit.specs.Series.{AreJoined}
 use Rattle.mseed_pack.specs.Options.{IsSteim as IsSteimEncoding}
 use Rattle.mseed_pack.specs.Stretches.{differences}
-use Rattle.mseed_repack.specs.declared.unpacking.TheConstants.{ROOM}
+use Rattle.mseed_pack.specs.declared.window.TheConstants.{MOST_DIFFERENCES}
 use Rattle.mseed_repack.specs.private.Outline.{AreNear, last_after}
 use Rattle.mseed_repack.specs.private.Reading.{samples_of}
 
@@ -27,7 +28,7 @@ pub record AreCut (vs : List View) (most : ℕ) (last : ℤ) (samples unpacked b
   pub fits : AllByRecursion (λ v. count_of v ≤ most) vs
   pub parts : samples ≡ unpacked ++ behind
   pub joined : AreJoined vs behind
-  pub near : AreNear samples
+  pub near : AllByRecursion (IsWithin 30) (differences_from last behind)
   pub last_is : IsLast last unpacked behind
 
 -- Of the samples so many differences were given. These records weren't unpacked yet; of those that were, a room holds
@@ -44,7 +45,7 @@ pub record IsSupplied (vs : List View) (last : ℤ) (room : List ℤ) (at end : 
 
 -- a record is of Steim frames, and has no more differences than there is room for
 abbrev pub IsUnpackable : View → Type 0
-IsUnpackable v = IsSteim v × (count_of v ≤ ROOM)
+IsUnpackable v = IsSteim v × (count_of v ≤ MOST_DIFFERENCES)
 
 -- the first and the last of some samples have 29 bits at the most, and each is near the one before it
 abbrev pub AreBounded : List ℤ → Type 0

@@ -1,5 +1,4 @@
-use Rattle.std.proofs.Common.{◌∙◌, subst}
-use Rattle.mseed_stream.specs.LineWritten.{WritesLine}
+use Rattle.std.proofs.Common.{◌∙◌}
 use Rattle.mseed_repack.proofs.AskedFor.{none_lacks, some_lack}
 use Rattle.mseed_repack.proofs.asked.report_without_time.Goals as goal
 

@@ -1,10 +1,11 @@
-use Rattle.std.proofs.Common.{arith, map, ap, sym, refl, true, false}
+use Rattle.std.proofs.Common.{map, ap, sym, refl}
 use Rattle.mseed_record.specs.Viewing.{view_of}
 use Rattle.mseed_audit.specs.Follows.{IsContinuous}
 use Rattle.mseed_audit.specs.Verdict.{says_continuous}
 use Rattle.mseed_repack.specs.Repack.{Channel, records_in}
 use Rattle.mseed_repack.proofs.InPlaces.{first_number}
-use Rattle.mseed_repack.proofs.Repacks.{all_passed, broken_at, continuous_next, first_said}
+use Rattle.mseed_repack.proofs.Packabilities.{all_to_end}
+use Rattle.mseed_repack.proofs.Repacks.{broken_at, continuous_next, first_said}
 use Rattle.mseed_repack.proofs.broken.first_broken.Goals as goal
 
 pub returns-in-Some-clause-some : goal.returns-in-Some-clause-some
@@ -28,5 +29,5 @@ loop-channel-preserved c =
 
 pub returns-clause-none : goal.returns-clause-none
 returns-clause-none c =
-    all_passed (λ (d : Channel). IsContinuous (records_in (map view_of c.args.views.now) d.0)) c.args.channels.now
-    c.loop-channel.channel-index (omega (arith, c.loop-channel-test.false)) c.loop-channel.invariant
+    all_to_end (λ (d : Channel). IsContinuous (records_in (map view_of c.args.views.now) d.0)) _ _
+    c.loop-channel-test.false c.loop-channel.invariant

@@ -1,4 +1,3 @@
-use Rattle.std.proofs.Common.{length}
 use Rattle.mseed_repack.specs.private.Planning.{stretches_by}
 use Rattle.mseed_repack.specs.declared.stretching.Cutting.TheVariants.{Stretches}
 use Rattle.mseed_repack.proofs.Planning.{channel_fits, part_as, text_as, wrote_as}

@@ -1,4 +1,4 @@
-use Rattle.std.proofs.Common.{◌≤◌, ◌+◌, ◌^◌, ℕ, List, length, map, take, arith, sym, subst, ap, ◌∙◌}
+use Rattle.std.proofs.Common.{◌≤◌, ◌+◌, ◌^◌, ℕ, List, length, map, take, arith, sym, ap, ◌∙◌}
 use Rattle.std.proofs.lemmas.Bool.{OnTrue_at, false≢true}
 use Rattle.std.proofs.lemmas.List.{take_all}
 use Rattle.mseed_record.specs.Viewing.{view_of}

@@ -1,9 +1,5 @@
-use Rattle.std.proofs.Common.{rules, subst, Result, ℕ}
-use Rattle.std.specs.Cmp.Lexicographic.{slice_cmp}
-use Rattle.std.specs.List.Sorted.{IsBinarySearchResult}
-use Rattle.std.specs.Ordering.{nat_cmp}
+use Rattle.std.proofs.Common.{rules}
 use Rattle.std.proofs.lemmas.List.Sorted.{answers_always}
-use Rattle.mseed_repack.specs.Repack.{Channel}
 use Rattle.mseed_repack.proofs.Linked.{searched_none, searched_some}
 use Rattle.mseed_repack.proofs.links.find_channel.Goals as goal
 

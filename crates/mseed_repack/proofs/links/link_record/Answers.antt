@@ -1,4 +1,4 @@
-use Rattle.std.proofs.Common.{◌≡◌, ◌<◌, List, ℕ, All, subst, arith, false, true, get_or}
+use Rattle.std.proofs.Common.{◌≡◌, ◌<◌, All, arith, false, true, get_or}
 use Rattle.mseed_record.specs.Header.{key_at}
 use Rattle.mseed_record.specs.Viewing.{view_of}
 use Rattle.mseed_steim.specs.Reading.{count_of}

@@ -1,5 +1,4 @@
-use Rattle.std.proofs.Common.{◌≡◌, ℕ, ◌+◌, ◌-◌, ◌<◌, length, subst, arith}
-use Rattle.mseed_repack.specs.private.Links.{AreLinksFrom}
+use Rattle.std.proofs.Common.{◌≡◌, ℕ, ◌+◌, ◌-◌, ◌<◌, length, arith}
 use Rattle.mseed_repack.proofs.Linked.{links_none}
 use Rattle.mseed_repack.proofs.links.link_records.Goals as goal
 

@@ -1,8 +1,5 @@
-use Rattle.std.proofs.Common.{List, map, subst, sym}
-use Rattle.std.specs.List.{AllByRecursion}
-use Rattle.mseed_record.specs.View.{View}
+use Rattle.std.proofs.Common.{map, sym}
 use Rattle.mseed_record.specs.Viewing.{view_of}
-use Rattle.mseed_audit.specs.Follows.{IsSound}
 use Rattle.mseed_repack.proofs.InPlaces.{own_first}
 use Rattle.mseed_repack.proofs.OwnFindings.{none_before}
 use Rattle.mseed_repack.proofs.own.first_own.Goals as goal

@@ -1,14 +1,10 @@
-use Rattle.std.proofs.Common.{◌≡◌, Option, Some, None, IsSome, false, true, refl, sym}
+use Rattle.mseed_repack.proofs.Joining.{rate_there}
+use Rattle.std.proofs.Common.{◌≡◌, Some, false, true, refl, sym}
 use Rattle.mseed_record.specs.View.{View}
 use Rattle.mseed_record.specs.Viewing.{view_of}
 use Rattle.mseed_audit.specs.Judging.{after, rate, rate_in, read, time}
 use Rattle.mseed_audit.proofs.Judged.{known_timed, none_unless}
 use Rattle.mseed_repack.proofs.own.own_finding.Goals as goal
-
--- what there is
-some_of : {X : Type 0} (x : Option X) → IsSome x → (y : X) × (x ≡ Some y)
-some_of None is = absurd (let no : false ≡ true = is in cc)
-some_of (Some y) is = (y, refl)
 
 pub returns-in-Err : goal.returns-in-Err
 returns-in-Err c = time c.in-Err.fault (sym c.in-Err.ensures.fault)
@@ -16,20 +12,20 @@ returns-in-Err c = time c.in-Err.fault (sym c.in-Err.ensures.fault)
 pub returns-in-Err-rate : goal.returns-in-Err-rate
 returns-in-Err-rate c =
     let v : View = view_of c.args.view.now in
-    rate (sym c.in-Ok.ensures.fault)
+    rate (sym c.in_default.ensures.fault)
     (none_unless (rate_in v) (λ some. let no : false ≡ true = c.in-Err-rate.ensures.ok.1 some in cc))
 
-pub returns-in-Ok-check_samples : goal.returns-in-Ok-check_samples
-returns-in-Ok-check_samples c =
+pub returns-in-Ok : goal.returns-in-Ok
+returns-in-Ok c =
     let v : View = view_of c.args.view.now in
-    let next = some_of (rate_in v) (c.in-Ok-rate.ensures.ok.0 refl) in
-    let ends = c.in-Ok-check_samples.ensures.ends in
-    after next.0 (known_timed v (Some next.0) (sym c.in-Ok.ensures.fault) next.1) ends.0 (ends.1.0, ends.1.1)
+    let next = rate_there (rate_in v) (c.in_default-rate.ensures.ok.0 refl) in
+    let ends = c.in-Ok.ensures.ends in
+    after next.0 (known_timed v (Some next.0) (sym c.in_default.ensures.fault) next.1) ends.0 (ends.1.0, ends.1.1)
 
 pub returns-in-Err-check_samples : goal.returns-in-Err-check_samples
 returns-in-Err-check_samples c =
     let v : View = view_of c.args.view.now in
-    let next = some_of (rate_in v) (c.in-Ok-rate.ensures.ok.0 refl) in
+    let next = rate_there (rate_in v) (c.in_default-rate.ensures.ok.0 refl) in
     let fault = c.in-Err-check_samples.fault in
-    read next.0 (known_timed v (Some next.0) (sym c.in-Ok.ensures.fault) next.1) fault
+    read next.0 (known_timed v (Some next.0) (sym c.in_default.ensures.fault) next.1) fault
     ((c.in-Err-check_samples.ensures.fault fault).0 refl)

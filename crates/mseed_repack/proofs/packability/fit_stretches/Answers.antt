@@ -1,4 +1,4 @@
-use Rattle.std.proofs.Common.{◌+◌, ℕ, length, drop, take, arith, refl}
+use Rattle.std.proofs.Common.{ℕ, Some, length, drop, take, arith, refl}
 use Rattle.mseed_repack.proofs.Planning.{first_fewer, first_read, planned_all, planned_misfit, planned_more}
 use Rattle.mseed_repack.proofs.packability.fit_stretches.Goals as goal
 
@@ -56,7 +56,7 @@ loop-count-preserved g c =
       refl,
       rw (some.left_are, c.in_ok-push-in-Fits.ensures.items)
           (planned_more o (length l.samples.items) (length c.fit_series.new.samples.items) (length c.args.steps.now)
-          l.plans.items (record { records = n; way = c.in-Fits.way }) (g.R.Walk.left c.args.records) vs
+          l.plans.items (record { records = Some n; way = c.in-Fits.way }) (g.R.Walk.left c.args.records) vs
           c.in_ok-way.ensures.grown l.invariant.3 some.first
           (record { readable = read.0; fits = fits.0; goes = fits.1 })),
       rw some.left_are read.1,

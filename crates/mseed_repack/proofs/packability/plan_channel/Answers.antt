@@ -1,4 +1,4 @@
-use Rattle.std.proofs.Common.{ℕ, ◌-◌, ◌^◌, List, [], ◌∷◌, ◌++◌, ap, arith, length, refl, subst, sym, ◌∙◌}
+use Rattle.std.proofs.Common.{ℕ, List, [], ◌∷◌, ◌++◌, None, ap, arith, length, refl, subst, sym, ◌∙◌}
 use Rattle.std.proofs.lemmas.Bool.{false≢true}
 use Rattle.mseed_repack.specs.private.Planning.{IsFitting}
 use Rattle.mseed_repack.specs.declared.plan.Plan.{Plan}
@@ -48,7 +48,7 @@ returns-in_ok-push-in-Fits-clause-ready g c =
     let o = c.args.options.now in
     let vs = g.R.Walk.left c.args.records in
     let room : ℕ = length c.fit_series.new.samples.items in
-    let p : Plan = record { records = 2 ^ 64 - 1; way = c.in-Fits.way } in
+    let p : Plan = record { records = None; way = c.in-Fits.way } in
     let fits = subst (λ (f : Fitting). IsFitting o room vs f) c.in-Fits.is c.in_ok-way-in-Whole.ensures.fitting in
     rw c.in-Whole.is
     (whole_fits o room (length c.fit_series.new.steps) p c.push.new.self.items vs

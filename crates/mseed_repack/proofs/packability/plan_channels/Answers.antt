@@ -1,4 +1,4 @@
-use Rattle.std.proofs.Common.{◌≡◌, ◌+◌, ◌++◌, ◌∙◌, List, [], ◌∷◌, ap, arith, length, map, refl, subst, sym, take}
+use Rattle.std.proofs.Common.{◌++◌, ◌∙◌, List, [], ◌∷◌, ap, arith, length, map, refl, subst, sym, take}
 use Rattle.std.proofs.Common.{⊎_elim}
 use Rattle.std.specs.List.{AllByRecursion}
 use Rattle.std.proofs.lemmas.List.{map-append, take_all, take_more}
@@ -8,7 +8,7 @@ use Rattle.mseed_record.specs.Viewing.{view_of}
 use Rattle.mseed_audit.specs.Follows.{IsSound}
 use Rattle.mseed_audit.specs.Verdict.{says_continuous}
 use Rattle.mseed_audit.proofs.Following.{views_are}
-use Rattle.mseed_repack.specs.Repack.{Channel, records_in}
+use Rattle.mseed_repack.specs.Repack.{Channel}
 use Rattle.mseed_repack.specs.private.Archives.{records_on}
 use Rattle.mseed_repack.specs.private.Planning.{ready_none}
 use Rattle.mseed_repack.specs.private.Supplying.{IsPlain}

@@ -1,6 +1,6 @@
 use Rattle.std.proofs.Common.{map, arith, refl}
 use Rattle.std.proofs.lemmas.List.{length-map}
-use Rattle.mseed_repack.proofs.Archives.{part_of, ready_on, text_of, texts_all, texts_next, texts_part, texts_still}
+use Rattle.mseed_repack.proofs.Archives.{ready_on, texts_all, texts_next, texts_part, texts_still}
 use Rattle.mseed_repack.proofs.Planning.{plan_each, packability_each}
 use Rattle.mseed_repack.proofs.Texts.{written_none}
 use Rattle.mseed_repack.proofs.packing.pack_channels.Goals as goal
@@ -39,10 +39,9 @@ returns-in-Err-clause-err g c =
     let ls = map (λ own. own.items) c.args.plans.now in
     let k = c.loop-number.number in
     let walk = c.channel_walk-channel_walk in
-    let ready = ready_on a c.args.packabilities.now ls c.requires.ready k c.loop-number-test.true walk.result
-    walk.ensures.channel_walk _ c.plans_at.result.now c.in-Fit.is c.plans_at.ensures in
     texts_part a c.args.packabilities.now ls c.requires.ready k c.loop-number-test.true walk.result
-    walk.ensures.channel_walk _ c.plans_at.result.now c.in-Fit.is ready.0 c.loop-number.invariant c.in-Err.ensures.err
+    walk.ensures.channel_walk _ c.plans_at.result.now c.in-Fit.is c.plans_at.ensures c.loop-number.invariant
+    c.in-Err.ensures.err
 
 pub loop-number-preserved : goal.loop-number-preserved
 loop-number-preserved g c =
@@ -53,11 +52,9 @@ loop-number-preserved g c =
     let walk = c.channel_walk-channel_walk in
     elim c.match-packabilities-number.branch [
       | in-Fit+in-Ok w ↦
-          let ready = ready_on a ss ls c.requires.ready k c.loop-number-test.true walk.result
-          walk.ensures.channel_walk _ w.plans_at.result.now w.in-Fit.is w.plans_at.ensures in
           rw w.output-is
           (texts_next a ss ls c.requires.ready k c.loop-number-test.true walk.result walk.ensures.channel_walk _
-          w.plans_at.result.now w.in-Fit.is ready.0 c.loop-number.invariant w.in-Ok.ensures.ok)
+          w.plans_at.result.now w.in-Fit.is w.plans_at.ensures c.loop-number.invariant w.in-Ok.ensures.ok)
       | in_default w ↦ rw w.output-is
           (texts_still a ss ls c.requires.ready k c.loop-number-test.true walk.result walk.ensures.channel_walk _
           w.in_default.not-Fit c.loop-number.invariant)

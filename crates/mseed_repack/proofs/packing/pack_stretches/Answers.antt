@@ -1,14 +1,14 @@
-use Rattle.std.proofs.Common.{get_or, length, take, arith, refl}
-use Rattle.std.proofs.lemmas.List.{get_or_default}
+use Rattle.std.proofs.Common.{None, get_or, length, take, arith, refl}
 use Rattle.mseed_repack.specs.declared.plan.Plan.{Plan}
 use Rattle.mseed_repack.specs.declared.plan.Way.TheVariants.{Frames}
+use Rattle.mseed_repack.specs.private.Planning.{most_of}
 use Rattle.mseed_repack.proofs.Planning.{goes_on, packed_all, packed_more, packed_next, packed_none, packed_part}
 use Rattle.mseed_repack.proofs.Stretched.{fits_on}
 use Rattle.mseed_repack.proofs.packing.pack_stretches.Goals as goal
 
 -- what is read where no plan is left
 abbrev none_left : Plan
-none_left = record { records = 0; way = Frames 0 }
+none_left = record { records = None; way = Frames 0 }
 
 pub loop-plan-init : goal.loop-plan-init
 loop-plan-init g c = (
@@ -22,11 +22,10 @@ pack_series-requires g c κs =
     let ps = c.args.plans.now in
     let p : Plan = get_or ps l.plan-index none_left in
     let vs = g.R.Walk.left c.skip-rest.result in
-    let so = packed_next ps l.plan-index p vs c.loop-plan-test.true
-    (get_or_default ps l.plan-index none_left p c.loop-plan-test.true) c.skip-rest.ensures.left l.invariant.1 in
+    let so = packed_next ps l.plan-index none_left vs c.loop-plan-test.true c.skip-rest.ensures.left l.invariant.1 in
     let one = so.can.0 in (
       (refl, tt),
-      (
+      rw c.most-count.ensures (
         record {
           walks = record { led = c.skip-rest.ensures.leads; some = one.readable.some; sound = one.readable.sound };
           few = one.readable.few;
@@ -34,8 +33,8 @@ pack_series-requires g c κs =
         },
         (
           goes_on c.args.options.now.encoding l.next.encoding (length c.args.samples.now) (length l.samples) p.way
-              (take p.records vs) so.next_is.encoding_is (omega (arith, l.auto.samples)) one.goes,
-          fits_on c.args.options.now l.next (length so.records) (take p.records vs) so.next_is one.fits,
+              (take (most_of p) vs) so.next_is.encoding_is (omega (arith, l.auto.samples)) one.goes,
+          fits_on c.args.options.now l.next (length so.records) (take (most_of p) vs) so.next_is one.fits,
         ),
       ),
     )
@@ -43,21 +42,20 @@ pack_series-requires g c κs =
 pub returns-in-Err-clause-err : goal.returns-in-Err-clause-err
 returns-in-Err-clause-err g c =
     let l = c.loop-plan in
-    let ps = c.args.plans.now in
-    let p : Plan = get_or ps l.plan-index none_left in
-    packed_part (packed_next ps l.plan-index p (g.R.Walk.left c.skip-rest.result) c.loop-plan-test.true
-    (get_or_default ps l.plan-index none_left p c.loop-plan-test.true) c.skip-rest.ensures.left l.invariant.1)
-    c.in-Err.ensures
+    packed_part (packed_next c.args.plans.now l.plan-index none_left (g.R.Walk.left c.skip-rest.result)
+    c.loop-plan-test.true c.skip-rest.ensures.left l.invariant.1) (rw c.most-count.ensures at c.in-Err.ensures)
 
 pub loop-plan-preserved : goal.loop-plan-preserved
 loop-plan-preserved g c =
-    let l = c.loop-plan in
-    let ps = c.args.plans.now in
-    let p : Plan = get_or ps l.plan-index none_left in (
+    let l = c.loop-plan in (
       c.skip-rest.ensures.leads,
-      packed_more (packed_next ps l.plan-index p (g.R.Walk.left c.skip-rest.result) c.loop-plan-test.true
-          (get_or_default ps l.plan-index none_left p c.loop-plan-test.true) c.skip-rest.ensures.left l.invariant.1)
-          c.in-Ok.ensures c.numbered_on-next.ensures,
+      rw c.most-count.ensures (packed_more (packed_next c.args.plans.now l.plan-index none_left
+          (g.R.Walk.left c.skip-rest.result) c.loop-plan-test.true c.skip-rest.ensures.left l.invariant.1)
+          (rw c.most-count.ensures at c.in-Ok.ensures) (record {
+            exponent_is = c.after-next.ensures.exponent;
+            encoding_is = c.after-next.ensures.encoding;
+            sequence_is = c.after-next.ensures.sequence;
+          })),
     )
 
 pub returns-clause-ok : goal.returns-clause-ok

@@ -1,22 +1,21 @@
-use Rattle.std.proofs.Common.{◌≤◌, [], length, arith}
-use Rattle.mseed_record.specs.Viewing.{view_of}
+use Rattle.std.proofs.Common.{arith}
 use Rattle.mseed_audit.specs.Follows.{IsSound}
 use Rattle.mseed_repack.proofs.ReadChannels.{read_more, read_none}
-use Rattle.mseed_repack.proofs.Walks.{AreReadSo, gone_all, gone_more, gone_none, next_gone, next_of, samples_so_far}
+use Rattle.mseed_repack.proofs.Walks.{gone_all, gone_more, gone_none, next_gone, next_of, samples_so_far, AreReadSo}
 use Rattle.mseed_repack.proofs.Walks.{steps_so_far}
 use Rattle.mseed_repack.proofs.reading.read_records.Goals as goal
 
 pub loop-view-init : goal.loop-view-init
 loop-view-init g c = (
   c.requires.read.walks.led,
-  gone_none (λ key. read_none key c.args.samples.now c.args.steps.now),
+  gone_none read_none,
 )
 
 pub read_record-read-requires : goal.read_record-read-requires
 read_record-read-requires g c =
     let l = c.loop-view in
     let h = next_gone l.invariant.1 c.in-Some.ensures.next in
-    let held = h.holds [] in
+    let held = h.holds in
     record {
       sound = next_of IsSound h c.requires.read.walks.sound;
       samples_fit = omega (arith, samples_so_far h, held.samples_count, c.requires.samples_fit, l.auto.samples);
@@ -25,33 +24,27 @@ read_record-read-requires g c =
 
 pub loop-view-preserved : goal.loop-view-preserved
 loop-view-preserved g c =
-    let l = c.loop-view in
-    let h = next_gone l.invariant.1 c.in-Some.ensures.next in
-    let inside : l.read.samples ≤ length l.samples =
-    omega (arith, samples_so_far h, (h.holds []).samples_count, c.requires.samples_fit, l.auto.samples) in
-    let e = c.read_record-read.ensures in
-    let o = c.read_record-read.result in
-    let new = c.read_record-read.new in (
+    let h = next_gone c.loop-view.invariant.1 c.in-Some.ensures.next in
+    let e = c.read_record-read.ensures in (
       c.in-Some.ensures.leads,
-      gone_more {Q = AreReadSo o.samples o.steps new.samples new.steps} h (λ key.
-          read_more _ _ _ _ _ _ _ _ _ _ _ _ inside (h.holds key) e.samples.1.0 e.samples.1.1 e.steps e.samples_count
-          e.steps_count),
+      gone_more {Q = AreReadSo c.read_record-read.result.samples c.read_record-read.result.steps
+          c.read_record-read.new.samples c.read_record-read.new.steps} h
+          (read_more _ _ _ _ _ _ _ _ _ _ _ h.holds e.samples.1.0 e.samples.1.1 e.steps e.samples_count e.steps_count),
     )
 
 pub returns-clause-read : goal.returns-clause-read
 returns-clause-read g c =
-    let whole = gone_all c.loop-view.invariant.1 c.in_default.ensures.next.0 in
-    λ key. (whole key).read
+    (gone_all c.loop-view.invariant.1 c.in_default.ensures.next.0).are
 
 pub returns-clause-places : goal.returns-clause-places
-returns-clause-places g c = (c.loop-view.invariant.1.holds []).places
+returns-clause-places g c = c.loop-view.invariant.1.holds.places
 
 pub returns-clause-samples_inside : goal.returns-clause-samples_inside
 returns-clause-samples_inside g c =
-    let whole = gone_all c.loop-view.invariant.1 c.in_default.ensures.next.0 [] in
+    let whole = gone_all c.loop-view.invariant.1 c.in_default.ensures.next.0 in
     omega (arith, whole.samples_count, c.requires.samples_fit, c.loop-view.auto.samples)
 
 pub returns-clause-steps_inside : goal.returns-clause-steps_inside
 returns-clause-steps_inside g c =
-    let whole = gone_all c.loop-view.invariant.1 c.in_default.ensures.next.0 [] in
+    let whole = gone_all c.loop-view.invariant.1 c.in_default.ensures.next.0 in
     omega (arith, whole.steps_count, c.requires.read.steps_fit, c.loop-view.auto.steps)

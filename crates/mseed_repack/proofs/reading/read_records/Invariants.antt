@@ -1,5 +1,5 @@
 use Rattle.std.proofs.Common.{length}
-use Rattle.mseed_repack.proofs.Walks.{AreReadSo, IsGone}
+use Rattle.mseed_repack.proofs.Walks.{IsGone, AreReadSo}
 use Rattle.mseed_repack.proofs.reading.read_records.Given as goal
 
 abbrev pub invariant-loop-view : goal.invariant-loop-view

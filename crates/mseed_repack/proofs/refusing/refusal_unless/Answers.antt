@@ -1,4 +1,4 @@
-use Rattle.std.proofs.Common.{◌≤◌, ◌<◌, ◌^◌, ◌∙◌, ℕ, List, arith, length, map, subst, sym}
+use Rattle.std.proofs.Common.{◌<◌, ◌∙◌, ℕ, List, arith, length, map, subst, sym}
 use Rattle.std.proofs.lemmas.List.Elements.{recursion_from_All}
 use Rattle.mseed_record.specs.Viewing.{view_of}
 use Rattle.mseed_record.specs.declared.view.RecordView.{RecordView}
@@ -9,7 +9,7 @@ use Rattle.mseed_repack.specs.private.Places.{ArePlaces}
 use Rattle.mseed_repack.specs.private.Restretching.{IsFirstRefused}
 use Rattle.mseed_repack.specs.declared.fault.RepackFault.TheVariants.{Broken, Misfit}
 use Rattle.mseed_repack.proofs.Archives.{all_on, channel_on, unsound_on}
-use Rattle.mseed_repack.proofs.Packabilities.{all_fit, refused_broken, refused_misfit}
+use Rattle.mseed_repack.proofs.Packabilities.{refused_broken, refused_misfit}
 use Rattle.mseed_repack.proofs.refusing.refusal_unless.Goals as goal
 
 pub first_own-first-requires : goal.first_own-first-requires
@@ -20,7 +20,7 @@ first_own-first-requires g c =
       few = rw (sym c.channel_walk.ensures.views) at c.requires.audited.few;
       all = all_on _ _ _ c.channel_walk.ensures.channel_walk c.channel_walk.ensures.views;
       broken = unsound_on c.args.archive.now c.args.packabilities.now c.in-Some.number c.channel_walk.result
-          c.channel_walk.ensures.channel_walk c.requires.unsound inside c.requires.each c.in-Some.ensures.some;
+          c.channel_walk.ensures.channel_walk c.requires.found inside c.requires.each c.in-Some.ensures.some;
     }
 
 pub returns-in-Some-clause-some : goal.returns-in-Some-clause-some
@@ -52,5 +52,4 @@ returns-in-Some-first_misfit-clause-some g c = λ cutting o ps _ all.
     found.ensures.inside c.requires.each at.is found.ensures.some c.in_default.ensures.none found.ensures.before all)
 
 pub returns-in-None-clause-fit : goal.returns-in-None-clause-fit
-returns-in-None-clause-fit g c = λ _. recursion_from_All IsFit c.args.packabilities.now
-    (all_fit c.args.packabilities.now c.in_default.ensures.none c.in-None.ensures.none)
+returns-in-None-clause-fit g c = λ _. recursion_from_All IsFit c.args.packabilities.now c.in-None.ensures.none

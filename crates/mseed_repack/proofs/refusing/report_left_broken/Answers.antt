@@ -1,5 +1,4 @@
-use Rattle.std.proofs.Common.{◌∙◌, subst}
-use Rattle.mseed_stream.specs.LineWritten.{WritesLine}
+use Rattle.std.proofs.Common.{◌∙◌}
 use Rattle.mseed_repack.proofs.refusing.report_left_broken.Goals as goal
 
 pub returns : goal.returns

@@ -1,6 +1,3 @@
-use Rattle.std.proofs.Common.{List, ℕ, subst}
-use Rattle.mseed_repack.specs.ByStretches.{IsReportOf, ReportsEach}
-use Rattle.mseed_repack.specs.declared.packability.Packability.{Packability}
 use Rattle.mseed_repack.proofs.Packabilities.{tells_next, tells_none}
 use Rattle.mseed_repack.proofs.refusing.report_left_out.Goals as goal
 

@@ -1,7 +1,6 @@
 use Rattle.std.proofs.Common.{subst, List}
 use Rattle.std.specs.List.{AllByRecursion}
 use Rattle.mseed_record.specs.View.{View}
-use Rattle.mseed_record.specs.Viewing.{view_of}
 use Rattle.mseed_audit.specs.Follows.{IsSound}
 use Rattle.mseed_repack.proofs.CutStretches.{begun}
 use Rattle.mseed_repack.proofs.series.beginning.Goals as goal

@@ -2,7 +2,6 @@ use Rattle.std.proofs.Common.{◌≡◌, ◌≢◌, ◌<◌, ℕ, ℤ, List, ref
 use Rattle.std.proofs.Common.{IfSome, Option, Some}
 use Rattle.std.proofs.lemmas.List.{take_at}
 use Rattle.mseed_steim.specs.Spelling.{IsWithin}
-use Rattle.mseed_pack.specs.Traces.{headed}
 use Rattle.mseed_repack.specs.private.Outline.{AreHeld, IsKnown}
 use Rattle.mseed_repack.specs.private.Planning.{IsFitting, room_of}
 use Rattle.mseed_repack.specs.private.Reading.{samples_of}
@@ -25,35 +24,34 @@ room_listed (Misfits fault) vs other = refl
 pub fit_head-requires : goal.fit_head-requires
 fit_head-requires g c =
     let head = c.head_of-head.result in
-    let h = c.outline_records-outline.ensures.outline head.codes in
+    let h = c.outline_records-outline.ensures.outline in
     record {
-      steps = head_places _ _ _ _ c.head_of-head.ensures.count c.head_of-head.ensures.steps h.places;
+      steps = head_places _ _ _ _ c.head_of-head.ensures.count c.head_of-head.ensures.steps h.read.places;
     }
 
 pub returns-in-Err-fit_head-clause-fitting : goal.returns-in-Err-fit_head-clause-fitting
 returns-in-Err-fit_head-clause-fitting g c =
     let head = c.head_of-head.result in
-    let h = c.outline_records-outline.ensures.outline head.codes in
-    series_misfits _ _ _ _ (c.head_of-head.ensures.series h.samples h.are) (c.in-Err-fit_head.ensures.fault h.samples
-    c.args.options.now (sym (c.head_of-head.ensures.count ∙ h.count_is)))
+    let h = c.outline_records-outline.ensures.outline in
+    series_misfits _ _ _ _ (c.head_of-head.ensures.series h.samples h.read.are) (c.in-Err-fit_head.ensures.fault
+    h.samples c.args.options.now (h.read.size ∙ sym c.head_of-head.ensures.count))
 
 pub returns-in-Some-Frames-clause-fitting : goal.returns-in-Some-Frames-clause-fitting
 returns-in-Some-Frames-clause-fitting g c =
     let head = c.head_of-head.result in
     let encoding = c.args.options.now.encoding in
     let near = c.outline_records-outline.result.nearness in
-    let h = c.outline_records-outline.ensures.outline head.codes in
+    let h = c.outline_records-outline.ensures.outline in
     let is = c.in-Some-Frames.is ∙ ap (λ (w : Way). Some w) (rw c.in-Some-Frames.is at c.in-Some-Frames.field-0-is) in
     let goes = c.held_way-held.ensures.frames c.in-Some-Frames.count is in
     let held = subst (λ (r : Option Way). IfSome r (λ _. (xs : List ℤ) → All (IsWithin 32) xs → IsKnown near xs
     → AreHeld encoding xs)) is c.held_way-held.ensures.held in (
       series_held c.args.options.now (g.R.Walk.left c.args.records) head h.samples
-          (c.head_of-head.ensures.series h.samples h.are) (sym (c.head_of-head.ensures.count ∙ h.count_is))
+          (c.head_of-head.ensures.series h.samples h.read.are) (h.read.size ∙ sym c.head_of-head.ensures.count)
           (held h.samples h.within h.known) c.in_default-fit_head.ensures.fits,
       (
         goes.0,
-        unread_by head.start head.rate h c.requires.read.walks.sound goes.2
-            (c.outline_records-outline.ensures.unpackable goes.1),
+        unread_by h goes.2 (c.outline_records-outline.ensures.unpackable goes.1),
         goes.3 ∙ c.outline_records-outline.ensures.samples,
         omega (arith, c.in_ok-make_room-2.ensures.room),
       ),
@@ -62,9 +60,9 @@ returns-in-Some-Frames-clause-fitting g c =
 pub returns-in-Some-held-clause-fitting : goal.returns-in-Some-held-clause-fitting
 returns-in-Some-held-clause-fitting g c =
     let head = c.head_of-head.result in
-    let h = c.outline_records-outline.ensures.outline head.codes in (
+    let h = c.outline_records-outline.ensures.outline in (
       series_held c.args.options.now (g.R.Walk.left c.args.records) head h.samples
-          (c.head_of-head.ensures.series h.samples h.are) (sym (c.head_of-head.ensures.count ∙ h.count_is))
+          (c.head_of-head.ensures.series h.samples h.read.are) (h.read.size ∙ sym c.head_of-head.ensures.count)
           (c.in-Some-held.ensures.held h.samples h.within h.known) c.in_default-fit_head.ensures.fits,
       omega (arith, c.in_ok-make_room-3.ensures.room, c.outline_records-outline.ensures.samples),
     )

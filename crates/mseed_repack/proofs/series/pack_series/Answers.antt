@@ -1,11 +1,7 @@
-use Rattle.std.proofs.Common.{arith, length, refl, rules, subst, w32, ◌∙◌}
+use Rattle.std.proofs.Common.{arith, refl, rules, w32, ◌∙◌}
 use Rattle.std.proofs.lemmas.Int.{to_z-of_z}
 use Rattle.std.proofs.lemmas.Result.{IfErr-weaker, IfOk-weaker}
-use Rattle.mseed_audit.specs.Series.{Trace}
-use Rattle.mseed_pack.specs.Fitting.{Fits}
 use Rattle.mseed_pack.specs.Traces.{headed, trace_of}
-use Rattle.mseed_repack.specs.private.Planning.{GoesBy}
-use Rattle.mseed_repack.specs.declared.plan.Way.{Way}
 use Rattle.mseed_repack.proofs.Planning.{emitted}
 use Rattle.mseed_repack.proofs.Stretched.{head_places}
 use Rattle.mseed_repack.proofs.Supplied.{has_supply}
@@ -19,16 +15,16 @@ outline_counted-borne-requires g c κs =
 pub pack_supplied-requires : goal.pack_supplied-requires
 pack_supplied-requires g c =
     let head = c.head_of-head.result in
-    let h = c.outline_counted-borne.ensures.outline head.codes in
+    let h = c.outline_counted-borne.ensures.outline in
     let goes = rw c.in-Frames.is at c.requires.goes in
     let p = has_supply head c.args.options.now c.args.samples.now h goes.1 c.requires.read.walks.sound
-    (c.head_of-head.ensures.series h.samples h.are) c.head_of-head.ensures.count (omega (arith, goes.3))
+    (c.head_of-head.ensures.series h.samples h.read.are) c.head_of-head.ensures.count (omega (arith, goes.3))
     c.head_of-head.ensures.first c.requires.fits c.one_series.ensures.series in
     let e = c.of-unpacking.ensures in
     let last = e.last ∙ to_z-of_z w32 head.first (search rules) in
     record {
       steim = goes.0;
-      steps = head_places _ _ _ _ c.head_of-head.ensures.count c.head_of-head.ensures.steps h.places;
+      steps = head_places _ _ _ _ c.head_of-head.ensures.count c.head_of-head.ensures.steps h.read.places;
       supplied = (
         p.samples,
         record {
@@ -43,10 +39,10 @@ pack_supplied-requires g c =
 pub returns-in-Frames : goal.returns-in-Frames
 returns-in-Frames g c =
     let head = c.head_of-head.result in
-    let h = c.outline_counted-borne.ensures.outline head.codes in
+    let h = c.outline_counted-borne.ensures.outline in
     let goes = rw c.in-Frames.is at c.requires.goes in
     let p = has_supply head c.args.options.now c.args.samples.now h goes.1 c.requires.read.walks.sound
-    (c.head_of-head.ensures.series h.samples h.are) c.head_of-head.ensures.count (omega (arith, goes.3))
+    (c.head_of-head.ensures.series h.samples h.read.are) c.head_of-head.ensures.count (omega (arith, goes.3))
     c.head_of-head.ensures.first c.requires.fits c.one_series.ensures.series in
     let e = c.of-unpacking.ensures in
     let last = e.last ∙ to_z-of_z w32 head.first (search rules) in

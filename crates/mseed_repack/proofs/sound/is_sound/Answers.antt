@@ -1,8 +1,6 @@
-use Rattle.std.proofs.lemmas.Bool.{false≢true}
+use Rattle.mseed_repack.proofs.SoundRecords.{sound_exactly}
 use Rattle.mseed_repack.proofs.sound.is_sound.Goals as goal
 
-pub returns-in-Err : goal.returns-in-Err
-returns-in-Err c = (
-  λ no. absurd (false≢true no),
-  λ sound. absurd (c.in-Err.ensures.only sound.samples sound.whole.0 sound.whole.1),
-)
+pub returns : goal.returns
+returns c =
+    sound_exactly c.one_reading.ensures c.one_fault.ensures.excludes _ _ _ c.own_finding.ensures c.is_none.ensures

@@ -1,4 +1,4 @@
-use Rattle.std.proofs.Common.{◌<◌, List, length, subst, sym}
+use Rattle.std.proofs.Common.{List, subst, sym}
 use Rattle.mseed_audit.specs.Channels.{Placed}
 use Rattle.mseed_repack.specs.private.Places.{StandsAt}
 use Rattle.mseed_repack.proofs.InPlaces.{index_among, number_at}

@@ -1,8 +1,7 @@
-use Rattle.std.proofs.Common.{◌≡◌, rules, arith, refl, ap, ◌∙◌}
+use Rattle.std.proofs.Common.{rules, arith, refl, ap, ◌∙◌}
 use Rattle.std.proofs.lemmas.Int.{ints}
 use Rattle.mseed_time.specs.Join.{step_of}
-use Rattle.mseed_record.specs.View.{leap_of, step_in}
-use Rattle.mseed_record.specs.Viewing.{view_of}
+use Rattle.mseed_record.specs.View.{step_in}
 use Rattle.mseed_repack.proofs.stretch.Stretch.begin.Goals as goal
 
 pub returns-clause-stretch : goal.returns-clause-stretch

@@ -1,6 +1,6 @@
-use Rattle.std.proofs.Common.{◌≡◌, ℤ, ◌+ℤ◌, arith, refl, ap, ◌∙◌}
+use Rattle.std.proofs.Common.{ℤ, ◌+ℤ◌, arith, refl, ap, ◌∙◌}
 use Rattle.mseed_time.specs.Join.{step_of}
-use Rattle.mseed_record.specs.View.{leap_of, step_in}
+use Rattle.mseed_record.specs.View.{step_in}
 use Rattle.mseed_record.specs.Viewing.{view_of}
 use Rattle.mseed_repack.proofs.Drifts.{summed}
 use Rattle.mseed_repack.proofs.Steps.{stretch_more}
