@@ -1,40 +1,24 @@
 -- What is held of what was read, where some of it is handed on.
-use Rattle.std.proofs.Common.{◌≡◌, ℕ, zero, suc, ◌+◌, ◌-◌, ◌≤◌, ◌++◌}
-use Rattle.std.proofs.Common.{List, [], ◌∷◌, drop, take, slice_range, arith, length}
+use Rattle.std.proofs.Common.{◌≡◌, ℕ, ◌+◌, ◌-◌, ◌≤◌, ◌++◌}
+use Rattle.std.proofs.Common.{List, drop, take, slice_range, arith, length}
 use Rattle.std.proofs.Common.{Option, Some, None, is_some, Result, Ok}
 use Rattle.std.proofs.Common.{false, ap, sym, refl, ◌∙◌, append_assoc}
-use Rattle.std.proofs.Math.Seq.{drop-nil}
-use Rattle.std.proofs.lemmas.List.{drop-take, take-append-drop}
+use Rattle.std.proofs.lemmas.List.{drop-drop, drop-take, length-take, take-append-drop}
 use Rattle.std.specs.Io.KnownBytes.{Consumes, prepend_known}
 use Rattle.mseed_files.specs.ChainState.{ChainState, IsChain}
 use Rattle.mseed_files.specs.ReaderState.{file_due}
 
-drops : (xs : List ℕ) (b a : ℕ) → drop a (drop b xs) ≡ drop (b + a) xs
-drops xs zero a = let same : a ≡ zero + a = omega arith in ap (λ (n : ℕ). drop n xs) same
-drops [] (suc b) a = drop-nil a ∙ sym (drop-nil (suc b + a))
-drops (x ∷ xs) (suc b) a =
-    let same : suc (b + a) ≡ suc b + a = omega arith in drops xs b a ∙ ap (λ (n : ℕ). drop n (x ∷ xs)) same
-
-take_most : (n : ℕ) (xs : List ℕ) → length (take n xs) ≤ n
-take_most zero xs = omega arith
-take_most (suc n) [] = omega arith
-take_most (suc n) (x ∷ xs) = omega (arith, take_most n xs)
-
 -- no more is handed on than is held
 pub held_within : (xs : List ℕ) (begin end amount : ℕ) → begin ≤ end → amount ≤ length (slice_range xs begin end)
     → begin + amount ≤ end
-held_within xs begin end amount order few = omega (arith, order, few, take_most (end - begin) (drop begin xs))
+held_within xs begin end amount order few = omega (arith, order, few, length-take (end - begin) (drop begin xs))
 
 -- the rest of what is held
 pub held_rest : (xs : List ℕ) (begin end amount : ℕ) → begin + amount ≤ end
     → slice_range xs (begin + amount) end ≡ drop amount (slice_range xs begin end)
 held_rest xs begin end amount within =
-    let more : ℕ = end - (begin + amount) in
-    let count : end - begin ≡ amount + more = omega (arith, within) in
-    sym (
-    ap (λ (n : ℕ). drop amount (take n (drop begin xs))) count ∙ (drop-take amount more (drop begin xs)
-    ∙ ap (λ (ys : List ℕ). take more ys) (drops xs begin amount))
-    )
+    let count : end - begin ≡ amount + (end - (begin + amount)) = omega (arith, within) in
+    rw (count, drop-take amount (end - (begin + amount)) (drop begin xs), drop-drop amount begin xs)
 
 -- what is left is that, and what isn't read
 pub left_rest : (held : List ℕ) (rest : Option (List ℕ)) (amount : ℕ)

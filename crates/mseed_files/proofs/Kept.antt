@@ -1,8 +1,7 @@
 -- A record of what was read is one of whatever is read after it.
-use Rattle.std.proofs.Common.{◌≡◌, ◌+◌, ◌≤◌, ◌++◌, ℕ, List, Option, Some, None, IfSome, length, take, drop, sym, ap}
-use Rattle.std.proofs.Common.{◌∙◌, arith, subst, length-append, length-drop}
+use Rattle.std.proofs.Common.{◌≡◌, ◌≤◌, ◌++◌, ℕ, List, Option, Some, None, IfSome, length, drop, ap}
+use Rattle.std.proofs.Common.{arith, length-append, length-drop}
 use Rattle.std.proofs.lemmas.List.{drop-append-le, take-append-le}
-use Rattle.mseed_record.specs.Record.{IsRecord}
 use Rattle.mseed_stream.specs.Device.{HasRecordAt}
 use Rattle.mseed_files.specs.declared.tracked_source.Cut.{Cut}
 
@@ -11,12 +10,11 @@ record_stays : (old new more : List ℕ) (offset size : ℕ) → new ≡ old ++ 
 record_stays old new more offset size grown has =
     let within : offset ≤ length old = omega (arith, has.inside) in
     let fits : size ≤ length (drop offset old) = omega (arith, has.inside, length-drop offset old) in
-    let long : length new ≡ length old + length more = ap (λ (xs : List ℕ). length xs) grown ∙ length-append old more in
-    let same : take size (drop offset new) ≡ take size (drop offset old) =
-    ap (λ (xs : List ℕ). take size (drop offset xs)) grown
-    ∙ (ap (λ (xs : List ℕ). take size xs) (drop-append-le offset old more within)
-    ∙ take-append-le size (drop offset old) more fits) in
-    record { inside = omega (arith, has.inside, long); is_record = subst IsRecord (sym same) has.is_record }
+    record {
+      inside = omega (arith, has.inside, ap length grown, length-append old more);
+      is_record = rw (grown, drop-append-le offset old more within, take-append-le size (drop offset old) more fits)
+          has.is_record;
+    }
 
 -- so is the one that is kept
 pub kept_stays : (last : Option Cut) (old new more : List ℕ) → new ≡ old ++ more

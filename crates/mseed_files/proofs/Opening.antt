@@ -1,8 +1,8 @@
 -- What opening the next of several files keeps, and where the files that were opened begin.
-use Rattle.std.proofs.Common.{◌≡◌, ℕ, zero, suc, ◌+◌, ◌-◌, ◌*◌, ◌<◌, ◌++◌}
+use Rattle.std.proofs.Common.{◌≡◌, ℕ, zero, suc, ◌+◌, ◌<◌, ◌≤◌, ◌≢◌, ◌++◌}
 use Rattle.std.proofs.Common.{List, [], ◌∷◌, length, drop, get_or, slice_index}
 use Rattle.std.proofs.Common.{Option, Some, None, IfSome, Bool, true, false, is_some, refl, sym, ap, ◌∙◌}
-use Rattle.std.proofs.Common.{Result, Ok, Err, subst, arith, length-append, append_assoc}
+use Rattle.std.proofs.Common.{subst, arith, length-append, append_assoc}
 use Rattle.std.proofs.KnownBytes.{Consumes-kept, Consumes-nil, Keeps-trans}
 use Rattle.std.proofs.lemmas.List.{append-nil}
 use Rattle.std.proofs.lemmas.Option.{same_Some}
@@ -39,8 +39,7 @@ kept_at (Some bytes ∷ files) zero now less unread = rw unread (kept_first (all
 kept_at (bytes ∷ files) (suc n) now less unread = kept_at files n now (omega (arith, less)) unread
 
 length_more : (begins : List ℕ) (bytes : ℕ) → length (begins ++ bytes ∷ []) ≡ suc (length begins)
-length_more [] bytes = refl
-length_more (x ∷ begins) bytes = ap (λ (n : ℕ). suc n) (length_more begins bytes)
+length_more begins bytes = omega (arith, length-append begins (bytes ∷ []))
 
 -- what is known to be left stays where the next file is opened
 pub opened_keeps : (files after : Contents) (begins now : List ℕ) (bytes : ℕ) (left file : Option (List ℕ))
@@ -48,8 +47,7 @@ pub opened_keeps : (files after : Contents) (begins now : List ℕ) (bytes : ℕ
     → IsUnread (drop (length begins) files) file
     → Keeps (joined left (all_of (drop (length begins) files))) (joined file (all_of (drop (length now) after)))
 opened_keeps files after begins now bytes left file same more less closed unread =
-    let longer : length now ≡ suc (length begins) = ap (λ (xs : List ℕ). length xs) more ∙ length_more begins bytes in
-    rw (same, longer, closed) (kept_at files (length begins) file less unread)
+    rw (same, more, length_more begins bytes, closed) (kept_at files (length begins) file less unread)
 
 -- what is known of the files before the next one, and of that one
 record Next (files : Contents) (n : ℕ) (file : Option (List ℕ)) (xs : List ℕ) : Type 0 where
@@ -102,9 +100,7 @@ read_whole : (files : Contents) (begins : List ℕ) (is_open : Bool) (left : Opt
     → bytes ≡ length xs
 read_whole files begins is_open left bytes xs along none known =
     let read = along.read xs known in
-    let empty : read.0 ≡ [] = same_Some read.0 [] (sym read.1.0 ∙ none) in
-    let zero_long : length read.0 ≡ 0 = ap (λ (ys : List ℕ). length ys) empty in
-    omega (arith, zero_long, read.1.1)
+    omega (arith, ap length (same_Some read.0 [] (sym read.1.0 ∙ none)), read.1.1)
 
 -- reading goes on with the next file
 pub opened_along : (files after : Contents) (begins now : List ℕ) (is_open : Bool) (bytes : ℕ)
@@ -124,21 +120,8 @@ opened_along files after begins now is_open bytes left file same more less close
           (subst (λ (n : ℕ). before files n ≡ Some xs) longer known) in
           let whole : bytes ≡ length next.prior =
           read_whole files begins is_open left bytes next.prior along closed next.prior_is in
-          let long : length xs ≡ length (next.prior ++ next.bytes) = ap (λ (ys : List ℕ). length ys) next.whole in
-          (next.bytes, (next.file_is, omega (arith, whole, long, length-append next.prior next.bytes)));
+          (next.bytes, (next.file_is, omega (arith, whole, ap length next.whole, length-append next.prior next.bytes)));
     })
-
--- an error is no value
-pub not_ok : {T E : Type 0} (e : E) (x : T) → ◌≡◌ {A = Result T E} (Err e) (Ok x) → ⊥
-not_ok e x same = cc same
-
--- less is to be done once the next file is open
-pub opened_nearer : (files after : Contents) (begins now : List ℕ) (bytes more : ℕ) → after ≡ files
-    → now ≡ begins ++ bytes ∷ [] → length begins < length files
-    → 2 * (length after - length now) + 0 < 2 * (length files - length begins) + more
-opened_nearer files after begins now bytes more same longer less =
-    let long : length now ≡ suc (length begins) = ap (λ (xs : List ℕ). length xs) longer ∙ length_more begins bytes in
-    rw (same, long) (omega (arith, less))
 
 -- a place by where the files begin
 pub placed : (s : ReaderState) (offset : ℕ) (place : Option Place)
@@ -156,7 +139,7 @@ placed s offset (Some p) begun opened offset_is last = record {
 }
 
 -- each word names a file
-pub contents_length : (found : List ℕ → Found) (words : List (Bor (List ℕ)))
+contents_length : (found : List ℕ → Found) (words : List (Bor (List ℕ)))
     → length (contents_of found words) ≡ length words
 contents_length found [] = refl
 contents_length found (word ∷ words) = ap (λ (n : ℕ). suc n) (contents_length found words)
@@ -168,13 +151,22 @@ unread_of (unreadable reason) files left unread = tt
 unread_of (readable bytes) files left unread = unread
 
 -- the file that a word names is that of the word's number
-pub unread_at : (found : List ℕ → Found) (words : List (Bor (List ℕ))) (n : ℕ) (default : Bor (List ℕ))
+unread_at : (found : List ℕ → Found) (words : List (Bor (List ℕ))) (n : ℕ) (default : Bor (List ℕ))
     (left : Option (List ℕ)) → n < length words → IsUnreadOf (found (get_or words n default).now) left
     → IsUnread (drop n (contents_of found words)) left
 unread_at found [] n default left less unread = absurd (omega (arith, less))
 unread_at found (word ∷ words) zero default left less unread = unread_of (found word.now) _ left unread
 unread_at found (word ∷ words) (suc n) default left less unread =
     unread_at found words n default left (omega (arith, less)) unread
+
+-- the next file is that of the next word
+pub unread_next : (found : List ℕ → Found) (words : List (Bor (List ℕ))) (n m : ℕ) (default : Bor (List ℕ))
+    (left : Option (List ℕ)) → n ≡ m → n ≢ length words → m ≤ length (contents_of found words)
+    → IsUnreadOf (found (get_or words n default).now) left
+    → (m < length (contents_of found words)) × IsUnread (drop m (contents_of found words)) left
+unread_next found words n m default left same other few unread =
+    let less : n < length words = omega (arith, contents_length found words) in
+    (omega (arith, contents_length found words), rw same at (unread_at found words n default left less unread))
 
 all_past : (files : Contents) (n : ℕ) → n ≡ length files → all_of (drop n files) ≡ Some []
 all_past [] zero e = refl

@@ -2,7 +2,7 @@
 use Rattle.std.specs.Prelude.{◌≡◌, ◌⊎◌, ℕ, ◌-◌, ◌==◌, List, [], map, decimal, ◌++◌, slice_get, option_map}
 use Rattle.std.specs.Borrow.{Bor}
 use Rattle.std.specs.Prelude.{if◌then◌else◌, Option, Some, None, IfSome, codes}
-use Rattle.mseed_text.specs.Shown.{printed_byte}
+use Rattle.mseed_text.specs.Shown.{shown_byte}
 use Rattle.mseed_files.specs.ChainState.{ChainState, IsChain}
 use Rattle.mseed_files.specs.ReaderState.{IsPlace, ReaderState}
 use Rattle.mseed_files.specs.Reason.{reason_text}
@@ -23,20 +23,20 @@ abbrev pub reason_words : Reason → List ℕ
 reason_words reason = codes ": " ++ reason_text reason ++ codes "\n"
 
 abbrev pub cannot_read : Reason → List ℕ → List ℕ
-cannot_read reason word = codes "mseed: cannot read " ++ map printed_byte word ++ reason_words reason
+cannot_read reason word = codes "mseed: cannot read " ++ map shown_byte word ++ reason_words reason
 
 -- the line of a fault in a file, by the word that names it and how many bytes stand before the fault there
 abbrev pub place_words : ℕ → List ℕ
 place_words offset = codes " at " ++ decimal offset ++ codes "\n"
 
 abbrev pub fault_in : ℕ → List ℕ → List ℕ
-fault_in offset word = codes "mseed: fault in " ++ map printed_byte word ++ place_words offset
+fault_in offset word = codes "mseed: fault in " ++ map shown_byte word ++ place_words offset
 
 -- the line was written, or there was no memory for it
 abbrev pub ReportsName : List ℕ → BytesWritten → BytesWritten → Type 0
 ReportsName line old new = WritesLine line old new ⊎ WritesLine no_memory old new
 
--- so many words name files
+-- words that name files
 abbrev pub Names : Type 0
 Names = List (Bor (List ℕ))
 

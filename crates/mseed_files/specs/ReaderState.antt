@@ -42,7 +42,7 @@ left_in remaining (Some file) = remaining file
 abbrev pub remaining_of : ReaderState → Option (List ℕ)
 remaining_of s = joined s.left (all_of (drop (length s.begins) s.contents))
 
--- the bytes of so many files, the first ones, where they are known
+-- the bytes of the first `count` files, where they are known
 abbrev pub before : Contents → ℕ → Option (List ℕ)
 before contents count = all_of (take count contents)
 

@@ -11,7 +11,7 @@ pub enum Blame {
     Nothing,
     /// A read failed.
     Read,
-    /// There is a fault, or a record that is cut off, after so many bytes.
+    /// There is a fault, or a record that is cut off, after this number of bytes.
     Fault(u64),
 }
 

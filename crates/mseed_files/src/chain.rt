@@ -14,7 +14,7 @@ use mseed_stream::{Failed, Source, Tally};
 use std::alloc::{AllocError, Allocator, Global};
 use std::marker::Model;
 
-/// Files one after another, as a source of their bytes, which lends what it holds: so many bytes are read at once as
+/// Files one after another, as a source of their bytes, which lends what it holds: as many bytes are read at once as
 /// its buffer has room for. One file is open at a time.
 ///
 /// The end of a file that others follow is no end, and neither is an empty file. Where a file can't be opened, or a
@@ -53,7 +53,7 @@ impl<'a, F: Files, A: Allocator> Model for Chain<'a, F, A> {
 }
 
 impl<'a, F: Files, A: Allocator + Copy> Chain<'a, F, A> {
-    /// The files that these words name, none of which was opened yet, with a buffer of so many bytes.
+    /// The files that these words name, none of which was opened yet, with a buffer of `room` bytes.
     ///
     /// # Errors
     ///
@@ -103,7 +103,7 @@ impl<'a, F: Files, A: Allocator> Chain<'a, F, A> {
         self.reader.bytes_read()
     }
 
-    /// Where the byte lies before which so many bytes were read: in the last file of those that were opened that
+    /// Where the byte lies before which `offset` bytes were read: in the last file of those that were opened that
     /// doesn't begin after it. None where no file was opened.
     pub fn place_of(&self, offset: u64) -> Option<Place>
         ensures place { IfSome result (IsPlace self.now.files offset) }

@@ -5,7 +5,6 @@ ghost use Rattle.std.specs.Io.KnownBytes.{ReadConsumes};
 ghost use Rattle.mseed_files.specs.Found.{Found, IsLookedAt, IsUnreadOf, failures_of};
 
 use crate::reason::Reason;
-use std::io;
 
 /// What a command is given to read: files, by the words that name them. A word is a path, or `-` for standard input.
 ///
@@ -34,8 +33,8 @@ pub trait Files {
     ///
     /// # Errors
     ///
-    /// Where it can't be opened.
-    fn open(&mut self, word: &[u8]) -> io::Result<Self::File>
+    /// Why it can't be opened.
+    fn open(&mut self, word: &[u8]) -> Result<Self::File, Reason>
         ensures bytes { IfOk result (λ file. IsUnreadOf (found self.old word.now) (left file)) }
         ensures failures { failures self.new ≡ failures self.old + failures_of result }
         ensures found { found self.new ≡ found self.old };
@@ -45,8 +44,8 @@ pub trait Files {
     ///
     /// # Errors
     ///
-    /// Where the read fails. No byte is lost by it.
-    fn read(&mut self, file: &mut Self::File, buf: &mut [u8]) -> io::Result<usize>
+    /// Why the read fails. No byte is lost by it.
+    fn read(&mut self, file: &mut Self::File, buf: &mut [u8]) -> Result<usize, Reason>
         ensures bound { ReadsAtMost result buf.new }
         ensures bytes { ReadConsumes (left file.old) (left file.new) result buf.new }
         ensures failures { failures self.new ≡ failures self.old + failures_of result }

@@ -3,7 +3,7 @@ ghost use Rattle.std.specs.Prelude.{◌++◌, ◌≡◌, IfOk, map};
 ghost use Rattle.mseed_files.specs.InputFiles.{IsReportedPlace, ReportsBlame, ReportsFault, ReportsFile, ReportsName};
 ghost use Rattle.mseed_files.specs.InputFiles.{ReportsFailure, ReportsPlace, ReportsReason, cannot_read, failed_read};
 ghost use Rattle.mseed_files.specs.InputFiles.{fault_in};
-ghost use Rattle.mseed_text.specs.Shown.{printed_byte};
+ghost use Rattle.mseed_text.specs.Shown.{shown_byte};
 
 use crate::blame::Blame;
 use crate::chain::Chain;
@@ -13,7 +13,7 @@ use crate::place::Place;
 use crate::reason::Reason;
 use crate::tracked_source::TrackedSource;
 use mseed_stream::{Sink, report};
-use mseed_text::{Line, printed_byte};
+use mseed_text::{Line, shown_byte};
 use std::alloc::{AllocError, Global};
 
 /// Reports what is wrong with the input that these files are, if something is: which of them can't be read, or in which
@@ -142,7 +142,7 @@ pub fn report_unreadable<E: Sink>(alloc: Global, errors: &mut E, word: &[u8], re
     );
 }
 
-/// Reports that a fault lies in the file that a word names, after so many bytes of it.
+/// Reports that a fault lies in the file that a word names, after `offset` bytes of it.
 fn report_fault_in<E: Sink>(alloc: Global, errors: &mut E, word: &[u8], offset: u64)
     ensures { ReportsName (fault_in offset word.now) (E.written errors.old) (E.written errors.new) }
 {
@@ -154,7 +154,7 @@ fn report_fault_in<E: Sink>(alloc: Global, errors: &mut E, word: &[u8], offset: 
 
 /// Reports something of the file that a word names, by the text before the name and after it.
 fn report_named<E: Sink>(alloc: Global, errors: &mut E, before: &[u8], word: &[u8], after: &[u8])
-    ensures { ReportsName (before.now ++ map printed_byte word.now ++ after.now) (E.written errors.old)
+    ensures { ReportsName (before.now ++ map shown_byte word.now ++ after.now) (E.written errors.old)
         (E.written errors.new) }
 {
     match named_line(alloc, before, word, after) {
@@ -174,12 +174,12 @@ fn named_line(
     word: &[u8],
     after: &[u8],
 ) -> Result<Vec<u8>, AllocError>
-    ensures { IfOk result (λ line. line.items ≡ before.now ++ map printed_byte word.now ++ after.now) }
+    ensures { IfOk result (λ line. line.items ≡ before.now ++ map shown_byte word.now ++ after.now) }
 {
     let mut line = Vec::new(alloc);
     line.extend_from_slice(before)?;
     for byte in word {
-        line.push(printed_byte(*byte))?;
+        line.push(shown_byte(*byte))?;
     }
     line.extend_from_slice(after)?;
     Ok(line)

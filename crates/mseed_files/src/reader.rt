@@ -13,8 +13,6 @@ use crate::files::Files;
 use crate::place::Place;
 use crate::reason::Reason;
 use std::alloc::{AllocError, Allocator, Global};
-use std::io;
-use std::io::ErrorKind;
 use std::marker::Model;
 
 /// Files one after another, as one reader. One of them is open at a time.
@@ -102,7 +100,7 @@ impl<'a, F: Files, A: Allocator> Reader<'a, F, A> {
         self.bytes
     }
 
-    /// Where the byte lies before which so many bytes were read: in the last file of those that were opened that
+    /// Where the byte lies before which `offset` bytes were read: in the last file of those that were opened that
     /// doesn't begin after it. None where no file was opened.
     #[tactic(auto, using(crate::proofs::Opening::placed))]
     pub(crate) fn place_of(&self, offset: u64) -> Option<Place>
@@ -117,8 +115,8 @@ impl<'a, F: Files, A: Allocator> Reader<'a, F, A> {
     ///
     /// # Errors
     ///
-    /// Where a file can't be opened, a read fails, or 2^64 bytes might have been read by it in all.
-    pub(crate) fn read(&mut self, buf: &mut [u8]) -> io::Result<usize>
+    /// Why a file can't be opened or a read fails; `TooLarge` where 2^64 bytes might have been read by it in all.
+    pub(crate) fn read(&mut self, buf: &mut [u8]) -> Result<usize, Reason>
         ensures bound { ReadsAtMost result buf.new }
 
         // What is read is what is left of the file that is open, and then the files after it.
@@ -149,9 +147,9 @@ impl<'a, F: Files, A: Allocator> Reader<'a, F, A> {
     ///
     /// # Errors
     ///
-    /// Where it can't be opened.
+    /// Why it can't be opened.
     #[tactic(auto, using(crate::proofs::Opening::none_left, crate::proofs::Opening::opened_keeps))]
-    fn has_file(&mut self) -> io::Result<bool>
+    fn has_file(&mut self) -> Result<bool, Reason>
         ensures found { IfOk result (λ found. found ≡ self.new.is_open) }
         ensures goes_on { GoesOn result self.old self.new }
         ensures counted { OnOk result (self.new.failures ≡ self.old.failures) }
@@ -174,10 +172,10 @@ impl<'a, F: Files, A: Allocator> Reader<'a, F, A> {
                 self.file = Some(file);
                 Ok(true)
             }
-            Err(error) => {
+            Err(reason) => {
                 self.failed = Some(index);
-                self.reason = Reason::of(&error);
-                Err(error)
+                self.reason = reason;
+                Err(reason)
             }
         }
     }
@@ -186,8 +184,8 @@ impl<'a, F: Files, A: Allocator> Reader<'a, F, A> {
     ///
     /// # Errors
     ///
-    /// Where the read fails, or 2^64 bytes might have been read by it in all.
-    fn read_file(&mut self, buf: &mut [u8]) -> io::Result<usize>
+    /// Why the read fails; `TooLarge` where 2^64 bytes might have been read by it in all.
+    fn read_file(&mut self, buf: &mut [u8]) -> Result<usize, Reason>
         requires is_open { IsTrue self.old.is_open }
         requires room { 0 < length buf.old }
         ensures bound { ReadsAtMost result buf.new }
@@ -203,7 +201,7 @@ impl<'a, F: Files, A: Allocator> Reader<'a, F, A> {
         let most = self.bytes.checked_add(buf.len() as u64);
         let read = match (&mut self.file, most) {
             (Some(file), Some(_)) => self.files.read(file, buf),
-            _ => Err(io::Error::from(ErrorKind::FileTooLarge)),
+            _ => Err(Reason::TooLarge),
         };
         match read {
             Ok(0) => {
@@ -214,10 +212,10 @@ impl<'a, F: Files, A: Allocator> Reader<'a, F, A> {
                 self.bytes += n as u64;
                 Ok(n)
             }
-            Err(error) => {
+            Err(reason) => {
                 self.failed = Some(self.begins.len() - 1);
-                self.reason = Reason::of(&error);
-                Err(error)
+                self.reason = reason;
+                Err(reason)
             }
         }
     }

@@ -2,7 +2,7 @@
 ghost use Rattle.std.specs.Prelude.{◌≡◌, ◌≤◌, length};
 ghost use Rattle.mseed_files.specs.Reason.{reason_text};
 
-use std::io::{Error, ErrorKind};
+use std::io::Error;
 
 /// Why a file can't be read: what a look finds, or an error of the system.
 #[derive(Clone, Copy, Debug, PartialEq, Eq)]
@@ -50,16 +50,11 @@ pub enum Reason {
 }
 
 impl Reason {
-    /// The reason of an error of the system, or of one that the system's files made.
+    /// The reason of an error of the system; `Other` where it has no number.
     pub(crate) fn of(error: &Error) -> Reason {
         match error.raw_os_error() {
             Some(number) => Reason::of_number(number),
-            None => match error.kind() {
-                ErrorKind::FileTooLarge => Reason::TooLarge,
-                ErrorKind::IsADirectory => Reason::Directory,
-                ErrorKind::InvalidInput => Reason::Output,
-                _ => Reason::Other,
-            },
+            None => Reason::Other,
         }
     }
 

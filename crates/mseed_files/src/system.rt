@@ -9,7 +9,6 @@ use mseed_stream::Tally;
 use std::alloc::Alloc;
 use std::fs;
 use std::fs::{Metadata, metadata};
-use std::io::{Error, ErrorKind, Result};
 use std::os::unix::fs::MetadataExt;
 use std::str::from_utf8;
 
@@ -104,12 +103,11 @@ impl<'a, R: fs::Files + Alloc> Files for System<'a, R> {
     }
 
     // The file of a name that isn't UTF-8 is known only once it is open.
-    fn open(&mut self, word: &[u8]) -> Result<Input> {
+    fn open(&mut self, word: &[u8]) -> Result<Input, Reason> {
         let opened = match open_word(word) {
             Ok(file) if from_utf8(word).is_err() => match self.reason_of_open(file.descriptor) {
                 None => Ok(file),
-                Some(Reason::Directory) => Err(Error::from(ErrorKind::IsADirectory)),
-                Some(_) => Err(Error::from(ErrorKind::InvalidInput)),
+                Some(reason) => Err(reason),
             },
             opened => opened,
         };
@@ -117,12 +115,12 @@ impl<'a, R: fs::Files + Alloc> Files for System<'a, R> {
         opened
     }
 
-    fn read(&mut self, file: &mut Input, buf: &mut [u8]) -> Result<usize> {
+    fn read(&mut self, file: &mut Input, buf: &mut [u8]) -> Result<usize, Reason> {
         let got = libc::read(file.descriptor, buf);
         if got < 0 {
-            let error = Error::from_raw_os_error(os::errno());
+            let reason = Reason::of_number(os::errno());
             self.calls.record(&[], true);
-            return Err(error);
+            return Err(reason);
         }
         self.calls.record(&[], false);
         Ok(count(got, buf))
@@ -152,8 +150,8 @@ impl Drop for Input {
 ///
 /// # Errors
 ///
-/// Where the system doesn't open it.
-fn open_word(word: &[u8]) -> Result<Input> {
+/// Why the system doesn't open it.
+fn open_word(word: &[u8]) -> Result<Input, Reason> {
     if word == STANDARD_INPUT {
         return Ok(Input {
             descriptor: libc::STDIN_FILENO,
@@ -162,7 +160,7 @@ fn open_word(word: &[u8]) -> Result<Input> {
     }
     let descriptor = os::open_read(word);
     if descriptor < 0 {
-        return Err(Error::from_raw_os_error(os::errno()));
+        return Err(Reason::of_number(os::errno()));
     }
     Ok(Input {
         descriptor,
@@ -172,10 +170,7 @@ fn open_word(word: &[u8]) -> Result<Input> {
 
 /// Why a file can't be opened that a word names, if it can't.
 fn reason_not_opened(word: &[u8]) -> Option<Reason> {
-    match open_word(word) {
-        Ok(_) => None,
-        Err(error) => Some(Reason::of(&error)),
-    }
+    open_word(word).err()
 }
 
 /// Why a path, which isn't UTF-8, isn't that of something to be read: nothing is there, or it is a directory, or what

@@ -1,5 +1,4 @@
-use Rattle.std.proofs.Common.{◌∙◌, List, ℕ, subst}
-use Rattle.mseed_stream.specs.LineWritten.{WritesLine}
+use Rattle.std.proofs.Common.{◌∙◌}
 use Rattle.mseed_files.proofs.given.report_given.Goals as goal
 
 pub returns : goal.returns
@@ -9,6 +8,4 @@ returns g c =
     let a3 = rw a2 at c.put_shown.ensures.text in
     let a4 = rw a3 at c.put-3.ensures.text in
     let a5 = rw a4 at c.put-4.ensures.text in
-    subst (λ (line : List ℕ). WritesLine line (g.E.Sink.written c.args.errors.now)
-    (g.E.Sink.written c.report.new.errors))
-    (c.as_slice.ensures ∙ a5) c.report.ensures
+    rw (c.as_slice.ensures ∙ a5) at c.report.ensures

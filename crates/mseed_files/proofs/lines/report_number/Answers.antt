@@ -1,5 +1,4 @@
-use Rattle.std.proofs.Common.{◌∙◌, List, ℕ, subst}
-use Rattle.mseed_stream.specs.LineWritten.{WritesLine}
+use Rattle.std.proofs.Common.{◌∙◌}
 use Rattle.mseed_files.proofs.lines.report_number.Goals as goal
 
 pub returns : goal.returns
@@ -7,6 +6,4 @@ returns g c =
     let a1 = rw c.new-line.ensures at c.put.ensures.text in
     let a2 = rw a1 at c.put_count.ensures.text in
     let a3 = rw a2 at c.put-2.ensures.text in
-    subst (λ (line : List ℕ). WritesLine line (g.E.Sink.written c.args.errors.now)
-    (g.E.Sink.written c.report.new.errors))
-    (c.as_slice.ensures ∙ a3) c.report.ensures
+    rw (c.as_slice.ensures ∙ a3) at c.report.ensures

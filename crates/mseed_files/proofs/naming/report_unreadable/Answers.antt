@@ -1,16 +1,10 @@
-use Rattle.std.proofs.Common.{◌∙◌, ◌++◌, List, ℕ, codes, map, subst}
-use Rattle.mseed_stream.specs.Device.{BytesWritten}
-use Rattle.mseed_files.specs.InputFiles.{ReportsName}
-use Rattle.mseed_text.specs.Shown.{printed_byte}
+use Rattle.std.proofs.Common.{◌∙◌}
 use Rattle.mseed_files.proofs.naming.report_unreadable.Goals as goal
 
 pub returns : goal.returns
 returns g c =
-    let old : BytesWritten = g.E.Sink.written c.args.errors.now in
-    let new : BytesWritten = g.E.Sink.written c.report_named.new.errors in
     let why = c.as_bytes.ensures.value ∙ c.text.ensures.text in
     let a1 = rw c.new-after.ensures at c.put.ensures.text in
     let a2 = rw (a1, why) at c.put-2.ensures.text in
     let a3 = rw a2 at c.put-3.ensures.text in
-    subst (λ (after : List ℕ). ReportsName (codes "mseed: cannot read " ++ map printed_byte c.args.word.now ++ after)
-    old new) (c.as_slice.ensures ∙ a3) c.report_named.ensures
+    rw (c.as_slice.ensures ∙ a3) at c.report_named.ensures
