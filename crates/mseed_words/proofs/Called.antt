@@ -5,9 +5,8 @@ use Rattle.std.proofs.lemmas.Grind.{common_steps}
 use Rattle.std.specs.Borrow.{Bor}
 use Rattle.std.specs.List.{list_all, list_any}
 use Rattle.std.specs.Str.{bytes_eq}
-use Rattle.std.proofs.Math.Seq.{take-suc}
 use Rattle.std.proofs.Math.Nat.{pow-suc, mul_assoc}
-use Rattle.std.proofs.lemmas.List.{length-append}
+use Rattle.std.proofs.lemmas.List.{length-append, take_more}
 use Rattle.clap.specs.Walk.{Text}
 use Rattle.mseed_words.specs.Found.{is_among}
 use Rattle.mseed_words.specs.Numbers.{is_digit, value_of}
@@ -27,10 +26,7 @@ value_more (x ∷ xs) c =
 -- the digits that a loop has passed, with one more
 pub digits_more : (ds : Text) (i d : ℕ) → i < length ds
     → value_of (take (i + 1) ds) ≡ value_of (take i ds) * 10 + (get_or ds i d - 48)
-digits_more ds i d lt =
-    let next : take i ds ++ get_or ds i d ∷ [] ≡ take (i + 1) ds = sym (take-suc ds i d lt)
-    ∙ ap (λ (n : ℕ). take n ds) {x = suc i} (omega arith) in
-    ap value_of (sym next) ∙ value_more (take i ds) (get_or ds i d)
+digits_more ds i d lt = rw (take_more ds i d lt) (value_more (take i ds) (get_or ds i d))
 
 pub all_more : (ds : Text) (i d : ℕ) → i < length ds → list_all is_digit (take i ds) ≡ true
     → is_digit (get_or ds i d) ≡ true → list_all is_digit (take (i + 1) ds) ≡ true

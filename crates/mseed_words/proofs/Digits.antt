@@ -1,5 +1,5 @@
 -- Numbers in hexadecimal digits, and those that `clap` reads.
-use Rattle.std.proofs.Common.{◌≡◌, ℕ, ◌≤◌, ◌<◌, ◌^◌, ◌==◌, ap, sym, subst, ◌∙◌, refl, arith, cond, drop, Bool, true}
+use Rattle.std.proofs.Common.{◌≡◌, ℕ, ◌≤◌, ◌<◌, ◌^◌, ap, ◌∙◌, refl, arith, cond, Bool, true}
 use Rattle.std.proofs.Common.{false, List, [], ◌∷◌, length, Some, None, Result, Ok, Err}
 use Rattle.std.proofs.lemmas.Grind.{common_steps}
 use Rattle.std.proofs.lemmas.Bool.{ne_eqb, le-leb}
@@ -28,9 +28,7 @@ no_plus : (text : List ℕ) → list_all is_ascii_hexdigit text ≡ true → wit
 no_plus [] e = refl
 no_plus (c ∷ cs) e =
     let digit : is_ascii_hexdigit c ≡ true = (both _ _ e).0 in
-    let other : (c == 43) ≡ false = ne_eqb c 43 (λ same. let bad : false ≡ true = ap is_ascii_hexdigit (sym same)
-    ∙ digit in cc bad) in
-    ap (λ (b : Bool). drop (cond b 1 0) (c ∷ cs)) other
+    rw (ne_eqb c 43 (λ same. cc (rw same at digit))) refl
 
 -- they are less than 2^24
 pub hex_small : (text : List ℕ) → length text ≤ 6 → list_all is_ascii_hexdigit text ≡ true
@@ -47,11 +45,7 @@ pub hex_parsed : {E : Type 0} (text : List ℕ) (r : Result ℕ E) → 1 ≤ len
 hex_parsed text (Ok n) some short all h = ap Some (h.1 ∙ ap (digits_value 16) (no_plus text all))
 hex_parsed text (Err e) some short all h =
     let same : without_leading_plus text ≡ text = no_plus text all in
-    let small : digits_value 16 text < 2 ^ 24 = hex_small text short all in
-    absurd (h (
-      subst (λ (t : List ℕ). IsNumeral 16 t) (sym same) (some, hex_digits text all),
-      subst (λ (t : List ℕ). digits_value 16 t < 2 ^ 32) (sym same) (omega (arith, small)),
-    ))
+    absurd (h (rw same (some, hex_digits text all), rw same (omega (arith, hex_small text short all))))
 
 pub hex_is : (text : List ℕ) → 1 ≤ length text → length text ≤ 6 → list_all is_ascii_hexdigit text ≡ true
     → hexadecimal_in text ≡ Some (digits_value 16 text)
@@ -62,7 +56,6 @@ pub counted_some : (most n : ℕ) (text : List ℕ)
     → (IsNumeral 10 (without_leading_plus text) × (digits_value 10 (without_leading_plus text) < 2 ^ 32))
     → n ≡ digits_value 10 (without_leading_plus text) → 1 ≤ n → n ≤ most → Some n ≡ counted_in most text
 counted_some most n text numeral is low high =
-    let value : ℕ = digits_value 10 (without_leading_plus text) in
     let within : is_unsigned_in 1 most text ≡ true =
     Accepts-accepts false (Unsigned 1 most) text (
       numeral.0,
@@ -70,7 +63,7 @@ counted_some most n text numeral is low high =
       omega (arith, is, low),
       omega (arith, is, high),
     ) in
-    ap Some is ∙ sym (ap (λ (b : Bool). cond b (Some value) None) within)
+    rw (is, within) refl
 
 pub counted_none : (most : ℕ) (text : List ℕ) → most < 2 ^ 32
     → ¬ (IsNumeral 10 (without_leading_plus text) × (digits_value 10 (without_leading_plus text) < 2 ^ 32))

@@ -1,12 +1,12 @@
 -- The further words behind a command.
 use Rattle.std.proofs.Common.{◌≡◌, ◌∙◌, ◌∷◌, [], ℕ, zero, suc, List, None, Option, Some, Bool, true}
-use Rattle.std.proofs.Common.{ap, length, map, option_map, refl, slice_get, subst, sym, unwrap_or}
+use Rattle.std.proofs.Common.{ap, length, map, option_map, refl, slice_get, sym, unwrap_or}
 use Rattle.std.specs.Borrow.{Bor}
 use Rattle.std.specs.Option.{UnwrapsOrElse, option_copied}
 use Rattle.std.specs.Slice.{IsItemAt}
 use Rattle.std.proofs.lemmas.Option.{slice_get_past, slice_get_read}
 use Rattle.clap.specs.Walk.{Row, Text}
-use Rattle.mseed_words.specs.Files.{file_mistake, files_by, files_of, named_by, takes_files, unless_mistaken}
+use Rattle.mseed_words.specs.Files.{file_mistake, files_of, takes_files, unless_mistaken}
 use Rattle.mseed_words.specs.Found.{further_in}
 use Rattle.mseed_words.specs.declared.mistake.Mistake.{Mistake}
 use Rattle.mseed_words.specs.declared.request.Request.{Request}
@@ -25,8 +25,7 @@ pub all_files : (request : Request) (rows : List Row) (takes : Bool) (found : Op
     → takes ≡ takes_files request → takes ≡ true → words ≡ further_in rows → found ≡ file_mistake words
     → files_of request rows ≡ unless_mistaken found words
 all_files request rows takes found words is holds further judged =
-    ap (λ (b : Bool). files_by (named_by b rows)) (sym is ∙ holds)
-    ∙ (ap files_by (sym further) ∙ ap (λ (o : Option Mistake). unless_mistaken o words) (sym judged))
+    rw (sym is ∙ holds, ← further, ← judged) refl
 
 -- what is lent of a list is the word of that number
 item : (words : List (Bor Text)) (i : ℕ) (lent : Option (Bor (Bor Text))) → IsItemAt words i lent
@@ -47,5 +46,4 @@ pub word_there : (words : List (Bor Text)) (i : ℕ) (lent : Option (Bor (Bor Te
     → UnwrapsOrElse found (λ none. none.now ≡ []) word
     → word.now ≡ unwrap_or (slice_get (map (λ (w : Bor Text). w.now) words) i) []
 word_there words i lent found word is same given =
-    text_there words i word (subst (λ (o : Option (Bor Text)). UnwrapsOrElse o (λ none. none.now ≡ []) word)
-    (same ∙ item words i lent is) given)
+    text_there words i word (rw (same ∙ item words i lent is) at given)

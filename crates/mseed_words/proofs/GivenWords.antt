@@ -1,7 +1,7 @@
 -- The words of a command line up to one of them.
 use Rattle.std.proofs.Common.{◌≡◌, ◌+◌, ◌++◌, ◌∙◌, ℕ, List, [], ◌∷◌, Option, Some, None, IfSome, ap}
-use Rattle.std.proofs.Common.{map, sym, take}
-use Rattle.std.proofs.lemmas.List.{map_push, take_all, take_more}
+use Rattle.std.proofs.Common.{map, refl, take}
+use Rattle.std.proofs.lemmas.List.{map_push, take_more}
 use Rattle.mseed_words.specs.Arguments.{IsWordOrEnd}
 
 -- these are the words before the one of this number, where they are known
@@ -14,17 +14,10 @@ before_more : (given : Option (List (List ℕ))) (index : ℕ) (words : List (Li
     → AreBefore given (index + 1) (words ++ word ∷ [])
 before_more None index words word are one = tt
 before_more (Some all) index words word are one =
-    ap (λ (ws : List (List ℕ)). ws ++ word ∷ []) are
-    ∙ (ap (λ (w : List ℕ). take index all ++ w ∷ []) one.1 ∙ sym (take_more all index [] one.0))
+    rw (are, one.1, take_more all index [] one.0) refl
 
 pub word_more : {W : Type 0} (f : W → List ℕ) (given : Option (List (List ℕ))) (index : ℕ) (old new : List W) (word : W)
     → AreBefore given index (map f old) → new ≡ old ++ word ∷ []
     → IfSome given (λ all. IsWordOrEnd all index (Some (f word))) → AreBefore given (index + 1) (map f new)
 word_more f given index old new word are pushed one =
     rw (ap (map f) pushed ∙ map_push f old word) (before_more given index (map f old) (f word) are one)
-
--- they are all where the words have ended
-pub all_given : (given : Option (List (List ℕ))) (index : ℕ) (words : List (List ℕ)) → AreBefore given index words
-    → IfSome given (λ all. IsWordOrEnd all index None) → IfSome given (λ all. words ≡ all)
-all_given None index words are ended = tt
-all_given (Some all) index words are ended = are ∙ take_all index all ended

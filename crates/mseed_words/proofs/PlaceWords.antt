@@ -1,7 +1,6 @@
 -- The place that a word names is the one that it spells.
 use Rattle.std.proofs.Common.{◌≡◌, ℕ, ◌≤◌, ◌<◌, ◌+◌, ◌==◌, ◌&&◌, ap, sym, ◌∙◌, refl, arith, cond, Bool, true, false}
 use Rattle.std.proofs.Common.{List, ◌∷◌, ◌++◌, length, take, drop, get_or, Option, Some, None, Result, Ok, Err}
-use Rattle.std.proofs.Common.{unwrap_or}
 use Rattle.std.proofs.lemmas.Grind.{common_steps}
 use Rattle.std.proofs.lemmas.Bool.{eqb-true, le-leb, leb-true}
 use Rattle.std.proofs.lemmas.List.Sums.{passes_at_first}
@@ -43,17 +42,10 @@ cut net sta code =
     let back : drop (length net + 1) (net ++ 95 ∷ sta) ≡ sta = grind (arith, common_steps) in
     (ap (λ (n : ℕ). take n (net ++ 95 ∷ sta)) at ∙ prefix, ap (λ (n : ℕ). drop (n + 1) (net ++ 95 ∷ sta)) at ∙ back)
 
-by_codes : (sta net : List ℕ) → IsCode 5 sta → IsCode 2 net → place_by sta net ≡ Some (fields_of sta net)
-by_codes sta net s n = rw (code_yes 5 sta s, code_yes 2 net n) refl
-
 spelled : (word : List ℕ) (p : Fields) → SpellsPlace word p → place_in word ≡ Some p
 spelled word p h =
-    let sta : List ℕ = h.0 in
-    let net : List ℕ = h.1 in
-    let parts = cut net sta h.3 in
-    let same : place_in word ≡ place_in (net ++ 95 ∷ sta) = ap place_in h.4 in
-    let named : place_in (net ++ 95 ∷ sta) ≡ place_by sta net = rw (parts.0, parts.1) refl in
-    same ∙ (named ∙ (by_codes sta net h.2 h.3 ∙ ap Some (sym h.5)))
+    let parts = cut h.1 h.0 h.3 in
+    rw (h.4, h.5, parts.0, parts.1, code_yes 5 h.0 h.2, code_yes 2 h.1 h.3) refl
 
 -- a word that names a place has an underscore
 inside : (word : List ℕ) → 1 ≤ length (after_first (λ c. c == 95) word)
@@ -77,9 +69,7 @@ names word p e = go (is_code 5 (after_first (λ c. c == 95) word) && is_code 2 (
         let whole : word ≡ before_first (λ c. c == 95) word ++ 95 ∷ after_first (λ c. c == 95) word =
         cut_at (λ c. c == 95) word within
         ∙ ap (λ (u : ℕ). before_first (λ c. c == 95) word ++ u ∷ after_first (λ c. c == 95) word) there in
-        let is : p ≡ fields_of (after_first (λ c. c == 95) word) (before_first (λ c. c == 95) word) =
-        ap (λ (o : Option Fields). unwrap_or o p) (sym same) in
-        (after_first (λ c. c == 95) word, before_first (λ c. c == 95) word, sta, net, whole, is)
+        (after_first (λ c. c == 95) word, before_first (λ c. c == 95) word, sta, net, whole, cc same)
 
 -- what is read of a word is what it names
 pub read_is : {E : Type 0} (word : List ℕ) (r : Result Fields E) → IfOk r (SpellsPlace word)

@@ -1,5 +1,6 @@
 -- What `clap` says of the words, by the command.
-use Rattle.std.proofs.Common.{◌≡◌, ◌∷◌, List, [], true, Result, Ok, Err, IfErr, IfOk, OnOk, inl, inr, refl, subst}
+use Rattle.std.proofs.Common.{◌≡◌, ◌∷◌, List, [], true, Result, Ok, Err, IfErr, IfOk, OnOk, inl, inr, refl}
+use Rattle.clap.proofs.WalkLemmas.{both}
 use Rattle.clap.specs.Walk.{Text, rows_of}
 use Rattle.clap.specs.Simple.{App, is_simple, HasMatchesOf, matches_of}
 use Rattle.clap.specs.Matches.{found_of}
@@ -9,7 +10,7 @@ use Rattle.clap.specs.declared.error.kind.ErrorKind.TheVariants as kind
 use Rattle.clap.specs.Faults.{fault_of, is_simple_and_free}
 use Rattle.clap.specs.declared.error.Error.{Error}
 use Rattle.clap.specs.declared.parser.matches.ArgMatches.{ArgMatches}
-use Rattle.mseed_words.specs.Options.{the_command, the_program}
+use Rattle.mseed_words.specs.Options.{the_command}
 use Rattle.mseed_words.specs.Words.{Reading, refused, unless_refused}
 use Rattle.mseed_words.specs.declared.command_name.CommandName.{CommandName}
 use Rattle.mseed_words.specs.declared.command_name.CommandName.TheVariants.{Audit, Join, Show, Select, Repack}
@@ -25,38 +26,23 @@ is_free Serve = refl
 is_free Fetch = refl
 
 simple : (name : CommandName) → is_simple (the_command name) ≡ true
-simple Audit = refl
-simple Join = refl
-simple Show = refl
-simple Select = refl
-simple Repack = refl
-simple Serve = refl
-simple Fetch = refl
+simple name = (both (is_simple (the_command name)) _ (is_free name)).0
 
 -- it fails as a simple command does that it is
-fails_as : {T : Type 0} (a b : App) (words : List Text) (r : Result T Error) → a ≡ b → is_simple_and_free b ≡ true
+pub fails_as : {T : Type 0} (a b : App) (words : List Text) (r : Result T Error) → a ≡ b → is_simple_and_free b ≡ true
     → (is_simple_and_free a ≡ true → FailsBy (fault_of a words) r) → FailsBy (fault_of b words) r
-fails_as {T} a b words r same free h =
-    (subst (λ (c : App). (is_simple_and_free c ≡ true → FailsBy (fault_of c words) r)) same h) free
+fails_as a b words r same free h = (rw same at h) free
 
 pub fails_by : {T : Type 0} (name : CommandName) (a : App) (words : List Text) (r : Result T Error)
     → a ≡ the_command name → (is_simple_and_free a ≡ true → FailsBy (fault_of a words) r)
     → FailsBy (fault_of (the_command name) words) r
 fails_by name a words r same h = fails_as a (the_command name) words r same (is_free name) h
 
-pub program_fails : {T : Type 0} (a : App) (words : List Text) (r : Result T Error) → a ≡ the_program
-    → (is_simple_and_free a ≡ true → FailsBy (fault_of a words) r) → FailsBy (fault_of the_program words) r
-program_fails a words r same h = fails_as a the_program words r same refl h
-
 -- what is found among words that are taken
-entries_by : (name : CommandName) (a : App) (words : List Text) (m : ArgMatches) → a ≡ the_command name
-    → HasMatchesOf a words m → rows_of (found_of m) ≡ matches_of (the_command name) words
-entries_by name a words m same h = ((subst (λ (b : App). HasMatchesOf b words m) same h) (simple name)).0
-
 pub found_by : (name : CommandName) (a : App) (words : List Text) (r : Result ArgMatches Error)
     → a ≡ the_command name → IfOk r (HasMatchesOf a words)
     → IfOk r (λ m. rows_of (found_of m) ≡ matches_of (the_command name) words)
-found_by name a words (Ok m) same h = entries_by name a words m same h
+found_by name a words (Ok m) same h = ((rw same at h) (simple name)).0
 found_by name a words (Err e) same h = tt
 
 -- that words are taken, and why they are not

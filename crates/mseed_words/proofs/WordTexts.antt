@@ -35,19 +35,7 @@ pub record AreTexts (words texts : List (List ℕ)) (ended : Bool) : Type 0 wher
   pub texts_are : AreTextsOf words texts
   pub ended_is : ended ≡ has_ended false words
 
--- with the text of one more word
-pub texts_pushed : (words texts : List (List ℕ)) (word text : List ℕ) (index : ℕ) (ended ends : Bool)
-    → AreTexts words texts ended → index ≡ length words → ends ≡ ends_options word → IsTextOf word index ended text
-    → AreTexts (words ++ word ∷ []) (texts ++ text ∷ []) (ended || ends)
-texts_pushed words texts word text index ended ends are at is one =
-    let count : index ≡ 0 + length words = omega (arith, at) in record {
-      texts_are = texts_more 0 false words texts word text are.texts_are
-          (subst (λ (b : Bool). IsTextOf word (0 + length words) b text) are.ended_is
-          (subst (λ (n : ℕ). IsTextOf word n ended text) count one));
-      ended_is = rw (are.ended_is, is) (sym (ended_more false words word));
-    }
-
--- by how words and texts are kept
+-- with the text of one more word, by how words and texts are kept
 pub texts_on : {W T : Type 0} (f : W → List ℕ) (h : T → List ℕ) (words words' : List W) (texts texts' : List T)
     (index : ℕ) (word : W) (text : T) (ended ends : Bool) → index ≡ length words → words' ≡ words ++ word ∷ []
     → texts' ≡ texts ++ text ∷ [] → AreTexts (map f words) (map h texts) ended → ends ≡ ends_options (f word)
@@ -55,5 +43,9 @@ pub texts_on : {W T : Type 0} (f : W → List ℕ) (h : T → List ℕ) (words w
 texts_on f h words words' texts texts' index word text ended ends at pushed also are is one =
     let before : map f words' ≡ map f words ++ f word ∷ [] = ap (map f) pushed ∙ map_push f words word in
     let after : map h texts' ≡ map h texts ++ h text ∷ [] = ap (map h) also ∙ map_push h texts text in
-    rw (before, after) (texts_pushed (map f words) (map h texts) (f word) (h text) index ended ends are
-    (at ∙ sym (length-map words f)) is one)
+    let count : index ≡ 0 + length (map f words) = omega (arith, at, length-map words f) in
+    rw (before, after) (record {
+      texts_are = texts_more 0 false (map f words) (map h texts) (f word) (h text) are.texts_are
+          (rw (← are.ended_is, ← count) one);
+      ended_is = rw (are.ended_is, is) (sym (ended_more false (map f words) (f word)));
+    })

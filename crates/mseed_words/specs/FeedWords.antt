@@ -28,7 +28,7 @@ use Rattle.mseed_words.specs.declared.request.LiveServing.{LiveServing}
 use Rattle.mseed_words.specs.declared.request.Serving.{Serving}
 use Rattle.mseed_words.specs.declared.request.Fetching.{Fetching}
 
--- a code: 1 to so many ASCII letters or digits
+-- a code: 1 to `width` ASCII letters or digits
 abbrev pub is_code : ℕ → Text → Bool
 is_code width code = nat_le 1 (length code) && (nat_le (length code) width && list_all is_ascii_alphanumeric code)
 
@@ -104,7 +104,7 @@ abbrev pub places_in : Naming → Option Text → List Row → Result (List Call
 places_in naming from rows =
     and_then (first_place from rows) (λ first. gathered naming (first ∷ []) (further_in rows))
 
--- a number from 1 to so many, as an option gives it, and this one where it isn't given
+-- a number from 1 to `most`, as an option gives it, and `default` where it isn't given
 abbrev pub count_of : Valued → ℕ → Text → List Row → Result ℕ Mistake
 count_of option most default rows =
     ok_or (counted_in most (text_or (name_text option) default rows)) (Value option wanted.Count)

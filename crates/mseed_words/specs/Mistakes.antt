@@ -1,8 +1,8 @@
 -- Why arguments that a command takes request nothing that there is, and the words in which that is said.
-use Rattle.std.specs.Prelude.{Result, Ok, Err, Option, Some, None, codes}
+use Rattle.std.specs.Prelude.{◌++◌, Result, Ok, Err, Option, Some, None, codes}
 use Rattle.clap.specs.Walk.{Text}
+use Rattle.mseed_words.specs.Names.{word_of}
 use Rattle.mseed_words.specs.declared.command_name.CommandName.{CommandName}
-use Rattle.mseed_words.specs.declared.command_name.CommandName.TheVariants as names
 use Rattle.mseed_words.specs.declared.mistake.Mistake.{Mistake}
 use Rattle.mseed_words.specs.declared.mistake.Mistake.TheVariants as mistake
 use Rattle.mseed_words.specs.declared.mistake.PlaceFault.{PlaceFault}
@@ -43,22 +43,7 @@ name_text option.Tries = codes "tries"
 
 -- the option before its value
 abbrev pub option_text : Valued → Text
-option_text option.Channels = codes "--channels "
-option_text option.From = codes "--from "
-option_text option.Until = codes "--until "
-option_text option.Length = codes "--length "
-option_text option.Encoding = codes "--encoding "
-option_text option.Expect = codes "--expect "
-option_text option.Port = codes "--port "
-option_text option.Station = codes "--station "
-option_text option.Network = codes "--network "
-option_text option.Address = codes "--address "
-option_text option.Timeout = codes "--timeout "
-option_text option.Capacity = codes "--capacity "
-option_text option.First = codes "--first "
-option_text option.Connections = codes "--connections "
-option_text option.Clients = codes "--clients "
-option_text option.Tries = codes "--tries "
+option_text option = codes "--" ++ name_text option ++ codes " "
 
 -- what is wrong with a value, and what would be right
 abbrev pub wanted_text : Wanted → Text
@@ -115,20 +100,9 @@ place_text place.Many =
 -- that a word names no command, which one is near, if one is, and which ones there are
 abbrev pub near_text : Option CommandName → Text
 near_text None = codes ": no command; there are audit, join, show, select, repack, serve and fetch"
-near_text (Some names.Audit) =
-    codes ": no command, but audit is one; there are audit, join, show, select, repack, serve and fetch"
-near_text (Some names.Join) =
-    codes ": no command, but join is one; there are audit, join, show, select, repack, serve and fetch"
-near_text (Some names.Show) =
-    codes ": no command, but show is one; there are audit, join, show, select, repack, serve and fetch"
-near_text (Some names.Select) =
-    codes ": no command, but select is one; there are audit, join, show, select, repack, serve and fetch"
-near_text (Some names.Repack) =
-    codes ": no command, but repack is one; there are audit, join, show, select, repack, serve and fetch"
-near_text (Some names.Serve) =
-    codes ": no command, but serve is one; there are audit, join, show, select, repack, serve and fetch"
-near_text (Some names.Fetch) =
-    codes ": no command, but fetch is one; there are audit, join, show, select, repack, serve and fetch"
+near_text (Some name) =
+    codes ": no command, but " ++ word_of name
+    ++ codes " is one; there are audit, join, show, select, repack, serve and fetch"
 
 -- the words of the line up to what was given
 abbrev pub before_text : Mistake → Text

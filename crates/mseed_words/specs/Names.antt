@@ -35,7 +35,7 @@ abbrev pub edits_to : Text → CommandName → ℕ
 edits_to word name =
     levenshtein_row nat_eq (chars word) (chars (word_of name)) (length (chars (word_of name)))
 
--- the first command that is so many edits away, or fewer
+-- the first command that is at most `edits` edits away
 abbrev pub within : ℕ → Text → Option CommandName
 within edits word = find (λ name. nat_le (edits_to word name) edits) all_commands
 

@@ -15,7 +15,7 @@ value_of (c ∷ cs) = (c - 48) * 10 ^ length cs + value_of cs
 abbrev pub is_digit : ℕ → Bool
 is_digit c = nat_le 48 c && nat_le c 57
 
--- decimal digits, one to so many, which may begin with zeros
+-- the number of decimal digits, one to `most`, which may begin with zeros
 abbrev pub number_within : ℕ → Text → Option ℕ
 number_within most text =
     if not (length text == 0) && nat_le (length text) most && list_all is_digit text then Some (value_of text) else None
@@ -30,6 +30,6 @@ hexadecimal_in text =
     if nat_le 1 (length text) && (nat_le (length text) 6 && list_all is_ascii_hexdigit text) then Some
     (digits_value 16 text) else None
 
--- a number from 1 to so many, as `clap` reads it: decimal digits, of any count and with a plus before it or none
+-- a number from 1 to `most`, as `clap` reads it: decimal digits, of any count and with a plus before it or none
 abbrev pub counted_in : ℕ → Text → Option ℕ
 counted_in most text = if is_unsigned_in 1 most text then Some (digits_value 10 (without_leading_plus text)) else None

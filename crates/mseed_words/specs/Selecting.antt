@@ -26,7 +26,7 @@ channels_in (Some text) = if are_patterns text then Ok (Some text) else Err (Val
 abbrev pub channels_of : List Row → Result (Option Text) Mistake
 channels_of rows = channels_in (first_of (codes "channels") rows)
 
--- so many decimal digits
+-- `digits` decimal digits
 abbrev pub is_number_of : ℕ → Text → Bool
 is_number_of digits text = length text == digits && is_some (number_within digits text)
 

@@ -82,7 +82,7 @@ pub(crate) fn nearest(alloc: Global, word: &str) -> Result<Option<CommandName>, 
     }
 }
 
-/// The first command that is so many edits away from a word, or fewer.
+/// The first command that is at most `edits` edits away from a word.
 ///
 /// # Errors
 ///

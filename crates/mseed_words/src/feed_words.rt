@@ -249,7 +249,7 @@ fn code_mistake(station: &str) -> Mistake
     }
 }
 
-/// Whether a text is a code: 1 to so many ASCII letters or digits.
+/// Whether a text is a code: 1 to `width` ASCII letters or digits.
 fn is_code(width: usize, text: &str) -> bool
     ensures { result ≡ is_code width text.now }
 {

@@ -115,8 +115,8 @@ bad line, or another number of parts than expected, no audit is written.
 Statuses: 0 each channel is continuous, 1 a channel is broken, 2 a fault of an
 archive, the input or the output, 3 a bad command line or this help
 
-  mseed audit --part may.mseed > may.part
-  mseed join --expect 12 *.part";
+  mseed audit --part 2024-05.mseed > 2024-05.part
+  mseed join --expect 12 2024-*.part";
 
 const SHOW: &str = "A file named - is standard input, which is read where no file is named.
 

@@ -63,7 +63,7 @@ pub enum Wanted {
     Encoding,
     /// A number of parts.
     Parts,
-    /// A number in its range.
+    /// A number in its range. Never of what `clap` has let pass, which refuses every other value itself.
     Count,
     /// A station's code.
     Station,

@@ -11,7 +11,7 @@ pub(crate) fn number_in(text: &str) -> Option<u32>
     number_within(7, text)
 }
 
-/// The number that decimal digits say, one to so many.
+/// The number that decimal digits say, one to `most` of them.
 pub(crate) fn number_within(most: usize, text: &str) -> Option<u32>
     requires { most ≤ 9 }
     ensures { result ≡ number_within most text.now }
@@ -34,7 +34,7 @@ pub(crate) fn number_within(most: usize, text: &str) -> Option<u32>
 fn is_digit(byte: u8) -> bool
     ensures { result ≡ is_digit byte }
 {
-    b'0' <= byte && byte <= b'9'
+    byte.is_ascii_digit()
 }
 
 /// The number that one to six hexadecimal digits say, in either case.

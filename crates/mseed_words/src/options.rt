@@ -150,7 +150,8 @@ static FETCH: [Named; 9] = [
     TIMEOUT,
     optional!("from", Kind::Text("HEX") =>
         "the number to begin with at the first station, 0 to\n\
-         FFFFFF; by default the oldest that the server has"),
+         FFFFFF; by default the oldest of an mseed serve;\n\
+         another server may begin with the next one to come"),
     optional!("tries", Kind::Number("COUNT", 1_000_000) =>
         "how many times to connect, 1 to 1000000; by default 1"),
     optional!("tell-next", Kind::Flag =>

@@ -153,7 +153,7 @@ fn is_month_and_day(text: &str) -> bool
     is_number_of(2, month) && is_number_of(2, day)
 }
 
-/// Whether a text is a number of so many digits.
+/// Whether a text is a number of `digits` digits.
 fn is_number_of(digits: usize, text: &str) -> bool
     requires { digits ≤ 9 }
     ensures { result ≡ is_number_of digits text.now }

@@ -1,5 +1,5 @@
 use Rattle.std.proofs.Common.{◌≡◌, ℕ, ◌+◌, ◌-◌, ◌<◌, List, drop, get_or, length, length-drop, map}
-use Rattle.std.proofs.Common.{ap, arith, sym, take, Option, None, Some, ◌∙◌}
+use Rattle.std.proofs.Common.{arith, refl, sym, take, Option, None, Some, ◌∙◌}
 use Rattle.std.specs.Borrow.{Bor}
 use Rattle.std.specs.Option.{option_or}
 use Rattle.std.proofs.lemmas.List.{drop_more, take_all}
@@ -19,10 +19,7 @@ next : (words : List (Bor Text)) (i : ℕ) (d : Bor Text) (found : Option Mistak
     → file_mistake (map (λ (w : Bor Text). w.now) (drop i words))
     ≡ option_or found (file_mistake (map (λ (w : Bor Text). w.now) (drop (i + 1) words)))
 next words i d found less is =
-    ap (λ (ws : List (Bor Text)). file_mistake (map (λ (w : Bor Text). w.now) ws)) (drop_more words i d less)
-    ∙ ap (λ (o : Option Mistake). option_or o (file_mistake (map (λ (w : Bor Text). w.now) (drop (i + 1) words))))
-    (sym (is ∙ ap (λ (ws : List (Bor Text)). unfit (get_or words i d).now (map (λ (w : Bor Text). w.now) ws))
-    (slice_on words (i + 1))))
+    rw (drop_more words i d less, is, slice_on words (i + 1)) refl
 
 pub returns-in-Some : goal.returns-in-Some
 returns-in-Some c = sym (sym c.loop-index.invariant

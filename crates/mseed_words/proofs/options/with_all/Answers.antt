@@ -1,5 +1,5 @@
-use Rattle.std.proofs.Common.{◌≡◌, ◌+◌, ◌<◌, ◌∙◌, List, ap, drop, get_or, length, map, sym, ℕ}
-use Rattle.std.proofs.lemmas.List.{at_drop_more, drop_all}
+use Rattle.std.proofs.Common.{◌≡◌, ◌+◌, ◌<◌, List, drop, get_or, length, map, ℕ}
+use Rattle.std.proofs.lemmas.List.{drop_all, drop_more}
 use Rattle.clap.specs.Simple.{App, with_rule}
 use Rattle.clap.specs.Walk.{Rule}
 use Rattle.mseed_words.specs.declared.options.Named.{Named}
@@ -13,8 +13,7 @@ one_more : (all : List Named) (k : ℕ) (d : Named) (old new end : App) (rule : 
     → with_rules old (map rule_named (drop k all)) ≡ end
     → with_rules new (map rule_named (drop (k + 1) all)) ≡ end
 one_more all k d old new end rule lt added named before =
-    ap (λ (a : App). with_rules a (map rule_named (drop (k + 1) all))) (added ∙ ap (with_rule old) named)
-    ∙ (sym (at_drop_more (λ (left : List Named). with_rules old (map rule_named left)) all k d lt) ∙ before)
+    rw (added, named) (rw (drop_more all k d lt) at before)
 
 pub loop-named-preserved : goal.loop-named-preserved
 loop-named-preserved c =

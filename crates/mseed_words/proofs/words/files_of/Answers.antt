@@ -1,4 +1,4 @@
-use Rattle.std.proofs.Common.{◌≡◌, true, List, Ok, Err, Result, ap}
+use Rattle.std.proofs.Common.{◌≡◌, List, Ok, Err, Result, ap}
 use Rattle.std.proofs.Common.{map, rules, sym, ◌∙◌}
 use Rattle.std.specs.Borrow.{Bor}
 use Rattle.clap.specs.Matches.{found_of}
@@ -22,16 +22,14 @@ is_refused asked m rows refusal.Memory is said = tt
 pub returns-in-Some-clause-refused : goal.returns-in-Some-clause-refused
 returns-in-Some-clause-refused c =
     let rows : List Row = rows_of (found_of c.args.matches.now) in
-    let takes : c.takes_files.result ≡ true = search rules in
     is_refused _ _ rows c.mistaken.result (all_files c.args.request.now rows c.takes_files.result _
-    (texts_of c.further_in-words.result) c.takes_files.ensures takes c.further_in-words.ensures c.in-Some.ensures)
-    c.mistaken.ensures
+    (texts_of c.further_in-words.result) c.takes_files.ensures (search rules)
+    c.further_in-words.ensures c.in-Some.ensures) c.mistaken.ensures
 
 pub returns-in-Ok-clause-files : goal.returns-in-Ok-clause-files
 returns-in-Ok-clause-files c =
     let rows : List Row = rows_of (found_of c.args.matches.now) in
-    let takes : c.takes_files.result ≡ true = search rules in
     let items : c.extend_from_slice.new.self.items ≡ c.further_in-words.result.now = search rules in
     all_files c.args.request.now rows c.takes_files.result _ (texts_of c.further_in-words.result)
-    c.takes_files.ensures takes c.further_in-words.ensures c.in_default.ensures
+    c.takes_files.ensures (search rules) c.further_in-words.ensures c.in_default.ensures
     ∙ ap (λ (ws : List (Bor Text)). Ok (map (λ (w : Bor Text). w.now) ws)) (sym items)
