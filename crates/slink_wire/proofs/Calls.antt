@@ -1,11 +1,11 @@
 -- What calls reported, one after another.
 use Rattle.std.proofs.Common.{◌≡◌, ℕ, refl, sym, ap, ◌∙◌, List, [], ◌∷◌, ◌++◌, append_assoc, append-nil}
-use Rattle.slink_wire.specs.declared.lines.What.{What}
-use Rattle.slink_wire.specs.declared.lines.What.TheVariants.{Line}
+use Rattle.slink_wire.specs.declared.lines.LineOutcome.{LineOutcome}
+use Rattle.slink_wire.specs.declared.lines.LineOutcome.TheVariants.{Line}
 use Rattle.slink_wire.specs.Lines.{lines_of}
 use Rattle.slink_wire.specs.Taking.{AreCalls, Call, Yields, bytes_in, line_in, lines_in}
 
-reported : (what : What) (before after : List ℕ) → Yields what before after
+reported : (what : LineOutcome) (before after : List ℕ) → Yields what before after
     → (lines_of after).lines ≡ (lines_of before).lines ++ line_in what
 reported (Line line) before after h = h.0
 reported what before after h = h.0 ∙ sym (append-nil (lines_of before).lines)

@@ -1,22 +1,18 @@
 -- A code fills its field, and is what stands there before the first space.
-use Rattle.std.proofs.Common.{◌≡◌, ℕ, ◌-◌, inl, inr, zero, suc, refl, sym, ap, ◌∙◌, subst, true, false, not, ◌==◌, ◌&&◌}
-use Rattle.std.proofs.Common.{List, [], ◌∷◌, ◌++◌, length, replicate, append-nil}
+use Rattle.std.proofs.Common.{◌≡◌, ℕ, ◌-◌, zero, suc, refl, sym, ap, ◌∙◌, subst, arith, true, false, not, ◌==◌, ◌&&◌}
+use Rattle.std.proofs.Common.{List, [], ◌∷◌, ◌++◌, length, replicate}
 use Rattle.std.specs.List.{list_all, position_or_len}
 use Rattle.std.specs.Char.{is_ascii_alphanumeric}
-use Rattle.std.proofs.lemmas.Bool.Decides.{eqb_tells}
 use Rattle.std.proofs.lemmas.List.{take_at}
 use Rattle.std.specs.Prelude.{Result, Ok, Err, IsOk, IfOk, IsOkAnd, OnErr}
-use Rattle.std.proofs.lemmas.Bool.{and_parts}
+use Rattle.std.proofs.lemmas.Bool.{and_parts, both_ways, ne_eqb}
 use Rattle.slink_wire.specs.declared.place.BadPlace.{BadPlace}
 use Rattle.slink_wire.specs.Place.{Fields, IsCode, IsField, SpellsPlace, filled, fields_of, code_in}
-use Rattle.slink_wire.proofs.Cuts.{Lacks, first_at, none_at, one_cut}
+use Rattle.slink_wire.proofs.Cuts.{Lacks, one_cut, place_after}
 
 -- a byte of a code is neither of these
 other_byte : (c : ℕ) → is_ascii_alphanumeric c ≡ false → (b : ℕ) → is_ascii_alphanumeric b ≡ true → not (b == c) ≡ true
-other_byte c f b h = elim (eqb_tells b c) [
-  | inl same ↦ absurd (let e : false ≡ true = sym f ∙ (ap is_ascii_alphanumeric (sym same.1) ∙ h) in cc e)
-  | inr other ↦ ap not other.0
-]
+other_byte c f b h = ap not (ne_eqb b c (λ same. both_ways _ f (rw same at h)))
 
 -- no byte of a code is this one
 pub without : (c : ℕ) → is_ascii_alphanumeric c ≡ false → (code : List ℕ) → list_all is_ascii_alphanumeric code ≡ true
@@ -27,16 +23,17 @@ without c f (b ∷ bs) h =
     and_parts (is_ascii_alphanumeric b) (list_all is_ascii_alphanumeric bs) h in
     ap (λ v. v && list_all (λ x. not (x == c)) bs) (other_byte c f b parts.0) ∙ without c f bs parts.1
 
-code_in-spaces : (code : List ℕ) (n : ℕ) → list_all is_ascii_alphanumeric code ≡ true
-    → position_or_len (λ b. b == 32) (code ++ replicate n 32) ≡ length code
-code_in-spaces code zero h = ap (position_or_len (λ b. b == 32)) (append-nil code)
-    ∙ none_at (λ b. b == 32) code (without 32 refl code h)
-code_in-spaces code (suc n) h = first_at (λ b. b == 32) code 32 (replicate n 32) (without 32 refl code h) refl
+no_code : (n : ℕ) → position_or_len (λ b. b == 32) (replicate n 32) ≡ 0
+no_code zero = refl
+no_code (suc n) = refl
 
 pub code_in-filled : (width : ℕ) (code : List ℕ) → IsCode width code → code_in (filled width code) ≡ code
-code_in-filled width code h =
-    take_at code (replicate (width - length code) 32) (position_or_len (λ b. b == 32) (filled width code))
-    (sym (code_in-spaces code (width - length code) h.2))
+code_in-filled width code h = take_at code (replicate (width - length code) 32) _
+    (omega (
+      arith,
+      place_after (λ b. b == 32) code (replicate (width - length code) 32) (without 32 refl code h.2),
+      no_code (width - length code),
+    ))
 
 pub fills : (width : ℕ) (code : List ℕ) → IsCode width code → IsField width (filled width code)
 fills width code h = (

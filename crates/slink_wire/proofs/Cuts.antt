@@ -1,55 +1,40 @@
 -- Where a list is cut at the first element that passes a test.
-use Rattle.std.proofs.Common.{◌≡◌, ℕ, ◌+◌, ◌<◌, suc, refl, sym, ap, ◌∙◌, arith, Bool, true, false, not, cond, ◌&&◌}
-use Rattle.std.proofs.Common.{List, [], ◌∷◌, ◌++◌, length, inl, inr, ◌≤◌, ◌-◌, ◌==◌, subst, Some, None, take, drop}
-use Rattle.std.proofs.Common.{get_or, take-append-drop}
-use Rattle.std.specs.List.{list_all, position_or_len, prefix_len, before_first, after_first, position}
+use Rattle.std.proofs.Common.{◌≡◌, ℕ, ◌+◌, ◌<◌, refl, sym, ap, ◌∙◌, arith, Bool, true, false, not, cond, ◌&&◌}
+use Rattle.std.proofs.Common.{List, [], ◌∷◌, ◌++◌, length, ◌≤◌, ◌==◌, take, drop}
+use Rattle.std.proofs.Common.{get_or}
+use Rattle.std.specs.List.{All, list_all, position_or_len, before_first, after_first, position}
 use Rattle.std.proofs.Math.Numerals.{one-add}
-use Rattle.std.proofs.lemmas.List.{drop_more, take_at, drop_at, take_all, take_rest}
-use Rattle.std.proofs.lemmas.List.Sums.{passes_at_first}
-use Rattle.std.proofs.lemmas.Bool.{eq-eqb, and_parts}
-use Rattle.std.proofs.lemmas.Bool.Decides.{leb_tells, eqb_tells}
+use Rattle.std.proofs.lemmas.List.{append_cancel_left, take_at, take_all}
+use Rattle.std.proofs.lemmas.List.Folds.{list_all_at}
+use Rattle.std.proofs.lemmas.List.Sums.{passes_at_first, prefix_len-le-length, split_at_first}
+use Rattle.std.proofs.lemmas.Bool.{and_parts, both_ways, eq-eqb, eqb-true, not-true}
+use Rattle.std.proofs.lemmas.Bool.{true_from_ne_false}
 use Rattle.std.specs.Option.{unwrap_or}
 pub use Rattle.std.proofs.lemmas.Bool.{and_parts as both}
+
+-- past elements that fail, the place is in what follows
+pub place_after : (p : ℕ → Bool) (xs ys : List ℕ) → list_all (λ x. not (p x)) xs ≡ true
+    → position_or_len p (xs ++ ys) ≡ length xs + position_or_len p ys
+place_after p [] ys h = omega arith
+place_after p (x ∷ xs) ys h =
+    let fails = and_parts (not (p x)) (list_all (λ z. not (p z)) xs) h in
+    rw (fails.0, place_after p xs ys fails.1) (omega arith)
 
 -- the elements before it fail, and the next one passes
 pub first_at : (p : ℕ → Bool) (xs : List ℕ) (y : ℕ) (ys : List ℕ) → list_all (λ x. not (p x)) xs ≡ true → p y ≡ true
     → position_or_len p (xs ++ y ∷ ys) ≡ length xs
-first_at p [] y ys h t = ap (λ v. cond (not v) (1 + prefix_len (λ x. not (p x)) ys) 0) t
-first_at p (x ∷ xs) y ys h t =
-    let fails : (not (p x) ≡ true) × (list_all (λ z. not (p z)) xs ≡ true) =
-    and_parts (not (p x)) (list_all (λ z. not (p z)) xs) h in
-    let rest : position_or_len p (xs ++ y ∷ ys) ≡ length xs = first_at p xs y ys fails.1 t in
-    ap (λ v. cond v (1 + position_or_len p (xs ++ y ∷ ys)) 0) fails.0 ∙ omega (arith, rest)
-
--- no element passes
-pub none_at : (p : ℕ → Bool) (xs : List ℕ) → list_all (λ x. not (p x)) xs ≡ true → position_or_len p xs ≡ length xs
-none_at p [] h = refl
-none_at p (x ∷ xs) h =
-    let fails : (not (p x) ≡ true) × (list_all (λ z. not (p z)) xs ≡ true) =
-    and_parts (not (p x)) (list_all (λ z. not (p z)) xs) h in
-    let rest : position_or_len p xs ≡ length xs = none_at p xs fails.1 in
-    ap (λ v. cond v (1 + position_or_len p xs) 0) fails.0 ∙ omega (arith, rest)
+first_at p xs y ys h t = place_after p xs (y ∷ ys) h ∙ rw t (omega arith)
 
 -- the list is what stands before the first that passes, that one, and the rest
 pub cut_at : (p : ℕ → Bool) (xs : List ℕ) → position_or_len p xs < length xs
     → xs ≡ before_first p xs ++ get_or xs (position_or_len p xs) 0 ∷ after_first p xs
-cut_at p xs h = sym (take-append-drop (position_or_len p xs) xs)
-    ∙ ap (λ r. before_first p xs ++ r) (drop_more xs (position_or_len p xs) 0 h)
-
-bound_at : (t : Bool) (m n : ℕ) → m ≤ n → cond (not t) (1 + m) 0 ≤ suc n
-bound_at true m n h = omega arith
-bound_at false m n h = omega arith
+cut_at p xs h = split_at_first p xs 0 h
 
 pub place_bound : (p : ℕ → Bool) (xs : List ℕ) → position_or_len p xs ≤ length xs
-place_bound p [] = omega arith
-place_bound p (x ∷ xs) = bound_at (p x) (position_or_len p xs) (length xs) (place_bound p xs)
+place_bound p xs = prefix_len-le-length (λ x. not (p x)) xs
 
 pub place_or_all : (p : ℕ → Bool) (xs : List ℕ) → unwrap_or (position p xs) (length xs) ≡ position_or_len p xs
-place_or_all p xs = elim (leb_tells (suc (position_or_len p xs)) (length xs)) [
-  | inl lt ↦ ap (λ t. unwrap_or (cond t (Some (position_or_len p xs)) None) (length xs)) lt.0
-  | inr ge ↦ ap (λ t. unwrap_or (cond t (Some (position_or_len p xs)) None) (length xs)) ge.0
-      ∙ omega (arith, place_bound p xs, ge.1)
-]
+place_or_all p xs = grind (arith, place_bound)
 
 -- the elements before the first that passes fail
 pub before_fails : (p : ℕ → Bool) (xs : List ℕ) → list_all (λ x. not (p x)) (take (position_or_len p xs) xs) ≡ true
@@ -66,30 +51,25 @@ before_fails p (x ∷ xs) =
 abbrev pub Lacks : ℕ → List ℕ → Type 0
 Lacks byte bytes = list_all (λ b. not (b == byte)) bytes ≡ true
 
+-- each byte there is another
+pub each_other : (bytes : List ℕ) (byte : ℕ) → Lacks byte bytes → All (λ b. (b == byte) ≡ false) bytes
+each_other bytes byte lacks = λ k d lt. not-true _ (true_from_ne_false _
+    (λ same. both_ways _ (list_all_at (λ b. not (b == byte)) bytes k d lt same) lacks))
+
 pub lacks_all : (bytes : List ℕ) (byte n : ℕ) → n ≡ position_or_len (λ b. b == byte) bytes → n ≡ length bytes
     → Lacks byte bytes
 lacks_all bytes byte n at end =
-    subst (Lacks byte) (ap (λ k. take k bytes) (sym at ∙ end) ∙ take_all (length bytes) bytes (omega arith))
-    (before_fails (λ b. b == byte) bytes)
+    rw (← at, end, take_all (length bytes) bytes (omega arith)) at (before_fails (λ b. b == byte) bytes)
 
 pub byte_at : (bytes : List ℕ) (byte n : ℕ) → n ≡ position_or_len (λ b. b == byte) bytes → n < length bytes
     → get_or bytes n 0 ≡ byte
-byte_at bytes byte n at lt =
-    let passes : (get_or bytes (position_or_len (λ b. b == byte) bytes) 0 == byte) ≡ true =
-    passes_at_first (λ b. b == byte) bytes 0 (omega arith) in
-    elim (eqb_tells (get_or bytes (position_or_len (λ b. b == byte) bytes) 0) byte) [
-      | inl same ↦ ap (λ k. get_or bytes k 0) at ∙ same.1
-      | inr other ↦ absurd (let e : true ≡ false = sym passes ∙ other.0 in cc e)
-    ]
+byte_at bytes byte n at lt = eqb-true _ _ (rw (← at) at (passes_at_first (λ b. b == byte) bytes 0 (omega arith)))
 
 pub parts_at : (bytes : List ℕ) (byte n : ℕ) → n ≡ position_or_len (λ b. b == byte) bytes → n < length bytes
-    → (bytes ≡ take n bytes ++ byte ∷ take (length bytes - (n + 1)) (drop (n + 1) bytes)) × Lacks byte (take n bytes)
+    → (bytes ≡ take n bytes ++ byte ∷ drop (n + 1) bytes) × Lacks byte (take n bytes)
 parts_at bytes byte n at lt = (
-  sym (take-append-drop n bytes)
-      ∙ ap (λ r. take n bytes ++ r) (drop_more bytes n 0 lt
-      ∙ (ap (λ b. b ∷ drop (n + 1) bytes) (byte_at bytes byte n at lt)
-      ∙ ap (λ r. byte ∷ r) (sym (take_rest bytes (n + 1))))),
-  subst (λ k. Lacks byte (take k bytes)) (sym at) (before_fails (λ b. b == byte) bytes),
+  rw (← at, byte_at bytes byte n at lt) at (cut_at (λ b. b == byte) bytes (omega arith)),
+  rw (← at) at (before_fails (λ b. b == byte) bytes),
 )
 
 -- what stands before and after the first such byte is one pair
@@ -99,9 +79,7 @@ one_cut byte xs ys xs' ys' h h' e =
     let yes : (byte == byte) ≡ true = eq-eqb byte byte refl in
     let here = first_at (λ b. b == byte) xs byte ys h yes in
     let there = first_at (λ b. b == byte) xs' byte ys' h' yes in
-    let long : length xs ≡ length xs' = sym here ∙ (ap (position_or_len (λ b. b == byte)) e ∙ there) in
-    let prefix : xs ≡ xs' = sym (take_at xs (byte ∷ ys) (length xs) refl)
-    ∙ (ap (take (length xs)) e ∙ take_at xs' (byte ∷ ys') (length xs) (sym long)) in
-    let back : byte ∷ ys ≡ byte ∷ ys' = sym (drop_at xs (byte ∷ ys) (length xs) refl)
-    ∙ (ap (drop (length xs)) e ∙ drop_at xs' (byte ∷ ys') (length xs) (sym long)) in
+    let long : length xs ≡ length xs' = sym here ∙ rw e there in
+    let prefix : xs ≡ xs' = sym (take_at xs (byte ∷ ys) (length xs) refl) ∙ rw e (take_at xs' _ _ (sym long)) in
+    let back : byte ∷ ys ≡ byte ∷ ys' = append_cancel_left xs' _ _ (rw prefix at e) in
     (prefix, cc)

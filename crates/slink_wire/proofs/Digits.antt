@@ -1,31 +1,21 @@
 -- Digits to the base sixteen.
-use Rattle.std.proofs.Common.{◌≡◌, ℕ, ◌+◌, ◌-◌, ◌*◌, ◌/◌, ◌%◌, ◌^◌, ◌<◌, ◌≤◌, zero, suc, refl, sym, ap, ◌∙◌, arith, ◌⊎◌}
-use Rattle.std.proofs.Common.{inl, inr, cond, List, [], ◌∷◌, ◌++◌, length, get_or, take, map, nat_lt, if◌then◌else◌}
-use Rattle.std.proofs.Common.{length-append, add-one, true, not, ◌==◌, ◌&&◌}
+use Rattle.std.proofs.Common.{◌≡◌, ℕ, ◌+◌, ◌*◌, ◌/◌, ◌%◌, ◌^◌, ◌<◌, ◌≤◌, zero, suc, refl, sym, ◌∙◌, arith}
+use Rattle.std.proofs.Common.{List, [], ◌∷◌, ◌++◌, length, get_or, take, map}
+use Rattle.std.proofs.Common.{length-append, add-one, not, ◌==◌, ◌≢◌}
 use Rattle.std.specs.Char.{to_ascii_uppercase}
-use Rattle.std.proofs.lemmas.Bool.Decides.{eqb_tells, leb_tells}
 use Rattle.std.proofs.lemmas.List.Folds.{list_all-append}
-use Rattle.std.proofs.lemmas.List.{map_push, same_from_push, take_more, get_or_push, get_or_append_left, get_or-map}
-use Rattle.std.proofs.Math.Nat.{pow-suc, pow-le-pow_right}
+use Rattle.std.proofs.lemmas.Bool.{both_ways, eq-eqb, ne_eqb}
+use Rattle.std.proofs.lemmas.List.{length-map, map_more, map_push, same_from_push, get_or-map}
+use Rattle.std.proofs.lemmas.List.Folds.{list_all_at}
+use Rattle.std.proofs.Math.Nat.{div-div-eq-div-mul, pow-suc, pow-le-pow_right}
 use Rattle.slink_wire.specs.Hexadecimal.{SpellsNumber, digit_byte, hexadecimal}
 use Rattle.slink_wire.proofs.Cuts.{Lacks}
 
-same_digits : (a b c d e a' b' c' d' e' f : ℕ) → a ≡ a' → b ≡ b' → c ≡ c' → d ≡ d' → e ≡ e'
-    → digit_byte a ∷ digit_byte b ∷ digit_byte c ∷ digit_byte d ∷ digit_byte e ∷ digit_byte f ∷ [] ≡ digit_byte a'
-    ∷ digit_byte b' ∷ digit_byte c' ∷ digit_byte d' ∷ digit_byte e' ∷ digit_byte f ∷ []
-same_digits a b c d e a' b' c' d' e' f p q r s t = cc
-
--- the six digits of a number, each on its own
-pub six : (n : ℕ) → n < 2 ^ 24 → hexadecimal 6 n ≡ digit_byte (n / 1048576) ∷ digit_byte (n / 65536 % 16) ∷ digit_byte
-    (n / 4096 % 16) ∷ digit_byte (n / 256 % 16) ∷ digit_byte (n / 16 % 16) ∷ digit_byte (n % 16) ∷ []
-unfolding hexadecimal
-six n h = same_digits _ _ _ _ _ _ _ _ _ _ (n % 16) (omega arith) (omega arith) (omega arith) (omega arith) refl
-
--- the last six digits of any number
+-- the last six digits of any number, each on its own
 pub last_six : (n : ℕ) → hexadecimal 6 n ≡ digit_byte (n / 1048576 % 16) ∷ digit_byte (n / 65536 % 16) ∷ digit_byte
     (n / 4096 % 16) ∷ digit_byte (n / 256 % 16) ∷ digit_byte (n / 16 % 16) ∷ digit_byte (n % 16) ∷ []
 unfolding hexadecimal
-last_six n = same_digits _ _ _ _ _ _ _ _ _ _ (n % 16) (omega arith) (omega arith) (omega arith) (omega arith) refl
+last_six n = simp div-div-eq-div-mul
 
 -- one digit more
 hexadecimal_more : (k n d : ℕ) → d < 16 → hexadecimal (k + 1) (n * 16 + d) ≡ hexadecimal k n ++ digit_byte d ∷ []
@@ -38,100 +28,53 @@ hexadecimal_more k n d h =
 pub length-hexadecimal : (k n : ℕ) → length (hexadecimal k n) ≡ k
 unfolding hexadecimal
 length-hexadecimal zero n = refl
-length-hexadecimal (suc k) n = omega (
-  arith,
-  length-append (hexadecimal k (n / 16)) (digit_byte (n % 16) ∷ []),
-  length-hexadecimal k (n / 16),
-)
-
--- the two rows of digits
-digit_rows : (d : ℕ) → ((d < 10) × (digit_byte d ≡ 48 + d)) ⊎ ((10 ≤ d) × (digit_byte d ≡ 55 + d))
-digit_rows d = elim (leb_tells (suc d) 10) [
-  | inl low ↦ inl (low.1, ap (λ t. if t then 48 + d else 55 + d) low.0)
-  | inr high ↦ inr (omega (arith, high.1), ap (λ t. if t then 48 + d else 55 + d) high.0)
-]
+length-hexadecimal (suc k) n = omega (arith, length-append {A = ℕ}, length-hexadecimal k (n / 16))
 
 pub digit_above : (d : ℕ) → 48 ≤ digit_byte d
-digit_above d = elim (digit_rows d) [ inl p ↦ omega (arith, p) | inr p ↦ omega (arith, p) ]
+digit_above d = grind arith
 
--- a byte below the digits is none of them
-pub digits_lack : (byte : ℕ) → byte < 48 → (k n : ℕ) → Lacks byte (hexadecimal k n)
+-- a byte that writes no digit is none of them
+pub digits_lack : (byte : ℕ) → ((d : ℕ) → d < 16 → digit_byte d ≢ byte) → (k n : ℕ) → Lacks byte (hexadecimal k n)
 unfolding hexadecimal
-digits_lack byte below zero n = refl
-digits_lack byte below (suc k) n =
-    let other : not (digit_byte (n % 16) == byte) ≡ true =
-    elim (eqb_tells (digit_byte (n % 16)) byte) [
-      | inl same ↦ absurd (omega (arith, same.1, digit_above (n % 16), below))
-      | inr other ↦ ap not other.0
-    ] in
-    list_all-append (λ b. not (b == byte)) (hexadecimal k (n / 16)) (digit_byte (n % 16) ∷ [])
-    ∙ (ap (λ t. t && (not (digit_byte (n % 16) == byte) && true)) (digits_lack byte below k (n / 16))
-    ∙ ap (λ t. t && true) other)
+digits_lack byte other zero n = refl
+digits_lack byte other (suc k) n = simp (list_all-append, digits_lack byte other k (n / 16))
+    (rw (ne_eqb (digit_byte (n % 16)) byte (other (n % 16) (omega arith))))
 
 one_digit : (d e : ℕ) → d < 16 → e < 16 → digit_byte d ≡ digit_byte e → d ≡ e
-one_digit d e hd he same = elim (digit_rows d) [
-  | inl p ↦ elim (digit_rows e) [ inl q ↦ omega (arith, p, q, same) | inr q ↦ omega (arith, p, q, same) ]
-  | inr p ↦ elim (digit_rows e) [ inl q ↦ omega (arith, p, q, same) | inr q ↦ omega (arith, p, q, same) ]
-]
-
-low_stays : (c : ℕ) → c < 97 → to_ascii_uppercase c ≡ c
-low_stays c h = elim (leb_tells (suc c) 97) [
-  | inl low ↦ ap (λ t. cond t c (cond (nat_lt c 123) (c - 32) c)) low.0
-  | inr high ↦ absurd (omega (arith, high.1))
-]
+one_digit d e hd he same = grind arith
 
 digit_stays : (d : ℕ) → d < 16 → to_ascii_uppercase (digit_byte d) ≡ digit_byte d
-digit_stays d h = low_stays (digit_byte d) (elim (digit_rows d) [ inl p ↦ omega (arith, p) | inr p ↦ omega (arith, p) ])
+digit_stays d h = grind arith
 
 pub hexadecimal_stays : (k n : ℕ) → map to_ascii_uppercase (hexadecimal k n) ≡ hexadecimal k n
 unfolding hexadecimal
 hexadecimal_stays zero n = refl
-hexadecimal_stays (suc k) n = map_push to_ascii_uppercase (hexadecimal k (n / 16)) (digit_byte (n % 16))
-    ∙ (ap (λ ds. ds ++ to_ascii_uppercase (digit_byte (n % 16)) ∷ []) (hexadecimal_stays k (n / 16))
-    ∙ ap (λ d. hexadecimal k (n / 16) ++ d ∷ []) (digit_stays (n % 16) (omega arith)))
+hexadecimal_stays (suc k) n =
+    simp (map_push, hexadecimal_stays k (n / 16), digit_stays (n % 16) (omega arith))
 
 -- digits say one number
 one_number : (k n m : ℕ) → n < 16 ^ k → m < 16 ^ k → hexadecimal k n ≡ hexadecimal k m → n ≡ m
 unfolding hexadecimal
 one_number zero n m hn hm same = omega arith
 one_number (suc k) n m hn hm same =
-    let parts : (hexadecimal k (n / 16) ≡ hexadecimal k (m / 16)) × (digit_byte (n % 16) ≡ digit_byte (m % 16)) =
-    same_from_push (hexadecimal k (n / 16)) (hexadecimal k (m / 16)) (digit_byte (n % 16)) (digit_byte (m % 16))
-    same in
-    let low : n % 16 ≡ m % 16 = one_digit (n % 16) (m % 16) (omega arith) (omega arith) parts.1 in
+    let parts = same_from_push _ _ (digit_byte (n % 16)) (digit_byte (m % 16)) same in
     let wide : 16 ^ suc k ≡ 16 ^ k * 16 = pow-suc 16 k in
-    let high = one_number k (n / 16) (m / 16) (omega (arith, wide, hn)) (omega (arith, wide, hm)) parts.0 in
-    omega (arith, low, high)
+    let high = one_number k (n / 16) (m / 16) (omega arith) (omega arith) parts.0 in
+    omega (arith, one_digit (n % 16) (m % 16) (omega arith) (omega arith) parts.1, high)
 
-pub spells_one : (digits : List ℕ) (n m : ℕ) → SpellsNumber digits n → SpellsNumber digits m → n ≡ m
-spells_one digits n m p q = one_number (length digits) n m p.0 q.0 (sym p.1 ∙ q.1)
-
--- each of them is the byte of a digit
-digit_within : (k n i : ℕ) → i < k → (d : ℕ) × (d < 16) × (get_or (hexadecimal k n) i 0 ≡ digit_byte d)
-unfolding hexadecimal
-digit_within zero n i h = absurd (omega arith)
-digit_within (suc k) n i h = elim (leb_tells (suc i) k) [
-  | inl before ↦
-      let earlier = digit_within k (n / 16) i before.1 in (
-        earlier.0,
-        earlier.1,
-        get_or_append_left (hexadecimal k (n / 16)) (digit_byte (n % 16) ∷ []) 0 i
-            (omega (arith, length-hexadecimal k (n / 16), before.1)) ∙ earlier.2,
-      )
-  | inr last ↦ (
-    n % 16,
-    omega arith,
-    get_or_push (hexadecimal k (n / 16)) (digit_byte (n % 16)) 0 i
-        (omega (arith, length-hexadecimal k (n / 16), last.1)),
-  )
-]
+pub spells_one : (g h : List ℕ) (n m : ℕ) → g ≡ h → SpellsNumber g n → SpellsNumber h m → n ≡ m
+spells_one g h n m same p q =
+    one_number (length g) n m p.0 (rw (← same) at q.0) (sym p.1 ∙ (rw (← same) at q.1))
 
 pub none_written : (digits : List ℕ) (i : ℕ) → i < length digits
     → ((d : ℕ) → d < 16 → to_ascii_uppercase (get_or digits i 0) ≡ digit_byte d → ⊥)
     → (n : ℕ) → SpellsNumber digits n → ⊥
 none_written digits i lt other n h =
-    let d = digit_within (length digits) n i lt in
-    other d.0 d.1 (sym (get_or-map to_ascii_uppercase digits i 0 0 lt) ∙ (ap (λ ds. get_or ds i 0) h.1 ∙ d.2))
+    let byte : ℕ = to_ascii_uppercase (get_or digits i 0) in
+    let lacks : Lacks byte (map to_ascii_uppercase digits) =
+    rw (h.1) (digits_lack byte (λ d small e. other d small (sym e)) (length digits) n) in
+    both_ways _ (list_all_at (λ b. not (b == byte)) (map to_ascii_uppercase digits) i 0 (simp length-map lt)
+    (rw (get_or-map to_ascii_uppercase digits i 0 0 lt, eq-eqb byte byte refl))) lacks
 
 -- the digits so far, and one more
 pub record Reads (digits : List ℕ) (i n : ℕ) : Type 0 where
@@ -146,10 +89,7 @@ pub reads_more : (digits : List ℕ) (i n d : ℕ) → i < length digits → d <
     → to_ascii_uppercase (get_or digits i 0) ≡ digit_byte d → Reads digits i n → Reads digits (i + 1) (n * 16 + d)
 reads_more digits i n d lt h digit r = record {
   small = (let wide : 16 ^ (i + 1) ≡ 16 ^ i * 16 = rw add-one (pow-suc 16 i) in omega (arith, wide, r.small));
-  written = ap (map to_ascii_uppercase) (take_more digits i 0 lt)
-      ∙ (map_push to_ascii_uppercase (take i digits) (get_or digits i 0)
-      ∙ (ap (λ ds. ds ++ to_ascii_uppercase (get_or digits i 0) ∷ []) r.written
-      ∙ (ap (λ b. hexadecimal i n ++ b ∷ []) digit ∙ sym (hexadecimal_more i n d h))));
+  written = map_more to_ascii_uppercase digits i 0 lt ∙ rw (r.written, digit, hexadecimal_more i n d h);
 }
 
 -- a number of at most six digits fits

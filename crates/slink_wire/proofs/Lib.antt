@@ -6,6 +6,7 @@ pub mod Packets
 pub mod Prefixes
 pub mod Pieces
 pub mod Spelled
+pub mod Sound
 pub mod Stepped
 pub mod Keywords
 pub mod Written

@@ -19,7 +19,7 @@ read_back n r h = (
 )
 
 pub one_packet : (bytes : List ℕ) (n m : ℕ) (r s : List ℕ) → IsPacket bytes n r → IsPacket bytes m s → (n ≡ m) × (r ≡ s)
-one_packet bytes n m r s p q = (spells_one _ n m p.1 q.1, sym p.2 ∙ q.2)
+one_packet bytes n m r s p q = (spells_one _ _ n m refl p.1 q.1, sym p.2 ∙ q.2)
 
 pub packet_length : (n : ℕ) (r : List ℕ) → length (packet_bytes n r) ≡ 8 + length r
 packet_length n r =

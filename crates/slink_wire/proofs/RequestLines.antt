@@ -12,7 +12,7 @@ use Rattle.slink_wire.specs.Lines.{stripped}
 use Rattle.slink_wire.specs.Written.{IsLine}
 use Rattle.slink_wire.proofs.Codes.{without}
 use Rattle.slink_wire.proofs.Cuts.{Lacks}
-use Rattle.slink_wire.proofs.Digits.{digits_lack, length-hexadecimal}
+use Rattle.slink_wire.proofs.Digits.{digit_above, digits_lack, length-hexadecimal}
 use Rattle.slink_wire.proofs.Requests.{data_written, end_written, fetch_written, station_written}
 
 lacks_both : (xs ys : List ℕ) → Lacks 13 xs → Lacks 13 ys → Lacks 13 (xs ++ ys)
@@ -21,7 +21,7 @@ lacks_both xs ys p q = list_all-append (λ b. not (b == 13)) xs ys
 
 number_lacks : (number : Option ℕ) → Lacks 13 (number_bytes number)
 number_lacks None = refl
-number_lacks (Some n) = digits_lack 13 (omega arith) 6 n
+number_lacks (Some n) = digits_lack 13 (λ d small e. omega (arith, digit_above d, e)) 6 n
 
 number_long : (number : Option ℕ) → length (number_bytes number) ≤ 7
 number_long None = omega arith

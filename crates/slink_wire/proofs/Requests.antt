@@ -8,7 +8,7 @@ use Rattle.slink_wire.specs.Place.{IsField, code_in}
 use Rattle.slink_wire.specs.Request.{IsShort, number_bytes}
 use Rattle.slink_wire.proofs.Codes.{without}
 use Rattle.slink_wire.proofs.Cuts.{Lacks}
-use Rattle.slink_wire.proofs.Digits.{digits_lack, length-hexadecimal}
+use Rattle.slink_wire.proofs.Digits.{digit_above, digits_lack, length-hexadecimal}
 use Rattle.slink_wire.proofs.Packets.{spells_itself}
 use Rattle.slink_wire.proofs.Worded.{words_last, words_then}
 
@@ -19,7 +19,7 @@ two_words : (keyword : List ℕ) (n : ℕ) → 1 ≤ length keyword → Lacks 32
     → words (keyword ++ 32 ∷ hexadecimal 6 n) ≡ keyword ∷ hexadecimal 6 n ∷ []
 two_words keyword n h lacks = words_then keyword (hexadecimal 6 n) h lacks
     ∙ ap (λ ws. keyword ∷ ws) (words_last (hexadecimal 6 n) (omega (arith, length-hexadecimal 6 n))
-    (digits_lack 32 (omega arith) 6 n))
+    (digits_lack 32 (λ d small e. omega (arith, digit_above d, e)) 6 n))
 
 pub data_written : (number : Option ℕ) → IsShort number → IsCommand (codes "DATA" ++ number_bytes number) (Data number)
 data_written None h = rw (words_last (codes "DATA") (omega arith) refl) (inl refl)

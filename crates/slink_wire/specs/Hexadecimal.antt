@@ -7,7 +7,7 @@ use Rattle.std.specs.Char.{to_ascii_uppercase}
 abbrev pub digit_byte : ℕ → ℕ
 digit_byte d = if nat_lt d 10 then 48 + d else 55 + d
 
--- a number in so many digits to the base sixteen, the lowest last
+-- a number in this many digits to the base sixteen, the lowest last
 unfoldable pub hexadecimal : ℕ → ℕ → List ℕ
 hexadecimal zero n = []
 hexadecimal (suc k) n = hexadecimal k (n / 16) ++ digit_byte (n % 16) ∷ []

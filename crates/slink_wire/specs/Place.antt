@@ -10,7 +10,7 @@ pub record Fields : Type 0 where
   pub station : List ℕ
   pub network : List ℕ
 
--- a code: 1 to so many ASCII letters or digits
+-- a code: 1 to `width` ASCII letters or digits
 abbrev pub IsCode : ℕ → List ℕ → Type 0
 IsCode width code = (1 ≤ length code) × (length code ≤ width) × IsTrue (list_all is_ascii_alphanumeric code)
 

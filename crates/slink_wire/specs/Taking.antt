@@ -1,11 +1,11 @@
 -- What a call that takes bytes of a stream says.
 use Rattle.std.specs.Prelude.{◌≡◌, ℕ, true, false, List, [], ◌∷◌, ◌++◌}
-use Rattle.slink_wire.specs.declared.lines.What.{What}
-use Rattle.slink_wire.specs.declared.lines.What.TheVariants.{More, Line, TooLong}
+use Rattle.slink_wire.specs.declared.lines.LineOutcome.{LineOutcome}
+use Rattle.slink_wire.specs.declared.lines.LineOutcome.TheVariants.{More, Line, TooLong}
 use Rattle.slink_wire.specs.Lines.{YieldsNothing, lines_of}
 
 -- from the one stream to the other: no line more, this line more, or one that is too long
-abbrev pub Yields : What → List ℕ → List ℕ → Type 0
+abbrev pub Yields : LineOutcome → List ℕ → List ℕ → Type 0
 Yields More before after = YieldsNothing before after
 Yields (Line line) before after = ((lines_of after).lines ≡ (lines_of before).lines ++ line.items ∷ [])
     × ((lines_of after).is_too_long ≡ false)
@@ -14,7 +14,7 @@ Yields TooLong before after = ((lines_of after).lines ≡ (lines_of before).line
 -- a call: the bytes that it accepted, and what was read of it
 pub record Call : Type 0 where
   pub bytes : List ℕ
-  pub what : What
+  pub what : LineOutcome
 
 -- calls one after another, after this stream
 abbrev pub AreCalls : List ℕ → List Call → Type 0
@@ -27,7 +27,7 @@ bytes_in [] = []
 bytes_in (call ∷ calls) = call.bytes ++ bytes_in calls
 
 -- the lines that they reported
-abbrev pub line_in : What → List (List ℕ)
+abbrev pub line_in : LineOutcome → List (List ℕ)
 line_in (Line line) = line.items ∷ []
 line_in what = []
 

@@ -31,21 +31,12 @@ pub fn six_digits(number: u32) -> [u8; 6]
 }
 
 /// What stands before the record in a packet: `SL` and the six digits of its number.
-#[tactic(auto, using(crate::proofs::Digits::six))]
 pub(crate) fn header(number: u32) -> [u8; 8]
     requires { number < 2 ^ 24 }
     ensures { result ≡ codes "SL" ++ hexadecimal 6 number }
 {
-    [
-        b'S',
-        b'L',
-        digit_byte((number >> 20) as u8),
-        digit_byte(((number >> 16) % 16) as u8),
-        digit_byte(((number >> 12) % 16) as u8),
-        digit_byte(((number >> 8) % 16) as u8),
-        digit_byte(((number >> 4) % 16) as u8),
-        digit_byte((number % 16) as u8),
-    ]
+    let [a, b, c, d, e, f] = six_digits(number);
+    [b'S', b'L', a, b, c, d, e, f]
 }
 
 /// The digit that a byte writes, in either case.

@@ -20,7 +20,7 @@ pub fn any_pieces()
 
 /// Lines that are written, each with CR LF, are what the stream spells; a prefix of the stream spells a prefix of them.
 /// Each line that any stream spells can be written so.
-#[tactic(auto, using(crate::proofs::WrittenBack::whole_spelled, crate::proofs::WrittenBack::prefix_spelled, crate::proofs::WrittenBack::spelled_lines))]
+#[tactic(auto, using(crate::proofs::WrittenBack::whole_spelled, crate::proofs::WrittenBack::prefix_spelled, crate::proofs::Sound::spelled_lines))]
 pub fn lines_read_back()
     ensures whole { (lines : List (List ℕ)) → AreLines lines → lines_of (written_bytes lines) ≡ only_lines lines }
     ensures prefix { (lines : List (List ℕ)) (stream rest : List ℕ) → AreLines lines

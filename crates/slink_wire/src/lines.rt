@@ -1,8 +1,8 @@
 //! Command lines out of a stream that comes in any pieces.
-ghost use Rattle.std.specs.Prelude.{◌≡◌, ◌<◌, ◌≤◌, ◌++◌, List, ℕ, [], true, false, length, take};
+ghost use Rattle.std.specs.Prelude.{◌≡◌, ◌<◌, ◌≤◌, ◌++◌, ◌∷◌, List, ℕ, [], true, false, length, take};
 ghost use Rattle.slink_wire.specs.declared.lines.TheConstants.{LONGEST};
 ghost use Rattle.slink_wire.specs.Lines.{Held, IsHeld, YieldsNothing};
-ghost use Rattle.slink_wire.specs.private.Steps.{step};
+ghost use Rattle.slink_wire.specs.private.Steps.{Leads};
 ghost use Rattle.slink_wire.specs.Taking.{Yields};
 
 use arrayvec::ArrayVec;
@@ -13,7 +13,7 @@ const LONGEST: usize = 255;
 
 /// What the bytes that a call accepted say.
 #[derive(Debug, Drop)]
-pub enum What {
+pub enum LineOutcome {
     /// No line ended.
     More,
     /// A line, without its CR.
@@ -28,7 +28,7 @@ pub struct Took {
     /// The number of bytes that were taken.
     pub used: usize,
     /// What they say.
-    pub what: What,
+    pub what: LineOutcome,
 }
 
 /// What is held of a stream of command lines, as it is taken piece by piece.
@@ -59,26 +59,28 @@ impl Lines {
     }
 
     /// Takes one byte.
-    fn take_byte(&mut self, byte: u8) -> What
+    #[tactic(auto, using(crate::proofs::Stepped::byte_taken))]
+    fn take_byte(&mut self, byte: u8) -> LineOutcome
         requires { self.old.is_too_long ≡ false }
-        ensures { step self.old.begun byte ≡ (self.new, result) }
+        ensures leads { Leads self.old (byte ∷ []) self.new result }
+        ensures goes_on { result ≡ LineOutcome.More → self.new.is_too_long ≡ false }
     {
         if byte == b'\r' {
             if self.begun.is_empty() {
-                return What::More;
+                return LineOutcome::More;
             }
-            return What::Line(self.begun.take());
+            return LineOutcome::Line(self.begun.take());
         }
         if byte == b'\n' && self.begun.is_empty() {
-            return What::More;
+            return LineOutcome::More;
         }
         if self.begun.is_full() {
             self.begun.clear();
             self.is_too_long = true;
-            return What::TooLong;
+            return LineOutcome::TooLong;
         }
         self.begun.push(byte);
-        What::More
+        LineOutcome::More
     }
 
     /// Takes bytes of a stream up to the end of a line, or to the byte that is too many in one, or all. Once a line was
@@ -96,26 +98,26 @@ impl Lines {
         // Fewer of them add nothing, so that it stops where there is something to say.
         ensures first { (stream : List ℕ) (k : ℕ) → IsHeld self.old stream → k < result.used
             → YieldsNothing stream (stream ++ take k piece.now) }
-        ensures whole { result.what ≡ What.More → result.used ≡ length piece.now }
+        ensures whole { result.what ≡ LineOutcome.More → result.used ≡ length piece.now }
         ensures bound { result.used ≤ length piece.now }
         ensures repeats { self.old.is_too_long ≡ true
-            → (result ≡ record { used = 0; what = What.TooLong }) × (self.new ≡ self.old) }
+            → (result ≡ record { used = 0; what = LineOutcome.TooLong }) × (self.new ≡ self.old) }
     {
         if self.is_too_long {
             return Took {
                 used: 0,
-                what: What::TooLong,
+                what: LineOutcome::TooLong,
             };
         }
         for (i, byte) in piece.iter().enumerate() {
             match self.take_byte(*byte) {
-                What::More => {}
+                LineOutcome::More => {}
                 what => return Took { used: i + 1, what },
             }
         }
         Took {
             used: piece.len(),
-            what: What::More,
+            what: LineOutcome::More,
         }
     }
 }

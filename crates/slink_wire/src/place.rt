@@ -1,13 +1,17 @@
 //! Whose records a feed has.
-ghost use Rattle.std.specs.Prelude.{◌≡◌, ◌+◌, ◌++◌, ◌↔◌, ◌≤◌, IsTrue, IsOk, IfOk, IsOkAnd, OnErr, length};
+ghost use Rattle.std.specs.Prelude.{◌≡◌, ◌↔◌, ◌≤◌, IsTrue, IsOk, IfOk, IsOkAnd, OnErr, length, slice_range};
 ghost use Rattle.std.specs.List.{list_all};
 ghost use Rattle.std.specs.Char.{is_ascii_alphanumeric};
 ghost use Rattle.slink_wire.specs.Place.{Bears, Fields, IsCode, IsField, SpellsPlace, code_in, filled, fields_of};
 ghost use Rattle.slink_wire.specs.Place.{label_of, matches};
 
 use crate::cut::{first, parts};
+use crate::putting::put;
 use arrayvec::ArrayVec;
 use std::marker::Model;
+
+/// The bytes of a header up to the end of the network's code (SEED manual, chapter 8, "Fixed section of data header").
+pub const CODES: usize = 20;
 
 /// No station and network of 1 to 5 and 1 to 2 ASCII letters or digits.
 #[derive(Clone, Copy, Debug, PartialEq, Eq)]
@@ -61,6 +65,17 @@ fn code_in(field: &[u8]) -> &[u8]
     &field[..first(field, b' ')]
 }
 
+/// Returns the station's code at bytes 8 to 12 of a record's header and the network's at bytes 18 and 19, as they stand
+/// there (SEED manual, chapter 8, "Fixed section of data header"). There are at least 20 bytes.
+pub fn header_codes(bytes: &[u8]) -> (&[u8], &[u8])
+    requires { CODES ≤ length bytes.now }
+    ensures station { result.0.now ≡ slice_range bytes.now 8 13 }
+    ensures network { result.1.now ≡ slice_range bytes.now 18 20 }
+    ensures widths { (length result.0.now ≡ 5) × (length result.1.now ≡ 2) }
+{
+    (&bytes[8..13], &bytes[18..20])
+}
+
 /// Whether two fields of one width are the same. For so few bytes a loop costs a fifth of `==` between slices.
 fn are_same(bytes: &[u8], field: &[u8]) -> bool
     requires { length bytes.now ≡ length field.now }
@@ -72,15 +87,6 @@ fn are_same(bytes: &[u8], field: &[u8]) -> bool
         }
     }
     true
-}
-
-/// Puts bytes after a text.
-pub(crate) fn put<const N: usize>(text: &mut ArrayVec<u8, N>, bytes: &[u8])
-    requires { length text.old.items + length bytes.now ≤ N }
-    ensures { text.new.items ≡ text.old.items ++ bytes.now }
-{
-    // There is room.
-    let _ = text.try_extend_from_slice(bytes);
 }
 
 impl Place {
@@ -166,6 +172,7 @@ impl Place {
     pub fn bears(&self, bytes: &[u8; 512]) -> bool
         ensures { IsTrue result ↔ Bears bytes.now self.now }
     {
-        are_same(&bytes[8..13], &self.station) && are_same(&bytes[18..20], &self.network)
+        let (station, network) = header_codes(bytes);
+        are_same(station, &self.station) && are_same(network, &self.network)
     }
 }

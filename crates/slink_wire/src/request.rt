@@ -4,8 +4,9 @@ ghost use Rattle.slink_wire.specs.Reply.{line_end};
 ghost use Rattle.slink_wire.specs.Command.{IsCommand};
 ghost use Rattle.slink_wire.specs.Request.{IsShort, IsSpelled, number_bytes, request_bytes, request_line, requested};
 
-use crate::hexadecimal::header;
-use crate::place::{Place, put};
+use crate::hexadecimal::six_digits;
+use crate::place::Place;
+use crate::putting::put;
 use arrayvec::ArrayVec;
 
 /// What a client asks for.
@@ -45,7 +46,7 @@ fn numbered_line(keyword: &[u8], number: Option<u32>) -> ArrayVec<u8, 32>
     put(&mut line, keyword);
     if let Some(number) = number {
         put(&mut line, b" ");
-        put(&mut line, &header(number)[2..]);
+        put(&mut line, &six_digits(number));
     }
     put(&mut line, b"\r\n");
     line
