@@ -7,7 +7,7 @@ use Rattle.std.proofs.lemmas.Bool.{and_left, ne_eqb}
 use Rattle.std.specs.Prelude.{OnErr}
 use Rattle.mseed_stream.specs.Device.{Beside, BytesRead, BytesWritten, accepted, read_also}
 use Rattle.mseed_stream.specs.declared.device.Failed.{Failed}
-use Rattle.slink_feed.specs.Turns.{failed_once, is_empty, reported_once}
+use Rattle.slink_feed.specs.Turns.{failed_once, is_empty, read_once}
 
 or_false : (b : Bool) → (b || false) ≡ b
 or_false true = refl
@@ -21,7 +21,7 @@ ends_by (suc n) [] some bound = absurd (omega (arith, some))
 ends_by (suc n) (b ∷ buf) some bound = and_left (suc n == 0) _ (ne_eqb (suc n) 0 (omega arith))
 
 pub read_is : (h now : BytesRead) (r : Result ℕ Failed) (buf : List ℕ) → now ≡ read_also h r buf → 0 < length buf
-    → IfOk r (λ n. n ≤ length buf) → IfOk r (λ n. now ≡ reported_once h (take n buf))
+    → IfOk r (λ n. n ≤ length buf) → IfOk r (λ n. now ≡ read_once h (take n buf))
 read_is h now (Ok n) buf is some bound =
     let none : h.failures + 0 ≡ h.failures = omega arith in rw (is, ends_by n buf some bound, none) refl
 read_is h now (Err e) buf is some bound = tt

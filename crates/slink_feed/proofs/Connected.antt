@@ -1,19 +1,18 @@
 -- What the link of one session takes in its steps is what it was requested.
-use Rattle.std.proofs.Common.{◌≡◌, ℕ, ◌<◌, inl, inr, refl, sym, ap, ◌∙◌, arith}
+use Rattle.std.proofs.Common.{◌≡◌, ℕ, inl, inr, refl, sym, ap, ◌∙◌, arith}
 use Rattle.std.proofs.Common.{List, [], ◌∷◌, ◌++◌, append_assoc, append-nil, length, take, drop}
 use Rattle.std.proofs.Common.{take-append-drop, Some, None, slice_get}
 use Rattle.mseed_stream.specs.Device.{BytesRead, IsPrefixOf}
 use Rattle.slink_wire.specs.declared.command.Command.{Command}
 use Rattle.slink_wire.specs.declared.command.Command.TheVariants.{Bye}
-use Rattle.slink_wire.specs.declared.lines.What.{What}
-use Rattle.slink_wire.specs.declared.lines.What.TheVariants.{More, Line, TooLong}
+use Rattle.slink_wire.specs.declared.lines.LineOutcome.{LineOutcome}
+use Rattle.slink_wire.specs.declared.lines.LineOutcome.TheVariants.{More, Line, TooLong}
 use Rattle.slink_wire.specs.declared.reply.Reply.{Reply}
 use Rattle.slink_wire.specs.declared.reply.Reply.TheVariants as written
 use Rattle.slink_wire.specs.Reply.{reply_bytes}
 use Rattle.slink_feed.specs.declared.session.Phase.{Phase}
 use Rattle.slink_feed.specs.declared.session.Phase.TheVariants.{Streaming, Closed}
 use Rattle.slink_feed.specs.declared.session.Sent.{Sent}
-use Rattle.slink_feed.specs.declared.session.Sent.TheVariants as sents
 use Rattle.slink_feed.specs.declared.turn.LinkFault.{LinkFault}
 use Rattle.slink_feed.specs.declared.turn.Turn.{Turn}
 use Rattle.slink_feed.specs.Attending.{Attends, IsServeFault, RepliesToAll, at_read, at_reply, at_send, is_at_end}
@@ -27,7 +26,7 @@ use Rattle.slink_feed.specs.Serving.{Answers, IsAnswer, Serves, SessionState, Ta
 use Rattle.slink_feed.specs.Session.{IsBefore, State, answered_in, grant_at, answer_streaming}
 use Rattle.slink_feed.specs.Session.{reply_at_next, sent, sent_bytes, sent_in}
 use Rattle.slink_feed.specs.Window.{Shows, Window}
-use Rattle.slink_feed.proofs.Closing.{Open, open_or}
+use Rattle.slink_feed.proofs.Closing.{Open, open_or, states_same}
 use Rattle.slink_feed.proofs.Calls.{IsOn, shut_sent}
 use Rattle.slink_feed.proofs.Sendings.{answer_read, quiet, read_grants, read_on, slice_sent, stepped, went}
 pub use Rattle.slink_feed.proofs.Calls.{on_sent}
@@ -38,13 +37,35 @@ on_given feed k last s u [] gives on = rw gives.1 on
 on_given feed k last s u (a ∷ more) gives on =
     on_given feed (place_after feed k) last (sent feed s k).0 u more gives.1 (on_sent feed s k on)
 
+-- A call for a packet leaves a session as it is, and gives no bytes.
+abbrev pub Still : List Window → State → ℕ → Type 0
+Still feed s k = ((sent feed s k).0 ≡ s) × (sent_bytes (sent feed s k).1 ≡ [])
+
+-- All further calls leave it so.
+module _ (feed : List Window) (s : State) (P : ℕ → Type 0) (next : (k : ℕ) → P k → P (place_after feed k))
+    (still : (k : ℕ) → P k → Still feed s k) where
+  pub still_given : (k last : ℕ) (u : State) (given : List Sent) → P k → Gives feed k s given last u
+      → (u ≡ s) × (all_sent given ≡ [])
+  still_given k last u [] p gives = (gives.1, refl)
+  still_given k last u (a ∷ more) p gives =
+      let rest : (u ≡ s) × (all_sent more ≡ []) =
+      still_given (place_after feed k) last u more (next k p) (rw (still k p).0 at gives.1) in
+      (rest.0, ap (λ b. b ++ all_sent more) (ap sent_bytes (sym gives.0) ∙ (still k p).1) ∙ rest.1)
+
+pub all_still : (feed : List Window) (s : State) → ((k : ℕ) → Still feed s k) → (k last : ℕ) (u : State)
+    (given : List Sent) → Gives feed k s given last u → (u ≡ s) × (all_sent given ≡ [])
+all_still feed s still k last u given gives =
+    still_given feed s (λ j. Unit {0}) (λ j is. tt) (λ j is. still j) k last u given tt gives
+
 -- a closed session stays
-pub shut_given : (feed : List Window) (k last : ℕ) (s u : State) (given : List Sent) → Gives feed k s given last u
-    → s.phase ≡ Closed → u ≡ s
-shut_given feed k last s u [] gives shut = gives.1
-shut_given feed k last s u (a ∷ more) gives shut =
-    let same : (sent feed s k).0 ≡ s = ap (λ (x : State × Sent). x.0) (shut_sent feed s k shut) in
-    shut_given feed (place_after feed k) last (sent feed s k).0 u more gives.1 (rw same shut) ∙ same
+pub shut_still : (feed : List Window) (s : State) → s.phase ≡ Closed → (k : ℕ) → Still feed s k
+shut_still feed s shut k = rw (shut_sent feed s k shut) (refl, refl)
+
+pub open_given : (feed : List Window) (a now : Attending) → SendsAll feed a now → Open now.session.state.phase
+    → Open a.session.state.phase
+open_given feed a now sends awake shut =
+    awake (rw (all_still feed a.session.state (shut_still feed a.session.state shut) 0 sends.place now.session.state
+    sends.given sends.gives).0 shut)
 
 -- No packet of a station without a grant is sent.
 none_sent : (k : ℕ) (called : List Called) (s : State) → grant_at s.grants k ≡ None → AreCalled s called
@@ -75,11 +96,11 @@ abbrev asks : List Window → ℕ → List Sent → List Called
 asks feed k [] = []
 asks feed k (a ∷ more) = record { feed = feed; place = k; answer = a } ∷ asks feed (place_after feed k) more
 
-asks_then : (feed : List Window) (k last : ℕ) (s u v : State) (given : List Sent) (rest : List Called)
-    → Gives feed k s given last u → IsReadFrom u v → AreCalled v rest → AreCalled s (asks feed k given ++ rest)
-asks_then feed k last s u v [] rest gives read are = read_first s v rest (rw gives.1 at read) are
-asks_then feed k last s u v (a ∷ more) rest gives read are =
-    (s, inl refl, gives.0, asks_then feed (place_after feed k) last (sent feed s k).0 u v more rest gives.1 read are)
+asks_then : (feed : List Window) (k last : ℕ) (s u : State) (given : List Sent) (rest : List Called)
+    → Gives feed k s given last u → AreCalled u rest → AreCalled s (asks feed k given ++ rest)
+asks_then feed k last s u [] rest gives are = rw gives.1 at are
+asks_then feed k last s u (a ∷ more) rest gives are =
+    (s, inl refl, gives.0, asks_then feed (place_after feed k) last (sent feed s k).0 u more rest gives.1 are)
 
 asks_bytes : (feed : List Window) (k : ℕ) (given : List Sent) (rest : List Called)
     → bytes_sent (asks feed k given ++ rest) ≡ all_sent given ++ bytes_sent rest
@@ -101,6 +122,20 @@ record Wrote (feeds : List (List Window)) (s : State) (bytes : List ℕ) : Type 
   bytes_are : bytes ≡ bytes_sent called
   shown : (k first : ℕ) (pushed : List (List ℕ)) → ShowPushed k first pushed feeds → AreShown k first pushed called
 
+nothing_wrote : (s : State) → Wrote [] s []
+nothing_wrote s = record { called = []; are_called = tt; bytes_are = refl; shown = λ k first pushed shown. tt }
+
+asked_wrote : (feed : List Window) (feeds : List (List Window)) (s u : State) (given : List Sent) (bytes : List ℕ)
+    → ((rest : List Called) → AreCalled u rest → AreCalled s (asks feed 0 given ++ rest)) → Wrote feeds u bytes
+    → Wrote (feed ∷ feeds) s (all_sent given ++ bytes)
+asked_wrote feed feeds s u given bytes asked w = record {
+  called = asks feed 0 given ++ w.called;
+  are_called = asked w.called w.are_called;
+  bytes_are = ap (λ b. all_sent given ++ b) w.bytes_are ∙ sym (asks_bytes feed 0 given w.called);
+  shown = λ k first pushed shown. asks_shown feed k 0 first pushed given w.called shown.0
+      (w.shown k first pushed shown.1);
+}
+
 slices : (feeds : List (List Window)) (s : State) (bytes : List ℕ) → IsOn s.phase → Wrote feeds s bytes
     → SendsSlices feeds s bytes
 slices feeds s bytes on w = record {
@@ -116,7 +151,7 @@ quiet_line : (s : State) (c : Command) → (answer_streaming s c).1 ≡ written.
 quiet_line s Bye = refl
 quiet_line s command = refl
 
-pub reply_none : (feed : List Window) (s new : State) (what : What) (reply : Reply) → s.phase ≡ Streaming
+pub reply_none : (feed : List Window) (s new : State) (what : LineOutcome) (reply : Reply) → s.phase ≡ Streaming
     → IsAnswer feed s what new reply → reply ≡ written.Nothing
 reply_none feed s new More reply on is = is.1
 reply_none feed s new (Line line) reply on is =
@@ -173,31 +208,19 @@ module _ (feed : List Window) where
   -- What a step leaves of it.
   record TurnOn (a now : Attending) : Type 0 where
     given : List Sent
-    place : ℕ
-    state : State
-    gives : Gives feed 0 a.session.state given place state
-    read : IsReadFrom state now.session.state
+    asked : (rest : List Called) → AreCalled now.session.state rest
+        → AreCalled a.session.state (asks feed 0 given ++ rest)
     bytes : now.written.bytes ≡ a.written.bytes ++ all_sent given
     on : IsOn now.session.state.phase
     stream : HasStream now.session
 
-  given_stream : (a now : Attending) → SendsAll feed a now → HasStream a.session → HasStream now.session
-  given_stream a now sends stream = (
-    stream.0,
-    λ awake. rw sends.held (stream.1 (λ shut. awake (rw (shut_given feed 0 sends.place a.session.state
-        now.session.state sends.given sends.gives shut) shut))),
-  )
-
   sends_on : (a now : Attending) → SendsAll feed a now → IsOn a.session.state.phase → HasStream a.session → TurnOn a now
   sends_on a now sends on stream = record {
     given = sends.given;
-    place = sends.place;
-    state = now.session.state;
-    gives = sends.gives;
-    read = inl refl;
+    asked = λ rest are. asks_then feed 0 sends.place a.session.state now.session.state sends.given rest sends.gives are;
     bytes = sends.written.bytes;
     on = on_given feed 0 sends.place a.session.state now.session.state sends.given sends.gives on;
-    stream = given_stream a now sends stream;
+    stream = (stream.0, λ awake. rw sends.held (stream.1 (open_given feed a now sends awake)));
   }
 
   replies_on : (a now new : Attending) (bytes : List ℕ) → TurnOn a now → RepliesToAll feed now new bytes → TurnOn a new
@@ -206,10 +229,7 @@ module _ (feed : List Window) where
       read_all_on now.session bytes now.written.bytes new.session new.written.bytes done.serves t.on t.stream in
       record {
         given = t.given;
-        place = t.place;
-        state = t.state;
-        gives = t.gives;
-        read = read_further t.state now.session.state new.session.state t.read rest.read;
+        asked = λ more are. t.asked more (read_first now.session.state new.session.state more rest.read are);
         bytes = rest.quiet ∙ t.bytes;
         on = read_on now.session.state new.session.state rest.read t.on;
         stream = rest.stream;
@@ -222,91 +242,60 @@ module _ (feed : List Window) where
   turn_on a now before after turn (replies mid bytes goes read some few done) on stream =
       replies_on a mid now bytes (sends_on a mid goes.sends on stream) done
 
-  wrote_more : (feeds : List (List Window)) (a now : Attending) (bytes : List ℕ) (t : TurnOn a now)
-      → Wrote feeds now.session.state bytes → Wrote (feed ∷ feeds) a.session.state (all_sent t.given ++ bytes)
-  wrote_more feeds a now bytes t w = record {
-    called = asks feed 0 t.given ++ w.called;
-    are_called = asks_then feed 0 t.place a.session.state t.state now.session.state t.given w.called t.gives t.read
-        w.are_called;
-    bytes_are = ap (λ b. all_sent t.given ++ b) w.bytes_are ∙ sym (asks_bytes feed 0 t.given w.called);
-    shown = λ k first pushed shown. asks_shown feed k 0 first pushed t.given w.called shown.0
-        (w.shown k first pushed shown.1);
-  }
+-- What was sent in turns, of which the link accepted all but these last bytes.
+abbrev WroteBut : List ℕ → List (List Window) → Attending → Attending → Type 0
+WroteBut rest feeds a b = (prefix : List ℕ) × (b.written.bytes ≡ a.written.bytes ++ prefix)
+    × Wrote feeds a.session.state (prefix ++ rest)
 
--- all steps
-abbrev AllWrote : List (List Window) → Attending → Attending → Type 0
-AllWrote feeds a b = (bytes : List ℕ) × (b.written.bytes ≡ a.written.bytes ++ bytes) × Wrote feeds a.session.state bytes
+no_turn_wrote : (a : Attending) → WroteBut [] [] a a
+no_turn_wrote a = ([], sym (append-nil a.written.bytes), nothing_wrote a.session.state)
+
+turn_wrote : (rest : List ℕ) (feed : List Window) (feeds : List (List Window)) (a now b : Attending) → TurnOn feed a now
+    → WroteBut rest feeds now b → WroteBut rest (feed ∷ feeds) a b
+turn_wrote rest feed feeds a now b t w = (
+  all_sent t.given ++ w.0,
+  w.1 ∙ (ap (λ bytes. bytes ++ w.0) t.bytes ∙ append_assoc a.written.bytes (all_sent t.given) w.0),
+  rw (append_assoc (all_sent t.given) w.0 rest)
+      (asked_wrote feed feeds a.session.state now.session.state t.given (w.0 ++ rest) t.asked w.2),
+)
 
 turns_wrote : (feeds : List (List Window)) (a b : Attending) → TakesTurns a feeds b → IsOn a.session.state.phase
-    → HasStream a.session → AllWrote feeds a b
-turns_wrote feeds a b (no_turn x) on stream = (
-  [],
-  sym (append-nil x.written.bytes),
-  record { called = []; are_called = tt; bytes_are = refl; shown = λ k first pushed shown. tt },
-)
+    → HasStream a.session → WroteBut [] feeds a b
+turns_wrote feeds a b (no_turn x) on stream = no_turn_wrote x
 turns_wrote feeds a b (turn_taken x now y feed more before after turn one rest) on stream =
     let t : TurnOn feed x now = turn_on feed x now before after turn one on stream in
-    let w : AllWrote more now y = turns_wrote more now y rest t.on t.stream in (
-      all_sent t.given ++ w.0,
-      w.1 ∙ (ap (λ b. b ++ w.0) t.bytes ∙ append_assoc x.written.bytes (all_sent t.given) w.0),
-      wrote_more feed more x now w.0 t w.2,
-    )
+    turn_wrote [] feed more x now y t (turns_wrote more now y rest t.on t.stream)
 
 -- the last of which failed
-abbrev PrefixWrote : List (List Window) → Attending → Attending → Type 0
-PrefixWrote feeds a b = (bytes prefix : List ℕ) × IsPrefixOf prefix bytes
-    × (b.written.bytes ≡ a.written.bytes ++ prefix)
-    × Wrote feeds a.session.state bytes
-
-sent_wrote : (feed : List Window) (a : Attending) (u : State) (given : List Sent) (place : ℕ)
-    → Gives feed 0 a.session.state given place u → Wrote (feed ∷ []) a.session.state (all_sent given)
-sent_wrote feed a u given place gives = record {
-  called = asks feed 0 given ++ [];
-  are_called = asks_then feed 0 place a.session.state u u given [] gives (inl refl) tt;
-  bytes_are = sym (append-nil (all_sent given)) ∙ sym (asks_bytes feed 0 given []);
-  shown = λ k first pushed shown. asks_shown feed k 0 first pushed given [] shown.0 tt;
-}
-
 fault_wrote : (feed : List Window) (a b : Attending) (before after : BytesRead) (fault : LinkFault)
     → IsServeFault feed a b before after fault → IsOn a.session.state.phase → HasStream a.session
-    → PrefixWrote (feed ∷ []) a b
+    → (rest : List ℕ) × WroteBut rest (feed ∷ []) a b
 fault_wrote feed a b before after fault (at_send count fails same) on stream =
-    let all : List ℕ = all_sent (fails.given ++ fails.last ∷ []) in (
-      all,
-      take count all,
-      (drop count all, sym (take-append-drop count all)),
-      fails.written.bytes,
-      sent_wrote feed a b.session.state (fails.given ++ fails.last ∷ []) fails.place fails.gives,
+    let given : List Sent = fails.given ++ fails.last ∷ [] in
+    let all : List ℕ = all_sent given in
+    let wrote = asked_wrote feed [] a.session.state b.session.state given []
+    (λ rest are. asks_then feed 0 fails.place a.session.state b.session.state given rest fails.gives are)
+    (nothing_wrote b.session.state) in (
+      drop count all,
+      (take count all, fails.written.bytes, rw (take-append-drop count all) (rw (append-nil all) at wrote)),
     )
-fault_wrote feed a b before after fault (at_read goes read) on stream = (
-  all_sent goes.sends.given,
-  all_sent goes.sends.given,
-  ([], sym (append-nil (all_sent goes.sends.given))),
-  goes.sends.written.bytes,
-  sent_wrote feed a b.session.state goes.sends.given goes.sends.place goes.sends.gives,
-)
+fault_wrote feed a b before after fault (at_read goes read) on stream =
+    ([], turn_wrote [] feed [] a b b (sends_on feed a b goes.sends on stream) (no_turn_wrote b))
 fault_wrote feed a b before after fault (at_reply count now bytes goes read few fails counted) on stream =
     let t : TurnOn feed a now = sends_on feed a now goes.sends on stream in
     let u : TurnOn feed a fails.before = replies_on feed a now fails.before fails.prefix t fails.replies in
     let one : ReadOn fails.before.session b.session [] (reply_bytes fails.reply) =
     piece_read_on feed fails.before.session b.session fails.piece fails.reply fails.takes u.on u.stream in
-    let part : fails.count < length (reply_bytes fails.reply) = fails.written.part in
-    let none : length (reply_bytes fails.reply) ≡ 0 = ap length one.quiet in
-    absurd (omega (arith, part, none))
+    absurd (omega (arith, fails.written.part, ap length one.quiet))
 
 fails_wrote : (feeds : List (List Window)) (a b : Attending) → FailsInTurn a feeds b → IsOn a.session.state.phase
-    → HasStream a.session → PrefixWrote feeds a b
+    → HasStream a.session → (rest : List ℕ) × WroteBut rest feeds a b
 fails_wrote feeds a b (fails_now x y feed before after fault one) on stream =
     fault_wrote feed x y before after fault one on stream
 fails_wrote feeds a b (fails_later x now y feed more before after turn one rest) on stream =
     let t : TurnOn feed x now = turn_on feed x now before after turn one on stream in
-    let w : PrefixWrote more now y = fails_wrote more now y rest t.on t.stream in (
-      all_sent t.given ++ w.0,
-      all_sent t.given ++ w.1,
-      (w.2.0, ap (λ b. all_sent t.given ++ b) w.2.1 ∙ sym (append_assoc (all_sent t.given) w.1 w.2.0)),
-      w.3 ∙ (ap (λ b. b ++ w.1) t.bytes ∙ append_assoc x.written.bytes (all_sent t.given) w.1),
-      wrote_more feed more x now w.0 t w.4,
-    )
+    let w = fails_wrote more now y rest t.on t.stream in
+    (w.0, turn_wrote w.0 feed more x now y t w.1)
 
 -- a session that stands, stands for a stream
 stream_of : (s : SessionState) → Stands s → HasStream s
@@ -319,39 +308,30 @@ pub turns_sent : (feeds : List (List Window)) (old new : Attending) → old.sess
     → Stands old.session → TakesTurns old feeds new
     → (bytes : List ℕ) × (new.written.bytes ≡ old.written.bytes ++ bytes) × SendsSlices feeds old.session.state bytes
 turns_sent feeds old new on stands turns =
-    let w : AllWrote feeds old new = turns_wrote feeds old new turns (inl on) (stream_of old.session stands) in
-    (w.0, w.1, slices feeds old.session.state w.0 (inl on) w.2)
+    let w : WroteBut [] feeds old new = turns_wrote feeds old new turns (inl on) (stream_of old.session stands) in
+    (w.0, w.1, slices feeds old.session.state w.0 (inl on) (rw (append-nil w.0) at w.2))
 
 pub turns_failed : (feeds : List (List Window)) (old new : Attending) → old.session.state.phase ≡ Streaming
     → Stands old.session → FailsInTurn old feeds new
     → (bytes prefix : List ℕ) × IsPrefixOf prefix bytes × (new.written.bytes ≡ old.written.bytes ++ prefix)
     × SendsSlices feeds old.session.state bytes
 turns_failed feeds old new on stands turns =
-    let w : PrefixWrote feeds old new = fails_wrote feeds old new turns (inl on) (stream_of old.session stands) in
-    (w.0, w.1, w.2, w.3, slices feeds old.session.state w.0 (inl on) w.4)
+    let w = fails_wrote feeds old new turns (inl on) (stream_of old.session stands) in
+    (w.1.0 ++ w.0, w.1.0, (w.0, refl), w.1.1, slices feeds old.session.state (w.1.0 ++ w.0) (inl on) w.1.2)
 
 -- before records are sent
-before_in : (p : Phase) (feed : List Window) (s : State) (k : ℕ) → IsBefore p → sent_in p feed s k ≡ (s, sents.Wait)
-before_in Streaming feed s k is = absurd is
-before_in Closed feed s k is = absurd is
-before_in phase feed s k is = refl
-
-before_given : (feed : List Window) (k last : ℕ) (s u : State) (given : List Sent) → IsBefore s.phase
-    → Gives feed k s given last u → (u ≡ s) × (all_sent given ≡ [])
-before_given feed k last s u [] is gives = (gives.1, refl)
-before_given feed k last s u (a ∷ more) is gives =
-    let one : sent feed s k ≡ (s, sents.Wait) = before_in s.phase feed s k is in
-    let same : (sent feed s k).0 ≡ s = ap (λ (x : State × Sent). x.0) one in
-    let waits : a ≡ sents.Wait = sym gives.0 ∙ ap (λ (x : State × Sent). x.1) one in
-    let rest = before_given feed (place_after feed k) last s u more is
-    (rw same at gives.1) in
-    (rest.0, ap (λ b. sent_bytes b ++ all_sent more) waits ∙ rest.1)
+before_still : (p : Phase) (feed : List Window) (s : State) (k : ℕ) → IsBefore p → ((sent_in p feed s k).0 ≡ s)
+    × (sent_bytes (sent_in p feed s k).1 ≡ [])
+before_still Streaming feed s k is = absurd is
+before_still Closed feed s k is = absurd is
+before_still phase feed s k is = (refl, refl)
 
 pub before_sent : (feed : List Window) (old new : Attending) → IsBefore old.session.state.phase → SendsAll feed old new
     → (new.session ≡ old.session) × (new.written.bytes ≡ old.written.bytes)
 before_sent feed old new is sends =
-    let one = before_given feed 0 sends.place old.session.state new.session.state sends.given is sends.gives in (
-      ap (λ (x : State). record { state = x; held = new.session.held }) one.0
-          ∙ ap (λ h. record { state = old.session.state; held = h }) sends.held,
+    let s : State = old.session.state in
+    let one = all_still feed s (λ k. before_still s.phase feed s k is) 0 sends.place new.session.state sends.given
+    sends.gives in (
+      states_same new.session old.session one.0 sends.held,
       sends.written.bytes ∙ (ap (λ b. old.written.bytes ++ b) one.1 ∙ append-nil old.written.bytes),
     )

@@ -3,7 +3,7 @@ use Rattle.std.proofs.Common.{◌≡◌, ◌≢◌, ℕ, ◌+◌, ◌-◌, ◌*�
 use Rattle.std.proofs.Common.{[], ◌∷◌, ◌++◌, append_assoc, append-nil, length, length-append, length-drop, take}
 use Rattle.std.proofs.Common.{take-add, take-append-drop, take_all, drop, length-take, ◌⊎◌, inl, inr}
 use Rattle.std.proofs.Math.Seq.{take-append-add}
-use Rattle.std.proofs.lemmas.List.{take_rest}
+use Rattle.std.proofs.lemmas.List.{length-take-le, take-append-le, take_rest}
 use Rattle.mseed_stream.specs.Device.{BytesRead, IsPrefixOf, BytesWritten}
 use Rattle.slink_feed.specs.declared.dialogue.Event.{Event}
 use Rattle.slink_feed.specs.declared.dialogue.Event.TheVariants as events
@@ -19,8 +19,9 @@ use Rattle.slink_feed.specs.Fetching.{Delivers, FailsAt, FailsAtLast, Fetches, F
 use Rattle.slink_feed.specs.Fetching.{IsFetchFault, joined_by, line_written, lines_written, record_reported, turn_after}
 use Rattle.slink_feed.specs.Fetching.{turn_at}
 use Rattle.slink_feed.specs.Listening.{Brings, IsLinked, Listening, event_if_any}
-use Rattle.slink_feed.specs.Turns.{Emitted, EmittedPrefix, reported_once}
+use Rattle.slink_feed.specs.Turns.{Emitted, EmittedPrefix, read_once}
 use Rattle.slink_feed.proofs.Goings.{goes_on, still_linked}
+use Rattle.slink_feed.proofs.Items.{given_both}
 use Rattle.slink_feed.proofs.Outcomes.{ended_quietly}
 use Rattle.slink_feed.proofs.Received.{reads_more}
 
@@ -73,9 +74,7 @@ prefix_length a b xs n p =
 -- what events give, one after another
 joined_more : (given : Event → List ℕ) (es fs : List Event)
     → joined_by given (es ++ fs) ≡ joined_by given es ++ joined_by given fs
-joined_more given [] fs = refl
-joined_more given (e ∷ es) fs = ap (λ s. given e ++ s) (joined_more given es fs)
-    ∙ sym (append_assoc (given e) (joined_by given es) (joined_by given fs))
+joined_more given es fs = given_both (joined_by given) given refl (λ e more. refl) es fs
 
 joined_event : (given : Event → List ℕ) (e : Event) → given events.None ≡ []
     → joined_by given (event_if_any e) ≡ given e
@@ -249,12 +248,12 @@ all_delivered old now bytes offset written_count output_count_is ends so_far = r
 pub nothing_delivered : (s : Fetching) → Delivers s s []
 nothing_delivered s = all_delivered s s [] 0 0 0 (λ linked. omega arith) (nothing_so_far s [])
 
-pub closed_turn : (old new : Fetching) (before after : BytesRead) → new ≡ old → after ≡ reported_once before []
-    → Fetches old new before after turns.Closed
-closed_turn old new before after same read = record {
+pub closed_turn : (old new : Fetching) (before after : BytesRead) → new ≡ old → after ≡ read_once before []
+    → length old.client.kept ≤ 520 → Fetches old new before after turns.Closed
+closed_turn old new before after same read most = record {
   bytes = [];
   read = read;
-  most = omega arith;
+  most = omega (arith, most);
   delivers = rw same (nothing_delivered old);
   nothing = λ none. same;
   turn_is = refl;
@@ -265,20 +264,42 @@ at_some : (bytes : List ℕ) (stage : Stage) → 0 < length bytes → turn_at st
 at_some [] stage some = absurd (omega (arith, some))
 at_some (b ∷ bytes) stage some = refl
 
-module _ (old now new : Fetching) (before after : BytesRead) (bytes : List ℕ) (same : now ≡ old)
-    (read : after ≡ reported_once before bytes) (most : length bytes ≤ 1024) where
-  pub delivered_turn : (turn : Turn) → 0 < length bytes → Delivers now new bytes
-      → turn ≡ turn_at new.client.talk.stage → Fetches old new before after turn
-  delivered_turn turn some delivers is = record {
-    bytes = bytes;
-    read = read;
-    most = most;
-    delivers = rw same at delivers;
-    nothing = λ none. absurd (omega (arith, some, ap length none));
-    turn_is = is ∙ at_some bytes new.client.talk.stage some;
-  }
+-- What was read stands at the front of the room.
+module _ (old now new : Fetching) (before after : BytesRead) (n lack : ℕ) (front rest room : List ℕ) (same : now ≡ old)
+    (read : after ≡ read_once before (take n front)) (some : n ≢ 0) (within : n ≤ length front)
+    (long : length front ≡ length (take lack room)) (lacks : lack + length old.client.kept ≡ 520) where
+  few : length (take n front) + length old.client.kept ≤ 520
+  few = omega (arith, within, long, lacks, length-take-le n front within, length-take lack room)
 
-  pub cut_turn : (fault : LinkFault) → FailsAt fault now new bytes → IsFetchFault fault old new before after
-  cut_turn faults.Read fails = absurd fails
-  cut_turn (faults.Write count) fails = record { bytes = bytes; read = read; most = most; fails = rw same at fails }
-  cut_turn (faults.Output count) fails = record { bytes = bytes; read = read; most = most; fails = rw same at fails }
+  pub front_delivered : (turn : Turn) → Delivers now new (take n (front ++ rest))
+      → turn ≡ turn_at new.client.talk.stage → Fetches old new before after turn
+  front_delivered turn delivers is =
+      let any : 0 < length (take n front) = omega (arith, some, length-take-le n front within) in
+      record {
+        bytes = take n front;
+        read = read;
+        most = few;
+        delivers = rw same at (rw (take-append-le n front rest within) at delivers);
+        nothing = λ none. absurd (omega (arith, any, ap length none));
+        turn_is = is ∙ at_some (take n front) new.client.talk.stage any;
+      }
+
+  pub front_cut : (fault : LinkFault) → FailsAt fault now new (take n (front ++ rest))
+      → IsFetchFault fault old new before after
+  front_cut faults.Read fails = absurd fails
+  front_cut (faults.Write count) fails =
+      record {
+        bytes = take n front;
+        read = read;
+        most = few;
+        fails = rw same at (rw (take-append-le n front rest within)
+            at fails);
+      }
+  front_cut (faults.Output count) fails =
+      record {
+        bytes = take n front;
+        read = read;
+        most = few;
+        fails = rw same at (rw (take-append-le n front rest within)
+            at fails);
+      }

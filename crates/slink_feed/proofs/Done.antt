@@ -5,6 +5,7 @@ use Rattle.std.specs.List.{list_all, zip}
 use Rattle.slink_feed.specs.Session.{Grants, has_sent_all, grant_at, has_sent}
 use Rattle.slink_feed.specs.Window.{Window}
 use Rattle.std.proofs.lemmas.Option.{none-some, same_Some}
+use Rattle.std.proofs.lemmas.Slice.Zip.{length-zip}
 use Rattle.slink_feed.proofs.Items.{within_is}
 use Rattle.std.proofs.lemmas.Bool.{and_from, and_left, and_right, and_parts}
 
@@ -39,14 +40,9 @@ pub not_done : (ws : List Window) (gs : Grants) (k : ℕ) (w : Window) (t : Bool
     → t ≡ has_sent w (grant_at gs k) → t ≡ false → has_sent_all ws gs ≡ false
 not_done ws gs k w t here d fails = not_done_at ws gs k w here (sym d ∙ fails)
 
-zip_bound : (ws : List Window) (gs : Grants) → length (zip ws gs) ≤ length ws
-zip_bound [] gs = omega arith
-zip_bound (v ∷ ws) [] = omega arith
-zip_bound (v ∷ ws) (o ∷ gs) = omega (arith, zip_bound ws gs)
-
 pub done_all : (ws : List Window) (gs : Grants) (k : ℕ) → length ws ≤ k → first_done ws gs k ≡ true
     → has_sent_all ws gs ≡ true
-done_all ws gs k e before = rw (take_all k (zip ws gs) (omega (arith, e, zip_bound ws gs))) at before
+done_all ws gs k e before = rw (take_all k (zip ws gs) (omega (arith, e, length-zip ws gs))) at before
 
 pub some_at : (ws : List Window) (k : ℕ) → k < length ws → (w : Window) × (slice_get ws k ≡ Some w)
 some_at ws k lt = within_is ws k lt

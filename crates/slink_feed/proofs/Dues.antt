@@ -30,14 +30,11 @@ due_in phase feed gs = suc (left_of feed gs)
 abbrev pub due : List Window → State → ℕ
 due feed s = due_in s.phase feed s.grants
 
-left_few : (w : Window) (o : Option Grant) → left_at w o ≤ 1000000
-left_few w None = omega arith
-left_few w (Some g) = omega arith
-
 all_few : (ws : List Window) (gs : Grants) → left_of ws gs ≤ 1000000 * length ws
 all_few [] gs = omega arith
 all_few (w ∷ ws) [] = omega arith
-all_few (w ∷ ws) (o ∷ gs) = omega (arith, left_few w o, all_few ws gs)
+all_few (w ∷ ws) (None ∷ gs) = omega (arith, all_few ws gs)
+all_few (w ∷ ws) (Some g ∷ gs) = omega (arith, all_few ws gs)
 
 few_in : (p : Phase) (feed : List Window) (gs : Grants) → due_in p feed gs ≤ 1 + 1000000 * length feed
 few_in Closed feed gs = omega arith

@@ -5,7 +5,7 @@ use Rattle.std.proofs.lemmas.Bool.{le-leb, lt-leb}
 use Rattle.slink_feed.specs.declared.grant.Mode.{Mode}
 use Rattle.slink_feed.specs.declared.grant.Mode.TheVariants as modes
 use Rattle.slink_feed.specs.Grant.{grant_of}
-use Rattle.slink_feed.specs.Window.{Window, ahead_of, oldest_of, resolve_of}
+use Rattle.slink_feed.specs.Window.{Window, ahead_of_oldest, oldest_of, resolve_of}
 
 ahead_there : (o n : ℕ) → o ≤ n → n ≤ o + 1000000 → ((n % 2 ^ 24) % 2 ^ 24 + 2 ^ 24 - o % 2 ^ 24) % 2 ^ 24 ≡ n - o
 ahead_there o n le near = omega (arith, le, near)
@@ -18,13 +18,14 @@ resolved_there : (w : Window) (n : ℕ) → length w.records ≤ 1000000 → n �
     → resolve_of w (n % 2 ^ 24) ≡ Some n
 resolved_there w n few at_most there =
     let ahead = ahead_there (oldest_of w) n there (omega (arith, few, at_most)) in
-    let same : oldest_of w + ahead_of w (n % 2 ^ 24) ≡ n = omega (arith, ahead, there) in
-    rw (le-leb (ahead_of w (n % 2 ^ 24)) (w.next - oldest_of w) (omega (arith, ahead, at_most, there)), same) refl
+    let same : oldest_of w + ahead_of_oldest w (n % 2 ^ 24) ≡ n = omega (arith, ahead, there) in
+    rw (le-leb (ahead_of_oldest w (n % 2 ^ 24)) (w.next - oldest_of w) (omega (arith, ahead, at_most, there)), same)
+    refl
 
 resolved_lost : (w : Window) (n : ℕ) → w.next < n + 2 ^ 24 → n < oldest_of w → resolve_of w (n % 2 ^ 24) ≡ None
 resolved_lost w n near lost =
     let ahead = ahead_lost (oldest_of w) n lost (omega (arith, near)) in
-    rw (lt-leb (ahead_of w (n % 2 ^ 24)) (w.next - oldest_of w) (omega (arith, ahead, near, lost))) refl
+    rw (lt-leb (ahead_of_oldest w (n % 2 ^ 24)) (w.next - oldest_of w) (omega (arith, ahead, near, lost))) refl
 
 pub granted_there : (mode : Mode) (w : Window) (n : ℕ) → length w.records ≤ 1000000 → n ≤ w.next → oldest_of w ≤ n
     → grant_of mode (Some (n % 2 ^ 24)) w ≡ Some n

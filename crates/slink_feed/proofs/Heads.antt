@@ -1,5 +1,5 @@
 -- The first bytes of packets.
-use Rattle.std.proofs.Common.{List, Some, arith, drop, inl, inr, length, length-append, length-drop, sym}
+use Rattle.std.proofs.Common.{List, Some, ap, arith, drop, inl, inr, length, length-append, length-drop, sym, take}
 use Rattle.std.proofs.Common.{ℕ, ◌++◌, ◌+◌, ◌∙◌, ◌≡◌, ◌≤◌}
 use Rattle.std.proofs.lemmas.Bool.{cases_lt}
 use Rattle.std.proofs.lemmas.List.{take-append-le, drop-append-le}
@@ -10,23 +10,19 @@ use Rattle.slink_feed.specs.private.Parts.{IsDue}
 use Rattle.slink_feed.proofs.Prefixes.{get_left}
 
 -- bytes after the first eight change nothing of them
-pub head_same : (xs ys : List ℕ) (n : ℕ) → 8 ≤ length xs → HasHead xs n → HasHead (xs ++ ys) n
-head_same xs ys n long has = (
-  take-append-le 2 xs ys (omega (arith, long)) ∙ has.0,
-  rw (
-    drop-append-le 2 xs ys (omega (arith, long)),
-    take-append-le 6 (drop 2 xs) ys (omega (arith, long, length-drop 2 xs)),
-  ) has.1,
+first_eight : (xs ys : List ℕ) → 8 ≤ length xs
+    → (take 2 (xs ++ ys) ≡ take 2 xs) × (take 6 (drop 2 (xs ++ ys)) ≡ take 6 (drop 2 xs))
+first_eight xs ys long = (
+  take-append-le 2 xs ys (omega (arith, long)),
+  ap (take 6) (drop-append-le 2 xs ys (omega (arith, long)))
+      ∙ take-append-le 6 (drop 2 xs) ys (omega (arith, long, length-drop 2 xs)),
 )
 
+pub head_same : (xs ys : List ℕ) (n : ℕ) → 8 ≤ length xs → HasHead xs n → HasHead (xs ++ ys) n
+head_same xs ys n long has = let e = first_eight xs ys long in (e.0 ∙ has.0, rw e.1 has.1)
+
 pub head_before : (xs ys : List ℕ) (n : ℕ) → 8 ≤ length xs → HasHead (xs ++ ys) n → HasHead xs n
-head_before xs ys n long has = (
-  sym (take-append-le 2 xs ys (omega (arith, long))) ∙ has.0,
-  rw (
-    drop-append-le 2 xs ys (omega (arith, long)),
-    take-append-le 6 (drop 2 xs) ys (omega (arith, long, length-drop 2 xs)),
-  ) at has.1,
-)
+head_before xs ys n long has = let e = first_eight xs ys long in (sym e.0 ∙ has.0, rw e.1 at has.1)
 
 pub one_begins : (xs : List ℕ) (a b : ℕ) → Begins xs a → Begins xs b → a ≡ b
 one_begins xs a b p q = let both : Some a ≡ Some b = sym p ∙ q in cc both

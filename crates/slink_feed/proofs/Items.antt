@@ -2,12 +2,12 @@
 use Rattle.std.proofs.Common.{◌≡◌, ◌≢◌, ℕ, ◌+◌, ◌-◌, ◌<◌, ◌≤◌, ◌⊎◌, inl, inr, zero, suc, refl, sym, ap, ◌∙◌, arith}
 use Rattle.std.proofs.Common.{false, List, [], ◌∷◌, ◌++◌, length, length-append, length-drop, drop, map}
 use Rattle.std.proofs.Common.{set, get_or, Option, Some, None, option_map, slice_get, nat_lt, unwrap_or}
-use Rattle.std.proofs.Common.{replicate}
+use Rattle.std.proofs.Common.{append_assoc, replicate}
+use Rattle.circular_buffer.proofs.Places.{slice_get-drop, slice_get-set_other, slice_get-set_same, slice_get-some}
 use Rattle.std.proofs.lemmas.Bool.Decides.{eqb_tells, leb_tells, nat_tests}
-use Rattle.std.proofs.lemmas.Option.{get_or_from_slice_get, slice_get-get_or, slice_get-map, slice_get_within}
+use Rattle.std.proofs.lemmas.Option.{get_or_from_slice_get, slice_get-map, slice_get_within}
 use Rattle.std.proofs.lemmas.Option.{unwrap_or-slice_get}
 use Rattle.std.proofs.lemmas.List.{drop-append-le, drop-drop, drop_more, get_or-set_other, get_or-set_same}
-use Rattle.std.proofs.lemmas.List.{length-set}
 use Rattle.slink_feed.specs.Window.{Shows, Window, oldest_of, record_at, window, with_record}
 
 -- what is set at an index, and elsewhere
@@ -27,15 +27,20 @@ module _ {X : Type 0} where
       ∙ (get_or-set_other xs k j x d ne ∙ sym (unwrap_or-slice_get xs j d))
 
   pub get_here : (xs : List X) (k : ℕ) (x : X) → k < length xs → slice_get (set xs k x) k ≡ Some x
-  get_here xs k x lt = slice_get-get_or (set xs k x) k x (rw (length-set xs k x) lt)
-      ∙ ap (λ y. Some y) (get_or-set_same xs k x x lt)
+  get_here xs k x lt = slice_get-set_same xs k x lt
 
   pub get_there : (xs : List X) (k j : ℕ) (x : X) → j ≢ k → slice_get (set xs k x) j ≡ slice_get xs j
-  get_there [] k j x ne = refl
-  get_there (y ∷ xs) zero zero x ne = absurd (ne refl)
-  get_there (y ∷ xs) zero (suc j) x ne = refl
-  get_there (y ∷ xs) (suc k) zero x ne = refl
-  get_there (y ∷ xs) (suc k) (suc j) x ne = get_there xs k j x (λ e. ne (ap suc e))
+  get_there xs k j x ne = slice_get-set_other xs k j x ne
+
+  -- what is set at an index stands there, if anything does, and all else stays
+  pub set_or : (xs : List X) (k j : ℕ) (x d : X) → ((j ≡ k) × (unwrap_or (slice_get (set xs k x) j) d ≡ x))
+      ⊎ (unwrap_or (slice_get (set xs k x) j) d ≡ unwrap_or (slice_get xs j) d)
+  set_or [] k j x d = inr refl
+  set_or (y ∷ xs) zero zero x d = inl (refl, refl)
+  set_or (y ∷ xs) zero (suc j) x d = inr refl
+  set_or (y ∷ xs) (suc k) zero x d = inr refl
+  set_or (y ∷ xs) (suc k) (suc j) x d =
+      elim (set_or xs k j x d) [ inl here ↦ inl (ap suc here.0, here.1) | inr there ↦ inr there ]
 
   pub no_value : (x : X) → Some x ≡ None → ⊥
   no_value x e = let bad : Some x ≡ None = e in cc bad
@@ -57,9 +62,7 @@ module _ {X : Type 0} where
       ∙ ap (λ y. y ∷ drop (k + 1) xs) (get_or_from_slice_get xs k x x here)
 
   pub within_is : (xs : List X) (k : ℕ) → k < length xs → (x : X) × (slice_get xs k ≡ Some x)
-  within_is [] k lt = absurd (omega (arith, lt))
-  within_is (y ∷ xs) zero lt = (y, refl)
-  within_is (y ∷ xs) (suc k) lt = within_is xs k (omega (arith, lt))
+  within_is xs k lt = slice_get-some xs k lt
 
   pub one_value : (o : Option X) (x y : X) → o ≡ Some x → o ≡ Some y → x ≡ y
   one_value o x y p q = let both : Some x ≡ Some y = sym p ∙ q in cc both
@@ -76,6 +79,13 @@ module _ {X Y : Type 0} where
       → slice_get (map f xs) k ≡ Some (f x)
   map_got f xs k x is = slice_get-map f xs k ∙ ap (option_map f) is
 
+  -- what elements give, one after another
+  pub given_both : (f : List X → List Y) (g : X → List Y) → f [] ≡ [] → ((x : X) (xs : List X)
+      → f (x ∷ xs) ≡ g x ++ f xs) → (xs ys : List X) → f (xs ++ ys) ≡ f xs ++ f ys
+  given_both f g none more [] ys = ap (λ zs. zs ++ f ys) (sym none)
+  given_both f g none more (x ∷ xs) ys = more x (xs ++ ys) ∙ (ap (λ zs. g x ++ zs) (given_both f g none more xs ys)
+      ∙ (sym (append_assoc (g x) (f xs) (f ys)) ∙ ap (λ zs. zs ++ f ys) (sym (more x xs))))
+
 -- two indices are one, or not
 pub same_or_not : (j k : ℕ) → (j ≡ k) ⊎ (j ≢ k)
 same_or_not j k = elim (eqb_tells j k) [ inl same ↦ inl same.1 | inr other ↦ inr other.1 ]
@@ -89,10 +99,7 @@ pub lt_false : (m n : ℕ) → nat_lt m n ≡ false → n ≤ m
 lt_false m n h = grind (arith, nat_tests)
 
 pub get_drop : (d : ℕ) (xs : List (List ℕ)) (i : ℕ) → slice_get (drop d xs) i ≡ slice_get xs (d + i)
-get_drop zero xs i = ap (slice_get xs) (let e : i ≡ 0 + i = omega arith in e)
-get_drop (suc d) [] i = refl
-get_drop (suc d) (x ∷ xs) i = get_drop d xs i ∙ sym (let e : suc d + i ≡ suc (d + i) = omega arith in
-    ap (slice_get (x ∷ xs)) e)
+get_drop d xs i = slice_get-drop d xs i (d + i) refl
 
 -- a record of the window is that of the list
 pub read_at : (w : Window) (p : ℕ) (x : List ℕ) → record_at w p ≡ Some x

@@ -15,8 +15,8 @@ use Rattle.slink_feed.specs.Dialogue.{Talk, Wants, Whole, place_of}
 use Rattle.slink_feed.specs.Dialogue.{ahead_of, read_at, is_of_wanted, next_at}
 use Rattle.slink_feed.specs.Dialogue.{next_set, to_place}
 use Rattle.slink_feed.specs.Dialogue.{heard, reported, want_at, with_next}
-use Rattle.slink_feed.specs.Holding.{AreRising, GoBy, IsNext, Rise, Turn, connects, brings, numbers_in, numbers_of}
-use Rattle.slink_feed.specs.Holding.{talk_after, turned}
+use Rattle.slink_feed.specs.Holding.{Arrival, AreRising, GoBy, IsNext, Rise, arrived, brings, connects, numbers_in}
+use Rattle.slink_feed.specs.Holding.{numbers_of, talk_past}
 use Rattle.slink_feed.proofs.Items.{put_there, wrote_here}
 use Rattle.slink_feed.proofs.Outcomes.{Outcome, ended_quietly, ends, kept_read, outcome, reports}
 
@@ -64,7 +64,7 @@ go_both holes (Some want) now last (n ∷ ns) more on too =
     (on.0, go_both holes (Some ((n + 1) % 2 ^ 24)) now last ns more on.1 too)
 
 -- Each number is taken where one is wanted, over a step, and over one after another.
-pub step_reported : (k j n : ℕ) (bytes : List ℕ) (t : Talk) (w : Wanted) → want_at t.wants j ≡ Some w
+step_reported : (k j n : ℕ) (bytes : List ℕ) (t : Talk) (w : Wanted) → want_at t.wants j ≡ Some w
     → IfSome (next_at t.wants j) (λ want. IsNext t.holes want n)
     → GoBy t.holes (next_at t.wants k) (if j == k then n ∷ [] else []) (next_at (reported j n bytes t).0.wants k)
 step_reported k j n bytes t w at wanted =
@@ -78,8 +78,7 @@ step_reported k j n bytes t w at wanted =
 pub step_by : (k : ℕ) (t : Talk) (stage : Stage) (w : Whole) (x : Talk × Event) → Outcome t stage w x
     → GoBy t.holes (next_at t.wants k) (numbers_in k x.1) (next_at x.0.wants k)
 step_by k t stage w x (reports j n bytes at is bears wanted) =
-    let some : (v : Wanted) × (want_at t.wants j ≡ Some v) = place_some t.wants bytes j bears in
-    step_reported k j n bytes t some.0 some.1 wanted
+    let some = place_some t.wants bytes j bears in step_reported k j n bytes t some.0 some.1 wanted
 step_by k t stage w x (ends ending) = rw ((ended_quietly ending).3 k) refl
 step_by k t stage w x outcome = refl
 
@@ -88,24 +87,24 @@ step_place : (k j : ℕ) (t : Talk) (o : Option Wanted)
 step_place k j t None = refl
 step_place k j t (Some w) = refl
 
-step_turn : (k : ℕ) (t : Talk) (turn : Turn)
-    → GoBy t.holes (next_at t.wants k) (numbers_in k (turned t turn).1) (next_at (turned t turn).0.wants k)
-step_turn k t connects = step_place k 0 t (want_at t.wants 0)
-step_turn k t (brings w) =
+step_arrival : (k : ℕ) (t : Talk) (a : Arrival)
+    → GoBy t.holes (next_at t.wants k) (numbers_in k (arrived t a).1) (next_at (arrived t a).0.wants k)
+step_arrival k t connects = step_place k 0 t (want_at t.wants 0)
+step_arrival k t (brings w) =
     step_by k (heard w t) t.stage w (read_at t.stage (heard w t) w) (outcome (heard w t) t.stage w)
 
-kept_turn : (t : Talk) (turn : Turn) → (turned t turn).0.holes ≡ t.holes
-kept_turn t connects = kept_place 0 t (want_at t.wants 0)
-kept_turn t (brings w) = kept_read (heard w t) t.stage w
+kept_arrival : (t : Talk) (a : Arrival) → (arrived t a).0.holes ≡ t.holes
+kept_arrival t connects = kept_place 0 t (want_at t.wants 0)
+kept_arrival t (brings w) = kept_read (heard w t) t.stage w
 
-pub numbers_go_on : (k : ℕ) (t : Talk) (turns : List Turn)
-    → GoBy t.holes (next_at t.wants k) (numbers_of k t turns) (next_at (talk_after t turns).wants k)
+pub numbers_go_on : (k : ℕ) (t : Talk) (arrivals : List Arrival)
+    → GoBy t.holes (next_at t.wants k) (numbers_of k t arrivals) (next_at (talk_past t arrivals).wants k)
 numbers_go_on k t [] = refl
-numbers_go_on k t (turn ∷ turns) =
-    let u : Talk = (turned t turn).0 in
-    go_both t.holes (next_at t.wants k) (next_at u.wants k) (next_at (talk_after u turns).wants k)
-    (numbers_in k (turned t turn).1) (numbers_of k u turns) (step_turn k t turn)
-    (rw (kept_turn t turn) at (numbers_go_on k u turns))
+numbers_go_on k t (a ∷ more) =
+    let u : Talk = (arrived t a).0 in
+    go_both t.holes (next_at t.wants k) (next_at u.wants k) (next_at (talk_past u more).wants k)
+    (numbers_in k (arrived t a).1) (numbers_of k u more) (step_arrival k t a)
+    (rw (kept_arrival t a) at (numbers_go_on k u more))
 
 -- The numbers are those of positions that go up.
 pub record Risen (position : ℕ) (numbers : List ℕ) : Type 0 where
@@ -125,42 +124,37 @@ step_of true want n position short at is = elim is [
       (position + d, omega arith, omega (arith, ahead.1), omega (arith, at, far, short))
 ]
 
+risen_more : (position n p : ℕ) (ns : List ℕ) → position ≤ p → p < position + 2 ^ 23 → p % 2 ^ 24 ≡ n % 2 ^ 24
+    → Risen (p + 1) ns → Risen position (n ∷ ns)
+risen_more position n p ns above near same rest = record {
+  positions = p ∷ rest.positions;
+  numbers_are = ap (λ m. m ∷ map (λ p. p % 2 ^ 24) rest.positions) same
+      ∙ ap (λ ms. n % 2 ^ 24 ∷ ms) rest.numbers_are;
+  rise = (above, near, rest.rise);
+}
+
 risen : (holes : Bool) (want position : ℕ) (ns : List ℕ) (last : Option ℕ) → want < 2 ^ 24
     → position % 2 ^ 24 ≡ want → GoBy holes (Some want) ns last → Risen position ns
 risen holes want position [] last short at go = record { positions = []; numbers_are = refl; rise = tt }
 risen holes want position (n ∷ ns) last short at go =
-    let step : (p : ℕ) × (position ≤ p) × (p < position + 2 ^ 23) × (p % 2 ^ 24 ≡ n % 2 ^ 24) =
-    step_of holes want n position short at go.0 in
-    let rest : Risen (step.0 + 1) ns =
-    risen holes ((n + 1) % 2 ^ 24) (step.0 + 1) ns last (omega arith) (omega (arith, step.3)) go.1 in record {
-      positions = step.0 ∷ rest.positions;
-      numbers_are = ap (λ m. m ∷ map (λ p. p % 2 ^ 24) rest.positions) step.3
-          ∙ ap (λ ms. n % 2 ^ 24 ∷ ms) rest.numbers_are;
-      rise = (step.1, step.2, rest.rise);
-    }
+    let step = step_of holes want n position short at go.0 in
+    risen_more position n step.0 ns step.1 step.2 step.3
+    (risen holes ((n + 1) % 2 ^ 24) (step.0 + 1) ns last (omega arith) (omega (arith, step.3)) go.1)
+
+rising : (want : Option ℕ) (first : ℕ) (ns : List ℕ) → IfSome want (λ n. first ≡ n) → Risen first ns → AreRising want ns
+rising want first ns wanted all = record {
+  first = first;
+  positions = all.positions;
+  wanted = wanted;
+  numbers_are = all.numbers_are;
+  rise = all.rise;
+}
 
 pub are_rising : (holes : Bool) (want : Option ℕ) (ns : List ℕ) (last : Option ℕ) → IfSome want (λ n. n < 2 ^ 24)
     → GoBy holes want ns last → AreRising want ns
-are_rising holes None [] last short go = record {
-  first = 0;
-  positions = [];
-  wanted = tt;
-  numbers_are = refl;
-  rise = tt;
-}
+are_rising holes None [] last short go = rising None 0 [] tt (record { positions = []; numbers_are = refl; rise = tt })
 are_rising holes None (n ∷ ns) last short go =
-    let rest : Risen (n + 1) ns = risen holes ((n + 1) % 2 ^ 24) (n + 1) ns last (omega arith) refl go in record {
-      first = n;
-      positions = n ∷ rest.positions;
-      wanted = tt;
-      numbers_are = ap (λ ms. n % 2 ^ 24 ∷ ms) rest.numbers_are;
-      rise = (omega arith, omega arith, rest.rise);
-    }
+    rising None n (n ∷ ns) tt (risen_more n n n ns (omega arith) (omega arith) refl
+    (risen holes ((n + 1) % 2 ^ 24) (n + 1) ns last (omega arith) refl go))
 are_rising holes (Some want) ns last short go =
-    let all : Risen want ns = risen holes want want ns last short (omega (arith, short)) go in record {
-      first = want;
-      positions = all.positions;
-      wanted = refl;
-      numbers_are = all.numbers_are;
-      rise = all.rise;
-    }
+    rising (Some want) want ns refl (risen holes want want ns last short (omega (arith, short)) go)

@@ -5,14 +5,13 @@ use Rattle.std.proofs.Common.{Option, Some, None}
 use Rattle.std.proofs.lemmas.Bool.Decides.{eqb_tells}
 use Rattle.std.proofs.lemmas.List.{append_cancel_left, map-append}
 use Rattle.slink_wire.specs.declared.command.Command.{Command}
-use Rattle.slink_wire.specs.declared.lines.What.{What}
-use Rattle.slink_wire.specs.declared.lines.What.TheVariants.{More, Line, TooLong}
+use Rattle.slink_wire.specs.declared.lines.LineOutcome.{LineOutcome}
+use Rattle.slink_wire.specs.declared.lines.LineOutcome.TheVariants.{More, Line, TooLong}
 use Rattle.slink_wire.specs.declared.reply.Reply.{Reply}
 use Rattle.slink_wire.specs.Command.{IsCommand}
 use Rattle.slink_wire.specs.Lines.{Spelled, lines_of, stripped, unless_empty}
 use Rattle.slink_wire.specs.Reply.{reply_bytes}
 use Rattle.slink_wire.specs.Taking.{Yields}
-use Rattle.slink_wire.proofs.Prefixes.{Further, prefixes}
 use Rattle.slink_wire.proofs.Spelled.{checked, continued, lines_byte, lines_cr, with_cr}
 use Rattle.slink_wire.proofs.Written.{line_once}
 use Rattle.slink_feed.specs.declared.session.Phase.TheVariants.{Closed}
@@ -38,7 +37,7 @@ over_in false = []
 abbrev items_in : Spelled → Items
 items_in s = map (λ line. Some line) s.lines ++ over_in s.is_too_long
 
-abbrev item_in : What → Items
+abbrev item_in : LineOutcome → Items
 item_in More = []
 item_in (Line line) = Some line.items ∷ []
 item_in TooLong = None ∷ []
@@ -83,8 +82,8 @@ grown stream (b ∷ more) =
           ∙ append_assoc (items_in (lines_of stream)) one.0 rest.0),
     )
 
-yields_items : (what : What) (before after : List ℕ) → (lines_of before).is_too_long ≡ false → Yields what before after
-    → items_in (lines_of after) ≡ items_in (lines_of before) ++ item_in what
+yields_items : (what : LineOutcome) (before after : List ℕ) → (lines_of before).is_too_long ≡ false
+    → Yields what before after → items_in (lines_of after) ≡ items_in (lines_of before) ++ item_in what
 yields_items More before after short tells = simp (tells.0, tells.1, short, append-nil)
 yields_items (Line line) before after short tells = simp (tells.0, tells.1, short, map-append, append-nil)
 yields_items TooLong before after short tells = simp (tells.0, tells.1, short, append-nil)
@@ -98,30 +97,16 @@ module _ (feed : List Window) where
   one_reply s (Some line) x y p q = sym p.2 ∙ (ap (answered feed s) (line_once line p.0 q.0 p.1 q.1) ∙ q.2)
   one_reply s None x y p q = sym p ∙ q
 
-  -- They are answered, up to the one that closes the session.
+  -- They are answered, one after another, by a session that is open.
   abbrev Runs : State → Items → State → List ℕ → Type 0
   Runs s [] last out = (last ≡ s) × (out ≡ [])
-  Runs s (i ∷ is) last out = ((s.phase ≡ Closed) × (last ≡ s) × (out ≡ []))
-      ⊎ ((x : State × Reply) × Open s.phase × IsReplyTo s i x × (more : List ℕ) × (out ≡ reply_bytes x.1 ++ more)
-      × Runs x.0 is last more)
-
-  shut_runs : (s : State) (is : Items) → s.phase ≡ Closed → Runs s is s []
-  shut_runs s [] shut = (refl, refl)
-  shut_runs s (i ∷ is) shut = inl (shut, refl, refl)
-
-  shut_same : (s last : State) (is : Items) (out : List ℕ) → s.phase ≡ Closed → Runs s is last out
-      → (last ≡ s) × (out ≡ [])
-  shut_same s last [] out shut p = p
-  shut_same s last (i ∷ is) out shut (inl p) = (p.1, p.2)
-  shut_same s last (i ∷ is) out shut (inr p) = absurd (p.1 shut)
+  Runs s (i ∷ is) last out = (x : State × Reply) × Open s.phase × IsReplyTo s i x × (more : List ℕ)
+      × (out ≡ reply_bytes x.1 ++ more) × Runs x.0 is last more
 
   runs_both : (s u v : State) (is js : Items) (x y : List ℕ) → Runs s is u x → Runs u js v y
       → Runs s (is ++ js) v (x ++ y)
   runs_both s u v [] js x y p q = rw p.1 (rw p.0 at q)
-  runs_both s u v (i ∷ is) js x y (inl p) q =
-      let same : (v ≡ s) × (y ≡ []) = shut_same s v js y p.0 (rw p.1 at q) in
-      inl (p.0, same.0, ap (λ z. z ++ y) p.2 ∙ same.1)
-  runs_both s u v (i ∷ is) js x y (inr p) q = inr (
+  runs_both s u v (i ∷ is) js x y p q = (
     p.0,
     p.1,
     p.2,
@@ -130,40 +115,41 @@ module _ (feed : List Window) where
     runs_both p.0.0 u v is js p.3 y p.5 q,
   )
 
-  -- what is answered to more goes on with what is answered to this
-  runs_further : (s u v : State) (is js : Items) (x out : List ℕ) → Runs s is u x → Runs s (is ++ js) v out
-      → (y : List ℕ) × (out ≡ x ++ y) × Runs u js v y
-  runs_further s u v [] js x out p q = (out, ap (λ z. z ++ out) (sym p.1), rw p.0 q)
-  runs_further s u v (i ∷ is) js x out (inl p) (inl q) =
-      ([], q.2 ∙ ap (λ z. z ++ []) (sym p.2), rw (p.1, q.1) (shut_runs s js p.0))
-  runs_further s u v (i ∷ is) js x out (inl p) (inr q) = absurd (q.1 p.0)
-  runs_further s u v (i ∷ is) js x out (inr p) (inl q) = absurd (p.1 q.0)
-  runs_further s u v (i ∷ is) js x out (inr p) (inr q) =
-      let same : p.0 ≡ q.0 = one_reply s i p.0 q.0 p.2 q.2 in
-      let rest = runs_further q.0.0 u v is js p.3 q.3 (rw same at p.5) q.5 in (
-        rest.0,
-        q.4 ∙ (ap (λ z. reply_bytes q.0.1 ++ z) rest.1 ∙ (sym (append_assoc (reply_bytes q.0.1) p.3 rest.0)
-            ∙ ap (λ z. z ++ rest.0) (ap (λ (k : State × Reply). reply_bytes k.1 ++ p.3) (sym same) ∙ sym p.4))),
-        rest.2,
-      )
+  -- Of the same items sessions that are through with them, or closed, answered the same.
+  abbrev IsThrough : State → Items → Type 0
+  IsThrough s left = (s.phase ≡ Closed) ⊎ (left ≡ [])
 
-  runs_once : (s u v : State) (is : Items) (x y : List ℕ) → Runs s is u x → Runs s is v y → (u ≡ v) × (x ≡ y)
-  runs_once s u v is x y p q =
-      let more = runs_further s u v is [] x y p (rw (append-nil is) q) in
-      (sym more.2.0, sym (more.1 ∙ (ap (λ z. x ++ z) more.2.1 ∙ append-nil x)))
+  not_through : (s : State) (left is : Items) (i : Option (List ℕ)) → IsThrough s left → left ≡ i ∷ is
+      → ¬ (Open s.phase)
+  not_through s left is i (inl shut) e awake = awake shut
+  not_through s left is i (inr none) e awake = let bad : [] ≡ i ∷ is = sym none ∙ e in cc bad
 
-  answer_runs : (what : What) (s new : State) (reply : Reply) → Open s.phase → IsAnswer feed s what new reply
+  runs_once : (s u v : State) (is js l m : Items) (x y : List ℕ) → Runs s is u x → Runs s js v y → is ++ l ≡ js ++ m
+      → IsThrough u l → IsThrough v m → (u ≡ v) × (x ≡ y)
+  runs_once s u v [] [] l m x y p q e f g = (p.0 ∙ sym q.0, p.1 ∙ sym q.1)
+  runs_once s u v [] (j ∷ js) l m x y p q e f g = absurd (not_through u l (js ++ m) j f e (rw p.0 q.1))
+  runs_once s u v (i ∷ is) [] l m x y p q e f g = absurd (not_through v m (is ++ l) i g (sym e) (rw q.0 p.1))
+  runs_once s u v (i ∷ is) (j ∷ js) l m x y p q e f g =
+      let item : i ≡ j = cc e in
+      let tails : is ++ l ≡ js ++ m = cc e in
+      let same : p.0 ≡ q.0 = one_reply s i p.0 q.0 p.2 (rw (← item) at q.2) in
+      let rest = runs_once q.0.0 u v is js l m p.3 q.3 (rw same at p.5) q.5 tails f g in
+      (rest.0, cc (p.4, q.4, same, rest.1))
+
+  answer_runs : (what : LineOutcome) (s new : State) (reply : Reply) → Open s.phase → IsAnswer feed s what new reply
       → Runs s (item_in what) new (reply_bytes reply)
   answer_runs More s new reply awake is = (is.0, ap reply_bytes is.1)
   answer_runs (Line line) s new reply awake is =
-      inr ((new, reply), awake, is, [], sym (append-nil (reply_bytes reply)), (refl, refl))
+      ((new, reply), awake, is, [], sym (append-nil (reply_bytes reply)), (refl, refl))
   answer_runs TooLong s new reply awake is =
-      inr ((new, reply), awake, is, [], sym (append-nil (reply_bytes reply)), (refl, refl))
+      ((new, reply), awake, is, [], sym (append-nil (reply_bytes reply)), (refl, refl))
 
   -- What a session comes to in bytes after a stream.
   record Ran (s last : SessionState) (stream bytes way all : List ℕ) : Type 0 where
     items : Items
-    items_are : items_in (lines_of (stream ++ bytes)) ≡ items_in (lines_of stream) ++ items
+    left : Items
+    items_are : items_in (lines_of (stream ++ bytes)) ≡ items_in (lines_of stream) ++ (items ++ left)
+    through : IsThrough last.state left
     out : List ℕ
     runs : Runs s.state items last.state out
     sent : all ≡ way ++ out
@@ -173,7 +159,9 @@ module _ (feed : List Window) where
       → (Open s.state.phase → StandsFor s stream) → Ran s last stream bytes way all
   ran s last bytes way all stream (none_served u w) stands = record {
     items = [];
+    left = [];
     items_are = rw (append-nil stream) (sym (append-nil (items_in (lines_of stream))));
+    through = inr refl;
     out = [];
     runs = (refl, refl);
     sent = sym (append-nil w);
@@ -185,13 +173,16 @@ module _ (feed : List Window) where
             let same : (v ≡ u) × (sent ≡ w) = shut_on feed u bs w v sent
             (piece_served u now v bs piece others w sent reply split takes more) shut in
             let further : Grown (lines_of stream) (lines_of (stream ++ bs)) = grown stream bs in
+            let still : v.state.phase ≡ Closed = rw same.0 shut in
             record {
-              items = further.0;
+              items = [];
+              left = further.0;
               items_are = further.1;
+              through = inl still;
               out = [];
-              runs = rw same.0 (shut_runs u.state further.0 shut);
+              runs = (ap (λ (x : SessionState). x.state) same.0, refl);
               sent = same.1 ∙ sym (append-nil w);
-              stands = λ awake. absurd (awake (ap (λ (x : SessionState). x.state.phase) same.0 ∙ shut));
+              stands = λ awake. absurd (awake still);
             }
         | inr awake ↦
             let answer : Answers feed u.state stream (stream ++ piece) now.state reply =
@@ -204,9 +195,9 @@ module _ (feed : List Window) where
             let short : (lines_of stream).is_too_long ≡ false = sym (stands awake).0.1 ∙ (stands awake).1 in
             record {
               items = item_in answer.0 ++ rest.items;
-              items_are = rw at (rest.items_are
-                  ∙ (ap (λ is. is ++ rest.items) (yields_items answer.0 stream (stream ++ piece) short answer.1)
-                  ∙ append_assoc (items_in (lines_of stream)) (item_in answer.0) rest.items));
+              left = rest.left;
+              items_are = rw (at, rest.items_are, yields_items answer.0 _ _ short answer.1) (simp append_assoc);
+              through = rest.through;
               out = reply_bytes reply ++ rest.out;
               runs = runs_both u.state now.state v.state (item_in answer.0) rest.items (reply_bytes reply) rest.out
                   (answer_runs answer.0 u.state now.state reply awake answer.2) rest.runs;
@@ -223,11 +214,10 @@ module _ (feed : List Window) where
       let t : Ran n.session b.session stream bytes n.written.bytes b.written.bytes =
       ran n.session b.session bytes n.written.bytes b.written.bytes stream q.serves
       (λ _. rw (alike.held awake) at stands) in
-      let items : r.items ≡ t.items = append_cancel_left (items_in (lines_of stream)) r.items t.items
-      (sym r.items_are ∙ t.items_are) in
       let both : (a.session.state ≡ b.session.state) × (r.out ≡ t.out) =
-      runs_once m.session.state a.session.state b.session.state t.items r.out t.out (rw items at r.runs)
-      (subst (λ (z : State). Runs z t.items b.session.state t.out) (sym alike.state) t.runs) in
+      runs_once m.session.state a.session.state b.session.state r.items t.items r.left t.left r.out t.out r.runs
+      (subst (λ (z : State). Runs z t.items b.session.state t.out) (sym alike.state) t.runs)
+      (append_cancel_left (items_in (lines_of stream)) _ _ (sym r.items_are ∙ t.items_are)) r.through t.through in
       record {
         state = both.0;
         held = λ still. held_same a.session.held b.session.held (stream ++ bytes) (r.stands still).0
@@ -237,33 +227,33 @@ module _ (feed : List Window) where
       }
 
   -- Where a session was cut off in a reply: what comes before is answered.
-  record Cut (s : State) (all : Items) (x : State × Reply) (way written : List ℕ) : Type 0 where
+  record Cut (s : State) (stream bytes : List ℕ) (x : State × Reply) (way written : List ℕ) : Type 0 where
     before : Items
     item : Option (List ℕ)
     after : Items
-    all_are : all ≡ before ++ item ∷ after
+    items_are : items_in (lines_of (stream ++ bytes)) ≡ items_in (lines_of stream) ++ (before ++ item ∷ after)
     until : State
     out : List ℕ
     runs : Runs s before until out
-    awake : Open until.phase
     last : IsReplyTo until item x
     sent : written ≡ way ++ out
 
   -- what is replied to, where some bytes are
-  spoken : (what : What) (u v : State) (reply : Reply) → IsAnswer feed u what v reply → 0 < length (reply_bytes reply)
-      → (i : Option (List ℕ)) × (item_in what ≡ i ∷ []) × IsReplyTo u i (v, reply)
+  spoken : (what : LineOutcome) (u v : State) (reply : Reply) → IsAnswer feed u what v reply
+      → 0 < length (reply_bytes reply) → (i : Option (List ℕ)) × (item_in what ≡ i ∷ []) × IsReplyTo u i (v, reply)
   spoken More u v reply is some = absurd (omega (arith, some, ap (λ r. length (reply_bytes r)) is.1))
   spoken (Line line) u v reply is some = (Some line.items, refl, is)
   spoken TooLong u v reply is some = (None, refl, is)
 
   cut_of : (m a : Attending) (stream bytes : List ℕ) → StandsFor m.session stream → (p : FailsToReply feed m a bytes)
-      → Cut m.session.state (grown stream bytes).0 (a.session.state, p.reply) m.written.bytes p.before.written.bytes
+      → Cut m.session.state stream bytes (a.session.state, p.reply) m.written.bytes p.before.written.bytes
   cut_of m a stream bytes stands p = elim (open_or p.before.session.state.phase) [
     | inl shut ↦ absurd (omega (arith, p.written.part, ap (λ r. length (reply_bytes r)) (p.takes.closed shut).0))
     | inr awake ↦
         let r : Ran m.session p.before.session stream p.prefix m.written.bytes p.before.written.bytes =
         ran m.session p.before.session p.prefix m.written.bytes p.before.written.bytes stream p.replies.serves
         (λ _. stands) in
+        let none : r.left ≡ [] = elim r.through [ inl shut ↦ absurd (awake shut) | inr none ↦ none ] in
         let here : StandsFor p.before.session (stream ++ p.prefix) = r.stands awake in
         let answer = p.takes.answers (stream ++ p.prefix) awake here.0 in
         let said = spoken answer.0 p.before.session.state a.session.state p.reply answer.2
@@ -274,58 +264,63 @@ module _ (feed : List Window) where
           before = r.items;
           item = said.0;
           after = rest.0;
-          all_are = append_cancel_left (items_in (lines_of stream)) _ _ (sym (grown stream bytes).1
-              ∙ rw (at, rest.1, yields_items answer.0 _ _ (sym here.0.1 ∙ here.1) answer.1, r.items_are, said.1)
-              (simp append_assoc));
+          items_are = rw (
+            at,
+            rest.1,
+            yields_items answer.0 _ _
+                (sym here.0.1 ∙ here.1) answer.1,
+            r.items_are,
+            none,
+            said.1,
+          ) (simp (append_assoc, append-nil));
           until = p.before.session.state;
           out = r.out;
           runs = r.runs;
-          awake = awake;
           last = said.2;
           sent = r.sent;
         }
   ]
 
-  -- Of two such the one that answered more wrote more.
-  module _ (s : State) (all : Items) (x y : State × Reply) (way on written more : List ℕ) (p : Cut s all x way written)
-      (q : Cut s all y on more) (m n : ℕ) (part : m < length (reply_bytes x.1))
-      (total : length p.out + m ≡ length q.out + n) where
-    cut_by : (is : Items) (out : List ℕ) → p.item ∷ p.after ≡ is ++ q.item ∷ q.after → q.out ≡ p.out ++ out
-        → Runs p.until is q.until out → (x ≡ y) × (p.out ≡ q.out)
-    cut_by [] out e further runs =
-        let item : p.item ≡ q.item = cc e in (
-          one_reply p.until p.item x y p.last (rw (← item, runs.0) at q.last),
-          sym (further ∙ (ap (λ z. p.out ++ z) runs.1 ∙ append-nil p.out)),
-        )
-    cut_by (i ∷ is) out e further (inl runs) = absurd (p.awake runs.0)
-    cut_by (i ∷ is) out e further (inr runs) =
-        let item : p.item ≡ i = cc e in
-        let same : x ≡ runs.0 = one_reply p.until p.item x runs.0 p.last (rw (← item) at runs.2) in
-        absurd (omega (
-          arith,
-          part,
-          total,
-          ap length further,
-          length-append p.out out,
-          ap length runs.4,
-          length-append (reply_bytes runs.0.1) runs.3,
-          ap (λ (k : State × Reply). length (reply_bytes k.1)) same,
-        ))
+  -- An answer that was cut off is no answer before which another was cut off.
+  not_whole : (s v : State) (i j : Option (List ℕ)) (js : Items) (r : State × Reply) (y : List ℕ) (n k : ℕ)
+      → IsReplyTo s i r → i ≡ j → Runs s (j ∷ js) v y → n ≡ length y + k → n < length (reply_bytes r.1) → ⊥
+  not_whole s v i j js r y n k is item q total part =
+      let same : r ≡ q.0 = one_reply s i r q.0 is (rw (← item) at q.2) in
+      let size = ap (λ (x : State × Reply). length (reply_bytes x.1)) same in
+      omega (arith, part, total, ap length q.4, length-append (reply_bytes q.0.1) q.3, size)
 
-    cut_further : Further p.before q.before → (x ≡ y) × (p.out ≡ q.out)
-    cut_further far =
-        let runs = runs_further s p.until q.until p.before far.0 p.out q.out p.runs (rw far.1 at q.runs) in
-        cut_by far.0 runs.0 (append_cancel_left p.before _ _ (sym p.all_are ∙ (q.all_are
-        ∙ rw far.1 (append_assoc p.before far.0 (q.item ∷ q.after))))) runs.1 runs.2
+  -- Of two answers that were cut off after as many bytes one and the same was cut off.
+  cuts_once : (s u v : State) (is js l m : Items) (i j : Option (List ℕ)) (x y : List ℕ) (r t : State × Reply) (n k : ℕ)
+      → Runs s is u x → Runs s js v y → is ++ i ∷ l ≡ js ++ j ∷ m → IsReplyTo u i r → IsReplyTo v j t
+      → length x + n ≡ length y + k → n < length (reply_bytes r.1) → k < length (reply_bytes t.1) → (r ≡ t) × (x ≡ y)
+  cuts_once s u v [] [] l m i j x y r t n k p q e f g total part short =
+      let item : i ≡ j = cc e in
+      (one_reply s i r t (rw p.0 at f) (rw (← item, q.0) at g), p.1 ∙ sym q.1)
+  cuts_once s u v [] (b ∷ js) l m i j x y r t n k p q e f g total part short =
+      let item : i ≡ b = cc e in
+      absurd (not_whole s v i b js r y n k (rw p.0 at f) item q (omega (arith, total, ap length p.1)) part)
+  cuts_once s u v (a ∷ is) [] l m i j x y r t n k p q e f g total part short =
+      let item : j ≡ a = cc e in
+      absurd (not_whole s u j a is t x k n (rw q.0 at g) item p (omega (arith, total, ap length q.1)) short)
+  cuts_once s u v (a ∷ is) (b ∷ js) l m i j x y r t n k p q e f g total part short =
+      let item : a ≡ b = cc e in
+      let tails : is ++ i ∷ l ≡ js ++ j ∷ m = cc e in
+      let same : p.0 ≡ q.0 = one_reply s a p.0 q.0 p.2 (rw (← item) at q.2) in
+      let long : length x ≡ length (reply_bytes q.0.1) + length p.3 =
+      ap length (p.4 ∙ ap (λ (z : State × Reply). reply_bytes z.1 ++ p.3) same) ∙ length-append
+      (reply_bytes q.0.1) p.3 in
+      let sum : length p.3 + n ≡ length q.3 + k =
+      omega (arith, total, long, ap length q.4, length-append (reply_bytes q.0.1) q.3) in
+      let rest = cuts_once q.0.0 u v is js l m i j p.3 q.3 r t n k (rw same at p.5) q.5 tails f g sum part short in
+      (rest.0, cc (p.4, q.4, same, rest.1))
 
   pub cut_alike : (m n a b : Attending) (stream bytes : List ℕ) → AreAlike m n → Open m.session.state.phase
       → StandsFor m.session stream → (p : FailsToReply feed m a bytes) (q : FailsToReply feed n b bytes)
       → length a.written.bytes ≡ length b.written.bytes → EmittedAlike a b
   cut_alike m n a b stream bytes alike awake stands p q total =
-      let all : Items = (grown stream bytes).0 in
-      let x : Cut m.session.state all (a.session.state, p.reply) m.written.bytes p.before.written.bytes =
+      let x : Cut m.session.state stream bytes (a.session.state, p.reply) m.written.bytes p.before.written.bytes =
       cut_of m a stream bytes stands p in
-      let y : Cut m.session.state all (b.session.state, q.reply) n.written.bytes q.before.written.bytes =
+      let y : Cut m.session.state stream bytes (b.session.state, q.reply) n.written.bytes q.before.written.bytes =
       rw (← alike.state) at (cut_of n b stream bytes (rw (alike.held awake) at stands) q) in
       let sum : length x.out + p.count ≡ length y.out + q.count =
       omega (
@@ -340,12 +335,9 @@ module _ (feed : List Window) where
         length-append n.written.bytes y.out,
       ) in
       let one : ◌≡◌ {A = State × Reply} (a.session.state, p.reply) (b.session.state, q.reply) × (x.out ≡ y.out) =
-      elim (prefixes x.before y.before _ _ (sym x.all_are ∙ y.all_are)) [
-        | inl far ↦ cut_further _ _ _ _ _ _ _ _ x y p.count q.count p.written.part sum far
-        | inr far ↦
-            let other = cut_further _ _ _ _ _ _ _ _ y x q.count p.count q.written.part (sym sum) far in
-            (sym other.0, sym other.1)
-      ] in
+      cuts_once m.session.state x.until y.until x.before y.before x.after y.after x.item y.item x.out y.out _ _ p.count
+      q.count x.runs y.runs (append_cancel_left (items_in (lines_of stream)) _ _ (sym x.items_are ∙ y.items_are)) x.last
+      y.last sum p.written.part q.written.part in
       let reply : p.reply ≡ q.reply = ap (λ (k : State × Reply). k.1) one.0 in
       let count : p.count ≡ q.count = omega (arith, sum, ap length one.1) in
       record {

@@ -4,11 +4,12 @@ use Rattle.std.proofs.Common.{◌-◌, List, [], ◌∷◌, ◌++◌, append-nil
 use Rattle.std.proofs.Common.{length}
 use Rattle.std.proofs.Common.{length-append, replicate, take, Option, Some, None}
 use Rattle.std.proofs.lemmas.Bool.Decides.{leb_tells, nat_tests}
-use Rattle.std.proofs.lemmas.List.{append_cancel_left}
+use Rattle.std.proofs.lemmas.List.{append_cancel_left, nil_from_length}
 use Rattle.mseed_stream.specs.Device.{BytesRead}
+use Rattle.slink_wire.proofs.Prefixes.{prefixes}
 use Rattle.slink_feed.specs.declared.grant.Grant.{Grant}
 use Rattle.slink_feed.specs.declared.session.Phase.{Phase}
-use Rattle.slink_feed.specs.declared.session.Phase.TheVariants.{Streaming, Closed}
+use Rattle.slink_feed.specs.declared.session.Phase.TheVariants.{Streaming}
 use Rattle.slink_feed.specs.declared.session.Sent.{Sent}
 use Rattle.slink_feed.specs.declared.session.Sent.TheVariants as sents
 use Rattle.slink_feed.specs.declared.turn.LinkFault.{LinkFault}
@@ -19,24 +20,18 @@ use Rattle.slink_feed.specs.Attending.{at_send, is_at_end, is_closed, replies}
 use Rattle.slink_feed.specs.Connection.{AreAlike, EmittedAlike}
 use Rattle.slink_feed.specs.Rounds.{Attending, FailsToSend, Gives, HasWaited, SendsAll, all_sent, place_after}
 use Rattle.slink_feed.specs.Running.{Stands, StandsFor}
+use Rattle.slink_feed.specs.Serving.{SessionState}
 use Rattle.slink_feed.specs.Session.{State, grant_at, sent, sent_bytes, sent_in}
 use Rattle.slink_feed.specs.Session.{sent_of}
-use Rattle.slink_feed.specs.Turns.{reported_once}
+use Rattle.slink_feed.specs.Turns.{read_once}
 use Rattle.slink_feed.specs.Window.{Window}
-use Rattle.slink_feed.proofs.Calls.{idle, shut_sent}
-use Rattle.slink_feed.proofs.Connected.{shut_given}
+use Rattle.slink_feed.proofs.Calls.{idle}
+use Rattle.slink_feed.proofs.Connected.{Still, all_still, open_given, shut_still, still_given}
 use Rattle.slink_feed.proofs.OneReply.{cut_alike, replied_once}
 use Rattle.slink_feed.proofs.Sendoffs.{all_joined, place_within}
 
--- A call for a packet leaves a session as it is, and gives no bytes.
-abbrev Still : List Window → State → ℕ → Type 0
-Still feed s k = ((sent feed s k).0 ≡ s) × (sent_bytes (sent feed s k).1 ≡ [])
-
 still_waits : (feed : List Window) (s : State) (k : ℕ) → (sent feed s k).1 ≡ sents.Wait → Still feed s k
 still_waits feed s k waits = ((idle feed s k waits).0, ap sent_bytes waits)
-
-still_closed : (feed : List Window) (s : State) (k : ℕ) → s.phase ≡ Closed → Still feed s k
-still_closed feed s k shut = rw (shut_sent feed s k shut) (refl, refl)
 
 -- Without stations there is nothing to give.
 still_of : (s : State) (k : ℕ) (o : Option Grant) → ((sent_of [] s k o None).0 ≡ s)
@@ -47,17 +42,6 @@ still_of s k (Some g) = (refl, refl)
 still_in : (p : Phase) (s : State) (k : ℕ) → ((sent_in p [] s k).0 ≡ s) × (sent_bytes (sent_in p [] s k).1 ≡ [])
 still_in Streaming s k = still_of s k (grant_at s.grants k)
 still_in phase s k = (refl, refl)
-
--- All further calls leave it so.
-module _ (feed : List Window) (s : State) (P : ℕ → Type 0) (next : (k : ℕ) → P k → P (place_after feed k))
-    (still : (k : ℕ) → P k → Still feed s k) where
-  still_given : (k last : ℕ) (u : State) (given : List Sent) → P k → Gives feed k s given last u
-      → (u ≡ s) × (all_sent given ≡ [])
-  still_given k last u [] p gives = (gives.1, refl)
-  still_given k last u (a ∷ more) p gives =
-      let rest : (u ≡ s) × (all_sent more ≡ []) =
-      still_given (place_after feed k) last u more (next k p) (rw (still k p).0 at gives.1) in
-      (rest.0, ap (λ b. b ++ all_sent more) (ap sent_bytes (sym gives.0) ∙ (still k p).1) ∙ rest.1)
 
 gives_split : (feed : List Window) (k last : ℕ) (s v : State) (some more : List Sent)
     → Gives feed k s (some ++ more) last v → (p : ℕ) × (u : State) × Gives feed k s some p u
@@ -112,7 +96,7 @@ module _ (feed : List Window) where
 round_over : (feed : List Window) (s v w : State) (p last : ℕ) (given rest : List Sent) → HasWaited (length feed) given
     → Gives feed 0 s given p v → Gives feed p v rest last w → (w ≡ v) × (all_sent rest ≡ [])
 round_over [] s v w p last given rest waited gives more =
-    still_given [] v (λ k. Unit {0}) (λ k is. tt) (λ k is. still_in v.phase v k) p last w rest tt more
+    all_still [] v (λ k. still_in v.phase v k) p last w rest more
 round_over (ring ∷ rings) s v w p last given rest waited gives more =
     let feed : List Window = ring ∷ rings in
     let parts = gives_split feed 0 p s v waited.0 (replicate (length feed) sents.Wait)
@@ -133,8 +117,7 @@ NothingMore feed p v = (last : ℕ) (w : State) (rest : List Sent) → Gives fee
 nothing_more : (feed : List Window) (old a : Attending) (sends : SendsAll feed old a)
     → NothingMore feed sends.place a.session.state
 nothing_more feed old a sends last w rest more = elim sends.ends [
-  | inl shut ↦ still_given feed a.session.state (λ k. Unit {0}) (λ k is. tt)
-      (λ k is. still_closed feed a.session.state k shut) sends.place last w rest tt more
+  | inl shut ↦ all_still feed a.session.state (shut_still feed a.session.state shut) sends.place last w rest more
   | inr waited ↦ round_over _ _ _ _ _ _ _ _ waited sends.gives more
 ]
 
@@ -175,28 +158,39 @@ sent_once feed old a b p q =
     }
 
 -- A link that failed at a write accepted no more than what came before and a part of that.
-last_after : (given more rest : List Sent) (last x : Sent) → given ++ last ∷ [] ≡ more ++ x ∷ rest
-    → (some : List Sent) × (given ≡ more ++ some)
-last_after given [] rest last x e = (given, refl)
-last_after [] (y ∷ []) rest last x e = absurd (let bad : [] ≡ x ∷ rest = cc e in cc bad)
-last_after [] (y ∷ z ∷ more) rest last x e = absurd (let bad : [] ≡ z ∷ (more ++ x ∷ rest) = cc e in cc bad)
-last_after (g ∷ given) (y ∷ more) rest last x e =
-    let heads : g ≡ y = cc e in
-    let tails : given ++ last ∷ [] ≡ more ++ x ∷ rest = cc e in
-    let one : (some : List Sent) × (given ≡ more ++ some) = last_after given more rest last x tails in
-    (one.0, ap (λ z. z ∷ given) heads ∙ ap (λ zs. y ∷ zs) one.1)
-
 -- the first of two such runs isn't shorter
 failed_alike : (feed : List Window) (p q n : ℕ) (u v : State) (a given : List Sent) (last : Sent)
     → n < length (all_sent a) → length (all_sent given) ≤ n → GoesFurther feed a p u (given ++ last ∷ []) q v
     → (v ≡ u) × (all_sent (given ++ last ∷ []) ≡ all_sent a)
 failed_alike feed p q n u v a given last part beyond ([], same, more) = (more.1, ap all_sent (same ∙ append-nil a))
 failed_alike feed p q n u v a given last part beyond (x ∷ rest, same, more) =
-    let some : (xs : List Sent) × (given ≡ a ++ xs) = last_after given a rest last x same in
-    let long : length (all_sent given) ≡ length (all_sent a) + length (all_sent some.0) =
-    ap (λ g. length (all_sent g)) some.1
-    ∙ (ap length (all_joined a some.0) ∙ length-append (all_sent a) (all_sent some.0)) in
-    absurd (omega (arith, part, beyond, long))
+    absurd (elim (prefixes a given (x ∷ rest) (last ∷ []) (sym same)) [
+      | inl far ↦
+          omega (
+            arith,
+            part,
+            beyond,
+            ap (λ g. length (all_sent g)) far.1,
+            ap length (all_joined a far.0),
+            length-append (all_sent a) (all_sent far.0),
+          )
+      | inr far ↦
+          let none : far.0 ≡ [] = nil_from_length far.0 (omega (
+            arith,
+            ap length same,
+            ap length far.1,
+            length-append given (last ∷ []),
+            length-append a (x ∷ rest),
+            length-append given far.0,
+          )) in
+          omega (
+            arith,
+            part,
+            beyond,
+            ap (λ g. length (all_sent g)) (far.1 ∙ ap (λ g. given ++ g) none
+                ∙ append-nil given),
+          )
+    ])
 
 pub sending_failed_once : (feed : List Window) (old a b : Attending) (n : ℕ) → FailsToSend feed old a n
     → FailsToSend feed old b n → AreAlike a b
@@ -219,28 +213,30 @@ sending_failed_once feed old a b n p q =
     }
 
 -- What one read reported is reported by what was read.
-still_unread : (before : BytesRead) (bytes : List ℕ) → before ≡ reported_once before bytes → ⊥
+still_unread : (before : BytesRead) (bytes : List ℕ) → before ≡ read_once before bytes → ⊥
 still_unread before bytes e = let calls : before.calls ≡ before.calls + 1 = ap (λ (h : BytesRead). h.calls) e in
     omega (arith, calls)
 
-reported_same : (before : BytesRead) (some more : List ℕ) → reported_once before some ≡ reported_once before more
+reported_same : (before : BytesRead) (some more : List ℕ) → read_once before some ≡ read_once before more
     → some ≡ more
 reported_same before some more e = append_cancel_left before.bytes some more (ap (λ (h : BytesRead). h.bytes) e)
 
 nothing_reported : (before : BytesRead) (bytes : List ℕ) → 0 < length bytes
-    → reported_once before [] ≡ reported_once before bytes
+    → read_once before [] ≡ read_once before bytes
     → ⊥
 nothing_reported before bytes some e = let none : 0 ≡ length bytes = ap length (reported_same before [] bytes e) in
     omega (arith, some, none)
+
+stands_so : (a b : SessionState) (stream : List ℕ) → b.held ≡ a.held → StandsFor a stream → StandsFor b stream
+stands_so a b stream same stands = rw same stands
 
 -- Two sessions that began alike, once each has sent what it had to send, and goes on to read.
 sent_alike : (feed : List Window) (old m n : Attending) → Stands old.session → GoesOn feed old m → GoesOn feed old n
     → AreAlike m n × ((stream : List ℕ) × StandsFor m.session stream)
 sent_alike feed old m n stands g h =
     let some : (stream : List ℕ) × StandsFor old.session stream =
-    stands (λ shut. g.open_still (rw (shut_given feed 0 g.sends.place old.session.state m.session.state g.sends.given
-    g.sends.gives shut) shut)) in
-    (sent_once feed old m n g.sends h.sends, (some.0, rw g.sends.held some.1))
+    stands (open_given feed old m g.sends g.open_still) in
+    (sent_once feed old m n g.sends h.sends, (some.0, stands_so old.session m.session some.0 g.sends.held some.1))
 
 pub turned_once : (feed : List Window) (old a b : Attending) (before after : BytesRead) (t u : Turn)
     → Stands old.session

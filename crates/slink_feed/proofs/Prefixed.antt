@@ -1,22 +1,20 @@
 -- Of the packets of a link that is cut off, the whole ones are reported.
-use Rattle.std.proofs.Common.{◌≡◌, ℕ, ◌+◌, ◌-◌, ◌/◌, ◌^◌, ◌<◌, ◌≤◌, inl, inr, suc, refl, sym, ap, ◌∙◌, arith}
-use Rattle.std.proofs.Common.{List, [], ◌∷◌, ◌++◌, append_assoc, length, length-append, take}
+use Rattle.std.proofs.Common.{◌≡◌, ℕ, ◌+◌, ◌-◌, ◌/◌, ◌^◌, ◌<◌, ◌≤◌, inl, inr, suc, refl, ap, ◌∙◌, arith}
+use Rattle.std.proofs.Common.{List, [], ◌∷◌, ◌++◌, length, length-append, take}
 use Rattle.std.proofs.Common.{drop, take-append-drop, Option, Some, None, IfSome}
 use Rattle.std.proofs.lemmas.Bool.{cases_lt, eq-eqb}
 use Rattle.std.proofs.lemmas.List.{length-drop, take-append-le}
 use Rattle.slink_wire.specs.Packet.{packet_bytes}
 use Rattle.slink_wire.proofs.Packets.{packet_length, read_back}
-use Rattle.slink_feed.specs.declared.dialogue.Event.{Event}
 use Rattle.slink_feed.specs.declared.dialogue.Event.TheVariants as events
 use Rattle.slink_feed.specs.declared.dialogue.Stage.{Stage}
 use Rattle.slink_feed.specs.declared.dialogue.Stage.TheVariants.{Packets}
-use Rattle.slink_feed.specs.Cutting.{IsBegun, IsWhole}
+use Rattle.slink_feed.specs.Cutting.{IsWhole}
 use Rattle.slink_feed.specs.Delivered.{AreWanted, Numbered, all_packets, record_events}
-use Rattle.slink_feed.specs.Dialogue.{Talk, Whole, Packet, place_of, read, read_at}
+use Rattle.slink_feed.specs.Dialogue.{Talk, Packet, place_of, read, read_at}
 use Rattle.slink_feed.specs.Dialogue.{heard, if_wanted, next_at, reported}
-use Rattle.slink_feed.specs.Listening.{Brought, Listening, Reads, bytes_of, events_of, talk_after}
-use Rattle.slink_feed.specs.Listening.{event_if_any}
-use Rattle.slink_feed.proofs.Received.{begun_none}
+use Rattle.slink_feed.specs.Listening.{Listening, Reads}
+use Rattle.slink_feed.proofs.Received.{begun_none, reads_after, reads_none}
 use Rattle.slink_feed.proofs.Wholes.{prefix_begun}
 use Rattle.std.proofs.Math.Seq.{take-append-add}
 
@@ -46,11 +44,6 @@ packet_read t r at bears wanted =
 abbrev Prefixed : Talk → List Numbered → ℕ → Type 0
 Prefixed t items d = (now : Listening) × Reads t (take d (all_packets items)) (record_events (take (d / 520) items)) now
 
--- what is begun reads as nothing yet
-reads_begun : (t : Talk) (kept : List ℕ) → IsBegun t.stage kept → Reads t kept [] (record { talk = t; kept = kept })
-reads_begun t kept begun =
-    record { brought = []; are_brought = tt; bytes = refl; events_are = refl; talk = refl; is_begun = begun }
-
 -- the first packet isn't whole
 part_prefixed : (t : Talk) (r : Numbered) (rs : List Numbered) (d : ℕ) → t.stage ≡ Packets → length r.bytes ≡ 512
     → r.number < 2 ^ 24 → d < 520 → Prefixed t (r ∷ rs) d
@@ -64,7 +57,7 @@ part_prefixed t r rs d at long small lt =
     (omega (arith, length-drop d p, all, lt)) (rw (← (take-append-drop d p)) at (packet_whole t r at long small)) in
     let now : Listening = record { talk = t; kept = take d p } in (
       now,
-      rw (stream, none) (reads_begun t (take d p) begun),
+      rw (stream, none) (reads_none t (take d p) begun),
     )
 
 -- the first packet is reported
@@ -73,35 +66,21 @@ whole_prefixed : (t : Talk) (r : Numbered) (rs : List Numbered) (d : ℕ) → t.
     → Prefixed t (r ∷ rs) d
 whole_prefixed t r rs d at are ge more =
     let p : List ℕ = packet_bytes r.number r.bytes in
-    let w : Whole = Packet r.number r.bytes in
-    let bs : List Brought = more.1.brought in
-    let h : read t w ≡ reported r.place r.number r.bytes (heard w t) = packet_read t r at are.2 are.3 in
     let all : length p ≡ 520 = packet_long r.number r.bytes are.0 in
     let stream : take d (p ++ all_packets rs) ≡ p ++ take (d - 520) (all_packets rs) =
     (let e : d ≡ length p + (d - 520) = omega (arith, all, ge) in ap (λ n. take n (p ++ all_packets rs)) e)
     ∙ take-append-add p (all_packets rs) (d - 520) in
-    let count : d / 520 ≡ suc ((d - 520) / 520) = omega (arith, ge) in
-    let reading : Reads t (p ++ take (d - 520) (all_packets rs))
-    (events.Record r.place r.number r.bytes ∷ record_events (take ((d - 520) / 520) rs)) more.0 = record {
-      brought = record { bytes = p; whole = w } ∷ bs;
-      are_brought = (
-        packet_whole t r at are.0 are.1,
-        rw h more.1.are_brought,
-      );
-      bytes = ap (λ xs. p ++ xs) more.1.bytes ∙ sym (append_assoc p (bytes_of bs) more.0.kept);
-      events_are = ap (λ es. events.Record r.place r.number r.bytes ∷ es) more.1.events_are
-          ∙ ap (λ (x : Talk × Event). event_if_any x.1 ++ events_of x.0 bs) (sym h);
-      talk = more.1.talk ∙ ap (λ (x : Talk × Event). talk_after x.0 bs) (sym h);
-      is_begun = more.1.is_begun;
-    } in (
+    let count : d / 520 ≡ suc ((d - 520) / 520) = omega (arith, ge) in (
       more.0,
-      rw (stream, count) reading,
+      rw (stream, count) (reads_after t _ p _ (Packet r.number r.bytes)
+          (events.Record r.place r.number r.bytes) _ more.0
+          (packet_whole t r at are.0 are.1) (packet_read t r at are.2 are.3) more.1),
     )
 
 pub prefixes_reported : (items : List Numbered) (t : Talk) (d : ℕ) → t.stage ≡ Packets → AreWanted t items
     → d ≤ length (all_packets items) → Prefixed t items d
 prefixes_reported [] t d at are within = let none : d ≡ 0 = omega (arith, within) in
-    rw none (record { talk = t; kept = [] }, reads_begun t [] (begun_none t.stage))
+    rw none (record { talk = t; kept = [] }, reads_none t [] (begun_none t.stage))
 prefixes_reported (r ∷ rs) t d at are within = elim (cases_lt d 520) [
   | inl lt ↦ part_prefixed t r rs d at are.0 are.1 lt
   | inr ge ↦

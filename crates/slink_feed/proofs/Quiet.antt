@@ -1,5 +1,5 @@
 -- Where no first record is reported, and the client doesn't go past holes, nothing is reported.
-use Rattle.std.proofs.Common.{◌≡◌, ℕ, ◌+◌, ◌%◌, ◌^◌, inl, inr, zero, suc, refl, sym, ap, Bool}
+use Rattle.std.proofs.Common.{◌≡◌, ℕ, ◌+◌, ◌%◌, ◌^◌, inl, inr, refl, sym, ap, ◌∙◌, Bool}
 use Rattle.std.proofs.Common.{false, List, [], ◌∷◌, set, slice_get, unwrap_or}
 use Rattle.std.proofs.Common.{Option, Some, None, IfSome}
 use Rattle.std.specs.Option.{option_and_then}
@@ -14,7 +14,7 @@ use Rattle.slink_feed.specs.Reporter.{reporting_past}
 use Rattle.slink_feed.specs.Reported.{AreOf, HasReported, numbers_at}
 use Rattle.slink_feed.proofs.Numbers.{place_some, next_here, next_other}
 use Rattle.slink_feed.proofs.ReportedOver.{of_same, places_next}
-use Rattle.slink_feed.proofs.Items.{none_but}
+use Rattle.slink_feed.proofs.Items.{none_but, set_or}
 use Rattle.std.proofs.lemmas.Bool.{eq-eqb}
 
 -- no first record is to be reported
@@ -22,11 +22,7 @@ abbrev AreQuiet : List Bool → Type 0
 AreQuiet firsts = (k : ℕ) → unwrap_or (slice_get firsts k) false ≡ false
 
 quiet_set : (firsts : List Bool) (j : ℕ) → AreQuiet firsts → AreQuiet (set firsts j false)
-quiet_set [] j quiet k = refl
-quiet_set (f ∷ fs) zero quiet zero = refl
-quiet_set (f ∷ fs) zero quiet (suc k) = quiet (suc k)
-quiet_set (f ∷ fs) (suc j) quiet zero = quiet zero
-quiet_set (f ∷ fs) (suc j) quiet (suc k) = quiet_set fs j (λ i. quiet (suc i)) k
+quiet_set firsts j quiet k = elim (set_or firsts j k false false) [ inl here ↦ here.1 | inr there ↦ there ∙ quiet k ]
 
 -- no hole
 same_number : (place : Fields) (want : Option ℕ) (n : ℕ) → IfSome want (λ x. n ≡ x) → if_other place want n ≡ []

@@ -1,6 +1,6 @@
 -- Grants that the rings of a feed reach.
-use Rattle.std.proofs.Common.{◌≡◌, ◌≢◌, ℕ, ◌+◌, ◌<◌, ◌≤◌, ◌⊎◌, inl, inr, zero, suc, refl, sym, ap, ◌∙◌, arith}
-use Rattle.std.proofs.Common.{List, [], ◌∷◌, set, Option, Some, None, slice_get}
+use Rattle.std.proofs.Common.{◌≡◌, ◌≢◌, ℕ, ◌+◌, ◌<◌, ◌≤◌, ◌⊎◌, inl, inr, refl, sym, ◌∙◌, arith}
+use Rattle.std.proofs.Common.{List, set, Option, Some, None, slice_get}
 use Rattle.std.proofs.lemmas.Bool.{eq-eqb, ne_eqb}
 use Rattle.std.proofs.lemmas.Option.{same_Some}
 use Rattle.slink_feed.specs.declared.grant.Grant.{Grant}
@@ -8,16 +8,12 @@ use Rattle.slink_feed.specs.declared.session.Phase.TheVariants.{Streaming}
 use Rattle.slink_feed.specs.Session.{AreReached, Grants, IsReached, State, has_sent_all, at_next, grant_at, packet_at}
 use Rattle.slink_feed.specs.Session.{sent}
 use Rattle.slink_feed.specs.Window.{Window, record_at}
+use Rattle.slink_feed.proofs.Items.{set_or}
 
 -- a grant once another was written
 pub grant_set : (gs : Grants) (k j : ℕ) (o : Option Grant) → ((j ≡ k) × (grant_at (set gs k o) j ≡ o))
     ⊎ (grant_at (set gs k o) j ≡ grant_at gs j)
-grant_set [] k j o = inr refl
-grant_set (x ∷ gs) zero zero o = inl (refl, refl)
-grant_set (x ∷ gs) zero (suc j) o = inr refl
-grant_set (x ∷ gs) (suc k) zero o = inr refl
-grant_set (x ∷ gs) (suc k) (suc j) o =
-    elim (grant_set gs k j o) [ inl here ↦ inl (ap suc here.0, here.1) | inr there ↦ inr there ]
+grant_set gs k j o = set_or gs k j o None
 
 -- a grant that the rings reach is written
 pub reached_with : (feed : List Window) (gs : Grants) (k : ℕ) (g : Grant) → IsReached feed k g.position

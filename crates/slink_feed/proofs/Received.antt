@@ -4,7 +4,6 @@ use Rattle.std.proofs.Common.{append_assoc, append-nil, length, length-drop, tak
 use Rattle.std.proofs.lemmas.List.{length-take-le, take_all}
 use Rattle.slink_wire.specs.Packet.{IsPacket}
 use Rattle.slink_feed.specs.declared.dialogue.Event.{Event}
-use Rattle.slink_feed.specs.declared.dialogue.Event.TheVariants as events
 use Rattle.slink_feed.specs.declared.dialogue.Stage.{Stage}
 use Rattle.slink_feed.specs.declared.dialogue.Stage.TheVariants.{Station, Number, Packets}
 use Rattle.slink_feed.specs.Cutting.{IsBegun, IsWhole, IsWholePacket, IsWholeReply, nothing}
@@ -14,19 +13,13 @@ use Rattle.slink_feed.specs.Listening.{AreBrought, AwaitsReply, Brings, Brought,
 use Rattle.slink_feed.specs.Listening.{bytes_of, events_of, talk_after, event_if_any, whole}
 
 -- a packet's number has six digits
-pub packet_short : (bytes packet record_bytes : List ℕ) (n : ℕ) → length bytes ≡ 520 → packet ≡ take 520 bytes
-    → IsPacket packet n record_bytes → n < 2 ^ 24
-packet_short bytes packet r n long same is =
-    let six : length (take 6 (drop 2 packet)) ≡ 6 =
-    length-take-le 6 (drop 2 packet)
-    (omega (arith, length-drop 2 packet, ap length same, length-take-le 520 bytes (omega (arith, long)))) in
-    let small : n < 16 ^ 6 = subst (λ k. n < 16 ^ k) six is.1.0 in
-    omega (arith, small)
-
 pub short_packet : (packet record_bytes : List ℕ) (n : ℕ) → length packet ≡ 520 → IsPacket packet n record_bytes
     → n < 2 ^ 24
 short_packet packet r n long is =
-    packet_short packet packet r n long (sym (take_all 520 packet (omega (arith, long)))) is
+    let six : length (take 6 (drop 2 packet)) ≡ 6 =
+    length-take-le 6 (drop 2 packet) (omega (arith, length-drop 2 packet, long)) in
+    let small : n < 16 ^ 6 = subst (λ k. n < 16 ^ k) six is.1.0 in
+    omega (arith, small)
 
 pub same_packet : (bytes packet : List ℕ) → length bytes ≡ 520 → packet ≡ take 520 bytes → packet ≡ bytes
 same_packet bytes packet long same = same ∙ take_all 520 bytes (omega (arith, long))
@@ -70,71 +63,44 @@ pub begun_after : (talk : Talk) (bytes : List ℕ) (new : Listening) (e : Event)
 begun_after talk bytes new e (whole w is h none) = rw none (begun_none new.talk.stage)
 begun_after talk bytes new e (begun is same quiet) = rw same is
 
--- one whole more
-brought_more : (t : Talk) (bs : List Brought) (b : Brought) → AreBrought t bs
-    → IsWhole (talk_after t bs).stage b.bytes b.whole → AreBrought t (bs ++ b ∷ [])
-brought_more t [] b are is = (is, tt)
-brought_more t (c ∷ cs) b are is = (are.0, brought_more (read t c.whole).0 cs b are.1 is)
+-- what is begun reads as nothing yet
+pub reads_none : (t : Talk) (kept : List ℕ) → IsBegun t.stage kept → Reads t kept [] (record { talk = t; kept = kept })
+reads_none t kept is =
+    record { brought = []; are_brought = tt; bytes = refl; events_are = refl; talk = refl; is_begun = is }
 
-talk_more : (t : Talk) (bs : List Brought) (b : Brought)
-    → talk_after t (bs ++ b ∷ []) ≡ (read (talk_after t bs) b.whole).0
-talk_more t [] b = refl
-talk_more t (c ∷ cs) b = talk_more (read t c.whole).0 cs b
+-- one whole before others
+pub reads_after : (t u : Talk) (bytes stream : List ℕ) (w : Whole) (e : Event) (es : List Event) (now : Listening)
+    → IsWhole t.stage bytes w → read t w ≡ (u, e) → Reads u stream es now
+    → Reads t (bytes ++ stream) (event_if_any e ++ es) now
+reads_after t u bytes stream w e es now is h reads = record {
+  brought = record { bytes = bytes; whole = w } ∷ reads.brought;
+  are_brought = (is, rw h reads.are_brought);
+  bytes = ap (λ xs. bytes ++ xs) reads.bytes ∙ sym (append_assoc bytes (bytes_of reads.brought) now.kept);
+  events_are = ap (λ xs. event_if_any e ++ xs) reads.events_are
+      ∙ ap (λ (x : Talk × Event). event_if_any x.1 ++ events_of x.0 reads.brought) (sym h);
+  talk = reads.talk ∙ ap (λ (x : Talk × Event). talk_after x.0 reads.brought) (sym h);
+  is_begun = reads.is_begun;
+}
 
-events_more : (t : Talk) (bs : List Brought) (b : Brought)
-    → events_of t (bs ++ b ∷ []) ≡ events_of t bs ++ event_if_any (read (talk_after t bs) b.whole).1
-events_more t [] b = append-nil (event_if_any (read t b.whole).1)
-events_more t (c ∷ cs) b =
-    ap (λ es. event_if_any (read t c.whole).1 ++ es) (events_more (read t c.whole).0 cs b)
-    ∙ sym (append_assoc (event_if_any (read t c.whole).1) (events_of (read t c.whole).0 cs)
-    (event_if_any (read (talk_after t (c ∷ cs)) b.whole).1))
-
-bytes_more : (bs : List Brought) (b : Brought) → bytes_of (bs ++ b ∷ []) ≡ bytes_of bs ++ b.bytes
-bytes_more [] b = append-nil b.bytes
-bytes_more (c ∷ cs) b = ap (λ xs. c.bytes ++ xs) (bytes_more cs b) ∙ sym (append_assoc c.bytes (bytes_of cs) b.bytes)
-
-reads_whole : (start : Talk) (stream more : List ℕ) (es : List Event) (now new : Listening) (e : Event) (w : Whole)
-    → IsWhole now.talk.stage (now.kept ++ more) w → read now.talk w ≡ (new.talk, e) → new.kept ≡ []
-    → Reads start stream es now → Reads start (stream ++ more) (es ++ event_if_any e) new
-reads_whole start stream more es now new e w is h none reads =
-    let b : Brought = record { bytes = now.kept ++ more; whole = w } in
-    let at : read (talk_after start reads.brought) w ≡ (new.talk, e) = ap (λ (t : Talk). read t w) (sym reads.talk)
-    ∙ h in
-    record {
-      brought = reads.brought ++ b ∷ [];
-      are_brought = brought_more start reads.brought b reads.are_brought
-          (rw reads.talk at is);
-      bytes = ap (λ s. s ++ more) reads.bytes ∙ (append_assoc (bytes_of reads.brought) now.kept more
-          ∙ (sym (bytes_more reads.brought b) ∙ (sym (append-nil (bytes_of (reads.brought ++ b ∷ [])))
-          ∙ ap (λ k. bytes_of (reads.brought ++ b ∷ []) ++ k) (sym none))));
-      events_are = ap (λ xs. xs ++ event_if_any e) reads.events_are
-          ∙ (ap (λ (p : Talk × Event). events_of start reads.brought ++ event_if_any p.1) (sym at)
-          ∙ sym (events_more start reads.brought b));
-      talk = ap (λ (p : Talk × Event). p.0) (sym at) ∙ sym (talk_more start reads.brought b);
-      is_begun = rw none (begun_none new.talk.stage);
-    }
-
-reads_begun : (start : Talk) (stream more : List ℕ) (es : List Event) (now new : Listening) (e : Event)
-    → IsBegun now.talk.stage (now.kept ++ more) → new ≡ record { talk = now.talk; kept = now.kept ++ more }
-    → e ≡ events.None
-    → Reads start stream es now → Reads start (stream ++ more) (es ++ event_if_any e) new
-reads_begun start stream more es now new e is same quiet reads =
-    rw (same, quiet, append-nil es) (record {
-      brought = reads.brought;
-      are_brought = reads.are_brought;
-      bytes = ap (λ s. s ++ more) reads.bytes ∙ append_assoc (bytes_of reads.brought) now.kept more;
-      events_are = reads.events_are;
-      talk = reads.talk;
-      is_begun = is;
-    })
+-- what comes after wholes
+reads_then : (t : Talk) (bs : List Brought) (bytes : List ℕ) (new : Listening) (e : Event) → AreBrought t bs
+    → Brings (talk_after t bs) bytes new e → Reads t (bytes_of bs ++ bytes) (events_of t bs ++ event_if_any e) new
+reads_then t [] bytes new e are (whole w is h none) =
+    let all : bytes ++ new.kept ≡ bytes = ap (λ kept. bytes ++ kept) none ∙ append-nil bytes in
+    rw (all, append-nil (event_if_any e)) at (reads_after t new.talk bytes new.kept w e [] new is h
+    (reads_none new.talk new.kept (rw none (begun_none new.talk.stage))))
+reads_then t [] bytes new e are (begun is same quiet) = rw (same, quiet) (reads_none t bytes is)
+reads_then t (b ∷ bs) bytes new e are brings =
+    let x : Talk × Event = read t b.whole in
+    rw (append_assoc b.bytes (bytes_of bs) bytes, append_assoc (event_if_any x.1) (events_of x.0 bs) (event_if_any e))
+    (reads_after t x.0 b.bytes _ b.whole x.1 _ new are.0 refl (reads_then x.0 bs bytes new e are.1 brings))
 
 pub reads_more : (start : Talk) (stream more : List ℕ) (es : List Event) (now new : Listening) (e : Event)
     → Brings now.talk (now.kept ++ more) new e → Reads start stream es now
     → Reads start (stream ++ more) (es ++ event_if_any e) new
-reads_more start stream more es now new e (whole w is h none) reads =
-    reads_whole start stream more es now new e w is h none reads
-reads_more start stream more es now new e (begun is same quiet) reads =
-    reads_begun start stream more es now new e is same quiet reads
+reads_more start stream more es now new e brings reads =
+    rw (reads.bytes, reads.events_are, append_assoc (bytes_of reads.brought) now.kept more)
+    (reads_then start reads.brought (now.kept ++ more) new e reads.are_brought (rw reads.talk at brings))
 
 -- what it goes on to stand for by what bytes bring, while it is linked
 pub reads_by : (now new : Listening) (e : Event) (bytes : List ℕ)

@@ -1,16 +1,15 @@
 -- The lines of a record, and those of what is wanted next.
-use Rattle.std.proofs.Common.{◌≡◌, ℕ, ◌+◌, inl, inr, zero, suc, sym, ap, arith, Bool, false, ◌⊎◌}
+use Rattle.std.proofs.Common.{◌≡◌, ℕ, ◌+◌, zero, suc, sym, arith, Bool, false}
 use Rattle.std.proofs.Common.{List, [], ◌∷◌, ◌++◌, append_assoc, append-nil, Option}
 use Rattle.std.proofs.Common.{◌<◌, get_or, length, take, slice_get}
 use Rattle.std.proofs.Common.{unwrap_or}
 use Rattle.mseed_stream.specs.Device.{BytesWritten}
 use Rattle.mseed_stream.specs.LineWritten.{WritesLine}
 use Rattle.slink_feed.specs.declared.dialogue.Event.{Event}
-use Rattle.slink_feed.specs.declared.dialogue.Event.TheVariants as events
 use Rattle.slink_feed.specs.declared.dialogue.Wanted.{Wanted}
 use Rattle.slink_feed.specs.Dialogue.{Wants, want_at}
 use Rattle.slink_feed.specs.Reporter.{AreReported, Reporting, first_lines, hole_lines}
-use Rattle.slink_feed.specs.Reporter.{lines_at, none, one, word_of, words_of}
+use Rattle.slink_feed.specs.Reporter.{lines_at, lines_of, none, one, word_of, words_of}
 use Rattle.slink_feed.specs.Reported.{record_in}
 use Rattle.slink_feed.proofs.Reporting.{lines_both}
 
@@ -26,18 +25,10 @@ pub lines_reported : (t : Reporting) (k number : ℕ) (o : Option Wanted) (first
 lines_reported t k number o first a b c is set hole reported =
     rw is at (rw set at (lines_both (hole_lines o number) (first_lines first o number) a b c hole reported))
 
--- nothing but a record is reported
-pub quiet_two : (e : Event) → (e ≡ events.Garbage) ⊎ (e ≡ events.Foreign) → record_in e ≡ []
-quiet_two e (inl is) = ap record_in is
-quiet_two e (inr is) = ap record_in is
-
-pub quiet_four : (e : Event) → (e ≡ events.None)
-    ⊎ ((e ≡ events.End)
-    ⊎ (((k : ℕ) × (e ≡ events.Refused k)) ⊎ ((k want got : ℕ) × (e ≡ events.Gap k want got)))) → record_in e ≡ []
-quiet_four e (inl is) = ap record_in is
-quiet_four e (inr (inl is)) = ap record_in is
-quiet_four e (inr (inr (inl is))) = ap record_in is.1
-quiet_four e (inr (inr (inr is))) = ap record_in is.3
+-- nothing is reported of what reports no record
+pub unreported : (t : Reporting) (e : Event) (now : BytesWritten) → record_in e ≡ []
+    → AreReported (lines_of t (record_in e)) now now
+unreported t e now quiet = rw quiet (none now)
 
 -- one station more
 pub words_more : (ws : Wants) (i : ℕ) (d : Option Wanted) → i < length ws

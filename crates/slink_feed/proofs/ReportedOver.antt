@@ -1,7 +1,7 @@
 -- What a client reports over a link, and over one link after another.
 use Rattle.std.proofs.Common.{◌≡◌, ℕ, ◌+◌, ◌%◌, ◌^◌, ◌<◌, refl, sym, ap, ◌∙◌, arith, Bool, false}
-use Rattle.std.proofs.Common.{◌==◌, ◌&&◌, bytes_eq, if◌then◌else◌, List, [], ◌∷◌, ◌++◌, append_assoc}
-use Rattle.std.proofs.Common.{append-nil, length, length-drop, drop, map, slice_range, Option, Some, None, IfSome}
+use Rattle.std.proofs.Common.{◌==◌, ◌&&◌, bytes_eq, if◌then◌else◌, List, [], ◌∷◌, ◌++◌}
+use Rattle.std.proofs.Common.{append-nil, length, length-drop, drop, map, slice_range, Option, Some, None}
 use Rattle.std.proofs.Common.{option_map}
 use Rattle.std.specs.List.{position, position_or_len}
 use Rattle.std.proofs.lemmas.List.{length-map}
@@ -14,12 +14,13 @@ use Rattle.slink_feed.specs.Cutting.{IsWhole}
 use Rattle.slink_feed.specs.Delivered.{Numbered}
 use Rattle.slink_feed.specs.Dialogue.{Talk, Wants, Whole, place_of}
 use Rattle.slink_feed.specs.Dialogue.{read, is_of_wanted, next_at, next_set}
-use Rattle.slink_feed.specs.Dialogue.{to_place, reported}
+use Rattle.slink_feed.specs.Dialogue.{to_place}
 use Rattle.slink_feed.specs.Dialogue.{heard, want_at}
-use Rattle.slink_feed.specs.Holding.{GoOn, IsNext}
+use Rattle.slink_feed.specs.Holding.{GoOn}
 use Rattle.slink_feed.specs.Listening.{AreBrought, Brought, Listening, Reads, events_of, talk_after, event_if_any}
 use Rattle.slink_feed.specs.Reported.{AreOf, HasReported, bytes_in, numbers_at, places_of, record_in, records_reported}
-use Rattle.slink_feed.proofs.Numbers.{go_both, place_some, step_reported}
+use Rattle.slink_feed.proofs.Items.{given_both}
+use Rattle.slink_feed.proofs.Numbers.{go_both, step_by}
 use Rattle.slink_feed.proofs.Outcomes.{Outcome, ended_quietly, ends, kept_read, outcome, reports}
 use Rattle.slink_feed.specs.declared.dialogue.Event.TheVariants as events
 use Rattle.slink_wire.specs.Packet.{IsPacket}
@@ -50,7 +51,7 @@ place_there : (wants : Wants) (bytes : List ℕ) → place_of wants bytes ≡ po
 place_there wants bytes = rw (first_place bytes wants, length-map wants wanted_fields) refl
 
 -- The same stations carry the same records.
-place_same : (old new : Wants) (bytes : List ℕ) → places_of new ≡ places_of old
+pub place_same : (old new : Wants) (bytes : List ℕ) → places_of new ≡ places_of old
     → place_of new bytes ≡ place_of old bytes
 place_same old new bytes same = place_there new bytes
     ∙ (ap (position (is_place bytes)) same ∙ sym (place_there old bytes))
@@ -67,10 +68,8 @@ of_both wants (r ∷ rs) more are too = (are.0, are.1, of_both wants rs more are
 
 numbers_both : (k : ℕ) (some more : List Numbered)
     → numbers_at k (some ++ more) ≡ numbers_at k some ++ numbers_at k more
-numbers_both k [] more = refl
-numbers_both k (r ∷ rs) more =
-    let here : List ℕ = if r.place == k then r.number ∷ [] else [] in
-    ap (λ ns. here ++ ns) (numbers_both k rs more) ∙ sym (append_assoc here (numbers_at k rs) (numbers_at k more))
+numbers_both k some more =
+    given_both (numbers_at k) (λ r. if r.place == k then r.number ∷ [] else []) refl (λ r rs. refl) some more
 
 -- nothing more
 pub reported_none : (holes : Bool) (wants : Wants) → HasReported holes wants wants []
@@ -94,21 +93,14 @@ places_next wants k n (Some w) at =
     map-set_same wanted_fields wants k (Some (record { place = w.place; next = Some n })) None
     (sym (ap wanted_fields (sym (unwrap_or-slice_get wants k None) ∙ at)))
 
-reported_record : (k n : ℕ) (bytes : List ℕ) (t : Talk) → length bytes ≡ 512 → place_of t.wants bytes ≡ Some k
-    → IfSome (next_at t.wants k) (λ want. IsNext t.holes want n)
-    → HasReported t.holes t.wants (reported k n bytes t).0.wants (record { place = k; number = n; bytes = bytes } ∷ [])
-reported_record k n bytes t long bears wanted =
-    let some : (w : Wanted) × (want_at t.wants k ≡ Some w) = place_some t.wants bytes k bears in record {
-      places = places_next t.wants k ((n + 1) % 2 ^ 24) (want_at t.wants k) refl;
-      are_of = (long, bears, tt);
-      go_on = λ j. rw append-nil (step_reported j k n bytes t some.0 some.1 wanted);
-    }
-
 reported_by : (t : Talk) (stage : Stage) (w : Whole) (x : Talk × Event) (bytes : List ℕ) → IsWhole stage bytes w
     → Outcome t stage w x → HasReported t.holes t.wants x.0.wants (record_in x.1)
 reported_by t stage w x bytes is (reports k n r at packet bears wanted) =
-    let whole : IsPacket bytes n r × (length bytes ≡ 520) = rw packet at (rw at at is) in
-    reported_record k n r t (record_long bytes r whole.0.2 whole.1) bears wanted
+    let whole : IsPacket bytes n r × (length bytes ≡ 520) = rw packet at (rw at at is) in record {
+      places = places_next t.wants k ((n + 1) % 2 ^ 24) (want_at t.wants k) refl;
+      are_of = (record_long bytes r whole.0.2 whole.1, bears, tt);
+      go_on = λ j. rw append-nil (step_by j t stage w x (reports k n r at packet bears wanted));
+    }
 reported_by t stage w x bytes is (ends ending) = rw (ended_quietly ending).2 (reported_none t.holes t.wants)
 reported_by t stage w x bytes is outcome = reported_none t.holes t.wants
 
@@ -125,14 +117,10 @@ event_alone event = refl
 
 pub records_both : (some more : List Event) → records_reported (some ++ more) ≡ records_reported some ++
     records_reported more
-records_both [] more = refl
-records_both (e ∷ es) more = ap (λ rs. record_in e ++ rs) (records_both es more)
-    ∙ sym (append_assoc (record_in e) (records_reported es) (records_reported more))
+records_both some more = given_both records_reported record_in refl (λ e es. refl) some more
 
 pub bytes_both : (some more : List Numbered) → bytes_in (some ++ more) ≡ bytes_in some ++ bytes_in more
-bytes_both [] more = refl
-bytes_both (r ∷ rs) more = ap (λ bytes. r.bytes ++ bytes) (bytes_both rs more)
-    ∙ sym (append_assoc r.bytes (bytes_in rs) (bytes_in more))
+bytes_both some more = given_both bytes_in (λ r. r.bytes) refl (λ r rs. refl) some more
 
 reported_brought : (t : Talk) (bs : List Brought) → AreBrought t bs
     → HasReported t.holes t.wants (talk_after t bs).wants (records_reported (events_of t bs))

@@ -1,6 +1,6 @@
 -- What is reported of records and taken by the output, one after another.
 use Rattle.std.proofs.Common.{◌≡◌, ℕ, ◌+◌, ◌<◌, refl, sym, ap, ◌∙◌, arith, List, [], ◌∷◌, ◌++◌, append_assoc}
-use Rattle.std.proofs.Common.{append-nil, length, length-append, take}
+use Rattle.std.proofs.Common.{append-nil, length, length-append}
 use Rattle.mseed_stream.specs.Device.{BytesWritten}
 use Rattle.slink_feed.specs.declared.dialogue.Event.{Event}
 use Rattle.slink_feed.specs.declared.dialogue.Event.TheVariants as events
@@ -9,9 +9,9 @@ use Rattle.slink_feed.specs.declared.turn.LinkFault.{LinkFault}
 use Rattle.slink_feed.specs.declared.turn.LinkFault.TheVariants as faults
 use Rattle.slink_feed.specs.Delivered.{Numbered}
 use Rattle.slink_feed.specs.Dialogue.{Talk, heard}
-use Rattle.slink_feed.specs.Fetching.{Fetching, line_written, record_reported}
+use Rattle.slink_feed.specs.Fetching.{line_written, record_reported}
 use Rattle.slink_feed.specs.Listening.{Brings, Listening, begun, whole}
-use Rattle.slink_feed.specs.private.Delivery.{FailsToTakeNext, TakesNext, IsDelivered, IsUndelivered}
+use Rattle.slink_feed.specs.private.Delivery.{IsDelivered, IsReportedOf, IsUndelivered}
 use Rattle.slink_feed.specs.Reports.{AreHandedOver, Outputs, Reports, TakesRecords, ReportsRecords, all, but_last}
 use Rattle.slink_feed.specs.Reports.{outputs}
 use Rattle.slink_feed.specs.Reporter.{ReporterState, AreReported, Reporting, lines_at, lines_of, none, one}
@@ -161,38 +161,14 @@ takes_cut (faults.Output count) event before w w' o o' cut =
     (rw (record_bytes event) at cut.failing)
 
 -- one event more
-pub reports_more : (first : Talk) (now new : Listening) (bytes : List ℕ) (event : Event) (a b c : Outputs)
-    → Reports first now.talk a b → b.output.failures ≡ a.output.failures → Brings now.talk bytes new event
-    → TakesRecords (record_in event) b.output c.output → c.reporting ≡ reporting_after b.reporting (record_in event)
-    → AreReported (lines_of b.reporting (record_in event)) b.errors c.errors → Reports first new.talk a c
-reports_more first now new bytes event a b c p fine brings emitted reporting lines =
-    reports_both first now.talk new.talk a b c p fine
+pub reports_more : (first talk : Talk) (new : Listening) (bytes : List ℕ) (event : Event) (a b c : Outputs)
+    → Reports first talk a b → b.output.failures ≡ a.output.failures → Brings talk bytes new event
+    → TakesRecords (record_in event) b.output c.output → IsReportedOf event b c → Reports first new.talk a c
+reports_more first talk new bytes event a b c p fine brings emitted reported =
+    reports_both first talk new.talk a b c p fine
     (record {
       records = record_in event;
-      reported = reported_event now.talk bytes new event brings;
-      holes = kept_event now.talk bytes new event brings;
-      handed_over = record { emitted = emitted; reporting = reporting; lines = lines };
+      reported = reported_event talk bytes new event brings;
+      holes = kept_event talk bytes new event brings;
+      handed_over = record { emitted = emitted; reporting = reported.reporting; lines = reported.lines };
     })
-
--- what is received of bytes
-pub reports_received : (first : Talk) (bytes : List ℕ) (used : ℕ) (before after : Counts) (now new : Fetching)
-    (a b c : Outputs) → now.output ≡ b.output → new.output ≡ c.output → Reports first now.client.talk a b
-    → b.output.failures ≡ a.output.failures → TakesNext bytes used before after now new b c
-    → Reports first new.client.talk a c
-reports_received first bytes used before after now new a b c from to p fine received =
-    let done = takes_event received.event before after now.written new.written now.output new.output received.done in
-    reports_more first now.client new.client (now.client.kept ++ take used bytes) received.event a b c p fine
-    received.comes.brings
-    (rw from at (rw to at done))
-    received.reported.reporting received.reported.lines
-
-pub reports_cut : (first : Talk) (bytes : List ℕ) (fault : LinkFault) (before : Counts) (now new : Fetching)
-    (a b c : Outputs) → now.output ≡ b.output → new.output ≡ c.output → Reports first now.client.talk a b
-    → b.output.failures ≡ a.output.failures → FailsToTakeNext fault bytes before now new b c
-    → Reports first new.client.talk a c
-reports_cut first bytes fault before now new a b c from to p fine received =
-    let done = takes_cut fault received.event before now.written new.written now.output new.output received.cut in
-    reports_more first now.client new.client (now.client.kept ++ take received.used bytes) received.event a b c p fine
-    received.comes.brings
-    (rw from at (rw to at done))
-    received.reported.reporting received.reported.lines

@@ -8,8 +8,8 @@ use Rattle.std.proofs.lemmas.Option.{slice_get_within}
 use Rattle.slink_wire.specs.Packet.{packet_bytes}
 use Rattle.slink_wire.specs.declared.command.Command.{Command}
 use Rattle.slink_wire.specs.declared.command.Command.TheVariants.{Bye}
-use Rattle.slink_wire.specs.declared.lines.What.{What}
-use Rattle.slink_wire.specs.declared.lines.What.TheVariants.{More, Line, TooLong}
+use Rattle.slink_wire.specs.declared.lines.LineOutcome.{LineOutcome}
+use Rattle.slink_wire.specs.declared.lines.LineOutcome.TheVariants.{More, Line, TooLong}
 use Rattle.slink_wire.specs.declared.reply.Reply.{Reply}
 use Rattle.slink_feed.specs.declared.grant.Grant.{Grant}
 use Rattle.slink_feed.specs.declared.session.Phase.{Phase}
@@ -117,7 +117,7 @@ line_read : (s : State) (c : Command) → IsReadFrom s (answer_streaming s c).0
 line_read s Bye = inr refl
 line_read s command = inl refl
 
-pub answer_read : (feed : List Window) (s new : State) (what : What) (reply : Reply) → s.phase ≡ Streaming
+pub answer_read : (feed : List Window) (s new : State) (what : LineOutcome) (reply : Reply) → s.phase ≡ Streaming
     → IsAnswer feed s what new reply → IsReadFrom s new
 answer_read feed s new More reply on is = inl is.0
 answer_read feed s new (Line line) reply on is =

@@ -19,6 +19,7 @@ use Rattle.slink_feed.specs.Serving.{Serves, SessionState, Takes, none_served, p
 use Rattle.slink_feed.specs.Session.{AreReached, State, sent, sent_bytes, sent_without}
 use Rattle.slink_feed.specs.Turns.{Emitted}
 use Rattle.slink_feed.specs.Window.{Window}
+use Rattle.slink_feed.proofs.Items.{given_both}
 use Rattle.slink_feed.proofs.Deliveries.{prefix_further, prefix_length, piece_is, emitted_further, emitted_none}
 use Rattle.slink_feed.proofs.Dues.{Moves, due, few_due, moved, moves, waits}
 
@@ -55,9 +56,7 @@ gives_more feed k last s t (a ∷ more) x is gives =
     (gives.0, gives_more feed (place_after feed k) last (sent feed s k).0 t more x is gives.1)
 
 pub all_joined : (some more : List Sent) → all_sent (some ++ more) ≡ all_sent some ++ all_sent more
-all_joined [] more = refl
-all_joined (a ∷ some) more = ap (λ b. sent_bytes a ++ b) (all_joined some more)
-    ∙ sym (append_assoc (sent_bytes a) (all_sent some) (all_sent more))
+all_joined some more = given_both all_sent sent_bytes refl (λ a rest. refl) some more
 
 all_more : (given : List Sent) (a : Sent) → all_sent (given ++ a ∷ []) ≡ all_sent given ++ sent_bytes a
 all_more given a = rw (all_joined given (a ∷ []), append-nil (sent_bytes a)) refl

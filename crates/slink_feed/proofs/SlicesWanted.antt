@@ -1,35 +1,21 @@
 -- A slice of a station's records, from the number on that it wants, is wanted.
-use Rattle.std.proofs.Common.{◌≡◌, ℕ, ◌+◌, ◌%◌, ◌^◌, zero, suc, refl, ap, ◌∙◌, arith, Bool}
-use Rattle.std.proofs.Common.{List, [], ◌∷◌, ◌++◌, set, Option, Some, None, IfSome}
-use Rattle.std.specs.List.{position_or_len}
-use Rattle.std.proofs.lemmas.List.{length-set}
+use Rattle.std.proofs.Common.{◌≡◌, ℕ, ◌+◌, ◌%◌, ◌^◌, refl, ap, ◌∙◌, arith}
+use Rattle.std.proofs.Common.{List, [], ◌∷◌, ◌++◌, Some, IfSome}
 use Rattle.slink_wire.specs.Packet.{packet_bytes}
 use Rattle.slink_feed.specs.declared.dialogue.Wanted.{Wanted}
 use Rattle.slink_feed.specs.Delivered.{AreOfPlace, AreWanted, all_packets, joined, numbered}
-use Rattle.slink_feed.specs.Dialogue.{Packet, Talk, Wants, heard, place_of, is_of_wanted, next_at, next_set, reported}
+use Rattle.slink_feed.specs.Dialogue.{Packet, Talk, Wants, heard, next_at, reported}
 use Rattle.slink_feed.specs.Dialogue.{want_at, with_next}
 use Rattle.slink_feed.specs.Sending.{packets_from}
 use Rattle.slink_feed.proofs.Numbers.{place_some, next_here}
-
--- a station that wants another number is still the same station
-first_same : (p : Option Wanted → Bool) (wants : Wants) (k : ℕ) (w : Wanted) (o : Option Wanted)
-    → want_at wants k ≡ Some w → p o ≡ p (Some w) → position_or_len p (set wants k o) ≡ position_or_len p wants
-first_same p [] k w o at same = refl
-first_same p (x ∷ xs) zero w o at same = rw (at, same) refl
-first_same p (x ∷ xs) (suc k) w o at same = rw (first_same p xs k w o at same) refl
-
-place_set : (wants : Wants) (k n : ℕ) (bytes : List ℕ) (o : Option Wanted) → want_at wants k ≡ o
-    → place_of (next_set o wants k n) bytes ≡ place_of wants bytes
-place_set wants k n bytes None at = refl
-place_set wants k n bytes (Some w) at =
-    let o : Option Wanted = Some (record { place = w.place; next = Some n }) in
-    rw (first_same (is_of_wanted bytes) wants k w o at refl, length-set wants k o) refl
+use Rattle.slink_feed.proofs.ReportedOver.{place_same, places_next}
 
 matched_set : (wants : Wants) (k n : ℕ) (rs : List (List ℕ)) → AreOfPlace wants k rs
     → AreOfPlace (with_next wants k n) k rs
 matched_set wants k n [] are = tt
 matched_set wants k n (r ∷ rs) are =
-    (are.0, place_set wants k n r (want_at wants k) refl ∙ are.1, matched_set wants k n rs are.2)
+    let same = place_same wants (with_next wants k n) r (places_next wants k n (want_at wants k) refl) in
+    (are.0, same ∙ are.1, matched_set wants k n rs are.2)
 
 pub slice_wanted : (k g : ℕ) (rs : List (List ℕ)) (t : Talk) → AreOfPlace t.wants k rs
     → IfSome (next_at t.wants k) (λ want. g % 2 ^ 24 ≡ want) → AreWanted t (numbered k g rs)

@@ -3,8 +3,8 @@ use Rattle.std.proofs.Common.{◌≡◌, ℕ, ◌<◌, ◌⊎◌, inl, inr, zero
 use Rattle.std.proofs.Common.{List, [], ◌∷◌, ◌++◌, append-nil, length, length-append, take, Result, Ok, Err}
 use Rattle.std.specs.Prelude.{IfErr, IfOk}
 use Rattle.std.proofs.lemmas.Bool.{both_ways}
-use Rattle.slink_wire.specs.declared.lines.What.{What}
-use Rattle.slink_wire.specs.declared.lines.What.TheVariants.{More, Line, TooLong}
+use Rattle.slink_wire.specs.declared.lines.LineOutcome.{LineOutcome}
+use Rattle.slink_wire.specs.declared.lines.LineOutcome.TheVariants.{More, Line, TooLong}
 use Rattle.slink_wire.specs.declared.reply.Reply.{Reply}
 use Rattle.slink_wire.specs.Lines.{IsHeld, lines_of}
 use Rattle.slink_wire.specs.Taking.{Yields}
@@ -34,8 +34,8 @@ open_before_next f g (Ok x) feed s t k is none = open_before feed s t k (f x) is
 open_before_next f g (Err e) feed s t k none is = open_before feed s t k (g e) is
 
 -- something is reported of no byte at all only where a line was too long
-nothing_reported : (what : What) (stream : List ℕ) (count : ℕ) → 0 < count → (lines_of stream).is_too_long ≡ false
-    → Yields what stream stream → (what ≡ More → 0 ≡ count) → ⊥
+nothing_reported : (what : LineOutcome) (stream : List ℕ) (count : ℕ) → 0 < count
+    → (lines_of stream).is_too_long ≡ false → Yields what stream stream → (what ≡ More → 0 ≡ count) → ⊥
 nothing_reported More stream count some short tells whole = omega (arith, whole refl, some)
 nothing_reported (Line line) stream count some short tells whole =
     omega (arith, ap length tells.0, length-append (lines_of stream).lines (line.items ∷ []))
@@ -62,7 +62,8 @@ piece_taken old bytes used some stands whole closed = elim (closed_or old.state.
 
 -- no line is too long, since the session isn't closed
 short_after : (feed : List Window) (s new : State) (before after : List ℕ) (reply : Reply) → ¬ (new.phase ≡ Closed)
-    → (what : What) → Yields what before after → IsAnswer feed s what new reply → (lines_of after).is_too_long ≡ false
+    → (what : LineOutcome) → Yields what before after → IsAnswer feed s what new reply
+    → (lines_of after).is_too_long ≡ false
 short_after feed s new before after reply unshut TooLong tells answer =
     absurd (unshut (sym (ap (λ (p : State × Reply). p.0.phase) answer)))
 short_after feed s new before after reply unshut what tells answer = tells.1

@@ -1,21 +1,19 @@
 -- Where nothing is sent of any station.
 use Rattle.std.proofs.Common.{◌≡◌, ◌≢◌, ℕ, ◌<◌, ◌⊎◌, ◌==◌, ◌∙◌, ap, inl, inr, refl}
-use Rattle.std.proofs.Common.{length, sym, List, Option, Some, None, slice_get, Bool, true, false, not, ◌↔◌}
-use Rattle.std.specs.Option.{is_some}
+use Rattle.std.proofs.Common.{length, sym, List, Option, Some, None, slice_get, false}
 use Rattle.std.proofs.lemmas.Bool.Decides.{eqb_tells}
 use Rattle.slink_feed.specs.declared.grant.Grant.{Grant}
 use Rattle.slink_feed.specs.declared.session.Phase.{Phase}
 use Rattle.slink_feed.specs.declared.session.Phase.TheVariants.{Chosen, Fresh, Granted, Streaming}
 use Rattle.slink_feed.specs.declared.session.Phase.TheVariants as Phases
 use Rattle.slink_feed.specs.declared.session.Sent.{Sent}
-use Rattle.slink_feed.specs.declared.session.Sent.TheVariants.{Closed, Wait}
+use Rattle.slink_feed.specs.declared.session.Sent.TheVariants.{Wait}
 use Rattle.slink_feed.specs.Session.{Grants, IsAtNext, IsWaiting, State, has_sent_all, grant_at, has_sent}
 use Rattle.slink_feed.specs.Session.{sent, sent_in}
 use Rattle.slink_feed.specs.Window.{Window}
 use Rattle.slink_feed.specs.Grant.{is_fetch}
 use Rattle.slink_feed.proofs.Done.{not_done, some_at}
 use Rattle.slink_feed.proofs.Calls.{Sends, idle, is_done, is_next, is_overrun, is_packet, is_shut, is_waiting, sends}
-use Rattle.slink_feed.proofs.Calls.{shut_sent}
 use Rattle.std.proofs.lemmas.Bool.{and_right, both_ways}
 
 -- a station at its ring's next record, where not all are done
@@ -35,50 +33,11 @@ pub waits_all : (feed : List Window) (s : State) → s.phase ≡ Streaming
 waits_all feed s phase at unfinished k lt =
     waits_by feed s k (sent feed s k) (sends feed s k) phase (at k lt) unfinished
 
--- a station that something is sent of, and one that has to wait
+-- a station that something is sent of
 pub sends_here : (feed : List Window) (s : State) (k : ℕ) → s.phase ≡ Streaming → k < length feed
     → ¬ (IsAtNext feed s.grants k) → sent feed s k ≢ (s, Wait)
 sends_here feed s k phase lt off e =
     off (λ g w granted here. ((idle feed s k (ap (λ (x : State × Sent). x.1) e)).1 phase g w granted here).0)
-
-pub sends_off : (feed : List Window) (s : State) (k : ℕ) → s.phase ≡ Streaming → k < length feed
-    → ¬ (IsAtNext feed s.grants k) → ¬ (IsWaiting feed s)
-sends_off feed s k phase lt off waits = sends_here feed s k phase lt off (waits k lt)
-
--- where one station has a grant, is at its ring's next record, and all are done
-sends_end : (feed : List Window) (s : State) (k : ℕ) (g : Grant) → s.phase ≡ Streaming → k < length feed
-    → grant_at s.grants k ≡ Some g → IsAtNext feed s.grants k → has_sent_all feed s.grants ≡ true → ¬ (IsWaiting feed s)
-sends_end feed s k g phase lt granted at done waits =
-    let here = some_at feed k lt in
-    let idles = (idle feed s k (ap (λ (x : State × Sent). x.1) (waits k lt))).1 phase g here.0 granted here.1 in
-    both_ways (has_sent_all feed s.grants) idles.1 done
-
--- where each station that has a grant is at its ring's next record, and one has a grant: by whether all are done
-pub waits_unless_done : (feed : List Window) (s : State) (k : ℕ) (g : Grant) (t : Bool) → s.phase ≡ Streaming
-    → k < length feed → grant_at s.grants k ≡ Some g → ((j : ℕ) → j < length feed → IsAtNext feed s.grants j)
-    → t ≡ has_sent_all feed s.grants → (not t ≡ true) ↔ IsWaiting feed s
-waits_unless_done feed s k g true phase lt granted at done = (
-  λ is. absurd (let bad : false ≡ true = is in cc bad),
-  λ waits. absurd (sends_end feed s k g phase lt granted (at k lt) (sym done) waits),
-)
-waits_unless_done feed s k g false phase lt granted at done = (
-  λ is. waits_all feed s phase at (sym done),
-  λ waits. refl,
-)
-
--- a session that is closed says so of each station
-pub sends_closed : (feed : List Window) (s : State) → s.phase ≡ Phases.Closed → 0 < length feed → ¬ (IsWaiting feed s)
-sends_closed feed s phase some waits =
-    let bad : Closed ≡ Wait = ap (λ (x : State × Sent). x.1) (sym (shut_sent feed s 0 phase) ∙ waits 0 some) in cc bad
-
--- whether a station has a grant
-pub one_granted : (o : Option Grant) → is_some o ≡ true → (h : Grant) × (o ≡ Some h)
-one_granted None is = absurd (let bad : false ≡ true = is in cc bad)
-one_granted (Some h) is = (h, refl)
-
-pub none_granted : (o : Option Grant) → is_some o ≡ false → o ≡ None
-none_granted None is = refl
-none_granted (Some h) is = absurd (let bad : true ≡ false = is in cc bad)
 
 open_at : (feed : List Window) (gs : Grants) (k : ℕ) (w : Window) (o : Option Grant) → grant_at gs k ≡ o
     → slice_get feed k ≡ Some w → ¬ (IsAtNext feed gs k) → has_sent w o ≡ false

@@ -1,11 +1,11 @@
 -- The stations that a client asks for.
 use Rattle.std.proofs.Common.{◌≡◌, ℕ, ◌+◌, ◌-◌, ◌%◌, ◌<◌, ◌≤◌, ◌^◌, suc, zero, refl, sym, ap, ◌∙◌, arith, List}
 use Rattle.std.proofs.Common.{[], ◌∷◌, ◌++◌, length, map, replicate, take, set, get_or, append_assoc, length-take-le}
-use Rattle.std.proofs.Common.{Option, Some, None, IfSome}
+use Rattle.std.proofs.Common.{Option, Some, None, IfSome, inl, inr}
 use Rattle.std.proofs.lemmas.List.{length-map, map_more, set_at}
 use Rattle.std.specs.Option.{option_and_then}
 use Rattle.std.proofs.lemmas.Option.{none-some, same_Some}
-use Rattle.slink_feed.proofs.Items.{none_but}
+use Rattle.slink_feed.proofs.Items.{none_but, set_or}
 use Rattle.slink_wire.specs.Place.{AreNumbers, Fields}
 use Rattle.slink_feed.specs.declared.dialogue.Wanted.{Wanted}
 use Rattle.slink_feed.specs.Dialogue.{AreShort, Wants, next_set, want_at, wanted_of, wants_of}
@@ -51,13 +51,11 @@ short_all places wants each e = rw e (short_each places (16 - length places) eac
 
 short_set : (wants : Wants) (k n : ℕ) (w : Wanted) → AreShort wants → n < 2 ^ 24 → w.next ≡ Some n
     → AreShort (set wants k (Some w))
-short_set [] k n w short lt is j m there = short j m there
-short_set (v ∷ wants) zero n w short lt is zero m there =
-    number_short (Some n) m lt (sym is ∙ there)
-short_set (v ∷ wants) zero n w short lt is (suc j) m there = short (suc j) m there
-short_set (v ∷ wants) (suc k) n w short lt is zero m there = short zero m there
-short_set (v ∷ wants) (suc k) n w short lt is (suc j) m there =
-    short_set wants k n w (λ i x e. short (suc i) x e) lt is j m there
+short_set wants k n w short lt is j m there = elim (set_or wants k j (Some w) None) [
+  | inl here ↦
+      number_short (Some n) m lt (sym is ∙ (sym (ap (option_and_then (λ (v : Wanted). v.next)) here.1) ∙ there))
+  | inr same ↦ short j m (sym (ap (option_and_then (λ (v : Wanted). v.next)) same) ∙ there)
+]
 
 -- another number is wanted next of a station
 pub short_with : (o : Option Wanted) (wants : Wants) (k number : ℕ) → AreShort wants

@@ -10,7 +10,7 @@ use Rattle.slink_feed.specs.declared.turn.Turn.{Turn}
 use Rattle.slink_feed.specs.declared.turn.Turn.TheVariants as turns
 use Rattle.slink_feed.specs.Rounds.{Attending, FailsToSend, SendsAll}
 use Rattle.slink_feed.specs.Serving.{Serves, SessionState, Takes}
-use Rattle.slink_feed.specs.Turns.{EmittedPrefix, failed_once, reported_once}
+use Rattle.slink_feed.specs.Turns.{EmittedPrefix, failed_once, read_once}
 use Rattle.slink_feed.specs.Window.{Window}
 
 -- A session accepted all of these bytes, line by line, and each reply was written.
@@ -41,8 +41,8 @@ pub record GoesOn (feed : List Window) (old new : Attending) : Type 0 where
 pub data Attends (feed : List Window) (old new : Attending) (before after : BytesRead) : Turn → Type 0 where
   is_closed : SendsAll feed old new → new.session.state.phase ≡ Closed → after ≡ before
       → Attends feed old new before after turns.Closed
-  is_at_end : GoesOn feed old new → after ≡ reported_once before [] → Attends feed old new before after turns.Closed
-  replies : (now : Attending) (bytes : List ℕ) → GoesOn feed old now → after ≡ reported_once before bytes
+  is_at_end : GoesOn feed old new → after ≡ read_once before [] → Attends feed old new before after turns.Closed
+  replies : (now : Attending) (bytes : List ℕ) → GoesOn feed old now → after ≡ read_once before bytes
       → 0 < length bytes → length bytes ≤ 512
       → RepliesToAll feed now new bytes → Attends feed old new before after turns.Goes
 
@@ -52,7 +52,7 @@ pub data IsServeFault (feed : List Window) (old new : Attending) (before after :
   at_send : (count : ℕ) → FailsToSend feed old new count → after ≡ before
       → IsServeFault feed old new before after (faults.Write count)
   at_read : GoesOn feed old new → after ≡ failed_once before → IsServeFault feed old new before after faults.Read
-  at_reply : (count : ℕ) (now : Attending) (bytes : List ℕ) → GoesOn feed old now → after ≡ reported_once before bytes
+  at_reply : (count : ℕ) (now : Attending) (bytes : List ℕ) → GoesOn feed old now → after ≡ read_once before bytes
       → length bytes ≤ 512
       → FailsToReply feed now new bytes → length new.written.bytes ≡ length old.written.bytes + count
       → IsServeFault feed old new before after (faults.Write count)

@@ -10,7 +10,7 @@ use Rattle.slink_feed.specs.Dialogue.{Whole, Reply, Packet, End, Garbage}
 abbrev pub LacksEnd : List ℕ → Type 0
 LacksEnd bytes = (i : ℕ) → slice_get bytes i ≡ Some 13 → slice_get bytes (i + 1) ≢ Some 10
 
--- A reply ends at the first CR LF, and has at most 256 bytes with it. So many without one are none.
+-- A reply ends at the first CR LF, and has at most 256 bytes with it. 256 bytes without one are none.
 abbrev pub IsReply : List ℕ → List ℕ → Type 0
 IsReply bytes line = (bytes ≡ line ++ line_end) × LacksEnd (line ++ 13 ∷ []) × (length bytes ≤ 256)
 

@@ -19,6 +19,7 @@ use Rattle.slink_feed.specs.declared.dialogue.Event.TheVariants as events
 use Rattle.slink_feed.specs.declared.dialogue.Stage.{Stage}
 use Rattle.slink_feed.specs.declared.dialogue.Stage.TheVariants.{Station, Number, Packets, Ended}
 use Rattle.slink_feed.specs.declared.dialogue.Wanted.{Wanted}
+use Rattle.slink_feed.specs.Intake.{is_of_station}
 
 -- the stations that are requested, in their order, and the number that each wants next
 abbrev pub Wants : Type 0
@@ -63,7 +64,7 @@ pub data Whole : Type 0 where
   End : Whole
   Garbage : Whole
 
--- how many packets came since the last reply, once this came: so many are counted at most
+-- how many packets came since the last reply, once this came: at most 2^64 - 1 are counted
 abbrev pub packets_after : Whole → ℕ → ℕ
 packets_after (Reply line) n = 0
 packets_after (Packet number bytes) n = min (n + 1) (2 ^ 64 - 1)
@@ -123,8 +124,7 @@ to_answer Neither k next t = ended (endings.Unanswered k) t
 -- whether a record's header has the codes of a station
 abbrev pub is_of_wanted : List ℕ → Option Wanted → Bool
 is_of_wanted bytes None = false
-is_of_wanted bytes (Some w) = bytes_eq (slice_range bytes 8 13) w.place.station
-    && bytes_eq (slice_range bytes 18 20) w.place.network
+is_of_wanted bytes (Some w) = is_of_station w.place bytes
 
 -- the first station that a record is of
 abbrev pub place_of : Wants → List ℕ → Option ℕ

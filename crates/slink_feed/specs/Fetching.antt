@@ -1,5 +1,5 @@
 -- A step of a client with its link: one read, and what comes of the bytes that it gave.
-use Rattle.std.specs.Prelude.{◌≡◌, ◌≢◌, ◌⊎◌, ℕ, ◌≤◌, ◌<◌, Bool, true, false, List, [], ◌∷◌, ◌++◌, length}
+use Rattle.std.specs.Prelude.{◌≡◌, ◌≢◌, ◌⊎◌, ℕ, ◌+◌, ◌≤◌, ◌<◌, Bool, true, false, List, [], ◌∷◌, ◌++◌, length}
 use Rattle.std.specs.Prelude.{IfErr, IfOk, Result}
 use Rattle.mseed_stream.specs.Device.{BytesRead, IsPrefixOf, BytesWritten}
 use Rattle.slink_feed.specs.declared.dialogue.Ending.{Ending}
@@ -14,7 +14,7 @@ use Rattle.slink_feed.specs.declared.turn.Turn.{Turn}
 use Rattle.slink_feed.specs.declared.turn.Turn.TheVariants as turns
 use Rattle.slink_feed.specs.Dialogue.{Talk, event_of}
 use Rattle.slink_feed.specs.Listening.{IsLinked, Listening, Reads}
-use Rattle.slink_feed.specs.Turns.{Emitted, EmittedPrefix, failed_once, reported_once}
+use Rattle.slink_feed.specs.Turns.{Emitted, EmittedPrefix, failed_once, read_once}
 
 -- the line that an event has for the link
 abbrev pub line_written : Event → List ℕ
@@ -66,7 +66,7 @@ pub record Delivers (old new : Fetching) (bytes : List ℕ) : Type 0 where
   pub written : Emitted old.written new.written (lines_written reported)
   pub output : Emitted old.output new.output (bytes_reported reported)
 
--- A device failed within what the last event gives it, once it had taken so many bytes. The other device took what the
+-- A device failed within what the last event gives it, once it had taken `count` bytes. The other device took what the
 -- events before give that one.
 pub record FailsAtLast (given others : Event → List ℕ) (old new : Listening) (bytes : List ℕ) (count : ℕ)
     (failing_old failing_new other_old other_new : BytesWritten) : Type 0 where
@@ -109,11 +109,11 @@ abbrev pub turn_after : List ℕ → Stage → Turn
 turn_after [] stage = turns.Closed
 turn_after (b ∷ bs) stage = turn_at stage
 
--- A step: one read gave these bytes, at most 1024, and what came of them is done.
+-- A step: one read gave these bytes, at most as many as a packet still lacks of its 520, and what came of them is done.
 pub record Fetches (old new : Fetching) (before after : BytesRead) (turn : Turn) : Type 0 where
   pub bytes : List ℕ
-  pub read : after ≡ reported_once before bytes
-  pub most : length bytes ≤ 1024
+  pub read : after ≡ read_once before bytes
+  pub most : length bytes + length old.client.kept ≤ 520
   pub delivers : Delivers old new bytes
   pub nothing : bytes ≡ [] → new ≡ old
   pub turn_is : turn ≡ turn_after bytes new.client.talk.stage
@@ -121,8 +121,8 @@ pub record Fetches (old new : Fetching) (before after : BytesRead) (turn : Turn)
 -- A step in which a write failed: one read gave these bytes.
 pub record IsCutShort (old new : Fetching) (before after : BytesRead) (fault : LinkFault) : Type 0 where
   pub bytes : List ℕ
-  pub read : after ≡ reported_once before bytes
-  pub most : length bytes ≤ 1024
+  pub read : after ≡ read_once before bytes
+  pub most : length bytes + length old.client.kept ≤ 520
   pub fails : FailsAt fault old new bytes
 
 -- Where the read failed, nothing else was done.

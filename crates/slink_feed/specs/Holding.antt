@@ -6,26 +6,27 @@ use Rattle.slink_feed.specs.declared.dialogue.Event.TheVariants as events
 use Rattle.slink_feed.specs.Dialogue.{Talk, Whole, ahead_of, read, requests_place}
 
 -- a new link begins, or a link brings a whole
-pub data Turn : Type 0 where
-  connects : Turn
-  brings : Whole → Turn
+pub data Arrival : Type 0 where
+  connects : Arrival
+  brings : Whole → Arrival
 
-abbrev pub turned : Talk → Turn → Talk × Event
-turned t connects = requests_place 0 t
-turned t (brings w) = read t w
+abbrev pub arrived : Talk → Arrival → Talk × Event
+arrived t connects = requests_place 0 t
+arrived t (brings w) = read t w
 
 -- the numbers of the records that are reported of a station
 abbrev pub numbers_in : ℕ → Event → List ℕ
 numbers_in k (events.Record j n bytes) = if j == k then n ∷ [] else []
 numbers_in k event = []
 
-abbrev pub numbers_of : ℕ → Talk → List Turn → List ℕ
+abbrev pub numbers_of : ℕ → Talk → List Arrival → List ℕ
 numbers_of k t [] = []
-numbers_of k t (turn ∷ turns) = numbers_in k (turned t turn).1 ++ numbers_of k (turned t turn).0 turns
+numbers_of k t (a ∷ more) = numbers_in k (arrived t a).1 ++ numbers_of k (arrived t a).0 more
 
-abbrev pub talk_after : Talk → List Turn → Talk
-talk_after t [] = t
-talk_after t (turn ∷ turns) = talk_after (turned t turn).0 turns
+-- what the client has come to once all arrived
+abbrev pub talk_past : Talk → List Arrival → Talk
+talk_past t [] = t
+talk_past t (a ∷ more) = talk_past (arrived t a).0 more
 
 -- A number is taken where one is wanted: it is that one; or, past holes, it is ahead of it by less than half of all
 -- numbers.

@@ -25,7 +25,7 @@ abbrev pub all_sent : List Sent → List ℕ
 all_sent [] = []
 all_sent (a ∷ more) = sent_bytes a ++ all_sent more
 
--- In the last so many asks there was nothing to give.
+-- In the last `n` asks there was nothing to give.
 abbrev pub HasWaited : ℕ → List Sent → Type 0
 HasWaited n given = (before : List Sent) × (given ≡ before ++ replicate n Wait)
 
@@ -44,7 +44,7 @@ pub record SendsAll (feed : List Window) (old new : Attending) : Type 0 where
   pub held : new.session.held ≡ old.session.held
   pub written : Emitted old.written new.written (all_sent given)
 
--- The link failed within the last that it gave, once it had taken so many bytes. The session stands after that.
+-- The link failed within the last that it gave, once it had taken `count` bytes. The session stands after that.
 pub record FailsToSend (feed : List Window) (old new : Attending) (count : ℕ) : Type 0 where
   pub given : List Sent
   pub last : Sent

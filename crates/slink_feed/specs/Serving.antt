@@ -1,16 +1,16 @@
 -- A session over the stream of bytes that its link brought so far.
-use Rattle.std.specs.Prelude.{◌≡◌, ℕ, List, [], ◌++◌}
+use Rattle.std.specs.Prelude.{◌≡◌, ℕ, List, [], ◌++◌, None, replicate}
 use Rattle.slink_wire.specs.declared.command.Command.{Command}
-use Rattle.slink_wire.specs.declared.lines.What.{What}
-use Rattle.slink_wire.specs.declared.lines.What.TheVariants.{More, Line, TooLong}
+use Rattle.slink_wire.specs.declared.lines.LineOutcome.{LineOutcome}
+use Rattle.slink_wire.specs.declared.lines.LineOutcome.TheVariants.{More, Line, TooLong}
 use Rattle.slink_wire.specs.declared.reply.Reply.{Reply}
 use Rattle.slink_wire.specs.declared.reply.Reply.TheVariants as Replies
 use Rattle.slink_wire.specs.Command.{IsCommand}
 use Rattle.slink_wire.specs.Lines.{Held, IsHeld}
 use Rattle.slink_wire.specs.Reply.{reply_bytes}
 use Rattle.slink_wire.specs.Taking.{Yields}
-use Rattle.slink_feed.specs.declared.session.Phase.TheVariants.{Closed}
-use Rattle.slink_feed.specs.Session.{State, answered, ended}
+use Rattle.slink_feed.specs.declared.session.Phase.TheVariants.{Closed, Fresh}
+use Rattle.slink_feed.specs.Session.{State, answered, at, ended}
 use Rattle.slink_feed.specs.Window.{Window}
 
 -- where a session stands, and what is held of its stream
@@ -18,19 +18,24 @@ pub record SessionState : Type 0 where
   pub state : State
   pub held : Held
 
+-- It is the session of a new connection: it has read nothing, and granted nothing.
+pub record IsNew (s : SessionState) : Type 0 where
+  pub state : s.state ≡ at Fresh (replicate 16 None)
+  pub held : IsHeld s.held []
+
 -- what it comes to that no line ended, that one did, or that one is too long
-abbrev pub IsAnswer : List Window → State → What → State → Reply → Type 0
+abbrev pub IsAnswer : List Window → State → LineOutcome → State → Reply → Type 0
 IsAnswer feed s More new reply = (new ≡ s) × (reply ≡ Replies.Nothing)
 IsAnswer feed s (Line line) new reply = (c : Command) × IsCommand line.items c × (answered feed s c ≡ (new, reply))
 IsAnswer feed s TooLong new reply = ended s ≡ (new, reply)
 
 -- The answer to what the one stream has beyond the other.
 abbrev pub Answers : List Window → State → List ℕ → List ℕ → State → Reply → Type 0
-Answers feed s before after new reply = (what : What) × Yields what before after × IsAnswer feed s what new reply
+Answers feed s before after new reply = (what : LineOutcome) × Yields what before after × IsAnswer feed s what new reply
 
--- So many bytes of these were taken: all of them, unless a line ended or is too long.
+-- Of `count` bytes the first `used` were taken: all of them, unless a line ended or is too long.
 abbrev pub TakesWhole : List ℕ → List ℕ → ℕ → ℕ → Type 0
-TakesWhole before after used count = (what : What) × Yields what before after × (what ≡ More → used ≡ count)
+TakesWhole before after used count = (what : LineOutcome) × Yields what before after × (what ≡ More → used ≡ count)
 
 -- A session takes bytes, of which the last may end a line, and replies. A closed one replies nothing.
 pub record Takes (feed : List Window) (old : SessionState) (bytes : List ℕ) (new : SessionState)

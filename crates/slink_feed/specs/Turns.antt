@@ -7,12 +7,12 @@ is_empty [] = true
 is_empty (b ∷ bs) = false
 
 -- one read more, which gave these bytes: none of them, where the link is at its end
-abbrev pub reported_once : BytesRead → List ℕ → BytesRead
-reported_once h reported = record {
-  bytes = h.bytes ++ reported;
+abbrev pub read_once : BytesRead → List ℕ → BytesRead
+read_once h given = record {
+  bytes = h.bytes ++ given;
   calls = h.calls + 1;
   failures = h.failures;
-  is_at_end = h.is_at_end || is_empty reported;
+  is_at_end = h.is_at_end || is_empty given;
 }
 
 -- one read more, which failed
@@ -24,7 +24,7 @@ pub record Emitted (old new : BytesWritten) (more : List ℕ) : Type 0 where
   pub bytes : new.bytes ≡ old.bytes ++ more
   pub failures : new.failures ≡ old.failures
 
--- A sink accepted so many of these bytes, and not all, and failed.
+-- A sink accepted the first `count` of these bytes, and not all, and failed.
 pub record EmittedPrefix (old new : BytesWritten) (more : List ℕ) (count : ℕ) : Type 0 where
   pub bytes : new.bytes ≡ old.bytes ++ take count more
   pub part : count < length more

@@ -37,9 +37,10 @@ abbrev pub Resolves : Window → ℕ → ℕ → Type 0
 Resolves w seq number = (oldest_of w ≤ number) × (number ≤ w.next) × (number % 2 ^ 24 ≡ seq % 2 ^ 24)
 
 -- how far the first number that is seq modulo 2^24 stands after the oldest
-abbrev pub ahead_of : Window → ℕ → ℕ
-ahead_of w seq = (seq % 2 ^ 24 + 2 ^ 24 - oldest_of w % 2 ^ 24) % 2 ^ 24
+abbrev pub ahead_of_oldest : Window → ℕ → ℕ
+ahead_of_oldest w seq = (seq % 2 ^ 24 + 2 ^ 24 - oldest_of w % 2 ^ 24) % 2 ^ 24
 
 -- that number, unless it is past the next one
 abbrev pub resolve_of : Window → ℕ → Option ℕ
-resolve_of w seq = if nat_le (ahead_of w seq) (w.next - oldest_of w) then Some (oldest_of w + ahead_of w seq) else None
+resolve_of w seq =
+    if nat_le (ahead_of_oldest w seq) (w.next - oldest_of w) then Some (oldest_of w + ahead_of_oldest w seq) else None

@@ -1,5 +1,5 @@
 //! The client of one feed.
-ghost use Rattle.std.specs.Prelude.{◌≡◌, ◌≢◌, ◌++◌, ◌≤◌, ◌<◌, ◌^◌, ℕ, List, [], true, false, IfNone, IfSome};
+ghost use Rattle.std.specs.Prelude.{◌≡◌, ◌≢◌, ◌+◌, ◌++◌, ◌≤◌, ◌<◌, ◌^◌, ℕ, List, [], true, false, IfNone, IfSome};
 ghost use Rattle.std.specs.Prelude.{length, take};
 ghost use Rattle.std.specs.Bool.{OnFalse, OnTrue};
 ghost use Rattle.slink_wire.specs.Packet.{HasHead, IsPacket};
@@ -17,11 +17,10 @@ ghost use Rattle.slink_feed.specs.Listening.{event_if_any};
 
 use crate::cutting::{Part, take_packet, take_reply};
 use crate::dialogue::{Bytes, Dialogue, Ending, Event, LONGEST_LINE, Stage, Wanted, want_at};
-use crate::feed::STATIONS;
 use crate::grant::Mode;
 use crate::turn::Turn;
 use arrayvec::ArrayVec;
-use slink_wire::{PACKET, Packet, Place};
+use slink_wire::{PACKET, Packet, Place, STATIONS};
 use std::marker::Model;
 
 /// A client that asks for the records of up to sixteen stations over one link, and over another once that is lost.
@@ -110,7 +109,7 @@ impl Client {
     }
 
     /// Returns the line of the last reply, without its CR LF. It has no bytes before the first reply, and after bytes
-    /// that are none where one was awaited.
+    /// that were no reply, packet or end.
     pub fn reply(&self) -> &[u8]
         ensures { result.now ≡ self.now.talk.reply }
     {
@@ -192,7 +191,7 @@ impl Client {
     /// How many bytes a packet still lacks with those that are kept.
     pub(crate) fn lack(&self) -> usize
         ensures some { 0 < result }
-        ensures most { result ≤ PACKET }
+        ensures lack { result + length self.now.kept ≡ PACKET }
     {
         PACKET - self.kept.len()
     }

@@ -14,6 +14,7 @@ use crate::session::Phase;
 
 /// A step of a session with its link comes to one thing: what the session comes to, which bytes the link accepts and
 /// what the step returns are determined by the session, by its feed, and by what the link gave.
+#[tactic(auto, using(crate::proofs::OneTurn::turned_once, crate::proofs::OneTurn::cut_once))]
 pub fn one_turn()
     ensures turn { (feed : List Window) (old a b : Attending) (before after : BytesRead) (t u : Turn)
         → Stands old.session
@@ -31,6 +32,7 @@ pub fn one_turn()
 /// whatever the link gives, are packets, and `END` where all that was requested was sent. The packets of each station
 /// with a grant are a slice of its records from the grant on, and no other station has any. Before that moment there
 /// are none.
+#[tactic(auto, using(crate::proofs::Connected::turns_sent, crate::proofs::Connected::turns_failed))]
 pub fn turns_send_slices()
     ensures before { (feed : List Window) (old new : Attending) → IsBefore old.session.state.phase
         → SendsAll feed old new → (new.session ≡ old.session) × (new.written.bytes ≡ old.written.bytes) }

@@ -4,7 +4,7 @@ ghost use Rattle.slink_feed.specs.Cutting.{Begins, IsPacketBegun, IsReplyBegun};
 ghost use Rattle.slink_feed.specs.private.Parts.{IsDue, IsPacketPart, IsReplyPart, TakesUpTo, ends_reply};
 
 use arrayvec::ArrayVec;
-use slink_wire::{HEAD, PACKET, Packet};
+use slink_wire::{HEAD, PACKET, Packet, put};
 
 /// The most bytes of a reply, with its CR LF.
 const LONGEST_REPLY: usize = 256;
@@ -20,16 +20,6 @@ pub(crate) enum Part {
     End,
     /// None of these.
     Garbage,
-}
-
-/// Puts bytes after others.
-pub(crate) fn put<const N: usize>(kept: &mut ArrayVec<u8, N>, bytes: &[u8])
-    requires { length kept.old.items + length bytes.now ≤ N }
-    ensures items { kept.new.items ≡ kept.old.items ++ bytes.now }
-    ensures len { length kept.new.items ≡ length kept.old.items + length bytes.now }
-{
-    // There is room.
-    let _ = kept.try_extend_from_slice(bytes);
 }
 
 /// Takes one byte of a reply.
@@ -102,6 +92,7 @@ fn judge(bytes: &[u8]) -> Part
 }
 
 /// What bytes that begin with `S` have come to.
+#[tactic(auto, using(crate::proofs::Heads::eight_none))]
 fn judge_packet(bytes: &[u8]) -> Part
     requires begins { Begins bytes.now 83 }
     requires due { IsDue bytes.now }

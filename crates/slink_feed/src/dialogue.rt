@@ -9,12 +9,10 @@ ghost use Rattle.slink_feed.specs.Dialogue.{requests_number, requests_place, sen
 ghost use Rattle.slink_feed.specs.Dialogue.{with_next};
 ghost use Rattle.slink_feed.specs.Listening.{AwaitsReply, IsLinked, new_client};
 
-use crate::cutting::put;
-use crate::feed::STATIONS;
 use crate::grant::Mode;
 use crate::ring::SPAN;
 use arrayvec::ArrayVec;
-use slink_wire::{Place, Request};
+use slink_wire::{Place, Request, STATIONS, header_codes, put};
 use std::marker::Model;
 
 /// A line that a client sends, with its CR LF: at most 32 bytes.
@@ -125,8 +123,9 @@ fn foreign_by(bytes: &[u8; 512]) -> Ending
 {
     let mut station = [0; 5];
     let mut network = [0; 2];
-    station.copy_from_slice(&bytes[8..13]);
-    network.copy_from_slice(&bytes[18..20]);
+    let codes = header_codes(bytes);
+    station.copy_from_slice(codes.0);
+    network.copy_from_slice(codes.1);
     Ending::Foreign { station, network }
 }
 

@@ -14,12 +14,9 @@ ghost use Rattle.slink_feed.specs.Window.{Shows, Window, with_record};
 use crate::input::{ForeignRecord, InputFault};
 use crate::ring::Ring;
 use arrayvec::ArrayVec;
-use slink_wire::Place;
+use slink_wire::{Place, STATIONS};
 use std::alloc::{Allocator, Global};
 use std::marker::Model;
-
-/// The most stations of a feed, each with its ring, and of a client.
-pub const STATIONS: usize = 16;
 
 /// Why a ring isn't taken. It comes back.
 #[derive(Drop)]
@@ -77,6 +74,7 @@ impl<A: Allocator> Feed<A> {
     /// # Errors
     ///
     /// `Full` where there are sixteen rings, else `Double` where one has its station. The ring comes back.
+    #[tactic(auto, using(crate::proofs::Slots::same_length))]
     pub fn add(&mut self, ring: Ring<A>) -> Result<(), FeedFault<A>>
         ensures ok { OnOk result (self.new ≡ self.old ++ ring ∷ []) }
         ensures taken { OnOk result ((length self.old < STATIONS) × LacksPlace self.old ring.place) }
@@ -106,6 +104,7 @@ impl<A: Allocator> Feed<A> {
     }
 
     /// Returns how many rings the feed has, at most sixteen.
+    #[tactic(auto, using(crate::proofs::Slots::same_length))]
     pub fn len(&self) -> usize
         ensures value { result ≡ length self.now }
         ensures most { result ≤ STATIONS }
@@ -127,6 +126,7 @@ impl<A: Allocator> Feed<A> {
 
     /// Gives a record to the ring at an index, of whose station it is, under the ring's next number, which is below
     /// 2^63. The oldest record leaves a full ring.
+    #[tactic(auto, using(crate::proofs::Slots::same_length))]
     pub fn push(&mut self, k: usize, bytes: &[u8; 512])
         requires in_range { k < length self.old }
         requires bears { ForSome (slice_get self.old k) (λ w. Bears bytes.now w.place) }

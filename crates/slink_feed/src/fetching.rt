@@ -51,31 +51,19 @@ pub fn fetch_turn<S: Duplex, W: Sink>(
 {
     let mut reporter = Reporter::new(client, false);
     let mut nowhere = Counted::new(sink());
-    fetch_turn_reporting(client, link, output, &mut nowhere, &mut reporter)
+    fetch_turn_in(
+        client,
+        link,
+        output,
+        &mut nowhere,
+        &mut reporter,
+        &mut [0; PACKET],
+    )
 }
 
 /// Takes one step with a client's link as [`fetch_turn`] does. What the reporter reports of a record, if anything, is
-/// written to `errors` before the record is, and the reporter notes that the output accepted one.
-///
-/// # Errors
-///
-/// Those of [`fetch_turn`].
-pub fn fetch_turn_reporting<S: Duplex, W: Sink, E: Sink>(
-    client: &mut Client,
-    link: &mut S,
-    output: &mut W,
-    errors: &mut E,
-    reporter: &mut Reporter,
-) -> Result<Turn, LinkFault>
-    ensures { TakesReportingTurn result (fetching client.old (S.written link.old) (W.written output.old))
-        (fetching client.new (S.written link.new) (W.written output.new)) (S.read link.old) (S.read link.new)
-        reporter.old reporter.new (E.written errors.old) (E.written errors.new) }
-{
-    fetch_turn_in(client, link, output, errors, reporter, &mut [0; PACKET])
-}
-
-/// Takes one step with a client's link as [`fetch_turn_reporting`] does. The bytes that are read stand in room that is
-/// lent to one step after another: a record goes to the output from there.
+/// written to `errors` before the record is, and the reporter notes that the output accepted one. The bytes that are
+/// read stand in room that is lent to one step after another: a record goes to the output from there.
 ///
 /// # Errors
 ///
@@ -114,7 +102,7 @@ fn read<L: Sink, W: Sink, E: Sink>(
     errors: &mut E,
     reporter: &mut Reporter,
 ) -> Result<(), LinkFault>
-    requires { length bytes.now ≤ 1024 }
+    requires { length bytes.now ≤ PACKET }
     ensures ok { OnOk result (Delivers (fetching client.old (L.written link.old) (W.written output.old))
         (fetching client.new (L.written link.new) (W.written output.new)) bytes.now) }
     ensures fault { IfErr result
@@ -203,6 +191,7 @@ fn take_next<L: Sink, W: Sink, E: Sink>(
 }
 
 /// Delivers an event: its line to the link, or its record, once that was reported, to the output.
+#[tactic(auto, using(crate::proofs::Noting::nothing_noted, crate::proofs::ReportLines::unreported))]
 fn deliver<L: Sink, W: Sink, E: Sink>(
     event: &Event,
     link: &mut L,
@@ -242,6 +231,7 @@ fn deliver<L: Sink, W: Sink, E: Sink>(
 }
 
 /// Reports a record, and writes it to the output.
+#[tactic(auto, using(crate::proofs::Noting::failed_noted, crate::proofs::Noting::record_noted))]
 fn deliver_record<W: Sink, E: Sink>(
     index: usize,
     number: u32,

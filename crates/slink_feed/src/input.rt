@@ -3,10 +3,7 @@ ghost use Rattle.std.specs.Prelude.{◌≡◌};
 ghost use Rattle.slink_feed.specs.Intake.{foreign_of};
 
 use mseed_stream::StreamFault;
-
-/// The bytes of a header up to the end of the network's code, its last one here (SEED manual, chapter 8, "Fixed section
-/// of data header").
-const CODES: usize = 20;
+use slink_wire::{CODES, header_codes};
 
 /// A record of an input that isn't the feed's.
 #[derive(Clone, Copy, Debug, PartialEq, Eq)]
@@ -29,8 +26,9 @@ impl ForeignRecord {
         let mut station = [b' '; 5];
         let mut network = [b' '; 2];
         if bytes.len() >= CODES {
-            station.copy_from_slice(&bytes[8..13]);
-            network.copy_from_slice(&bytes[18..20]);
+            let codes = header_codes(bytes);
+            station.copy_from_slice(codes.0);
+            network.copy_from_slice(codes.1);
         }
         ForeignRecord {
             number,

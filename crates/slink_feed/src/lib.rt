@@ -23,8 +23,8 @@ mod turn;
 pub use client::Client;
 pub use connection::{one_turn, turns_send_slices};
 pub use dialogue::{Answer, Bytes, Ending, Event, Stage, Wanted};
-pub use feed::{Feed, FeedFault, STATIONS};
-pub use fetching::{Room, fetch_turn, fetch_turn_in, fetch_turn_reporting};
+pub use feed::{Feed, FeedFault};
+pub use fetching::{Room, fetch_turn, fetch_turn_in};
 pub use grant::{Grant, Mode};
 pub use input::{ForeignRecord, InputFault};
 pub use law::{
@@ -33,7 +33,7 @@ pub use law::{
 };
 pub use reported::wants_move_by_records;
 pub use reporter::Reporter;
-pub use ring::{MOST_RECORDS, Ring, RingFault};
+pub use ring::{Ring, RingFault};
 pub use serving::serve_turn;
 pub use session::{Phase, Sent, Session, Unsent};
 pub use turn::{LinkFault, Turn};

@@ -1,6 +1,6 @@
 //! How far a session has come: which commands it answers how, and which packets it sends.
 ghost use Rattle.std.specs.Prelude.{◌≡◌, ◌≢◌, ◌⊎◌, ◌≤◌, ◌<◌, List, ℕ, None, IfErr, IfNone, IfOk, IfSome};
-ghost use Rattle.std.specs.Prelude.{◌↔◌, IsTrue, Some, length, replicate, slice_get};
+ghost use Rattle.std.specs.Prelude.{◌↔◌, ◌^◌, IsTrue, Some, length, replicate, slice_get};
 ghost use Rattle.std.specs.Bool.{OnFalse, OnTrue};
 ghost use Rattle.std.specs.Option.{ForSome};
 ghost use Rattle.slink_wire.specs.Packet.{packet_bytes};
@@ -11,15 +11,14 @@ ghost use Rattle.slink_feed.specs.Serving.{IsAnswer};
 ghost use Rattle.slink_feed.specs.Session.{AreReached, Fits, State, has_sent_all, answered, called, at, at_next};
 ghost use Rattle.slink_feed.specs.Session.{chosen, ended, grant_at, answer_chosen, answer_fresh, answer_granted};
 ghost use Rattle.slink_feed.specs.Session.{answer_streaming};
-ghost use Rattle.slink_feed.specs.Session.{has_sent, sent, IsAtNext, IsWaiting, sent_without};
+ghost use Rattle.slink_feed.specs.Session.{has_sent, sent, IsAtNext, sent_without};
 ghost use Rattle.slink_feed.specs.Window.{record_at};
-ghost use Rattle.slink_feed.specs.private.Replying.{SendsRecord};
 
-use crate::feed::{Feed, STATIONS};
+use crate::feed::Feed;
 use crate::grant::{Grant, Mode, first_granted};
-use crate::ring::{MOST_RECORDS, SPAN};
+use crate::ring::SPAN;
 use crate::session::{Phase, Sent, Unsent};
-use slink_wire::{Command, Packet, Reply, What};
+use slink_wire::{Command, LineOutcome, MOST_RECORDS, Packet, Reply, STATIONS};
 use std::alloc::Allocator;
 use std::marker::Model;
 
@@ -83,6 +82,7 @@ impl Progress {
     /// # Errors
     ///
     /// Why no record is sent.
+    #[tactic(auto, using(crate::proofs::Waits::waits_before))]
     pub(crate) fn next_record<'f, A: Allocator>(
         &mut self,
         feed: &'f Feed<A>,
@@ -90,7 +90,11 @@ impl Progress {
     ) -> Result<(u32, &'f [u8; 512]), Unsent>
         requires in_range { k < length feed.now }
         requires fits { Fits feed.now self.old }
-        ensures sends { IfOk result (λ r. SendsRecord feed.now k self.old self.new r.0 r.1.now) }
+        ensures sent { IfOk result (λ r. sent feed.now self.old k
+            ≡ (self.new, Sent.Packet (packet_bytes r.0 r.1.now))) }
+        ensures number { IfOk result (λ r. r.0 < 2 ^ 24) }
+        // The ring of a record keeps at most 1,000,000 records.
+        ensures few { IfOk result (λ _. ForSome (slice_get feed.now k) (λ w. length w.records ≤ MOST_RECORDS)) }
         ensures unsent { IfErr result (λ e. sent feed.now self.old k ≡ (self.new, sent_without e)) }
         ensures fits { Fits feed.now self.new }
     {
@@ -115,7 +119,11 @@ impl Progress {
         requires phase { self.old.phase ≡ Phase.Streaming }
         requires granted { grant_at self.old.grants k ≡ Some grant }
         requires fits { AreReached feed.now self.old.grants }
-        ensures sends { IfOk result (λ r. SendsRecord feed.now k self.old self.new r.0 r.1.now) }
+        ensures sent { IfOk result (λ r. sent feed.now self.old k
+            ≡ (self.new, Sent.Packet (packet_bytes r.0 r.1.now))) }
+        ensures number { IfOk result (λ r. r.0 < 2 ^ 24) }
+        // The ring of a record keeps at most 1,000,000 records.
+        ensures few { IfOk result (λ _. ForSome (slice_get feed.now k) (λ w. length w.records ≤ MOST_RECORDS)) }
         ensures unsent { IfErr result (λ e. sent feed.now self.old k ≡ (self.new, sent_without e)) }
         ensures fits { Fits feed.now self.new }
     {
@@ -142,7 +150,11 @@ impl Progress {
         requires phase { self.old.phase ≡ Phase.Streaming }
         requires granted { grant_at self.old.grants k ≡ Some grant }
         requires fits { AreReached feed.now self.old.grants }
-        ensures sends { IfSome result (λ r. SendsRecord feed.now k self.old self.new r.0 r.1.now) }
+        ensures sent { IfSome result (λ r. sent feed.now self.old k
+            ≡ (self.new, Sent.Packet (packet_bytes r.0 r.1.now))) }
+        ensures number { IfSome result (λ r. r.0 < 2 ^ 24) }
+        // The ring of a record keeps at most 1,000,000 records.
+        ensures few { IfSome result (λ _. ForSome (slice_get feed.now k) (λ w. length w.records ≤ MOST_RECORDS)) }
         ensures none { IfNone result (self.new ≡ self.old) }
         ensures gone { IfNone result (ForSome (slice_get feed.now k) (λ w. record_at w grant.position ≡ None)) }
         ensures fits { Fits feed.now self.new }
@@ -158,36 +170,6 @@ impl Progress {
             }
             None => None,
         }
-    }
-
-    /// Whether nothing is sent of any station now.
-    pub(crate) fn is_waiting<A: Allocator>(&self, feed: &Feed<A>) -> bool
-        ensures { IsTrue result ↔ IsWaiting feed.now self.now }
-    {
-        match self.phase {
-            Phase::Fresh | Phase::Chosen(_) | Phase::Granted(_) => true,
-            Phase::Streaming => self.is_up_to_date(feed),
-            // A call for any station reports that the session is closed.
-            Phase::Closed => feed.len() == 0,
-        }
-    }
-
-    /// Whether a session that sends records sends nothing now: each station that has a grant has all its records, and
-    /// where one has, not all are fetched for good.
-    fn is_up_to_date<A: Allocator>(&self, feed: &Feed<A>) -> bool
-        requires { self.now.phase ≡ Phase.Streaming }
-        ensures { IsTrue result ↔ IsWaiting feed.now self.now }
-    {
-        let mut has_grant = false;
-        for k in 0..feed.len() {
-            if !self.is_at_next(feed, k) {
-                return false;
-            }
-            if self.grant_of(k).is_some() {
-                has_grant = true;
-            }
-        }
-        !has_grant || !self.has_sent_all(feed)
     }
 
     /// Whether a record of a station is due, or was, and left its ring.
@@ -271,15 +253,15 @@ impl Progress {
     }
 
     /// Answers what bytes of the stream gave.
-    pub(crate) fn answer_to<A: Allocator>(&mut self, feed: &Feed<A>, what: What) -> Reply
+    pub(crate) fn answer_to<A: Allocator>(&mut self, feed: &Feed<A>, what: LineOutcome) -> Reply
         requires { Fits feed.now self.old }
         ensures answer { IsAnswer feed.now self.old what self.new result }
         ensures fits { Fits feed.now self.new }
     {
         match what {
-            What::More => Reply::Nothing,
-            What::Line(line) => self.answer(feed, Command::read(line.as_slice())),
-            What::TooLong => self.end(),
+            LineOutcome::More => Reply::Nothing,
+            LineOutcome::Line(line) => self.answer(feed, Command::read(line.as_slice())),
+            LineOutcome::TooLong => self.end(),
         }
     }
 

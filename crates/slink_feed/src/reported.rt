@@ -9,6 +9,7 @@ ghost use Rattle.slink_feed.specs.Reported.{HasReported, numbers_at, records_rep
 /// A client reports whole records of its stations, and what a station wants next moves by the records that were
 /// reported of it and by nothing else: over one link, whatever this brings, and so over one link after another. Where
 /// the client doesn't go past holes, it moves by their number.
+#[tactic(auto, using(crate::proofs::ReportedOver::reported_far))]
 pub fn wants_move_by_records()
     ensures link { (start : Talk) (stream : List ℕ) (events : List Event) (now : Listening)
         → Reads start stream events now → HasReported start.holes start.wants now.talk.wants (records_reported events) }

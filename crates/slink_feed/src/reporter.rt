@@ -7,13 +7,11 @@ ghost use Rattle.slink_feed.specs.Reporter.{reporting_of, reporting_past, wants_
 ghost use Rattle.slink_feed.specs.private.Lines.{Appends};
 
 use crate::client::Client;
-use crate::cutting::put;
 use crate::dialogue::{Wanted, want_at, want_next};
-use crate::feed::STATIONS;
 use crate::ring::SPAN;
 use arrayvec::ArrayVec;
 use mseed_stream::{Sink, report};
-use slink_wire::{Place, six_digits};
+use slink_wire::{Place, STATIONS, put, six_digits};
 use std::marker::Model;
 
 /// The most bytes of a line: the longest one names sixteen stations.

@@ -6,15 +6,12 @@ ghost use Rattle.slink_feed.specs.Fault.{IsCapacity, IsRingFault};
 ghost use Rattle.slink_feed.specs.Window.{Resolves, Shows, oldest_of, record_at, resolve_of, with_record};
 
 use circular_buffer::HeapCircularBuffer;
-use slink_wire::Place;
+use slink_wire::{MOST_RECORDS, Place};
 use std::alloc::{Allocator, Global};
 use std::marker::Model;
 
 /// Sequence numbers count modulo this: they have six hexadecimal digits (SeedLink 3, packets).
 pub(crate) const SPAN: u64 = 1 << 24;
-
-/// The most records that a ring keeps.
-pub const MOST_RECORDS: usize = 1_000_000;
 
 /// Why there is no ring.
 #[derive(Clone, Copy, Debug, PartialEq, Eq)]
@@ -37,7 +34,7 @@ pub struct Ring<A: Allocator = Global> {
 
 impl<A: Allocator> Model for Ring<A> {
     ghost use Rattle.std.specs.Prelude.{◌<◌, ◌≤◌, ◌^◌, length};
-    ghost use Rattle.slink_feed.specs.declared.ring.TheConstants.{MOST_RECORDS};
+    ghost use Rattle.slink_wire.specs.declared.limits.TheConstants.{MOST_RECORDS};
     ghost use Rattle.slink_feed.specs.Window.{Window};
 
     ghost Value = { Window };

@@ -8,12 +8,12 @@ ghost use Rattle.slink_feed.specs.Rounds.{Attending, FailsToSend, place_after};
 ghost use Rattle.slink_feed.specs.Running.{Stands};
 ghost use Rattle.slink_feed.specs.Session.{Fits, sent_without};
 
-use crate::feed::{Feed, STATIONS};
+use crate::feed::Feed;
 use crate::reading::read_once;
 use crate::session::{Session, Unsent};
 use crate::turn::{LinkFault, Turn};
 use mseed_stream::{Duplex, Failed, Sink, write_all_of};
-use slink_wire::{PACKET, Packet};
+use slink_wire::{PACKET, Packet, STATIONS};
 use std::alloc::Allocator;
 
 /// The most bytes that a step reads.
@@ -127,12 +127,14 @@ fn send_all<A: Allocator, L: Sink>(
 
 /// How many bytes were written so far, and how many stations in a row had nothing to send.
 #[derive(Clone, Copy)]
-pub(crate) struct Given {
+pub(crate) struct SendProgress {
     written: usize,
     waits: usize,
 }
 
-/// Writes what is due of a station, after so many bytes. The packet of a record, which its ring lends, is made in room.
+/// Writes what is due of a station, after `before` bytes of this step. The packet of a record, which its ring lends, is
+/// made in room.
+#[tactic(auto, using(crate::proofs::Sendoffs::few_without))]
 fn give<A: Allocator, L: Sink>(
     session: &mut Session,
     feed: &Feed<A>,
@@ -141,7 +143,7 @@ fn give<A: Allocator, L: Sink>(
     room: &mut [u8; PACKET],
     before: usize,
     waits: usize,
-) -> Result<Given, usize>
+) -> Result<SendProgress, usize>
     requires in_range { k < length feed.now }
     requires fits { Fits feed.now session.old.state }
     requires room { before ≤ 2 ^ 41 }
@@ -158,11 +160,11 @@ fn give<A: Allocator, L: Sink>(
         Ok((number, bytes)) => {
             Packet::put(room, number, bytes);
             let written = write_after(link, room, before)?;
-            Ok(Given { written, waits: 0 })
+            Ok(SendProgress { written, waits: 0 })
         }
         Err(unsent) => {
             let after = write_after(link, unsent.bytes(), before)?;
-            Ok(Given {
+            Ok(SendProgress {
                 written: after,
                 waits: count_waits(unsent, waits),
             })
@@ -190,7 +192,8 @@ fn next_place<A: Allocator>(feed: &Feed<A>, k: usize) -> usize
     if k + 1 == count { 0 } else { k + 1 }
 }
 
-/// Takes bytes line by line, and writes the replies, after so many bytes.
+/// Takes bytes line by line, and writes the replies, after `before` bytes of this step.
+#[tactic(auto, using(crate::proofs::Sendoffs::reply_short))]
 fn reply_to_all<A: Allocator, L: Sink>(
     session: &mut Session,
     feed: &Feed<A>,
@@ -220,7 +223,7 @@ fn reply_to_all<A: Allocator, L: Sink>(
     Ok(())
 }
 
-/// Writes bytes after so many others, and returns how many there are with these.
+/// Writes bytes after `before` others, and returns how many there are with these.
 fn write_after<L: Sink>(link: &mut L, bytes: &[u8], before: usize) -> Result<usize, usize>
     requires room { before ≤ 2 ^ 41 }
     requires few { length bytes.now ≤ PACKET }

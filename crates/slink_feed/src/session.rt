@@ -1,6 +1,6 @@
 //! The session that serves one connection.
-ghost use Rattle.std.specs.Prelude.{◌≡◌, ◌≢◌, ◌≤◌, ◌<◌, ◌++◌, List, ℕ, [], None, length, option_map, replicate};
-ghost use Rattle.std.specs.Prelude.{◌↔◌, ◌^◌, IfErr, IfOk, IsTrue, slice_get, take};
+ghost use Rattle.std.specs.Prelude.{◌≡◌, ◌≢◌, ◌≤◌, ◌<◌, ◌++◌, List, ℕ, length, option_map};
+ghost use Rattle.std.specs.Prelude.{◌^◌, IfErr, IfOk, slice_get, take};
 ghost use Rattle.std.specs.Bool.{OnFalse, OnTrue};
 ghost use Rattle.std.specs.Option.{ForSome};
 ghost use Rattle.slink_wire.specs.Lines.{IsHeld, YieldsNothing};
@@ -8,14 +8,13 @@ ghost use Rattle.slink_wire.specs.Packet.{packet_bytes};
 ghost use Rattle.slink_feed.specs.declared.grant.Grant.{Grant};
 ghost use Rattle.slink_feed.specs.Window.{Window};
 ghost use Rattle.slink_feed.specs.Running.{Stands};
-ghost use Rattle.slink_feed.specs.Serving.{Answers, SessionState, TakesWhole};
-ghost use Rattle.slink_feed.specs.Session.{Fits, IsAtNext, IsWaiting, has_sent_all, at, grant_at, sent, sent_bytes};
+ghost use Rattle.slink_feed.specs.Serving.{Answers, IsNew, SessionState, TakesWhole};
+ghost use Rattle.slink_feed.specs.Session.{Fits, IsAtNext, has_sent_all, grant_at, sent, sent_bytes};
 ghost use Rattle.slink_feed.specs.Session.{sent_without};
 
-use crate::feed::{Feed, STATIONS};
+use crate::feed::Feed;
 use crate::progress::Progress;
-use crate::ring::MOST_RECORDS;
-use slink_wire::{Lines, PACKET, Reply, Took};
+use slink_wire::{Lines, MOST_RECORDS, PACKET, Reply, Took};
 use std::alloc::Allocator;
 use std::marker::Model;
 
@@ -105,9 +104,8 @@ impl Model for Session {
 impl Session {
     /// Returns the session of a new connection: no station is chosen, and none has a grant.
     pub fn new() -> Session
-        ensures state { result.state ≡ at Phase.Fresh (replicate STATIONS None) }
+        ensures is_new { IsNew result }
         ensures fits { (feed : List Window) → Fits feed result.state }
-        ensures held { IsHeld result.held [] }
         ensures stands { Stands result }
     {
         Session {
@@ -193,15 +191,6 @@ impl Session {
         ensures few { IfOk result (λ _. ForSome (slice_get feed.now k) (λ w. length w.records ≤ MOST_RECORDS)) }
     {
         self.progress.next_record(feed, k)
-    }
-
-    /// Returns whether nothing is sent of any station now: then [`Session::packet`] gives nothing for any of them.
-    ///
-    /// It is lent the same feed at every call, whose rings keep their indices.
-    pub fn is_waiting<A: Allocator>(&self, feed: &Feed<A>) -> bool
-        ensures { IsTrue result ↔ IsWaiting feed.now self.now.state }
-    {
-        self.progress.is_waiting(feed)
     }
 
     /// Returns whether a record is due of the station at an index of the feed: the session streams, was granted the

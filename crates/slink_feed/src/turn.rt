@@ -22,10 +22,10 @@ pub enum LinkFault {
     /// The link failed at a read.
     #[error("the link failed at a read")]
     Read,
-    /// The link failed at a write, once it had accepted so many bytes in the step.
+    /// The link failed at a write, once it had accepted this number of bytes in the step.
     #[error("the link failed after {0} bytes")]
     Write(usize),
-    /// The output failed, once it had accepted so many bytes in the step.
+    /// The output failed, once it had accepted this number of bytes in the step.
     #[error("the output failed after {0} bytes")]
     Output(usize),
 }

@@ -1,21 +1,14 @@
 -- What the parts of a session's step do.
-use Rattle.std.specs.Prelude.{◌≡◌, ℕ, ◌+◌, ◌<◌, ◌≤◌, List, length, slice_get}
+use Rattle.std.specs.Prelude.{◌≡◌, ℕ, ◌+◌, ◌≤◌, List, length, slice_get}
 use Rattle.std.specs.Option.{ForSome}
 use Rattle.mseed_stream.specs.Device.{BytesWritten}
-use Rattle.slink_wire.specs.Packet.{packet_bytes}
 use Rattle.slink_feed.specs.declared.session.Sent.{Sent}
 use Rattle.slink_feed.specs.declared.session.Sent.TheVariants as sents
 use Rattle.slink_feed.specs.Attending.{FailsToReply}
 use Rattle.slink_feed.specs.Rounds.{Attending, SendsAll}
-use Rattle.slink_feed.specs.Session.{State, sent, sent_bytes}
+use Rattle.slink_feed.specs.Session.{sent, sent_bytes}
 use Rattle.slink_feed.specs.Turns.{Emitted, EmittedPrefix}
 use Rattle.slink_feed.specs.Window.{Window}
-
--- The packet of this record of a station is sent, of a ring that keeps no more records than it may.
-pub record SendsRecord (feed : List Window) (k : ℕ) (old new : State) (number : ℕ) (bytes : List ℕ) : Type 0 where
-  pub sent_is : sent feed old k ≡ (new, sents.Packet (packet_bytes number bytes))
-  pub small : number < 16777216
-  pub few : ForSome (slice_get feed k) (λ w. length w.records ≤ 1000000)
 
 -- After so many bytes these were written.
 pub record IsWritten (old new : BytesWritten) (bytes : List ℕ) (before after : ℕ) : Type 0 where

@@ -1,10 +1,11 @@
 use Rattle.std.proofs.Common.{drop, refl}
-use Rattle.slink_feed.proofs.Received.{packet_short, same_packet}
+use Rattle.slink_feed.proofs.Received.{short_packet, same_packet}
 use Rattle.slink_feed.proofs.client.read_packet.Goals as goal
 
 pub read_packet-requires : goal.read_packet-requires
 read_packet-requires c =
-    packet_short c.args.bytes.now _ _ _ c.requires.2 c.in-Some.ensures.cases.same c.in-Ok.ensures.packet
+    short_packet c.args.bytes.now _ _ c.requires.2 (rw (same_packet c.args.bytes.now c.in-Some.packet.now c.requires.2
+    c.in-Some.ensures.cases.same) at c.in-Ok.ensures.packet)
 
 pub unreachable-requires-in-Err : goal.unreachable-requires-in-Err
 unreachable-requires-in-Err c =

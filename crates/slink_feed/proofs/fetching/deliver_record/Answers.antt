@@ -1,6 +1,5 @@
-use Rattle.std.proofs.Common.{◌∙◌, ap, append-nil, arith, refl}
+use Rattle.std.proofs.Common.{◌∙◌, ap, append-nil, refl}
 use Rattle.slink_feed.specs.Reporter.{ReporterState}
-use Rattle.slink_feed.proofs.Noting.{failed_noted, record_noted}
 use Rattle.slink_feed.proofs.fetching.deliver_record.Goals as goal
 
 pub returns-in-Err-clause-reported : goal.returns-in-Err-clause-reported
@@ -15,16 +14,6 @@ returns-in-Ok-clause-reported g c = record {
       ∙ ap (λ (s : ReporterState). s.reporting) c.note.ensures.reporting;
   lines = rw append-nil c.note.ensures.lines;
 }
-
-pub returns-in-Err-clause-received : goal.returns-in-Err-clause-received
-returns-in-Err-clause-received g c =
-    failed_noted c.args.reporter.now.received _ _ _ _
-    (ap (λ (s : ReporterState). s.received) c.note.ensures.reporting) c.in-Err.ensures.err c.in-Err.ensures.failed
-
-pub returns-in-Ok-clause-received : goal.returns-in-Ok-clause-received
-returns-in-Ok-clause-received g c =
-    record_noted c.args.reporter.now.received _ _ _ _ (ap (λ (s : ReporterState). s.received) c.receive.ensures)
-    c.in-Ok.ensures.ok (omega arith)
 
 pub returns-in-Err-clause-fault : goal.returns-in-Err-clause-fault
 returns-in-Err-clause-fault g c link = record {

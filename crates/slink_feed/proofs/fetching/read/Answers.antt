@@ -2,7 +2,7 @@ use Rattle.std.proofs.Common.{◌∙◌, refl}
 use Rattle.std.proofs.lemmas.Result.{err_from_is_err_and}
 use Rattle.slink_feed.proofs.Deliveries.{all_delivered, fails_here, nothing_so_far, one_more, piece_of}
 use Rattle.slink_feed.proofs.Noting.{notes_both}
-use Rattle.slink_feed.proofs.Reporting.{reports_cut, reports_received, noted_none}
+use Rattle.slink_feed.proofs.Reporting.{reports_more, takes_cut, takes_event, noted_none}
 use Rattle.slink_feed.proofs.Sendoffs.{passed_on}
 use Rattle.slink_feed.proofs.fetching.read.Goals as goal
 
@@ -25,8 +25,9 @@ pub returns-in_err-incoming-clause-noted : goal.returns-in_err-incoming-clause-n
 returns-in_err-incoming-clause-noted g c = record {
   received = notes_both _ _ _ _ _ _ c.loop-offset.invariant.so_far.output.failures
       c.loop-offset.invariant.noted.received c.take_next.ensures.received;
-  reports = reports_cut _ _ _ _ _ _ _ _ _ refl refl c.loop-offset.invariant.noted.reports
-      c.loop-offset.invariant.so_far.output.failures c.in_err-incoming.ensures.fault;
+  reports = reports_more _ _ _ _ _ _ _ _ c.loop-offset.invariant.noted.reports
+      c.loop-offset.invariant.so_far.output.failures c.in_err-incoming.ensures.fault.comes.brings
+      (takes_cut _ _ _ _ _ _ _ c.in_err-incoming.ensures.fault.cut) c.in_err-incoming.ensures.fault.reported;
 }
 
 pub loop-offset-preserved : goal.loop-offset-preserved
@@ -38,8 +39,9 @@ loop-offset-preserved g c = record {
   noted = record {
     received = notes_both _ _ _ _ _ _ c.loop-offset.invariant.so_far.output.failures
         c.loop-offset.invariant.noted.received c.take_next.ensures.received;
-    reports = reports_received _ _ _ _ _ _ _ _ _ _ refl refl c.loop-offset.invariant.noted.reports
-        c.loop-offset.invariant.so_far.output.failures c.in_ok-incoming.ensures.ok;
+    reports = reports_more _ _ _ _ _ _ _ _ c.loop-offset.invariant.noted.reports
+        c.loop-offset.invariant.so_far.output.failures c.in_ok-incoming.ensures.ok.comes.brings
+        (takes_event _ _ _ _ _ _ _ c.in_ok-incoming.ensures.ok.done) c.in_ok-incoming.ensures.ok.reported;
   };
   beside = c.take_next.ensures.beside ∙ c.loop-offset.invariant.beside;
 }

@@ -1,4 +1,4 @@
-use Rattle.slink_feed.proofs.ReportedOver.{reported_both, reported_far, reported_link}
+use Rattle.slink_feed.proofs.ReportedOver.{reported_both, reported_link}
 use Rattle.slink_feed.proofs.reported.wants_move_by_records.Goals as goal
 
 pub returns-clause-link : goal.returns-clause-link
@@ -6,6 +6,3 @@ returns-clause-link c = λ start stream events now reads. reported_link start st
 
 pub returns-clause-links : goal.returns-clause-links
 returns-clause-links c = λ holes old now new some more h too. reported_both holes old now new some more h too
-
-pub returns-clause-moved : goal.returns-clause-moved
-returns-clause-moved c = λ old new records k n h short at. reported_far old new records k n h short at

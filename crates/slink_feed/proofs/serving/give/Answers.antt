@@ -47,6 +47,3 @@ returns-in_ok-after-in-Err-clause-ok g c = record {
   waited_is = c.count_waits.ensures;
   few = λ bytes is. absurd (no_packet c.in-Err.unsent bytes is);
 }
-
-pub write_after-requires-in-Err-clause-few : goal.write_after-requires-in-Err-clause-few
-write_after-requires-in-Err-clause-few g c = rw c.bytes.ensures (few_without c.in-Err.unsent)

@@ -1,7 +1,7 @@
 use Rattle.std.proofs.Common.{◌∙◌, arith, refl, take_all}
 use Rattle.std.proofs.lemmas.Result.{err_from_is_err_and}
 use Rattle.slink_feed.proofs.Deliveries.{piece_length}
-use Rattle.slink_feed.proofs.Sendoffs.{nothing_replied, one_replied, passed_on, reply_short, unreplied}
+use Rattle.slink_feed.proofs.Sendoffs.{nothing_replied, one_replied, passed_on, unreplied}
 use Rattle.slink_feed.proofs.serving.reply_to_all.Goals as goal
 
 pub loop-start-init : goal.loop-start-init
@@ -52,10 +52,6 @@ pub write_after-requires-clause-room : goal.write_after-requires-clause-room
 write_after-requires-clause-room g c =
     let so_far = c.loop-start.invariant.so_far in
     omega (arith, so_far.few, so_far.within, c.requires.few, c.requires.room)
-
-pub write_after-requires-clause-few : goal.write_after-requires-clause-few
-write_after-requires-clause-few g c =
-    rw c.bytes.ensures (omega (arith, reply_short c.take-used.result.1))
 
 pub returns-in_err-written-clause-beside : goal.returns-in_err-written-clause-beside
 returns-in_err-written-clause-beside g c = c.write_after.ensures.beside ∙ c.loop-start.invariant.beside

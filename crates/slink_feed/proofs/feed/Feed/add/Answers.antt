@@ -1,4 +1,4 @@
-use Rattle.std.proofs.Common.{ℕ, ◌≡◌, ◌≢◌, ◌≤◌, ◌<◌, refl, arith, sym, ◌∙◌, length}
+use Rattle.std.proofs.Common.{ℕ, ◌≡◌, ◌≢◌, ◌≤◌, ◌<◌, refl, arith, length}
 use Rattle.slink_feed.proofs.Slots.{same_length, filled_more}
 use Rattle.slink_feed.proofs.feed.Feed.add.Goals as goal
 
@@ -13,13 +13,6 @@ returns-clause-ok g c =
 
 below : (items now n : ℕ) → now ≡ items → n ≡ items → n ≤ 16 → n ≢ 16 → now < 16
 below items now n a b fits other = omega (arith, a, b, fits, other)
-
-pub returns-then-len-eq-STATIONS-clause-fault : goal.returns-then-len-eq-STATIONS-clause-fault
-returns-then-len-eq-STATIONS-clause-fault g c = (
-  same_length c.self.inside.rings.items c.args.self.now c.self.invariant c.self.view_is
-      ∙ (sym c.len.ensures.value ∙ c.if-len-eq-STATIONS.true),
-  refl,
-)
 
 pub returns-then-has-clause-fault : goal.returns-then-has-clause-fault
 returns-then-has-clause-fault g c = (

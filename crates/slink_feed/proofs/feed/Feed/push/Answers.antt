@@ -1,17 +1,12 @@
-use Rattle.std.proofs.Common.{◌≡◌, arith, ap, length, sym, ◌∙◌, Some}
+use Rattle.std.proofs.Common.{◌≡◌, ap, sym, ◌∙◌, Some}
 use Rattle.std.proofs.Common.{slice_get, option_map}
 use borrow.Author.Rules.{scaled_Fits}
 use Rattle.slink_feed.specs.Window.{Window, with_record}
 use Rattle.slink_feed.proofs.Done.{some_at}
 use Rattle.slink_feed.proofs.Fitting.{fits_pushed}
 use Rattle.slink_feed.proofs.Items.{get_here, get_there, shows_more}
-use Rattle.slink_feed.proofs.Slots.{same_length, slot_at, slot_written}
+use Rattle.slink_feed.proofs.Slots.{slot_at, slot_written}
 use Rattle.slink_feed.proofs.feed.Feed.push.Goals as goal
-
-pub unreachable-requires : goal.unreachable-requires
-unreachable-requires g c =
-    let long = same_length c.self.inside.rings.items c.args.self.now c.self.invariant c.self.view_is in
-    omega (arith, c.requires.in_range, long, ap length c.as_mut_slice-slots.ensures.value)
 
 pub push_slot-requires : goal.push_slot-requires
 push_slot-requires g c =

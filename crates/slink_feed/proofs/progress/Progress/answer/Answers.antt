@@ -2,7 +2,6 @@ use Rattle.std.proofs.Common.{◌≡◌, ◌∙◌, List, ap, refl, rules, subst
 use Rattle.slink_wire.specs.declared.command.Command.{Command}
 use Rattle.slink_wire.specs.declared.reply.Reply.{Reply}
 use Rattle.slink_feed.specs.declared.session.Phase.{Phase}
-use Rattle.slink_feed.specs.declared.session.Phase.TheVariants.{Chosen, Closed, Fresh, Granted, Streaming}
 use Rattle.slink_feed.specs.Session.{IsChosenOf, State, answered, answered_in}
 use Rattle.slink_feed.specs.Window.{Window}
 use Rattle.slink_feed.proofs.progress.Progress.answer.Goals as goal
@@ -20,42 +19,28 @@ chosen_at p feed r s same is chosen =
     subst (IsChosenOf feed) (sym (ap (λ (t : State). t.phase) same) ∙ is) chosen
 
 pub returns-in-Fresh : goal.returns-in-Fresh
-returns-in-Fresh g c = record {
-  answered = answered_at Fresh c.args.feed.now _ c.args.self.now c.args.command _ c.self.view_is c.in-Fresh.is
-      c.answer_fresh.ensures.answered;
-}
+returns-in-Fresh g c =
+    record { answered = answered_at _ _ _ _ _ _ c.self.view_is c.in-Fresh.is c.answer_fresh.ensures.answered }
 
 pub returns-in-Chosen : goal.returns-in-Chosen
-returns-in-Chosen g c = record {
-  answered = answered_at (Chosen c.in-Chosen.k) c.args.feed.now _ c.args.self.now c.args.command _ c.self.view_is
-      c.in-Chosen.is c.answer_chosen.ensures.answered;
-}
+returns-in-Chosen g c =
+    record { answered = answered_at _ _ _ _ _ _ c.self.view_is c.in-Chosen.is c.answer_chosen.ensures.answered }
 
 pub returns-in-Granted : goal.returns-in-Granted
-returns-in-Granted g c = record {
-  answered = answered_at (Granted c.in-Granted.k) c.args.feed.now _ c.args.self.now c.args.command _ c.self.view_is
-      c.in-Granted.is c.answer_granted.ensures.answered;
-}
+returns-in-Granted g c =
+    record { answered = answered_at _ _ _ _ _ _ c.self.view_is c.in-Granted.is c.answer_granted.ensures.answered }
 
 pub returns-in-Streaming : goal.returns-in-Streaming
-returns-in-Streaming g c = record {
-  answered = answered_at Streaming c.args.feed.now _ c.args.self.now c.args.command _ c.self.view_is
-      c.in-Streaming.is c.answer_streaming.ensures.answered;
-}
+returns-in-Streaming g c =
+    record { answered = answered_at _ _ _ _ _ _ c.self.view_is c.in-Streaming.is c.answer_streaming.ensures.answered }
 
 pub returns-in-Closed : goal.returns-in-Closed
-returns-in-Closed g c = record {
-  answered = answered_at Closed c.args.feed.now _ c.args.self.now c.args.command _ c.self.view_is c.in-Closed.is refl;
-}
+returns-in-Closed g c = record { answered = answered_at _ _ _ _ _ _ c.self.view_is c.in-Closed.is refl }
 
 pub answer_chosen-requires : goal.answer_chosen-requires
-answer_chosen-requires g c = (
-  search rules,
-  chosen_at (Chosen c.in-Chosen.k) c.args.feed.now _ c.args.self.now c.self.view_is c.in-Chosen.is c.requires.0,
-)
+answer_chosen-requires g c =
+    (search rules, chosen_at _ _ _ _ c.self.view_is c.in-Chosen.is c.requires.0)
 
 pub answer_granted-requires : goal.answer_granted-requires
-answer_granted-requires g c = (
-  search rules,
-  chosen_at (Granted c.in-Granted.k) c.args.feed.now _ c.args.self.now c.self.view_is c.in-Granted.is c.requires.0,
-)
+answer_granted-requires g c =
+    (search rules, chosen_at _ _ _ _ c.self.view_is c.in-Granted.is c.requires.0)

@@ -1,6 +1,5 @@
 use Rattle.std.proofs.Common.{◌∙◌, ap, rules, sym}
 use Rattle.slink_feed.specs.Session.{State}
-use Rattle.slink_feed.proofs.Waits.{waits_before}
 use Rattle.slink_feed.proofs.progress.Progress.next_record.Goals as goal
 
 pub next_from-requires : goal.next_from-requires
@@ -8,13 +7,6 @@ next_from-requires g c =
     let streams = sym (ap (λ (s : State). s.phase) c.self.view_is) ∙ c.in-Streaming.is in
     let granted = sym c.grant_of.ensures ∙ c.in-Some.is in
     (search rules, (c.requires.in_range, (streams, (granted, c.requires.fits.1))))
-
-pub returns-in-Fresh : goal.returns-in-Fresh
-returns-in-Fresh g c = record {
-  sends = tt;
-  unsent = waits_before _ _ _ c.self.view_is c.in-Fresh.is c.args.k;
-  fits = c.requires.fits;
-}
 
 pub returns-in-Some : goal.returns-in-Some
 returns-in-Some g c = c.next_from.ensures
